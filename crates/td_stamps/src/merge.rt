@@ -1,0 +1,78 @@
+//! The union of two lists of entries, by a sort.
+ghost use Rattle.std.specs.Prelude.{◌≡◌, ◌≢◌, ◌++◌, [], true, IfOk, OnOk, MatchOption, None};
+ghost use Rattle.std.specs.List.{list_all};
+ghost use Rattle.std.specs.List.Sorted.{IsPermutation, IsSortedBy};
+ghost use Rattle.td_stamps.specs.Entries.{before, in_range};
+ghost use Rattle.td_stamps.specs.Sets.{union, is_set};
+ghost use Rattle.td_stamps.specs.Checks.{first_clash};
+
+use std::alloc::{AllocError, Global};
+use std::collections::BTreeMap;
+
+use crate::entry::Entry;
+
+/// The union of a set and a batch, or None where two entries clash. Takes time of order
+/// n log n in the number of all entries.
+pub fn joined(
+    alloc: Global,
+    held: &[Entry],
+    batch: &[Entry],
+) -> Result<Option<Vec<Entry>>, AllocError>
+    requires set { is_set held.now ≡ true }
+    requires held_in_range { list_all in_range held.now ≡ true }
+    requires batch_in_range { list_all in_range batch.now ≡ true }
+    ensures { IfOk result (λ o. MatchOption o (first_clash held.now batch.now ≢ None) (λ v. (first_clash held.now batch.now ≡ None) × (v.items ≡ union held.now batch.now))) }
+{
+    let mut all = Vec::new(alloc);
+    push_copies(&mut all, held)?;
+    push_copies(&mut all, batch)?;
+    sort_by_stamp(&mut all)?;
+    without_repeats(alloc, all)
+}
+
+fn push_copies(to: &mut Vec<Entry>, entries: &[Entry]) -> Result<(), AllocError>
+    ensures { OnOk result (to.new.items ≡ to.old.items ++ entries.now) }
+{
+    to.reserve(entries.len())?;
+    for entry in entries {
+        to.push(entry.copy()?)?;
+    }
+    Ok(())
+}
+
+fn sort_by_stamp(entries: &mut Vec<Entry>) -> Result<(), AllocError>
+    ensures permutation { IsPermutation entries.old.items entries.new.items }
+    ensures sorted { OnOk result (IsSortedBy before entries.new.items) }
+{
+    entries.sort_by_key(|entry| entry.stamp())
+}
+
+/// Sorted entries without their repeats, or None where two of them clash.
+fn without_repeats(
+    alloc: Global,
+    sorted: Vec<Entry>,
+) -> Result<Option<Vec<Entry>>, AllocError>
+    requires in_order { IsSortedBy before sorted.items }
+    requires ranges { list_all in_range sorted.items ≡ true }
+    ensures { IfOk result (λ o. MatchOption o (first_clash [] sorted.items ≢ None) (λ v. (first_clash [] sorted.items ≡ None) × (v.items ≡ union [] sorted.items))) }
+{
+    let mut latest = BTreeMap::new(alloc);
+    let mut entries: Vec<Entry> = Vec::new(alloc);
+    for entry in sorted {
+        if let Some(last) = entries.last() {
+            if last.is_same(&entry) {
+                continue;
+            }
+            if !last.is_before(&entry) {
+                return Ok(None);
+            }
+        }
+        // Entries of one site ascend in clock here, so they clash unless their numbers ascend.
+        if latest.get(&entry.site).is_some_and(|seq| entry.seq <= *seq) {
+            return Ok(None);
+        }
+        latest.insert(entry.site, entry.seq)?;
+        entries.push(entry)?;
+    }
+    Ok(Some(entries))
+}
