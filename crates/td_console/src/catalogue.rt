@@ -54,7 +54,15 @@ pub fn place_of(relvars: &[Relvar], name: &Name) -> Option<usize> {
     relvars.iter().position(|r| r.name == *name)
 }
 
-fn relvar_of(alloc: Global, earlier: &[Relvar], d: Definition) -> Result<Relvar, TypeError> {
+fn copies(alloc: Global, names: &[Name]) -> Result<Items<Name>, AllocError> {
+    let mut copies = Items::new(alloc);
+    for name in names {
+        copies.push(name.copy()?)?;
+    }
+    Ok(copies)
+}
+
+fn relvar_of(alloc: Global, earlier: &[Relvar], d: &Definition) -> Result<Relvar, TypeError> {
     if place_of(earlier, &d.name).is_some() {
         return Err(TypeError::IllTyped);
     }
@@ -63,9 +71,9 @@ fn relvar_of(alloc: Global, earlier: &[Relvar], d: Definition) -> Result<Relvar,
         return Err(TypeError::IllTyped);
     }
     Ok(Relvar {
-        name: d.name,
+        name: d.name.copy()?,
         heading,
-        key: d.key,
+        key: copies(alloc, d.key.as_slice())?,
     })
 }
 

@@ -52,7 +52,7 @@ fn issue(line: &str) -> Option<Command<'_>> {
     })
 }
 
-fn command_of(line: &str) -> Option<Command<'_>> {
+fn form_of(line: &str) -> Option<Command<'_>> {
     if line.is_empty() {
         return Some(Command::Nothing);
     }
@@ -69,12 +69,12 @@ fn command_of(line: &str) -> Option<Command<'_>> {
 }
 
 /// The form of a line, without its line end.
-pub fn command(line: &[u8]) -> Command<'_> {
+pub fn command_of(line: &[u8]) -> Command<'_> {
     if line.len() > LINE_BYTES {
         return Command::Faulty;
     }
     match std::str::from_utf8(line) {
-        Ok(line) => command_of(line).unwrap_or(Command::Faulty),
+        Ok(line) => form_of(line).unwrap_or(Command::Faulty),
         Err(_) => Command::Faulty,
     }
 }

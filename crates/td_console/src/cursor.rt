@@ -3,7 +3,7 @@
 use crate::refusal::ReadError;
 use crate::tree::{Literal, ScalarType};
 use std::alloc::Global;
-use td_tokens::{Kind, Token, Word};
+use td_tokens::token::{Kind, Token, Word};
 use td_values::{Name, Text};
 
 /// The tokens from a place on.

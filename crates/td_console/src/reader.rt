@@ -5,7 +5,8 @@ use crate::refusal::ReadError;
 use crate::tree::{Component, Definition, Field, Insertion};
 use sqlite_items::Items;
 use std::alloc::Global;
-use td_tokens::{Word, tokens};
+use td_tokens::lexer::tokens;
+use td_tokens::token::Word;
 use td_values::Name;
 
 /// The most bytes of a statement.

@@ -117,6 +117,21 @@ impl PlainSite {
         &self.held
     }
 
+    /// The relvars of the script, in its order.
+    pub fn relvars(&self) -> &[Relvar] {
+        self.relvars.as_slice()
+    }
+
+    /// The relations of the relvars, as the statements held leave them.
+    pub fn relations(&self) -> &[Relation] {
+        &self.relations
+    }
+
+    /// Each outcome with its stamp, in stamp order, lent.
+    pub fn told(&self) -> &[(Stamp, Outcome)] {
+        &self.outcomes
+    }
+
     /// The site's number.
     pub fn site(&self) -> u16 {
         self.site

@@ -1,6 +1,6 @@
 //! Lines answered by sites.
 
-use crate::command::{Command, command};
+use crate::command::{Command, command_of};
 use crate::input::{LineError, content, read_line};
 use crate::listing::{listing_text, show_number, show_outcome, show_stamp};
 use crate::output::{WriteFault, put};
@@ -155,34 +155,34 @@ fn listing_line(
 
 /// What a line is answered.
 #[derive(Drop)]
-enum Answer {
+enum Reply {
     Text(String),
     NoMemory,
     Unsaid,
     Quit,
 }
 
-fn answer(alloc: Global, sites: &mut [PlainSite], line: &[u8]) -> Answer {
-    let command = command(line);
+fn answer(alloc: Global, sites: &mut [PlainSite], line: &[u8]) -> Reply {
+    let command = command_of(line);
     if let Command::Listing { site } = command {
         return match listing_line(alloc, sites, site) {
-            Ok(text) => Answer::Text(text),
-            Err(_) => Answer::NoMemory,
+            Ok(text) => Reply::Text(text),
+            Err(_) => Reply::NoMemory,
         };
     }
     let Ok(mut out) = String::with_capacity(alloc, ANSWER_BYTES) else {
-        return Answer::NoMemory;
+        return Reply::NoMemory;
     };
     let told = match command {
-        Command::Quit => return Answer::Quit,
+        Command::Quit => return Reply::Quit,
         Command::Nothing | Command::Listing { .. } => Ok(()),
         Command::Faulty => out.push_str("fault line\n"),
         Command::Issue { site, text } => issue_line(alloc, sites, &mut out, site, text),
         Command::Meet { first, second } => meet_line(alloc, sites, &mut out, first, second),
     };
     match told {
-        Ok(()) => Answer::Text(out),
-        Err(_) => Answer::Unsaid,
+        Ok(()) => Reply::Text(out),
+        Err(_) => Reply::Unsaid,
     }
 }
 
@@ -204,10 +204,10 @@ pub fn workbench<R: Read, W: Write>(
             return Ok(());
         }
         let text = match answer(alloc, sites, content(&line)) {
-            Answer::Quit => return Ok(()),
-            Answer::Unsaid => return Err(Ended::OutOfMemory),
-            Answer::NoMemory => put(writer, b"fault memory\n"),
-            Answer::Text(text) => put(writer, text.as_bytes()),
+            Reply::Quit => return Ok(()),
+            Reply::Unsaid => return Err(Ended::OutOfMemory),
+            Reply::NoMemory => put(writer, b"fault memory\n"),
+            Reply::Text(text) => put(writer, text.as_bytes()),
         };
         if text.is_err() {
             return Err(Ended::WriteFault);
