@@ -1,1 +1,12 @@
 pub mod Refusals
+pub mod Grammar
+pub mod Reader
+pub mod Typing
+pub mod Step
+pub mod Seen
+pub mod Sites
+pub mod Texts
+pub mod Lines
+pub mod Streams
+pub mod Commands
+pub mod Printed

@@ -1,6 +1,7 @@
 -- Lines: how bytes are split into lines, and what a line says.
-use Rattle.std.specs.Prelude.{ℕ, ◌+◌, ◌-◌, ◌*◌, min, nat_le, nat_eq, ◌==◌, Bool, true, false, ◌&&◌, ◌||◌, not, if◌then◌else◌, List, [], ◌∷◌, ◌++◌, length, take, drop, fold, map, codes, Option, Some, None, option_map, option_and_then, unwrap_or}
-use Rattle.std.specs.List.{list_all, list_any, starts_with, before_first, after_first}
+use Rattle.std.specs.Prelude.{ℕ, ◌+◌, ◌-◌, ◌*◌, min, nat_le, nat_lt, nat_eq, ◌==◌, Bool, true, false, ◌&&◌, ◌||◌, not, if◌then◌else◌, List, [], ◌∷◌, ◌++◌, length, take, drop, fold, map, codes, Option, Some, None, option_map, option_and_then, unwrap_or}
+use Rattle.std.specs.List.{list_all, list_any, before_first, after_first, position_or_len}
+use Rattle.std.specs.Option.{option_map_or}
 use Rattle.std.specs.Char.{is_ascii_digit}
 use Rattle.std.specs.Str.{bytes_eq, is_utf8}
 
@@ -14,18 +15,16 @@ abbrev pub raw_lines : List ℕ → List (List ℕ)
 raw_lines [] = []
 raw_lines (b ∷ bs) = if b == 10 then (10 ∷ []) ∷ raw_lines bs else onto b (raw_lines bs)
 
-abbrev pub ends_with : ℕ → List ℕ → Bool
-ends_with b [] = false
-ends_with b (x ∷ []) = x == b
-ends_with b (x ∷ y ∷ ys) = ends_with b (y ∷ ys)
-
--- without its last byte, where that is b
-abbrev pub without : ℕ → List ℕ → List ℕ
-without b xs = if ends_with b xs then take (length xs - 1) xs else xs
+-- without its last byte, which is b
+abbrev pub cut : ℕ → List ℕ → Option (List ℕ)
+cut b xs = if bytes_eq (drop (length xs - 1) xs) (b ∷ []) then Some (take (length xs - 1) xs) else None
 
 -- without its line end: an LF, and a CR before it
+abbrev pub cut_cr : List ℕ → List ℕ
+cut_cr front = unwrap_or (cut 13 front) front
+
 abbrev pub content : List ℕ → List ℕ
-content raw = if ends_with 10 raw then without 13 (without 10 raw) else raw
+content raw = option_map_or cut_cr (cut 10 raw) raw
 
 -- the lines without their line ends
 abbrev pub lines : List ℕ → List (List ℕ)
@@ -56,14 +55,13 @@ is_number (b ∷ bs) = list_all is_ascii_digit (b ∷ bs) && (not (b == 48) || (
 abbrev pub number_of : List ℕ → Option ℕ
 number_of bs = if is_number bs then Some (min (value bs) no_site) else None
 
--- without a front, which it has
+-- what follows a front, which it has
 abbrev pub after : List ℕ → List ℕ → Option (List ℕ)
-after front bs = if starts_with nat_eq bs front then Some (drop (length front) bs) else None
+after front bs = if bytes_eq (take (length front) bs) front then Some (drop (length front) bs) else None
 
--- what is before the first such byte, and what is after it
+-- what is before the first byte c, and what is after it
 abbrev pub parted : ℕ → List ℕ → Option (List ℕ × List ℕ)
-parted c [] = None
-parted c (b ∷ bs) = if b == c then Some ([], bs) else option_map (λ (p : List ℕ × List ℕ). (b ∷ p.0, p.1)) (parted c bs)
+parted c bs = if nat_lt (position_or_len (λ b. b == c) bs) (length bs) then Some (before_first (λ b. b == c) bs, after_first (λ b. b == c) bs) else None
 
 abbrev pub or_faulty : Option Line → Line
 or_faulty l = unwrap_or l faulty
@@ -88,13 +86,21 @@ meet_form bs = option_and_then (λ (p : List ℕ × List ℕ). two_numbers (numb
 abbrev pub issue_form : List ℕ → Option Line
 issue_form bs = option_and_then (λ (p : List ℕ × List ℕ). option_map (λ n. issue n (unwrap_or (after (codes " ") p.1) p.1)) (number_of p.0)) (parted 58 bs)
 
--- a line of at most 16,384 bytes, which are text
+abbrev pub or_meeting : List ℕ → Option (List ℕ) → Option Line
+or_meeting bs (Some rest) = meet_form rest
+or_meeting bs None = issue_form bs
+
+abbrev pub or_listing : List ℕ → Option (List ℕ) → Option Line
+or_listing bs (Some rest) = listing_form rest
+or_listing bs None = or_meeting bs (after (codes ".meet ") bs)
+
 abbrev pub form_of : List ℕ → Option Line
 form_of bs =
     if bytes_eq bs [] then Some nothing
     else (if bytes_eq bs (codes ".quit") then Some quit
-    else (elim (after (codes ".listing ") bs) [ Some rest ↦ listing_form rest | None ↦ elim (after (codes ".meet ") bs) [ Some rest ↦ meet_form rest | None ↦ issue_form bs ] ]))
+    else or_listing bs (after (codes ".listing ") bs))
 
+-- a line of at most 16,384 bytes, which are text
 abbrev pub line_of : List ℕ → Line
 line_of bs = if nat_le (length bs) 16384 && is_utf8 bs then or_faulty (form_of bs) else faulty
 

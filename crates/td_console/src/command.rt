@@ -1,5 +1,10 @@
 //! What a line of the workbench says.
 
+ghost use Rattle.std.specs.Prelude.{◌≡◌, ◌<◌, option_map, unwrap_or, codes};
+ghost use Rattle.std.specs.Option.{option_copied};
+ghost use Rattle.td_console.specs.Lines.{number_of, after, parted, meet_form, issue_form, listing_form, form_of, line_of};
+ghost use Rattle.td_console.specs.Commands.{said, both};
+
 /// The most bytes of a line, without its line end.
 pub const LINE_BYTES: usize = 16_384;
 
@@ -18,16 +23,14 @@ pub enum Command<'a> {
 const NO_SITE: u32 = 65_536;
 
 // The decimal number without leading zeros that this is.
-fn number(digits: &str) -> Option<u32> {
-    let bytes = digits.as_bytes();
-    match bytes {
-        [] => return None,
-        [b'0'] => return Some(0),
-        [b'0', ..] => return None,
-        _ => {}
+fn number(digits: &[u8]) -> Option<u32>
+    ensures { result ≡ number_of digits.now }
+{
+    if digits.is_empty() || digits[0] == b'0' && digits.len() > 1 {
+        return None;
     }
     let mut value: u32 = 0;
-    for b in bytes {
+    for b in digits {
         if !b.is_ascii_digit() {
             return None;
         }
@@ -36,45 +39,80 @@ fn number(digits: &str) -> Option<u32> {
     Some(value)
 }
 
-fn meeting(words: &str) -> Option<Command<'_>> {
-    let (first, second) = words.split_once(' ')?;
-    Some(Command::Meet {
-        first: number(first)?,
-        second: number(second)?,
-    })
+// What follows the front, which the line has.
+fn after<'a>(front: &str, line: &'a str) -> Option<&'a str>
+    ensures { option_copied result ≡ after front.now line.now }
+{
+    line.strip_prefix(front)
 }
 
-fn issue(line: &str) -> Option<Command<'_>> {
-    let (site, text) = line.split_once(':')?;
-    Some(Command::Issue {
-        site: number(site)?,
-        text: text.strip_prefix(' ').unwrap_or(text),
-    })
+// What is before the first such character, and what is after it.
+fn parted(c: char, line: &str) -> Option<(&str, &str)>
+    requires { c < 128 }
+    ensures { option_map both result ≡ parted c line.now }
+{
+    line.split_once(c)
 }
 
-fn form_of(line: &str) -> Option<Command<'_>> {
+// The text without one space in front of it, where there is one.
+fn without_space(text: &str) -> &str
+    ensures { result.now ≡ unwrap_or (after (codes " ") text.now) text.now }
+{
+    after(" ", text).unwrap_or(text)
+}
+
+fn meeting(words: &str) -> Option<Command<'_>>
+    ensures { option_map said result ≡ meet_form words.now }
+{
+    let (first, second) = parted(' ', words)?;
+    let first = number(first.as_bytes())?;
+    let second = number(second.as_bytes())?;
+    Some(Command::Meet { first, second })
+}
+
+fn issue(line: &str) -> Option<Command<'_>>
+    ensures { option_map said result ≡ issue_form line.now }
+{
+    let (site, text) = parted(':', line)?;
+    let site = number(site.as_bytes())?;
+    let text = without_space(text);
+    Some(Command::Issue { site, text })
+}
+
+fn listing(word: &[u8]) -> Option<Command<'static>>
+    ensures { option_map said result ≡ listing_form word.now }
+{
+    let site = number(word)?;
+    Some(Command::Listing { site })
+}
+
+fn form(line: &str) -> Option<Command<'_>>
+    ensures { option_map said result ≡ form_of line.now }
+{
     if line.is_empty() {
         return Some(Command::Nothing);
     }
     if line == ".quit" {
         return Some(Command::Quit);
     }
-    if let Some(word) = line.strip_prefix(".listing ") {
-        return Some(Command::Listing { site: number(word)? });
+    if let Some(word) = after(".listing ", line) {
+        return listing(word.as_bytes());
     }
-    if let Some(words) = line.strip_prefix(".meet ") {
+    if let Some(words) = after(".meet ", line) {
         return meeting(words);
     }
     issue(line)
 }
 
 /// The form of a line, without its line end.
-pub fn command_of(line: &[u8]) -> Command<'_> {
+pub fn command_of(line: &[u8]) -> Command<'_>
+    ensures { said result ≡ line_of line.now }
+{
     if line.len() > LINE_BYTES {
         return Command::Faulty;
     }
     match std::str::from_utf8(line) {
-        Ok(line) => form_of(line).unwrap_or(Command::Faulty),
+        Ok(line) => form(line).unwrap_or(Command::Faulty),
         Err(_) => Command::Faulty,
     }
 }
