@@ -3,7 +3,7 @@ use Rattle.std.proofs.Common.{◌≡◌, ℕ, zero, suc, ◌+◌, ◌<◌, ◌�
 use Rattle.std.specs.declared.cmp.Ordering.{Ordering}
 use Rattle.std.specs.declared.cmp.Ordering.TheVariants.{Less, Equal, Greater}
 use Rattle.std.specs.Ordering.{eq_by_cmp, is_eq, is_lt, ordering_reverse, ordering_index}
-use Rattle.std.specs.List.{insert, slice_get}
+use Rattle.std.specs.List.{insert}
 use Rattle.std.specs.List.Sorted.{IsNonDecreasingBy, IsBinarySearchResult, IsSearchInRange, IsPartitionPoint}
 use Rattle.std.specs.FinMap as map
 use Rattle.std.specs.FinMap.Entries.{below_all}
@@ -37,11 +37,6 @@ less Greater p = absurd p
 
 turned : (m n : List ℕ) (o : Ordering) → text_cmp m n ≡ o → text_cmp n m ≡ ordering_reverse o
 turned m n o e = text_total.antisymm n m ∙ ap ordering_reverse e
-
-pub slice_get_past : {A : Type 0} (xs : List A) (i : ℕ) → length xs ≤ i → slice_get xs i ≡ None
-slice_get_past [] i h = refl
-slice_get_past (x ∷ xs) zero h = absurd (omega arith)
-slice_get_past (x ∷ xs) (suc i) h = slice_get_past xs i (omega arith)
 
 module _ {X : Type 0} where
   below_at : (n : List ℕ) (es : List (List ℕ × X)) (i : ℕ) (d : List ℕ × X) → i < length es → T (below_all text_cmp n es) → text_cmp n (get_or es i d).0 ≡ Less

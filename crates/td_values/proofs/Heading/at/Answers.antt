@@ -1,8 +1,7 @@
 use Rattle.std.proofs.Common.{◌≡◌, ap, ◌∙◌, subst, arith, Some, None}
 use Rattle.std.specs.List.{slice_get}
 use Rattle.std.specs.Vec.{vec_len}
-use Rattle.std.proofs.lemmas.Option.{slice_get_read}
-use Rattle.td_values.proofs.Entries.{slice_get_past}
+use Rattle.std.proofs.lemmas.Option.{slice_get_read, slice_get_past}
 use Rattle.td_values.specs.Headings.{header_list}
 use Rattle.td_values.proofs.Heading.at.Goals as goal
 
