@@ -22,7 +22,12 @@ fn fit_fields(attributes: &[(Name, Value)], fields: &[(Name, TdType)]) -> bool
 {
     let mut i = 0;
     while i < attributes.len() && i < fields.len() {
-        if attributes[i].0 != fields[i].0 || !has_type(&attributes[i].1, &fields[i].1) {
+        let attribute = &attributes[i];
+        let field = &fields[i];
+        if attribute.0 != field.0 {
+            return false;
+        }
+        if !has_type(&attribute.1, &field.1) {
             return false;
         }
         i += 1;

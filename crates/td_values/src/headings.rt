@@ -118,16 +118,18 @@ impl Heading {
     pub fn is_empty(&self) -> bool
         ensures { IsTrue result ↔ (map.len self.now ≡ 0) }
     {
-        self.fields.is_empty()
+        self.len() == 0
     }
 
     /// The name at this place in name order, from 0, with its type.
     pub fn at(&self, i: usize) -> Option<(&Name, &TdType)>
         ensures { MatchOption result (slice_get (map.entries self.now) i ≡ None) (λ f. slice_get (map.entries self.now) i ≡ Some (f.0.now, f.1.now)) }
     {
-        match self.fields.get(i) {
-            Some(field) => Some((&field.0, &field.1)),
-            None => None,
+        if i < self.fields.len() {
+            let field = &self.fields[i];
+            Some((&field.0, &field.1))
+        } else {
+            None
         }
     }
 

@@ -1,5 +1,6 @@
 //! Names of relvars, attributes and types.
 ghost use Rattle.std.specs.Prelude.{◌≡◌, ◌↔◌, IfOk, IsTrue, IsErrOf, false, refl};
+ghost use Rattle.std.specs.List.{list_all};
 ghost use Rattle.std.specs.Ordering.{eq_by_cmp, as_partial_cmp};
 ghost use Rattle.td_values.specs.Names.{is_name, goes_on_in_name};
 ghost use Rattle.td_values.specs.Order.{text_cmp};
@@ -52,6 +53,12 @@ fn goes_on(b: u8) -> bool
     b.is_ascii_alphanumeric() || b == b'_' || b == b'#'
 }
 
+fn all_go_on(bytes: &[u8]) -> bool
+    ensures { result ≡ list_all goes_on_in_name bytes.now }
+{
+    bytes.iter().all(|b| goes_on(*b))
+}
+
 /// Whether this is a name: an ASCII letter, then ASCII letters, digits, `_` or `#`, and at most 64 bytes.
 pub fn is_name(text: &str) -> bool
     ensures { result ≡ is_name text.now }
@@ -60,9 +67,7 @@ pub fn is_name(text: &str) -> bool
     match bytes.split_first() {
         None => false,
         Some((first, rest)) => {
-            first.is_ascii_alphabetic()
-                && rest.iter().all(|b| goes_on(*b))
-                && bytes.len() <= 64
+            first.is_ascii_alphabetic() && bytes.len() <= 64 && all_go_on(rest)
         }
     }
 }
