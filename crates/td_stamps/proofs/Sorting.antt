@@ -1,0 +1,193 @@
+-- A sorted list of entries, walked once: its repeats are neighbours, and its clashes are found by the greatest number so far of each site.
+use Rattle.std.proofs.Common.{◌≡◌, ◌≢◌, ℕ, zero, suc, ◌+◌, ◌-◌, ◌<◌, ◌≤◌, Bool, true, false, not, ◌&&◌, ◌||◌, cond, if◌then◌else◌, eqb, ltb, leb, List, [], ◌∷◌, ◌++◌, length, get_or, max, take, Option, Some, None, refl, sym, ap, subst, ◌∙◌, ◌⊎◌, inl, inr, arith}
+use mathlib.Core.Bool.{true≢false, false≢true}
+use Rattle.std.specs.List.{list_any, list_all, slice_get}
+use Rattle.std.specs.List.Sorted.{IsSortedBy}
+use Rattle.std.specs.Cmp.{IsStrictWeakOrder}
+use Rattle.std.specs.Ordering.{is_lt, ordering_then, nat_cmp}
+use Rattle.std.specs.declared.cmp.Ordering.TheVariants.{Less, Equal, Greater}
+use Rattle.std.proofs.lemmas.Bool.Decides.{nat_tests}
+use Rattle.std.proofs.lemmas.List.Folds.{list_all-append}
+use Rattle.std.proofs.lemmas.List.Sorted.{sorted_far}
+use Rattle.std.proofs.Math.ListN.{get_or-append}
+use Rattle.std.proofs.Math.Seq.{get_or-append_seam}
+use Rattle.td_stamps.specs.declared.entry.Entry.{Entry}
+use Rattle.td_stamps.specs.Entries.{same, earlier, clash, before, in_range}
+use Rattle.td_stamps.specs.Sets.{has, put, union, apart, is_set, NoClash}
+use Rattle.td_stamps.specs.Checks.{first_clash, last_seq}
+use Rattle.td_stamps.proofs.EntryLemmas.{same-is, same-refl, clash-sym, tied, before-trans, before-asym, before-irrefl}
+use Rattle.td_stamps.proofs.SetLemmas.{and_left, and_right, and_both, or_left, or_right, any-append, set-put, any-put, AddsUp, adds_up}
+use Rattle.td_stamps.proofs.Places.{union-push}
+use Rattle.td_stamps.proofs.Merges.{bool_cases, or_cases, or_true, or_right_true, head_has, none_clash, set_free, same_set, all_has}
+use Rattle.td_stamps.proofs.Next.{other_site, later_free, seq_at_most}
+
+-- the order of stamps, as `cmp` has it, is stamp order
+pub less_is_before : (a b : Entry) → is_lt (ordering_then (nat_cmp a.clock b.clock) (nat_cmp a.site b.site)) ≡ before a b
+less_is_before a b = elim (ltb a.clock b.clock) as (λ t. is_lt (ordering_then (cond t Less (cond (eqb a.clock b.clock) Equal Greater)) (nat_cmp a.site b.site)) ≡ (t || (eqb a.clock b.clock && ltb a.site b.site))) [
+  | true ↦ refl
+  | false ↦ elim (eqb a.clock b.clock) as (λ t. is_lt (ordering_then (cond t Equal Greater) (nat_cmp a.site b.site)) ≡ (t && ltb a.site b.site)) [
+    | true ↦ elim (ltb a.site b.site) as (λ t. is_lt (cond t Less (cond (eqb a.site b.site) Equal Greater)) ≡ t) [
+      | true ↦ refl
+      | false ↦ elim (eqb a.site b.site) as (λ t. is_lt (cond t Equal Greater) ≡ false) [ true ↦ refl | false ↦ refl ]
+    ]
+    | false ↦ refl
+  ]
+]
+
+pub stamp_order : IsStrictWeakOrder before
+stamp_order = record {
+  one_way = before-asym;
+  chain = λ x y z p q. grind (arith, nat_tests);
+}
+
+-- the place of a member
+place_of : (xs : List Entry) (x : Entry) → has xs x ≡ true → (i : ℕ) × (i < length xs) × ((d : Entry) → get_or xs i d ≡ x)
+place_of [] x in' = absurd (false≢true in')
+place_of (y ∷ ys) x in' = elim (or_cases _ _ in') [
+  | inl is ↦ (0, omega arith, λ d. sym (same-is x y is))
+  | inr later ↦ let rest = place_of ys x later in (suc rest.0, omega (arith, rest.1), λ d. rest.2 d)
+]
+
+-- none that stands before an entry of a sorted list comes after it
+pub none_after : (ys : List Entry) (e : Entry) (rest : List Entry) → IsSortedBy before (ys ++ e ∷ rest) → (x : Entry) → has ys x ≡ true → before e x ≡ false
+none_after ys e rest sorted x in' =
+    let place = place_of ys x in' in
+    let far = sorted_far before stamp_order (ys ++ e ∷ rest) sorted place.0 (length ys) e (omega (arith, place.1)) (within ys e rest) in
+    rw (get_or-append_seam ys e rest e, get_or-append ys (e ∷ rest) e place.0 place.1, place.2 e) at far
+  where
+    within : (ys : List Entry) (e : Entry) (rest : List Entry) → length ys < length (ys ++ e ∷ rest)
+    within [] e rest = omega arith
+    within (y ∷ ys) e rest = let more = within ys e rest in omega arith
+
+-- the first clash, where there is none among the first entries
+pub first_clash-push : (seen es : List Entry) (e : Entry) → first_clash seen es ≡ None → list_any (clash e) seen ≡ false → list_any (clash e) es ≡ false → first_clash seen (es ++ e ∷ []) ≡ None
+first_clash-push seen [] e clear none_seen none = rw none_seen refl
+first_clash-push seen (x ∷ es) e clear none_seen none =
+    elim (list_any (clash x) seen) as (λ b. (if b then Some x else first_clash (seen ++ x ∷ []) es) ≡ None → (if b then Some x else first_clash (seen ++ x ∷ []) (es ++ e ∷ [])) ≡ None) [
+      | true ↦ λ h. h
+      | false ↦ λ h. first_clash-push (seen ++ x ∷ []) es e h (any-append (clash e) seen (x ∷ []) ∙ both_false _ _ none_seen (ap (λ b. b || false) (or_left _ _ none))) (or_right _ _ none)
+    ] clear
+  where
+    both_false : (a b : Bool) → a ≡ false → b ≡ false → (a || b) ≡ false
+    both_false a b p q = ap (λ t. t || b) p ∙ q
+
+-- a clash with one of those before it refuses
+pub first_clash-hit : (seen es : List Entry) (e : Entry) (rest : List Entry) → list_any (clash e) (seen ++ es) ≡ true → first_clash seen (es ++ e ∷ rest) ≡ None → ⊥
+first_clash-hit seen [] e rest hit clear =
+    elim (list_any (clash e) seen) as (λ b. b ≡ true → (if b then Some e else first_clash (seen ++ e ∷ []) rest) ≡ None → ⊥) [
+      | true ↦ λ _ h. cc
+      | false ↦ λ no _. false≢true no
+    ] (ap (list_any (clash e)) (sym (nil seen)) ∙ hit) clear
+  where
+    nil : (l : List Entry) → l ++ [] ≡ l
+    nil [] = refl
+    nil (x ∷ l) = ap (λ t. x ∷ t) (nil l)
+first_clash-hit seen (x ∷ es) e rest hit clear =
+    elim (list_any (clash x) seen) as (λ b. (if b then Some x else first_clash (seen ++ x ∷ []) (es ++ e ∷ rest)) ≡ None → ⊥) [
+      | true ↦ λ h. cc
+      | false ↦ λ h. first_clash-hit (seen ++ x ∷ []) es e rest (ap (list_any (clash e)) (assoc seen) ∙ hit) h
+    ] clear
+  where
+    assoc : (l : List Entry) → (l ++ x ∷ []) ++ es ≡ l ++ x ∷ es
+    assoc [] = refl
+    assoc (y ∷ l) = ap (λ t. y ∷ t) (assoc l)
+
+-- a member put in again changes nothing
+pub put_again : (e : Entry) (xs : List Entry) → is_set xs ≡ true → has xs e ≡ true → put e xs ≡ xs
+put_again e xs set in' =
+    let none = none_clash e xs (λ x held. set_free xs set e x in' held) in
+    same_set (put e xs) xs (set-put e xs set none) set (λ z. any-put (same z) e xs none ∙ absorbed z (same z e) refl)
+  where
+    absorbed : (z : Entry) (b : Bool) → same z e ≡ b → (b || has xs z) ≡ has xs z
+    absorbed z true is = sym (subst (λ (v : Entry). has xs v ≡ true) (sym (same-is z e is)) in')
+    absorbed z false is = refl
+
+-- an entry that comes after all is put last
+pub put_after : (e : Entry) (xs : List Entry) → list_all (λ x. before x e) xs ≡ true → put e xs ≡ xs ++ e ∷ []
+put_after e [] all = refl
+put_after e (x ∷ xs) all =
+    let later : before x e ≡ true = and_left _ _ all in
+    let first : before e x ≡ false = before-asym x e later in
+    rw (first, later) (ap (λ l. x ∷ l) (put_after e xs (and_right _ _ all)))
+
+-- the last of a list
+pub split_last : (xs : List Entry) (l : Entry) → slice_get xs (length xs - 1) ≡ Some l → (front : List Entry) × (xs ≡ front ++ l ∷ [])
+split_last [] l at = absurd (cc)
+split_last (x ∷ []) l at = let is : x ≡ l = cc in ([], ap (λ (v : Entry). v ∷ []) is)
+split_last (x ∷ y ∷ ys) l at =
+    let rest = split_last (y ∷ ys) l (shift at) in
+    (x ∷ rest.0, ap (λ t. x ∷ t) rest.1)
+  where
+    shift : slice_get (x ∷ y ∷ ys) (length (x ∷ y ∷ ys) - 1) ≡ Some l → slice_get (y ∷ ys) (length (y ∷ ys) - 1) ≡ Some l
+    shift h = rw (let q : length (x ∷ y ∷ ys) - 1 ≡ suc (length (y ∷ ys) - 1) = omega arith in q) at h
+
+-- a set is before its last
+before_last : (front : List Entry) (l : Entry) → is_set (front ++ l ∷ []) ≡ true → list_all (λ x. before x l) front ≡ true
+before_last [] l set = refl
+before_last (x ∷ front) l set = and_both _ _ (here x front (and_left _ _ set)) (before_last front l (and_right _ _ set))
+  where
+    here : (x : Entry) (ys : List Entry) → list_all (apart x) (ys ++ l ∷ []) ≡ true → before x l ≡ true
+    here x [] all = and_left _ _ (and_left _ _ all)
+    here x (y ∷ ys) all = here x ys (and_right _ _ all)
+
+later_than_all : (l e : Entry) (xs : List Entry) → before l e ≡ true → list_all (λ x. before x l) xs ≡ true → list_all (λ x. before x e) xs ≡ true
+later_than_all l e [] first all = refl
+later_than_all l e (x ∷ xs) first all = and_both _ _ (before-trans x l e (and_left _ _ all) first) (later_than_all l e xs first (and_right _ _ all))
+
+-- what comes after the last of a set comes after all of it
+pub after_last : (xs : List Entry) (l e : Entry) → is_set xs ≡ true → slice_get xs (length xs - 1) ≡ Some l → before l e ≡ true → list_all (λ x. before x e) xs ≡ true
+after_last xs l e set at first =
+    let parts = split_last xs l at in
+    let set' : is_set (parts.0 ++ l ∷ []) ≡ true = subst (λ t. is_set t ≡ true) parts.1 set in
+    let front = later_than_all l e parts.0 first (before_last parts.0 l set') in
+    subst (λ t. list_all (λ x. before x e) t ≡ true) (sym parts.1) (list_all-append (λ x. before x e) parts.0 (l ∷ []) ∙ and_both _ _ front (and_both _ _ first refl))
+
+-- the last is a member
+pub last_has : (xs : List Entry) (l : Entry) → slice_get xs (length xs - 1) ≡ Some l → has xs l ≡ true
+last_has xs l at =
+    let parts = split_last xs l at in
+    subst (λ t. has t l ≡ true) (sym parts.1) (any-append (same l) parts.0 (l ∷ []) ∙ or_right_true _ _ (head_has l []))
+
+-- some entry of a site has its greatest number
+pub last_seq_held : (n : ℕ) (xs : List Entry) → 1 ≤ last_seq n xs → (x : Entry) × (has xs x ≡ true) × (x.site ≡ n) × (x.seq ≡ last_seq n xs)
+last_seq_held n [] some = absurd (omega arith)
+last_seq_held n (x ∷ xs) some = elim (eqb x.site n) as (λ b. eqb x.site n ≡ b → 1 ≤ (if b then max x.seq (last_seq n xs) else last_seq n xs) → (y : Entry) × (has (x ∷ xs) y ≡ true) × (y.site ≡ n) × (y.seq ≡ (if b then max x.seq (last_seq n xs) else last_seq n xs))) [
+  | true ↦ λ is some. elim (bool_cases (leb (last_seq n xs) x.seq)) [
+    | inl more ↦ (x, head_has x xs, grind (arith, nat_tests), grind (arith, nat_tests))
+    | inr less ↦ let rest = last_seq_held n xs (grind (arith, nat_tests)) in (rest.0, or_right_true _ _ rest.1, rest.2, rest.3 ∙ grind (arith, nat_tests))
+  ]
+  | false ↦ λ _ some. let rest = last_seq_held n xs some in (rest.0, or_right_true _ _ rest.1, rest.2, rest.3)
+] refl some
+
+-- an entry after all of a set whose number is not above its site's greatest clashes with one of them
+pub number_clashes : (xs : List Entry) (e : Entry) → list_all (λ x. before x e) xs ≡ true → 1 ≤ e.seq → e.seq ≤ last_seq e.site xs → list_any (clash e) xs ≡ true
+number_clashes xs e all fits low =
+    let found = last_seq_held e.site xs (omega arith) in
+    any_at xs found.0 found.1 (clashing found.0 (all_has (λ x. before x e) xs found.0 all found.1) found.2 (rw (sym found.3) at low))
+  where
+    clashing : (x : Entry) → before x e ≡ true → x.site ≡ e.site → e.seq ≤ x.seq → clash e x ≡ true
+    clashing x first site low = elim (bool_cases (same e x)) [
+      | inl is ↦ absurd (false≢true (sym (before-irrefl x) ∙ subst (λ (v : Entry). before x v ≡ true) (same-is e x is) first))
+      | inr differs ↦ grind (arith, nat_tests)
+    ]
+    any_at : (ys : List Entry) (x : Entry) → has ys x ≡ true → clash e x ≡ true → list_any (clash e) ys ≡ true
+    any_at [] x in' hit = absurd (false≢true in')
+    any_at (y ∷ ys) x in' hit = elim (or_cases _ _ in') [
+      | inl is ↦ or_true _ _ (subst (λ (v : Entry). clash e v ≡ true) (same-is x y is) hit)
+      | inr later ↦ or_right_true _ _ (any_at ys x later hit)
+    ]
+
+-- and one whose number is above it clashes with none
+pub number_free : (xs : List Entry) (e : Entry) → list_all (λ x. before x e) xs ≡ true → last_seq e.site xs < e.seq → list_any (clash e) xs ≡ false
+number_free xs e all high = none_clash e xs (λ x in'. elim (bool_cases (eqb x.site e.site)) [
+    | inl is ↦ let at : x.site ≡ e.site = grind (arith, nat_tests) in let first = all_has (λ x. before x e) xs x all in' in later_free e x (omega (arith, seq_at_most e.site xs x in' at)) (grind (arith, nat_tests))
+    | inr differs ↦ other_site e x (λ (at : e.site ≡ x.site). absurd (grind (arith, nat_tests)))
+  ])
+
+-- the greatest numbers with one entry more at the end
+pub last_seq-push : (n : ℕ) (xs : List Entry) (e : Entry) → last_seq n (xs ++ e ∷ []) ≡ (if eqb e.site n then max (last_seq n xs) e.seq else last_seq n xs)
+last_seq-push n [] e = elim (eqb e.site n) as (λ b. (if b then max e.seq 0 else 0) ≡ (if b then max 0 e.seq else 0)) [ true ↦ omega arith | false ↦ refl ]
+last_seq-push n (x ∷ xs) e = rw (last_seq-push n xs e) (elim (eqb x.site n) as (λ a. (if a then max x.seq (if eqb e.site n then max (last_seq n xs) e.seq else last_seq n xs) else (if eqb e.site n then max (last_seq n xs) e.seq else last_seq n xs)) ≡ (if eqb e.site n then max (if a then max x.seq (last_seq n xs) else last_seq n xs) e.seq else (if a then max x.seq (last_seq n xs) else last_seq n xs))) [
+  | true ↦ elim (eqb e.site n) as (λ b. max x.seq (if b then max (last_seq n xs) e.seq else last_seq n xs) ≡ (if b then max (max x.seq (last_seq n xs)) e.seq else max x.seq (last_seq n xs))) [ true ↦ omega arith | false ↦ refl ]
+  | false ↦ refl
+])
