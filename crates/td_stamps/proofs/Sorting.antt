@@ -1,14 +1,16 @@
 -- A sorted list of entries, walked once: its repeats are neighbours, and its clashes are found by the greatest number so far of each site.
-use Rattle.std.proofs.Common.{◌≡◌, ◌≢◌, ℕ, zero, suc, ◌+◌, ◌-◌, ◌<◌, ◌≤◌, Bool, true, false, not, ◌&&◌, ◌||◌, cond, if◌then◌else◌, eqb, ltb, leb, List, [], ◌∷◌, ◌++◌, length, get_or, max, take, Option, Some, None, refl, sym, ap, subst, ◌∙◌, ◌⊎◌, inl, inr, arith}
+use Rattle.std.proofs.Common.{◌≡◌, ◌≢◌, ℕ, zero, suc, ◌+◌, ◌-◌, ◌<◌, ◌≤◌, Bool, true, false, not, ◌&&◌, ◌||◌, cond, if◌then◌else◌, eqb, ltb, leb, List, [], ◌∷◌, ◌++◌, length, get_or, max, take, Option, Some, None, unwrap_or, refl, sym, ap, subst, ◌∙◌, ◌⊎◌, inl, inr, arith}
 use mathlib.Core.Bool.{true≢false, false≢true}
 use Rattle.std.specs.List.{list_any, list_all, slice_get}
 use Rattle.std.specs.List.Sorted.{IsSortedBy}
 use Rattle.std.specs.Cmp.{IsStrictWeakOrder}
+use Rattle.std.specs.BTreeMap as tree
 use Rattle.std.specs.Ordering.{is_lt, ordering_then, nat_cmp}
 use Rattle.std.specs.declared.cmp.Ordering.TheVariants.{Less, Equal, Greater}
 use Rattle.std.proofs.lemmas.Bool.Decides.{nat_tests}
 use Rattle.std.proofs.lemmas.List.Folds.{list_all-append}
 use Rattle.std.proofs.lemmas.List.Sorted.{sorted_far}
+use Rattle.std.proofs.lemmas.Option.{slice_get-get_or}
 use Rattle.std.proofs.Math.ListN.{get_or-append}
 use Rattle.std.proofs.Math.Seq.{get_or-append_seam}
 use Rattle.td_stamps.specs.declared.entry.Entry.{Entry}
@@ -159,22 +161,24 @@ last_seq_held n (x ∷ xs) some = elim (eqb x.site n) as (λ b. eqb x.site n ≡
   | false ↦ λ _ some. let rest = last_seq_held n xs some in (rest.0, or_right_true _ _ rest.1, rest.2, rest.3)
 ] refl some
 
+-- a member that clashes
+any_of : (e x : Entry) (ys : List Entry) → has ys x ≡ true → clash e x ≡ true → list_any (clash e) ys ≡ true
+any_of e x [] in' hit = absurd (false≢true in')
+any_of e x (y ∷ ys) in' hit = elim (or_cases _ _ in') [
+  | inl is ↦ or_true _ _ (subst (λ (v : Entry). clash e v ≡ true) (same-is x y is) hit)
+  | inr later ↦ or_right_true _ _ (any_of e x ys later hit)
+]
+
 -- an entry after all of a set whose number is not above its site's greatest clashes with one of them
 pub number_clashes : (xs : List Entry) (e : Entry) → list_all (λ x. before x e) xs ≡ true → 1 ≤ e.seq → e.seq ≤ last_seq e.site xs → list_any (clash e) xs ≡ true
 number_clashes xs e all fits low =
     let found = last_seq_held e.site xs (omega arith) in
-    any_at xs found.0 found.1 (clashing found.0 (all_has (λ x. before x e) xs found.0 all found.1) found.2 (rw (sym found.3) at low))
+    any_of e found.0 xs found.1 (clashing found.0 (all_has (λ x. before x e) xs found.0 all found.1) found.2 (rw (sym found.3) at low))
   where
     clashing : (x : Entry) → before x e ≡ true → x.site ≡ e.site → e.seq ≤ x.seq → clash e x ≡ true
     clashing x first site low = elim (bool_cases (same e x)) [
       | inl is ↦ absurd (false≢true (sym (before-irrefl x) ∙ subst (λ (v : Entry). before x v ≡ true) (same-is e x is) first))
       | inr differs ↦ grind (arith, nat_tests)
-    ]
-    any_at : (ys : List Entry) (x : Entry) → has ys x ≡ true → clash e x ≡ true → list_any (clash e) ys ≡ true
-    any_at [] x in' hit = absurd (false≢true in')
-    any_at (y ∷ ys) x in' hit = elim (or_cases _ _ in') [
-      | inl is ↦ or_true _ _ (subst (λ (v : Entry). clash e v ≡ true) (same-is x y is) hit)
-      | inr later ↦ or_right_true _ _ (any_at ys x later hit)
     ]
 
 -- and one whose number is above it clashes with none
@@ -191,3 +195,83 @@ last_seq-push n (x ∷ xs) e = rw (last_seq-push n xs e) (elim (eqb x.site n) as
   | true ↦ elim (eqb e.site n) as (λ b. max x.seq (if b then max (last_seq n xs) e.seq else last_seq n xs) ≡ (if b then max (max x.seq (last_seq n xs)) e.seq else max x.seq (last_seq n xs))) [ true ↦ omega arith | false ↦ refl ]
   | false ↦ refl
 ])
+
+-- a list with no last is empty
+pub no_last : (xs : List Entry) → slice_get xs (length xs - 1) ≡ None → xs ≡ []
+no_last [] at = refl
+no_last (x ∷ xs) at = absurd (none_some (sym at ∙ slice_get-get_or (x ∷ xs) (length (x ∷ xs) - 1) x (omega arith)))
+  where
+    none_some : {y : Entry} → None ≡ Some y → ⊥
+    none_some h = cc
+
+-- one step of the walk: ys are walked and have no clash, e comes next
+module _ (ys : List Entry) (e : Entry) (rest : List Entry) (sorted : IsSortedBy before (ys ++ e ∷ rest)) (clear : first_clash [] ys ≡ None) where
+  so_far : AddsUp [] [] ys
+  so_far = adds_up [] [] ys (λ p. refl) refl clear
+
+  pub so_far_set : is_set (union [] ys) ≡ true
+  so_far_set = let up = so_far in up.set
+
+  hit : list_any (clash e) (union [] ys) ≡ true → first_clash [] (ys ++ e ∷ rest) ≡ None → ⊥
+  hit h = let up = so_far in first_clash-hit [] ys e rest (sym (up.members (clash e)) ∙ h)
+
+  more : list_any (clash e) (union [] ys) ≡ false → first_clash [] (ys ++ e ∷ []) ≡ None
+  more h = let up = so_far in first_clash-push [] ys e clear refl (sym (up.members (clash e)) ∙ h)
+
+  -- the entry is the last one again
+  pub again : (l : Entry) → slice_get (union [] ys) (length (union [] ys) - 1) ≡ Some l → same l e ≡ true → (first_clash [] (ys ++ e ∷ []) ≡ None) × (union [] ys ≡ union [] (ys ++ e ∷ []))
+  again l at is =
+      let held : has (union [] ys) e ≡ true = subst (λ (v : Entry). has (union [] ys) v ≡ true) (same-is l e is) (last_has (union [] ys) l at) in
+      (more (none_clash e (union [] ys) (λ x in'. set_free (union [] ys) so_far_set e x held in')), sym (put_again e (union [] ys) so_far_set held) ∙ sym (union-push [] ys e))
+
+  -- it has the last one's stamp, and is another
+  pub tied_to_last : (l : Entry) → slice_get (union [] ys) (length (union [] ys) - 1) ≡ Some l → same l e ≡ false → before l e ≡ false → first_clash [] (ys ++ e ∷ rest) ≡ None → ⊥
+  tied_to_last l at differs not_before =
+      let up = so_far in
+      let held = last_has (union [] ys) l at in
+      let not_after = none_after ys e rest sorted l (sym (up.members (same l)) ∙ held) in
+      hit (any_of e l (union [] ys) held (clashing not_after))
+    where
+      clashing : before e l ≡ false → clash e l ≡ true
+      clashing not_after = elim (bool_cases (clash e l)) [
+        | inl is ↦ is
+        | inr none ↦ absurd (false≢true (sym differs ∙ subst (λ (v : Entry). same l v ≡ true) (sym (tied e l not_after not_before none)) (same-refl l)))
+      ]
+
+  -- its number is not above those of its site
+  pub number_taken : list_all (λ x. before x e) (union [] ys) ≡ true → 1 ≤ e.seq → e.seq ≤ last_seq e.site (union [] ys) → first_clash [] (ys ++ e ∷ rest) ≡ None → ⊥
+  number_taken after fits low = hit (number_clashes (union [] ys) e after fits low)
+
+  -- it comes after all, with a number above those of its site
+  pub fits_last : list_all (λ x. before x e) (union [] ys) ≡ true → last_seq e.site (union [] ys) < e.seq → (first_clash [] (ys ++ e ∷ []) ≡ None) × (union [] ys ++ e ∷ [] ≡ union [] (ys ++ e ∷ []))
+  fits_last after high = (more (number_free (union [] ys) e after high), sym (put_after e (union [] ys) after) ∙ sym (union-push [] ys e))
+
+-- the range of an entry in the midst of others
+pub number_from_one : (ys : List Entry) (e : Entry) (rest : List Entry) → list_all in_range (ys ++ e ∷ rest) ≡ true → 1 ≤ e.seq
+number_from_one ys e rest all =
+    let parts : (list_all in_range ys && (in_range e && list_all in_range rest)) ≡ true = sym (list_all-append in_range ys (e ∷ rest)) ∙ all in
+    let range : in_range e ≡ true = and_left _ _ (and_right _ _ parts) in
+    grind (arith, nat_tests)
+
+-- an option that is no value is none
+pub none_of : {X : Type 0} (o : Option X) → ((x : X) → o ≡ Some x → ⊥) → o ≡ None
+none_of None h = refl
+none_of (Some x) h = absurd (h x refl)
+
+-- where a map by numbers finds a key
+at_number : (m n : ℕ) → tree.is_at (nat_cmp m) n ≡ eqb m n
+at_number m n = elim (bool_cases (ltb m n)) [
+  | inl less ↦ let differ : eqb m n ≡ false = grind (arith, nat_tests) in rw (less, differ) refl
+  | inr not_less ↦ rw not_less (elim (eqb m n) as (λ b. tree.is_at (λ _. cond b Equal Greater) n ≡ b) [ true ↦ refl | false ↦ refl ])
+]
+
+-- the greatest numbers, kept by site in a map, with one entry more
+pub latest_push : (f g : ℕ → Option ℕ) (xs : List Entry) (e : Entry) → ((q : ℕ) → unwrap_or (f q) 0 ≡ last_seq q xs) → last_seq e.site xs < e.seq
+    → ((q : ℕ) → g q ≡ cond (tree.is_at (nat_cmp e.site) q) (Some e.seq) (f q)) → (q : ℕ) → unwrap_or (g q) 0 ≡ last_seq q (xs ++ e ∷ [])
+latest_push f g xs e kept high puts q =
+    ap (λ o. unwrap_or o 0) (puts q ∙ ap (λ b. cond b (Some e.seq) (f q)) (at_number e.site q))
+    ∙ (elim (eqb e.site q) as (λ b. eqb e.site q ≡ b → unwrap_or (cond b (Some e.seq) (f q)) 0 ≡ (if b then max (last_seq q xs) e.seq else last_seq q xs)) [
+      | true ↦ λ is. let here : e.site ≡ q = grind (arith, nat_tests) in let less = subst (λ n. last_seq n xs < e.seq) here high in omega arith
+      | false ↦ λ _. kept q
+    ] refl)
+    ∙ sym (last_seq-push q xs e)
