@@ -1,15 +1,17 @@
 -- A sorted list of entries, walked once: its repeats are neighbours, and its clashes are found by the greatest number so far of each site.
-use Rattle.std.proofs.Common.{◌≡◌, ◌≢◌, ℕ, zero, suc, ◌+◌, ◌-◌, ◌<◌, ◌≤◌, Bool, true, false, not, ◌&&◌, ◌||◌, cond, if◌then◌else◌, eqb, ltb, leb, List, [], ◌∷◌, ◌++◌, length, get_or, max, take, Option, Some, None, unwrap_or, refl, sym, ap, subst, ◌∙◌, ◌⊎◌, inl, inr, arith}
+use Rattle.std.proofs.Common.{◌≡◌, ◌≢◌, ℕ, zero, suc, ◌+◌, ◌-◌, ◌<◌, ◌≤◌, Bool, true, false, not, ◌&&◌, ◌||◌, cond, if◌then◌else◌, eqb, ltb, leb, List, [], ◌∷◌, ◌++◌, length, get_or, max, take, Option, Some, None, unwrap_or, Vec, Global, refl, sym, ap, subst, ◌∙◌, ◌⊎◌, inl, inr, arith}
 use mathlib.Core.Bool.{true≢false, false≢true}
 use Rattle.std.specs.List.{list_any, list_all, slice_get}
-use Rattle.std.specs.List.Sorted.{IsSortedBy}
+use Rattle.std.specs.List.Sorted.{IsSortedBy, IsPermutation}
 use Rattle.std.specs.Cmp.{IsStrictWeakOrder}
+use Rattle.std.specs.Option.{MatchOption}
 use Rattle.std.specs.BTreeMap as tree
 use Rattle.std.specs.Ordering.{is_lt, ordering_then, nat_cmp}
 use Rattle.std.specs.declared.cmp.Ordering.TheVariants.{Less, Equal, Greater}
 use Rattle.std.proofs.lemmas.Bool.Decides.{nat_tests}
 use Rattle.std.proofs.lemmas.List.Folds.{list_all-append}
-use Rattle.std.proofs.lemmas.List.Sorted.{sorted_far}
+use Rattle.std.proofs.lemmas.List.Sorted.{sorted_far, list_any-IsPermutation, All-permutation}
+use Rattle.std.proofs.lemmas.List.Sums.{AllPass-from_list_all, list_all-from_AllPass}
 use Rattle.std.proofs.lemmas.Option.{slice_get-get_or}
 use Rattle.std.proofs.Math.ListN.{get_or-append}
 use Rattle.std.proofs.Math.Seq.{get_or-append_seam}
@@ -20,7 +22,7 @@ use Rattle.td_stamps.specs.Checks.{first_clash, last_seq}
 use Rattle.td_stamps.proofs.EntryLemmas.{same-is, same-refl, clash-sym, tied, before-trans, before-asym, before-irrefl}
 use Rattle.td_stamps.proofs.SetLemmas.{and_left, and_right, and_both, or_left, or_right, any-append, set-put, any-put, AddsUp, adds_up}
 use Rattle.td_stamps.proofs.Places.{union-push}
-use Rattle.td_stamps.proofs.Merges.{bool_cases, or_cases, or_true, or_right_true, head_has, none_clash, set_free, same_set, all_has}
+use Rattle.td_stamps.proofs.Merges.{bool_cases, or_cases, or_true, or_right_true, head_has, none_clash, set_free, same_set, all_has, merged, no_first_clash}
 use Rattle.td_stamps.proofs.Next.{other_site, later_free, seq_at_most}
 
 -- the order of stamps, as `cmp` has it, is stamp order
@@ -275,3 +277,32 @@ latest_push f g xs e kept high puts q =
       | false ↦ λ _. kept q
     ] refl)
     ∙ sym (last_seq-push q xs e)
+
+-- a set and a batch, and all their entries in another order
+module _ (held batch all : List Entry) (set : is_set held ≡ true) (moved : IsPermutation (held ++ batch) all) where
+  moved_has : (z : Entry) → has (held ++ batch) z ≡ has all z
+  moved_has z = list_any-IsPermutation (same z) (held ++ batch) all moved
+
+  -- without a clash in this order there is none in theirs, and the unions are one
+  pub clear_in_order : first_clash [] all ≡ None → (first_clash held batch ≡ None) × (union [] all ≡ union held batch)
+  clear_in_order clear =
+      let up = adds_up [] [] all (λ p. refl) refl clear in
+      let free : NoClash (held ++ batch) = λ x y in_x in_y. set_free (union [] all) up.set x y (up.members (same x) ∙ sym (moved_has x) ∙ in_x) (up.members (same y) ∙ sym (moved_has y) ∙ in_y) in
+      let both = merged held batch set free in
+      (no_first_clash held batch free, same_set (union [] all) (union held batch) up.set both.set (λ z. up.members (same z) ∙ sym (moved_has z) ∙ any-append (same z) held batch ∙ sym (both.members (same z))))
+
+  -- a clash in this order is one in theirs
+  pub clash_in_order : (first_clash [] all ≡ None → ⊥) → first_clash held batch ≡ None → ⊥
+  clash_in_order hit clear =
+      let up = adds_up held held batch (λ p. refl) set clear in
+      let in_union : (z : Entry) → has all z ≡ true → has (union held batch) z ≡ true = λ z in'. up.members (same z) ∙ sym (any-append (same z) held batch) ∙ moved_has z ∙ in' in
+      hit (no_first_clash [] all (λ x y in_x in_y. set_free (union held batch) up.set x y (in_union x in_x) (in_union y in_y)))
+
+  pub joined_in_order : (o : Option (Vec Entry Global)) → MatchOption o (first_clash [] all ≢ None) (λ v. (first_clash [] all ≡ None) × (v.items ≡ union [] all))
+      → MatchOption o (first_clash held batch ≢ None) (λ v. (first_clash held batch ≡ None) × (v.items ≡ union held batch))
+  joined_in_order None hit = clash_in_order hit
+  joined_in_order (Some v) parts = let ok = clear_in_order parts.0 in (ok.0, parts.1 ∙ ok.1)
+
+  -- what holds of all of both holds of all of these
+  pub moved_all : (p : Entry → Bool) → list_all p held ≡ true → list_all p batch ≡ true → list_all p all ≡ true
+  moved_all p in_held in_batch = list_all-from_AllPass p all (All-permutation (λ x. p x ≡ true) (held ++ batch) all moved (AllPass-from_list_all p (held ++ batch) (list_all-append p held batch ∙ and_both _ _ in_held in_batch)))
