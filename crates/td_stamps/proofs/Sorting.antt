@@ -45,7 +45,7 @@ stamp_order = record {
 }
 
 -- the place of a member
-place_of : (xs : List Entry) (x : Entry) → has xs x ≡ true → (i : ℕ) × (i < length xs) × ((d : Entry) → get_or xs i d ≡ x)
+pub place_of : (xs : List Entry) (x : Entry) → has xs x ≡ true → (i : ℕ) × (i < length xs) × ((d : Entry) → get_or xs i d ≡ x)
 place_of [] x in' = absurd (false≢true in')
 place_of (y ∷ ys) x in' = elim (or_cases _ _ in') [
   | inl is ↦ (0, omega arith, λ d. sym (same-is x y is))
