@@ -67,8 +67,9 @@ fn without_repeats(
                 return Ok(None);
             }
         }
-        // Entries of one site ascend in clock here, so they clash unless their numbers ascend.
-        if latest.get(&entry.site).is_some_and(|seq| entry.seq <= *seq) {
+        // Entries of one site ascend in clock here, so they clash unless their numbers, which
+        // begin at 1, ascend too.
+        if entry.seq <= latest.get(&entry.site).copied().unwrap_or(0) {
             return Ok(None);
         }
         latest.insert(entry.site, entry.seq)?;
