@@ -1,0 +1,4 @@
+pub mod Cuts
+pub mod Readings
+pub mod Fronts
+pub mod OneReading

@@ -1,7 +1,7 @@
 -- The tokens of a text, as a relation: what may stand at the front of a text, one clause for each form, and what follows.
 -- A text is its bytes in UTF-8. A run is taken as far as it goes, and only then judged: what is too long or too large
 -- has no reading, and is never cut in two.
-use Rattle.std.specs.Prelude.{◌≡◌, ◌≤◌, ◌<◌, ℕ, zero, suc, ◌+◌, ◌-◌, ◌*◌, Bool, true, false, ◌||◌, ◌==◌, nat_eq, List, [], ◌∷◌, length, take, drop, fold, codes, Option, Some, None, take_while, find, option_map}
+use Rattle.std.specs.Prelude.{◌≡◌, ◌≤◌, ◌<◌, ℕ, zero, suc, ◌+◌, ◌-◌, ◌*◌, Bool, true, false, not, ◌||◌, ◌==◌, nat_eq, List, [], ◌∷◌, length, take, drop, fold, codes, Option, Some, None, take_while, find, option_map}
 use Rattle.std.specs.Char.{is_ascii_digit}
 use Rattle.std.specs.List.{list_all, starts_with}
 use Rattle.std.specs.Str.{byte, str_eq_ignore_ascii_case}
@@ -37,7 +37,7 @@ is_blank b = b == 32 || b == 9 || b == 10 || b == 13
 
 -- the inside of a comment ends with the first `*/`, so many bytes on
 pub data EndsComment : Text → ℕ → Type 0 where
-  closing : {bs : Text} → begins_with (codes "*/") bs ≡ true → EndsComment bs 2
+  closing : {bs : Text} → EndsComment (byte "*" ∷ byte "/" ∷ bs) 2
   inside : {b n : ℕ} {bs : Text} → begins_with (codes "*/") (b ∷ bs) ≡ false → EndsComment bs n → EndsComment (b ∷ bs) (suc n)
 
 -- white space of so many bytes is at the front: a blank, or a comment
@@ -66,7 +66,7 @@ largest_int = 9223372036854775807
 
 -- these characters may stand inside: any but a quote, NUL, line feed and carriage return
 abbrev pub is_plain : ℕ → Bool
-is_plain b = if b == byte "'" || b == 0 || b == 10 || b == 13 then false else true
+is_plain b = not (b == byte "'" || b == 0 || b == 10 || b == 13)
 
 -- After an opening quote come the characters cs, a quote among them doubled, and the closing quote: n bytes.
 pub data IsQuoted : Text → Text → ℕ → Type 0 where

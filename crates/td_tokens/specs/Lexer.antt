@@ -40,8 +40,12 @@ text_end after_quote at (b ∷ bs) =
 unfoldable pub int_kind : Text → Option Kind
 int_kind bs = if list_all is_ascii_digit bs && nat_le (value bs) largest_int then Some (kind.Int (value bs)) else None
 
+abbrev pub word_or_name : Option Word → Text → Option Kind
+word_or_name (Some v) bs = Some (kind.Word v)
+word_or_name None bs = if nat_le (length bs) 64 then Some kind.Name else None
+
 unfoldable pub name_kind : Text → Option Kind
-name_kind bs = elim (keyword_of bs) [ Some v ↦ Some (kind.Word v) | None ↦ if nat_le (length bs) 64 then Some kind.Name else None ]
+name_kind bs = word_or_name (keyword_of bs) bs
 
 -- what a whole run is
 unfoldable pub run_kind : Text → Option Kind
@@ -76,10 +80,10 @@ Lexed = Option (List Spanned)
 abbrev pub token_then : (ℕ → Lexed) → ℕ → Spanned → Lexed
 token_then more depth t = if nat_le (open_after depth t) most_open then option_map (λ ts. t ∷ ts) (more (open_after depth t)) else None
 
--- what stands at the front, and then more
-abbrev pub piece_then : (ℕ → Lexed) → ℕ → ℕ → Text → Piece → Lexed
-piece_then more depth at bs p =
-    elim p.kind [ None ↦ more depth | Some k ↦ token_then more depth (record { lexeme = lexeme k (take p.length bs); start = at; end = at + p.length }) ]
+-- a token of this kind and length first, or white space
+abbrev pub piece_then : (ℕ → Lexed) → ℕ → ℕ → Text → Option Kind → ℕ → Lexed
+piece_then more depth at bs None n = more depth
+piece_then more depth at bs (Some k) n = token_then more depth (record { lexeme = lexeme k (take n bs); start = at; end = at + n })
 
 -- The tokens of a text whose first byte has the number `at`, where so many brackets are open before it
 -- and its first `left` bytes belong to the piece before.
@@ -87,7 +91,7 @@ unfoldable pub lexed : ℕ → ℕ → ℕ → Text → Lexed
 lexed left depth at [] = Some []
 lexed (suc left) depth at (b ∷ bs) = lexed left depth (at + 1) bs
 lexed zero depth at (b ∷ bs) =
-    option_and_then (λ (p : Piece). piece_then (λ n. lexed (p.length - 1) n (at + 1) bs) depth at (b ∷ bs) p) (front (b ∷ bs))
+    option_and_then (λ (p : Piece). piece_then (λ later. lexed (p.length - 1) later (at + 1) bs) depth at (b ∷ bs) p.kind p.length) (front (b ∷ bs))
 
 -- the tokens of a text, where it has a reading
 abbrev pub reading : Text → Option (List Spanned)
