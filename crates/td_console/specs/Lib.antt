@@ -1,6 +1,7 @@
 pub mod Refusals
 pub mod Grammar
 pub mod Reader
+pub mod Readings
 pub mod Typing
 pub mod Step
 pub mod Seen

@@ -150,11 +150,15 @@ definition_at = do
   expect w.Semicolon
   pure (record { name = n; fields = fields; key = key })
 
+-- no token is left
+abbrev pub is_over : Tokens → Bool
+is_over [] = true
+is_over (t ∷ ts) = false
+
 -- definitions up to the end; the number bounds the turns
 unfoldable pub definitions_from : ℕ → List Definition → Tokens → Option (List Definition)
-definitions_from n found [] = Some found
-definitions_from zero found (t ∷ ts) = None
-definitions_from (suc n) found (t ∷ ts) = option_and_then (λ p. definitions_from n (found ++ p.0 ∷ []) p.1) (definition_at (t ∷ ts))
+definitions_from zero found ts = if is_over ts then Some found else None
+definitions_from (suc n) found ts = if is_over ts then Some found else option_and_then (λ (p : Definition × Tokens). definitions_from n (found ++ p.0 ∷ []) p.1) (definition_at ts)
 
 abbrev pub definitions_of : Tokens → Option (List Definition)
 definitions_of ts = definitions_from (length ts) [] ts
@@ -162,8 +166,7 @@ definitions_of ts = definitions_from (length ts) [] ts
 -- what was read, where no token is left
 abbrev pub whole : {A : Type 0} → Outcome A → Option A
 whole None = None
-whole (Some (a, [])) = Some a
-whole (Some (a, t ∷ ts)) = None
+whole (Some p) = if is_over p.1 then Some p.0 else None
 
 abbrev pub statement_of_tokens : Tokens → Option Insertion
 statement_of_tokens ts = whole (statement_at ts)

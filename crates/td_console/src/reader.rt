@@ -1,12 +1,19 @@
 //! Scripts and statements from texts.
 
+ghost use Rattle.std.specs.Prelude.{◌≡◌, List, Option, Some, None, IfOk, true};
+ghost use Rattle.std.specs.List.{list_all};
+ghost use Rattle.td_tokens.specs.Lex.{Lexeme};
+ghost use Rattle.td_tokens.specs.Lexer.{lexemes};
+ghost use Rattle.td_console.specs.Reader as spec;
+ghost use Rattle.td_console.specs.Readings.{Gives, Tells, Lexes, fits_name, lexemes_of};
+
 use crate::cursor::Cursor;
 use crate::refusal::ReadError;
 use crate::tree::{Component, Definition, Field, Insertion};
 use sqlite_items::Items;
 use std::alloc::Global;
 use td_tokens::lexer::tokens;
-use td_tokens::token::Word;
+use td_tokens::token::{Token, Word};
 use td_values::Name;
 
 /// The most bytes of a statement.
@@ -17,16 +24,25 @@ pub const SCRIPT_BYTES: usize = 65_536;
 
 /// What can stand in a list with commas.
 pub trait Readable: Drop + Sized {
-    fn read(alloc: Global, tokens: &mut Cursor<'_>) -> Result<Self, ReadError>;
+    /// What is read at a place, and the place after it.
+    ghost at: { List Lexeme → Option (Self × List Lexeme) };
+
+    fn read(alloc: Global, tokens: &mut Cursor<'_>) -> Result<Self, ReadError>
+        ensures { Gives (at tokens.old) result tokens.new };
 }
 
 impl Readable for Name {
+    ghost at = { spec.take_name };
+
     fn read(alloc: Global, tokens: &mut Cursor<'_>) -> Result<Name, ReadError> {
         tokens.name(alloc)
     }
 }
 
 impl Readable for Field {
+    ghost at = { spec.field_at };
+
+    #[tactic(auto, unfolding(crate::specs::Reader::field_at))]
     fn read(alloc: Global, tokens: &mut Cursor<'_>) -> Result<Field, ReadError> {
         let name = tokens.name(alloc)?;
         let scalar = tokens.scalar()?;
@@ -35,6 +51,9 @@ impl Readable for Field {
 }
 
 impl Readable for Component {
+    ghost at = { spec.component_at };
+
+    #[tactic(auto, unfolding(crate::specs::Reader::component_at))]
     fn read(alloc: Global, tokens: &mut Cursor<'_>) -> Result<Component, ReadError> {
         let name = tokens.name(alloc)?;
         let value = tokens.literal(alloc)?;
@@ -43,6 +62,9 @@ impl Readable for Component {
 }
 
 impl Readable for Items<Component> {
+    ghost at = { spec.row_at };
+
+    #[tactic(auto, unfolding(crate::specs::Reader::row_at))]
     fn read(alloc: Global, tokens: &mut Cursor<'_>) -> Result<Items<Component>, ReadError> {
         tokens.expect(Word::Tuple)?;
         braced(alloc, tokens)
@@ -50,7 +72,9 @@ impl Readable for Items<Component> {
 }
 
 // One or more, with commas between.
-fn list<T: Readable>(alloc: Global, tokens: &mut Cursor<'_>) -> Result<Items<T>, ReadError> {
+fn list<T: Readable>(alloc: Global, tokens: &mut Cursor<'_>) -> Result<Items<T>, ReadError>
+    ensures { Gives (spec.list_at T.at tokens.old) result tokens.new }
+{
     let mut found = Items::new(alloc);
     for _turn in 0..tokens.len() {
         found.push(T::read(alloc, tokens)?)?;
@@ -62,7 +86,10 @@ fn list<T: Readable>(alloc: Global, tokens: &mut Cursor<'_>) -> Result<Items<T>,
 }
 
 // None or more in braces.
-fn braced<T: Readable>(alloc: Global, tokens: &mut Cursor<'_>) -> Result<Items<T>, ReadError> {
+#[tactic(auto, unfolding(crate::specs::Reader::braced))]
+fn braced<T: Readable>(alloc: Global, tokens: &mut Cursor<'_>) -> Result<Items<T>, ReadError>
+    ensures { Gives (spec.braced T.at tokens.old) result tokens.new }
+{
     tokens.expect(Word::OpenBrace)?;
     if tokens.eat(Word::CloseBrace) {
         return Ok(Items::new(alloc));
@@ -72,7 +99,10 @@ fn braced<T: Readable>(alloc: Global, tokens: &mut Cursor<'_>) -> Result<Items<T
     Ok(found)
 }
 
-fn insertion(alloc: Global, tokens: &mut Cursor<'_>) -> Result<Insertion, ReadError> {
+#[tactic(auto, unfolding(crate::specs::Reader::statement_at))]
+fn insertion(alloc: Global, tokens: &mut Cursor<'_>) -> Result<Insertion, ReadError>
+    ensures { Gives (spec.statement_at tokens.old) result tokens.new }
+{
     tokens.expect(Word::Insert)?;
     let relvar = tokens.name(alloc)?;
     tokens.expect(Word::Relation)?;
@@ -83,7 +113,10 @@ fn insertion(alloc: Global, tokens: &mut Cursor<'_>) -> Result<Insertion, ReadEr
     Ok(Insertion { relvar, rows })
 }
 
-fn definition(alloc: Global, tokens: &mut Cursor<'_>) -> Result<Definition, ReadError> {
+#[tactic(auto, unfolding(crate::specs::Reader::definition_at))]
+fn definition(alloc: Global, tokens: &mut Cursor<'_>) -> Result<Definition, ReadError>
+    ensures { Gives (spec.definition_at tokens.old) result tokens.new }
+{
     tokens.expect(Word::Var)?;
     let name = tokens.name(alloc)?;
     tokens.expect(Word::Base)?;
@@ -95,10 +128,13 @@ fn definition(alloc: Global, tokens: &mut Cursor<'_>) -> Result<Definition, Read
     Ok(Definition { name, fields, key })
 }
 
+// Definitions up to the end.
 fn definitions(
     alloc: Global,
     tokens: &mut Cursor<'_>,
-) -> Result<Items<Definition>, ReadError> {
+) -> Result<Items<Definition>, ReadError>
+    ensures { Tells (spec.definitions_of tokens.old) result }
+{
     let mut found = Items::new(alloc);
     for _turn in 0..tokens.len() {
         if tokens.is_empty() {
@@ -113,12 +149,23 @@ fn definitions(
     }
 }
 
+// The tokens of a text.
+fn tokens_of(alloc: Global, text: &str) -> Result<Vec<Token<'_>>, ReadError>
+    ensures told { Lexes (lexemes text.now) result }
+    ensures names { IfOk result (λ ts. list_all fits_name (lexemes_of ts) ≡ true) }
+{
+    Ok(tokens(alloc, text)?)
+}
+
 /// The tree of a statement.
-pub fn read_statement(alloc: Global, text: &str) -> Result<Insertion, ReadError> {
+#[tactic(auto, unfolding(crate::specs::Reader::read_statement))]
+pub fn read_statement(alloc: Global, text: &str) -> Result<Insertion, ReadError>
+    ensures { Tells (spec.read_statement text.now) result }
+{
     if text.len() > STATEMENT_BYTES {
         return Err(ReadError::Syntax);
     }
-    let all = tokens(alloc, text)?;
+    let all = tokens_of(alloc, text)?;
     let mut rest = Cursor::new(&all);
     let tree = insertion(alloc, &mut rest)?;
     if rest.is_empty() {
@@ -129,11 +176,14 @@ pub fn read_statement(alloc: Global, text: &str) -> Result<Insertion, ReadError>
 }
 
 /// The trees of a script.
-pub fn read_script(alloc: Global, text: &str) -> Result<Items<Definition>, ReadError> {
+#[tactic(auto, unfolding(crate::specs::Reader::read_script))]
+pub fn read_script(alloc: Global, text: &str) -> Result<Items<Definition>, ReadError>
+    ensures { Tells (spec.read_script text.now) result }
+{
     if text.len() > SCRIPT_BYTES {
         return Err(ReadError::Syntax);
     }
-    let all = tokens(alloc, text)?;
+    let all = tokens_of(alloc, text)?;
     let mut rest = Cursor::new(&all);
     definitions(alloc, &mut rest)
 }
