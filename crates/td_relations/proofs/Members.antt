@@ -16,26 +16,10 @@ use Rattle.td_values.specs.Headings.{Header}
 use Rattle.td_values.specs.Order.{attrs_order}
 use Rattle.td_values.specs.Rows.{RowsData}
 use Rattle.td_values.specs.Total.{attrs_order_total, attrs_equivalence, attrs_tied}
+use Rattle.td_values.proofs.Entries.{first, second, less}
+use Rattle.td_values.proofs.Walks.{is_tied}
 use Rattle.td_relations.specs.Sets.{TupleSet, body, Has, ascending, relation_of, IsRelation}
 use Rattle.td_relations.proofs.Sorted.{same_sorted}
-
-first : (a b : Bool) → T (a && b) → T a
-first true b p = tt
-first false b p = absurd p
-
-second : (a b : Bool) → T (a && b) → T b
-second true b p = p
-second false b p = absurd p
-
-less : (o : Ordering) → T (is_lt o) → o ≡ Less
-less Less p = refl
-less Equal p = absurd p
-less Greater p = absurd p
-
-tied : (o : Ordering) → is_eq o ≡ true → o ≡ Equal
-tied Less e = cc
-tied Equal e = refl
-tied Greater e = cc
 
 module _ {K X : Type 0} (R : K → K → Ordering) where
   below_keys : (k : K) (es : List (K × X)) → T (below_all R k es) → AllByRecursion (λ y. R k y ≡ Less) (map (λ e. e.0) es)
@@ -82,7 +66,7 @@ relation_of_is h s = record {
 -- a tuple is in the relation where it is in its list
 pub has_listed : (r : RowsData) (t : Attrs) → Has r t ↔ Contains r.tuples t
 has_listed r t = (
-  λ h. Contains-from_any (λ x y e. attrs_tied x y (tied _ e)) t r.tuples (sym (set.contains-from_list attrs_order_total r.tuples t) ∙ h),
+  λ h. Contains-from_any (λ x y e. attrs_tied x y (is_tied _ e)) t r.tuples (sym (set.contains-from_list attrs_order_total r.tuples t) ∙ h),
   λ c. set.contains-from_list attrs_order_total r.tuples t ∙ list_any-from_Contains attrs_equivalence t r.tuples c,
 )
 
@@ -94,7 +78,7 @@ either false b e = inl e
 pub has_inserted : (h : Header) (s : TupleSet) (t : Attrs) (r : RowsData) → IsRelation h (set.insert s t) r → (u : Attrs) → Has r u ↔ ((set.contains s u ≡ true) ⊎ (u ≡ t))
 has_inserted h s t r is u =
     let members : set.contains (body r) u ≡ (eq_by_cmp attrs_order u t || set.contains s u) = ap (λ w. set.contains w u) is.members ∙ set.contains-insert attrs_order_total s t u in (
-      λ has. elim (either (eq_by_cmp attrs_order u t) (set.contains s u) (sym members ∙ has)) [ inl old ↦ inl old | inr same ↦ inr (attrs_tied u t (tied _ same)) ],
+      λ has. elim (either (eq_by_cmp attrs_order u t) (set.contains s u) (sym members ∙ has)) [ inl old ↦ inl old | inr same ↦ inr (attrs_tied u t (is_tied _ same)) ],
       λ known. members ∙ elim known [ inl old ↦ rw old (or_true (eq_by_cmp attrs_order u t)) | inr same ↦ ap (λ b. b || set.contains s u) (ap (λ w. is_eq (attrs_order u w)) (sym same) ∙ ap is_eq (tied_itself attrs_order_total u)) ],
     )
   where
