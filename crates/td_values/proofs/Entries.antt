@@ -18,11 +18,11 @@ use Rattle.td_values.specs.Places.{IsPlaceOf, IsGapFor}
 use Rattle.td_values.specs.TextOrder.{text_total}
 use Rattle.td_values.specs.Whole.{NamesAscend, IsWholeTuple}
 
-first : (a b : Bool) → T (a && b) → T a
+pub first : (a b : Bool) → T (a && b) → T a
 first true b p = tt
 first false b p = absurd p
 
-second : (a b : Bool) → T (a && b) → T b
+pub second : (a b : Bool) → T (a && b) → T b
 second true b p = p
 second false b p = absurd p
 
@@ -30,7 +30,7 @@ both : (a b : Bool) → T a → T b → T (a && b)
 both true b p q = q
 both false b p q = absurd p
 
-less : (o : Ordering) → T (is_lt o) → o ≡ Less
+pub less : (o : Ordering) → T (is_lt o) → o ≡ Less
 less Less p = refl
 less Equal p = absurd p
 less Greater p = absurd p

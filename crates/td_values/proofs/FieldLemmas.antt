@@ -21,10 +21,13 @@ own_turn Less e = cc
 own_turn Equal e = refl
 own_turn Greater e = cc
 
+pub fields_tie_themselves : (fs : Fields) → fields_order fs fs ≡ Equal
+fields_tie_themselves fs = own_turn _ (fields_antisymm fs fs)
+
 pub same_fields : (fs gs : Fields) (o : Ordering) (b : Bool) → o ≡ fields_order fs gs → b ≡ is_eq o → IsTrue b ↔ (fs ≡ gs)
 same_fields fs gs o b e test = (
   λ t. fields_tied fs gs (sym e ∙ is_tied o (sym test ∙ t)),
-  λ same. test ∙ ap is_eq (e ∙ ap (fields_order fs) (sym same) ∙ own_turn _ (fields_antisymm fs fs)),
+  λ same. test ∙ ap is_eq (e ∙ ap (fields_order fs) (sym same) ∙ fields_tie_themselves fs),
 )
 
 pub user_typed : (v : Datum) (t : Ty) (m n : List ℕ) (is : Items) (b : Bool) → v ≡ user m is → t ≡ user_type n → b ≡ eq_by_cmp text_cmp m n → IsTrue b ↔ (type_of v ≡ t)

@@ -13,15 +13,18 @@ abbrev pub attribute_of : List ℕ → Attrs → Option Datum
 attribute_of n no_attrs = None
 attribute_of n (attr m d as') = if eq_by_cmp text_cmp n m then Some d else attribute_of n as'
 
--- names with values
+-- a finite map from names to values
 abbrev pub AttributeMap : Type 0
 AttributeMap = map.FinMap text_cmp Datum
 
+-- by which a proof tells such maps apart
 abbrev pub attribute_code : Coded AttributeMap
 attribute_code = map.code (coded_list coded_ℕ) datum_code
 
+-- the map with no names
 abbrev pub no_attribute : AttributeMap
 no_attribute = map.empty
 
+-- is that of no entries
 pub no_attributes : map.from_sorted [] ≡ no_attribute
 no_attributes = map.empty_of_len (map.from_sorted []) (map.len-entries (map.from_sorted []) ∙ ap length (map.entries-from_sorted text_cmp [] tt))

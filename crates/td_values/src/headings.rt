@@ -121,6 +121,13 @@ impl Heading {
         self.len() == 0
     }
 
+    /// The names with their types, in name order.
+    pub fn fields(&self) -> &[(Name, TdType)]
+        ensures { result.now ≡ map.entries self.now }
+    {
+        &self.fields
+    }
+
     /// The name at this place in name order, from 0, with its type.
     pub fn at(&self, i: usize) -> Option<(&Name, &TdType)>
         ensures { MatchOption result (slice_get (map.entries self.now) i ≡ None) (λ f. slice_get (map.entries self.now) i ≡ Some (f.0.now, f.1.now)) }
