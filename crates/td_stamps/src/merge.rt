@@ -4,7 +4,7 @@ ghost use Rattle.std.specs.List.{list_all};
 ghost use Rattle.std.specs.List.Sorted.{IsPermutation, IsSortedBy};
 ghost use Rattle.td_stamps.specs.Entries.{before, in_range};
 ghost use Rattle.td_stamps.specs.Sets.{union, is_set};
-ghost use Rattle.td_stamps.specs.Checks.{first_clash};
+ghost use Rattle.td_stamps.specs.Checks.{first_clash, Joins};
 
 use std::alloc::{AllocError, Global};
 use std::collections::BTreeMap;
@@ -21,7 +21,7 @@ pub fn joined(
     requires set { is_set held.now ≡ true }
     requires held_in_range { list_all in_range held.now ≡ true }
     requires batch_in_range { list_all in_range batch.now ≡ true }
-    ensures { IfOk result (λ o. MatchOption o (first_clash held.now batch.now ≢ None) (λ v. (first_clash held.now batch.now ≡ None) × (v.items ≡ union held.now batch.now))) }
+    ensures { IfOk result (λ o. MatchOption o (first_clash held.now batch.now ≢ None) (λ v. Joins held.now batch.now v.items)) }
 {
     let mut all = Vec::new(alloc);
     push_copies(&mut all, held)?;
