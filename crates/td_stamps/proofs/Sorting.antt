@@ -186,9 +186,9 @@ number_clashes xs e all fits low =
 -- and one whose number is above it clashes with none
 pub number_free : (xs : List Entry) (e : Entry) → list_all (λ x. before x e) xs ≡ true → last_seq e.site xs < e.seq → list_any (clash e) xs ≡ false
 number_free xs e all high = none_clash e xs (λ x in'. elim (bool_cases (eqb x.site e.site)) [
-    | inl is ↦ let at : x.site ≡ e.site = grind (arith, nat_tests) in let first = all_has (λ x. before x e) xs x all in' in later_free e x (omega (arith, seq_at_most e.site xs x in' at)) (grind (arith, nat_tests))
-    | inr differs ↦ other_site e x (λ (at : e.site ≡ x.site). absurd (grind (arith, nat_tests)))
-  ])
+  | inl is ↦ let at : x.site ≡ e.site = grind (arith, nat_tests) in let first = all_has (λ x. before x e) xs x all in' in later_free e x (omega (arith, seq_at_most e.site xs x in' at)) (grind (arith, nat_tests))
+  | inr differs ↦ other_site e x (λ (at : e.site ≡ x.site). absurd (grind (arith, nat_tests)))
+])
 
 -- the greatest numbers with one entry more at the end
 pub last_seq-push : (n : ℕ) (xs : List Entry) (e : Entry) → last_seq n (xs ++ e ∷ []) ≡ (if eqb e.site n then max (last_seq n xs) e.seq else last_seq n xs)

@@ -6,10 +6,9 @@ ghost use Rattle.td_stamps.specs.Entries.{before, in_range};
 ghost use Rattle.td_stamps.specs.Sets.{union, is_set};
 ghost use Rattle.td_stamps.specs.Checks.{first_clash, Joins};
 
+use crate::entry::Entry;
 use std::alloc::{AllocError, Global};
 use std::collections::BTreeMap;
-
-use crate::entry::Entry;
 
 /// The union of a set and a batch, or None where two entries clash. Takes time of order
 /// n log n in the number of all entries.
@@ -48,10 +47,7 @@ fn sort_by_stamp(entries: &mut Vec<Entry>) -> Result<(), AllocError>
 }
 
 /// Sorted entries without their repeats, or None where two of them clash.
-fn without_repeats(
-    alloc: Global,
-    sorted: Vec<Entry>,
-) -> Result<Option<Vec<Entry>>, AllocError>
+fn without_repeats(alloc: Global, sorted: Vec<Entry>) -> Result<Option<Vec<Entry>>, AllocError>
     requires in_order { IsSortedBy before sorted.items }
     requires ranges { list_all in_range sorted.items ≡ true }
     ensures { IfOk result (λ o. MatchOption o (first_clash [] sorted.items ≢ None) (λ v. (first_clash [] sorted.items ≡ None) × (v.items ≡ union [] sorted.items))) }

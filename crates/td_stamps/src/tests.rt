@@ -1,10 +1,8 @@
 //! Worked examples, on the entries that a site holds.
+use crate::{CheckError, Entry, Held, NextError, PrepareError, Stamp};
 use std::alloc::{AllocError, Global};
 use std::test::Fail;
-
 use td_values::Text;
-
-use crate::{CheckError, Entry, Held, NextError, PrepareError, Stamp};
 
 fn entry(alloc: Global, site: u16, seq: u32, clock: u64, text: &str) -> Result<Entry, AllocError> {
     Ok(Entry {
@@ -25,8 +23,20 @@ fn take(held: &mut Held, alloc: Global, batch: &[Entry]) -> Result<(usize, usize
 
 fn first_two(alloc: Global) -> Result<Vec<Entry>, AllocError> {
     let mut entries = Vec::new(alloc);
-    entries.push(entry(alloc, 1, 1, 1, "INSERT S RELATION { TUPLE { SNO 'S1', STATUS 20, CITY 'London' } };")?)?;
-    entries.push(entry(alloc, 2, 1, 1, "INSERT S RELATION { TUPLE { SNO 'S2', STATUS 10, CITY 'Paris' } };")?)?;
+    entries.push(entry(
+        alloc,
+        1,
+        1,
+        1,
+        "INSERT S RELATION { TUPLE { SNO 'S1', STATUS 20, CITY 'London' } };",
+    )?)?;
+    entries.push(entry(
+        alloc,
+        2,
+        1,
+        1,
+        "INSERT S RELATION { TUPLE { SNO 'S2', STATUS 10, CITY 'Paris' } };",
+    )?)?;
     Ok(entries)
 }
 
@@ -51,8 +61,14 @@ fn take_in_any_order(rt: HostRuntime) -> Result<(), Fail> {
 
     for held in [&third, &other] {
         assert_eq!(rt; held.len(), 2);
-        assert_eq!(rt; held.at(0).map(|e| e.stamp()), Some(Stamp { clock: 1, site: 1 }));
-        assert_eq!(rt; held.at(1).map(|e| e.stamp()), Some(Stamp { clock: 1, site: 2 }));
+        assert_eq!(rt;
+            held.at(0).map(|e| e.stamp()),
+            Some(Stamp { clock: 1, site: 1 })
+        );
+        assert_eq!(rt;
+            held.at(1).map(|e| e.stamp()),
+            Some(Stamp { clock: 1, site: 2 })
+        );
         assert!(rt; held.at(2).is_none());
         assert!(rt; held.contains(&forth[1]));
     }
@@ -77,7 +93,10 @@ fn full_limit(rt: HostRuntime) -> Result<(), Fail> {
     assert_eq!(rt; held.check(&repeat), Ok(0));
     assert_eq!(rt; take(&mut held, alloc, &repeat), Ok((0, 1)));
 
-    let more = [entry(alloc, 1, 1, 1, "DELETE S;")?, entry(alloc, 2, 1, 1, "DELETE S;")?];
+    let more = [
+        entry(alloc, 1, 1, 1, "DELETE S;")?,
+        entry(alloc, 2, 1, 1, "DELETE S;")?,
+    ];
     assert_eq!(rt; held.check(&more), Err(CheckError::Full));
     assert_eq!(rt; take(&mut held, alloc, &more), Err(PrepareError::Full));
     assert_eq!(rt; held.len(), 2);
@@ -95,9 +114,15 @@ fn clash_clock_end_bad_entry(rt: HostRuntime) -> Result<(), Fail> {
 
     let clashing = [entry(alloc, 2, 1, end, "DELETE SP;")?];
     let clash = PrepareError::Clash { site: 2, seq: 1 };
-    assert_eq!(rt; held.check(&clashing), Err(CheckError::Clash { site: 2, seq: 1 }));
+    assert_eq!(rt;
+        held.check(&clashing),
+        Err(CheckError::Clash { site: 2, seq: 1 })
+    );
     assert_eq!(rt; take(&mut held, alloc, &clashing), Err(clash));
-    assert_eq!(rt; clash.to_string(alloc)?.as_str(), "entry 1 of site 2 clashes with another");
+    assert_eq!(rt;
+        clash.to_string(alloc)?.as_str(),
+        "entry 1 of site 2 clashes with another"
+    );
 
     let bad = [
         entry(alloc, 3, 1, 1, "DELETE S;")?,
