@@ -45,14 +45,14 @@ module _ (xs : List Entry) (e : Entry) (i : ℕ) (set : is_set xs ≡ true) (poi
   pub same_at_point : (x : Entry) → i < length xs → x ≡ get_or xs i e → same x e ≡ has xs e
   same_at_point x within at = elim (bool_cases (has xs e)) [
     | inl in' ↦
-      let later = not_in_front in' in
-      elim (bool_cases (ltb i later.0)) [
-        | inl less ↦ absurd (false≢true (sym (point.1 i e (omega arith) within) ∙ subst (λ (v : Entry). before (get_or xs i e) v ≡ true) later.3 (ascends_at xs (set_ascends xs set) i later.0 e (grind (arith, nat_tests)) later.2)))
-        | inr not_less ↦
-          let here : i ≡ later.0 = let le = later.1 in grind (arith, nat_tests) in
-          let is : x ≡ e = at ∙ subst (λ n. get_or xs n e ≡ e) (sym here) later.3 in
-          subst (λ (v : Entry). same v e ≡ true) (sym is) (same-refl e) ∙ sym in'
-      ]
+        let later = not_in_front in' in
+        elim (bool_cases (ltb i later.0)) [
+          | inl less ↦ absurd (false≢true (sym (point.1 i e (omega arith) within) ∙ subst (λ (v : Entry). before (get_or xs i e) v ≡ true) later.3 (ascends_at xs (set_ascends xs set) i later.0 e (grind (arith, nat_tests)) later.2)))
+          | inr not_less ↦
+              let here : i ≡ later.0 = let le = later.1 in grind (arith, nat_tests) in
+              let is : x ≡ e = at ∙ subst (λ n. get_or xs n e ≡ e) (sym here) later.3 in
+              subst (λ (v : Entry). same v e ≡ true) (sym is) (same-refl e) ∙ sym in'
+        ]
     | inr out ↦ elim (bool_cases (same x e)) [
       | inl is ↦ absurd (false≢true (sym out ∙ subst (λ (v : Entry). has xs v ≡ true) (sym at ∙ same-is x e is) (held_at xs i e within)))
       | inr differs ↦ differs ∙ sym out
@@ -91,6 +91,7 @@ last_seq_found site (x ∷ xs) set =
   where
     higher : (y : Entry) → x.site ≡ y.site → apart x y ≡ true → x.seq ≤ y.seq
     higher y at apart_is = grind (arith, nat_tests)
+
     step : (o : Option Entry) → find (λ e. eqb e.site site) (reverse xs) ≡ o → option_map_or (λ e. e.seq) (find (λ e. eqb e.site site) (reverse xs)) 0 ≡ last_seq site xs
         → option_map_or (λ e. e.seq) (option_or o (cond (eqb x.site site) (Some x) None)) 0 ≡ (if eqb x.site site then max x.seq (last_seq site xs) else last_seq site xs)
     step None at rest =
@@ -114,5 +115,5 @@ last_clock_found (x ∷ y ∷ ys) set =
     ap (λ n. option_map_or (λ e. e.clock) (slice_get (x ∷ y ∷ ys) n) 0) (let q : length (x ∷ y ∷ ys) - 1 ≡ suc (length (y ∷ ys) - 1) = omega arith in q)
     ∙ last_clock_found (y ∷ ys) (and_right _ _ set)
     ∙ (let first : before x y ≡ true = and_left _ _ (and_left _ _ (and_left _ _ set)) in
-       let less : x.clock ≤ y.clock = grind (arith, nat_tests) in
-       let most : last_clock (y ∷ ys) ≡ max x.clock (last_clock (y ∷ ys)) = omega arith in most)
+    let less : x.clock ≤ y.clock = grind (arith, nat_tests) in
+    let most : last_clock (y ∷ ys) ≡ max x.clock (last_clock (y ∷ ys)) = omega arith in most)

@@ -18,9 +18,9 @@ use Rattle.std.proofs.Math.Seq.{get_or-append_seam}
 use Rattle.td_stamps.specs.declared.entry.Entry.{Entry}
 use Rattle.td_stamps.specs.Entries.{same, earlier, clash, before, in_range}
 use Rattle.td_stamps.specs.Sets.{has, put, union, apart, is_set, NoClash}
-use Rattle.td_stamps.specs.Checks.{first_clash, last_seq}
+use Rattle.td_stamps.specs.Checks.{first_clash, last_seq, Joins}
 use Rattle.td_stamps.proofs.EntryLemmas.{same-is, same-refl, clash-sym, tied, before-trans, before-asym, before-irrefl}
-use Rattle.td_stamps.proofs.SetLemmas.{and_left, and_right, and_both, or_left, or_right, any-append, set-put, any-put, AddsUp, adds_up}
+use Rattle.td_stamps.proofs.SetLemmas.{and_left, and_right, and_both, or_left, or_right, any-append, set-put, any-put, AddsUp, adds_up, joins}
 use Rattle.td_stamps.proofs.Places.{union-push}
 use Rattle.td_stamps.proofs.Merges.{bool_cases, or_cases, or_true, or_right_true, head_has, none_clash, set_free, same_set, all_has, merged, no_first_clash}
 use Rattle.td_stamps.proofs.Next.{other_site, later_free, seq_at_most}
@@ -186,9 +186,9 @@ number_clashes xs e all fits low =
 -- and one whose number is above it clashes with none
 pub number_free : (xs : List Entry) (e : Entry) → list_all (λ x. before x e) xs ≡ true → last_seq e.site xs < e.seq → list_any (clash e) xs ≡ false
 number_free xs e all high = none_clash e xs (λ x in'. elim (bool_cases (eqb x.site e.site)) [
-    | inl is ↦ let at : x.site ≡ e.site = grind (arith, nat_tests) in let first = all_has (λ x. before x e) xs x all in' in later_free e x (omega (arith, seq_at_most e.site xs x in' at)) (grind (arith, nat_tests))
-    | inr differs ↦ other_site e x (λ (at : e.site ≡ x.site). absurd (grind (arith, nat_tests)))
-  ])
+  | inl is ↦ let at : x.site ≡ e.site = grind (arith, nat_tests) in let first = all_has (λ x. before x e) xs x all in' in later_free e x (omega (arith, seq_at_most e.site xs x in' at)) (grind (arith, nat_tests))
+  | inr differs ↦ other_site e x (λ (at : e.site ≡ x.site). absurd (grind (arith, nat_tests)))
+])
 
 -- the greatest numbers with one entry more at the end
 pub last_seq-push : (n : ℕ) (xs : List Entry) (e : Entry) → last_seq n (xs ++ e ∷ []) ≡ (if eqb e.site n then max (last_seq n xs) e.seq else last_seq n xs)
@@ -298,11 +298,12 @@ module _ (held batch all : List Entry) (set : is_set held ≡ true) (moved : IsP
       let in_union : (z : Entry) → has all z ≡ true → has (union held batch) z ≡ true = λ z in'. up.members (same z) ∙ sym (any-append (same z) held batch) ∙ moved_has z ∙ in' in
       hit (no_first_clash [] all (λ x y in_x in_y. set_free (union held batch) up.set x y (in_union x in_x) (in_union y in_y)))
 
-  pub joined_in_order : (o : Option (Vec Entry Global)) → MatchOption o (first_clash [] all ≢ None) (λ v. (first_clash [] all ≡ None) × (v.items ≡ union [] all))
-      → MatchOption o (first_clash held batch ≢ None) (λ v. (first_clash held batch ≡ None) × (v.items ≡ union held batch))
-  joined_in_order None hit = clash_in_order hit
-  joined_in_order (Some v) parts = let ok = clear_in_order parts.0 in (ok.0, parts.1 ∙ ok.1)
-
   -- what holds of all of both holds of all of these
   pub moved_all : (p : Entry → Bool) → list_all p held ≡ true → list_all p batch ≡ true → list_all p all ≡ true
   moved_all p in_held in_batch = list_all-from_AllPass p all (All-permutation (λ x. p x ≡ true) (held ++ batch) all moved (AllPass-from_list_all p (held ++ batch) (list_all-append p held batch ∙ and_both _ _ in_held in_batch)))
+
+  pub joined_in_order : list_all in_range held ≡ true → list_all in_range batch ≡ true
+      → (o : Option (Vec Entry Global)) → MatchOption o (first_clash [] all ≢ None) (λ v. (first_clash [] all ≡ None) × (v.items ≡ union [] all))
+      → MatchOption o (first_clash held batch ≢ None) (λ v. Joins held batch v.items)
+  joined_in_order in_held in_batch None hit = clash_in_order hit
+  joined_in_order in_held in_batch (Some v) parts = let ok = clear_in_order parts.0 in subst (Joins held batch) (sym (parts.1 ∙ ok.1)) (joins held batch set in_held in_batch ok.0)

@@ -1,5 +1,5 @@
 -- What the calls on held entries answer: whether a batch may be added, and the numbers of a site's next entry.
-use Rattle.std.specs.Prelude.{◌≡◌, ℕ, ◌+◌, Bool, true, ◌&&◌, nat_lt, nat_le, ◌==◌, List, [], ◌∷◌, ◌++◌, length, max, Option, Some, None, Result, Ok, Err, if◌then◌else◌}
+use Rattle.std.specs.Prelude.{◌≡◌, ℕ, ◌+◌, ◌≤◌, Bool, true, ◌&&◌, nat_lt, nat_le, ◌==◌, List, [], ◌∷◌, ◌++◌, length, max, Option, Some, None, Result, Ok, Err, if◌then◌else◌}
 use Rattle.std.specs.List.{list_any, list_all}
 use Rattle.td_stamps.specs.declared.entry.Entry.{Entry}
 use Rattle.td_stamps.specs.declared.errors.CheckError.{CheckError}
@@ -9,7 +9,7 @@ use Rattle.td_stamps.specs.declared.errors.NextError.TheVariants.{ClockEnd}
 use Rattle.td_stamps.specs.declared.errors.PrepareError.{PrepareError}
 use Rattle.td_stamps.specs.declared.errors.PrepareError.TheVariants as prepare
 use Rattle.td_stamps.specs.Entries.{clash, in_range}
-use Rattle.td_stamps.specs.Sets.{Holding, Joining, has, union}
+use Rattle.td_stamps.specs.Sets.{Holding, Joining, has, union, is_set}
 
 -- the first of a batch that clashes with one seen before it
 abbrev pub first_clash : List Entry → List Entry → Option Entry
@@ -34,6 +34,15 @@ room_for held limit fresh = if nat_le (held + fresh) limit then Ok fresh else Er
 abbrev pub check_of : List Entry → ℕ → List Entry → Result ℕ CheckError
 check_of held limit batch =
     if list_all in_range batch then clash_or (first_clash held batch) (room_for (length held) limit (fresh_count held batch)) else Err BadEntry
+
+-- what joining a set and a batch that have no clash gives
+pub record Joins (held batch joined : List Entry) : Type 0 where
+  pub clear : first_clash held batch ≡ None
+  pub is : joined ≡ union held batch
+  pub set : is_set joined ≡ true
+  pub ranges : list_all in_range joined ≡ true
+  pub grows : length held ≤ length joined
+  pub few : length joined ≤ length held + length batch
 
 -- what `prepare` may answer: what `check` answers and the union, save that want of memory may stand for all but a bad entry
 abbrev pub Prepares : Holding → List Entry → Result Joining PrepareError → Type 0

@@ -2,7 +2,6 @@
 ghost use Rattle.std.specs.Prelude.{◌≡◌};
 
 use std::alloc::AllocError;
-
 use thiserror::Error;
 
 /// Why a batch can't be added. Where several reasons hold, the first of this order is given.

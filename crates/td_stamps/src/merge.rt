@@ -4,12 +4,11 @@ ghost use Rattle.std.specs.List.{list_all};
 ghost use Rattle.std.specs.List.Sorted.{IsPermutation, IsSortedBy};
 ghost use Rattle.td_stamps.specs.Entries.{before, in_range};
 ghost use Rattle.td_stamps.specs.Sets.{union, is_set};
-ghost use Rattle.td_stamps.specs.Checks.{first_clash};
-
-use std::alloc::{AllocError, Global};
-use std::collections::BTreeMap;
+ghost use Rattle.td_stamps.specs.Checks.{first_clash, Joins};
 
 use crate::entry::Entry;
+use std::alloc::{AllocError, Global};
+use std::collections::BTreeMap;
 
 /// The union of a set and a batch, or None where two entries clash. Takes time of order
 /// n log n in the number of all entries.
@@ -21,7 +20,7 @@ pub fn joined(
     requires set { is_set held.now ≡ true }
     requires held_in_range { list_all in_range held.now ≡ true }
     requires batch_in_range { list_all in_range batch.now ≡ true }
-    ensures { IfOk result (λ o. MatchOption o (first_clash held.now batch.now ≢ None) (λ v. (first_clash held.now batch.now ≡ None) × (v.items ≡ union held.now batch.now))) }
+    ensures { IfOk result (λ o. MatchOption o (first_clash held.now batch.now ≢ None) (λ v. Joins held.now batch.now v.items)) }
 {
     let mut all = Vec::new(alloc);
     push_copies(&mut all, held)?;
@@ -48,10 +47,7 @@ fn sort_by_stamp(entries: &mut Vec<Entry>) -> Result<(), AllocError>
 }
 
 /// Sorted entries without their repeats, or None where two of them clash.
-fn without_repeats(
-    alloc: Global,
-    sorted: Vec<Entry>,
-) -> Result<Option<Vec<Entry>>, AllocError>
+fn without_repeats(alloc: Global, sorted: Vec<Entry>) -> Result<Option<Vec<Entry>>, AllocError>
     requires in_order { IsSortedBy before sorted.items }
     requires ranges { list_all in_range sorted.items ≡ true }
     ensures { IfOk result (λ o. MatchOption o (first_clash [] sorted.items ≢ None) (λ v. (first_clash [] sorted.items ≡ None) × (v.items ≡ union [] sorted.items))) }

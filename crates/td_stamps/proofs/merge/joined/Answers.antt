@@ -19,4 +19,4 @@ returns c =
     let batch = c.args.batch.now in
     let both = c.in_ok-push_copies-2.ensures ∙ ap (λ t. t ++ batch) (c.in_ok-push_copies.ensures ∙ ap (λ t. t ++ held) c.new-all.ensures.items) in
     let moved = subst (λ t. IsPermutation t c.sort_by_stamp.new.entries.items) both c.sort_by_stamp.ensures.permutation in
-    IfOk-weaker c.without_repeats.result _ _ (joined_in_order held batch c.sort_by_stamp.new.entries.items c.requires.set moved) c.without_repeats.ensures
+    IfOk-weaker c.without_repeats.result _ _ (joined_in_order held batch c.sort_by_stamp.new.entries.items c.requires.set moved c.requires.held_in_range c.requires.batch_in_range) c.without_repeats.ensures

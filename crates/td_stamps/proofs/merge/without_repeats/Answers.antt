@@ -52,11 +52,11 @@ returns-then-entry-unwrap_or c =
     let is : c.deref.result.now ≡ out = c.deref.ensures.value ∙ c.loop-entry.invariant.items in
     let after : list_all (λ x. before x e) out ≡ true = elim c.match-last.branch [
       | in-Some-last+else-is_same+else-not-is_before w ↦
-        let last : slice_get out (length out - 1) ≡ Some w.in-Some-last.last.now = subst (λ t. slice_get t (length t - 1) ≡ Some w.in-Some-last.last.now) is (sym w.in-Some-last.ensures.value) in
-        after_last out w.in-Some-last.last.now e set last (sym w.is_before.ensures ∙ w.if-not-is_before.false)
+          let last : slice_get out (length out - 1) ≡ Some w.in-Some-last.last.now = subst (λ t. slice_get t (length t - 1) ≡ Some w.in-Some-last.last.now) is (sym w.in-Some-last.ensures.value) in
+          after_last out w.in-Some-last.last.now e set last (sym w.is_before.ensures ∙ w.if-not-is_before.false)
       | in_default w ↦
-        let none : slice_get out (length out - 1) ≡ None = subst (λ t. slice_get t (length t - 1) ≡ None) is (sym c.last.ensures.value ∙ ap option_copied (none_of c.last.result w.in_default.not-Some)) in
-        subst (λ t. list_all (λ x. before x e) t ≡ true) (sym (no_last out none)) refl
+          let none : slice_get out (length out - 1) ≡ None = subst (λ t. slice_get t (length t - 1) ≡ None) is (sym c.last.ensures.value ∙ ap option_copied (none_of c.last.result w.in_default.not-Some)) in
+          subst (λ t. list_all (λ x. before x e) t ≡ true) (sym (no_last out none)) refl
     ] in
     let fits = number_from_one ys e rest (subst (λ t. list_all in_range t ≡ true) seen c.requires.ranges) in
     let number : c.unwrap_or.result ≡ last_seq e.site out = c.unwrap_or.ensures ∙ ap (λ o. unwrap_or o 0) (c.copied.ensures ∙ c.get.ensures.value) ∙ c.loop-entry.invariant.latest e.site ∙ ap (last_seq e.site) c.loop-entry.invariant.items in
@@ -74,11 +74,11 @@ loop-entry-preserved c =
     let is : c.deref.result.now ≡ out = c.deref.ensures.value ∙ c.loop-entry.invariant.items in
     let after : list_all (λ x. before x e) out ≡ true = elim c.match-last.branch [
       | in-Some-last+else-is_same+else-not-is_before w ↦
-        let last : slice_get out (length out - 1) ≡ Some w.in-Some-last.last.now = subst (λ t. slice_get t (length t - 1) ≡ Some w.in-Some-last.last.now) is (sym w.in-Some-last.ensures.value) in
-        after_last out w.in-Some-last.last.now e set last (sym w.is_before.ensures ∙ w.if-not-is_before.false)
+          let last : slice_get out (length out - 1) ≡ Some w.in-Some-last.last.now = subst (λ t. slice_get t (length t - 1) ≡ Some w.in-Some-last.last.now) is (sym w.in-Some-last.ensures.value) in
+          after_last out w.in-Some-last.last.now e set last (sym w.is_before.ensures ∙ w.if-not-is_before.false)
       | in_default w ↦
-        let none : slice_get out (length out - 1) ≡ None = subst (λ t. slice_get t (length t - 1) ≡ None) is (sym c.last.ensures.value ∙ ap option_copied (none_of c.last.result w.in_default.not-Some)) in
-        subst (λ t. list_all (λ x. before x e) t ≡ true) (sym (no_last out none)) refl
+          let none : slice_get out (length out - 1) ≡ None = subst (λ t. slice_get t (length t - 1) ≡ None) is (sym c.last.ensures.value ∙ ap option_copied (none_of c.last.result w.in_default.not-Some)) in
+          subst (λ t. list_all (λ x. before x e) t ≡ true) (sym (no_last out none)) refl
     ] in
     let number : c.unwrap_or.result ≡ last_seq e.site out = c.unwrap_or.ensures ∙ ap (λ o. unwrap_or o 0) (c.copied.ensures ∙ c.get.ensures.value) ∙ c.loop-entry.invariant.latest e.site ∙ ap (last_seq e.site) c.loop-entry.invariant.items in
     let high : last_seq e.site out < e.seq = subst (λ n. n < e.seq) number (omega arith) in

@@ -11,5 +11,5 @@ invariant-loop-entry l = record {
   seen : l.fn.sorted.items ≡ l.yielded ++ into_iter_items l.entry-iterator;
   clear : first_clash [] l.yielded ≡ None;
   items : l.entries.items ≡ union [] l.yielded;
-  latest : (site : ℕ) → unwrap_or (tree.get nat_cmp l.latest site) 0 ≡ last_seq site l.entries.items
+  latest : (site : ℕ) → unwrap_or (tree.get nat_cmp l.latest site) 0 ≡ last_seq site l.entries.items;
 }
