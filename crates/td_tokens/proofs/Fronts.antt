@@ -9,7 +9,7 @@ use Rattle.td_values.specs.Names.{is_letter, goes_on_in_name}
 use Rattle.td_tokens.specs.declared.token.Word.{Word}
 use Rattle.td_tokens.specs.declared.token.Kind.{Kind}
 use Rattle.td_tokens.specs.declared.token.Kind.TheVariants as kind
-use Rattle.td_tokens.specs.declared.front.Piece.{Piece}
+use Rattle.td_tokens.specs.declared.piece.Piece.{Piece}
 use Rattle.td_tokens.specs.Words.{Spelling, symbols}
 use Rattle.td_tokens.specs.Lex.{Text, Lexeme, word, name, int, text, begins_with, is_blank, is_plain, run, keyword_of, value, largest_int, symbol_at, EndsComment, closing, inside, IsSkipped, a_blank, a_comment, IsQuoted, closing_quote, doubled_quote, character, IsFront, a_keyword, a_name, an_int, a_text, a_symbol}
 use Rattle.td_tokens.specs.Lexer.{undoubled, lexeme, comment_end, text_end, int_kind, word_or_name, name_kind, run_kind, run_piece, symbol_piece, front}
@@ -310,3 +310,9 @@ front_found b bs p h =
         ]
       ]
     ]
+
+-- where the code finds a comment, so does the function
+pub comment_front : (bs : Text) (b : ℕ) → b ≡ slice_index bs 0 → is_blank b ≡ false → goes_on_in_name b ≡ false → (b == 39) ≡ false → begins_with (codes "/*") bs ≡ true → front bs ≡ option_map (λ n. record { kind = None; length = n }) (comment_end false 2 (drop 2 bs))
+unfolding front
+comment_front bs b is no_blank no_name no_quote opens =
+    rw (subst (λ x. is_blank x ≡ false) is no_blank, subst (λ x. goes_on_in_name x ≡ false) is no_name, subst (λ x. (x == 39) ≡ false) is no_quote, opens) refl

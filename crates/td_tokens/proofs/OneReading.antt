@@ -3,7 +3,7 @@ use Rattle.std.proofs.Common.{◌≡◌, ◌≤◌, ◌<◌, ◌+◌, ◌-◌, �
 use Rattle.std.specs.Prelude.{nat_le, option_map, option_and_then, ◌↔◌}
 use Rattle.std.proofs.lemmas.Bool.Decides.{nat_tests}
 use Rattle.td_tokens.specs.declared.token.Kind.{Kind}
-use Rattle.td_tokens.specs.declared.front.Piece.{Piece}
+use Rattle.td_tokens.specs.declared.piece.Piece.{Piece}
 use Rattle.td_tokens.specs.Lex.{Text, Lexeme, Spanned, IsSkipped, IsFront, IsLexed, ended, skipped, token, open_after, most_open, IsShallow, IsReading}
 use Rattle.td_tokens.specs.Lexer.{lexeme, front, Lexed, token_then, piece_then, lexed, reading}
 use Rattle.td_tokens.specs.Laws.{HasOneReading}
