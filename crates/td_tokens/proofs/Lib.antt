@@ -4,3 +4,4 @@ pub mod Fronts
 pub mod OneReading
 pub mod Integers
 pub mod Boundaries
+pub mod Progress

@@ -81,7 +81,8 @@ Lexed = Option (List Spanned)
 
 -- the token first, where not too many brackets are then open
 abbrev pub token_then : (ℕ → Lexed) → ℕ → Spanned → Lexed
-token_then more depth t = if nat_le (open_after depth t) most_open then option_map (λ ts. t ∷ ts) (more (open_after depth t)) else None
+token_then more depth t =
+    if nat_le (open_after depth t.lexeme) most_open then option_map (λ ts. t ∷ ts) (more (open_after depth t.lexeme)) else None
 
 -- a token of this kind and length first, or white space
 abbrev pub piece_then : (ℕ → Lexed) → ℕ → ℕ → Text → Option Kind → ℕ → Lexed
