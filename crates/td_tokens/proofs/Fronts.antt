@@ -9,7 +9,7 @@ use Rattle.td_values.specs.Names.{is_letter, goes_on_in_name}
 use Rattle.td_tokens.specs.declared.token.Word.{Word}
 use Rattle.td_tokens.specs.declared.token.Kind.{Kind}
 use Rattle.td_tokens.specs.declared.token.Kind.TheVariants as kind
-use Rattle.td_tokens.specs.declared.front.Piece.{Piece}
+use Rattle.td_tokens.specs.declared.piece.Piece.{Piece}
 use Rattle.td_tokens.specs.Words.{Spelling, symbols}
 use Rattle.td_tokens.specs.Lex.{Text, Lexeme, word, name, int, text, begins_with, is_blank, is_plain, run, keyword_of, value, largest_int, symbol_at, EndsComment, closing, inside, IsSkipped, a_blank, a_comment, IsQuoted, closing_quote, doubled_quote, character, IsFront, a_keyword, a_name, an_int, a_text, a_symbol}
 use Rattle.td_tokens.specs.Lexer.{undoubled, lexeme, comment_end, text_end, int_kind, word_or_name, name_kind, run_kind, run_piece, symbol_piece, front}
@@ -25,7 +25,6 @@ no_end b [] h = grind (arith, nat_tests)
 no_end b (c ∷ bs) h = grind (arith, nat_tests)
 
 comment_goes : {bs : Text} {n : ℕ} → EndsComment bs n → (after_star : Bool) (at : ℕ) → (after_star && slice_index bs 0 == 47) ≡ false → comment_end after_star at bs ≡ Some (at + n)
-unfolding comment_end
 comment_goes (closing {bs}) after_star at h = let e : at + 1 + 1 ≡ at + 2 = omega arith in rw h (ap Some e)
 comment_goes (inside {b} {n} {bs} other d) after_star at h =
     let e : at + 1 + n ≡ at + suc n = omega arith in
@@ -42,7 +41,6 @@ abbrev pub IsCommentAt : ℕ → Text → ℕ → Type 0
 IsCommentAt at bs m = (n : ℕ) × EndsComment bs n × (m ≡ at + n)
 
 comment_step : (b c : ℕ) (bs : Text) (at m : ℕ) → comment_end (b == 42) (at + 1) (c ∷ bs) ≡ Some m → ((b == 42 && c == 47) ≡ false → IsCommentAt (at + 1) (c ∷ bs) m) → (v : Bool) → (b == 42 && c == 47) ≡ v → IsCommentAt at (b ∷ c ∷ bs) m
-unfolding comment_end
 comment_step b c bs at m h later true e =
     let both = end_at b c e in
     let here : ◌≡◌ {A = Option ℕ} (Some (at + 1 + 1)) (Some m) = rw e at h in
@@ -54,7 +52,6 @@ comment_step b c bs at m h later false e =
     (suc rest.0, inside (inside_at b c bs e) rest.1, omega arith)
 
 comment_found : (bs : Text) (after_star : Bool) (at m : ℕ) → (after_star && slice_index bs 0 == 47) ≡ false → comment_end after_star at bs ≡ Some m → IsCommentAt at bs m
-unfolding comment_end
 comment_found [] after_star at m first h = absurd (none_some h)
 comment_found (b ∷ []) after_star at m first h = absurd (none_some (rw first at h))
 comment_found (b ∷ c ∷ bs) after_star at m first h =
@@ -64,7 +61,6 @@ comment_found (b ∷ c ∷ bs) after_star at m first h =
 -- ---- text literals
 
 after_closing : (bs : Text) (at : ℕ) → begins_with (codes "'") bs ≡ false → text_end true at bs ≡ Some at
-unfolding text_end
 after_closing [] at h = refl
 after_closing (c ∷ bs) at h = let other : (c == 39) ≡ false = grind (arith, nat_tests) in rw other refl
 
@@ -72,7 +68,6 @@ plain_is_no_quote : (b : ℕ) → is_plain b ≡ true → (b == 39) ≡ false
 plain_is_no_quote b h = grind (arith, nat_tests)
 
 text_goes : {bs cs : Text} {n : ℕ} → IsQuoted bs cs n → (at : ℕ) → text_end false at bs ≡ Some (at + n)
-unfolding text_end
 text_goes (closing_quote {bs} h) at = after_closing bs (at + 1) h
 text_goes (doubled_quote {n} {bs} {cs} d) at = let e : at + 1 + 1 + n ≡ at + suc (suc n) = omega arith in text_goes d (at + 1 + 1) ∙ ap Some e
 text_goes (character {b} {n} {bs} {cs} h d) at =
@@ -97,7 +92,6 @@ is_number : (b c : ℕ) → (b == c) ≡ true → b ≡ c
 is_number b c h = grind (arith, nat_tests)
 
 text_step : (b : ℕ) (bs : Text) (at m : ℕ) → text_end false at (b ∷ bs) ≡ Some m → ((b ≡ 39) × (text_end true (at + 1) bs ≡ Some m)) ⊎ ((is_plain b ≡ true) × (text_end false (at + 1) bs ≡ Some m))
-unfolding text_end
 text_step b bs at m h =
     elim (ways (b == 39) _ _ _ h) [
       inl q ↦ inl (is_number b 39 q.0, q.1)
@@ -105,7 +99,6 @@ text_step b bs at m h =
     ]
 
 second_step : (c : ℕ) (bs : Text) (at m : ℕ) → text_end true at (c ∷ bs) ≡ Some m → ((c ≡ 39) × (text_end false (at + 1) bs ≡ Some m)) ⊎ (((c == 39) ≡ false) × (at ≡ m))
-unfolding text_end
 second_step c bs at m h =
     elim (ways (c == 39) _ _ _ h) [ inl q ↦ inl (is_number c 39 q.0, q.1) | inr q ↦ inr (q.0, (let e : ◌≡◌ {A = Option ℕ} (Some at) (Some m) = q.1 in cc)) ]
 
@@ -113,7 +106,6 @@ no_quote : (c : ℕ) (bs : Text) → (c == 39) ≡ false → begins_with (codes 
 no_quote c bs h = grind (arith, nat_tests)
 
 text_found : (bs : Text) (at m : ℕ) → text_end false at bs ≡ Some m → IsQuotedAt at bs m
-unfolding text_end
 text_found [] at m h = absurd (none_some h)
 text_found (b ∷ []) at m h =
     elim (text_step b [] at m h) [
@@ -310,3 +302,9 @@ front_found b bs p h =
         ]
       ]
     ]
+
+-- where the code finds a comment, so does the function
+pub comment_front : (bs : Text) (b : ℕ) → b ≡ slice_index bs 0 → is_blank b ≡ false → goes_on_in_name b ≡ false → (b == 39) ≡ false → begins_with (codes "/*") bs ≡ true → front bs ≡ option_map (λ n. record { kind = None; length = n }) (comment_end false 2 (drop 2 bs))
+unfolding front
+comment_front bs b is no_blank no_name no_quote opens =
+    rw (subst (λ x. is_blank x ≡ false) is no_blank, subst (λ x. goes_on_in_name x ≡ false) is no_name, subst (λ x. (x == 39) ≡ false) is no_quote, opens) refl

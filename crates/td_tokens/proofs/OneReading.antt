@@ -3,7 +3,7 @@ use Rattle.std.proofs.Common.{◌≡◌, ◌≤◌, ◌<◌, ◌+◌, ◌-◌, �
 use Rattle.std.specs.Prelude.{nat_le, option_map, option_and_then, ◌↔◌}
 use Rattle.std.proofs.lemmas.Bool.Decides.{nat_tests}
 use Rattle.td_tokens.specs.declared.token.Kind.{Kind}
-use Rattle.td_tokens.specs.declared.front.Piece.{Piece}
+use Rattle.td_tokens.specs.declared.piece.Piece.{Piece}
 use Rattle.td_tokens.specs.Lex.{Text, Lexeme, Spanned, IsSkipped, IsFront, IsLexed, ended, skipped, token, open_after, most_open, IsShallow, IsReading}
 use Rattle.td_tokens.specs.Lexer.{lexeme, front, Lexed, token_then, piece_then, lexed, reading}
 use Rattle.td_tokens.specs.Laws.{HasOneReading}
@@ -40,10 +40,10 @@ complete (skipped {at} {n} {bs} {ts} white d) depth shallow =
 complete (token {at} {n} {bs} {l} {ts} first d) depth shallow =
     let found = front_goes first in
     let t : Spanned = record { lexeme = l; start = at; end = at + n } in
-    let fits : nat_le (open_after depth t) most_open ≡ true = grind (arith, nat_tests, shallow 1) in
+    let fits : nat_le (open_after depth t.lexeme) most_open ≡ true = grind (arith, nat_tests, shallow 1) in
     piece_step bs depth at (record { kind = Some found.0; length = n }) (front_cut first) found.1
     ∙ ap (λ x. token_then (λ later. lexed 0 later (at + n) (drop n bs)) depth (record { lexeme = x; start = at; end = at + n })) found.2
-    ∙ rw fits (ap (λ o. option_map (λ us. t ∷ us) o) (complete d (open_after depth t) (λ k. shallow (suc k))))
+    ∙ rw fits (ap (λ o. option_map (λ us. t ∷ us) o) (complete d (open_after depth t.lexeme) (λ k. shallow (suc k))))
 
 -- a reading of a text from some place on
 abbrev pub IsReadingAt : ℕ → ℕ → Text → List Spanned → Type 0
@@ -53,7 +53,7 @@ shallow_none : (depth : ℕ) → depth ≤ most_open → IsShallow depth []
 shallow_none depth h zero = h
 shallow_none depth h (suc n) = h
 
-shallow_more : (depth : ℕ) (t : Spanned) (ts : List Spanned) → depth ≤ most_open → IsShallow (open_after depth t) ts → IsShallow depth (t ∷ ts)
+shallow_more : (depth : ℕ) (t : Spanned) (ts : List Spanned) → depth ≤ most_open → IsShallow (open_after depth t.lexeme) ts → IsShallow depth (t ∷ ts)
 shallow_more depth t ts h later zero = h
 shallow_more depth t ts h later (suc n) = later n
 
@@ -69,10 +69,10 @@ piece_sound bs depth at ts p (a_token {k} {n} first) is shallow h later =
     let cut = front_cut first in
     let t : Spanned = record { lexeme = lexeme k (take n bs); start = at; end = at + n } in
     let then' : token_then (λ d. lexed 0 d (at + n) (drop n bs)) depth t ≡ Some ts = sym (piece_step bs depth at (record { kind = Some k; length = n }) cut is) ∙ h in
-    elim (ways (nat_le (open_after depth t) most_open) _ _ _ then') [
-      inl q ↦ (let m = mapped (λ us. t ∷ us) (lexed 0 (open_after depth t) (at + n) (drop n bs)) ts q.1 in
-               let fits : open_after depth t ≤ most_open = grind (arith, nat_tests, q.0) in
-               let rest = later n cut (open_after depth t) m.0 fits m.1 in
+    elim (ways (nat_le (open_after depth t.lexeme) most_open) _ _ _ then') [
+      inl q ↦ (let m = mapped (λ us. t ∷ us) (lexed 0 (open_after depth t.lexeme) (at + n) (drop n bs)) ts q.1 in
+               let fits : open_after depth t.lexeme ≤ most_open = grind (arith, nat_tests, q.0) in
+               let rest = later n cut (open_after depth t.lexeme) m.0 fits m.1 in
                subst (IsReadingAt depth at bs) m.2 (token first rest.0, shallow_more depth t m.0 shallow rest.1))
     | inr q ↦ absurd (none_some q.1)
     ]

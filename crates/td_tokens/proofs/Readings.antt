@@ -56,7 +56,8 @@ front_well_formed (a_symbol is_no_comment found) = tt
 pub well_formed : {at : ℕ} {bs : Text} {ts : List Spanned} → IsLexed at bs ts → All (λ (t : Spanned). IsWellFormed t.lexeme) ts
 well_formed ended = All-nil _
 well_formed (skipped white d) = well_formed d
-well_formed (token front d) = All-cons _ _ _ (front_well_formed front) (well_formed d)
+well_formed (token {at} {n} {bs} {l} {ts} front d) =
+    All-cons (λ (t : Spanned). IsWellFormed t.lexeme) (record { lexeme = l; start = at; end = at + n }) ts (front_well_formed front) (well_formed d)
 
 -- The names of a reading are names and no keywords, and its integers are in range.
 pub names_are_names : NamesAreNames

@@ -109,12 +109,15 @@ open_after_word depth w.CloseBrace = depth - 1
 open_after_word depth _ = depth
 
 -- how many of `(` and `{` are open after a token; a stray closing bracket leaves none open
-abbrev pub open_after : ℕ → Spanned → ℕ
-open_after depth t = elim t.lexeme [ word v ↦ open_after_word depth v | name n ↦ depth | int n ↦ depth | text cs ↦ depth ]
+abbrev pub open_after : ℕ → Lexeme → ℕ
+open_after depth (word v) = open_after_word depth v
+open_after depth (name n) = depth
+open_after depth (int n) = depth
+open_after depth (text cs) = depth
 
 -- at no place of the text are too many open
 abbrev pub IsShallow : ℕ → List Spanned → Type 0
-IsShallow depth ts = (n : ℕ) → fold open_after depth (take n ts) ≤ most_open
+IsShallow depth ts = (n : ℕ) → fold (λ before t. open_after before t.lexeme) depth (take n ts) ≤ most_open
 
 -- A text is read as these tokens.
 abbrev pub IsReading : Text → List Spanned → Type 0

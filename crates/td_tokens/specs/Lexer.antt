@@ -7,7 +7,7 @@ use Rattle.td_values.specs.Names.{is_letter, goes_on_in_name}
 use Rattle.td_tokens.specs.declared.token.Word.{Word}
 use Rattle.td_tokens.specs.declared.token.Kind.{Kind}
 use Rattle.td_tokens.specs.declared.token.Kind.TheVariants as kind
-use Rattle.td_tokens.specs.declared.front.Piece.{Piece}
+use Rattle.td_tokens.specs.declared.piece.Piece.{Piece}
 use Rattle.td_tokens.specs.Words.{Spelling}
 use Rattle.td_tokens.specs.Lex.{Text, Lexeme, word, name, int, text, Spanned, begins_with, is_blank, is_plain, run, keyword_of, value, largest_int, symbol_at, open_after, most_open}
 
@@ -25,13 +25,13 @@ lexeme (kind.Int n) bs = int n
 lexeme kind.Text bs = text (undoubled false (drop 1 bs))
 
 -- the place after the `*/` of a comment
-unfoldable pub comment_end : Bool → ℕ → Text → Option ℕ
+abbrev pub comment_end : Bool → ℕ → Text → Option ℕ
 comment_end after_star at [] = None
 comment_end after_star at (b ∷ bs) =
     if after_star && b == byte "/" then Some (at + 1) else comment_end (b == byte "*") (at + 1) bs
 
 -- the place after the closing quote of a literal
-unfoldable pub text_end : Bool → ℕ → Text → Option ℕ
+abbrev pub text_end : Bool → ℕ → Text → Option ℕ
 text_end after_quote at [] = if after_quote then Some at else None
 text_end after_quote at (b ∷ bs) =
     if b == byte "'" then text_end (not after_quote) (at + 1) bs
@@ -60,8 +60,11 @@ taking = option_map (λ n. record { kind = Some kind.Text; length = n })
 abbrev pub run_piece : Text → Option Piece
 run_piece bs = option_map (λ k. record { kind = Some k; length = length bs }) (run_kind bs)
 
+abbrev pub sign_piece : Option Spelling → Option Piece
+sign_piece = option_map (λ s. record { kind = Some (kind.Word s.1); length = length s.0 })
+
 abbrev pub symbol_piece : Text → Option Piece
-symbol_piece bs = option_map (λ (s : Spelling). record { kind = Some (kind.Word s.1); length = length s.0 }) (symbol_at bs)
+symbol_piece bs = sign_piece (symbol_at bs)
 
 -- what stands at the front, and its length
 unfoldable pub front : Text → Option Piece
@@ -78,7 +81,8 @@ Lexed = Option (List Spanned)
 
 -- the token first, where not too many brackets are then open
 abbrev pub token_then : (ℕ → Lexed) → ℕ → Spanned → Lexed
-token_then more depth t = if nat_le (open_after depth t) most_open then option_map (λ ts. t ∷ ts) (more (open_after depth t)) else None
+token_then more depth t =
+    if nat_le (open_after depth t.lexeme) most_open then option_map (λ ts. t ∷ ts) (more (open_after depth t.lexeme)) else None
 
 -- a token of this kind and length first, or white space
 abbrev pub piece_then : (ℕ → Lexed) → ℕ → ℕ → Text → Option Kind → ℕ → Lexed

@@ -1,11 +1,12 @@
 //! What stands at the front of a text.
 
-ghost use Rattle.std.specs.Prelude.{◌≡◌, ◌≤◌, length, slice_index, drop, false, option_map};
+ghost use Rattle.std.specs.Prelude.{◌≡◌, ◌≢◌, ◌≤◌, ◌<◌, length, slice_index, drop, true, false, option_map};
 ghost use Rattle.std.specs.List.{prefix_len};
 ghost use Rattle.td_values.specs.Names.{goes_on_in_name};
-ghost use Rattle.td_tokens.specs.Lex.{is_blank, is_plain};
+ghost use Rattle.td_tokens.specs.Lex.{is_blank, is_plain, run};
 ghost use Rattle.td_tokens.specs.Lexer as spec;
 
+use crate::piece::Piece;
 use crate::token::Kind;
 use crate::words::{keyword, symbol};
 
@@ -13,11 +14,11 @@ const LARGEST_INT: u64 = 9223372036854775807;
 
 const LONGEST_NAME: usize = 64;
 
-/// White space where it has no kind, or a token; and its length in bytes.
-#[derive(Clone, Copy, Debug)]
-pub struct Piece {
-    pub kind: Option<Kind>,
-    pub length: usize,
+fn byte(bytes: &[u8], at: usize) -> u8
+    ensures value { result ≡ slice_index bytes.now at }
+    ensures within { result ≢ 0 → at < length bytes.now }
+{
+    if at < bytes.len() { bytes[at] } else { 0 }
 }
 
 fn is_blank(b: u8) -> bool
@@ -42,11 +43,7 @@ fn run_length(bytes: &[u8]) -> usize
     ensures value { result ≡ prefix_len goes_on_in_name bytes.now }
     ensures within { result ≤ length bytes.now }
 {
-    let mut end = 0;
-    while end < bytes.len() && goes_on_in_name(bytes[end]) {
-        end += 1;
-    }
-    end
+    bytes.iter().take_while(|b| goes_on_in_name(**b)).count()
 }
 
 /// The place after the `*/` of a comment whose inside this is.
@@ -80,13 +77,18 @@ fn text_end(rest: &[u8]) -> Option<usize>
     if after_quote { Some(rest.len() + 1) } else { None }
 }
 
+#[tactic(auto, unfolding(crate::specs::Lexer::int_kind))]
 fn int_kind(run: &str) -> Option<Kind>
+    requires { goes_on_in_name (slice_index run.now 0) ≡ true }
     ensures { result ≡ spec.int_kind run.now }
 {
-    let value = run.parse::<u64>().ok()?;
-    if value <= LARGEST_INT { Some(Kind::Int(value)) } else { None }
+    match run.parse::<u64>() {
+        Ok(value) if value <= LARGEST_INT => Some(Kind::Int(value)),
+        _ => None,
+    }
 }
 
+#[tactic(auto, unfolding(crate::specs::Lexer::name_kind))]
 fn name_kind(run: &str) -> Option<Kind>
     ensures { result ≡ spec.name_kind run.now }
 {
@@ -97,41 +99,51 @@ fn name_kind(run: &str) -> Option<Kind>
     }
 }
 
+#[tactic(auto, unfolding(crate::specs::Lexer::run_kind))]
 fn run_kind(run: &str) -> Option<Kind>
+    requires { goes_on_in_name (slice_index run.now 0) ≡ true }
     ensures { result ≡ spec.run_kind run.now }
 {
-    let bytes = run.as_bytes();
-    if !bytes.is_empty() && bytes[0].is_ascii_alphabetic() {
+    if byte(run.as_bytes(), 0).is_ascii_alphabetic() {
         name_kind(run)
     } else {
         int_kind(run)
     }
 }
 
-/// What stands at the front of a text that is not empty.
+fn run_piece(text: &str) -> Option<Piece>
+    requires { goes_on_in_name (slice_index text.now 0) ≡ true }
+    ensures { result ≡ spec.run_piece (run text.now) }
+{
+    let length = run_length(text.as_bytes());
+    let (run, _) = text.split_at(length);
+    let kind = Some(run_kind(run)?);
+    Some(Piece { kind, length })
+}
+
+fn taking(kind: Option<Kind>, length: Option<usize>) -> Option<Piece>
+    ensures { result ≡ option_map (λ n. record { kind = kind; length = n }) length }
+{
+    let length = length?;
+    Some(Piece { kind, length })
+}
+
+/// What stands at the front of a text.
+#[tactic(auto, unfolding(crate::specs::Lexer::front))]
 pub fn front(text: &str) -> Option<Piece>
     ensures { result ≡ spec.front text.now }
 {
     let bytes = text.as_bytes();
-    match bytes {
-        [b, ..] if is_blank(*b) => Some(Piece { kind: None, length: 1 }),
-        [b, ..] if goes_on_in_name(*b) => {
-            let length = run_length(bytes);
-            let (run, _) = text.split_at(length);
-            let kind = Some(run_kind(run)?);
-            Some(Piece { kind, length })
-        }
-        [b'\'', rest @ ..] => {
-            let length = text_end(rest)?;
-            Some(Piece { kind: Some(Kind::Text), length })
-        }
-        [b'/', b'*', inside @ ..] => {
-            let length = comment_end(inside)?;
-            Some(Piece { kind: None, length })
-        }
-        _ => {
-            let (word, length) = symbol(bytes)?;
-            Some(Piece { kind: Some(Kind::Word(word)), length })
-        }
+    let first = byte(bytes, 0);
+    if is_blank(first) {
+        taking(None, Some(1))
+    } else if goes_on_in_name(first) {
+        run_piece(text)
+    } else if first == b'\'' {
+        taking(Some(Kind::Text), text_end(&bytes[1..]))
+    } else if bytes.starts_with(b"/*") {
+        taking(None, comment_end(&bytes[2..]))
+    } else {
+        symbol(bytes)
     }
 }

@@ -1,8 +1,8 @@
 //! The tokens of a text, one after the other.
 
-ghost use Rattle.std.specs.Prelude.{◌≡◌, ◌≤◌, IfOk, All, Some, None, map, slice_range};
-ghost use Rattle.td_tokens.specs.Lex.{open_after_word};
-ghost use Rattle.td_tokens.specs.Lexer.{reading};
+ghost use Rattle.std.specs.Prelude.{◌≡◌, ◌≤◌, IfOk, All, Some, None, [], map, slice_range};
+ghost use Rattle.td_tokens.specs.Lex.{open_after};
+ghost use Rattle.td_tokens.specs.Lexer.{lexeme, reading};
 ghost use Rattle.td_tokens.specs.View.{spanned_of};
 
 use crate::error::TokenError;
@@ -13,13 +13,13 @@ use std::alloc::Global;
 /// How many of `(` and `{` may be open at once in a text.
 const MOST_OPEN: usize = 64;
 
-fn open_after(depth: usize, word: Word) -> usize
+fn open_after(depth: usize, kind: Kind) -> usize
     requires { depth ≤ 64 }
-    ensures { result ≡ open_after_word depth word }
+    ensures { result ≡ open_after depth (lexeme kind []) }
 {
-    match word {
-        Word::OpenParenthesis | Word::OpenBrace => depth + 1,
-        Word::CloseParenthesis | Word::CloseBrace => depth.saturating_sub(1),
+    match kind {
+        Kind::Word(Word::OpenParenthesis | Word::OpenBrace) => depth + 1,
+        Kind::Word(Word::CloseParenthesis | Word::CloseBrace) => depth.saturating_sub(1),
         _ => depth,
     }
 }
@@ -39,11 +39,9 @@ pub fn tokens(alloc: Global, source: &str) -> Result<Vec<Token<'_>>, TokenError>
         let (text, after) = rest.split_at(piece.length);
         let end = start + piece.length;
         if let Some(kind) = piece.kind {
-            if let Kind::Word(word) = kind {
-                depth = open_after(depth, word);
-                if MOST_OPEN < depth {
-                    return Err(TokenError::Syntax);
-                }
+            depth = open_after(depth, kind);
+            if MOST_OPEN < depth {
+                return Err(TokenError::Syntax);
             }
             found.push(Token { kind, text, start, end })?;
         }

@@ -5,6 +5,7 @@ pub mod error;
 mod front;
 pub mod laws;
 pub mod lexer;
+mod piece;
 pub mod token;
 mod words;
 

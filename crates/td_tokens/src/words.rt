@@ -1,10 +1,13 @@
 //! The keywords and symbols of the language.
 
-ghost use Rattle.std.specs.Prelude.{◌≡◌, option_map, length};
+ghost use Rattle.std.specs.Prelude.{◌≡◌, option_map, find, map};
+ghost use Rattle.std.specs.Str.{str_eq_ignore_ascii_case};
 ghost use Rattle.td_tokens.specs.Words.{Spelling};
-ghost use Rattle.td_tokens.specs.Lex.{keyword_of, symbol_at};
+ghost use Rattle.td_tokens.specs.Lexer.{sign_piece, symbol_piece};
+ghost use Rattle.td_tokens.specs.Lex.{keyword_of, begins_with};
 
-use crate::token::Word;
+use crate::piece::Piece;
+use crate::token::{Kind, Word};
 
 const KEYWORDS: [(&[u8], Word); 61] = [
     (b"ADD", Word::Add),
@@ -93,26 +96,45 @@ const SYMBOLS: [(&[u8], Word); 19] = [
     (b"/", Word::Slash),
 ];
 
-/// The keyword that these letters are, in either case.
-pub fn keyword(letters: &[u8]) -> Option<Word>
-    ensures { result ≡ keyword_of letters.now }
+fn same_letters(a: &[u8], b: &[u8]) -> bool
+    ensures { result ≡ str_eq_ignore_ascii_case a.now b.now }
 {
-    for (spelling, word) in &KEYWORDS {
-        if spelling.eq_ignore_ascii_case(letters) {
+    a.eq_ignore_ascii_case(b)
+}
+
+fn keyword_in(table: &[(&[u8], Word)], letters: &[u8]) -> Option<Word>
+    ensures { result ≡ option_map (λ (k : Spelling). k.1) (find (λ (k : Spelling). str_eq_ignore_ascii_case k.0 letters.now) (map (λ k. (k.0.now, k.1)) table.now)) }
+{
+    for (spelling, word) in table {
+        if same_letters(spelling, letters) {
             return Some(*word);
         }
     }
     None
 }
 
-/// The longest symbol at the front, and its length.
-pub fn symbol(bytes: &[u8]) -> Option<(Word, usize)>
-    ensures { result ≡ option_map (λ (s : Spelling). (s.1, length s.0)) (symbol_at bytes.now) }
+fn symbol_in(table: &[(&[u8], Word)], bytes: &[u8]) -> Option<Piece>
+    ensures { result ≡ sign_piece (find (λ (s : Spelling). begins_with s.0 bytes.now) (map (λ s. (s.0.now, s.1)) table.now)) }
 {
-    for (spelling, word) in &SYMBOLS {
+    for (spelling, word) in table {
         if bytes.starts_with(spelling) {
-            return Some((*word, spelling.len()));
+            let kind = Some(Kind::Word(*word));
+            return Some(Piece { kind, length: spelling.len() });
         }
     }
     None
+}
+
+/// The keyword that these letters are, in either case.
+pub fn keyword(letters: &[u8]) -> Option<Word>
+    ensures { result ≡ keyword_of letters.now }
+{
+    keyword_in(&KEYWORDS, letters)
+}
+
+/// The longest symbol at the front.
+pub fn symbol(bytes: &[u8]) -> Option<Piece>
+    ensures { result ≡ symbol_piece bytes.now }
+{
+    symbol_in(&SYMBOLS, bytes)
 }
