@@ -7,3 +7,4 @@ pub mod Added
 pub mod Keys
 pub mod Steps
 pub mod Tales
+pub mod Issuing

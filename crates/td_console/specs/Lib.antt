@@ -9,3 +9,5 @@ pub mod Streams
 pub mod Commands
 pub mod Step
 pub mod Runs
+pub mod Seen
+pub mod Sites

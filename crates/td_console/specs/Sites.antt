@@ -1,5 +1,5 @@
 -- Sites: what one is seen as, and what its calls answer and leave.
-use Rattle.std.specs.Prelude.{◌≡◌, ℕ, ◌+◌, nat_lt, nat_le, ◌==◌, Bool, true, false, ◌&&◌, if◌then◌else◌, List, [], ◌∷◌, ◌++◌, Option, Some, None, Result, Ok, Err, length, unwrap_or}
+use Rattle.std.specs.Prelude.{◌≡◌, ℕ, ◌+◌, nat_lt, nat_le, ◌==◌, Bool, true, false, ◌&&◌, if◌then◌else◌, List, [], ◌∷◌, ◌++◌, Option, Some, None, Result, Ok, Err, length, IsOk}
 use Rattle.std.specs.List.{list_all}
 use Rattle.td_stamps.specs.declared.entry.Entry.{Entry}
 use Rattle.td_stamps.specs.declared.entry.Stamp.{Stamp}
@@ -8,7 +8,7 @@ use Rattle.td_stamps.specs.declared.errors.PrepareError.{PrepareError}
 use Rattle.td_stamps.specs.declared.errors.PrepareError.TheVariants as prepare
 use Rattle.td_stamps.specs.declared.errors.NextError.{NextError}
 use Rattle.td_stamps.specs.Entries.{stamp_of, in_range}
-use Rattle.td_stamps.specs.Sets.{Holding, union}
+use Rattle.td_stamps.specs.Sets.{union}
 use Rattle.td_stamps.specs.Checks.{check_of, next_of}
 use Rattle.td_console.specs.declared.catalogue.Relvar.{Relvar}
 use Rattle.td_console.specs.declared.step.Outcome.{Outcome}
@@ -21,8 +21,10 @@ use Rattle.td_console.specs.declared.refusal.IssueError.TheVariants as issue_err
 use Rattle.td_console.specs.declared.site.Issued.{Issued}
 use Rattle.td_console.specs.declared.site.Taken.{Taken}
 use Rattle.td_console.specs.Reader.{read_script, read_statement}
-use Rattle.td_console.specs.Typing.{Typed, relvars_of, catalogue_of, typed}
+use Rattle.td_console.specs.Typing.{Typed, relvars_of, typed, statement_of}
 use Rattle.td_console.specs.Step as step
+use Rattle.td_console.specs.declared.step.Ran.{Ran}
+use Rattle.td_console.specs.Runs.{RunsTyped}
 use Rattle.td_console.specs.Seen.{Seen, with_entries, relvars_in}
 
 -- a site holds at most 1 to 100,000 entries
@@ -71,12 +73,39 @@ statement_read s text (Some i) = statement_typed s text (typed (relvars_in s) i)
 abbrev pub issue_of : Seen → List ℕ → Result Entry IssueError
 issue_of s text = statement_read s text (read_statement text)
 
+-- what finding that entry tells
+abbrev pub NextTold : Seen → List ℕ → Result Entry IssueError → Type 0
+NextTold s text (Ok e) = issue_of s text ≡ Ok e
+NextTold s text (Err issue_error.Syntax) = issue_of s text ≡ Err issue_error.Syntax
+NextTold s text (Err issue_error.IllTyped) = issue_of s text ≡ Err issue_error.IllTyped
+NextTold s text (Err issue_error.ClockEnd) = issue_of s text ≡ Err issue_error.ClockEnd
+NextTold s text (Err issue_error.Full) = issue_of s text ≡ Err issue_error.Full
+NextTold s text (Err issue_error.OutOfMemory) = Unit {0}
+
+-- a text ran after all that is held
+abbrev pub RanLast : Seen → List ℕ → Ran → Type 0
+RanLast s text ran = RunsTyped (relvars_in s) (step.relations_after (relvars_in s) s.entries) (statement_of (relvars_in s) text) ran
+
+-- the entry may be added, and comes after all that is held
+pub record ComesLast (s : Seen) (e : Entry) : Type 0 where
+  pub fits : IsOk (check_of s.entries s.limit (e ∷ []))
+  pub last : union s.entries (e ∷ []) ≡ s.entries ++ e ∷ []
+
 -- After an issue the site holds its next entry besides, last in stamp order, and tells the entry's stamp and its outcome in the story. A refusal changes nothing.
 abbrev pub outcomes_of : Seen → List (Stamp × Outcome)
 outcomes_of s = step.outcomes_of (relvars_in s) s.entries
 
-abbrev pub IssuesEntry : Seen → List ℕ → Issued → Seen → Entry → Type 0
-IssuesEntry s text i s' e = (issue_of s text ≡ Ok e) × (i.stamp ≡ stamp_of e) × (s' ≡ with_entries s (s.entries ++ e ∷ [])) × (outcomes_of s' ≡ outcomes_of s ++ (i.stamp, i.outcome) ∷ [])
+-- the outcome of a text that runs after all that is held
+abbrev pub outcome_in : Seen → List ℕ → Outcome
+outcome_in s text = (step.step (relvars_in s) (step.relations_after (relvars_in s) s.entries) text).0
+
+pub record IssuesEntry (s : Seen) (text : List ℕ) (i : Issued) (s' : Seen) (e : Entry) : Type 0 where
+  pub next : issue_of s text ≡ Ok e
+  pub stamp : i.stamp ≡ stamp_of e
+  pub outcome : i.outcome ≡ outcome_in s text
+  pub added : s' ≡ with_entries s (s.entries ++ e ∷ [])
+  pub union : s'.entries ≡ union s.entries (e ∷ [])
+  pub outcomes : outcomes_of s' ≡ outcomes_of s ++ (i.stamp, i.outcome) ∷ []
 
 abbrev pub Issues : Seen → List ℕ → Result Issued IssueError → Seen → Type 0
 Issues s text (Ok i) s' = (e : Entry) × IssuesEntry s text i s' e
