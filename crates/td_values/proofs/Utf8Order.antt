@@ -52,20 +52,20 @@ three : (k a b : ℕ) (xs ys : List ℕ) → a < b → cmp ((k + a / 4096) ∷ n
 three k a b xs ys h =
     sym (λ i. cmp ((k + by_4096 a i) ∷ next (a / 64) ∷ next a ∷ xs) ((k + by_4096 b i) ∷ next (b / 64) ∷ next b ∷ ys))
     ∙ ⊎_elim
-      (λ p. two k (a / 64) (b / 64) (next a ∷ xs) (next b ∷ ys) p)
-      (λ p. same_head (k + a / 64 / 64) (k + b / 64 / 64) (next (a / 64) ∷ next a ∷ xs) (next (b / 64) ∷ next b ∷ ys) _ (ap (λ q. k + q / 64) p.0)
-          (same_head (next (a / 64)) (next (b / 64)) (next a ∷ xs) (next b ∷ ys) _ (ap next p.0) (lt_head (next a) (next b) xs ys (omega (arith, p.1)))))
-      (digit a b h)
+    (λ p. two k (a / 64) (b / 64) (next a ∷ xs) (next b ∷ ys) p)
+    (λ p. same_head (k + a / 64 / 64) (k + b / 64 / 64) (next (a / 64) ∷ next a ∷ xs) (next (b / 64) ∷ next b ∷ ys) _ (ap (λ q. k + q / 64) p.0)
+    (same_head (next (a / 64)) (next (b / 64)) (next a ∷ xs) (next b ∷ ys) _ (ap next p.0) (lt_head (next a) (next b) xs ys (omega (arith, p.1)))))
+    (digit a b h)
 
 four : (k a b : ℕ) (xs ys : List ℕ) → a < b → cmp ((k + a / 262144) ∷ next (a / 4096) ∷ next (a / 64) ∷ next a ∷ xs) ((k + b / 262144) ∷ next (b / 4096) ∷ next (b / 64) ∷ next b ∷ ys) ≡ Less
 four k a b xs ys h =
     sym (λ i. cmp ((k + by_262144 a i) ∷ next (by_4096 a i) ∷ next (a / 64) ∷ next a ∷ xs) ((k + by_262144 b i) ∷ next (by_4096 b i) ∷ next (b / 64) ∷ next b ∷ ys))
     ∙ ⊎_elim
-      (λ p. three k (a / 64) (b / 64) (next a ∷ xs) (next b ∷ ys) p)
-      (λ p. same_head (k + a / 64 / 4096) (k + b / 64 / 4096) (next (a / 64 / 64) ∷ next (a / 64) ∷ next a ∷ xs) (next (b / 64 / 64) ∷ next (b / 64) ∷ next b ∷ ys) _ (ap (λ q. k + q / 4096) p.0)
-          (same_head (next (a / 64 / 64)) (next (b / 64 / 64)) (next (a / 64) ∷ next a ∷ xs) (next (b / 64) ∷ next b ∷ ys) _ (ap (λ q. next (q / 64)) p.0)
-              (same_head (next (a / 64)) (next (b / 64)) (next a ∷ xs) (next b ∷ ys) _ (ap next p.0) (lt_head (next a) (next b) xs ys (omega (arith, p.1))))))
-      (digit a b h)
+    (λ p. three k (a / 64) (b / 64) (next a ∷ xs) (next b ∷ ys) p)
+    (λ p. same_head (k + a / 64 / 4096) (k + b / 64 / 4096) (next (a / 64 / 64) ∷ next (a / 64) ∷ next a ∷ xs) (next (b / 64 / 64) ∷ next (b / 64) ∷ next b ∷ ys) _ (ap (λ q. k + q / 4096) p.0)
+    (same_head (next (a / 64 / 64)) (next (b / 64 / 64)) (next (a / 64) ∷ next a ∷ xs) (next (b / 64) ∷ next b ∷ ys) _ (ap (λ q. next (q / 64)) p.0)
+    (same_head (next (a / 64)) (next (b / 64)) (next a ∷ xs) (next b ∷ ys) _ (ap next p.0) (lt_head (next a) (next b) xs ys (omega (arith, p.1))))))
+    (digit a b h)
 
 -- a character's bytes, by their number
 data Class (c : ℕ) : Type 0 where
@@ -78,9 +78,9 @@ class : (c : ℕ) → Class c
 unfolding encode
 class c =
     ⊎_elim (λ p. one_byte p (rw (lt-ltb c 128 p) refl)) (λ p.
-        ⊎_elim (λ q. two_bytes p q (rw (le-ltb c 128 p, lt-ltb c 2048 q) refl)) (λ q.
-            ⊎_elim (λ r. three_bytes q r (rw (le-ltb c 128 p, le-ltb c 2048 q, lt-ltb c 65536 r) refl)) (λ r. four_bytes r (rw (le-ltb c 128 p, le-ltb c 2048 q, le-ltb c 65536 r) refl)) (cases_lt c 65536))
-        (cases_lt c 2048))
+    ⊎_elim (λ q. two_bytes p q (rw (le-ltb c 128 p, lt-ltb c 2048 q) refl)) (λ q.
+    ⊎_elim (λ r. three_bytes q r (rw (le-ltb c 128 p, le-ltb c 2048 q, lt-ltb c 65536 r) refl)) (λ r. four_bytes r (rw (le-ltb c 128 p, le-ltb c 2048 q, le-ltb c 65536 r) refl)) (cases_lt c 65536))
+    (cases_lt c 2048))
     (cases_lt c 128)
 
 less_by : (c d : ℕ) (xs ys : List ℕ) → c < d → Class c → Class d → cmp (encode c ++ xs) (encode d ++ ys) ≡ Less
@@ -128,8 +128,8 @@ bytes_as_chars (c ∷ cs) (d ∷ ds) =
     ⊎_elim
     (λ h. less c d _ _ h ∙ sym (lt_head c d cs ds h))
     (λ h. ⊎_elim
-        (λ g. greater c d _ _ g ∙ sym (ap (λ o. ordering_then o (cmp cs ds)) (nat_more c d g)))
-        (λ g. same_char c d (omega (arith, h, g)) cs ds (bytes_as_chars cs ds)) (cases_lt d c))
+    (λ g. greater c d _ _ g ∙ sym (ap (λ o. ordering_then o (cmp cs ds)) (nat_more c d g)))
+    (λ g. same_char c d (omega (arith, h, g)) cs ds (bytes_as_chars cs ds)) (cases_lt d c))
     (cases_lt c d)
 
 pub chars_decide : (s t : List ℕ) → IsUtf8 s → IsUtf8 t → cmp s t ≡ code_point_cmp s t

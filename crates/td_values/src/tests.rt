@@ -1,10 +1,9 @@
 //! Worked examples, whose answers come from the language's definition.
 use crate::{
-    Heading, Items, Kind, Name, NameError, Rows, TdType, Text, Tuple, TupleBuilder, TypeKind, Value,
+    Heading, Items, Kind, Name, NameError, TdType, Text, Tuple, TupleBuilder, TypeKind, Value,
     compare, copy, equal, fits, has_type, show, show_tuple_into, show_type,
 };
-
-use std::alloc::Global;
+use std::alloc::{AllocError, Global};
 use std::cmp::Ordering;
 
 type Result<T> = std::result::Result<T, NameError>;
@@ -55,10 +54,24 @@ fn supplier_heading(alloc: Global) -> Result<Heading> {
 #[test]
 fn names_have_a_shape(rt: HostRuntime) -> Result<()> {
     let alloc = rt.alloc();
-    for good in ["S", "S#", "a_1", "WEIGHT", "x234567890123456789012345678901234567890123456789012345678901234"] {
+    for good in [
+        "S",
+        "S#",
+        "a_1",
+        "WEIGHT",
+        "x234567890123456789012345678901234567890123456789012345678901234",
+    ] {
         assert!(rt; Name::new(alloc, good)?.as_str() == good);
     }
-    for bad in ["", "1S", "#S", "_S", "S-1", "é", "x2345678901234567890123456789012345678901234567890123456789012345"] {
+    for bad in [
+        "",
+        "1S",
+        "#S",
+        "_S",
+        "S-1",
+        "é",
+        "x2345678901234567890123456789012345678901234567890123456789012345",
+    ] {
         match Name::new(alloc, bad) {
             Ok(_) => assert!(rt; false),
             Err(e) => assert!(rt; e == NameError::BadName),
@@ -92,21 +105,30 @@ fn headings_are_in_name_order(rt: HostRuntime) -> Result<()> {
 #[test]
 fn values_are_shown(rt: HostRuntime) -> Result<()> {
     let alloc = rt.alloc();
-    assert!(rt; show(alloc, &Value { kind: Kind::Boolean(true) })?.as_str() == "TRUE");
+    assert!(rt;
+        show(
+            alloc,
+            &Value {
+                kind: Kind::Boolean(true)
+            }
+        )?
+        .as_str()
+            == "TRUE"
+    );
     assert!(rt; show(alloc, &integer(-7))?.as_str() == "-7");
     assert!(rt; show(alloc, &integer(i64::MIN))?.as_str() == "(-9223372036854775807 - 1)");
     assert!(rt; show(alloc, &text(alloc, "it's")?)?.as_str() == "'it''s'");
     let mut out = String::new(alloc);
     show_tuple_into(&mut out, &supplier(alloc, "S1", 20)?)?;
     assert!(rt; out.as_str() == "TUPLE { S# 'S1', STATUS 20 }");
-    let rows = Rows::new(supplier_heading(alloc)?, Vec::new(alloc));
-    let relation = Value { kind: Kind::Relation(rows) };
-    assert!(rt; show(alloc, &relation)?.as_str() == "RELATION { S# CHAR, STATUS INTEGER } { }");
+    let coordinates = vec![in alloc; integer(1), integer(2)].map_err(AllocError::from)?;
     let user = Value {
-        kind: Kind::User(name(alloc, "POINT")?, Items::new(alloc, vec![in alloc; integer(1), integer(2)]?)?),
+        kind: Kind::User(name(alloc, "POINT")?, Items::new(alloc, coordinates)?),
     };
     assert!(rt; show(alloc, &user)?.as_str() == "POINT ( 1, 2 )");
-    let ty = TdType { kind: TypeKind::Relation(supplier_heading(alloc)?) };
+    let ty = TdType {
+        kind: TypeKind::Relation(supplier_heading(alloc)?),
+    };
     assert!(rt; show_type(alloc, &ty)?.as_str() == "RELATION { S# CHAR, STATUS INTEGER }");
     Ok(())
 }
@@ -117,8 +139,12 @@ fn values_are_in_order(rt: HostRuntime) -> Result<()> {
     assert!(rt; compare(&text(alloc, "Z")?, &text(alloc, "é")?) == Ordering::Less);
     assert!(rt; compare(&text(alloc, "\u{ffff}")?, &text(alloc, "\u{10000}")?) == Ordering::Less);
     assert!(rt; compare(&integer(-1), &integer(0)) == Ordering::Less);
-    let first = Value { kind: Kind::Tuple(supplier(alloc, "S1", 20)?) };
-    let second = Value { kind: Kind::Tuple(supplier(alloc, "S2", 10)?) };
+    let first = Value {
+        kind: Kind::Tuple(supplier(alloc, "S1", 20)?),
+    };
+    let second = Value {
+        kind: Kind::Tuple(supplier(alloc, "S2", 10)?),
+    };
     assert!(rt; compare(&first, &second) == Ordering::Less);
     assert!(rt; equal(&first, &copy(alloc, &first)?) && !equal(&first, &second));
     Ok(())
@@ -131,7 +157,9 @@ fn tuples_have_headings(rt: HostRuntime) -> Result<()> {
     let mut heading = supplier_heading(alloc)?;
     assert!(rt; fits(&tuple, &heading) && tuple.attributes().len() == 2);
     match tuple.get(&name(alloc, "STATUS")?) {
-        Some(value) => assert!(rt; has_type(value, &integer_type()) && !has_type(value, &char_type())),
+        Some(value) => assert!(rt;
+            has_type(value, &integer_type()) && !has_type(value, &char_type())
+        ),
         None => assert!(rt; false),
     }
     heading.insert(alloc, name(alloc, "CITY")?, char_type())?;

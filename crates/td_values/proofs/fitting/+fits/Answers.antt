@@ -27,7 +27,7 @@ fit_fields-loop-i-preserved t c =
 pub fit_fields-returns : goal.fit_fields-returns
 fit_fields-returns t c =
     let over = λ (p : c.loop-i.i < length c.args.attributes.now) (q : c.loop-i.i < length c.args.fields.now).
-        let none : ⊥ = elim c.loop-i-test.branch [ fit_fields-then-loop-i-test+else-i-fields w ↦ omega arith | fit_fields-else-loop-i-test w ↦ omega arith ] in none in
+    let none : ⊥ = elim c.loop-i-test.branch [ fit_fields-then-loop-i-test+else-i-fields w ↦ omega arith | fit_fields-else-loop-i-test w ↦ omega arith ] in none in
     let rest = c.loop-i.invariant.rest in
     lengths_tested _ _ _ (and_then (ended c.args.attributes.now c.args.fields.now c.loop-i.i c.loop-i.invariant.in_attributes c.loop-i.invariant.in_fields over) (rest.1, rest.0))
 
