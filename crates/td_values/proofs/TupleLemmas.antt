@@ -1,5 +1,5 @@
 -- Tuples and headings by name: for the crates above.
-use Rattle.std.proofs.Common.{◌≡◌, ℕ, cond, List, [], ◌∷◌, map, Some, None, refl, sym, ap, ◌∙◌}
+use Rattle.std.proofs.Common.{◌≡◌, ℕ, cond, List, [], ◌∷◌, map, Some, refl, sym, ap, ◌∙◌}
 use Rattle.std.specs.declared.cmp.Ordering.{Ordering}
 use Rattle.std.specs.declared.cmp.Ordering.TheVariants.{Less, Equal, Greater}
 use Rattle.std.specs.Cmp.{tied_itself}
@@ -7,7 +7,7 @@ use Rattle.std.specs.FinMap as by_name
 use Rattle.std.specs.Ordering.{is_eq}
 use Rattle.std.proofs.lemmas.Map.Lookups.{exact_bytes}
 use Rattle.td_values.specs.Attributes.{AttributeMap, attribute_of}
-use Rattle.td_values.specs.Data.{Ty, Fields, field, Datum, Attrs, attr, attrs_of, fields_of}
+use Rattle.td_values.specs.Data.{Ty, field, Datum, Attrs, attr, attrs_of, fields_of}
 use Rattle.td_values.specs.Headings.{Header, header_fields}
 use Rattle.td_values.specs.Order.{text_cmp}
 use Rattle.td_values.specs.TextOrder.{text_total}

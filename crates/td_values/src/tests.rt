@@ -104,8 +104,14 @@ fn headings_are_in_name_order(rt: HostRuntime) -> Result<()> {
     assert!(rt; !heading.insert(alloc, name(alloc, "S#")?, integer_type())?);
     assert!(rt; heading.insert(alloc, name(alloc, "CITY")?, char_type())?);
     assert!(rt; heading.len() == 3 && before.fields().len() == 2 && !before.is_empty());
-    assert!(rt; stands_at(&heading, 0, "CITY") && stands_at(&heading, 1, "S#") && stands_at(&heading, 2, "STATUS"));
-    assert!(rt; has_at(alloc, &heading, "S#", "CHAR")? && has_at(alloc, &heading, "STATUS", "INTEGER")?);
+    assert!(rt;
+        stands_at(&heading, 0, "CITY")
+            && stands_at(&heading, 1, "S#")
+            && stands_at(&heading, 2, "STATUS")
+    );
+    assert!(rt;
+        has_at(alloc, &heading, "S#", "CHAR")? && has_at(alloc, &heading, "STATUS", "INTEGER")?
+    );
     assert!(rt; heading.type_of(&name(alloc, "STATU")?).is_none() && heading.at(3).is_none());
     Ok(())
 }
@@ -180,7 +186,9 @@ fn tuples_have_headings(rt: HostRuntime) -> Result<()> {
     let mut heading = supplier_heading(alloc)?;
     assert!(rt; fits(&tuple, &heading) && tuple.attributes().len() == 2);
     assert!(rt; has_integer(&tuple, &name(alloc, "STATUS")?));
-    assert!(rt; !has_integer(&tuple, &name(alloc, "S#")?) && !has_integer(&tuple, &name(alloc, "CITY")?));
+    assert!(rt;
+        !has_integer(&tuple, &name(alloc, "S#")?) && !has_integer(&tuple, &name(alloc, "CITY")?)
+    );
     heading.insert(alloc, name(alloc, "CITY")?, char_type())?;
     assert!(rt; !fits(&tuple, &heading));
     Ok(())

@@ -1,10 +1,10 @@
-use Rattle.std.proofs.Common.{◌≡◌, ◌<◌, false, refl, sym, ap, ◌∙◌, arith, length}
+use Rattle.std.proofs.Common.{◌≡◌, ◌<◌, refl, sym, ap, ◌∙◌, arith, length}
 use Rattle.td_values.specs.declared.Kind.TheVariants as kind
 use Rattle.td_values.specs.Data.{attrs_of}
 use Rattle.td_values.specs.Headings.{header_list}
 use Rattle.td_values.specs.Rows.{RowsData}
 use Rattle.td_values.specs.View.{datum_of, ty_of}
-use Rattle.td_values.proofs.FieldLemmas.{same_name, user_typed, relation_typed, advances, name_differs, type_differs, ended, lengths_tested, and_then, fit_seen, is_not, is_not_true}
+use Rattle.td_values.proofs.FieldLemmas.{same_name, user_typed, relation_typed, advances, name_differs, ended, lengths_tested, and_then, fit_seen, is_not, is_not_true}
 use Rattle.td_values.proofs.fitting.+fits.Goals as goal
 use Rattle.td_values.proofs.fitting.+fits.Goals.{fit_fields-then-loop-i-test+else-i-fields, fit_fields-else-loop-i-test}
 
