@@ -1,7 +1,7 @@
 use Rattle.std.proofs.Common.{◌≡◌, ◌<◌, refl, sym, ap, ◌∙◌, arith, length}
 use Rattle.td_values.specs.declared.Kind.TheVariants as kind
 use Rattle.td_values.specs.Data.{attrs_of}
-use Rattle.td_values.specs.Headings.{header_list}
+use Rattle.td_values.proofs.Entries.{entries_seen}
 use Rattle.td_values.specs.Rows.{RowsData}
 use Rattle.td_values.specs.View.{datum_of, ty_of}
 use Rattle.td_values.proofs.FieldLemmas.{same_name, user_typed, relation_typed, advances, name_differs, ended, lengths_tested, and_then, fit_seen, is_not, is_not_true}
@@ -34,7 +34,7 @@ fit_fields-returns t c =
 pub fits-returns : goal.fits-returns
 fits-returns t c =
     let tuple = ap attrs_of (c.deref-2.ensures.value ∙ ap (λ v. v.items) c.deref.ensures) ∙ c.tuple.view_is in
-    let fields = c.deref-4.ensures.value ∙ ap (λ v. v.items) c.deref-3.ensures ∙ sym (header_list _ c.heading.invariant c.heading.view_is) in
+    let fields = c.deref-4.ensures.value ∙ ap (λ v. v.items) c.deref-3.ensures ∙ sym (entries_seen _ c.heading.invariant c.heading.view_is) in
     fit_seen c.fit_fields.result tuple fields c.fit_fields.ensures
 
 pub has_type-returns-in-User-User : goal.has_type-returns-in-User-User
