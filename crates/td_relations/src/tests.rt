@@ -1,19 +1,32 @@
 //! Worked examples, whose answers come from the definition of a relation as a set.
 use crate::Relation;
 use std::alloc::Global;
-use td_values::{Heading, Kind, Name, NameError, TdType, Tuple, TupleBuilder, TypeKind, Value};
+use td_values::{
+    Heading, Kind, Name, NameError, TdType, Tuple, TupleBuilder, TypeKind, Value, show,
+};
 
 type Result<T> = std::result::Result<T, NameError>;
 
 fn heading(alloc: Global) -> Result<Heading> {
     let mut heading = Heading::new(alloc)?;
-    heading.insert(alloc, Name::new(alloc, "N")?, TdType { kind: TypeKind::Integer })?;
+    heading.insert(
+        alloc,
+        Name::new(alloc, "N")?,
+        TdType {
+            kind: TypeKind::Integer,
+        },
+    )?;
     Ok(heading)
 }
 
 fn tuple(alloc: Global, n: i64) -> Result<Tuple> {
     let mut builder = TupleBuilder::new(alloc);
-    builder.insert(Name::new(alloc, "N")?, Value { kind: Kind::Integer(n) })?;
+    builder.insert(
+        Name::new(alloc, "N")?,
+        Value {
+            kind: Kind::Integer(n),
+        },
+    )?;
     Ok(builder.build(alloc)?)
 }
 
@@ -41,5 +54,11 @@ fn a_relation_is_a_set(rt: HostRuntime) -> Result<()> {
     assert!(rt; numbers.tuples().len() == 2 && before.len() == 3);
     let back = Relation::of(before.into_rows());
     assert!(rt; back.len() == 3);
+    let value = Value {
+        kind: Kind::Relation(numbers.into_rows()),
+    };
+    assert!(rt;
+        show(alloc, &value)?.as_str() == "RELATION { N INTEGER } { TUPLE { N 2 }, TUPLE { N 3 } }"
+    );
     Ok(())
 }

@@ -1,22 +1,30 @@
 -- Entries in name order: where a name stands among them, and what is found at it.
-use Rattle.std.proofs.Common.{◌≡◌, ℕ, zero, suc, ◌+◌, ◌<◌, ◌≤◌, Bool, true, false, ◌&&◌, T, cond, List, [], ◌∷◌, length, get_or, Option, None, Some, is_some, not, refl, sym, ap, ◌∙◌, subst, arith}
+use Rattle.std.proofs.Common.{◌≡◌, ℕ, zero, suc, ◌+◌, ◌<◌, ◌≤◌, Bool, true, false, ◌&&◌, T, cond, List, [], ◌∷◌, length, get_or, None, Some, is_some, not, refl, sym, ap, ◌∙◌, subst, arith}
 use Rattle.std.specs.declared.cmp.Ordering.{Ordering}
 use Rattle.std.specs.declared.cmp.Ordering.TheVariants.{Less, Equal, Greater}
 use Rattle.std.specs.Ordering.{eq_by_cmp, is_eq, is_lt, ordering_reverse, ordering_index}
 use Rattle.std.specs.List.{insert}
-use Rattle.std.specs.List.Sorted.{IsNonDecreasingBy, IsBinarySearchResult, IsSearchInRange, IsPartitionPoint}
+use Rattle.std.specs.List.Sorted.{IsNonDecreasingBy, IsBinarySearchResult, IsSearchInRange}
 use Rattle.std.specs.FinMap as map
 use Rattle.std.specs.FinMap.Entries.{below_all}
 use Rattle.std.proofs.Common.{Result, Ok, Err, IfOk, IfErr}
 use Rattle.std.proofs.lemmas.List.Sorted.{searchable_from_sorted}
 use Rattle.std.proofs.lemmas.Map.Lookups.{exact_bytes}
 use Rattle.td_values.specs.Data.{Ty, Datum, Attrs, attrs_of}
-use Rattle.td_values.specs.Headings.{Header, header_list}
+use Rattle.td_values.specs.Headings.{Header}
 use Rattle.td_values.specs.Attributes.{attribute_of}
 use Rattle.td_values.specs.Order.{text_cmp}
 use Rattle.td_values.specs.Places.{IsPlaceOf, IsGapFor}
 use Rattle.td_values.specs.TextOrder.{text_total}
 use Rattle.td_values.specs.Whole.{NamesAscend, IsWholeTuple}
+
+-- the entries of a map that is seen through its list
+pub entries_seen : {X : Type 0} {m : map.FinMap text_cmp X} (es : List (List ℕ × X)) → T (map.is_sorted text_cmp es) → map.from_sorted es ≡ m → map.entries m ≡ es
+entries_seen es s view = sym (ap map.entries view) ∙ map.entries-from_sorted text_cmp es s
+
+-- no entries make the empty map
+pub none_seen : (X : Type 0) → map.from_sorted {X = X} {R = text_cmp} [] ≡ map.empty
+none_seen X = map.empty_of_len (map.from_sorted []) (map.len-entries (map.from_sorted []) ∙ ap length (map.entries-from_sorted text_cmp [] tt))
 
 pub first : (a b : Bool) → T (a && b) → T a
 first true b p = tt
@@ -119,7 +127,7 @@ attribute_found n (x ∷ xs) = ap (λ r. cond (eq_by_cmp text_cmp n x.0) (Some x
 -- es are the entries of h, seen through a read of the field
 module _ (h : Header) (n : List ℕ) (es : List (List ℕ × Ty)) (i : ℕ) (fs : List (List ℕ × Ty)) (same : es ≡ fs) (s : T (map.is_sorted text_cmp fs)) (view : map.from_sorted fs ≡ h) where
   got : map.get h n ≡ map.find text_cmp n es
-  got = map.get-entries h n ∙ ap (map.find text_cmp n) (header_list fs s view ∙ sym same)
+  got = map.get-entries h n ∙ ap (map.find text_cmp n) (entries_seen fs s view ∙ sym same)
 
   pub typed_at : IsPlaceOf es n i → (f : List ℕ × Ty) → f ≡ get_or fs i f → Some f.1 ≡ map.get h n
   typed_at at f is = ap (λ g. Some g.1) (is ∙ ap (λ xs. get_or xs i f) (sym same)) ∙ sym (at.found f) ∙ sym got
@@ -142,11 +150,8 @@ module _ (t : Attrs) (n : List ℕ) (es : List (List ℕ × Datum)) (i : ℕ) (x
 
 -- es are the entries of m
 module _ {X : Type 0} (m : map.FinMap text_cmp X) (n : List ℕ) (x : X) (i : ℕ) (es : List (List ℕ × X)) (s : T (map.is_sorted text_cmp es)) (view : map.from_sorted es ≡ m) where
-  entries_are : map.entries m ≡ es
-  entries_are = sym (ap map.entries view) ∙ map.entries-from_sorted text_cmp es s
-
   looked_up : map.get m n ≡ map.find text_cmp n es
-  looked_up = map.get-entries m n ∙ ap (map.find text_cmp n) entries_are
+  looked_up = map.get-entries m n ∙ ap (map.find text_cmp n) (entries_seen es s view)
 
   pub known : IsPlaceOf es n i → (e : List ℕ × X) → false ≡ not (map.contains_key m n)
   known at e = sym (ap (λ o. not (is_some o)) (looked_up ∙ at.found e))
@@ -155,7 +160,7 @@ module _ {X : Type 0} (m : map.FinMap text_cmp X) (n : List ℕ) (x : X) (i : �
   unknown gap = sym (ap (λ o. not (is_some o)) (looked_up ∙ gap.absent))
 
   put_entries : IsGapFor es n i → map.entries (map.insert m n x) ≡ insert es i (n, x)
-  put_entries gap = map.entries-insert text_total m n x ∙ ap (map.put text_cmp n x) entries_are ∙ gap.put x
+  put_entries gap = map.entries-insert text_total m n x ∙ ap (map.put text_cmp n x) (entries_seen es s view) ∙ gap.put x
 
   pub still_sorted : IsGapFor es n i → T (map.is_sorted text_cmp (insert es i (n, x)))
   still_sorted gap = subst (λ fs. T (map.is_sorted text_cmp fs)) (put_entries gap) (map.entries_sorted (map.insert m n x))

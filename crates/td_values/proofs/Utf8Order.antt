@@ -1,9 +1,8 @@
 -- The order of UTF-8's bytes is that of the code points.
-use Rattle.std.proofs.Common.{◌≡◌, ℕ, zero, suc, ◌+◌, ◌/◌, ◌%◌, ◌<◌, ◌≤◌, ◌⊎◌, inl, inr, ⊎_elim, List, [], ◌∷◌, ◌++◌, refl, sym, ap, ◌∙◌, arith}
+use Rattle.std.proofs.Common.{◌≡◌, ℕ, ◌+◌, ◌/◌, ◌%◌, ◌<◌, ◌≤◌, ◌⊎◌, inl, inr, ⊎_elim, List, [], ◌∷◌, ◌++◌, refl, sym, ap, ◌∙◌, arith}
 use Rattle.std.specs.declared.cmp.Ordering.{Ordering}
 use Rattle.std.specs.declared.cmp.Ordering.TheVariants.{Less, Equal, Greater}
 use Rattle.std.specs.Ordering.{nat_cmp, ordering_then, ordering_reverse}
-use Rattle.std.specs.Cmp.{IsTotalOrder}
 use Rattle.std.specs.Cmp.Lexicographic.{slice_cmp, nat_list_cmp_total}
 use Rattle.std.proofs.lemmas.Bool.{cases_lt, lt-ltb, le-ltb}
 use Rattle.std.proofs.lemmas.Bool.Decides.{nat_tests}
@@ -52,20 +51,20 @@ three : (k a b : ℕ) (xs ys : List ℕ) → a < b → cmp ((k + a / 4096) ∷ n
 three k a b xs ys h =
     sym (λ i. cmp ((k + by_4096 a i) ∷ next (a / 64) ∷ next a ∷ xs) ((k + by_4096 b i) ∷ next (b / 64) ∷ next b ∷ ys))
     ∙ ⊎_elim
-      (λ p. two k (a / 64) (b / 64) (next a ∷ xs) (next b ∷ ys) p)
-      (λ p. same_head (k + a / 64 / 64) (k + b / 64 / 64) (next (a / 64) ∷ next a ∷ xs) (next (b / 64) ∷ next b ∷ ys) _ (ap (λ q. k + q / 64) p.0)
-          (same_head (next (a / 64)) (next (b / 64)) (next a ∷ xs) (next b ∷ ys) _ (ap next p.0) (lt_head (next a) (next b) xs ys (omega (arith, p.1)))))
-      (digit a b h)
+    (λ p. two k (a / 64) (b / 64) (next a ∷ xs) (next b ∷ ys) p)
+    (λ p. same_head (k + a / 64 / 64) (k + b / 64 / 64) (next (a / 64) ∷ next a ∷ xs) (next (b / 64) ∷ next b ∷ ys) _ (ap (λ q. k + q / 64) p.0)
+    (same_head (next (a / 64)) (next (b / 64)) (next a ∷ xs) (next b ∷ ys) _ (ap next p.0) (lt_head (next a) (next b) xs ys (omega (arith, p.1)))))
+    (digit a b h)
 
 four : (k a b : ℕ) (xs ys : List ℕ) → a < b → cmp ((k + a / 262144) ∷ next (a / 4096) ∷ next (a / 64) ∷ next a ∷ xs) ((k + b / 262144) ∷ next (b / 4096) ∷ next (b / 64) ∷ next b ∷ ys) ≡ Less
 four k a b xs ys h =
     sym (λ i. cmp ((k + by_262144 a i) ∷ next (by_4096 a i) ∷ next (a / 64) ∷ next a ∷ xs) ((k + by_262144 b i) ∷ next (by_4096 b i) ∷ next (b / 64) ∷ next b ∷ ys))
     ∙ ⊎_elim
-      (λ p. three k (a / 64) (b / 64) (next a ∷ xs) (next b ∷ ys) p)
-      (λ p. same_head (k + a / 64 / 4096) (k + b / 64 / 4096) (next (a / 64 / 64) ∷ next (a / 64) ∷ next a ∷ xs) (next (b / 64 / 64) ∷ next (b / 64) ∷ next b ∷ ys) _ (ap (λ q. k + q / 4096) p.0)
-          (same_head (next (a / 64 / 64)) (next (b / 64 / 64)) (next (a / 64) ∷ next a ∷ xs) (next (b / 64) ∷ next b ∷ ys) _ (ap (λ q. next (q / 64)) p.0)
-              (same_head (next (a / 64)) (next (b / 64)) (next a ∷ xs) (next b ∷ ys) _ (ap next p.0) (lt_head (next a) (next b) xs ys (omega (arith, p.1))))))
-      (digit a b h)
+    (λ p. three k (a / 64) (b / 64) (next a ∷ xs) (next b ∷ ys) p)
+    (λ p. same_head (k + a / 64 / 4096) (k + b / 64 / 4096) (next (a / 64 / 64) ∷ next (a / 64) ∷ next a ∷ xs) (next (b / 64 / 64) ∷ next (b / 64) ∷ next b ∷ ys) _ (ap (λ q. k + q / 4096) p.0)
+    (same_head (next (a / 64 / 64)) (next (b / 64 / 64)) (next (a / 64) ∷ next a ∷ xs) (next (b / 64) ∷ next b ∷ ys) _ (ap (λ q. next (q / 64)) p.0)
+    (same_head (next (a / 64)) (next (b / 64)) (next a ∷ xs) (next b ∷ ys) _ (ap next p.0) (lt_head (next a) (next b) xs ys (omega (arith, p.1))))))
+    (digit a b h)
 
 -- a character's bytes, by their number
 data Class (c : ℕ) : Type 0 where
@@ -78,9 +77,9 @@ class : (c : ℕ) → Class c
 unfolding encode
 class c =
     ⊎_elim (λ p. one_byte p (rw (lt-ltb c 128 p) refl)) (λ p.
-        ⊎_elim (λ q. two_bytes p q (rw (le-ltb c 128 p, lt-ltb c 2048 q) refl)) (λ q.
-            ⊎_elim (λ r. three_bytes q r (rw (le-ltb c 128 p, le-ltb c 2048 q, lt-ltb c 65536 r) refl)) (λ r. four_bytes r (rw (le-ltb c 128 p, le-ltb c 2048 q, le-ltb c 65536 r) refl)) (cases_lt c 65536))
-        (cases_lt c 2048))
+    ⊎_elim (λ q. two_bytes p q (rw (le-ltb c 128 p, lt-ltb c 2048 q) refl)) (λ q.
+    ⊎_elim (λ r. three_bytes q r (rw (le-ltb c 128 p, le-ltb c 2048 q, lt-ltb c 65536 r) refl)) (λ r. four_bytes r (rw (le-ltb c 128 p, le-ltb c 2048 q, le-ltb c 65536 r) refl)) (cases_lt c 65536))
+    (cases_lt c 2048))
     (cases_lt c 128)
 
 less_by : (c d : ℕ) (xs ys : List ℕ) → c < d → Class c → Class d → cmp (encode c ++ xs) (encode d ++ ys) ≡ Less
@@ -128,8 +127,8 @@ bytes_as_chars (c ∷ cs) (d ∷ ds) =
     ⊎_elim
     (λ h. less c d _ _ h ∙ sym (lt_head c d cs ds h))
     (λ h. ⊎_elim
-        (λ g. greater c d _ _ g ∙ sym (ap (λ o. ordering_then o (cmp cs ds)) (nat_more c d g)))
-        (λ g. same_char c d (omega (arith, h, g)) cs ds (bytes_as_chars cs ds)) (cases_lt d c))
+    (λ g. greater c d _ _ g ∙ sym (ap (λ o. ordering_then o (cmp cs ds)) (nat_more c d g)))
+    (λ g. same_char c d (omega (arith, h, g)) cs ds (bytes_as_chars cs ds)) (cases_lt d c))
     (cases_lt c d)
 
 pub chars_decide : (s t : List ℕ) → IsUtf8 s → IsUtf8 t → cmp s t ≡ code_point_cmp s t

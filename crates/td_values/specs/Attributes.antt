@@ -1,6 +1,5 @@
 -- The attributes of a tuple by name.
-use Rattle.std.specs.Prelude.{◌≡◌, ℕ, List, [], length, Option, None, Some, if◌then◌else◌}
-use Rattle.std.proofs.Common.{ap, ◌∙◌}
+use Rattle.std.specs.Prelude.{ℕ, List, Option, None, Some, if◌then◌else◌}
 use Rattle.std.specs.Coded.{Coded, coded_ℕ, coded_list}
 use Rattle.std.specs.FinMap as map
 use Rattle.std.specs.Ordering.{eq_by_cmp}
@@ -20,11 +19,3 @@ AttributeMap = map.FinMap text_cmp Datum
 -- by which a proof tells such maps apart
 abbrev pub attribute_code : Coded AttributeMap
 attribute_code = map.code (coded_list coded_ℕ) datum_code
-
--- the map with no names
-abbrev pub no_attribute : AttributeMap
-no_attribute = map.empty
-
--- is that of no entries
-pub no_attributes : map.from_sorted [] ≡ no_attribute
-no_attributes = map.empty_of_len (map.from_sorted []) (map.len-entries (map.from_sorted []) ∙ ap length (map.entries-from_sorted text_cmp [] tt))

@@ -1,5 +1,5 @@
 -- The place of a name among entries in name order.
-use Rattle.std.specs.Prelude.{◌≡◌, ℕ, ◌<◌, ◌≤◌, List, length, slice_index_or, insert, Option, None, Some}
+use Rattle.std.specs.Prelude.{◌≡◌, ℕ, ◌<◌, ◌≤◌, List, length, slice_index_or, insert, None, Some}
 use Rattle.std.specs.FinMap as map
 use Rattle.td_values.specs.Order.{text_cmp}
 

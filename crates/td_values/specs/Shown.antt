@@ -1,5 +1,5 @@
 -- The texts of types and values.
-use Rattle.std.specs.Prelude.{ℕ, ℤ, Bool, true, false, List, [], ◌∷◌, ◌++◌, codes, cond, ◌==◌, if◌then◌else◌, negsuc, pos, encode_utf8_all}
+use Rattle.std.specs.Prelude.{ℕ, ℤ, true, false, List, [], ◌∷◌, ◌++◌, codes, ◌==◌, if◌then◌else◌, negsuc, encode_utf8_all}
 use Rattle.std.specs.Str.{chars}
 use Rattle.std.specs.Fmt.{signed_decimal}
 use Rattle.std.specs.Ordering.{int_eq}

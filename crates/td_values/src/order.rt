@@ -51,7 +51,9 @@ fn compare_fields(a: &[(Name, TdType)], b: &[(Name, TdType)]) -> Ordering
 {
     let mut i = 0;
     while i < a.len() && i < b.len() {
-        let o = a[i].0.compare(&b[i].0).then(compare_types(&a[i].1, &b[i].1));
+        let (m, s) = &a[i];
+        let (n, t) = &b[i];
+        let o = m.compare(n).then(compare_types(s, t));
         if o != Ordering::Equal {
             return o;
         }
@@ -83,9 +85,14 @@ pub fn compare(a: &Value, b: &Value) -> Ordering
         (Kind::Boolean(x), Kind::Boolean(y)) => x.cmp(y),
         (Kind::Integer(x), Kind::Integer(y)) => x.cmp(y),
         (Kind::Char(x), Kind::Char(y)) => x.compare(y),
-        (Kind::User(m, xs), Kind::User(n, ys)) => m.compare(n).then(compare_items(&xs.values, &ys.values)),
+        (Kind::User(m, xs), Kind::User(n, ys)) => {
+            m.compare(n).then(compare_items(&xs.values, &ys.values))
+        }
         (Kind::Tuple(s), Kind::Tuple(t)) => compare_tuples(s, t),
-        (Kind::Relation(r), Kind::Relation(s)) => compare_headings(&r.heading, &s.heading).then(compare_rows(&r.tuples, &s.tuples)),
+        (Kind::Relation(r), Kind::Relation(s)) => {
+            let headings = compare_headings(&r.heading, &s.heading);
+            headings.then(compare_rows(&r.tuples, &s.tuples))
+        }
         _ => kind_rank(a).cmp(&kind_rank(b)),
     }
 }
@@ -128,7 +135,9 @@ fn compare_attributes(a: &[(Name, Value)], b: &[(Name, Value)]) -> Ordering
 {
     let mut i = 0;
     while i < a.len() && i < b.len() {
-        let o = a[i].0.compare(&b[i].0).then(compare(&a[i].1, &b[i].1));
+        let (m, x) = &a[i];
+        let (n, y) = &b[i];
+        let o = m.compare(n).then(compare(x, y));
         if o != Ordering::Equal {
             return o;
         }

@@ -1,10 +1,9 @@
 //! Worked examples, whose answers come from the language's definition.
 use crate::{
-    Heading, Items, Kind, Name, NameError, Rows, TdType, Text, Tuple, TupleBuilder, TypeKind, Value,
+    Heading, Items, Kind, Name, NameError, TdType, Text, Tuple, TupleBuilder, TypeKind, Value,
     compare, copy, equal, fits, has_type, show, show_tuple_into, show_type,
 };
-
-use std::alloc::Global;
+use std::alloc::{AllocError, Global};
 use std::cmp::Ordering;
 
 type Result<T> = std::result::Result<T, NameError>;
@@ -55,16 +54,46 @@ fn supplier_heading(alloc: Global) -> Result<Heading> {
 #[test]
 fn names_have_a_shape(rt: HostRuntime) -> Result<()> {
     let alloc = rt.alloc();
-    for good in ["S", "S#", "a_1", "WEIGHT", "x234567890123456789012345678901234567890123456789012345678901234"] {
+    for good in [
+        "S",
+        "S#",
+        "a_1",
+        "WEIGHT",
+        "x234567890123456789012345678901234567890123456789012345678901234",
+    ] {
         assert!(rt; Name::new(alloc, good)?.as_str() == good);
     }
-    for bad in ["", "1S", "#S", "_S", "S-1", "é", "x2345678901234567890123456789012345678901234567890123456789012345"] {
+    for bad in [
+        "",
+        "1S",
+        "#S",
+        "_S",
+        "S-1",
+        "é",
+        "x2345678901234567890123456789012345678901234567890123456789012345",
+    ] {
         match Name::new(alloc, bad) {
             Ok(_) => assert!(rt; false),
             Err(e) => assert!(rt; e == NameError::BadName),
         }
     }
     Ok(())
+}
+
+// Whether the name stands at this place of the heading.
+fn stands_at(heading: &Heading, i: usize, want: &str) -> bool {
+    match heading.at(i) {
+        Some((name, _)) => name.as_str() == want,
+        None => false,
+    }
+}
+
+// Whether the heading has this type at this name.
+fn has_at(alloc: Global, heading: &Heading, at: &str, want: &str) -> Result<bool> {
+    match heading.type_of(&name(alloc, at)?) {
+        Some(ty) => Ok(show_type(alloc, ty)?.as_str() == want),
+        None => Ok(false),
+    }
 }
 
 #[test]
@@ -74,68 +103,93 @@ fn headings_are_in_name_order(rt: HostRuntime) -> Result<()> {
     let before = heading.copy()?;
     assert!(rt; !heading.insert(alloc, name(alloc, "S#")?, integer_type())?);
     assert!(rt; heading.insert(alloc, name(alloc, "CITY")?, char_type())?);
-    assert!(rt; heading.len() == 3 && before.len() == 2 && !before.is_empty());
-    for (i, want) in ["CITY", "S#", "STATUS"].into_iter().enumerate() {
-        match heading.at(i) {
-            Some((name, _)) => assert!(rt; name.as_str() == want),
-            None => assert!(rt; false),
-        }
-    }
-    match heading.type_of(&name(alloc, "STATUS")?) {
-        Some(ty) => assert!(rt; show_type(alloc, ty)?.as_str() == "INTEGER"),
-        None => assert!(rt; false),
-    }
-    assert!(rt; heading.type_of(&name(alloc, "STATU")?).is_none());
+    assert!(rt; heading.len() == 3 && before.fields().len() == 2 && !before.is_empty());
+    assert!(rt;
+        stands_at(&heading, 0, "CITY")
+            && stands_at(&heading, 1, "S#")
+            && stands_at(&heading, 2, "STATUS")
+    );
+    assert!(rt;
+        has_at(alloc, &heading, "S#", "CHAR")? && has_at(alloc, &heading, "STATUS", "INTEGER")?
+    );
+    assert!(rt; heading.type_of(&name(alloc, "STATU")?).is_none() && heading.at(3).is_none());
     Ok(())
+}
+
+fn is_shown(alloc: Global, value: Value, want: &str) -> Result<bool> {
+    Ok(show(alloc, &value)?.as_str() == want)
 }
 
 #[test]
 fn values_are_shown(rt: HostRuntime) -> Result<()> {
     let alloc = rt.alloc();
-    assert!(rt; show(alloc, &Value { kind: Kind::Boolean(true) })?.as_str() == "TRUE");
-    assert!(rt; show(alloc, &integer(-7))?.as_str() == "-7");
-    assert!(rt; show(alloc, &integer(i64::MIN))?.as_str() == "(-9223372036854775807 - 1)");
-    assert!(rt; show(alloc, &text(alloc, "it's")?)?.as_str() == "'it''s'");
+    let truth = Value {
+        kind: Kind::Boolean(true),
+    };
+    assert!(rt; is_shown(alloc, truth, "TRUE")?);
+    assert!(rt; is_shown(alloc, integer(-7), "-7")?);
+    assert!(rt; is_shown(alloc, integer(i64::MIN), "(-9223372036854775807 - 1)")?);
+    assert!(rt; is_shown(alloc, text(alloc, "it's")?, "'it''s'")?);
+    let coordinates = vec![in alloc; integer(1), integer(2)].map_err(AllocError::from)?;
+    let point = Value {
+        kind: Kind::User(name(alloc, "POINT")?, Items::new(alloc, coordinates)?),
+    };
+    assert!(rt; is_shown(alloc, point, "POINT ( 1, 2 )")?);
+    Ok(())
+}
+
+#[test]
+fn tuples_and_types_are_shown(rt: HostRuntime) -> Result<()> {
+    let alloc = rt.alloc();
     let mut out = String::new(alloc);
     show_tuple_into(&mut out, &supplier(alloc, "S1", 20)?)?;
     assert!(rt; out.as_str() == "TUPLE { S# 'S1', STATUS 20 }");
-    let rows = Rows::new(supplier_heading(alloc)?, Vec::new(alloc));
-    let relation = Value { kind: Kind::Relation(rows) };
-    assert!(rt; show(alloc, &relation)?.as_str() == "RELATION { S# CHAR, STATUS INTEGER } { }");
-    let user = Value {
-        kind: Kind::User(name(alloc, "POINT")?, Items::new(alloc, vec![in alloc; integer(1), integer(2)]?)?),
+    let ty = TdType {
+        kind: TypeKind::Relation(supplier_heading(alloc)?),
     };
-    assert!(rt; show(alloc, &user)?.as_str() == "POINT ( 1, 2 )");
-    let ty = TdType { kind: TypeKind::Relation(supplier_heading(alloc)?) };
-    assert!(rt; show_type(alloc, &ty)?.as_str() == "RELATION { S# CHAR, STATUS INTEGER }");
+    assert!(rt; show_type(alloc, &ty.copy()?)?.as_str() == "RELATION { S# CHAR, STATUS INTEGER }");
     Ok(())
+}
+
+fn texts_ascend(alloc: Global, s: &str, t: &str) -> Result<bool> {
+    Ok(compare(&text(alloc, s)?, &text(alloc, t)?) == Ordering::Less)
 }
 
 #[test]
 fn values_are_in_order(rt: HostRuntime) -> Result<()> {
     let alloc = rt.alloc();
-    assert!(rt; compare(&text(alloc, "Z")?, &text(alloc, "é")?) == Ordering::Less);
-    assert!(rt; compare(&text(alloc, "\u{ffff}")?, &text(alloc, "\u{10000}")?) == Ordering::Less);
+    assert!(rt; texts_ascend(alloc, "Z", "é")? && texts_ascend(alloc, "\u{ffff}", "\u{10000}")?);
     assert!(rt; compare(&integer(-1), &integer(0)) == Ordering::Less);
-    let first = Value { kind: Kind::Tuple(supplier(alloc, "S1", 20)?) };
-    let second = Value { kind: Kind::Tuple(supplier(alloc, "S2", 10)?) };
+    let first = Value {
+        kind: Kind::Tuple(supplier(alloc, "S1", 20)?),
+    };
+    let second = Value {
+        kind: Kind::Tuple(supplier(alloc, "S2", 10)?),
+    };
     assert!(rt; compare(&first, &second) == Ordering::Less);
     assert!(rt; equal(&first, &copy(alloc, &first)?) && !equal(&first, &second));
     Ok(())
 }
 
+// Whether the tuple has an integer at this name.
+fn has_integer(tuple: &Tuple, at: &Name) -> bool {
+    match tuple.get(at) {
+        Some(value) => has_type(value, &integer_type()),
+        None => false,
+    }
+}
+
 #[test]
 fn tuples_have_headings(rt: HostRuntime) -> Result<()> {
     let alloc = rt.alloc();
-    let tuple = supplier(alloc, "S1", 20)?;
+    let tuple = supplier(alloc, "S1", 20)?.copy()?;
     let mut heading = supplier_heading(alloc)?;
     assert!(rt; fits(&tuple, &heading) && tuple.attributes().len() == 2);
-    match tuple.get(&name(alloc, "STATUS")?) {
-        Some(value) => assert!(rt; has_type(value, &integer_type()) && !has_type(value, &char_type())),
-        None => assert!(rt; false),
-    }
+    assert!(rt; has_integer(&tuple, &name(alloc, "STATUS")?));
+    assert!(rt;
+        !has_integer(&tuple, &name(alloc, "S#")?) && !has_integer(&tuple, &name(alloc, "CITY")?)
+    );
     heading.insert(alloc, name(alloc, "CITY")?, char_type())?;
     assert!(rt; !fits(&tuple, &heading));
-    assert!(rt; tuple.copy()?.get(&name(alloc, "CITY")?).is_none());
     Ok(())
 }

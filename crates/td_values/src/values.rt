@@ -184,7 +184,8 @@ impl Rows {
     }
 }
 
-fn copy_tuples(alloc: Global, a: &[Tuple]) -> Result<Vec<Tuple>, AllocError>
+/// The same tuples, shared: a list of them, and one count each.
+pub fn copy_tuples(alloc: Global, a: &[Tuple]) -> Result<Vec<Tuple>, AllocError>
     ensures { IfOk result (λ v. v.items ≡ a.now) }
 {
     let mut tuples = Vec::with_capacity(alloc, a.len())?;

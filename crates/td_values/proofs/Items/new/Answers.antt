@@ -2,7 +2,8 @@ use Rattle.std.proofs.Common.{subst, ◌∙◌, arith, rules}
 use Rattle.std.specs.List.{All}
 use Rattle.std.proofs.lemmas.List.{take_all}
 use Rattle.std.proofs.lemmas.List.Elements.{All-more}
-use Rattle.td_values.specs.Whole.{IsWhole, items_whole}
+use Rattle.td_values.specs.Whole.{IsWhole}
+use Rattle.td_values.proofs.WholeLemmas.{items_whole}
 use Rattle.td_values.proofs.Items.new.Goals as goal
 
 pub loop-v-preserved : goal.loop-v-preserved

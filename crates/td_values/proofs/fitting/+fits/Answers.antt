@@ -1,10 +1,10 @@
-use Rattle.std.proofs.Common.{◌≡◌, ◌<◌, false, refl, sym, ap, ◌∙◌, arith, length}
+use Rattle.std.proofs.Common.{◌≡◌, ◌<◌, refl, sym, ap, ◌∙◌, arith, length}
 use Rattle.td_values.specs.declared.Kind.TheVariants as kind
 use Rattle.td_values.specs.Data.{attrs_of}
-use Rattle.td_values.specs.Headings.{header_list}
+use Rattle.td_values.proofs.Entries.{entries_seen}
 use Rattle.td_values.specs.Rows.{RowsData}
 use Rattle.td_values.specs.View.{datum_of, ty_of}
-use Rattle.td_values.proofs.FieldLemmas.{same_name, user_typed, relation_typed, advances, name_differs, type_differs, ended, lengths_tested, and_then, fit_seen, is_not, is_not_true}
+use Rattle.td_values.proofs.FieldLemmas.{same_name, user_typed, relation_typed, advances, name_differs, ended, lengths_tested, and_then, fit_seen, is_not, is_not_true}
 use Rattle.td_values.proofs.fitting.+fits.Goals as goal
 use Rattle.td_values.proofs.fitting.+fits.Goals.{fit_fields-then-loop-i-test+else-i-fields, fit_fields-else-loop-i-test}
 
@@ -27,14 +27,14 @@ fit_fields-loop-i-preserved t c =
 pub fit_fields-returns : goal.fit_fields-returns
 fit_fields-returns t c =
     let over = λ (p : c.loop-i.i < length c.args.attributes.now) (q : c.loop-i.i < length c.args.fields.now).
-        let none : ⊥ = elim c.loop-i-test.branch [ fit_fields-then-loop-i-test+else-i-fields w ↦ omega arith | fit_fields-else-loop-i-test w ↦ omega arith ] in none in
+    let none : ⊥ = elim c.loop-i-test.branch [ fit_fields-then-loop-i-test+else-i-fields w ↦ omega arith | fit_fields-else-loop-i-test w ↦ omega arith ] in none in
     let rest = c.loop-i.invariant.rest in
     lengths_tested _ _ _ (and_then (ended c.args.attributes.now c.args.fields.now c.loop-i.i c.loop-i.invariant.in_attributes c.loop-i.invariant.in_fields over) (rest.1, rest.0))
 
 pub fits-returns : goal.fits-returns
 fits-returns t c =
     let tuple = ap attrs_of (c.deref-2.ensures.value ∙ ap (λ v. v.items) c.deref.ensures) ∙ c.tuple.view_is in
-    let fields = c.deref-4.ensures.value ∙ ap (λ v. v.items) c.deref-3.ensures ∙ sym (header_list _ c.heading.invariant c.heading.view_is) in
+    let fields = c.deref-4.ensures.value ∙ ap (λ v. v.items) c.deref-3.ensures ∙ sym (entries_seen _ c.heading.invariant c.heading.view_is) in
     fit_seen c.fit_fields.result tuple fields c.fit_fields.ensures
 
 pub has_type-returns-in-User-User : goal.has_type-returns-in-User-User

@@ -1,4 +1,4 @@
-use Rattle.td_values.specs.Headings.{header_list}
+use Rattle.td_values.proofs.Entries.{entries_seen}
 use Rattle.td_values.specs.Order.{fields_order}
 use Rattle.td_values.specs.Data.{fields_of}
 use Rattle.std.proofs.Common.{sym, ap, ◌∙◌, arith}
@@ -15,6 +15,6 @@ compare_fields-returns t c =
 
 pub compare_headings-returns : goal.compare_headings-returns
 compare_headings-returns t c =
-    let a = c.deref-2.ensures.value ∙ ap (λ v. v.items) c.deref.ensures ∙ sym (header_list _ c.a.invariant c.a.view_is) in
-    let b = c.deref-4.ensures.value ∙ ap (λ v. v.items) c.deref-3.ensures ∙ sym (header_list _ c.b.invariant c.b.view_is) in
+    let a = c.deref-2.ensures.value ∙ ap (λ v. v.items) c.deref.ensures ∙ sym (entries_seen _ c.a.invariant c.a.view_is) in
+    let b = c.deref-4.ensures.value ∙ ap (λ v. v.items) c.deref-3.ensures ∙ sym (entries_seen _ c.b.invariant c.b.view_is) in
     c.compare_fields.ensures ∙ (λ i. fields_order (fields_of (a i)) (fields_of (b i)))

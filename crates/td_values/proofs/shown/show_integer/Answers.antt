@@ -1,4 +1,4 @@
-use Rattle.std.proofs.Common.{◌≡◌, ◌++◌, OnOk, string_bytes, subst, sym, ap, ◌∙◌, rules, w64, to_z, of_z}
+use Rattle.std.proofs.Common.{◌≡◌, ◌++◌, OnOk, string_bytes, subst, sym, ap, rules, w64, of_z}
 use Rattle.td_values.proofs.Shows.{least, least_at, other}
 use Rattle.td_values.proofs.shown.show_integer.Goals as goal
 

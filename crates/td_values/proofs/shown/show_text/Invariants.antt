@@ -1,4 +1,4 @@
-use Rattle.std.proofs.Common.{◌≡◌, ◌++◌, string_bytes, codes, encode_utf8_all}
+use Rattle.std.proofs.Common.{◌≡◌, string_bytes}
 use Rattle.td_values.proofs.Shows.{so_far}
 use Rattle.td_values.proofs.shown.show_text.Given as goal
 

@@ -3,7 +3,8 @@ use Rattle.td_values.specs.declared.Kind.TheVariants as kind
 use Rattle.td_values.specs.View.{datum_of}
 use Rattle.td_values.specs.Headings.{header_fields}
 use Rattle.td_values.specs.Rows.{RowsData}
-use Rattle.td_values.specs.Whole.{IsWhole, rows_whole}
+use Rattle.td_values.specs.Whole.{IsWhole}
+use Rattle.td_values.proofs.WholeLemmas.{rows_whole}
 use Rattle.td_values.proofs.values.whole.Goals as goal
 
 pub returns-in-Relation : goal.returns-in-Relation

@@ -1,5 +1,3 @@
-use Rattle.std.proofs.Common.{ap, sym, ◌∙◌, subst}
-use Rattle.td_values.specs.Places.{IsGapFor, IsPlaceOf}
 use Rattle.td_values.proofs.Entries.{known, unknown, still_sorted, is_put}
 use Rattle.td_values.proofs.builders.TupleBuilder.insert.Goals as goal
 
