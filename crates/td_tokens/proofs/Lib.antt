@@ -5,3 +5,4 @@ pub mod OneReading
 pub mod Integers
 pub mod Boundaries
 pub mod Progress
+pub mod Quotes

@@ -11,7 +11,12 @@ use Rattle.td_tokens.specs.declared.piece.Piece.{Piece}
 use Rattle.td_tokens.specs.Words.{Spelling}
 use Rattle.td_tokens.specs.Lex.{Text, Lexeme, word, name, int, text, Spanned, begins_with, is_blank, is_plain, run, keyword_of, value, largest_int, symbol_at, open_after, most_open}
 
--- the characters of the rest of a literal: of two quotes in a row the second, and no other quote
+-- a literal without its opening quote
+abbrev pub after_opening : Text → Text
+after_opening [] = []
+after_opening (b ∷ bs) = if b == byte "'" then bs else b ∷ bs
+
+-- the characters of what follows the opening quote: of two quotes in a row the second, and no other quote
 abbrev pub undoubled : Bool → Text → Text
 undoubled after_quote [] = []
 undoubled after_quote (b ∷ bs) =
@@ -22,7 +27,7 @@ abbrev pub lexeme : Kind → Text → Lexeme
 lexeme (kind.Word v) bs = word v
 lexeme kind.Name bs = name bs
 lexeme (kind.Int n) bs = int n
-lexeme kind.Text bs = text (undoubled false (drop 1 bs))
+lexeme kind.Text bs = text (undoubled false (after_opening bs))
 
 -- the place after the `*/` of a comment
 abbrev pub comment_end : Bool → ℕ → Text → Option ℕ
