@@ -1,5 +1,5 @@
 -- A text may be cut where a piece ends.
-use Rattle.std.proofs.Common.{◌≡◌, ◌≤◌, ◌<◌, ◌+◌, ℕ, zero, suc, true, List, [], ◌∷◌, length, get_or, ap, sym, ◌∙◌, subst, arith, add-one, IsUtf8}
+use Rattle.std.proofs.Common.{◌≡◌, ℕ, true, [], ◌∷◌, sym, subst, arith, IsUtf8}
 use Rattle.std.specs.Prelude.{slice_index}
 use Rattle.std.specs.List.{prefix_len}
 use Rattle.std.specs.Str.{IsCharBoundary}

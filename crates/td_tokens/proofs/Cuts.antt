@@ -1,5 +1,5 @@
 -- How far a token or white space reaches: to the end of an ASCII byte within the text.
-use Rattle.std.proofs.Common.{◌≡◌, ◌≤◌, ◌<◌, ◌+◌, ◌-◌, ◌==◌, ◌||◌, ◌&&◌, ℕ, zero, suc, Bool, true, false, cond, List, [], ◌∷◌, ◌++◌, Option, Some, None, length, take, drop, get_or, refl, ap, sym, ◌∙◌, subst, arith, codes, add-one, one-add}
+use Rattle.std.proofs.Common.{◌≡◌, ◌<◌, ◌==◌, ◌||◌, ◌&&◌, ℕ, zero, suc, Bool, true, false, cond, List, [], ◌∷◌, ◌++◌, Some, length, drop, get_or, refl, ap, sym, ◌∙◌, subst, arith, one-add}
 use Rattle.std.proofs.lemmas.Bool.Decides.{nat_tests}
 use Rattle.std.proofs.lemmas.List.Sums.{prefix_len-le-length, prefix_len_passes}
 use Rattle.std.proofs.lemmas.List.Folds.{length-prefix_len}
@@ -9,9 +9,8 @@ use Rattle.std.specs.Char.{is_ascii_digit}
 use Rattle.std.specs.List.{list_all, prefix_len, find}
 use Rattle.std.specs.Prelude.{nat_eq, nat_lt, not}
 use Rattle.td_values.specs.Names.{is_letter, goes_on_in_name}
-use Rattle.td_tokens.specs.declared.token.Word.{Word}
 use Rattle.td_tokens.specs.Words.{Spelling, symbols}
-use Rattle.td_tokens.specs.Lex.{Text, Lexeme, word, begins_with, is_blank, run, symbol_at, EndsComment, closing, inside, IsSkipped, a_blank, a_comment, IsQuoted, closing_quote, doubled_quote, character, IsFront, a_keyword, a_name, an_int, a_text, a_symbol}
+use Rattle.td_tokens.specs.Lex.{Text, Lexeme, begins_with, is_blank, run, symbol_at, EndsComment, closing, inside, IsSkipped, a_blank, a_comment, IsQuoted, closing_quote, doubled_quote, character, IsFront, a_keyword, a_name, an_int, a_text, a_symbol}
 
 -- n bytes, of which the last is ASCII, so that a text may be cut after it
 pub record IsCut (bs : Text) (n : ℕ) : Type 0 where

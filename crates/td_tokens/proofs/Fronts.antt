@@ -1,19 +1,19 @@
 -- What stands at the front of a text: the function finds what the clauses say, and nothing else.
-use Rattle.std.proofs.Common.{◌≡◌, ◌≤◌, ◌<◌, ◌+◌, ◌-◌, ◌==◌, ◌||◌, ◌&&◌, ◌⊎◌, inl, inr, ℕ, zero, suc, Bool, true, false, cond, List, [], ◌∷◌, ◌++◌, Option, Some, None, length, take, drop, get_or, refl, ap, sym, ◌∙◌, subst, arith, codes, add-one, one-add}
+use Rattle.std.proofs.Common.{◌≡◌, ◌≤◌, ◌+◌, ◌==◌, ◌&&◌, ◌⊎◌, inl, inr, ℕ, suc, Bool, true, false, cond, [], ◌∷◌, Option, Some, None, length, take, drop, refl, ap, sym, ◌∙◌, subst, arith, codes}
 use Rattle.std.proofs.lemmas.Bool.Decides.{nat_tests}
 use Rattle.std.proofs.lemmas.List.Folds.{length-prefix_len}
 use Rattle.std.specs.Char.{is_ascii_digit}
-use Rattle.std.specs.List.{list_all, prefix_len}
-use Rattle.std.specs.Prelude.{nat_eq, nat_lt, nat_le, not, option_map, slice_index, if◌then◌else◌}
+use Rattle.std.specs.List.{list_all}
+use Rattle.std.specs.Prelude.{nat_le, option_map, slice_index}
 use Rattle.td_values.specs.Names.{is_letter, goes_on_in_name}
 use Rattle.td_tokens.specs.declared.token.Word.{Word}
 use Rattle.td_tokens.specs.declared.token.Kind.{Kind}
 use Rattle.td_tokens.specs.declared.token.Kind.TheVariants as kind
 use Rattle.td_tokens.specs.declared.piece.Piece.{Piece}
-use Rattle.td_tokens.specs.Words.{Spelling, symbols}
-use Rattle.td_tokens.specs.Lex.{Text, Lexeme, word, name, int, text, begins_with, is_blank, is_plain, run, keyword_of, value, largest_int, symbol_at, EndsComment, closing, inside, IsSkipped, a_blank, a_comment, IsQuoted, closing_quote, doubled_quote, character, IsFront, a_keyword, a_name, an_int, a_text, a_symbol}
+use Rattle.td_tokens.specs.Words.{Spelling}
+use Rattle.td_tokens.specs.Lex.{Text, Lexeme, name, text, begins_with, is_blank, is_plain, run, keyword_of, value, largest_int, symbol_at, EndsComment, closing, inside, IsSkipped, a_blank, a_comment, IsQuoted, closing_quote, doubled_quote, character, IsFront, a_keyword, a_name, an_int, a_text, a_symbol}
 use Rattle.td_tokens.specs.Lexer.{undoubled, lexeme, comment_end, text_end, int_kind, word_or_name, name_kind, run_kind, run_piece, symbol_piece, front}
-use Rattle.td_tokens.proofs.Cuts.{IsCut, letter_goes_on, digit_goes_on, run_is, symbol_sign, begins_is}
+use Rattle.td_tokens.proofs.Cuts.{letter_goes_on, digit_goes_on, run_is, symbol_sign, begins_is}
 
 pub none_some : {A : Type 0} {p : A} → None ≡ Some p → ⊥
 none_some h = cc
@@ -94,8 +94,8 @@ is_number b c h = grind (arith, nat_tests)
 text_step : (b : ℕ) (bs : Text) (at m : ℕ) → text_end false at (b ∷ bs) ≡ Some m → ((b ≡ 39) × (text_end true (at + 1) bs ≡ Some m)) ⊎ ((is_plain b ≡ true) × (text_end false (at + 1) bs ≡ Some m))
 text_step b bs at m h =
     elim (ways (b == 39) _ _ _ h) [
-      inl q ↦ inl (is_number b 39 q.0, q.1)
-    | inr q ↦ elim (ways (is_plain b) _ _ _ q.1) [ inl r ↦ inr r | inr r ↦ absurd (none_some r.1) ]
+      | inl q ↦ inl (is_number b 39 q.0, q.1)
+      | inr q ↦ elim (ways (is_plain b) _ _ _ q.1) [ inl r ↦ inr r | inr r ↦ absurd (none_some r.1) ]
     ]
 
 second_step : (c : ℕ) (bs : Text) (at m : ℕ) → text_end true at (c ∷ bs) ≡ Some m → ((c ≡ 39) × (text_end false (at + 1) bs ≡ Some m)) ⊎ (((c == 39) ≡ false) × (at ≡ m))
@@ -109,22 +109,22 @@ text_found : (bs : Text) (at m : ℕ) → text_end false at bs ≡ Some m → Is
 text_found [] at m h = absurd (none_some h)
 text_found (b ∷ []) at m h =
     elim (text_step b [] at m h) [
-      inl q ↦ (let e : ◌≡◌ {A = Option ℕ} (Some (at + 1)) (Some m) = q.1 in
-               let is : at + 1 ≡ m = cc in
-               ([], 1, subst (λ x. IsQuoted (x ∷ []) [] 1) (sym q.0) (closing_quote refl), sym is))
-    | inr q ↦ absurd (none_some q.1)
+      | inl q ↦ (let e : ◌≡◌ {A = Option ℕ} (Some (at + 1)) (Some m) = q.1 in
+          let is : at + 1 ≡ m = cc in
+          ([], 1, subst (λ x. IsQuoted (x ∷ []) [] 1) (sym q.0) (closing_quote refl), sym is))
+      | inr q ↦ absurd (none_some q.1)
     ]
 text_found (b ∷ c ∷ bs) at m h =
     elim (text_step b (c ∷ bs) at m h) [
-      inl q ↦ elim (second_step c bs (at + 1) m q.1) [
-          inl r ↦ (let rest = text_found bs (at + 1 + 1) m r.1 in
-                   let is = rest.3 in
-                   (39 ∷ rest.0, suc (suc rest.1), subst (λ x. IsQuoted (x ∷ c ∷ bs) (39 ∷ rest.0) (suc (suc rest.1))) (sym q.0) (subst (λ x. IsQuoted (39 ∷ x ∷ bs) (39 ∷ rest.0) (suc (suc rest.1))) (sym r.0) (doubled_quote rest.2)), omega arith))
+      | inl q ↦ elim (second_step c bs (at + 1) m q.1) [
+        | inl r ↦ (let rest = text_found bs (at + 1 + 1) m r.1 in
+            let is = rest.3 in
+            (39 ∷ rest.0, suc (suc rest.1), subst (λ x. IsQuoted (x ∷ c ∷ bs) (39 ∷ rest.0) (suc (suc rest.1))) (sym q.0) (subst (λ x. IsQuoted (39 ∷ x ∷ bs) (39 ∷ rest.0) (suc (suc rest.1))) (sym r.0) (doubled_quote rest.2)), omega arith))
         | inr r ↦ ([], 1, subst (λ x. IsQuoted (x ∷ c ∷ bs) [] 1) (sym q.0) (closing_quote (no_quote c bs r.0)), sym r.1)
-        ]
-    | inr q ↦ (let rest = text_found (c ∷ bs) (at + 1) m q.1 in
-               let is = rest.3 in
-               (b ∷ rest.0, suc rest.1, character q.0 rest.2, omega arith))
+      ]
+      | inr q ↦ (let rest = text_found (c ∷ bs) (at + 1) m q.1 in
+          let is = rest.3 in
+          (b ∷ rest.0, suc rest.1, character q.0 rest.2, omega arith))
     ]
 
 -- ---- the front
@@ -226,11 +226,11 @@ name_found_by b bs k (Some v) letter is h =
     subst (IsRunToken (b ∷ bs)) e (a_keyword letter is)
 name_found_by b bs k None letter is h =
     elim (ways (nat_le (length (run (b ∷ bs))) 64) (Some kind.Name) None (Some k) h) [
-      inl q ↦ (let e' : ◌≡◌ {A = Option Kind} (Some kind.Name) (Some k) = q.1 in
-               let e : kind.Name ≡ k = cc in
-               let short : length (run (b ∷ bs)) ≤ 64 = grind (arith, nat_tests, q.0) in
-               subst (IsRunToken (b ∷ bs)) e (a_name letter is short))
-    | inr q ↦ absurd (none_some q.1)
+      | inl q ↦ (let e' : ◌≡◌ {A = Option Kind} (Some kind.Name) (Some k) = q.1 in
+          let e : kind.Name ≡ k = cc in
+          let short : length (run (b ∷ bs)) ≤ 64 = grind (arith, nat_tests, q.0) in
+          subst (IsRunToken (b ∷ bs)) e (a_name letter is short))
+      | inr q ↦ absurd (none_some q.1)
     ]
 
 name_found : (b : ℕ) (bs : Text) (k : Kind) → is_letter b ≡ true → name_kind (run (b ∷ bs)) ≡ Some k → IsRunToken (b ∷ bs) k
@@ -241,14 +241,14 @@ int_found : (b : ℕ) (bs : Text) (k : Kind) → goes_on_in_name b ≡ true → 
 unfolding int_kind
 int_found b bs k goes h =
     elim (ways (list_all is_ascii_digit (run (b ∷ bs)) && nat_le (value (run (b ∷ bs))) largest_int) (Some (kind.Int (value (run (b ∷ bs))))) None (Some k) h) [
-      inl q ↦ (let e' : ◌≡◌ {A = Option Kind} (Some (kind.Int (value (run (b ∷ bs))))) (Some k) = q.1 in
-               let e : kind.Int (value (run (b ∷ bs))) ≡ k = cc in
-               let parts = both (list_all is_ascii_digit (run (b ∷ bs))) (nat_le (value (run (b ∷ bs))) largest_int) q.0 in
-               let small : value (run (b ∷ bs)) ≤ largest_int = grind (arith, nat_tests, parts.1) in
-               let all : list_all is_ascii_digit (b ∷ run bs) ≡ true = subst (λ xs. list_all is_ascii_digit xs ≡ true) (run_is b bs goes) parts.0 in
-               let digit = both (is_ascii_digit b) (list_all is_ascii_digit (run bs)) all in
-               subst (IsRunToken (b ∷ bs)) e (an_int digit.0 parts.0 small))
-    | inr q ↦ absurd (none_some q.1)
+      | inl q ↦ (let e' : ◌≡◌ {A = Option Kind} (Some (kind.Int (value (run (b ∷ bs))))) (Some k) = q.1 in
+          let e : kind.Int (value (run (b ∷ bs))) ≡ k = cc in
+          let parts = both (list_all is_ascii_digit (run (b ∷ bs))) (nat_le (value (run (b ∷ bs))) largest_int) q.0 in
+          let small : value (run (b ∷ bs)) ≤ largest_int = grind (arith, nat_tests, parts.1) in
+          let all : list_all is_ascii_digit (b ∷ run bs) ≡ true = subst (λ xs. list_all is_ascii_digit xs ≡ true) (run_is b bs goes) parts.0 in
+          let digit = both (is_ascii_digit b) (list_all is_ascii_digit (run bs)) all in
+          subst (IsRunToken (b ∷ bs)) e (an_int digit.0 parts.0 small))
+      | inr q ↦ absurd (none_some q.1)
     ]
 
 run_found : (b : ℕ) (bs : Text) (k : Kind) → goes_on_in_name b ≡ true → run_kind (run (b ∷ bs)) ≡ Some k → IsRunToken (b ∷ bs) k
@@ -256,8 +256,8 @@ unfolding run_kind
 run_found b bs k goes h =
     let first = run_first b bs goes in
     elim (ways (is_letter (slice_index (run (b ∷ bs)) 0)) (name_kind (run (b ∷ bs))) (int_kind (run (b ∷ bs))) (Some k) h) [
-      inl q ↦ name_found b bs k (subst (λ x. is_letter x ≡ true) first q.0) q.1
-    | inr q ↦ int_found b bs k goes q.1
+      | inl q ↦ name_found b bs k (subst (λ x. is_letter x ≡ true) first q.0) q.1
+      | inr q ↦ int_found b bs k goes q.1
     ]
 
 run_stands : (b : ℕ) (bs : Text) (p : Piece) → goes_on_in_name b ≡ true → run_piece (run (b ∷ bs)) ≡ Some p → Stands (b ∷ bs) p
@@ -290,14 +290,14 @@ pub front_found : (b : ℕ) (bs : Text) (p : Piece) → front (b ∷ bs) ≡ Som
 unfolding front
 front_found b bs p h =
     elim (ways (is_blank b) _ _ _ h) [
-      inl q ↦ subst (Stands (b ∷ bs)) (let e : ◌≡◌ {A = Option Piece} (Some (record { kind = None; length = 1 })) (Some p) = q.1 in cc) (white_space (a_blank q.0))
-    | inr q ↦ elim (ways (goes_on_in_name b) _ _ _ q.1) [
-        inl r ↦ run_stands b bs p r.0 r.1
-      | inr r ↦ elim (ways (b == 39) _ _ _ r.1) [
-          inl s ↦ text_stands b bs p (is_number b 39 s.0) s.1
-        | inr s ↦ elim (ways (begins_with (codes "/*") (b ∷ bs)) _ _ _ s.1) [
-            inl t ↦ comment_stands (b ∷ bs) p t.0 t.1
-          | inr t ↦ symbol_stands (b ∷ bs) p t.0 t.1
+      | inl q ↦ subst (Stands (b ∷ bs)) (let e : ◌≡◌ {A = Option Piece} (Some (record { kind = None; length = 1 })) (Some p) = q.1 in cc) (white_space (a_blank q.0))
+      | inr q ↦ elim (ways (goes_on_in_name b) _ _ _ q.1) [
+        | inl r ↦ run_stands b bs p r.0 r.1
+        | inr r ↦ elim (ways (b == 39) _ _ _ r.1) [
+          | inl s ↦ text_stands b bs p (is_number b 39 s.0) s.1
+          | inr s ↦ elim (ways (begins_with (codes "/*") (b ∷ bs)) _ _ _ s.1) [
+            | inl t ↦ comment_stands (b ∷ bs) p t.0 t.1
+            | inr t ↦ symbol_stands (b ∷ bs) p t.0 t.1
           ]
         ]
       ]

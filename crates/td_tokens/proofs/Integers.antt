@@ -1,5 +1,5 @@
 -- What `parse` gives of a run of letters and digits is its value.
-use Rattle.std.proofs.Common.{◌≡◌, ◌≢◌, ◌≤◌, ◌<◌, ◌+◌, ◌-◌, ◌*◌, ◌^◌, ℕ, zero, suc, Bool, true, false, cond, ◌&&◌, List, [], ◌∷◌, Option, Some, None, Result, Ok, Err, length, fold, refl, ap, sym, ◌∙◌, subst, arith, rules}
+use Rattle.std.proofs.Common.{◌≡◌, ◌≢◌, ◌≤◌, ◌<◌, ◌+◌, ◌-◌, ◌*◌, ◌^◌, ℕ, Bool, true, false, [], ◌∷◌, Some, None, Result, Ok, Err, length, fold, refl, subst, arith, rules}
 use Rattle.std.specs.Prelude.{slice_index, nat_le}
 use Rattle.std.specs.Char.{is_ascii_digit}
 use Rattle.std.specs.List.{list_all}
@@ -8,7 +8,6 @@ use Rattle.std.specs.Str.Parse.{ParsesUnsigned}
 use Rattle.std.proofs.lemmas.Bool.Decides.{nat_tests}
 use Rattle.std.proofs.lemmas.Str.Parse.{IsNumeralModel, numerals_by_fold, parse_plain}
 use Rattle.td_values.specs.Names.{goes_on_in_name}
-use Rattle.td_tokens.specs.declared.token.Kind.{Kind}
 use Rattle.td_tokens.specs.declared.token.Kind.TheVariants as kind
 use Rattle.td_tokens.specs.Lex.{Text, value, largest_int}
 use Rattle.td_tokens.specs.Lexer.{int_kind}

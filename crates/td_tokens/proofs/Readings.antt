@@ -1,11 +1,11 @@
 -- What holds of each reading: its tokens are slices in order, and their names and integers are in shape.
-use Rattle.std.proofs.Common.{◌≡◌, ◌≤◌, ◌<◌, ◌+◌, ◌-◌, ◌==◌, ◌||◌, ◌&&◌, ℕ, zero, suc, Bool, true, false, cond, List, [], ◌∷◌, ◌++◌, Option, Some, None, length, take, drop, get_or, refl, ap, sym, ◌∙◌, subst, arith, codes, length-drop}
+use Rattle.std.proofs.Common.{◌≡◌, ◌≤◌, ◌+◌, ℕ, suc, Bool, true, false, List, [], ◌∷◌, length, drop, refl, subst, arith, length-drop}
 use Rattle.std.specs.Prelude.{All, nat_le}
-use Rattle.std.specs.List.{list_all, prefix_len}
+use Rattle.std.specs.List.{list_all}
 use Rattle.std.proofs.lemmas.Bool.Decides.{nat_tests}
 use Rattle.std.proofs.lemmas.List.Elements.{All-nil, All-cons}
 use Rattle.td_values.specs.Names.{is_letter, goes_on_in_name, is_name}
-use Rattle.td_tokens.specs.Lex.{Text, Lexeme, word, name, int, text, Spanned, run, keyword_of, IsFront, a_keyword, a_name, an_int, a_text, a_symbol, IsLexed, ended, skipped, token, IsReading}
+use Rattle.td_tokens.specs.Lex.{Text, Lexeme, Spanned, run, IsFront, a_keyword, a_name, an_int, a_text, a_symbol, IsLexed, ended, skipped, token}
 use Rattle.td_tokens.specs.Laws.{AreSpans, TokensAreSlices, IsWellFormed, NamesAreNames}
 use Rattle.td_tokens.proofs.Cuts.{IsCut, skipped_cut, front_cut, letter_goes_on, run_is}
 

@@ -1,7 +1,7 @@
 -- What holds of every text, whatever the code does.
 use Rattle.std.specs.Prelude.{◌≡◌, ◌≤◌, ◌<◌, ℕ, true, List, [], ◌∷◌, length, Some, None, All, ◌↔◌}
 use Rattle.td_values.specs.Names.{is_name}
-use Rattle.td_tokens.specs.Lex.{Text, Lexeme, word, name, int, text, Spanned, keyword_of, largest_int, is_plain, IsReading}
+use Rattle.td_tokens.specs.Lex.{Text, Lexeme, word, name, int, text, Spanned, keyword_of, largest_int, IsReading}
 use Rattle.td_tokens.specs.Lexer.{reading}
 
 -- a text has at most one reading, and `reading` finds it

@@ -74,7 +74,11 @@ fn text_end(rest: &[u8]) -> Option<usize>
             return None;
         }
     }
-    if after_quote { Some(rest.len() + 1) } else { None }
+    if after_quote {
+        Some(rest.len() + 1)
+    } else {
+        None
+    }
 }
 
 #[tactic(auto, unfolding(crate::specs::Lexer::int_kind))]

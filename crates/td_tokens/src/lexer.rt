@@ -43,7 +43,12 @@ pub fn tokens(alloc: Global, source: &str) -> Result<Vec<Token<'_>>, TokenError>
             if MOST_OPEN < depth {
                 return Err(TokenError::Syntax);
             }
-            found.push(Token { kind, text, start, end })?;
+            found.push(Token {
+                kind,
+                text,
+                start,
+                end,
+            })?;
         }
         rest = after;
         start = end;

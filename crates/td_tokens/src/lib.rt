@@ -6,8 +6,7 @@ mod front;
 pub mod laws;
 pub mod lexer;
 mod piece;
-pub mod token;
-mod words;
-
 #[cfg(test)]
 mod tests;
+pub mod token;
+mod words;

@@ -119,7 +119,10 @@ fn symbol_in(table: &[(&[u8], Word)], bytes: &[u8]) -> Option<Piece>
     for (spelling, word) in table {
         if bytes.starts_with(spelling) {
             let kind = Some(Kind::Word(*word));
-            return Some(Piece { kind, length: spelling.len() });
+            return Some(Piece {
+                kind,
+                length: spelling.len(),
+            });
         }
     }
     None

@@ -1,4 +1,4 @@
-use Rattle.std.proofs.Common.{◌≡◌, ◌<◌, Some, None, length, is_ok, refl, ap, sym, ◌∙◌, arith}
+use Rattle.std.proofs.Common.{◌≡◌, ◌<◌, Some, length, is_ok, refl, ap, sym, ◌∙◌, arith}
 use Rattle.std.proofs.ResultArms.{chosen}
 use Rattle.td_tokens.specs.Lexer.{front}
 use Rattle.td_tokens.proofs.Progress.{boundary, moves, read_white, read_token, read_too_deep, read_whole, read_stuck, nonempty_if, empty_if, read_as}

@@ -1,4 +1,4 @@
-use Rattle.std.proofs.Common.{◌++◌, inl, inr, List, ℕ, Bor, false, refl, ap, sym, ◌∙◌, arith}
+use Rattle.std.proofs.Common.{◌++◌, inl, inr, List, ℕ, Bor, false, refl, ap, ◌∙◌, arith}
 use Rattle.std.specs.Str.Iter.{chars_rest}
 use Rattle.std.proofs.lemmas.Str.Pattern.{strip_prefix_char}
 use Rattle.td_tokens.specs.Lexer.{undoubled}
@@ -17,7 +17,7 @@ loop-c-init c =
 pub loop-c-preserved : goal.loop-c-preserved
 loop-c-preserved c =
     let keep : IsKept c.in-Some.c c.loop-c.after_quote = elim c.else-c-eq39.branch [
-        else-c-eq39-via-then-c-eq39+else-not-after_quote w ↦ inl (w.if-c-eq39.true, w.if-not-after_quote.false)
+      | else-c-eq39-via-then-c-eq39+else-not-after_quote w ↦ inl (w.if-c-eq39.true, w.if-not-after_quote.false)
       | else-c-eq39-via-else-c-eq39 w ↦ inr w.if-c-eq39.false
-      ] in
+    ] in
     written _ _ _ _ _ c.in-Some.c c.loop-c.after_quote c.in_ok-push.ensures.bytes c.in-Some.ensures.steps.0 keep c.loop-c.invariant
