@@ -302,9 +302,3 @@ front_found b bs p h =
         ]
       ]
     ]
-
--- where the code finds a comment, so does the function
-pub comment_front : (bs : Text) (b : ℕ) → b ≡ slice_index bs 0 → is_blank b ≡ false → goes_on_in_name b ≡ false → (b == 39) ≡ false → begins_with (codes "/*") bs ≡ true → front bs ≡ option_map (λ n. record { kind = None; length = n }) (comment_end false 2 (drop 2 bs))
-unfolding front
-comment_front bs b is no_blank no_name no_quote opens =
-    rw (subst (λ x. is_blank x ≡ false) is no_blank, subst (λ x. goes_on_in_name x ≡ false) is no_name, subst (λ x. (x == 39) ≡ false) is no_quote, opens) refl

@@ -12,7 +12,8 @@ pub fn tokens_are_slices()
     ensures { TokensAreSlices }
 {}
 
-/// A name has the shape of one and is no keyword, and an integer is in range.
+/// A name has the shape of one and is no keyword, an integer is in range, and a text literal has no NUL, line feed
+/// or carriage return among its characters.
 pub fn names_are_names()
     ensures { NamesAreNames }
 {}
