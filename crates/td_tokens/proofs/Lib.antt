@@ -6,3 +6,4 @@ pub mod Integers
 pub mod Boundaries
 pub mod Progress
 pub mod Quotes
+pub mod Callers
