@@ -124,6 +124,7 @@ sign_front (b ∷ p) rest h =
     record { cut = signs_cut p rest first.1 b (grind (arith, nat_tests, second.1)); other = none_of (is_blank b) (goes_on_in_name b) (b == 39) second.0 }
 
 pub symbol_sign : (bs : Text) (s : Spelling) → symbol_at bs ≡ Some s → IsSign bs (length s.0)
+unfolding symbol_at
 symbol_sign bs s h =
     let found = found_passes (λ (t : Spelling). begins_with t.0 bs) (λ (t : Spelling). is_sign t.0) symbols s symbols_are_signs h in
     subst (λ x. IsSign x (length s.0)) (sym (begins_is s.0 bs found.0)) (sign_front s.0 (drop (length s.0) bs) found.1)

@@ -52,7 +52,7 @@ abbrev pub run : Text → Text
 run = take_while goes_on_in_name
 
 -- the keyword of these letters, in either case
-abbrev pub keyword_of : Text → Option Word
+unfoldable pub keyword_of : Text → Option Word
 keyword_of letters = option_map (λ (k : Spelling). k.1) (find (λ (k : Spelling). str_eq_ignore_ascii_case k.0 letters) keywords)
 
 -- the number that decimal digits write
@@ -77,7 +77,7 @@ pub data IsQuoted : Text → Text → ℕ → Type 0 where
 -- ---- tokens
 
 -- the longest symbol at the front
-abbrev pub symbol_at : Text → Option Spelling
+unfoldable pub symbol_at : Text → Option Spelling
 symbol_at bs = find (λ (s : Spelling). begins_with s.0 bs) symbols
 
 -- A token of so many bytes is at the front.
