@@ -3,7 +3,7 @@ use Rattle.std.proofs.Common.{◌≡◌, List, [], ◌∷◌, Some, length, map,
 use Rattle.std.specs.Prelude.{All, option_map}
 use Rattle.std.proofs.lemmas.List.Elements.{All-map}
 use Rattle.td_tokens.specs.declared.token.Token.{Token}
-use Rattle.td_tokens.specs.Lex.{Text, Lexeme, Spanned}
+use Rattle.td_tokens.specs.Lex.{Text, Spanned}
 use Rattle.td_tokens.specs.Lexer.{reading, lexemes}
 use Rattle.td_tokens.specs.View.{lexeme_of, spanned_of}
 use Rattle.td_tokens.specs.Laws.{AreSpans, IsWellFormed}

@@ -10,7 +10,7 @@ use Rattle.std.specs.List.{list_all, prefix_len, find}
 use Rattle.std.specs.Prelude.{nat_eq, nat_lt, not}
 use Rattle.td_values.specs.Names.{is_letter, goes_on_in_name}
 use Rattle.td_tokens.specs.Words.{Spelling, symbols}
-use Rattle.td_tokens.specs.Lex.{Text, Lexeme, begins_with, is_blank, run, symbol_at, EndsComment, closing, inside, IsSkipped, a_blank, a_comment, IsQuoted, closing_quote, doubled_quote, character, IsFront, a_keyword, a_name, an_int, a_text, a_symbol}
+use Rattle.td_tokens.specs.Lex.{Text, Lexeme, first, begins_with, is_blank, run, symbol_at, EndsComment, closing, inside, IsSkipped, a_blank, a_comment, IsQuoted, closing_quote, doubled_quote, character, IsFront, a_keyword, a_name, an_int, a_text, a_symbol}
 
 -- n bytes, of which the last is ASCII, so that a text may be cut after it
 pub record IsCut (bs : Text) (n : ℕ) : Type 0 where
@@ -37,8 +37,12 @@ quoted_cut (character {b} {n} {bs} {cs} h d) = cut_more b bs n (quoted_cut d)
 blank_ascii : (b : ℕ) → is_blank b ≡ true → b < 128
 blank_ascii b h = grind (arith, nat_tests)
 
+blank_cut : (bs : Text) → is_blank (first bs) ≡ true → IsCut bs 1
+blank_cut [] h = absurd (let no : ⊥ = cc in no)
+blank_cut (b ∷ bs) h = cut_one b bs (blank_ascii b h)
+
 pub skipped_cut : {bs : Text} {n : ℕ} → IsSkipped bs n → IsCut bs n
-skipped_cut (a_blank {b} {bs} h) = cut_one b bs (blank_ascii b h)
+skipped_cut (a_blank {bs} h) = blank_cut bs h
 skipped_cut (a_comment {n} {bs} d) = cut_more 47 (42 ∷ bs) (suc n) (cut_more 42 bs n (comment_cut d))
 
 pub letter_goes_on : (b : ℕ) → is_letter b ≡ true → goes_on_in_name b ≡ true
@@ -53,8 +57,8 @@ name_ascii b h = grind (arith, nat_tests)
 pub run_is : (b : ℕ) (bs : Text) → goes_on_in_name b ≡ true → run (b ∷ bs) ≡ b ∷ run bs
 run_is b bs h = rw (h, one-add) refl
 
-pub run_cut : (b : ℕ) (bs : Text) → goes_on_in_name b ≡ true → IsCut (b ∷ bs) (length (run (b ∷ bs)))
-run_cut b bs h =
+some_run_cut : (b : ℕ) (bs : Text) → goes_on_in_name b ≡ true → IsCut (b ∷ bs) (length (run (b ∷ bs)))
+some_run_cut b bs h =
     let p = prefix_len goes_on_in_name bs in
     record {
       last = p;
@@ -66,6 +70,10 @@ run_cut b bs h =
     last_ascii : (k : ℕ) → k ≡ prefix_len goes_on_in_name bs → get_or (b ∷ bs) k 0 < 128
     last_ascii zero e = name_ascii b h
     last_ascii (suc k) e = name_ascii (get_or bs k 0) (prefix_len_passes goes_on_in_name bs k 0 (omega arith))
+
+pub run_cut : (bs : Text) → goes_on_in_name (first bs) ≡ true → IsCut bs (length (run bs))
+run_cut [] goes = absurd (let no : ⊥ = cc in no)
+run_cut (b ∷ bs) goes = some_run_cut b bs goes
 
 -- ---- symbols
 
@@ -131,8 +139,8 @@ symbol_sign bs s h =
 
 -- A token ends with an ASCII byte.
 pub front_cut : {bs : Text} {l : Lexeme} {n : ℕ} → IsFront bs l n → IsCut bs n
-front_cut (a_keyword {b} {bs} {v} letter is) = run_cut b bs (letter_goes_on b letter)
-front_cut (a_name {b} {bs} letter is_none short) = run_cut b bs (letter_goes_on b letter)
-front_cut (an_int {b} {bs} digit all small) = run_cut b bs (digit_goes_on b digit)
+front_cut (a_keyword {bs} {v} letter is) = run_cut bs (letter_goes_on (first bs) letter)
+front_cut (a_name {bs} letter is_none short) = run_cut bs (letter_goes_on (first bs) letter)
+front_cut (an_int {bs} digit all small) = run_cut bs (digit_goes_on (first bs) digit)
 front_cut (a_text {n} {bs} {cs} d) = cut_more 39 bs n (quoted_cut d)
 front_cut (a_symbol {bs} {s} is_no_comment found) = (symbol_sign bs s found).cut

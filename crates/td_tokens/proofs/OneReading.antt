@@ -80,7 +80,7 @@ front_sound : (b : ℕ) (bs : Text) (depth at : ℕ) (ts : List Spanned) (o : Op
 unfolding lexed
 front_sound b bs depth at ts None is shallow h later =
     absurd (none_some (sym (ap (λ o. option_and_then (λ (q : Piece). piece_then (λ d. lexed (q.length - 1) d (at + 1) bs) depth at (b ∷ bs) q.kind q.length) o) is) ∙ h))
-front_sound b bs depth at ts (Some p) is shallow h later = piece_sound (b ∷ bs) depth at ts p (front_found b bs p is) is shallow h later
+front_sound b bs depth at ts (Some p) is shallow h later = piece_sound (b ∷ bs) depth at ts p (front_found (b ∷ bs) p is) is shallow h later
 
 sound : (fuel : ℕ) (bs : Text) (depth at : ℕ) (ts : List Spanned) → length bs ≤ fuel → depth ≤ most_open → lexed 0 depth at bs ≡ Some ts → IsReadingAt depth at bs ts
 unfolding lexed

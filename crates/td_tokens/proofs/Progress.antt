@@ -64,13 +64,12 @@ stands_cut bs p (white_space white) = skipped_cut white
 stands_cut bs p (a_token first) = front_cut first
 
 -- a piece at the front is a part of the text
-pub piece_cut : (bs : Text) (p : Piece) → 0 < length bs → front bs ≡ Some p → IsCut bs p.length
-piece_cut [] p nonempty is = absurd (omega arith)
-piece_cut (b ∷ bs) p nonempty is = stands_cut (b ∷ bs) p (front_found b bs p is)
+pub piece_cut : (bs : Text) (p : Piece) → front bs ≡ Some p → IsCut bs p.length
+piece_cut bs p is = stands_cut bs p (front_found bs p is)
 
-module _ {source : Text} {ts : List Token} {start depth : ℕ} {rest : Text} (read : IsReadTo source ts start depth rest) (p : Piece) (nonempty : 0 < length rest) (is : front rest ≡ Some p) where
+module _ {source : Text} {ts : List Token} {start depth : ℕ} {rest : Text} (read : IsReadTo source ts start depth rest) (p : Piece) (is : front rest ≡ Some p) where
   cut : IsCut rest p.length
-  cut = piece_cut rest p nonempty is
+  cut = piece_cut rest p is
 
   pub boundary : IsCharBoundary rest p.length
   boundary = cut_boundary rest p.length read.utf8 cut
