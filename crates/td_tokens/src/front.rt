@@ -90,9 +90,11 @@ fn int_kind(run: &str) -> Option<Kind>
     requires { goes_on_in_name (slice_index run.now 0) ≡ true }
     ensures { result ≡ spec.int_kind run.now }
 {
-    match run.parse::<u64>() {
-        Ok(value) if value <= LARGEST_INT => Some(Kind::Int(value)),
-        _ => None,
+    let value = run.parse::<u64>().ok()?;
+    if value <= LARGEST_INT {
+        Some(Kind::Int(value))
+    } else {
+        None
     }
 }
 
