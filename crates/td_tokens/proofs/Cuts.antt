@@ -91,7 +91,8 @@ symbols_are_signs = refl
 pub begins_is : (p bs : Text) → begins_with p bs ≡ true → bs ≡ p ++ drop (length p) bs
 begins_is p bs h = (starts_is {E = nat_eq} Decides-eqb bs p (begins_with p bs) refl).0 h
 
-both : (x y : Bool) → (x && y) ≡ true → (x ≡ true) × (y ≡ true)
+-- what a test of two says of each
+pub both : (x y : Bool) → (x && y) ≡ true → (x ≡ true) × (y ≡ true)
 both true y h = (refl, h)
 both false y h = (h, absurd (let no : ⊥ = cc in no))
 
@@ -127,9 +128,9 @@ none_of false false true h = absurd (let no : ⊥ = cc in no)
 sign_front : (p rest : Text) → is_sign p ≡ true → IsSign (p ++ rest) (length p)
 sign_front [] rest h = absurd (let no : ⊥ = cc in no)
 sign_front (b ∷ p) rest h =
-    let first = both _ (list_all (λ c. nat_lt c 128) p) h in
-    let second = both (not (is_blank b || goes_on_in_name b || b == 39)) (nat_lt b 128) first.0 in
-    record { cut = signs_cut p rest first.1 b (grind (arith, nat_tests, second.1)); other = none_of (is_blank b) (goes_on_in_name b) (b == 39) second.0 }
+    let parts = both _ (list_all (λ c. nat_lt c 128) p) h in
+    let begins = both (not (is_blank b || goes_on_in_name b || b == 39)) (nat_lt b 128) parts.0 in
+    record { cut = signs_cut p rest parts.1 b (grind (arith, nat_tests, begins.1)); other = none_of (is_blank b) (goes_on_in_name b) (b == 39) begins.0 }
 
 pub symbol_sign : (bs : Text) (s : Spelling) → symbol_at bs ≡ Some s → IsSign bs (length s.0)
 unfolding symbol_at

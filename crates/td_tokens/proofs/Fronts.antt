@@ -13,7 +13,7 @@ use Rattle.td_tokens.specs.declared.piece.Piece.{Piece}
 use Rattle.td_tokens.specs.Words.{Spelling}
 use Rattle.td_tokens.specs.Lex.{Text, Lexeme, name, text, first, begins_with, is_blank, is_plain, run, keyword_of, value, largest_int, symbol_at, EndsComment, closing, inside, IsSkipped, a_blank, a_comment, IsQuoted, closing_quote, doubled_quote, character, IsFront, a_keyword, a_name, an_int, a_text, a_symbol}
 use Rattle.td_tokens.specs.Lexer.{undoubled, lexeme, comment_end, text_end, int_kind, word_or_name, name_kind, run_kind, skipping, taking, run_piece, symbol_piece, front}
-use Rattle.td_tokens.proofs.Cuts.{letter_goes_on, digit_goes_on, run_is, symbol_sign, begins_is}
+use Rattle.td_tokens.proofs.Cuts.{letter_goes_on, digit_goes_on, run_is, symbol_sign, begins_is, both}
 
 pub none_some : {A : Type 0} {p : A} → None ≡ Some p → ⊥
 none_some h = cc
@@ -213,10 +213,6 @@ front_goes (a_symbol {bs} {s} no_comment is) = (kind.Word s.1, symbol_goes_front
 pub mapped : {A B : Type 0} (f : A → B) (o : Option A) (y : B) → option_map f o ≡ Some y → (x : A) × (o ≡ Some x) × (f x ≡ y)
 mapped f None y h = absurd (none_some h)
 mapped f (Some x) y h = (x, refl, (let e : ◌≡◌ {A = Option _} (Some (f x)) (Some y) = h in cc))
-
-both : (x y : Bool) → (x && y) ≡ true → (x ≡ true) × (y ≡ true)
-both true y h = (refl, h)
-both false y h = (h, absurd (let no : ⊥ = cc in no))
 
 -- a kind of a run, as the clauses have it
 abbrev pub IsRunToken : Text → Kind → Type 0

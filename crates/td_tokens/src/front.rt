@@ -31,7 +31,7 @@ fn is_blank(b: u8) -> bool
 fn goes_on_in_name(b: u8) -> bool
     ensures { result ≡ goes_on_in_name b }
 {
-    b.is_ascii_alphabetic() || b.is_ascii_digit() || b == b'_' || b == b'#'
+    b.is_ascii_alphanumeric() || b == b'_' || b == b'#'
 }
 
 /// Whether the byte may stand in a text literal as it is.
