@@ -1,5 +1,5 @@
 -- How far a token or white space reaches: to the end of an ASCII byte within the text.
-use Rattle.std.proofs.Common.{◌≡◌, ◌≤◌, ◌<◌, ◌+◌, ◌-◌, ◌==◌, ◌||◌, ◌&&◌, ℕ, zero, suc, Bool, true, false, cond, List, [], ◌∷◌, ◌++◌, Option, Some, None, length, take, drop, get_or, refl, ap, sym, ◌∙◌, subst, arith, codes, add-one, one-add}
+use Rattle.std.proofs.Common.{◌≡◌, ◌<◌, ◌==◌, ◌||◌, ◌&&◌, ℕ, zero, suc, Bool, true, false, cond, List, [], ◌∷◌, ◌++◌, Some, length, drop, get_or, refl, ap, sym, ◌∙◌, subst, arith, one-add}
 use Rattle.std.proofs.lemmas.Bool.Decides.{nat_tests}
 use Rattle.std.proofs.lemmas.List.Sums.{prefix_len-le-length, prefix_len_passes}
 use Rattle.std.proofs.lemmas.List.Folds.{length-prefix_len}
@@ -9,9 +9,8 @@ use Rattle.std.specs.Char.{is_ascii_digit}
 use Rattle.std.specs.List.{list_all, prefix_len, find}
 use Rattle.std.specs.Prelude.{nat_eq, nat_lt, not}
 use Rattle.td_values.specs.Names.{is_letter, goes_on_in_name}
-use Rattle.td_tokens.specs.declared.token.Word.{Word}
 use Rattle.td_tokens.specs.Words.{Spelling, symbols}
-use Rattle.td_tokens.specs.Lex.{Text, Lexeme, word, begins_with, is_blank, run, symbol_at, EndsComment, closing, inside, IsSkipped, a_blank, a_comment, IsQuoted, closing_quote, doubled_quote, character, IsFront, a_keyword, a_name, an_int, a_text, a_symbol}
+use Rattle.td_tokens.specs.Lex.{Text, Lexeme, first, begins_with, is_blank, run, symbol_at, EndsComment, closing, inside, IsSkipped, a_blank, a_comment, IsQuoted, closing_quote, doubled_quote, character, IsFront, a_keyword, a_name, an_int, a_text, a_symbol}
 
 -- n bytes, of which the last is ASCII, so that a text may be cut after it
 pub record IsCut (bs : Text) (n : ℕ) : Type 0 where
@@ -38,8 +37,12 @@ quoted_cut (character {b} {n} {bs} {cs} h d) = cut_more b bs n (quoted_cut d)
 blank_ascii : (b : ℕ) → is_blank b ≡ true → b < 128
 blank_ascii b h = grind (arith, nat_tests)
 
+blank_cut : (bs : Text) → is_blank (first bs) ≡ true → IsCut bs 1
+blank_cut [] h = absurd (let no : ⊥ = cc in no)
+blank_cut (b ∷ bs) h = cut_one b bs (blank_ascii b h)
+
 pub skipped_cut : {bs : Text} {n : ℕ} → IsSkipped bs n → IsCut bs n
-skipped_cut (a_blank {b} {bs} h) = cut_one b bs (blank_ascii b h)
+skipped_cut (a_blank {bs} h) = blank_cut bs h
 skipped_cut (a_comment {n} {bs} d) = cut_more 47 (42 ∷ bs) (suc n) (cut_more 42 bs n (comment_cut d))
 
 pub letter_goes_on : (b : ℕ) → is_letter b ≡ true → goes_on_in_name b ≡ true
@@ -54,8 +57,8 @@ name_ascii b h = grind (arith, nat_tests)
 pub run_is : (b : ℕ) (bs : Text) → goes_on_in_name b ≡ true → run (b ∷ bs) ≡ b ∷ run bs
 run_is b bs h = rw (h, one-add) refl
 
-pub run_cut : (b : ℕ) (bs : Text) → goes_on_in_name b ≡ true → IsCut (b ∷ bs) (length (run (b ∷ bs)))
-run_cut b bs h =
+some_run_cut : (b : ℕ) (bs : Text) → goes_on_in_name b ≡ true → IsCut (b ∷ bs) (length (run (b ∷ bs)))
+some_run_cut b bs h =
     let p = prefix_len goes_on_in_name bs in
     record {
       last = p;
@@ -67,6 +70,10 @@ run_cut b bs h =
     last_ascii : (k : ℕ) → k ≡ prefix_len goes_on_in_name bs → get_or (b ∷ bs) k 0 < 128
     last_ascii zero e = name_ascii b h
     last_ascii (suc k) e = name_ascii (get_or bs k 0) (prefix_len_passes goes_on_in_name bs k 0 (omega arith))
+
+pub run_cut : (bs : Text) → goes_on_in_name (first bs) ≡ true → IsCut bs (length (run bs))
+run_cut [] goes = absurd (let no : ⊥ = cc in no)
+run_cut (b ∷ bs) goes = some_run_cut b bs goes
 
 -- ---- symbols
 
@@ -84,7 +91,8 @@ symbols_are_signs = refl
 pub begins_is : (p bs : Text) → begins_with p bs ≡ true → bs ≡ p ++ drop (length p) bs
 begins_is p bs h = (starts_is {E = nat_eq} Decides-eqb bs p (begins_with p bs) refl).0 h
 
-both : (x y : Bool) → (x && y) ≡ true → (x ≡ true) × (y ≡ true)
+-- what a test of two says of each
+pub both : (x y : Bool) → (x && y) ≡ true → (x ≡ true) × (y ≡ true)
 both true y h = (refl, h)
 both false y h = (h, absurd (let no : ⊥ = cc in no))
 
@@ -120,19 +128,20 @@ none_of false false true h = absurd (let no : ⊥ = cc in no)
 sign_front : (p rest : Text) → is_sign p ≡ true → IsSign (p ++ rest) (length p)
 sign_front [] rest h = absurd (let no : ⊥ = cc in no)
 sign_front (b ∷ p) rest h =
-    let first = both _ (list_all (λ c. nat_lt c 128) p) h in
-    let second = both (not (is_blank b || goes_on_in_name b || b == 39)) (nat_lt b 128) first.0 in
-    record { cut = signs_cut p rest first.1 b (grind (arith, nat_tests, second.1)); other = none_of (is_blank b) (goes_on_in_name b) (b == 39) second.0 }
+    let parts = both _ (list_all (λ c. nat_lt c 128) p) h in
+    let begins = both (not (is_blank b || goes_on_in_name b || b == 39)) (nat_lt b 128) parts.0 in
+    record { cut = signs_cut p rest parts.1 b (grind (arith, nat_tests, begins.1)); other = none_of (is_blank b) (goes_on_in_name b) (b == 39) begins.0 }
 
 pub symbol_sign : (bs : Text) (s : Spelling) → symbol_at bs ≡ Some s → IsSign bs (length s.0)
+unfolding symbol_at
 symbol_sign bs s h =
     let found = found_passes (λ (t : Spelling). begins_with t.0 bs) (λ (t : Spelling). is_sign t.0) symbols s symbols_are_signs h in
     subst (λ x. IsSign x (length s.0)) (sym (begins_is s.0 bs found.0)) (sign_front s.0 (drop (length s.0) bs) found.1)
 
 -- A token ends with an ASCII byte.
 pub front_cut : {bs : Text} {l : Lexeme} {n : ℕ} → IsFront bs l n → IsCut bs n
-front_cut (a_keyword {b} {bs} {v} letter is) = run_cut b bs (letter_goes_on b letter)
-front_cut (a_name {b} {bs} letter is_none short) = run_cut b bs (letter_goes_on b letter)
-front_cut (an_int {b} {bs} digit all small) = run_cut b bs (digit_goes_on b digit)
+front_cut (a_keyword {bs} {v} letter is) = run_cut bs (letter_goes_on (first bs) letter)
+front_cut (a_name {bs} letter is_none short) = run_cut bs (letter_goes_on (first bs) letter)
+front_cut (an_int {bs} digit all small) = run_cut bs (digit_goes_on (first bs) digit)
 front_cut (a_text {n} {bs} {cs} d) = cut_more 39 bs n (quoted_cut d)
 front_cut (a_symbol {bs} {s} is_no_comment found) = (symbol_sign bs s found).cut

@@ -1,19 +1,19 @@
 -- What stands at the front of a text: the function finds what the clauses say, and nothing else.
-use Rattle.std.proofs.Common.{◌≡◌, ◌≤◌, ◌<◌, ◌+◌, ◌-◌, ◌==◌, ◌||◌, ◌&&◌, ◌⊎◌, inl, inr, ℕ, zero, suc, Bool, true, false, cond, List, [], ◌∷◌, ◌++◌, Option, Some, None, length, take, drop, get_or, refl, ap, sym, ◌∙◌, subst, arith, codes, add-one, one-add}
+use Rattle.std.proofs.Common.{◌≡◌, ◌≤◌, ◌+◌, ◌==◌, ◌&&◌, ◌⊎◌, inl, inr, ℕ, suc, Bool, true, false, cond, [], ◌∷◌, Option, Some, None, length, take, drop, refl, ap, sym, ◌∙◌, subst, arith, codes}
 use Rattle.std.proofs.lemmas.Bool.Decides.{nat_tests}
 use Rattle.std.proofs.lemmas.List.Folds.{length-prefix_len}
 use Rattle.std.specs.Char.{is_ascii_digit}
-use Rattle.std.specs.List.{list_all, prefix_len}
-use Rattle.std.specs.Prelude.{nat_eq, nat_lt, nat_le, not, option_map, slice_index, if◌then◌else◌}
+use Rattle.std.specs.List.{list_all}
+use Rattle.std.specs.Prelude.{nat_le, option_map, slice_index}
 use Rattle.td_values.specs.Names.{is_letter, goes_on_in_name}
 use Rattle.td_tokens.specs.declared.token.Word.{Word}
 use Rattle.td_tokens.specs.declared.token.Kind.{Kind}
 use Rattle.td_tokens.specs.declared.token.Kind.TheVariants as kind
 use Rattle.td_tokens.specs.declared.piece.Piece.{Piece}
-use Rattle.td_tokens.specs.Words.{Spelling, symbols}
-use Rattle.td_tokens.specs.Lex.{Text, Lexeme, word, name, int, text, begins_with, is_blank, is_plain, run, keyword_of, value, largest_int, symbol_at, EndsComment, closing, inside, IsSkipped, a_blank, a_comment, IsQuoted, closing_quote, doubled_quote, character, IsFront, a_keyword, a_name, an_int, a_text, a_symbol}
-use Rattle.td_tokens.specs.Lexer.{undoubled, lexeme, comment_end, text_end, int_kind, word_or_name, name_kind, run_kind, run_piece, symbol_piece, front}
-use Rattle.td_tokens.proofs.Cuts.{IsCut, letter_goes_on, digit_goes_on, run_is, symbol_sign, begins_is}
+use Rattle.td_tokens.specs.Words.{Spelling}
+use Rattle.td_tokens.specs.Lex.{Text, Lexeme, name, text, first, begins_with, is_blank, is_plain, run, keyword_of, value, largest_int, symbol_at, EndsComment, closing, inside, IsSkipped, a_blank, a_comment, IsQuoted, closing_quote, doubled_quote, character, IsFront, a_keyword, a_name, an_int, a_text, a_symbol}
+use Rattle.td_tokens.specs.Lexer.{undoubled, lexeme, comment_end, text_end, int_kind, word_or_name, name_kind, run_kind, skipping, taking, run_piece, symbol_piece, front}
+use Rattle.td_tokens.proofs.Cuts.{letter_goes_on, digit_goes_on, run_is, symbol_sign, begins_is, both}
 
 pub none_some : {A : Type 0} {p : A} → None ≡ Some p → ⊥
 none_some h = cc
@@ -94,8 +94,8 @@ is_number b c h = grind (arith, nat_tests)
 text_step : (b : ℕ) (bs : Text) (at m : ℕ) → text_end false at (b ∷ bs) ≡ Some m → ((b ≡ 39) × (text_end true (at + 1) bs ≡ Some m)) ⊎ ((is_plain b ≡ true) × (text_end false (at + 1) bs ≡ Some m))
 text_step b bs at m h =
     elim (ways (b == 39) _ _ _ h) [
-      inl q ↦ inl (is_number b 39 q.0, q.1)
-    | inr q ↦ elim (ways (is_plain b) _ _ _ q.1) [ inl r ↦ inr r | inr r ↦ absurd (none_some r.1) ]
+      | inl q ↦ inl (is_number b 39 q.0, q.1)
+      | inr q ↦ elim (ways (is_plain b) _ _ _ q.1) [ inl r ↦ inr r | inr r ↦ absurd (none_some r.1) ]
     ]
 
 second_step : (c : ℕ) (bs : Text) (at m : ℕ) → text_end true at (c ∷ bs) ≡ Some m → ((c ≡ 39) × (text_end false (at + 1) bs ≡ Some m)) ⊎ (((c == 39) ≡ false) × (at ≡ m))
@@ -109,22 +109,22 @@ text_found : (bs : Text) (at m : ℕ) → text_end false at bs ≡ Some m → Is
 text_found [] at m h = absurd (none_some h)
 text_found (b ∷ []) at m h =
     elim (text_step b [] at m h) [
-      inl q ↦ (let e : ◌≡◌ {A = Option ℕ} (Some (at + 1)) (Some m) = q.1 in
-               let is : at + 1 ≡ m = cc in
-               ([], 1, subst (λ x. IsQuoted (x ∷ []) [] 1) (sym q.0) (closing_quote refl), sym is))
-    | inr q ↦ absurd (none_some q.1)
+      | inl q ↦ (let e : ◌≡◌ {A = Option ℕ} (Some (at + 1)) (Some m) = q.1 in
+          let is : at + 1 ≡ m = cc in
+          ([], 1, subst (λ x. IsQuoted (x ∷ []) [] 1) (sym q.0) (closing_quote refl), sym is))
+      | inr q ↦ absurd (none_some q.1)
     ]
 text_found (b ∷ c ∷ bs) at m h =
     elim (text_step b (c ∷ bs) at m h) [
-      inl q ↦ elim (second_step c bs (at + 1) m q.1) [
-          inl r ↦ (let rest = text_found bs (at + 1 + 1) m r.1 in
-                   let is = rest.3 in
-                   (39 ∷ rest.0, suc (suc rest.1), subst (λ x. IsQuoted (x ∷ c ∷ bs) (39 ∷ rest.0) (suc (suc rest.1))) (sym q.0) (subst (λ x. IsQuoted (39 ∷ x ∷ bs) (39 ∷ rest.0) (suc (suc rest.1))) (sym r.0) (doubled_quote rest.2)), omega arith))
+      | inl q ↦ elim (second_step c bs (at + 1) m q.1) [
+        | inl r ↦ (let rest = text_found bs (at + 1 + 1) m r.1 in
+            let is = rest.3 in
+            (39 ∷ rest.0, suc (suc rest.1), subst (λ x. IsQuoted (x ∷ c ∷ bs) (39 ∷ rest.0) (suc (suc rest.1))) (sym q.0) (subst (λ x. IsQuoted (39 ∷ x ∷ bs) (39 ∷ rest.0) (suc (suc rest.1))) (sym r.0) (doubled_quote rest.2)), omega arith))
         | inr r ↦ ([], 1, subst (λ x. IsQuoted (x ∷ c ∷ bs) [] 1) (sym q.0) (closing_quote (no_quote c bs r.0)), sym r.1)
-        ]
-    | inr q ↦ (let rest = text_found (c ∷ bs) (at + 1) m q.1 in
-               let is = rest.3 in
-               (b ∷ rest.0, suc rest.1, character q.0 rest.2, omega arith))
+      ]
+      | inr q ↦ (let rest = text_found (c ∷ bs) (at + 1) m q.1 in
+          let is = rest.3 in
+          (b ∷ rest.0, suc rest.1, character q.0 rest.2, omega arith))
     ]
 
 -- ---- the front
@@ -146,16 +146,17 @@ digit_no_letter b h = grind (arith, nat_tests)
 take_run : (bs : Text) → take (length (run bs)) bs ≡ run bs
 take_run bs = ap (λ n. take n bs) (length-prefix_len goes_on_in_name bs)
 
-run_first : (b : ℕ) (bs : Text) → goes_on_in_name b ≡ true → slice_index (run (b ∷ bs)) 0 ≡ b
-run_first b bs h = ap (λ xs. slice_index xs 0) (run_is b bs h)
+run_first : (bs : Text) → goes_on_in_name (first bs) ≡ true → first (run bs) ≡ first bs
+run_first [] h = refl
+run_first (b ∷ bs) h = ap first (run_is b bs h)
 
-run_goes : (b : ℕ) (bs : Text) (k : Kind) → is_blank b ≡ false → goes_on_in_name b ≡ true → run_kind (run (b ∷ bs)) ≡ Some k → front (b ∷ bs) ≡ Some (record { kind = Some k; length = length (run (b ∷ bs)) })
+run_goes : (bs : Text) (k : Kind) → is_blank (first bs) ≡ false → goes_on_in_name (first bs) ≡ true → run_kind (run bs) ≡ Some k → front bs ≡ Some (record { kind = Some k; length = length (run bs) })
 unfolding front
-run_goes b bs k no_blank goes is = rw (no_blank, is, goes) refl
+run_goes bs k no_blank goes is = rw (no_blank, goes, is) refl
 
 pub skipped_goes : {bs : Text} {n : ℕ} → IsSkipped bs n → front bs ≡ Some (record { kind = None; length = n })
 unfolding front
-skipped_goes (a_blank {b} {bs} h) = rw h refl
+skipped_goes (a_blank {bs} h) = rw h refl
 skipped_goes (a_comment {n} {bs} d) =
     let e : 2 + n ≡ suc (suc n) = omega arith in
     rw (comment_goes d false 2 refl) (ap (λ m. Some (record { kind = None; length = m })) e)
@@ -164,13 +165,13 @@ skipped_goes (a_comment {n} {bs} d) =
 abbrev pub IsFound : Text → Lexeme → ℕ → Type 0
 IsFound bs l n = (k : Kind) × (front bs ≡ Some (record { kind = Some k; length = n })) × (lexeme k (take n bs) ≡ l)
 
-name_kind_goes : (b : ℕ) (bs : Text) (k : Kind) → is_letter b ≡ true → name_kind (run (b ∷ bs)) ≡ Some k → run_kind (run (b ∷ bs)) ≡ Some k
+name_kind_goes : (bs : Text) (k : Kind) → is_letter (first bs) ≡ true → name_kind (run bs) ≡ Some k → run_kind (run bs) ≡ Some k
 unfolding run_kind
-name_kind_goes b bs k letter is = rw (run_first b bs (letter_goes_on b letter), letter) is
+name_kind_goes bs k letter is = rw (run_first bs (letter_goes_on (first bs) letter), letter) is
 
-int_kind_goes : (b : ℕ) (bs : Text) (k : Kind) → is_ascii_digit b ≡ true → int_kind (run (b ∷ bs)) ≡ Some k → run_kind (run (b ∷ bs)) ≡ Some k
+int_kind_goes : (bs : Text) (k : Kind) → is_ascii_digit (first bs) ≡ true → int_kind (run bs) ≡ Some k → run_kind (run bs) ≡ Some k
 unfolding run_kind
-int_kind_goes b bs k digit is = rw (run_first b bs (digit_goes_on b digit), digit_no_letter b digit) is
+int_kind_goes bs k digit is = rw (run_first bs (digit_goes_on (first bs) digit), digit_no_letter (first bs) digit) is
 
 keyword_kind : (bs : Text) (v : Word) → keyword_of bs ≡ Some v → name_kind bs ≡ Some (kind.Word v)
 unfolding name_kind
@@ -195,12 +196,13 @@ symbol_goes_front bs s no_comment h =
     rw (other.0, other.1, other.2, no_comment, h) refl
 
 pub front_goes : {bs : Text} {l : Lexeme} {n : ℕ} → IsFront bs l n → IsFound bs l n
-front_goes (a_keyword {b} {bs} {v} letter is) =
-    (kind.Word v, run_goes b bs (kind.Word v) (letter_no_blank b letter) (letter_goes_on b letter) (name_kind_goes b bs (kind.Word v) letter (keyword_kind (run (b ∷ bs)) v is)), refl)
-front_goes (a_name {b} {bs} letter is short) =
-    (kind.Name, run_goes b bs kind.Name (letter_no_blank b letter) (letter_goes_on b letter) (name_kind_goes b bs kind.Name letter (short_kind (run (b ∷ bs)) is short)), ap name (take_run (b ∷ bs)))
-front_goes (an_int {b} {bs} digit all small) =
-    (kind.Int (value (run (b ∷ bs))), run_goes b bs (kind.Int (value (run (b ∷ bs)))) (digit_no_blank b digit) (digit_goes_on b digit) (int_kind_goes b bs (kind.Int (value (run (b ∷ bs)))) digit (small_kind (run (b ∷ bs)) all small)), refl)
+front_goes (a_keyword {bs} {v} letter is) =
+    (kind.Word v, run_goes bs (kind.Word v) (letter_no_blank (first bs) letter) (letter_goes_on (first bs) letter) (name_kind_goes bs (kind.Word v) letter (keyword_kind (run bs) v is)), refl)
+front_goes (a_name {bs} letter is short) =
+    (kind.Name, run_goes bs kind.Name (letter_no_blank (first bs) letter) (letter_goes_on (first bs) letter) (name_kind_goes bs kind.Name letter (short_kind (run bs) is short)), ap name (take_run bs))
+front_goes (an_int {bs} digit all small) =
+    let k : Kind = kind.Int (value (run bs)) in
+    (k, run_goes bs k (digit_no_blank (first bs) digit) (digit_goes_on (first bs) digit) (int_kind_goes bs k digit (small_kind (run bs) all small)), refl)
 front_goes (a_text {n} {bs} {cs} d) =
     let e : 1 + n ≡ suc n = omega arith in
     (kind.Text, text_goes_front bs (suc n) (text_goes d 1 ∙ ap Some e), ap text (text_undoubled d))
@@ -212,69 +214,70 @@ pub mapped : {A B : Type 0} (f : A → B) (o : Option A) (y : B) → option_map 
 mapped f None y h = absurd (none_some h)
 mapped f (Some x) y h = (x, refl, (let e : ◌≡◌ {A = Option _} (Some (f x)) (Some y) = h in cc))
 
-both : (x y : Bool) → (x && y) ≡ true → (x ≡ true) × (y ≡ true)
-both true y h = (refl, h)
-both false y h = (h, absurd (let no : ⊥ = cc in no))
-
 -- a kind of a run, as the clauses have it
 abbrev pub IsRunToken : Text → Kind → Type 0
 IsRunToken bs k = IsFront bs (lexeme k (run bs)) (length (run bs))
 
-name_found_by : (b : ℕ) (bs : Text) (k : Kind) (o : Option Word) → is_letter b ≡ true → keyword_of (run (b ∷ bs)) ≡ o → word_or_name o (run (b ∷ bs)) ≡ Some k → IsRunToken (b ∷ bs) k
-name_found_by b bs k (Some v) letter is h =
+name_found_by : (bs : Text) (k : Kind) (o : Option Word) → is_letter (first bs) ≡ true → keyword_of (run bs) ≡ o → word_or_name o (run bs) ≡ Some k → IsRunToken bs k
+name_found_by bs k (Some v) letter is h =
     let e : kind.Word v ≡ k = cc in
-    subst (IsRunToken (b ∷ bs)) e (a_keyword letter is)
-name_found_by b bs k None letter is h =
-    elim (ways (nat_le (length (run (b ∷ bs))) 64) (Some kind.Name) None (Some k) h) [
-      inl q ↦ (let e' : ◌≡◌ {A = Option Kind} (Some kind.Name) (Some k) = q.1 in
-               let e : kind.Name ≡ k = cc in
-               let short : length (run (b ∷ bs)) ≤ 64 = grind (arith, nat_tests, q.0) in
-               subst (IsRunToken (b ∷ bs)) e (a_name letter is short))
-    | inr q ↦ absurd (none_some q.1)
+    subst (IsRunToken bs) e (a_keyword letter is)
+name_found_by bs k None letter is h =
+    elim (ways (nat_le (length (run bs)) 64) (Some kind.Name) None (Some k) h) [
+      | inl q ↦ (let e' : ◌≡◌ {A = Option Kind} (Some kind.Name) (Some k) = q.1 in
+          let e : kind.Name ≡ k = cc in
+          let short : length (run bs) ≤ 64 = grind (arith, nat_tests, q.0) in
+          subst (IsRunToken bs) e (a_name letter is short))
+      | inr q ↦ absurd (none_some q.1)
     ]
 
-name_found : (b : ℕ) (bs : Text) (k : Kind) → is_letter b ≡ true → name_kind (run (b ∷ bs)) ≡ Some k → IsRunToken (b ∷ bs) k
+name_found : (bs : Text) (k : Kind) → is_letter (first bs) ≡ true → name_kind (run bs) ≡ Some k → IsRunToken bs k
 unfolding name_kind
-name_found b bs k letter h = name_found_by b bs k (keyword_of (run (b ∷ bs))) letter refl h
+name_found bs k letter h = name_found_by bs k (keyword_of (run bs)) letter refl h
 
-int_found : (b : ℕ) (bs : Text) (k : Kind) → goes_on_in_name b ≡ true → int_kind (run (b ∷ bs)) ≡ Some k → IsRunToken (b ∷ bs) k
+-- where all of a run are digits, so is its first byte
+digit_first : (bs : Text) → goes_on_in_name (first bs) ≡ true → list_all is_ascii_digit (run bs) ≡ true → is_ascii_digit (first bs) ≡ true
+digit_first [] goes all = absurd (let no : ⊥ = cc in no)
+digit_first (b ∷ bs) goes all = (both (is_ascii_digit b) (list_all is_ascii_digit (run bs)) (subst (λ xs. list_all is_ascii_digit xs ≡ true) (run_is b bs goes) all)).0
+
+int_found : (bs : Text) (k : Kind) → goes_on_in_name (first bs) ≡ true → int_kind (run bs) ≡ Some k → IsRunToken bs k
 unfolding int_kind
-int_found b bs k goes h =
-    elim (ways (list_all is_ascii_digit (run (b ∷ bs)) && nat_le (value (run (b ∷ bs))) largest_int) (Some (kind.Int (value (run (b ∷ bs))))) None (Some k) h) [
-      inl q ↦ (let e' : ◌≡◌ {A = Option Kind} (Some (kind.Int (value (run (b ∷ bs))))) (Some k) = q.1 in
-               let e : kind.Int (value (run (b ∷ bs))) ≡ k = cc in
-               let parts = both (list_all is_ascii_digit (run (b ∷ bs))) (nat_le (value (run (b ∷ bs))) largest_int) q.0 in
-               let small : value (run (b ∷ bs)) ≤ largest_int = grind (arith, nat_tests, parts.1) in
-               let all : list_all is_ascii_digit (b ∷ run bs) ≡ true = subst (λ xs. list_all is_ascii_digit xs ≡ true) (run_is b bs goes) parts.0 in
-               let digit = both (is_ascii_digit b) (list_all is_ascii_digit (run bs)) all in
-               subst (IsRunToken (b ∷ bs)) e (an_int digit.0 parts.0 small))
-    | inr q ↦ absurd (none_some q.1)
+int_found bs k goes h =
+    elim (ways (list_all is_ascii_digit (run bs) && nat_le (value (run bs)) largest_int) (Some (kind.Int (value (run bs)))) None (Some k) h) [
+      | inl q ↦ (let e' : ◌≡◌ {A = Option Kind} (Some (kind.Int (value (run bs)))) (Some k) = q.1 in
+          let e : kind.Int (value (run bs)) ≡ k = cc in
+          let parts = both (list_all is_ascii_digit (run bs)) (nat_le (value (run bs)) largest_int) q.0 in
+          let small : value (run bs) ≤ largest_int = grind (arith, nat_tests, parts.1) in
+          subst (IsRunToken bs) e (an_int (digit_first bs goes parts.0) parts.0 small))
+      | inr q ↦ absurd (none_some q.1)
     ]
 
-run_found : (b : ℕ) (bs : Text) (k : Kind) → goes_on_in_name b ≡ true → run_kind (run (b ∷ bs)) ≡ Some k → IsRunToken (b ∷ bs) k
+run_found : (bs : Text) (k : Kind) → goes_on_in_name (first bs) ≡ true → run_kind (run bs) ≡ Some k → IsRunToken bs k
 unfolding run_kind
-run_found b bs k goes h =
-    let first = run_first b bs goes in
-    elim (ways (is_letter (slice_index (run (b ∷ bs)) 0)) (name_kind (run (b ∷ bs))) (int_kind (run (b ∷ bs))) (Some k) h) [
-      inl q ↦ name_found b bs k (subst (λ x. is_letter x ≡ true) first q.0) q.1
-    | inr q ↦ int_found b bs k goes q.1
+run_found bs k goes h =
+    elim (ways (is_letter (first (run bs))) (name_kind (run bs)) (int_kind (run bs)) (Some k) h) [
+      | inl q ↦ name_found bs k (subst (λ x. is_letter x ≡ true) (run_first bs goes) q.0) q.1
+      | inr q ↦ int_found bs k goes q.1
     ]
 
-run_stands : (b : ℕ) (bs : Text) (p : Piece) → goes_on_in_name b ≡ true → run_piece (run (b ∷ bs)) ≡ Some p → Stands (b ∷ bs) p
-run_stands b bs p goes h =
-    let m = mapped (λ (k : Kind). record { kind = Some k; length = length (run (b ∷ bs)) }) (run_kind (run (b ∷ bs))) p h in
-    let found = run_found b bs m.0 goes m.1 in
-    subst (Stands (b ∷ bs)) m.2 (a_token (subst (λ xs. IsFront (b ∷ bs) (lexeme m.0 xs) (length (run (b ∷ bs)))) (sym (take_run (b ∷ bs))) found))
+run_stands : (bs : Text) (p : Piece) → goes_on_in_name (first bs) ≡ true → run_piece (run bs) ≡ Some p → Stands bs p
+run_stands bs p goes h =
+    let m = mapped (λ (k : Kind). record { kind = Some k; length = length (run bs) }) (run_kind (run bs)) p h in
+    subst (Stands bs) m.2 (a_token (subst (λ xs. IsFront bs (lexeme m.0 xs) (length (run bs))) (sym (take_run bs)) (run_found bs m.0 goes m.1)))
 
-text_stands : (b : ℕ) (bs : Text) (p : Piece) → b ≡ 39 → option_map (λ n. record { kind = Some kind.Text; length = n }) (text_end false 1 bs) ≡ Some p → Stands (b ∷ bs) p
-text_stands b bs p is h =
+text_stands : (bs : Text) (p : Piece) → taking (text_end false 1 bs) ≡ Some p → Stands (39 ∷ bs) p
+text_stands bs p h =
     let m = mapped (λ (n : ℕ). record { kind = Some kind.Text; length = n }) (text_end false 1 bs) p h in
     let found = text_found bs 1 m.0 m.1 in
     let e : m.0 ≡ suc found.1 = (let e' = found.3 in omega arith) in
     let front_is : IsFront (39 ∷ bs) (text (undoubled false (take found.1 bs))) (suc found.1) = subst (λ cs. IsFront (39 ∷ bs) (text cs) (suc found.1)) (sym (text_undoubled found.2)) (a_text found.2) in
-    subst (λ x. Stands (x ∷ bs) p) (sym is) (subst (Stands (39 ∷ bs)) (ap (λ n. record { kind = Some kind.Text; length = n }) (sym e) ∙ m.2) (a_token front_is))
+    subst (Stands (39 ∷ bs)) (ap (λ n. record { kind = Some kind.Text; length = n }) (sym e) ∙ m.2) (a_token front_is)
 
-comment_stands : (bs : Text) (p : Piece) → begins_with (codes "/*") bs ≡ true → option_map (λ n. record { kind = None; length = n }) (comment_end false 2 (drop 2 bs)) ≡ Some p → Stands bs p
+quote_stands : (bs : Text) (p : Piece) → (first bs == 39) ≡ true → taking (text_end false 1 (drop 1 bs)) ≡ Some p → Stands bs p
+quote_stands [] p quote h = absurd (let no : ⊥ = cc in no)
+quote_stands (b ∷ bs) p quote h = subst (λ x. Stands (x ∷ bs) p) (sym (is_number b 39 quote)) (text_stands bs p h)
+
+comment_stands : (bs : Text) (p : Piece) → begins_with (codes "/*") bs ≡ true → skipping (comment_end false 2 (drop 2 bs)) ≡ Some p → Stands bs p
 comment_stands bs p opens h =
     let m = mapped (λ (n : ℕ). record { kind = None; length = n }) (comment_end false 2 (drop 2 bs)) p h in
     let found = comment_found (drop 2 bs) false 2 m.0 refl m.1 in
@@ -286,25 +289,20 @@ symbol_stands bs p no_comment h =
     let m = mapped (λ (s : Spelling). record { kind = Some (kind.Word s.1); length = length s.0 }) (symbol_at bs) p h in
     subst (Stands bs) m.2 (a_token (a_symbol no_comment m.1))
 
-pub front_found : (b : ℕ) (bs : Text) (p : Piece) → front (b ∷ bs) ≡ Some p → Stands (b ∷ bs) p
+-- What the function finds at the front, the clauses have.
+pub front_found : (bs : Text) (p : Piece) → front bs ≡ Some p → Stands bs p
 unfolding front
-front_found b bs p h =
-    elim (ways (is_blank b) _ _ _ h) [
-      inl q ↦ subst (Stands (b ∷ bs)) (let e : ◌≡◌ {A = Option Piece} (Some (record { kind = None; length = 1 })) (Some p) = q.1 in cc) (white_space (a_blank q.0))
-    | inr q ↦ elim (ways (goes_on_in_name b) _ _ _ q.1) [
-        inl r ↦ run_stands b bs p r.0 r.1
-      | inr r ↦ elim (ways (b == 39) _ _ _ r.1) [
-          inl s ↦ text_stands b bs p (is_number b 39 s.0) s.1
-        | inr s ↦ elim (ways (begins_with (codes "/*") (b ∷ bs)) _ _ _ s.1) [
-            inl t ↦ comment_stands (b ∷ bs) p t.0 t.1
-          | inr t ↦ symbol_stands (b ∷ bs) p t.0 t.1
+front_found bs p h =
+    elim (ways (is_blank (first bs)) _ _ _ h) [
+      | inl q ↦ subst (Stands bs) (let e : ◌≡◌ {A = Option Piece} (Some (record { kind = None; length = 1 })) (Some p) = q.1 in cc) (white_space (a_blank q.0))
+      | inr q ↦ elim (ways (goes_on_in_name (first bs)) _ _ _ q.1) [
+        | inl r ↦ run_stands bs p r.0 r.1
+        | inr r ↦ elim (ways (first bs == 39) _ _ _ r.1) [
+          | inl s ↦ quote_stands bs p s.0 s.1
+          | inr s ↦ elim (ways (begins_with (codes "/*") bs) _ _ _ s.1) [
+            | inl t ↦ comment_stands bs p t.0 t.1
+            | inr t ↦ symbol_stands bs p t.0 t.1
           ]
         ]
       ]
     ]
-
--- where the code finds a comment, so does the function
-pub comment_front : (bs : Text) (b : ℕ) → b ≡ slice_index bs 0 → is_blank b ≡ false → goes_on_in_name b ≡ false → (b == 39) ≡ false → begins_with (codes "/*") bs ≡ true → front bs ≡ option_map (λ n. record { kind = None; length = n }) (comment_end false 2 (drop 2 bs))
-unfolding front
-comment_front bs b is no_blank no_name no_quote opens =
-    rw (subst (λ x. is_blank x ≡ false) is no_blank, subst (λ x. goes_on_in_name x ≡ false) is no_name, subst (λ x. (x == 39) ≡ false) is no_quote, opens) refl

@@ -5,3 +5,5 @@ pub mod OneReading
 pub mod Integers
 pub mod Boundaries
 pub mod Progress
+pub mod Quotes
+pub mod Callers

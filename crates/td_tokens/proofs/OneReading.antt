@@ -1,10 +1,9 @@
 -- A text has at most one reading, and the function finds it.
-use Rattle.std.proofs.Common.{◌≡◌, ◌≤◌, ◌<◌, ◌+◌, ◌-◌, ◌⊎◌, inl, inr, ℕ, zero, suc, Bool, true, false, cond, List, [], ◌∷◌, Option, Some, None, length, take, drop, refl, ap, sym, ◌∙◌, subst, arith, fold, length-drop}
-use Rattle.std.specs.Prelude.{nat_le, option_map, option_and_then, ◌↔◌}
+use Rattle.std.proofs.Common.{◌≡◌, ◌≤◌, ◌+◌, ◌-◌, inl, inr, ℕ, zero, suc, true, List, [], ◌∷◌, Option, Some, None, length, take, drop, refl, ap, sym, ◌∙◌, subst, arith, length-drop}
+use Rattle.std.specs.Prelude.{nat_le, option_map, option_and_then}
 use Rattle.std.proofs.lemmas.Bool.Decides.{nat_tests}
-use Rattle.td_tokens.specs.declared.token.Kind.{Kind}
 use Rattle.td_tokens.specs.declared.piece.Piece.{Piece}
-use Rattle.td_tokens.specs.Lex.{Text, Lexeme, Spanned, IsSkipped, IsFront, IsLexed, ended, skipped, token, open_after, most_open, IsShallow, IsReading}
+use Rattle.td_tokens.specs.Lex.{Text, Spanned, IsLexed, ended, skipped, token, open_after, most_open, IsShallow, IsReading}
 use Rattle.td_tokens.specs.Lexer.{lexeme, front, Lexed, token_then, piece_then, lexed, reading}
 use Rattle.td_tokens.specs.Laws.{HasOneReading}
 use Rattle.td_tokens.proofs.Cuts.{IsCut, skipped_cut, front_cut}
@@ -28,7 +27,7 @@ piece_step (b ∷ bs) depth at p cut is =
     let pred : p.length - 1 ≡ n = omega arith in
     let place : at + 1 + (p.length - 1) ≡ at + p.length = omega arith in
     let later : (d : ℕ) → lexed (p.length - 1) d (at + 1) bs ≡ lexed 0 d (at + p.length) (drop p.length (b ∷ bs)) =
-        (λ d. left_passed bs (p.length - 1) d (at + 1) ∙ ap (λ m. lexed 0 d m (drop (p.length - 1) bs)) place ∙ ap (λ xs. lexed 0 d (at + p.length) xs) (ap (λ m. drop m bs) pred ∙ ap (λ m. drop m (b ∷ bs)) (sym e))) in
+    (λ d. left_passed bs (p.length - 1) d (at + 1) ∙ ap (λ m. lexed 0 d m (drop (p.length - 1) bs)) place ∙ ap (λ xs. lexed 0 d (at + p.length) xs) (ap (λ m. drop m bs) pred ∙ ap (λ m. drop m (b ∷ bs)) (sym e))) in
     ap (λ o. option_and_then (λ (q : Piece). piece_then (λ d. lexed (q.length - 1) d (at + 1) bs) depth at (b ∷ bs) q.kind q.length) o) is
     ∙ ap (λ (f : ℕ → Lexed). piece_then f depth at (b ∷ bs) p.kind p.length) (λ i d. later d i)
 
@@ -70,18 +69,18 @@ piece_sound bs depth at ts p (a_token {k} {n} first) is shallow h later =
     let t : Spanned = record { lexeme = lexeme k (take n bs); start = at; end = at + n } in
     let then' : token_then (λ d. lexed 0 d (at + n) (drop n bs)) depth t ≡ Some ts = sym (piece_step bs depth at (record { kind = Some k; length = n }) cut is) ∙ h in
     elim (ways (nat_le (open_after depth t.lexeme) most_open) _ _ _ then') [
-      inl q ↦ (let m = mapped (λ us. t ∷ us) (lexed 0 (open_after depth t.lexeme) (at + n) (drop n bs)) ts q.1 in
-               let fits : open_after depth t.lexeme ≤ most_open = grind (arith, nat_tests, q.0) in
-               let rest = later n cut (open_after depth t.lexeme) m.0 fits m.1 in
-               subst (IsReadingAt depth at bs) m.2 (token first rest.0, shallow_more depth t m.0 shallow rest.1))
-    | inr q ↦ absurd (none_some q.1)
+      | inl q ↦ (let m = mapped (λ us. t ∷ us) (lexed 0 (open_after depth t.lexeme) (at + n) (drop n bs)) ts q.1 in
+          let fits : open_after depth t.lexeme ≤ most_open = grind (arith, nat_tests, q.0) in
+          let rest = later n cut (open_after depth t.lexeme) m.0 fits m.1 in
+          subst (IsReadingAt depth at bs) m.2 (token first rest.0, shallow_more depth t m.0 shallow rest.1))
+      | inr q ↦ absurd (none_some q.1)
     ]
 
 front_sound : (b : ℕ) (bs : Text) (depth at : ℕ) (ts : List Spanned) (o : Option Piece) → front (b ∷ bs) ≡ o → depth ≤ most_open → lexed 0 depth at (b ∷ bs) ≡ Some ts → SoundAfter at (b ∷ bs) → IsReadingAt depth at (b ∷ bs) ts
 unfolding lexed
 front_sound b bs depth at ts None is shallow h later =
     absurd (none_some (sym (ap (λ o. option_and_then (λ (q : Piece). piece_then (λ d. lexed (q.length - 1) d (at + 1) bs) depth at (b ∷ bs) q.kind q.length) o) is) ∙ h))
-front_sound b bs depth at ts (Some p) is shallow h later = piece_sound (b ∷ bs) depth at ts p (front_found b bs p is) is shallow h later
+front_sound b bs depth at ts (Some p) is shallow h later = piece_sound (b ∷ bs) depth at ts p (front_found (b ∷ bs) p is) is shallow h later
 
 sound : (fuel : ℕ) (bs : Text) (depth at : ℕ) (ts : List Spanned) → length bs ≤ fuel → depth ≤ most_open → lexed 0 depth at bs ≡ Some ts → IsReadingAt depth at bs ts
 unfolding lexed
@@ -90,15 +89,16 @@ sound zero (b ∷ bs) depth at ts enough shallow h = absurd (omega arith)
 sound (suc fuel) (b ∷ bs) depth at ts enough shallow h =
     front_sound b bs depth at ts (front (b ∷ bs)) refl shallow h
     (λ n cut d us deep r.
-        let is = cut.length_is in
-        let in_range = cut.within in
-        let fewer : length (drop n (b ∷ bs)) ≤ fuel = omega (arith, length-drop n (b ∷ bs)) in
-        sound fuel (drop n (b ∷ bs)) d (at + n) us fewer deep r)
+    let is = cut.length_is in
+    let in_range = cut.within in
+    let fewer : length (drop n (b ∷ bs)) ≤ fuel = omega (arith, length-drop n (b ∷ bs)) in
+    sound fuel (drop n (b ∷ bs)) d (at + n) us fewer deep r)
 
 one : (bs : Text) (ts us : List Spanned) → IsReading bs ts → IsReading bs us → ts ≡ us
 one bs ts us r s = let e : ◌≡◌ {A = Lexed} (Some ts) (Some us) = sym (complete r.0 0 r.1) ∙ complete s.0 0 s.1 in cc
 
-found : (bs : Text) (ts : List Spanned) → reading bs ≡ Some ts → IsReading bs ts
+-- what the function finds is a reading
+pub found : (bs : Text) (ts : List Spanned) → reading bs ≡ Some ts → IsReading bs ts
 found bs ts h = sound (length bs) bs 0 0 ts (omega arith) (omega arith) h
 
 none_found : (bs : Text) → reading bs ≡ None → (ts : List Spanned) → ¬ (IsReading bs ts)

@@ -1,5 +1,5 @@
 -- What has been read so far, and what is left: the invariant of the loop over a text, and what one piece keeps of it.
-use Rattle.std.proofs.Common.{◌≡◌, ◌≤◌, ◌<◌, ◌+◌, ◌-◌, ◌==◌, ℕ, zero, suc, Bool, true, false, cond, List, [], ◌∷◌, ◌++◌, Option, Some, None, length, take, drop, map, refl, ap, sym, ◌∙◌, subst, arith, append_assoc, length-drop, IsUtf8}
+use Rattle.std.proofs.Common.{◌≡◌, ◌≤◌, ◌<◌, ◌+◌, ◌-◌, ◌==◌, ℕ, Bool, true, false, cond, List, [], ◌∷◌, ◌++◌, Option, Some, None, length, take, drop, map, refl, ap, sym, ◌∙◌, subst, arith, append_assoc, length-drop, IsUtf8}
 use Rattle.std.specs.Prelude.{All, nat_le, option_map, option_and_then, slice_range}
 use Rattle.std.specs.Str.{IsCharBoundary}
 use Rattle.std.proofs.lemmas.Bool.Decides.{nat_tests}
@@ -10,8 +10,8 @@ use Rattle.td_tokens.specs.declared.token.Kind.{Kind}
 use Rattle.td_tokens.specs.declared.token.Kind.TheVariants as kind
 use Rattle.td_tokens.specs.declared.token.Token.{Token}
 use Rattle.td_tokens.specs.declared.piece.Piece.{Piece}
-use Rattle.td_tokens.specs.Lex.{Text, Lexeme, Spanned, open_after, most_open}
-use Rattle.td_tokens.specs.Lexer.{lexeme, front, Lexed, token_then, piece_then, lexed, reading}
+use Rattle.td_tokens.specs.Lex.{Text, Spanned, open_after, most_open}
+use Rattle.td_tokens.specs.Lexer.{lexeme, front, Lexed, piece_then, lexed, reading}
 use Rattle.td_tokens.specs.View.{spanned_of}
 use Rattle.td_tokens.proofs.Cuts.{IsCut, skipped_cut, front_cut}
 use Rattle.td_tokens.proofs.Fronts.{Stands, white_space, a_token, front_found}
@@ -64,13 +64,12 @@ stands_cut bs p (white_space white) = skipped_cut white
 stands_cut bs p (a_token first) = front_cut first
 
 -- a piece at the front is a part of the text
-pub piece_cut : (bs : Text) (p : Piece) → 0 < length bs → front bs ≡ Some p → IsCut bs p.length
-piece_cut [] p nonempty is = absurd (omega arith)
-piece_cut (b ∷ bs) p nonempty is = stands_cut (b ∷ bs) p (front_found b bs p is)
+pub piece_cut : (bs : Text) (p : Piece) → front bs ≡ Some p → IsCut bs p.length
+piece_cut bs p is = stands_cut bs p (front_found bs p is)
 
-module _ {source : Text} {ts : List Token} {start depth : ℕ} {rest : Text} (read : IsReadTo source ts start depth rest) (p : Piece) (nonempty : 0 < length rest) (is : front rest ≡ Some p) where
+module _ {source : Text} {ts : List Token} {start depth : ℕ} {rest : Text} (read : IsReadTo source ts start depth rest) (p : Piece) (is : front rest ≡ Some p) where
   cut : IsCut rest p.length
-  cut = piece_cut rest p nonempty is
+  cut = piece_cut rest p is
 
   pub boundary : IsCharBoundary rest p.length
   boundary = cut_boundary rest p.length read.utf8 cut
@@ -114,8 +113,8 @@ module _ {source : Text} {ts : List Token} {start depth : ℕ} {rest : Text} (re
       record {
         whole = read.whole
             ∙ ap (after_tokens (map spanned_of ts)) (step (Some k) some
-                ∙ ap (λ d. cond (nat_le d most_open) (option_map (λ us. record { lexeme = lexeme k (take p.length rest); start = start; end = start + p.length } ∷ us) (lexed 0 d (start + p.length) (drop p.length rest))) None) (same_open depth k (take p.length rest))
-                ∙ rw fits (ap (λ (x : Spanned). option_map (λ us. x ∷ us) (lexed 0 (open_after depth (lexeme k [])) (start + p.length) (drop p.length rest))) (sym spanned)))
+            ∙ ap (λ d. cond (nat_le d most_open) (option_map (λ us. record { lexeme = lexeme k (take p.length rest); start = start; end = start + p.length } ∷ us) (lexed 0 d (start + p.length) (drop p.length rest))) None) (same_open depth k (take p.length rest))
+            ∙ rw fits (ap (λ (x : Spanned). option_map (λ us. x ∷ us) (lexed 0 (open_after depth (lexeme k [])) (start + p.length) (drop p.length rest))) (sym spanned)))
             ∙ after_one (map spanned_of ts) (spanned_of t) (lexed 0 (open_after depth (lexeme k [])) (start + p.length) (drop p.length rest))
             ∙ ap (λ xs. after_tokens xs (lexed 0 (open_after depth (lexeme k [])) (start + p.length) (drop p.length rest))) (sym (map-append spanned_of ts (t ∷ [])));
         slices = All-push (IsSlice source) ts t read.slices slice;
@@ -131,8 +130,8 @@ module _ {source : Text} {ts : List Token} {start depth : ℕ} {rest : Text} (re
       let past : nat_le (open_after depth (lexeme k [])) most_open ≡ false = grind (arith, nat_tests) in
       read.whole
       ∙ ap (after_tokens (map spanned_of ts)) (step (Some k) some
-          ∙ ap (λ d. cond (nat_le d most_open) (option_map (λ us. record { lexeme = lexeme k (take p.length rest); start = start; end = start + p.length } ∷ us) (lexed 0 d (start + p.length) (drop p.length rest))) None) (same_open depth k (take p.length rest))
-          ∙ ap (λ b. cond b (option_map (λ us. record { lexeme = lexeme k (take p.length rest); start = start; end = start + p.length } ∷ us) (lexed 0 (open_after depth (lexeme k [])) (start + p.length) (drop p.length rest))) None) past)
+      ∙ ap (λ d. cond (nat_le d most_open) (option_map (λ us. record { lexeme = lexeme k (take p.length rest); start = start; end = start + p.length } ∷ us) (lexed 0 d (start + p.length) (drop p.length rest))) None) (same_open depth k (take p.length rest))
+      ∙ ap (λ b. cond b (option_map (λ us. record { lexeme = lexeme k (take p.length rest); start = start; end = start + p.length } ∷ us) (lexed 0 (open_after depth (lexeme k [])) (start + p.length) (drop p.length rest))) None) past)
 
 nothing_left : (ts : List Spanned) (depth start : ℕ) (rest : Text) → length rest ≡ 0 → after_tokens ts (lexed 0 depth start rest) ≡ Some ts
 unfolding lexed

@@ -1,12 +1,12 @@
 -- What holds of each reading: its tokens are slices in order, and their names and integers are in shape.
-use Rattle.std.proofs.Common.{◌≡◌, ◌≤◌, ◌<◌, ◌+◌, ◌-◌, ◌==◌, ◌||◌, ◌&&◌, ℕ, zero, suc, Bool, true, false, cond, List, [], ◌∷◌, ◌++◌, Option, Some, None, length, take, drop, get_or, refl, ap, sym, ◌∙◌, subst, arith, codes, length-drop}
+use Rattle.std.proofs.Common.{◌≡◌, ◌≤◌, ◌+◌, ℕ, suc, Bool, true, false, List, [], ◌∷◌, length, drop, refl, subst, arith, length-drop}
 use Rattle.std.specs.Prelude.{All, nat_le}
-use Rattle.std.specs.List.{list_all, prefix_len}
+use Rattle.std.specs.List.{list_all}
 use Rattle.std.proofs.lemmas.Bool.Decides.{nat_tests}
 use Rattle.std.proofs.lemmas.List.Elements.{All-nil, All-cons}
 use Rattle.td_values.specs.Names.{is_letter, goes_on_in_name, is_name}
-use Rattle.td_tokens.specs.Lex.{Text, Lexeme, word, name, int, text, Spanned, run, keyword_of, IsFront, a_keyword, a_name, an_int, a_text, a_symbol, IsLexed, ended, skipped, token, IsReading}
-use Rattle.td_tokens.specs.Laws.{AreSpans, TokensAreSlices, IsWellFormed, NamesAreNames}
+use Rattle.td_tokens.specs.Lex.{Text, Lexeme, Spanned, first, run, is_plain, IsQuoted, closing_quote, doubled_quote, character, IsFront, a_keyword, a_name, an_int, a_text, a_symbol, IsLexed, ended, skipped, token}
+use Rattle.td_tokens.specs.Laws.{AreSpans, TokensAreSlices, is_in_text, IsWellFormed, NamesAreNames}
 use Rattle.td_tokens.proofs.Cuts.{IsCut, skipped_cut, front_cut, letter_goes_on, run_is}
 
 -- ---- slices in order
@@ -38,19 +38,31 @@ run_goes_on : (bs : Text) → list_all goes_on_in_name (run bs) ≡ true
 run_goes_on [] = refl
 run_goes_on (b ∷ bs) = run_goes_from b bs (run_goes_on bs) (goes_on_in_name b) refl
 
-name_shape : (b : ℕ) (bs : Text) → is_letter b ≡ true → length (run (b ∷ bs)) ≤ 64 → is_name (run (b ∷ bs)) ≡ true
-name_shape b bs letter short =
+some_name_shape : (b : ℕ) (bs : Text) → is_letter b ≡ true → length (run (b ∷ bs)) ≤ 64 → is_name (run (b ∷ bs)) ≡ true
+some_name_shape b bs letter short =
     let goes = letter_goes_on b letter in
     let is = run_is b bs goes in
     let short' : suc (length (run bs)) ≤ 64 = rw is at short in
     let fits : nat_le (suc (length (run bs))) 64 ≡ true = grind (arith, nat_tests, short') in
     rw (is, letter, run_goes_on bs, fits) refl
 
+name_shape : (bs : Text) → is_letter (first bs) ≡ true → length (run bs) ≤ 64 → is_name (run bs) ≡ true
+name_shape [] letter short = absurd (let no : ⊥ = cc in no)
+name_shape (b ∷ bs) letter short = some_name_shape b bs letter short
+
+plain_in_text : (b : ℕ) → is_plain b ≡ true → is_in_text b ≡ true
+plain_in_text b h = grind (arith, nat_tests)
+
+quoted_in_text : {bs cs : Text} {n : ℕ} → IsQuoted bs cs n → list_all is_in_text cs ≡ true
+quoted_in_text (closing_quote h) = refl
+quoted_in_text (doubled_quote d) = quoted_in_text d
+quoted_in_text (character {b} {n} {bs} {cs} h d) = rw (plain_in_text b h) (quoted_in_text d)
+
 front_well_formed : {bs : Text} {l : Lexeme} {n : ℕ} → IsFront bs l n → IsWellFormed l
 front_well_formed (a_keyword letter is) = tt
-front_well_formed (a_name {b} {bs} letter is_none short) = (name_shape b bs letter short, is_none)
+front_well_formed (a_name {bs} letter is_none short) = (name_shape bs letter short, is_none)
 front_well_formed (an_int digit all small) = small
-front_well_formed (a_text d) = tt
+front_well_formed (a_text {n} {bs} {cs} d) = quoted_in_text d
 front_well_formed (a_symbol is_no_comment found) = tt
 
 pub well_formed : {at : ℕ} {bs : Text} {ts : List Spanned} → IsLexed at bs ts → All (λ (t : Spanned). IsWellFormed t.lexeme) ts

@@ -1,7 +1,7 @@
 -- The tokens of a text, as a relation: what may stand at the front of a text, one clause for each form, and what follows.
 -- A text is its bytes in UTF-8. A run is taken as far as it goes, and only then judged: what is too long or too large
 -- has no reading, and is never cut in two.
-use Rattle.std.specs.Prelude.{◌≡◌, ◌≤◌, ◌<◌, ℕ, zero, suc, ◌+◌, ◌-◌, ◌*◌, Bool, true, false, not, ◌||◌, ◌==◌, nat_eq, List, [], ◌∷◌, length, take, drop, fold, codes, Option, Some, None, take_while, find, option_map}
+use Rattle.std.specs.Prelude.{◌≡◌, ◌≤◌, ℕ, suc, ◌+◌, ◌-◌, ◌*◌, Bool, true, false, not, ◌||◌, ◌==◌, nat_eq, List, [], ◌∷◌, length, slice_index, take, drop, fold, codes, Option, Some, None, take_while, find, option_map}
 use Rattle.std.specs.Char.{is_ascii_digit}
 use Rattle.std.specs.List.{list_all, starts_with}
 use Rattle.std.specs.Str.{byte, str_eq_ignore_ascii_case}
@@ -26,6 +26,10 @@ pub record Spanned : Type 0 where
   pub start : ℕ
   pub end : ℕ
 
+-- the first byte, or 0 where there is none
+abbrev pub first : Text → ℕ
+first bs = slice_index bs 0
+
 abbrev pub begins_with : Text → Text → Bool
 begins_with front bs = starts_with nat_eq bs front
 
@@ -42,7 +46,7 @@ pub data EndsComment : Text → ℕ → Type 0 where
 
 -- white space of so many bytes is at the front: a blank, or a comment
 pub data IsSkipped : Text → ℕ → Type 0 where
-  a_blank : {b : ℕ} {bs : Text} → is_blank b ≡ true → IsSkipped (b ∷ bs) 1
+  a_blank : {bs : Text} → is_blank (first bs) ≡ true → IsSkipped bs 1
   a_comment : {n : ℕ} {bs : Text} → EndsComment bs n → IsSkipped (byte "/" ∷ byte "*" ∷ bs) (suc (suc n))
 
 -- ---- runs
@@ -52,7 +56,7 @@ abbrev pub run : Text → Text
 run = take_while goes_on_in_name
 
 -- the keyword of these letters, in either case
-abbrev pub keyword_of : Text → Option Word
+unfoldable pub keyword_of : Text → Option Word
 keyword_of letters = option_map (λ (k : Spelling). k.1) (find (λ (k : Spelling). str_eq_ignore_ascii_case k.0 letters) keywords)
 
 -- the number that decimal digits write
@@ -77,15 +81,16 @@ pub data IsQuoted : Text → Text → ℕ → Type 0 where
 -- ---- tokens
 
 -- the longest symbol at the front
-abbrev pub symbol_at : Text → Option Spelling
+unfoldable pub symbol_at : Text → Option Spelling
 symbol_at bs = find (λ (s : Spelling). begins_with s.0 bs) symbols
 
 -- A token of so many bytes is at the front.
 pub data IsFront : Text → Lexeme → ℕ → Type 0 where
-  a_keyword : {b : ℕ} {bs : Text} {v : Word} → is_letter b ≡ true → keyword_of (run (b ∷ bs)) ≡ Some v → IsFront (b ∷ bs) (word v) (length (run (b ∷ bs)))
-  a_name : {b : ℕ} {bs : Text} → is_letter b ≡ true → keyword_of (run (b ∷ bs)) ≡ None → length (run (b ∷ bs)) ≤ 64 → IsFront (b ∷ bs) (name (run (b ∷ bs))) (length (run (b ∷ bs)))
+  -- a run that begins with a letter is a keyword or a name
+  a_keyword : {bs : Text} {v : Word} → is_letter (first bs) ≡ true → keyword_of (run bs) ≡ Some v → IsFront bs (word v) (length (run bs))
+  a_name : {bs : Text} → is_letter (first bs) ≡ true → keyword_of (run bs) ≡ None → length (run bs) ≤ 64 → IsFront bs (name (run bs)) (length (run bs))
   -- digits alone: no letter, `_` or `#` follows them directly
-  an_int : {b : ℕ} {bs : Text} → is_ascii_digit b ≡ true → list_all is_ascii_digit (run (b ∷ bs)) ≡ true → value (run (b ∷ bs)) ≤ largest_int → IsFront (b ∷ bs) (int (value (run (b ∷ bs)))) (length (run (b ∷ bs)))
+  an_int : {bs : Text} → is_ascii_digit (first bs) ≡ true → list_all is_ascii_digit (run bs) ≡ true → value (run bs) ≤ largest_int → IsFront bs (int (value (run bs))) (length (run bs))
   a_text : {n : ℕ} {bs cs : Text} → IsQuoted bs cs n → IsFront (byte "'" ∷ bs) (text cs) (suc n)
   -- `/*` begins a comment and is no symbol
   a_symbol : {bs : Text} {s : Spelling} → begins_with (codes "/*") bs ≡ false → symbol_at bs ≡ Some s → IsFront bs (word s.1) (length s.0)

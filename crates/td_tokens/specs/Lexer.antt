@@ -1,5 +1,5 @@
 -- The one reading of a text, as a function.
-use Rattle.std.specs.Prelude.{◌≤◌, ℕ, zero, suc, ◌+◌, ◌-◌, Bool, true, false, not, ◌&&◌, ◌==◌, nat_le, List, [], ◌∷◌, length, take, drop, slice_index, map, codes, Option, Some, None, if◌then◌else◌, option_map, option_and_then}
+use Rattle.std.specs.Prelude.{ℕ, zero, suc, ◌+◌, ◌-◌, Bool, true, false, not, ◌&&◌, ◌==◌, nat_le, List, [], ◌∷◌, length, take, drop, map, codes, Option, Some, None, if◌then◌else◌, option_map, option_and_then}
 use Rattle.std.specs.Char.{is_ascii_digit}
 use Rattle.std.specs.List.{list_all}
 use Rattle.std.specs.Str.{byte}
@@ -9,9 +9,14 @@ use Rattle.td_tokens.specs.declared.token.Kind.{Kind}
 use Rattle.td_tokens.specs.declared.token.Kind.TheVariants as kind
 use Rattle.td_tokens.specs.declared.piece.Piece.{Piece}
 use Rattle.td_tokens.specs.Words.{Spelling}
-use Rattle.td_tokens.specs.Lex.{Text, Lexeme, word, name, int, text, Spanned, begins_with, is_blank, is_plain, run, keyword_of, value, largest_int, symbol_at, open_after, most_open}
+use Rattle.td_tokens.specs.Lex.{Text, Lexeme, word, name, int, text, Spanned, first, begins_with, is_blank, is_plain, run, keyword_of, value, largest_int, symbol_at, open_after, most_open}
 
--- the characters of the rest of a literal: of two quotes in a row the second, and no other quote
+-- a literal without its opening quote
+abbrev pub after_opening : Text → Text
+after_opening [] = []
+after_opening (b ∷ bs) = if b == byte "'" then bs else b ∷ bs
+
+-- the characters of what follows the opening quote: of two quotes in a row the second, and no other quote
 abbrev pub undoubled : Bool → Text → Text
 undoubled after_quote [] = []
 undoubled after_quote (b ∷ bs) =
@@ -22,7 +27,7 @@ abbrev pub lexeme : Kind → Text → Lexeme
 lexeme (kind.Word v) bs = word v
 lexeme kind.Name bs = name bs
 lexeme (kind.Int n) bs = int n
-lexeme kind.Text bs = text (undoubled false (drop 1 bs))
+lexeme kind.Text bs = text (undoubled false (after_opening bs))
 
 -- the place after the `*/` of a comment
 abbrev pub comment_end : Bool → ℕ → Text → Option ℕ
@@ -49,7 +54,7 @@ name_kind bs = word_or_name (keyword_of bs) bs
 
 -- what a whole run is
 unfoldable pub run_kind : Text → Option Kind
-run_kind bs = if is_letter (slice_index bs 0) then name_kind bs else int_kind bs
+run_kind bs = if is_letter (first bs) then name_kind bs else int_kind bs
 
 abbrev pub skipping : Option ℕ → Option Piece
 skipping = option_map (λ n. record { kind = None; length = n })
@@ -69,7 +74,7 @@ symbol_piece bs = sign_piece (symbol_at bs)
 -- what stands at the front, and its length
 unfoldable pub front : Text → Option Piece
 front bs =
-    let b = slice_index bs 0 in
+    let b = first bs in
     if is_blank b then skipping (Some 1)
     else (if goes_on_in_name b then run_piece (run bs)
     else (if b == byte "'" then taking (text_end false 1 (drop 1 bs))

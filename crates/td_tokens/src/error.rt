@@ -8,8 +8,10 @@ use thiserror::Error;
 
 #[derive(Clone, Copy, Debug, Drop, PartialEq, Eq, Error)]
 pub enum TokenError {
-    #[error("no such text of the language")]
+    /// The text cannot be read as tokens.
+    #[error("the text cannot be read as tokens")]
     Syntax,
+    /// The tokens did not fit into memory.
     #[error("out of memory")]
     OutOfMemory,
 }

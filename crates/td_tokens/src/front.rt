@@ -10,10 +10,11 @@ use crate::piece::Piece;
 use crate::token::Kind;
 use crate::words::{keyword, symbol};
 
-const LARGEST_INT: u64 = 9223372036854775807;
+const LARGEST_INT: u64 = 9_223_372_036_854_775_807;
 
 const LONGEST_NAME: usize = 64;
 
+/// The byte at a place, or 0 past the end.
 fn byte(bytes: &[u8], at: usize) -> u8
     ensures value { result ≡ slice_index bytes.now at }
     ensures within { result ≢ 0 → at < length bytes.now }
@@ -30,15 +31,17 @@ fn is_blank(b: u8) -> bool
 fn goes_on_in_name(b: u8) -> bool
     ensures { result ≡ goes_on_in_name b }
 {
-    b.is_ascii_alphabetic() || b.is_ascii_digit() || b == b'_' || b == b'#'
+    b.is_ascii_alphanumeric() || b == b'_' || b == b'#'
 }
 
+/// Whether the byte may stand in a text literal as it is.
 fn is_plain(b: u8) -> bool
     ensures { result ≡ is_plain b }
 {
     !(b == b'\'' || b == 0 || b == b'\n' || b == b'\r')
 }
 
+/// How many bytes at the front may stand in a name.
 fn run_length(bytes: &[u8]) -> usize
     ensures value { result ≡ prefix_len goes_on_in_name bytes.now }
     ensures within { result ≤ length bytes.now }
@@ -74,20 +77,28 @@ fn text_end(rest: &[u8]) -> Option<usize>
             return None;
         }
     }
-    if after_quote { Some(rest.len() + 1) } else { None }
+    if after_quote {
+        Some(rest.len() + 1)
+    } else {
+        None
+    }
 }
 
+/// The integer that a run of letters, digits, `_` and `#` writes, where it has digits alone.
 #[tactic(auto, unfolding(crate::specs::Lexer::int_kind))]
 fn int_kind(run: &str) -> Option<Kind>
     requires { goes_on_in_name (slice_index run.now 0) ≡ true }
     ensures { result ≡ spec.int_kind run.now }
 {
-    match run.parse::<u64>() {
-        Ok(value) if value <= LARGEST_INT => Some(Kind::Int(value)),
-        _ => None,
+    let value = run.parse::<u64>().ok()?;
+    if value <= LARGEST_INT {
+        Some(Kind::Int(value))
+    } else {
+        None
     }
 }
 
+/// What a run that begins with a letter is.
 #[tactic(auto, unfolding(crate::specs::Lexer::name_kind))]
 fn name_kind(run: &str) -> Option<Kind>
     ensures { result ≡ spec.name_kind run.now }
@@ -99,6 +110,7 @@ fn name_kind(run: &str) -> Option<Kind>
     }
 }
 
+/// What a run is, if it is a token.
 #[tactic(auto, unfolding(crate::specs::Lexer::run_kind))]
 fn run_kind(run: &str) -> Option<Kind>
     requires { goes_on_in_name (slice_index run.now 0) ≡ true }
@@ -111,6 +123,7 @@ fn run_kind(run: &str) -> Option<Kind>
     }
 }
 
+/// The run at the front.
 fn run_piece(text: &str) -> Option<Piece>
     requires { goes_on_in_name (slice_index text.now 0) ≡ true }
     ensures { result ≡ spec.run_piece (run text.now) }
@@ -118,13 +131,6 @@ fn run_piece(text: &str) -> Option<Piece>
     let length = run_length(text.as_bytes());
     let (run, _) = text.split_at(length);
     let kind = Some(run_kind(run)?);
-    Some(Piece { kind, length })
-}
-
-fn taking(kind: Option<Kind>, length: Option<usize>) -> Option<Piece>
-    ensures { result ≡ option_map (λ n. record { kind = kind; length = n }) length }
-{
-    let length = length?;
     Some(Piece { kind, length })
 }
 
@@ -136,13 +142,19 @@ pub fn front(text: &str) -> Option<Piece>
     let bytes = text.as_bytes();
     let first = byte(bytes, 0);
     if is_blank(first) {
-        taking(None, Some(1))
+        Some(Piece {
+            kind: None,
+            length: 1,
+        })
     } else if goes_on_in_name(first) {
         run_piece(text)
     } else if first == b'\'' {
-        taking(Some(Kind::Text), text_end(&bytes[1..]))
-    } else if bytes.starts_with(b"/*") {
-        taking(None, comment_end(&bytes[2..]))
+        text_end(&bytes[1..]).map(|length| Piece {
+            kind: Some(Kind::Text),
+            length,
+        })
+    } else if let [b'/', b'*', inside @ ..] = bytes {
+        comment_end(inside).map(|length| Piece { kind: None, length })
     } else {
         symbol(bytes)
     }

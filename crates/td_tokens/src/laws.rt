@@ -5,17 +5,15 @@ ghost use Rattle.td_tokens.specs.Laws.{HasOneReading, TokensAreSlices, NamesAreN
 /// A text has at most one reading, and `reading` finds it.
 pub fn one_reading()
     ensures { HasOneReading }
-{
-}
+{}
 
 /// Tokens are not empty, stand one behind the other, and lie in the text.
 pub fn tokens_are_slices()
     ensures { TokensAreSlices }
-{
-}
+{}
 
-/// A name has the shape of one and is no keyword, and an integer is in range.
+/// A name has the shape of one and is no keyword, an integer is in range, and a text literal has no NUL, line feed
+/// or carriage return among its characters.
 pub fn names_are_names()
     ensures { NamesAreNames }
-{
-}
+{}

@@ -24,7 +24,9 @@ fn open_after(depth: usize, kind: Kind) -> usize
     }
 }
 
-/// The tokens of a text in order, each with the part of the text that it takes. One pass, linear in the text.
+/// The tokens of a text in order, each with the part of the text that it takes.
+///
+/// Refuses a text that has no reading as `Syntax`. Takes time linear in the text, and memory for its tokens alone.
 pub fn tokens(alloc: Global, source: &str) -> Result<Vec<Token<'_>>, TokenError>
     ensures ok { IfOk result (λ ts. reading source.now ≡ Some (map spanned_of ts.items)) }
     ensures slices { IfOk result (λ ts. All (λ t. t.text.now ≡ slice_range source.now t.start t.end) ts.items) }
@@ -43,7 +45,12 @@ pub fn tokens(alloc: Global, source: &str) -> Result<Vec<Token<'_>>, TokenError>
             if MOST_OPEN < depth {
                 return Err(TokenError::Syntax);
             }
-            found.push(Token { kind, text, start, end })?;
+            found.push(Token {
+                kind,
+                text,
+                start,
+                end,
+            })?;
         }
         rest = after;
         start = end;

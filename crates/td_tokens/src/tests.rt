@@ -36,7 +36,10 @@ fn quotes_are_doubled(rt: HostRuntime) -> Result<(), Fail> {
 
 #[test]
 fn kinds(rt: HostRuntime) -> Result<(), Fail> {
-    let found = tokens(rt.alloc(), "Is_Empty isempty where 007 9223372036854775807 /*/ é **/ |||| := : = <> x#_1")?;
+    let found = tokens(
+        rt.alloc(),
+        "Is_Empty isempty where 007 9223372036854775807 /*/ é **/ |||| := : = <> x#_1",
+    )?;
     assert_eq!(rt; found.len(), 12);
     assert_eq!(rt; found[0].kind, Kind::Word(Word::IsEmpty));
     assert_eq!(rt; found[1].kind, Kind::Name);
@@ -55,7 +58,19 @@ fn kinds(rt: HostRuntime) -> Result<(), Fail> {
 
 #[test]
 fn texts_of_no_tokens(rt: HostRuntime) {
-    for text in ["12A", "12_", "/* x", "/*/", "9223372036854775808", "|", "'a", "'a\n'", "_a", "é", "."] {
+    for text in [
+        "12A",
+        "12_",
+        "/* x",
+        "/*/",
+        "9223372036854775808",
+        "|",
+        "'a",
+        "'a\n'",
+        "_a",
+        "é",
+        ".",
+    ] {
         let found = tokens(rt.alloc(), text);
         assert!(rt; matches!(&found, Err(TokenError::Syntax)), "{text}");
     }

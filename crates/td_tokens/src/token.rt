@@ -117,7 +117,8 @@ impl Token<'_> {
     {
         let mut characters = String::new(alloc);
         let mut after_quote = false;
-        for c in self.text.strip_prefix('\'').unwrap_or(self.text).chars() {
+        let rest = self.text.strip_prefix('\'').unwrap_or(self.text);
+        for c in rest.chars() {
             if c == '\'' && !after_quote {
                 after_quote = true;
             } else {

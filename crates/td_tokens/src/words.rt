@@ -119,13 +119,17 @@ fn symbol_in(table: &[(&[u8], Word)], bytes: &[u8]) -> Option<Piece>
     for (spelling, word) in table {
         if bytes.starts_with(spelling) {
             let kind = Some(Kind::Word(*word));
-            return Some(Piece { kind, length: spelling.len() });
+            return Some(Piece {
+                kind,
+                length: spelling.len(),
+            });
         }
     }
     None
 }
 
 /// The keyword that these letters are, in either case.
+#[tactic(auto, unfolding(crate::specs::Lex::keyword_of))]
 pub fn keyword(letters: &[u8]) -> Option<Word>
     ensures { result ≡ keyword_of letters.now }
 {
@@ -133,6 +137,7 @@ pub fn keyword(letters: &[u8]) -> Option<Word>
 }
 
 /// The longest symbol at the front.
+#[tactic(auto, unfolding(crate::specs::Lex::symbol_at))]
 pub fn symbol(bytes: &[u8]) -> Option<Piece>
     ensures { result ≡ symbol_piece bytes.now }
 {

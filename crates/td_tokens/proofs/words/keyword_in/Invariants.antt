@@ -2,7 +2,6 @@ use Rattle.std.proofs.Common.{◌≡◌, map, drop}
 use Rattle.std.specs.Prelude.{find}
 use Rattle.std.specs.Str.{str_eq_ignore_ascii_case}
 use Rattle.td_tokens.specs.Words.{Spelling}
-use Rattle.td_tokens.specs.Lex.{begins_with}
 use Rattle.td_tokens.proofs.words.keyword_in.Given as goal
 
 -- what is found is among the rest
