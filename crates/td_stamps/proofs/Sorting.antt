@@ -9,6 +9,7 @@ use Rattle.std.specs.BTreeMap as tree
 use Rattle.std.specs.Ordering.{is_lt, ordering_then, nat_cmp}
 use Rattle.std.specs.declared.cmp.Ordering.TheVariants.{Less, Equal, Greater}
 use Rattle.std.proofs.lemmas.Bool.Decides.{nat_tests}
+use Rattle.std.proofs.lemmas.List.{append_assoc}
 use Rattle.std.proofs.lemmas.List.Folds.{list_all-append, list_any-append}
 use Rattle.std.proofs.lemmas.List.Sorted.{sorted_far, list_any-IsPermutation, All-permutation}
 use Rattle.std.proofs.lemmas.List.Sums.{AllPass-from_list_all, list_all-from_AllPass}
@@ -90,12 +91,8 @@ first_clash-hit seen [] e rest hit clear =
 first_clash-hit seen (x ∷ es) e rest hit clear =
     elim (list_any (clash x) seen) as (λ b. (if b then Some x else first_clash (seen ++ x ∷ []) (es ++ e ∷ rest)) ≡ None → ⊥) [
       | true ↦ λ h. cc
-      | false ↦ λ h. first_clash-hit (seen ++ x ∷ []) es e rest (ap (list_any (clash e)) (assoc seen) ∙ hit) h
+      | false ↦ λ h. first_clash-hit (seen ++ x ∷ []) es e rest (ap (list_any (clash e)) (append_assoc seen (x ∷ []) es) ∙ hit) h
     ] clear
-  where
-    assoc : (l : List Entry) → (l ++ x ∷ []) ++ es ≡ l ++ x ∷ es
-    assoc [] = refl
-    assoc (y ∷ l) = ap (λ t. y ∷ t) (assoc l)
 
 -- a member put in again changes nothing
 pub put_again : (e : Entry) (xs : List Entry) → is_set xs ≡ true → has xs e ≡ true → put e xs ≡ xs
@@ -253,7 +250,7 @@ module _ (ys : List Entry) (e : Entry) (rest : List Entry) (sorted : IsSortedBy 
 pub number_from_one : (ys : List Entry) (e : Entry) (rest : List Entry) → list_all in_range (ys ++ e ∷ rest) ≡ true → 1 ≤ e.seq
 number_from_one ys e rest all =
     let parts : (list_all in_range ys && (in_range e && list_all in_range rest)) ≡ true = sym (list_all-append in_range ys (e ∷ rest)) ∙ all in
-    let range : in_range e ≡ true = first_holds _ _ (rest_holds _ _ parts) in
+    let range : in_range e ≡ true = first_holds (in_range e) (list_all in_range rest) (rest_holds (list_all in_range ys) (in_range e && list_all in_range rest) parts) in
     grind (arith, nat_tests)
 
 -- an option that is no value is none
