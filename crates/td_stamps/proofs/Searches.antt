@@ -1,7 +1,7 @@
 -- Searches in a set: the place of an entry, the last entry of a site, and the last of all.
-use Rattle.std.proofs.Common.{◌≡◌, ℕ, zero, suc, ◌+◌, ◌-◌, ◌<◌, ◌≤◌, Bool, true, false, not, ◌&&◌, ◌||◌, cond, if◌then◌else◌, eqb, ltb, leb, List, [], ◌∷◌, ◌++◌, length, get_or, max, reverse, Option, Some, None, refl, sym, ap, subst, ◌∙◌, ◌⊎◌, inl, inr, arith}
-use mathlib.Core.Bool.{true≢false, false≢true}
-use Rattle.std.specs.List.{list_any, list_all, slice_get, find}
+use Rattle.std.proofs.Common.{◌≡◌, ℕ, zero, suc, ◌-◌, ◌<◌, ◌≤◌, Bool, true, false, ◌||◌, cond, if◌then◌else◌, eqb, ltb, List, [], ◌∷◌, length, get_or, max, reverse, Option, Some, None, refl, sym, ap, subst, ◌∙◌, inl, inr, arith}
+use mathlib.Core.Bool.{false≢true}
+use Rattle.std.specs.List.{slice_get, find}
 use Rattle.std.specs.List.Sorted.{IsPartitionedBy, IsPartitionPoint}
 use Rattle.std.specs.Option.{option_map_or, option_or}
 use Rattle.std.proofs.lemmas.Bool.Decides.{nat_tests}
@@ -10,7 +10,7 @@ use Rattle.std.proofs.lemmas.List.Folds.{find-append}
 use Rattle.std.proofs.lemmas.List.Sorted.{list_any-IsPermutation, IsPermutation-reverse}
 use Rattle.std.proofs.lemmas.Bool.{cases_Bool, or_right}
 use Rattle.td_stamps.specs.declared.entry.Entry.{Entry}
-use Rattle.td_stamps.specs.Entries.{same, clash, before}
+use Rattle.td_stamps.specs.Entries.{same, before}
 use Rattle.td_stamps.specs.Sets.{has, apart, is_set, ascends}
 use Rattle.td_stamps.specs.Checks.{last_seq, last_clock}
 use Rattle.td_stamps.proofs.EntryLemmas.{same-is, same-refl, before-trans, before-irrefl}

@@ -1,6 +1,6 @@
 -- A sorted list of entries, walked once: its repeats are neighbours, and its clashes are found by the greatest number so far of each site.
-use Rattle.std.proofs.Common.{◌≡◌, ◌≢◌, ℕ, zero, suc, ◌+◌, ◌-◌, ◌<◌, ◌≤◌, Bool, true, false, not, ◌&&◌, ◌||◌, cond, if◌then◌else◌, eqb, ltb, leb, List, [], ◌∷◌, ◌++◌, length, get_or, max, take, Option, Some, None, unwrap_or, Vec, Global, refl, sym, ap, subst, ◌∙◌, ◌⊎◌, inl, inr, arith}
-use mathlib.Core.Bool.{true≢false, false≢true}
+use Rattle.std.proofs.Common.{◌≡◌, ◌≢◌, ℕ, suc, ◌-◌, ◌<◌, ◌≤◌, Bool, true, false, ◌&&◌, ◌||◌, cond, if◌then◌else◌, eqb, ltb, leb, List, [], ◌∷◌, ◌++◌, length, get_or, max, Option, Some, None, unwrap_or, Vec, Global, refl, sym, ap, subst, ◌∙◌, inl, inr, arith}
+use mathlib.Core.Bool.{false≢true}
 use Rattle.std.specs.List.{list_any, list_all, slice_get}
 use Rattle.std.specs.List.Sorted.{IsSortedBy, IsPermutation}
 use Rattle.std.specs.Cmp.{IsStrictWeakOrder}
@@ -18,10 +18,10 @@ use Rattle.std.proofs.Math.ListN.{get_or-append}
 use Rattle.std.proofs.Math.Seq.{get_or-append_seam}
 use Rattle.std.proofs.lemmas.Bool.{and_from, cases_Bool, or_cases, or_left, or_right}
 use Rattle.td_stamps.specs.declared.entry.Entry.{Entry}
-use Rattle.td_stamps.specs.Entries.{same, earlier, clash, before, in_range}
+use Rattle.td_stamps.specs.Entries.{same, clash, before, in_range}
 use Rattle.td_stamps.specs.Sets.{has, put, union, apart, is_set, NoClash}
 use Rattle.td_stamps.specs.Checks.{first_clash, last_seq, Joins}
-use Rattle.td_stamps.proofs.EntryLemmas.{same-is, same-refl, clash-sym, tied, before-trans, before-asym, before-irrefl}
+use Rattle.td_stamps.proofs.EntryLemmas.{same-is, same-refl, tied, before-trans, before-asym, before-irrefl}
 use Rattle.td_stamps.proofs.SetLemmas.{first_holds, rest_holds, first_fails, rest_fails, set-put, any-put, AddsUp, adds_up, joins}
 use Rattle.td_stamps.proofs.Places.{union-push}
 use Rattle.td_stamps.proofs.Merges.{head_has, none_clash, set_free, same_set, all_has, merged, no_first_clash}
