@@ -1,0 +1,4 @@
+pub mod Streamed
+pub mod Fronts
+pub mod Turns
+pub mod Lexing

@@ -1,0 +1,13 @@
+pub mod Refusals
+pub mod Grammar
+pub mod Reader
+pub mod Readings
+pub mod Typing
+pub mod Step
+pub mod Seen
+pub mod Sites
+pub mod Texts
+pub mod Lines
+pub mod Streams
+pub mod Commands
+pub mod Printed

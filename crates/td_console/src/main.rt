@@ -1,0 +1,31 @@
+//! The workbench of Ketsarimo: two sites of one script, in memory.
+#![tactic(auto)]
+
+mod catalogue;
+mod command;
+mod cursor;
+mod input;
+mod listing;
+mod output;
+mod program;
+mod reader;
+mod refusal;
+mod site;
+mod step;
+mod tree;
+mod workbench;
+
+use crate::program::run_program;
+use std::io::{BufReader, BufWriter};
+use std::process::ExitCode;
+
+fn main(rt: HostRuntime) -> ExitCode {
+    let Ok(mut reader) = BufReader::new(rt.alloc(), rt.reader()) else {
+        return ExitCode::FAILURE;
+    };
+    let mut writer = rt.stdout();
+    match run_program(rt.alloc(), &mut reader, &mut writer) {
+        Ok(true) => ExitCode::SUCCESS,
+        _ => ExitCode::FAILURE,
+    }
+}

@@ -1,0 +1,29 @@
+-- What holds of every text, whatever the code does.
+use Rattle.std.specs.Prelude.{◌≡◌, ◌≤◌, ◌<◌, ℕ, true, List, [], ◌∷◌, length, Some, None, All, ◌↔◌}
+use Rattle.td_values.specs.Names.{is_name}
+use Rattle.td_tokens.specs.Lex.{Text, Lexeme, word, name, int, text, Spanned, keyword_of, largest_int, is_plain, IsReading}
+use Rattle.td_tokens.specs.Lexer.{reading}
+
+-- a text has at most one reading, and `reading` finds it
+pub record HasOneReading : Type 0 where
+  pub at_most_one : (bs : Text) (ts us : List Spanned) → IsReading bs ts → IsReading bs us → ts ≡ us
+  pub found : (bs : Text) (ts : List Spanned) → (reading bs ≡ Some ts) ↔ (IsReading bs ts)
+  pub none : (bs : Text) → (reading bs ≡ None) ↔ ((ts : List Spanned) → ¬ (IsReading bs ts))
+
+-- the tokens are not empty, lie one behind the other from `from` on, and end by `end`
+abbrev pub AreSpans : ℕ → List Spanned → ℕ → Type 0
+AreSpans from [] end = from ≤ end
+AreSpans from (t ∷ ts) end = (from ≤ t.start) × (t.start < t.end) × AreSpans t.end ts end
+
+abbrev pub TokensAreSlices : Type 0
+TokensAreSlices = (bs : Text) (ts : List Spanned) → IsReading bs ts → AreSpans 0 ts (length bs)
+
+-- a name has a name's shape and is no keyword, and an integer is in range
+abbrev pub IsWellFormed : Lexeme → Type 0
+IsWellFormed (word v) = Unit {0}
+IsWellFormed (name n) = (is_name n ≡ true) × (keyword_of n ≡ None)
+IsWellFormed (int n) = n ≤ largest_int
+IsWellFormed (text cs) = Unit {0}
+
+abbrev pub NamesAreNames : Type 0
+NamesAreNames = (bs : Text) (ts : List Spanned) → IsReading bs ts → All (λ t. IsWellFormed t.lexeme) ts

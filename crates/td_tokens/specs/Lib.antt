@@ -1,0 +1,5 @@
+pub mod Words
+pub mod Lex
+pub mod Lexer
+pub mod View
+pub mod Laws

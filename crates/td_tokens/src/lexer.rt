@@ -1,0 +1,52 @@
+//! The tokens of a text, one after the other.
+
+ghost use Rattle.std.specs.Prelude.{◌≡◌, ◌≤◌, IfOk, All, Some, None, [], map, slice_range};
+ghost use Rattle.td_tokens.specs.Lex.{open_after};
+ghost use Rattle.td_tokens.specs.Lexer.{lexeme, reading};
+ghost use Rattle.td_tokens.specs.View.{spanned_of};
+
+use crate::error::TokenError;
+use crate::front::front;
+use crate::token::{Kind, Token, Word};
+use std::alloc::Global;
+
+/// How many of `(` and `{` may be open at once in a text.
+const MOST_OPEN: usize = 64;
+
+fn open_after(depth: usize, kind: Kind) -> usize
+    requires { depth ≤ 64 }
+    ensures { result ≡ open_after depth (lexeme kind []) }
+{
+    match kind {
+        Kind::Word(Word::OpenParenthesis | Word::OpenBrace) => depth + 1,
+        Kind::Word(Word::CloseParenthesis | Word::CloseBrace) => depth.saturating_sub(1),
+        _ => depth,
+    }
+}
+
+/// The tokens of a text in order, each with the part of the text that it takes. One pass, linear in the text.
+pub fn tokens(alloc: Global, source: &str) -> Result<Vec<Token<'_>>, TokenError>
+    ensures ok { IfOk result (λ ts. reading source.now ≡ Some (map spanned_of ts.items)) }
+    ensures slices { IfOk result (λ ts. All (λ t. t.text.now ≡ slice_range source.now t.start t.end) ts.items) }
+    ensures syntax { result ≡ Err TokenError.Syntax → reading source.now ≡ None }
+{
+    let mut found = Vec::new(alloc);
+    let mut rest = source;
+    let mut start = 0;
+    let mut depth = 0;
+    while !rest.is_empty() {
+        let piece = front(rest).ok_or(TokenError::Syntax)?;
+        let (text, after) = rest.split_at(piece.length);
+        let end = start + piece.length;
+        if let Some(kind) = piece.kind {
+            depth = open_after(depth, kind);
+            if MOST_OPEN < depth {
+                return Err(TokenError::Syntax);
+            }
+            found.push(Token { kind, text, start, end })?;
+        }
+        rest = after;
+        start = end;
+    }
+    Ok(found)
+}

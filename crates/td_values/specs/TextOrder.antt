@@ -1,0 +1,24 @@
+-- The order of texts: that of their bytes, and of their characters.
+use Rattle.std.specs.Prelude.{◌≡◌, ℕ, List}
+use Rattle.std.specs.declared.cmp.Ordering.{Ordering}
+use Rattle.std.specs.Ordering.{nat_cmp, eq_by_cmp, as_partial_cmp}
+use Rattle.std.specs.Cmp.{IsTotalOrder, IsEquivalence, IsPartialEquivalence, IsPartialOrder, eq_by_cmp_equiv, partial_equiv_from_equiv, partial_order_from_total}
+use Rattle.std.specs.Cmp.Lexicographic.{slice_cmp, nat_list_cmp_total}
+use Rattle.std.specs.Str.{chars}
+use Rattle.td_values.specs.Order.{text_cmp}
+
+-- by code points: the first different character decides, and else the number of characters
+abbrev pub code_point_cmp : List ℕ → List ℕ → Ordering
+code_point_cmp s t = slice_cmp nat_cmp (chars s) (chars t)
+
+pub text_total : IsTotalOrder text_cmp
+text_total = nat_list_cmp_total
+
+pub text_equivalence : IsEquivalence (eq_by_cmp text_cmp)
+text_equivalence = eq_by_cmp_equiv text_total
+
+pub text_partial_equivalence : IsPartialEquivalence (eq_by_cmp text_cmp)
+text_partial_equivalence = partial_equiv_from_equiv text_equivalence
+
+pub text_partial_order : IsPartialOrder (eq_by_cmp text_cmp) (as_partial_cmp text_cmp)
+text_partial_order = partial_order_from_total text_total
