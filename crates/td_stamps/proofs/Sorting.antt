@@ -1,5 +1,5 @@
 -- A sorted list of entries, walked once: its repeats are neighbours, and its clashes are found by the greatest number so far of each site.
-use Rattle.std.proofs.Common.{◌≡◌, ◌≢◌, ℕ, suc, ◌-◌, ◌<◌, ◌≤◌, Bool, true, false, ◌&&◌, ◌||◌, cond, if◌then◌else◌, eqb, ltb, leb, List, [], ◌∷◌, ◌++◌, length, get_or, max, Option, Some, None, unwrap_or, Vec, Global, refl, sym, ap, subst, ◌∙◌, inl, inr, arith}
+use Rattle.std.proofs.Common.{◌≡◌, ◌+◌, ◌≢◌, ℕ, suc, ◌-◌, ◌<◌, ◌≤◌, Bool, true, false, ◌&&◌, ◌||◌, cond, if◌then◌else◌, eqb, ltb, leb, List, [], ◌∷◌, ◌++◌, length, get_or, max, Option, Some, None, unwrap_or, Vec, Global, refl, sym, ap, subst, ◌∙◌, inl, inr, arith, take, drop}
 use mathlib.Core.Bool.{false≢true}
 use Rattle.std.specs.List.{list_any, list_all, slice_get}
 use Rattle.std.specs.List.Sorted.{IsSortedBy, IsPermutation}
@@ -9,14 +9,14 @@ use Rattle.std.specs.BTreeMap as tree
 use Rattle.std.specs.Ordering.{is_lt, ordering_then, nat_cmp}
 use Rattle.std.specs.declared.cmp.Ordering.TheVariants.{Less, Equal, Greater}
 use Rattle.std.proofs.lemmas.Bool.Decides.{nat_tests}
-use Rattle.std.proofs.lemmas.List.{append_assoc}
+use Rattle.std.proofs.lemmas.List.{append_assoc, take_more}
 use Rattle.std.proofs.lemmas.List.Folds.{list_all-append, list_any-append}
 use Rattle.std.proofs.lemmas.List.Sorted.{sorted_far, list_any-IsPermutation, All-permutation}
 use Rattle.std.proofs.lemmas.List.Sums.{AllPass-from_list_all, list_all-from_AllPass}
 use Rattle.std.proofs.lemmas.Option.{slice_get-get_or}
 use Rattle.std.proofs.Math.ListN.{get_or-append}
-use Rattle.std.proofs.Math.Seq.{get_or-append_seam}
-use Rattle.std.proofs.lemmas.Bool.{and_from, cases_Bool, or_cases, or_left, or_right}
+use Rattle.std.proofs.Math.Seq.{get_or-append_seam, split_at}
+use Rattle.std.proofs.lemmas.Bool.{or_parts, and_from, cases_Bool, or_cases, or_left, or_right}
 use Rattle.td_stamps.specs.declared.entry.Entry.{Entry}
 use Rattle.td_stamps.specs.Entries.{same, clash, before, in_range}
 use Rattle.td_stamps.specs.Sets.{has, put, union, apart, is_set, NoClash}
@@ -305,3 +305,30 @@ module _ (held batch all : List Entry) (set : is_set held ≡ true) (moved : IsP
       → MatchOption o (first_clash held batch ≢ None) (λ v. Joins held batch v.items)
   joined_in_order in_held in_batch None hit = clash_in_order hit
   joined_in_order in_held in_batch (Some v) parts = let ok = clear_in_order parts.0 in subst (Joins held batch) (sym (parts.1 ∙ ok.1)) (joins held batch set in_held in_batch ok.0)
+
+-- the first that clashes, where there is no clash before it
+first_clash-at : (seen es : List Entry) (e : Entry) (rest : List Entry) → first_clash seen es ≡ None → list_any (clash e) (seen ++ es) ≡ true → first_clash seen (es ++ e ∷ rest) ≡ Some e
+first_clash-at seen [] e rest clear hit = let here : list_any (clash e) seen ≡ true = ap (list_any (clash e)) (sym (append-nil seen)) ∙ hit in rw here refl
+  where
+    append-nil : (l : List Entry) → l ++ [] ≡ l
+    append-nil [] = refl
+    append-nil (x ∷ l) = ap (λ t. x ∷ t) (append-nil l)
+first_clash-at seen (x ∷ es) e rest clear hit =
+    elim (list_any (clash x) seen) as (λ b. (if b then Some x else first_clash (seen ++ x ∷ []) es) ≡ None → (if b then Some x else first_clash (seen ++ x ∷ []) (es ++ e ∷ rest)) ≡ Some e) [
+      | true ↦ λ h. cc
+      | false ↦ λ h. first_clash-at (seen ++ x ∷ []) es e rest h (ap (list_any (clash e)) (append_assoc seen (x ∷ []) es) ∙ hit)
+    ] clear
+
+-- between a front without a clash and the next longer one that has a clash stands the first that clashes
+pub clash_between : (held batch : List Entry) (k : ℕ) (e : Entry) → k < length batch → e ≡ get_or batch k e → first_clash held (take k batch) ≡ None → (first_clash held (take (k + 1) batch) ≡ None → ⊥)
+    → first_clash held batch ≡ Some e
+clash_between held batch k e within is clear clashing =
+    let front = take k batch in
+    let whole : batch ≡ front ++ e ∷ drop (suc k) batch = split_at batch k e within ∙ ap (λ (v : Entry). front ++ v ∷ drop (suc k) batch) (sym is) in
+    let longer : take (k + 1) batch ≡ front ++ e ∷ [] = take_more batch k e within ∙ ap (λ (v : Entry). front ++ v ∷ []) (sym is) in
+    elim (cases_Bool (list_any (clash e) (held ++ front))) [
+      | inl hit ↦ ap (first_clash held) whole ∙ first_clash-at held front e (drop (suc k) batch) clear hit
+      | inr none ↦
+          let parts = or_parts _ _ (sym (list_any-append (clash e) held front) ∙ none) in
+          absurd (clashing (ap (first_clash held) longer ∙ first_clash-push held front e clear parts.0 parts.1))
+    ]
