@@ -2,3 +2,8 @@ pub mod Streamed
 pub mod Fronts
 pub mod Turns
 pub mod Lexing
+pub mod Typed
+pub mod Added
+pub mod Keys
+pub mod Steps
+pub mod Tales

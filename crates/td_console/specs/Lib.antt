@@ -3,11 +3,9 @@ pub mod Grammar
 pub mod Reader
 pub mod Readings
 pub mod Typing
-pub mod Step
-pub mod Seen
-pub mod Sites
-pub mod Texts
+pub mod Typings
 pub mod Lines
 pub mod Streams
 pub mod Commands
-pub mod Printed
+pub mod Step
+pub mod Runs

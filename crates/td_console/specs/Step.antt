@@ -1,7 +1,7 @@
 -- The step of one statement: what it makes of the relvars, and its outcome.
 use Rattle.std.specs.Prelude.{◌≡◌, ℕ, zero, suc, Bool, true, false, not, ◌||◌, if◌then◌else◌, List, [], ◌∷◌, ◌++◌, map, Option, Some, None, option_map, length}
 use Rattle.std.specs.List.{list_all}
-use Rattle.std.specs.Ordering.{is_eq}
+use Rattle.std.specs.Ordering.{is_eq, eq_by_cmp}
 use Rattle.std.specs.FinSet as set
 use Rattle.td_values.specs.Data.{Datum, Attrs}
 use Rattle.td_values.specs.Order.{order, attrs_order}
@@ -45,11 +45,19 @@ abbrev pub agree : List (List ℕ) → Attrs → Attrs → Bool
 agree key t u = list_all (λ n. same_value (attribute_of n t) (attribute_of n u)) key
 
 abbrev pub is_same : Attrs → Attrs → Bool
-is_same t u = is_eq (attrs_order t u)
+is_same = eq_by_cmp attrs_order
+
+-- the tuples are one, or differ on the key
+abbrev pub are_apart : List (List ℕ) → Attrs → Attrs → Bool
+are_apart key t u = is_same t u || not (agree key t u)
+
+-- no other tuple agrees with this one on the key
+abbrev pub is_alone : List (List ℕ) → Attrs → List Attrs → Bool
+is_alone key t ts = list_all (are_apart key t) ts
 
 -- the key test: no two different tuples agree on the key's attributes
 abbrev pub is_unique : List (List ℕ) → List Attrs → Bool
-is_unique key ts = list_all (λ t. list_all (λ u. is_same t u || not (agree key t u)) ts) ts
+is_unique key ts = list_all (λ t. is_alone key t ts) ts
 
 -- the first relvar, in script order, whose key test is false
 abbrev pub first_broken : List Relvar → Relations → Option (List ℕ)
@@ -79,3 +87,8 @@ outcomes_of rs es = story.outcomes_from (step rs) (opening rs) es
 -- every key is true
 abbrev pub IsLegal : List Relvar → Relations → Type 0
 IsLegal rs xs = first_broken rs xs ≡ None
+
+-- relations of these relvars: each has the heading of its relvar, and every key is true
+pub record AreRelations (rs : List Relvar) (xs : Relations) : Type 0 where
+  pub headings : map (λ (x : RowsData). x.heading) xs ≡ map (λ (r : Relvar). r.heading) rs
+  pub legal : IsLegal rs xs

@@ -1,13 +1,13 @@
 -- The typing of scripts and statements: the relvars that a script defines, and the tuples that a statement inserts.
-use Rattle.std.specs.Prelude.{◌≡◌, ℕ, ◌+◌, ◌^◌, nat_lt, pos, Bool, true, false, not, ◌&&◌, if◌then◌else◌, List, [], ◌∷◌, ◌++◌, Option, Some, None, is_some, option_map, option_and_then, length, position}
+use Rattle.std.specs.Prelude.{◌≡◌, ℕ, ◌+◌, ◌^◌, nat_lt, pos, Bool, true, false, not, ◌&&◌, if◌then◌else◌, List, [], ◌∷◌, ◌++◌, Option, Some, None, is_some, option_map, option_and_then, length, position, slice_get}
 use Rattle.std.specs.List.{list_any, list_all}
-use Rattle.std.specs.Str.{bytes_eq}
-use Rattle.std.specs.Ordering.{is_eq}
+use Rattle.std.specs.Ordering.{is_eq, eq_by_cmp}
 use Rattle.std.specs.FinMap as map
 use Rattle.td_values.specs.Data.{Ty, integer_type, char_type, Datum, integer, char, Attrs, attrs_of, Fields}
 use Rattle.td_values.specs.Order.{fields_order, text_cmp}
 use Rattle.td_values.specs.Headings.{Header, header_fields}
 use Rattle.td_values.specs.Whole.{heading_of}
+use Rattle.td_values.specs.Attributes.{AttributeMap}
 use Rattle.td_console.specs.declared.tree.ScalarType.{ScalarType}
 use Rattle.td_console.specs.declared.tree.ScalarType.TheVariants as scalar
 use Rattle.td_console.specs.declared.tree.Literal.{Literal}
@@ -26,16 +26,19 @@ type_of_scalar scalar.Char = char_type
 -- the heading with these fields besides, where each name is new
 abbrev pub with_fields : Header → List Field → Option Header
 with_fields h [] = Some h
-with_fields h (f ∷ fs) = if is_some (map.get h f.name) then None else with_fields (map.insert h f.name (type_of_scalar f.scalar)) fs
+with_fields h (f ∷ fs) = if map.contains_key h f.name then None else with_fields (map.insert h f.name (type_of_scalar f.scalar)) fs
+
+abbrev pub same_name : List ℕ → List ℕ → Bool
+same_name = eq_by_cmp text_cmp
 
 -- the names differ, and the heading has each
 abbrev pub is_key_of : List (List ℕ) → Header → Bool
 is_key_of [] h = true
-is_key_of (n ∷ ns) h = is_some (map.get h n) && (not (list_any (bytes_eq n) ns) && is_key_of ns h)
+is_key_of (n ∷ ns) h = is_some (map.get h n) && (not (list_any (λ m. same_name m n) ns) && is_key_of ns h)
 
 -- the place of the relvar of this name, in script order
 abbrev pub is_named : List ℕ → Relvar → Bool
-is_named n r = bytes_eq r.name n
+is_named n r = same_name r.name n
 
 abbrev pub place_of : List Relvar → List ℕ → Option ℕ
 place_of rs n = position (is_named n) rs
@@ -62,12 +65,10 @@ value_of (literal.Integer n) = if nat_lt n (2 ^ 63) then Some (integer (pos n)) 
 value_of (literal.Char s) = Some (char s)
 
 -- the attributes with these components besides, where each name is new
-abbrev pub Attributes : Type 0
-Attributes = map.FinMap text_cmp Datum
 
-abbrev pub with_components : Attributes → List Component → Option Attributes
+abbrev pub with_components : AttributeMap → List Component → Option AttributeMap
 with_components m [] = Some m
-with_components m (c ∷ cs) = if is_some (map.get m c.name) then None else option_and_then (λ v. with_components (map.insert m c.name v) cs) (value_of c.value)
+with_components m (c ∷ cs) = if map.contains_key m c.name then None else option_and_then (λ v. with_components (map.insert m c.name v) cs) (value_of c.value)
 
 -- the tuple of a row
 abbrev pub tuple_of : List Component → Option Attrs
@@ -86,16 +87,12 @@ with_rows found h (row ∷ rows) = option_and_then (λ t. if has_heading h t the
 abbrev pub Typed : Type 0
 Typed = ℕ × List Attrs
 
-abbrev pub at_place : List Relvar → ℕ → Option Relvar
-at_place [] n = None
-at_place (r ∷ rs) n = if nat_lt 0 n then at_place rs (n - 1) else Some r
-
 abbrev pub typed_at : List (List Component) → ℕ → Option Relvar → Option Typed
 typed_at rows n None = None
 typed_at rows n (Some r) = option_map (λ ts. (n, ts)) (with_rows [] r.heading rows)
 
 abbrev pub typed : List Relvar → Insertion → Option Typed
-typed rs i = option_and_then (λ n. typed_at i.rows n (at_place rs n)) (place_of rs i.relvar)
+typed rs i = option_and_then (λ n. typed_at i.rows n (slice_get rs n)) (place_of rs i.relvar)
 
 -- what a statement's text says, where it has a reading and a typing
 abbrev pub statement_of : List Relvar → List ℕ → Option Typed

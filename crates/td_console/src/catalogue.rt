@@ -1,5 +1,10 @@
 //! Relvars as a script defines them, and statements that are typed by them.
 
+ghost use Rattle.std.specs.Prelude.{◌≡◌, [], IfOk, option_map};
+ghost use Rattle.std.specs.FinMap as map;
+ghost use Rattle.td_console.specs.Typing as spec;
+ghost use Rattle.td_console.specs.Typings.{Types, TypesInsert, insert_of};
+
 use crate::refusal::{ReadError, TypeError};
 use crate::reader::read_statement;
 use crate::tree::{Component, Definition, Field, Insertion, Literal, ScalarType};
@@ -22,15 +27,27 @@ pub struct Insert {
     pub tuples: Items<Tuple>,
 }
 
+fn type_of(scalar: ScalarType) -> TdType
+    ensures { result ≡ spec.type_of_scalar scalar }
+{
+    match scalar {
+        ScalarType::Integer => TdType {
+            kind: TypeKind::Integer,
+        },
+        ScalarType::Char => TdType {
+            kind: TypeKind::Char,
+        },
+    }
+}
+
 // The heading of these fields, if their names differ.
-fn heading_of(alloc: Global, fields: &[Field]) -> Result<Heading, TypeError> {
+fn heading_of(alloc: Global, fields: &[Field]) -> Result<Heading, TypeError>
+    ensures { Types (spec.with_fields map.empty fields.now) result }
+{
     let mut heading = Heading::new(alloc)?;
     for field in fields {
-        let kind = match field.scalar {
-            ScalarType::Integer => TypeKind::Integer,
-            ScalarType::Char => TypeKind::Char,
-        };
-        if !heading.insert(alloc, field.name.copy()?, TdType { kind })? {
+        let ty = type_of(field.scalar);
+        if !heading.insert(alloc, field.name.copy()?, ty)? {
             return Err(TypeError::IllTyped);
         }
     }
@@ -38,7 +55,9 @@ fn heading_of(alloc: Global, fields: &[Field]) -> Result<Heading, TypeError> {
 }
 
 // Whether the names differ, and are names of the heading.
-fn is_key_of(key: &[Name], heading: &Heading) -> bool {
+fn is_key_of(key: &[Name], heading: &Heading) -> bool
+    ensures { result ≡ spec.is_key_of key.now heading.now }
+{
     let mut rest = key;
     while let [name, others @ ..] = rest {
         if heading.type_of(name).is_none() || others.contains(name) {
@@ -50,11 +69,15 @@ fn is_key_of(key: &[Name], heading: &Heading) -> bool {
 }
 
 /// Where the relvar of this name stands in the script.
-pub fn place_of(relvars: &[Relvar], name: &Name) -> Option<usize> {
+pub fn place_of(relvars: &[Relvar], name: &Name) -> Option<usize>
+    ensures { result ≡ spec.place_of relvars.now name.now }
+{
     relvars.iter().position(|r| r.name == *name)
 }
 
-fn copies(alloc: Global, names: &[Name]) -> Result<Items<Name>, AllocError> {
+fn copies(alloc: Global, names: &[Name]) -> Result<Items<Name>, AllocError>
+    ensures { IfOk result (λ copies. copies ≡ names.now) }
+{
     let mut copies = Items::new(alloc);
     for name in names {
         copies.push(name.copy()?)?;
@@ -62,7 +85,10 @@ fn copies(alloc: Global, names: &[Name]) -> Result<Items<Name>, AllocError> {
     Ok(copies)
 }
 
-fn relvar_of(alloc: Global, earlier: &[Relvar], d: &Definition) -> Result<Relvar, TypeError> {
+// The relvar that a definition defines after the earlier ones.
+fn relvar_of(alloc: Global, earlier: &[Relvar], d: &Definition) -> Result<Relvar, TypeError>
+    ensures { Types (spec.relvar_of earlier.now d.now) result }
+{
     if place_of(earlier, &d.name).is_some() {
         return Err(TypeError::IllTyped);
     }
@@ -81,7 +107,9 @@ fn relvar_of(alloc: Global, earlier: &[Relvar], d: &Definition) -> Result<Relvar
 pub fn relvars_of(
     alloc: Global,
     definitions: &[Definition],
-) -> Result<Items<Relvar>, TypeError> {
+) -> Result<Items<Relvar>, TypeError>
+    ensures { Types (spec.relvars_of definitions.now) result }
+{
     let mut relvars = Items::new(alloc);
     for d in definitions {
         relvars.push(relvar_of(alloc, relvars.as_slice(), d)?)?;
@@ -89,26 +117,48 @@ pub fn relvars_of(
     Ok(relvars)
 }
 
-fn value_of(literal: &Literal) -> Result<Value, TypeError> {
-    let kind = match literal {
+fn value_of(literal: &Literal) -> Result<Value, TypeError>
+    ensures { Types (spec.value_of literal.now) result }
+{
+    match literal {
         Literal::Integer(n) => match i64::try_from(*n) {
-            Ok(n) => Kind::Integer(n),
-            Err(_) => return Err(TypeError::IllTyped),
+            Ok(n) => Ok(Value {
+                kind: Kind::Integer(n),
+            }),
+            Err(_) => Err(TypeError::IllTyped),
         },
-        Literal::Char(text) => Kind::Char(text.copy()?),
-    };
-    Ok(Value { kind })
+        Literal::Char(text) => Ok(Value {
+            kind: Kind::Char(text.copy()?),
+        }),
+    }
 }
 
 // The tuple of these components, if their names differ.
-fn tuple_of(alloc: Global, row: &[Component]) -> Result<Tuple, TypeError> {
+fn attributes_of(alloc: Global, row: &[Component]) -> Result<TupleBuilder, TypeError>
+    ensures { Types (spec.with_components map.empty row.now) result }
+{
     let mut attributes = TupleBuilder::new(alloc);
     for component in row {
-        if !attributes.insert(component.name.copy()?, value_of(&component.value)?)? {
+        let value = value_of(&component.value)?;
+        if !attributes.insert(component.name.copy()?, value)? {
             return Err(TypeError::IllTyped);
         }
     }
+    Ok(attributes)
+}
+
+fn tuple_of(alloc: Global, row: &[Component]) -> Result<Tuple, TypeError>
+    ensures { Types (spec.tuple_of row.now) result }
+{
+    let attributes = attributes_of(alloc, row)?;
     Ok(attributes.build(alloc)?)
+}
+
+// Whether the tuple has the heading.
+fn has_heading(heading: &Heading, tuple: &Tuple) -> bool
+    ensures { result ≡ spec.has_heading heading.now tuple.now }
+{
+    fits(tuple, heading)
 }
 
 // The tuples of these rows, if each has the heading.
@@ -116,11 +166,13 @@ fn tuples_of(
     alloc: Global,
     heading: &Heading,
     rows: &[Items<Component>],
-) -> Result<Items<Tuple>, TypeError> {
+) -> Result<Items<Tuple>, TypeError>
+    ensures { Types (spec.with_rows [] heading.now rows.now) result }
+{
     let mut tuples = Items::new(alloc);
     for row in rows {
         let tuple = tuple_of(alloc, row.as_slice())?;
-        if !fits(&tuple, heading) {
+        if !has_heading(heading, &tuple) {
             return Err(TypeError::IllTyped);
         }
         tuples.push(tuple)?;
@@ -133,12 +185,20 @@ pub fn typed(
     alloc: Global,
     relvars: &[Relvar],
     insertion: &Insertion,
-) -> Result<Insert, TypeError> {
-    let Some(relvar) = place_of(relvars, &insertion.relvar) else {
+) -> Result<Insert, TypeError>
+    ensures { TypesInsert (spec.typed relvars.now insertion.now) result }
+{
+    let Some(place) = place_of(relvars, &insertion.relvar) else {
         return Err(TypeError::IllTyped);
     };
-    let tuples = tuples_of(alloc, &relvars[relvar].heading, insertion.rows.as_slice())?;
-    Ok(Insert { relvar, tuples })
+    let Some(relvar) = relvars.get(place) else {
+        return Err(TypeError::IllTyped);
+    };
+    let tuples = tuples_of(alloc, &relvar.heading, insertion.rows.as_slice())?;
+    Ok(Insert {
+        relvar: place,
+        tuples,
+    })
 }
 
 /// The statement that a text is, or nothing where it has no reading or no typing.
@@ -146,7 +206,9 @@ pub fn statement_of(
     alloc: Global,
     relvars: &[Relvar],
     text: &str,
-) -> Result<Option<Insert>, AllocError> {
+) -> Result<Option<Insert>, AllocError>
+    ensures { IfOk result (λ insert. option_map insert_of insert ≡ spec.statement_of relvars.now text.now) }
+{
     let tree = match read_statement(alloc, text) {
         Ok(tree) => tree,
         Err(ReadError::Syntax) => return Ok(None),

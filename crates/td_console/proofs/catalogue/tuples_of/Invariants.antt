@@ -1,0 +1,7 @@
+use Rattle.std.proofs.Common.{◌≡◌, drop, take, length, [], Some}
+use Rattle.std.specs.FinMap as map
+use Rattle.td_console.specs.Typing as spec
+use Rattle.td_console.proofs.catalogue.tuples_of.Given as goal
+
+abbrev pub invariant-loop-row : goal.invariant-loop-row
+invariant-loop-row l = spec.with_rows [] l.heading l.rows ≡ spec.with_rows l.tuples l.heading (drop l.row-index l.rows)
