@@ -1,6 +1,6 @@
 -- A sorted list of entries, walked once: its repeats are neighbours, and its clashes are found by the greatest number so far of each site.
-use Rattle.std.proofs.Common.{◌≡◌, ◌≢◌, ℕ, zero, suc, ◌+◌, ◌-◌, ◌<◌, ◌≤◌, Bool, true, false, not, ◌&&◌, ◌||◌, cond, if◌then◌else◌, eqb, ltb, leb, List, [], ◌∷◌, ◌++◌, length, get_or, max, take, Option, Some, None, unwrap_or, Vec, Global, refl, sym, ap, subst, ◌∙◌, ◌⊎◌, inl, inr, arith}
-use mathlib.Core.Bool.{true≢false, false≢true}
+use Rattle.std.proofs.Common.{◌≡◌, ◌+◌, ◌≢◌, ℕ, suc, ◌-◌, ◌<◌, ◌≤◌, Bool, true, false, ◌&&◌, ◌||◌, cond, if◌then◌else◌, eqb, ltb, leb, List, [], ◌∷◌, ◌++◌, length, get_or, max, Option, Some, None, unwrap_or, Vec, Global, refl, sym, ap, subst, ◌∙◌, inl, inr, arith, take, drop}
+use mathlib.Core.Bool.{false≢true}
 use Rattle.std.specs.List.{list_any, list_all, slice_get}
 use Rattle.std.specs.List.Sorted.{IsSortedBy, IsPermutation}
 use Rattle.std.specs.Cmp.{IsStrictWeakOrder}
@@ -9,20 +9,22 @@ use Rattle.std.specs.BTreeMap as tree
 use Rattle.std.specs.Ordering.{is_lt, ordering_then, nat_cmp}
 use Rattle.std.specs.declared.cmp.Ordering.TheVariants.{Less, Equal, Greater}
 use Rattle.std.proofs.lemmas.Bool.Decides.{nat_tests}
-use Rattle.std.proofs.lemmas.List.Folds.{list_all-append}
+use Rattle.std.proofs.lemmas.List.{append_assoc, take_more}
+use Rattle.std.proofs.lemmas.List.Folds.{list_all-append, list_any-append}
 use Rattle.std.proofs.lemmas.List.Sorted.{sorted_far, list_any-IsPermutation, All-permutation}
 use Rattle.std.proofs.lemmas.List.Sums.{AllPass-from_list_all, list_all-from_AllPass}
 use Rattle.std.proofs.lemmas.Option.{slice_get-get_or}
 use Rattle.std.proofs.Math.ListN.{get_or-append}
-use Rattle.std.proofs.Math.Seq.{get_or-append_seam}
+use Rattle.std.proofs.Math.Seq.{get_or-append_seam, split_at}
+use Rattle.std.proofs.lemmas.Bool.{or_parts, and_from, cases_Bool, or_cases, or_left, or_right}
 use Rattle.td_stamps.specs.declared.entry.Entry.{Entry}
-use Rattle.td_stamps.specs.Entries.{same, earlier, clash, before, in_range}
+use Rattle.td_stamps.specs.Entries.{same, clash, before, in_range}
 use Rattle.td_stamps.specs.Sets.{has, put, union, apart, is_set, NoClash}
 use Rattle.td_stamps.specs.Checks.{first_clash, last_seq, Joins}
-use Rattle.td_stamps.proofs.EntryLemmas.{same-is, same-refl, clash-sym, tied, before-trans, before-asym, before-irrefl}
-use Rattle.td_stamps.proofs.SetLemmas.{and_left, and_right, and_both, or_left, or_right, any-append, set-put, any-put, AddsUp, adds_up, joins}
+use Rattle.td_stamps.proofs.EntryLemmas.{same-is, same-refl, tied, before-trans, before-asym, before-irrefl}
+use Rattle.td_stamps.proofs.SetLemmas.{first_holds, rest_holds, first_fails, rest_fails, set-put, any-put, AddsUp, adds_up, joins}
 use Rattle.td_stamps.proofs.Places.{union-push}
-use Rattle.td_stamps.proofs.Merges.{bool_cases, or_cases, or_true, or_right_true, head_has, none_clash, set_free, same_set, all_has, merged, no_first_clash}
+use Rattle.td_stamps.proofs.Merges.{head_has, none_clash, set_free, same_set, all_has, merged, no_first_clash}
 use Rattle.td_stamps.proofs.Next.{other_site, later_free, seq_at_most}
 
 -- the order of stamps, as `cmp` has it, is stamp order
@@ -69,7 +71,7 @@ first_clash-push seen [] e clear none_seen none = rw none_seen refl
 first_clash-push seen (x ∷ es) e clear none_seen none =
     elim (list_any (clash x) seen) as (λ b. (if b then Some x else first_clash (seen ++ x ∷ []) es) ≡ None → (if b then Some x else first_clash (seen ++ x ∷ []) (es ++ e ∷ [])) ≡ None) [
       | true ↦ λ h. h
-      | false ↦ λ h. first_clash-push (seen ++ x ∷ []) es e h (any-append (clash e) seen (x ∷ []) ∙ both_false _ _ none_seen (ap (λ b. b || false) (or_left _ _ none))) (or_right _ _ none)
+      | false ↦ λ h. first_clash-push (seen ++ x ∷ []) es e h (list_any-append (clash e) seen (x ∷ []) ∙ both_false _ _ none_seen (ap (λ b. b || false) (first_fails _ _ none))) (rest_fails _ _ none)
     ] clear
   where
     both_false : (a b : Bool) → a ≡ false → b ≡ false → (a || b) ≡ false
@@ -89,12 +91,8 @@ first_clash-hit seen [] e rest hit clear =
 first_clash-hit seen (x ∷ es) e rest hit clear =
     elim (list_any (clash x) seen) as (λ b. (if b then Some x else first_clash (seen ++ x ∷ []) (es ++ e ∷ rest)) ≡ None → ⊥) [
       | true ↦ λ h. cc
-      | false ↦ λ h. first_clash-hit (seen ++ x ∷ []) es e rest (ap (list_any (clash e)) (assoc seen) ∙ hit) h
+      | false ↦ λ h. first_clash-hit (seen ++ x ∷ []) es e rest (ap (list_any (clash e)) (append_assoc seen (x ∷ []) es) ∙ hit) h
     ] clear
-  where
-    assoc : (l : List Entry) → (l ++ x ∷ []) ++ es ≡ l ++ x ∷ es
-    assoc [] = refl
-    assoc (y ∷ l) = ap (λ t. y ∷ t) (assoc l)
 
 -- a member put in again changes nothing
 pub put_again : (e : Entry) (xs : List Entry) → is_set xs ≡ true → has xs e ≡ true → put e xs ≡ xs
@@ -110,9 +108,9 @@ put_again e xs set in' =
 pub put_after : (e : Entry) (xs : List Entry) → list_all (λ x. before x e) xs ≡ true → put e xs ≡ xs ++ e ∷ []
 put_after e [] all = refl
 put_after e (x ∷ xs) all =
-    let later : before x e ≡ true = and_left _ _ all in
+    let later : before x e ≡ true = first_holds _ _ all in
     let first : before e x ≡ false = before-asym x e later in
-    rw (first, later) (ap (λ l. x ∷ l) (put_after e xs (and_right _ _ all)))
+    rw (first, later) (ap (λ l. x ∷ l) (put_after e xs (rest_holds _ _ all)))
 
 -- the last of a list
 pub split_last : (xs : List Entry) (l : Entry) → slice_get xs (length xs - 1) ≡ Some l → (front : List Entry) × (xs ≡ front ++ l ∷ [])
@@ -128,15 +126,15 @@ split_last (x ∷ y ∷ ys) l at =
 -- a set is before its last
 before_last : (front : List Entry) (l : Entry) → is_set (front ++ l ∷ []) ≡ true → list_all (λ x. before x l) front ≡ true
 before_last [] l set = refl
-before_last (x ∷ front) l set = and_both _ _ (here x front (and_left _ _ set)) (before_last front l (and_right _ _ set))
+before_last (x ∷ front) l set = and_from _ _ (here x front (first_holds _ _ set)) (before_last front l (rest_holds _ _ set))
   where
     here : (x : Entry) (ys : List Entry) → list_all (apart x) (ys ++ l ∷ []) ≡ true → before x l ≡ true
-    here x [] all = and_left _ _ (and_left _ _ all)
-    here x (y ∷ ys) all = here x ys (and_right _ _ all)
+    here x [] all = first_holds _ _ (first_holds _ _ all)
+    here x (y ∷ ys) all = here x ys (rest_holds _ _ all)
 
 later_than_all : (l e : Entry) (xs : List Entry) → before l e ≡ true → list_all (λ x. before x l) xs ≡ true → list_all (λ x. before x e) xs ≡ true
 later_than_all l e [] first all = refl
-later_than_all l e (x ∷ xs) first all = and_both _ _ (before-trans x l e (and_left _ _ all) first) (later_than_all l e xs first (and_right _ _ all))
+later_than_all l e (x ∷ xs) first all = and_from _ _ (before-trans x l e (first_holds _ _ all) first) (later_than_all l e xs first (rest_holds _ _ all))
 
 -- what comes after the last of a set comes after all of it
 pub after_last : (xs : List Entry) (l e : Entry) → is_set xs ≡ true → slice_get xs (length xs - 1) ≡ Some l → before l e ≡ true → list_all (λ x. before x e) xs ≡ true
@@ -144,31 +142,31 @@ after_last xs l e set at first =
     let parts = split_last xs l at in
     let set' : is_set (parts.0 ++ l ∷ []) ≡ true = subst (λ t. is_set t ≡ true) parts.1 set in
     let front = later_than_all l e parts.0 first (before_last parts.0 l set') in
-    subst (λ t. list_all (λ x. before x e) t ≡ true) (sym parts.1) (list_all-append (λ x. before x e) parts.0 (l ∷ []) ∙ and_both _ _ front (and_both _ _ first refl))
+    subst (λ t. list_all (λ x. before x e) t ≡ true) (sym parts.1) (list_all-append (λ x. before x e) parts.0 (l ∷ []) ∙ and_from _ _ front (and_from _ _ first refl))
 
 -- the last is a member
 pub last_has : (xs : List Entry) (l : Entry) → slice_get xs (length xs - 1) ≡ Some l → has xs l ≡ true
 last_has xs l at =
     let parts = split_last xs l at in
-    subst (λ t. has t l ≡ true) (sym parts.1) (any-append (same l) parts.0 (l ∷ []) ∙ or_right_true _ _ (head_has l []))
+    subst (λ t. has t l ≡ true) (sym parts.1) (list_any-append (same l) parts.0 (l ∷ []) ∙ or_right _ _ (head_has l []))
 
 -- some entry of a site has its greatest number
 pub last_seq_held : (n : ℕ) (xs : List Entry) → 1 ≤ last_seq n xs → (x : Entry) × (has xs x ≡ true) × (x.site ≡ n) × (x.seq ≡ last_seq n xs)
 last_seq_held n [] some = absurd (omega arith)
 last_seq_held n (x ∷ xs) some = elim (eqb x.site n) as (λ b. eqb x.site n ≡ b → 1 ≤ (if b then max x.seq (last_seq n xs) else last_seq n xs) → (y : Entry) × (has (x ∷ xs) y ≡ true) × (y.site ≡ n) × (y.seq ≡ (if b then max x.seq (last_seq n xs) else last_seq n xs))) [
-  | true ↦ λ is some. elim (bool_cases (leb (last_seq n xs) x.seq)) [
+  | true ↦ λ is some. elim (cases_Bool (leb (last_seq n xs) x.seq)) [
     | inl more ↦ (x, head_has x xs, grind (arith, nat_tests), grind (arith, nat_tests))
-    | inr less ↦ let rest = last_seq_held n xs (grind (arith, nat_tests)) in (rest.0, or_right_true _ _ rest.1, rest.2, rest.3 ∙ grind (arith, nat_tests))
+    | inr less ↦ let rest = last_seq_held n xs (grind (arith, nat_tests)) in (rest.0, or_right _ _ rest.1, rest.2, rest.3 ∙ grind (arith, nat_tests))
   ]
-  | false ↦ λ _ some. let rest = last_seq_held n xs some in (rest.0, or_right_true _ _ rest.1, rest.2, rest.3)
+  | false ↦ λ _ some. let rest = last_seq_held n xs some in (rest.0, or_right _ _ rest.1, rest.2, rest.3)
 ] refl some
 
 -- a member that clashes
 any_of : (e x : Entry) (ys : List Entry) → has ys x ≡ true → clash e x ≡ true → list_any (clash e) ys ≡ true
 any_of e x [] in' hit = absurd (false≢true in')
 any_of e x (y ∷ ys) in' hit = elim (or_cases _ _ in') [
-  | inl is ↦ or_true _ _ (subst (λ (v : Entry). clash e v ≡ true) (same-is x y is) hit)
-  | inr later ↦ or_right_true _ _ (any_of e x ys later hit)
+  | inl is ↦ or_left _ _ (subst (λ (v : Entry). clash e v ≡ true) (same-is x y is) hit)
+  | inr later ↦ or_right _ _ (any_of e x ys later hit)
 ]
 
 -- an entry after all of a set whose number is not above its site's greatest clashes with one of them
@@ -178,14 +176,14 @@ number_clashes xs e all fits low =
     any_of e found.0 xs found.1 (clashing found.0 (all_has (λ x. before x e) xs found.0 all found.1) found.2 (rw (sym found.3) at low))
   where
     clashing : (x : Entry) → before x e ≡ true → x.site ≡ e.site → e.seq ≤ x.seq → clash e x ≡ true
-    clashing x first site low = elim (bool_cases (same e x)) [
+    clashing x first site low = elim (cases_Bool (same e x)) [
       | inl is ↦ absurd (false≢true (sym (before-irrefl x) ∙ subst (λ (v : Entry). before x v ≡ true) (same-is e x is) first))
       | inr differs ↦ grind (arith, nat_tests)
     ]
 
 -- and one whose number is above it clashes with none
 pub number_free : (xs : List Entry) (e : Entry) → list_all (λ x. before x e) xs ≡ true → last_seq e.site xs < e.seq → list_any (clash e) xs ≡ false
-number_free xs e all high = none_clash e xs (λ x in'. elim (bool_cases (eqb x.site e.site)) [
+number_free xs e all high = none_clash e xs (λ x in'. elim (cases_Bool (eqb x.site e.site)) [
   | inl is ↦ let at : x.site ≡ e.site = grind (arith, nat_tests) in let first = all_has (λ x. before x e) xs x all in' in later_free e x (omega (arith, seq_at_most e.site xs x in' at)) (grind (arith, nat_tests))
   | inr differs ↦ other_site e x (λ (at : e.site ≡ x.site). absurd (grind (arith, nat_tests)))
 ])
@@ -235,7 +233,7 @@ module _ (ys : List Entry) (e : Entry) (rest : List Entry) (sorted : IsSortedBy 
       hit (any_of e l (union [] ys) held (clashing not_after))
     where
       clashing : before e l ≡ false → clash e l ≡ true
-      clashing not_after = elim (bool_cases (clash e l)) [
+      clashing not_after = elim (cases_Bool (clash e l)) [
         | inl is ↦ is
         | inr none ↦ absurd (false≢true (sym differs ∙ subst (λ (v : Entry). same l v ≡ true) (sym (tied e l not_after not_before none)) (same-refl l)))
       ]
@@ -252,7 +250,7 @@ module _ (ys : List Entry) (e : Entry) (rest : List Entry) (sorted : IsSortedBy 
 pub number_from_one : (ys : List Entry) (e : Entry) (rest : List Entry) → list_all in_range (ys ++ e ∷ rest) ≡ true → 1 ≤ e.seq
 number_from_one ys e rest all =
     let parts : (list_all in_range ys && (in_range e && list_all in_range rest)) ≡ true = sym (list_all-append in_range ys (e ∷ rest)) ∙ all in
-    let range : in_range e ≡ true = and_left _ _ (and_right _ _ parts) in
+    let range : in_range e ≡ true = first_holds (in_range e) (list_all in_range rest) (rest_holds (list_all in_range ys) (in_range e && list_all in_range rest) parts) in
     grind (arith, nat_tests)
 
 -- an option that is no value is none
@@ -262,7 +260,7 @@ none_of (Some x) h = absurd (h x refl)
 
 -- where a map by numbers finds a key
 at_number : (m n : ℕ) → tree.is_at (nat_cmp m) n ≡ eqb m n
-at_number m n = elim (bool_cases (ltb m n)) [
+at_number m n = elim (cases_Bool (ltb m n)) [
   | inl less ↦ let differ : eqb m n ≡ false = grind (arith, nat_tests) in rw (less, differ) refl
   | inr not_less ↦ rw not_less (elim (eqb m n) as (λ b. tree.is_at (λ _. cond b Equal Greater) n ≡ b) [ true ↦ refl | false ↦ refl ])
 ]
@@ -289,21 +287,48 @@ module _ (held batch all : List Entry) (set : is_set held ≡ true) (moved : IsP
       let up = adds_up [] [] all (λ p. refl) refl clear in
       let free : NoClash (held ++ batch) = λ x y in_x in_y. set_free (union [] all) up.set x y (up.members (same x) ∙ sym (moved_has x) ∙ in_x) (up.members (same y) ∙ sym (moved_has y) ∙ in_y) in
       let both = merged held batch set free in
-      (no_first_clash held batch free, same_set (union [] all) (union held batch) up.set both.set (λ z. up.members (same z) ∙ sym (moved_has z) ∙ any-append (same z) held batch ∙ sym (both.members (same z))))
+      (no_first_clash held batch free, same_set (union [] all) (union held batch) up.set both.set (λ z. up.members (same z) ∙ sym (moved_has z) ∙ list_any-append (same z) held batch ∙ sym (both.members (same z))))
 
   -- a clash in this order is one in theirs
   pub clash_in_order : (first_clash [] all ≡ None → ⊥) → first_clash held batch ≡ None → ⊥
   clash_in_order hit clear =
       let up = adds_up held held batch (λ p. refl) set clear in
-      let in_union : (z : Entry) → has all z ≡ true → has (union held batch) z ≡ true = λ z in'. up.members (same z) ∙ sym (any-append (same z) held batch) ∙ moved_has z ∙ in' in
+      let in_union : (z : Entry) → has all z ≡ true → has (union held batch) z ≡ true = λ z in'. up.members (same z) ∙ sym (list_any-append (same z) held batch) ∙ moved_has z ∙ in' in
       hit (no_first_clash [] all (λ x y in_x in_y. set_free (union held batch) up.set x y (in_union x in_x) (in_union y in_y)))
 
   -- what holds of all of both holds of all of these
   pub moved_all : (p : Entry → Bool) → list_all p held ≡ true → list_all p batch ≡ true → list_all p all ≡ true
-  moved_all p in_held in_batch = list_all-from_AllPass p all (All-permutation (λ x. p x ≡ true) (held ++ batch) all moved (AllPass-from_list_all p (held ++ batch) (list_all-append p held batch ∙ and_both _ _ in_held in_batch)))
+  moved_all p in_held in_batch = list_all-from_AllPass p all (All-permutation (λ x. p x ≡ true) (held ++ batch) all moved (AllPass-from_list_all p (held ++ batch) (list_all-append p held batch ∙ and_from _ _ in_held in_batch)))
 
   pub joined_in_order : list_all in_range held ≡ true → list_all in_range batch ≡ true
       → (o : Option (Vec Entry Global)) → MatchOption o (first_clash [] all ≢ None) (λ v. (first_clash [] all ≡ None) × (v.items ≡ union [] all))
       → MatchOption o (first_clash held batch ≢ None) (λ v. Joins held batch v.items)
   joined_in_order in_held in_batch None hit = clash_in_order hit
   joined_in_order in_held in_batch (Some v) parts = let ok = clear_in_order parts.0 in subst (Joins held batch) (sym (parts.1 ∙ ok.1)) (joins held batch set in_held in_batch ok.0)
+
+-- the first that clashes, where there is no clash before it
+first_clash-at : (seen es : List Entry) (e : Entry) (rest : List Entry) → first_clash seen es ≡ None → list_any (clash e) (seen ++ es) ≡ true → first_clash seen (es ++ e ∷ rest) ≡ Some e
+first_clash-at seen [] e rest clear hit = let here : list_any (clash e) seen ≡ true = ap (list_any (clash e)) (sym (append-nil seen)) ∙ hit in rw here refl
+  where
+    append-nil : (l : List Entry) → l ++ [] ≡ l
+    append-nil [] = refl
+    append-nil (x ∷ l) = ap (λ t. x ∷ t) (append-nil l)
+first_clash-at seen (x ∷ es) e rest clear hit =
+    elim (list_any (clash x) seen) as (λ b. (if b then Some x else first_clash (seen ++ x ∷ []) es) ≡ None → (if b then Some x else first_clash (seen ++ x ∷ []) (es ++ e ∷ rest)) ≡ Some e) [
+      | true ↦ λ h. cc
+      | false ↦ λ h. first_clash-at (seen ++ x ∷ []) es e rest h (ap (list_any (clash e)) (append_assoc seen (x ∷ []) es) ∙ hit)
+    ] clear
+
+-- between a front without a clash and the next longer one that has a clash stands the first that clashes
+pub clash_between : (held batch : List Entry) (k : ℕ) (e : Entry) → k < length batch → e ≡ get_or batch k e → first_clash held (take k batch) ≡ None → (first_clash held (take (k + 1) batch) ≡ None → ⊥)
+    → first_clash held batch ≡ Some e
+clash_between held batch k e within is clear clashing =
+    let front = take k batch in
+    let whole : batch ≡ front ++ e ∷ drop (suc k) batch = split_at batch k e within ∙ ap (λ (v : Entry). front ++ v ∷ drop (suc k) batch) (sym is) in
+    let longer : take (k + 1) batch ≡ front ++ e ∷ [] = take_more batch k e within ∙ ap (λ (v : Entry). front ++ v ∷ []) (sym is) in
+    elim (cases_Bool (list_any (clash e) (held ++ front))) [
+      | inl hit ↦ ap (first_clash held) whole ∙ first_clash-at held front e (drop (suc k) batch) clear hit
+      | inr none ↦
+          let parts = or_parts _ _ (sym (list_any-append (clash e) held front) ∙ none) in
+          absurd (clashing (ap (first_clash held) longer ∙ first_clash-push held front e clear parts.0 parts.1))
+    ]

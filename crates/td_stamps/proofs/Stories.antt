@@ -1,9 +1,8 @@
 -- Running entries in parts: lemmas on the story, for any state and any step.
-use Rattle.std.proofs.Common.{◌≡◌, ℕ, zero, suc, ◌+◌, ◌≤◌, List, [], ◌∷◌, ◌++◌, length, take, refl, sym, ap, subst, ◌∙◌, arith}
+use Rattle.std.proofs.Common.{◌≡◌, ℕ, List, [], ◌∷◌, ◌++◌, length, take, refl, ap, arith}
 use Rattle.td_stamps.specs.declared.entry.Entry.{Entry}
-use Rattle.td_stamps.specs.declared.entry.Stamp.{Stamp}
 use Rattle.td_stamps.specs.Entries.{stamp_of}
-use Rattle.td_stamps.specs.Story.{state_after, outcomes_from, story}
+use Rattle.td_stamps.specs.Story.{state_after, outcomes_from}
 
 module _ {S O : Type 0} (step : S → List ℕ → O × S) where
   -- entries run in two parts

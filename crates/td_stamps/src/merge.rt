@@ -1,5 +1,5 @@
 //! The union of two lists of entries, by a sort.
-ghost use Rattle.std.specs.Prelude.{◌≡◌, ◌≢◌, ◌++◌, [], true, IfOk, OnOk, MatchOption, None};
+ghost use Rattle.std.specs.Prelude.{◌≡◌, ◌≢◌, ◌++◌, [], true, IfOk, OnOk, MatchOption, option_map, None};
 ghost use Rattle.std.specs.List.{list_all};
 ghost use Rattle.std.specs.List.Sorted.{IsPermutation, IsSortedBy};
 ghost use Rattle.td_stamps.specs.Entries.{before, in_range};
@@ -27,6 +27,35 @@ pub fn joined(
     push_copies(&mut all, batch)?;
     sort_by_stamp(&mut all)?;
     without_repeats(alloc, all)
+}
+
+/// The site and number of the first entry of a batch that clashes with a held one or with one
+/// before it. A binary search for the longest front of the batch that can be joined, so it takes
+/// time of order n log n log n in the number of all entries.
+pub fn first_clash_in(
+    alloc: Global,
+    held: &[Entry],
+    batch: &[Entry],
+) -> Result<(u16, u32), AllocError>
+    requires set { is_set held.now ≡ true }
+    requires held_in_range { list_all in_range held.now ≡ true }
+    requires batch_in_range { list_all in_range batch.now ≡ true }
+    requires clash { first_clash held.now batch.now ≢ None }
+    ensures { IfOk result (λ names. Some names ≡ option_map (λ e. (e.site, e.seq)) (first_clash held.now batch.now)) }
+{
+    let mut clear = 0;
+    let mut clashing = batch.len();
+    while clear + 1 < clashing {
+        let middle = clear + (clashing - clear) / 2;
+        let (front, _) = batch.split_at(middle);
+        if joined(alloc, held, front)?.is_some() {
+            clear = middle;
+        } else {
+            clashing = middle;
+        }
+    }
+    let first = &batch[clear];
+    Ok((first.site, first.seq))
 }
 
 fn push_copies(to: &mut Vec<Entry>, entries: &[Entry]) -> Result<(), AllocError>

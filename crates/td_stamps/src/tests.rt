@@ -21,45 +21,39 @@ fn take(held: &mut Held, alloc: Global, batch: &[Entry]) -> Result<(usize, usize
     Ok((fresh, batch.len() - fresh))
 }
 
-fn first_two(alloc: Global) -> Result<Vec<Entry>, AllocError> {
-    let mut entries = Vec::new(alloc);
-    entries.push(entry(
-        alloc,
-        1,
-        1,
-        1,
-        "INSERT S RELATION { TUPLE { SNO 'S1', STATUS 20, CITY 'London' } };",
-    )?)?;
-    entries.push(entry(
-        alloc,
-        2,
-        1,
-        1,
-        "INSERT S RELATION { TUPLE { SNO 'S2', STATUS 10, CITY 'Paris' } };",
-    )?)?;
-    Ok(entries)
-}
+const FIRST: &str = "INSERT S RELATION { TUPLE { SNO 'S1', STATUS 20, CITY 'London' } };";
+
+const SECOND: &str = "INSERT S RELATION { TUPLE { SNO 'S2', STATUS 10, CITY 'Paris' } };";
 
 #[test]
 fn take_in_any_order(rt: HostRuntime) -> Result<(), Fail> {
     let alloc = rt.alloc();
-    let forth = first_two(alloc)?;
-    let mut back = first_two(alloc)?;
-    back.reverse();
-    let mut twice = Vec::new(alloc);
-    twice.push(forth[0].copy()?)?;
-    twice.push(forth[0].copy()?)?;
+    let first = entry(alloc, 1, 1, 1, FIRST)?;
+    let second = entry(alloc, 2, 1, 1, SECOND)?;
 
     let mut third = Held::new(alloc, 10_000);
     assert!(rt; third.is_empty());
-    assert_eq!(rt; take(&mut third, alloc, &forth)?, (2, 0));
-    assert_eq!(rt; take(&mut third, alloc, &back)?, (0, 2));
+    assert_eq!(rt;
+        take(&mut third, alloc, &[first.copy()?, second.copy()?])?,
+        (2, 0)
+    );
+    assert_eq!(rt;
+        take(&mut third, alloc, &[second.copy()?, first.copy()?])?,
+        (0, 2)
+    );
 
     let mut other = Held::new(alloc, 10_000);
-    assert_eq!(rt; take(&mut other, alloc, &twice)?, (1, 1));
-    assert_eq!(rt; take(&mut other, alloc, &back)?, (1, 1));
+    assert_eq!(rt;
+        take(&mut other, alloc, &[first.copy()?, first.copy()?])?,
+        (1, 1)
+    );
+    assert_eq!(rt; take(&mut other, alloc, &[second.copy()?])?, (1, 0));
 
-    for held in [&third, &other] {
+    let mut late_first = Held::new(alloc, 10_000);
+    assert_eq!(rt; take(&mut late_first, alloc, &[second.copy()?])?, (1, 0));
+    assert_eq!(rt; take(&mut late_first, alloc, &[first.copy()?])?, (1, 0));
+
+    for held in [&third, &other, &late_first] {
         assert_eq!(rt; held.len(), 2);
         assert_eq!(rt;
             held.at(0).map(|e| e.stamp()),
@@ -70,7 +64,8 @@ fn take_in_any_order(rt: HostRuntime) -> Result<(), Fail> {
             Some(Stamp { clock: 1, site: 2 })
         );
         assert!(rt; held.at(2).is_none());
-        assert!(rt; held.contains(&forth[1]));
+        assert!(rt; held.contains(&first));
+        assert!(rt; held.contains(&second));
     }
     Ok(())
 }
@@ -142,7 +137,10 @@ fn next_clock_counts_all_sites(rt: HostRuntime) -> Result<(), Fail> {
     let alloc = rt.alloc();
     let mut held = Held::new(alloc, 10_000);
     assert_eq!(rt; held.next(2), Ok((1, 1)));
-    let batch = first_two(alloc)?;
+    let batch = [
+        entry(alloc, 1, 1, 1, FIRST)?,
+        entry(alloc, 2, 1, 1, SECOND)?,
+    ];
     assert_eq!(rt; held.check(&batch), Ok(2));
     held.add(alloc, &batch)?;
     assert_eq!(rt; held.next(2), Ok((2, 2)));

@@ -1,4 +1,4 @@
-use Rattle.std.proofs.Common.{rules, ◌≡◌, ◌++◌, [], None, sym, ap, subst, ◌∙◌}
+use Rattle.std.proofs.Common.{◌++◌, ap, subst, ◌∙◌}
 use Rattle.std.specs.List.Sorted.{IsPermutation}
 use Rattle.std.proofs.lemmas.Result.{IfOk-weaker}
 use Rattle.td_stamps.specs.Entries.{in_range}

@@ -1,4 +1,4 @@
-use Rattle.std.proofs.Common.{rules, ◌≡◌, ◌+◌, ◌∙◌, sym, get_or}
+use Rattle.std.proofs.Common.{rules, ◌+◌, ◌∙◌, sym, get_or}
 use Rattle.std.proofs.lemmas.Result.{on_ok_weaker}
 use Rattle.std.proofs.lemmas.List.Sorted.{answers_always}
 use Rattle.td_stamps.specs.Entries.{stamp_of}

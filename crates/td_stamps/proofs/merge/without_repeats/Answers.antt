@@ -1,4 +1,4 @@
-use Rattle.std.proofs.Common.{rules, ◌≡◌, ◌++◌, ◌∷◌, [], true, false, None, Some, ℕ, ◌≤◌, ◌<◌, refl, sym, ap, subst, ◌∙◌, List, length, ◌-◌, arith}
+use Rattle.std.proofs.Common.{◌≡◌, ◌++◌, ◌∷◌, [], true, None, Some, ◌≤◌, ◌<◌, refl, sym, ap, subst, ◌∙◌, length, ◌-◌, arith}
 use Rattle.std.specs.List.{list_all, slice_get}
 use Rattle.std.specs.List.Sorted.{IsSortedBy}
 use Rattle.std.specs.Option.{option_copied, unwrap_or}
@@ -6,7 +6,6 @@ use Rattle.std.specs.BTreeMap as tree
 use Rattle.std.specs.Ordering.{nat_cmp}
 use Rattle.std.specs.Vec.Iter.{into_iter_items}
 use Rattle.std.proofs.lemmas.List.{append_assoc}
-use Rattle.td_stamps.specs.declared.entry.Entry.{Entry}
 use Rattle.td_stamps.specs.Entries.{before, in_range}
 use Rattle.td_stamps.specs.Checks.{first_clash, last_seq}
 use Rattle.td_stamps.specs.Sets.{union}

@@ -1,4 +1,4 @@
-use Rattle.std.proofs.Common.{rules, ◌≡◌, ◌≤◌, ◌<◌, List, Ok, true, length, sym, ap, subst, ◌∙◌, ◌-◌, arith}
+use Rattle.std.proofs.Common.{◌≡◌, List, Ok, true, length, sym, ap, subst, ◌∙◌, ◌-◌, arith}
 use Rattle.std.specs.List.{list_all}
 use Rattle.std.proofs.lemmas.Option.{MatchOption-at_some}
 use Rattle.td_stamps.specs.declared.entry.Entry.{Entry}
