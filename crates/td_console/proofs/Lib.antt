@@ -8,3 +8,4 @@ pub mod Keys
 pub mod Steps
 pub mod Tales
 pub mod Issuing
+pub mod Listings

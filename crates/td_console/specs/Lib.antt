@@ -11,3 +11,5 @@ pub mod Step
 pub mod Runs
 pub mod Seen
 pub mod Sites
+pub mod Texts
+pub mod Listed
