@@ -10,7 +10,7 @@ use Rattle.std.proofs.lemmas.Str.{IsUtf8-from_is_utf8, is_utf8-from_IsUtf8}
 use Rattle.std.proofs.lemmas.Bool.{le-leb}
 use Rattle.td_console.specs.declared.command.Command.{Command}
 use Rattle.td_console.specs.declared.command.Command.TheVariants as command
-use Rattle.td_console.specs.Commands.{said}
+use Rattle.td_console.specs.Commands.{meant}
 use Rattle.td_console.specs.Lines.{after, content, cut_cr, Line, faulty, or_faulty, form_of, line_of}
 
 take_front : (front rest : List ℕ) → take (length front) (front ++ rest) ≡ front
@@ -50,12 +50,12 @@ faulty_by bs false b text e = refl
 pub line_faulty : (bs : List ℕ) → (IsUtf8 bs → ⊥) → faulty ≡ line_of bs
 line_faulty bs text = faulty_by bs (nat_le (length bs) 16384) (is_utf8 bs) text refl
 
-said_or : (r : Option Command) (l : Option Line) → option_map said r ≡ l → said (unwrap_or r command.Faulty) ≡ or_faulty l
-said_or None l e = ap or_faulty e
-said_or (Some x) l e = ap or_faulty e
+meant_or : (r : Option Command) (l : Option Line) → option_map meant r ≡ l → meant (unwrap_or r command.Faulty) ≡ or_faulty l
+meant_or None l e = ap or_faulty e
+meant_or (Some x) l e = ap or_faulty e
 
-pub line_read : (bs line : List ℕ) (r : Option Command) (x : Command) → length bs ≤ 16384 → line ≡ bs → IsUtf8 bs → option_map said r ≡ form_of line → x ≡ unwrap_or r command.Faulty → said x ≡ line_of bs
+pub line_read : (bs line : List ℕ) (r : Option Command) (x : Command) → length bs ≤ 16384 → line ≡ bs → IsUtf8 bs → option_map meant r ≡ form_of line → x ≡ unwrap_or r command.Faulty → meant x ≡ line_of bs
 line_read bs line r x short same text e u =
     let fits : nat_le (length bs) 16384 ≡ true = le-leb _ _ short in
     let good = is_utf8-from_IsUtf8 bs text in
-    rw (fits, good) (ap said u ∙ said_or r (form_of bs) (e ∙ ap form_of same))
+    rw (fits, good) (ap meant u ∙ meant_or r (form_of bs) (e ∙ ap form_of same))

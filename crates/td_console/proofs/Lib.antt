@@ -10,3 +10,5 @@ pub mod Keys
 pub mod Steps
 pub mod Tales
 pub mod Issuing
+pub mod Listings
+pub mod Answering

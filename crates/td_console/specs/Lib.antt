@@ -12,3 +12,8 @@ pub mod Step
 pub mod Runs
 pub mod Seen
 pub mod Sites
+pub mod Texts
+pub mod Listed
+pub mod Printed
+pub mod Workbench
+pub mod Takings

@@ -1,5 +1,5 @@
 -- Lines: how bytes are split into lines, and what a line says.
-use Rattle.std.specs.Prelude.{ℕ, ◌+◌, ◌-◌, ◌*◌, min, nat_le, nat_lt, nat_eq, ◌==◌, Bool, true, false, ◌&&◌, ◌||◌, not, if◌then◌else◌, List, [], ◌∷◌, ◌++◌, length, take, drop, fold, map, codes, Option, Some, None, option_map, option_and_then, unwrap_or}
+use Rattle.std.specs.Prelude.{ℕ, ◌+◌, ◌-◌, ◌*◌, min, nat_le, nat_lt, nat_eq, ◌==◌, Bool, true, false, ◌&&◌, ◌||◌, not, if◌then◌else◌, List, [], ◌∷◌, ◌++◌, length, take, drop, fold, map, codes, Option, Some, None, option_map, option_and_then, unwrap_or, take_while}
 use Rattle.std.specs.List.{list_all, list_any, before_first, after_first, position_or_len}
 use Rattle.std.specs.Option.{option_map_or}
 use Rattle.std.specs.Char.{is_ascii_digit}
@@ -26,9 +26,6 @@ cut_cr front = unwrap_or (cut 13 front) front
 abbrev pub content : List ℕ → List ℕ
 content raw = option_map_or cut_cr (cut 10 raw) raw
 
--- the lines without their line ends
-abbrev pub lines : List ℕ → List (List ℕ)
-lines bytes = map content (raw_lines bytes)
 
 -- what a line says
 pub data Line : Type 0 where
@@ -104,9 +101,16 @@ form_of bs =
 abbrev pub line_of : List ℕ → Line
 line_of bs = if nat_le (length bs) 16384 && is_utf8 bs then or_faulty (form_of bs) else faulty
 
+-- what lines say, and what those before the first `.quit` say
+abbrev pub said : List (List ℕ) → List Line
+said raws = map (λ raw. line_of (content raw)) raws
+
 abbrev pub is_quit : Line → Bool
 is_quit quit = true
 is_quit _ = false
+
+abbrev pub asked : List (List ℕ) → List Line
+asked raws = take_while (λ l. not (is_quit l)) (said raws)
 
 -- the bytes of the lines before the first line `.begin`, and the lines after it
 abbrev pub is_begin : List ℕ → Bool

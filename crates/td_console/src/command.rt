@@ -3,7 +3,7 @@
 ghost use Rattle.std.specs.Prelude.{◌≡◌, ◌<◌, option_map, unwrap_or, codes};
 ghost use Rattle.std.specs.Option.{option_copied};
 ghost use Rattle.td_console.specs.Lines.{number_of, after, parted, meet_form, issue_form, listing_form, form_of, line_of};
-ghost use Rattle.td_console.specs.Commands.{said, both};
+ghost use Rattle.td_console.specs.Commands.{meant, both};
 
 /// The most bytes of a line, without its line end.
 pub const LINE_BYTES: usize = 16_384;
@@ -62,7 +62,7 @@ fn without_space(text: &str) -> &str
 }
 
 fn meeting(words: &str) -> Option<Command<'_>>
-    ensures { option_map said result ≡ meet_form words.now }
+    ensures { option_map meant result ≡ meet_form words.now }
 {
     let (first, second) = parted(' ', words)?;
     let first = number(first.as_bytes())?;
@@ -71,7 +71,7 @@ fn meeting(words: &str) -> Option<Command<'_>>
 }
 
 fn issue(line: &str) -> Option<Command<'_>>
-    ensures { option_map said result ≡ issue_form line.now }
+    ensures { option_map meant result ≡ issue_form line.now }
 {
     let (site, text) = parted(':', line)?;
     let site = number(site.as_bytes())?;
@@ -80,14 +80,14 @@ fn issue(line: &str) -> Option<Command<'_>>
 }
 
 fn listing(word: &[u8]) -> Option<Command<'static>>
-    ensures { option_map said result ≡ listing_form word.now }
+    ensures { option_map meant result ≡ listing_form word.now }
 {
     let site = number(word)?;
     Some(Command::Listing { site })
 }
 
 fn form(line: &str) -> Option<Command<'_>>
-    ensures { option_map said result ≡ form_of line.now }
+    ensures { option_map meant result ≡ form_of line.now }
 {
     if line.is_empty() {
         return Some(Command::Nothing);
@@ -106,7 +106,7 @@ fn form(line: &str) -> Option<Command<'_>>
 
 /// The form of a line, without its line end.
 pub fn command_of(line: &[u8]) -> Command<'_>
-    ensures { said result ≡ line_of line.now }
+    ensures { meant result ≡ line_of line.now }
 {
     if line.len() > LINE_BYTES {
         return Command::Faulty;

@@ -36,12 +36,19 @@ fn read_byte<R: Read>(reader: &mut R, reads: &mut u64) -> Result<Option<u8>, Lin
     Err(LineError::ReadFault)
 }
 
-/// Reads a line with its line end, by at most so many reads. At the end of the input it is empty.
+/// A line with its line end. The last one has none, and may be empty: the input ends there.
+#[derive(Drop)]
+pub struct RawLine {
+    pub bytes: Vec<u8>,
+    pub is_last: bool,
+}
+
+/// Reads a line, by at most so many reads.
 pub fn read_line<R: Read>(
     alloc: Global,
     reader: &mut R,
     reads: &mut u64,
-) -> Result<Vec<u8>, LineError>
+) -> Result<RawLine, LineError>
     ensures line { LineRead (R.remaining reader.old) (R.remaining reader.new) result }
     ensures fewer { OnOk result (reads.new < reads.old) }
     ensures no_more { reads.new ≤ reads.old }
@@ -49,14 +56,20 @@ pub fn read_line<R: Read>(
     let mut line = Vec::new(alloc);
     while *reads > 0 {
         let Some(byte) = read_byte(reader, reads)? else {
-            return Ok(line);
+            return Ok(RawLine {
+                bytes: line,
+                is_last: true,
+            });
         };
         match line.push(byte) {
             Ok(()) => {}
             Err(_) => return Err(LineError::OutOfMemory),
         }
         if byte == b'\n' {
-            return Ok(line);
+            return Ok(RawLine {
+                bytes: line,
+                is_last: false,
+            });
         }
     }
     Err(LineError::ReadFault)
