@@ -8,16 +8,15 @@ use Rattle.td_console.specs.Sites.{outcomes_of}
 use Rattle.td_console.specs.Texts.{listing_of}
 use Rattle.td_console.proofs.Issuing.{story_are}
 
--- a site of another number, with another limit
+-- a site's outcomes and listing follow from its script and its entries
 abbrev seen : ℕ → ℕ → List ℕ → List Entry → Seen
 seen site limit script es = record { script = script; site = site; limit = limit; entries = es }
 
 pub sites_agree : SitesAgree
 sites_agree s t same =
-    let one = same_members s.entries t.entries same.one_set same.other_set same.members in (
-      ap (λ (script : List ℕ). outcomes_of (seen s.site s.limit script s.entries)) same.script ∙ ap (λ (es : List Entry). outcomes_of (seen s.site s.limit t.script es)) one,
-      ap (λ (script : List ℕ). listing_of (seen s.site s.limit script s.entries)) same.script ∙ ap (λ (es : List Entry). listing_of (seen s.site s.limit t.script es)) one,
-    )
+    let one = same_members s.entries t.entries same.one_set same.other_set same.members in
+    (ap (λ (script : List ℕ). outcomes_of (seen s.site s.limit script s.entries)) same.script ∙ ap (λ (es : List Entry). outcomes_of (seen t.site t.limit t.script es)) one,
+      ap (λ (script : List ℕ). listing_of (seen s.site s.limit script s.entries)) same.script ∙ ap (λ (es : List Entry). listing_of (seen t.site t.limit t.script es)) one)
 
 pub story_is_legal : StoryIsLegal
 story_is_legal script rs accepted es n = (story_are rs (take n es)).legal
