@@ -5,6 +5,7 @@ mod catalogue;
 mod command;
 mod cursor;
 mod input;
+mod laws;
 mod listing;
 mod output;
 mod program;
