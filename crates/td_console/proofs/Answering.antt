@@ -20,7 +20,7 @@ use Rattle.td_console.specs.declared.workbench.Reply.TheVariants as reply
 use Rattle.td_console.specs.Seen.{Seen}
 use Rattle.td_console.specs.Sites.{issue_of, outcome_in, IssuesEntry, Issues, Takes}
 use Rattle.td_console.specs.Texts.{listing_of}
-use Rattle.td_console.specs.Lines.{Line}
+use Rattle.td_console.specs.Lines.{Line, is_quit}
 use Rattle.td_console.specs.Printed.{Sites, Placed, Answer, site_of, issue_fault, issued_text, issued, issue_answer, listing_answer, take_fault, met_line, joined, first_take, second_take, meet_answer, half_met, answer_to, half_done}
 use Rattle.td_console.specs.Workbench.{SaysText, Gives, Replies, SaysFault, MeetingReplies}
 use Rattle.td_console.specs.Takings.{first_of, TookFrom}
@@ -73,12 +73,12 @@ says_by (Err x) r t is e = subst (SaysText t) (sym e) tt
 pub gives_text : (a : Answer) (old half : Sites) (r : Reply) (new : Sites) → SaysText a.0 r → new ≡ a.1 → Gives a old half r new
 gives_text a old half r new says is = inl (says, is)
 
-pub replies_of : (old : Sites) (l : Line) (r : Reply) (new : Sites) → Gives (answer_to old l) old (half_done old l) r new → Replies old l r new
-replies_of old l (reply.Text x) new g = g
-replies_of old l (reply.Fault x) new g = g
-replies_of old l reply.Unsaid new g = g
-replies_of old l reply.Quit new (inl g) = absurd g.0
-replies_of old l reply.Quit new (inr g) = absurd g.0
+pub replies_of : (old : Sites) (l : Line) (r : Reply) (new : Sites) → is_quit l ≡ false → Gives (answer_to old l) old (half_done old l) r new → Replies old l r new
+replies_of old l (reply.Text x) new other g = (other, g)
+replies_of old l (reply.Fault x) new other g = (other, g)
+replies_of old l reply.Unsaid new other g = (other, g)
+replies_of old l reply.Quit new other (inl g) = absurd g.0
+replies_of old l reply.Quit new other (inr g) = absurd g.0
 
 -- ---- .listing n
 

@@ -2,8 +2,6 @@ pub mod Streamed
 pub mod Fronts
 pub mod Turns
 pub mod Lexing
-pub mod Grammars
-pub mod LawsOfSites
 pub mod Typed
 pub mod Added
 pub mod Keys
@@ -12,3 +10,6 @@ pub mod Tales
 pub mod Issuing
 pub mod Listings
 pub mod Answering
+pub mod Serving
+pub mod Opening
+pub mod Scripts

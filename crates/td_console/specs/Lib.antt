@@ -1,6 +1,5 @@
 pub mod Refusals
 pub mod Grammar
-pub mod Laws
 pub mod Reader
 pub mod Readings
 pub mod Typing
@@ -15,5 +14,6 @@ pub mod Sites
 pub mod Texts
 pub mod Listed
 pub mod Printed
+pub mod Program
 pub mod Workbench
 pub mod Takings

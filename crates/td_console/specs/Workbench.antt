@@ -29,9 +29,17 @@ Gives answer old half r new = (SaysText answer.0 r × (new ≡ answer.1)) ⊎ (S
 -- what a reply to a line says
 abbrev pub Replies : Sites → Line → Reply → Sites → Type 0
 Replies old line reply.Quit new = (line ≡ quit) × (new ≡ old)
-Replies old line (reply.Text text) new = Gives (answer_to old line) old (half_done old line) (reply.Text text) new
-Replies old line (reply.Fault text) new = Gives (answer_to old line) old (half_done old line) (reply.Fault text) new
-Replies old line reply.Unsaid new = Gives (answer_to old line) old (half_done old line) reply.Unsaid new
+Replies old line (reply.Text text) new = (is_quit line ≡ false) × Gives (answer_to old line) old (half_done old line) (reply.Text text) new
+Replies old line (reply.Fault text) new = (is_quit line ≡ false) × Gives (answer_to old line) old (half_done old line) (reply.Fault text) new
+Replies old line reply.Unsaid new = (is_quit line ≡ false) × Gives (answer_to old line) old (half_done old line) reply.Unsaid new
+
+-- what writing a reply ends in
+abbrev pub PutEnds : List ℕ → Result Bool Ended → Option (List ℕ) → Option (List ℕ) → Type 0
+PutEnds text (Ok true) before now = ⊥
+PutEnds text (Ok false) before now = Appends before now text
+PutEnds text (Err WriteFault) before now = AppendsFront before now text
+PutEnds text (Err ReadFault) before now = ⊥
+PutEnds text (Err OutOfMemory) before now = ⊥
 
 -- the reply to a take that is refused
 abbrev pub SaysFault : PrepareError → Reply → Type 0

@@ -1,12 +1,11 @@
 //! Lines answered by sites.
 
-ghost use Rattle.std.specs.Prelude.{◌≡◌, ◌≢◌, ◌++◌, ◌<◌, OnOk, IfOk, IfSome, length, option_map, string_bytes, decimal, codes, false, MatchResult};
-ghost use Rattle.std.specs.Io.KnownBytes.{Consumes};
-ghost use Rattle.td_console.specs.Texts as texts;
+ghost use Rattle.std.specs.Prelude.{◌≡◌, ◌≢◌, ◌++◌, ◌<◌, OnOk, IfOk, IfSome, length, option_map, string_bytes, true, None, MatchResult};
+ghost use Rattle.td_console.specs.Streams.{is_one_line};
 ghost use Rattle.td_console.specs.Printed as spec;
 ghost use Rattle.td_console.specs.Lines as lines;
 ghost use Rattle.td_console.specs.Lines.{line_of, raw_lines};
-ghost use Rattle.td_console.specs.Workbench.{SaysFault, Replies, MeetingReplies, LineEnds, WorkbenchEnds};
+ghost use Rattle.td_console.specs.Workbench.{SaysFault, PutEnds, Replies, MeetingReplies, LineEnds, Ends, WorkbenchEnds};
 ghost use Rattle.td_console.specs.Takings.{TookFrom, first_of};
 
 use crate::command::{Command, command_of};
@@ -228,4 +227,99 @@ fn answer(alloc: Global, sites: &mut [PlainSite], line: &[u8]) -> Reply
         Command::Meet { first, second } => meet(alloc, sites, first, second),
         Command::Listing { site } => list(alloc, sites, site),
     }
+}
+
+pub fn put_text<W: Write>(writer: &mut W, text: &[u8]) -> Result<bool, Ended>
+    ensures { PutEnds text.now result (W.contents writer.old) (W.contents writer.new) }
+{
+    match put(writer, text) {
+        Ok(()) => Ok(false),
+        Err(_) => Err(Ended::WriteFault),
+    }
+}
+
+// Answers a line, and says whether it was `.quit`.
+fn answer_on<W: Write>(
+    alloc: Global,
+    sites: &mut [PlainSite],
+    line: &[u8],
+    writer: &mut W,
+) -> Result<bool, Ended>
+    ensures { LineEnds sites.old (line_of line.now) result sites.new (W.contents writer.old) (W.contents writer.new) }
+{
+    match answer(alloc, sites, line) {
+        Reply::Quit => Ok(true),
+        Reply::Unsaid => Err(Ended::OutOfMemory),
+        Reply::Fault(text) => put_text(writer, text.as_bytes()),
+        Reply::Text(text) => put_text(writer, text.as_bytes()),
+    }
+}
+
+// Answers what the end of the input left of a line, if anything.
+fn answer_last<W: Write>(
+    alloc: Global,
+    sites: &mut [PlainSite],
+    line: &[u8],
+    writer: &mut W,
+) -> Result<(), Ended>
+    requires { is_one_line line.now ≡ true }
+    ensures { Ends sites.old (raw_lines line.now) result sites.new None (W.contents writer.old) (W.contents writer.new) }
+{
+    if line.is_empty() {
+        return Ok(());
+    }
+    match answer_on(alloc, sites, content(line), writer) {
+        Ok(_) => Ok(()),
+        Err(e) => Err(e),
+    }
+}
+
+fn unread(e: LineError) -> Ended
+    ensures { result ≢ Ended.WriteFault }
+{
+    match e {
+        LineError::OutOfMemory => Ended::OutOfMemory,
+        LineError::ReadFault => Ended::ReadFault,
+    }
+}
+
+/// Answers line after line, up to `.quit` or the end of the input, by at most so many reads.
+pub fn serve<R: Read, W: Write>(
+    alloc: Global,
+    sites: &mut [PlainSite],
+    reader: &mut R,
+    writer: &mut W,
+    reads: &mut u64,
+) -> Result<(), Ended>
+    ensures { WorkbenchEnds sites.old (R.remaining reader.old) (R.remaining reader.new) result sites.new (W.contents writer.old) (W.contents writer.new) }
+{
+    while *reads > 0 {
+        let line = match read_line(alloc, reader, reads) {
+            Ok(line) => line,
+            Err(e) => return Err(unread(e)),
+        };
+        if line.is_last {
+            return answer_last(alloc, sites, &line.bytes, writer);
+        }
+        match answer_on(alloc, sites, content(&line.bytes), writer) {
+            Ok(true) => return Ok(()),
+            Ok(false) => {}
+            Err(e) => return Err(e),
+        }
+    }
+    Err(Ended::ReadFault)
+}
+
+/// Answers line after line, up to `.quit` or the end of the input. An endless reader is a read
+/// fault after 18,446,744,073,709,551,615 reads.
+pub fn workbench<R: Read, W: Write>(
+    alloc: Global,
+    sites: &mut [PlainSite],
+    reader: &mut R,
+    writer: &mut W,
+) -> Result<(), Ended>
+    ensures { WorkbenchEnds sites.old (R.remaining reader.old) (R.remaining reader.new) result sites.new (W.contents writer.old) (W.contents writer.new) }
+{
+    let mut reads = u64::MAX;
+    serve(alloc, sites, reader, writer, &mut reads)
 }
