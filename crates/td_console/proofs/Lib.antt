@@ -9,3 +9,4 @@ pub mod Steps
 pub mod Tales
 pub mod Issuing
 pub mod Listings
+pub mod Answering

@@ -13,3 +13,6 @@ pub mod Seen
 pub mod Sites
 pub mod Texts
 pub mod Listed
+pub mod Printed
+pub mod Workbench
+pub mod Takings

@@ -1,9 +1,18 @@
 //! Lines answered by sites.
 
+ghost use Rattle.std.specs.Prelude.{◌≡◌, ◌≢◌, ◌++◌, ◌<◌, OnOk, IfOk, IfSome, length, option_map, string_bytes, decimal, codes, false, MatchResult};
+ghost use Rattle.std.specs.Io.KnownBytes.{Consumes};
+ghost use Rattle.td_console.specs.Texts as texts;
+ghost use Rattle.td_console.specs.Printed as spec;
+ghost use Rattle.td_console.specs.Lines as lines;
+ghost use Rattle.td_console.specs.Lines.{line_of, raw_lines};
+ghost use Rattle.td_console.specs.Workbench.{SaysFault, Replies, MeetingReplies, LineEnds, WorkbenchEnds};
+ghost use Rattle.td_console.specs.Takings.{TookFrom, first_of};
+
 use crate::command::{Command, command_of};
 use crate::input::{LineError, content, read_line};
 use crate::listing::{listing_text, show_number, show_outcome, show_stamp};
-use crate::output::{WriteFault, put};
+use crate::output::put;
 use crate::refusal::IssueError;
 use crate::site::{Issued, PlainSite, Taken};
 use std::alloc::{AllocError, Global};
@@ -12,7 +21,7 @@ use td_stamps::{Entry, PrepareError};
 use thiserror::Error;
 
 /// Why the workbench ended before its input did.
-#[derive(Clone, Copy, Debug, PartialEq, Eq, Error)]
+#[derive(Clone, Copy, Debug, Drop, PartialEq, Eq, Error)]
 pub enum Ended {
     #[error("out of memory")]
     OutOfMemory,
@@ -22,92 +31,123 @@ pub enum Ended {
     WriteFault,
 }
 
-/// The bytes that an answer of fixed length needs at most.
-const ANSWER_BYTES: usize = 160;
-
-// The place of the site of this number.
-fn place_of(sites: &[PlainSite], number: u32) -> Option<usize> {
-    sites.iter().position(|s| u32::from(s.site()) == number)
+/// What a line is answered.
+#[derive(Drop)]
+pub enum Reply {
+    Text(String),
+    Fault(&'static str),
+    /// The line's work is done, and there is no memory for its answer.
+    Unsaid,
+    Quit,
 }
 
-fn show_issue_fault(out: &mut String, e: IssueError) -> Result<(), AllocError> {
-    out.push_str(match e {
+// The place of the first site of this number.
+fn place_of(sites: &[PlainSite], number: u32) -> Option<usize>
+    ensures place { result ≡ option_map first_of (spec.site_of number sites.now) }
+    ensures within { IfSome result (λ at. at < length sites.now) }
+{
+    for (at, site) in sites.iter().enumerate() {
+        if u32::from(site.site()) == number {
+            return Some(at);
+        }
+    }
+    None
+}
+
+// The reply that a text is, if there is memory for it.
+fn reply_of(text: Result<String, AllocError>) -> Reply
+    ensures { MatchResult text (λ t. result ≡ Reply.Text t) (λ _. result ≡ Reply.Unsaid) }
+{
+    match text {
+        Ok(text) => Reply::Text(text),
+        Err(_) => Reply::Unsaid,
+    }
+}
+
+fn issue_fault(e: IssueError) -> &'static str
+    ensures { result.now ≡ spec.issue_fault e }
+{
+    match e {
         IssueError::Syntax => "fault syntax\n",
         IssueError::IllTyped => "fault type\n",
         IssueError::ClockEnd => "fault clock\n",
         IssueError::Full => "fault full\n",
         IssueError::OutOfMemory => "fault memory\n",
-    })
-}
-
-fn show_take_fault(out: &mut String, e: PrepareError) -> Result<(), AllocError> {
-    match e {
-        PrepareError::BadEntry => out.push_str("fault entry\n"),
-        PrepareError::Clash { site, seq } => {
-            out.push_str("fault clash ")?;
-            show_number(out, u64::from(site))?;
-            out.push_str(" ")?;
-            show_number(out, u64::from(seq))?;
-            out.push_str("\n")
-        }
-        PrepareError::Full => out.push_str("fault full\n"),
-        PrepareError::OutOfMemory => out.push_str("fault memory\n"),
     }
 }
 
-fn show_issued(out: &mut String, issued: &Issued) -> Result<(), AllocError> {
-    show_stamp(out, &issued.stamp)?;
+fn issued_text(alloc: Global, issued: &Issued) -> Result<String, AllocError>
+    ensures { IfOk result (λ text. string_bytes text ≡ spec.issued_text issued.now.stamp issued.now.outcome) }
+{
+    let mut out = String::new(alloc);
+    show_stamp(&mut out, &issued.stamp)?;
     out.push_str(" ")?;
-    show_outcome(out, &issued.outcome)?;
-    out.push_str("\n")
+    show_outcome(&mut out, &issued.outcome)?;
+    out.push_str("\n")?;
+    Ok(out)
 }
 
-fn show_met(
-    out: &mut String,
+fn clash_text(alloc: Global, site: u16, seq: u32) -> Result<String, AllocError>
+    ensures { IfOk result (λ text. string_bytes text ≡ spec.clash_text site seq) }
+{
+    let mut out = String::new(alloc);
+    out.push_str("fault clash ")?;
+    show_number(&mut out, u64::from(site))?;
+    out.push_str(" ")?;
+    show_number(&mut out, u64::from(seq))?;
+    out.push_str("\n")?;
+    Ok(out)
+}
+
+fn met_text(
+    alloc: Global,
     first: u32,
     second: u32,
     gained: usize,
     gave: usize,
-) -> Result<(), AllocError> {
+) -> Result<String, AllocError>
+    ensures { IfOk result (λ text. string_bytes text ≡ spec.met_line first second gained gave) }
+{
+    let mut out = String::new(alloc);
     out.push_str("met ")?;
-    show_number(out, u64::from(first))?;
+    show_number(&mut out, u64::from(first))?;
     out.push_str(" ")?;
-    show_number(out, u64::from(second))?;
+    show_number(&mut out, u64::from(second))?;
     out.push_str(" fresh ")?;
-    show_number(out, gained as u64)?;
+    show_number(&mut out, gained as u64)?;
     out.push_str(" ")?;
-    show_number(out, gave as u64)?;
-    out.push_str("\n")
+    show_number(&mut out, gave as u64)?;
+    out.push_str("\n")?;
+    Ok(out)
 }
 
-fn issue_line(
-    alloc: Global,
-    sites: &mut [PlainSite],
-    out: &mut String,
-    number: u32,
-    text: &str,
-) -> Result<(), AllocError> {
-    match place_of(sites, number) {
-        None => out.push_str("fault site\n"),
-        Some(at) => match sites[at].issue(alloc, text) {
-            Ok(issued) => show_issued(out, &issued),
-            Err(e) => show_issue_fault(out, e),
-        },
+// The reply to a take that was refused.
+fn take_fault(alloc: Global, e: PrepareError) -> Reply
+    ensures { SaysFault e result }
+{
+    match e {
+        PrepareError::BadEntry => Reply::Fault("fault entry\n"),
+        PrepareError::Clash { site, seq } => reply_of(clash_text(alloc, site, seq)),
+        PrepareError::Full => Reply::Fault("fault full\n"),
+        PrepareError::OutOfMemory => Reply::Fault("fault memory\n"),
     }
 }
 
-// The first takes all that the second holds.
-fn take_from(
-    alloc: Global,
-    sites: &mut [PlainSite],
-    first: usize,
-    second: usize,
-) -> Result<Taken, PrepareError> {
-    let entries = copies(alloc, sites[second].held().entries())?;
-    sites[first].take(alloc, &entries)
+fn issue(alloc: Global, sites: &mut [PlainSite], number: u32, text: &str) -> Reply
+    ensures { Replies sites.old (lines.issue number text.now) result sites.new }
+{
+    let Some(at) = place_of(sites, number) else {
+        return Reply::Fault("fault site\n");
+    };
+    match sites[at].issue(alloc, text) {
+        Ok(issued) => reply_of(issued_text(alloc, &issued)),
+        Err(e) => Reply::Fault(issue_fault(e)),
+    }
 }
 
-fn copies(alloc: Global, entries: &[Entry]) -> Result<Vec<Entry>, AllocError> {
+fn copies(alloc: Global, entries: &[Entry]) -> Result<Vec<Entry>, AllocError>
+    ensures { IfOk result (λ copies. copies.items ≡ entries.now) }
+{
     let mut copies = Vec::with_capacity(alloc, entries.len())?;
     for entry in entries {
         copies.push(entry.copy()?)?;
@@ -115,103 +155,77 @@ fn copies(alloc: Global, entries: &[Entry]) -> Result<Vec<Entry>, AllocError> {
     Ok(copies)
 }
 
-fn meet(
+// The site at the first place takes all that the one at the second holds.
+fn take_from(
     alloc: Global,
     sites: &mut [PlainSite],
     first: usize,
     second: usize,
-) -> Result<(usize, usize), PrepareError> {
-    let gained = take_from(alloc, sites, first, second)?;
-    let gave = take_from(alloc, sites, second, first)?;
-    Ok((gained.fresh, gave.fresh))
+) -> Result<Taken, PrepareError>
+    requires first { first < length sites.old }
+    requires second { second < length sites.old }
+    ensures { TookFrom sites.old first second result sites.new }
+{
+    let Ok(entries) = copies(alloc, sites[second].held().entries()) else {
+        return Err(PrepareError::OutOfMemory);
+    };
+    sites[first].take(alloc, &entries)
 }
 
-fn meet_line(
+// A meeting of the sites at two places.
+fn meet_at(
     alloc: Global,
     sites: &mut [PlainSite],
-    out: &mut String,
-    first: u32,
-    second: u32,
-) -> Result<(), AllocError> {
+    numbers: (u32, u32),
+    first: usize,
+    second: usize,
+) -> Reply
+    requires first { first < length sites.old }
+    requires second { second < length sites.old }
+    requires two { first ≢ second }
+    ensures { MeetingReplies sites.old numbers.0 numbers.1 first second result sites.new }
+{
+    let gained = match take_from(alloc, sites, first, second) {
+        Ok(taken) => taken.fresh,
+        Err(e) => return take_fault(alloc, e),
+    };
+    let gave = match take_from(alloc, sites, second, first) {
+        Ok(taken) => taken.fresh,
+        Err(e) => return take_fault(alloc, e),
+    };
+    reply_of(met_text(alloc, numbers.0, numbers.1, gained, gave))
+}
+
+fn meet(alloc: Global, sites: &mut [PlainSite], first: u32, second: u32) -> Reply
+    ensures { Replies sites.old (lines.meet first second) result sites.new }
+{
     match (place_of(sites, first), place_of(sites, second)) {
-        (Some(a), Some(b)) if a != b => match meet(alloc, sites, a, b) {
-            Ok((gained, gave)) => show_met(out, first, second, gained, gave),
-            Err(e) => show_take_fault(out, e),
-        },
-        _ => out.push_str("fault site\n"),
+        (Some(a), Some(b)) if a != b => meet_at(alloc, sites, (first, second), a, b),
+        _ => Reply::Fault("fault site\n"),
     }
 }
 
-fn listing_line(
-    alloc: Global,
-    sites: &[PlainSite],
-    number: u32,
-) -> Result<String, AllocError> {
-    match place_of(sites, number) {
-        None => String::from_str(alloc, "fault site\n"),
-        Some(at) => listing_text(alloc, &sites[at]),
-    }
-}
-
-/// What a line is answered.
-#[derive(Drop)]
-enum Reply {
-    Text(String),
-    NoMemory,
-    Unsaid,
-    Quit,
-}
-
-fn answer(alloc: Global, sites: &mut [PlainSite], line: &[u8]) -> Reply {
-    let command = command_of(line);
-    if let Command::Listing { site } = command {
-        return match listing_line(alloc, sites, site) {
-            Ok(text) => Reply::Text(text),
-            Err(_) => Reply::NoMemory,
-        };
-    }
-    let Ok(mut out) = String::with_capacity(alloc, ANSWER_BYTES) else {
-        return Reply::NoMemory;
+fn list(alloc: Global, sites: &[PlainSite], number: u32) -> Reply
+    ensures { Replies sites.now (lines.listing number) result sites.now }
+{
+    let Some(at) = place_of(sites, number) else {
+        return Reply::Fault("fault site\n");
     };
-    let told = match command {
-        Command::Quit => return Reply::Quit,
-        Command::Nothing | Command::Listing { .. } => Ok(()),
-        Command::Faulty => out.push_str("fault line\n"),
-        Command::Issue { site, text } => issue_line(alloc, sites, &mut out, site, text),
-        Command::Meet { first, second } => meet_line(alloc, sites, &mut out, first, second),
-    };
-    match told {
-        Ok(()) => Reply::Text(out),
-        Err(_) => Reply::Unsaid,
+    match listing_text(alloc, &sites[at]) {
+        Ok(text) => Reply::Text(text),
+        Err(_) => Reply::Fault("fault memory\n"),
     }
 }
 
-/// Answers line after line, up to `.quit` or the end of the input.
-pub fn workbench<R: Read, W: Write>(
-    alloc: Global,
-    sites: &mut [PlainSite],
-    reader: &mut R,
-    writer: &mut W,
-    reads: &mut u64,
-) -> Result<(), Ended> {
-    while *reads > 0 {
-        let line = match read_line(alloc, reader, reads) {
-            Ok(line) => line,
-            Err(LineError::OutOfMemory) => return Err(Ended::OutOfMemory),
-            Err(LineError::ReadFault) => return Err(Ended::ReadFault),
-        };
-        if line.is_empty() {
-            return Ok(());
-        }
-        let text = match answer(alloc, sites, content(&line)) {
-            Reply::Quit => return Ok(()),
-            Reply::Unsaid => return Err(Ended::OutOfMemory),
-            Reply::NoMemory => put(writer, b"fault memory\n"),
-            Reply::Text(text) => put(writer, text.as_bytes()),
-        };
-        if text.is_err() {
-            return Err(Ended::WriteFault);
-        }
+fn answer(alloc: Global, sites: &mut [PlainSite], line: &[u8]) -> Reply
+    ensures { Replies sites.old (line_of line.now) result sites.new }
+{
+    match command_of(line) {
+        Command::Nothing => Reply::Fault(""),
+        Command::Quit => Reply::Quit,
+        Command::Faulty => Reply::Fault("fault line\n"),
+        Command::Issue { site, text } => issue(alloc, sites, site, text),
+        Command::Meet { first, second } => meet(alloc, sites, first, second),
+        Command::Listing { site } => list(alloc, sites, site),
     }
-    Err(Ended::ReadFault)
 }
