@@ -1,5 +1,5 @@
 //! Headings and types: what they hold, and copies.
-ghost use Rattle.std.specs.Prelude.{◌≡◌, ◌≤◌, ◌↔◌, IsTrue, IfOk, OnOk, OnErr, MatchOption, None, Some, insert, length, not, slice_get, if◌then◌else◌, string_bytes};
+ghost use Rattle.std.specs.Prelude.{◌≡◌, ◌≤◌, ◌↔◌, IsTrue, IfOk, OnOk, OnErr, MatchOption, None, Some, insert, length, not, slice_get, if◌then◌else◌};
 ghost use Rattle.std.specs.Option.{option_copied};
 ghost use Rattle.std.specs.FinMap as map;
 
@@ -61,10 +61,11 @@ fn add_field(
     Ok(())
 }
 
+// Copies of the fields, with room for one more.
 fn copy_fields(alloc: Global, fields: &[(Name, TdType)]) -> Result<Vec<(Name, TdType)>, AllocError>
     ensures { IfOk result (λ v. v.items ≡ fields.now) }
 {
-    let mut copies = Vec::with_capacity(alloc, fields.len())?;
+    let mut copies = Vec::with_capacity(alloc, fields.len() + 1)?;
     for field in fields {
         copies.push((field.0.copy()?, field.1.copy()?))?;
     }
@@ -130,7 +131,8 @@ impl Heading {
 
     /// The name at this place in name order, from 0, with its type.
     pub fn at(&self, i: usize) -> Option<(&Name, &TdType)>
-        ensures { MatchOption result (slice_get (map.entries self.now) i ≡ None) (λ f. slice_get (map.entries self.now) i ≡ Some (f.0.now, f.1.now)) }
+        ensures { let field = slice_get (map.entries self.now) i in
+            MatchOption result (field ≡ None) (λ f. field ≡ Some (f.0.now, f.1.now)) }
     {
         if i < self.fields.len() {
             let field = &self.fields[i];

@@ -53,9 +53,9 @@ fn compare_fields(a: &[(Name, TdType)], b: &[(Name, TdType)]) -> Ordering
     while i < a.len() && i < b.len() {
         let (m, s) = &a[i];
         let (n, t) = &b[i];
-        let o = m.compare(n).then(compare_types(s, t));
-        if o != Ordering::Equal {
-            return o;
+        let ordering = m.compare(n).then(compare_types(s, t));
+        if ordering != Ordering::Equal {
+            return ordering;
         }
         i += 1;
     }
@@ -111,9 +111,9 @@ fn compare_items(a: &[Value], b: &[Value]) -> Ordering
 {
     let mut i = 0;
     while i < a.len() && i < b.len() {
-        let o = compare(&a[i], &b[i]);
-        if o != Ordering::Equal {
-            return o;
+        let ordering = compare(&a[i], &b[i]);
+        if ordering != Ordering::Equal {
+            return ordering;
         }
         i += 1;
     }
@@ -137,9 +137,9 @@ fn compare_attributes(a: &[(Name, Value)], b: &[(Name, Value)]) -> Ordering
     while i < a.len() && i < b.len() {
         let (m, x) = &a[i];
         let (n, y) = &b[i];
-        let o = m.compare(n).then(compare(x, y));
-        if o != Ordering::Equal {
-            return o;
+        let ordering = m.compare(n).then(compare(x, y));
+        if ordering != Ordering::Equal {
+            return ordering;
         }
         i += 1;
     }
@@ -153,9 +153,9 @@ fn compare_rows(a: &[Tuple], b: &[Tuple]) -> Ordering
 {
     let mut i = 0;
     while i < a.len() && i < b.len() {
-        let o = compare_tuples(&a[i], &b[i]);
-        if o != Ordering::Equal {
-            return o;
+        let ordering = compare_tuples(&a[i], &b[i]);
+        if ordering != Ordering::Equal {
+            return ordering;
         }
         i += 1;
     }

@@ -1,5 +1,5 @@
 //! Values and types as texts that the language reads back.
-ghost use Rattle.std.specs.Prelude.{◌≡◌, ◌++◌, IfOk, OnOk, string_bytes, codes};
+ghost use Rattle.std.specs.Prelude.{◌≡◌, ◌++◌, IfOk, OnOk, string_bytes};
 ghost use Rattle.td_values.specs.Data.{attrs_of, fields_of, items_of, tuples_of, tuple};
 ghost use Rattle.td_values.specs.Headings.{header_fields};
 ghost use Rattle.td_values.specs.Shown.{literal, quoted, shown, shown_attrs, shown_fields, shown_items, shown_tuples, shown_type};

@@ -1,5 +1,5 @@
 //! Texts that their copies share.
-ghost use Rattle.std.specs.Prelude.{◌≡◌, ⊤, IfOk, string_bytes, refl};
+ghost use Rattle.std.specs.Prelude.{◌≡◌, IfOk, string_bytes, refl};
 ghost use Rattle.std.specs.Ordering.{eq_by_cmp, as_partial_cmp};
 ghost use Rattle.td_values.specs.Order.{text_cmp};
 ghost use Rattle.td_values.specs.TextOrder.{text_total, text_equivalence, text_partial_equivalence, text_partial_order};

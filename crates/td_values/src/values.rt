@@ -69,6 +69,7 @@ impl Items {
     pub fn new(alloc: Global, values: Vec<Value>) -> Result<Items, AllocError>
         ensures { IfOk result (λ vs. vs ≡ values.items) }
     {
+        // Each call shows that its value is whole, and does nothing when it runs.
         for v in &values {
             whole(v);
         }
@@ -100,6 +101,7 @@ impl Tuple {
         requires { NamesAscend (attrs_of attributes.items) }
         ensures { IfOk result (λ t. t ≡ attrs_of attributes.items) }
     {
+        // Each call shows that its value is whole, and does nothing when it runs.
         for x in &attributes {
             whole(&x.1);
         }
@@ -142,6 +144,7 @@ impl Rows {
         requires { AreRows heading tuples.items }
         ensures { result ≡ record { heading = heading; tuples = tuples.items } }
     {
+        // Each call shows that its tuple is whole, and does nothing when it runs.
         for t in &tuples {
             whole_tuple(t);
         }
