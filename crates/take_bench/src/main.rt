@@ -1,0 +1,73 @@
+//! Times how long a site's set of entries takes a batch, outside any rerun: `prepare` and `commit`.
+//!
+//! For 1,000 and for 10,000 entries, half of them held and half of them in the batch, with one clock
+//! for each two, the least of some times goes to standard error, with the ratio of the two. Standard output has how many
+//! entries are held then, which is the same at each run.
+#![tactic(auto)]
+
+use anyhow::Result;
+use std::alloc::{AllocError, Global};
+use std::time::{Duration, Instant};
+use td_stamps::{Entry, Held};
+use td_values::Text;
+
+/// How often each size is timed.
+const TURNS: u32 = 20;
+
+/// The limit of the program's sites.
+const LIMIT: usize = 10_000;
+
+/// The text of each entry.
+const STATEMENT: &str = "INSERT S RELATION { TUPLE { SNO 'S1', STATUS 20, CITY 'London' } };";
+
+// So many entries of a site, at the clocks from 1 on.
+fn entries_of(alloc: Global, site: u16, count: u32) -> Result<Vec<Entry>, AllocError> {
+    let text = Text::from_str(alloc, STATEMENT)?;
+    let mut entries = Vec::new(alloc);
+    for seq in 1..=count {
+        entries.push(Entry {
+            site,
+            seq,
+            clock: u64::from(seq),
+            text: text.copy()?,
+        })?;
+    }
+    Ok(entries)
+}
+
+// How long a site that holds so many entries takes as many of another one, and what it holds then.
+fn time_of_take(rt: &HostRuntime, count: u32) -> Result<(Duration, usize)> {
+    let alloc = rt.alloc();
+    let mut held = Held::new(alloc, LIMIT);
+    let own = held.prepare(alloc, &entries_of(alloc, 1, count)?)?;
+    held.commit(own);
+    let batch = entries_of(alloc, 2, count)?;
+    let start = Instant::now(rt)?;
+    let prepared = held.prepare(alloc, &batch)?;
+    held.commit(prepared);
+    Ok((start.elapsed(rt)?, held.len()))
+}
+
+// The least of some times, and what is held then.
+fn least_time(rt: &HostRuntime, count: u32) -> Result<(Duration, usize)> {
+    let mut least = time_of_take(rt, count)?;
+    for _ in 1..TURNS {
+        let (time, held) = time_of_take(rt, count)?;
+        least = (least.0.min(time), held);
+    }
+    Ok(least)
+}
+
+fn main(rt: HostRuntime) -> Result<()> {
+    let (small, few) = least_time(&rt, 500)?;
+    let (large, many) = least_time(&rt, 5_000)?;
+    println!(rt; "held {few}")?;
+    println!(rt; "held {many}")?;
+    let ratio = large.as_secs_f64() / small.as_secs_f64();
+    eprintln!(rt;
+        "take of {few}: {} us, of {many}: {} us, ratio {ratio:.1}",
+        small.as_micros(),
+        large.as_micros()
+    )?;
+    Ok(())
+}
