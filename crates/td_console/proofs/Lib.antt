@@ -2,6 +2,8 @@ pub mod Streamed
 pub mod Fronts
 pub mod Turns
 pub mod Lexing
+pub mod Grammars
+pub mod LawsOfSites
 pub mod Typed
 pub mod Added
 pub mod Keys

@@ -1,5 +1,6 @@
 pub mod Refusals
 pub mod Grammar
+pub mod Laws
 pub mod Reader
 pub mod Readings
 pub mod Typing
