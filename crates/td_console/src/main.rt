@@ -13,11 +13,13 @@ mod reader;
 mod refusal;
 mod site;
 mod step;
+#[cfg(test)]
+mod tests;
 mod tree;
 mod workbench;
 
 use crate::program::run_program;
-use std::io::{BufReader, BufWriter};
+use std::io::BufReader;
 use std::process::ExitCode;
 
 fn main(rt: HostRuntime) -> ExitCode {
