@@ -5,7 +5,7 @@ use crate::program::run_program;
 use crate::refusal::{IssueError, OpenError};
 use crate::site::{PlainSite, Taken};
 use crate::step::Outcome;
-use crate::workbench::Ended;
+use crate::workbench::{Ended, workbench};
 use std::alloc::{AllocError, Global};
 use std::io;
 use std::io::{ErrorKind, Read, Write};
@@ -484,6 +484,26 @@ fn take_in_any_order(rt: HostRuntime) -> Result<(), Fail> {
             assert!(rt; matches!(outcome, Outcome::Done));
         }
     }
+    Ok(())
+}
+
+#[test]
+fn refused_takes_of_a_meeting(rt: HostRuntime) -> Result<(), Fail> {
+    let alloc = rt.alloc();
+    let mut sites = [supplied(alloc, 7, 2)?, supplied(alloc, 9, 1)?];
+    let meetings = ".meet 9 7\n.meet 7 9\n.listing 7\n.listing 9\n";
+    let lines = format!(in alloc; "7: {LONDON}\n9: {PARIS}\n{meetings}")?;
+    let mut reader = lines.as_bytes();
+    let mut output = Vec::new(alloc);
+    workbench(alloc, &mut sites, &mut reader, &mut output)?;
+    let written = Written {
+        end: Ok(true),
+        output,
+    };
+    let answers = "1.7 done\n1.9 done\nfault full\nfault full\n";
+    let paris = "relvar S 1\nTUPLE { CITY 'Paris', SNO 'S2', STATUS 10 }\nheld 1\n";
+    let want = format!(in alloc; "{answers}{BOTH_SUPPLIERS}{paris}")?;
+    assert_eq!(rt; written.text(), want.as_str());
     Ok(())
 }
 
