@@ -208,7 +208,7 @@ module _ (n m : ℕ) (ss : Sites) (a b : ℕ) (s t : Seen) (at_a : slice_get ss 
         let went = subst (λ (ys : Sites). TookFrom ys b a (Ok two) new) first_is.1 took in
         let (t', told, is) = went t (joined s t) there_b there_a in
         met_all r new (subst (λ (o : Result ℕ CheckError). Gives (second_take (slice_set ss a (joined s t)) n m (joined s t) (b, t) one.fresh o) ss (slice_set ss a (joined s t)) r new) (sym told.0)
-          (inl (says, is ∙ ap (slice_set (slice_set ss a (joined s t)) b) told.2)))
+        (inl (says, is ∙ ap (slice_set (slice_set ss a (joined s t)) b) told.2)))
 
 -- a meeting of two sites by their numbers
 tested : (ss : Sites) (n m : ℕ) (p q : Placed) (r : Reply) (new : Sites) (b : Bool) → (p.0 == q.0) ≡ b → p.0 ≢ q.0
@@ -224,4 +224,4 @@ meets_by n m ss a b r new at_n at_m differ told =
     let (t, is_t) = placed m ss b at_m in
     subst (λ (o : Option Placed). Gives (meet_answer ss n m o (site_of m ss)) ss (half_met ss o (site_of m ss)) r new) (sym is_s.found)
     (subst (λ (o : Option Placed). Gives (meet_answer ss n m (Some (a, s)) o) ss (half_met ss (Some (a, s)) o) r new) (sym is_t.found)
-      (tested ss n m (a, s) (b, t) r new (a == b) refl differ (told s t is_s.there is_t.there)))
+    (tested ss n m (a, s) (b, t) r new (a == b) refl differ (told s t is_s.there is_t.there)))

@@ -90,7 +90,7 @@ keeps_last script site rs es es' e xs ys outs outs' ran keeps told all moved sai
   accepted = keeps.accepted;
   relations_are = moved ∙ ap (λ (zs : Relations). changed zs ran.change) keeps.relations_are ∙ sym told.change ∙ sym (state_after-push (step rs) (opening rs) es e) ∙ ap (relations_after rs) (sym all);
   outcomes_are = said ∙ ap (λ (o : List (Stamp × Outcome)). o ++ (stamp_of e, ran.outcome) ∷ []) keeps.outcomes_are
-    ∙ ap (λ (o : Outcome). outcomes_of rs es ++ (stamp_of e, o) ∷ []) (sym told.outcome) ∙ sym (outcomes_from-push (step rs) (opening rs) es e) ∙ ap (outcomes_of rs) (sym all);
+      ∙ ap (λ (o : Outcome). outcomes_of rs es ++ (stamp_of e, o) ∷ []) (sym told.outcome) ∙ sym (outcomes_from-push (step rs) (opening rs) es e) ∙ ap (outcomes_of rs) (sym all);
 }
 
 -- the outcomes of a site with one more entry, which comes last

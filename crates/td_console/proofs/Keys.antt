@@ -85,7 +85,7 @@ both_apart : (key : List (List ℕ)) (x : RowsData) (ts : List Attrs) → is_uni
 both_apart key x ts old alone t u has_t has_u =
     let new = (with_tuples x ts).tuples in
     let by_added : (a b : Attrs) → Contains ts a → Contains new b → are_apart key a b ≡ true =
-      λ a b at_a at_b. all_has (are_apart key a) new b (all_has (λ c. is_alone key c new) ts a alone at_a) at_b in
+    λ a b at_a at_b. all_has (are_apart key a) new b (all_has (λ c. is_alone key c new) ts a alone at_a) at_b in
     elim (added_or_old x ts t has_t) [
       | inr new_t ↦ by_added t u new_t has_u
       | inl old_t ↦ elim (added_or_old x ts u has_u) [
@@ -130,7 +130,7 @@ broken_changed (p ∷ rs) (q ∷ xs) zero r x ts legal at_r at_x =
     let same_r : p ≡ r = cc in
     let same_x : q ≡ x = cc in
     let here : first_broken (p ∷ rs) (with_tuples_at zero ts (q ∷ xs)) ≡ cond (are_alone p q ts) None (Some p.name) =
-      rw (unique_added p.key q ts old.0, old.1) refl in
+    rw (unique_added p.key q ts old.0, old.1) refl in
     here ∙ ap (λ (s : Relvar). cond (are_alone s q ts) None (Some s.name)) same_r ∙ ap (λ (y : RowsData). cond (are_alone r y ts) None (Some r.name)) same_x
 broken_changed (p ∷ rs) (q ∷ xs) (suc n) r x ts legal at_r at_x =
     let old = holds (is_unique p.key q.tuples) (first_broken rs xs) p.name legal in

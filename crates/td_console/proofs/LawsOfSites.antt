@@ -14,9 +14,10 @@ seen site limit script es = record { script = script; site = site; limit = limit
 
 pub sites_agree : SitesAgree
 sites_agree s t same =
-    let one = same_members s.entries t.entries same.one_set same.other_set same.members in
-    (ap (λ (script : List ℕ). outcomes_of (seen s.site s.limit script s.entries)) same.script ∙ ap (λ (es : List Entry). outcomes_of (seen t.site t.limit t.script es)) one,
-      ap (λ (script : List ℕ). listing_of (seen s.site s.limit script s.entries)) same.script ∙ ap (λ (es : List Entry). listing_of (seen t.site t.limit t.script es)) one)
+    let one = same_members s.entries t.entries same.one_set same.other_set same.members in (
+      ap (λ (script : List ℕ). outcomes_of (seen s.site s.limit script s.entries)) same.script ∙ ap (λ (es : List Entry). outcomes_of (seen t.site t.limit t.script es)) one,
+      ap (λ (script : List ℕ). listing_of (seen s.site s.limit script s.entries)) same.script ∙ ap (λ (es : List Entry). listing_of (seen t.site t.limit t.script es)) one,
+    )
 
 pub story_is_legal : StoryIsLegal
 story_is_legal script rs accepted es n = (story_are rs (take n es)).legal

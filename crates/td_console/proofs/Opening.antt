@@ -32,6 +32,7 @@ sites_refused script text e same utf8 is = by e (is_utf8-from_IsUtf8 script utf8
   where
     one : Seen
     one = record { script = script; site = 1; limit = 10000; entries = [] }
+
     by : (e : OpenError) → is_utf8 script ≡ true → Opens script 1 10000 (Err e) → OpensSites script (Err e)
     by BadSite good told = elim (read_is_good one (read_script script) BadSite told) [ inl e ↦ cc | inr e ↦ cc ]
     by BadLimit good told = elim (read_is_good one (read_script script) BadLimit told) [ inl e ↦ cc | inr e ↦ cc ]

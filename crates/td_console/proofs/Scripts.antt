@@ -57,14 +57,18 @@ no_begin ls l whole none one is = ap script_then (raw_whole ls l whole) ∙ no_s
 pub begun : (ls : List (List ℕ)) (script l : List ℕ) (is_last : Bool) (from then left : Option (List ℕ)) → AllByRecursion IsWholeLine ls → NoBegin ls → script ≡ joined ls → is_begin l ≡ true
     → Consumes from then (joined ls) → Consumes then left l → MatchBool is_last ((is_one_line l ≡ true) × IsAtEnd left) (IsWholeLine l)
     → (bytes : List ℕ) × Consumes from left bytes × ((more : List ℕ) → (is_last ≡ true → more ≡ []) → Says (bytes ++ more) script (raw_lines more)) × (is_last ≡ true → IsAtEnd left)
-begun ls script l true from then left whole none items is read took line =
-    (joined ls ++ l, Consumes-trans from then left (joined ls) l read took,
-      (λ more last. subst (λ (m : List ℕ). Says ((joined ls ++ l) ++ m) script (raw_lines m)) (sym (last refl)) (subst (λ (s : List ℕ). Says ((joined ls ++ l) ++ []) s []) (sym items) (says_at ls [] l [] whole none is (part_line l line.0 is)))),
-      λ last. line.1)
-begun ls script l false from then left whole none items is read took line =
-    (joined ls ++ l, Consumes-trans from then left (joined ls) l read took,
-      (λ more last. subst (λ (s : List ℕ). Says ((joined ls ++ l) ++ more) s (raw_lines more)) (sym items) (says_at ls (raw_lines more) l more whole none is (raw_first l more line))),
-      λ last. cc)
+begun ls script l true from then left whole none items is read took line = (
+  joined ls ++ l,
+  Consumes-trans from then left (joined ls) l read took,
+  (λ more last. subst (λ (m : List ℕ). Says ((joined ls ++ l) ++ m) script (raw_lines m)) (sym (last refl)) (subst (λ (s : List ℕ). Says ((joined ls ++ l) ++ []) s []) (sym items) (says_at ls [] l [] whole none is (part_line l line.0 is)))),
+  λ last. line.1,
+)
+begun ls script l false from then left whole none items is read took line = (
+  joined ls ++ l,
+  Consumes-trans from then left (joined ls) l read took,
+  (λ more last. subst (λ (s : List ℕ). Says ((joined ls ++ l) ++ more) s (raw_lines more)) (sym items) (says_at ls (raw_lines more) l more whole none is (raw_first l more line))),
+  λ last. cc,
+)
 
 -- a line is compared with `.begin` by its content
 pub begin_is : (l said mark : List ℕ) (b : Bool) → said ≡ content l → mark ≡ codes ".begin" → bytes_eq said mark ≡ b → is_begin l ≡ b

@@ -109,21 +109,33 @@ front_more a b c t u first (front, rest, split, wrote) = (t ++ front, rest, ap (
 
 pub ends_after : (old : Sites) (ls : List (List ℕ)) (text : List ℕ) (mid : Sites) (before at now : Option (List ℕ)) (ks : List (List ℕ)) (r : Result (Unit {0}) Ended) (new : Sites) (left : Option (List ℕ))
     → Served old ls text mid before at → Ends mid ks r new left at now → Ends old (ls ++ ks) r new left before now
-ends_after old ls text mid before at now ks (Ok x) new left so (more, printed, wrote, why) =
-    (text ++ more, subst (λ (xs : List Line). Printed old xs (text ++ more) new) (sym (asked_more ls ks so.other)) (printed_more old (said ls) text mid (asked ks) more new so.printed printed),
-      Appends-trans before at now text more so.appended wrote, elim why [ inl quit ↦ inl (any_more ls ks quit) | inr end ↦ inr end ])
-ends_after old ls text mid before at now ks (Err OutOfMemory) new left so (n, more, step, line, printed, wrote, begun) =
-    (length (said ls) + n, text ++ more, step, line,
-      subst (λ (xs : List Line). Printed old xs (text ++ more) step) (sym (ap (take (length (said ls) + n)) (asked_more ls ks so.other) ∙ take_all_and (said ls) (asked ks) n)) (printed_more old (said ls) text mid (take n (asked ks)) more step so.printed printed),
-      Appends-trans before at now text more so.appended wrote, begun)
-ends_after old ls text mid before at now ks (Err ReadFault) new left so (n, more, printed, wrote) =
-    (length (said ls) + n, text ++ more,
-      subst (λ (xs : List Line). Printed old xs (text ++ more) new) (sym (ap (take (length (said ls) + n)) (asked_more ls ks so.other) ∙ take_all_and (said ls) (asked ks) n)) (printed_more old (said ls) text mid (take n (asked ks)) more new so.printed printed),
-      Appends-trans before at now text more so.appended wrote)
-ends_after old ls text mid before at now ks (Err WriteFault) new left so (n, more, printed, wrote) =
-    (length (said ls) + n, text ++ more,
-      subst (λ (xs : List Line). Printed old xs (text ++ more) new) (sym (ap (take (length (said ls) + n)) (asked_more ls ks so.other) ∙ take_all_and (said ls) (asked ks) n)) (printed_more old (said ls) text mid (take n (asked ks)) more new so.printed printed),
-      front_more before at now text more so.appended wrote)
+ends_after old ls text mid before at now ks (Ok x) new left so (more, printed, wrote, why) = (
+  text ++ more,
+  subst (λ (xs : List Line). Printed old xs (text ++ more) new) (sym (asked_more ls ks so.other)) (printed_more old (said ls) text mid (asked ks) more new so.printed printed),
+  Appends-trans before at now text more so.appended wrote,
+  elim why [ inl quit ↦ inl (any_more ls ks quit) | inr end ↦ inr end ],
+)
+ends_after old ls text mid before at now ks (Err OutOfMemory) new left so (n, more, step, line, printed, wrote, begun) = (
+  length (said ls) + n,
+  text ++ more,
+  step,
+  line,
+  subst (λ (xs : List Line). Printed old xs (text ++ more) step) (sym (ap (take (length (said ls) + n)) (asked_more ls ks so.other) ∙ take_all_and (said ls) (asked ks) n)) (printed_more old (said ls) text mid (take n (asked ks)) more step so.printed printed),
+  Appends-trans before at now text more so.appended wrote,
+  begun,
+)
+ends_after old ls text mid before at now ks (Err ReadFault) new left so (n, more, printed, wrote) = (
+  length (said ls) + n,
+  text ++ more,
+  subst (λ (xs : List Line). Printed old xs (text ++ more) new) (sym (ap (take (length (said ls) + n)) (asked_more ls ks so.other) ∙ take_all_and (said ls) (asked ks) n)) (printed_more old (said ls) text mid (take n (asked ks)) more new so.printed printed),
+  Appends-trans before at now text more so.appended wrote,
+)
+ends_after old ls text mid before at now ks (Err WriteFault) new left so (n, more, printed, wrote) = (
+  length (said ls) + n,
+  text ++ more,
+  subst (λ (xs : List Line). Printed old xs (text ++ more) new) (sym (ap (take (length (said ls) + n)) (asked_more ls ks so.other) ∙ take_all_and (said ls) (asked ks) n)) (printed_more old (said ls) text mid (take n (asked ks)) more new so.printed printed),
+  front_more before at now text more so.appended wrote,
+)
 
 -- ---- how one line ended
 
@@ -174,19 +186,23 @@ end_known old ks (Err WriteFault) new left before now end told = told
 
 pub served_more : (old : Sites) (ls : List (List ℕ)) (text : List ℕ) (mid : Sites) (before at now : Option (List ℕ)) (l : List ℕ) (new : Sites) → Served old ls text mid before at → LineEnds mid (line_of (content l)) (Ok false) new at now
     → (more : List ℕ) × Served old (ls ++ l ∷ []) (text ++ more) new before now
-served_more old ls text mid before at now l new so (more, answered, other, wrote) =
-    (more, record {
-      other = quit_more ls l so.other other;
-      printed = subst (λ (xs : List Line). Printed old xs (text ++ more) new) (sym (said_more ls (l ∷ []))) (printed_more old (said ls) text mid _ more new so.printed (printed_one mid (line_of (content l)) more new answered));
-      appended = Appends-trans before at now text more so.appended wrote;
-    })
+served_more old ls text mid before at now l new so (more, answered, other, wrote) = (
+  more,
+  record {
+    other = quit_more ls l so.other other;
+    printed = subst (λ (xs : List Line). Printed old xs (text ++ more) new) (sym (said_more ls (l ∷ []))) (printed_more old (said ls) text mid _ more new so.printed (printed_one mid (line_of (content l)) more new answered));
+    appended = Appends-trans before at now text more so.appended wrote;
+  },
+)
 
 -- the whole: what was served of whole lines, and how what was read then ended
 pub ends_by : (old : Sites) (ls : List (List ℕ)) (text : List ℕ) (mid : Sites) (before at now : Option (List ℕ)) (more : List ℕ) (r : Result (Unit {0}) Ended) (new : Sites) (from then left : Option (List ℕ))
     → AllByRecursion IsWholeLine ls → Consumes from then (joined ls) → Served old ls text mid before at → Consumes then left more → Ends mid (raw_lines more) r new left at now → WorkbenchEnds old from left r new before now
-ends_by old ls text mid before at now more r new from then left whole read so took ends =
-    (joined ls ++ more, Consumes-trans from then left (joined ls) more read took,
-      subst (λ ks. Ends old ks r new left before now) (sym (raw_whole ls more whole)) (ends_after old ls text mid before at now (raw_lines more) r new left so ends))
+ends_by old ls text mid before at now more r new from then left whole read so took ends = (
+  joined ls ++ more,
+  Consumes-trans from then left (joined ls) more read took,
+  subst (λ ks. Ends old ks r new left before now) (sym (raw_whole ls more whole)) (ends_after old ls text mid before at now (raw_lines more) r new left so ends),
+)
 
 pub joined_more : (ls : List (List ℕ)) (l : List ℕ) → joined ls ++ l ≡ joined (ls ++ l ∷ [])
 joined_more ls l = sym (joined_last ls l)

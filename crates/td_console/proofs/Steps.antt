@@ -27,9 +27,9 @@ some_same x y e = cc
 pub heading_same : (rs : List Relvar) (xs : Relations) (n : ℕ) (r : Relvar) (x : RowsData) → map (λ (y : RowsData). y.heading) xs ≡ map (λ (s : Relvar). s.heading) rs → slice_get rs n ≡ Some r → slice_get xs n ≡ Some x → x.heading ≡ r.heading
 heading_same rs xs n r x same at_r at_x =
     some_same x.heading r.heading (
-      sym (slice_get-map (λ (y : RowsData). y.heading) xs n ∙ ap (option_map (λ (y : RowsData). y.heading)) at_x)
-      ∙ ap (λ (hs : List Header). slice_get hs n) same
-      ∙ slice_get-map (λ (s : Relvar). s.heading) rs n ∙ ap (option_map (λ (s : Relvar). s.heading)) at_r)
+    sym (slice_get-map (λ (y : RowsData). y.heading) xs n ∙ ap (option_map (λ (y : RowsData). y.heading)) at_x)
+    ∙ ap (λ (hs : List Header). slice_get hs n) same
+    ∙ slice_get-map (λ (s : Relvar). s.heading) rs n ∙ ap (option_map (λ (s : Relvar). s.heading)) at_r)
 
 pub fits_there : (rs : List Relvar) (xs : Relations) (s : Typed) (r : Relvar) (x : RowsData) → AreRelations rs xs → IsTyped rs s → slice_get rs s.0 ≡ Some r → slice_get xs s.0 ≡ Some x → list_all (has_heading x.heading) s.1 ≡ true
 fits_there rs xs s r x are (r', at_r', fit) at_r at_x =
@@ -40,7 +40,7 @@ fits_there rs xs s r x are (r', at_r', fit) at_r at_x =
 pub relation_there : (rs : List Relvar) (xs : Relations) (s : Typed) → AreRelations rs xs → IsTyped rs s → slice_get xs s.0 ≡ None → ⊥
 relation_there rs xs s are (r, at_r, fit) none =
     let e : option_map (λ (y : RowsData). y.heading) (slice_get xs s.0) ≡ option_map (λ (q : Relvar). q.heading) (slice_get rs s.0) =
-      sym (slice_get-map (λ (y : RowsData). y.heading) xs s.0) ∙ ap (λ (hs : List Header). slice_get hs s.0) are.headings ∙ slice_get-map (λ (q : Relvar). q.heading) rs s.0 in
+    sym (slice_get-map (λ (y : RowsData). y.heading) xs s.0) ∙ ap (λ (hs : List Header). slice_get hs s.0) are.headings ∙ slice_get-map (λ (q : Relvar). q.heading) rs s.0 in
     cc
 
 told_by : (rs : List Relvar) (xs : Relations) (s : Typed) (r : Relvar) (x : RowsData) (ran : Ran) → slice_get xs s.0 ≡ Some x → (b : Bool) → first_broken rs (with_tuples_at s.0 s.1 xs) ≡ cond b None (Some r.name) → ran ≡ inserted r x s b → RunsTyped rs xs (Some s) ran

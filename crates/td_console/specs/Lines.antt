@@ -26,7 +26,6 @@ cut_cr front = unwrap_or (cut 13 front) front
 abbrev pub content : List ℕ → List ℕ
 content raw = option_map_or cut_cr (cut 10 raw) raw
 
-
 -- what a line says
 pub data Line : Type 0 where
   nothing : Line

@@ -5,8 +5,8 @@ ghost use Rattle.std.specs.FinMap as map;
 ghost use Rattle.td_console.specs.Typing as spec;
 ghost use Rattle.td_console.specs.Typings.{Types, TypesInsert, insert_of};
 
-use crate::refusal::{ReadError, TypeError};
 use crate::reader::read_statement;
+use crate::refusal::{ReadError, TypeError};
 use crate::tree::{Component, Definition, Field, Insertion, Literal, ScalarType};
 use sqlite_items::Items;
 use std::alloc::{AllocError, Global};
@@ -104,10 +104,7 @@ fn relvar_of(alloc: Global, earlier: &[Relvar], d: &Definition) -> Result<Relvar
 }
 
 /// The relvars that the definitions define.
-pub fn relvars_of(
-    alloc: Global,
-    definitions: &[Definition],
-) -> Result<Items<Relvar>, TypeError>
+pub fn relvars_of(alloc: Global, definitions: &[Definition]) -> Result<Items<Relvar>, TypeError>
     ensures { Types (spec.relvars_of definitions.now) result }
 {
     let mut relvars = Items::new(alloc);
@@ -181,11 +178,7 @@ fn tuples_of(
 }
 
 /// The insertion, if it is typed.
-pub fn typed(
-    alloc: Global,
-    relvars: &[Relvar],
-    insertion: &Insertion,
-) -> Result<Insert, TypeError>
+pub fn typed(alloc: Global, relvars: &[Relvar], insertion: &Insertion) -> Result<Insert, TypeError>
     ensures { TypesInsert (spec.typed relvars.now insertion.now) result }
 {
     let Some(place) = place_of(relvars, &insertion.relvar) else {

@@ -40,11 +40,7 @@ fn no_line(e: LineError) -> Unready
 }
 
 // Reads the script: the bytes of the lines before the line `.begin`.
-fn read_script<R: Read>(
-    alloc: Global,
-    reader: &mut R,
-    reads: &mut u64,
-) -> Result<Script, Unready>
+fn read_script<R: Read>(alloc: Global, reader: &mut R, reads: &mut u64) -> Result<Script, Unready>
     ensures { ScriptRead (R.remaining reader.old) (R.remaining reader.new) result }
 {
     let mut script = Vec::new(alloc);

@@ -129,10 +129,7 @@ fn definition(alloc: Global, tokens: &mut Cursor<'_>) -> Result<Definition, Read
 }
 
 // Definitions up to the end.
-fn definitions(
-    alloc: Global,
-    tokens: &mut Cursor<'_>,
-) -> Result<Items<Definition>, ReadError>
+fn definitions(alloc: Global, tokens: &mut Cursor<'_>) -> Result<Items<Definition>, ReadError>
     ensures { Tells (spec.definitions_of tokens.old) result }
 {
     let mut found = Items::new(alloc);

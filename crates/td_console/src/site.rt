@@ -11,10 +11,10 @@ use crate::refusal::{IssueError, OpenError};
 use crate::step::{Outcome, Ran, Told, apply, run, story};
 use sqlite_items::Items;
 use std::alloc::{AllocError, Global};
+use std::marker::Model;
 use td_relations::Relation;
 use td_stamps::{Entry, Held, PrepareError, Stamp};
 use td_values::Text;
-use std::marker::Model;
 
 /// The greatest limit of a site.
 pub const MOST_ENTRIES: usize = 100_000;
@@ -72,7 +72,10 @@ impl PlainSite {
         }
         let definitions = read_script(alloc, script)?;
         let relvars = relvars_of(alloc, definitions.as_slice())?;
-        let Told { relations, outcomes } = story(alloc, relvars.as_slice(), &[])?;
+        let Told {
+            relations,
+            outcomes,
+        } = story(alloc, relvars.as_slice(), &[])?;
         Ok(PlainSite {
             script: Text::from_str(alloc, script)?,
             site,
@@ -144,7 +147,10 @@ impl PlainSite {
         ensures { Takes self.old batch.now result self.new }
     {
         let prepared = self.held.prepare(alloc, batch)?;
-        let Told { relations, outcomes } = story(alloc, self.relvars.as_slice(), prepared.entries())?;
+        let Told {
+            relations,
+            outcomes,
+        } = story(alloc, self.relvars.as_slice(), prepared.entries())?;
         let fresh = prepared.fresh();
         self.held.commit(prepared);
         self.relations = relations;
@@ -205,10 +211,7 @@ impl PlainSite {
     }
 }
 
-fn copies(
-    alloc: Global,
-    outcomes: &[(Stamp, Outcome)],
-) -> Result<Vec<(Stamp, Outcome)>, AllocError>
+fn copies(alloc: Global, outcomes: &[(Stamp, Outcome)]) -> Result<Vec<(Stamp, Outcome)>, AllocError>
     ensures { IfOk result (λ copies. copies.items ≡ outcomes.now) }
 {
     let mut copies = Vec::with_capacity(alloc, outcomes.len())?;

@@ -86,11 +86,7 @@ fn are_alone(key: &[Name], tuples: &[Tuple], all: &[Tuple]) -> bool
 }
 
 // The relation's union with the tuples.
-fn with_tuples(
-    alloc: Global,
-    relation: &Relation,
-    tuples: &[Tuple],
-) -> Result<Relation, AllocError>
+fn with_tuples(alloc: Global, relation: &Relation, tuples: &[Tuple]) -> Result<Relation, AllocError>
     requires { list_all (has_heading relation.now.heading) tuples.now ≡ true }
     ensures { IfOk result (λ r. r ≡ spec.with_tuples relation.now tuples.now) }
 {
@@ -201,5 +197,8 @@ pub fn story(alloc: Global, relvars: &[Relvar], entries: &[Entry]) -> Result<Tol
         apply(&mut relations, ran.change);
         outcomes.push((entry.stamp(), ran.outcome))?;
     }
-    Ok(Told { relations, outcomes })
+    Ok(Told {
+        relations,
+        outcomes,
+    })
 }

@@ -36,7 +36,10 @@ loop-reads-preserved g c =
     let (ls, whole, none, read, items) = c.loop-reads.invariant in
     let line = c.in-Ok.line.bytes.items in
     let says = c.content.ensures ∙ ap content c.deref.ensures.value in
-    let (took, is_line) = rw c.if-line.false at c.in-Ok.ensures.line in
-    (ls ++ line ∷ [], whole_more ls line whole is_line, no_begin_more ls line none (begin_is c.in-Ok.line.bytes.items _ _ _ says c.as_slice.ensures (sym c.eq.ensures ∙ c.if-eq.false)),
+    let (took, is_line) = rw c.if-line.false at c.in-Ok.ensures.line in (
+      ls ++ line ∷ [],
+      whole_more ls line whole is_line,
+      no_begin_more ls line none (begin_is c.in-Ok.line.bytes.items _ _ _ says c.as_slice.ensures (sym c.eq.ensures ∙ c.if-eq.false)),
       rw (sym (joined_more ls line)) (Consumes-trans _ _ _ _ line read took),
-      c.in-Ok-extend_from_slice.ensures.items ∙ ap (λ (t : List ℕ). t ++ c.deref-in-loop-reads.result.now) items ∙ ap (λ (t : List ℕ). joined ls ++ t) c.deref-in-loop-reads.ensures.value ∙ joined_more ls line)
+      c.in-Ok-extend_from_slice.ensures.items ∙ ap (λ (t : List ℕ). t ++ c.deref-in-loop-reads.result.now) items ∙ ap (λ (t : List ℕ). joined ls ++ t) c.deref-in-loop-reads.ensures.value ∙ joined_more ls line,
+    )

@@ -8,11 +8,11 @@ returns-in-Ok g c =
     let line = c.args.line.now in
     let b = c.in-Ok.field-0 in
     ends_part _ line (Ok tt) _ None _ _ c.requires (sym c.if-is_empty.ensures)
-      (any_ends _ line b _ None _ _ (line_is _ _ (content line) (Ok b) _ _ _ c.content.ensures c.in-Ok.ensures) tt)
+    (any_ends _ line b _ None _ _ (line_is _ _ (content line) (Ok b) _ _ _ c.content.ensures c.in-Ok.ensures) tt)
 
 pub returns-in-Err : goal.returns-in-Err
 returns-in-Err g c =
     let line = c.args.line.now in
     let e = c.in-Err.e in
     ends_part _ line (Err e) _ None _ _ c.requires (sym c.if-is_empty.ensures)
-      (fault_ends _ line e _ None _ _ (line_is _ _ (content line) (Err e) _ _ _ c.content.ensures c.in-Err.ensures))
+    (fault_ends _ line e _ None _ _ (line_is _ _ (content line) (Err e) _ _ _ c.content.ensures c.in-Err.ensures))

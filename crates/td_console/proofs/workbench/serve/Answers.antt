@@ -22,7 +22,7 @@ returns-then-line g c =
     let (ls, text, whole, read, so) = c.loop-reads.invariant in
     let (took, one_end) = rw c.if-line.true at c.in-Ok.ensures.line in
     ends_by _ ls text _ _ _ _ c.in-Ok.line.bytes.items c.answer_last.result _ _ _ _ whole read so took
-      (end_known _ (raw_lines c.in-Ok.line.bytes.items) c.answer_last.result _ _ _ _ one_end.1 (rw c.deref.ensures.value at c.answer_last.ensures))
+    (end_known _ (raw_lines c.in-Ok.line.bytes.items) c.answer_last.result _ _ _ _ one_end.1 (rw c.deref.ensures.value at c.answer_last.ensures))
 
 pub returns-in-Ok-true : goal.returns-in-Ok-true
 returns-in-Ok-true g c =
@@ -31,7 +31,7 @@ returns-in-Ok-true g c =
     let line = c.in-Ok.line.bytes.items in
     let says = c.content.ensures ∙ ap content c.deref-in-loop-reads.ensures.value in
     ends_by _ ls text _ _ _ _ line (Ok tt) _ _ _ _ whole read so took
-      (ends_line _ line (Ok tt) _ _ _ _ is_line (quit_ends _ line _ _ _ _ (line_is _ _ (content line) (Ok true) _ _ _ says (rw c.in-Ok-true.field-0-test at c.in-Ok-true.ensures))))
+    (ends_line _ line (Ok tt) _ _ _ _ is_line (quit_ends _ line _ _ _ _ (line_is _ _ (content line) (Ok true) _ _ _ says (rw c.in-Ok-true.field-0-test at c.in-Ok-true.ensures))))
 
 pub returns-in-Err-answer_on : goal.returns-in-Err-answer_on
 returns-in-Err-answer_on g c =
@@ -41,7 +41,7 @@ returns-in-Err-answer_on g c =
     let says = c.content.ensures ∙ ap content c.deref-in-loop-reads.ensures.value in
     let e = c.in-Err-answer_on.e in
     ends_by _ ls text _ _ _ _ line (Err e) _ _ _ _ whole read so took
-      (ends_line _ line (Err e) _ _ _ _ is_line (fault_ends _ line e _ _ _ _ (line_is _ _ (content line) (Err e) _ _ _ says c.in-Err-answer_on.ensures)))
+    (ends_line _ line (Err e) _ _ _ _ is_line (fault_ends _ line e _ _ _ _ (line_is _ _ (content line) (Err e) _ _ _ says c.in-Err-answer_on.ensures)))
 
 pub loop-reads-preserved : goal.loop-reads-preserved
 loop-reads-preserved g c =

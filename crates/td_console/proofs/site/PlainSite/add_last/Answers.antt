@@ -24,5 +24,5 @@ invariant_of-self-2 c =
     let items = c.push.ensures.items in
     let said = rw c.unwrap.ensures at items in
     keeps_last inside.script inside.site inside.relvars es _ e inside.relations.items _ inside.outcomes.items _ ran c.self.invariant told all c.apply.ensures (
-      said ∙ ap (λ (o : List (Stamp × Outcome)). o ++ (c.stamp-stamp.result, ran.outcome) ∷ []) c.in_ok-reserve.ensures.items
-      ∙ ap (λ (s : Stamp). inside.outcomes.items ++ (s, ran.outcome) ∷ []) c.stamp-stamp.ensures)
+    said ∙ ap (λ (o : List (Stamp × Outcome)). o ++ (c.stamp-stamp.result, ran.outcome) ∷ []) c.in_ok-reserve.ensures.items
+    ∙ ap (λ (s : Stamp). inside.outcomes.items ++ (s, ran.outcome) ∷ []) c.stamp-stamp.ensures)
