@@ -1,7 +1,7 @@
 -- What is replied to a line is its answer.
-use Rattle.std.proofs.Common.{◌≡◌, ◌≢◌, ◌<◌, ◌==◌, ◌⊎◌, inl, inr, ℕ, zero, suc, Bool, true, false, cond, List, [], ◌∷◌, ◌++◌, Option, Some, None, option_map, Result, Ok, Err, codes, length, get_or, refl, sym, ap, ◌∙◌, subst, arith, IfOk, MatchResult, String, string_bytes}
+use Rattle.std.proofs.Common.{◌≡◌, ◌≢◌, ◌<◌, ◌==◌, inl, inr, ℕ, zero, suc, Bool, true, false, cond, List, [], ◌∷◌, Option, Some, None, option_map, Result, Ok, Err, codes, length, get_or, refl, sym, ap, ◌∙◌, subst, IfOk, MatchResult, String, string_bytes}
 use Rattle.std.specs.Global.{Global}
-use Rattle.std.specs.List.{slice_get, slice_set, list_all}
+use Rattle.std.specs.List.{slice_get, slice_set}
 use Rattle.std.proofs.lemmas.Option.{slice_get-get_or}
 use Rattle.std.proofs.lemmas.Bool.{eqb-true}
 use Rattle.td_stamps.specs.declared.entry.Entry.{Entry}
@@ -18,7 +18,7 @@ use Rattle.td_console.specs.declared.site.Taken.{Taken}
 use Rattle.td_console.specs.declared.workbench.Reply.{Reply}
 use Rattle.td_console.specs.declared.workbench.Reply.TheVariants as reply
 use Rattle.td_console.specs.Seen.{Seen}
-use Rattle.td_console.specs.Sites.{issue_of, outcome_in, IssuesEntry, Issues, Takes}
+use Rattle.td_console.specs.Sites.{issue_of, IssuesEntry, Issues, Takes}
 use Rattle.td_console.specs.Texts.{listing_of}
 use Rattle.td_console.specs.Lines.{Line, is_quit}
 use Rattle.td_console.specs.Printed.{Sites, Placed, Answer, site_of, issue_fault, issued_text, issued, issue_answer, listing_answer, take_fault, met_line, joined, first_take, second_take, meet_answer, half_met, answer_to, half_done}

@@ -1,5 +1,5 @@
 -- What stripping a front of a text, and testing whether bytes are text, say in the words of the definitions.
-use Rattle.std.proofs.Common.{◌≡◌, ◌≢◌, ℕ, List, [], ◌++◌, Bool, true, false, cond, take, drop, length, Option, Some, None, refl, sym, ap, ◌∙◌, arith, take_all, take-append-drop, MatchOption, ◌∷◌, ◌-◌, ◌+◌, ◌≤◌, ◌&&◌, nat_le, unwrap_or, option_map}
+use Rattle.std.proofs.Common.{◌≡◌, ℕ, List, [], ◌++◌, Bool, true, false, cond, take, drop, length, Option, Some, None, refl, sym, ap, ◌∙◌, arith, take_all, take-append-drop, MatchOption, ◌∷◌, ◌-◌, ◌+◌, ◌≤◌, ◌&&◌, nat_le, unwrap_or, option_map}
 use Rattle.std.proofs.lemmas.List.{take-append-le}
 use Rattle.std.specs.Str.{bytes_eq, is_utf8, IsUtf8}
 use Rattle.std.specs.Str.Pattern.{FindsTextPrefix, StripsPrefix, LacksTextAt}

@@ -1,20 +1,17 @@
 -- The next entry of a site comes last.
-use Rattle.std.proofs.Common.{◌≡◌, ◌≤◌, ◌<◌, ℕ, Bool, true, false, cond, List, [], ◌∷◌, ◌++◌, Option, Some, None, Result, Ok, Err, length, refl, sym, ap, ◌∙◌, subst, option_and_then, unwrap_or}
+use Rattle.std.proofs.Common.{◌≡◌, ◌≤◌, ◌<◌, ℕ, Bool, true, false, cond, List, [], ◌∷◌, ◌++◌, Option, Some, None, Result, Ok, Err, length, refl, sym, ap, ◌∙◌, subst, unwrap_or}
 use Rattle.std.specs.Prelude.{nat_le, nat_lt, IsOk}
 use Rattle.std.proofs.lemmas.Bool.{leb-true, ltb-true}
 use Rattle.td_stamps.specs.declared.entry.Entry.{Entry}
 use Rattle.td_stamps.specs.declared.errors.NextError.{NextError}
-use Rattle.td_stamps.specs.Checks.{next_of, check_of}
-use Rattle.td_stamps.specs.Story as story
+use Rattle.td_stamps.specs.Checks.{next_of}
 use Rattle.td_stamps.proofs.Next.{next_fits, union_last}
 use Rattle.td_stamps.proofs.Stories.{kept_at_end}
-use Rattle.td_tokens.specs.Lex.{Lexeme}
-use Rattle.td_tokens.specs.Lexer.{lexemes}
 use Rattle.td_console.specs.declared.catalogue.Relvar.{Relvar}
 use Rattle.td_console.specs.declared.tree.Insertion.{Insertion}
 use Rattle.td_console.specs.declared.refusal.IssueError.{IssueError}
 use Rattle.td_console.specs.declared.refusal.IssueError.TheVariants as issue_error
-use Rattle.td_console.specs.Reader.{read_statement, statement_of_tokens}
+use Rattle.td_console.specs.Reader.{read_statement}
 use Rattle.td_console.specs.Typing.{Typed, typed, catalogue_of, statement_of}
 use Rattle.td_console.specs.Step.{Relations, step, opening, relations_after, outcomes_of, AreRelations}
 use Rattle.td_console.specs.Seen.{Seen, Keeps, with_entries, relvars_in}
@@ -24,7 +21,7 @@ use Rattle.td_stamps.proofs.Stories.{state_after-push, outcomes_from-push}
 use Rattle.td_console.specs.declared.step.Outcome.{Outcome}
 use Rattle.td_console.specs.declared.step.Ran.{Ran}
 use Rattle.td_console.specs.Runs.{changed, RunsTyped}
-use Rattle.td_console.specs.Sites.{issue_of, outcome_in, outcomes_of as told_of, statement_read, statement_typed, numbered, if_room, ComesLast}
+use Rattle.td_console.specs.Sites.{issue_of, outcome_in, outcomes_of as told_of, statement_read, statement_typed, numbered, ComesLast}
 use Rattle.td_console.proofs.Steps.{step_keeps, opening_are}
 
 -- the relations of a story are those of its relvars, with every key true

@@ -1,21 +1,20 @@
 -- Keys stay true where the added tuples are alone on them.
-use Rattle.std.proofs.Common.{◌≡◌, ◌≢◌, ℕ, zero, suc, Bool, true, false, not, ◌&&◌, ◌||◌, cond, List, [], ◌∷◌, map, Option, Some, None, refl, sym, ap, ◌∙◌, subst, ◌⊎◌, inl, inr, ◌↔◌, arith}
-use Rattle.std.specs.List.{list_all, list_any, slice_get, slice_set, Contains}
+use Rattle.std.proofs.Common.{◌≡◌, ℕ, zero, suc, Bool, true, false, ◌||◌, cond, List, [], ◌∷◌, map, Option, Some, None, refl, sym, ap, ◌∙◌, subst, ◌⊎◌, inl, inr, arith}
+use Rattle.std.specs.List.{list_all, slice_get, slice_set, Contains}
 use Rattle.std.specs.declared.cmp.Ordering.{Ordering}
 use Rattle.std.specs.declared.cmp.Ordering.TheVariants.{Less, Equal, Greater}
-use Rattle.std.specs.Ordering.{is_eq, eq_by_cmp, ordering_reverse}
+use Rattle.std.specs.Ordering.{is_eq, ordering_reverse}
 use Rattle.std.specs.FinSet as set
-use Rattle.std.specs.Cmp.{IsTotalOrder}
 use Rattle.td_values.specs.Data.{Datum, Attrs}
-use Rattle.td_values.specs.Order.{order, attrs_order}
+use Rattle.td_values.specs.Order.{attrs_order}
 use Rattle.td_values.specs.Attributes.{attribute_of}
 use Rattle.td_values.specs.Rows.{RowsData}
-use Rattle.td_values.specs.Total.{antisymm, attrs_antisymm, attrs_order_total, attrs_tied}
-use Rattle.td_relations.specs.Sets.{body, Has, relation_of}
+use Rattle.td_values.specs.Total.{antisymm, attrs_antisymm, attrs_order_total}
+use Rattle.td_relations.specs.Sets.{body}
 use Rattle.td_relations.proofs.Members.{relation_of_is, has_listed}
 use Rattle.td_console.proofs.Typed.{all_at}
 use Rattle.td_console.specs.declared.catalogue.Relvar.{Relvar}
-use Rattle.td_console.specs.Step.{Relations, same_value, agree, is_same, are_apart, is_alone, is_unique, with_tuples, with_tuples_at, first_broken, IsLegal}
+use Rattle.td_console.specs.Step.{Relations, same_value, agree, are_apart, is_alone, is_unique, with_tuples, with_tuples_at, first_broken}
 
 -- ---- two tuples are apart or not, whichever comes first
 

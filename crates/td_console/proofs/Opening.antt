@@ -1,9 +1,7 @@
 -- Opening the sites of a script, and what the program writes of it.
-use Rattle.std.proofs.Common.{◌≡◌, ◌⊎◌, inl, inr, ℕ, Bool, true, false, cond, List, [], ◌∷◌, ◌++◌, Option, None, Some, Result, Ok, Err, refl, sym, ap, ◌∙◌, subst, append_assoc, append-nil}
+use Rattle.std.proofs.Common.{◌≡◌, ◌⊎◌, inl, inr, ℕ, Bool, true, false, cond, List, [], ◌∷◌, Option, None, Some, Result, Ok, Err, refl, sym, ap, ◌∙◌, subst}
 use Rattle.std.specs.Str.{is_utf8, IsUtf8}
 use Rattle.std.proofs.lemmas.Str.{IsUtf8-from_is_utf8, is_utf8-from_IsUtf8}
-use Rattle.std.specs.Io.KnownBytes.{Appends, Consumes, IsAtEnd}
-use Rattle.std.proofs.KnownBytes.{Consumes-nil}
 use Rattle.td_console.specs.declared.catalogue.Relvar.{Relvar}
 use Rattle.td_console.specs.declared.tree.Definition.{Definition}
 use Rattle.td_console.specs.declared.refusal.OpenError.{OpenError}
@@ -13,8 +11,6 @@ use Rattle.td_console.specs.declared.workbench.Ended.TheVariants as ended
 use Rattle.td_console.specs.Reader.{read_script}
 use Rattle.td_console.specs.Seen.{Seen}
 use Rattle.td_console.specs.Sites.{open_of, script_read, typed_script, Opens}
-use Rattle.td_console.specs.Printed.{Sites}
-use Rattle.td_console.specs.Lines.{raw_lines}
 use Rattle.td_console.specs.Workbench.{PutEnds}
 use Rattle.td_console.specs.Program.{first_site, second_site, sites_of, OpensSites, Says, IsFault, IsReady, Stops, EndsAfter, script_fault, ready}
 

@@ -1,6 +1,6 @@
 -- Lines read and answered one after the other.
-use Rattle.std.proofs.Common.{◌≡◌, ◌⊎◌, inl, inr, ℕ, zero, suc, ◌+◌, ◌==◌, Bool, true, false, not, cond, ◌&&◌, ◌||◌, List, [], ◌∷◌, ◌++◌, map, take, take_while, length, Option, None, Some, Result, Ok, Err, refl, sym, ap, ◌∙◌, subst, append_assoc, append-nil, arith}
-use Rattle.std.specs.List.{AllByRecursion, list_any, list_all}
+use Rattle.std.proofs.Common.{◌≡◌, inl, inr, ℕ, suc, ◌+◌, ◌==◌, Bool, true, false, not, cond, ◌&&◌, ◌||◌, List, [], ◌∷◌, ◌++◌, take, length, Option, None, Some, Result, Ok, Err, refl, sym, ap, ◌∙◌, subst, append_assoc, append-nil, arith}
+use Rattle.std.specs.List.{AllByRecursion, list_any}
 use Rattle.std.specs.Io.KnownBytes.{Appends, Consumes, IsAtEnd}
 use Rattle.std.proofs.lemmas.List.Sums.{take_while-cons}
 use Rattle.std.proofs.KnownBytes.{Appends-trans, Consumes-trans}
@@ -8,7 +8,7 @@ use Rattle.td_console.specs.declared.workbench.Ended.{Ended}
 use Rattle.td_console.specs.declared.workbench.Ended.TheVariants.{OutOfMemory, ReadFault, WriteFault}
 use Rattle.td_console.specs.Streams.{is_one_line, IsWholeLine, AppendsFront}
 use Rattle.td_console.specs.Lines.{Line, nothing, onto, raw_lines, content, line_of, said, asked, is_quit}
-use Rattle.td_console.specs.Printed.{Sites, Answered, Begun, Printed}
+use Rattle.td_console.specs.Printed.{Sites, Answered, Printed}
 use Rattle.td_console.specs.Workbench.{LineEnds, Ends, WorkbenchEnds}
 
 -- ---- splitting at LF

@@ -1,23 +1,20 @@
 -- What running a statement tells is its step, and the step keeps every key true.
 use Rattle.std.specs.Result.{IfOk}
-use Rattle.std.proofs.Common.{Result, Ok, Err, ◌≡◌, ◌<◌, ℕ, Bool, true, false, cond, List, [], ◌∷◌, map, Option, Some, None, option_map, length, refl, sym, ap, ◌∙◌, subst}
-use Rattle.std.specs.List.{list_all, slice_get, slice_set}
+use Rattle.std.proofs.Common.{Result, Ok, Err, ◌≡◌, ℕ, Bool, true, false, cond, List, [], ◌∷◌, map, Option, Some, None, option_map, refl, sym, ap, ◌∙◌, subst}
+use Rattle.std.specs.List.{list_all, slice_get}
 use Rattle.std.proofs.lemmas.Option.{slice_get-map, slice_get_within}
 use Rattle.td_values.specs.Headings.{Header}
 use Rattle.td_values.specs.Rows.{RowsData}
-use Rattle.td_values.specs.Data.{Attrs}
 use Rattle.td_console.specs.declared.catalogue.Relvar.{Relvar}
-use Rattle.td_console.specs.declared.step.Outcome.{Outcome}
-use Rattle.td_console.specs.declared.step.Outcome.TheVariants.{Done, Unread, BreaksKey}
 use Rattle.td_console.specs.declared.step.Ran.{Ran}
 use Rattle.td_console.specs.Typing.{Typed, has_heading, statement_of}
-use Rattle.td_console.specs.Step.{Relations, with_tuples, with_tuples_at, first_broken, judged, step_of, step, opening, AreRelations}
+use Rattle.td_console.specs.Step.{Relations, with_tuples_at, first_broken, judged, step_of, step, opening, AreRelations}
 use Rattle.std.specs.FinSet as set
 use Rattle.std.specs.List.Sorted.{IsStrictlySortedBy}
 use Rattle.td_values.specs.Order.{attrs_order}
 use Rattle.td_relations.specs.Sets.{ascending}
 use Rattle.td_relations.proofs.Members.{tuples_are}
-use Rattle.td_console.specs.Runs.{changed, inserted, InsertRan, RunsTyped}
+use Rattle.td_console.specs.Runs.{inserted, InsertRan, RunsTyped}
 use Rattle.td_console.proofs.Typed.{IsTyped, statement_typed}
 use Rattle.td_console.proofs.Keys.{are_alone, broken_changed, changed_at, headings_stay}
 

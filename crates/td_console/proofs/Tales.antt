@@ -1,7 +1,6 @@
 -- One more entry of a story.
-use Rattle.std.proofs.Common.{◌≡◌, ℕ, ◌+◌, ◌<◌, List, [], ◌∷◌, ◌++◌, Option, drop, length, get_or, suc, sym, ap, ◌∙◌, subst, add-one, append_assoc, drop-cons}
+use Rattle.std.proofs.Common.{◌≡◌, ℕ, ◌+◌, ◌<◌, List, ◌∷◌, drop, length, get_or, suc, sym, ap, ◌∙◌, subst, add-one, drop-cons}
 use Rattle.td_stamps.specs.declared.entry.Entry.{Entry}
-use Rattle.td_stamps.specs.declared.entry.Stamp.{Stamp}
 use Rattle.td_stamps.specs.Entries.{stamp_of}
 use Rattle.td_stamps.specs.Story as story
 use Rattle.td_console.specs.declared.catalogue.Relvar.{Relvar}

@@ -1,5 +1,5 @@
 -- What typing tests decide.
-use Rattle.std.proofs.Common.{◌≡◌, ◌↔◌, ◌<◌, length, get_or, ℕ, List, [], ◌∷◌, ◌++◌, Option, Some, None, option_map, option_and_then, cond, ◌&&◌, Bool, true, false, IsTrue, refl, sym, ap, ◌∙◌, subst}
+use Rattle.std.proofs.Common.{◌≡◌, ◌↔◌, ◌<◌, length, get_or, ℕ, List, [], ◌∷◌, ◌++◌, Option, Some, None, option_map, option_and_then, cond, Bool, true, false, IsTrue, refl, sym, ◌∙◌, subst}
 use Rattle.std.specs.declared.cmp.Ordering.{Ordering}
 use Rattle.std.specs.declared.cmp.Ordering.TheVariants.{Less, Equal, Greater}
 use Rattle.std.specs.Ordering.{is_eq, ordering_reverse}

@@ -1,5 +1,5 @@
 -- The grammar: which tokens spell which tree. A text reads as a tree where its tokens are those that spell the tree.
-use Rattle.std.specs.Prelude.{◌≡◌, ◌≢◌, ◌≤◌, ℕ, List, [], ◌∷◌, ◌++◌, length, map, Option, Some}
+use Rattle.std.specs.Prelude.{◌≡◌, ◌≢◌, ◌≤◌, ℕ, List, [], ◌∷◌, ◌++◌, length, map, Some}
 use Rattle.std.specs.List.{flat_map}
 use Rattle.td_tokens.specs.declared.token.Word.TheVariants as w
 use Rattle.td_tokens.specs.Lex.{Lexeme, word, name, int, text}

@@ -1,11 +1,9 @@
 -- How the grammar is read: a function that computes the tree of a list of tokens. Private clauses cite it, and a law says that it decides the grammar.
-use Rattle.std.specs.Prelude.{◌≡◌, ℕ, zero, suc, nat_le, Bool, true, false, if◌then◌else◌, List, [], ◌∷◌, ◌++◌, Option, Some, None, length, option_and_then}
+use Rattle.std.specs.Prelude.{ℕ, zero, suc, nat_le, Bool, true, false, if◌then◌else◌, List, [], ◌∷◌, ◌++◌, Option, Some, None, length, option_and_then}
 use denote.Enum.Bare.{sameb}
 use Rattle.td_tokens.specs.contracts.token.Word.{the_type}
 use Rattle.td_tokens.specs.declared.token.Word.{Word}
 use Rattle.td_tokens.specs.declared.token.Word.TheVariants as w
-use Rattle.td_tokens.specs.declared.token.Kind.{Kind}
-use Rattle.td_tokens.specs.declared.token.Kind.TheVariants as k
 use Rattle.td_tokens.specs.Lex.{Lexeme, word, name, int, text}
 use Rattle.td_tokens.specs.Lexer.{lexemes}
 use Rattle.td_console.specs.declared.tree.ScalarType.{ScalarType}

@@ -2,7 +2,7 @@
 use Rattle.std.specs.Prelude.{◌≡◌, Bool, true, Option, Some, None, Result, Ok, Err, map}
 use Rattle.std.specs.Global.{Vec}
 use Rattle.td_values.specs.Names.{is_name}
-use Rattle.td_tokens.specs.Lex.{Lexeme, word, name, int, text}
+use Rattle.td_tokens.specs.Lex.{Lexeme, name}
 use Rattle.td_tokens.specs.declared.token.Token.{Token}
 use Rattle.td_tokens.specs.View.{lexeme_of}
 use Rattle.td_console.specs.declared.refusal.ReadError.{ReadError}

@@ -1,7 +1,6 @@
 -- What a function that runs statements ensures.
 use Rattle.std.specs.List.{list_all}
 use Rattle.std.specs.Prelude.{◌≡◌, ◌<◌, ℕ, Bool, true, false, List, length, Option, Some, None, IfSome, slice_set}
-use Rattle.td_values.specs.Data.{Attrs}
 use Rattle.td_values.specs.Rows.{RowsData}
 use Rattle.td_stamps.specs.declared.entry.Entry.{Entry}
 use Rattle.td_console.specs.declared.catalogue.Relvar.{Relvar}
@@ -9,7 +8,7 @@ use Rattle.td_console.specs.declared.step.Outcome.TheVariants as Outcome
 use Rattle.td_console.specs.declared.step.Ran.{Ran}
 use Rattle.td_console.specs.declared.step.Told.{Told}
 use Rattle.td_console.specs.Typing.{Typed}
-use Rattle.td_console.specs.Step.{Relations, with_tuples, is_alone, step_of, step, relations_after, outcomes_of}
+use Rattle.td_console.specs.Step.{Relations, with_tuples, is_alone, step_of, relations_after, outcomes_of}
 
 -- with the relation that a change is for replaced
 abbrev pub changed : Relations → Option (ℕ × RowsData) → Relations

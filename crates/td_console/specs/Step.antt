@@ -1,13 +1,12 @@
 -- The step of one statement: what it makes of the relvars, and its outcome.
-use Rattle.std.specs.Prelude.{◌≡◌, ℕ, zero, suc, Bool, true, false, not, ◌||◌, if◌then◌else◌, List, [], ◌∷◌, ◌++◌, map, Option, Some, None, option_map, length}
+use Rattle.std.specs.Prelude.{◌≡◌, ℕ, zero, suc, Bool, true, false, not, ◌||◌, if◌then◌else◌, List, [], ◌∷◌, map, Option, Some, None}
 use Rattle.std.specs.List.{list_all}
 use Rattle.std.specs.Ordering.{is_eq, eq_by_cmp}
 use Rattle.std.specs.FinSet as set
 use Rattle.td_values.specs.Data.{Datum, Attrs}
 use Rattle.td_values.specs.Order.{order, attrs_order}
 use Rattle.td_values.specs.Attributes.{attribute_of}
-use Rattle.td_values.specs.Headings.{Header, header_fields}
-use Rattle.td_values.specs.Rows.{RowsData, AreRows}
+use Rattle.td_values.specs.Rows.{RowsData}
 use Rattle.td_relations.specs.Sets.{body, relation_of}
 use Rattle.td_stamps.specs.declared.entry.Entry.{Entry}
 use Rattle.td_stamps.specs.declared.entry.Stamp.{Stamp}

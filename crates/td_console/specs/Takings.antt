@@ -1,5 +1,5 @@
 -- What taking from another site of the same sites tells.
-use Rattle.std.specs.Prelude.{◌≡◌, ℕ, List, Some, Result, slice_get, slice_set}
+use Rattle.std.specs.Prelude.{◌≡◌, ℕ, Some, Result, slice_get, slice_set}
 use Rattle.td_stamps.specs.declared.errors.PrepareError.{PrepareError}
 use Rattle.td_console.specs.declared.site.Taken.{Taken}
 use Rattle.td_console.specs.Seen.{Seen}

@@ -1,9 +1,9 @@
 -- The typing of scripts and statements: the relvars that a script defines, and the tuples that a statement inserts.
-use Rattle.std.specs.Prelude.{◌≡◌, ℕ, ◌+◌, ◌^◌, nat_lt, pos, Bool, true, false, not, ◌&&◌, if◌then◌else◌, List, [], ◌∷◌, ◌++◌, Option, Some, None, is_some, option_map, option_and_then, length, position, slice_get}
-use Rattle.std.specs.List.{list_any, list_all}
+use Rattle.std.specs.Prelude.{ℕ, ◌^◌, nat_lt, pos, Bool, true, not, ◌&&◌, if◌then◌else◌, List, [], ◌∷◌, ◌++◌, Option, Some, None, is_some, option_map, option_and_then, position, slice_get}
+use Rattle.std.specs.List.{list_any}
 use Rattle.std.specs.Ordering.{is_eq, eq_by_cmp}
 use Rattle.std.specs.FinMap as map
-use Rattle.td_values.specs.Data.{Ty, integer_type, char_type, Datum, integer, char, Attrs, attrs_of, Fields}
+use Rattle.td_values.specs.Data.{Ty, integer_type, char_type, Datum, integer, char, Attrs, attrs_of}
 use Rattle.td_values.specs.Order.{fields_order, text_cmp}
 use Rattle.td_values.specs.Headings.{Header, header_fields}
 use Rattle.td_values.specs.Whole.{heading_of}

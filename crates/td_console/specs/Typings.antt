@@ -1,6 +1,5 @@
 -- What a function that types ensures.
-use Rattle.std.specs.Prelude.{◌≡◌, ℕ, List, Option, Some, None, Result, Ok, Err}
-use Rattle.td_values.specs.Data.{Attrs}
+use Rattle.std.specs.Prelude.{◌≡◌, Option, Some, None, Result, Ok, Err}
 use Rattle.td_console.specs.declared.refusal.TypeError.{TypeError}
 use Rattle.td_console.specs.declared.refusal.TypeError.TheVariants.{IllTyped, OutOfMemory}
 use Rattle.td_console.specs.declared.catalogue.Insert.{Insert}

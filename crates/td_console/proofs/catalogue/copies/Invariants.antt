@@ -1,6 +1,4 @@
-use Rattle.std.proofs.Common.{◌≡◌, drop, take, length, [], Some}
-use Rattle.std.specs.FinMap as map
-use Rattle.td_console.specs.Typing as spec
+use Rattle.std.proofs.Common.{◌≡◌, take}
 use Rattle.td_console.proofs.catalogue.copies.Given as goal
 
 abbrev pub invariant-loop-name : goal.invariant-loop-name

@@ -1,4 +1,4 @@
-use Rattle.std.proofs.Common.{◌≡◌, drop, take, length, [], Some}
+use Rattle.std.proofs.Common.{◌≡◌, drop}
 use Rattle.std.specs.FinMap as map
 use Rattle.td_console.specs.Typing as spec
 use Rattle.td_console.proofs.catalogue.heading_of.Given as goal

@@ -1,5 +1,4 @@
-use Rattle.std.proofs.Common.{◌≡◌, drop, take, length, [], Some}
-use Rattle.std.specs.FinMap as map
+use Rattle.std.proofs.Common.{◌≡◌, length}
 use Rattle.td_console.specs.Typing as spec
 use Rattle.td_console.proofs.catalogue.is_key_of.Given as goal
 

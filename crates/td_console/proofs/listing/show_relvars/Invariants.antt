@@ -1,5 +1,4 @@
-use Rattle.std.proofs.Common.{◌≡◌, ◌++◌, ◌-◌, take, drop, length, string_bytes}
-use Rattle.std.specs.List.{flat_map}
+use Rattle.std.proofs.Common.{◌≡◌, ◌++◌, ◌-◌, drop, length, string_bytes}
 use Rattle.td_console.specs.Texts as spec
 use Rattle.td_console.proofs.listing.show_relvars.Given as goal
 

@@ -1,4 +1,4 @@
-use Rattle.std.proofs.Common.{rules, ◌++◌, take}
+use Rattle.std.proofs.Common.{◌++◌, take}
 use Rattle.std.proofs.KnownBytes.{Appends-trans}
 use Rattle.td_console.proofs.Streamed.{moves_front}
 use Rattle.td_console.proofs.output.put_all.Goals as goal

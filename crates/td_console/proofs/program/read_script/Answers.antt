@@ -1,6 +1,5 @@
-use Rattle.std.proofs.Common.{◌≡◌, List, ℕ, refl, sym, ap, subst, Ok, Err, [], ◌∷◌, ◌++◌, ◌∙◌}
-use Rattle.std.proofs.KnownBytes.{Consumes-nil, Consumes-trans}
-use Rattle.std.specs.Str.{bytes_eq}
+use Rattle.std.proofs.Common.{List, ℕ, sym, ap, [], ◌∷◌, ◌++◌, ◌∙◌}
+use Rattle.std.proofs.KnownBytes.{Consumes-trans}
 use Rattle.td_console.specs.Lines.{content}
 use Rattle.td_console.proofs.Serving.{joined, joined_more, whole_more}
 use Rattle.td_console.proofs.Scripts.{no_begin_more, no_begin, begun, begin_is, told_unread}

@@ -1,5 +1,5 @@
-use Rattle.std.proofs.Common.{◌≡◌, ◌++◌, refl, sym, ap, subst, Ok, Err, [], inl, inr}
-use Rattle.std.proofs.KnownBytes.{Consumes-nil, Consumes-trans}
+use Rattle.std.proofs.Common.{◌++◌, refl, inl, inr}
+use Rattle.std.proofs.KnownBytes.{Consumes-trans}
 use Rattle.td_console.proofs.Opening.{fault_written}
 use Rattle.td_console.proofs.program.run_program.Goals as goal
 

@@ -1,7 +1,7 @@
-use Rattle.std.proofs.Common.{◌≡◌, List, ℕ, ◌++◌, Result, Bool, refl, sym, ap, ◌∙◌, subst, Ok, Err, [], inl}
+use Rattle.std.proofs.Common.{List, ℕ, ◌++◌, refl, ◌∙◌, subst, Ok, Err, [], inl}
 use Rattle.std.proofs.KnownBytes.{Consumes-nil}
 use Rattle.td_console.specs.Workbench.{PutEnds}
-use Rattle.td_console.specs.Program.{OpensSites, ready}
+use Rattle.td_console.specs.Program.{OpensSites}
 use Rattle.td_console.proofs.Opening.{refused_says, fault_written, ready_stops}
 use Rattle.td_console.proofs.program.start.Goals as goal
 

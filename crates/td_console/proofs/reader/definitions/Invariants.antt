@@ -1,4 +1,4 @@
-use Rattle.std.proofs.Common.{◌≡◌, ◌-◌, []}
+use Rattle.std.proofs.Common.{◌≡◌, ◌-◌}
 use Rattle.td_console.specs.Reader.{definitions_from, definitions_of}
 use Rattle.td_console.proofs.reader.definitions.Given as goal
 

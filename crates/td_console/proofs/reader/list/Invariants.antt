@@ -1,4 +1,4 @@
-use Rattle.std.proofs.Common.{◌≡◌, ◌-◌, []}
+use Rattle.std.proofs.Common.{◌≡◌, ◌-◌}
 use Rattle.td_console.specs.Reader.{list_from, list_at}
 use Rattle.td_console.proofs.reader.list.Given as goal
 

@@ -1,7 +1,6 @@
-use Rattle.std.proofs.Common.{◌≡◌, ℕ, List, Option, Some, option_map, length, refl, sym, ap, ◌∙◌, subst, Result, Ok, Err}
+use Rattle.std.proofs.Common.{Option, option_map, length, refl, sym, ap, ◌∙◌, subst}
 use Rattle.std.specs.Result.{IfOk}
 use Rattle.std.proofs.lemmas.Option.{slice_get_read}
-use Rattle.td_console.specs.declared.step.Ran.{Ran}
 use Rattle.td_console.specs.Typing.{Typed}
 use Rattle.td_console.specs.Typings.{insert_of}
 use Rattle.td_console.specs.Runs.{RunsTyped}

@@ -1,11 +1,7 @@
-use Rattle.std.proofs.Common.{◌≡◌, ◌∷◌, [], ◌++◌, List, refl, sym, ap, ◌∙◌, subst, append_assoc}
-use Rattle.td_stamps.specs.declared.entry.Entry.{Entry}
+use Rattle.std.proofs.Common.{◌∷◌, [], ◌++◌, refl, sym, ap, ◌∙◌, subst, append_assoc}
 use Rattle.td_stamps.specs.declared.entry.Stamp.{Stamp}
 use Rattle.td_stamps.specs.Story as story
-use Rattle.td_console.specs.declared.step.Outcome.{Outcome}
 use Rattle.td_console.specs.Step.{Relations, step, AreRelations}
-use Rattle.td_console.specs.Typing.{statement_of}
-use Rattle.td_console.specs.Runs.{RunsTyped}
 use Rattle.td_console.proofs.Steps.{opening_are}
 use Rattle.td_console.proofs.Tales.{next_is, state_goes_on, outcomes_go_on, keys_go_on}
 use Rattle.td_console.proofs.step.story.Goals as goal

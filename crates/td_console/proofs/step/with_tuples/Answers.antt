@@ -1,8 +1,8 @@
 use Rattle.std.proofs.Common.{List, sym, ap, ◌∙◌, subst, take, take_all}
 use Rattle.std.specs.FinSet as set
 use Rattle.td_values.specs.Data.{Attrs}
-use Rattle.td_values.specs.Headings.{Header, header_fields}
-use Rattle.td_relations.specs.Sets.{TupleSet, body, IsRelation}
+use Rattle.td_values.specs.Headings.{header_fields}
+use Rattle.td_relations.specs.Sets.{body, IsRelation}
 use Rattle.td_console.proofs.Added.{added, added_more, insert_more, union_is}
 use Rattle.td_console.proofs.Typed.{heading_at}
 use Rattle.td_console.proofs.step.with_tuples.Goals as goal

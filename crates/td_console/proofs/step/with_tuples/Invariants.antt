@@ -1,7 +1,4 @@
-use Rattle.std.proofs.Common.{◌≡◌, take}
-use Rattle.std.specs.FinSet as set
-use Rattle.td_values.specs.Rows.{RowsData}
-use Rattle.td_values.specs.Data.{Attrs}
+use Rattle.std.proofs.Common.{take}
 use Rattle.td_relations.specs.Sets.{body, IsRelation}
 use Rattle.td_console.proofs.Added.{added}
 use Rattle.td_console.proofs.step.with_tuples.Given as goal

@@ -1,4 +1,4 @@
-use Rattle.std.proofs.Common.{◌≡◌, List, ℕ, [], ◌∷◌, ◌++◌, Bool, true, false, sym, refl, subst, ap, ◌∙◌, None, Ok, Err}
+use Rattle.std.proofs.Common.{[], ◌∷◌, ◌++◌, true, false, sym, ap, ◌∙◌, Ok, Err}
 use Rattle.std.proofs.KnownBytes.{Consumes-nil, Consumes-trans}
 use Rattle.td_console.specs.declared.workbench.Ended.TheVariants.{ReadFault}
 use Rattle.td_console.specs.Lines.{content, raw_lines}
