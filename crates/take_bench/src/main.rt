@@ -5,6 +5,8 @@
 //! entries are held then, which is the same at each run.
 #![tactic(auto)]
 
+ghost use Rattle.std.specs.Prelude.{◌≡◌, IfOk, length};
+
 use anyhow::Result;
 use std::alloc::{AllocError, Global};
 use std::time::{Duration, Instant};
@@ -21,10 +23,13 @@ const LIMIT: usize = 10_000;
 const STATEMENT: &str = "INSERT S RELATION { TUPLE { SNO 'S1', STATUS 20, CITY 'London' } };";
 
 // So many entries of a site, at the clocks from 1 on.
-fn entries_of(alloc: Global, site: u16, count: u32) -> Result<Vec<Entry>, AllocError> {
+fn entries_of(alloc: Global, site: u16, count: u32) -> Result<Vec<Entry>, AllocError>
+    ensures { IfOk result (λ entries. length entries.items ≡ count) }
+{
     let text = Text::from_str(alloc, STATEMENT)?;
     let mut entries = Vec::new(alloc);
-    for seq in 1..=count {
+    for before in 0..count {
+        let seq = before + 1;
         entries.push(Entry {
             site,
             seq,
