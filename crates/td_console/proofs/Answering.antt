@@ -15,14 +15,16 @@ use Rattle.td_console.specs.declared.refusal.IssueError.{IssueError}
 use Rattle.td_console.specs.declared.refusal.IssueError.TheVariants as issue_error
 use Rattle.td_console.specs.declared.site.Issued.{Issued}
 use Rattle.td_console.specs.declared.site.Taken.{Taken}
+use Rattle.td_console.specs.declared.workbench.Ended.{Ended}
+use Rattle.td_console.specs.declared.workbench.Ended.TheVariants.{OutOfMemory, ReadFault, WriteFault}
 use Rattle.td_console.specs.declared.workbench.Reply.{Reply}
 use Rattle.td_console.specs.declared.workbench.Reply.TheVariants as reply
 use Rattle.td_console.specs.Seen.{Seen}
 use Rattle.td_console.specs.Sites.{issue_of, IssuesEntry, Issues, Takes}
 use Rattle.td_console.specs.Texts.{listing_of}
 use Rattle.td_console.specs.Lines.{Line, is_quit}
-use Rattle.td_console.specs.Printed.{Sites, Placed, Answer, site_of, issue_fault, issued_text, issued, issue_answer, listing_answer, take_fault, met_line, joined, first_take, second_take, meet_answer, half_met, answer_to, half_done}
-use Rattle.td_console.specs.Workbench.{SaysText, Gives, Replies, SaysFault, MeetingReplies}
+use Rattle.td_console.specs.Printed.{Sites, Placed, Answer, site_of, issue_fault, issued_text, issued, issue_answer, listing_answer, take_fault, met_line, joined, first_take, second_take, meet_answer, half_taken, half_met, answer_to, half_done, is_command, Answered}
+use Rattle.td_console.specs.Workbench.{SaysText, SaysAtOnce, Gives, GivesTo, Replies, PutEnds, LineEnds, SaysFault, MeetingReplies}
 use Rattle.td_console.specs.Takings.{first_of, TookFrom}
 
 -- ---- a site by its number and by its place
@@ -73,12 +75,22 @@ says_by (Err x) r t is e = subst (SaysText t) (sym e) tt
 pub gives_text : (a : Answer) (old half : Sites) (r : Reply) (new : Sites) → SaysText a.0 r → new ≡ a.1 → Gives a old half r new
 gives_text a old half r new says is = inl (says, is)
 
-pub replies_of : (old : Sites) (l : Line) (r : Reply) (new : Sites) → is_quit l ≡ false → Gives (answer_to old l) old (half_done old l) r new → Replies old l r new
-replies_of old l (reply.Text x) new other g = (other, g)
-replies_of old l (reply.Fault x) new other g = (other, g)
-replies_of old l reply.Unsaid new other g = (other, g)
-replies_of old l reply.Quit new other (inl g) = absurd g.0
-replies_of old l reply.Quit new other (inr g) = absurd g.0
+no_quit : (a : Answer) (old half new : Sites) → Gives a old half reply.Quit new → ⊥
+no_quit a old half new (inl g) = g.0
+no_quit a old half new (inr g) = g.0
+
+-- to a command
+pub replies_of : (old : Sites) (l : Line) (r : Reply) (new : Sites) → is_quit l ≡ false → is_command l ≡ true → Gives (answer_to old l) old (half_done old l) r new → Replies old l r new
+replies_of old l (reply.Text x) new other asks g = (other, rw asks g)
+replies_of old l (reply.Fault x) new other asks g = (other, rw asks g)
+replies_of old l reply.Unsaid new other asks g = (other, rw asks g)
+replies_of old l reply.Quit new other asks g = absurd (no_quit (answer_to old l) old (half_done old l) new g)
+
+pub says_at_once : (t : List ℕ) (r : Reply) → SaysAtOnce t r → SaysText t r
+says_at_once t (reply.Text x) says = absurd says
+says_at_once t (reply.Fault x) says = says
+says_at_once t reply.Unsaid says = absurd says
+says_at_once t reply.Quit says = says
 
 -- ---- .listing n
 
@@ -112,15 +124,15 @@ issues n ss at d text i s' r place within (e, told) says =
 refused_at : (ss : Sites) (at : ℕ) (s : Seen) (text : List ℕ) (x : IssueError) (r : Reply) → issue_of s text ≡ Err x → SaysText (issue_fault x) r → Gives (issued ss (at, s) text (issue_of s text)) ss ss r ss
 refused_at ss at s text x r is says = subst (λ (o : Result Entry IssueError). Gives (issued ss (at, s) text o) ss ss r ss) (sym is) (inl (says, refl))
 
-refused : (ss : Sites) (at : ℕ) (s : Seen) (text : List ℕ) (x : IssueError) (s' : Seen) (r : Reply) → Issues s text (Err x) s' → SaysText (issue_fault x) r → (s' ≡ s) × Gives (issued ss (at, s) text (issue_of s text)) ss ss r ss
-refused ss at s text issue_error.Syntax s' r told says = (told.1, refused_at ss at s text _ r told.0 says)
-refused ss at s text issue_error.IllTyped s' r told says = (told.1, refused_at ss at s text _ r told.0 says)
-refused ss at s text issue_error.ClockEnd s' r told says = (told.1, refused_at ss at s text _ r told.0 says)
-refused ss at s text issue_error.Full s' r told says = (told.1, refused_at ss at s text _ r told.0 says)
+refused : (ss : Sites) (at : ℕ) (s : Seen) (text : List ℕ) (x : IssueError) (s' : Seen) (r : Reply) → Issues s text (Err x) s' → SaysAtOnce (issue_fault x) r → (s' ≡ s) × Gives (issued ss (at, s) text (issue_of s text)) ss ss r ss
+refused ss at s text issue_error.Syntax s' r told says = (told.1, refused_at ss at s text _ r told.0 (says_at_once _ r says))
+refused ss at s text issue_error.IllTyped s' r told says = (told.1, refused_at ss at s text _ r told.0 (says_at_once _ r says))
+refused ss at s text issue_error.ClockEnd s' r told says = (told.1, refused_at ss at s text _ r told.0 (says_at_once _ r says))
+refused ss at s text issue_error.Full s' r told says = (told.1, refused_at ss at s text _ r told.0 (says_at_once _ r says))
 refused ss at s text issue_error.OutOfMemory s' r told says = (told, inr (says, inl refl))
 
 pub refuses : (n : ℕ) (ss : Sites) (at : ℕ) (d : Seen) (text : List ℕ) (e : IssueError) (s' : Seen) (r : Reply) → Some at ≡ option_map first_of (site_of n ss) → at < length ss
-    → Issues (get_or ss at d) text (Err e) s' → SaysText (issue_fault e) r → Gives (issue_answer ss text (site_of n ss)) ss ss r (slice_set ss at s')
+    → Issues (get_or ss at d) text (Err e) s' → SaysAtOnce (issue_fault e) r → Gives (issue_answer ss text (site_of n ss)) ss ss r (slice_set ss at s')
 refuses n ss at d text e s' r place within told says =
     let (s, is) = placed n ss at place in
     let same = read_is ss at s d within is.there in
@@ -152,21 +164,21 @@ get_other (y ∷ ss) (suc a) (suc b) x differ = get_other ss a b x (λ e. differ
 module _ (n m : ℕ) (ss : Sites) (a b : ℕ) (s t : Seen) (at_a : slice_get ss a ≡ Some s) (at_b : slice_get ss b ≡ Some t) where
   -- the first take is refused
   first_by : (e : CheckError) (r : Reply) → check_of s.entries s.limit t.entries ≡ Err e → SaysText (take_fault e) r
-      → Gives (first_take ss n m (a, s) (b, t) (check_of s.entries s.limit t.entries)) ss (slice_set ss a (joined s t)) r ss
-  first_by e r is says = subst (λ (o : Result ℕ CheckError). Gives (first_take ss n m (a, s) (b, t) o) ss (slice_set ss a (joined s t)) r ss) (sym is) (inl (says, refl))
+      → Gives (first_take ss n m (a, s) (b, t) (check_of s.entries s.limit t.entries)) ss (half_taken ss (a, s) (b, t) (check_of s.entries s.limit t.entries)) r ss
+  first_by e r is says = subst (λ (o : Result ℕ CheckError). Gives (first_take ss n m (a, s) (b, t) o) ss (half_taken ss (a, s) (b, t) o) r ss) (sym is) (inl (says, refl))
 
-  first_refused : (e : PrepareError) (r : Reply) (s' : Seen) → Takes s t.entries (Err e) s' → SaysFault e r → (s' ≡ s) × Gives (first_take ss n m (a, s) (b, t) (check_of s.entries s.limit t.entries)) ss (slice_set ss a (joined s t)) r ss
+  first_refused : (e : PrepareError) (r : Reply) (s' : Seen) → Takes s t.entries (Err e) s' → SaysFault e r → (s' ≡ s) × Gives (first_take ss n m (a, s) (b, t) (check_of s.entries s.limit t.entries)) ss (half_taken ss (a, s) (b, t) (check_of s.entries s.limit t.entries)) r ss
   first_refused prepare.BadEntry r s' told says = (told.1, first_by check.BadEntry r told.0 says)
   first_refused (prepare.Clash site seq) r s' told says = (told.1, first_by (check.Clash site seq) r told.0 says)
   first_refused prepare.Full r s' told says = (told.1, first_by check.Full r told.0 says)
   first_refused prepare.OutOfMemory r s' told says = (told.1, inr (says, inl refl))
 
-  pub meets_no_first : (e : PrepareError) (r : Reply) (new : Sites) → TookFrom ss a b (Err e) new → SaysFault e r → Gives (first_take ss n m (a, s) (b, t) (check_of s.entries s.limit t.entries)) ss (slice_set ss a (joined s t)) r new
+  pub meets_no_first : (e : PrepareError) (r : Reply) (new : Sites) → TookFrom ss a b (Err e) new → SaysFault e r → Gives (first_take ss n m (a, s) (b, t) (check_of s.entries s.limit t.entries)) ss (half_taken ss (a, s) (b, t) (check_of s.entries s.limit t.entries)) r new
   meets_no_first e r new took says =
       let (s', told, is) = took s t at_a at_b in
       let (stays, gives) = first_refused e r s' told says in
       let unchanged : new ≡ ss = is ∙ ap (slice_set ss a) stays ∙ set_there ss a s at_a in
-      subst (λ (ys : Sites). Gives (first_take ss n m (a, s) (b, t) (check_of s.entries s.limit t.entries)) ss (slice_set ss a (joined s t)) r ys) (sym unchanged) gives
+      subst (λ (ys : Sites). Gives (first_take ss n m (a, s) (b, t) (check_of s.entries s.limit t.entries)) ss (half_taken ss (a, s) (b, t) (check_of s.entries s.limit t.entries)) r ys) (sym unchanged) gives
 
   -- the first take is made
   module _ (differ : a ≢ b) (one : Taken) (mid : Sites) (first : TookFrom ss a b (Ok one) mid) where
@@ -182,8 +194,8 @@ module _ (n m : ℕ) (ss : Sites) (a b : ℕ) (s t : Seen) (at_a : slice_get ss 
     abbrev Met : Reply → Sites → Type 0
     Met r new = Gives (second_take (slice_set ss a (joined s t)) n m (joined s t) (b, t) one.fresh (check_of t.entries t.limit (joined s t).entries)) ss (slice_set ss a (joined s t)) r new
 
-    met_all : (r : Reply) (new : Sites) → Met r new → Gives (first_take ss n m (a, s) (b, t) (check_of s.entries s.limit t.entries)) ss (slice_set ss a (joined s t)) r new
-    met_all r new met = subst (λ (o : Result ℕ CheckError). Gives (first_take ss n m (a, s) (b, t) o) ss (slice_set ss a (joined s t)) r new) (sym first_is.0) met
+    met_all : (r : Reply) (new : Sites) → Met r new → Gives (first_take ss n m (a, s) (b, t) (check_of s.entries s.limit t.entries)) ss (half_taken ss (a, s) (b, t) (check_of s.entries s.limit t.entries)) r new
+    met_all r new met = subst (λ (o : Result ℕ CheckError). Gives (first_take ss n m (a, s) (b, t) o) ss (half_taken ss (a, s) (b, t) o) r new) (sym first_is.0) met
 
     second_by : (e : CheckError) (r : Reply) → check_of t.entries t.limit (joined s t).entries ≡ Err e → SaysText (take_fault e) r → Met r (slice_set ss a (joined s t))
     second_by e r is says =
@@ -195,7 +207,7 @@ module _ (n m : ℕ) (ss : Sites) (a b : ℕ) (s t : Seen) (at_a : slice_get ss 
     second_refused prepare.Full r t' told says = (told.1, second_by check.Full r told.0 says)
     second_refused prepare.OutOfMemory r t' told says = (told.1, inr (says, inr refl))
 
-    pub meets_no_second : (e : PrepareError) (r : Reply) (new : Sites) → TookFrom mid b a (Err e) new → SaysFault e r → Gives (first_take ss n m (a, s) (b, t) (check_of s.entries s.limit t.entries)) ss (slice_set ss a (joined s t)) r new
+    pub meets_no_second : (e : PrepareError) (r : Reply) (new : Sites) → TookFrom mid b a (Err e) new → SaysFault e r → Gives (first_take ss n m (a, s) (b, t) (check_of s.entries s.limit t.entries)) ss (half_taken ss (a, s) (b, t) (check_of s.entries s.limit t.entries)) r new
     meets_no_second e r new took says =
         let went = subst (λ (ys : Sites). TookFrom ys b a (Err e) new) first_is.1 took in
         let (t', told, is) = went t (joined s t) there_b there_a in
@@ -203,7 +215,7 @@ module _ (n m : ℕ) (ss : Sites) (a b : ℕ) (s t : Seen) (at_a : slice_get ss 
         let unchanged : new ≡ slice_set ss a (joined s t) = is ∙ ap (slice_set (slice_set ss a (joined s t)) b) stays ∙ set_there (slice_set ss a (joined s t)) b t there_b in
         met_all r new (subst (λ (ys : Sites). Met r ys) (sym unchanged) met)
 
-    pub meets : (two : Taken) (r : Reply) (new : Sites) → TookFrom mid b a (Ok two) new → SaysText (met_line n m one.fresh two.fresh) r → Gives (first_take ss n m (a, s) (b, t) (check_of s.entries s.limit t.entries)) ss (slice_set ss a (joined s t)) r new
+    pub meets : (two : Taken) (r : Reply) (new : Sites) → TookFrom mid b a (Ok two) new → SaysText (met_line n m one.fresh two.fresh) r → Gives (first_take ss n m (a, s) (b, t) (check_of s.entries s.limit t.entries)) ss (half_taken ss (a, s) (b, t) (check_of s.entries s.limit t.entries)) r new
     meets two r new took says =
         let went = subst (λ (ys : Sites). TookFrom ys b a (Ok two) new) first_is.1 took in
         let (t', told, is) = went t (joined s t) there_b there_a in
@@ -212,8 +224,8 @@ module _ (n m : ℕ) (ss : Sites) (a b : ℕ) (s t : Seen) (at_a : slice_get ss 
 
 -- a meeting of two sites by their numbers
 tested : (ss : Sites) (n m : ℕ) (p q : Placed) (r : Reply) (new : Sites) (b : Bool) → (p.0 == q.0) ≡ b → p.0 ≢ q.0
-    → Gives (first_take ss n m p q (check_of p.1.entries p.1.limit q.1.entries)) ss (slice_set ss p.0 (joined p.1 q.1)) r new
-    → Gives (cond b (codes "fault site\n", ss) (first_take ss n m p q (check_of p.1.entries p.1.limit q.1.entries))) ss (slice_set ss p.0 (joined p.1 q.1)) r new
+    → Gives (first_take ss n m p q (check_of p.1.entries p.1.limit q.1.entries)) ss (half_taken ss p q (check_of p.1.entries p.1.limit q.1.entries)) r new
+    → Gives (cond b (codes "fault site\n", ss) (first_take ss n m p q (check_of p.1.entries p.1.limit q.1.entries))) ss (cond b ss (half_taken ss p q (check_of p.1.entries p.1.limit q.1.entries))) r new
 tested ss n m p q r new true e differ gives = absurd (differ (eqb-true p.0 q.0 e))
 tested ss n m p q r new false e differ gives = gives
 
@@ -225,3 +237,27 @@ meets_by n m ss a b r new at_n at_m differ told =
     subst (λ (o : Option Placed). Gives (meet_answer ss n m o (site_of m ss)) ss (half_met ss o (site_of m ss)) r new) (sym is_s.found)
     (subst (λ (o : Option Placed). Gives (meet_answer ss n m (Some (a, s)) o) ss (half_met ss (Some (a, s)) o) r new) (sym is_t.found)
     (tested ss n m (a, s) (b, t) r new (a == b) refl differ (told s t is_s.there is_t.there)))
+
+-- ---- what was replied, as an answer
+
+pub text_answers : (b : Bool) (old : Sites) (l : Line) (x : String Global) (new : Sites) → is_command l ≡ b → GivesTo b (answer_to old l) old (half_done old l) (reply.Text x) new → Answered old l (string_bytes x) new
+text_answers true old l x new is (inl told) = inl told
+text_answers true old l x new is (inr told) = absurd told.0
+text_answers false old l x new is told = absurd told.0
+
+pub fault_answers : (b : Bool) (old : Sites) (l : Line) (x : _) (new : Sites) → is_command l ≡ b → GivesTo b (answer_to old l) old (half_done old l) (reply.Fault x) new → Answered old l x.now new
+fault_answers true old l x new is (inl told) = inl told
+fault_answers true old l x new is (inr told) = inr (is, told.0, told.1)
+fault_answers false old l x new is told = inl told
+
+pub unsaid_done : (b : Bool) (old : Sites) (l : Line) (new : Sites) → GivesTo b (answer_to old l) old (half_done old l) reply.Unsaid new → new ≡ (answer_to old l).1
+unsaid_done true old l new (inl told) = told.1
+unsaid_done true old l new (inr told) = absurd told.0
+unsaid_done false old l new told = absurd told.0
+
+pub put_ends : (old : Sites) (l : Line) (text : List ℕ) (r : Result Bool Ended) (new : Sites) (before now : Option (List ℕ)) → Answered old l text new → is_quit l ≡ false → PutEnds text r before now → LineEnds old l r new before now
+put_ends old l text (Ok true) new before now answered other put = absurd put
+put_ends old l text (Ok false) new before now answered other put = (text, answered, other, put)
+put_ends old l text (Err WriteFault) new before now answered other put = (text, answered, other, put)
+put_ends old l text (Err ReadFault) new before now answered other put = absurd put
+put_ends old l text (Err OutOfMemory) new before now answered other put = absurd put

@@ -1,14 +1,14 @@
 -- Lines read and answered one after the other.
 use Rattle.std.proofs.Common.{◌≡◌, inl, inr, ℕ, suc, ◌+◌, ◌==◌, Bool, true, false, not, cond, ◌&&◌, ◌||◌, List, [], ◌∷◌, ◌++◌, take, length, Option, None, Some, Result, Ok, Err, refl, sym, ap, ◌∙◌, subst, append_assoc, append-nil, arith}
-use Rattle.std.specs.List.{AllByRecursion, list_any}
+use Rattle.std.specs.List.{AllByRecursion, list_any, slice_get}
 use Rattle.std.specs.Io.KnownBytes.{Appends, Consumes, IsAtEnd}
 use Rattle.std.proofs.lemmas.List.Sums.{take_while-cons}
 use Rattle.std.proofs.KnownBytes.{Appends-trans, Consumes-trans}
 use Rattle.td_console.specs.declared.workbench.Ended.{Ended}
 use Rattle.td_console.specs.declared.workbench.Ended.TheVariants.{OutOfMemory, ReadFault, WriteFault}
 use Rattle.td_console.specs.Streams.{is_one_line, IsWholeLine, AppendsFront}
-use Rattle.td_console.specs.Lines.{Line, nothing, onto, raw_lines, content, line_of, said, asked, is_quit}
-use Rattle.td_console.specs.Printed.{Sites, Answered, Printed}
+use Rattle.td_console.specs.Lines.{Line, onto, raw_lines, content, line_of, said, asked, is_quit}
+use Rattle.td_console.specs.Printed.{Sites, Answered, Begun, Printed}
 use Rattle.td_console.specs.Workbench.{LineEnds, Ends, WorkbenchEnds}
 
 -- ---- splitting at LF
@@ -98,6 +98,10 @@ take_all_and : (xs ys : List Line) (n : ℕ) → take (length xs + n) (xs ++ ys)
 take_all_and [] ys n = let e : 0 + n ≡ n = omega arith in ap (λ (k : ℕ). take k ys) e
 take_all_and (x ∷ xs) ys n = let e : suc (length xs) + n ≡ suc (length xs + n) = omega arith in ap (λ (k : ℕ). take k (x ∷ (xs ++ ys))) e ∙ ap (λ zs. x ∷ zs) (take_all_and xs ys n)
 
+get_after : (xs ys : List Line) (n : ℕ) → slice_get (xs ++ ys) (length xs + n) ≡ slice_get ys n
+get_after [] ys n = let e : 0 + n ≡ n = omega arith in ap (λ (k : ℕ). slice_get ys k) e
+get_after (x ∷ xs) ys n = let e : suc (length xs) + n ≡ suc (length xs + n) = omega arith in ap (λ (k : ℕ). slice_get (x ∷ (xs ++ ys)) k) e ∙ get_after xs ys n
+
 -- what was answered so far, and how the lines that follow ended
 pub record Served (old : Sites) (ls : List (List ℕ)) (text : List ℕ) (mid : Sites) (before at : Option (List ℕ)) : Type 0 where
   pub other : NoQuit ls
@@ -115,14 +119,13 @@ ends_after old ls text mid before at now ks (Ok x) new left so (more, printed, w
   Appends-trans before at now text more so.appended wrote,
   elim why [ inl quit ↦ inl (any_more ls ks quit) | inr end ↦ inr end ],
 )
-ends_after old ls text mid before at now ks (Err OutOfMemory) new left so (n, more, step, line, printed, wrote, begun) = (
+ends_after old ls text mid before at now ks (Err OutOfMemory) new left so (n, more, step, printed, wrote, begun) = (
   length (said ls) + n,
   text ++ more,
   step,
-  line,
   subst (λ (xs : List Line). Printed old xs (text ++ more) step) (sym (ap (take (length (said ls) + n)) (asked_more ls ks so.other) ∙ take_all_and (said ls) (asked ks) n)) (printed_more old (said ls) text mid (take n (asked ks)) more step so.printed printed),
   Appends-trans before at now text more so.appended wrote,
-  begun,
+  subst (λ (o : Option Line). Begun step o new) (sym (ap (λ (xs : List Line). slice_get xs (length (said ls) + n)) (asked_more ls ks so.other) ∙ get_after (said ls) (asked ks) n)) begun,
 )
 ends_after old ls text mid before at now ks (Err ReadFault) new left so (n, more, printed, wrote) = (
   length (said ls) + n,
@@ -143,9 +146,13 @@ pub nothing_written : (w : Option (List ℕ)) → Appends w w []
 nothing_written None = tt
 nothing_written (Some xs) = sym (append-nil xs)
 
+begun_not : (ss : Sites) (o : Option Line) → Begun ss o ss
+begun_not ss None = refl
+begun_not ss (Some l) = inl refl
+
 -- the reader failed, or memory was wanted, before a line was read
 pub unread_ends : (ss : Sites) (ks : List (List ℕ)) (e : Ended) (left w : Option (List ℕ)) → (e ≡ WriteFault → ⊥) → Ends ss ks (Err e) ss left w w
-unread_ends ss ks OutOfMemory left w other = (0, [], ss, nothing, (refl, refl), nothing_written w, inr (inl refl))
+unread_ends ss ks OutOfMemory left w other = (0, [], ss, (refl, refl), nothing_written w, begun_not ss (slice_get (asked ks) 0))
 unread_ends ss ks ReadFault left w other = (0, [], (refl, refl), nothing_written w)
 unread_ends ss ks WriteFault left w other = absurd (other refl)
 
@@ -161,7 +168,8 @@ quit_ends old l new left before now (is, same, wrote) =
     ([], subst (λ (xs : List Line). Printed old xs [] new) (sym (asked_quit l quits)) (refl, same), wrote, inl (rw quits refl))
 
 pub fault_ends : (old : Sites) (l : List ℕ) (e : Ended) (new : Sites) (left before now : Option (List ℕ)) → LineEnds old (line_of (content l)) (Err e) new before now → Ends old (l ∷ []) (Err e) new left before now
-fault_ends old l OutOfMemory new left before now (begun, other, wrote) = (0, [], old, line_of (content l), (refl, refl), wrote, begun)
+fault_ends old l OutOfMemory new left before now (done, other, wrote) =
+    (0, [], old, (refl, refl), wrote, subst (λ (xs : List Line). Begun old (slice_get xs 0) new) (sym (asked_one l other)) (inr done))
 fault_ends old l ReadFault new left before now told = absurd told
 fault_ends old l WriteFault new left before now (text, answered, other, wrote) =
     (1, text, subst (λ (xs : List Line). Printed old (take 1 xs) text new) (sym (asked_one l other)) (printed_one old (line_of (content l)) text new answered), wrote)

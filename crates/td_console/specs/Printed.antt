@@ -1,5 +1,5 @@
 -- What the lines mean: what is printed for them, and what they leave, from what the sites are seen as alone.
-use Rattle.std.specs.Prelude.{◌≡◌, ◌⊎◌, ℕ, suc, ◌==◌, if◌then◌else◌, List, [], ◌∷◌, ◌++◌, codes, decimal, Option, Some, None, option_map, Result, Ok, Err, slice_set}
+use Rattle.std.specs.Prelude.{◌≡◌, ◌⊎◌, ℕ, suc, Bool, true, false, ◌==◌, if◌then◌else◌, List, [], ◌∷◌, ◌++◌, codes, decimal, Option, Some, None, option_map, Result, Ok, Err, slice_set}
 use Rattle.td_stamps.specs.declared.entry.Entry.{Entry}
 use Rattle.td_stamps.specs.declared.entry.Stamp.{Stamp}
 use Rattle.td_stamps.specs.declared.errors.CheckError.{CheckError}
@@ -100,23 +100,35 @@ answer_to ss (meet n m) = meet_answer ss n m (site_of n ss) (site_of m ss)
 answer_to ss (listing n) = listing_answer ss (site_of n ss)
 answer_to ss faulty = (codes "fault line\n", ss)
 
--- the sites after the first take of a meeting
+-- the sites after the first take of a meeting, as it was checked
+abbrev pub half_taken : Sites → Placed → Placed → Result ℕ CheckError → Sites
+half_taken ss p q (Err e) = ss
+half_taken ss p q (Ok a) = slice_set ss p.0 (joined p.1 q.1)
+
 abbrev pub half_met : Sites → Option Placed → Option Placed → Sites
-half_met ss (Some p) (Some q) = slice_set ss p.0 (joined p.1 q.1)
+half_met ss (Some p) (Some q) = if p.0 == q.0 then ss else half_taken ss p q (check_of p.1.entries p.1.limit q.1.entries)
 half_met ss _ _ = ss
 
 abbrev pub half_done : Sites → Line → Sites
 half_done ss (meet n m) = half_met ss (site_of n ss) (site_of m ss)
 half_done ss _ = ss
 
--- a line is answered; or memory is wanted, and nothing changes, save that a meeting may have made its first take
+-- the line asks something of a site; what other lines are answered takes no memory
+abbrev pub is_command : Line → Bool
+is_command (issue n text) = true
+is_command (meet n m) = true
+is_command (listing n) = true
+is_command _ = false
+
+-- a line is answered; or memory is wanted for a command, and nothing changes, save that a meeting may have made its first take
 abbrev pub Answered : Sites → Line → List ℕ → Sites → Type 0
 Answered old line text new =
-    ((text ≡ (answer_to old line).0) × (new ≡ (answer_to old line).1)) ⊎ ((text ≡ codes "fault memory\n") × ((new ≡ old) ⊎ (new ≡ half_done old line)))
+    ((text ≡ (answer_to old line).0) × (new ≡ (answer_to old line).1)) ⊎ ((is_command line ≡ true) × (text ≡ codes "fault memory\n") × ((new ≡ old) ⊎ (new ≡ half_done old line)))
 
--- a line's work may be done, without an answer
-abbrev pub Begun : Sites → Line → Sites → Type 0
-Begun old line new = (new ≡ (answer_to old line).1) ⊎ ((new ≡ old) ⊎ (new ≡ half_done old line))
+-- the work of the next line, if there is one, may be done without its answer
+abbrev pub Begun : Sites → Option Line → Sites → Type 0
+Begun old None new = new ≡ old
+Begun old (Some line) new = (new ≡ old) ⊎ (new ≡ (answer_to old line).1)
 
 -- what is printed for lines, one after the other
 abbrev pub Printed : Sites → List Line → List ℕ → Sites → Type 0
