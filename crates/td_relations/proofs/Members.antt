@@ -63,12 +63,16 @@ relation_of_is h s = record {
   ascending = ascending_ascends s;
 }
 
+-- a tuple is in the set of a list where it is in the list
+pub contains_listed : (xs : List Attrs) (t : Attrs) → (set.contains {R = attrs_order} (set.from_list xs) t ≡ true) ↔ Contains xs t
+contains_listed xs t = (
+  λ h. Contains-from_any (λ x y e. attrs_tied x y (is_tied _ e)) t xs (sym (set.contains-from_list attrs_order_total xs t) ∙ h),
+  λ c. set.contains-from_list attrs_order_total xs t ∙ list_any-from_Contains attrs_equivalence t xs c,
+)
+
 -- a tuple is in the relation where it is in its list
 pub has_listed : (r : RowsData) (t : Attrs) → Has r t ↔ Contains r.tuples t
-has_listed r t = (
-  λ h. Contains-from_any (λ x y e. attrs_tied x y (is_tied _ e)) t r.tuples (sym (set.contains-from_list attrs_order_total r.tuples t) ∙ h),
-  λ c. set.contains-from_list attrs_order_total r.tuples t ∙ list_any-from_Contains attrs_equivalence t r.tuples c,
-)
+has_listed r t = contains_listed r.tuples t
 
 either : (a b : Bool) → (a || b) ≡ true → (b ≡ true) ⊎ (a ≡ true)
 either true b e = inr refl
