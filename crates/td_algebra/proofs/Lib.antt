@@ -1,3 +1,5 @@
 mod Lists
 mod Made
 mod Projections
+mod Runs
+mod Pairs

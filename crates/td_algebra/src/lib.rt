@@ -4,6 +4,11 @@
 //! memory.
 #![tactic(auto)]
 
+mod index;
+mod joins;
 mod parts;
+mod sets;
 
+pub use joins::join;
 pub use parts::{project, rename};
+pub use sets::{intersect, minus, union};

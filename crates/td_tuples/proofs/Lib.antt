@@ -1,3 +1,4 @@
 pub mod Lists
 pub mod ByName
+pub mod SideBySide
 mod Steps
