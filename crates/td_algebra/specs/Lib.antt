@@ -1,2 +1,3 @@
 pub mod Operators
 pub mod Index
+pub mod Raising

@@ -4,11 +4,14 @@
 //! memory.
 #![tactic(auto)]
 
+mod errors;
+mod gathered;
 mod index;
 mod joins;
 mod parts;
 mod sets;
 
+pub use errors::Fault;
 pub use joins::join;
 pub use parts::{project, rename};
 pub use sets::{intersect, minus, union};
