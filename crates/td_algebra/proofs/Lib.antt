@@ -3,3 +3,4 @@ mod Made
 mod Projections
 mod Runs
 mod Pairs
+mod Derived

@@ -9,6 +9,6 @@ mod joins;
 mod parts;
 mod sets;
 
-pub use joins::join;
+pub use joins::{compose, join, matching, not_matching};
 pub use parts::{project, rename};
 pub use sets::{intersect, minus, union};
