@@ -4,3 +4,6 @@ mod Projections
 mod Runs
 mod Pairs
 pub mod Walks
+mod Derived
+pub mod Selections
+pub mod Extensions

@@ -1,3 +1,5 @@
 pub mod Operators
 pub mod Index
 pub mod Raising
+pub mod Restricting
+pub mod Extending

@@ -1,6 +1,7 @@
 -- Functions on tuples: their answers, and the least of the errors that they raise.
 use Rattle.std.specs.Prelude.{◌≡◌, ◌≤◌, ℕ, List, [], ◌∷◌, ◌++◌, Option, None, Some, Result, Ok, Err}
 use Rattle.td_values.specs.declared.raises.Raise.{Raise}
+use Rattle.td_values.specs.declared.raises.Raise.TheVariants.{Overflow}
 use Rattle.td_values.specs.Raises.{number_of, lesser}
 use Rattle.td_algebra.specs.declared.errors.Fault.{Fault}
 use Rattle.td_algebra.specs.declared.errors.Fault.TheVariants.{Raised, OutOfMemory}
@@ -40,3 +41,14 @@ all_of m (x ∷ xs) = and_all (alone (m x)) (all_of m xs)
 abbrev pub so_far : {A : Type 0} → List A → Option Raise → Result (List A) Raise
 so_far xs None = Ok xs
 so_far xs (Some e) = Err e
+
+-- goes on with the value, or keeps the error
+abbrev pub and_then : {A B : Type 0} → Result A Raise → (A → Result B Raise) → Result B Raise
+and_then (Ok a) f = f a
+and_then (Err e) f = Err e
+
+-- what an answer means, where memory was not wanted
+abbrev pub meaning_of : {A : Type 0} → Result A Fault → Result A Raise
+meaning_of (Ok a) = Ok a
+meaning_of (Err (Raised e)) = Err e
+meaning_of (Err OutOfMemory) = Err Overflow

@@ -6,12 +6,18 @@
 
 mod errors;
 mod gathered;
+mod extension;
 mod index;
+mod items;
 mod joins;
 mod parts;
+mod restriction;
 mod sets;
 
 pub use errors::Fault;
-pub use joins::join;
+pub use extension::extend;
+pub use items::Item;
+pub use joins::{compose, join, matching, not_matching};
 pub use parts::{project, rename};
+pub use restriction::restrict;
 pub use sets::{intersect, minus, union};

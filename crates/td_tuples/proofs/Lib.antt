@@ -1,4 +1,4 @@
 pub mod Lists
 pub mod ByName
 pub mod SideBySide
-mod Steps
+pub mod Steps

@@ -87,6 +87,10 @@ module _ {X : Type 0} where
   pub in_keys : (m : by_name.FinMap text_cmp X) (n : List ℕ) → is_in (by_name.keys m) n ≡ is_some (by_name.get m n)
   in_keys m n = sym (by_name.contains_key-keys m n)
 
+  -- the names of entries
+  abbrev pub keys_of : List (List ℕ × X) → List (List ℕ)
+  keys_of es = map (λ e. e.0) es
+
   -- ---- steps of walks
   pub where-push : (p : List ℕ → Bool) (es : List (List ℕ × X)) (x : List ℕ × X) → where_key text_cmp p (es ++ x ∷ []) ≡ where_key text_cmp p es ++ cond (p x.0) (x ∷ []) []
   where-push p [] x = elim (p x.0) as (λ b. cond b (x ∷ []) [] ≡ cond b (x ∷ []) []) [ true ↦ refl | false ↦ refl ]
