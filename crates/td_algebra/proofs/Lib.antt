@@ -7,3 +7,4 @@ pub mod Walks
 mod Derived
 pub mod Selections
 pub mod Extensions
+pub mod Stable
