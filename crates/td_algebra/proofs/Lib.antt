@@ -8,3 +8,5 @@ mod Derived
 pub mod Selections
 pub mod Extensions
 pub mod Stable
+pub mod Sums
+pub mod Folds

@@ -172,3 +172,7 @@ module _ {X A : Type 0} (m : X → Result A Raise) where
   answers_there (w ∷ xs) ys x y all there gives =
       let (z, zs, is, rest, same) = ok_split m w xs ys all in
       subst (λ vs. Contains vs y) (sym same) (⊎_elim (λ e. let h : Ok z ≡ Ok y = sym is ∙ ap m e ∙ gives in let k : z ≡ y = cc in contains_first z zs y k) (λ c. contains_later z zs y (answers_there xs zs x y rest c gives)) (contains_cases w xs x there))
+
+pub all_mapped : {X Y A : Type 0} (m : Y → Result A Raise) (f : X → Y) (xs : List X) → all_of m (map f xs) ≡ all_of (λ x. m (f x)) xs
+all_mapped m f [] = refl
+all_mapped m f (x ∷ xs) = ap (and_all (alone (m (f x)))) (all_mapped m f xs)

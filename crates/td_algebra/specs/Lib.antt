@@ -3,3 +3,4 @@ pub mod Index
 pub mod Raising
 pub mod Restricting
 pub mod Extending
+pub mod Summaries

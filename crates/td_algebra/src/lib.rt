@@ -13,6 +13,7 @@ mod joins;
 mod parts;
 mod restriction;
 mod sets;
+mod summaries;
 
 pub use errors::Fault;
 pub use extension::extend;
@@ -20,4 +21,5 @@ pub use items::Item;
 pub use joins::{compose, join, matching, not_matching};
 pub use parts::{project, rename};
 pub use restriction::restrict;
+pub use summaries::Summary;
 pub use sets::{intersect, minus, union};
