@@ -10,3 +10,4 @@ pub mod Extensions
 pub mod Stable
 pub mod Sums
 pub mod Folds
+pub mod Groups

@@ -14,6 +14,7 @@ mod parts;
 mod restriction;
 mod sets;
 mod summaries;
+mod summarization;
 
 pub use errors::Fault;
 pub use extension::extend;
@@ -21,5 +22,6 @@ pub use items::Item;
 pub use joins::{compose, join, matching, not_matching};
 pub use parts::{project, rename};
 pub use restriction::restrict;
+pub use summarization::summarize;
 pub use summaries::Summary;
 pub use sets::{intersect, minus, union};
