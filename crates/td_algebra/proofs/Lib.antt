@@ -4,3 +4,4 @@ mod Projections
 mod Runs
 mod Pairs
 mod Derived
+mod Wrappings

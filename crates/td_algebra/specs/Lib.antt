@@ -1,2 +1,3 @@
 pub mod Operators
+pub mod Nested
 pub mod Index

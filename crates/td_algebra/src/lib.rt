@@ -8,7 +8,9 @@ mod index;
 mod joins;
 mod parts;
 mod sets;
+mod wraps;
 
 pub use joins::{compose, join, matching, not_matching};
 pub use parts::{project, rename};
 pub use sets::{intersect, minus, union};
+pub use wraps::wrap;
