@@ -5,3 +5,4 @@ mod Runs
 mod Pairs
 mod Derived
 mod Wrappings
+mod Grouping

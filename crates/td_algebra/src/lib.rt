@@ -4,12 +4,14 @@
 //! memory.
 #![tactic(auto)]
 
+mod groups;
 mod index;
 mod joins;
 mod parts;
 mod sets;
 mod wraps;
 
+pub use groups::group;
 pub use joins::{compose, join, matching, not_matching};
 pub use parts::{project, rename};
 pub use sets::{intersect, minus, union};
