@@ -6,3 +6,4 @@ mod Pairs
 mod Derived
 mod Wrappings
 mod Grouping
+mod Openings

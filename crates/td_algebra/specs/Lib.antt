@@ -1,3 +1,4 @@
 pub mod Operators
 pub mod Nested
 pub mod Index
+pub mod Opened

@@ -7,12 +7,14 @@
 mod groups;
 mod index;
 mod joins;
+mod opening;
 mod parts;
 mod sets;
 mod wraps;
 
 pub use groups::group;
 pub use joins::{compose, join, matching, not_matching};
+pub use opening::{ungroup, unwrap};
 pub use parts::{project, rename};
 pub use sets::{intersect, minus, union};
 pub use wraps::wrap;
