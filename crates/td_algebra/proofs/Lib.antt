@@ -7,3 +7,5 @@ mod Derived
 mod Wrappings
 mod Grouping
 mod Openings
+mod Chains
+mod Closing

@@ -20,6 +20,9 @@ module _ {X : Type 0} where
   at_in (y ∷ ys) x zero lt e = inl (sym e)
   at_in (y ∷ ys) x (suc k) lt e = inr (at_in ys x k (omega arith) e)
 
+  pub item_in : (xs : List X) (i : ℕ) (x : X) → i < length xs → x ≡ get_or xs i x → In x xs
+  item_in xs i x lt is = at_in xs x i lt (sym is)
+
   pub contains_in : (xs : List X) (x : X) → Contains xs x → In x xs
   contains_in xs x h = at_in xs x h.0 h.1 h.2
 

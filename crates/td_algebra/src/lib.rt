@@ -4,14 +4,17 @@
 //! memory.
 #![tactic(auto)]
 
+mod closure;
 mod groups;
 mod index;
 mod joins;
+pub mod laws;
 mod opening;
 mod parts;
 mod sets;
 mod wraps;
 
+pub use closure::tclose;
 pub use groups::group;
 pub use joins::{compose, join, matching, not_matching};
 pub use opening::{ungroup, unwrap};
