@@ -1,5 +1,5 @@
 -- Pairs, and the pairs that go through a middle.
-use Rattle.std.proofs.Common.{◌≡◌, ◌⊎◌, inl, inr, ℕ, Bool, true, false, ◌&&◌, T, cond, List, [], ◌∷◌, ◌++◌, map, Option, Some, None, refl, sym, ap, ◌∙◌, subst, true≢false}
+use Rattle.std.proofs.Common.{◌≡◌, inl, inr, ℕ, true, false, ◌&&◌, T, cond, List, [], ◌∷◌, ◌++◌, map, Some, None, refl, sym, ap, ◌∙◌, subst}
 use Rattle.std.specs.FinMap as by_name
 use Rattle.std.specs.FinSet as set
 use Rattle.std.specs.List.{All, filter, flat_map}
@@ -19,11 +19,11 @@ use Rattle.td_values.proofs.Entries.{first, less}
 use Rattle.td_values.proofs.TupleLemmas.{attribute_here, attribute_past}
 use Rattle.td_values.proofs.Walks.{is_tied}
 use Rattle.td_relations.specs.Sets.{Has, IsRelation, IsRelationOf}
-use Rattle.td_tuples.specs.Parts.{attributes, Fits, names_of}
-use Rattle.td_tuples.specs.Unions.{with_attribute, with_column}
+use Rattle.td_tuples.specs.Parts.{attributes, Fits}
+use Rattle.td_tuples.specs.Unions.{with_attribute}
 use Rattle.td_tuples.proofs.Lists.{on_values, keys_of, same_name}
 use Rattle.td_tuples.proofs.ByName.{IsSorted, same_tuple, sorted-tuple_of, attribute-with, fits_typed, typed_fits}
-use Rattle.td_algebra.specs.Closures.{HasColumns, pair_of, pair, HasPair, Through, has_value, is_value, with_value, replaced, links}
+use Rattle.td_algebra.specs.Closures.{HasColumns, pair_of, pair, Through, has_value, is_value, with_value, replaced, links}
 use Rattle.td_algebra.proofs.Lists.{In, in_all, in_append, append_in, in_map, map_in, in_filter, filter_in, in_flat_map, flat_map_in}
 use Rattle.td_algebra.proofs.Made.{has_in, in_has, has_fits, made}
 

@@ -7,9 +7,9 @@ use Rattle.td_values.specs.Headings.{Header}
 use Rattle.td_values.specs.Order.{attrs_order}
 use Rattle.td_values.specs.Rows.{RowsData, AreRows}
 use Rattle.td_relations.specs.Sets.{Has, IsRelationOf}
-use Rattle.td_algebra.specs.Closures.{HasColumns, IsBinary, pair, HasPair, Linked, Closed, IsTransitive, Within, IsLeast, TcloseIsLeast, Through}
+use Rattle.td_algebra.specs.Closures.{IsBinary, pair, HasPair, Linked, Closed, IsTransitive, Within, TcloseIsLeast, Through}
 use Rattle.td_algebra.proofs.Lists.{In, in_append}
-use Rattle.td_algebra.proofs.Made.{has_in, in_has, has_fits}
+use Rattle.td_algebra.proofs.Made.{has_in, has_fits}
 use Rattle.td_algebra.proofs.Chains.{pair_is, is_pair, same_pair, second_value}
 
 -- what the loop keeps, after the middles in which ms end

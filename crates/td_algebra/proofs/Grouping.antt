@@ -1,5 +1,5 @@
 -- Groups.
-use Rattle.std.proofs.Common.{◌≡◌, ◌⊎◌, inl, inr, ℕ, Bool, true, List, [], ◌∷◌, map, refl, sym, ap, ◌∙◌, subst}
+use Rattle.std.proofs.Common.{◌≡◌, inl, inr, ℕ, Bool, true, List, [], ◌∷◌, map, refl, sym, ap, ◌∙◌, subst}
 use Rattle.std.specs.FinSet as set
 use Rattle.std.specs.List.{All, AllZip, filter}
 use Rattle.std.specs.List.Sorted.{IsPermutation}

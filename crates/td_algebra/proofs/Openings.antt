@@ -1,5 +1,5 @@
 -- Tuples and relations that are taken out of attributes.
-use Rattle.std.proofs.Common.{◌≡◌, ◌↔◌, ℕ, true, T, List, [], ◌∷◌, map, inl, inr, Option, None, Some, refl, sym, ap, ◌∙◌, subst}
+use Rattle.std.proofs.Common.{◌≡◌, ℕ, T, List, [], ◌∷◌, inl, inr, Option, None, Some, refl, sym, ap, ◌∙◌, subst}
 use Rattle.std.specs.FinMap as by_name
 use Rattle.std.specs.FinSet as set
 use Rattle.std.specs.List.{All, Contains, flat_map}

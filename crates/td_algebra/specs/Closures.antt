@@ -1,5 +1,5 @@
 -- The transitive closure of a relation of pairs.
-use Rattle.std.specs.Prelude.{◌≡◌, ◌⊎◌, ℕ, Bool, true, false, List, [], ◌∷◌, map, Option, Some, None, if◌then◌else◌}
+use Rattle.std.specs.Prelude.{◌≡◌, ◌⊎◌, ℕ, Bool, false, List, [], ◌∷◌, map, Option, Some, None, if◌then◌else◌}
 use Rattle.std.specs.FinMap as by_name
 use Rattle.std.specs.Ordering.{eq_by_cmp}
 use Rattle.td_values.specs.Attributes.{attribute_of}

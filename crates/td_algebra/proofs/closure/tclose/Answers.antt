@@ -1,9 +1,8 @@
-use Rattle.std.proofs.Common.{◌≡◌, Some, ◌+◌, ◌<◌, length, take, get_or, ap, ◌∙◌, sym, subst, arith}
+use Rattle.std.proofs.Common.{◌≡◌, Some, ◌+◌, take, get_or, ap, ◌∙◌, sym, subst, arith}
 use Rattle.std.specs.FinMap as by_name
 use Rattle.std.specs.Option.{option_copied}
 use Rattle.std.proofs.lemmas.List.{take_all}
 use Rattle.td_values.specs.Attributes.{attribute_of}
-use Rattle.td_values.specs.Data.{Attrs}
 use Rattle.td_relations.specs.Sets.{Has}
 use Rattle.td_algebra.proofs.Lists.{In, item_in, taken}
 use Rattle.td_algebra.proofs.Made.{in_has}

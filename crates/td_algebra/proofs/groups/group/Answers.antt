@@ -1,7 +1,7 @@
-use Rattle.std.proofs.Common.{◌≡◌, map, sym, ap, ◌∙◌, subst}
+use Rattle.std.proofs.Common.{map, sym, ap, ◌∙◌, subst}
 use Rattle.std.specs.List.{All, AllZip}
 use Rattle.td_values.specs.Data.{relation_type, Attrs}
-use Rattle.td_values.specs.Headings.{Header, header_fields}
+use Rattle.td_values.specs.Headings.{header_fields}
 use Rattle.td_tuples.specs.Parts.{Fits, names_of, cut, columns_in, columns_out}
 use Rattle.td_tuples.specs.Unions.{with_column}
 use Rattle.td_algebra.specs.declared.index.Keyed.{Keyed}

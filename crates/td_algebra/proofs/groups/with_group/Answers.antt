@@ -1,9 +1,8 @@
-use Rattle.std.proofs.Common.{◌≡◌, List, map, sym, ap, ◌∙◌, subst}
+use Rattle.std.proofs.Common.{List, map, sym, ◌∙◌, subst}
 use Rattle.std.specs.FinSet as set
 use Rattle.std.specs.List.{All}
-use Rattle.td_values.specs.Data.{relation, tuples_of, Attrs}
-use Rattle.td_values.specs.Headings.{Header, header_fields}
-use Rattle.td_values.specs.Order.{attrs_order}
+use Rattle.td_values.specs.Data.{Attrs}
+use Rattle.td_values.specs.Headings.{Header}
 use Rattle.td_relations.specs.Sets.{IsRelation}
 use Rattle.td_tuples.specs.Parts.{Fits, names_of}
 use Rattle.td_tuples.specs.Unions.{with_attribute}

@@ -1,5 +1,5 @@
-use Rattle.std.proofs.Common.{◌≡◌, ◌++◌, ◌∷◌, [], ◌+◌, take, map, sym, ap, ◌∙◌, subst, arith}
-use Rattle.std.specs.List.{All, AllZip, filter}
+use Rattle.std.proofs.Common.{◌++◌, ◌∷◌, [], ◌+◌, take, map, sym, subst, arith}
+use Rattle.std.specs.List.{All, AllZip}
 use Rattle.std.proofs.lemmas.List.Elements.{AllZip-push}
 use Rattle.td_values.specs.Data.{Attrs}
 use Rattle.td_tuples.specs.Parts.{Fits, names_of}
