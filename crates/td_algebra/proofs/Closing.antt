@@ -1,10 +1,15 @@
 -- The closure, one middle at a time (Warshall).
-use Rattle.std.proofs.Common.{◌≡◌, ◌⊎◌, inl, inr, List, [], ◌∷◌, ◌++◌, Option, None, Some, refl, sym, ap, ◌∙◌, subst}
+use Rattle.std.proofs.Common.{◌↔◌, ℕ, Bool, IsTrue, length, get_or, arith, ◌≡◌, ◌⊎◌, inl, inr, List, [], ◌∷◌, ◌++◌, Option, None, Some, refl, sym, ap, ◌∙◌, subst}
+use Rattle.std.specs.Cmp.{tied_itself}
+use Rattle.std.specs.FinMap as by_name
 use Rattle.std.specs.List.Sorted.{IsStrictlySortedBy}
+use Rattle.std.specs.Ordering.{is_eq}
 use Rattle.td_values.specs.Attributes.{attribute_of}
-use Rattle.td_values.specs.Data.{Datum, Attrs}
+use Rattle.td_values.specs.Data.{Ty, Datum, Attrs}
 use Rattle.td_values.specs.Headings.{Header}
-use Rattle.td_values.specs.Order.{attrs_order}
+use Rattle.td_values.specs.Order.{attrs_order, ty_order}
+use Rattle.td_values.specs.Total.{ty_order_total, ty_tied}
+use Rattle.td_values.proofs.Walks.{is_tied}
 use Rattle.td_values.specs.Rows.{RowsData, AreRows}
 use Rattle.td_relations.specs.Sets.{Has, IsRelationOf}
 use Rattle.td_algebra.specs.Closures.{IsBinary, pair, HasPair, Linked, Closed, IsTransitive, Within, TcloseIsLeast, Through}
@@ -174,3 +179,22 @@ least r c b rows is = record {
     chained : (s : RowsData) → s.heading ≡ r.heading → IsTransitive s → Within r s → (x y : Datum) (zs : List Datum) → Linked r x zs y → HasPair s x y
     chained s e trans within x y [] l = subst (λ (h : Header). Has s (pair h x y)) (sym e) (within _ l)
     chained s e trans within x y (z ∷ zs) l = trans x z y (subst (λ (h : Header). Has s (pair h x z)) (sym e) (within _ l.0)) (chained s e trans within z y zs l.1)
+
+-- ---- the test of two columns
+two : {X : Type 0} (xs : List X) (d e : X) → length xs ≡ 2 → xs ≡ get_or xs 0 d ∷ get_or xs 1 e ∷ []
+two [] d e l = absurd (omega arith)
+two (x ∷ []) d e l = absurd (omega arith)
+two (x ∷ y ∷ []) d e l = refl
+two (x ∷ y ∷ z ∷ xs) d e l = absurd (omega arith)
+
+pub binary_tested : (h : Header) (xs : List (List ℕ × Ty)) (d e : List ℕ × Ty) (b : Bool) → xs ≡ by_name.entries h → length xs ≡ 2 → b ≡ is_eq (ty_order (get_or xs 0 d).1 (get_or xs 1 e).1) → IsTrue b ↔ IsBinary h
+binary_tested h xs d e b is l test =
+    let x = get_or xs 0 d in
+    let y = get_or xs 1 e in (
+      λ t.
+          let same : y.1 ≡ x.1 = sym (ty_tied x.1 y.1 (is_tied _ (sym test ∙ t))) in
+          record { first = x.0; second = y.0; columns = record { ty = x.1; are = sym is ∙ two xs d e l ∙ (λ i. x ∷ (y.0, same i) ∷ []) } },
+      λ p.
+          let columns : xs ≡ (p.first, p.columns.ty) ∷ (p.second, p.columns.ty) ∷ [] = is ∙ p.columns.are in
+          test ∙ (λ i. is_eq (ty_order (get_or (columns i) 0 d).1 (get_or (columns i) 1 e).1)) ∙ ap is_eq (tied_itself ty_order_total p.columns.ty),
+    )

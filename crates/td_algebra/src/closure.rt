@@ -1,5 +1,5 @@
 //! The transitive closure.
-ghost use Rattle.std.specs.Prelude.{◌≡◌, ◌++◌, map, IfOk, OnOk};
+ghost use Rattle.std.specs.Prelude.{◌≡◌, ◌↔◌, ◌++◌, map, IsTrue, IfOk, OnOk};
 ghost use Rattle.std.specs.List.{filter, flat_map};
 ghost use Rattle.td_algebra.specs.Closures.{Closed, HasColumns, IsBinary, Through, has_value, links, replaced};
 ghost use Rattle.td_relations.specs.Sets.{IsRelationOf};
@@ -7,7 +7,7 @@ ghost use Rattle.td_relations.specs.Sets.{IsRelationOf};
 use std::alloc::{AllocError, Global};
 use td_relations::Relation;
 use td_tuples::with_attribute;
-use td_values::{Name, Tuple, Value, compare, copy, copy_tuples};
+use td_values::{Heading, Name, Tuple, Value, compare, compare_types, copy, copy_tuples};
 
 // Whether the tuple has this value at the name.
 fn has_value(tuple: &Tuple, name: &Name, value: &Value) -> bool
@@ -98,6 +98,14 @@ fn through(
     add_links(alloc, &mut tuples, r.tuples(), second, middle, &tails)?;
     let heading = r.heading().copy()?;
     Ok(Relation::from_tuples(heading, tuples))
+}
+
+/// Whether the heading has two columns of one type. It takes no memory.
+pub fn is_binary(heading: &Heading) -> bool
+    ensures { IsTrue result ↔ IsBinary heading.now }
+{
+    let fields = heading.fields();
+    fields.len() == 2 && compare_types(&fields[0].1, &fields[1].1).is_eq()
 }
 
 /// The least transitive relation that contains the relation. For n pairs with a closure of m pairs it costs of the

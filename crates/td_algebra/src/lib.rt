@@ -14,10 +14,10 @@ mod parts;
 mod sets;
 mod wraps;
 
-pub use closure::tclose;
+pub use closure::{is_binary, tclose};
 pub use groups::group;
 pub use joins::{compose, join, matching, not_matching};
-pub use opening::{ungroup, unwrap};
+pub use opening::{is_relation_valued, is_tuple_valued, ungroup, unwrap};
 pub use parts::{project, rename};
 pub use sets::{intersect, minus, union};
 pub use wraps::wrap;

@@ -1,5 +1,5 @@
 //! Tuples and relations taken out of attributes.
-ghost use Rattle.std.specs.Prelude.{◌≡◌, ◌++◌, map, IfOk, OnOk};
+ghost use Rattle.std.specs.Prelude.{◌≡◌, ◌↔◌, ◌++◌, map, IsTrue, IfOk, OnOk};
 ghost use Rattle.std.specs.List.{All, flat_map};
 ghost use Rattle.td_algebra.specs.Nested.{IsRelationValued, IsTupleValued, Ungrouped, Unwrapped, columns_of_type, inner_columns, opened_columns};
 ghost use Rattle.td_algebra.specs.Opened.{Opened, opened, tuples_at, tuples_in};
@@ -122,6 +122,26 @@ fn open(alloc: Global, r: &Relation, name: &Name) -> Result<Relation, AllocError
     let tuples = open_all(alloc, r, &outer, name)?;
     let heading = joined(alloc, &outer, &inner)?;
     Ok(Relation::from_tuples(heading, tuples))
+}
+
+/// Whether the heading has a relation type at the name. It takes no memory.
+pub fn is_relation_valued(heading: &Heading, name: &Name) -> bool
+    ensures { IsTrue result ↔ IsRelationValued name.now heading.now }
+{
+    match heading.type_of(name) {
+        Some(ty) => matches!(&ty.kind, TypeKind::Relation(_)),
+        None => false,
+    }
+}
+
+/// Whether the heading has a tuple type at the name. It takes no memory.
+pub fn is_tuple_valued(heading: &Heading, name: &Name) -> bool
+    ensures { IsTrue result ↔ IsTupleValued name.now heading.now }
+{
+    match heading.type_of(name) {
+        Some(ty) => matches!(&ty.kind, TypeKind::Tuple(_)),
+        None => false,
+    }
 }
 
 /// The tuples made of the other attributes and a tuple of the relation at the name. A tuple whose relation is empty
