@@ -10,4 +10,9 @@ pub mod Extensions
 pub mod Stable
 pub mod Sums
 pub mod Folds
-pub mod Groups
+pub mod KeyGroups
+mod Wrappings
+mod Grouping
+mod Openings
+mod Chains
+mod Closing

@@ -1,5 +1,5 @@
 -- What is in lists that are made of others.
-use Rattle.std.proofs.Common.{◌≡◌, ◌↔◌, ℕ, zero, suc, ◌+◌, ◌<◌, nat_eq, not, take, Bool, true, false, ◌||◌, cond, List, [], ◌∷◌, ◌++◌, map, length, get_or, ◌⊎◌, inl, inr, Option, Some, None, refl, sym, ap, ◌∙◌, subst, true≢false, arith}
+use Rattle.std.proofs.Common.{◌≡◌, ℕ, zero, suc, ◌+◌, ◌<◌, nat_eq, not, take, Bool, true, false, ◌||◌, cond, List, [], ◌∷◌, ◌++◌, map, length, get_or, ◌⊎◌, inl, inr, refl, sym, ap, ◌∙◌, subst, true≢false, arith}
 use Rattle.std.specs.List.{All, Contains, list_any, flat_map, filter}
 use Rattle.std.proofs.lemmas.Bool.Decides.{nat_tests}
 use Rattle.std.proofs.lemmas.List.{take_more, append-nil}
@@ -19,6 +19,9 @@ module _ {X : Type 0} where
   at_in [] x k lt e = absurd (omega arith)
   at_in (y ∷ ys) x zero lt e = inl (sym e)
   at_in (y ∷ ys) x (suc k) lt e = inr (at_in ys x k (omega arith) e)
+
+  pub item_in : (xs : List X) (i : ℕ) (x : X) → i < length xs → x ≡ get_or xs i x → In x xs
+  item_in xs i x lt is = at_in xs x i lt (sym is)
 
   pub contains_in : (xs : List X) (x : X) → Contains xs x → In x xs
   contains_in xs x h = at_in xs x h.0 h.1 h.2

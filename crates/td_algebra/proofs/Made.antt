@@ -1,5 +1,5 @@
 -- Relations that are made of lists of tuples.
-use Rattle.std.proofs.Common.{◌≡◌, ◌↔◌, List, map, refl, sym, ap, ◌∙◌, subst}
+use Rattle.std.proofs.Common.{◌≡◌, List, map, sym, ◌∙◌, subst}
 use Rattle.std.specs.FinSet as set
 use Rattle.std.specs.List.{All}
 use Rattle.td_values.specs.Data.{Attrs}

@@ -1,8 +1,7 @@
 -- Merges of ascending lists of tuples, and of relations.
-use Rattle.std.proofs.Common.{◌≡◌, ◌⊎◌, inl, inr, Bool, true, false, not, ◌&&◌, ◌||◌, List, get_or, refl, sym, ap, ◌∙◌, subst, true≢false}
+use Rattle.std.proofs.Common.{◌≡◌, ◌⊎◌, inl, inr, Bool, true, false, not, ◌&&◌, ◌||◌, List, refl, sym, ap, ◌∙◌, subst, true≢false}
 use Rattle.std.specs.FinSet as set
 use Rattle.std.specs.List.Sorted.{IsStrictlySortedBy}
-use Rattle.std.proofs.lemmas.List.Elements.{All-contains, All-contains_itself}
 use Rattle.td_values.specs.Data.{Attrs}
 use Rattle.td_values.specs.Headings.{Header}
 use Rattle.td_values.specs.Order.{attrs_order}
@@ -12,7 +11,7 @@ use Rattle.td_values.specs.Rows.{RowsData, AreRows}
 use Rattle.td_relations.specs.Sets.{TupleSet, body, IsRelation, IsRelationOf}
 use Rattle.td_relations.specs.Merges.{is_kept, IsMerge}
 use Rattle.td_relations.proofs.Fits.{Fits}
-use Rattle.td_relations.proofs.Members.{contains_listed}
+use Rattle.td_relations.proofs.Members.{holds_of_member, holds_of_all}
 use Rattle.td_relations.proofs.Predicates.{by_predicate, set_of}
 use Rattle.td_relations.proofs.Walks.{kept, walk, sorted_walk, has_walk}
 
@@ -42,10 +41,7 @@ in_either k false false e = absurd (true≢false (sym e))
 -- so it fits where the tuples of both do
 pub rows_of_merge : (k : Kept) (h : Header) (xs ys zs : List Attrs) → IsMerge k xs ys zs → AreRows h xs → AreRows h ys → AreRows h zs
 rows_of_merge k h xs ys zs is a b = record {
-  fit = λ i d lt.
-      let t : Attrs = get_or zs i d in
-      let in_zs = (contains_listed zs t).1 (All-contains_itself zs i d lt) in
-      elim (in_either k _ _ (sym (is.members t) ∙ in_zs)) [ inl p ↦ All-contains (Fits h) xs t a.fit ((contains_listed xs t).0 p) | inr q ↦ All-contains (Fits h) ys t b.fit ((contains_listed ys t).0 q) ];
+  fit = holds_of_all (Fits h) zs (λ t has. elim (in_either k _ _ (sym (is.members t) ∙ has)) [ inl p ↦ holds_of_member (Fits h) xs t a.fit p | inr q ↦ holds_of_member (Fits h) ys t b.fit q ]);
   ascending = is.ascending;
 }
 

@@ -2,6 +2,7 @@
 use Rattle.std.proofs.Common.{◌≡◌, ℕ, Bool, true, false, T, cond, List, [], ◌∷◌, ◌++◌, map, Option, None, Some, is_some, refl, sym, ap, ◌∙◌, subst}
 use Rattle.std.specs.FinMap as by_name
 use Rattle.std.specs.FinMap.Entries.{where_key, is_sorted-where_key, same_entries}
+use Rattle.std.specs.Option.{option_map}
 use Rattle.std.specs.Ordering.{eq_by_cmp}
 use Rattle.td_values.specs.Attributes.{attribute_of}
 use Rattle.td_values.specs.Data.{Ty, fields_of, Datum, Attrs, no_attrs, attr, attrs_of}
@@ -14,7 +15,7 @@ use Rattle.td_values.proofs.TupleLemmas.{attribute_built, heading_listed, fields
 use Rattle.td_tuples.specs.Parts.{attributes, names_of, Fits, is_in, where_name, cut}
 use Rattle.td_tuples.specs.Unions.{tuple_of, beside, joined, with_attribute, with_column}
 use Rattle.td_tuples.specs.Renamings.{name_after, with_new_name, renamed, renamed_columns}
-use Rattle.td_tuples.proofs.Lists.{same_name, or_else, find-append, find-where, find_values, from_entries-entries, entries-retain, in_keys, on_values, sorted_values, values_append, values_where, values_from_entries}
+use Rattle.td_tuples.proofs.Lists.{same_name, or_else, find-append, find-where, find_values, find-values, from_entries-entries, entries-retain, in_keys, on_values, sorted_values, values_append, values_where, values_from_entries}
 
 -- ---- a tuple and its list
 pub attributes_attrs : (xs : List (List ℕ × Datum)) → attributes (attrs_of xs) ≡ xs
@@ -57,6 +58,12 @@ typed_fits h t e = heading-typed t ∙ ap fields_of e
 
 pub fits_sorted : (h : Header) (t : Attrs) → Fits h t → IsSorted t
 fits_sorted h t f = subst T (sym (ap (by_name.is_sorted text_cmp) (fits_typed h t f)) ∙ sorted_values type_of (attributes t)) (by_name.entries_sorted h)
+
+-- the heading has the type of the tuple's value
+pub fits_get : (h : Header) (t : Attrs) → Fits h t → (n : List ℕ) → by_name.get h n ≡ option_map type_of (attribute_of n t)
+fits_get h t f n =
+    by_name.get-entries h n ∙ ap (by_name.find text_cmp n) (sym (fits_typed h t f)) ∙ find-values type_of n (attributes t)
+    ∙ ap (option_map type_of) (sym (attribute-find n t))
 
 -- a tuple has a value where the heading has a type
 pub fits_here : (h : Header) (t : Attrs) → Fits h t → (n : List ℕ) → is_some (attribute_of n t) ≡ is_some (by_name.get h n)

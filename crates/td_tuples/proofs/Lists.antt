@@ -5,6 +5,7 @@ use Rattle.std.specs.FinMap as by_name
 use Rattle.std.specs.FinMap.Entries.{where_key, below_all, by_order, find-where_key, is_sorted-where_key, same_entries}
 use Rattle.std.specs.Ordering.{eq_by_cmp, is_eq, is_lt}
 use Rattle.std.proofs.lemmas.Map.Lookups.{exact_bytes}
+use Rattle.std.specs.Option.{option_map}
 use Rattle.td_values.specs.Order.{text_cmp}
 use Rattle.td_values.specs.TextOrder.{text_total}
 use Rattle.td_tuples.specs.Parts.{is_in}
@@ -149,3 +150,7 @@ module _ {X Y : Type 0} (f : X → Y) where
   pub find_values : (n : List ℕ) (xs : List (List ℕ × X)) → is_some (by_name.find text_cmp n (on_values xs)) ≡ is_some (by_name.find text_cmp n xs)
   find_values n [] = refl
   find_values n (x ∷ xs) = elim (eq_by_cmp text_cmp n x.0) as (λ b. is_some (cond b (Some (f x.1)) (by_name.find text_cmp n (on_values xs))) ≡ is_some (cond b (Some x.1) (by_name.find text_cmp n xs))) [ true ↦ refl | false ↦ find_values n xs ]
+
+  pub find-values : (n : List ℕ) (xs : List (List ℕ × X)) → by_name.find text_cmp n (on_values xs) ≡ option_map f (by_name.find text_cmp n xs)
+  find-values n [] = refl
+  find-values n (x ∷ xs) = elim (eq_by_cmp text_cmp n x.0) as (λ b. cond b (Some (f x.1)) (by_name.find text_cmp n (on_values xs)) ≡ option_map f (cond b (Some x.1) (by_name.find text_cmp n xs))) [ true ↦ refl | false ↦ find-values n xs ]

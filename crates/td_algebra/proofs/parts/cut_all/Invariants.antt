@@ -1,6 +1,5 @@
 use Rattle.std.proofs.Common.{◌≡◌, take, map}
 use Rattle.td_tuples.specs.Parts.{cut, names_of}
-use Rattle.td_tuples.specs.Renamings.{renamed}
 use Rattle.td_algebra.proofs.parts.cut_all.Given as goal
 
 abbrev pub invariant-loop-t : goal.invariant-loop-t

@@ -1,5 +1,4 @@
 use Rattle.std.proofs.Common.{◌≡◌, take, map}
-use Rattle.td_tuples.specs.Parts.{cut, names_of}
 use Rattle.td_tuples.specs.Renamings.{renamed}
 use Rattle.td_algebra.proofs.parts.rename_all.Given as goal
 

@@ -9,7 +9,7 @@ use Rattle.td_algebra.specs.Index.{has_key, key_of, tuple_in}
 use Rattle.td_algebra.specs.Raising.{Answers}
 use Rattle.td_algebra.specs.Extending.{TakesBoth, Means, IsTyped}
 use Rattle.td_algebra.specs.Summaries.{OfTerm, Suits, group_of, over_groups, summary_over}
-use Rattle.td_algebra.proofs.Groups.{entries_all, group_is}
+use Rattle.td_algebra.proofs.KeyGroups.{entries_all, group_is}
 use Rattle.td_algebra.proofs.summarization.summarize.Goals as goal
 
 pub extend-requires-clause-takes : goal.extend-requires-clause-takes
