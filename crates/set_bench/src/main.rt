@@ -12,7 +12,7 @@ ghost use Rattle.td_values.specs.Whole.{heading_of};
 use anyhow::Result;
 use std::alloc::Global;
 use std::time::{Duration, Instant};
-use td_relations::{Relation, intersect, minus, union};
+use td_relations::{Delta, Relation, intersect, minus, union};
 use td_values::{Heading, Kind, Name, TdType, Text, Tuple, TupleBuilder, TypeKind, Value, fits};
 
 /// How often each operator is timed at each size.
@@ -20,6 +20,9 @@ const TURNS: u32 = 20;
 
 /// A step through the numbers below 1,000 or 10,000 that meets each of them once, in no order.
 const STEP: u32 = 7919;
+
+/// How many tuples a change takes out, and how many it puts in.
+const CHANGED: u32 = 10;
 
 // An operator on two relations.
 #[derive(Clone, Copy)]
@@ -158,6 +161,18 @@ fn time_of_making(
     Ok((start.elapsed(rt)?, made))
 }
 
+// How long the change of some of the first relation's tuples to the second one's takes, and how many there are then.
+fn time_of_change(rt: &HostRuntime, a: &Relation, b: &Relation) -> Result<(Duration, usize)>
+    requires { a.now.heading ≡ b.now.heading }
+{
+    let alloc = rt.alloc();
+    let delta = Delta::difference(alloc, a, b)?;
+    let mut changed = a.copy(alloc)?;
+    let start = Instant::now(rt)?;
+    delta.apply(alloc, &mut changed)?;
+    Ok((start.elapsed(rt)?, changed.len()))
+}
+
 fn tell(rt: &HostRuntime, name: &str, size: u32, least: Duration, count: usize) -> Result<()> {
     println!(rt; "{name} {size}: {count}")?;
     eprintln!(rt; "{name} {size} {}", least.as_nanos())?;
@@ -188,6 +203,16 @@ fn tell_making(rt: &HostRuntime, names: &Names, heading: &Heading, size: u32) ->
     tell(rt, "from_tuples", size, least, count)
 }
 
+fn tell_change(rt: &HostRuntime, size: u32, a: &Relation, b: &Relation) -> Result<()>
+    requires { a.now.heading ≡ b.now.heading }
+{
+    let (mut least, count) = time_of_change(rt, a, b)?;
+    for _ in 1..TURNS {
+        least = least.min(time_of_change(rt, a, b)?.0);
+    }
+    tell(rt, "apply", size, least, count)
+}
+
 // Two relations of this size, which share half of their tuples.
 fn measure(rt: &HostRuntime, names: &Names, heading: &Heading, size: u32) -> Result<()> {
     let alloc = rt.alloc();
@@ -202,7 +227,8 @@ fn measure(rt: &HostRuntime, names: &Names, heading: &Heading, size: u32) -> Res
     ] {
         tell_operator(rt, operator, size, &a, &b)?;
     }
-    Ok(())
+    let near = relation(alloc, names, heading, CHANGED, size)?;
+    tell_change(rt, size, &a, &near)
 }
 
 fn main(rt: HostRuntime) -> Result<()> {

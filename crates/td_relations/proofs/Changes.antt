@@ -8,6 +8,7 @@ use Rattle.td_values.specs.Order.{attrs_order}
 use Rattle.td_values.specs.Rows.{RowsData, AreRows}
 use Rattle.td_values.specs.Total.{attrs_order_total, attrs_tied}
 use Rattle.td_relations.specs.Sets.{TupleSet, tuple_set, body, IsRelation}
+use Rattle.td_relations.proofs.Edits.{difference_nothing, union_nothing}
 use Rattle.td_relations.proofs.Fits.{Fits}
 use Rattle.td_relations.proofs.Members.{relation_is, either, holds_of_member, holds_of_all}
 
@@ -30,6 +31,20 @@ leads_to old new result out into same up h k gone come is =
     let there : IsRelation new.heading (body new) new = record { heading = refl; members = refl; ascending = up } in
     let here : IsRelation new.heading (body new) result = record { heading = is.heading ∙ same; members = members; ascending = is.ascending } in
     relation_is new.heading (body new) result here ∙ sym (relation_is new.heading (body new) new there)
+
+without_itself : (b : Bool) → (b && not b) ≡ false
+without_itself true = refl
+without_itself false = refl
+
+pub none_between : (r s : RowsData) → r ≡ s → set.difference (body r) (body s) ≡ set.empty
+none_between r s e = set.same_set attrs_order_total attrs_tied _ _ (λ q.
+    set.contains-difference attrs_order_total (body r) (body s) q ∙ ap (λ (w : RowsData). set.contains (body r) q && not (set.contains (body w) q)) (sym e) ∙ without_itself (set.contains (body r) q) ∙ sym (set.contains-empty attrs_order q))
+
+-- where nothing goes and nothing comes, it is the same relation
+pub same_by_nothing : (old new out into : RowsData) → old.heading ≡ new.heading → IsStrictlySortedBy attrs_order old.tuples → IsStrictlySortedBy attrs_order new.tuples → (h k : Header) → IsRelation h (set.difference (body old) (body new)) out → IsRelation k (set.difference (body new) (body old)) into → body out ≡ set.empty → body into ≡ set.empty → old ≡ new
+same_by_nothing old new out into same low up h k gone come no_out no_into =
+    let stays : body old ≡ set.union (set.difference (body old) (body out)) (body into) = difference_nothing (body old) ∙ union_nothing (set.difference (body old) set.empty) ∙ (λ i. set.union (set.difference (body old) (sym no_out i)) (sym no_into i)) in
+    leads_to old new old out into same up h k gone come (record { heading = refl; members = stays; ascending = low })
 
 kept_from : (a b : Bool) → (a && b) ≡ true → a ≡ true
 kept_from true b e = refl

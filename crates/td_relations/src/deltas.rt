@@ -1,5 +1,5 @@
 //! Changes of a relation, which are applied and undone.
-ghost use Rattle.std.specs.Prelude.{◌≡◌, IfOk, OnOk, OnErr};
+ghost use Rattle.std.specs.Prelude.{◌≡◌, ◌↔◌, IsTrue, IfOk, OnOk, OnErr};
 ghost use Rattle.std.specs.FinSet as set;
 ghost use Rattle.td_relations.specs.Sets.{body, IsRelation};
 ghost use Rattle.td_relations.specs.Deltas.{IsApplied, IsDifference, inverse_of};
@@ -64,6 +64,13 @@ impl Delta {
         ensures { result.now ≡ self.now.deleted }
     {
         &self.deleted
+    }
+
+    /// Whether nothing is put in and nothing is taken out.
+    pub fn is_empty(&self) -> bool
+        ensures { IsTrue result ↔ ((body self.now.inserted ≡ set.empty) × (body self.now.deleted ≡ set.empty)) }
+    {
+        self.inserted.is_empty() && self.deleted.is_empty()
     }
 
     /// The change that puts in what this one takes out, and the other way round. It takes no memory.

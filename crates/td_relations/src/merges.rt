@@ -48,6 +48,7 @@ fn append(out: &mut Vec<Tuple>, tuples: &[Tuple]) -> Result<(), AllocError>
     Ok(())
 }
 
+// The tuples that are kept of two ascending lists, ascending.
 fn merged(alloc: Global, xs: &[Tuple], ys: &[Tuple], kept: Kept) -> Result<Vec<Tuple>, AllocError>
     requires xs_ascend { IsStrictlySortedBy attrs_order xs.now }
     requires ys_ascend { IsStrictlySortedBy attrs_order ys.now }
@@ -78,6 +79,7 @@ fn merged(alloc: Global, xs: &[Tuple], ys: &[Tuple], kept: Kept) -> Result<Vec<T
     Ok(out)
 }
 
+// The relation of the tuples that are kept.
 fn combined(alloc: Global, a: &Relation, b: &Relation, kept: Kept) -> Result<Relation, AllocError>
     requires { a.now.heading ≡ b.now.heading }
     ensures { IfOk result (IsRelationOf a.now.heading (λ t. is_kept kept (set.contains (body a.now) t) (set.contains (body b.now) t) ≡ true)) }

@@ -167,7 +167,7 @@ fn deltas_by_hand(rt: HostRuntime) -> Result<()> {
     let alloc = rt.alloc();
     let heading = heading(alloc, "A", TypeKind::Integer)?;
     let delta = delta(alloc, &heading)?;
-    assert!(rt; delta.heading().len() == 1);
+    assert!(rt; delta.heading().len() == 1 && !delta.is_empty());
     assert!(rt; is_of(alloc, delta.inserted(), &[3])? && is_of(alloc, delta.deleted(), &[1])?);
     Ok(())
 }
