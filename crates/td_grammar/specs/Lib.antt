@@ -1,0 +1,4 @@
+pub mod Levels
+pub mod Grammar
+pub mod Reader
+pub mod Laws

@@ -1,0 +1,13 @@
+//! Laws of the grammar.
+
+ghost use Rattle.td_grammar.specs.Laws.{OneExpr, ReaderDecidesQueries};
+
+/// No token list has two trees.
+pub fn one_tree()
+    ensures { OneExpr }
+{}
+
+/// The reader finds what the grammar says: a tree where the text's tokens are read as one, and else none.
+pub fn reader_decides_queries()
+    ensures { ReaderDecidesQueries }
+{}
