@@ -31,7 +31,8 @@ use Rattle.td_grammar.specs.Grammar.{integer, characters, is_true, is_false, dee
 use Rattle.td_grammar.specs.Grammar.{ReadsPostfix, where_, rename, rename_braces, nest, nest_brackets, unnest, unnest_brackets, ReadsList, last_expr, next_expr, ReadsNamed, name_after, name_assigned, name_beside, ReadsNamedList, last_named, next_named, ReadsSummary, count_group, count_brackets, summary_of, ReadsNamedSummary, summary_after, summary_assigned, ReadsSummaryList, last_summary, next_summary, ReadsSummaries, summaries, summaries_assigned}
 use Rattle.td_grammar.specs.Reader as read
 use Rattle.td_grammar.specs.Reader.{Outcome, Reader, and_then, pure, refuse, same_word, look, at, tail, eat, expect, take_name, take_text, at_name, at_type, take_infix, list_from, list_at, listed, up_to, renaming_at, attributes_at, field_of, heading_of, type_of, type_at, heading_at, climb, binary_turn, project_turn, shut, form_at, within, reads}
-use Rattle.td_grammar.proofs.Depths.{some_level, list_levels, named_levels, summary_levels, summaries_levels, of_call, of_tuple, of_relation, of_unary, of_binary, of_from, of_project, of_where, of_rename, of_nest, of_unnest, of_aggregate_all, of_aggregate, of_choice, of_extend, of_with, of_summarize}
+use Rattle.td_grammar.specs.Levels.{list_levels, named_levels, summary_levels, summaries_levels}
+use Rattle.td_grammar.proofs.Depths.{some_level, of_call, of_tuple, of_relation, of_unary, of_binary, of_from, of_project, of_where, of_rename, of_nest, of_unnest, of_aggregate_all, of_aggregate, of_choice, of_extend, of_with, of_summarize}
 use Rattle.td_grammar.proofs.Places.{goes_on, lead, infix_shorter, infix_goes, infix_binds, shorter, named_shorter, named_list_shorter, named_summary_shorter, attributes_shorter, heading_shorter, attributes_goes, postfix_goes, postfix_binds, leads, exprs_lead, summaries_goes, expr_ends, no_target}
 use Rattle.td_grammar.proofs.Steps.{then_some, one_turn, no_turn, binary_reads, within_reads, ListOf, one, then_more, list_reads, bracket_closes, brace_closes, listed_reads, none_read, some_read, renamings_list, attributes_read, attributes_bind, project_reads, heading_reads, has_heading, no_heading, no_close, no_targets, no_call, expr_plain, not_plain, prefixed_plain, relational_infix}
 
@@ -190,7 +191,7 @@ tuple_none_goes : (r : Tokens) → Goes f.Primary (word w.Tuple ∷ word w.OpenB
 unfolding read.primary_at read.tuple expect at same_word
 tuple_none_goes r n b le lv g l = at_once b (e.Tuple []) r _ (rw (none_read (read.named_at (reads n) b naming.Beside) w.CloseBrace r brace_closes) refl)
 
-abbrev NamedLists : Naming → Tokens → List (Named Expr) → Tokens → Type 0
+abbrev pub NamedLists : Naming → Tokens → List (Named Expr) → Tokens → Type 0
 NamedLists m ts xs r = (n b : ℕ) → length ts ≤ n → named_levels xs ≤ b → ListOf (read.named_at (reads n) b m) ts xs r
 
 tuple_goes : (ts r : Tokens) (xs : List (Named Expr)) → at w.CloseBrace ts ≡ false → NamedLists naming.Beside ts xs (word w.CloseBrace ∷ r) → Goes f.Primary (word w.Tuple ∷ word w.OpenBrace ∷ ts) (e.Tuple xs) r
@@ -413,7 +414,7 @@ after_leads (next_named (name_assigned d) e) h = absurd (let z : ⊥ = cc in z)
 after_leads (last_named (name_beside d)) h = absurd (let z : ⊥ = cc in z)
 after_leads (next_named (name_beside d) e) h = absurd (let z : ⊥ = cc in z)
 
-assigned_begins : {ts : Tokens} {xs : List (Named Expr)} {r : Tokens} {m : Naming} → ReadsNamedList m ts xs r → m ≡ naming.Assigned → target_at ts ≡ true
+pub assigned_begins : {ts : Tokens} {xs : List (Named Expr)} {r : Tokens} {m : Naming} → ReadsNamedList m ts xs r → m ≡ naming.Assigned → target_at ts ≡ true
 assigned_begins (last_named (name_after d)) h = absurd (let z : ⊥ = cc in z)
 assigned_begins (next_named (name_after d) e) h = absurd (let z : ⊥ = cc in z)
 assigned_begins (last_named (name_assigned d)) h = refl
@@ -434,18 +435,18 @@ closing_bracket_ends : (r : Tokens) → goes_on (word w.CloseParenthesis ∷ r) 
 closing_bracket_ends r = refl
 
 -- what follows an item of a list: a summary alone is not gone on with
-abbrev Ends : Tokens → Type 0
+abbrev pub Ends : Tokens → Type 0
 Ends r = (goes_on r ≡ false) × (at w.OpenParenthesis r ≡ false)
 
-comma_ends : (r : Tokens) → Ends (word w.Comma ∷ r)
+pub comma_ends : (r : Tokens) → Ends (word w.Comma ∷ r)
 unfolding at same_word
 comma_ends r = (refl, refl)
 
-bracket_ends : (r : Tokens) → Ends (word w.CloseParenthesis ∷ r)
+pub bracket_ends : (r : Tokens) → Ends (word w.CloseParenthesis ∷ r)
 unfolding at same_word
 bracket_ends r = (refl, refl)
 
-brace_ends : (r : Tokens) → Ends (word w.CloseBrace ∷ r)
+pub brace_ends : (r : Tokens) → Ends (word w.CloseBrace ∷ r)
 unfolding at same_word
 brace_ends r = (refl, refl)
 
@@ -553,7 +554,7 @@ mutual
   named_read (name_assigned {x} {ts} {r} {a} d) h n b le lv = assigned_item x ts r a (inner_by d (goes d) h.0) n b (omega arith) lv
   named_read (name_beside {x} {ts} {r} {a} d) h n b le lv = beside_item x ts r a (inner_by d (goes d) h.0) n b (omega arith) lv
 
-  named_list_read : {m : Naming} {ts : Tokens} {xs : List (Named Expr)} {r : Tokens} → ReadsNamedList m ts xs r → Ends r → NamedLists m ts xs r
+  pub named_list_read : {m : Naming} {ts : Tokens} {xs : List (Named Expr)} {r : Tokens} → ReadsNamedList m ts xs r → Ends r → NamedLists m ts xs r
   named_list_read (last_named d) h n b le lv = one (named_read d h n b le (omega arith)) (named_shorter d)
   named_list_read (next_named {mid} d k) h n b le lv = then_more (named_read d (comma_ends mid) n b le (omega arith)) (omega (arith, named_shorter d)) (named_list_read k h n b (omega (arith, named_shorter d)) (omega arith))
 

@@ -19,7 +19,7 @@ use Rattle.td_grammar.specs.declared.tree.Expr.TheVariants as e
 use Rattle.td_grammar.specs.declared.tree.Expr.TheOpen.{Expr-F}
 use Rattle.td_grammar.specs.declared.tree.Expr.TheFolds.{fold-roll-Expr}
 use Rattle.td_grammar.specs.declared.tree.Expr.TheShapes.{former-Expr-Summarize-2-at-4}
-use Rattle.td_grammar.specs.Levels.{levels, levels_step, deepest, deepest_named, deepest_summary, of_summary}
+use Rattle.td_grammar.specs.Levels.{list_levels, named_levels, summary_levels, summaries_levels, groups_levels, levels, levels_step, deepest, deepest_named, deepest_summary, of_summary}
 
 some_step : (x : Expr-F ℕ) → 1 ≤ levels_step x
 some_step _ = grind arith
@@ -29,26 +29,6 @@ pub some_level : (a : Expr) → 1 ≤ levels a
 some_level a = search (rules, the_lemmas, some_step)
 
 -- ---- lists
-
-abbrev pub list_levels : List Expr → ℕ
-list_levels [] = 0
-list_levels (a ∷ all) = max (levels a) (list_levels all)
-
-abbrev pub named_levels : List (Named Expr) → ℕ
-named_levels [] = 0
-named_levels (x ∷ xs) = max (levels x.value) (named_levels xs)
-
-abbrev pub summary_levels : Summary Expr → ℕ
-summary_levels summary.Count = 0
-summary_levels (summary.Of g a) = levels a
-
-abbrev pub summaries_levels : List (Named (Summary Expr)) → ℕ
-summaries_levels [] = 0
-summaries_levels (x ∷ xs) = max (summary_levels x.value) (summaries_levels xs)
-
-abbrev pub groups_levels : Groups Expr → ℕ
-groups_levels (groups.Per a) = levels a
-groups_levels _ = 0
 
 list_of : (all : List Expr) → deepest (map levels all) ≡ list_levels all
 list_of [] = refl

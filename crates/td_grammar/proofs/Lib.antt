@@ -4,3 +4,11 @@ pub mod Steps
 pub mod Complete
 pub mod Sound
 pub mod OneTree
+pub mod Cursors
+pub mod Turns
+pub mod Within
+pub mod Knot
+pub mod StatementsComplete
+pub mod StatementsSound
+pub mod Lexing
+pub mod OneStatement

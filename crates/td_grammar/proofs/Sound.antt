@@ -196,7 +196,7 @@ module _ (type : Reader TypeExpr) (inside : SoundType type) where
       let a = bound (type x.1) _ p x.3 in
       made (λ (q : Named TypeExpr) r. (us : Tokens) × (ts ≡ name q.name ∷ us) × ReadsType us q.value r) (record { name = x.0; value = a.0 }) a.1 p (x.1, x.2, inside x.1 _ a.2) a.3
 
-  fields_of : (ts : Tokens) (xs : List (Named TypeExpr)) (r : Tokens) → Run (field_of type) ts xs r → ReadsFields ts xs r
+  pub fields_of : (ts : Tokens) (xs : List (Named TypeExpr)) (r : Tokens) → Run (field_of type) ts xs r → ReadsFields ts xs r
   fields_of ts xs r (last {x = x} h) = let c = field_sound ts (x, r) h in subst (λ us. ReadsFields us (x ∷ []) r) (sym c.1) (last_field c.2)
   fields_of ts xs r (next {mid = mid} {x = x} {xs = ys} h d) = let c = field_sound ts (x, word w.Comma ∷ mid) h in subst (λ us. ReadsFields us (x ∷ ys) r) (sym c.1) (next_field c.2 (fields_of mid ys r d))
 
@@ -287,10 +287,10 @@ climb_sound P j turn each (suc m) a ts p pa h =
 abbrev pub Sound : Form → Reader Expr → Type 0
 Sound g read = (ts : Tokens) (p : Expr × Tokens) → read ts ≡ Some p → Reads g ts p.0 p.1
 
-begun : {g : Form} {ts us : Tokens} {a : Expr} {r : Tokens} → us ≡ ts → Reads g ts a r → Reads g us a r
+pub begun : {g : Form} {ts us : Tokens} {a : Expr} {r : Tokens} → us ≡ ts → Reads g ts a r → Reads g us a r
 begun {g = g} {a = a} {r = r} h d = subst (λ s. Reads g s a r) (sym h) d
 
-ended : {g : Form} {ts : Tokens} {a : Expr} {r s : Tokens} → Reads g ts a r → r ≡ s → Reads g ts a s
+pub ended : {g : Form} {ts : Tokens} {a : Expr} {r s : Tokens} → Reads g ts a r → r ≡ s → Reads g ts a s
 ended {g = g} {ts = ts} {a = a} d h = subst (λ s. Reads g ts a s) h d
 
 retree : {g : Form} {ts : Tokens} {a b : Expr} {r : Tokens} → Reads g ts a r → a ≡ b → Reads g ts b r
@@ -379,7 +379,7 @@ module _ (rds : ℕ → Form → Reader Expr) (b : ℕ) (inside : (m : ℕ) (g :
       let a = bound (rds b f.Expr x.1) _ p x.3 in
       made (ReadsNamed naming.Beside us) (record { name = x.0; value = a.0 }) a.1 p (subst (λ vs. ReadsNamed naming.Beside vs (record { name = x.0; value = a.0 }) a.1) (sym x.2) (name_beside (inside b f.Expr x.1 _ a.2))) a.3
 
-  named_list_of : (m : Naming) (us : Tokens) (xs : List (Named Expr)) (r : Tokens) → Run (read.named_at rds b m) us xs r → ReadsNamedList m us xs r
+  pub named_list_of : (m : Naming) (us : Tokens) (xs : List (Named Expr)) (r : Tokens) → Run (read.named_at rds b m) us xs r → ReadsNamedList m us xs r
   named_list_of m us xs r (last h) = last_named (named_sound m us _ h)
   named_list_of m us xs r (next {mid = mid} {xs = ys} h d) = next_named (named_sound m us _ h) (named_list_of m mid ys r d)
 

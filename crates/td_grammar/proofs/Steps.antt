@@ -79,8 +79,8 @@ list_reads {item = item} (then_more {ts} {mid} {r} {x} {xs} p s d) q m found le 
 
 -- a word that closes a list
 pub record Closes (v : Word) : Type 0 where
-  no_comma : (r : Tokens) → at w.Comma (word v ∷ r) ≡ false
-  itself : (r : Tokens) → at v (word v ∷ r) ≡ true
+  pub no_comma : (r : Tokens) → at w.Comma (word v ∷ r) ≡ false
+  pub itself : (r : Tokens) → at v (word v ∷ r) ≡ true
 
 pub bracket_closes : Closes w.CloseParenthesis
 unfolding at same_word
@@ -184,7 +184,7 @@ mutual
   heading_reads (no_fields {r}) n le = none_read (field_of (type_at n)) w.CloseBrace r brace_closes
   heading_reads (fields d) n le = some_read w.CloseBrace brace_closes (fields_first d).0 (fields_list d n (omega arith))
 
-  fields_list : {ts : Tokens} {h : List (Named TypeExpr)} {r : Tokens} → ReadsFields ts h r → (n : ℕ) → length ts ≤ suc n → ListOf (field_of (type_at n)) ts h r
+  pub fields_list : {ts : Tokens} {h : List (Named TypeExpr)} {r : Tokens} → ReadsFields ts h r → (n : ℕ) → length ts ≤ suc n → ListOf (field_of (type_at n)) ts h r
   fields_list (last_field d) n le = one (rw (type_reads d n (omega arith)) refl) (omega (arith, type_shorter d))
   fields_list (next_field d e) n le = then_more (rw (type_reads d n (omega arith)) refl) (omega (arith, type_shorter d)) (fields_list e n (omega (arith, type_shorter d)))
 

@@ -33,7 +33,7 @@ use Rattle.td_grammar.specs.declared.tree.Groups.TheVariants as groups
 use Rattle.td_grammar.specs.declared.tree.Expr.{Expr}
 use Rattle.td_grammar.specs.declared.tree.Expr.TheVariants as e
 use Rattle.td_grammar.specs.Levels.{levels}
-use Rattle.td_grammar.specs.Grammar.{Tokens, Infix, infix_at, binds, target_at, most_levels, query_bytes}
+use Rattle.td_grammar.specs.Grammar.{Tokens, Infix, infix_at, infix_word, binds, target_at, most_levels, query_bytes}
 
 -- what was read, and the place after it
 abbrev pub Outcome : Type 0 → Type 0
@@ -144,6 +144,21 @@ begins_type _ = false
 unfoldable pub at_type : Tokens → Bool
 at_type [] = false
 at_type (x ∷ ts) = begins_type x
+
+abbrev pub infix_number : Option (ℕ × BinaryOperator) → ℕ
+infix_number None = 0
+infix_number (Some p) = p.0
+
+-- the number of the form that goes on with this word, whatever follows it, or 0
+abbrev pub word_number : Word → ℕ
+word_number w.Not = 5
+word_number w.Where = 5
+word_number w.Rename = 5
+word_number w.Group = 5
+word_number w.Wrap = 5
+word_number w.Ungroup = 5
+word_number w.Unwrap = 5
+word_number v = infix_number (infix_word v)
 
 abbrev pub infix_found : Option Infix → Outcome BinaryOperator
 infix_found None = None
