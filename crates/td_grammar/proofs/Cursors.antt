@@ -1,13 +1,12 @@
 -- The token at the front, and what goes on with it.
-use Rattle.std.proofs.Common.{◌≡◌, ℕ, Bool, true, false, cond, List, [], ◌∷◌, Option, Some, None, refl, ◌&&◌}
+use Rattle.std.proofs.Common.{◌≡◌, ℕ, cond, [], ◌∷◌, Option, Some, None, refl, ◌&&◌}
 use Rattle.td_tokens.specs.declared.token.Word.{Word}
 use Rattle.td_tokens.specs.declared.token.Word.TheVariants as w
 use Rattle.td_tokens.specs.declared.token.Kind.{Kind}
 use Rattle.td_tokens.specs.declared.token.Kind.TheVariants as k
-use Rattle.td_tokens.specs.Lex.{Lexeme, word, name, int, text}
-use Rattle.td_grammar.specs.declared.tree.BinaryOperator.{BinaryOperator}
+use Rattle.td_tokens.specs.Lex.{word, name, int, text}
 use Rattle.td_grammar.specs.declared.tree.BinaryOperator.TheVariants as binary
-use Rattle.td_grammar.specs.Grammar.{Tokens, Infix, infix_at, infix_after, infix_word, with_rest, not_matching, target_at, assign_at, binds, number_of, postfix}
+use Rattle.td_grammar.specs.Grammar.{Tokens, Infix, infix_at, infix_after, infix_word, with_rest, not_matching, target_at, assign_at, binds, number_of}
 use Rattle.td_grammar.specs.Reader.{look, at, at_name, same_word, tail, word_number}
 
 -- the number by the kind of the token

@@ -1,26 +1,22 @@
 -- What the grammar of statements derives is what the reader reads.
-use Rattle.std.proofs.Common.{◌≡◌, ◌≤◌, ◌<◌, ◌-◌, ℕ, zero, suc, max, Bool, true, false, not, cond, List, [], ◌∷◌, ◌++◌, Option, Some, None, length, refl, ap, sym, ◌∙◌, arith, append_assoc}
+use Rattle.std.proofs.Common.{◌≡◌, ◌≤◌, ◌<◌, ℕ, zero, suc, true, false, not, List, [], ◌∷◌, ◌++◌, Option, Some, None, length, refl, ap, sym, ◌∙◌, arith, append_assoc}
 use Rattle.std.proofs.lemmas.List.{append-nil}
 use Rattle.td_tokens.specs.declared.token.Word.{Word}
 use Rattle.td_tokens.specs.declared.token.Word.TheVariants as w
 use Rattle.td_tokens.specs.Lex.{Text, word, name}
 use Rattle.td_grammar.specs.declared.forms.Form.{Form}
 use Rattle.td_grammar.specs.declared.forms.Form.TheVariants as f
-use Rattle.td_grammar.specs.declared.forms.Naming.TheVariants as naming
 use Rattle.td_grammar.specs.declared.tree.TypeExpr.{TypeExpr}
 use Rattle.td_grammar.specs.declared.tree.Named.{Named}
 use Rattle.td_grammar.specs.declared.tree.Attributes.{Attributes}
 use Rattle.td_grammar.specs.declared.tree.Expr.{Expr}
 use Rattle.td_grammar.specs.declared.script.Action.{Action}
-use Rattle.td_grammar.specs.declared.script.Action.TheVariants as action
 use Rattle.td_grammar.specs.declared.script.Opening.{Opening}
-use Rattle.td_grammar.specs.declared.script.Opening.TheVariants as opening
 use Rattle.td_grammar.specs.declared.script.Definition.{Definition}
-use Rattle.td_grammar.specs.declared.script.Definition.TheVariants as definition
 use Rattle.td_grammar.specs.Levels.{levels, named_levels}
-use Rattle.td_grammar.specs.Grammar.{Tokens, Reads, ReadsFields, ReadsAttributes, ReadsHeading, last_field, next_field, target_at, IsList, last_item, next_item}
+use Rattle.td_grammar.specs.Grammar.{Tokens, Reads, ReadsFields, last_field, next_field, IsList, last_item, next_item}
 use Rattle.td_grammar.specs.Statements.{ReadsSets, sets, sets_braces, sets_colon, ReadsAction, assign, insert, delete_all, delete_where, update_all, update_where, maybe_levels, action_levels, actions_levels, ReadsMaybeName, no_name, this_name, ReadsComponents, no_components, components, ReadsLimit, no_limit, limit, ReadsOpening, empty, headed_init, init, ReadsKeys, last_key, next_key, IsBase, base_word, real_word, ReadsDefinition, type_, base, virtual, constraint, ReadsScript, nothing, define, opening_levels, definition_levels, definitions_levels}
-use Rattle.td_grammar.specs.Reader.{Outcome, Reader, and_then, pure, same_word, at, at_name, tail, eat, expect, take_name, is_over, list_at, attributes_at, field_of, type_at, reads, named_at}
+use Rattle.td_grammar.specs.Reader.{Outcome, Reader, same_word, at, at_name, eat, expect, take_name, is_over, reads}
 use Rattle.td_grammar.specs.StatementReader as read
 use Rattle.td_grammar.proofs.Places.{goes_on, shorter, named_list_shorter, attributes_shorter, heading_shorter, fields_shorter}
 use Rattle.td_grammar.proofs.Steps.{ListOf, one, then_more, list_reads, Closes, bracket_closes, brace_closes, listed_reads, attributes_read, heading_reads, fields_list}
@@ -203,7 +199,7 @@ script_from nothing n b le lv (suc m) found lm = ap Some (sym (append-nil found)
 script_from (define d k) n b le lv zero found lm = absurd (omega (arith, definition_shorter d))
 script_from (define {ts} {mid} {d = x} {ds} d k) n b le lv (suc m) found lm =
     rw (not_over ts (omega (arith, definition_shorter d)), definition_read d n b le (omega arith))
-      (script_from k n b (omega (arith, definition_shorter d)) (omega arith) m (found ++ x ∷ []) (omega (arith, definition_shorter d)) ∙ ap Some (append_assoc found (x ∷ []) ds))
+    (script_from k n b (omega (arith, definition_shorter d)) (omega arith) m (found ++ x ∷ []) (omega (arith, definition_shorter d)) ∙ ap Some (append_assoc found (x ∷ []) ds))
 
 pub script_read : (ts : Tokens) (ds : List Definition) → ReadsScript ts ds → (b : ℕ) → definitions_levels ds ≤ b → read.definitions_from (reads (length ts)) b (length ts) [] ts ≡ Some ds
 script_read ts ds d b lv = script_from d (length ts) b (omega arith) lv (length ts) [] (omega arith)

@@ -1,5 +1,5 @@
 -- What the reader of statements reads, the grammar derives.
-use Rattle.std.proofs.Common.{◌≡◌, ◌≤◌, ◌⊎◌, inl, inr, ℕ, zero, suc, Bool, true, false, cond, List, [], ◌∷◌, ◌++◌, Option, Some, None, length, refl, ap, sym, ◌∙◌, subst, append_assoc, if◌then◌else◌, option_and_then}
+use Rattle.std.proofs.Common.{◌≡◌, ◌⊎◌, inl, inr, ℕ, zero, suc, List, [], ◌∷◌, ◌++◌, Option, Some, None, length, refl, ap, sym, ◌∙◌, subst, append_assoc, option_and_then}
 use Rattle.std.proofs.lemmas.List.{append-nil}
 use Rattle.td_tokens.specs.declared.token.Word.{Word}
 use Rattle.td_tokens.specs.declared.token.Word.TheVariants as w
@@ -17,28 +17,27 @@ use Rattle.td_grammar.specs.declared.script.Opening.{Opening}
 use Rattle.td_grammar.specs.declared.script.Opening.TheVariants as opening
 use Rattle.td_grammar.specs.declared.script.Definition.{Definition}
 use Rattle.td_grammar.specs.declared.script.Definition.TheVariants as definition
-use Rattle.td_grammar.specs.Levels.{levels, named_levels}
-use Rattle.td_grammar.specs.Grammar.{Tokens, Reads, ReadsFields, ReadsAttributes, ReadsHeading, last_field, next_field, target_at, IsList, last_item, next_item}
-use Rattle.td_grammar.specs.Statements.{ReadsSets, sets, sets_braces, sets_colon, ReadsAction, assign, insert, delete_all, delete_where, update_all, update_where, maybe_levels, action_levels, actions_levels, ReadsMaybeName, no_name, this_name, ReadsComponents, no_components, components, ReadsLimit, no_limit, limit, ReadsOpening, empty, headed_init, init, ReadsKeys, last_key, next_key, IsBase, base_word, real_word, ReadsDefinition, type_, base, virtual, constraint, ReadsScript, nothing, define, opening_levels, definition_levels, definitions_levels}
-use Rattle.td_grammar.specs.Reader.{Outcome, Reader, and_then, pure, same_word, at, at_name, tail, eat, expect, take_name, is_over, list_at, listed, attributes_at, heading_at, field_of, type_at, reads, named_at}
+use Rattle.td_grammar.specs.Grammar.{Tokens, Reads, ReadsAttributes, ReadsHeading, IsList, last_item, next_item}
+use Rattle.td_grammar.specs.Statements.{ReadsSets, sets, sets_braces, sets_colon, ReadsAction, assign, insert, delete_all, delete_where, update_all, update_where, ReadsMaybeName, no_name, this_name, ReadsComponents, no_components, components, ReadsLimit, no_limit, limit, ReadsOpening, empty, headed_init, init, ReadsKeys, last_key, next_key, IsBase, base_word, real_word, ReadsDefinition, type_, base, virtual, constraint, ReadsScript, nothing, define}
+use Rattle.td_grammar.specs.Reader.{Outcome, Reader, and_then, pure, at, at_name, tail, attributes_at, heading_at, field_of, type_at, named_at}
 use Rattle.td_grammar.specs.StatementReader as read
 use Rattle.td_grammar.proofs.Places.{none_some}
-use Rattle.td_grammar.proofs.Sound.{bound, parts, tested, at_word, eaten, expected, a_name_read, made, Run, last, next, list_run, listed_run, attributes_sound, heading_sound, type_sound, fields_of, Sound, begun, ended, named_list_of}
+use Rattle.td_grammar.proofs.Sound.{bound, parts, tested, at_word, eaten, expected, a_name_read, made, Run, last, next, list_run, listed_run, attributes_sound, heading_sound, type_sound, fields_of, Sound, ended, named_list_of}
 
 maybe_name_sound : (ts : Tokens) (p : Option Text × Tokens) → read.maybe_name ts ≡ Some p → ReadsMaybeName ts p.0 p.1
 unfolding read.maybe_name
 maybe_name_sound ts p h =
     elim (tested (at_name ts) _ _ p h) [
-      inl q ↦ (let x = a_name_read ts _ p q.1 in made (ReadsMaybeName ts) (Some x.0) x.1 p (subst (λ us. ReadsMaybeName us (Some x.0) x.1) (sym x.2) this_name) x.3)
-    | inr q ↦ made (ReadsMaybeName ts) None ts p no_name q.1
+      | inl q ↦ (let x = a_name_read ts _ p q.1 in made (ReadsMaybeName ts) (Some x.0) x.1 p (subst (λ us. ReadsMaybeName us (Some x.0) x.1) (sym x.2) this_name) x.3)
+      | inr q ↦ made (ReadsMaybeName ts) None ts p no_name q.1
     ]
 
 components_sound : (ts : Tokens) (p : List (Named TypeExpr) × Tokens) → read.components_at ts ≡ Some p → ReadsComponents ts p.0 p.1
 unfolding read.components_at
 components_sound ts p h =
     elim (tested (at_name ts) _ _ p h) [
-      inl q ↦ (let l = list_run (field_of (type_at (length ts))) ts pure p (ap (λ (o : Outcome _). and_then o pure) q.1) in made (ReadsComponents ts) l.0 l.1 p (components (fields_of (type_at (length ts)) (type_sound (length ts)) ts l.0 l.1 l.2)) l.3)
-    | inr q ↦ made (ReadsComponents ts) [] ts p no_components q.1
+      | inl q ↦ (let l = list_run (field_of (type_at (length ts))) ts pure p (ap (λ (o : Outcome _). and_then o pure) q.1) in made (ReadsComponents ts) l.0 l.1 p (components (fields_of (type_at (length ts)) (type_sound (length ts)) ts l.0 l.1 l.2)) l.3)
+      | inr q ↦ made (ReadsComponents ts) [] ts p no_components q.1
     ]
 
 key_made : {ts us : Tokens} {ks : List Attributes} {r : Tokens} → us ≡ ts → ReadsKeys ts ks r → ReadsKeys us ks r
@@ -52,10 +51,10 @@ keys_sound (suc n) found ts all r h =
     let c = bound (attributes_at o.0) _ (all, r) o.2 in
     let d = attributes_sound o.0 (c.0, c.1) c.2 in
     elim (tested (at w.Key c.1) _ _ (all, r) c.3) [
-      inl q ↦ (let more = keys_sound n (found ++ c.0 ∷ []) c.1 all r q.1 in
-               (c.0 ∷ more.0, more.1 ∙ append_assoc found (c.0 ∷ []) more.0, key_made o.1 (next_key d more.2)))
-    | inr q ↦ (let z = parts (found ++ c.0 ∷ []) all c.1 r q.1 in
-               (c.0 ∷ [], sym z.0, key_made o.1 (last_key (subst (λ s. ReadsAttributes o.0 c.0 s) z.1 d))))
+      | inl q ↦ (let more = keys_sound n (found ++ c.0 ∷ []) c.1 all r q.1 in
+          (c.0 ∷ more.0, more.1 ∙ append_assoc found (c.0 ∷ []) more.0, key_made o.1 (next_key d more.2)))
+      | inr q ↦ (let z = parts (found ++ c.0 ∷ []) all c.1 r q.1 in
+          (c.0 ∷ [], sym z.0, key_made o.1 (last_key (subst (λ s. ReadsAttributes o.0 c.0 s) z.1 d))))
     ]
 
 module _ (rds : ℕ → Form → Reader Expr) (b : ℕ) (inside : (m : ℕ) (g : Form) → Sound g (rds m g)) where
@@ -63,12 +62,12 @@ module _ (rds : ℕ → Form → Reader Expr) (b : ℕ) (inside : (m : ℕ) (g :
   unfolding read.sets_at
   sets_sound ts p h =
       elim (eaten w.OpenParenthesis ts _ p h) [
-        inl q ↦ subst (λ us. ReadsSets us p.0 p.1) (sym q.0) (sets (named_list_of rds b inside naming.Assigned (tail ts) p.0 _ (listed_run w.CloseParenthesis (named_at rds b naming.Assigned) (tail ts) p.0 p.1 q.1)))
-      | inr q ↦ elim (eaten w.Colon ts _ p q) [
-          inl k ↦ (let o = expected w.OpenBrace (tail ts) _ p k.1 in
-                   subst (λ us. ReadsSets us p.0 p.1) (sym (k.0 ∙ ap (λ s. word w.Colon ∷ s) o.1)) (sets_colon (named_list_of rds b inside naming.Assigned o.0 p.0 _ (listed_run w.CloseBrace (named_at rds b naming.Assigned) o.0 p.0 p.1 o.2))))
-        | inr k ↦ (let o = expected w.OpenBrace ts _ p k in
-                   subst (λ us. ReadsSets us p.0 p.1) (sym o.1) (sets_braces (named_list_of rds b inside naming.Assigned o.0 p.0 _ (listed_run w.CloseBrace (named_at rds b naming.Assigned) o.0 p.0 p.1 o.2))))
+        | inl q ↦ subst (λ us. ReadsSets us p.0 p.1) (sym q.0) (sets (named_list_of rds b inside naming.Assigned (tail ts) p.0 _ (listed_run w.CloseParenthesis (named_at rds b naming.Assigned) (tail ts) p.0 p.1 q.1)))
+        | inr q ↦ elim (eaten w.Colon ts _ p q) [
+          | inl k ↦ (let o = expected w.OpenBrace (tail ts) _ p k.1 in
+              subst (λ us. ReadsSets us p.0 p.1) (sym (k.0 ∙ ap (λ s. word w.Colon ∷ s) o.1)) (sets_colon (named_list_of rds b inside naming.Assigned o.0 p.0 _ (listed_run w.CloseBrace (named_at rds b naming.Assigned) o.0 p.0 p.1 o.2))))
+          | inr k ↦ (let o = expected w.OpenBrace ts _ p k in
+              subst (λ us. ReadsSets us p.0 p.1) (sym o.1) (sets_braces (named_list_of rds b inside naming.Assigned o.0 p.0 _ (listed_run w.CloseBrace (named_at rds b naming.Assigned) o.0 p.0 p.1 o.2))))
         ]
       ]
 
@@ -77,10 +76,10 @@ module _ (rds : ℕ → Form → Reader Expr) (b : ℕ) (inside : (m : ℕ) (g :
   unfolding read.behind
   behind_sound v ts p h =
       elim (eaten v ts _ p h) [
-        inl q ↦ (let c = bound (rds b f.Expr (tail ts)) _ p q.1 in
-                 let z = parts (Some c.0) p.0 c.1 p.1 c.3 in
-                 inl (tail ts, c.0, q.0, ended (inside b f.Expr (tail ts) _ c.2) z.1, z.0))
-      | inr q ↦ (let z = parts None p.0 ts p.1 q in inr (z.1, z.0))
+        | inl q ↦ (let c = bound (rds b f.Expr (tail ts)) _ p q.1 in
+            let z = parts (Some c.0) p.0 c.1 p.1 c.3 in
+            inl (tail ts, c.0, q.0, ended (inside b f.Expr (tail ts) _ c.2) z.1, z.0))
+        | inr q ↦ (let z = parts None p.0 ts p.1 q in inr (z.1, z.0))
       ]
 
   inserted_sound : (ts : Tokens) (p : Action × Tokens) → read.inserted rds b ts ≡ Some p → ReadsAction (word w.Insert ∷ ts) p.0 p.1
@@ -125,12 +124,12 @@ module _ (rds : ℕ → Form → Reader Expr) (b : ℕ) (inside : (m : ℕ) (g :
   unfolding read.action_at
   action_sound ts p h =
       elim (tested (at w.Insert ts) _ _ p h) [
-        inl q ↦ subst (λ us. ReadsAction us p.0 p.1) (sym (at_word w.Insert ts q.0)) (inserted_sound (tail ts) p q.1)
-      | inr q ↦ elim (tested (at w.Delete ts) _ _ p q.1) [
-          inl k ↦ subst (λ us. ReadsAction us p.0 p.1) (sym (at_word w.Delete ts k.0)) (deleted_sound (tail ts) p k.1)
-        | inr k ↦ elim (tested (at w.Update ts) _ _ p k.1) [
-            inl j ↦ subst (λ us. ReadsAction us p.0 p.1) (sym (at_word w.Update ts j.0)) (updated_sound (tail ts) p j.1)
-          | inr j ↦ assigned_sound ts p j.1
+        | inl q ↦ subst (λ us. ReadsAction us p.0 p.1) (sym (at_word w.Insert ts q.0)) (inserted_sound (tail ts) p q.1)
+        | inr q ↦ elim (tested (at w.Delete ts) _ _ p q.1) [
+          | inl k ↦ subst (λ us. ReadsAction us p.0 p.1) (sym (at_word w.Delete ts k.0)) (deleted_sound (tail ts) p k.1)
+          | inr k ↦ elim (tested (at w.Update ts) _ _ p k.1) [
+            | inl j ↦ subst (λ us. ReadsAction us p.0 p.1) (sym (at_word w.Update ts j.0)) (updated_sound (tail ts) p j.1)
+            | inr j ↦ assigned_sound ts p j.1
           ]
         ]
       ]
@@ -164,18 +163,18 @@ module _ (rds : ℕ → Form → Reader Expr) (b : ℕ) (inside : (m : ℕ) (g :
   unfolding read.opening_at
   opening_sound ts p h =
       elim (eaten w.Relation ts _ p h) [
-        inl q ↦ (let d = bound (heading_at (tail ts)) _ p q.1 in
-                 subst (λ us. ReadsOpening us p.0 p.1) (sym q.0) (
-                 elim (eaten w.Init d.1 _ p d.3) [
-                   inl k ↦ (let a = bound (read.bracketed rds b (tail d.1)) _ p k.1 in
-                            let c = bracketed_sound (tail d.1) _ a.2 in
-                            made (ReadsOpening (word w.Relation ∷ tail ts)) (opening.Init (Some d.0) a.0) a.1 p (headed_init (subst (λ s. ReadsHeading (tail ts) d.0 s) (k.0 ∙ ap (λ s. word w.Init ∷ s) c.1) (heading_read_sound (tail ts) d.0 d.1 d.2)) c.2) a.3)
-                 | inr k ↦ made (ReadsOpening (word w.Relation ∷ tail ts)) (opening.Empty d.0) d.1 p (empty (heading_read_sound (tail ts) d.0 d.1 d.2)) k
-                 ]))
-      | inr q ↦ (let i = expected w.Init ts _ p q in
-                 let a = bound (read.bracketed rds b i.0) _ p i.2 in
-                 let c = bracketed_sound i.0 _ a.2 in
-                 made (ReadsOpening ts) (opening.Init None a.0) a.1 p (subst (λ us. ReadsOpening us (opening.Init None a.0) a.1) (sym (i.1 ∙ ap (λ s. word w.Init ∷ s) c.1)) (init c.2)) a.3)
+        | inl q ↦ (let d = bound (heading_at (tail ts)) _ p q.1 in
+            subst (λ us. ReadsOpening us p.0 p.1) (sym q.0) (
+            elim (eaten w.Init d.1 _ p d.3) [
+              | inl k ↦ (let a = bound (read.bracketed rds b (tail d.1)) _ p k.1 in
+                  let c = bracketed_sound (tail d.1) _ a.2 in
+                  made (ReadsOpening (word w.Relation ∷ tail ts)) (opening.Init (Some d.0) a.0) a.1 p (headed_init (subst (λ s. ReadsHeading (tail ts) d.0 s) (k.0 ∙ ap (λ s. word w.Init ∷ s) c.1) (heading_read_sound (tail ts) d.0 d.1 d.2)) c.2) a.3)
+              | inr k ↦ made (ReadsOpening (word w.Relation ∷ tail ts)) (opening.Empty d.0) d.1 p (empty (heading_read_sound (tail ts) d.0 d.1 d.2)) k
+            ]))
+        | inr q ↦ (let i = expected w.Init ts _ p q in
+            let a = bound (read.bracketed rds b i.0) _ p i.2 in
+            let c = bracketed_sound i.0 _ a.2 in
+            made (ReadsOpening ts) (opening.Init None a.0) a.1 p (subst (λ us. ReadsOpening us (opening.Init None a.0) a.1) (sym (i.1 ∙ ap (λ s. word w.Init ∷ s) c.1)) (init c.2)) a.3)
       ]
 
   type_definition_sound : (ts : Tokens) (p : Definition × Tokens) → read.type_definition rds b ts ≡ Some p → ReadsDefinition (word w.Type ∷ ts) p.0 p.1
@@ -190,9 +189,9 @@ module _ (rds : ℕ → Form → Reader Expr) (b : ℕ) (inside : (m : ℕ) (g :
       let z = expected w.CloseBrace c.1 _ p c.3 in
       let k = expected w.Semicolon z.0 _ p z.2 in
       made (ReadsDefinition (word w.Type ∷ ts)) (definition.Type x.0 y.0 d.0 c.0) k.0 p
-        (subst (λ us. ReadsDefinition (word w.Type ∷ us) (definition.Type x.0 y.0 d.0 c.0) k.0) (sym (x.2 ∙ ap (λ u. name x.0 ∷ u) s.1))
-          (type_ (subst (λ u. ReadsMaybeName s.0 y.0 u) o.1 (maybe_name_sound s.0 _ y.2)) (components_sound o.0 _ d.2)
-            (subst (λ u. ReadsLimit d.1 c.0 u) (z.1 ∙ ap (λ u. word w.CloseBrace ∷ u) k.1) (limit_of d.1 c.0 c.1 (behind_sound w.Constraint d.1 _ c.2))))) k.2
+      (subst (λ us. ReadsDefinition (word w.Type ∷ us) (definition.Type x.0 y.0 d.0 c.0) k.0) (sym (x.2 ∙ ap (λ u. name x.0 ∷ u) s.1))
+      (type_ (subst (λ u. ReadsMaybeName s.0 y.0 u) o.1 (maybe_name_sound s.0 _ y.2)) (components_sound o.0 _ d.2)
+      (subst (λ u. ReadsLimit d.1 c.0 u) (z.1 ∙ ap (λ u. word w.CloseBrace ∷ u) k.1) (limit_of d.1 c.0 c.1 (behind_sound w.Constraint d.1 _ c.2))))) k.2
 
   base_definition_sound : (v : Word) (x : Text) (ts : Tokens) (p : Definition × Tokens) → IsBase v → read.base_definition rds b x ts ≡ Some p → ReadsDefinition (word w.Var ∷ name x ∷ word v ∷ ts) p.0 p.1
   unfolding read.base_definition
@@ -202,7 +201,7 @@ module _ (rds : ℕ → Form → Reader Expr) (b : ℕ) (inside : (m : ℕ) (g :
       let z = expected w.Semicolon k.1 _ p k.3 in
       let ks = keys_sound (length o.1) [] o.1 k.0 k.1 k.2 in
       made (ReadsDefinition (word w.Var ∷ name x ∷ word v ∷ ts)) (definition.Base x o.0 k.0) z.0 p
-        (base i (opening_sound ts _ o.2) (subst (λ u. ReadsKeys o.1 k.0 u) z.1 (subst (λ y. ReadsKeys o.1 y k.1) (sym ks.1) ks.2))) z.2
+      (base i (opening_sound ts _ o.2) (subst (λ u. ReadsKeys o.1 k.0 u) z.1 (subst (λ y. ReadsKeys o.1 y k.1) (sym ks.1) ks.2))) z.2
 
   virtual_definition_sound : (x : Text) (ts : Tokens) (p : Definition × Tokens) → read.virtual_definition rds b x ts ≡ Some p → ReadsDefinition (word w.Var ∷ name x ∷ word w.Virtual ∷ ts) p.0 p.1
   unfolding read.virtual_definition
@@ -211,7 +210,7 @@ module _ (rds : ℕ → Form → Reader Expr) (b : ℕ) (inside : (m : ℕ) (g :
       let c = bracketed_sound ts _ a.2 in
       let z = expected w.Semicolon a.1 _ p a.3 in
       made (ReadsDefinition (word w.Var ∷ name x ∷ word w.Virtual ∷ ts)) (definition.Virtual x a.0) z.0 p
-        (subst (λ us. ReadsDefinition (word w.Var ∷ name x ∷ word w.Virtual ∷ us) (definition.Virtual x a.0) z.0) (sym c.1) (virtual (ended c.2 (ap (λ u. word w.CloseParenthesis ∷ u) z.1)))) z.2
+      (subst (λ us. ReadsDefinition (word w.Var ∷ name x ∷ word w.Virtual ∷ us) (definition.Virtual x a.0) z.0) (sym c.1) (virtual (ended c.2 (ap (λ u. word w.CloseParenthesis ∷ u) z.1)))) z.2
 
   relvar_definition_sound : (ts : Tokens) (p : Definition × Tokens) → read.relvar_definition rds b ts ≡ Some p → ReadsDefinition (word w.Var ∷ ts) p.0 p.1
   unfolding read.relvar_definition
@@ -219,11 +218,11 @@ module _ (rds : ℕ → Form → Reader Expr) (b : ℕ) (inside : (m : ℕ) (g :
       let x = a_name_read ts _ p h in
       subst (λ us. ReadsDefinition (word w.Var ∷ us) p.0 p.1) (sym x.2) (
       elim (tested (at w.Base x.1) _ _ p x.3) [
-        inl q ↦ subst (λ us. ReadsDefinition (word w.Var ∷ name x.0 ∷ us) p.0 p.1) (sym (at_word w.Base x.1 q.0)) (base_definition_sound w.Base x.0 (tail x.1) p base_word q.1)
-      | inr q ↦ elim (tested (at w.Real x.1) _ _ p q.1) [
-          inl k ↦ subst (λ us. ReadsDefinition (word w.Var ∷ name x.0 ∷ us) p.0 p.1) (sym (at_word w.Real x.1 k.0)) (base_definition_sound w.Real x.0 (tail x.1) p real_word k.1)
-        | inr k ↦ (let v = expected w.Virtual x.1 _ p k.1 in
-                   subst (λ us. ReadsDefinition (word w.Var ∷ name x.0 ∷ us) p.0 p.1) (sym v.1) (virtual_definition_sound x.0 v.0 p v.2))
+        | inl q ↦ subst (λ us. ReadsDefinition (word w.Var ∷ name x.0 ∷ us) p.0 p.1) (sym (at_word w.Base x.1 q.0)) (base_definition_sound w.Base x.0 (tail x.1) p base_word q.1)
+        | inr q ↦ elim (tested (at w.Real x.1) _ _ p q.1) [
+          | inl k ↦ subst (λ us. ReadsDefinition (word w.Var ∷ name x.0 ∷ us) p.0 p.1) (sym (at_word w.Real x.1 k.0)) (base_definition_sound w.Real x.0 (tail x.1) p real_word k.1)
+          | inr k ↦ (let v = expected w.Virtual x.1 _ p k.1 in
+              subst (λ us. ReadsDefinition (word w.Var ∷ name x.0 ∷ us) p.0 p.1) (sym v.1) (virtual_definition_sound x.0 v.0 p v.2))
         ]
       ])
 
@@ -234,16 +233,16 @@ module _ (rds : ℕ → Form → Reader Expr) (b : ℕ) (inside : (m : ℕ) (g :
       let a = bound (rds b f.Expr x.1) _ p x.3 in
       let z = expected w.Semicolon a.1 _ p a.3 in
       made (ReadsDefinition (word w.Constraint ∷ ts)) (definition.Constraint x.0 a.0) z.0 p
-        (subst (λ us. ReadsDefinition (word w.Constraint ∷ us) (definition.Constraint x.0 a.0) z.0) (sym x.2) (constraint (ended (inside b f.Expr x.1 _ a.2) z.1))) z.2
+      (subst (λ us. ReadsDefinition (word w.Constraint ∷ us) (definition.Constraint x.0 a.0) z.0) (sym x.2) (constraint (ended (inside b f.Expr x.1 _ a.2) z.1))) z.2
 
   pub definition_sound : (ts : Tokens) (p : Definition × Tokens) → read.definition_at rds b ts ≡ Some p → ReadsDefinition ts p.0 p.1
   unfolding read.definition_at
   definition_sound ts p h =
       elim (tested (at w.Type ts) _ _ p h) [
-        inl q ↦ subst (λ us. ReadsDefinition us p.0 p.1) (sym (at_word w.Type ts q.0)) (type_definition_sound (tail ts) p q.1)
-      | inr q ↦ elim (tested (at w.Var ts) _ _ p q.1) [
-          inl k ↦ subst (λ us. ReadsDefinition us p.0 p.1) (sym (at_word w.Var ts k.0)) (relvar_definition_sound (tail ts) p k.1)
-        | inr k ↦ (let c = expected w.Constraint ts _ p k.1 in subst (λ us. ReadsDefinition us p.0 p.1) (sym c.1) (constraint_definition_sound c.0 p c.2))
+        | inl q ↦ subst (λ us. ReadsDefinition us p.0 p.1) (sym (at_word w.Type ts q.0)) (type_definition_sound (tail ts) p q.1)
+        | inr q ↦ elim (tested (at w.Var ts) _ _ p q.1) [
+          | inl k ↦ subst (λ us. ReadsDefinition us p.0 p.1) (sym (at_word w.Var ts k.0)) (relvar_definition_sound (tail ts) p k.1)
+          | inr k ↦ (let c = expected w.Constraint ts _ p k.1 in subst (λ us. ReadsDefinition us p.0 p.1) (sym c.1) (constraint_definition_sound c.0 p c.2))
         ]
       ]
 

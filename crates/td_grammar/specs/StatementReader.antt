@@ -1,13 +1,10 @@
 -- How statements and scripts are read.
-use Rattle.std.specs.Prelude.{ℕ, zero, suc, nat_le, Bool, true, false, if◌then◌else◌, List, [], ◌∷◌, ◌++◌, Option, Some, None, length, option_and_then}
+use Rattle.std.specs.Prelude.{ℕ, zero, suc, nat_le, if◌then◌else◌, List, [], ◌∷◌, ◌++◌, Option, Some, None, length, option_and_then}
 use Rattle.td_tokens.specs.declared.token.Word.{Word}
 use Rattle.td_tokens.specs.declared.token.Word.TheVariants as w
-use Rattle.td_tokens.specs.declared.token.Kind.{Kind}
-use Rattle.td_tokens.specs.declared.token.Kind.TheVariants as k
 use Rattle.td_tokens.specs.Lex.{Text}
 use Rattle.td_tokens.specs.Lexer.{lexemes}
 use Rattle.td_grammar.specs.declared.forms.Form.{Form}
-use Rattle.td_grammar.specs.declared.forms.Form.TheVariants as f
 use Rattle.td_grammar.specs.declared.forms.Naming.TheVariants as naming
 use Rattle.td_grammar.specs.declared.tree.TypeExpr.{TypeExpr}
 use Rattle.td_grammar.specs.declared.tree.Named.{Named}
@@ -21,7 +18,7 @@ use Rattle.td_grammar.specs.declared.script.Definition.{Definition}
 use Rattle.td_grammar.specs.declared.script.Definition.TheVariants as definition
 use Rattle.td_grammar.specs.Grammar.{Tokens, most_levels}
 use Rattle.td_grammar.specs.Statements.{statement_bytes, script_bytes}
-use Rattle.td_grammar.specs.Reader.{Outcome, Reader, and_then, ◌>>=◌, ◌>>◌, pure, refuse, look, at, at_name, tail, eat, expect, take_name, list_at, listed, up_to, attributes_at, heading_at, field_of, type_at, named_at, reads, inner, is_over, whole}
+use Rattle.td_grammar.specs.Reader.{Reader, and_then, ◌>>=◌, ◌>>◌, pure, refuse, at, at_name, tail, eat, expect, take_name, list_at, listed, attributes_at, heading_at, field_of, type_at, named_at, reads, inner, is_over, whole}
 
 -- a name, if one comes next
 unfoldable pub maybe_name : Reader (Option Text)
@@ -48,8 +45,8 @@ module _ (reads : ℕ → Form → Reader Expr) (b : ℕ) where
   sets_at = do
     opened ← eat w.OpenParenthesis
     if opened
-      then listed w.CloseParenthesis (named_at reads b naming.Assigned)
-      else (do _ ← eat w.Colon; expect w.OpenBrace; listed w.CloseBrace (named_at reads b naming.Assigned))
+        then listed w.CloseParenthesis (named_at reads b naming.Assigned)
+        else (do _ ← eat w.Colon; expect w.OpenBrace; listed w.CloseBrace (named_at reads b naming.Assigned))
 
   -- an expression behind the word, if the word comes next
   unfoldable pub behind : Word → Reader (Option Expr)
@@ -117,8 +114,8 @@ module _ (reads : ℕ → Form → Reader Expr) (b : ℕ) where
   opening_at = do
     headed ← eat w.Relation
     if headed
-      then (do h ← heading_at; started ← eat w.Init; if started then (do a ← bracketed; pure (opening.Init (Some h) a)) else pure (opening.Empty h))
-      else (do expect w.Init; a ← bracketed; pure (opening.Init None a))
+        then (do h ← heading_at; started ← eat w.Init; if started then (do a ← bracketed; pure (opening.Init (Some h) a)) else pure (opening.Empty h))
+        else (do expect w.Init; a ← bracketed; pure (opening.Init None a))
 
   unfoldable pub base_definition : Text → Reader Definition
   base_definition x = do

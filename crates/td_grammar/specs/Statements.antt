@@ -1,5 +1,5 @@
 -- The grammar of statements and scripts, in the way of that of expressions.
-use Rattle.std.specs.Prelude.{◌≡◌, ◌≤◌, ℕ, max, length, List, [], ◌∷◌, Option, Some, None, All}
+use Rattle.std.specs.Prelude.{◌≡◌, ◌≤◌, ℕ, max, length, List, [], ◌∷◌, Option, Some, None}
 use Rattle.td_tokens.specs.declared.token.Word.{Word}
 use Rattle.td_tokens.specs.declared.token.Word.TheVariants as w
 use Rattle.td_tokens.specs.Lex.{Text, word, name}

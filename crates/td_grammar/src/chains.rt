@@ -46,16 +46,10 @@ fn rename(alloc: Global, tokens: &mut Cursor<'_>, left: Expr) -> Result<Expr, Re
 {
     let relation = Boxed::new(alloc, left)?;
     if tokens.eat(Word::OpenParenthesis) {
-        return Ok(Expr::Rename(
-            relation,
-            listed(alloc, tokens, Word::CloseParenthesis)?,
-        ));
+        return Ok(Expr::Rename(relation, listed(alloc, tokens, Word::CloseParenthesis)?));
     }
     tokens.expect(Word::OpenBrace)?;
-    Ok(Expr::Rename(
-        relation,
-        listed(alloc, tokens, Word::CloseBrace)?,
-    ))
+    Ok(Expr::Rename(relation, listed(alloc, tokens, Word::CloseBrace)?))
 }
 
 #[tactic(auto, unfolding(crate::specs::Reader::nest_turn))]
@@ -168,7 +162,11 @@ impl<F: Fn(Global, &mut Cursor<'_>, usize, usize, Form) -> Result<Expr, ReadErro
         Ok(binary(self.alloc, operator, left, right)?)
     }
 
-    fn more_multiplicative(&self, tokens: &mut Cursor<'_>, mut left: Expr) -> Result<Expr, ReadError>
+    fn more_multiplicative(
+        &self,
+        tokens: &mut Cursor<'_>,
+        mut left: Expr,
+    ) -> Result<Expr, ReadError>
         requires { Nests self.now.depth (F.pre self.now.nested) (F.post self.now.nested) }
         ensures { Gives (spec.climb 7 (spec.binary_turn (spec.prefixed_at (reads self.now.depth) self.now.levels)) self.now.levels left tokens.old) result tokens.new }
     {
@@ -240,7 +238,12 @@ impl<F: Fn(Global, &mut Cursor<'_>, usize, usize, Form) -> Result<Expr, ReadErro
         Ok(Expr::Where(relation, condition))
     }
 
-    fn relational_word(&self, tokens: &mut Cursor<'_>, word: Word, left: Expr) -> Result<Expr, ReadError>
+    fn relational_word(
+        &self,
+        tokens: &mut Cursor<'_>,
+        word: Word,
+        left: Expr,
+    ) -> Result<Expr, ReadError>
         requires { Nests self.now.depth (F.pre self.now.nested) (F.post self.now.nested) }
         ensures { Gives (spec.relational_word (reads self.now.depth) self.now.levels word left tokens.old) result tokens.new }
     {

@@ -25,7 +25,12 @@ pub struct Grammar<F> {
 }
 
 impl<F: Fn(Global, &mut Cursor<'_>, usize, usize, Form) -> Result<Expr, ReadError>> Grammar<F> {
-    pub fn nested(&self, tokens: &mut Cursor<'_>, levels: usize, form: Form) -> Result<Expr, ReadError>
+    pub fn nested(
+        &self,
+        tokens: &mut Cursor<'_>,
+        levels: usize,
+        form: Form,
+    ) -> Result<Expr, ReadError>
         requires { Nests self.now.depth (F.pre self.now.nested) (F.post self.now.nested) }
         ensures { Gives (reads self.now.depth levels form tokens.old) result tokens.new }
     {

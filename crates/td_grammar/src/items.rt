@@ -77,7 +77,11 @@ impl<F: Fn(Global, &mut Cursor<'_>, usize, usize, Form) -> Result<Expr, ReadErro
         }
     }
 
-    pub fn named_list(&self, tokens: &mut Cursor<'_>, naming: Naming) -> Result<Items<Named<Expr>>, ReadError>
+    pub fn named_list(
+        &self,
+        tokens: &mut Cursor<'_>,
+        naming: Naming,
+    ) -> Result<Items<Named<Expr>>, ReadError>
         requires { Nests self.now.depth (F.pre self.now.nested) (F.post self.now.nested) }
         ensures { Gives (spec.list_at (spec.named_at (reads self.now.depth) self.now.levels naming) tokens.old) result tokens.new }
     {
@@ -92,7 +96,12 @@ impl<F: Fn(Global, &mut Cursor<'_>, usize, usize, Form) -> Result<Expr, ReadErro
     }
 
     #[tactic(auto, unfolding(crate::specs::Reader::listed))]
-    pub fn named_listed(&self, tokens: &mut Cursor<'_>, end: Word, naming: Naming) -> Result<Items<Named<Expr>>, ReadError>
+    pub fn named_listed(
+        &self,
+        tokens: &mut Cursor<'_>,
+        end: Word,
+        naming: Naming,
+    ) -> Result<Items<Named<Expr>>, ReadError>
         requires { Nests self.now.depth (F.pre self.now.nested) (F.post self.now.nested) }
         ensures { Gives (spec.listed end (spec.named_at (reads self.now.depth) self.now.levels naming) tokens.old) result tokens.new }
     {
@@ -102,7 +111,12 @@ impl<F: Fn(Global, &mut Cursor<'_>, usize, usize, Form) -> Result<Expr, ReadErro
     }
 
     #[tactic(auto, unfolding(crate::specs::Reader::up_to))]
-    pub fn named_up_to(&self, tokens: &mut Cursor<'_>, end: Word, naming: Naming) -> Result<Items<Named<Expr>>, ReadError>
+    pub fn named_up_to(
+        &self,
+        tokens: &mut Cursor<'_>,
+        end: Word,
+        naming: Naming,
+    ) -> Result<Items<Named<Expr>>, ReadError>
         requires { Nests self.now.depth (F.pre self.now.nested) (F.post self.now.nested) }
         ensures { Gives (spec.up_to end (spec.named_at (reads self.now.depth) self.now.levels naming) tokens.old) result tokens.new }
     {
@@ -123,7 +137,11 @@ impl<F: Fn(Global, &mut Cursor<'_>, usize, usize, Form) -> Result<Expr, ReadErro
     }
 
     #[tactic(auto, unfolding(crate::specs::Reader::summed))]
-    pub fn summed(&self, tokens: &mut Cursor<'_>, aggregate: Aggregate) -> Result<Summary<Expr>, ReadError>
+    pub fn summed(
+        &self,
+        tokens: &mut Cursor<'_>,
+        aggregate: Aggregate,
+    ) -> Result<Summary<Expr>, ReadError>
         requires { Nests self.now.depth (F.pre self.now.nested) (F.post self.now.nested) }
         ensures { Gives (spec.summed (reads self.now.depth) self.now.levels aggregate tokens.old) result tokens.new }
     {
@@ -133,7 +151,11 @@ impl<F: Fn(Global, &mut Cursor<'_>, usize, usize, Form) -> Result<Expr, ReadErro
         Ok(Summary::Of(aggregate, term))
     }
 
-    pub fn summary_word(&self, tokens: &mut Cursor<'_>, word: Word) -> Result<Summary<Expr>, ReadError>
+    pub fn summary_word(
+        &self,
+        tokens: &mut Cursor<'_>,
+        word: Word,
+    ) -> Result<Summary<Expr>, ReadError>
         requires { Nests self.now.depth (F.pre self.now.nested) (F.post self.now.nested) }
         ensures { Gives (spec.summary_word (reads self.now.depth) self.now.levels word tokens.old) result tokens.new }
     {
@@ -162,7 +184,11 @@ impl<F: Fn(Global, &mut Cursor<'_>, usize, usize, Form) -> Result<Expr, ReadErro
 
     /// A summary with a name.
     #[tactic(auto, unfolding(crate::specs::Reader::named_summary))]
-    pub fn named_summary(&self, tokens: &mut Cursor<'_>, naming: Naming) -> Result<Named<Summary<Expr>>, ReadError>
+    pub fn named_summary(
+        &self,
+        tokens: &mut Cursor<'_>,
+        naming: Naming,
+    ) -> Result<Named<Summary<Expr>>, ReadError>
         requires { Nests self.now.depth (F.pre self.now.nested) (F.post self.now.nested) }
         ensures { Gives (spec.named_summary (reads self.now.depth) self.now.levels naming tokens.old) result tokens.new }
     {
@@ -183,7 +209,11 @@ impl<F: Fn(Global, &mut Cursor<'_>, usize, usize, Form) -> Result<Expr, ReadErro
         }
     }
 
-    pub fn summary_list(&self, tokens: &mut Cursor<'_>, naming: Naming) -> Result<Items<Named<Summary<Expr>>>, ReadError>
+    pub fn summary_list(
+        &self,
+        tokens: &mut Cursor<'_>,
+        naming: Naming,
+    ) -> Result<Items<Named<Summary<Expr>>>, ReadError>
         requires { Nests self.now.depth (F.pre self.now.nested) (F.post self.now.nested) }
         ensures { Gives (spec.list_at (spec.named_summary (reads self.now.depth) self.now.levels naming) tokens.old) result tokens.new }
     {
@@ -198,7 +228,12 @@ impl<F: Fn(Global, &mut Cursor<'_>, usize, usize, Form) -> Result<Expr, ReadErro
     }
 
     #[tactic(auto, unfolding(crate::specs::Reader::listed))]
-    pub fn summary_listed(&self, tokens: &mut Cursor<'_>, end: Word, naming: Naming) -> Result<Items<Named<Summary<Expr>>>, ReadError>
+    pub fn summary_listed(
+        &self,
+        tokens: &mut Cursor<'_>,
+        end: Word,
+        naming: Naming,
+    ) -> Result<Items<Named<Summary<Expr>>>, ReadError>
         requires { Nests self.now.depth (F.pre self.now.nested) (F.post self.now.nested) }
         ensures { Gives (spec.listed end (spec.named_summary (reads self.now.depth) self.now.levels naming) tokens.old) result tokens.new }
     {
@@ -208,7 +243,10 @@ impl<F: Fn(Global, &mut Cursor<'_>, usize, usize, Form) -> Result<Expr, ReadErro
     }
 
     #[tactic(auto, unfolding(crate::specs::Reader::summaries))]
-    pub fn summaries(&self, tokens: &mut Cursor<'_>) -> Result<Items<Named<Summary<Expr>>>, ReadError>
+    pub fn summaries(
+        &self,
+        tokens: &mut Cursor<'_>,
+    ) -> Result<Items<Named<Summary<Expr>>>, ReadError>
         requires { Nests self.now.depth (F.pre self.now.nested) (F.post self.now.nested) }
         ensures { Gives (spec.summaries (reads self.now.depth) self.now.levels tokens.old) result tokens.new }
     {

@@ -97,9 +97,7 @@ pub fn within(tree: &Expr, most: usize) -> bool
             }
             within(b.get(), inner) && within(c.get(), inner)
         }
-        Expr::Extend(_, a, all) => {
-            within(a.get(), inner) && named_within(all.as_slice(), inner)
-        }
+        Expr::Extend(_, a, all) => { within(a.get(), inner) && named_within(all.as_slice(), inner) }
         Expr::With(all, a) => within(a.get(), inner) && named_within(all.as_slice(), inner),
         Expr::Summarize(a, groups, all) => {
             if !groups_within(groups, inner) {

@@ -54,11 +54,7 @@ impl<F: Fn(Global, &mut Cursor<'_>, usize, usize, Form) -> Result<Expr, ReadErro
         ensures { Gives (spec.tuple (reads self.now.depth) self.now.levels tokens.old) result tokens.new }
     {
         tokens.expect(Word::OpenBrace)?;
-        Ok(Expr::Tuple(self.named_up_to(
-            tokens,
-            Word::CloseBrace,
-            Naming::Beside,
-        )?))
+        Ok(Expr::Tuple(self.named_up_to(tokens, Word::CloseBrace, Naming::Beside)?))
     }
 
     #[tactic(auto, unfolding(crate::specs::Reader::headed))]
@@ -96,7 +92,11 @@ impl<F: Fn(Global, &mut Cursor<'_>, usize, usize, Form) -> Result<Expr, ReadErro
 
     /// An operator of one expression in round brackets.
     #[tactic(auto, unfolding(crate::specs::Reader::applied))]
-    pub fn applied(&self, tokens: &mut Cursor<'_>, operator: UnaryOperator) -> Result<Expr, ReadError>
+    pub fn applied(
+        &self,
+        tokens: &mut Cursor<'_>,
+        operator: UnaryOperator,
+    ) -> Result<Expr, ReadError>
         requires { Nests self.now.depth (F.pre self.now.nested) (F.post self.now.nested) }
         ensures { Gives (spec.applied (reads self.now.depth) self.now.levels operator tokens.old) result tokens.new }
     {
@@ -107,7 +107,11 @@ impl<F: Fn(Global, &mut Cursor<'_>, usize, usize, Form) -> Result<Expr, ReadErro
     }
 
     #[tactic(auto, unfolding(crate::specs::Reader::aggregated))]
-    pub fn aggregated(&self, tokens: &mut Cursor<'_>, aggregate: Aggregate) -> Result<Expr, ReadError>
+    pub fn aggregated(
+        &self,
+        tokens: &mut Cursor<'_>,
+        aggregate: Aggregate,
+    ) -> Result<Expr, ReadError>
         requires { Nests self.now.depth (F.pre self.now.nested) (F.post self.now.nested) }
         ensures { Gives (spec.aggregated (reads self.now.depth) self.now.levels aggregate tokens.old) result tokens.new }
     {

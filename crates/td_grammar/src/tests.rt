@@ -124,23 +124,48 @@ fn limits(rt: HostRuntime) -> Result<(), Fail> {
     let deep = format!(in rt.alloc(); "{dashes}1")?;
     assert!(rt; matches!(&read_expr(rt.alloc(), deep.as_str()), Ok(_)));
     let deeper = format!(in rt.alloc(); "- {deep}")?;
-    assert!(rt; matches!(&read_expr(rt.alloc(), deeper.as_str()), Err(ReadError::Syntax)));
+    assert!(rt;
+        matches!(
+            &read_expr(rt.alloc(), deeper.as_str()),
+            Err(ReadError::Syntax)
+        )
+    );
     let sums = "1 + ".repeat(rt.alloc(), 255)?;
     let long = format!(in rt.alloc(); "{sums}1")?;
     assert!(rt; matches!(&read_expr(rt.alloc(), long.as_str()), Ok(_)));
     let longer = format!(in rt.alloc(); "1 + {long}")?;
-    assert!(rt; matches!(&read_expr(rt.alloc(), longer.as_str()), Err(ReadError::Syntax)));
+    assert!(rt;
+        matches!(
+            &read_expr(rt.alloc(), longer.as_str()),
+            Err(ReadError::Syntax)
+        )
+    );
     let open = "(".repeat(rt.alloc(), 64)?;
     let shut = ")".repeat(rt.alloc(), 64)?;
     let nested = format!(in rt.alloc(); "{open}1{shut}")?;
-    assert!(rt; matches!(&read_expr(rt.alloc(), nested.as_str()), Ok(Expr::Integer(1))));
+    assert!(rt;
+        matches!(
+            &read_expr(rt.alloc(), nested.as_str()),
+            Ok(Expr::Integer(1))
+        )
+    );
     let too_nested = format!(in rt.alloc(); "({nested})")?;
-    assert!(rt; matches!(&read_expr(rt.alloc(), too_nested.as_str()), Err(ReadError::Syntax)));
+    assert!(rt;
+        matches!(
+            &read_expr(rt.alloc(), too_nested.as_str()),
+            Err(ReadError::Syntax)
+        )
+    );
     let padded = " ".repeat(rt.alloc(), 8191)?;
     let full = format!(in rt.alloc(); "{padded}1")?;
     assert!(rt; matches!(&read_expr(rt.alloc(), full.as_str()), Ok(_)));
     let over = format!(in rt.alloc(); "{padded}10")?;
-    assert!(rt; matches!(&read_expr(rt.alloc(), over.as_str()), Err(ReadError::Syntax)));
+    assert!(rt;
+        matches!(
+            &read_expr(rt.alloc(), over.as_str()),
+            Err(ReadError::Syntax)
+        )
+    );
     Ok(())
 }
 
@@ -151,7 +176,12 @@ fn trees_of_forms(rt: HostRuntime) -> Result<(), Fail> {
     let matched = read_expr(rt.alloc(), "R SEMIMINUS S")?;
     assert!(rt; matches!(&matched, Expr::Binary(BinaryOperator::NotMatching, _, _)));
     let wrapped = read_expr(rt.alloc(), "R WRAP { A } AS B")?;
-    assert!(rt; matches!(&wrapped, Expr::Nest(Nesting::Wrap, _, Attributes::Only(_), _)));
+    assert!(rt;
+        matches!(
+            &wrapped,
+            Expr::Nest(Nesting::Wrap, _, Attributes::Only(_), _)
+        )
+    );
     let extended = read_expr(rt.alloc(), "EXTEND r WHERE c ADD ( 1 AS A )")?;
     assert!(rt; matches!(&extended, Expr::Extend(Extension::Add, _, _)));
     let counted = read_expr(rt.alloc(), "SUMMARIZE R PER S ADD ( COUNT AS N )")?;

@@ -115,10 +115,7 @@ pub fn type_expr(
 }
 
 /// A heading in braces.
-pub fn heading(
-    alloc: Global,
-    tokens: &mut Cursor<'_>,
-) -> Result<Items<Named<TypeExpr>>, ReadError>
+pub fn heading(alloc: Global, tokens: &mut Cursor<'_>) -> Result<Items<Named<TypeExpr>>, ReadError>
     ensures { Gives (spec.heading_at tokens.old) result tokens.new }
 {
     Types {

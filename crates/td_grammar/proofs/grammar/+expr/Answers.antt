@@ -1,4 +1,4 @@
-use Rattle.std.proofs.Common.{◌≡◌, ℕ, zero, suc, None, Some, ap, refl, arith}
+use Rattle.std.proofs.Common.{arith}
 use Rattle.td_grammar.proofs.Knot.{no_depth, no_levels, one_deeper}
 use Rattle.td_grammar.proofs.grammar.+expr.Goals as goal
 
