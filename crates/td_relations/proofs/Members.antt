@@ -1,15 +1,16 @@
 -- A relation as its set of tuples: for the crates above.
-use Rattle.std.proofs.Common.{◌≡◌, ◌↔◌, ◌⊎◌, inl, inr, Bool, true, false, ◌||◌, T, List, [], ◌∷◌, map, refl, sym, ap, ◌∙◌}
+use Rattle.std.proofs.Common.{◌≡◌, ◌↔◌, ◌⊎◌, inl, inr, Bool, true, false, ◌||◌, T, List, [], ◌∷◌, map, get_or, refl, sym, ap, ◌∙◌}
 use Rattle.std.specs.declared.cmp.Ordering.{Ordering}
 use Rattle.std.specs.declared.cmp.Ordering.TheVariants.{Less}
 use Rattle.std.specs.Ordering.{eq_by_cmp, is_eq}
 use Rattle.std.specs.Cmp.{tied_itself}
-use Rattle.std.specs.List.{AllByRecursion, Contains, list_any}
+use Rattle.std.specs.List.{All, AllByRecursion, Contains, list_any}
 use Rattle.std.specs.List.Sorted.{IsStrictlySortedBy}
 use Rattle.std.specs.Option.{is_some}
 use Rattle.std.specs.FinMap as map_of
 use Rattle.std.specs.FinMap.Entries.{below_all, is_some-find}
 use Rattle.std.specs.FinSet as set
+use Rattle.std.proofs.lemmas.List.Elements.{All-contains, All-contains_itself}
 use Rattle.std.proofs.lemmas.Map.Views.{list_any-from_Contains, Contains-from_any}
 use Rattle.td_values.specs.Data.{Attrs}
 use Rattle.td_values.specs.Headings.{Header}
@@ -18,7 +19,7 @@ use Rattle.td_values.specs.Rows.{RowsData}
 use Rattle.td_values.specs.Total.{attrs_order_total, attrs_equivalence, attrs_tied}
 use Rattle.td_values.proofs.Entries.{first, second, less}
 use Rattle.td_values.proofs.Walks.{is_tied}
-use Rattle.td_relations.specs.Sets.{TupleSet, body, Has, ascending, relation_of, IsRelation}
+use Rattle.td_relations.specs.Sets.{TupleSet, tuple_set, body, Has, ascending, relation_of, IsRelation}
 use Rattle.td_relations.proofs.Sorted.{same_sorted}
 
 module _ {K X : Type 0} (R : K → K → Ordering) where
@@ -63,14 +64,25 @@ relation_of_is h s = record {
   ascending = ascending_ascends s;
 }
 
--- a tuple is in the relation where it is in its list
-pub has_listed : (r : RowsData) (t : Attrs) → Has r t ↔ Contains r.tuples t
-has_listed r t = (
-  λ h. Contains-from_any (λ x y e. attrs_tied x y (is_tied _ e)) t r.tuples (sym (set.contains-from_list attrs_order_total r.tuples t) ∙ h),
-  λ c. set.contains-from_list attrs_order_total r.tuples t ∙ list_any-from_Contains attrs_equivalence t r.tuples c,
+-- a tuple is in the set of a list where it is in the list
+pub contains_listed : (xs : List Attrs) (t : Attrs) → (set.contains {R = attrs_order} (set.from_list xs) t ≡ true) ↔ Contains xs t
+contains_listed xs t = (
+  λ h. Contains-from_any (λ x y e. attrs_tied x y (is_tied _ e)) t xs (sym (set.contains-from_list attrs_order_total xs t) ∙ h),
+  λ c. set.contains-from_list attrs_order_total xs t ∙ list_any-from_Contains attrs_equivalence t xs c,
 )
 
-either : (a b : Bool) → (a || b) ≡ true → (b ≡ true) ⊎ (a ≡ true)
+-- a tuple is in the relation where it is in its list
+pub has_listed : (r : RowsData) (t : Attrs) → Has r t ↔ Contains r.tuples t
+has_listed r t = contains_listed r.tuples t
+
+-- what holds of each tuple of a list holds of each member of its set, and the other way round
+pub holds_of_member : (P : Attrs → Type 0) (xs : List Attrs) (t : Attrs) → All P xs → set.contains (tuple_set xs) t ≡ true → P t
+holds_of_member P xs t a h = All-contains P xs t a ((contains_listed xs t).0 h)
+
+pub holds_of_all : (P : Attrs → Type 0) (xs : List Attrs) → ((t : Attrs) → set.contains (tuple_set xs) t ≡ true → P t) → All P xs
+holds_of_all P xs h k d lt = h (get_or xs k d) ((contains_listed xs (get_or xs k d)).1 (All-contains_itself xs k d lt))
+
+pub either : (a b : Bool) → (a || b) ≡ true → (b ≡ true) ⊎ (a ≡ true)
 either true b e = inr refl
 either false b e = inl e
 

@@ -1,0 +1,68 @@
+-- Extension: what items raise and give at the tuples of a relation.
+use Rattle.std.proofs.Common.{◌≡◌, ◌≤◌, ℕ, List, Result, Ok, Err, refl, sym, ap, ◌∙◌, subst, arith}
+use Rattle.std.specs.FinSet as set
+use Rattle.std.specs.List.{Contains}
+use Rattle.td_values.specs.declared.raises.Raise.{Raise}
+use Rattle.td_values.specs.Raises.{number_of}
+use Rattle.td_values.specs.Data.{Datum, Attrs}
+use Rattle.td_values.specs.Headings.{Header}
+use Rattle.td_values.specs.Rows.{RowsData}
+use Rattle.td_relations.specs.Sets.{Has, IsRelation, IsRelationOf}
+use Rattle.td_relations.proofs.Members.{has_listed}
+use Rattle.td_relations.proofs.Predicates.{by_list}
+use Rattle.td_tuples.specs.Unions.{beside, tuple_of}
+use Rattle.td_algebra.specs.declared.errors.Fault.{Fault}
+use Rattle.td_algebra.specs.declared.errors.Fault.TheVariants.{Raised, OutOfMemory}
+use Rattle.td_algebra.specs.declared.items.Item.{Item}
+use Rattle.td_algebra.specs.Raising.{AnswersBy, Unless, all_of, and_then}
+use Rattle.td_algebra.specs.Extending.{Meaning, field_at, fields_at, extended_at, Extended, RaisedBy}
+use Rattle.td_algebra.proofs.Walks.{Tells, tells, answers_from, answers_there}
+
+module _ {A B : Type 0} (f : A → B) where
+  err_from : (a : Result A Raise) (e : Raise) → and_then a (λ x. Ok (f x)) ≡ Err e → a ≡ Err e
+  err_from (Ok x) e h = cc
+  err_from (Err d) e h = cc
+
+  err_to : (a : Result A Raise) (e : Raise) → a ≡ Err e → and_then a (λ x. Ok (f x)) ≡ Err e
+  err_to (Ok x) e h = cc
+  err_to (Err d) e h = cc
+
+module _ {E : Type 0} (m : Meaning E) (items : List (Item E)) where
+  -- the error of a tuple is that of an item
+  raised_at : (t : Attrs) (e : Raise) → extended_at m items t ≡ Err e → (i : Item E) × Contains items i × (m i.term t ≡ Err e)
+  raised_at t e h =
+      let all = err_from (λ fs. beside (tuple_of fs) t) (fields_at m items t) e h in
+      let (found, least) = subst (Tells (field_at m t) items) all (tells (field_at m t) items) in
+      (found.0, found.1, err_from (λ d. (found.0.name, d)) (m found.0.term t) e found.2)
+
+  seen_by : (i : Item E) (t : Attrs) (f : Raise) (r : Result (List (List ℕ × Datum)) Raise) → fields_at m items t ≡ r → Tells (field_at m t) items r → Contains items i → m i.term t ≡ Err f → (e : Raise) × (fields_at m items t ≡ Err e) × (number_of e ≤ number_of f)
+  seen_by i t f (Ok fs) is none there raises = absurd (none i there f (err_to (λ d. (i.name, d)) (m i.term t) f raises))
+  seen_by i t f (Err e) is (found, least) there raises = (e, is, least i there f (err_to (λ d. (i.name, d)) (m i.term t) f raises))
+
+  -- where an item raises, the tuple has that error or a lesser one
+  raise_seen : (i : Item E) (t : Attrs) (f : Raise) → Contains items i → m i.term t ≡ Err f → (e : Raise) × (extended_at m items t ≡ Err e) × (number_of e ≤ number_of f)
+  raise_seen i t f there raises =
+      let (e, is, least) = seen_by i t f (fields_at m items t) refl (tells (field_at m t) items) there raises in
+      (e, err_to (λ fs. beside (tuple_of fs) t) (fields_at m items t) e is, least)
+
+  module _ (r : RowsData) where
+    pub extension_fails : {V : Type 0} (see : V → List Attrs) (P : RowsData → Type 0) (f : Fault) → AnswersBy see (Err f) (all_of (extended_at m items) r.tuples) → Unless (RaisedBy m items r) P (Err f)
+    extension_fails see P OutOfMemory all = tt
+    extension_fails see P (Raised e) all =
+        let (found, least) = subst (Tells (extended_at m items) r.tuples) all (tells (extended_at m items) r.tuples) in
+        let (i, there, raises) = raised_at found.0 e found.2 in
+        ((i, found.0, there, (has_listed r found.0).1 found.1, raises), λ f (j, t, in_, has, k).
+        let (d, is, below) = raise_seen j t f in_ k in
+        let first = least t ((has_listed r t).0 has) d is in
+        omega (arith, first, below))
+
+    pub extends : (h : Header) (us : List Attrs) (s : RowsData) → all_of (extended_at m items) r.tuples ≡ Ok us → IsRelation h (set.from_list us) s → Unless (RaisedBy m items r) (IsRelationOf h (Extended m items r)) (Ok s)
+    extends h us s all is = (
+      λ e (j, t, in_, has, k).
+      let (d, raised, below) = raise_seen j t e in_ k in
+      subst (Tells (extended_at m items) r.tuples) all (tells (extended_at m items) r.tuples) t ((has_listed r t).0 has) d raised,
+      by_list h us (Extended m items r) s is (λ u. (
+        λ there. let (t, in_, gives) = answers_from (extended_at m items) r.tuples us u all there in (t, (has_listed r t).1 in_, gives),
+        λ (t, has, gives). answers_there (extended_at m items) r.tuples us t u all ((has_listed r t).0 has) gives,
+      )),
+    )

@@ -1,0 +1,62 @@
+-- Extension: each tuple with new attributes, each the value of a function on it (Date and Darwen, The Third Manifesto).
+use Rattle.std.specs.Prelude.{◌≡◌, ℕ, List, map, Result, Ok, Err, IfOk}
+use Rattle.std.specs.Borrow.{Bor}
+use Rattle.std.specs.FinMap as by_name
+use Rattle.std.specs.List.{Contains}
+use Rattle.td_values.specs.declared.raises.Raise.{Raise}
+use Rattle.td_values.specs.Data.{Ty, Datum, Attrs}
+use Rattle.td_values.specs.Headings.{Header}
+use Rattle.td_values.specs.Order.{text_cmp}
+use Rattle.td_values.specs.Rows.{RowsData}
+use Rattle.td_values.specs.Whole.{type_of}
+use Rattle.td_relations.specs.Sets.{Has}
+use Rattle.td_tuples.specs.Unions.{beside, joined, tuple_of}
+use Rattle.td_algebra.specs.declared.errors.Fault.{Fault}
+use Rattle.td_algebra.specs.declared.items.Item.{Item}
+use Rattle.td_algebra.specs.Raising.{Answers, all_of, and_then}
+
+-- what a term means at a tuple: a value or an error
+abbrev pub Meaning : Type 0 → Type 0
+Meaning E = E → Attrs → Result Datum Raise
+
+-- the item's name with its value at the tuple
+abbrev pub field_at : {E : Type 0} → Meaning E → Attrs → Item E → Result (List ℕ × Datum) Raise
+field_at m t i = and_then (m i.term t) (λ d. Ok (i.name, d))
+
+-- the names and values of all items at the tuple, or the least error of theirs
+abbrev pub fields_at : {E : Type 0} → Meaning E → List (Item E) → Attrs → Result (List (List ℕ × Datum)) Raise
+fields_at m items t = all_of (field_at m t) items
+
+-- the items' names with their types
+abbrev pub column_of : {E : Type 0} → Item E → List ℕ × Ty
+column_of i = (i.name, i.ty)
+
+abbrev pub columns_of : {E : Type 0} → List (Item E) → Header
+columns_of items = by_name.from_entries {R = text_cmp} (map column_of items)
+
+abbrev pub extended_columns : {E : Type 0} → List (Item E) → Header → Header
+extended_columns items h = joined (columns_of items) h
+
+-- the tuple with the items' values, new or replaced
+abbrev pub extended_at : {E : Type 0} → Meaning E → List (Item E) → Attrs → Result Attrs Raise
+extended_at m items t = and_then (fields_at m items t) (λ fs. Ok (beside (tuple_of fs) t))
+
+-- each t of r with the items' values on t
+abbrev pub Extended : {E : Type 0} → Meaning E → List (Item E) → RowsData → Attrs → Type 0
+Extended m items r u = (t : Attrs) × Has r t × (extended_at m items t ≡ Ok u)
+
+-- an item raises this error at a tuple of r
+abbrev pub RaisedBy : {E : Type 0} → Meaning E → List (Item E) → RowsData → Raise → Type 0
+RaisedBy {E} m items r e = (i : Item E) × (t : Attrs) × Contains items i × Has r t × (m i.term t ≡ Err e)
+
+-- what a function takes at a term and a tuple
+abbrev pub TakesBoth : {E : Type 0} → (Bor E → Bor Attrs → Type 0) → E → Attrs → Type 0
+TakesBoth pre e t = (p : _) (q : _) → p.now ≡ e → q.now ≡ t → pre p q
+
+-- what it answers there is the meaning
+abbrev pub Means : {E : Type 0} → (Bor E → Bor Attrs → Result Datum Fault → Type 0) → Meaning E → E → Attrs → Type 0
+Means post m e t = (p : _) (q : _) (a : Result Datum Fault) → p.now ≡ e → q.now ≡ t → post p q a → Answers a (m e t)
+
+-- its values there are of this type
+abbrev pub IsTyped : {E : Type 0} → (Bor E → Bor Attrs → Result Datum Fault → Type 0) → E → Attrs → Ty → Type 0
+IsTyped post e t ty = (p : _) (q : _) (a : Result Datum Fault) → p.now ≡ e → q.now ≡ t → post p q a → IfOk a (λ d. type_of d ≡ ty)

@@ -1,0 +1,9 @@
+pub mod Operators
+pub mod Nested
+pub mod Closures
+pub mod Index
+pub mod Raising
+pub mod Restricting
+pub mod Extending
+pub mod Summaries
+pub mod Opened

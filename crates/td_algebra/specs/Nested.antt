@@ -1,0 +1,82 @@
+-- Operators that put relations and tuples into attributes, and take them out: which tuples their results have.
+use Rattle.std.specs.Prelude.{◌≡◌, ℕ, List, [], ◌∷◌, Option, None, Some}
+use Rattle.std.specs.FinMap as by_name
+use Rattle.std.specs.List.{Contains}
+use Rattle.td_values.specs.Attributes.{attribute_of}
+use Rattle.td_values.specs.Data.{Ty, tuple_type, relation_type, Fields, no_fields, field, Datum, tuple, relation, Attrs, Tuples, no_tuples, next_tuple, tuples_of}
+use Rattle.td_values.specs.Headings.{Header, header_fields}
+use Rattle.td_values.specs.Rows.{RowsData}
+use Rattle.td_relations.specs.Sets.{Has, IsRelationOf}
+use Rattle.td_tuples.specs.Parts.{cut, cut_off, columns_in, columns_out}
+use Rattle.td_tuples.specs.Unions.{beside, joined, with_attribute, with_column}
+
+-- ---- group and wrap
+-- the relation as a value
+abbrev pub relation_value : RowsData → Datum
+relation_value g = relation (header_fields g.heading) (tuples_of g.tuples)
+
+-- the t|X with t in r and t|Y = v, where Y is the other names
+abbrev pub InGroup : List (List ℕ) → RowsData → Attrs → Attrs → Type 0
+InGroup names r v w = (t : Attrs) × (Has r t) × (cut_off names t ≡ v) × (w ≡ cut names t)
+
+-- u is v with C = the set of these
+abbrev pub WithGroup : List (List ℕ) → List ℕ → RowsData → Attrs → Attrs → Type 0
+WithGroup names c r v u = (g : RowsData) × (IsRelationOf (columns_in names r.heading) (InGroup names r v) g) × (u ≡ with_attribute c (relation_value g) v)
+
+-- for each v in the projection on Y, v with its group
+abbrev pub Grouped : List (List ℕ) → List ℕ → RowsData → Attrs → Type 0
+Grouped names c r u = (t : Attrs) × (Has r t) × (WithGroup names c r (cut_off names t) u)
+
+-- the columns Y, and C with relations over the columns X
+abbrev pub grouped_columns : List (List ℕ) → List ℕ → Header → Header
+grouped_columns names c h = with_column c (relation_type (header_fields (columns_in names h))) (columns_out names h)
+
+-- each t|Y with C = t|X, t in r
+abbrev pub Wrapped : List (List ℕ) → List ℕ → RowsData → Attrs → Type 0
+Wrapped names c r u = (t : Attrs) × (Has r t) × (u ≡ with_attribute c (tuple (cut names t)) (cut_off names t))
+
+-- the columns Y, and C with tuples over the columns X
+abbrev pub wrapped_columns : List (List ℕ) → List ℕ → Header → Header
+wrapped_columns names c h = with_column c (tuple_type (header_fields (columns_in names h))) (columns_out names h)
+
+-- ---- ungroup and unwrap
+abbrev pub tuple_list : Tuples → List Attrs
+tuple_list no_tuples = []
+tuple_list (next_tuple t ts) = t ∷ tuple_list ts
+
+abbrev pub field_list : Fields → List (List ℕ × Ty)
+field_list no_fields = []
+field_list (field n ty fs) = (n, ty) ∷ field_list fs
+
+-- each tuple made of t|Y and a tuple of t's C, t in r, where Y is the other names
+abbrev pub Ungrouped : List ℕ → RowsData → Attrs → Type 0
+Ungrouped c r u = (t : Attrs) × (Has r t) × (h : Fields) × (ts : Tuples) × (attribute_of c t ≡ Some (relation h ts)) × (w : Attrs) × (Contains (tuple_list ts) w) × (u ≡ beside (cut_off (c ∷ []) t) w)
+
+-- each tuple made of t|Y and t's C, t in r
+abbrev pub Unwrapped : List ℕ → RowsData → Attrs → Type 0
+Unwrapped c r u = (t : Attrs) × (Has r t) × (w : Attrs) × (attribute_of c t ≡ Some (tuple w)) × (u ≡ beside (cut_off (c ∷ []) t) w)
+
+-- the columns that a tuple or relation type is made from
+abbrev pub columns_of_type : Ty → Header
+columns_of_type (tuple_type fs) = by_name.from_entries (field_list fs)
+columns_of_type (relation_type fs) = by_name.from_entries (field_list fs)
+columns_of_type ty = by_name.empty
+
+abbrev pub columns_inside : Option Ty → Header
+columns_inside None = by_name.empty
+columns_inside (Some ty) = columns_of_type ty
+
+-- those of the type at the name C
+abbrev pub inner_columns : List ℕ → Header → Header
+inner_columns c h = columns_inside (by_name.get h c)
+
+-- the columns Y, and those inside C
+abbrev pub opened_columns : List ℕ → Header → Header
+opened_columns c h = joined (columns_out (c ∷ []) h) (inner_columns c h)
+
+-- the attribute C is relation-valued, or tuple-valued
+abbrev pub IsRelationValued : List ℕ → Header → Type 0
+IsRelationValued c h = (fs : Fields) × (by_name.get h c ≡ Some (relation_type fs))
+
+abbrev pub IsTupleValued : List ℕ → Header → Type 0
+IsTupleValued c h = (fs : Fields) × (by_name.get h c ≡ Some (tuple_type fs))

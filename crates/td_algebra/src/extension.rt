@@ -1,0 +1,139 @@
+//! Extension by new attributes.
+ghost use Rattle.std.specs.Prelude.{◌≡◌, ℕ, List, map, Result, Ok, IfOk, OnOk};
+ghost use Rattle.std.specs.FinMap as by_name;
+ghost use Rattle.std.specs.List.{All};
+ghost use Rattle.td_values.specs.Data.{Attrs, Datum, Ty};
+ghost use Rattle.td_values.specs.Order.{text_cmp};
+ghost use Rattle.td_values.specs.Whole.{type_of};
+ghost use Rattle.td_values.specs.declared.raises.Raise.{Raise};
+ghost use Rattle.td_values.specs.Headings.{Header};
+ghost use Rattle.td_relations.specs.Sets.{IsRelationOf};
+ghost use Rattle.td_tuples.specs.Parts.{Fits};
+ghost use Rattle.td_tuples.specs.Unions.{tuple_of};
+ghost use Rattle.td_algebra.specs.Raising.{Answers, AnswersBy, Unless, all_of};
+ghost use Rattle.td_algebra.specs.Extending as spec;
+ghost use Rattle.td_algebra.specs.Extending.{Meaning, TakesBoth, Means, IsTyped, column_of, Extended, RaisedBy};
+
+use crate::errors::Fault;
+use crate::gathered::Gathered;
+use crate::items::Item;
+use std::alloc::{AllocError, Global};
+use td_relations::Relation;
+use td_tuples::{beside, joined};
+use td_values::{Heading, Name, Tuple, TupleBuilder, Value};
+
+// The items' names with their types.
+fn columns_of<E>(alloc: Global, items: &[Item<E>]) -> Result<Heading, AllocError>
+    ensures { IfOk result (λ h. h ≡ spec.columns_of items.now) }
+{
+    let mut columns = Heading::new(alloc)?;
+    for item in items {
+        columns.insert(alloc, item.name.copy()?, item.ty.copy()?)?;
+    }
+    Ok(columns)
+}
+
+// The tuple of these attributes.
+fn tuple_of(alloc: Global, fields: Vec<(Name, Value)>) -> Result<Tuple, AllocError>
+    ensures { IfOk result (λ t. t ≡ tuple_of fields.items) }
+{
+    let mut builder = TupleBuilder::new(alloc);
+    for (name, value) in fields {
+        builder.insert(name, value)?;
+    }
+    builder.build(alloc)
+}
+
+// The item's name with its value on the tuple.
+fn field_at<E, F: Fn(&E, &Tuple) -> Result<Value, Fault>>(
+    item: &Item<E>,
+    tuple: &Tuple,
+    f: &F,
+) -> Result<(Name, Value), Fault>
+    requires { TakesBoth (F.pre f.now) item.now.term tuple.now }
+    ensures means { (m : Meaning E) → Means (F.post f.now) m item.now.term tuple.now → Answers result (spec.field_at m tuple.now item.now) }
+    ensures typed { IsTyped (F.post f.now) item.now.term tuple.now item.now.ty → IfOk result (λ x. (x.0, type_of x.1) ≡ column_of item.now) }
+{
+    match f(&item.term, tuple) {
+        Ok(value) => Ok((item.name.copy()?, value)),
+        Err(fault) => Err(fault),
+    }
+}
+
+// The names and values of the items on the tuple, or the least error of theirs.
+fn fields_at<E, F: Fn(&E, &Tuple) -> Result<Value, Fault>>(
+    alloc: Global,
+    items: &[Item<E>],
+    tuple: &Tuple,
+    f: &F,
+) -> Result<Vec<(Name, Value)>, Fault>
+    requires { All (λ i. TakesBoth (F.pre f.now) i.term tuple.now) items.now }
+    ensures means { (m : Meaning E) → All (λ i. Means (F.post f.now) m i.term tuple.now) items.now → AnswersBy (λ v. v.items) result (spec.fields_at m items.now tuple.now) }
+    ensures typed { All (λ i. IsTyped (F.post f.now) i.term tuple.now i.ty) items.now → IfOk result (λ v. map (λ x. (x.0, type_of x.1)) v.items ≡ map column_of items.now) }
+{
+    let mut gathered = Gathered::new(alloc);
+    for item in items {
+        gathered.note(field_at(item, tuple, f))?;
+    }
+    gathered.finish()
+}
+
+// The tuple with the items' values.
+fn extended_at<E, F: Fn(&E, &Tuple) -> Result<Value, Fault>>(
+    alloc: Global,
+    items: &[Item<E>],
+    tuple: &Tuple,
+    f: &F,
+) -> Result<Tuple, Fault>
+    requires { All (λ i. TakesBoth (F.pre f.now) i.term tuple.now) items.now }
+    ensures means { (m : Meaning E) → All (λ i. Means (F.post f.now) m i.term tuple.now) items.now → Answers result (spec.extended_at m items.now tuple.now) }
+    ensures typed { (h : Header) → Fits h tuple.now → All (λ i. IsTyped (F.post f.now) i.term tuple.now i.ty) items.now → IfOk result (Fits (spec.extended_columns items.now h)) }
+{
+    let fields = match fields_at(alloc, items, tuple, f) {
+        Ok(fields) => fields,
+        Err(fault) => return Err(fault),
+    };
+    let added = tuple_of(alloc, fields)?;
+    Ok(beside(alloc, &added, tuple)?)
+}
+
+// Each tuple with the items' values, or the least error of all.
+fn extended_all<E, F: Fn(&E, &Tuple) -> Result<Value, Fault>>(
+    alloc: Global,
+    tuples: &[Tuple],
+    items: &[Item<E>],
+    f: &F,
+) -> Result<Vec<Tuple>, Fault>
+    requires { All (λ t. All (λ i. TakesBoth (F.pre f.now) i.term t) items.now) tuples.now }
+    ensures means { (m : Meaning E) → All (λ t. All (λ i. Means (F.post f.now) m i.term t) items.now) tuples.now → AnswersBy (λ v. v.items) result (all_of (spec.extended_at m items.now) tuples.now) }
+    ensures typed { (h : Header) → All (Fits h) tuples.now → All (λ t. All (λ i. IsTyped (F.post f.now) i.term t i.ty) items.now) tuples.now → IfOk result (λ v. All (Fits (spec.extended_columns items.now h)) v.items) }
+{
+    let mut gathered = Gathered::new(alloc);
+    for tuple in tuples {
+        gathered.note(extended_at(alloc, items, tuple, f))?;
+    }
+    gathered.finish()
+}
+
+/// Each tuple with the values of the items on it, as new attributes or in place of those of the same names. Every item
+/// sees the old tuple. Of two items of one name the first counts. The function is asked for every item of every tuple
+/// once, also after one that raises.
+pub fn extend<E, F: Fn(&E, &Tuple) -> Result<Value, Fault>>(
+    alloc: Global,
+    relation: &Relation,
+    items: &[Item<E>],
+    f: &F,
+) -> Result<Relation, Fault>
+    requires takes { All (λ t. All (λ i. TakesBoth (F.pre f.now) i.term t) items.now) relation.now.tuples }
+    requires typed { All (λ t. All (λ i. IsTyped (F.post f.now) i.term t i.ty) items.now) relation.now.tuples }
+    ensures { (m : Meaning E) → All (λ t. All (λ i. Means (F.post f.now) m i.term t) items.now) relation.now.tuples →
+        Unless (RaisedBy m items.now relation.now) (IsRelationOf (spec.extended_columns items.now relation.now.heading) (Extended m items.now relation.now)) result }
+{
+    let tuples = match extended_all(alloc, relation.tuples(), items, f) {
+        Ok(tuples) => tuples,
+        Err(fault) => return Err(fault),
+    };
+    let columns = columns_of(alloc, items)?;
+    let heading = joined(alloc, &columns, relation.heading())?;
+    Ok(Relation::from_tuples(heading, tuples))
+}

@@ -1,0 +1,81 @@
+//! The answers of a function at each of a list, or the least error among them.
+ghost use Rattle.std.specs.Prelude.{◌≡◌, ◌⊎◌, [], Result, IfOk};
+ghost use Rattle.std.specs.Fn.{FnReturnsAt, FnOnceTakesAt};
+ghost use Rattle.std.specs.List.{All};
+ghost use Rattle.td_values.specs.Data.{Attrs};
+ghost use Rattle.td_values.specs.declared.raises.Raise.{Raise};
+ghost use Rattle.td_algebra.specs.declared.errors.Fault.{Fault};
+ghost use Rattle.td_algebra.specs.Raising.{Answers, AnswersBy, so_far, and_all, alone, all_of};
+
+use crate::errors::Fault;
+use std::alloc::Global;
+use td_values::{Raise, Tuple};
+
+/// The answers so far, or the least error among them.
+#[derive(Drop)]
+pub(crate) struct Gathered<A> {
+    answers: Vec<A>,
+    least: Option<Raise>,
+}
+
+impl<A: Drop> Gathered<A> {
+    /// Nothing so far.
+    pub(crate) fn new(alloc: Global) -> Gathered<A>
+        ensures { so_far result.answers.items result.least ≡ Result.Ok [] }
+    {
+        Gathered {
+            answers: Vec::new(alloc),
+            least: None,
+        }
+    }
+
+    /// One more answer. After an error only lesser ones matter.
+    pub(crate) fn note(&mut self, answer: Result<A, Fault>) -> Result<(), Fault>
+        ensures noted { (m : Result A Raise) → Answers answer m → IfOk result (λ _. so_far self.new.answers.items self.new.least ≡ and_all (so_far self.old.answers.items self.old.least) (alone m)) }
+        ensures fault { (result ≡ Result.Ok tt) ⊎ (result ≡ Result.Err Fault.OutOfMemory) }
+    {
+        match answer {
+            Ok(value) => {
+                if self.least.is_none() && self.answers.push(value).is_err() {
+                    return Err(Fault::OutOfMemory);
+                }
+                Ok(())
+            }
+            Err(Fault::Raised(raise)) => {
+                self.least = match self.least {
+                    None => Some(raise),
+                    Some(least) => Some(least.lesser(raise)),
+                };
+                Ok(())
+            }
+            Err(Fault::OutOfMemory) => Err(Fault::OutOfMemory),
+        }
+    }
+
+    /// The answers, or the least error.
+    pub(crate) fn finish(self) -> Result<Vec<A>, Fault>
+        ensures whole { AnswersBy (λ v. v.items) result (so_far self.answers.items self.least) }
+        ensures memory { result ≡ Result.Err Fault.OutOfMemory → ⊥ }
+    {
+        match self.least {
+            None => Ok(self.answers),
+            Some(raise) => Err(Fault::Raised(raise)),
+        }
+    }
+}
+
+/// The function's answers at all of the tuples, or the least error among theirs.
+pub(crate) fn gather<A: Drop, F: Fn(&Tuple) -> Result<A, Fault>>(
+    alloc: Global,
+    tuples: &[Tuple],
+    f: F,
+) -> Result<Vec<A>, Fault>
+    requires { All (λ t. FnOnceTakesAt F.FnOnce f t) tuples.now }
+    ensures { (m : Attrs → Result A Raise) → All (λ t. (r : _) → FnReturnsAt F.Fn f t r → Answers r (m t)) tuples.now → AnswersBy (λ v. v.items) result (all_of m tuples.now) }
+{
+    let mut gathered = Gathered::new(alloc);
+    for tuple in tuples {
+        gathered.note(f(tuple))?;
+    }
+    gathered.finish()
+}

@@ -1,0 +1,38 @@
+//! The operators of relations.
+//!
+//! Each answers a new relation, which shares the names, values and tuples of its operands. Want of memory is the one
+//! refusal; those that ask a function of tuples also answer the least error that it raises.
+#![tactic(auto)]
+
+mod closure;
+mod errors;
+mod extension;
+mod gathered;
+mod groups;
+mod index;
+mod items;
+mod joins;
+pub mod laws;
+mod opening;
+mod parts;
+mod restriction;
+mod sets;
+mod summaries;
+mod summarization;
+#[cfg(test)]
+mod term_tests;
+mod wraps;
+
+pub use closure::{is_binary, tclose};
+pub use errors::Fault;
+pub use extension::extend;
+pub use groups::group;
+pub use items::Item;
+pub use joins::{compose, join, matching, not_matching};
+pub use opening::{is_relation_valued, is_tuple_valued, ungroup, unwrap};
+pub use parts::{project, rename};
+pub use restriction::restrict;
+pub use sets::{intersect, minus, union};
+pub use summaries::Summary;
+pub use summarization::summarize;
+pub use wraps::wrap;

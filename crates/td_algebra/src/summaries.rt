@@ -1,0 +1,227 @@
+//! Summaries over groups of tuples.
+ghost use Rattle.std.specs.Prelude.{◌≡◌, pos, length, map, Result, IfOk};
+ghost use Rattle.std.specs.List.{All, list_all, list_any};
+ghost use Rattle.std.specs.Option.{option_copied};
+ghost use Rattle.td_values.specs.Data.{Ty, Attrs, integer, boolean};
+ghost use Rattle.td_values.specs.Whole.{type_of};
+ghost use Rattle.td_values.specs.declared.raises.Raise.{Raise};
+ghost use Rattle.td_algebra.specs.Index.{tuple_in};
+ghost use Rattle.td_algebra.specs.Raising.{Answers, AnswersBy, all_of};
+ghost use Rattle.td_algebra.specs.Extending.{Meaning, TakesBoth, Means, IsTyped};
+ghost use Rattle.td_algebra.specs.Summaries as spec;
+ghost use Rattle.td_algebra.specs.Summaries.{OfTerm, Suits};
+
+use crate::errors::Fault;
+use crate::gathered::Gathered;
+use crate::index::Keyed;
+use std::alloc::{AllocError, Global};
+use td_values::{Kind, Raise, Tuple, Value, compare, copy};
+
+/// What is asked of a group of tuples; the term gives a value on each of them.
+#[derive(Drop)]
+pub enum Summary<E> {
+    /// How many tuples there are.
+    Count,
+    /// The sum of the terms, equal ones counted each; of none 0.
+    Sum(E),
+    /// The greatest term; of none it raises `Empty`.
+    Max(E),
+    /// The least term; of none it raises `Empty`.
+    Min(E),
+    /// Whether all terms are true; of none they are.
+    And(E),
+    /// Whether a term is true; of none there is none.
+    Or(E),
+}
+
+fn integer_value(n: i64) -> Value
+    ensures { result ≡ integer n }
+{
+    Value {
+        kind: Kind::Integer(n),
+    }
+}
+
+fn truth_value(b: bool) -> Value
+    ensures { result ≡ boolean b }
+{
+    Value {
+        kind: Kind::Boolean(b),
+    }
+}
+
+fn number_in(value: &Value) -> i64
+    ensures { result ≡ spec.number_in value.now }
+{
+    match &value.kind {
+        Kind::Integer(n) => *n,
+        _ => 0,
+    }
+}
+
+fn is_true(value: &Value) -> bool
+    ensures { result ≡ spec.is_true value.now }
+{
+    match &value.kind {
+        Kind::Boolean(b) => *b,
+        _ => false,
+    }
+}
+
+fn whole_sum(values: &[Value]) -> i128
+    ensures { result ≡ spec.whole_sum values.now }
+{
+    let mut sum = 0i128;
+    for value in values {
+        sum += number_in(value) as i128;
+    }
+    sum
+}
+
+fn sum_of(values: &[Value]) -> Result<Value, Fault>
+    ensures { Answers result (spec.sum_of values.now) }
+{
+    match i64::try_from(whole_sum(values)) {
+        Ok(n) => Ok(integer_value(n)),
+        Err(_) => Err(Fault::Raised(Raise::Overflow)),
+    }
+}
+
+fn greater<'a>(a: &'a Value, b: &'a Value) -> &'a Value
+    ensures { result.now ≡ spec.greater a.now b.now }
+{
+    if compare(a, b).is_lt() { b } else { a }
+}
+
+fn lesser<'a>(a: &'a Value, b: &'a Value) -> &'a Value
+    ensures { result.now ≡ spec.lesser_of a.now b.now }
+{
+    if compare(b, a).is_lt() { b } else { a }
+}
+
+fn greatest(alloc: Global, values: &[Value]) -> Result<Value, Fault>
+    ensures { Answers result (spec.most spec.greater values.now) }
+{
+    match values.split_first() {
+        None => Err(Fault::Raised(Raise::Empty)),
+        Some((first, rest)) => {
+            let mut best = first;
+            for value in rest {
+                best = greater(best, value);
+            }
+            Ok(copy(alloc, best)?)
+        }
+    }
+}
+
+fn least(alloc: Global, values: &[Value]) -> Result<Value, Fault>
+    ensures { Answers result (spec.most spec.lesser_of values.now) }
+{
+    match values.split_first() {
+        None => Err(Fault::Raised(Raise::Empty)),
+        Some((first, rest)) => {
+            let mut best = first;
+            for value in rest {
+                best = lesser(best, value);
+            }
+            Ok(copy(alloc, best)?)
+        }
+    }
+}
+
+fn are_all_true(values: &[Value]) -> bool
+    ensures { result ≡ list_all spec.is_true values.now }
+{
+    values.iter().all(|v| is_true(v))
+}
+
+fn is_any_true(values: &[Value]) -> bool
+    ensures { result ≡ list_any spec.is_true values.now }
+{
+    values.iter().any(|v| is_true(v))
+}
+
+fn size(group: &[Keyed]) -> Value
+    ensures { result ≡ integer (pos (length (map tuple_in group.now))) }
+{
+    integer_value(group.len() as i64)
+}
+
+fn term_of<E>(summary: &Summary<E>) -> Option<&E>
+    ensures { option_copied result ≡ spec.term_of summary.now }
+{
+    match summary {
+        Summary::Count => None,
+        Summary::Sum(term) => Some(term),
+        Summary::Max(term) => Some(term),
+        Summary::Min(term) => Some(term),
+        Summary::And(term) => Some(term),
+        Summary::Or(term) => Some(term),
+    }
+}
+
+// What the summary makes of the values of its term.
+fn fold_values<E>(alloc: Global, summary: &Summary<E>, values: &[Value]) -> Result<Value, Fault>
+    ensures means { Answers result (spec.fold_of summary.now values.now) }
+    ensures typed { (ty : Ty) → Suits summary.now ty → All (λ d. type_of d ≡ ty) values.now → IfOk result (λ d. type_of d ≡ ty) }
+{
+    match summary {
+        Summary::Count => Ok(integer_value(values.len() as i64)),
+        Summary::Sum(_) => sum_of(values),
+        Summary::Max(_) => greatest(alloc, values),
+        Summary::Min(_) => least(alloc, values),
+        Summary::And(_) => Ok(truth_value(are_all_true(values))),
+        Summary::Or(_) => Ok(truth_value(is_any_true(values))),
+    }
+}
+
+// The term's value on the tuple.
+fn value_of<E, F: Fn(&E, &Tuple) -> Result<Value, Fault>>(
+    f: &F,
+    term: &E,
+    tuple: &Tuple,
+) -> Result<Value, Fault>
+    requires { TakesBoth (F.pre f.now) term.now tuple.now }
+    ensures means { (m : Meaning E) → Means (F.post f.now) m term.now tuple.now → Answers result (m term.now tuple.now) }
+    ensures typed { (ty : Ty) → IsTyped (F.post f.now) term.now tuple.now ty → IfOk result (λ d. type_of d ≡ ty) }
+{
+    f(term, tuple)
+}
+
+// The term's values on the tuples of the group, or the least error among theirs.
+fn values_of<E, F: Fn(&E, &Tuple) -> Result<Value, Fault>>(
+    alloc: Global,
+    group: &[Keyed],
+    term: &E,
+    f: &F,
+) -> Result<Vec<Value>, Fault>
+    requires { All (λ k. TakesBoth (F.pre f.now) term.now k.tuple) group.now }
+    ensures means { (m : Meaning E) → All (λ k. Means (F.post f.now) m term.now k.tuple) group.now → AnswersBy (λ v. v.items) result (all_of (m term.now) (map tuple_in group.now)) }
+    ensures typed { (ty : Ty) → All (λ k. IsTyped (F.post f.now) term.now k.tuple ty) group.now → IfOk result (λ v. All (λ d. type_of d ≡ ty) v.items) }
+{
+    let mut gathered = Gathered::new(alloc);
+    for entry in group {
+        gathered.note(value_of(f, term, &entry.tuple))?;
+    }
+    gathered.finish()
+}
+
+// The summary over the group.
+pub(crate) fn over_group<E, F: Fn(&E, &Tuple) -> Result<Value, Fault>>(
+    alloc: Global,
+    group: &[Keyed],
+    summary: &Summary<E>,
+    f: &F,
+) -> Result<Value, Fault>
+    requires { All (λ k. OfTerm (λ e. TakesBoth (F.pre f.now) e k.tuple) summary.now) group.now }
+    ensures means { (m : Meaning E) → All (λ k. OfTerm (λ e. Means (F.post f.now) m e k.tuple) summary.now) group.now → Answers result (spec.summary_over m (map tuple_in group.now) summary.now) }
+    ensures typed { (ty : Ty) → Suits summary.now ty → All (λ k. OfTerm (λ e. IsTyped (F.post f.now) e k.tuple ty) summary.now) group.now → IfOk result (λ d. type_of d ≡ ty) }
+{
+    match term_of(summary) {
+        None => Ok(size(group)),
+        Some(term) => match values_of(alloc, group, term, f) {
+            Ok(values) => fold_values(alloc, summary, &values),
+            Err(fault) => Err(fault),
+        },
+    }
+}

@@ -1,0 +1,69 @@
+//! Summaries of one relation per the tuples of another.
+ghost use Rattle.std.specs.Prelude.{◌≡◌, map, Result, IfOk};
+ghost use Rattle.std.specs.List.{All, filter};
+ghost use Rattle.std.specs.List.Sorted.{IsSortedByKey};
+ghost use Rattle.td_values.specs.Data.{Ty};
+ghost use Rattle.td_values.specs.Order.{attrs_order};
+ghost use Rattle.td_values.specs.Whole.{type_of};
+ghost use Rattle.td_relations.specs.Sets.{IsRelationOf};
+ghost use Rattle.td_algebra.specs.Index.{has_key, key_of, tuple_in};
+ghost use Rattle.td_algebra.specs.Raising.{Answers, Unless};
+ghost use Rattle.td_algebra.specs.Extending.{Meaning, TakesBoth, Means, IsTyped, Extended, RaisedBy, extended_columns};
+ghost use Rattle.td_algebra.specs.Summaries.{OfTerm, Suits, over_groups, summary_over};
+
+use crate::errors::Fault;
+use crate::extension::extend;
+use crate::index::{Keyed, indexed, run};
+use crate::items::Item;
+use crate::summaries::{Summary, over_group};
+use std::alloc::Global;
+use td_relations::Relation;
+use td_values::{Tuple, Value};
+
+// The summary over the entries with this key.
+fn over_run<E, F: Fn(&E, &Tuple) -> Result<Value, Fault>>(
+    alloc: Global,
+    index: &[Keyed],
+    key: &Tuple,
+    summary: &Summary<E>,
+    f: &F,
+) -> Result<Value, Fault>
+    requires sorted { IsSortedByKey key_of attrs_order index.now }
+    requires takes { All (λ k. OfTerm (λ e. TakesBoth (F.pre f.now) e k.tuple) summary.now) index.now }
+    ensures means { (m : Meaning E) → All (λ k. OfTerm (λ e. Means (F.post f.now) m e k.tuple) summary.now) index.now → Answers result (summary_over m (map tuple_in (filter (has_key key.now) index.now)) summary.now) }
+    ensures typed { (ty : Ty) → Suits summary.now ty → All (λ k. OfTerm (λ e. IsTyped (F.post f.now) e k.tuple ty) summary.now) index.now → IfOk result (λ d. type_of d ≡ ty) }
+{
+    over_group(alloc, run(index, key), summary, f)
+}
+
+/// Each tuple of the second relation with the summaries over its group, which are the tuples of the first that agree with
+/// it on the second one's names. For n and m tuples it costs of the order of (n + m) log n comparisons, and each
+/// term once on each tuple of a group.
+pub fn summarize<E, F: Fn(&E, &Tuple) -> Result<Value, Fault>>(
+    alloc: Global,
+    relation: &Relation,
+    per: &Relation,
+    items: &[Item<Summary<E>>],
+    f: &F,
+) -> Result<Relation, Fault>
+    requires takes { All (λ t. All (λ i. OfTerm (λ e. TakesBoth (F.pre f.now) e t) i.term) items.now) relation.now.tuples }
+    requires typed { All (λ t. All (λ i. OfTerm (λ e. IsTyped (F.post f.now) e t i.ty) i.term) items.now) relation.now.tuples }
+    requires suits { All (λ i. Suits i.term i.ty) items.now }
+    ensures { (m : Meaning E) → All (λ t. All (λ i. OfTerm (λ e. Means (F.post f.now) m e t) i.term) items.now) relation.now.tuples →
+        Unless (RaisedBy (over_groups m relation.now per.now.heading) items.now per.now)
+            (IsRelationOf (extended_columns items.now per.now.heading) (Extended (over_groups m relation.now per.now.heading) items.now per.now)) result }
+{
+    let index = indexed(alloc, per.heading(), relation.tuples())?;
+    let entries: &[Keyed] = &index;
+    extend(
+        alloc,
+        per,
+        items,
+        &|summary: &Summary<E>, key: &Tuple| -> Result<Value, Fault>
+            requires sorted { IsSortedByKey key_of attrs_order entries.now }
+            requires takes { All (λ k. OfTerm (λ e. TakesBoth (F.pre f.now) e k.tuple) summary.now) entries.now }
+            ensures means { (m : Meaning E) → All (λ k. OfTerm (λ e. Means (F.post f.entry.now) m e k.tuple) summary.now) entries.entry.now → Answers result (summary_over m (map tuple_in (filter (has_key key.now) entries.entry.now)) summary.now) }
+            ensures typed { (ty : Ty) → Suits summary.now ty → All (λ k. OfTerm (λ e. IsTyped (F.post f.entry.now) e k.tuple ty) summary.now) entries.entry.now → IfOk result (λ d. type_of d ≡ ty) }
+        { over_run(alloc, entries, key, summary, f) },
+    )
+}

@@ -1,0 +1,14 @@
+pub mod Depths
+pub mod Places
+pub mod Steps
+pub mod Complete
+pub mod Sound
+pub mod OneTree
+pub mod Cursors
+pub mod Turns
+pub mod Within
+pub mod Knot
+pub mod StatementsComplete
+pub mod StatementsSound
+pub mod Lexing
+pub mod OneStatement

@@ -1,0 +1,26 @@
+-- The laws of the grammar.
+use Rattle.std.specs.Prelude.{◌≡◌, ◌↔◌, List, [], Some}
+use Rattle.td_tokens.specs.Lex.{Text}
+use Rattle.td_grammar.specs.declared.forms.Form.TheVariants as f
+use Rattle.td_grammar.specs.declared.tree.Expr.{Expr}
+use Rattle.td_grammar.specs.declared.script.Action.{Action}
+use Rattle.td_grammar.specs.declared.script.Definition.{Definition}
+use Rattle.td_grammar.specs.Grammar.{Tokens, Reads, IsQuery}
+use Rattle.td_grammar.specs.Statements.{ReadsStatement, ReadsScript}
+use Rattle.td_grammar.specs.Reader.{read_expr}
+
+-- no token list is two expressions
+abbrev pub OneExpr : Type 0
+OneExpr = (ts : Tokens) (a b : Expr) → Reads f.Expr ts a [] → Reads f.Expr ts b [] → a ≡ b
+
+-- none is two statements
+abbrev pub OneStatement : Type 0
+OneStatement = (ts : Tokens) (xs ys : List Action) → ReadsStatement ts xs → ReadsStatement ts ys → xs ≡ ys
+
+-- and none is two scripts
+abbrev pub OneScript : Type 0
+OneScript = (ts : Tokens) (ds es : List Definition) → ReadsScript ts ds → ReadsScript ts es → ds ≡ es
+
+-- the reader finds a tree exactly where the text is a query
+abbrev pub ReaderDecidesQueries : Type 0
+ReaderDecidesQueries = (bytes : Text) (a : Expr) → (read_expr bytes ≡ Some a) ↔ IsQuery bytes a

@@ -1,0 +1,273 @@
+//! Lists of expressions.
+
+ghost use Rattle.std.specs.Prelude.{◌≡◌, IfOk};
+ghost use Rattle.td_grammar.specs.Reader as spec;
+ghost use Rattle.td_grammar.specs.Reader.{reads};
+ghost use Rattle.td_grammar.specs.Readings.{Gives, Nests};
+
+use crate::cursor::{Cursor, aggregate_of, same_word};
+use crate::error::ReadError;
+use crate::forms::{Form, Naming};
+use crate::grammar::Grammar;
+use crate::tree::{Aggregate, Expr, Named, Summary};
+use sqlite_items::Items;
+use std::alloc::Global;
+use td_tokens::token::{Kind, Word};
+
+impl<F: Fn(Global, &mut Cursor<'_>, usize, usize, Form) -> Result<Expr, ReadError>> Grammar<F> {
+    pub fn exprs(&self, tokens: &mut Cursor<'_>) -> Result<Items<Expr>, ReadError>
+        requires { Nests self.now.depth (F.pre self.now.nested) (F.post self.now.nested) }
+        ensures { Gives (spec.list_at (spec.inner (reads self.now.depth) self.now.levels) tokens.old) result tokens.new }
+    {
+        let mut found = Items::new(self.alloc);
+        for _turn in 0..tokens.len() {
+            found.push(self.inner(tokens)?)?;
+            if !tokens.eat(Word::Comma) {
+                return Ok(found);
+            }
+        }
+        Err(ReadError::Syntax)
+    }
+
+    #[tactic(auto, unfolding(crate::specs::Reader::listed))]
+    pub fn exprs_listed(&self, tokens: &mut Cursor<'_>, end: Word) -> Result<Items<Expr>, ReadError>
+        requires { Nests self.now.depth (F.pre self.now.nested) (F.post self.now.nested) }
+        ensures { Gives (spec.listed end (spec.inner (reads self.now.depth) self.now.levels) tokens.old) result tokens.new }
+    {
+        let found = self.exprs(tokens)?;
+        tokens.expect(end)?;
+        Ok(found)
+    }
+
+    #[tactic(auto, unfolding(crate::specs::Reader::up_to))]
+    pub fn exprs_up_to(&self, tokens: &mut Cursor<'_>, end: Word) -> Result<Items<Expr>, ReadError>
+        requires { Nests self.now.depth (F.pre self.now.nested) (F.post self.now.nested) }
+        ensures { Gives (spec.up_to end (spec.inner (reads self.now.depth) self.now.levels) tokens.old) result tokens.new }
+    {
+        if tokens.eat(end) {
+            return Ok(Items::new(self.alloc));
+        }
+        self.exprs_listed(tokens, end)
+    }
+
+    /// An expression with a name.
+    #[tactic(auto, unfolding(crate::specs::Reader::named_at))]
+    pub fn named(&self, tokens: &mut Cursor<'_>, naming: Naming) -> Result<Named<Expr>, ReadError>
+        requires { Nests self.now.depth (F.pre self.now.nested) (F.post self.now.nested) }
+        ensures { Gives (spec.named_at (reads self.now.depth) self.now.levels naming tokens.old) result tokens.new }
+    {
+        match naming {
+            Naming::After => {
+                let value = self.inner(tokens)?;
+                tokens.expect(Word::As)?;
+                let name = tokens.name(self.alloc)?;
+                Ok(Named { name, value })
+            }
+            Naming::Assigned => {
+                let name = tokens.name(self.alloc)?;
+                tokens.expect(Word::Assign)?;
+                let value = self.inner(tokens)?;
+                Ok(Named { name, value })
+            }
+            Naming::Beside => {
+                let name = tokens.name(self.alloc)?;
+                let value = self.inner(tokens)?;
+                Ok(Named { name, value })
+            }
+        }
+    }
+
+    pub fn named_list(
+        &self,
+        tokens: &mut Cursor<'_>,
+        naming: Naming,
+    ) -> Result<Items<Named<Expr>>, ReadError>
+        requires { Nests self.now.depth (F.pre self.now.nested) (F.post self.now.nested) }
+        ensures { Gives (spec.list_at (spec.named_at (reads self.now.depth) self.now.levels naming) tokens.old) result tokens.new }
+    {
+        let mut found = Items::new(self.alloc);
+        for _turn in 0..tokens.len() {
+            found.push(self.named(tokens, naming)?)?;
+            if !tokens.eat(Word::Comma) {
+                return Ok(found);
+            }
+        }
+        Err(ReadError::Syntax)
+    }
+
+    #[tactic(auto, unfolding(crate::specs::Reader::listed))]
+    pub fn named_listed(
+        &self,
+        tokens: &mut Cursor<'_>,
+        end: Word,
+        naming: Naming,
+    ) -> Result<Items<Named<Expr>>, ReadError>
+        requires { Nests self.now.depth (F.pre self.now.nested) (F.post self.now.nested) }
+        ensures { Gives (spec.listed end (spec.named_at (reads self.now.depth) self.now.levels naming) tokens.old) result tokens.new }
+    {
+        let found = self.named_list(tokens, naming)?;
+        tokens.expect(end)?;
+        Ok(found)
+    }
+
+    #[tactic(auto, unfolding(crate::specs::Reader::up_to))]
+    pub fn named_up_to(
+        &self,
+        tokens: &mut Cursor<'_>,
+        end: Word,
+        naming: Naming,
+    ) -> Result<Items<Named<Expr>>, ReadError>
+        requires { Nests self.now.depth (F.pre self.now.nested) (F.post self.now.nested) }
+        ensures { Gives (spec.up_to end (spec.named_at (reads self.now.depth) self.now.levels naming) tokens.old) result tokens.new }
+    {
+        if tokens.eat(end) {
+            return Ok(Items::new(self.alloc));
+        }
+        self.named_listed(tokens, end, naming)
+    }
+
+    #[tactic(auto, unfolding(crate::specs::Reader::counted))]
+    pub fn counted(&self, tokens: &mut Cursor<'_>) -> Result<Summary<Expr>, ReadError>
+        requires { Nests self.now.depth (F.pre self.now.nested) (F.post self.now.nested) }
+        ensures { Gives (spec.counted (reads self.now.depth) self.now.levels tokens.old) result tokens.new }
+    {
+        let opened = tokens.eat(Word::OpenParenthesis);
+        shut(tokens, opened)?;
+        Ok(Summary::Count)
+    }
+
+    #[tactic(auto, unfolding(crate::specs::Reader::summed))]
+    pub fn summed(
+        &self,
+        tokens: &mut Cursor<'_>,
+        aggregate: Aggregate,
+    ) -> Result<Summary<Expr>, ReadError>
+        requires { Nests self.now.depth (F.pre self.now.nested) (F.post self.now.nested) }
+        ensures { Gives (spec.summed (reads self.now.depth) self.now.levels aggregate tokens.old) result tokens.new }
+    {
+        tokens.expect(Word::OpenParenthesis)?;
+        let term = self.inner(tokens)?;
+        tokens.expect(Word::CloseParenthesis)?;
+        Ok(Summary::Of(aggregate, term))
+    }
+
+    pub fn summary_word(
+        &self,
+        tokens: &mut Cursor<'_>,
+        word: Word,
+    ) -> Result<Summary<Expr>, ReadError>
+        requires { Nests self.now.depth (F.pre self.now.nested) (F.post self.now.nested) }
+        ensures { Gives (spec.summary_word (reads self.now.depth) self.now.levels word tokens.old) result tokens.new }
+    {
+        if same_word(word, Word::Count) {
+            return self.counted(tokens);
+        }
+        match aggregate_of(word) {
+            Some(aggregate) => self.summed(tokens, aggregate),
+            None => Err(ReadError::Syntax),
+        }
+    }
+
+    #[tactic(auto, unfolding(crate::specs::Reader::summary_at))]
+    pub fn summary(&self, tokens: &mut Cursor<'_>) -> Result<Summary<Expr>, ReadError>
+        requires { Nests self.now.depth (F.pre self.now.nested) (F.post self.now.nested) }
+        ensures { Gives (spec.summary_at (reads self.now.depth) self.now.levels tokens.old) result tokens.new }
+    {
+        match tokens.look() {
+            Some(Kind::Word(word)) => {
+                tokens.skip();
+                self.summary_word(tokens, word)
+            }
+            _ => Err(ReadError::Syntax),
+        }
+    }
+
+    /// A summary with a name.
+    #[tactic(auto, unfolding(crate::specs::Reader::named_summary))]
+    pub fn named_summary(
+        &self,
+        tokens: &mut Cursor<'_>,
+        naming: Naming,
+    ) -> Result<Named<Summary<Expr>>, ReadError>
+        requires { Nests self.now.depth (F.pre self.now.nested) (F.post self.now.nested) }
+        ensures { Gives (spec.named_summary (reads self.now.depth) self.now.levels naming tokens.old) result tokens.new }
+    {
+        match naming {
+            Naming::After => {
+                let value = self.summary(tokens)?;
+                tokens.expect(Word::As)?;
+                let name = tokens.name(self.alloc)?;
+                Ok(Named { name, value })
+            }
+            Naming::Assigned => {
+                let name = tokens.name(self.alloc)?;
+                tokens.expect(Word::Assign)?;
+                let value = self.summary(tokens)?;
+                Ok(Named { name, value })
+            }
+            Naming::Beside => Err(ReadError::Syntax),
+        }
+    }
+
+    pub fn summary_list(
+        &self,
+        tokens: &mut Cursor<'_>,
+        naming: Naming,
+    ) -> Result<Items<Named<Summary<Expr>>>, ReadError>
+        requires { Nests self.now.depth (F.pre self.now.nested) (F.post self.now.nested) }
+        ensures { Gives (spec.list_at (spec.named_summary (reads self.now.depth) self.now.levels naming) tokens.old) result tokens.new }
+    {
+        let mut found = Items::new(self.alloc);
+        for _turn in 0..tokens.len() {
+            found.push(self.named_summary(tokens, naming)?)?;
+            if !tokens.eat(Word::Comma) {
+                return Ok(found);
+            }
+        }
+        Err(ReadError::Syntax)
+    }
+
+    #[tactic(auto, unfolding(crate::specs::Reader::listed))]
+    pub fn summary_listed(
+        &self,
+        tokens: &mut Cursor<'_>,
+        end: Word,
+        naming: Naming,
+    ) -> Result<Items<Named<Summary<Expr>>>, ReadError>
+        requires { Nests self.now.depth (F.pre self.now.nested) (F.post self.now.nested) }
+        ensures { Gives (spec.listed end (spec.named_summary (reads self.now.depth) self.now.levels naming) tokens.old) result tokens.new }
+    {
+        let found = self.summary_list(tokens, naming)?;
+        tokens.expect(end)?;
+        Ok(found)
+    }
+
+    #[tactic(auto, unfolding(crate::specs::Reader::summaries))]
+    pub fn summaries(
+        &self,
+        tokens: &mut Cursor<'_>,
+    ) -> Result<Items<Named<Summary<Expr>>>, ReadError>
+        requires { Nests self.now.depth (F.pre self.now.nested) (F.post self.now.nested) }
+        ensures { Gives (spec.summaries (reads self.now.depth) self.now.levels tokens.old) result tokens.new }
+    {
+        if tokens.eat(Word::Add) {
+            tokens.expect(Word::OpenParenthesis)?;
+            return self.summary_listed(tokens, Word::CloseParenthesis, Naming::After);
+        }
+        tokens.expect(Word::Colon)?;
+        tokens.expect(Word::OpenBrace)?;
+        self.summary_listed(tokens, Word::CloseBrace, Naming::Assigned)
+    }
+}
+
+/// Takes the closing bracket, where one was opened.
+#[tactic(auto, unfolding(crate::specs::Reader::shut))]
+pub fn shut(tokens: &mut Cursor<'_>, opened: bool) -> Result<(), ReadError>
+    ensures { Gives (spec.shut opened tokens.old) result tokens.new }
+{
+    if opened {
+        tokens.expect(Word::CloseParenthesis)
+    } else {
+        Ok(())
+    }
+}

@@ -1,0 +1,15 @@
+//! Laws of the grammar.
+
+ghost use Rattle.td_grammar.specs.Laws.{OneExpr, OneScript, OneStatement, ReaderDecidesQueries};
+
+/// No token list has two trees.
+pub fn one_tree()
+    ensures expression { OneExpr }
+    ensures statement { OneStatement }
+    ensures script { OneScript }
+{}
+
+/// The reader finds what the grammar says: a tree where the text's tokens are read as one, and else none.
+pub fn reader_decides_queries()
+    ensures { ReaderDecidesQueries }
+{}

@@ -1,0 +1,109 @@
+//! How deep an expression is.
+
+ghost use Rattle.std.specs.Prelude.{◌≡◌, nat_le};
+ghost use Rattle.td_grammar.specs.Levels.{levels, list_levels, named_levels, summaries_levels, summary_levels, groups_levels};
+
+use crate::tree::{Expr, Groups, Named, Summary};
+use sqlite_items::Boxed;
+
+#[cycle(within)]
+fn list_within(all: &[Expr], most: usize) -> bool
+    ensures { result ≡ nat_le (list_levels all.now) most }
+{
+    for a in all {
+        if !within(a, most) {
+            return false;
+        }
+    }
+    true
+}
+
+#[cycle(within)]
+fn named_within(all: &[Named<Expr>], most: usize) -> bool
+    ensures { result ≡ nat_le (named_levels all.now) most }
+{
+    for a in all {
+        if !within(&a.value, most) {
+            return false;
+        }
+    }
+    true
+}
+
+#[cycle(within)]
+fn summary_within(summary: &Summary<Expr>, most: usize) -> bool
+    ensures { result ≡ nat_le (summary_levels summary.now) most }
+{
+    match summary {
+        Summary::Count => true,
+        Summary::Of(_, term) => within(term, most),
+    }
+}
+
+#[cycle(within)]
+fn summaries_within(all: &[Named<Summary<Expr>>], most: usize) -> bool
+    ensures { result ≡ nat_le (summaries_levels all.now) most }
+{
+    for a in all {
+        if !summary_within(&a.value, most) {
+            return false;
+        }
+    }
+    true
+}
+
+#[cycle(within)]
+fn groups_within(groups: &Groups<Boxed<Expr>>, most: usize) -> bool
+    ensures { result ≡ nat_le (groups_levels groups.now) most }
+{
+    match groups {
+        Groups::Per(relation) => within(relation.get(), most),
+        _ => true,
+    }
+}
+
+/// Whether the expression has at most so many levels.
+#[cycle(within)]
+pub fn within(tree: &Expr, most: usize) -> bool
+    ensures { result ≡ nat_le (levels tree.now) most }
+{
+    if most == 0 {
+        return false;
+    }
+    let inner = most - 1;
+    match tree {
+        Expr::Integer(_)
+        | Expr::Text(_)
+        | Expr::Truth(_)
+        | Expr::TableDee
+        | Expr::TableDum
+        | Expr::Name(_) => true,
+        Expr::Call(_, all) => list_within(all.as_slice(), inner),
+        Expr::Relation(_, all) => list_within(all.as_slice(), inner),
+        Expr::Tuple(all) => named_within(all.as_slice(), inner),
+        Expr::Unary(_, a)
+        | Expr::From(_, a)
+        | Expr::Project(a, _)
+        | Expr::Rename(a, _)
+        | Expr::Nest(_, a, _, _)
+        | Expr::Unnest(_, a, _)
+        | Expr::Aggregate(_, a, None) => within(a.get(), inner),
+        Expr::Binary(_, a, b) | Expr::Where(a, b) | Expr::Aggregate(_, a, Some(b)) => {
+            within(a.get(), inner) && within(b.get(), inner)
+        }
+        Expr::If(a, b, c) => {
+            if !within(a.get(), inner) {
+                return false;
+            }
+            within(b.get(), inner) && within(c.get(), inner)
+        }
+        Expr::Extend(_, a, all) => { within(a.get(), inner) && named_within(all.as_slice(), inner) }
+        Expr::With(all, a) => within(a.get(), inner) && named_within(all.as_slice(), inner),
+        Expr::Summarize(a, groups, all) => {
+            if !groups_within(groups, inner) {
+                return false;
+            }
+            within(a.get(), inner) && summaries_within(all.as_slice(), inner)
+        }
+    }
+}

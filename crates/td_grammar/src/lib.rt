@@ -1,0 +1,19 @@
+//! Expressions, statements and scripts of the language, from their texts.
+#![tactic(auto)]
+
+mod chains;
+pub mod cursor;
+pub mod error;
+pub mod forms;
+pub mod grammar;
+mod items;
+pub mod laws;
+pub mod levels;
+pub mod lists;
+mod primary;
+pub mod reader;
+pub mod script;
+#[cfg(test)]
+mod tests;
+pub mod tree;
+pub mod types;

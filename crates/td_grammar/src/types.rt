@@ -1,0 +1,127 @@
+//! Types and headings.
+
+ghost use Rattle.std.specs.Prelude.{◌≡◌};
+ghost use Rattle.td_grammar.specs.Reader as spec;
+ghost use Rattle.td_grammar.specs.Reader.{type_at};
+ghost use Rattle.td_grammar.specs.Readings.{Gives, NestsTypes};
+
+use crate::cursor::Cursor;
+use crate::error::ReadError;
+use crate::tree::{Named, TypeExpr};
+use sqlite_items::Items;
+use std::alloc::Global;
+use td_tokens::token::{Kind, Word};
+
+/// Types that nest so deep, by a reader of those one level down.
+#[derive(Clone, Copy)]
+pub struct Types<F> {
+    pub alloc: Global,
+    pub depth: usize,
+    pub nested: F,
+}
+
+impl<F: Fn(Global, &mut Cursor<'_>, usize) -> Result<TypeExpr, ReadError>> Types<F> {
+    fn nested(&self, tokens: &mut Cursor<'_>) -> Result<TypeExpr, ReadError>
+        requires { NestsTypes self.now.depth (F.pre self.now.nested) (F.post self.now.nested) }
+        ensures { Gives (type_at self.now.depth tokens.old) result tokens.new }
+    {
+        (self.nested)(self.alloc, tokens, self.depth)
+    }
+
+    #[tactic(auto, unfolding(crate::specs::Reader::field_of))]
+    fn field(&self, tokens: &mut Cursor<'_>) -> Result<Named<TypeExpr>, ReadError>
+        requires { NestsTypes self.now.depth (F.pre self.now.nested) (F.post self.now.nested) }
+        ensures { Gives (spec.field_of (type_at self.now.depth) tokens.old) result tokens.new }
+    {
+        let name = tokens.name(self.alloc)?;
+        let value = self.nested(tokens)?;
+        Ok(Named { name, value })
+    }
+
+    fn fields(&self, tokens: &mut Cursor<'_>) -> Result<Items<Named<TypeExpr>>, ReadError>
+        requires { NestsTypes self.now.depth (F.pre self.now.nested) (F.post self.now.nested) }
+        ensures { Gives (spec.list_at (spec.field_of (type_at self.now.depth)) tokens.old) result tokens.new }
+    {
+        let mut found = Items::new(self.alloc);
+        for _turn in 0..tokens.len() {
+            found.push(self.field(tokens)?)?;
+            if !tokens.eat(Word::Comma) {
+                return Ok(found);
+            }
+        }
+        Err(ReadError::Syntax)
+    }
+
+    #[tactic(auto, unfolding(crate::specs::Reader::heading_of, crate::specs::Reader::up_to, crate::specs::Reader::listed))]
+    fn heading(&self, tokens: &mut Cursor<'_>) -> Result<Items<Named<TypeExpr>>, ReadError>
+        requires { NestsTypes self.now.depth (F.pre self.now.nested) (F.post self.now.nested) }
+        ensures { Gives (spec.heading_of (type_at self.now.depth) tokens.old) result tokens.new }
+    {
+        tokens.expect(Word::OpenBrace)?;
+        if tokens.eat(Word::CloseBrace) {
+            return Ok(Items::new(self.alloc));
+        }
+        let fields = self.fields(tokens)?;
+        tokens.expect(Word::CloseBrace)?;
+        Ok(fields)
+    }
+
+    fn word(&self, tokens: &mut Cursor<'_>, word: Word) -> Result<TypeExpr, ReadError>
+        requires { NestsTypes self.now.depth (F.pre self.now.nested) (F.post self.now.nested) }
+        ensures { Gives (spec.type_word (type_at self.now.depth) word tokens.old) result tokens.new }
+    {
+        match word {
+            Word::Boolean => Ok(TypeExpr::Boolean),
+            Word::Integer => Ok(TypeExpr::Integer),
+            Word::Char | Word::Character => Ok(TypeExpr::Char),
+            Word::Tuple => Ok(TypeExpr::Tuple(self.heading(tokens)?)),
+            Word::Relation => Ok(TypeExpr::Relation(self.heading(tokens)?)),
+            _ => Err(ReadError::Syntax),
+        }
+    }
+
+    #[tactic(auto, unfolding(crate::specs::Reader::type_of))]
+    fn type_expr(&self, tokens: &mut Cursor<'_>) -> Result<TypeExpr, ReadError>
+        requires { NestsTypes self.now.depth (F.pre self.now.nested) (F.post self.now.nested) }
+        ensures { Gives (spec.type_of (type_at self.now.depth) tokens.old) result tokens.new }
+    {
+        match tokens.look() {
+            Some(Kind::Word(word)) => {
+                tokens.skip();
+                self.word(tokens, word)
+            }
+            Some(Kind::Name) => Ok(TypeExpr::User(tokens.name(self.alloc)?)),
+            _ => Err(ReadError::Syntax),
+        }
+    }
+}
+
+pub fn type_expr(
+    alloc: Global,
+    tokens: &mut Cursor<'_>,
+    depth: usize,
+) -> Result<TypeExpr, ReadError>
+    ensures { Gives (type_at depth tokens.old) result tokens.new }
+{
+    if depth == 0 {
+        return Err(ReadError::Syntax);
+    }
+    Types {
+        alloc,
+        depth: depth - 1,
+        nested: type_expr,
+    }
+    .type_expr(tokens)
+}
+
+/// A heading in braces.
+pub fn heading(alloc: Global, tokens: &mut Cursor<'_>) -> Result<Items<Named<TypeExpr>>, ReadError>
+    ensures { Gives (spec.heading_at tokens.old) result tokens.new }
+{
+    Types {
+        alloc,
+        depth: tokens.len(),
+        nested: type_expr,
+    }
+    .heading(tokens)
+}

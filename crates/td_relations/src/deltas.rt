@@ -1,0 +1,122 @@
+//! Changes of a relation, which are applied and undone.
+ghost use Rattle.std.specs.Prelude.{◌≡◌, ◌↔◌, IsTrue, IfOk, OnOk, OnErr};
+ghost use Rattle.std.specs.FinSet as set;
+ghost use Rattle.td_relations.specs.Sets.{body, IsRelation};
+ghost use Rattle.td_relations.specs.Deltas.{IsApplied, IsDifference, inverse_of};
+
+use crate::Relation;
+use crate::merges::minus;
+use crate::places::{put_in_all, take_out_all};
+use std::alloc::{AllocError, Global};
+use std::marker::Model;
+use td_values::{Heading, copy_tuples};
+
+/// Which tuples are put into a relation, and which are taken out of it; both have its heading.
+#[derive(Drop)]
+pub struct Delta {
+    inserted: Relation,
+    deleted: Relation,
+}
+
+impl Model for Delta {
+    ghost use Rattle.std.specs.Prelude.{◌≡◌};
+    ghost use Rattle.td_relations.specs.Deltas.{DeltaData, delta_code};
+
+    ghost Value = { DeltaData };
+
+    ghost coded = { delta_code };
+
+    ghost view = { λ a. record { inserted = a.inserted; deleted = a.deleted } };
+
+    ghost invariant = { λ a. a.inserted.heading ≡ a.deleted.heading };
+}
+
+impl Delta {
+    /// What turns the old relation into the new one, its tuples shared. For lists of n and m tuples it costs n + m.
+    pub fn difference(alloc: Global, old: &Relation, new: &Relation) -> Result<Delta, AllocError>
+        requires { old.now.heading ≡ new.now.heading }
+        ensures { IfOk result (IsDifference old.now new.now) }
+    {
+        Ok(Delta {
+            inserted: minus(alloc, new, old)?,
+            deleted: minus(alloc, old, new)?,
+        })
+    }
+
+    /// The heading of the relations that it changes.
+    pub fn heading(&self) -> &Heading
+        ensures inserted { result.now ≡ self.now.inserted.heading }
+        ensures deleted { result.now ≡ self.now.deleted.heading }
+    {
+        let _deleted = &self.deleted;
+        self.inserted.heading()
+    }
+
+    /// The tuples that are put in.
+    pub fn inserted(&self) -> &Relation
+        ensures { result.now ≡ self.now.inserted }
+    {
+        &self.inserted
+    }
+
+    /// The tuples that are taken out.
+    pub fn deleted(&self) -> &Relation
+        ensures { result.now ≡ self.now.deleted }
+    {
+        &self.deleted
+    }
+
+    /// Whether nothing is put in and nothing is taken out.
+    pub fn is_empty(&self) -> bool
+        ensures { IsTrue result ↔ ((body self.now.inserted ≡ set.empty) × (body self.now.deleted ≡ set.empty)) }
+    {
+        self.inserted.is_empty() && self.deleted.is_empty()
+    }
+
+    /// The change that puts in what this one takes out, and the other way round. It takes no memory.
+    pub fn inverse(self) -> Delta
+        ensures { result ≡ inverse_of self }
+    {
+        Delta {
+            inserted: self.deleted,
+            deleted: self.inserted,
+        }
+    }
+
+    /// Takes the deleted tuples out and puts the inserted ones in. It costs a search and a shift for each tuple of
+    /// the change, and memory for those put in.
+    pub fn apply(&self, alloc: Global, relation: &mut Relation) -> Result<(), AllocError>
+        requires { self.now.inserted.heading ≡ relation.old.heading }
+        ensures ok { OnOk result (IsApplied relation.old self.now relation.new) }
+        ensures err { OnErr result (relation.new ≡ relation.old) }
+    {
+        exchange(alloc, relation, &self.deleted, &self.inserted)
+    }
+
+    /// Applies the inverse. It costs as `apply`.
+    pub fn undo(&self, alloc: Global, relation: &mut Relation) -> Result<(), AllocError>
+        requires { self.now.inserted.heading ≡ relation.old.heading }
+        ensures ok { OnOk result (IsApplied relation.old (inverse_of self.now) relation.new) }
+        ensures err { OnErr result (relation.new ≡ relation.old) }
+    {
+        exchange(alloc, relation, &self.inserted, &self.deleted)
+    }
+}
+
+// Takes the first ones out of the relation and puts the second ones in. What may want memory comes first.
+fn exchange(
+    alloc: Global,
+    relation: &mut Relation,
+    deleted: &Relation,
+    inserted: &Relation,
+) -> Result<(), AllocError>
+    requires { inserted.now.heading ≡ relation.old.heading }
+    ensures ok { OnOk result (IsRelation relation.old.heading (set.union (set.difference (body relation.old) (body deleted.now)) (body inserted.now)) relation.new) }
+    ensures err { OnErr result (relation.new ≡ relation.old) }
+{
+    let fresh = copy_tuples(alloc, inserted.tuples())?;
+    relation.tuples.reserve(fresh.len())?;
+    take_out_all(&mut relation.tuples, deleted.tuples());
+    put_in_all(&mut relation.tuples, fresh);
+    Ok(())
+}

@@ -1,0 +1,131 @@
+//! Union, intersection and difference of relations, each by one walk along both lists of tuples.
+ghost use Rattle.std.specs.Prelude.{◌≡◌, true, ◌++◌, ◌∷◌, [], IfOk, OnOk, if◌then◌else◌};
+ghost use Rattle.std.specs.FinSet as set;
+ghost use Rattle.std.specs.List.Sorted.{IsStrictlySortedBy};
+ghost use Rattle.td_values.specs.Order.{attrs_order};
+ghost use Rattle.td_relations.specs.Sets.{body, IsRelation, IsRelationOf};
+ghost use Rattle.td_relations.specs.Merges.{is_kept, IsMerge};
+
+use crate::Relation;
+use std::alloc::{AllocError, Global};
+use std::cmp::Ordering;
+use td_values::{Tuple, compare_tuples};
+
+// Which tuples a walk along two lists keeps: those of the first alone, of both, of the second alone.
+#[derive(Clone, Copy)]
+struct Kept {
+    first: bool,
+    both: bool,
+    second: bool,
+}
+
+// Puts the tuple at the end where it is kept. The tuple is shared.
+fn put(out: &mut Vec<Tuple>, kept: bool, tuple: &Tuple) -> Result<(), AllocError>
+    ensures { OnOk result (out.new.items ≡ (if kept then out.old.items ++ tuple.now ∷ [] else out.old.items)) }
+{
+    if kept {
+        out.push(tuple.copy()?)?;
+    }
+    Ok(())
+}
+
+// Puts the tuples at the end where they are kept.
+fn put_all(out: &mut Vec<Tuple>, kept: bool, tuples: &[Tuple]) -> Result<(), AllocError>
+    ensures { OnOk result (out.new.items ≡ out.old.items ++ (if kept then tuples.now else [])) }
+{
+    if kept {
+        append(out, tuples)?;
+    }
+    Ok(())
+}
+
+fn append(out: &mut Vec<Tuple>, tuples: &[Tuple]) -> Result<(), AllocError>
+    ensures { OnOk result (out.new.items ≡ out.old.items ++ tuples.now) }
+{
+    for tuple in tuples {
+        out.push(tuple.copy()?)?;
+    }
+    Ok(())
+}
+
+// The tuples that are kept of two ascending lists, ascending.
+fn merged(alloc: Global, xs: &[Tuple], ys: &[Tuple], kept: Kept) -> Result<Vec<Tuple>, AllocError>
+    requires xs_ascend { IsStrictlySortedBy attrs_order xs.now }
+    requires ys_ascend { IsStrictlySortedBy attrs_order ys.now }
+    ensures { IfOk result (λ v. IsMerge kept xs.now ys.now v.items) }
+{
+    let mut out = Vec::new(alloc);
+    let mut i = 0;
+    let mut j = 0;
+    while i < xs.len() && j < ys.len() {
+        match compare_tuples(&xs[i], &ys[j]) {
+            Ordering::Less => {
+                put(&mut out, kept.first, &xs[i])?;
+                i += 1;
+            }
+            Ordering::Equal => {
+                put(&mut out, kept.both, &xs[i])?;
+                i += 1;
+                j += 1;
+            }
+            Ordering::Greater => {
+                put(&mut out, kept.second, &ys[j])?;
+                j += 1;
+            }
+        }
+    }
+    put_all(&mut out, kept.first, &xs[i..])?;
+    put_all(&mut out, kept.second, &ys[j..])?;
+    Ok(out)
+}
+
+// The relation of the tuples that are kept.
+fn combined(alloc: Global, a: &Relation, b: &Relation, kept: Kept) -> Result<Relation, AllocError>
+    requires { a.now.heading ≡ b.now.heading }
+    ensures { IfOk result (IsRelationOf a.now.heading (λ t. is_kept kept (set.contains (body a.now) t) (set.contains (body b.now) t) ≡ true)) }
+{
+    let tuples = merged(alloc, a.tuples(), b.tuples(), kept)?;
+    Ok(Relation {
+        heading: a.heading().copy()?,
+        tuples,
+    })
+}
+
+/// The tuples of either relation, shared. For lists of n and m tuples it costs n + m.
+pub fn union(alloc: Global, a: &Relation, b: &Relation) -> Result<Relation, AllocError>
+    requires { a.now.heading ≡ b.now.heading }
+    ensures { IfOk result (IsRelation a.now.heading (set.union (body a.now) (body b.now))) }
+{
+    let kept = Kept {
+        first: true,
+        both: true,
+        second: true,
+    };
+    combined(alloc, a, b, kept)
+}
+
+/// The tuples of both relations, shared. It costs as `union`.
+pub fn intersect(alloc: Global, a: &Relation, b: &Relation) -> Result<Relation, AllocError>
+    requires { a.now.heading ≡ b.now.heading }
+    ensures { IfOk result (IsRelation a.now.heading (set.intersection (body a.now) (body b.now))) }
+{
+    let kept = Kept {
+        first: false,
+        both: true,
+        second: false,
+    };
+    combined(alloc, a, b, kept)
+}
+
+/// The tuples of the first relation that the second lacks, shared. It costs as `union`.
+pub fn minus(alloc: Global, a: &Relation, b: &Relation) -> Result<Relation, AllocError>
+    requires { a.now.heading ≡ b.now.heading }
+    ensures { IfOk result (IsRelation a.now.heading (set.difference (body a.now) (body b.now))) }
+{
+    let kept = Kept {
+        first: true,
+        both: false,
+        second: false,
+    };
+    combined(alloc, a, b, kept)
+}

@@ -1,0 +1,4 @@
+pub mod Lists
+pub mod ByName
+pub mod SideBySide
+pub mod Steps

@@ -1,0 +1,49 @@
+use Rattle.std.proofs.Common.{◌≡◌, ◌++◌, ◌∷◌, [], T, is_some, sym, ap, ◌∙◌, arith, subst, IfOk}
+use Rattle.std.specs.FinMap as by_name
+use Rattle.std.specs.FinMap.Entries.{where_key, is_sorted-where_key}
+use Rattle.std.proofs.lemmas.List.{take_all}
+use Rattle.td_values.specs.Data.{attrs_of}
+use Rattle.td_values.specs.Order.{text_cmp}
+use Rattle.td_values.proofs.Entries.{sorted_ascend}
+use Rattle.td_tuples.specs.Parts.{attributes, is_in, names_of, where_name}
+use Rattle.td_tuples.proofs.ByName.{attributes_read, attributes-where, attrs_attributes, ascend_is_sorted}
+use Rattle.td_tuples.proofs.Lists.{in_keys}
+use Rattle.td_tuples.proofs.Steps.{some_copied, taken_where, passed_where}
+use Rattle.td_tuples.proofs.tuples.cut.Goals as goal
+use Rattle.td_tuples.proofs.tuples.cut.Goals.{then-is_some+in_ok-copy+in_ok-copy-2+in_ok-push, else-is_some}
+
+pub loop-name-preserved : goal.loop-name-preserved
+loop-name-preserved c =
+    let h = c.args.heading.now in
+    let p = is_in (names_of h) in
+    let es = c.attributes-name-items.result.now in
+    let i = c.loop-name.name-index in
+    let x = c.loop-name-item.result in
+    let test : c.is_some.result ≡ p x.0 = c.is_some.ensures ∙ some_copied c.type_of.result ∙ ap is_some c.type_of.ensures ∙ sym (in_keys h x.0) in
+    elim c.if-is_some.branch [
+      | then-is_some+in_ok-copy+in_ok-copy-2+in_ok-push w ↦
+          ap (λ v. v.items) w.attributes-is ∙ w.in_ok-push.ensures.items
+          ∙ (λ k. c.loop-name.invariant k ++ (w.in_ok-copy.ensures k, w.in_ok-copy-2.ensures k) ∷ [])
+          ∙ taken_where es i x (omega arith) c.loop-name-item.is p (sym test ∙ w.if-is_some.true)
+      | else-is_some w ↦
+          ap (λ v. v.items) w.attributes-is ∙ c.loop-name.invariant
+          ∙ passed_where es i x (omega arith) c.loop-name-item.is p (sym test ∙ w.if-is_some.false)
+    ]
+
+pub of-requires : goal.of-requires
+of-requires c =
+    let p = is_in (names_of c.args.heading.now) in
+    let t = c.args.tuple.now in
+    let es = c.attributes-name-items.result.now in
+    let part = c.loop-name.invariant ∙ ap (where_key text_cmp p) (take_all c.loop-name.name-index es (omega arith) ∙ attributes_read es t c.attributes-name-items.ensures.all) in
+    sorted_ascend c.loop-name.attributes.items
+    (subst (λ xs. T (by_name.is_sorted text_cmp xs)) (sym part) (is_sorted-where_key text_cmp p (attributes t) (ascend_is_sorted t c.attributes-name-items.ensures.ascend)))
+
+pub returns : goal.returns
+returns c =
+    let p = is_in (names_of c.args.heading.now) in
+    let t = c.args.tuple.now in
+    let es = c.attributes-name-items.result.now in
+    let part = c.loop-name.invariant ∙ ap (where_key text_cmp p) (take_all c.loop-name.name-index es (omega arith) ∙ attributes_read es t c.attributes-name-items.ensures.all) in
+    let whole = ap attrs_of (part ∙ sym (attributes-where p t)) ∙ attrs_attributes (where_name p t) in
+    subst (λ w. IfOk c.of.result (λ u. u ≡ w)) whole c.of.ensures
