@@ -50,17 +50,19 @@ module _ {E : Type 0} (m : Meaning E) (items : List (Item E)) where
     extension_fails see P OutOfMemory all = tt
     extension_fails see P (Raised e) all =
         let (found, least) = subst (Tells (extended_at m items) r.tuples) all (tells (extended_at m items) r.tuples) in
-        let (i, there, raises) = raised_at found.0 e found.2 in
-        ((i, found.0, there, (has_listed r found.0).1 found.1, raises), λ f (j, t, in_, has, k).
-        let (d, is, below) = raise_seen j t f in_ k in
-        let first = least t ((has_listed r t).0 has) d is in
-        omega (arith, first, below))
+        let (i, there, raises) = raised_at found.0 e found.2 in (
+          (i, found.0, there, (has_listed r found.0).1 found.1, raises),
+          λ f (j, t, in_, has, k).
+              let (d, is, below) = raise_seen j t f in_ k in
+              let first = least t ((has_listed r t).0 has) d is in
+              omega (arith, first, below),
+        )
 
     pub extends : (h : Header) (us : List Attrs) (s : RowsData) → all_of (extended_at m items) r.tuples ≡ Ok us → IsRelation h (set.from_list us) s → Unless (RaisedBy m items r) (IsRelationOf h (Extended m items r)) (Ok s)
     extends h us s all is = (
       λ e (j, t, in_, has, k).
-      let (d, raised, below) = raise_seen j t e in_ k in
-      subst (Tells (extended_at m items) r.tuples) all (tells (extended_at m items) r.tuples) t ((has_listed r t).0 has) d raised,
+          let (d, raised, below) = raise_seen j t e in_ k in
+          subst (Tells (extended_at m items) r.tuples) all (tells (extended_at m items) r.tuples) t ((has_listed r t).0 has) d raised,
       by_list h us (Extended m items r) s is (λ u. (
         λ there. let (t, in_, gives) = answers_from (extended_at m items) r.tuples us u all there in (t, (has_listed r t).1 in_, gives),
         λ (t, has, gives). answers_there (extended_at m items) r.tuples us t u all ((has_listed r t).0 has) gives,

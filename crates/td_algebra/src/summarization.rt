@@ -51,7 +51,7 @@ pub fn summarize<E, F: Fn(&E, &Tuple) -> Result<Value, Fault>>(
     requires suits { All (λ i. Suits i.term i.ty) items.now }
     ensures { (m : Meaning E) → All (λ t. All (λ i. OfTerm (λ e. Means (F.post f.now) m e t) i.term) items.now) relation.now.tuples →
         Unless (RaisedBy (over_groups m relation.now per.now.heading) items.now per.now)
-            (IsRelationOf (extended_columns items.now per.now.heading) (Extended (over_groups m relation.now per.now.heading) items.now per.now)) result }
+        (IsRelationOf (extended_columns items.now per.now.heading) (Extended (over_groups m relation.now per.now.heading) items.now per.now)) result }
 {
     let index = indexed(alloc, per.heading(), relation.tuples())?;
     let entries: &[Keyed] = &index;

@@ -8,8 +8,7 @@ use crate::{Fault, Item, Summary, extend, restrict, summarize};
 use std::alloc::Global;
 use td_relations::Relation;
 use td_values::{
-    Heading, Kind, Name, NameError, Raise, TdType, Tuple, TupleBuilder, TypeKind, Value, fits,
-    show,
+    Heading, Kind, Name, NameError, Raise, TdType, Tuple, TupleBuilder, TypeKind, Value, fits, show,
 };
 
 type Result<T> = std::result::Result<T, NameError>;
@@ -190,12 +189,24 @@ fn sums_are_whole(rt: HostRuntime) -> Result<()> {
     let alloc = rt.alloc();
     let most = i64::MAX;
     assert!(rt;
-        summed(alloc, &[&[1, most, 1], &[2, 1, 1], &[3, -2, 1], &[1, 5, 2]], Summary::Sum(1))?.as_str()
+        summed(
+            alloc,
+            &[&[1, most, 1], &[2, 1, 1], &[3, -2, 1], &[1, 5, 2]],
+            Summary::Sum(1)
+        )?
+        .as_str()
             == "RELATION { N INTEGER, SNO INTEGER, T INTEGER } { TUPLE { N 1, SNO 2, T 5 }, TUPLE { N 3, SNO 1, T 9223372036854775806 } }"
     );
-    assert!(rt; summed(alloc, &[&[1, most, 1], &[2, 1, 1]], Summary::Sum(1))?.as_str() == "overflow");
     assert!(rt;
-        summed(alloc, &[&[1, 7, 1], &[2, 3, 1], &[1, 5, 2]], Summary::Min(1))?.as_str()
+        summed(alloc, &[&[1, most, 1], &[2, 1, 1]], Summary::Sum(1))?.as_str() == "overflow"
+    );
+    assert!(rt;
+        summed(
+            alloc,
+            &[&[1, 7, 1], &[2, 3, 1], &[1, 5, 2]],
+            Summary::Min(1)
+        )?
+        .as_str()
             == "RELATION { N INTEGER, SNO INTEGER, T INTEGER } { TUPLE { N 1, SNO 2, T 5 }, TUPLE { N 2, SNO 1, T 3 } }"
     );
     Ok(())

@@ -14,14 +14,13 @@ loop-tuple-preserved g c =
     let t = c.tuple-item.result in
     let s = so_far c.loop-tuple.gathered.answers.items c.loop-tuple.gathered.least in
     let within = c.loop-tuple-test.true in
-    let is = c.tuple-item.is in
-    (
+    let is = c.tuple-item.is in (
       λ m means.
-      let a = c.extended_at.ensures.means m (at_item (λ u. All (λ j. Means (λ p q. g.F.Fn.post c.args.f.now (p, (q, tt))) m j.term u) items) ts i t within is means) in
-      rw (c.in_ok-note.ensures.noted (extended_at m items t) a) (sym (all_more_at (extended_at m items) s ts i t within is) ∙ c.loop-tuple.invariant.0 m means),
+          let a = c.extended_at.ensures.means m (at_item (λ u. All (λ j. Means (λ p q. g.F.Fn.post c.args.f.now (p, (q, tt))) m j.term u) items) ts i t within is means) in
+          rw (c.in_ok-note.ensures.noted (extended_at m items t) a) (sym (all_more_at (extended_at m items) s ts i t within is) ∙ c.loop-tuple.invariant.0 m means),
       λ h fits typed.
-      let a = c.extended_at.ensures.typed h (at_item (Fits h) ts i t within is fits) (at_item (λ u. All (λ j. IsTyped (λ p q. g.F.Fn.post c.args.f.now (p, (q, tt))) j.term u j.ty) items) ts i t within is typed) in
-      rw (c.in_ok-note.ensures.noted (meaning_of c.extended_at.result) (says_meaning c.extended_at.result)) (each_more (Fits (extended_columns items h)) s c.extended_at.result (c.loop-tuple.invariant.1 h fits typed) a),
+          let a = c.extended_at.ensures.typed h (at_item (Fits h) ts i t within is fits) (at_item (λ u. All (λ j. IsTyped (λ p q. g.F.Fn.post c.args.f.now (p, (q, tt))) j.term u j.ty) items) ts i t within is typed) in
+          rw (c.in_ok-note.ensures.noted (meaning_of c.extended_at.result) (says_meaning c.extended_at.result)) (each_more (Fits (extended_columns items h)) s c.extended_at.result (c.loop-tuple.invariant.1 h fits typed) a),
     )
 
 pub returns-clause-means : goal.returns-clause-means

@@ -15,15 +15,14 @@ loop-item-preserved g c =
     let x = c.item-item.result in
     let s = so_far c.loop-item.gathered.answers.items c.loop-item.gathered.least in
     let within = c.loop-item-test.true in
-    let is = c.item-item.is in
-    (
+    let is = c.item-item.is in (
       λ m means.
-      let a = c.field_at.ensures.means m (at_item (λ j. Means (λ p q. g.F.Fn.post c.args.f.now (p, (q, tt))) m j.term t) items i x within is means) in
-      rw (c.in_ok-note.ensures.noted (field_at m t x) a) (sym (all_more_at (field_at m t) s items i x within is) ∙ c.loop-item.invariant.0 m means),
+          let a = c.field_at.ensures.means m (at_item (λ j. Means (λ p q. g.F.Fn.post c.args.f.now (p, (q, tt))) m j.term t) items i x within is means) in
+          rw (c.in_ok-note.ensures.noted (field_at m t x) a) (sym (all_more_at (field_at m t) s items i x within is) ∙ c.loop-item.invariant.0 m means),
       λ typed.
-      let a = c.field_at.ensures.typed (at_item (λ j. IsTyped (λ p q. g.F.Fn.post c.args.f.now (p, (q, tt))) j.term t j.ty) items i x within is typed) in
-      rw (c.in_ok-note.ensures.noted (meaning_of c.field_at.result) (says_meaning c.field_at.result), sym (mapped_more column_of items i x within is))
-      (listed_more (λ (y : List ℕ × Datum). (y.0, type_of y.1)) (map column_of (take i items)) (column_of x) s c.field_at.result (c.loop-item.invariant.1 typed) a),
+          let a = c.field_at.ensures.typed (at_item (λ j. IsTyped (λ p q. g.F.Fn.post c.args.f.now (p, (q, tt))) j.term t j.ty) items i x within is typed) in
+          rw (c.in_ok-note.ensures.noted (meaning_of c.field_at.result) (says_meaning c.field_at.result), sym (mapped_more column_of items i x within is))
+          (listed_more (λ (y : List ℕ × Datum). (y.0, type_of y.1)) (map column_of (take i items)) (column_of x) s c.field_at.result (c.loop-item.invariant.1 typed) a),
     )
 
 pub returns-clause-means : goal.returns-clause-means

@@ -16,14 +16,13 @@ loop-entry-preserved g c =
     let x = c.entry-item.result in
     let s = so_far c.loop-entry.gathered.answers.items c.loop-entry.gathered.least in
     let within = c.loop-entry-test.true in
-    let is = c.entry-item.is in
-    (
+    let is = c.entry-item.is in (
       λ m means.
-      let a = c.value_of.ensures.means m (at_item (λ (k : Keyed). Means (λ p q. g.F.Fn.post c.args.f.now (p, (q, tt))) m term k.tuple) group i x within is means) in
-      rw (c.in_ok-note.ensures.noted (m term x.tuple) a) (sym (all_more_at (λ (k : Keyed). m term k.tuple) s group i x within is) ∙ c.loop-entry.invariant.0 m means),
+          let a = c.value_of.ensures.means m (at_item (λ (k : Keyed). Means (λ p q. g.F.Fn.post c.args.f.now (p, (q, tt))) m term k.tuple) group i x within is means) in
+          rw (c.in_ok-note.ensures.noted (m term x.tuple) a) (sym (all_more_at (λ (k : Keyed). m term k.tuple) s group i x within is) ∙ c.loop-entry.invariant.0 m means),
       λ ty typed.
-      let a = c.value_of.ensures.typed ty (at_item (λ (k : Keyed). IsTyped (λ p q. g.F.Fn.post c.args.f.now (p, (q, tt))) term k.tuple ty) group i x within is typed) in
-      rw (c.in_ok-note.ensures.noted (meaning_of c.value_of.result) (says_meaning c.value_of.result)) (each_more (λ d. type_of d ≡ ty) s c.value_of.result (c.loop-entry.invariant.1 ty typed) a),
+          let a = c.value_of.ensures.typed ty (at_item (λ (k : Keyed). IsTyped (λ p q. g.F.Fn.post c.args.f.now (p, (q, tt))) term k.tuple ty) group i x within is typed) in
+          rw (c.in_ok-note.ensures.noted (meaning_of c.value_of.result) (says_meaning c.value_of.result)) (each_more (λ d. type_of d ≡ ty) s c.value_of.result (c.loop-entry.invariant.1 ty typed) a),
     )
 
 pub returns-clause-means : goal.returns-clause-means

@@ -13,8 +13,7 @@ loop-value-preserved c =
     let vs = c.args.values.now in
     let rest = ap whole_sum (drop_more vs i v c.loop-value-test.true) ∙ ap (λ d. number_in d +ℤ whole_sum (drop (i + 1) vs)) (sym c.value-item.is) in
     let n = c.number_in.type_inv in
-    let small : i < 2 ^ 64 = search rules in
-    (
+    let small : i < 2 ^ 64 = search rules in (
       sum_more _ _ c.number_in.result (number_in v) (whole_sum (drop (i + 1) vs)) (whole_sum (drop i vs)) (whole_sum vs) (omega (arith, ints, low, high, n, small)) c.number_in.ensures rest all,
       omega (arith, ints, low, high, n, small),
       omega (arith, ints, low, high, n, small),

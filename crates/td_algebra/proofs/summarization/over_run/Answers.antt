@@ -18,11 +18,11 @@ pub returns-clause-means : goal.returns-clause-means
 returns-clause-means g c = λ m means.
     let s = c.args.summary.now in
     let run = subst (All (λ (k : Keyed). OfTerm (λ e. Means (λ p q. g.F.Fn.post c.args.f.now (p, (q, tt))) m e k.tuple) s)) (sym c.run.ensures)
-        (All-filter (has_key c.args.key.now) (λ (k : Keyed). OfTerm (λ e. Means (λ p q. g.F.Fn.post c.args.f.now (p, (q, tt))) m e k.tuple) s) c.args.index.now means) in
+    (All-filter (has_key c.args.key.now) (λ (k : Keyed). OfTerm (λ e. Means (λ p q. g.F.Fn.post c.args.f.now (p, (q, tt))) m e k.tuple) s) c.args.index.now means) in
     subst (λ es. Answers c.over_group.result (summary_over m (map tuple_in es) s)) c.run.ensures (c.over_group.ensures.means m run)
 
 pub returns-clause-typed : goal.returns-clause-typed
 returns-clause-typed g c = λ ty suits typed.
     let s = c.args.summary.now in
     c.over_group.ensures.typed ty suits (subst (All (λ (k : Keyed). OfTerm (λ e. IsTyped (λ p q. g.F.Fn.post c.args.f.now (p, (q, tt))) e k.tuple ty) s)) (sym c.run.ensures)
-        (All-filter (has_key c.args.key.now) (λ (k : Keyed). OfTerm (λ e. IsTyped (λ p q. g.F.Fn.post c.args.f.now (p, (q, tt))) e k.tuple ty) s) c.args.index.now typed))
+    (All-filter (has_key c.args.key.now) (λ (k : Keyed). OfTerm (λ e. IsTyped (λ p q. g.F.Fn.post c.args.f.now (p, (q, tt))) e k.tuple ty) s) c.args.index.now typed))
