@@ -12,6 +12,8 @@ pub mod laws;
 mod opening;
 mod parts;
 mod sets;
+#[cfg(test)]
+mod tests;
 mod wraps;
 
 pub use closure::{is_binary, tclose};
