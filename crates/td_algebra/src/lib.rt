@@ -20,6 +20,8 @@ mod sets;
 mod summaries;
 mod summarization;
 #[cfg(test)]
+mod tests;
+#[cfg(test)]
 mod term_tests;
 mod wraps;
 

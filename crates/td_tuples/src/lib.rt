@@ -5,6 +5,8 @@
 
 mod headings;
 mod names;
+#[cfg(test)]
+mod tests;
 mod tuples;
 
 pub use headings::{columns_in, columns_out, joined, renamed_columns, with_column};
