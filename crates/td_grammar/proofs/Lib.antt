@@ -12,3 +12,4 @@ pub mod StatementsComplete
 pub mod StatementsSound
 pub mod Lexing
 pub mod OneStatement
+pub mod Shallow

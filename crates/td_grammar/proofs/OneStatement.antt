@@ -1,11 +1,23 @@
 -- The laws of statements and scripts.
-use Rattle.std.proofs.Common.{◌≡◌, ◌+◌, List, [], Some, sym, ◌∙◌, arith}
+use Rattle.std.proofs.Common.{◌≡◌, ◌≤◌, ◌+◌, ◌↔◌, ℕ, List, [], Some, length, nat_le, option_and_then, refl, ap, sym, ◌∙◌, arith}
+use Rattle.std.proofs.lemmas.Bool.{le-leb}
+use Rattle.td_tokens.specs.Lex.{Text}
+use Rattle.td_tokens.specs.Lexer.{lexemes}
+use Rattle.td_grammar.specs.declared.forms.Form.TheVariants as f
+use Rattle.td_grammar.specs.declared.tree.Expr.{Expr}
 use Rattle.td_grammar.specs.declared.script.Action.{Action}
 use Rattle.td_grammar.specs.declared.script.Definition.{Definition}
-use Rattle.td_grammar.specs.Grammar.{Tokens}
-use Rattle.td_grammar.specs.Statements.{ReadsStatement, ReadsScript, actions_levels, definitions_levels}
-use Rattle.td_grammar.proofs.Sound.{parts}
+use Rattle.td_grammar.specs.Levels.{levels}
+use Rattle.td_grammar.specs.Grammar.{Tokens, most_levels}
+use Rattle.td_grammar.specs.Statements.{ReadsStatement, ReadsScript, IsStatement, IsScript, actions_levels, definitions_levels, statement_bytes, script_bytes}
+use Rattle.td_grammar.specs.Reader.{Outcome, reads, whole}
+use Rattle.td_grammar.specs.StatementReader as read
+use Rattle.td_grammar.specs.StatementReader.{statement_of_tokens, script_of_tokens, read_statement, read_script}
+use Rattle.td_grammar.proofs.OneTree.{text_read, ended}
+use Rattle.td_grammar.proofs.Sound.{parts, sound}
 use Rattle.td_grammar.proofs.StatementsComplete.{statement_read, script_read}
+use Rattle.td_grammar.proofs.StatementsSound.{statement_sound, script_sound}
+use Rattle.td_grammar.proofs.Shallow.{statement_shallow, script_shallow}
 
 -- no token list is two statements
 pub one_statement : (ts : Tokens) (xs ys : List Action) → ReadsStatement ts xs → ReadsStatement ts ys → xs ≡ ys
@@ -21,3 +33,51 @@ pub one_script : (ts : Tokens) (ds es : List Definition) → ReadsScript ts ds �
 one_script ts ds es d k =
     let m = definitions_levels ds + definitions_levels es in
     same_scripts ds es (sym (script_read ts ds d m (omega arith)) ∙ script_read ts es k m (omega arith))
+
+-- ---- texts
+
+statement_is_read : (bytes : Text) (xs : List Action) → IsStatement bytes xs → read_statement bytes ≡ Some xs
+unfolding read_statement
+statement_is_read bytes xs is =
+    rw (le-leb (length bytes) statement_bytes is.short) (ap (option_and_then statement_of_tokens) is.lexed ∙ ap (λ (o : Outcome (List Action)). whole o) (statement_read is.tokens xs is.reads most_levels is.shallow))
+
+shallow_reads : (n b : ℕ) (ts : Tokens) (p : Expr × Tokens) → reads n b f.Expr ts ≡ Some p → levels p.0 ≤ b
+shallow_reads n b ts p h = (sound n b f.Expr ts p h).1
+
+read_is_statement : (bytes : Text) (xs : List Action) → read_statement bytes ≡ Some xs → IsStatement bytes xs
+unfolding read_statement
+read_is_statement bytes xs h =
+    let c = text_read (length bytes) statement_bytes (lexemes bytes) statement_of_tokens xs (nat_le (length bytes) statement_bytes) refl h in
+    let n = length c.1.0 in
+    let whole_read = ended (read.statement_at (reads n) most_levels c.1.0) xs c.1.2 in
+    record {
+      tokens = c.1.0;
+      lexed = c.1.1;
+      reads = statement_sound (reads n) most_levels (λ m g us q k. (sound n m g us q k).0) c.1.0 xs [] whole_read;
+      shallow = statement_shallow (reads n) most_levels (shallow_reads n most_levels) c.1.0 xs [] whole_read;
+      short = c.0;
+    }
+
+pub reader_decides_statements : (bytes : Text) (xs : List Action) → (read_statement bytes ≡ Some xs) ↔ IsStatement bytes xs
+reader_decides_statements bytes xs = (read_is_statement bytes xs, statement_is_read bytes xs)
+
+script_is_read : (bytes : Text) (ds : List Definition) → IsScript bytes ds → read_script bytes ≡ Some ds
+unfolding read_script
+script_is_read bytes ds is =
+    rw (le-leb (length bytes) script_bytes is.short) (ap (option_and_then script_of_tokens) is.lexed ∙ script_read is.tokens ds is.reads most_levels is.shallow)
+
+read_is_script : (bytes : Text) (ds : List Definition) → read_script bytes ≡ Some ds → IsScript bytes ds
+unfolding read_script
+read_is_script bytes ds h =
+    let c = text_read (length bytes) script_bytes (lexemes bytes) script_of_tokens ds (nat_le (length bytes) script_bytes) refl h in
+    let n = length c.1.0 in
+    record {
+      tokens = c.1.0;
+      lexed = c.1.1;
+      reads = script_sound (reads n) most_levels (λ m g us q k. (sound n m g us q k).0) n c.1.0 ds c.1.2;
+      shallow = script_shallow (reads n) most_levels (shallow_reads n most_levels) n c.1.0 ds c.1.2;
+      short = c.0;
+    }
+
+pub reader_decides_scripts : (bytes : Text) (ds : List Definition) → (read_script bytes ≡ Some ds) ↔ IsScript bytes ds
+reader_decides_scripts bytes ds = (read_is_script bytes ds, script_is_read bytes ds)

@@ -6,8 +6,9 @@ use Rattle.td_grammar.specs.declared.tree.Expr.{Expr}
 use Rattle.td_grammar.specs.declared.script.Action.{Action}
 use Rattle.td_grammar.specs.declared.script.Definition.{Definition}
 use Rattle.td_grammar.specs.Grammar.{Tokens, Reads, IsQuery}
-use Rattle.td_grammar.specs.Statements.{ReadsStatement, ReadsScript}
+use Rattle.td_grammar.specs.Statements.{ReadsStatement, ReadsScript, IsStatement, IsScript}
 use Rattle.td_grammar.specs.Reader.{read_expr}
+use Rattle.td_grammar.specs.StatementReader.{read_statement, read_script}
 
 -- no token list is two expressions
 abbrev pub OneExpr : Type 0
@@ -24,3 +25,11 @@ OneScript = (ts : Tokens) (ds es : List Definition) → ReadsScript ts ds → Re
 -- the reader finds a tree exactly where the text is a query
 abbrev pub ReaderDecidesQueries : Type 0
 ReaderDecidesQueries = (bytes : Text) (a : Expr) → (read_expr bytes ≡ Some a) ↔ IsQuery bytes a
+
+-- a statement
+abbrev pub ReaderDecidesStatements : Type 0
+ReaderDecidesStatements = (bytes : Text) (xs : List Action) → (read_statement bytes ≡ Some xs) ↔ IsStatement bytes xs
+
+-- and a script
+abbrev pub ReaderDecidesScripts : Type 0
+ReaderDecidesScripts = (bytes : Text) (ds : List Definition) → (read_script bytes ≡ Some ds) ↔ IsScript bytes ds

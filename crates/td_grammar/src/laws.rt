@@ -1,6 +1,6 @@
 //! Laws of the grammar.
 
-ghost use Rattle.td_grammar.specs.Laws.{OneExpr, OneScript, OneStatement, ReaderDecidesQueries};
+ghost use Rattle.td_grammar.specs.Laws.{OneExpr, OneScript, OneStatement, ReaderDecidesQueries, ReaderDecidesScripts, ReaderDecidesStatements};
 
 /// No token list has two trees.
 pub fn one_tree()
@@ -12,4 +12,10 @@ pub fn one_tree()
 /// The reader finds what the grammar says: a tree where the text's tokens are read as one, and else none.
 pub fn reader_decides_queries()
     ensures { ReaderDecidesQueries }
+{}
+
+/// The same of a statement and of a script.
+pub fn reader_decides_statements()
+    ensures statement { ReaderDecidesStatements }
+    ensures script { ReaderDecidesScripts }
 {}
