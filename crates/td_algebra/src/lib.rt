@@ -20,9 +20,9 @@ mod sets;
 mod summaries;
 mod summarization;
 #[cfg(test)]
-mod tests;
-#[cfg(test)]
 mod term_tests;
+#[cfg(test)]
+mod tests;
 mod wraps;
 
 pub use closure::{is_binary, tclose};
