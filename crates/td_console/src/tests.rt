@@ -447,43 +447,57 @@ fn listed(alloc: Global, site: &PlainSite) -> Written {
     Written { end, output }
 }
 
+// The two suppliers' entries, of the sites 1 and 2.
+fn london(alloc: Global) -> Result<Entry, AllocError> {
+    entry(alloc, 1, 1, 1, LONDON)
+}
+
+fn paris(alloc: Global) -> Result<Entry, AllocError> {
+    entry(alloc, 2, 1, 1, PARIS)
+}
+
+// Whether the site takes these, so many of them fresh and so many known.
+fn takes(alloc: Global, site: &mut PlainSite, batch: &[Entry], fresh: usize, known: usize) -> bool {
+    site.take(alloc, batch) == Ok(Taken { fresh, known })
+}
+
+// Whether both entries are done, the first one's site first.
+fn are_done(outcomes: &[(Stamp, Outcome)]) -> bool {
+    for ((stamp, outcome), site) in outcomes.iter().zip([1, 2]) {
+        if *stamp != (Stamp { clock: 1, site }) || !matches!(outcome, Outcome::Done) {
+            return false;
+        }
+    }
+    outcomes.len() == 2
+}
+
+// Whether the site holds the two entries and shows both suppliers.
+fn holds_both(alloc: Global, site: &PlainSite) -> Result<bool, AllocError> {
+    let outcomes = site.outcomes(alloc)?;
+    Ok(
+        site.held().len() == 2
+            && listed(alloc, site).text() == BOTH_SUPPLIERS
+            && are_done(&outcomes),
+    )
+}
+
 #[test]
 fn take_in_any_order(rt: HostRuntime) -> Result<(), Fail> {
     let alloc = rt.alloc();
-    let london = entry(alloc, 1, 1, 1, LONDON)?;
-    let paris = entry(alloc, 2, 1, 1, PARIS)?;
-    let forwards = [london.copy()?, paris.copy()?];
-    let backwards = [paris.copy()?, london.copy()?];
-    let twice = [london.copy()?, london];
+    let mut site = supplied(alloc, 3, 10_000)?;
+    assert!(rt; takes(alloc, &mut site, &[london(alloc)?, paris(alloc)?], 2, 0));
+    assert!(rt; takes(alloc, &mut site, &[paris(alloc)?, london(alloc)?], 0, 2));
+    assert!(rt; holds_both(alloc, &site)?);
+    Ok(())
+}
 
-    let mut third = supplied(alloc, 3, 10_000)?;
-    assert_eq!(rt;
-        third.take(alloc, &forwards),
-        Ok(Taken { fresh: 2, known: 0 })
-    );
-    assert_eq!(rt;
-        third.take(alloc, &backwards),
-        Ok(Taken { fresh: 0, known: 2 })
-    );
-
-    let mut other = supplied(alloc, 4, 10_000)?;
-    assert_eq!(rt; other.take(alloc, &twice), Ok(Taken { fresh: 1, known: 1 }));
-    assert_eq!(rt;
-        other.take(alloc, &[paris]),
-        Ok(Taken { fresh: 1, known: 0 })
-    );
-
-    for site in [&third, &other] {
-        assert_eq!(rt; site.held().len(), 2);
-        assert_eq!(rt; listed(alloc, site).text(), BOTH_SUPPLIERS);
-        let outcomes = site.outcomes(alloc)?;
-        assert_eq!(rt; outcomes.len(), 2);
-        for (at, site) in [(0, 1), (1, 2)] {
-            let (stamp, outcome) = &outcomes[at];
-            assert_eq!(rt; *stamp, Stamp { clock: 1, site });
-            assert!(rt; matches!(outcome, Outcome::Done));
-        }
-    }
+#[test]
+fn take_twice(rt: HostRuntime) -> Result<(), Fail> {
+    let alloc = rt.alloc();
+    let mut site = supplied(alloc, 4, 10_000)?;
+    assert!(rt; takes(alloc, &mut site, &[london(alloc)?, london(alloc)?], 1, 1));
+    assert!(rt; takes(alloc, &mut site, &[paris(alloc)?], 1, 0));
+    assert!(rt; holds_both(alloc, &site)?);
     Ok(())
 }
 
