@@ -501,3 +501,101 @@ fn values_without_components(rt: HostRuntime) -> Result<()> {
     assert!(rt; is_join(alloc, &user_values(alloc)?, &want, &want)?);
     Ok(())
 }
+
+#[test]
+fn a_union_of_dum_and_dee(rt: HostRuntime) -> Result<()> {
+    let alloc = rt.alloc();
+    assert!(rt; is_union(alloc, &dum(alloc)?, &dee(alloc)?, &dee(alloc)?)?);
+    Ok(())
+}
+
+#[test]
+fn an_intersection_of_dum_and_dee(rt: HostRuntime) -> Result<()> {
+    let alloc = rt.alloc();
+    assert!(rt; is_intersection(alloc, &dum(alloc)?, &dee(alloc)?, &dum(alloc)?)?);
+    Ok(())
+}
+
+#[test]
+fn dee_less_dum(rt: HostRuntime) -> Result<()> {
+    let alloc = rt.alloc();
+    assert!(rt; is_difference(alloc, &dee(alloc)?, &dum(alloc)?, &dee(alloc)?)?);
+    Ok(())
+}
+
+fn no_names_replaced(alloc: Global, r: &Relation) -> Result<Relation> {
+    Ok(rename(alloc, r, &[])?)
+}
+
+#[test]
+fn dee_keeps_its_name(rt: HostRuntime) -> Result<()> {
+    let alloc = rt.alloc();
+    let want = dee(alloc)?;
+    assert!(rt; same(alloc, &no_names_replaced(alloc, &dee(alloc)?)?, &want)?);
+    Ok(())
+}
+
+#[test]
+fn all_match_dee(rt: HostRuntime) -> Result<()> {
+    let alloc = rt.alloc();
+    let want = suppliers(alloc)?;
+    assert!(rt; is_matching(alloc, &suppliers(alloc)?, &dee(alloc)?, &want)?);
+    Ok(())
+}
+
+#[test]
+fn none_match_dum(rt: HostRuntime) -> Result<()> {
+    let alloc = rt.alloc();
+    let want = suppliers(alloc)?;
+    assert!(rt; is_rest(alloc, &suppliers(alloc)?, &dum(alloc)?, &want)?);
+    Ok(())
+}
+
+#[test]
+fn a_composition_with_dee(rt: HostRuntime) -> Result<()> {
+    let alloc = rt.alloc();
+    let want = suppliers(alloc)?;
+    assert!(rt; is_composition(alloc, &suppliers(alloc)?, &dee(alloc)?, &want)?);
+    Ok(())
+}
+
+fn dee_grouped(alloc: Global) -> Result<Relation> {
+    Ok(group(alloc, &dee(alloc)?, &[], &name(alloc, "G")?)?)
+}
+
+#[test]
+fn a_group_of_dee(rt: HostRuntime) -> Result<()> {
+    let alloc = rt.alloc();
+    let want = "RELATION { G RELATION { } } { TUPLE { G RELATION { } { TUPLE { } } } }";
+    assert!(rt; is_shown(alloc, &dee_grouped(alloc)?, want)?);
+    Ok(())
+}
+
+fn dee_wrapped(alloc: Global) -> Result<Relation> {
+    Ok(wrap(alloc, &dee(alloc)?, &[], &name(alloc, "W")?)?)
+}
+
+#[test]
+fn a_wrap_of_dee(rt: HostRuntime) -> Result<()> {
+    let alloc = rt.alloc();
+    let want = "RELATION { W TUPLE { } } { TUPLE { W TUPLE { } } }";
+    assert!(rt; is_shown(alloc, &dee_wrapped(alloc)?, want)?);
+    Ok(())
+}
+
+#[test]
+fn one_column_is_not_binary(rt: HostRuntime) -> Result<()> {
+    let alloc = rt.alloc();
+    let heading = char_heading(alloc, &["A"])?;
+    assert!(rt; !is_binary(&heading) && is_binary(&pair_heading(alloc)?));
+    Ok(())
+}
+
+#[test]
+fn a_text_is_no_relation_and_no_tuple(rt: HostRuntime) -> Result<()> {
+    let alloc = rt.alloc();
+    let heading = char_heading(alloc, &["A"])?;
+    let a = name(alloc, "A")?;
+    assert!(rt; !is_relation_valued(&heading, &a) && !is_tuple_valued(&heading, &a));
+    Ok(())
+}
