@@ -1,6 +1,6 @@
 //! Worked examples of the operators that ask a function of tuples; answers and errors come from their definitions.
 ghost use Rattle.std.specs.Prelude.{◌≡◌, IfOk};
-ghost use Rattle.td_values.specs.Data.{integer_type};
+ghost use Rattle.td_values.specs.Data.{boolean_type, integer_type};
 ghost use Rattle.td_values.specs.Whole.{type_of};
 ghost use Rattle.td_algebra.specs.Summaries.{Suits};
 
@@ -208,6 +208,195 @@ fn sums_are_whole(rt: HostRuntime) -> Result<()> {
         )?
         .as_str()
             == "RELATION { N INTEGER, SNO INTEGER, T INTEGER } { TUPLE { N 1, SNO 2, T 5 }, TUPLE { N 2, SNO 1, T 3 } }"
+    );
+    Ok(())
+}
+
+// The least integer divided by the number at the place: it raises Divide at 0 and Overflow at -1.
+fn least_share(tuple: &Tuple, place: usize) -> std::result::Result<i64, Fault> {
+    let n = number(tuple, place);
+    if n == 0 {
+        return Err(Fault::Raised(Raise::Divide));
+    }
+    match i64::MIN.checked_div(n) {
+        Some(share) => Ok(share),
+        None => Err(Fault::Raised(Raise::Overflow)),
+    }
+}
+
+fn restricted(alloc: Global, rows: &[&[i64]]) -> Result<String> {
+    let r = relation(alloc, &["A", "B"], rows)?;
+    let answer = restrict(alloc, &r, |t: &Tuple| -> std::result::Result<bool, Fault> {
+        Ok(least_share(t, 1)? < 0)
+    });
+    shown(alloc, answer)
+}
+
+// The tuples with the shares of the attributes at two places.
+fn extended(alloc: Global, rows: &[&[i64]], places: [usize; 2]) -> Result<String> {
+    let r = relation(alloc, &["A", "B"], rows)?;
+    let items = [
+        Item {
+            name: Name::new(alloc, "C")?,
+            ty: integer_type(),
+            term: places[0],
+        },
+        Item {
+            name: Name::new(alloc, "D")?,
+            ty: integer_type(),
+            term: places[1],
+        },
+    ];
+    let answer = extend(
+        alloc,
+        &r,
+        &items,
+        &|place: &usize, t: &Tuple| -> std::result::Result<Value, Fault>
+            ensures { IfOk result (λ v. type_of v ≡ integer_type) }
+        { Ok(integer(least_share(t, *place)?)) },
+    );
+    shown(alloc, answer)
+}
+
+// The greatest share of the attribute B, per the tuples of another relation.
+fn greatest_share(alloc: Global, rows: &[&[i64]], per: &Relation) -> Result<String> {
+    let r = relation(alloc, &["A", "B"], rows)?;
+    let items = [Item {
+        name: Name::new(alloc, "T")?,
+        ty: integer_type(),
+        term: Summary::Max(1),
+    }];
+    let answer = summarize(
+        alloc,
+        &r,
+        per,
+        &items,
+        &|place: &usize, t: &Tuple| -> std::result::Result<Value, Fault>
+            ensures { IfOk result (λ v. type_of v ≡ integer_type) }
+        { Ok(integer(least_share(t, *place)?)) },
+    );
+    shown(alloc, answer)
+}
+
+#[test]
+fn restrict_raises_the_least_error(rt: HostRuntime) -> Result<()> {
+    let alloc = rt.alloc();
+    assert!(rt; restricted(alloc, &[&[1, 0], &[2, 7], &[3, -1]])?.as_str() == "overflow");
+    assert!(rt; restricted(alloc, &[&[1, -1], &[2, 7], &[3, 0]])?.as_str() == "overflow");
+    assert!(rt; restricted(alloc, &[&[1, 7], &[2, 0], &[3, 0]])?.as_str() == "divide");
+    Ok(())
+}
+
+#[test]
+fn extend_raises_the_least_error_of_a_tuple(rt: HostRuntime) -> Result<()> {
+    let alloc = rt.alloc();
+    assert!(rt; extended(alloc, &[&[1, 0], &[2, 7], &[3, -1]], [0, 1])?.as_str() == "overflow");
+    assert!(rt; extended(alloc, &[&[1, -1], &[2, 7], &[3, 0]], [0, 1])?.as_str() == "overflow");
+    assert!(rt; extended(alloc, &[&[1, 7], &[2, 0], &[3, 0]], [0, 1])?.as_str() == "divide");
+    Ok(())
+}
+
+#[test]
+fn extend_raises_the_least_error_of_an_item(rt: HostRuntime) -> Result<()> {
+    let alloc = rt.alloc();
+    assert!(rt; extended(alloc, &[&[0, -1]], [0, 1])?.as_str() == "overflow");
+    assert!(rt; extended(alloc, &[&[0, -1]], [1, 0])?.as_str() == "overflow");
+    assert!(rt; extended(alloc, &[&[0, 7], &[5, -1]], [0, 1])?.as_str() == "overflow");
+    Ok(())
+}
+
+#[test]
+fn summarize_raises_the_least_error_of_a_group(rt: HostRuntime) -> Result<()> {
+    let alloc = rt.alloc();
+    let whole = relation(alloc, &[], &[&[]])?;
+    assert!(rt;
+        greatest_share(alloc, &[&[1, 0], &[2, 7], &[3, -1]], &whole)?.as_str() == "overflow"
+    );
+    assert!(rt;
+        greatest_share(alloc, &[&[1, -1], &[2, 7], &[3, 0]], &whole)?.as_str() == "overflow"
+    );
+    assert!(rt; greatest_share(alloc, &[&[1, 7], &[2, 0], &[3, 0]], &whole)?.as_str() == "divide");
+    Ok(())
+}
+
+#[test]
+fn summarize_raises_the_least_error_of_groups(rt: HostRuntime) -> Result<()> {
+    let alloc = rt.alloc();
+    let per = relation(alloc, &["A"], &[&[1], &[2], &[3]])?;
+    assert!(rt; greatest_share(alloc, &[&[1, 0], &[2, 7], &[3, -1]], &per)?.as_str() == "overflow");
+    assert!(rt; greatest_share(alloc, &[&[1, -1], &[2, 7], &[3, 0]], &per)?.as_str() == "overflow");
+    // The group of 3 is empty, which raises too, and Divide has a lesser number.
+    assert!(rt; greatest_share(alloc, &[&[1, 7], &[2, 0]], &per)?.as_str() == "divide");
+    Ok(())
+}
+
+fn boolean(b: bool) -> Value
+    ensures { type_of result ≡ boolean_type }
+{
+    Value {
+        kind: Kind::Boolean(b),
+    }
+}
+
+// For the suppliers 1 and 2 a summary of whether their shipments are of more than 100.
+fn tested(alloc: Global, rows: &[&[i64]], summary: Summary<usize>) -> Result<String>
+    requires { Suits summary boolean_type }
+{
+    let shipments = relation(alloc, &["PNO", "QTY", "SNO"], rows)?;
+    let suppliers = relation(alloc, &["SNO"], &[&[1], &[2]])?;
+    let items = [Item {
+        name: Name::new(alloc, "T")?,
+        ty: TdType {
+            kind: TypeKind::Boolean,
+        },
+        term: summary,
+    }];
+    let answer = summarize(
+        alloc,
+        &shipments,
+        &suppliers,
+        &items,
+        &|place: &usize, t: &Tuple| -> std::result::Result<Value, Fault>
+            ensures { IfOk result (λ v. type_of v ≡ boolean_type) }
+        { Ok(boolean(number(t, *place) > 100)) },
+    );
+    shown(alloc, answer)
+}
+
+#[test]
+fn and_asks_whether_all_are_true(rt: HostRuntime) -> Result<()> {
+    let alloc = rt.alloc();
+    assert!(rt;
+        tested(alloc, &[&[1, 200, 1], &[2, 300, 1]], Summary::And(1))?.as_str()
+            == "RELATION { SNO INTEGER, T BOOLEAN } { TUPLE { SNO 1, T TRUE }, TUPLE { SNO 2, T TRUE } }"
+    );
+    assert!(rt;
+        tested(
+            alloc,
+            &[&[1, 200, 1], &[2, 50, 1], &[1, 200, 2]],
+            Summary::And(1)
+        )?
+        .as_str()
+            == "RELATION { SNO INTEGER, T BOOLEAN } { TUPLE { SNO 1, T FALSE }, TUPLE { SNO 2, T TRUE } }"
+    );
+    Ok(())
+}
+
+#[test]
+fn or_asks_whether_one_is_true(rt: HostRuntime) -> Result<()> {
+    let alloc = rt.alloc();
+    assert!(rt;
+        tested(alloc, &[&[1, 50, 1], &[2, 300, 1]], Summary::Or(1))?.as_str()
+            == "RELATION { SNO INTEGER, T BOOLEAN } { TUPLE { SNO 1, T TRUE }, TUPLE { SNO 2, T FALSE } }"
+    );
+    assert!(rt;
+        tested(
+            alloc,
+            &[&[1, 50, 1], &[2, 70, 1], &[1, 200, 2]],
+            Summary::Or(1)
+        )?
+        .as_str()
+            == "RELATION { SNO INTEGER, T BOOLEAN } { TUPLE { SNO 1, T FALSE }, TUPLE { SNO 2, T TRUE } }"
     );
     Ok(())
 }
