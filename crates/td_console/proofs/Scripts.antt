@@ -5,8 +5,9 @@ use Rattle.std.specs.Str.{bytes_eq}
 use Rattle.std.specs.List.{AllByRecursion}
 use Rattle.std.specs.Io.KnownBytes.{Consumes, IsAtEnd}
 use Rattle.std.proofs.KnownBytes.{Consumes-trans}
-use Rattle.td_console.specs.declared.program.Unready.{Unready}
-use Rattle.td_console.specs.declared.program.Unready.TheVariants as unready
+use Rattle.td_console.specs.declared.input.LineError.{LineError}
+use Rattle.td_console.specs.declared.input.LineError.TheVariants as line_error
+use Rattle.td_console.specs.Refusals.{unready_line}
 use Rattle.td_console.specs.Streams.{is_one_line, IsWholeLine}
 use Rattle.td_console.specs.Lines.{raw_lines, content, is_begin, script_then}
 use Rattle.td_console.specs.Program.{Says, ScriptRead}
@@ -74,7 +75,6 @@ begun ls script l false from then left whole none items is read took line = (
 pub begin_is : (l said mark : List ℕ) (b : Bool) → said ≡ content l → mark ≡ codes ".begin" → bytes_eq said mark ≡ b → is_begin l ≡ b
 begin_is l said mark b is begin e = subst (λ (m : List ℕ). bytes_eq (content l) m ≡ b) begin (subst (λ (s : List ℕ). bytes_eq s mark ≡ b) is e)
 
-pub told_unread : (e : Unready) (from left : Option (List ℕ)) (bytes : List ℕ) → Consumes from left bytes → (e ≡ unready.End → ⊥) → ScriptRead from left (Err e)
-told_unread unready.End from left bytes took other = absurd (other refl)
-told_unread unready.OutOfMemory from left bytes took other = (bytes, took)
-told_unread unready.ReadFault from left bytes took other = (bytes, took)
+pub told_unread : (e : LineError) (from left : Option (List ℕ)) (bytes : List ℕ) → Consumes from left bytes → ScriptRead from left (Err (unready_line e))
+told_unread line_error.OutOfMemory from left bytes took = (bytes, took)
+told_unread line_error.ReadFault from left bytes took = (bytes, took)

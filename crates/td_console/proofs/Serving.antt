@@ -6,6 +6,9 @@ use Rattle.std.proofs.lemmas.List.Sums.{take_while-cons}
 use Rattle.std.proofs.KnownBytes.{Appends-trans, Consumes-trans}
 use Rattle.td_console.specs.declared.workbench.Ended.{Ended}
 use Rattle.td_console.specs.declared.workbench.Ended.TheVariants.{OutOfMemory, ReadFault, WriteFault}
+use Rattle.td_console.specs.declared.input.LineError.{LineError}
+use Rattle.td_console.specs.declared.input.LineError.TheVariants as line_error
+use Rattle.td_console.specs.Refusals.{ended_line}
 use Rattle.td_console.specs.Streams.{is_one_line, IsWholeLine, AppendsFront}
 use Rattle.td_console.specs.Lines.{Line, onto, raw_lines, content, line_of, said, asked, is_quit}
 use Rattle.td_console.specs.Printed.{Sites, Answered, Begun, Printed}
@@ -151,10 +154,9 @@ begun_not ss None = refl
 begun_not ss (Some l) = inl refl
 
 -- the reader failed, or memory was wanted, before a line was read
-pub unread_ends : (ss : Sites) (ks : List (List ℕ)) (e : Ended) (left w : Option (List ℕ)) → (e ≡ WriteFault → ⊥) → Ends ss ks (Err e) ss left w w
-unread_ends ss ks OutOfMemory left w other = (0, [], ss, (refl, refl), nothing_written w, begun_not ss (slice_get (asked ks) 0))
-unread_ends ss ks ReadFault left w other = (0, [], (refl, refl), nothing_written w)
-unread_ends ss ks WriteFault left w other = absurd (other refl)
+pub unread_ends : (ss : Sites) (ks : List (List ℕ)) (e : LineError) (left w : Option (List ℕ)) → Ends ss ks (Err (ended_line e)) ss left w w
+unread_ends ss ks line_error.OutOfMemory left w = (0, [], ss, (refl, refl), nothing_written w, begun_not ss (slice_get (asked ks) 0))
+unread_ends ss ks line_error.ReadFault left w = (0, [], (refl, refl), nothing_written w)
 
 asked_one : (l : List ℕ) → is_quit (line_of (content l)) ≡ false → asked (l ∷ []) ≡ line_of (content l) ∷ []
 asked_one l e = take_while-cons (λ x. not (is_quit x)) (line_of (content l)) [] ∙ kept (is_quit (line_of (content l))) (line_of (content l)) [] [] e refl

@@ -11,6 +11,12 @@ use Rattle.td_console.specs.declared.refusal.OpenError.{OpenError}
 use Rattle.td_console.specs.declared.refusal.OpenError.TheVariants as open_error
 use Rattle.td_console.specs.declared.refusal.IssueError.{IssueError}
 use Rattle.td_console.specs.declared.refusal.IssueError.TheVariants as issue_error
+use Rattle.td_console.specs.declared.input.LineError.{LineError}
+use Rattle.td_console.specs.declared.input.LineError.TheVariants as line_error
+use Rattle.td_console.specs.declared.workbench.Ended.{Ended}
+use Rattle.td_console.specs.declared.workbench.Ended.TheVariants as ended
+use Rattle.td_console.specs.declared.program.Unready.{Unready}
+use Rattle.td_console.specs.declared.program.Unready.TheVariants as unready
 
 abbrev pub read_token : TokenError → ReadError
 read_token token_error.Syntax = read_error.Syntax
@@ -35,3 +41,11 @@ issued_read read_error.OutOfMemory = issue_error.OutOfMemory
 abbrev pub issued_typed : TypeError → IssueError
 issued_typed type_error.IllTyped = issue_error.IllTyped
 issued_typed type_error.OutOfMemory = issue_error.OutOfMemory
+
+abbrev pub ended_line : LineError → Ended
+ended_line line_error.OutOfMemory = ended.OutOfMemory
+ended_line line_error.ReadFault = ended.ReadFault
+
+abbrev pub unready_line : LineError → Unready
+unready_line line_error.OutOfMemory = unready.OutOfMemory
+unready_line line_error.ReadFault = unready.ReadFault

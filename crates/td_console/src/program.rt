@@ -1,7 +1,8 @@
 //! A script, and then the lines for its sites.
 
-ghost use Rattle.std.specs.Prelude.{◌≡◌, ◌≢◌, true};
+ghost use Rattle.std.specs.Prelude.{◌≡◌, true};
 ghost use Rattle.std.specs.Io.KnownBytes.{IsAtEnd};
+ghost use Rattle.td_console.specs.Refusals.{unready_line};
 ghost use Rattle.td_console.specs.Program as spec;
 ghost use Rattle.td_console.specs.Program.{ScriptRead, OpensSites, RestEnds, Starts, ProgramEnds};
 
@@ -31,7 +32,7 @@ pub enum Unready {
 }
 
 fn no_line(e: LineError) -> Unready
-    ensures { result ≢ Unready.End }
+    ensures { result ≡ unready_line e }
 {
     match e {
         LineError::OutOfMemory => Unready::OutOfMemory,

@@ -7,6 +7,7 @@ ghost use Rattle.td_console.specs.Lines as lines;
 ghost use Rattle.td_console.specs.Lines.{line_of, raw_lines};
 ghost use Rattle.td_console.specs.Workbench.{SaysFault, PutEnds, Replies, MeetingReplies, LineEnds, Ends, WorkbenchEnds};
 ghost use Rattle.td_console.specs.Takings.{TookFrom, first_of};
+ghost use Rattle.td_console.specs.Refusals.{ended_line};
 
 use crate::command::{Command, command_of};
 use crate::input::{LineError, content, read_line};
@@ -275,7 +276,7 @@ fn answer_last<W: Write>(
 }
 
 fn unread(e: LineError) -> Ended
-    ensures { result ≢ Ended.WriteFault }
+    ensures { result ≡ ended_line e }
 {
     match e {
         LineError::OutOfMemory => Ended::OutOfMemory,

@@ -9,7 +9,7 @@ pub returns-in-Err : goal.returns-in-Err
 returns-in-Err g c =
     let (ls, whole, none, read, items) = c.loop-reads.invariant in
     let (bytes, took) = c.in-Err.ensures.line in
-    told_unread c.no_line.result _ _ (joined ls ++ bytes) (Consumes-trans _ _ _ _ bytes read took) c.no_line.ensures
+    rw c.no_line.ensures (told_unread c.in-Err.e _ _ (joined ls ++ bytes) (Consumes-trans _ _ _ _ bytes read took))
 
 pub returns-then-eq : goal.returns-then-eq
 returns-then-eq g c =
