@@ -1,5 +1,5 @@
 -- Lines read and answered one after the other.
-use Rattle.std.proofs.Common.{◌≡◌, inl, inr, ℕ, suc, ◌+◌, ◌==◌, Bool, true, false, not, cond, ◌&&◌, ◌||◌, List, [], ◌∷◌, ◌++◌, take, length, Option, None, Some, Result, Ok, Err, refl, sym, ap, ◌∙◌, subst, append_assoc, append-nil, arith}
+use Rattle.std.proofs.Common.{◌≡◌, ◌≤◌, inl, inr, ℕ, suc, ◌+◌, ◌==◌, Bool, true, false, not, cond, ◌&&◌, ◌||◌, List, [], ◌∷◌, ◌++◌, take, length, Option, None, Some, Result, Ok, Err, refl, sym, ap, ◌∙◌, subst, append_assoc, append-nil, arith}
 use Rattle.std.specs.List.{AllByRecursion, list_any, slice_get}
 use Rattle.std.specs.Io.KnownBytes.{Appends, Consumes, IsAtEnd}
 use Rattle.std.proofs.lemmas.List.Sums.{take_while-cons}
@@ -9,10 +9,10 @@ use Rattle.td_console.specs.declared.workbench.Ended.TheVariants.{OutOfMemory, R
 use Rattle.td_console.specs.declared.input.LineError.{LineError}
 use Rattle.td_console.specs.declared.input.LineError.TheVariants as line_error
 use Rattle.td_console.specs.Refusals.{ended_line}
-use Rattle.td_console.specs.Streams.{is_one_line, IsWholeLine, AppendsFront}
+use Rattle.td_console.specs.Streams.{is_one_line, IsWholeLine, IsOfOneLine, AppendsFront}
 use Rattle.td_console.specs.Lines.{Line, onto, raw_lines, content, line_of, said, asked, is_quit}
 use Rattle.td_console.specs.Printed.{Sites, Answered, Begun, Printed}
-use Rattle.td_console.specs.Workbench.{LineEnds, Ends, WorkbenchEnds}
+use Rattle.td_console.specs.Workbench.{AnswerCut, LineEnds, Ends, WorkbenchEnds}
 
 -- ---- splitting at LF
 
@@ -51,6 +51,14 @@ raw_part b (c ∷ bs) one = let h = no_lf b (c ∷ bs) one in rw h.0 (ap (onto b
 pub raw_left : (bs : List ℕ) → is_one_line bs ≡ true → (length bs == 0) ≡ false → raw_lines bs ≡ bs ∷ []
 raw_left [] one some = cc
 raw_left (b ∷ bs) one some = raw_part b bs one
+
+pub one_at_most : (bs : List ℕ) → IsOfOneLine bs → length (raw_lines bs) ≤ 1
+one_at_most bs (inl one) = part bs one
+  where
+    part : (bs : List ℕ) → is_one_line bs ≡ true → length (raw_lines bs) ≤ 1
+    part [] one = let e : 0 ≤ 1 = omega arith in e
+    part (b ∷ bs) one = let e : 1 ≤ 1 = omega arith in subst (λ (ls : List (List ℕ)). length ls ≤ 1) (sym (raw_part b bs one)) e
+one_at_most bs (inr whole) = let e : 1 ≤ 1 = omega arith in subst (λ (ls : List (List ℕ)). length ls ≤ 1) (sym (ap raw_lines (sym (append-nil bs)) ∙ raw_first bs [] whole)) e
 
 pub whole_more : (ls : List (List ℕ)) (l : List ℕ) → AllByRecursion IsWholeLine ls → IsWholeLine l → AllByRecursion IsWholeLine (ls ++ l ∷ [])
 whole_more [] l all is = (is, tt)
@@ -111,8 +119,11 @@ pub record Served (old : Sites) (ls : List (List ℕ)) (text : List ℕ) (mid : 
   pub printed : Printed old (said ls) text mid
   pub appended : Appends before at text
 
-front_more : (a b c : Option (List ℕ)) (t u : List ℕ) → Appends a b t → AppendsFront b c u → AppendsFront a c (t ++ u)
-front_more a b c t u first (front, rest, split, wrote) = (t ++ front, rest, ap (λ (l : List ℕ). t ++ l) split ∙ sym (append_assoc t front rest), Appends-trans a b c t front first wrote)
+all_but_last : (ls ks : List (List ℕ)) (n : ℕ) → length ks ≤ suc n → length (ls ++ ks) ≤ suc (length (said ls) + n)
+all_but_last [] ks n most = let e : length ks ≤ suc (0 + n) = omega (arith, most) in e
+all_but_last (l ∷ ls) ks n most =
+    let rest = all_but_last ls ks n most in
+    let e : suc (length (ls ++ ks)) ≤ suc (suc (length (said ls)) + n) = omega (arith, rest) in e
 
 pub ends_after : (old : Sites) (ls : List (List ℕ)) (text : List ℕ) (mid : Sites) (before at now : Option (List ℕ)) (ks : List (List ℕ)) (r : Result (Unit {0}) Ended) (new : Sites) (left : Option (List ℕ))
     → Served old ls text mid before at → Ends mid ks r new left at now → Ends old (ls ++ ks) r new left before now
@@ -122,25 +133,31 @@ ends_after old ls text mid before at now ks (Ok x) new left so (more, printed, w
   Appends-trans before at now text more so.appended wrote,
   elim why [ inl quit ↦ inl (any_more ls ks quit) | inr end ↦ inr end ],
 )
-ends_after old ls text mid before at now ks (Err OutOfMemory) new left so (n, more, step, printed, wrote, begun) = (
+ends_after old ls text mid before at now ks (Err OutOfMemory) new left so (n, more, step, printed, wrote, begun, most) = (
   length (said ls) + n,
   text ++ more,
   step,
   subst (λ (xs : List Line). Printed old xs (text ++ more) step) (sym (ap (take (length (said ls) + n)) (asked_more ls ks so.other) ∙ take_all_and (said ls) (asked ks) n)) (printed_more old (said ls) text mid (take n (asked ks)) more step so.printed printed),
   Appends-trans before at now text more so.appended wrote,
   subst (λ (o : Option Line). Begun step o new) (sym (ap (λ (xs : List Line). slice_get xs (length (said ls) + n)) (asked_more ls ks so.other) ∙ get_after (said ls) (asked ks) n)) begun,
+  all_but_last ls ks n most,
 )
-ends_after old ls text mid before at now ks (Err ReadFault) new left so (n, more, printed, wrote) = (
+ends_after old ls text mid before at now ks (Err ReadFault) new left so (n, more, printed, wrote, most) = (
   length (said ls) + n,
   text ++ more,
   subst (λ (xs : List Line). Printed old xs (text ++ more) new) (sym (ap (take (length (said ls) + n)) (asked_more ls ks so.other) ∙ take_all_and (said ls) (asked ks) n)) (printed_more old (said ls) text mid (take n (asked ks)) more new so.printed printed),
   Appends-trans before at now text more so.appended wrote,
+  all_but_last ls ks n most,
 )
-ends_after old ls text mid before at now ks (Err WriteFault) new left so (n, more, printed, wrote) = (
+ends_after old ls text mid before at now ks (Err WriteFault) new left so (n, more, step, half, printed, wrote, cut, most) = (
   length (said ls) + n,
   text ++ more,
-  subst (λ (xs : List Line). Printed old xs (text ++ more) new) (sym (ap (take (length (said ls) + n)) (asked_more ls ks so.other) ∙ take_all_and (said ls) (asked ks) n)) (printed_more old (said ls) text mid (take n (asked ks)) more new so.printed printed),
-  front_more before at now text more so.appended wrote,
+  step,
+  half,
+  subst (λ (xs : List Line). Printed old xs (text ++ more) step) (sym (ap (take (length (said ls) + n)) (asked_more ls ks so.other) ∙ take_all_and (said ls) (asked ks) n)) (printed_more old (said ls) text mid (take n (asked ks)) more step so.printed printed),
+  Appends-trans before at half text more so.appended wrote,
+  subst (λ (o : Option Line). AnswerCut step o new half now) (sym (ap (λ (xs : List Line). slice_get xs (length (said ls) + n)) (asked_more ls ks so.other) ∙ get_after (said ls) (asked ks) n)) cut,
+  all_but_last ls ks n most,
 )
 
 -- ---- how one line ended
@@ -154,9 +171,9 @@ begun_not ss None = refl
 begun_not ss (Some l) = inl refl
 
 -- the reader failed, or memory was wanted, before a line was read
-pub unread_ends : (ss : Sites) (ks : List (List ℕ)) (e : LineError) (left w : Option (List ℕ)) → Ends ss ks (Err (ended_line e)) ss left w w
-unread_ends ss ks line_error.OutOfMemory left w = (0, [], ss, (refl, refl), nothing_written w, begun_not ss (slice_get (asked ks) 0))
-unread_ends ss ks line_error.ReadFault left w = (0, [], (refl, refl), nothing_written w)
+pub unread_ends : (ss : Sites) (ks : List (List ℕ)) (e : LineError) (left w : Option (List ℕ)) → length ks ≤ 1 → Ends ss ks (Err (ended_line e)) ss left w w
+unread_ends ss ks line_error.OutOfMemory left w most = (0, [], ss, (refl, refl), nothing_written w, begun_not ss (slice_get (asked ks) 0), most)
+unread_ends ss ks line_error.ReadFault left w most = (0, [], (refl, refl), nothing_written w, most)
 
 asked_one : (l : List ℕ) → is_quit (line_of (content l)) ≡ false → asked (l ∷ []) ≡ line_of (content l) ∷ []
 asked_one l e = take_while-cons (λ x. not (is_quit x)) (line_of (content l)) [] ∙ kept (is_quit (line_of (content l))) (line_of (content l)) [] [] e refl
@@ -171,10 +188,12 @@ quit_ends old l new left before now (is, same, wrote) =
 
 pub fault_ends : (old : Sites) (l : List ℕ) (e : Ended) (new : Sites) (left before now : Option (List ℕ)) → LineEnds old (line_of (content l)) (Err e) new before now → Ends old (l ∷ []) (Err e) new left before now
 fault_ends old l OutOfMemory new left before now (done, other, wrote) =
-    (0, [], old, (refl, refl), wrote, subst (λ (xs : List Line). Begun old (slice_get xs 0) new) (sym (asked_one l other)) (inr done))
+    let e : 1 ≤ 1 = omega arith in
+    (0, [], old, (refl, refl), wrote, subst (λ (xs : List Line). Begun old (slice_get xs 0) new) (sym (asked_one l other)) (inr done), e)
 fault_ends old l ReadFault new left before now told = absurd told
 fault_ends old l WriteFault new left before now (text, answered, other, wrote) =
-    (1, text, subst (λ (xs : List Line). Printed old (take 1 xs) text new) (sym (asked_one l other)) (printed_one old (line_of (content l)) text new answered), wrote)
+    let e : 1 ≤ 1 = omega arith in
+    (0, [], old, before, (refl, refl), nothing_written before, subst (λ (xs : List Line). AnswerCut old (slice_get xs 0) new before now) (sym (asked_one l other)) (text, answered, wrote), e)
 
 pub answer_ends : (old : Sites) (l : List ℕ) (new : Sites) (left before now : Option (List ℕ)) → LineEnds old (line_of (content l)) (Ok false) new before now → IsAtEnd left → Ends old (l ∷ []) (Ok tt) new left before now
 answer_ends old l new left before now (text, answered, other, wrote) end =

@@ -1,5 +1,5 @@
 -- What writing all of some bytes, and reading a line, do to a writer's and a reader's bytes, where those are known.
-use Rattle.std.specs.Prelude.{◌≡◌, ℕ, ◌==◌, Bool, true, not, List, [], ◌∷◌, ◌++◌, Option, Some, None, Result, Ok, Err, MatchResult, MatchBool}
+use Rattle.std.specs.Prelude.{◌≡◌, ◌⊎◌, ℕ, ◌==◌, Bool, true, not, List, [], ◌∷◌, ◌++◌, Option, Some, None, Result, Ok, Err, MatchResult, MatchBool}
 use Rattle.std.specs.List.{list_all}
 use Rattle.std.specs.Io.KnownBytes.{Appends, Consumes, IsAtEnd}
 use Rattle.td_console.specs.declared.input.RawLine.{RawLine}
@@ -26,7 +26,11 @@ ByteRead old new (Ok (Some b)) = Consumes old new (b ∷ [])
 ByteRead old new (Ok None) = Consumes old new [] × IsAtEnd new
 ByteRead old new (Err e) = Consumes old new []
 
--- what a reader of a line told: a whole line, or what the input's end left of one; at a failure, some bytes were read
+-- bytes of one line alone
+abbrev pub IsOfOneLine : List ℕ → Type 0
+IsOfOneLine bytes = (is_one_line bytes ≡ true) ⊎ IsWholeLine bytes
+
+-- what a reader of a line told: a whole line, or what the input's end left of one; at a failure, bytes of one line were read
 abbrev pub LineRead : {E : Type 0} → Option (List ℕ) → Option (List ℕ) → Result RawLine E → Type 0
 LineRead old new (Ok line) = Consumes old new line.bytes.items × MatchBool line.is_last ((is_one_line line.bytes.items ≡ true) × IsAtEnd new) (IsWholeLine line.bytes.items)
-LineRead old new (Err e) = (bytes : List ℕ) × Consumes old new bytes
+LineRead old new (Err e) = (bytes : List ℕ) × Consumes old new bytes × IsOfOneLine bytes

@@ -1,5 +1,5 @@
 -- What the workbench and the program end in.
-use Rattle.std.specs.Prelude.{◌≡◌, ◌⊎◌, ℕ, Bool, true, false, List, [], take, codes, Option, Some, Result, Ok, Err, string_bytes, slice_get}
+use Rattle.std.specs.Prelude.{◌≡◌, ◌≤◌, ◌⊎◌, ℕ, suc, Bool, true, false, List, [], length, take, codes, Option, None, Some, Result, Ok, Err, string_bytes, slice_get}
 use Rattle.std.specs.List.{list_any}
 use Rattle.std.specs.Io.KnownBytes.{Appends, Consumes, IsAtEnd}
 use Rattle.td_console.specs.declared.workbench.Ended.{Ended}
@@ -72,15 +72,23 @@ LineEnds old line (Err OutOfMemory) new before now = (new ≡ (answer_to old lin
 LineEnds old line (Err ReadFault) new before now = ⊥
 LineEnds old line (Err WriteFault) new before now = (text : List ℕ) × Answered old line text new × (is_quit line ≡ false) × AppendsFront before now text
 
+-- a front of the next line's answer was written
+abbrev pub AnswerCut : Sites → Option Line → Sites → Option (List ℕ) → Option (List ℕ) → Type 0
+AnswerCut old None new before now = ⊥
+AnswerCut old (Some line) new before now = (text : List ℕ) × Answered old line text new × AppendsFront before now text
+
 -- How the workbench ended, over the lines read: Ok comes after `.quit`, or at the input's end, with every line before answered.
--- A fault ends it after the answers of the first n lines; want of memory may leave the work of the next line done.
+-- A fault ends it after the answers of the first n lines, which are all but the last, or all: each line is answered before the next is read.
+-- Want of memory may leave the work of the next line done, and a failed writer a front of its answer.
 abbrev pub Ends : Sites → List (List ℕ) → Result (Unit {0}) Ended → Sites → Option (List ℕ) → Option (List ℕ) → Option (List ℕ) → Type 0
 Ends old raws (Ok x) new left before now =
     (text : List ℕ) × Printed old (asked raws) text new × Appends before now text × ((list_any is_quit (said raws) ≡ true) ⊎ IsAtEnd left)
 Ends old raws (Err OutOfMemory) new left before now =
-    (n : ℕ) × (text : List ℕ) × (mid : Sites) × Printed old (take n (asked raws)) text mid × Appends before now text × Begun mid (slice_get (asked raws) n) new
-Ends old raws (Err ReadFault) new left before now = (n : ℕ) × (text : List ℕ) × Printed old (take n (asked raws)) text new × Appends before now text
-Ends old raws (Err WriteFault) new left before now = (n : ℕ) × (text : List ℕ) × Printed old (take n (asked raws)) text new × AppendsFront before now text
+    (n : ℕ) × (text : List ℕ) × (mid : Sites) × Printed old (take n (asked raws)) text mid × Appends before now text × Begun mid (slice_get (asked raws) n) new × (length raws ≤ suc n)
+Ends old raws (Err ReadFault) new left before now = (n : ℕ) × (text : List ℕ) × Printed old (take n (asked raws)) text new × Appends before now text × (length raws ≤ suc n)
+Ends old raws (Err WriteFault) new left before now =
+    (n : ℕ) × (text : List ℕ) × (mid : Sites) × (half : Option (List ℕ)) × Printed old (take n (asked raws)) text mid × Appends before half text
+    × AnswerCut mid (slice_get (asked raws) n) new half now × (length raws ≤ suc n)
 
 -- the same over the bytes read
 abbrev pub WorkbenchEnds : Sites → Option (List ℕ) → Option (List ℕ) → Result (Unit {0}) Ended → Sites → Option (List ℕ) → Option (List ℕ) → Type 0

@@ -8,7 +8,7 @@ use Rattle.td_console.proofs.program.read_script.Goals as goal
 pub returns-in-Err : goal.returns-in-Err
 returns-in-Err g c =
     let (ls, whole, none, read, items) = c.loop-reads.invariant in
-    let (bytes, took) = c.in-Err.ensures.line in
+    let (bytes, took, part) = c.in-Err.ensures.line in
     rw c.no_line.ensures (told_unread c.in-Err.e _ _ (joined ls ++ bytes) (Consumes-trans _ _ _ _ bytes read took))
 
 pub returns-then-eq : goal.returns-then-eq

@@ -1,23 +1,23 @@
-use Rattle.std.proofs.Common.{[], ◌∷◌, ◌++◌, true, false, sym, ap, ◌∙◌, Ok, Err}
+use Rattle.std.proofs.Common.{[], ◌∷◌, ◌++◌, true, false, sym, ap, refl, inl, ◌∙◌, Ok, Err}
 use Rattle.std.proofs.KnownBytes.{Consumes-nil, Consumes-trans}
 use Rattle.td_console.specs.declared.workbench.Ended.TheVariants.{ReadFault}
 use Rattle.td_console.specs.declared.input.LineError.TheVariants as line_error
 use Rattle.td_console.specs.Lines.{content, raw_lines}
 use Rattle.td_console.specs.Refusals.{ended_line}
-use Rattle.td_console.proofs.Serving.{joined_more, whole_more, line_is, ends_line, unread_ends, fault_ends, quit_ends, end_known, ends_by, served_more}
+use Rattle.td_console.proofs.Serving.{joined_more, whole_more, line_is, ends_line, one_at_most, unread_ends, fault_ends, quit_ends, end_known, ends_by, served_more}
 use Rattle.td_console.proofs.workbench.serve.Goals as goal
 
 pub returns-in-Err : goal.returns-in-Err
 returns-in-Err g c =
     let (ls, text, whole, read, so) = c.loop-reads.invariant in
-    let (more, took) = c.in-Err.ensures.line in
-    rw c.unread.ensures (ends_by _ ls text _ _ _ _ more (Err (ended_line c.in-Err.e)) _ _ _ _ whole read so took (unread_ends _ (raw_lines more) c.in-Err.e _ _))
+    let (more, took, part) = c.in-Err.ensures.line in
+    rw c.unread.ensures (ends_by _ ls text _ _ _ _ more (Err (ended_line c.in-Err.e)) _ _ _ _ whole read so took (unread_ends _ (raw_lines more) c.in-Err.e _ _ (one_at_most more part)))
 
 pub returns : goal.returns
 returns g c =
     let (ls, text, whole, read, so) = c.loop-reads.invariant in
     let left = g.R.Read.remaining c.loop-reads.reader in
-    ends_by _ ls text _ _ _ _ [] (Err ReadFault) _ _ _ left whole read so (Consumes-nil left) (unread_ends _ [] line_error.ReadFault left _)
+    ends_by _ ls text _ _ _ _ [] (Err ReadFault) _ _ _ left whole read so (Consumes-nil left) (unread_ends _ [] line_error.ReadFault left _ (one_at_most [] (inl refl)))
 
 pub returns-then-line : goal.returns-then-line
 returns-then-line g c =
