@@ -195,6 +195,12 @@ fault_ends old l WriteFault new left before now (text, answered, other, wrote) =
     let e : 1 ≤ 1 = omega arith in
     (0, [], old, before, (refl, refl), nothing_written before, subst (λ (xs : List Line). AnswerCut old (slice_get xs 0) new before now) (sym (asked_one l other)) (text, answered, wrote), e)
 
+-- answering a line reads nothing
+pub no_read : (old : Sites) (line : Line) (e : Ended) (new : Sites) (before now : Option (List ℕ)) → LineEnds old line (Err e) new before now → e ≡ ReadFault → ⊥
+no_read old line OutOfMemory new before now told is = cc
+no_read old line ReadFault new before now told is = absurd told
+no_read old line WriteFault new before now told is = cc
+
 pub answer_ends : (old : Sites) (l : List ℕ) (new : Sites) (left before now : Option (List ℕ)) → LineEnds old (line_of (content l)) (Ok false) new before now → IsAtEnd left → Ends old (l ∷ []) (Ok tt) new left before now
 answer_ends old l new left before now (text, answered, other, wrote) end =
     (text, subst (λ (xs : List Line). Printed old xs text new) (sym (asked_one l other)) (printed_one old (line_of (content l)) text new answered), wrote, inr end)

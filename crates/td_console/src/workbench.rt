@@ -1,6 +1,6 @@
 //! Lines answered by sites.
 
-ghost use Rattle.std.specs.Prelude.{◌≡◌, ◌≢◌, ◌++◌, ◌<◌, OnOk, IfOk, IfSome, length, option_map, string_bytes, true, None, MatchResult};
+ghost use Rattle.std.specs.Prelude.{◌≡◌, ◌≢◌, ◌++◌, ◌<◌, OnOk, IfOk, IfErr, IfSome, length, option_map, string_bytes, true, None, MatchResult};
 ghost use Rattle.td_console.specs.Streams.{is_one_line};
 ghost use Rattle.td_console.specs.Printed as spec;
 ghost use Rattle.td_console.specs.Lines as lines;
@@ -264,7 +264,8 @@ fn answer_last<W: Write>(
     writer: &mut W,
 ) -> Result<(), Ended>
     requires { is_one_line line.now ≡ true }
-    ensures { Ends sites.old (raw_lines line.now) result sites.new None (W.contents writer.old) (W.contents writer.new) }
+    ensures end { Ends sites.old (raw_lines line.now) result sites.new None (W.contents writer.old) (W.contents writer.new) }
+    ensures unread { IfErr result (λ e. e ≢ Ended.ReadFault) }
 {
     if line.is_empty() {
         return Ok(());

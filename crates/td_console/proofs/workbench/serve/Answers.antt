@@ -24,7 +24,7 @@ returns-then-line g c =
     let (ls, text, whole, read, so) = c.loop-reads.invariant in
     let (took, one_end) = rw c.if-line.true at c.in-Ok.ensures.line in
     ends_by _ ls text _ _ _ _ c.in-Ok.line.bytes.items c.answer_last.result _ _ _ _ whole read so took
-    (end_known _ (raw_lines c.in-Ok.line.bytes.items) c.answer_last.result _ _ _ _ one_end.1 (rw c.deref.ensures.value at c.answer_last.ensures))
+    (end_known _ (raw_lines c.in-Ok.line.bytes.items) c.answer_last.result _ _ _ _ one_end.1 (rw c.deref.ensures.value at c.answer_last.ensures.end))
 
 pub returns-in-Ok-true : goal.returns-in-Ok-true
 returns-in-Ok-true g c =
