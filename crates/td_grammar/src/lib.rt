@@ -3,6 +3,7 @@
 
 mod chains;
 pub mod cursor;
+mod definitions;
 pub mod error;
 pub mod forms;
 pub mod grammar;
@@ -13,6 +14,9 @@ pub mod lists;
 mod primary;
 pub mod reader;
 pub mod script;
+#[cfg(test)]
+mod statement_tests;
+mod statements;
 #[cfg(test)]
 mod tests;
 pub mod tree;

@@ -3,7 +3,16 @@
 use crate::error::ReadError;
 use crate::reader::read_expr;
 use crate::tree::{Attributes, BinaryOperator, Expr, Extension, Groups, Nesting, UnaryOperator};
+use std::alloc::AllocError;
 use std::test::Fail;
+
+fn is_query(rt: &HostRuntime, text: &str) -> bool {
+    matches!(&read_expr(rt.alloc(), text), Ok(_))
+}
+
+fn is_syntax(rt: &HostRuntime, text: &str) -> bool {
+    matches!(&read_expr(rt.alloc(), text), Err(ReadError::Syntax))
+}
 
 #[test]
 fn every_form_is_read(rt: HostRuntime) {
@@ -44,8 +53,7 @@ fn every_form_is_read(rt: HostRuntime) {
         "1 { A }",
         "( ( A ) )",
     ] {
-        let tree = read_expr(rt.alloc(), text);
-        assert!(rt; matches!(&tree, Ok(_)), "{text}");
+        assert!(rt; is_query(&rt, text), "{text}");
     }
 }
 
@@ -93,8 +101,7 @@ fn near_misses_are_not(rt: HostRuntime) {
         "A B",
         "A ;",
     ] {
-        let tree = read_expr(rt.alloc(), text);
-        assert!(rt; matches!(&tree, Err(ReadError::Syntax)), "{text}");
+        assert!(rt; is_syntax(&rt, text), "{text}");
     }
 }
 
@@ -118,81 +125,136 @@ fn a_condition_reaches_far(rt: HostRuntime) -> Result<(), Fail> {
     Ok(())
 }
 
+// Whether the prefix so often before 1 is a query, and once more is none.
+fn ends_at(rt: &HostRuntime, prefix: &str, times: usize) -> Result<bool, AllocError> {
+    let before = prefix.repeat(rt.alloc(), times)?;
+    let most = format!(in rt.alloc(); "{before}1")?;
+    let more = format!(in rt.alloc(); "{prefix}{most}")?;
+    Ok(is_query(rt, most.as_str()) && is_syntax(rt, more.as_str()))
+}
+
 #[test]
-fn limits(rt: HostRuntime) -> Result<(), Fail> {
-    let dashes = "- ".repeat(rt.alloc(), 255)?;
-    let deep = format!(in rt.alloc(); "{dashes}1")?;
-    assert!(rt; matches!(&read_expr(rt.alloc(), deep.as_str()), Ok(_)));
-    let deeper = format!(in rt.alloc(); "- {deep}")?;
-    assert!(rt;
-        matches!(
-            &read_expr(rt.alloc(), deeper.as_str()),
-            Err(ReadError::Syntax)
-        )
-    );
-    let sums = "1 + ".repeat(rt.alloc(), 255)?;
-    let long = format!(in rt.alloc(); "{sums}1")?;
-    assert!(rt; matches!(&read_expr(rt.alloc(), long.as_str()), Ok(_)));
-    let longer = format!(in rt.alloc(); "1 + {long}")?;
-    assert!(rt;
-        matches!(
-            &read_expr(rt.alloc(), longer.as_str()),
-            Err(ReadError::Syntax)
-        )
-    );
-    let open = "(".repeat(rt.alloc(), 64)?;
-    let shut = ")".repeat(rt.alloc(), 64)?;
-    let nested = format!(in rt.alloc(); "{open}1{shut}")?;
-    assert!(rt;
-        matches!(
-            &read_expr(rt.alloc(), nested.as_str()),
-            Ok(Expr::Integer(1))
-        )
-    );
-    let too_nested = format!(in rt.alloc(); "({nested})")?;
-    assert!(rt;
-        matches!(
-            &read_expr(rt.alloc(), too_nested.as_str()),
-            Err(ReadError::Syntax)
-        )
-    );
-    let padded = " ".repeat(rt.alloc(), 8191)?;
-    let full = format!(in rt.alloc(); "{padded}1")?;
-    assert!(rt; matches!(&read_expr(rt.alloc(), full.as_str()), Ok(_)));
-    let over = format!(in rt.alloc(); "{padded}10")?;
-    assert!(rt;
-        matches!(
-            &read_expr(rt.alloc(), over.as_str()),
-            Err(ReadError::Syntax)
-        )
-    );
+fn an_expression_has_256_levels(rt: HostRuntime) -> Result<(), Fail> {
+    assert!(rt; ends_at(&rt, "- ", 255)?);
+    assert!(rt; ends_at(&rt, "1 + ", 255)?);
     Ok(())
 }
 
 #[test]
-fn trees_of_forms(rt: HostRuntime) -> Result<(), Fail> {
-    let renamed = read_expr(rt.alloc(), "R RENAME { A AS B }")?;
-    assert!(rt; matches!(&renamed, Expr::Rename(_, _)));
-    let matched = read_expr(rt.alloc(), "R SEMIMINUS S")?;
-    assert!(rt; matches!(&matched, Expr::Binary(BinaryOperator::NotMatching, _, _)));
-    let wrapped = read_expr(rt.alloc(), "R WRAP { A } AS B")?;
-    assert!(rt;
-        matches!(
-            &wrapped,
-            Expr::Nest(Nesting::Wrap, _, Attributes::Only(_), _)
-        )
-    );
-    let extended = read_expr(rt.alloc(), "EXTEND r WHERE c ADD ( 1 AS A )")?;
-    assert!(rt; matches!(&extended, Expr::Extend(Extension::Add, _, _)));
-    let counted = read_expr(rt.alloc(), "SUMMARIZE R PER S ADD ( COUNT AS N )")?;
-    assert!(rt; matches!(&counted, Expr::Summarize(_, Groups::Per(_), _)));
-    let negated = read_expr(rt.alloc(), "- 1 { A }")?;
-    assert!(rt; matches!(&negated, Expr::Unary(UnaryOperator::Negate, _)));
-    let sum = read_expr(rt.alloc(), "1 - 2 - 3")?;
-    let Expr::Binary(BinaryOperator::Subtract, left, _) = &sum else {
-        assert!(rt; false, "a difference");
-        return Ok(());
+fn a_query_has_8192_bytes(rt: HostRuntime) -> Result<(), Fail> {
+    assert!(rt; ends_at(&rt, " ", 8191)?);
+    Ok(())
+}
+
+fn bracketed(rt: &HostRuntime, times: usize) -> Result<String, AllocError> {
+    let open = "(".repeat(rt.alloc(), times)?;
+    let shut = ")".repeat(rt.alloc(), times)?;
+    format!(in rt.alloc(); "{open}1{shut}")
+}
+
+#[test]
+fn brackets_add_no_level_and_nest_to_64(rt: HostRuntime) -> Result<(), Fail> {
+    let most = bracketed(&rt, 64)?;
+    assert!(rt; matches!(&read_expr(rt.alloc(), most.as_str()), Ok(Expr::Integer(1))));
+    let more = bracketed(&rt, 65)?;
+    assert!(rt; is_syntax(&rt, more.as_str()));
+    Ok(())
+}
+
+#[test]
+fn a_name_has_64_bytes(rt: HostRuntime) -> Result<(), Fail> {
+    let most = "N".repeat(rt.alloc(), 64)?;
+    assert!(rt; is_query(&rt, most.as_str()));
+    let more = "N".repeat(rt.alloc(), 65)?;
+    assert!(rt; is_syntax(&rt, more.as_str()));
+    Ok(())
+}
+
+fn renames(tree: &Expr) -> bool {
+    let Expr::Rename(_, renamings) = tree else {
+        return false;
     };
-    assert!(rt; matches!(left.get(), Expr::Binary(BinaryOperator::Subtract, _, _)));
+    match renamings.as_slice() {
+        [one] => one.from.as_str() == "A" && one.to.as_str() == "B",
+        _ => false,
+    }
+}
+
+#[test]
+fn both_brackets_of_renamings_give_one_tree(rt: HostRuntime) -> Result<(), Fail> {
+    for text in ["R RENAME ( A AS B )", "R RENAME { A AS B }"] {
+        let tree = read_expr(rt.alloc(), text)?;
+        assert!(rt; renames(&tree), "{text}");
+    }
+    Ok(())
+}
+
+fn is_difference(tree: &Expr) -> bool {
+    matches!(tree, Expr::Binary(BinaryOperator::Subtract, _, _))
+}
+
+fn goes_on_from_the_left(tree: &Expr) -> bool {
+    match tree {
+        Expr::Binary(BinaryOperator::Subtract, left, _) => is_difference(left.get()),
+        _ => false,
+    }
+}
+
+#[test]
+fn differences_go_on_from_the_left(rt: HostRuntime) -> Result<(), Fail> {
+    let tree = read_expr(rt.alloc(), "1 - 2 - 3")?;
+    assert!(rt; goes_on_from_the_left(&tree));
+    Ok(())
+}
+
+#[test]
+fn operators_with_two_names(rt: HostRuntime) -> Result<(), Fail> {
+    for text in ["R SEMIMINUS S", "R NOT MATCHING S"] {
+        let tree = read_expr(rt.alloc(), text)?;
+        assert!(rt;
+            matches!(&tree, Expr::Binary(BinaryOperator::NotMatching, _, _)),
+            "{text}"
+        );
+    }
+    for text in ["R SEMIJOIN S", "R MATCHING S"] {
+        let tree = read_expr(rt.alloc(), text)?;
+        assert!(rt;
+            matches!(&tree, Expr::Binary(BinaryOperator::Matching, _, _)),
+            "{text}"
+        );
+    }
+    Ok(())
+}
+
+#[test]
+fn a_wrap_of_some_attributes(rt: HostRuntime) -> Result<(), Fail> {
+    for text in ["R WRAP { A } AS B", "R WRAP ( { A } AS B )"] {
+        let tree = read_expr(rt.alloc(), text)?;
+        assert!(rt;
+            matches!(&tree, Expr::Nest(Nesting::Wrap, _, Attributes::Only(_), _)),
+            "{text}"
+        );
+    }
+    Ok(())
+}
+
+#[test]
+fn an_extension_goes_on_with_a_condition(rt: HostRuntime) -> Result<(), Fail> {
+    let tree = read_expr(rt.alloc(), "EXTEND r WHERE c ADD ( 1 AS A )")?;
+    assert!(rt; matches!(&tree, Expr::Extend(Extension::Add, _, _)));
+    Ok(())
+}
+
+#[test]
+fn a_summary_for_each_tuple(rt: HostRuntime) -> Result<(), Fail> {
+    let tree = read_expr(rt.alloc(), "SUMMARIZE R PER S ADD ( COUNT AS N )")?;
+    assert!(rt; matches!(&tree, Expr::Summarize(_, Groups::Per(_), _)));
+    Ok(())
+}
+
+#[test]
+fn a_sign_binds_less_than_braces(rt: HostRuntime) -> Result<(), Fail> {
+    let tree = read_expr(rt.alloc(), "- 1 { A }")?;
+    assert!(rt; matches!(&tree, Expr::Unary(UnaryOperator::Negate, _)));
     Ok(())
 }

@@ -4,6 +4,7 @@ ghost use Rattle.std.specs.Prelude.{◌≡◌};
 ghost use Rattle.td_grammar.specs.Reader as spec;
 ghost use Rattle.td_grammar.specs.Reader.{type_at};
 ghost use Rattle.td_grammar.specs.Readings.{Gives, NestsTypes};
+ghost use Rattle.td_grammar.specs.StatementReader.{components_at};
 
 use crate::cursor::Cursor;
 use crate::error::ReadError;
@@ -124,4 +125,23 @@ pub fn heading(alloc: Global, tokens: &mut Cursor<'_>) -> Result<Items<Named<Typ
         nested: type_expr,
     }
     .heading(tokens)
+}
+
+/// Fields with commas between, if a name comes next, and else none.
+#[tactic(auto, unfolding(crate::specs::StatementReader::components_at))]
+pub fn components(
+    alloc: Global,
+    tokens: &mut Cursor<'_>,
+) -> Result<Items<Named<TypeExpr>>, ReadError>
+    ensures { Gives (components_at tokens.old) result tokens.new }
+{
+    if !tokens.at_name() {
+        return Ok(Items::new(alloc));
+    }
+    Types {
+        alloc,
+        depth: tokens.len(),
+        nested: type_expr,
+    }
+    .fields(tokens)
 }
