@@ -38,7 +38,7 @@ fn tokens_of(alloc: Global, text: &str) -> Result<Vec<Token<'_>>, ReadError>
     Ok(tokens(alloc, text)?)
 }
 
-/// The tree of a query. It takes time linear in the text.
+/// The tree of a query. It takes time linear in the text, at worst times the depth of its expressions.
 #[tactic(auto, unfolding(crate::specs::Reader::read_expr))]
 pub fn read_expr(alloc: Global, text: &str) -> Result<Expr, ReadError>
     ensures { Tells (spec.read_expr text.now) result }
