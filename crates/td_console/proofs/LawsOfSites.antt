@@ -1,12 +1,11 @@
--- What sites that hold the same entries have in common, and that every key is true.
-use Rattle.std.proofs.Common.{ℕ, List, take, ap, ◌∙◌}
+-- What sites that hold the same entries have in common.
+use Rattle.std.proofs.Common.{ℕ, List, ap, ◌∙◌}
 use Rattle.td_stamps.specs.declared.entry.Entry.{Entry}
 use Rattle.td_stamps.proofs.Merges.{same_members}
-use Rattle.td_console.specs.Laws.{SitesAgree, StoryIsLegal}
-use Rattle.td_console.specs.Seen.{Seen}
-use Rattle.td_console.specs.Sites.{outcomes_of}
+use Rattle.td_console.specs.Laws.{SitesAgree}
+use Rattle.td_replay.specs.Seen.{Seen}
+use Rattle.td_replay.specs.Sites.{outcomes_of}
 use Rattle.td_console.specs.Texts.{listing_of}
-use Rattle.td_console.proofs.Issuing.{story_are}
 
 -- a site's outcomes and listing follow from its script and its entries
 abbrev seen : ℕ → ℕ → List ℕ → List Entry → Seen
@@ -18,6 +17,3 @@ sites_agree s t same =
       ap (λ (script : List ℕ). outcomes_of (seen s.site s.limit script s.entries)) same.script ∙ ap (λ (es : List Entry). outcomes_of (seen t.site t.limit t.script es)) one,
       ap (λ (script : List ℕ). listing_of (seen s.site s.limit script s.entries)) same.script ∙ ap (λ (es : List Entry). listing_of (seen t.site t.limit t.script es)) one,
     )
-
-pub story_is_legal : StoryIsLegal
-story_is_legal script rs accepted es n = (story_are rs (take n es)).legal

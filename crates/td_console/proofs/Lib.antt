@@ -1,15 +1,6 @@
 pub mod Streamed
 pub mod Fronts
-pub mod Turns
-pub mod Lexing
-pub mod Grammars
 pub mod LawsOfSites
-pub mod Typed
-pub mod Added
-pub mod Keys
-pub mod Steps
-pub mod Tales
-pub mod Issuing
 pub mod Listings
 pub mod Answering
 pub mod Serving

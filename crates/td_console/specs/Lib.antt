@@ -1,17 +1,8 @@
 pub mod Refusals
-pub mod Grammar
 pub mod Laws
-pub mod Reader
-pub mod Readings
-pub mod Typing
-pub mod Typings
 pub mod Lines
 pub mod Streams
 pub mod Commands
-pub mod Step
-pub mod Runs
-pub mod Seen
-pub mod Sites
 pub mod Texts
 pub mod Listed
 pub mod Printed

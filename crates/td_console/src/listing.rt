@@ -5,14 +5,12 @@ ghost use Rattle.std.specs.List.{flat_map};
 ghost use Rattle.td_console.specs.Texts as spec;
 ghost use Rattle.td_console.specs.Listed.{Lists};
 
-use crate::catalogue::Relvar;
 use crate::output::put;
-use crate::site::PlainSite;
-use crate::step::Outcome;
 use itoa::Buffer;
 use std::alloc::{AllocError, Global};
 use std::io::Write;
 use td_relations::Relation;
+use td_replay::{Outcome, PlainSite, Relvar};
 use td_stamps::Stamp;
 use td_values::{Name, Tuple, show_tuple_into};
 use thiserror::Error;

@@ -1,21 +1,14 @@
 //! The workbench of Ketsarimo: two sites of one script, in memory.
 #![tactic(auto)]
 
-mod catalogue;
 mod command;
-mod cursor;
 mod input;
 mod laws;
 mod listing;
 mod output;
 mod program;
-mod reader;
-mod refusal;
-mod site;
-mod step;
 #[cfg(test)]
 mod tests;
-mod tree;
 mod workbench;
 
 use crate::program::run_program;

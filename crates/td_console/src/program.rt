@@ -7,11 +7,10 @@ ghost use Rattle.td_console.specs.Program as spec;
 ghost use Rattle.td_console.specs.Program.{ScriptRead, OpensSites, RestEnds, Starts, ProgramEnds};
 
 use crate::input::{LineError, content, read_line};
-use crate::refusal::OpenError;
-use crate::site::PlainSite;
 use crate::workbench::{Ended, put_text, serve};
 use std::alloc::Global;
 use std::io::{Read, Write};
+use td_replay::{OpenError, PlainSite};
 
 /// The limit of each site.
 const LIMIT: usize = 10_000;

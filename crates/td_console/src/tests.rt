@@ -2,15 +2,13 @@
 
 use crate::listing::listing;
 use crate::program::run_program;
-use crate::refusal::{IssueError, OpenError};
-use crate::site::{PlainSite, Taken};
-use crate::step::Outcome;
 use crate::workbench::{Ended, workbench};
 use std::alloc::{AllocError, Global};
 use std::io;
 use std::io::{ErrorKind, Read, Write};
 use std::test::Fail;
-use td_stamps::{Entry, PrepareError, Stamp};
+use td_replay::{OpenError, PlainSite, Taken};
+use td_stamps::Entry;
 use td_values::Text;
 
 /// A relvar of suppliers, and then the commands.
@@ -447,60 +445,6 @@ fn listed(alloc: Global, site: &PlainSite) -> Written {
     Written { end, output }
 }
 
-// The two suppliers' entries, of the sites 1 and 2.
-fn london(alloc: Global) -> Result<Entry, AllocError> {
-    entry(alloc, 1, 1, 1, LONDON)
-}
-
-fn paris(alloc: Global) -> Result<Entry, AllocError> {
-    entry(alloc, 2, 1, 1, PARIS)
-}
-
-// Whether the site takes these, so many of them fresh and so many known.
-fn takes(alloc: Global, site: &mut PlainSite, batch: &[Entry], fresh: usize, known: usize) -> bool {
-    site.take(alloc, batch) == Ok(Taken { fresh, known })
-}
-
-// Whether both entries are done, the first one's site first.
-fn are_done(outcomes: &[(Stamp, Outcome)]) -> bool {
-    for ((stamp, outcome), site) in outcomes.iter().zip([1, 2]) {
-        if *stamp != (Stamp { clock: 1, site }) || !matches!(outcome, Outcome::Done) {
-            return false;
-        }
-    }
-    outcomes.len() == 2
-}
-
-// Whether the site holds the two entries and shows both suppliers.
-fn holds_both(alloc: Global, site: &PlainSite) -> Result<bool, AllocError> {
-    let outcomes = site.outcomes(alloc)?;
-    Ok(
-        site.held().len() == 2
-            && listed(alloc, site).text() == BOTH_SUPPLIERS
-            && are_done(&outcomes),
-    )
-}
-
-#[test]
-fn take_in_any_order(rt: HostRuntime) -> Result<(), Fail> {
-    let alloc = rt.alloc();
-    let mut site = supplied(alloc, 3, 10_000)?;
-    assert!(rt; takes(alloc, &mut site, &[london(alloc)?, paris(alloc)?], 2, 0));
-    assert!(rt; takes(alloc, &mut site, &[paris(alloc)?, london(alloc)?], 0, 2));
-    assert!(rt; holds_both(alloc, &site)?);
-    Ok(())
-}
-
-#[test]
-fn take_twice(rt: HostRuntime) -> Result<(), Fail> {
-    let alloc = rt.alloc();
-    let mut site = supplied(alloc, 4, 10_000)?;
-    assert!(rt; takes(alloc, &mut site, &[london(alloc)?, london(alloc)?], 1, 1));
-    assert!(rt; takes(alloc, &mut site, &[paris(alloc)?], 1, 0));
-    assert!(rt; holds_both(alloc, &site)?);
-    Ok(())
-}
-
 #[test]
 fn refused_takes_of_a_meeting(rt: HostRuntime) -> Result<(), Fail> {
     let alloc = rt.alloc();
@@ -522,14 +466,28 @@ fn refused_takes_of_a_meeting(rt: HostRuntime) -> Result<(), Fail> {
 }
 
 #[test]
+fn entries_taken_in_any_order(rt: HostRuntime) -> Result<(), Fail> {
+    let alloc = rt.alloc();
+    let (london, paris) = ((1, LONDON), (2, PARIS));
+    for (first, second) in [(london, paris), (paris, london)] {
+        let mut site = supplied(alloc, 3, 10_000)?;
+        let batch = [
+            entry(alloc, first.0, 1, 1, first.1)?,
+            entry(alloc, second.0, 1, 1, second.1)?,
+        ];
+        assert_eq!(rt; site.take(alloc, &batch), Ok(Taken { fresh: 2, known: 0 }));
+        assert_eq!(rt; listed(alloc, &site).text(), BOTH_SUPPLIERS);
+    }
+    Ok(())
+}
+
+#[test]
 fn unread_entry(rt: HostRuntime) -> Result<(), Fail> {
     let alloc = rt.alloc();
     let mut site = supplied(alloc, 1, 10_000)?;
     let batch = [entry(alloc, 2, 1, 1, "INSERT Q X;")?];
     assert_eq!(rt; site.take(alloc, &batch), Ok(Taken { fresh: 1, known: 0 }));
-    let issued = site.issue(alloc, LONDON)?;
-    assert_eq!(rt; issued.stamp, Stamp { clock: 2, site: 1 });
-    assert!(rt; matches!(&issued.outcome, Outcome::Done));
+    site.issue(alloc, LONDON)?;
     assert_eq!(rt;
         listed(alloc, &site).text(),
         "relvar S 1
@@ -537,62 +495,6 @@ TUPLE { CITY 'London', SNO 'S1', STATUS 20 }
 refused 1.2 unread
 held 2
 "
-    );
-    Ok(())
-}
-
-// Why the text is not issued, if it is not.
-fn refusal(site: &mut PlainSite, alloc: Global, text: &str) -> Option<IssueError> {
-    site.issue(alloc, text).err()
-}
-
-#[test]
-fn full_and_bad_limits(rt: HostRuntime) -> Result<(), Fail> {
-    let alloc = rt.alloc();
-    let mut site = supplied(alloc, 1, 2)?;
-    assert_eq!(rt; refusal(&mut site, alloc, LONDON), None);
-    assert_eq!(rt; refusal(&mut site, alloc, PARIS), None);
-    assert_eq!(rt; refusal(&mut site, alloc, PARIS), Some(IssueError::Full));
-    let held = entry(alloc, 1, 1, 1, LONDON)?;
-    let both = [held.copy()?, entry(alloc, 2, 1, 1, PARIS)?];
-    assert_eq!(rt; site.take(alloc, &[held]), Ok(Taken { fresh: 0, known: 1 }));
-    assert_eq!(rt; site.take(alloc, &both), Err(PrepareError::Full));
-    assert_eq!(rt; listed(alloc, &site).text(), BOTH_SUPPLIERS);
-    for (number, limit, want) in [
-        (0, 1, OpenError::BadSite),
-        (0, 0, OpenError::BadSite),
-        (1, 0, OpenError::BadLimit),
-        (1, 100_001, OpenError::BadLimit),
-    ] {
-        assert_eq!(rt; supplied(alloc, number, limit).err(), Some(want));
-    }
-    assert!(rt; supplied(alloc, 65_535, 100_000).is_ok());
-    Ok(())
-}
-
-#[test]
-fn clash_clock_end_bad_entry(rt: HostRuntime) -> Result<(), Fail> {
-    let alloc = rt.alloc();
-    let end = 1_000_000_000_000_000_000;
-    let mut site = supplied(alloc, 1, 10_000)?;
-    let last = [entry(alloc, 2, 1, end, PARIS)?];
-    assert_eq!(rt; site.take(alloc, &last), Ok(Taken { fresh: 1, known: 0 }));
-    assert_eq!(rt;
-        refusal(&mut site, alloc, LONDON),
-        Some(IssueError::ClockEnd)
-    );
-    let clashing = [entry(alloc, 2, 1, end, LONDON)?];
-    let clash = PrepareError::Clash { site: 2, seq: 1 };
-    assert_eq!(rt; site.take(alloc, &clashing), Err(clash));
-    let bad = [
-        entry(alloc, 3, 1, 1, LONDON)?,
-        entry(alloc, 2, 1, end, LONDON)?,
-        entry(alloc, 0, 1, 1, LONDON)?,
-    ];
-    assert_eq!(rt; site.take(alloc, &bad), Err(PrepareError::BadEntry));
-    assert_eq!(rt;
-        listed(alloc, &site).text(),
-        "relvar S 1\nTUPLE { CITY 'Paris', SNO 'S2', STATUS 10 }\nheld 1\n"
     );
     Ok(())
 }

@@ -13,10 +13,9 @@ use crate::command::{Command, command_of};
 use crate::input::{LineError, content, read_line};
 use crate::listing::{listing_text, show_number, show_outcome, show_stamp};
 use crate::output::put;
-use crate::refusal::IssueError;
-use crate::site::{Issued, PlainSite, Taken};
 use std::alloc::{AllocError, Global};
 use std::io::{Read, Write};
+use td_replay::{IssueError, Issued, PlainSite, Taken};
 use td_stamps::{Entry, PrepareError};
 use thiserror::Error;
 
