@@ -17,5 +17,5 @@ pub use catalogue::{Insert, Relvar};
 pub use reader::{SCRIPT_BYTES, STATEMENT_BYTES, read_script, read_statement};
 pub use refusal::{IssueError, OpenError, ReadError, TypeError};
 pub use site::{Issued, MOST_ENTRIES, PlainSite, Taken};
-pub use step::{Outcome, Ran, Told, run, story};
+pub use step::{Outcome, Ran, Told};
 pub use tree::{Component, Definition, Field, Insertion, Literal, ScalarType};

@@ -1,8 +1,7 @@
 //! Worked examples: calls on a site, and texts that are read and run.
 
 use crate::{
-    IssueError, OpenError, Outcome, PlainSite, ReadError, Relvar, Taken, read_script,
-    read_statement, run, story,
+    IssueError, OpenError, Outcome, PlainSite, ReadError, Taken, read_script, read_statement,
 };
 use std::alloc::{AllocError, Global};
 use std::test::Fail;
@@ -181,7 +180,7 @@ fn clash_clock_end_bad_entry(rt: HostRuntime) -> Result<(), Fail> {
 fn texts_that_are_read(rt: HostRuntime) -> Result<(), Fail> {
     let alloc = rt.alloc();
     let definitions = read_script(alloc, SUPPLIERS)?;
-    assert_eq!(rt; definitions.as_slice()[0].name.as_str(), "S");
+    assert!(rt; matches!(definitions.as_slice(), [relvar] if relvar.name.as_str() == "S"));
     assert_eq!(rt; read_script(alloc, LONDON).err(), Some(ReadError::Syntax));
     let insertion = read_statement(alloc, LONDON)?;
     assert_eq!(rt; insertion.relvar.as_str(), "S");
@@ -193,22 +192,15 @@ fn texts_that_are_read(rt: HostRuntime) -> Result<(), Fail> {
     Ok(())
 }
 
-// What becomes of a text after the supplier of London.
-fn becomes(alloc: Global, relvars: &[Relvar], text: &str) -> Result<Outcome, AllocError> {
-    let told = story(alloc, relvars, &[london(alloc)?])?;
-    let ran = run(alloc, relvars, &told.relations, text)?;
-    ran.outcome.copy()
-}
-
 #[test]
-fn texts_that_are_run(rt: HostRuntime) -> Result<(), Fail> {
+fn issued_and_refused(rt: HostRuntime) -> Result<(), Fail> {
     let alloc = rt.alloc();
-    let site = supplied(alloc, 1, 1)?;
-    let relvars = site.relvars();
-    assert!(rt; matches!(becomes(alloc, relvars, PARIS)?, Outcome::Done));
-    assert!(rt; matches!(becomes(alloc, relvars, "DELETE S;")?, Outcome::Unread));
+    let mut site = supplied(alloc, 1, 10_000)?;
+    assert!(rt; matches!(site.issue(alloc, LONDON)?.outcome, Outcome::Done));
     let other = "INSERT S RELATION { TUPLE { SNO 'S1', STATUS 10, CITY 'Paris' } };";
-    let outcome = becomes(alloc, relvars, other)?;
-    assert!(rt; matches!(&outcome, Outcome::BreaksKey(relvar) if relvar.as_str() == "S"));
+    let issued = site.issue(alloc, other)?;
+    assert_eq!(rt; issued.stamp, Stamp { clock: 2, site: 1 });
+    assert!(rt; matches!(&issued.outcome, Outcome::BreaksKey(relvar) if relvar.as_str() == "S"));
+    assert_eq!(rt; site.held().len(), 2);
     Ok(())
 }
