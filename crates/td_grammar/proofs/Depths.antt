@@ -18,7 +18,7 @@ use Rattle.td_grammar.specs.declared.tree.Expr.{Expr, the_lemmas}
 use Rattle.td_grammar.specs.declared.tree.Expr.TheVariants as e
 use Rattle.td_grammar.specs.declared.tree.Expr.TheOpen.{Expr-F}
 use Rattle.td_grammar.specs.declared.tree.Expr.TheFolds.{fold-roll-Expr}
-use Rattle.td_grammar.specs.declared.tree.Expr.TheShapes.{former-Expr-Summarize-2-at-4}
+use Rattle.td_grammar.specs.declared.tree.Expr.TheShapes.{former-Expr-Summarize-2-at-5}
 use Rattle.td_grammar.specs.Levels.{list_levels, named_levels, summary_levels, summaries_levels, groups_levels, levels, levels_step, deepest, deepest_named, deepest_summary, of_summary}
 
 some_step : (x : Expr-F ℕ) → 1 ≤ levels_step x
@@ -92,7 +92,7 @@ pub of_with : (xs : List (Named Expr)) (a : Expr) → levels (e.With xs a) ≡ s
 of_with xs a = search (rules, the_lemmas, named_list_of)
 
 abbrev summary_of : Named (Summary Expr) → Named (Summary ℕ)
-summary_of = former-Expr-Summarize-2-at-4.map Expr ℕ levels
+summary_of = former-Expr-Summarize-2-at-5.map Expr ℕ levels
 
 of_one : (n : Text) (s : Summary Expr) → of_summary (summary_of (record { name = n; value = s })).value ≡ summary_levels s
 of_one n summary.Count = refl

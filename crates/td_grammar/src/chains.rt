@@ -1,6 +1,5 @@
 //! Operators, and what they stand between.
 
-ghost use Rattle.std.specs.Prelude.{◌≡◌, IfOk};
 ghost use Rattle.td_grammar.specs.Reader as spec;
 ghost use Rattle.td_grammar.specs.Reader.{reads};
 ghost use Rattle.td_grammar.specs.Readings.{Gives, Nests};
@@ -12,25 +11,10 @@ use crate::grammar::Grammar;
 use crate::items::shut;
 use crate::lists::{attributes, listed};
 use crate::primary::unary;
-use crate::tree::{BinaryOperator, Expr, Nesting, UnaryOperator};
+use crate::tree::{Expr, Nesting, UnaryOperator};
 use sqlite_items::Boxed;
-use std::alloc::{AllocError, Global};
+use std::alloc::Global;
 use td_tokens::token::{Kind, Word};
-
-fn binary(
-    alloc: Global,
-    operator: BinaryOperator,
-    left: Expr,
-    right: Expr,
-) -> Result<Expr, AllocError>
-    ensures { IfOk result (λ e. e ≡ Expr.Binary operator left right) }
-{
-    Ok(Expr::Binary(
-        operator,
-        Boxed::new(alloc, left)?,
-        Boxed::new(alloc, right)?,
-    ))
-}
 
 #[tactic(auto, unfolding(crate::specs::Reader::project_turn))]
 fn project(alloc: Global, tokens: &mut Cursor<'_>, left: Expr) -> Result<Expr, ReadError>
@@ -157,9 +141,10 @@ impl<F: Fn(Global, &mut Cursor<'_>, usize, usize, Form) -> Result<Expr, ReadErro
         requires { Nests self.now.depth (F.pre self.now.nested) (F.post self.now.nested) }
         ensures { Gives (spec.binary_turn (spec.prefixed_at (reads self.now.depth) self.now.levels) left tokens.old) result tokens.new }
     {
+        let left = Boxed::new(self.alloc, left)?;
         let operator = tokens.infix()?;
         let right = self.prefixed(tokens)?;
-        Ok(binary(self.alloc, operator, left, right)?)
+        Ok(Expr::Binary(operator, left, Boxed::new(self.alloc, right)?))
     }
 
     fn more_multiplicative(
@@ -192,9 +177,10 @@ impl<F: Fn(Global, &mut Cursor<'_>, usize, usize, Form) -> Result<Expr, ReadErro
         requires { Nests self.now.depth (F.pre self.now.nested) (F.post self.now.nested) }
         ensures { Gives (spec.binary_turn (spec.multiplicative_at (reads self.now.depth) self.now.levels) left tokens.old) result tokens.new }
     {
+        let left = Boxed::new(self.alloc, left)?;
         let operator = tokens.infix()?;
         let right = self.multiplicative(tokens)?;
-        Ok(binary(self.alloc, operator, left, right)?)
+        Ok(Expr::Binary(operator, left, Boxed::new(self.alloc, right)?))
     }
 
     fn more_additive(&self, tokens: &mut Cursor<'_>, mut left: Expr) -> Result<Expr, ReadError>
@@ -223,9 +209,10 @@ impl<F: Fn(Global, &mut Cursor<'_>, usize, usize, Form) -> Result<Expr, ReadErro
         requires { Nests self.now.depth (F.pre self.now.nested) (F.post self.now.nested) }
         ensures { Gives (spec.binary_turn (spec.additive_at (reads self.now.depth) self.now.levels) left tokens.old) result tokens.new }
     {
+        let left = Boxed::new(self.alloc, left)?;
         let operator = tokens.infix()?;
         let right = self.additive(tokens)?;
-        Ok(binary(self.alloc, operator, left, right)?)
+        Ok(Expr::Binary(operator, left, Boxed::new(self.alloc, right)?))
     }
 
     #[tactic(auto, unfolding(crate::specs::Reader::where_turn))]
@@ -234,7 +221,7 @@ impl<F: Fn(Global, &mut Cursor<'_>, usize, usize, Form) -> Result<Expr, ReadErro
         ensures { Gives (spec.where_turn (reads self.now.depth) self.now.levels left tokens.old) result tokens.new }
     {
         let relation = Boxed::new(self.alloc, left)?;
-        let condition = Boxed::new(self.alloc, self.inner(tokens)?)?;
+        let condition = self.boxed(tokens)?;
         Ok(Expr::Where(relation, condition))
     }
 
@@ -313,9 +300,10 @@ impl<F: Fn(Global, &mut Cursor<'_>, usize, usize, Form) -> Result<Expr, ReadErro
         requires { Nests self.now.depth (F.pre self.now.nested) (F.post self.now.nested) }
         ensures { Gives (spec.binary_turn (spec.relational_at (reads self.now.depth) self.now.levels) left tokens.old) result tokens.new }
     {
+        let left = Boxed::new(self.alloc, left)?;
         let operator = tokens.infix()?;
         let right = self.relational(tokens)?;
-        Ok(binary(self.alloc, operator, left, right)?)
+        Ok(Expr::Binary(operator, left, Boxed::new(self.alloc, right)?))
     }
 
     #[tactic(auto, unfolding(crate::specs::Reader::climb))]
@@ -348,9 +336,10 @@ impl<F: Fn(Global, &mut Cursor<'_>, usize, usize, Form) -> Result<Expr, ReadErro
         requires { Nests self.now.depth (F.pre self.now.nested) (F.post self.now.nested) }
         ensures { Gives (spec.binary_turn (spec.not_at (reads self.now.depth) self.now.levels) left tokens.old) result tokens.new }
     {
+        let left = Boxed::new(self.alloc, left)?;
         let operator = tokens.infix()?;
         let right = self.negation(tokens)?;
-        Ok(binary(self.alloc, operator, left, right)?)
+        Ok(Expr::Binary(operator, left, Boxed::new(self.alloc, right)?))
     }
 
     fn more_conjunction(&self, tokens: &mut Cursor<'_>, mut left: Expr) -> Result<Expr, ReadError>
@@ -379,9 +368,10 @@ impl<F: Fn(Global, &mut Cursor<'_>, usize, usize, Form) -> Result<Expr, ReadErro
         requires { Nests self.now.depth (F.pre self.now.nested) (F.post self.now.nested) }
         ensures { Gives (spec.binary_turn (spec.and_at (reads self.now.depth) self.now.levels) left tokens.old) result tokens.new }
     {
+        let left = Boxed::new(self.alloc, left)?;
         let operator = tokens.infix()?;
         let right = self.conjunction(tokens)?;
-        Ok(binary(self.alloc, operator, left, right)?)
+        Ok(Expr::Binary(operator, left, Boxed::new(self.alloc, right)?))
     }
 
     fn more_disjunction(&self, tokens: &mut Cursor<'_>, mut left: Expr) -> Result<Expr, ReadError>
@@ -412,8 +402,7 @@ impl<F: Fn(Global, &mut Cursor<'_>, usize, usize, Form) -> Result<Expr, ReadErro
     {
         let introduced = self.named_list(tokens, Naming::After)?;
         tokens.expect(Word::Colon)?;
-        let body = self.inner(tokens)?;
-        Ok(Expr::With(introduced, Boxed::new(self.alloc, body)?))
+        Ok(Expr::With(introduced, self.boxed(tokens)?))
     }
 
     #[tactic(auto, unfolding(crate::specs::Reader::with_assigned))]
@@ -424,8 +413,7 @@ impl<F: Fn(Global, &mut Cursor<'_>, usize, usize, Form) -> Result<Expr, ReadErro
         tokens.expect(Word::OpenParenthesis)?;
         let introduced = self.named_listed(tokens, Word::CloseParenthesis, Naming::Assigned)?;
         tokens.expect(Word::Colon)?;
-        let body = self.inner(tokens)?;
-        Ok(Expr::With(introduced, Boxed::new(self.alloc, body)?))
+        Ok(Expr::With(introduced, self.boxed(tokens)?))
     }
 
     #[tactic(auto, unfolding(crate::specs::Reader::with_at))]

@@ -13,7 +13,7 @@ use crate::lists::attributes;
 use crate::script::{Definition, Opening};
 use crate::tree::{Attributes, Expr};
 use crate::types::{components, heading};
-use sqlite_items::Items;
+use sqlite_items::{Boxed, Items};
 use std::alloc::Global;
 use td_tokens::token::Word;
 use td_values::Name;
@@ -62,12 +62,12 @@ impl<F: Fn(Global, &mut Cursor<'_>, usize, usize, Form) -> Result<Expr, ReadErro
 
     // An expression in round brackets.
     #[tactic(auto, unfolding(crate::specs::StatementReader::bracketed))]
-    fn bracketed(&self, tokens: &mut Cursor<'_>) -> Result<Expr, ReadError>
+    fn bracketed(&self, tokens: &mut Cursor<'_>) -> Result<Boxed<Expr>, ReadError>
         requires { Nests self.now.depth (F.pre self.now.nested) (F.post self.now.nested) }
         ensures { Gives (spec.bracketed (reads self.now.depth) self.now.levels tokens.old) result tokens.new }
     {
         tokens.expect(Word::OpenParenthesis)?;
-        let inside = self.inner(tokens)?;
+        let inside = self.boxed(tokens)?;
         tokens.expect(Word::CloseParenthesis)?;
         Ok(inside)
     }
@@ -139,7 +139,7 @@ impl<F: Fn(Global, &mut Cursor<'_>, usize, usize, Form) -> Result<Expr, ReadErro
         ensures { Gives (spec.constraint_definition (reads self.now.depth) self.now.levels tokens.old) result tokens.new }
     {
         let name = tokens.name(self.alloc)?;
-        let condition = self.inner(tokens)?;
+        let condition = self.boxed(tokens)?;
         tokens.expect(Word::Semicolon)?;
         Ok(Definition::Constraint(name, condition))
     }

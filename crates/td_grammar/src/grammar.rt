@@ -11,6 +11,7 @@ use crate::error::ReadError;
 use crate::forms::Form;
 use crate::levels::within;
 use crate::tree::Expr;
+use sqlite_items::Boxed;
 use std::alloc::Global;
 
 #[derive(Drop)]
@@ -43,6 +44,16 @@ impl<F: Fn(Global, &mut Cursor<'_>, usize, usize, Form) -> Result<Expr, ReadErro
         ensures { Gives (spec.inner (reads self.now.depth) self.now.levels tokens.old) result tokens.new }
     {
         self.nested(tokens, self.levels, Form::Expr)
+    }
+
+    /// The same on the heap.
+    // A box is dropped by one call. Where a tree itself is dropped, as at an early return, there is a case to be
+    // proved for each of its forms: so what reads on after an expression has it in a box.
+    pub fn boxed(&self, tokens: &mut Cursor<'_>) -> Result<Boxed<Expr>, ReadError>
+        requires { Nests self.now.depth (F.pre self.now.nested) (F.post self.now.nested) }
+        ensures { Gives (spec.inner (reads self.now.depth) self.now.levels tokens.old) result tokens.new }
+    {
+        Ok(Boxed::new(self.alloc, self.inner(tokens)?)?)
     }
 
     pub fn form(&self, tokens: &mut Cursor<'_>, form: Form) -> Result<Expr, ReadError>

@@ -10,7 +10,7 @@ use crate::error::ReadError;
 use crate::forms::{Form, Naming};
 use crate::grammar::Grammar;
 use crate::tree::{Aggregate, Expr, Named, Summary};
-use sqlite_items::Items;
+use sqlite_items::{Boxed, Items};
 use std::alloc::Global;
 use td_tokens::token::{Kind, Word};
 
@@ -52,13 +52,17 @@ impl<F: Fn(Global, &mut Cursor<'_>, usize, usize, Form) -> Result<Expr, ReadErro
 
     /// An expression with a name.
     #[tactic(auto, unfolding(crate::specs::Reader::named_at))]
-    pub fn named(&self, tokens: &mut Cursor<'_>, naming: Naming) -> Result<Named<Expr>, ReadError>
+    pub fn named(
+        &self,
+        tokens: &mut Cursor<'_>,
+        naming: Naming,
+    ) -> Result<Named<Boxed<Expr>>, ReadError>
         requires { Nests self.now.depth (F.pre self.now.nested) (F.post self.now.nested) }
         ensures { Gives (spec.named_at (reads self.now.depth) self.now.levels naming tokens.old) result tokens.new }
     {
         match naming {
             Naming::After => {
-                let value = self.inner(tokens)?;
+                let value = self.boxed(tokens)?;
                 tokens.expect(Word::As)?;
                 let name = tokens.name(self.alloc)?;
                 Ok(Named { name, value })
@@ -66,12 +70,12 @@ impl<F: Fn(Global, &mut Cursor<'_>, usize, usize, Form) -> Result<Expr, ReadErro
             Naming::Assigned => {
                 let name = tokens.name(self.alloc)?;
                 tokens.expect(Word::Assign)?;
-                let value = self.inner(tokens)?;
+                let value = self.boxed(tokens)?;
                 Ok(Named { name, value })
             }
             Naming::Beside => {
                 let name = tokens.name(self.alloc)?;
-                let value = self.inner(tokens)?;
+                let value = self.boxed(tokens)?;
                 Ok(Named { name, value })
             }
         }
@@ -81,7 +85,7 @@ impl<F: Fn(Global, &mut Cursor<'_>, usize, usize, Form) -> Result<Expr, ReadErro
         &self,
         tokens: &mut Cursor<'_>,
         naming: Naming,
-    ) -> Result<Items<Named<Expr>>, ReadError>
+    ) -> Result<Items<Named<Boxed<Expr>>>, ReadError>
         requires { Nests self.now.depth (F.pre self.now.nested) (F.post self.now.nested) }
         ensures { Gives (spec.list_at (spec.named_at (reads self.now.depth) self.now.levels naming) tokens.old) result tokens.new }
     {
@@ -101,7 +105,7 @@ impl<F: Fn(Global, &mut Cursor<'_>, usize, usize, Form) -> Result<Expr, ReadErro
         tokens: &mut Cursor<'_>,
         end: Word,
         naming: Naming,
-    ) -> Result<Items<Named<Expr>>, ReadError>
+    ) -> Result<Items<Named<Boxed<Expr>>>, ReadError>
         requires { Nests self.now.depth (F.pre self.now.nested) (F.post self.now.nested) }
         ensures { Gives (spec.listed end (spec.named_at (reads self.now.depth) self.now.levels naming) tokens.old) result tokens.new }
     {
@@ -116,7 +120,7 @@ impl<F: Fn(Global, &mut Cursor<'_>, usize, usize, Form) -> Result<Expr, ReadErro
         tokens: &mut Cursor<'_>,
         end: Word,
         naming: Naming,
-    ) -> Result<Items<Named<Expr>>, ReadError>
+    ) -> Result<Items<Named<Boxed<Expr>>>, ReadError>
         requires { Nests self.now.depth (F.pre self.now.nested) (F.post self.now.nested) }
         ensures { Gives (spec.up_to end (spec.named_at (reads self.now.depth) self.now.levels naming) tokens.old) result tokens.new }
     {
@@ -127,7 +131,7 @@ impl<F: Fn(Global, &mut Cursor<'_>, usize, usize, Form) -> Result<Expr, ReadErro
     }
 
     #[tactic(auto, unfolding(crate::specs::Reader::counted))]
-    pub fn counted(&self, tokens: &mut Cursor<'_>) -> Result<Summary<Expr>, ReadError>
+    pub fn counted(&self, tokens: &mut Cursor<'_>) -> Result<Summary<Boxed<Expr>>, ReadError>
         requires { Nests self.now.depth (F.pre self.now.nested) (F.post self.now.nested) }
         ensures { Gives (spec.counted (reads self.now.depth) self.now.levels tokens.old) result tokens.new }
     {
@@ -141,12 +145,12 @@ impl<F: Fn(Global, &mut Cursor<'_>, usize, usize, Form) -> Result<Expr, ReadErro
         &self,
         tokens: &mut Cursor<'_>,
         aggregate: Aggregate,
-    ) -> Result<Summary<Expr>, ReadError>
+    ) -> Result<Summary<Boxed<Expr>>, ReadError>
         requires { Nests self.now.depth (F.pre self.now.nested) (F.post self.now.nested) }
         ensures { Gives (spec.summed (reads self.now.depth) self.now.levels aggregate tokens.old) result tokens.new }
     {
         tokens.expect(Word::OpenParenthesis)?;
-        let term = self.inner(tokens)?;
+        let term = self.boxed(tokens)?;
         tokens.expect(Word::CloseParenthesis)?;
         Ok(Summary::Of(aggregate, term))
     }
@@ -155,7 +159,7 @@ impl<F: Fn(Global, &mut Cursor<'_>, usize, usize, Form) -> Result<Expr, ReadErro
         &self,
         tokens: &mut Cursor<'_>,
         word: Word,
-    ) -> Result<Summary<Expr>, ReadError>
+    ) -> Result<Summary<Boxed<Expr>>, ReadError>
         requires { Nests self.now.depth (F.pre self.now.nested) (F.post self.now.nested) }
         ensures { Gives (spec.summary_word (reads self.now.depth) self.now.levels word tokens.old) result tokens.new }
     {
@@ -169,7 +173,7 @@ impl<F: Fn(Global, &mut Cursor<'_>, usize, usize, Form) -> Result<Expr, ReadErro
     }
 
     #[tactic(auto, unfolding(crate::specs::Reader::summary_at))]
-    pub fn summary(&self, tokens: &mut Cursor<'_>) -> Result<Summary<Expr>, ReadError>
+    pub fn summary(&self, tokens: &mut Cursor<'_>) -> Result<Summary<Boxed<Expr>>, ReadError>
         requires { Nests self.now.depth (F.pre self.now.nested) (F.post self.now.nested) }
         ensures { Gives (spec.summary_at (reads self.now.depth) self.now.levels tokens.old) result tokens.new }
     {
@@ -188,7 +192,7 @@ impl<F: Fn(Global, &mut Cursor<'_>, usize, usize, Form) -> Result<Expr, ReadErro
         &self,
         tokens: &mut Cursor<'_>,
         naming: Naming,
-    ) -> Result<Named<Summary<Expr>>, ReadError>
+    ) -> Result<Named<Summary<Boxed<Expr>>>, ReadError>
         requires { Nests self.now.depth (F.pre self.now.nested) (F.post self.now.nested) }
         ensures { Gives (spec.named_summary (reads self.now.depth) self.now.levels naming tokens.old) result tokens.new }
     {
@@ -213,7 +217,7 @@ impl<F: Fn(Global, &mut Cursor<'_>, usize, usize, Form) -> Result<Expr, ReadErro
         &self,
         tokens: &mut Cursor<'_>,
         naming: Naming,
-    ) -> Result<Items<Named<Summary<Expr>>>, ReadError>
+    ) -> Result<Items<Named<Summary<Boxed<Expr>>>>, ReadError>
         requires { Nests self.now.depth (F.pre self.now.nested) (F.post self.now.nested) }
         ensures { Gives (spec.list_at (spec.named_summary (reads self.now.depth) self.now.levels naming) tokens.old) result tokens.new }
     {
@@ -233,7 +237,7 @@ impl<F: Fn(Global, &mut Cursor<'_>, usize, usize, Form) -> Result<Expr, ReadErro
         tokens: &mut Cursor<'_>,
         end: Word,
         naming: Naming,
-    ) -> Result<Items<Named<Summary<Expr>>>, ReadError>
+    ) -> Result<Items<Named<Summary<Boxed<Expr>>>>, ReadError>
         requires { Nests self.now.depth (F.pre self.now.nested) (F.post self.now.nested) }
         ensures { Gives (spec.listed end (spec.named_summary (reads self.now.depth) self.now.levels naming) tokens.old) result tokens.new }
     {
@@ -246,7 +250,7 @@ impl<F: Fn(Global, &mut Cursor<'_>, usize, usize, Form) -> Result<Expr, ReadErro
     pub fn summaries(
         &self,
         tokens: &mut Cursor<'_>,
-    ) -> Result<Items<Named<Summary<Expr>>>, ReadError>
+    ) -> Result<Items<Named<Summary<Boxed<Expr>>>>, ReadError>
         requires { Nests self.now.depth (F.pre self.now.nested) (F.post self.now.nested) }
         ensures { Gives (spec.summaries (reads self.now.depth) self.now.levels tokens.old) result tokens.new }
     {

@@ -19,11 +19,11 @@ fn list_within(all: &[Expr], most: usize) -> bool
 }
 
 #[cycle(within)]
-fn named_within(all: &[Named<Expr>], most: usize) -> bool
+fn named_within(all: &[Named<Boxed<Expr>>], most: usize) -> bool
     ensures { result ≡ nat_le (named_levels all.now) most }
 {
     for a in all {
-        if !within(&a.value, most) {
+        if !within(a.value.get(), most) {
             return false;
         }
     }
@@ -31,17 +31,17 @@ fn named_within(all: &[Named<Expr>], most: usize) -> bool
 }
 
 #[cycle(within)]
-fn summary_within(summary: &Summary<Expr>, most: usize) -> bool
+fn summary_within(summary: &Summary<Boxed<Expr>>, most: usize) -> bool
     ensures { result ≡ nat_le (summary_levels summary.now) most }
 {
     match summary {
         Summary::Count => true,
-        Summary::Of(_, term) => within(term, most),
+        Summary::Of(_, term) => within(term.get(), most),
     }
 }
 
 #[cycle(within)]
-fn summaries_within(all: &[Named<Summary<Expr>>], most: usize) -> bool
+fn summaries_within(all: &[Named<Summary<Boxed<Expr>>>], most: usize) -> bool
     ensures { result ≡ nat_le (summaries_levels all.now) most }
 {
     for a in all {

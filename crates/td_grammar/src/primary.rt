@@ -101,9 +101,9 @@ impl<F: Fn(Global, &mut Cursor<'_>, usize, usize, Form) -> Result<Expr, ReadErro
         ensures { Gives (spec.applied (reads self.now.depth) self.now.levels operator tokens.old) result tokens.new }
     {
         tokens.expect(Word::OpenParenthesis)?;
-        let operand = self.inner(tokens)?;
+        let operand = self.boxed(tokens)?;
         tokens.expect(Word::CloseParenthesis)?;
-        Ok(unary(self.alloc, operator, operand)?)
+        Ok(Expr::Unary(operator, operand))
     }
 
     #[tactic(auto, unfolding(crate::specs::Reader::aggregated))]
@@ -116,9 +116,9 @@ impl<F: Fn(Global, &mut Cursor<'_>, usize, usize, Form) -> Result<Expr, ReadErro
         ensures { Gives (spec.aggregated (reads self.now.depth) self.now.levels aggregate tokens.old) result tokens.new }
     {
         tokens.expect(Word::OpenParenthesis)?;
-        let relation = Boxed::new(self.alloc, self.inner(tokens)?)?;
+        let relation = self.boxed(tokens)?;
         if tokens.eat(Word::Comma) {
-            let term = Boxed::new(self.alloc, self.inner(tokens)?)?;
+            let term = self.boxed(tokens)?;
             tokens.expect(Word::CloseParenthesis)?;
             return Ok(Expr::Aggregate(aggregate, relation, Some(term)));
         }
@@ -131,11 +131,11 @@ impl<F: Fn(Global, &mut Cursor<'_>, usize, usize, Form) -> Result<Expr, ReadErro
         requires { Nests self.now.depth (F.pre self.now.nested) (F.post self.now.nested) }
         ensures { Gives (spec.choice (reads self.now.depth) self.now.levels tokens.old) result tokens.new }
     {
-        let test = Boxed::new(self.alloc, self.inner(tokens)?)?;
+        let test = self.boxed(tokens)?;
         tokens.expect(Word::Then)?;
-        let yes = Boxed::new(self.alloc, self.inner(tokens)?)?;
+        let yes = self.boxed(tokens)?;
         tokens.expect(Word::Else)?;
-        let no = Boxed::new(self.alloc, self.inner(tokens)?)?;
+        let no = self.boxed(tokens)?;
         tokens.expect(Word::End)?;
         tokens.expect(Word::If)?;
         Ok(Expr::If(test, yes, no))
@@ -146,7 +146,7 @@ impl<F: Fn(Global, &mut Cursor<'_>, usize, usize, Form) -> Result<Expr, ReadErro
         requires { Nests self.now.depth (F.pre self.now.nested) (F.post self.now.nested) }
         ensures { Gives (spec.extend (reads self.now.depth) self.now.levels tokens.old) result tokens.new }
     {
-        let relation = Boxed::new(self.alloc, self.inner(tokens)?)?;
+        let relation = self.boxed(tokens)?;
         if tokens.eat(Word::Add) {
             tokens.expect(Word::OpenParenthesis)?;
             let added = self.named_listed(tokens, Word::CloseParenthesis, Naming::After)?;
@@ -164,7 +164,7 @@ impl<F: Fn(Global, &mut Cursor<'_>, usize, usize, Form) -> Result<Expr, ReadErro
         ensures { Gives (spec.groups_at (reads self.now.depth) self.now.levels tokens.old) result tokens.new }
     {
         if tokens.eat(Word::Per) {
-            return Ok(Groups::Per(Boxed::new(self.alloc, self.inner(tokens)?)?));
+            return Ok(Groups::Per(self.boxed(tokens)?));
         }
         if tokens.eat(Word::By) {
             return Ok(Groups::By(attributes(self.alloc, tokens)?));
@@ -177,7 +177,7 @@ impl<F: Fn(Global, &mut Cursor<'_>, usize, usize, Form) -> Result<Expr, ReadErro
         requires { Nests self.now.depth (F.pre self.now.nested) (F.post self.now.nested) }
         ensures { Gives (spec.summarize (reads self.now.depth) self.now.levels tokens.old) result tokens.new }
     {
-        let relation = Boxed::new(self.alloc, self.inner(tokens)?)?;
+        let relation = self.boxed(tokens)?;
         let groups = self.groups(tokens)?;
         let summaries = self.summaries(tokens)?;
         Ok(Expr::Summarize(relation, groups, summaries))

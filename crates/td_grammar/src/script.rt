@@ -1,17 +1,17 @@
 //! Trees of statements and scripts.
 
 use crate::tree::{Attributes, Expr, Named, TypeExpr};
-use sqlite_items::Items;
+use sqlite_items::{Boxed, Items};
 use td_values::Name;
 
 /// One assignment of a statement. A condition that is not written is none.
 #[derive(Drop)]
 pub enum Action {
-    Assign(Name, Expr),
-    Insert(Name, Expr),
-    Delete(Name, Option<Expr>),
+    Assign(Name, Boxed<Expr>),
+    Insert(Name, Boxed<Expr>),
+    Delete(Name, Option<Boxed<Expr>>),
     /// The relvar, the condition, and the attributes with their new values.
-    Update(Name, Option<Expr>, Items<Named<Expr>>),
+    Update(Name, Option<Boxed<Expr>>, Items<Named<Boxed<Expr>>>),
 }
 
 /// What a base relvar holds at first: nothing, under its heading, or the value of an expression, whose heading may be
@@ -19,15 +19,15 @@ pub enum Action {
 #[derive(Drop)]
 pub enum Opening {
     Empty(Items<Named<TypeExpr>>),
-    Init(Option<Items<Named<TypeExpr>>>, Expr),
+    Init(Option<Items<Named<TypeExpr>>>, Boxed<Expr>),
 }
 
 #[derive(Drop)]
 pub enum Definition {
     /// The type, the name of its possrep if it is written, the components, and the constraint.
-    Type(Name, Option<Name>, Items<Named<TypeExpr>>, Option<Expr>),
+    Type(Name, Option<Name>, Items<Named<TypeExpr>>, Option<Boxed<Expr>>),
     /// A relvar, BASE or REAL, with its keys.
     Base(Name, Opening, Items<Attributes>),
-    Virtual(Name, Expr),
-    Constraint(Name, Expr),
+    Virtual(Name, Boxed<Expr>),
+    Constraint(Name, Boxed<Expr>),
 }

@@ -4,7 +4,7 @@ use crate::error::ReadError;
 use crate::reader::{read_script, read_statement};
 use crate::script::{Action, Definition, Opening};
 use crate::tree::{BinaryOperator, Expr, Named};
-use sqlite_items::Items;
+use sqlite_items::{Boxed, Items};
 use std::alloc::AllocError;
 use std::test::Fail;
 
@@ -87,9 +87,9 @@ fn is_a_equals_b(tree: &Expr) -> bool {
     }
 }
 
-fn sets_c_to_1(items: &Items<Named<Expr>>) -> bool {
+fn sets_c_to_1(items: &Items<Named<Boxed<Expr>>>) -> bool {
     match items.as_slice() {
-        [one] => one.name.as_str() == "C" && matches!(one.value, Expr::Integer(1)),
+        [one] => one.name.as_str() == "C" && matches!(one.value.get(), Expr::Integer(1)),
         _ => false,
     }
 }
@@ -98,7 +98,7 @@ fn sets_c_to_1(items: &Items<Named<Expr>>) -> bool {
 fn updates_c_where_a_equals_b(actions: &Items<Action>) -> bool {
     match actions.as_slice() {
         [Action::Update(target, Some(condition), items)] => {
-            target.as_str() == "S" && is_a_equals_b(condition) && sets_c_to_1(items)
+            target.as_str() == "S" && is_a_equals_b(condition.get()) && sets_c_to_1(items)
         }
         _ => false,
     }

@@ -126,7 +126,7 @@ pub enum Expr {
     Name(Name),
     /// A selector, or THE_ with a component.
     Call(Name, Items<Expr>),
-    Tuple(Items<Named<Expr>>),
+    Tuple(Items<Named<Boxed<Expr>>>),
     /// Its heading, if it is written, and its tuples.
     Relation(Option<Items<Named<TypeExpr>>>, Items<Expr>),
     Unary(UnaryOperator, Boxed<Expr>),
@@ -143,7 +143,7 @@ pub enum Expr {
     /// The relation, and the term if it is written.
     Aggregate(Aggregate, Boxed<Expr>, Option<Boxed<Expr>>),
     If(Boxed<Expr>, Boxed<Expr>, Boxed<Expr>),
-    Extend(Extension, Boxed<Expr>, Items<Named<Expr>>),
-    Summarize(Boxed<Expr>, Groups<Boxed<Expr>>, Items<Named<Summary<Expr>>>),
-    With(Items<Named<Expr>>, Boxed<Expr>),
+    Extend(Extension, Boxed<Expr>, Items<Named<Boxed<Expr>>>),
+    Summarize(Boxed<Expr>, Groups<Boxed<Expr>>, Items<Named<Summary<Boxed<Expr>>>>),
+    With(Items<Named<Boxed<Expr>>>, Boxed<Expr>),
 }
