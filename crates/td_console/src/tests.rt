@@ -7,12 +7,18 @@ use std::alloc::{AllocError, Global};
 use std::io;
 use std::io::{ErrorKind, Read, Write};
 use std::test::Fail;
-use td_replay::{OpenError, PlainSite, Taken};
+use td_replay::{OpenError, PlainSite};
 use td_stamps::Entry;
 use td_values::Text;
 
 /// A relvar of suppliers, and then the commands.
 const SUPPLIERS: &str = "VAR S BASE RELATION { SNO CHAR, STATUS INTEGER, CITY CHAR } KEY { SNO };
+.begin
+";
+
+/// Relvars with an attribute whose name has 64 bytes, which is the most, and no key attribute.
+const LONG_NAME: &str =
+    "VAR S BASE RELATION { NNNNNNNNNNNNNNNNNNNNNNNNNNNNNNNNNNNNNNNNNNNNNNNNNNNNNNNNNNNNNNNN INTEGER } KEY { };
 .begin
 ";
 
@@ -51,61 +57,37 @@ TUPLE { CITY 'Paris', SNO 'S2', STATUS 10 }
 held 2
 ";
 
-/// How a run over memory ended, and what it wrote.
-#[derive(Drop)]
-struct Written {
-    end: Result<bool, Ended>,
-    output: Vec<u8>,
+/// A run that ends well: its name, its script with `.begin`, the lines behind it, and all that is written.
+struct Example {
+    name: &'static str,
+    script: &'static str,
+    lines: &'static str,
+    written: &'static str,
 }
 
-impl Written {
-    fn text(&self) -> &str {
-        std::str::from_utf8(&self.output).unwrap_or("no text")
-    }
-}
-
-fn run(alloc: Global, input: &[u8]) -> Written {
-    let mut reader = input;
-    let mut output = Vec::new(alloc);
-    let end = run_program(alloc, &mut reader, &mut output);
-    Written { end, output }
-}
-
-// The run of the script of suppliers and these lines.
-fn run_lines(alloc: Global, lines: &str) -> Result<Written, AllocError> {
-    let input = format!(in alloc; "{SUPPLIERS}{lines}")?;
-    Ok(run(alloc, input.as_bytes()))
-}
-
-#[test]
-fn two_sites_meet(rt: HostRuntime) {
-    let run = run(rt.alloc(), TWO_SITES_MEET.as_bytes());
-    assert_eq!(rt; run.text(), TWO_SITES_MET);
-    assert_eq!(rt; run.end, Ok(true));
-}
-
-#[test]
-fn nothing_issued(rt: HostRuntime) -> Result<(), Fail> {
-    let run = run_lines(rt.alloc(), ".listing 1\n")?;
-    assert_eq!(rt; run.text(), "ready 2\nrelvar S 0\nheld 0\n");
-    assert_eq!(rt; run.end, Ok(true));
-    Ok(())
-}
-
-#[test]
-fn same_key_at_two_sites(rt: HostRuntime) -> Result<(), Fail> {
-    let run = run_lines(
-        rt.alloc(),
-        "1: INSERT S RELATION { TUPLE { SNO 'S1', STATUS 20, CITY 'London' } };
+const EXAMPLES: &[Example] = &[
+    Example {
+        name: "two sites meet",
+        script: "",
+        lines: TWO_SITES_MEET,
+        written: TWO_SITES_MET,
+    },
+    Example {
+        name: "nothing issued",
+        script: SUPPLIERS,
+        lines: ".listing 1\n",
+        written: "ready 2\nrelvar S 0\nheld 0\n",
+    },
+    Example {
+        name: "same key at two sites",
+        script: SUPPLIERS,
+        lines: "1: INSERT S RELATION { TUPLE { SNO 'S1', STATUS 20, CITY 'London' } };
 2: INSERT S RELATION { TUPLE { SNO 'S1', STATUS 20, CITY 'Paris' } };
 .meet 1 2
 .listing 1
 .listing 2
 ",
-    )?;
-    assert_eq!(rt;
-        run.text(),
-        "ready 2
+        written: "ready 2
 1.1 done
 1.2 done
 met 1 2 fresh 1 1
@@ -117,26 +99,18 @@ relvar S 1
 TUPLE { CITY 'London', SNO 'S1', STATUS 20 }
 refused 1.2 breaks key S
 held 2
-"
-    );
-    assert_eq!(rt; run.end, Ok(true));
-    Ok(())
-}
-
-#[test]
-fn late_refusal_frees_a_key(rt: HostRuntime) -> Result<(), Fail> {
-    let run = run_lines(
-        rt.alloc(),
-        "1: INSERT S RELATION { TUPLE { SNO 'S1', STATUS 20, CITY 'London' } };
+",
+    },
+    Example {
+        name: "late refusal frees a key",
+        script: SUPPLIERS,
+        lines: "1: INSERT S RELATION { TUPLE { SNO 'S1', STATUS 20, CITY 'London' } };
 2: INSERT S RELATION { TUPLE { SNO 'S1', STATUS 10, CITY 'Paris' }, TUPLE { SNO 'S2', STATUS 10, CITY 'Paris' } };
 2: INSERT S RELATION { TUPLE { SNO 'S2', STATUS 30, CITY 'London' } };
 .meet 1 2
 .listing 2
 ",
-    )?;
-    assert_eq!(rt;
-        run.text(),
-        "ready 2
+        written: "ready 2
 1.1 done
 1.2 done
 2.2 refused breaks key S
@@ -146,50 +120,128 @@ TUPLE { CITY 'London', SNO 'S1', STATUS 20 }
 TUPLE { CITY 'London', SNO 'S2', STATUS 30 }
 refused 1.2 breaks key S
 held 3
-"
-    );
-    assert_eq!(rt; run.end, Ok(true));
-    Ok(())
+",
+    },
+    Example {
+        name: "readings: a name of 64 bytes",
+        script: LONG_NAME,
+        lines: "1: INSERT S RELATION { TUPLE { NNNNNNNNNNNNNNNNNNNNNNNNNNNNNNNNNNNNNNNNNNNNNNNNNNNNNNNNNNNNNNNN 1 } };\n",
+        written: "ready 2\n1.1 done\n",
+    },
+    Example {
+        name: "readings: a name of 65 bytes",
+        script: LONG_NAME,
+        lines: "1: INSERT S RELATION { TUPLE { NNNNNNNNNNNNNNNNNNNNNNNNNNNNNNNNNNNNNNNNNNNNNNNNNNNNNNNNNNNNNNNNN 1 } };\n",
+        written: "ready 2\nfault syntax\n",
+    },
+    Example {
+        name: "readings: integers, comments and keywords",
+        script: SUPPLIERS,
+        lines: "1: insert S Relation { TUPLE { SNO '1', STATUS 12, CITY '' } };
+1: insert S Relation { TUPLE { SNO '2', STATUS 12A, CITY '' } };
+1: insert S Relation { TUPLE { SNO '3', STATUS 12 /* x, CITY '' } };
+1: insert S Relation { TUPLE { SNO '4', STATUS 12 /* x */, CITY '' } };
+1: insert S Relation { TUPLE { SNO '5', STATUS 9223372036854775807, CITY '' } };
+1: insert S Relation { TUPLE { SNO '6', STATUS 9223372036854775808, CITY '' } };
+",
+        written: "ready 2
+1.1 done
+fault syntax
+fault syntax
+2.1 done
+3.1 done
+fault syntax
+",
+    },
+    Example {
+        name: "readings: texts",
+        script: SUPPLIERS,
+        lines: "2: INSERT S RELATION { TUPLE { SNO 'it''s', STATUS 007, CITY '\u{e9}' } };\n.listing 2\n",
+        written: "ready 2\n1.2 done\nrelvar S 1\nTUPLE { CITY '\u{e9}', SNO 'it''s', STATUS 7 }\nheld 1\n",
+    },
+    Example {
+        name: "ends of lines: none at the end",
+        script: SUPPLIERS,
+        lines: ".listing 1",
+        written: "ready 2\nrelvar S 0\nheld 0\n",
+    },
+    Example {
+        name: "ends of lines: none behind .quit",
+        script: SUPPLIERS,
+        lines: ".quit",
+        written: "ready 2\n",
+    },
+    Example {
+        name: "ends of lines: a line behind .quit",
+        script: SUPPLIERS,
+        lines: ".quit\n.listing 1\n",
+        written: "ready 2\n",
+    },
+    Example {
+        name: "ends of lines: a lone CR",
+        script: SUPPLIERS,
+        lines: ".quit\r",
+        written: "ready 2\nfault line\n",
+    },
+    Example {
+        name: "ends of lines: no line",
+        script: SUPPLIERS,
+        lines: "",
+        written: "ready 2\n",
+    },
+    Example {
+        name: "an empty script",
+        script: ".begin\n",
+        lines: ".listing 2",
+        written: "ready 2\nheld 0\n",
+    },
+];
+
+/// How a run over memory ended, and what it wrote.
+#[derive(Drop)]
+struct Written {
+    end: Result<bool, Ended>,
+    output: Vec<u8>,
+}
+
+impl Written {
+    fn text(&self) -> &str {
+        std::str::from_utf8(&self.output).unwrap_or("no text")
+    }
+
+    // Whether the run ended well, or with a script that is refused, and wrote this text.
+    fn is(&self, accepted: bool, text: &str) -> bool {
+        self.end == Ok(accepted) && self.text() == text
+    }
+}
+
+fn run(alloc: Global, input: &[u8]) -> Written {
+    let mut reader = input;
+    let mut output = Vec::new(alloc);
+    let end = run_program(alloc, &mut reader, &mut output);
+    Written { end, output }
+}
+
+// Whether the run of this script and these lines is accepted and writes this text.
+fn writes(alloc: Global, script: &str, lines: &str, text: &str) -> Result<bool, AllocError> {
+    let input = format!(in alloc; "{script}{lines}")?;
+    Ok(run(alloc, input.as_bytes()).is(true, text))
 }
 
 #[test]
-fn readings(rt: HostRuntime) -> Result<(), Fail> {
-    let most = "N".repeat(rt.alloc(), 64)?;
-    let long = "N".repeat(rt.alloc(), 65)?;
-    for (name, want) in [(&most, "1.1 done"), (&long, "fault syntax")] {
-        let script = format!(in rt.alloc();
-            "VAR S BASE RELATION {{ {most} INTEGER }} KEY {{ }};\n.begin\n"
-        )?;
-        let input = format!(in rt.alloc();
-            "{script}1: INSERT S RELATION {{ TUPLE {{ {name} 1 }} }};\n"
-        )?;
-        let wanted = format!(in rt.alloc(); "ready 2\n{want}\n")?;
-        assert_eq!(rt; run(rt.alloc(), input.as_bytes()).text(), wanted.as_str());
+fn worked_examples(rt: HostRuntime) -> Result<(), Fail> {
+    for it in EXAMPLES {
+        let is_written = writes(rt.alloc(), it.script, it.lines, it.written)?;
+        assert!(rt; is_written, "{}", it.name);
     }
-    for (status, want) in [
-        ("12", "1.1 done"),
-        ("12A", "fault syntax"),
-        ("12 /* x", "fault syntax"),
-        ("12 /* x */", "1.1 done"),
-        ("9223372036854775807", "1.1 done"),
-        ("9223372036854775808", "fault syntax"),
-    ] {
-        let lines = format!(in rt.alloc();
-            "1: insert S Relation {{ TUPLE {{ SNO '', STATUS {status}, CITY '' }} }};\n"
-        )?;
-        let wanted = format!(in rt.alloc(); "ready 2\n{want}\n")?;
-        assert_eq!(rt;
-            run_lines(rt.alloc(), &lines)?.text(),
-            wanted.as_str(),
-            "{status}"
-        );
-    }
-    let lines =
-        "2: INSERT S RELATION { TUPLE { SNO 'it''s', STATUS 007, CITY '\u{e9}' } };\n.listing 2\n";
-    let wanted =
-        "ready 2\n1.2 done\nrelvar S 1\nTUPLE { CITY '\u{e9}', SNO 'it''s', STATUS 7 }\nheld 1\n";
-    assert_eq!(rt; run_lines(rt.alloc(), lines)?.text(), wanted);
     Ok(())
+}
+
+// Whether the line is answered so, and nothing is changed by it.
+fn is_answered(alloc: Global, line: &str, answer: &str) -> Result<bool, AllocError> {
+    let lines = format!(in alloc; "{line}\n\n.listing 1\n")?;
+    let text = format!(in alloc; "ready 2\n{answer}\nrelvar S 0\nheld 0\n")?;
+    writes(alloc, SUPPLIERS, lines.as_str(), text.as_str())
 }
 
 #[test]
@@ -226,11 +278,7 @@ fn faulty_lines(rt: HostRuntime) -> Result<(), Fail> {
             "fault type",
         ),
     ] {
-        let lines = format!(in rt.alloc(); "{line}\n\n.listing 1\n")?;
-        let wanted = format!(in rt.alloc(); "ready 2\n{want}\nrelvar S 0\nheld 0\n")?;
-        let run = run_lines(rt.alloc(), &lines)?;
-        assert_eq!(rt; run.text(), wanted.as_str(), "{line}");
-        assert_eq!(rt; run.end, Ok(true), "{line}");
+        assert!(rt; is_answered(rt.alloc(), line, want)?, "{line}");
     }
     Ok(())
 }
@@ -244,35 +292,34 @@ fn longest_lines_and_statements(rt: HostRuntime) -> Result<(), Fail> {
         ("", 16_385 - 3, "fault line"),
     ] {
         let lines = format!(in rt.alloc(); "1: {prefix:<length$}\r\n")?;
-        let wanted = format!(in rt.alloc(); "ready 2\n{want}\n")?;
-        assert_eq!(rt; run_lines(rt.alloc(), &lines)?.text(), wanted.as_str());
+        let text = format!(in rt.alloc(); "ready 2\n{want}\n")?;
+        assert!(rt;
+            writes(rt.alloc(), SUPPLIERS, lines.as_str(), text.as_str())?,
+            "{length}"
+        );
     }
     Ok(())
 }
 
 #[test]
-fn ends_of_lines(rt: HostRuntime) -> Result<(), Fail> {
-    let with_cr = TWO_SITES_MEET.replace(rt.alloc(), "\n", "\r\n")?;
-    let run_with_cr = run(rt.alloc(), with_cr.as_bytes());
-    assert_eq!(rt; run_with_cr.text(), TWO_SITES_MET);
-    for (last, want) in [
-        (".listing 1", "ready 2\nrelvar S 0\nheld 0\n"),
-        (".quit", "ready 2\n"),
-        (".quit\n.listing 1\n", "ready 2\n"),
-        (".quit\r", "ready 2\nfault line\n"),
-        ("", "ready 2\n"),
+fn lines_end_with_cr_lf(rt: HostRuntime) -> Result<(), Fail> {
+    let lines = TWO_SITES_MEET.replace(rt.alloc(), "\n", "\r\n")?;
+    assert!(rt; writes(rt.alloc(), "", lines.as_str(), TWO_SITES_MET)?);
+    Ok(())
+}
+
+#[test]
+fn bytes_that_are_no_text(rt: HostRuntime) {
+    for (input, accepted, want) in [
+        (&b".begin\n1: \xff\n"[..], true, "ready 2\nfault line\n"),
+        (b"/* \xff */\n.begin\n", false, "fault script syntax\n"),
     ] {
-        let run = run_lines(rt.alloc(), last)?;
-        assert_eq!(rt; run.text(), want, "{last}");
-        assert_eq!(rt; run.end, Ok(true));
+        assert!(rt; run(rt.alloc(), input).is(accepted, want), "{want}");
     }
-    let no_text = run(rt.alloc(), b".begin\n1: \xff\n");
-    assert_eq!(rt; no_text.text(), "ready 2\nfault line\n");
-    Ok(())
 }
 
 #[test]
-fn faulty_scripts(rt: HostRuntime) -> Result<(), Fail> {
+fn faulty_scripts(rt: HostRuntime) {
     for (script, want) in [
         ("", "fault script end\n"),
         (
@@ -305,21 +352,26 @@ fn faulty_scripts(rt: HostRuntime) -> Result<(), Fail> {
             "fault script type\n",
         ),
     ] {
-        let run = run(rt.alloc(), script.as_bytes());
-        assert_eq!(rt; run.text(), want, "{script}");
-        assert_eq!(rt; run.end, Ok(false), "{script}");
+        assert!(rt;
+            run(rt.alloc(), script.as_bytes()).is(false, want),
+            "{script}"
+        );
     }
-    let no_text = run(rt.alloc(), b"/* \xff */\n.begin\n");
-    assert_eq!(rt; no_text.text(), "fault script syntax\n");
-    let most = " ".repeat(rt.alloc(), 65_535)?;
-    for (space, want) in [("", "ready 2\n"), (" ", "fault script syntax\n")] {
-        let script = format!(in rt.alloc(); "{space}{most}\n.begin\n")?;
-        assert_eq!(rt; run(rt.alloc(), script.as_bytes()).text(), want);
+}
+
+#[test]
+fn longest_scripts(rt: HostRuntime) -> Result<(), Fail> {
+    for (bytes, accepted, want) in [
+        (65_535, true, "ready 2\n"),
+        (65_536, false, "fault script syntax\n"),
+    ] {
+        let spaces = " ".repeat(rt.alloc(), bytes)?;
+        let input = format!(in rt.alloc(); "{spaces}\n.begin\n")?;
+        assert!(rt;
+            run(rt.alloc(), input.as_bytes()).is(accepted, want),
+            "{bytes}"
+        );
     }
-    assert_eq!(rt;
-        run(rt.alloc(), b".begin\n.listing 2").text(),
-        "ready 2\nheld 0\n"
-    );
     Ok(())
 }
 
@@ -345,26 +397,34 @@ impl<'a> Read for SlowReader<'a> {
     }
 }
 
+// How the run of these bytes ends where they come a byte a read, and the reader fails behind them or not.
+fn read_slowly(alloc: Global, given: &str, fails: bool) -> Written {
+    let mut reader = SlowReader {
+        rest: given.as_bytes(),
+        fails,
+        is_interrupted: false,
+    };
+    let mut output = Vec::new(alloc);
+    let end = run_program(alloc, &mut reader, &mut output);
+    Written { end, output }
+}
+
 #[test]
 fn readers_that_are_interrupted_or_fail(rt: HostRuntime) -> Result<(), Fail> {
     let input = format!(in rt.alloc(); "{SUPPLIERS}.listing 1\n.lis")?;
-    let listed = "ready 2\nrelvar S 0\nheld 0\n";
     for (given, fails, end, want) in [
         (TWO_SITES_MEET, false, Ok(true), TWO_SITES_MET),
         ("VAR S", true, Err(Ended::ReadFault), ""),
         (SUPPLIERS, true, Err(Ended::ReadFault), "ready 2\n"),
-        (input.as_str(), true, Err(Ended::ReadFault), listed),
+        (
+            input.as_str(),
+            true,
+            Err(Ended::ReadFault),
+            "ready 2\nrelvar S 0\nheld 0\n",
+        ),
     ] {
-        let mut reader = SlowReader {
-            rest: given.as_bytes(),
-            fails,
-            is_interrupted: false,
-        };
-        let mut output = Vec::new(rt.alloc());
-        let found = run_program(rt.alloc(), &mut reader, &mut output);
-        let written = Written { end: found, output };
-        assert_eq!(rt; written.text(), want);
-        assert_eq!(rt; written.end, end);
+        let found = read_slowly(rt.alloc(), given, fails);
+        assert!(rt; found.end == end && found.text() == want);
     }
     Ok(())
 }
@@ -395,6 +455,21 @@ impl Write for SlowWriter {
     }
 }
 
+// How the run ends where what it writes goes a byte a write, into so much room.
+fn write_slowly(alloc: Global, room: usize) -> Written {
+    let mut reader = TWO_SITES_MEET.as_bytes();
+    let mut writer = SlowWriter {
+        taken: Vec::new(alloc),
+        room,
+        is_interrupted: false,
+    };
+    let end = run_program(alloc, &mut reader, &mut writer);
+    Written {
+        end,
+        output: writer.taken,
+    }
+}
+
 #[test]
 fn writers_that_are_interrupted_or_fail(rt: HostRuntime) {
     for (room, end, want) in [
@@ -403,30 +478,9 @@ fn writers_that_are_interrupted_or_fail(rt: HostRuntime) {
         (4, Err(Ended::WriteFault), "read"),
         (0, Err(Ended::WriteFault), ""),
     ] {
-        let mut reader = TWO_SITES_MEET.as_bytes();
-        let mut writer = SlowWriter {
-            taken: Vec::new(rt.alloc()),
-            room,
-            is_interrupted: false,
-        };
-        let found = run_program(rt.alloc(), &mut reader, &mut writer);
-        let written = Written {
-            end: found,
-            output: writer.taken,
-        };
-        assert_eq!(rt; written.text(), want);
-        assert_eq!(rt; written.end, end);
+        let found = write_slowly(rt.alloc(), room);
+        assert!(rt; found.end == end && found.text() == want, "{room}");
     }
-}
-
-fn entry(alloc: Global, site: u16, seq: u32, clock: u64, text: &str) -> Result<Entry, AllocError> {
-    let text = Text::from_str(alloc, text)?;
-    Ok(Entry {
-        site,
-        seq,
-        clock,
-        text,
-    })
 }
 
 // A site of the script of suppliers.
@@ -435,66 +489,82 @@ fn supplied(alloc: Global, site: u16, limit: usize) -> Result<PlainSite, OpenErr
     PlainSite::open_script(alloc, script, site, limit)
 }
 
-// The listing, as it is written.
-fn listed(alloc: Global, site: &PlainSite) -> Written {
+// What the sites 7 and 9, of the limits 2 and 1, answer to these lines.
+fn answers(alloc: Global, lines: &str) -> Result<Vec<u8>, Fail> {
+    let mut sites = [supplied(alloc, 7, 2)?, supplied(alloc, 9, 1)?];
+    let mut reader = lines.as_bytes();
     let mut output = Vec::new(alloc);
-    let end = match listing(alloc, site, &mut output) {
-        Ok(()) => Ok(true),
-        Err(_) => Ok(false),
-    };
-    Written { end, output }
+    workbench(alloc, &mut sites, &mut reader, &mut output)?;
+    Ok(output)
 }
 
 #[test]
 fn refused_takes_of_a_meeting(rt: HostRuntime) -> Result<(), Fail> {
-    let alloc = rt.alloc();
-    let mut sites = [supplied(alloc, 7, 2)?, supplied(alloc, 9, 1)?];
-    let meetings = ".meet 9 7\n.meet 7 9\n.listing 7\n.listing 9\n";
-    let lines = format!(in alloc; "7: {LONDON}\n9: {PARIS}\n{meetings}")?;
-    let mut reader = lines.as_bytes();
+    let lines = "7: INSERT S RELATION { TUPLE { SNO 'S1', STATUS 20, CITY 'London' } };
+9: INSERT S RELATION { TUPLE { SNO 'S2', STATUS 10, CITY 'Paris' } };
+.meet 9 7
+.meet 7 9
+.listing 7
+.listing 9
+";
+    let want = "1.7 done
+1.9 done
+fault full
+fault full
+relvar S 2
+TUPLE { CITY 'London', SNO 'S1', STATUS 20 }
+TUPLE { CITY 'Paris', SNO 'S2', STATUS 10 }
+held 2
+relvar S 1
+TUPLE { CITY 'Paris', SNO 'S2', STATUS 10 }
+held 1
+";
+    let found = answers(rt.alloc(), lines)?;
+    assert!(rt; found.as_slice() == want.as_bytes());
+    Ok(())
+}
+
+fn entry(alloc: Global, site: u16, text: &str) -> Result<Entry, AllocError> {
+    let text = Text::from_str(alloc, text)?;
+    Ok(Entry {
+        site,
+        seq: 1,
+        clock: 1,
+        text,
+    })
+}
+
+// The listing of a site that has taken the first entries of two others, in this order.
+fn listed_after(
+    alloc: Global,
+    (first_site, first): (u16, &str),
+    (second_site, second): (u16, &str),
+) -> Result<Vec<u8>, Fail> {
+    let batch = [
+        entry(alloc, first_site, first)?,
+        entry(alloc, second_site, second)?,
+    ];
+    let mut site = supplied(alloc, 3, 10_000)?;
+    site.take(alloc, &batch)?;
     let mut output = Vec::new(alloc);
-    workbench(alloc, &mut sites, &mut reader, &mut output)?;
-    let written = Written {
-        end: Ok(true),
-        output,
-    };
-    let answers = "1.7 done\n1.9 done\nfault full\nfault full\n";
-    let paris = "relvar S 1\nTUPLE { CITY 'Paris', SNO 'S2', STATUS 10 }\nheld 1\n";
-    let want = format!(in alloc; "{answers}{BOTH_SUPPLIERS}{paris}")?;
-    assert_eq!(rt; written.text(), want.as_str());
-    Ok(())
+    listing(alloc, &site, &mut output)?;
+    Ok(output)
 }
 
 #[test]
-fn entries_taken_in_any_order(rt: HostRuntime) -> Result<(), Fail> {
-    let alloc = rt.alloc();
-    let (london, paris) = ((1, LONDON), (2, PARIS));
-    for (first, second) in [(london, paris), (paris, london)] {
-        let mut site = supplied(alloc, 3, 10_000)?;
-        let batch = [
-            entry(alloc, first.0, 1, 1, first.1)?,
-            entry(alloc, second.0, 1, 1, second.1)?,
-        ];
-        assert_eq!(rt; site.take(alloc, &batch), Ok(Taken { fresh: 2, known: 0 }));
-        assert_eq!(rt; listed(alloc, &site).text(), BOTH_SUPPLIERS);
-    }
-    Ok(())
-}
-
-#[test]
-fn unread_entry(rt: HostRuntime) -> Result<(), Fail> {
-    let alloc = rt.alloc();
-    let mut site = supplied(alloc, 1, 10_000)?;
-    let batch = [entry(alloc, 2, 1, 1, "INSERT Q X;")?];
-    assert_eq!(rt; site.take(alloc, &batch), Ok(Taken { fresh: 1, known: 0 }));
-    site.issue(alloc, LONDON)?;
-    assert_eq!(rt;
-        listed(alloc, &site).text(),
-        "relvar S 1
+fn listings_of_taken_entries(rt: HostRuntime) -> Result<(), Fail> {
+    let unread = "relvar S 1
 TUPLE { CITY 'London', SNO 'S1', STATUS 20 }
 refused 1.2 unread
 held 2
-"
-    );
+";
+    for (name, first, second, want) in [
+        ("take in any order", (1, LONDON), (2, PARIS), BOTH_SUPPLIERS),
+        ("take in any order", (2, PARIS), (1, LONDON), BOTH_SUPPLIERS),
+        ("unread entry", (2, "INSERT Q X;"), (1, LONDON), unread),
+    ] {
+        let found = listed_after(rt.alloc(), first, second)?;
+        assert!(rt; found.as_slice() == want.as_bytes(), "{name}");
+    }
     Ok(())
 }

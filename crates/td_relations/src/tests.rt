@@ -7,35 +7,45 @@ ghost use Rattle.td_values.specs.Whole.{heading_of};
 use crate::{Delta, Relation, intersect, minus, union};
 use std::alloc::Global;
 use std::test::Fail;
-use td_values::{Heading, Kind, Name, TdType, Tuple, TupleBuilder, TypeKind, Value, fits, show};
+use td_values::{
+    Heading, Kind, Name, TdType, Tuple, TupleBuilder, TypeKind, Value, fits, show, show_tuple_into,
+};
 
 type Result<T> = std::result::Result<T, Fail>;
 
-// The heading of one attribute.
-fn heading(alloc: Global, name: &str, kind: TypeKind) -> Result<Heading> {
+/// The names of one attribute, and of none.
+const ONE: &[&str] = &["A"];
+
+const NONE: &[&str] = &[];
+
+// The heading of INTEGER attributes with these names.
+fn heading(alloc: Global, names: &[&str]) -> Result<Heading> {
     let mut heading = Heading::new(alloc)?;
-    heading.insert(alloc, Name::new(alloc, name)?, TdType { kind })?;
+    for text in names {
+        let name = Name::new(alloc, text)?;
+        let kind = TypeKind::Integer;
+        heading.insert(alloc, name, TdType { kind })?;
+    }
     Ok(heading)
 }
 
-// The tuple of one attribute.
-fn tuple(alloc: Global, name: &str, kind: Kind) -> Result<Tuple> {
+fn tuple(alloc: Global, names: &[&str], numbers: &[i64]) -> Result<Tuple> {
     let mut builder = TupleBuilder::new(alloc);
-    builder.insert(Name::new(alloc, name)?, Value { kind })?;
+    for (text, n) in names.iter().zip(numbers) {
+        let name = Name::new(alloc, text)?;
+        let kind = Kind::Integer(*n);
+        builder.insert(name, Value { kind })?;
+    }
     Ok(builder.build(alloc)?)
 }
 
-fn numbered(alloc: Global, n: i64) -> Result<Tuple> {
-    tuple(alloc, "A", Kind::Integer(n))
-}
-
-// The tuples of these numbers, if the heading is theirs.
-fn fitting(alloc: Global, heading: &Heading, numbers: &[i64]) -> Result<Vec<Tuple>>
+// The tuples of these rows that have the heading.
+fn fitting(alloc: Global, heading: &Heading, names: &[&str], rows: &[&[i64]]) -> Result<Vec<Tuple>>
     ensures { IfOk result (λ v. All (λ t. heading_of t ≡ header_fields heading.now) v.items) }
 {
     let mut tuples = Vec::new(alloc);
-    for n in numbers {
-        let t = numbered(alloc, *n)?;
+    for row in rows {
+        let t = tuple(alloc, names, row)?;
         if fits(&t, heading) {
             tuples.push(t)?;
         }
@@ -43,113 +53,102 @@ fn fitting(alloc: Global, heading: &Heading, numbers: &[i64]) -> Result<Vec<Tupl
     Ok(tuples)
 }
 
-fn relation(alloc: Global, heading: &Heading, numbers: &[i64]) -> Result<Relation>
+fn relation(alloc: Global, heading: &Heading, names: &[&str], rows: &[&[i64]]) -> Result<Relation>
     ensures { IfOk result (λ r. r.heading ≡ heading.now) }
 {
-    let tuples = fitting(alloc, heading, numbers)?;
+    let tuples = fitting(alloc, heading, names, rows)?;
     Ok(Relation::from_tuples(heading.copy()?, tuples))
 }
 
-// The relation over { A INTEGER } of these numbers.
-fn numbers(alloc: Global, numbers: &[i64]) -> Result<Relation> {
-    relation(alloc, &heading(alloc, "A", TypeKind::Integer)?, numbers)
+// Adds a line of the relation's tuples.
+fn show_into(out: &mut String, title: &str, relation: &Relation) -> Result<()> {
+    out.push_str(title)?;
+    for t in relation.iter() {
+        out.push_str(" ")?;
+        show_tuple_into(out, t)?;
+    }
+    out.push_str("\n")?;
+    Ok(())
 }
 
-// Adds a tuple of this number, which has the relation's heading.
-fn add(alloc: Global, numbers: &mut Relation, n: i64) -> Result<bool> {
-    let t = numbered(alloc, n)?;
-    if !fits(&t, numbers.heading()) {
+// The union, the intersection and the difference of the relations of these rows.
+fn merged(alloc: Global, names: &[&str], a: &[&[i64]], b: &[&[i64]]) -> Result<String> {
+    let heading = heading(alloc, names)?;
+    let a = relation(alloc, &heading, names, a)?;
+    let b = relation(alloc, &heading, names, b)?;
+    let mut out = String::new(alloc);
+    show_into(&mut out, "union", &union(alloc, &a, &b)?)?;
+    show_into(&mut out, "intersect", &intersect(alloc, &a, &b)?)?;
+    show_into(&mut out, "minus", &minus(alloc, &a, &b)?)?;
+    Ok(out)
+}
+
+#[test]
+fn merges_by_hand(rt: HostRuntime) -> Result<()> {
+    let first: &[&[i64]] = &[&[1], &[2], &[4]];
+    let second: &[&[i64]] = &[&[5], &[2]];
+    let there = merged(rt.alloc(), ONE, first, second)?;
+    let want = "union TUPLE { A 1 } TUPLE { A 2 } TUPLE { A 4 } TUPLE { A 5 }
+intersect TUPLE { A 2 }
+minus TUPLE { A 1 } TUPLE { A 4 }
+";
+    assert!(rt; there.as_str() == want);
+    let back = merged(rt.alloc(), ONE, second, first)?;
+    let want = "union TUPLE { A 1 } TUPLE { A 2 } TUPLE { A 4 } TUPLE { A 5 }
+intersect TUPLE { A 2 }
+minus TUPLE { A 5 }
+";
+    assert!(rt; back.as_str() == want);
+    Ok(())
+}
+
+// TABLE_DEE and TABLE_DUM have no attributes, and one tuple or none.
+#[test]
+fn dee_and_dum_are_merged(rt: HostRuntime) -> Result<()> {
+    let both = merged(rt.alloc(), NONE, &[], &[&[]])?;
+    assert!(rt; both.as_str() == "union TUPLE { }\nintersect\nminus\n");
+    let back = merged(rt.alloc(), NONE, &[&[]], &[])?;
+    assert!(rt; back.as_str() == "union TUPLE { }\nintersect\nminus TUPLE { }\n");
+    let same = merged(rt.alloc(), NONE, &[&[]], &[&[]])?;
+    assert!(rt; same.as_str() == "union TUPLE { }\nintersect TUPLE { }\nminus\n");
+    Ok(())
+}
+
+// The relation { A INTEGER } of these rows.
+fn numbers(alloc: Global, rows: &[&[i64]]) -> Result<Relation> {
+    let heading = heading(alloc, ONE)?;
+    relation(alloc, &heading, ONE, rows)
+}
+
+// Adds the tuple, if it has the relation's heading.
+fn add(relation: &mut Relation, tuple: Tuple) -> Result<bool> {
+    if !fits(&tuple, relation.heading()) {
         return Ok(false);
     }
-    Ok(numbers.insert(t)?)
+    Ok(relation.insert(tuple)?)
 }
 
-fn has(alloc: Global, numbers: &Relation, n: i64) -> Result<bool> {
-    Ok(numbers.contains(&numbered(alloc, n)?))
-}
-
-fn takes_away(alloc: Global, numbers: &mut Relation, n: i64) -> Result<bool> {
-    Ok(numbers.remove(&numbered(alloc, n)?))
-}
-
-fn is_shown(alloc: Global, relation: &Relation, text: &str) -> Result<bool> {
-    let value = Value {
-        kind: Kind::Relation(relation.copy(alloc)?.into_rows()),
-    };
-    Ok(show(alloc, &value)?.as_str() == text)
-}
-
-// Whether the relation's tuples are those of these numbers, in this order.
-fn is_of(alloc: Global, relation: &Relation, numbers: &[i64]) -> Result<bool> {
-    for (t, n) in relation.iter().zip(numbers) {
-        if *t != numbered(alloc, *n)? {
-            return Ok(false);
-        }
+// What puts a number in or takes it out changes of 1, 2 and 3, and what is there at the end.
+fn changed(alloc: Global, changes: &[(i64, bool)]) -> Result<String> {
+    let mut r = numbers(alloc, &[&[3], &[1], &[2], &[3], &[1]])?;
+    let mut out = String::new(alloc);
+    for (n, adds) in changes {
+        let t = tuple(alloc, ONE, &[*n])?;
+        let was = r.contains(&t);
+        let is_changed = if *adds { add(&mut r, t)? } else { r.remove(&t) };
+        write!(&mut out, "{was} {is_changed}, ")?;
     }
-    Ok(relation.len() == numbers.len())
+    show_into(&mut out, "so", &Relation::of(r.into_rows()))?;
+    Ok(out)
 }
 
 #[test]
 fn a_relation_is_a_set(rt: HostRuntime) -> Result<()> {
-    let alloc = rt.alloc();
-    let mut three = numbers(alloc, &[3, 1, 2])?;
-    assert!(rt; three.len() == 3 && !three.is_empty() && has(alloc, &three, 3)?);
-    assert!(rt; !add(alloc, &mut three, 2)? && add(alloc, &mut three, 0)?);
-    assert!(rt; takes_away(alloc, &mut three, 1)? && !takes_away(alloc, &mut three, 1)?);
-    assert!(rt; three.tuples().len() == 3 && !has(alloc, &three, 1)?);
-    Ok(())
-}
-
-#[test]
-fn tuples_ascend(rt: HostRuntime) -> Result<()> {
-    let alloc = rt.alloc();
-    let three = Relation::of(numbers(alloc, &[3, 1, 2, 3, 1])?.into_rows());
-    let text = "RELATION { A INTEGER } { TUPLE { A 1 }, TUPLE { A 2 }, TUPLE { A 3 } }";
-    assert!(rt; is_of(alloc, &three, &[1, 2, 3])? && is_shown(alloc, &three, text)?);
-    Ok(())
-}
-
-// The relations of 1, 2, 4 and of 5, 2, 3.
-fn two(alloc: Global) -> Result<(Relation, Relation)>
-    ensures { IfOk result (λ p. p.0.heading ≡ p.1.heading) }
-{
-    let heading = heading(alloc, "A", TypeKind::Integer)?;
-    let first = relation(alloc, &heading, &[1, 2, 4])?;
-    Ok((first, relation(alloc, &heading, &[5, 2, 3])?))
-}
-
-#[test]
-fn a_union(rt: HostRuntime) -> Result<()> {
-    let alloc = rt.alloc();
-    let (a, b) = two(alloc)?;
-    assert!(rt; is_of(alloc, &union(alloc, &a, &b)?, &[1, 2, 3, 4, 5])?);
-    assert!(rt; is_of(alloc, &union(alloc, &b, &a)?, &[1, 2, 3, 4, 5])?);
-    Ok(())
-}
-
-#[test]
-fn an_intersection(rt: HostRuntime) -> Result<()> {
-    let alloc = rt.alloc();
-    let (a, b) = two(alloc)?;
-    assert!(rt; is_of(alloc, &intersect(alloc, &a, &b)?, &[2])?);
-    Ok(())
-}
-
-#[test]
-fn differences(rt: HostRuntime) -> Result<()> {
-    let alloc = rt.alloc();
-    let (a, b) = two(alloc)?;
-    assert!(rt; is_of(alloc, &minus(alloc, &a, &b)?, &[1, 4])?);
-    assert!(rt; is_of(alloc, &minus(alloc, &b, &a)?, &[3, 5])?);
-    Ok(())
-}
-
-#[test]
-fn inserts_and_removes_by_hand(rt: HostRuntime) -> Result<()> {
-    let alloc = rt.alloc();
-    let mut r = numbers(alloc, &[])?;
-    assert!(rt; add(alloc, &mut r, 1)? && add(alloc, &mut r, 2)? && !add(alloc, &mut r, 2)?);
-    assert!(rt; takes_away(alloc, &mut r, 1)? && !takes_away(alloc, &mut r, 1)?);
+    let changes = [(2, true), (0, true), (1, false), (1, false)];
+    let found = changed(rt.alloc(), &changes)?;
+    let want =
+        "true false, false true, true true, false false, so TUPLE { A 0 } TUPLE { A 2 } TUPLE { A 3 }\n";
+    assert!(rt; found.as_str() == want);
     Ok(())
 }
 
@@ -157,29 +156,19 @@ fn inserts_and_removes_by_hand(rt: HostRuntime) -> Result<()> {
 fn delta(alloc: Global, heading: &Heading) -> Result<Delta>
     ensures { IfOk result (λ d. d.inserted.heading ≡ heading.now) }
 {
-    let old = relation(alloc, heading, &[1, 2])?;
-    let new = relation(alloc, heading, &[2, 3])?;
+    let old = relation(alloc, heading, ONE, &[&[1], &[2]])?;
+    let new = relation(alloc, heading, ONE, &[&[2], &[3]])?;
     Ok(Delta::difference(alloc, &old, &new)?)
 }
 
-#[test]
-fn deltas_by_hand(rt: HostRuntime) -> Result<()> {
-    let alloc = rt.alloc();
-    let heading = heading(alloc, "A", TypeKind::Integer)?;
+// The relation of these rows after that change, and after its undoing or its inverse.
+fn after(alloc: Global, rows: &[&[i64]], undoes: bool) -> Result<(Relation, Relation)> {
+    let heading = heading(alloc, ONE)?;
     let delta = delta(alloc, &heading)?;
-    assert!(rt; delta.heading().len() == 1 && !delta.is_empty());
-    assert!(rt; is_of(alloc, delta.inserted(), &[3])? && is_of(alloc, delta.deleted(), &[1])?);
-    Ok(())
-}
-
-// The relation of these numbers after the change, and after its inverse or its undoing.
-fn after(alloc: Global, numbers: &[i64], back: bool) -> Result<(Relation, Relation)> {
-    let heading = heading(alloc, "A", TypeKind::Integer)?;
-    let delta = delta(alloc, &heading)?;
-    let mut r = relation(alloc, &heading, numbers)?;
+    let mut r = relation(alloc, &heading, ONE, rows)?;
     delta.apply(alloc, &mut r)?;
     let applied = r.copy(alloc)?;
-    if back {
+    if undoes {
         delta.undo(alloc, &mut r)?;
     } else {
         delta.inverse().apply(alloc, &mut r)?;
@@ -187,89 +176,116 @@ fn after(alloc: Global, numbers: &[i64], back: bool) -> Result<(Relation, Relati
     Ok((applied, r))
 }
 
+fn applied(alloc: Global, rows: &[&[i64]], undoes: bool) -> Result<String> {
+    let (applied, back) = after(alloc, rows, undoes)?;
+    let mut out = String::new(alloc);
+    show_into(&mut out, "apply", &applied)?;
+    show_into(&mut out, "back", &back)?;
+    Ok(out)
+}
+
+// On another relation what isn't there isn't taken out, and what is there isn't put in twice.
 #[test]
 fn deltas_are_applied_and_undone_by_hand(rt: HostRuntime) -> Result<()> {
-    let alloc = rt.alloc();
-    for back in [false, true] {
-        let (applied, undone) = after(alloc, &[1, 2], back)?;
-        assert!(rt; is_of(alloc, &applied, &[2, 3])? && is_of(alloc, &undone, &[1, 2])?);
+    for undoes in [false, true] {
+        let own = applied(rt.alloc(), &[&[1], &[2]], undoes)?;
+        let want = "apply TUPLE { A 2 } TUPLE { A 3 }\nback TUPLE { A 1 } TUPLE { A 2 }\n";
+        assert!(rt; own.as_str() == want);
+        let other = applied(rt.alloc(), &[&[3], &[4]], undoes)?;
+        let want = "apply TUPLE { A 3 } TUPLE { A 4 }\nback TUPLE { A 1 } TUPLE { A 4 }\n";
+        assert!(rt; other.as_str() == want);
     }
     Ok(())
 }
 
-// On another relation: what isn't there isn't taken out, and what is there isn't put in twice.
-#[test]
-fn deltas_elsewhere(rt: HostRuntime) -> Result<()> {
-    let alloc = rt.alloc();
-    let (applied, undone) = after(alloc, &[3, 4], true)?;
-    assert!(rt; is_of(alloc, &applied, &[3, 4])? && is_of(alloc, &undone, &[1, 4])?);
-    Ok(())
-}
-
-// TABLE_DEE and TABLE_DUM: no attributes, and one tuple or none.
-fn dee_and_dum(alloc: Global) -> Result<(Relation, Relation)>
-    ensures { IfOk result (λ p. p.0.heading ≡ p.1.heading) }
-{
-    let none = Heading::new(alloc)?;
-    let tuple = TupleBuilder::new(alloc).build(alloc)?;
-    let dum = Relation::empty(alloc, none.copy()?);
-    let mut dee = Relation::empty(alloc, none);
-    if fits(&tuple, dee.heading()) {
-        dee.insert(tuple)?;
-    }
-    Ok((dee, dum))
+fn parts_of_the_change(alloc: Global) -> Result<String> {
+    let heading = heading(alloc, ONE)?;
+    let delta = delta(alloc, &heading)?;
+    let mut out = String::new(alloc);
+    show_into(&mut out, "in", delta.inserted())?;
+    show_into(&mut out, "out", delta.deleted())?;
+    Ok(out)
 }
 
 #[test]
-fn dee_and_dum_are_shown(rt: HostRuntime) -> Result<()> {
-    let alloc = rt.alloc();
-    let (dee, dum) = dee_and_dum(alloc)?;
-    assert!(rt; is_shown(alloc, &dee, "RELATION { } { TUPLE { } }")?);
-    assert!(rt; is_shown(alloc, &dum, "RELATION { } { }")?);
+fn deltas_by_hand(rt: HostRuntime) -> Result<()> {
+    let parts = parts_of_the_change(rt.alloc())?;
+    assert!(rt;
+        parts.as_str() == "in TUPLE { A 3 }\nout TUPLE { A 1 }\n",
+        "{parts}"
+    );
+    let heading = heading(rt.alloc(), ONE)?;
+    let delta = delta(rt.alloc(), &heading)?;
+    assert!(rt; delta.heading().len() == 1 && !delta.is_empty());
     Ok(())
+}
+
+fn shown(alloc: Global, relation: Relation) -> Result<String> {
+    let kind = Kind::Relation(relation.into_rows());
+    Ok(show(alloc, &Value { kind })?)
+}
+
+fn relation_shown(alloc: Global, names: &[&str], rows: &[&[i64]]) -> Result<String> {
+    let heading = heading(alloc, names)?;
+    shown(alloc, relation(alloc, &heading, names, rows)?)
 }
 
 #[test]
-fn dee_and_dum_are_merged(rt: HostRuntime) -> Result<()> {
-    let alloc = rt.alloc();
-    let (dee, dum) = dee_and_dum(alloc)?;
-    assert!(rt; union(alloc, &dum, &dee)?.len() == 1);
-    assert!(rt; intersect(alloc, &dum, &dee)?.is_empty());
-    assert!(rt; minus(alloc, &dee, &dum)?.len() == 1 && minus(alloc, &dee, &dee)?.is_empty());
+fn relations_are_shown(rt: HostRuntime) -> Result<()> {
+    let two = relation_shown(rt.alloc(), ONE, &[&[2], &[1]])?;
+    assert!(rt; two.as_str() == "RELATION { A INTEGER } { TUPLE { A 1 }, TUPLE { A 2 } }");
+    let dee = relation_shown(rt.alloc(), NONE, &[&[]])?;
+    assert!(rt; dee.as_str() == "RELATION { } { TUPLE { } }");
+    let dum = relation_shown(rt.alloc(), NONE, &[])?;
+    assert!(rt; dum.as_str() == "RELATION { } { }");
     Ok(())
 }
 
-// Adds the tuple whose attribute R is the relation of these numbers.
-fn add_nested(alloc: Global, nested: &mut Relation, content: &[i64]) -> Result<bool> {
-    let value = Kind::Relation(numbers(alloc, content)?.into_rows());
-    let t = tuple(alloc, "R", value)?;
-    if !fits(&t, nested.heading()) {
-        return Ok(false);
-    }
-    Ok(nested.insert(t)?)
+// The tuple whose attribute R is the relation of these rows.
+fn nested_tuple(alloc: Global, rows: &[&[i64]]) -> Result<Tuple> {
+    let name = Name::new(alloc, "R")?;
+    let inner = numbers(alloc, rows)?;
+    let mut builder = TupleBuilder::new(alloc);
+    let kind = Kind::Relation(inner.into_rows());
+    builder.insert(name, Value { kind })?;
+    Ok(builder.build(alloc)?)
+}
+
+// The heading of such tuples.
+fn nested_heading(alloc: Global) -> Result<Heading> {
+    let name = Name::new(alloc, "R")?;
+    let inner = heading(alloc, ONE)?;
+    let mut heading = Heading::new(alloc)?;
+    let kind = TypeKind::Relation(inner);
+    heading.insert(alloc, name, TdType { kind })?;
+    Ok(heading)
 }
 
 // Relations that are values of an attribute are one value where they are one set.
+fn nested(alloc: Global) -> Result<Relation> {
+    let mut nested = Relation::empty(alloc, nested_heading(alloc)?);
+    add(&mut nested, nested_tuple(alloc, &[&[2], &[2]])?)?;
+    add(&mut nested, nested_tuple(alloc, &[&[1], &[2]])?)?;
+    add(&mut nested, nested_tuple(alloc, &[&[2], &[1]])?)?;
+    Ok(nested)
+}
+
 #[test]
 fn nested_relations_are_values(rt: HostRuntime) -> Result<()> {
-    let alloc = rt.alloc();
-    let inner = TypeKind::Relation(heading(alloc, "A", TypeKind::Integer)?);
-    let mut nested = Relation::empty(alloc, heading(alloc, "R", inner)?);
-    assert!(rt;
-        add_nested(alloc, &mut nested, &[2, 2])? && add_nested(alloc, &mut nested, &[1, 2])?
-    );
-    assert!(rt; !add_nested(alloc, &mut nested, &[2, 1])?);
-    let text =
+    let text = shown(rt.alloc(), nested(rt.alloc())?)?;
+    let want =
         "RELATION { R RELATION { A INTEGER } } { TUPLE { R RELATION { A INTEGER } { TUPLE { A 1 }, TUPLE { A 2 } } }, TUPLE { R RELATION { A INTEGER } { TUPLE { A 2 } } } }";
-    assert!(rt; is_shown(alloc, &nested, text)?);
+    assert!(rt; text.as_str() == want);
     Ok(())
 }
 
 #[test]
-fn headings_are_compared(rt: HostRuntime) -> Result<()> {
-    let alloc = rt.alloc();
-    let a = numbers(alloc, &[1])?;
-    let texts = Relation::empty(alloc, heading(alloc, "A", TypeKind::Char)?);
-    assert!(rt; a.same_heading(&numbers(alloc, &[2])?) && !a.same_heading(&texts));
+fn headings_and_counts(rt: HostRuntime) -> Result<()> {
+    let two = numbers(rt.alloc(), &[&[1], &[2]])?;
+    let none = numbers(rt.alloc(), &[])?;
+    assert!(rt; two.same_heading(&none) && two.len() == 2 && none.is_empty());
+    let heading = nested_heading(rt.alloc())?;
+    let nested = Relation::empty(rt.alloc(), heading);
+    assert!(rt; !nested.same_heading(&none) && two.tuples().len() == 2);
     Ok(())
 }

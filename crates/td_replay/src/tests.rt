@@ -37,9 +37,14 @@ fn paris(alloc: Global) -> Result<Entry, AllocError> {
     entry(alloc, 2, 1, 1, PARIS)
 }
 
+// (The text is a parameter, for a contract at a literal text is dear to prove.)
+fn opened(alloc: Global, script: &str, site: u16, limit: usize) -> Result<PlainSite, OpenError> {
+    PlainSite::open_script(alloc, script, site, limit)
+}
+
 // A site of the script of suppliers.
 fn supplied(alloc: Global, site: u16, limit: usize) -> Result<PlainSite, OpenError> {
-    PlainSite::open_script(alloc, SUPPLIERS, site, limit)
+    opened(alloc, SUPPLIERS, site, limit)
 }
 
 // The tuples of each relvar, a line each.

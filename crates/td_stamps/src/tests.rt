@@ -4,13 +4,42 @@ use std::alloc::{AllocError, Global};
 use std::test::Fail;
 use td_values::Text;
 
-fn entry(alloc: Global, site: u16, seq: u32, clock: u64, text: &str) -> Result<Entry, AllocError> {
+/// The last clock.
+const END: u64 = 1_000_000_000_000_000_000;
+
+const FIRST: &str = "INSERT S RELATION { TUPLE { SNO 'S1', STATUS 20, CITY 'London' } };";
+
+const SECOND: &str = "INSERT S RELATION { TUPLE { SNO 'S2', STATUS 10, CITY 'Paris' } };";
+
+const DELETE: &str = "DELETE S;";
+
+/// An entry's site, sequence number, clock and text.
+type Parts = (u16, u32, u64, &'static str);
+
+fn entry(alloc: Global, (site, seq, clock, text): Parts) -> Result<Entry, AllocError> {
+    let text = Text::from_str(alloc, text)?;
     Ok(Entry {
         site,
         seq,
         clock,
-        text: Text::new(alloc, String::from_str(alloc, text)?)?,
+        text,
     })
+}
+
+fn batch(alloc: Global, entries: &[Parts]) -> Result<Vec<Entry>, AllocError> {
+    let mut batch = Vec::new(alloc);
+    for parts in entries {
+        let entry = entry(alloc, *parts)?;
+        batch.push(entry)?;
+    }
+    Ok(batch)
+}
+
+fn held_of(alloc: Global, limit: usize, entries: &[Parts]) -> Result<Held, PrepareError> {
+    let batch = batch(alloc, entries)?;
+    let mut held = Held::new(alloc, limit);
+    take(&mut held, alloc, &batch)?;
+    Ok(held)
 }
 
 /// How many entries of a batch were fresh and how many known, once it is taken.
@@ -21,132 +50,140 @@ fn take(held: &mut Held, alloc: Global, batch: &[Entry]) -> Result<(usize, usize
     Ok((fresh, batch.len() - fresh))
 }
 
-const FIRST: &str = "INSERT S RELATION { TUPLE { SNO 'S1', STATUS 20, CITY 'London' } };";
+// Whether the set's stamps are these, each a clock and a site.
+fn has_stamps(held: &Held, stamps: &[(u64, u16)]) -> bool {
+    for (i, (clock, site)) in stamps.iter().enumerate() {
+        let stamp = Stamp {
+            clock: *clock,
+            site: *site,
+        };
+        match held.at(i) {
+            Some(entry) if entry.stamp() == stamp => {}
+            _ => return false,
+        }
+    }
+    held.at(stamps.len()).is_none() && held.len() == stamps.len()
+}
 
-const SECOND: &str = "INSERT S RELATION { TUPLE { SNO 'S2', STATUS 10, CITY 'Paris' } };";
+// Whether a site that holds the first entries takes the second ones so, and has these stamps then.
+fn takes(
+    alloc: Global,
+    before: &[Parts],
+    entries: &[Parts],
+    counts: (usize, usize),
+    after: &[(u64, u16)],
+) -> Result<bool, PrepareError> {
+    let batch = batch(alloc, entries)?;
+    let mut held = held_of(alloc, 10_000, before)?;
+    let is_checked = held.check(&batch) == Ok(counts.0);
+    let is_taken = take(&mut held, alloc, &batch) == Ok(counts);
+    Ok(is_checked && is_taken && has_stamps(&held, after))
+}
 
 #[test]
 fn take_in_any_order(rt: HostRuntime) -> Result<(), Fail> {
     let alloc = rt.alloc();
-    let first = entry(alloc, 1, 1, 1, FIRST)?;
-    let second = entry(alloc, 2, 1, 1, SECOND)?;
-
-    let mut third = Held::new(alloc, 10_000);
-    assert!(rt; third.is_empty());
-    assert_eq!(rt;
-        take(&mut third, alloc, &[first.copy()?, second.copy()?])?,
-        (2, 0)
-    );
-    assert_eq!(rt;
-        take(&mut third, alloc, &[second.copy()?, first.copy()?])?,
-        (0, 2)
-    );
-
-    let mut other = Held::new(alloc, 10_000);
-    assert_eq!(rt;
-        take(&mut other, alloc, &[first.copy()?, first.copy()?])?,
-        (1, 1)
-    );
-    assert_eq!(rt; take(&mut other, alloc, &[second.copy()?])?, (1, 0));
-
-    let mut late_first = Held::new(alloc, 10_000);
-    assert_eq!(rt; take(&mut late_first, alloc, &[second.copy()?])?, (1, 0));
-    assert_eq!(rt; take(&mut late_first, alloc, &[first.copy()?])?, (1, 0));
-
-    for held in [&third, &other, &late_first] {
-        assert_eq!(rt; held.len(), 2);
-        assert_eq!(rt;
-            held.at(0).map(|e| e.stamp()),
-            Some(Stamp { clock: 1, site: 1 })
-        );
-        assert_eq!(rt;
-            held.at(1).map(|e| e.stamp()),
-            Some(Stamp { clock: 1, site: 2 })
-        );
-        assert!(rt; held.at(2).is_none());
-        assert!(rt; held.contains(&first));
-        assert!(rt; held.contains(&second));
-    }
+    let first = (1, 1, 1, FIRST);
+    let second = (2, 1, 1, SECOND);
+    let both: &[(u64, u16)] = &[(1, 1), (1, 2)];
+    assert!(rt; takes(alloc, &[], &[first, second], (2, 0), both)?);
+    assert!(rt; takes(alloc, &[first, second], &[second, first], (0, 2), both)?);
+    assert!(rt; takes(alloc, &[], &[first, first], (1, 1), &[(1, 1)])?);
+    assert!(rt; takes(alloc, &[first], &[second], (1, 0), both)?);
+    assert!(rt; takes(alloc, &[second], &[first], (1, 0), both)?);
     Ok(())
+}
+
+// Whether a site of this limit that holds the first entries refuses the second ones so, and stays.
+fn refuses(
+    alloc: Global,
+    limit: usize,
+    before: &[Parts],
+    entries: &[Parts],
+    checked: CheckError,
+    taken: PrepareError,
+) -> Result<bool, PrepareError> {
+    let batch = batch(alloc, entries)?;
+    let mut held = held_of(alloc, limit, before)?;
+    let is_checked = held.check(&batch) == Err(checked);
+    let is_taken = take(&mut held, alloc, &batch) == Err(taken);
+    Ok(is_checked && is_taken && held.len() == before.len())
 }
 
 #[test]
 fn full_limit(rt: HostRuntime) -> Result<(), Fail> {
     let alloc = rt.alloc();
-    let mut held = Held::new(alloc, 2);
-    assert_eq!(rt; held.limit(), 2);
-    for (seq, clock) in [(1, 1), (2, 2)] {
-        assert_eq!(rt; held.next(1), Ok((seq, clock)));
-        let next = [entry(alloc, 1, seq, clock, "DELETE S;")?];
-        assert_eq!(rt; held.check(&next), Ok(1));
-        held.add(alloc, &next)?;
-    }
-    let third = [entry(alloc, 1, 3, 3, "DELETE S;")?];
-    assert_eq!(rt; held.check(&third), Err(CheckError::Full));
-
-    let repeat = [entry(alloc, 1, 1, 1, "DELETE S;")?];
-    assert_eq!(rt; held.check(&repeat), Ok(0));
-    assert_eq!(rt; take(&mut held, alloc, &repeat), Ok((0, 1)));
-
-    let more = [
-        entry(alloc, 1, 1, 1, "DELETE S;")?,
-        entry(alloc, 2, 1, 1, "DELETE S;")?,
-    ];
-    assert_eq!(rt; held.check(&more), Err(CheckError::Full));
-    assert_eq!(rt; take(&mut held, alloc, &more), Err(PrepareError::Full));
-    assert_eq!(rt; held.len(), 2);
+    let before: &[Parts] = &[(1, 1, 1, DELETE), (1, 2, 2, DELETE)];
+    let more: &[Parts] = &[(1, 1, 1, DELETE), (2, 1, 1, DELETE)];
+    let (checked, taken) = (CheckError::Full, PrepareError::Full);
+    assert!(rt; refuses(alloc, 2, before, &[(1, 3, 3, DELETE)], checked, taken)?);
+    assert!(rt; refuses(alloc, 2, before, more, checked, taken)?);
+    let repeat = batch(alloc, &[(1, 1, 1, DELETE)])?;
+    let mut held = held_of(alloc, 2, before)?;
+    assert!(rt; held.limit() == 2 && held.check(&repeat) == Ok(0));
+    assert!(rt; take(&mut held, alloc, &repeat) == Ok((0, 1)));
     Ok(())
 }
 
 #[test]
-fn clash_clock_end_bad_entry(rt: HostRuntime) -> Result<(), Fail> {
+fn clash_and_bad_entry(rt: HostRuntime) -> Result<(), Fail> {
     let alloc = rt.alloc();
-    let end = 1_000_000_000_000_000_000;
-    let mut held = Held::new(alloc, 10_000);
-    let last = [entry(alloc, 2, 1, end, "DELETE S;")?];
-    assert_eq!(rt; take(&mut held, alloc, &last), Ok((1, 0)));
-    assert_eq!(rt; held.next(1), Err(NextError::ClockEnd));
-
-    let clashing = [entry(alloc, 2, 1, end, "DELETE SP;")?];
+    let last: &[Parts] = &[(2, 1, END, DELETE)];
+    let clashing = (2, 1, END, "DELETE SP;");
+    let bad: &[Parts] = &[(3, 1, 1, DELETE), clashing, (0, 1, 1, DELETE)];
     let clash = PrepareError::Clash { site: 2, seq: 1 };
-    assert_eq!(rt;
-        held.check(&clashing),
-        Err(CheckError::Clash { site: 2, seq: 1 })
-    );
-    assert_eq!(rt; take(&mut held, alloc, &clashing), Err(clash));
-    assert_eq!(rt;
-        clash.to_string(alloc)?.as_str(),
-        "entry 1 of site 2 clashes with another"
-    );
-
-    let bad = [
-        entry(alloc, 3, 1, 1, "DELETE S;")?,
-        entry(alloc, 2, 1, end, "DELETE SP;")?,
-        entry(alloc, 0, 1, 1, "DELETE S;")?,
-    ];
-    assert_eq!(rt; held.check(&bad), Err(CheckError::BadEntry));
-    assert_eq!(rt; take(&mut held, alloc, &bad), Err(PrepareError::BadEntry));
-    assert_eq!(rt; held.len(), 1);
-    assert!(rt; held.contains(&last[0]));
-    assert!(rt; !held.contains(&clashing[0]));
+    let clash_checked = CheckError::Clash { site: 2, seq: 1 };
+    assert!(rt; refuses(alloc, 10_000, last, &[clashing], clash_checked, clash)?);
+    let (checked, taken) = (CheckError::BadEntry, PrepareError::BadEntry);
+    assert!(rt; refuses(alloc, 10_000, last, bad, checked, taken)?);
+    let told = clash.to_string(alloc)?;
+    assert!(rt; told.as_str() == "entry 1 of site 2 clashes with another");
     Ok(())
+}
+
+#[test]
+fn entries_are_added(rt: HostRuntime) -> Result<(), Fail> {
+    let both = batch(rt.alloc(), &[(1, 1, 1, FIRST), (2, 1, 1, SECOND)])?;
+    let mut held = Held::new(rt.alloc(), 2);
+    if held.check(&both) == Ok(2) {
+        held.add(rt.alloc(), &both)?;
+    }
+    assert!(rt; has_stamps(&held, &[(1, 1), (1, 2)]));
+    Ok(())
+}
+
+#[test]
+fn entries_that_are_held(rt: HostRuntime) -> Result<(), Fail> {
+    let alloc = rt.alloc();
+    let held = held_of(alloc, 10_000, &[(2, 1, END, DELETE)])?;
+    for (text, is_held) in [(DELETE, true), ("DELETE SP;", false)] {
+        let entry = entry(alloc, (2, 1, END, text))?;
+        assert!(rt; held.contains(&entry.copy()?) == is_held);
+    }
+    let prepared = held.prepare(alloc, &[])?;
+    assert!(rt; prepared.entries().len() == 1 && held.entries().len() == 1);
+    assert!(rt; !held.is_empty() && Held::new(alloc, 1).is_empty());
+    Ok(())
+}
+
+// The next sequence number and clock of a site that holds these.
+fn next(
+    alloc: Global,
+    held: &[Parts],
+    site: u16,
+) -> Result<Result<(u32, u64), NextError>, PrepareError> {
+    Ok(held_of(alloc, 10_000, held)?.next(site))
 }
 
 #[test]
 fn next_clock_counts_all_sites(rt: HostRuntime) -> Result<(), Fail> {
     let alloc = rt.alloc();
-    let mut held = Held::new(alloc, 10_000);
-    assert_eq!(rt; held.next(2), Ok((1, 1)));
-    let batch = [
-        entry(alloc, 1, 1, 1, FIRST)?,
-        entry(alloc, 2, 1, 1, SECOND)?,
-    ];
-    assert_eq!(rt; held.check(&batch), Ok(2));
-    held.add(alloc, &batch)?;
-    assert_eq!(rt; held.next(2), Ok((2, 2)));
-    assert_eq!(rt; held.next(3), Ok((1, 2)));
-    let prepared = held.prepare(alloc, &batch)?;
-    assert_eq!(rt; prepared.entries().len(), 2);
-    assert_eq!(rt; held.entries().len(), 2);
+    let (one, two) = ((1, 1, 1, FIRST), (2, 1, 1, SECOND));
+    assert!(rt; next(alloc, &[], 2)? == Ok((1, 1)));
+    assert!(rt; next(alloc, &[one], 1)? == Ok((2, 2)));
+    assert!(rt; next(alloc, &[one, two], 2)? == Ok((2, 2)));
+    assert!(rt; next(alloc, &[one, two], 3)? == Ok((1, 2)));
+    let last = (2, 1, END, DELETE);
+    assert!(rt; next(alloc, &[last], 1)? == Err(NextError::ClockEnd));
     Ok(())
 }

@@ -2,57 +2,68 @@
 
 use crate::error::TokenError;
 use crate::lexer::tokens;
-use crate::token::{Kind, Word};
+use crate::token::{Kind, Token, Word};
+use std::alloc::Global;
 use std::test::Fail;
+
+// (The text is a parameter, for a contract at a literal text is dear to prove.)
+fn read(alloc: Global, text: &str) -> Result<Vec<Token<'_>>, TokenError> {
+    tokens(alloc, text)
+}
 
 #[test]
 fn symbols_are_the_longest(rt: HostRuntime) -> Result<(), Fail> {
-    let found = tokens(rt.alloc(), "A<=B")?;
-    assert_eq!(rt; found.len(), 3);
-    let (a, at_most, b) = (found[0], found[1], found[2]);
-    assert_eq!(rt; a.kind, Kind::Name);
-    assert_eq!(rt; at_most.kind, Kind::Word(Word::AtMost));
-    assert_eq!(rt; b.kind, Kind::Name);
-    assert_eq!(rt; (a.start, a.end), (0, 1));
-    assert_eq!(rt; (at_most.start, at_most.end), (1, 3));
-    assert_eq!(rt; (b.start, b.end), (3, 4));
+    let found = read(rt.alloc(), "A<=B")?;
+    let wanted = [
+        (Kind::Name, 0, 1),
+        (Kind::Word(Word::AtMost), 1, 3),
+        (Kind::Name, 3, 4),
+    ];
+    for (token, (kind, start, end)) in found.iter().zip(wanted) {
+        assert!(rt; token.kind == kind && token.start == start && token.end == end);
+    }
+    assert!(rt; found.len() == wanted.len());
     Ok(())
 }
 
 #[test]
 fn quotes_are_doubled(rt: HostRuntime) -> Result<(), Fail> {
-    let found = tokens(rt.alloc(), "'it''s' '' ''''")?;
-    assert_eq!(rt; found.len(), 3);
-    let (its, empty, quote) = (found[0], found[1], found[2]);
-    assert_eq!(rt; its.text, "'it''s'");
-    assert!(rt; its.kind == Kind::Text);
-    assert_eq!(rt; its.characters(rt.alloc())?.as_str(), "it's");
-    assert!(rt; empty.kind == Kind::Text);
-    assert_eq!(rt; empty.characters(rt.alloc())?.as_str(), "");
-    assert!(rt; quote.kind == Kind::Text);
-    assert_eq!(rt; quote.characters(rt.alloc())?.as_str(), "'");
+    for (text, want) in [("'it''s'", "it's"), ("''", ""), ("''''", "'")] {
+        let found = tokens(rt.alloc(), text)?;
+        for token in &found {
+            assert!(rt; token.kind == Kind::Text && token.text == text);
+            let characters = token.characters(rt.alloc())?;
+            assert!(rt; characters.as_str() == want);
+        }
+        assert!(rt; found.len() == 1);
+    }
     Ok(())
 }
 
 #[test]
 fn kinds(rt: HostRuntime) -> Result<(), Fail> {
-    let found = tokens(
+    let found = read(
         rt.alloc(),
         "Is_Empty isempty where 007 9223372036854775807 /*/ é **/ |||| := : = <> x#_1",
     )?;
-    assert_eq!(rt; found.len(), 12);
-    assert_eq!(rt; found[0].kind, Kind::Word(Word::IsEmpty));
-    assert_eq!(rt; found[1].kind, Kind::Name);
-    assert_eq!(rt; found[2].kind, Kind::Word(Word::Where));
-    assert_eq!(rt; found[3].kind, Kind::Int(7));
-    assert_eq!(rt; found[4].kind, Kind::Int(9223372036854775807));
-    assert_eq!(rt; found[5].kind, Kind::Word(Word::Bars));
-    assert_eq!(rt; found[6].kind, Kind::Word(Word::Bars));
-    assert_eq!(rt; found[7].kind, Kind::Word(Word::Assign));
-    assert_eq!(rt; found[8].kind, Kind::Word(Word::Colon));
-    assert_eq!(rt; found[9].kind, Kind::Word(Word::Equals));
-    assert_eq!(rt; found[10].kind, Kind::Word(Word::Differs));
-    assert_eq!(rt; found[11].kind, Kind::Name);
+    let wanted = [
+        Kind::Word(Word::IsEmpty),
+        Kind::Name,
+        Kind::Word(Word::Where),
+        Kind::Int(7),
+        Kind::Int(9223372036854775807),
+        Kind::Word(Word::Bars),
+        Kind::Word(Word::Bars),
+        Kind::Word(Word::Assign),
+        Kind::Word(Word::Colon),
+        Kind::Word(Word::Equals),
+        Kind::Word(Word::Differs),
+        Kind::Name,
+    ];
+    for (token, kind) in found.iter().zip(wanted) {
+        assert!(rt; token.kind == kind);
+    }
+    assert!(rt; found.len() == wanted.len());
     Ok(())
 }
 
@@ -76,15 +87,27 @@ fn texts_of_no_tokens(rt: HostRuntime) {
     }
 }
 
+// How many tokens the text has, if it has a reading.
+fn count(alloc: Global, text: &str) -> Option<usize> {
+    match tokens(alloc, text) {
+        Ok(found) => Some(found.len()),
+        Err(_) => None,
+    }
+}
+
 #[test]
 fn limits(rt: HostRuntime) -> Result<(), Fail> {
-    let name = "N".repeat(rt.alloc(), 64)?;
-    assert_eq!(rt; tokens(rt.alloc(), name.as_str())?.len(), 1);
-    let long = "N".repeat(rt.alloc(), 65)?;
-    assert!(rt; matches!(&tokens(rt.alloc(), long.as_str()), Err(TokenError::Syntax)));
-    let brackets = "{(".repeat(rt.alloc(), 32)?;
-    assert_eq!(rt; tokens(rt.alloc(), brackets.as_str())?.len(), 64);
-    let deep = format!(in rt.alloc(); ")){brackets}(")?;
-    assert!(rt; matches!(&tokens(rt.alloc(), deep.as_str()), Err(TokenError::Syntax)));
+    for (before, piece, times, after, want) in [
+        ("", "N", 64, "", Some(1)),
+        ("", "N", 65, "", None),
+        ("", "{(", 32, "", Some(64)),
+        ("", "{(", 32, "(", None),
+        ("))", "{(", 32, "", Some(66)),
+        ("))", "{(", 32, "(", None),
+    ] {
+        let pieces = piece.repeat(rt.alloc(), times)?;
+        let text = format!(in rt.alloc(); "{before}{pieces}{after}")?;
+        assert!(rt; count(rt.alloc(), text.as_str()) == want, "{text}");
+    }
     Ok(())
 }

@@ -2,5 +2,5 @@ use Rattle.std.specs.List.{All}
 use Rattle.td_relations.proofs.Fits.{Fits}
 use Rattle.td_relations.proofs.tests.fitting.Given as goal
 
-abbrev pub invariant-loop-n : goal.invariant-loop-n
-invariant-loop-n l = All (Fits l.heading) l.tuples.items
+abbrev pub invariant-loop-row : goal.invariant-loop-row
+invariant-loop-row l = All (Fits l.heading) l.tuples.items
