@@ -62,7 +62,7 @@ fn compare_fields(a: &[(Name, TdType)], b: &[(Name, TdType)]) -> Ordering
     a.len().cmp(&b.len())
 }
 
-fn kind_rank(a: &Value) -> u8
+pub(crate) fn kind_rank(a: &Value) -> u8
     ensures { result ≡ rank a.now }
 {
     match &a.kind {
@@ -106,7 +106,7 @@ pub fn equal(a: &Value, b: &Value) -> bool
 
 #[cycle(compare)]
 #[tactic(auto, using(crate::proofs::Walks::items_ended))]
-fn compare_items(a: &[Value], b: &[Value]) -> Ordering
+pub(crate) fn compare_items(a: &[Value], b: &[Value]) -> Ordering
     ensures { result ≡ items_order (items_of a.now) (items_of b.now) }
 {
     let mut i = 0;

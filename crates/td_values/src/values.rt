@@ -1,5 +1,6 @@
 //! Values, tuples and rows: what they hold, and copies.
 ghost use Rattle.std.specs.Prelude.{◌≡◌, IfOk};
+ghost use Rattle.std.specs.List.{All};
 ghost use Rattle.std.specs.Option.{option_copied};
 ghost use Rattle.td_values.specs.Attributes.{attribute_of};
 ghost use Rattle.td_values.specs.Data.{attrs_of};
@@ -62,6 +63,16 @@ pub fn whole_tuple(t: &Tuple)
     ensures { IsWholeTuple t.now }
 {
     let _all = &t.attributes;
+}
+
+/// Each of the tuples is whole. It costs nothing.
+pub fn whole_tuples(tuples: &[Tuple])
+    ensures { All IsWholeTuple tuples.now }
+{
+    // Each call shows that its tuple is whole, and does nothing when it runs.
+    for t in tuples {
+        whole_tuple(t);
+    }
 }
 
 impl Items {
@@ -144,10 +155,7 @@ impl Rows {
         requires { AreRows heading tuples.items }
         ensures { result ≡ record { heading = heading; tuples = tuples.items } }
     {
-        // Each call shows that its tuple is whole, and does nothing when it runs.
-        for t in &tuples {
-            whole_tuple(t);
-        }
+        whole_tuples(&tuples);
         Rows { heading, tuples }
     }
 
