@@ -1,5 +1,5 @@
 -- Tuples and headings by name: for the crates above.
-use Rattle.std.proofs.Common.{◌≡◌, ℕ, cond, List, [], ◌∷◌, map, Some, refl, sym, ap, ◌∙◌}
+use Rattle.std.proofs.Common.{◌≡◌, ◌↔◌, ℕ, Bool, IsTrue, cond, List, [], ◌∷◌, map, Some, refl, sym, ap, ◌∙◌}
 use Rattle.std.specs.declared.cmp.Ordering.{Ordering}
 use Rattle.std.specs.declared.cmp.Ordering.TheVariants.{Less, Equal, Greater}
 use Rattle.std.specs.Cmp.{tied_itself}
@@ -8,7 +8,7 @@ use Rattle.std.specs.Ordering.{is_eq}
 use Rattle.std.proofs.lemmas.Map.Lookups.{exact_bytes}
 use Rattle.td_values.specs.Attributes.{AttributeMap, attribute_of}
 use Rattle.td_values.specs.Data.{Ty, field, Datum, Attrs, attr, attrs_of, fields_of}
-use Rattle.td_values.specs.Headings.{Header, header_fields}
+use Rattle.td_values.specs.Headings.{Header, field_list, header_fields, header_of}
 use Rattle.td_values.specs.Order.{text_cmp}
 use Rattle.td_values.specs.TextOrder.{text_total}
 use Rattle.td_values.specs.Whole.{type_of, heading_of}
@@ -58,3 +58,18 @@ attrs_listed (x ∷ xs) (y ∷ ys) e =
 -- headings with the same fields are one heading
 pub same_header : (g h : Header) → header_fields g ≡ header_fields h → g ≡ h
 same_header g h e = by_name.same_entries_map g h (fields_listed (by_name.entries g) (by_name.entries h) e)
+
+-- two headings are equal where their fields are
+pub one_heading : (g h : Header) (b : Bool) → IsTrue b ↔ (header_fields g ≡ header_fields h) → IsTrue b ↔ (g ≡ h)
+one_heading g h b e = (λ t. same_header g h (e.0 t), λ same. e.1 (ap header_fields same))
+
+fields_back : (xs : List (List ℕ × Ty)) → field_list (fields_of xs) ≡ xs
+fields_back [] = refl
+fields_back (x ∷ xs) = ap (λ ys. x ∷ ys) (fields_back xs)
+
+-- a heading is the one with its fields
+pub header_back : (h : Header) → header_of (header_fields h) ≡ h
+header_back h =
+    let es = by_name.entries h in
+    ap (λ xs. by_name.from_entries {R = text_cmp} xs) (fields_back es)
+    ∙ by_name.same_map text_total exact_bytes (by_name.from_entries es) h (λ q. by_name.get-from_entries text_total es q ∙ sym (by_name.get-entries h q))

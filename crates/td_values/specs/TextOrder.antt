@@ -1,10 +1,14 @@
 -- The order of texts: that of their bytes, and of their characters.
-use Rattle.std.specs.Prelude.{ℕ, List}
+use Rattle.std.specs.Prelude.{◌≡◌, ℕ, List, IsTrue, refl}
 use Rattle.std.specs.declared.cmp.Ordering.{Ordering}
-use Rattle.std.specs.Ordering.{nat_cmp, eq_by_cmp, as_partial_cmp}
+use Rattle.std.specs.declared.cmp.Ordering.TheVariants.{Less, Equal, Greater}
+use Rattle.std.specs.Ordering.{nat_cmp, is_eq, eq_by_cmp, as_partial_cmp}
 use Rattle.std.specs.Cmp.{IsTotalOrder, IsEquivalence, IsPartialEquivalence, IsPartialOrder, eq_by_cmp_equiv, partial_equiv_from_equiv, partial_order_from_total}
 use Rattle.std.specs.Cmp.Lexicographic.{slice_cmp, nat_list_cmp_total}
 use Rattle.std.specs.Str.{chars}
+use Rattle.std.specs.Hash as fed
+use Rattle.std.proofs.Common.{ap}
+use Rattle.std.proofs.lemmas.Map.Lookups.{exact_bytes}
 use Rattle.td_values.specs.Order.{text_cmp}
 
 -- by code points: the first different character decides, and else the number of characters
@@ -22,3 +26,12 @@ text_partial_equivalence = partial_equiv_from_equiv text_equivalence
 
 pub text_partial_order : IsPartialOrder (eq_by_cmp text_cmp) (as_partial_cmp text_cmp)
 text_partial_order = partial_order_from_total text_total
+
+tie : (o : Ordering) → IsTrue (is_eq o) → o ≡ Equal
+tie Less t = cc
+tie Equal t = refl
+tie Greater t = cc
+
+-- equal texts are hashed alike
+pub text_hashed : (s t : List ℕ) → IsTrue (eq_by_cmp text_cmp s t) → fed.str s ≡ fed.str t
+text_hashed s t e = ap fed.str (exact_bytes s t (tie (text_cmp s t) e))

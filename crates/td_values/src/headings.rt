@@ -14,25 +14,24 @@ impl TdType {
     pub fn copy(&self) -> Result<TdType, AllocError>
         ensures { IfOk result (λ t. t ≡ self.now) }
     {
-        match &self.kind {
-            TypeKind::Boolean => Ok(TdType {
-                kind: TypeKind::Boolean,
-            }),
-            TypeKind::Integer => Ok(TdType {
-                kind: TypeKind::Integer,
-            }),
-            TypeKind::Char => Ok(TdType {
-                kind: TypeKind::Char,
-            }),
-            TypeKind::User(n) => Ok(TdType {
-                kind: TypeKind::User(n.copy()?),
-            }),
-            TypeKind::Tuple(h) => Ok(TdType {
-                kind: TypeKind::Tuple(h.copy()?),
-            }),
-            TypeKind::Relation(h) => Ok(TdType {
-                kind: TypeKind::Relation(h.copy()?),
-            }),
+        Ok(TdType {
+            kind: self.kind.copy()?,
+        })
+    }
+}
+
+impl TypeKind {
+    /// The same kind of type, shared.
+    pub fn copy(&self) -> Result<TypeKind, AllocError>
+        ensures { IfOk result (λ k. k ≡ self.now) }
+    {
+        match self {
+            TypeKind::Boolean => Ok(TypeKind::Boolean),
+            TypeKind::Integer => Ok(TypeKind::Integer),
+            TypeKind::Char => Ok(TypeKind::Char),
+            TypeKind::User(n) => Ok(TypeKind::User(n.copy()?)),
+            TypeKind::Tuple(h) => Ok(TypeKind::Tuple(h.copy()?)),
+            TypeKind::Relation(h) => Ok(TypeKind::Relation(h.copy()?)),
         }
     }
 }

@@ -1,15 +1,17 @@
 //! Names of relvars, attributes and types.
 ghost use Rattle.std.specs.Prelude.{◌≡◌, ◌↔◌, IfOk, IsTrue, IsErrOf, false, refl};
 ghost use Rattle.std.specs.List.{list_all};
+ghost use Rattle.std.specs.Hash as fed;
 ghost use Rattle.std.specs.Ordering.{eq_by_cmp, as_partial_cmp};
 ghost use Rattle.td_values.specs.Names.{is_name, goes_on_in_name};
 ghost use Rattle.td_values.specs.Order.{text_cmp};
-ghost use Rattle.td_values.specs.TextOrder.{text_total, text_equivalence, text_partial_equivalence, text_partial_order};
+ghost use Rattle.td_values.specs.TextOrder.{text_total, text_equivalence, text_partial_equivalence, text_partial_order, text_hashed};
 ghost use Rattle.td_values.specs.declared.names.NameError.TheVariants.{BadName, OutOfMemory};
 
 use crate::texts::Text;
 use std::alloc::{AllocError, Global};
 use std::cmp::Ordering;
+use std::hash::{Hash, Hasher};
 use std::marker::Model;
 use thiserror::Error;
 
@@ -145,5 +147,15 @@ impl Ord for Name {
 
     fn cmp(&self, other: &Name) -> Ordering {
         self.compare(other)
+    }
+}
+
+impl Hash for Name {
+    ghost hash_input = { fed.str };
+
+    ghost respects_eq = { text_hashed };
+
+    fn hash<H: Hasher>(&self, state: &mut H) {
+        self.as_str().hash(state);
     }
 }

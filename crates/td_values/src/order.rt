@@ -36,6 +36,35 @@ fn type_rank(a: &TdType) -> u8
     }
 }
 
+/// Whether the types are the same. It takes no memory.
+pub fn equal_types(a: &TdType, b: &TdType) -> bool
+    ensures { IsTrue result ↔ (a.now ≡ b.now) }
+{
+    compare_types(a, b).is_eq()
+}
+
+/// Whether the kinds of types are the same. It takes no memory.
+pub fn equal_kinds(a: &TypeKind, b: &TypeKind) -> bool
+    ensures { IsTrue result ↔ (a.now ≡ b.now) }
+{
+    match (a, b) {
+        (TypeKind::Boolean, TypeKind::Boolean) => true,
+        (TypeKind::Integer, TypeKind::Integer) => true,
+        (TypeKind::Char, TypeKind::Char) => true,
+        (TypeKind::User(m), TypeKind::User(n)) => m == n,
+        (TypeKind::Tuple(g), TypeKind::Tuple(h)) => equal_headings(g, h),
+        (TypeKind::Relation(g), TypeKind::Relation(h)) => equal_headings(g, h),
+        _ => false,
+    }
+}
+
+/// Whether the headings are the same. It takes no memory.
+pub fn equal_headings(a: &Heading, b: &Heading) -> bool
+    ensures { IsTrue result ↔ (a.now ≡ b.now) }
+{
+    compare_headings(a, b).is_eq()
+}
+
 /// The order of headings: by their names and types in name order, a proper prefix first.
 #[cycle(compare_types)]
 pub fn compare_headings(a: &Heading, b: &Heading) -> Ordering

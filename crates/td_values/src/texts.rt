@@ -1,11 +1,13 @@
 //! Texts that their copies share.
 ghost use Rattle.std.specs.Prelude.{◌≡◌, IfOk, string_bytes, refl};
+ghost use Rattle.std.specs.Hash as fed;
 ghost use Rattle.std.specs.Ordering.{eq_by_cmp, as_partial_cmp};
 ghost use Rattle.td_values.specs.Order.{text_cmp};
-ghost use Rattle.td_values.specs.TextOrder.{text_total, text_equivalence, text_partial_equivalence, text_partial_order};
+ghost use Rattle.td_values.specs.TextOrder.{text_total, text_equivalence, text_partial_equivalence, text_partial_order, text_hashed};
 
 use std::alloc::{AllocError, Global};
 use std::cmp::Ordering;
+use std::hash::{Hash, Hasher};
 use std::marker::Model;
 use std::rc::Rc;
 
@@ -100,5 +102,15 @@ impl Ord for Text {
 
     fn cmp(&self, other: &Text) -> Ordering {
         self.compare(other)
+    }
+}
+
+impl Hash for Text {
+    ghost hash_input = { fed.str };
+
+    ghost respects_eq = { text_hashed };
+
+    fn hash<H: Hasher>(&self, state: &mut H) {
+        self.as_str().hash(state);
     }
 }
