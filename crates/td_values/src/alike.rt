@@ -24,10 +24,10 @@ pub fn compare_alike(a: &Tuple, b: &Tuple) -> Ordering
 }
 
 /// Sorts tuples of one heading. It takes no memory, and costs as `sort_unstable`.
-pub fn sort_alike(tuples: &mut [Tuple])
-    requires { AreAlike tuples.old }
-    ensures permutation { IsPermutation tuples.old tuples.new }
-    ensures sorted { IsSorted attrs_order tuples.new }
+pub fn sort_alike(tuples: &mut Vec<Tuple>)
+    requires { AreAlike tuples.old.items }
+    ensures permutation { IsPermutation tuples.old.items tuples.new.items }
+    ensures sorted { IsSorted attrs_order tuples.new.items }
 {
     whole_tuples(tuples);
     tuples.sort_unstable_by(|s, t| compare_values(s, t));

@@ -1,5 +1,6 @@
 use Rattle.std.specs.Ordering.{is_lt}
-use Rattle.std.proofs.Common.{rules}
+use Rattle.std.specs.List.{All}
+use Rattle.std.proofs.Common.{subst, rules}
 use Rattle.std.proofs.lemmas.Fn.{always_returns_same}
 use Rattle.std.proofs.lemmas.List.Sorted.{All-permutation}
 use Rattle.td_values.specs.Alike.{values_order}
@@ -11,4 +12,4 @@ pub returns-clause-sorted : goal.returns-clause-sorted
 returns-clause-sorted c =
     let moved = c.sort_unstable_by.ensures.permutation in
     let up = c.sort_unstable_by.ensures.sorted (λ s t. is_lt (values_order s t)) values_rank (always_returns_same _ _ _ (λ a r f' k. (search rules, search rules))) in
-    sorted_alike _ (alike_moved _ _ moved c.requires) (All-permutation IsWholeTuple _ _ moved c.whole_tuples.ensures) up
+    sorted_alike _ (alike_moved _ _ moved c.requires) (All-permutation IsWholeTuple _ _ moved (subst (All IsWholeTuple) c.deref.ensures.value c.whole_tuples.ensures)) up
