@@ -25,9 +25,9 @@ mutual
   alike (boolean a) (boolean b) v w h = refl
   alike (integer m) (integer n) v w h = refl
   alike (char s) (char t) v w h = refl
-  alike (user m is) (user n js) v w h =
-      let name : m ≡ n = cc in
-      sym (ap (λ o. ordering_then o (items_order is js)) (same_text m n name))
+  alike (user p is) (user q js) v w h =
+      let name : p.ty ≡ q.ty = cc in
+      sym (ap (λ o. ordering_then (ordering_then o (text_cmp p.name q.name)) (items_order is js)) (same_text p.ty q.ty name))
   alike (tuple s) (tuple t) v w h =
       let headings : heading_of s ≡ heading_of t = cc in
       tuples_alike s t v w headings

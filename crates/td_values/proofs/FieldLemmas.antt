@@ -6,10 +6,10 @@ use Rattle.std.specs.Ordering.{eq_by_cmp, is_eq, ordering_reverse}
 use Rattle.std.specs.Cmp.{tied_itself}
 use Rattle.std.proofs.lemmas.Bool.Decides.{Decides-eqb}
 use Rattle.std.proofs.lemmas.Map.Lookups.{exact_bytes}
-use Rattle.td_values.specs.Data.{Ty, user_type, relation_type, Fields, field, Datum, user, relation, Items, Attrs, Tuples, attrs_of, fields_of}
-use Rattle.td_values.specs.Order.{text_cmp, fields_order}
+use Rattle.td_values.specs.Data.{Ty, user_type, relation_type, Fields, field, PossrepData, Datum, user, relation, Items, Attrs, Tuples, attrs_of, fields_of}
+use Rattle.td_values.specs.Order.{text_cmp, fields_order, possrep_order}
 use Rattle.td_values.specs.TextOrder.{text_total}
-use Rattle.td_values.specs.Total.{fields_antisymm, fields_tied}
+use Rattle.td_values.specs.Total.{fields_antisymm, fields_tied, possrep_antisymm}
 use Rattle.td_values.specs.Whole.{type_of, heading_of}
 use Rattle.td_values.proofs.Walks.{is_tied}
 
@@ -24,17 +24,20 @@ own_turn Greater e = cc
 pub fields_tie_themselves : (fs : Fields) → fields_order fs fs ≡ Equal
 fields_tie_themselves fs = own_turn _ (fields_antisymm fs fs)
 
+pub possrep_ties_itself : (p : PossrepData) → possrep_order p p ≡ Equal
+possrep_ties_itself p = own_turn _ (possrep_antisymm p p)
+
 pub same_fields : (fs gs : Fields) (o : Ordering) (b : Bool) → o ≡ fields_order fs gs → b ≡ is_eq o → IsTrue b ↔ (fs ≡ gs)
 same_fields fs gs o b e test = (
   λ t. fields_tied fs gs (sym e ∙ is_tied o (sym test ∙ t)),
   λ same. test ∙ ap is_eq (e ∙ ap (fields_order fs) (sym same) ∙ fields_tie_themselves fs),
 )
 
-pub user_typed : (v : Datum) (t : Ty) (m n : List ℕ) (is : Items) (b : Bool) → v ≡ user m is → t ≡ user_type n → b ≡ eq_by_cmp text_cmp m n → IsTrue b ↔ (type_of v ≡ t)
-user_typed v t m n is b value ty e =
-    let same = same_name m n b e in (
+pub user_typed : (v : Datum) (t : Ty) (p : PossrepData) (n : List ℕ) (is : Items) (b : Bool) → v ≡ user p is → t ≡ user_type n → b ≡ eq_by_cmp text_cmp p.ty n → IsTrue b ↔ (type_of v ≡ t)
+user_typed v t p n is b value ty e =
+    let same = same_name p.ty n b e in (
       λ h. ap type_of value ∙ ap user_type (same.0 h) ∙ sym ty,
-      λ r. same.1 (let names : user_type m ≡ user_type n = sym (ap type_of value) ∙ r ∙ ty in cc),
+      λ r. same.1 (let names : user_type p.ty ≡ user_type n = sym (ap type_of value) ∙ r ∙ ty in cc),
     )
 
 pub relation_typed : (v : Datum) (t : Ty) (fs gs : Fields) (ts : Tuples) (o : Ordering) (b : Bool) → v ≡ relation fs ts → t ≡ relation_type gs → o ≡ fields_order fs gs → b ≡ is_eq o → IsTrue b ↔ (type_of v ≡ t)

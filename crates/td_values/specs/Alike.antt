@@ -12,7 +12,7 @@ abbrev mutual
   bare (boolean b) = boolean b
   bare (integer n) = integer n
   bare (char s) = char s
-  bare (user n is) = user [] is
+  bare (user p is) = user (record { ty = []; name = p.name }) is
   bare (tuple t) = tuple (bare_tuple t)
   bare (relation h ts) = relation no_fields (bare_tuples ts)
 

@@ -36,14 +36,14 @@ abbrev mutual
   more_fields no_fields = codes " }"
   more_fields (field n t fs) = codes ", " ++ n ++ codes " " ++ shown_type t ++ more_fields fs
 
--- a value: user values by name and components, tuples as a brace of names with values, relations by heading and tuples
+-- a value: user values by their possible representation's name and components, tuples as a brace of names with values, relations by heading and tuples
 abbrev mutual
   pub shown : Datum → List ℕ
   shown (boolean true) = codes "TRUE"
   shown (boolean false) = codes "FALSE"
   shown (integer n) = literal n
   shown (char s) = quoted s
-  shown (user n is) = n ++ shown_items is
+  shown (user p is) = p.name ++ shown_items is
   shown (tuple as') = codes "TUPLE " ++ shown_attrs as'
   shown (relation h ts) = codes "RELATION " ++ shown_fields h ++ codes " " ++ shown_tuples ts
 

@@ -77,7 +77,10 @@ fn compare_bare(a: &Value, b: &Value) -> Ordering
         (Kind::Boolean(x), Kind::Boolean(y)) => x.cmp(y),
         (Kind::Integer(x), Kind::Integer(y)) => x.cmp(y),
         (Kind::Char(x), Kind::Char(y)) => x.compare(y),
-        (Kind::User(_, xs), Kind::User(_, ys)) => compare_items(&xs.values, &ys.values),
+        (Kind::User(p, xs), Kind::User(q, ys)) => {
+            let names = p.name().compare(q.name());
+            names.then(compare_items(&xs.values, &ys.values))
+        }
         (Kind::Tuple(s), Kind::Tuple(t)) => compare_values(s, t),
         (Kind::Relation(r), Kind::Relation(s)) => compare_bare_rows(&r.tuples, &s.tuples),
         _ => kind_rank(a).cmp(&kind_rank(b)),

@@ -44,7 +44,7 @@ pub fn has_type(value: &Value, ty: &TdType) -> bool
         (Kind::Boolean(_), TypeKind::Boolean) => true,
         (Kind::Integer(_), TypeKind::Integer) => true,
         (Kind::Char(_), TypeKind::Char) => true,
-        (Kind::User(m, _), TypeKind::User(n)) => m == n,
+        (Kind::User(p, _), TypeKind::User(n)) => p.ty() == n,
         (Kind::Tuple(t), TypeKind::Tuple(h)) => fits(t, h),
         (Kind::Relation(r), TypeKind::Relation(h)) => compare_headings(&r.heading, h).is_eq(),
         _ => false,

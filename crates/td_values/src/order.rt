@@ -114,8 +114,8 @@ pub fn compare(a: &Value, b: &Value) -> Ordering
         (Kind::Boolean(x), Kind::Boolean(y)) => x.cmp(y),
         (Kind::Integer(x), Kind::Integer(y)) => x.cmp(y),
         (Kind::Char(x), Kind::Char(y)) => x.compare(y),
-        (Kind::User(m, xs), Kind::User(n, ys)) => {
-            m.compare(n).then(compare_items(&xs.values, &ys.values))
+        (Kind::User(p, xs), Kind::User(q, ys)) => {
+            p.compare(q).then(compare_items(&xs.values, &ys.values))
         }
         (Kind::Tuple(s), Kind::Tuple(t)) => compare_tuples(s, t),
         (Kind::Relation(r), Kind::Relation(s)) => {

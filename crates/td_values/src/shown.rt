@@ -110,8 +110,8 @@ pub fn show_into(out: &mut String, v: &Value) -> Result<(), AllocError>
         Kind::Boolean(b) => out.push_str(if *b { "TRUE" } else { "FALSE" }),
         Kind::Integer(n) => show_integer(out, *n),
         Kind::Char(s) => show_text(out, s.as_str()),
-        Kind::User(n, vs) => {
-            out.push_str(n.as_str())?;
+        Kind::User(p, vs) => {
+            out.push_str(p.name().as_str())?;
             show_items(out, &vs.values)
         }
         Kind::Tuple(t) => show_tuple_into(out, t),

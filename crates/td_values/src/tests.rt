@@ -1,10 +1,15 @@
 //! Worked examples, whose answers come from the language's definition.
+ghost use Rattle.std.specs.Prelude.{IfOk};
+ghost use Rattle.td_values.specs.Rows.{AreRows};
+
 use crate::{
-    Heading, Items, Kind, Name, NameError, TdType, Text, Tuple, TupleBuilder, TypeKind, Value,
-    compare, copy, equal, fits, has_type, show, show_tuple_into, show_type,
+    Heading, Items, Kind, Name, NameError, Possrep, Rows, TdType, Text, Tuple, TupleBuilder,
+    TypeKind, Value, compare, compare_alike, copy, equal, equal_headings, equal_kinds, equal_types,
+    fits, has_type, search_alike, show, show_tuple_into, show_type, sort_alike,
 };
 use std::alloc::{AllocError, Global};
 use std::cmp::Ordering;
+use std::hash::{DefaultHasher, Hash, Hasher};
 
 type Result<T> = std::result::Result<T, NameError>;
 
@@ -22,6 +27,10 @@ fn integer(n: i64) -> Value {
     Value {
         kind: Kind::Integer(n),
     }
+}
+
+fn possrep(alloc: Global, ty: &str, own: &str) -> Result<Possrep> {
+    Ok(Possrep::new(alloc, name(alloc, ty)?, name(alloc, own)?)?)
 }
 
 fn char_type() -> TdType {
@@ -145,7 +154,10 @@ fn values_are_shown(rt: HostRuntime) -> Result<()> {
     assert!(rt; is_shown(alloc, text(alloc, "it's")?, "'it''s'")?);
     let coordinates = vec![in alloc; integer(1), integer(2)].map_err(AllocError::from)?;
     let point = Value {
-        kind: Kind::User(name(alloc, "POINT")?, Items::new(alloc, coordinates)?),
+        kind: Kind::User(
+            possrep(alloc, "POINT", "POINT")?,
+            Items::new(alloc, coordinates)?,
+        ),
     };
     assert!(rt; is_shown(alloc, point, "POINT ( 1, 2 )")?);
     Ok(())
@@ -161,6 +173,102 @@ fn tuples_and_types_are_shown(rt: HostRuntime) -> Result<()> {
         kind: TypeKind::Relation(supplier_heading(alloc)?),
     };
     assert!(rt; show_type(alloc, &ty.copy()?)?.as_str() == "RELATION { S# CHAR, STATUS INTEGER }");
+    Ok(())
+}
+
+// The tuple alone, where it has the heading.
+fn fitting(
+    alloc: Global,
+    heading: &Heading,
+    tuple: Tuple,
+) -> std::result::Result<Vec<Tuple>, AllocError>
+    ensures { IfOk result (λ ts. AreRows heading.now ts.items) }
+{
+    let mut tuples = Vec::new(alloc);
+    if fits(&tuple, heading) {
+        tuples.push(tuple)?;
+    }
+    Ok(tuples)
+}
+
+// The relation of this tuple; of none where the tuple hasn't the heading.
+fn relation_of(alloc: Global, heading: Heading, tuple: Tuple) -> Result<Value> {
+    let tuples = fitting(alloc, &heading, tuple)?;
+    Ok(Value {
+        kind: Kind::Relation(Rows::new(heading, tuples)),
+    })
+}
+
+// A quantity: its type is QTY, whose possible representation Q2 has an integer.
+fn quantity(alloc: Global, n: i64) -> Result<Value> {
+    let components = vec![in alloc; integer(n)].map_err(AllocError::from)?;
+    Ok(Value {
+        kind: Kind::User(possrep(alloc, "QTY", "Q2")?, Items::new(alloc, components)?),
+    })
+}
+
+fn quantities(alloc: Global, n: i64) -> Result<Value> {
+    let mut heading = Heading::new(alloc)?;
+    let kind = TypeKind::User(name(alloc, "QTY")?);
+    heading.insert(alloc, name(alloc, "A")?, TdType { kind })?;
+    let mut builder = TupleBuilder::new(alloc);
+    builder.insert(name(alloc, "A")?, quantity(alloc, n)?)?;
+    relation_of(alloc, heading, builder.build(alloc)?)
+}
+
+#[test]
+fn a_type_and_its_possrep_have_two_names(rt: HostRuntime) -> Result<()> {
+    let alloc = rt.alloc();
+    let shown = "RELATION { A QTY } { TUPLE { A Q2 ( 5 ) } }";
+    assert!(rt; is_shown(alloc, quantities(alloc, 5)?, shown)?);
+    assert!(rt; ascend(quantities(alloc, 5)?, quantities(alloc, 6)?));
+    assert!(rt; equals_its_copy(alloc, quantities(alloc, 5)?)?);
+    Ok(())
+}
+
+fn empty_tuple(alloc: Global) -> Result<Tuple> {
+    Ok(TupleBuilder::new(alloc).build(alloc)?)
+}
+
+fn value_of(kind: Kind) -> Value {
+    Value { kind }
+}
+
+#[test]
+fn empty_braces_are_shown(rt: HostRuntime) -> Result<()> {
+    let alloc = rt.alloc();
+    let none = Items::new(alloc, Vec::new(alloc))?;
+    let user = value_of(Kind::User(possrep(alloc, "T", "T")?, none));
+    assert!(rt; is_shown(alloc, user, "T ( )")?);
+    assert!(rt;
+        is_shown(
+            alloc,
+            value_of(Kind::Tuple(empty_tuple(alloc)?)),
+            "TUPLE { }"
+        )?
+    );
+    let dee = relation_of(alloc, Heading::new(alloc)?, empty_tuple(alloc)?)?;
+    assert!(rt; is_shown(alloc, dee, "RELATION { } { TUPLE { } }")?);
+    let dum = relation_of(alloc, Heading::new(alloc)?, supplier(alloc, "S1", 20)?)?;
+    assert!(rt; is_shown(alloc, dum, "RELATION { } { }")?);
+    Ok(())
+}
+
+// A tuple of one attribute.
+fn tuple_of(alloc: Global, at: &str, value: Value) -> Result<Value> {
+    let mut builder = TupleBuilder::new(alloc);
+    builder.insert(name(alloc, at)?, value)?;
+    Ok(value_of(Kind::Tuple(builder.build(alloc)?)))
+}
+
+#[test]
+fn values_in_values_are_shown(rt: HostRuntime) -> Result<()> {
+    let alloc = rt.alloc();
+    let inner = tuple_of(alloc, "B", integer(i64::MIN))?;
+    let shown = "TUPLE { A TUPLE { B (-9223372036854775807 - 1) } }";
+    assert!(rt; is_shown(alloc, tuple_of(alloc, "A", inner)?, shown)?);
+    let shown = "TUPLE { R RELATION { A QTY } { TUPLE { A Q2 ( 5 ) } } }";
+    assert!(rt; is_shown(alloc, tuple_of(alloc, "R", quantities(alloc, 5)?)?, shown)?);
     Ok(())
 }
 
@@ -217,5 +325,57 @@ fn tuples_have_headings(rt: HostRuntime) -> Result<()> {
         has_integer(&tuple, &name(alloc, "STATUS")?) && !has_integer(&tuple, &name(alloc, "S#")?)
     );
     assert!(rt; fits(&tuple, &supplier_heading(alloc)?) && !fits(&tuple, &larger_heading(alloc)?));
+    Ok(())
+}
+
+// Whether both tuples have the heading, and the first is below the second.
+fn is_below(heading: &Heading, a: &Tuple, b: &Tuple) -> bool {
+    fits(a, heading) && fits(b, heading) && compare_alike(a, b) == Ordering::Less
+}
+
+// The place of the tuple among the sorted tuples, where all have the heading.
+fn place_among(heading: &Heading, mut tuples: Vec<Tuple>, tuple: &Tuple) -> Option<usize> {
+    for t in &tuples {
+        if !fits(t, heading) {
+            return None;
+        }
+    }
+    if !fits(tuple, heading) {
+        return None;
+    }
+    sort_alike(&mut tuples);
+    search_alike(&tuples, tuple).ok()
+}
+
+#[test]
+fn tuples_of_one_heading_are_sorted(rt: HostRuntime) -> Result<()> {
+    let alloc = rt.alloc();
+    let heading = supplier_heading(alloc)?;
+    let (a, b) = (supplier(alloc, "S1", 20)?, supplier(alloc, "S2", 10)?);
+    assert!(rt; is_below(&heading, &a, &b) && !is_below(&heading, &b, &a));
+    let tuples = vec![in alloc; supplier(alloc, "S2", 5)?, b.copy()?, a].map_err(AllocError::from)?;
+    assert!(rt; place_among(&heading, tuples, &b) == Some(2));
+    Ok(())
+}
+
+fn hash_of(name: &Name) -> u64 {
+    let mut state = DefaultHasher::new();
+    name.hash(&mut state);
+    state.finish()
+}
+
+#[test]
+fn types_are_compared(rt: HostRuntime) -> Result<()> {
+    let alloc = rt.alloc();
+    let (small, large) = (supplier_heading(alloc)?, larger_heading(alloc)?);
+    assert!(rt;
+        equal_headings(&small, &supplier_heading(alloc)?) && !equal_headings(&small, &large)
+    );
+    let (tuple, relation) = (TypeKind::Tuple(small.copy()?), TypeKind::Relation(small));
+    assert!(rt; equal_kinds(&tuple, &tuple.copy()?) && !equal_kinds(&tuple, &relation));
+    assert!(rt;
+        equal_types(&char_type(), &char_type()) && !equal_types(&char_type(), &integer_type())
+    );
+    assert!(rt; hash_of(&name(alloc, "A")?) == hash_of(&name(alloc, "A")?));
     Ok(())
 }

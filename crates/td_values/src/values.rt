@@ -27,8 +27,8 @@ pub fn copy(alloc: Global, a: &Value) -> Result<Value, AllocError>
         Kind::Char(s) => Ok(Value {
             kind: Kind::Char(s.copy()?),
         }),
-        Kind::User(n, vs) => Ok(Value {
-            kind: Kind::User(n.copy()?, vs.copy()?),
+        Kind::User(p, vs) => Ok(Value {
+            kind: Kind::User(p.copy()?, vs.copy()?),
         }),
         Kind::Tuple(t) => Ok(Value {
             kind: Kind::Tuple(t.copy()?),

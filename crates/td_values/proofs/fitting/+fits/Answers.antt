@@ -1,7 +1,9 @@
 use Rattle.std.proofs.Common.{◌≡◌, ◌<◌, refl, sym, ap, ◌∙◌, arith, length}
+use Rattle.std.specs.Ordering.{eq_by_cmp}
 use Rattle.td_values.specs.declared.Kind.TheVariants as kind
 use Rattle.td_values.specs.Data.{attrs_of}
 use Rattle.td_values.proofs.Entries.{entries_seen}
+use Rattle.td_values.specs.Order.{text_cmp}
 use Rattle.td_values.specs.Rows.{RowsData}
 use Rattle.td_values.specs.View.{datum_of, ty_of}
 use Rattle.td_values.proofs.FieldLemmas.{same_name, user_typed, relation_typed, advances, name_differs, ended, lengths_tested, and_then, fit_seen, is_not, is_not_true}
@@ -38,7 +40,7 @@ fits-returns t c =
     fit_seen c.fit_fields.result tuple fields c.fit_fields.ensures
 
 pub has_type-returns-in-User-User : goal.has_type-returns-in-User-User
-has_type-returns-in-User-User t c = user_typed _ _ c.in-User-User.m c.in-User-User.n _ _ (sym c.value.view_is ∙ ap datum_of c.in-User-User.is-0) (sym c.ty.view_is ∙ ap ty_of c.in-User-User.is-1) c.eq.ensures
+has_type-returns-in-User-User t c = user_typed _ _ c.in-User-User.p c.in-User-User.n _ _ (sym c.value.view_is ∙ ap datum_of c.in-User-User.is-0) (sym c.ty.view_is ∙ ap ty_of c.in-User-User.is-1) (c.eq.ensures ∙ ap (λ m. eq_by_cmp text_cmp m c.in-User-User.n) c.ty-in-User-User.ensures)
 
 pub has_type-returns-in-Relation-Relation : goal.has_type-returns-in-Relation-Relation
 has_type-returns-in-Relation-Relation t c =
