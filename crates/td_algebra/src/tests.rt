@@ -7,7 +7,8 @@ use std::alloc::Global;
 use std::test::Fail;
 use td_relations::Relation;
 use td_values::{
-    Heading, Items, Kind, Name, TdType, Text, Tuple, TupleBuilder, TypeKind, Value, fits, show,
+    Heading, Items, Kind, Name, Possrep, TdType, Text, Tuple, TupleBuilder, TypeKind, Value, fits,
+    show,
 };
 
 type Result<T> = std::result::Result<T, Fail>;
@@ -423,10 +424,11 @@ fn user_heading(alloc: Global) -> Result<Heading> {
 
 fn user_tuple(alloc: Global) -> Result<Tuple> {
     let at = Name::new(alloc, "A")?;
-    let user = Name::new(alloc, "T")?;
+    let ty = Name::new(alloc, "T")?;
+    let possrep = Possrep::new(alloc, ty, Name::new(alloc, "P")?)?;
     let none = Items::new(alloc, Vec::new(alloc))?;
     let mut builder = TupleBuilder::new(alloc);
-    let kind = Kind::User(user, none);
+    let kind = Kind::User(possrep, none);
     builder.insert(at, Value { kind })?;
     Ok(builder.build(alloc)?)
 }
@@ -442,7 +444,7 @@ fn user_values(alloc: Global) -> Result<Relation> {
 fn values_without_components(rt: HostRuntime) -> Result<()> {
     let alloc = rt.alloc();
     let text = joined(alloc, user_values(alloc)?, user_values(alloc)?)?;
-    assert!(rt; text.as_str() == "RELATION { A T } { TUPLE { A T ( ) } }");
+    assert!(rt; text.as_str() == "RELATION { A T } { TUPLE { A P ( ) } }");
     Ok(())
 }
 
