@@ -1,8 +1,8 @@
 //! Values and types as texts that the language reads back.
-ghost use Rattle.std.specs.Prelude.{◌≡◌, ◌++◌, IfOk, OnOk, string_bytes};
+ghost use Rattle.std.specs.Prelude.{◌≡◌, ◌++◌, codes, IfOk, OnOk, string_bytes};
 ghost use Rattle.td_values.specs.Data.{attrs_of, fields_of, items_of, tuples_of, tuple};
 ghost use Rattle.td_values.specs.Headings.{header_fields};
-ghost use Rattle.td_values.specs.Shown.{literal, quoted, shown, shown_attrs, shown_fields, shown_items, shown_tuples, shown_type};
+ghost use Rattle.td_values.specs.Shown.{braced, enclosed, literal, quoted, shown, shown_attrs, shown_fields, shown_items, shown_tuples, shown_type};
 
 use crate::names::Name;
 use crate::{Heading, Kind, TdType, Tuple, TypeKind, Value};
@@ -74,14 +74,14 @@ pub fn show_type_into(out: &mut String, t: &TdType) -> Result<(), AllocError>
 
 #[cycle(show_type)]
 fn show_heading(out: &mut String, h: &Heading) -> Result<(), AllocError>
-    ensures { OnOk result (string_bytes out.new ≡ string_bytes out.old ++ shown_fields (header_fields h.now)) }
+    ensures { OnOk result (string_bytes out.new ≡ string_bytes out.old ++ braced (shown_fields (header_fields h.now))) }
 {
     show_fields(out, &h.fields)
 }
 
 #[cycle(show_type)]
 fn show_fields(out: &mut String, fields: &[(Name, TdType)]) -> Result<(), AllocError>
-    ensures { OnOk result (string_bytes out.new ≡ string_bytes out.old ++ shown_fields (fields_of fields.now)) }
+    ensures { OnOk result (string_bytes out.new ≡ string_bytes out.old ++ braced (shown_fields (fields_of fields.now))) }
 {
     if fields.is_empty() {
         return out.push_str("{ }");
@@ -135,7 +135,7 @@ pub fn show_tuple_into(out: &mut String, t: &Tuple) -> Result<(), AllocError>
 
 #[cycle(show)]
 fn show_items(out: &mut String, items: &[Value]) -> Result<(), AllocError>
-    ensures { OnOk result (string_bytes out.new ≡ string_bytes out.old ++ shown_items (items_of items.now)) }
+    ensures { OnOk result (string_bytes out.new ≡ string_bytes out.old ++ (codes " " ++ enclosed (codes "(") (codes ")") (shown_items (items_of items.now)))) }
 {
     if items.is_empty() {
         return out.push_str(" ( )");
@@ -153,7 +153,7 @@ fn show_items(out: &mut String, items: &[Value]) -> Result<(), AllocError>
 
 #[cycle(show)]
 fn show_attributes(out: &mut String, a: &[(Name, Value)]) -> Result<(), AllocError>
-    ensures { OnOk result (string_bytes out.new ≡ string_bytes out.old ++ shown_attrs (attrs_of a.now)) }
+    ensures { OnOk result (string_bytes out.new ≡ string_bytes out.old ++ braced (shown_attrs (attrs_of a.now))) }
 {
     if a.is_empty() {
         return out.push_str("{ }");
@@ -175,7 +175,7 @@ fn show_attributes(out: &mut String, a: &[(Name, Value)]) -> Result<(), AllocErr
 
 #[cycle(show)]
 fn show_tuples(out: &mut String, tuples: &[Tuple]) -> Result<(), AllocError>
-    ensures { OnOk result (string_bytes out.new ≡ string_bytes out.old ++ shown_tuples (tuples_of tuples.now)) }
+    ensures { OnOk result (string_bytes out.new ≡ string_bytes out.old ++ braced (shown_tuples (tuples_of tuples.now))) }
 {
     if tuples.is_empty() {
         return out.push_str("{ }");
