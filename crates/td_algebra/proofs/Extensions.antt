@@ -1,13 +1,19 @@
 -- Extension: what items raise and give at the tuples of a relation.
-use Rattle.std.proofs.Common.{◌≡◌, ◌≤◌, ℕ, List, Result, Ok, Err, refl, sym, ap, ◌∙◌, subst, arith}
+use Rattle.std.proofs.Common.{◌≡◌, ◌↔◌, ◌≤◌, ℕ, Bool, true, false, IsTrue, List, Result, Ok, Err, refl, sym, ap, ◌∙◌, subst, arith}
 use Rattle.std.specs.FinSet as set
 use Rattle.std.specs.List.{Contains}
-use Rattle.td_values.specs.declared.raises.Raise.{Raise}
-use Rattle.td_values.specs.Raises.{number_of}
-use Rattle.td_values.specs.Data.{Datum, Attrs}
+use Rattle.td_algebra.specs.declared.errors.Stop.{Stop}
+use Rattle.td_algebra.specs.Stops.{number_of}
+use Rattle.td_values.specs.Data.{Ty, Datum, Attrs}
+use Rattle.td_values.specs.Order.{ty_order}
+use Rattle.td_values.specs.Total.{ty_tied, ty_order_total}
+use Rattle.std.specs.Cmp.{tied_itself}
+use Rattle.std.specs.declared.cmp.Ordering.{Ordering}
+use Rattle.std.specs.declared.cmp.Ordering.TheVariants.{Less, Equal, Greater}
+use Rattle.std.specs.Ordering.{is_eq}
 use Rattle.td_values.specs.Headings.{Header}
 use Rattle.td_values.specs.Rows.{RowsData}
-use Rattle.td_relations.specs.Sets.{Has, IsRelation, IsRelationOf}
+use Rattle.td_relations.specs.Sets.{IsRelation, IsRelationOf}
 use Rattle.td_relations.proofs.Members.{has_listed}
 use Rattle.td_relations.proofs.Predicates.{by_list}
 use Rattle.td_tuples.specs.Unions.{beside, tuple_of}
@@ -18,29 +24,44 @@ use Rattle.td_algebra.specs.Raising.{AnswersBy, Unless, all_of, and_then}
 use Rattle.td_algebra.specs.Extending.{Meaning, field_at, fields_at, extended_at, Extended, RaisedBy}
 use Rattle.td_algebra.proofs.Walks.{Tells, tells, answers_from, answers_there}
 
+-- the test of a type
+is_self : (s : Ty) → is_eq (ty_order s s) ≡ true
+is_self s = ap is_eq (tied_itself ty_order_total s)
+
+same_type_by : (s t : Ty) (o : Ordering) (b : Bool) → ty_order s t ≡ o → IsTrue b ↔ (s ≡ t) → is_eq o ≡ b
+same_type_by s t Equal true e same = refl
+same_type_by s t Equal false e same = sym (same.1 (ty_tied s t e))
+same_type_by s t Less true e same = sym (ap is_eq e) ∙ ap (λ x. is_eq (ty_order s x)) (sym (same.0 refl)) ∙ is_self s
+same_type_by s t Less false e same = refl
+same_type_by s t Greater true e same = sym (ap is_eq e) ∙ ap (λ x. is_eq (ty_order s x)) (sym (same.0 refl)) ∙ is_self s
+same_type_by s t Greater false e same = refl
+
+pub same_type : (s t : Ty) (b : Bool) → IsTrue b ↔ (s ≡ t) → is_eq (ty_order s t) ≡ b
+same_type s t b same = same_type_by s t (ty_order s t) b refl same
+
 module _ {A B : Type 0} (f : A → B) where
-  err_from : (a : Result A Raise) (e : Raise) → and_then a (λ x. Ok (f x)) ≡ Err e → a ≡ Err e
+  err_from : (a : Result A Stop) (e : Stop) → and_then a (λ x. Ok (f x)) ≡ Err e → a ≡ Err e
   err_from (Ok x) e h = cc
   err_from (Err d) e h = cc
 
-  err_to : (a : Result A Raise) (e : Raise) → a ≡ Err e → and_then a (λ x. Ok (f x)) ≡ Err e
+  err_to : (a : Result A Stop) (e : Stop) → a ≡ Err e → and_then a (λ x. Ok (f x)) ≡ Err e
   err_to (Ok x) e h = cc
   err_to (Err d) e h = cc
 
 module _ {E : Type 0} (m : Meaning E) (items : List (Item E)) where
   -- the error of a tuple is that of an item
-  raised_at : (t : Attrs) (e : Raise) → extended_at m items t ≡ Err e → (i : Item E) × Contains items i × (m i.term t ≡ Err e)
+  raised_at : (t : Attrs) (e : Stop) → extended_at m items t ≡ Err e → (i : Item E) × Contains items i × (field_at m t i ≡ Err e)
   raised_at t e h =
       let all = err_from (λ fs. beside (tuple_of fs) t) (fields_at m items t) e h in
       let (found, least) = subst (Tells (field_at m t) items) all (tells (field_at m t) items) in
-      (found.0, found.1, err_from (λ d. (found.0.name, d)) (m found.0.term t) e found.2)
+      found
 
-  seen_by : (i : Item E) (t : Attrs) (f : Raise) (r : Result (List (List ℕ × Datum)) Raise) → fields_at m items t ≡ r → Tells (field_at m t) items r → Contains items i → m i.term t ≡ Err f → (e : Raise) × (fields_at m items t ≡ Err e) × (number_of e ≤ number_of f)
-  seen_by i t f (Ok fs) is none there raises = absurd (none i there f (err_to (λ d. (i.name, d)) (m i.term t) f raises))
-  seen_by i t f (Err e) is (found, least) there raises = (e, is, least i there f (err_to (λ d. (i.name, d)) (m i.term t) f raises))
+  seen_by : (i : Item E) (t : Attrs) (f : Stop) (r : Result (List (List ℕ × Datum)) Stop) → fields_at m items t ≡ r → Tells (field_at m t) items r → Contains items i → field_at m t i ≡ Err f → (e : Stop) × (fields_at m items t ≡ Err e) × (number_of e ≤ number_of f)
+  seen_by i t f (Ok fs) is none there raises = absurd (none i there f raises)
+  seen_by i t f (Err e) is (found, least) there raises = (e, is, least i there f raises)
 
   -- where an item raises, the tuple has that error or a lesser one
-  raise_seen : (i : Item E) (t : Attrs) (f : Raise) → Contains items i → m i.term t ≡ Err f → (e : Raise) × (extended_at m items t ≡ Err e) × (number_of e ≤ number_of f)
+  raise_seen : (i : Item E) (t : Attrs) (f : Stop) → Contains items i → field_at m t i ≡ Err f → (e : Stop) × (extended_at m items t ≡ Err e) × (number_of e ≤ number_of f)
   raise_seen i t f there raises =
       let (e, is, least) = seen_by i t f (fields_at m items t) refl (tells (field_at m t) items) there raises in
       (e, err_to (λ fs. beside (tuple_of fs) t) (fields_at m items t) e is, least)

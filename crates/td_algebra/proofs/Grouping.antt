@@ -49,7 +49,7 @@ pub all_listed : (h : Header) (xs : List Attrs) (n : RowsData) → IsRelation h 
 all_listed h xs n is t m = has_in n t ((made h h (λ u. In u xs) xs n is refl (λ u k. k) (λ u k. k)).all t m)
 
 module _ (names : List (List ℕ)) (c : List ℕ) (r : RowsData) (v u w : Attrs) where
-  same_group : WithGroup names c r v u → WithGroup names c r v w → u ≡ w
+  pub same_group : WithGroup names c r v u → WithGroup names c r v w → u ≡ w
   same_group a b =
       let g : a.0 ≡ b.0 = one_relation (columns_in names r.heading) (InGroup names r v) a.0 b.0 a.1 b.1 in
       a.2 ∙ ap (λ (z : RowsData). with_attribute c (relation_value z) v) g ∙ sym b.2

@@ -1,18 +1,18 @@
-mod Lists
-mod Made
-mod Projections
-mod Runs
-mod Pairs
+pub mod Lists
+pub mod Made
+pub mod Projections
+pub mod Runs
+pub mod Pairs
 pub mod Walks
-mod Derived
+pub mod Derived
 pub mod Selections
 pub mod Extensions
 pub mod Stable
 pub mod Sums
 pub mod Folds
 pub mod KeyGroups
-mod Wrappings
-mod Grouping
-mod Openings
-mod Chains
-mod Closing
+pub mod Wrappings
+pub mod Grouping
+pub mod Openings
+pub mod Chains
+pub mod Closing

@@ -1,14 +1,14 @@
 -- Restriction: which tuples are selected.
-use Rattle.std.proofs.Common.{◌≡◌, ℕ, zero, suc, ◌+◌, ◌++◌, ◌<◌, ◌≤◌, Bool, true, false, cond, if◌then◌else◌, List, [], ◌∷◌, length, get_or, drop, Result, Ok, Err, refl, sym, ap, ◌∙◌, subst, append_assoc, append-nil, ⊎_elim, inl, inr, ◌⊎◌, arith, min}
+use Rattle.std.proofs.Common.{◌≡◌, ℕ, ◌+◌, ◌++◌, ◌<◌, ◌≤◌, Bool, true, false, cond, if◌then◌else◌, List, [], ◌∷◌, length, get_or, drop, Result, Ok, Err, refl, sym, ap, ◌∙◌, subst, append_assoc, append-nil, ⊎_elim, inl, inr, ◌⊎◌, arith, min}
 use Rattle.std.specs.List.{All, Contains}
 use Rattle.std.proofs.lemmas.List.{drop_more, drop_all}
 use Rattle.std.proofs.lemmas.List.Elements.{All-contains, All-contains_itself, All-weaker}
 use Rattle.std.proofs.lemmas.Bool.{cases_lt}
-use Rattle.td_values.specs.declared.raises.Raise.{Raise}
+use Rattle.td_algebra.specs.declared.errors.Stop.{Stop}
 use Rattle.td_values.specs.Data.{Attrs}
 use Rattle.td_values.specs.Rows.{RowsData}
 use Rattle.std.specs.FinSet as set
-use Rattle.td_relations.specs.Sets.{Has, IsRelation, IsRelationOf}
+use Rattle.td_relations.specs.Sets.{IsRelation, IsRelationOf}
 use Rattle.td_relations.proofs.Members.{has_listed}
 use Rattle.td_relations.proofs.Predicates.{by_list}
 use Rattle.td_algebra.specs.declared.errors.Fault.{Fault}
@@ -52,7 +52,7 @@ selected_within (x ∷ xs) (b ∷ bs) y there = first_by x b xs (select xs bs) y
 pub all_selected : {X : Type 0} (P : X → Type 0) (xs : List X) (bs : List Bool) → All P xs → All P (select xs bs)
 all_selected P xs bs all = All-weaker (Contains (select xs bs)) P (λ x there. All-contains P xs x all (selected_within xs bs x there)) (select xs bs) (All-contains_itself (select xs bs))
 
-module _ {X : Type 0} (m : X → Result Bool Raise) where
+module _ {X : Type 0} (m : X → Result Bool Stop) where
   true_by : (x : X) (b : Bool) (xs ys : List X) (y : X) → m x ≡ Ok b → Contains (if b then x ∷ ys else ys) y → (Contains ys y → m y ≡ Ok true) → m y ≡ Ok true
   true_by x true xs ys y is there more = ⊎_elim (λ e. sym (ap m e) ∙ is) more (contains_cases x ys y there)
   true_by x false xs ys y is there more = more there
@@ -80,11 +80,11 @@ module _ {X : Type 0} (m : X → Result Bool Raise) where
 
 -- ---- the restriction of a relation
 
-module _ {A : Type 0} (m : Attrs → Result A Raise) (r : RowsData) where
-  raised_in : (e : Raise) → RaisedIn m r e → (t : Attrs) × Contains r.tuples t × (m t ≡ Err e)
+module _ {A : Type 0} (m : Attrs → Result A Stop) (r : RowsData) where
+  raised_in : (e : Stop) → RaisedIn m r e → (t : Attrs) × Contains r.tuples t × (m t ≡ Err e)
   raised_in e (t, has, raises) = (t, (has_listed r t).0 has, raises)
 
-  none_raised : (xs : List A) → all_of m r.tuples ≡ Ok xs → (e : Raise) → RaisedIn m r e → ⊥
+  none_raised : (xs : List A) → all_of m r.tuples ≡ Ok xs → (e : Stop) → RaisedIn m r e → ⊥
   none_raised xs all e raised = let (t, there, raises) = raised_in e raised in subst (Tells m r.tuples) all (tells m r.tuples) t there e raises
 
   -- want of memory, or the least error that is raised
@@ -94,7 +94,7 @@ module _ {A : Type 0} (m : Attrs → Result A Raise) (r : RowsData) where
       let (found, least) = subst (Tells m r.tuples) all (tells m r.tuples) in
       ((found.0, (has_listed r found.0).1 found.1, found.2), λ f raised. let (t, there, raises) = raised_in f raised in least t there f raises)
 
-pub restricts : (m : Attrs → Result Bool Raise) (r : RowsData) (bs : List Bool) (s : RowsData) → all_of m r.tuples ≡ Ok bs → IsRelation r.heading (set.from_list (select r.tuples bs)) s → Unless (RaisedIn m r) (IsRelationOf r.heading (Restricted m r)) (Ok s)
+pub restricts : (m : Attrs → Result Bool Stop) (r : RowsData) (bs : List Bool) (s : RowsData) → all_of m r.tuples ≡ Ok bs → IsRelation r.heading (set.from_list (select r.tuples bs)) s → Unless (RaisedIn m r) (IsRelationOf r.heading (Restricted m r)) (Ok s)
 restricts m r bs s all is = (
   none_raised m r bs all,
   by_list r.heading (select r.tuples bs) (Restricted m r) s is (λ t. (

@@ -1,12 +1,14 @@
 -- Extension: each tuple with new attributes, each the value of a function on it (Date and Darwen, The Third Manifesto).
-use Rattle.std.specs.Prelude.{◌≡◌, ℕ, List, map, Result, Ok, Err, IfOk}
+use Rattle.std.specs.Prelude.{◌≡◌, ℕ, List, map, Result, Ok, Err, if◌then◌else◌}
 use Rattle.std.specs.Borrow.{Bor}
 use Rattle.std.specs.FinMap as by_name
-use Rattle.std.specs.List.{Contains}
-use Rattle.td_values.specs.declared.raises.Raise.{Raise}
+use Rattle.std.specs.List.{All, Contains}
+use Rattle.td_algebra.specs.declared.errors.Stop.{Stop}
+use Rattle.td_algebra.specs.declared.errors.Stop.TheVariants.{Untyped}
+use Rattle.std.specs.Ordering.{is_eq}
 use Rattle.td_values.specs.Data.{Ty, Datum, Attrs}
 use Rattle.td_values.specs.Headings.{Header}
-use Rattle.td_values.specs.Order.{text_cmp}
+use Rattle.td_values.specs.Order.{text_cmp, ty_order}
 use Rattle.td_values.specs.Rows.{RowsData}
 use Rattle.td_values.specs.Whole.{type_of}
 use Rattle.td_relations.specs.Sets.{Has}
@@ -17,14 +19,18 @@ use Rattle.td_algebra.specs.Raising.{Answers, all_of, and_then}
 
 -- what a term means at a tuple: a value or an error
 abbrev pub Meaning : Type 0 → Type 0
-Meaning E = E → Attrs → Result Datum Raise
+Meaning E = E → Attrs → Result Datum Stop
+
+-- the name with the value, if that is of the type
+abbrev pub typed_field : List ℕ → Ty → Datum → Result (List ℕ × Datum) Stop
+typed_field n ty d = if is_eq (ty_order (type_of d) ty) then Ok (n, d) else Err Untyped
 
 -- the item's name with its value at the tuple
-abbrev pub field_at : {E : Type 0} → Meaning E → Attrs → Item E → Result (List ℕ × Datum) Raise
-field_at m t i = and_then (m i.term t) (λ d. Ok (i.name, d))
+abbrev pub field_at : {E : Type 0} → Meaning E → Attrs → Item E → Result (List ℕ × Datum) Stop
+field_at m t i = and_then (m i.term t) (typed_field i.name i.ty)
 
 -- the names and values of all items at the tuple, or the least error of theirs
-abbrev pub fields_at : {E : Type 0} → Meaning E → List (Item E) → Attrs → Result (List (List ℕ × Datum)) Raise
+abbrev pub fields_at : {E : Type 0} → Meaning E → List (Item E) → Attrs → Result (List (List ℕ × Datum)) Stop
 fields_at m items t = all_of (field_at m t) items
 
 -- the items' names with their types
@@ -38,7 +44,7 @@ abbrev pub extended_columns : {E : Type 0} → List (Item E) → Header → Head
 extended_columns items h = joined (columns_of items) h
 
 -- the tuple with the items' values, new or replaced
-abbrev pub extended_at : {E : Type 0} → Meaning E → List (Item E) → Attrs → Result Attrs Raise
+abbrev pub extended_at : {E : Type 0} → Meaning E → List (Item E) → Attrs → Result Attrs Stop
 extended_at m items t = and_then (fields_at m items t) (λ fs. Ok (beside (tuple_of fs) t))
 
 -- each t of r with the items' values on t
@@ -46,8 +52,8 @@ abbrev pub Extended : {E : Type 0} → Meaning E → List (Item E) → RowsData 
 Extended m items r u = (t : Attrs) × Has r t × (extended_at m items t ≡ Ok u)
 
 -- an item raises this error at a tuple of r
-abbrev pub RaisedBy : {E : Type 0} → Meaning E → List (Item E) → RowsData → Raise → Type 0
-RaisedBy {E} m items r e = (i : Item E) × (t : Attrs) × Contains items i × Has r t × (m i.term t ≡ Err e)
+abbrev pub RaisedBy : {E : Type 0} → Meaning E → List (Item E) → RowsData → Stop → Type 0
+RaisedBy {E} m items r e = (i : Item E) × (t : Attrs) × Contains items i × Has r t × (field_at m t i ≡ Err e)
 
 -- what a function takes at a term and a tuple
 abbrev pub TakesBoth : {E : Type 0} → (Bor E → Bor Attrs → Type 0) → E → Attrs → Type 0
@@ -57,6 +63,9 @@ TakesBoth pre e t = (p : _) (q : _) → p.now ≡ e → q.now ≡ t → pre p q
 abbrev pub Means : {E : Type 0} → (Bor E → Bor Attrs → Result Datum Fault → Type 0) → Meaning E → E → Attrs → Type 0
 Means post m e t = (p : _) (q : _) (a : Result Datum Fault) → p.now ≡ e → q.now ≡ t → post p q a → Answers a (m e t)
 
--- its values there are of this type
-abbrev pub IsTyped : {E : Type 0} → (Bor E → Bor Attrs → Result Datum Fault → Type 0) → E → Attrs → Ty → Type 0
-IsTyped post e t ty = (p : _) (q : _) (a : Result Datum Fault) → p.now ≡ e → q.now ≡ t → post p q a → IfOk a (λ d. type_of d ≡ ty)
+-- the same at the terms of all items
+abbrev pub TakesItems : {E : Type 0} → (Bor E → Bor Attrs → Type 0) → List (Item E) → Attrs → Type 0
+TakesItems pre items t = All (λ i. TakesBoth pre i.term t) items
+
+abbrev pub MeansItems : {E : Type 0} → (Bor E → Bor Attrs → Result Datum Fault → Type 0) → Meaning E → List (Item E) → Attrs → Type 0
+MeansItems post m items t = All (λ i. Means post m i.term t) items

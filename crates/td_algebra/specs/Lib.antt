@@ -1,3 +1,4 @@
+pub mod Stops
 pub mod Operators
 pub mod Nested
 pub mod Closures

@@ -1,54 +1,54 @@
 -- Functions on tuples: their answers, and the least of the errors that they raise.
-use Rattle.std.specs.Prelude.{◌≡◌, ◌≤◌, ℕ, List, [], ◌∷◌, ◌++◌, Option, None, Some, Result, Ok, Err}
-use Rattle.td_values.specs.declared.raises.Raise.{Raise}
-use Rattle.td_values.specs.declared.raises.Raise.TheVariants.{Overflow}
-use Rattle.td_values.specs.Raises.{number_of, lesser}
+use Rattle.std.specs.Prelude.{◌≡◌, ◌≤◌, List, [], ◌∷◌, ◌++◌, Option, None, Some, Result, Ok, Err}
+use Rattle.td_algebra.specs.declared.errors.Stop.{Stop}
+use Rattle.td_algebra.specs.declared.errors.Stop.TheVariants.{Overflow}
+use Rattle.td_algebra.specs.Stops.{number_of, lesser}
 use Rattle.td_algebra.specs.declared.errors.Fault.{Fault}
 use Rattle.td_algebra.specs.declared.errors.Fault.TheVariants.{Raised, OutOfMemory}
 
 -- an answer that says the meaning, a value or an error; memory may be wanted
-abbrev pub AnswersBy : {A B : Type 0} → (A → B) → Result A Fault → Result B Raise → Type 0
+abbrev pub AnswersBy : {A B : Type 0} → (A → B) → Result A Fault → Result B Stop → Type 0
 AnswersBy see (Ok a) m = m ≡ Ok (see a)
 AnswersBy see (Err (Raised e)) m = m ≡ Err e
 AnswersBy see (Err OutOfMemory) m = Unit {0}
 
-abbrev pub Answers : {A : Type 0} → Result A Fault → Result A Raise → Type 0
+abbrev pub Answers : {A : Type 0} → Result A Fault → Result A Stop → Type 0
 Answers r m = AnswersBy (λ a. a) r m
 
 -- the answer where no error is raised, and else the least one; memory may be wanted
-abbrev pub Unless : {B : Type 0} → (Raise → Type 0) → (B → Type 0) → Result B Fault → Type 0
-Unless Raises P (Ok b) = ((e : Raise) → Raises e → ⊥) × P b
-Unless Raises P (Err (Raised e)) = Raises e × ((f : Raise) → Raises f → number_of e ≤ number_of f)
+abbrev pub Unless : {B : Type 0} → (Stop → Type 0) → (B → Type 0) → Result B Fault → Type 0
+Unless Raises P (Ok b) = ((e : Stop) → Raises e → ⊥) × P b
+Unless Raises P (Err (Raised e)) = Raises e × ((f : Stop) → Raises f → number_of e ≤ number_of f)
 Unless Raises P (Err OutOfMemory) = Unit {0}
 
 -- the answers of both, or the least error among theirs
-abbrev pub and_all : {A : Type 0} → Result (List A) Raise → Result (List A) Raise → Result (List A) Raise
+abbrev pub and_all : {A : Type 0} → Result (List A) Stop → Result (List A) Stop → Result (List A) Stop
 and_all (Ok xs) (Ok ys) = Ok (xs ++ ys)
 and_all (Ok xs) (Err e) = Err e
 and_all (Err e) (Ok ys) = Err e
 and_all (Err e) (Err f) = Err (lesser e f)
 
-abbrev pub alone : {A : Type 0} → Result A Raise → Result (List A) Raise
+abbrev pub alone : {A : Type 0} → Result A Stop → Result (List A) Stop
 alone (Ok a) = Ok (a ∷ [])
 alone (Err e) = Err e
 
 -- the answers at all of these, or the least error among theirs
-abbrev pub all_of : {X A : Type 0} → (X → Result A Raise) → List X → Result (List A) Raise
+abbrev pub all_of : {X A : Type 0} → (X → Result A Stop) → List X → Result (List A) Stop
 all_of m [] = Ok []
 all_of m (x ∷ xs) = and_all (alone (m x)) (all_of m xs)
 
 -- what was gathered
-abbrev pub so_far : {A : Type 0} → List A → Option Raise → Result (List A) Raise
+abbrev pub so_far : {A : Type 0} → List A → Option Stop → Result (List A) Stop
 so_far xs None = Ok xs
 so_far xs (Some e) = Err e
 
 -- goes on with the value, or keeps the error
-abbrev pub and_then : {A B : Type 0} → Result A Raise → (A → Result B Raise) → Result B Raise
+abbrev pub and_then : {A B : Type 0} → Result A Stop → (A → Result B Stop) → Result B Stop
 and_then (Ok a) f = f a
 and_then (Err e) f = Err e
 
 -- what an answer means, where memory was not wanted
-abbrev pub meaning_of : {A : Type 0} → Result A Fault → Result A Raise
+abbrev pub meaning_of : {A : Type 0} → Result A Fault → Result A Stop
 meaning_of (Ok a) = Ok a
 meaning_of (Err (Raised e)) = Err e
 meaning_of (Err OutOfMemory) = Err Overflow

@@ -1,18 +1,20 @@
 -- Summaries over groups of tuples (Date and Darwen, The Third Manifesto).
-use Rattle.std.specs.Prelude.{◌≡◌, ◌^◌, ℤ, pos, neg_ℤ, ◌+ℤ◌, int_le, int_lt, Bool, true, false, ◌&&◌, if◌then◌else◌, List, [], ◌∷◌, length, Option, None, Some, IfSome, Result, Ok, Err}
+use Rattle.std.specs.Prelude.{◌^◌, ℤ, pos, neg_ℤ, ◌+ℤ◌, int_le, int_lt, Bool, false, ◌&&◌, if◌then◌else◌, List, [], ◌∷◌, length, Option, None, Some, IfSome, Result, Ok, Err}
+use Rattle.std.specs.Borrow.{Bor}
 use Rattle.std.specs.List.{filter, fold, list_all, list_any}
 use Rattle.std.specs.Ordering.{eq_by_cmp, is_lt}
-use Rattle.td_values.specs.declared.raises.Raise.{Raise}
-use Rattle.td_values.specs.declared.raises.Raise.TheVariants.{Overflow, Empty}
-use Rattle.td_values.specs.Data.{Ty, integer_type, boolean_type, Datum, boolean, integer, Attrs}
+use Rattle.td_algebra.specs.declared.errors.Stop.{Stop}
+use Rattle.td_algebra.specs.declared.errors.Stop.TheVariants.{Overflow, Empty}
+use Rattle.td_values.specs.Data.{Datum, boolean, integer, Attrs}
 use Rattle.td_values.specs.Headings.{Header}
 use Rattle.td_values.specs.Order.{order, attrs_order}
 use Rattle.td_values.specs.Rows.{RowsData}
 use Rattle.td_tuples.specs.Parts.{names_of, cut}
 use Rattle.td_algebra.specs.declared.summaries.Summary.{Summary}
 use Rattle.td_algebra.specs.declared.summaries.Summary.TheVariants.{Count, Sum, Max, Min, And, Or}
+use Rattle.td_algebra.specs.declared.errors.Fault.{Fault}
 use Rattle.td_algebra.specs.Raising.{all_of, and_then}
-use Rattle.td_algebra.specs.Extending.{Meaning}
+use Rattle.td_algebra.specs.Extending.{Meaning, TakesBoth, Means}
 
 -- the group of u: the tuples of r whose part at the names of the heading is u
 abbrev pub group_of : RowsData → Header → Attrs → List Attrs
@@ -31,7 +33,7 @@ abbrev pub in_64_bits : ℤ → Bool
 in_64_bits n = int_le (neg_ℤ (pos (2 ^ 63))) n && int_lt n (pos (2 ^ 63))
 
 -- the sum, if it is within 64 bits
-abbrev pub sum_of : List Datum → Result Datum Raise
+abbrev pub sum_of : List Datum → Result Datum Stop
 sum_of ds = if in_64_bits (whole_sum ds) then Ok (integer (whole_sum ds)) else Err Overflow
 
 -- the greater and the lesser of two values
@@ -42,7 +44,7 @@ abbrev pub lesser_of : Datum → Datum → Datum
 lesser_of d e = if is_lt (order e d) then e else d
 
 -- the greatest and the least of these, of which there is one at least
-abbrev pub most : (Datum → Datum → Datum) → List Datum → Result Datum Raise
+abbrev pub most : (Datum → Datum → Datum) → List Datum → Result Datum Stop
 most better [] = Err Empty
 most better (d ∷ ds) = Ok (fold better d ds)
 
@@ -51,7 +53,7 @@ is_true (boolean b) = b
 is_true d = false
 
 -- what a summary makes of the values of its term, or of the tuples where it has none
-abbrev pub fold_of : {E : Type 0} → Summary E → List Datum → Result Datum Raise
+abbrev pub fold_of : {E : Type 0} → Summary E → List Datum → Result Datum Stop
 fold_of Count ds = Ok (integer (pos (length ds)))
 fold_of (Sum e) ds = sum_of ds
 fold_of (Max e) ds = most greater ds
@@ -69,11 +71,11 @@ term_of (And e) = Some e
 term_of (Or e) = Some e
 
 -- a summary over a group: of how many tuples it has, or of the term's values on them, or else the least of their errors
-abbrev pub over_term : {E : Type 0} → Meaning E → List Attrs → Summary E → Option E → Result Datum Raise
+abbrev pub over_term : {E : Type 0} → Meaning E → List Attrs → Summary E → Option E → Result Datum Stop
 over_term m ts s None = Ok (integer (pos (length ts)))
 over_term m ts s (Some e) = and_then (all_of (m e) ts) (fold_of s)
 
-abbrev pub summary_over : {E : Type 0} → Meaning E → List Attrs → Summary E → Result Datum Raise
+abbrev pub summary_over : {E : Type 0} → Meaning E → List Attrs → Summary E → Result Datum Stop
 summary_over m ts s = over_term m ts s (term_of s)
 
 -- what summaries mean at a tuple u: each over u's group in r
@@ -84,11 +86,9 @@ over_groups m r h summary u = summary_over m (group_of r h u) summary
 abbrev pub OfTerm : {E : Type 0} → (E → Type 0) → Summary E → Type 0
 OfTerm P s = IfSome (term_of s) P
 
--- the summary's terms have values of the type, and so has it
-abbrev pub Suits : {E : Type 0} → Summary E → Ty → Type 0
-Suits Count ty = ty ≡ integer_type
-Suits (Sum e) ty = ty ≡ integer_type
-Suits (Max e) ty = Unit {0}
-Suits (Min e) ty = Unit {0}
-Suits (And e) ty = ty ≡ boolean_type
-Suits (Or e) ty = ty ≡ boolean_type
+-- what a function takes, and that it answers the meaning, at the summary's term and a tuple
+abbrev pub TakesTerm : {E : Type 0} → (Bor E → Bor Attrs → Type 0) → Summary E → Attrs → Type 0
+TakesTerm pre s t = OfTerm (λ e. TakesBoth pre e t) s
+
+abbrev pub MeansTerm : {E : Type 0} → (Bor E → Bor Attrs → Result Datum Fault → Type 0) → Meaning E → Summary E → Attrs → Type 0
+MeansTerm post m s t = OfTerm (λ e. Means post m e t) s

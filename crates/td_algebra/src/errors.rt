@@ -1,15 +1,60 @@
 //! What stops an operator over a function on tuples.
 ghost use Rattle.std.specs.Prelude.{◌≡◌};
+ghost use Rattle.td_algebra.specs.Stops as spec;
 
 use std::alloc::AllocError;
-use td_values::Raise;
 use thiserror::Error;
+
+/// Why a function of tuples has no value: it has no meaning there, as where a value is of a wrong type, or it raises one of
+/// the language's errors.
+#[derive(Clone, Copy, Debug, Drop, Error, PartialEq, Eq)]
+pub enum Stop {
+    #[error("untyped")]
+    Untyped,
+    #[error("overflow")]
+    Overflow,
+    #[error("divide")]
+    Divide,
+    #[error("empty")]
+    Empty,
+    #[error("selector")]
+    Selector,
+    #[error("cardinality")]
+    Cardinality,
+}
+
+impl Stop {
+    /// Its number: 0 for no meaning, and 1 to 5. Where several stand for tuples and items, the least number does.
+    pub fn number(self) -> u8
+        ensures { result ≡ spec.number_of self }
+    {
+        match self {
+            Stop::Untyped => 0,
+            Stop::Overflow => 1,
+            Stop::Divide => 2,
+            Stop::Empty => 3,
+            Stop::Selector => 4,
+            Stop::Cardinality => 5,
+        }
+    }
+
+    /// The one of the lesser number.
+    pub fn lesser(self, other: Stop) -> Stop
+        ensures { result ≡ spec.lesser self other }
+    {
+        if self.number() <= other.number() {
+            self
+        } else {
+            other
+        }
+    }
+}
 
 /// Why there is no answer.
 #[derive(Clone, Copy, Debug, Drop, Error, PartialEq, Eq)]
 pub enum Fault {
     #[error("{0}")]
-    Raised(Raise),
+    Raised(Stop),
     #[error("out of memory")]
     OutOfMemory,
 }

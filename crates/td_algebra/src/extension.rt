@@ -1,26 +1,27 @@
 //! Extension by new attributes.
-ghost use Rattle.std.specs.Prelude.{◌≡◌, ℕ, List, map, Result, Ok, IfOk, OnOk};
+ghost use Rattle.std.specs.Ordering.{is_eq};
+ghost use Rattle.std.specs.Prelude.{◌≡◌, ◌↔◌, IsTrue, ℕ, List, map, Result, Ok, IfOk, OnOk};
 ghost use Rattle.std.specs.FinMap as by_name;
 ghost use Rattle.std.specs.List.{All};
 ghost use Rattle.td_values.specs.Data.{Attrs, Datum, Ty};
-ghost use Rattle.td_values.specs.Order.{text_cmp};
+ghost use Rattle.td_values.specs.Order.{text_cmp, ty_order};
 ghost use Rattle.td_values.specs.Whole.{type_of};
-ghost use Rattle.td_values.specs.declared.raises.Raise.{Raise};
+ghost use Rattle.td_algebra.specs.declared.errors.Stop.{Stop};
 ghost use Rattle.td_values.specs.Headings.{Header};
 ghost use Rattle.td_relations.specs.Sets.{IsRelationOf};
 ghost use Rattle.td_tuples.specs.Parts.{Fits};
 ghost use Rattle.td_tuples.specs.Unions.{tuple_of};
 ghost use Rattle.td_algebra.specs.Raising.{Answers, AnswersBy, Unless, all_of};
 ghost use Rattle.td_algebra.specs.Extending as spec;
-ghost use Rattle.td_algebra.specs.Extending.{Meaning, TakesBoth, Means, IsTyped, column_of, Extended, RaisedBy};
+ghost use Rattle.td_algebra.specs.Extending.{Meaning, TakesBoth, Means, TakesItems, MeansItems, column_of, Extended, RaisedBy};
 
-use crate::errors::Fault;
+use crate::errors::{Fault, Stop};
 use crate::gathered::Gathered;
 use crate::items::Item;
 use std::alloc::{AllocError, Global};
 use td_relations::Relation;
 use td_tuples::{beside, joined};
-use td_values::{Heading, Name, Tuple, TupleBuilder, Value};
+use td_values::{Heading, Name, TdType, Tuple, TupleBuilder, Value, has_type};
 
 // The items' names with their types.
 fn columns_of<E>(alloc: Global, items: &[Item<E>]) -> Result<Heading, AllocError>
@@ -33,8 +34,8 @@ fn columns_of<E>(alloc: Global, items: &[Item<E>]) -> Result<Heading, AllocError
     Ok(columns)
 }
 
-// The tuple of these attributes.
-fn tuple_of(alloc: Global, fields: Vec<(Name, Value)>) -> Result<Tuple, AllocError>
+/// The tuple of these attributes. Of two of one name the first counts.
+pub fn tuple_of(alloc: Global, fields: Vec<(Name, Value)>) -> Result<Tuple, AllocError>
     ensures { IfOk result (λ t. t ≡ tuple_of fields.items) }
 {
     let mut builder = TupleBuilder::new(alloc);
@@ -42,6 +43,26 @@ fn tuple_of(alloc: Global, fields: Vec<(Name, Value)>) -> Result<Tuple, AllocErr
         builder.insert(name, value)?;
     }
     builder.build(alloc)
+}
+
+// Whether the value has the type.
+fn is_of(value: &Value, ty: &TdType) -> bool
+    ensures test { result ≡ is_eq (ty_order (type_of value.now) ty.now) }
+    ensures same { IsTrue result ↔ (type_of value.now ≡ ty.now) }
+{
+    has_type(value, ty)
+}
+
+// The item's name with the value, if that has the item's type.
+fn typed_field<E>(item: &Item<E>, value: Value) -> Result<(Name, Value), Fault>
+    ensures means { Answers result (spec.typed_field item.now.name item.now.ty value) }
+    ensures typed { IfOk result (λ x. (x.0, type_of x.1) ≡ column_of item.now) }
+{
+    if is_of(&value, &item.ty) {
+        Ok((item.name.copy()?, value))
+    } else {
+        Err(Fault::Raised(Stop::Untyped))
+    }
 }
 
 // The item's name with its value on the tuple.
@@ -52,10 +73,10 @@ fn field_at<E, F: Fn(&E, &Tuple) -> Result<Value, Fault>>(
 ) -> Result<(Name, Value), Fault>
     requires { TakesBoth (F.pre f.now) item.now.term tuple.now }
     ensures means { (m : Meaning E) → Means (F.post f.now) m item.now.term tuple.now → Answers result (spec.field_at m tuple.now item.now) }
-    ensures typed { IsTyped (F.post f.now) item.now.term tuple.now item.now.ty → IfOk result (λ x. (x.0, type_of x.1) ≡ column_of item.now) }
+    ensures typed { IfOk result (λ x. (x.0, type_of x.1) ≡ column_of item.now) }
 {
     match f(&item.term, tuple) {
-        Ok(value) => Ok((item.name.copy()?, value)),
+        Ok(value) => typed_field(item, value),
         Err(fault) => Err(fault),
     }
 }
@@ -67,9 +88,9 @@ fn fields_at<E, F: Fn(&E, &Tuple) -> Result<Value, Fault>>(
     tuple: &Tuple,
     f: &F,
 ) -> Result<Vec<(Name, Value)>, Fault>
-    requires { All (λ i. TakesBoth (F.pre f.now) i.term tuple.now) items.now }
-    ensures means { (m : Meaning E) → All (λ i. Means (F.post f.now) m i.term tuple.now) items.now → AnswersBy (λ v. v.items) result (spec.fields_at m items.now tuple.now) }
-    ensures typed { All (λ i. IsTyped (F.post f.now) i.term tuple.now i.ty) items.now → IfOk result (λ v. map (λ x. (x.0, type_of x.1)) v.items ≡ map column_of items.now) }
+    requires { TakesItems (F.pre f.now) items.now tuple.now }
+    ensures means { (m : Meaning E) → MeansItems (F.post f.now) m items.now tuple.now → AnswersBy (λ v. v.items) result (spec.fields_at m items.now tuple.now) }
+    ensures typed { IfOk result (λ v. map (λ x. (x.0, type_of x.1)) v.items ≡ map column_of items.now) }
 {
     let mut gathered = Gathered::new(alloc);
     for item in items {
@@ -85,9 +106,9 @@ fn extended_at<E, F: Fn(&E, &Tuple) -> Result<Value, Fault>>(
     tuple: &Tuple,
     f: &F,
 ) -> Result<Tuple, Fault>
-    requires { All (λ i. TakesBoth (F.pre f.now) i.term tuple.now) items.now }
-    ensures means { (m : Meaning E) → All (λ i. Means (F.post f.now) m i.term tuple.now) items.now → Answers result (spec.extended_at m items.now tuple.now) }
-    ensures typed { (h : Header) → Fits h tuple.now → All (λ i. IsTyped (F.post f.now) i.term tuple.now i.ty) items.now → IfOk result (Fits (spec.extended_columns items.now h)) }
+    requires { TakesItems (F.pre f.now) items.now tuple.now }
+    ensures means { (m : Meaning E) → MeansItems (F.post f.now) m items.now tuple.now → Answers result (spec.extended_at m items.now tuple.now) }
+    ensures typed { (h : Header) → Fits h tuple.now → IfOk result (Fits (spec.extended_columns items.now h)) }
 {
     let fields = match fields_at(alloc, items, tuple, f) {
         Ok(fields) => fields,
@@ -104,9 +125,9 @@ fn extended_all<E, F: Fn(&E, &Tuple) -> Result<Value, Fault>>(
     items: &[Item<E>],
     f: &F,
 ) -> Result<Vec<Tuple>, Fault>
-    requires { All (λ t. All (λ i. TakesBoth (F.pre f.now) i.term t) items.now) tuples.now }
-    ensures means { (m : Meaning E) → All (λ t. All (λ i. Means (F.post f.now) m i.term t) items.now) tuples.now → AnswersBy (λ v. v.items) result (all_of (spec.extended_at m items.now) tuples.now) }
-    ensures typed { (h : Header) → All (Fits h) tuples.now → All (λ t. All (λ i. IsTyped (F.post f.now) i.term t i.ty) items.now) tuples.now → IfOk result (λ v. All (Fits (spec.extended_columns items.now h)) v.items) }
+    requires { All (TakesItems (F.pre f.now) items.now) tuples.now }
+    ensures means { (m : Meaning E) → All (MeansItems (F.post f.now) m items.now) tuples.now → AnswersBy (λ v. v.items) result (all_of (spec.extended_at m items.now) tuples.now) }
+    ensures typed { (h : Header) → All (Fits h) tuples.now → IfOk result (λ v. All (Fits (spec.extended_columns items.now h)) v.items) }
 {
     let mut gathered = Gathered::new(alloc);
     for tuple in tuples {
@@ -117,16 +138,15 @@ fn extended_all<E, F: Fn(&E, &Tuple) -> Result<Value, Fault>>(
 
 /// Each tuple with the values of the items on it, as new attributes or in place of those of the same names. Every item
 /// sees the old tuple. Of two items of one name the first counts. The function is asked for every item of every tuple
-/// once, also after one that raises.
+/// once, also after one that raises. A value of another type than its item's stops with `Untyped`.
 pub fn extend<E, F: Fn(&E, &Tuple) -> Result<Value, Fault>>(
     alloc: Global,
     relation: &Relation,
     items: &[Item<E>],
     f: &F,
 ) -> Result<Relation, Fault>
-    requires takes { All (λ t. All (λ i. TakesBoth (F.pre f.now) i.term t) items.now) relation.now.tuples }
-    requires typed { All (λ t. All (λ i. IsTyped (F.post f.now) i.term t i.ty) items.now) relation.now.tuples }
-    ensures { (m : Meaning E) → All (λ t. All (λ i. Means (F.post f.now) m i.term t) items.now) relation.now.tuples →
+    requires { All (TakesItems (F.pre f.now) items.now) relation.now.tuples }
+    ensures { (m : Meaning E) → All (MeansItems (F.post f.now) m items.now) relation.now.tuples →
         Unless (RaisedBy m items.now relation.now) (IsRelationOf (spec.extended_columns items.now relation.now.heading) (Extended m items.now relation.now)) result }
 {
     let tuples = match extended_all(alloc, relation.tuples(), items, f) {

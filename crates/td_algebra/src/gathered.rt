@@ -3,19 +3,19 @@ ghost use Rattle.std.specs.Prelude.{◌≡◌, ◌⊎◌, [], Result, IfOk};
 ghost use Rattle.std.specs.Fn.{FnReturnsAt, FnOnceTakesAt};
 ghost use Rattle.std.specs.List.{All};
 ghost use Rattle.td_values.specs.Data.{Attrs};
-ghost use Rattle.td_values.specs.declared.raises.Raise.{Raise};
+ghost use Rattle.td_algebra.specs.declared.errors.Stop.{Stop};
 ghost use Rattle.td_algebra.specs.declared.errors.Fault.{Fault};
 ghost use Rattle.td_algebra.specs.Raising.{Answers, AnswersBy, so_far, and_all, alone, all_of};
 
-use crate::errors::Fault;
+use crate::errors::{Fault, Stop};
 use std::alloc::Global;
-use td_values::{Raise, Tuple};
+use td_values::Tuple;
 
 /// The answers so far, or the least error among them.
 #[derive(Drop)]
 pub(crate) struct Gathered<A> {
     answers: Vec<A>,
-    least: Option<Raise>,
+    least: Option<Stop>,
 }
 
 impl<A: Drop> Gathered<A> {
@@ -31,7 +31,7 @@ impl<A: Drop> Gathered<A> {
 
     /// One more answer. After an error only lesser ones matter.
     pub(crate) fn note(&mut self, answer: Result<A, Fault>) -> Result<(), Fault>
-        ensures noted { (m : Result A Raise) → Answers answer m → IfOk result (λ _. so_far self.new.answers.items self.new.least ≡ and_all (so_far self.old.answers.items self.old.least) (alone m)) }
+        ensures noted { (m : Result A Stop) → Answers answer m → IfOk result (λ _. so_far self.new.answers.items self.new.least ≡ and_all (so_far self.old.answers.items self.old.least) (alone m)) }
         ensures fault { (result ≡ Result.Ok tt) ⊎ (result ≡ Result.Err Fault.OutOfMemory) }
     {
         match answer {
@@ -71,7 +71,7 @@ pub(crate) fn gather<A: Drop, F: Fn(&Tuple) -> Result<A, Fault>>(
     f: F,
 ) -> Result<Vec<A>, Fault>
     requires { All (λ t. FnOnceTakesAt F.FnOnce f t) tuples.now }
-    ensures { (m : Attrs → Result A Raise) → All (λ t. (r : _) → FnReturnsAt F.Fn f t r → Answers r (m t)) tuples.now → AnswersBy (λ v. v.items) result (all_of m tuples.now) }
+    ensures { (m : Attrs → Result A Stop) → All (λ t. (r : _) → FnReturnsAt F.Fn f t r → Answers r (m t)) tuples.now → AnswersBy (λ v. v.items) result (all_of m tuples.now) }
 {
     let mut gathered = Gathered::new(alloc);
     for tuple in tuples {

@@ -26,8 +26,8 @@ mod tests;
 mod wraps;
 
 pub use closure::{is_binary, tclose};
-pub use errors::Fault;
-pub use extension::extend;
+pub use errors::{Fault, Stop};
+pub use extension::{extend, tuple_of};
 pub use groups::group;
 pub use items::Item;
 pub use joins::{compose, join, matching, not_matching};

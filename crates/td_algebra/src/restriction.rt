@@ -3,7 +3,7 @@ ghost use Rattle.std.specs.Prelude.{◌≡◌, ◌++◌, ◌∷◌, [], Bool, Re
 ghost use Rattle.std.specs.Fn.{FnReturnsAt, FnOnceTakesAt};
 ghost use Rattle.std.specs.List.{All};
 ghost use Rattle.td_values.specs.Data.{Attrs};
-ghost use Rattle.td_values.specs.declared.raises.Raise.{Raise};
+ghost use Rattle.td_algebra.specs.declared.errors.Stop.{Stop};
 ghost use Rattle.td_relations.specs.Sets.{IsRelationOf};
 ghost use Rattle.td_algebra.specs.Raising.{Answers, Unless};
 ghost use Rattle.td_algebra.specs.Restricting.{Restricted, RaisedIn, select};
@@ -41,7 +41,7 @@ pub fn restrict<F: Fn(&Tuple) -> Result<bool, Fault>>(
     condition: F,
 ) -> Result<Relation, Fault>
     requires { All (λ t. FnOnceTakesAt F.FnOnce condition t) relation.now.tuples }
-    ensures { (m : Attrs → Result Bool Raise) → All (λ t. (a : _) → FnReturnsAt F.Fn condition t a → Answers a (m t)) relation.now.tuples →
+    ensures { (m : Attrs → Result Bool Stop) → All (λ t. (a : _) → FnReturnsAt F.Fn condition t a → Answers a (m t)) relation.now.tuples →
         Unless (RaisedIn m relation.now) (IsRelationOf relation.now.heading (Restricted m relation.now)) result }
 {
     let keep = match gather(alloc, relation.tuples(), condition) {

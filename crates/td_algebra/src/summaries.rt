@@ -4,18 +4,18 @@ ghost use Rattle.std.specs.List.{All, list_all, list_any};
 ghost use Rattle.std.specs.Option.{option_copied};
 ghost use Rattle.td_values.specs.Data.{Ty, Attrs, integer, boolean};
 ghost use Rattle.td_values.specs.Whole.{type_of};
-ghost use Rattle.td_values.specs.declared.raises.Raise.{Raise};
+ghost use Rattle.td_algebra.specs.declared.errors.Stop.{Stop};
 ghost use Rattle.td_algebra.specs.Index.{tuple_in};
 ghost use Rattle.td_algebra.specs.Raising.{Answers, AnswersBy, all_of};
-ghost use Rattle.td_algebra.specs.Extending.{Meaning, TakesBoth, Means, IsTyped};
+ghost use Rattle.td_algebra.specs.Extending.{Meaning, TakesBoth, Means};
 ghost use Rattle.td_algebra.specs.Summaries as spec;
-ghost use Rattle.td_algebra.specs.Summaries.{OfTerm, Suits};
+ghost use Rattle.td_algebra.specs.Summaries.{TakesTerm, MeansTerm};
 
-use crate::errors::Fault;
+use crate::errors::{Fault, Stop};
 use crate::gathered::Gathered;
 use crate::index::Keyed;
 use std::alloc::{AllocError, Global};
-use td_values::{Kind, Raise, Tuple, Value, compare, copy};
+use td_values::{Kind, Tuple, Value, compare, copy};
 
 /// What is asked of a group of tuples; the term gives a value on each of them.
 #[derive(Drop)]
@@ -83,7 +83,7 @@ fn sum_of(values: &[Value]) -> Result<Value, Fault>
 {
     match i64::try_from(whole_sum(values)) {
         Ok(n) => Ok(integer_value(n)),
-        Err(_) => Err(Fault::Raised(Raise::Overflow)),
+        Err(_) => Err(Fault::Raised(Stop::Overflow)),
     }
 }
 
@@ -103,7 +103,7 @@ fn greatest(alloc: Global, values: &[Value]) -> Result<Value, Fault>
     ensures { Answers result (spec.most spec.greater values.now) }
 {
     match values.split_first() {
-        None => Err(Fault::Raised(Raise::Empty)),
+        None => Err(Fault::Raised(Stop::Empty)),
         Some((first, rest)) => {
             let mut best = first;
             for value in rest {
@@ -118,7 +118,7 @@ fn least(alloc: Global, values: &[Value]) -> Result<Value, Fault>
     ensures { Answers result (spec.most spec.lesser_of values.now) }
 {
     match values.split_first() {
-        None => Err(Fault::Raised(Raise::Empty)),
+        None => Err(Fault::Raised(Stop::Empty)),
         Some((first, rest)) => {
             let mut best = first;
             for value in rest {
@@ -162,8 +162,7 @@ fn term_of<E>(summary: &Summary<E>) -> Option<&E>
 
 // What the summary makes of the values of its term.
 fn fold_values<E>(alloc: Global, summary: &Summary<E>, values: &[Value]) -> Result<Value, Fault>
-    ensures means { Answers result (spec.fold_of summary.now values.now) }
-    ensures typed { (ty : Ty) → Suits summary.now ty → All (λ d. type_of d ≡ ty) values.now → IfOk result (λ d. type_of d ≡ ty) }
+    ensures { Answers result (spec.fold_of summary.now values.now) }
 {
     match summary {
         Summary::Count => Ok(integer_value(values.len() as i64)),
@@ -182,8 +181,7 @@ fn value_of<E, F: Fn(&E, &Tuple) -> Result<Value, Fault>>(
     tuple: &Tuple,
 ) -> Result<Value, Fault>
     requires { TakesBoth (F.pre f.now) term.now tuple.now }
-    ensures means { (m : Meaning E) → Means (F.post f.now) m term.now tuple.now → Answers result (m term.now tuple.now) }
-    ensures typed { (ty : Ty) → IsTyped (F.post f.now) term.now tuple.now ty → IfOk result (λ d. type_of d ≡ ty) }
+    ensures { (m : Meaning E) → Means (F.post f.now) m term.now tuple.now → Answers result (m term.now tuple.now) }
 {
     f(term, tuple)
 }
@@ -196,8 +194,7 @@ fn values_of<E, F: Fn(&E, &Tuple) -> Result<Value, Fault>>(
     f: &F,
 ) -> Result<Vec<Value>, Fault>
     requires { All (λ k. TakesBoth (F.pre f.now) term.now k.tuple) group.now }
-    ensures means { (m : Meaning E) → All (λ k. Means (F.post f.now) m term.now k.tuple) group.now → AnswersBy (λ v. v.items) result (all_of (m term.now) (map tuple_in group.now)) }
-    ensures typed { (ty : Ty) → All (λ k. IsTyped (F.post f.now) term.now k.tuple ty) group.now → IfOk result (λ v. All (λ d. type_of d ≡ ty) v.items) }
+    ensures { (m : Meaning E) → All (λ k. Means (F.post f.now) m term.now k.tuple) group.now → AnswersBy (λ v. v.items) result (all_of (m term.now) (map tuple_in group.now)) }
 {
     let mut gathered = Gathered::new(alloc);
     for entry in group {
@@ -213,9 +210,8 @@ pub(crate) fn over_group<E, F: Fn(&E, &Tuple) -> Result<Value, Fault>>(
     summary: &Summary<E>,
     f: &F,
 ) -> Result<Value, Fault>
-    requires { All (λ k. OfTerm (λ e. TakesBoth (F.pre f.now) e k.tuple) summary.now) group.now }
-    ensures means { (m : Meaning E) → All (λ k. OfTerm (λ e. Means (F.post f.now) m e k.tuple) summary.now) group.now → Answers result (spec.summary_over m (map tuple_in group.now) summary.now) }
-    ensures typed { (ty : Ty) → Suits summary.now ty → All (λ k. OfTerm (λ e. IsTyped (F.post f.now) e k.tuple ty) summary.now) group.now → IfOk result (λ d. type_of d ≡ ty) }
+    requires { All (λ k. TakesTerm (F.pre f.now) summary.now k.tuple) group.now }
+    ensures { (m : Meaning E) → All (λ k. MeansTerm (F.post f.now) m summary.now k.tuple) group.now → Answers result (spec.summary_over m (map tuple_in group.now) summary.now) }
 {
     match term_of(summary) {
         None => Ok(size(group)),

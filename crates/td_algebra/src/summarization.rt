@@ -8,8 +8,8 @@ ghost use Rattle.td_values.specs.Whole.{type_of};
 ghost use Rattle.td_relations.specs.Sets.{IsRelationOf};
 ghost use Rattle.td_algebra.specs.Index.{has_key, key_of, tuple_in};
 ghost use Rattle.td_algebra.specs.Raising.{Answers, Unless};
-ghost use Rattle.td_algebra.specs.Extending.{Meaning, TakesBoth, Means, IsTyped, Extended, RaisedBy, extended_columns};
-ghost use Rattle.td_algebra.specs.Summaries.{OfTerm, Suits, over_groups, summary_over};
+ghost use Rattle.td_algebra.specs.Extending.{Meaning, TakesBoth, Means, Extended, RaisedBy, extended_columns};
+ghost use Rattle.td_algebra.specs.Summaries.{TakesTerm, MeansTerm, over_groups, summary_over};
 
 use crate::errors::Fault;
 use crate::extension::extend;
@@ -29,9 +29,8 @@ fn over_run<E, F: Fn(&E, &Tuple) -> Result<Value, Fault>>(
     f: &F,
 ) -> Result<Value, Fault>
     requires sorted { IsSortedByKey key_of attrs_order index.now }
-    requires takes { All (λ k. OfTerm (λ e. TakesBoth (F.pre f.now) e k.tuple) summary.now) index.now }
-    ensures means { (m : Meaning E) → All (λ k. OfTerm (λ e. Means (F.post f.now) m e k.tuple) summary.now) index.now → Answers result (summary_over m (map tuple_in (filter (has_key key.now) index.now)) summary.now) }
-    ensures typed { (ty : Ty) → Suits summary.now ty → All (λ k. OfTerm (λ e. IsTyped (F.post f.now) e k.tuple ty) summary.now) index.now → IfOk result (λ d. type_of d ≡ ty) }
+    requires takes { All (λ k. TakesTerm (F.pre f.now) summary.now k.tuple) index.now }
+    ensures { (m : Meaning E) → All (λ k. MeansTerm (F.post f.now) m summary.now k.tuple) index.now → Answers result (summary_over m (map tuple_in (filter (has_key key.now) index.now)) summary.now) }
 {
     over_group(alloc, run(index, key), summary, f)
 }
@@ -46,10 +45,8 @@ pub fn summarize<E, F: Fn(&E, &Tuple) -> Result<Value, Fault>>(
     items: &[Item<Summary<E>>],
     f: &F,
 ) -> Result<Relation, Fault>
-    requires takes { All (λ t. All (λ i. OfTerm (λ e. TakesBoth (F.pre f.now) e t) i.term) items.now) relation.now.tuples }
-    requires typed { All (λ t. All (λ i. OfTerm (λ e. IsTyped (F.post f.now) e t i.ty) i.term) items.now) relation.now.tuples }
-    requires suits { All (λ i. Suits i.term i.ty) items.now }
-    ensures { (m : Meaning E) → All (λ t. All (λ i. OfTerm (λ e. Means (F.post f.now) m e t) i.term) items.now) relation.now.tuples →
+    requires { All (λ t. All (λ i. TakesTerm (F.pre f.now) i.term t) items.now) relation.now.tuples }
+    ensures { (m : Meaning E) → All (λ t. All (λ i. MeansTerm (F.post f.now) m i.term t) items.now) relation.now.tuples →
         Unless (RaisedBy (over_groups m relation.now per.now.heading) items.now per.now)
         (IsRelationOf (extended_columns items.now per.now.heading) (Extended (over_groups m relation.now per.now.heading) items.now per.now)) result }
 {
@@ -61,9 +58,8 @@ pub fn summarize<E, F: Fn(&E, &Tuple) -> Result<Value, Fault>>(
         items,
         &|summary: &Summary<E>, key: &Tuple| -> Result<Value, Fault>
             requires sorted { IsSortedByKey key_of attrs_order entries.now }
-            requires takes { All (λ k. OfTerm (λ e. TakesBoth (F.pre f.now) e k.tuple) summary.now) entries.now }
-            ensures means { (m : Meaning E) → All (λ k. OfTerm (λ e. Means (F.post f.entry.now) m e k.tuple) summary.now) entries.entry.now → Answers result (summary_over m (map tuple_in (filter (has_key key.now) entries.entry.now)) summary.now) }
-            ensures typed { (ty : Ty) → Suits summary.now ty → All (λ k. OfTerm (λ e. IsTyped (F.post f.entry.now) e k.tuple ty) summary.now) entries.entry.now → IfOk result (λ d. type_of d ≡ ty) }
+            requires takes { All (λ k. TakesTerm (F.pre f.now) summary.now k.tuple) entries.now }
+            ensures { (m : Meaning E) → All (λ k. MeansTerm (F.post f.entry.now) m summary.now k.tuple) entries.entry.now → Answers result (summary_over m (map tuple_in (filter (has_key key.now) entries.entry.now)) summary.now) }
         { over_run(alloc, entries, key, summary, f) },
     )
 }

@@ -2,13 +2,12 @@
 ghost use Rattle.std.specs.Prelude.{◌≡◌, IfOk};
 ghost use Rattle.td_values.specs.Data.{boolean_type, integer_type};
 ghost use Rattle.td_values.specs.Whole.{type_of};
-ghost use Rattle.td_algebra.specs.Summaries.{Suits};
 
-use crate::{Fault, Item, Summary, extend, restrict, summarize};
+use crate::{Fault, Item, Stop, Summary, extend, restrict, summarize};
 use std::alloc::Global;
 use td_relations::Relation;
 use td_values::{
-    Heading, Kind, Name, NameError, Raise, TdType, Tuple, TupleBuilder, TypeKind, Value, fits, show,
+    Heading, Kind, Name, NameError, TdType, Tuple, TupleBuilder, TypeKind, Value, fits, show,
 };
 
 type Result<T> = std::result::Result<T, NameError>;
@@ -62,7 +61,7 @@ fn number(tuple: &Tuple, place: usize) -> i64 {
 fn share(tuple: &Tuple, place: usize) -> std::result::Result<i64, Fault> {
     match 100i64.checked_div(number(tuple, place)) {
         Some(n) => Ok(n),
-        None => Err(Fault::Raised(Raise::Divide)),
+        None => Err(Fault::Raised(Stop::Divide)),
     }
 }
 
@@ -143,9 +142,7 @@ fn extend_sets_attributes(rt: HostRuntime) -> Result<()> {
 }
 
 // For the suppliers 1 and 2 how many shipments they have, and a summary of the quantities.
-fn summed(alloc: Global, rows: &[&[i64]], summary: Summary<usize>) -> Result<String>
-    requires { Suits summary integer_type }
-{
+fn summed(alloc: Global, rows: &[&[i64]], summary: Summary<usize>) -> Result<String> {
     let shipments = relation(alloc, &["PNO", "QTY", "SNO"], rows)?;
     let suppliers = relation(alloc, &["SNO"], &[&[1], &[2]])?;
     let items = [
@@ -216,11 +213,11 @@ fn sums_are_whole(rt: HostRuntime) -> Result<()> {
 fn least_share(tuple: &Tuple, place: usize) -> std::result::Result<i64, Fault> {
     let n = number(tuple, place);
     if n == 0 {
-        return Err(Fault::Raised(Raise::Divide));
+        return Err(Fault::Raised(Stop::Divide));
     }
     match i64::MIN.checked_div(n) {
         Some(share) => Ok(share),
-        None => Err(Fault::Raised(Raise::Overflow)),
+        None => Err(Fault::Raised(Stop::Overflow)),
     }
 }
 
@@ -339,9 +336,7 @@ fn boolean(b: bool) -> Value
 }
 
 // For the suppliers 1 and 2 a summary of whether their shipments are of more than 100.
-fn tested(alloc: Global, rows: &[&[i64]], summary: Summary<usize>) -> Result<String>
-    requires { Suits summary boolean_type }
-{
+fn tested(alloc: Global, rows: &[&[i64]], summary: Summary<usize>) -> Result<String> {
     let shipments = relation(alloc, &["PNO", "QTY", "SNO"], rows)?;
     let suppliers = relation(alloc, &["SNO"], &[&[1], &[2]])?;
     let items = [Item {

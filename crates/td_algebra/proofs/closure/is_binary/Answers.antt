@@ -1,5 +1,4 @@
 use Rattle.std.proofs.Common.{ap, ◌∙◌}
-use Rattle.std.specs.FinMap as by_name
 use Rattle.std.specs.Ordering.{is_eq}
 use Rattle.td_algebra.proofs.Closing.{binary_tested}
 use Rattle.td_algebra.proofs.closure.is_binary.Goals as goal

@@ -1,4 +1,4 @@
-use Rattle.std.proofs.Common.{◌≡◌, Vec, Global, sym, ap, ◌∙◌, subst}
+use Rattle.std.proofs.Common.{Vec, Global, ap, ◌∙◌, subst}
 use Rattle.std.specs.FinSet as set
 use Rattle.td_values.specs.Headings.{Header}
 use Rattle.td_values.specs.Data.{Attrs}

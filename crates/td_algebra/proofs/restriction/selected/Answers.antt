@@ -1,4 +1,4 @@
-use Rattle.std.proofs.Common.{rules, arith, sym, ◌∙◌, ◌≡◌}
+use Rattle.std.proofs.Common.{arith, sym, ◌∙◌}
 use Rattle.std.proofs.lemmas.Grind.{common_steps}
 use Rattle.td_algebra.proofs.Selections.{select_more, select_over}
 use Rattle.td_algebra.proofs.restriction.selected.Goals as goal

@@ -1,10 +1,10 @@
-use Rattle.std.proofs.Common.{◌≡◌, map, sym, subst, IfOk}
-use Rattle.std.specs.List.{All, filter}
+use Rattle.std.proofs.Common.{map, sym, subst}
+use Rattle.std.specs.List.{All}
 use Rattle.std.proofs.lemmas.List.Elements.{All-filter}
 use Rattle.td_algebra.specs.declared.index.Keyed.{Keyed}
 use Rattle.td_algebra.specs.Index.{has_key, tuple_in}
 use Rattle.td_algebra.specs.Raising.{Answers}
-use Rattle.td_algebra.specs.Extending.{TakesBoth, Means, IsTyped}
+use Rattle.td_algebra.specs.Extending.{TakesBoth, Means}
 use Rattle.td_algebra.specs.Summaries.{OfTerm, summary_over}
 use Rattle.td_algebra.proofs.summarization.over_run.Goals as goal
 
@@ -14,15 +14,9 @@ over_group-requires g c =
     subst (All (λ (k : Keyed). OfTerm (λ e. TakesBoth (λ p q. g.F.Fn.pre c.args.f.now (p, (q, tt))) e k.tuple) s)) (sym c.run.ensures)
     (All-filter (has_key c.args.key.now) (λ (k : Keyed). OfTerm (λ e. TakesBoth (λ p q. g.F.Fn.pre c.args.f.now (p, (q, tt))) e k.tuple) s) c.args.index.now c.requires.takes)
 
-pub returns-clause-means : goal.returns-clause-means
-returns-clause-means g c = λ m means.
+pub returns : goal.returns
+returns g c = λ m means.
     let s = c.args.summary.now in
     let run = subst (All (λ (k : Keyed). OfTerm (λ e. Means (λ p q. g.F.Fn.post c.args.f.now (p, (q, tt))) m e k.tuple) s)) (sym c.run.ensures)
     (All-filter (has_key c.args.key.now) (λ (k : Keyed). OfTerm (λ e. Means (λ p q. g.F.Fn.post c.args.f.now (p, (q, tt))) m e k.tuple) s) c.args.index.now means) in
-    subst (λ es. Answers c.over_group.result (summary_over m (map tuple_in es) s)) c.run.ensures (c.over_group.ensures.means m run)
-
-pub returns-clause-typed : goal.returns-clause-typed
-returns-clause-typed g c = λ ty suits typed.
-    let s = c.args.summary.now in
-    c.over_group.ensures.typed ty suits (subst (All (λ (k : Keyed). OfTerm (λ e. IsTyped (λ p q. g.F.Fn.post c.args.f.now (p, (q, tt))) e k.tuple ty) s)) (sym c.run.ensures)
-    (All-filter (has_key c.args.key.now) (λ (k : Keyed). OfTerm (λ e. IsTyped (λ p q. g.F.Fn.post c.args.f.now (p, (q, tt))) e k.tuple ty) s) c.args.index.now typed))
+    subst (λ es. Answers c.over_group.result (summary_over m (map tuple_in es) s)) c.run.ensures (c.over_group.ensures m run)
