@@ -16,3 +16,4 @@ pub mod Grouping
 pub mod Openings
 pub mod Chains
 pub mod Closing
+pub mod Bridges

@@ -8,3 +8,4 @@ pub mod Restricting
 pub mod Extending
 pub mod Summaries
 pub mod Opened
+pub mod Functions
