@@ -1,14 +1,16 @@
 -- Merges of ascending lists of tuples, and of relations.
-use Rattle.std.proofs.Common.{◌≡◌, ◌⊎◌, inl, inr, Bool, true, false, not, ◌&&◌, ◌||◌, List, refl, sym, ap, ◌∙◌, subst, true≢false}
+use Rattle.std.proofs.Common.{◌≡◌, ◌↔◌, IsTrue, ◌⊎◌, inl, inr, Bool, true, false, not, ◌&&◌, ◌||◌, List, refl, sym, ap, ◌∙◌, subst, true≢false}
 use Rattle.std.specs.FinSet as set
+use Rattle.std.specs.List.{list_all}
 use Rattle.std.specs.List.Sorted.{IsStrictlySortedBy}
+use Rattle.std.proofs.lemmas.List.Sums.{AllPass-from_list_all, list_all-from_AllPass}
 use Rattle.td_values.specs.Data.{Attrs}
 use Rattle.td_values.specs.Headings.{Header}
 use Rattle.td_values.specs.Order.{attrs_order}
 use Rattle.td_values.specs.Total.{attrs_order_total, attrs_tied}
 use Rattle.td_relations.specs.declared.merges.Kept.{Kept}
 use Rattle.td_values.specs.Rows.{RowsData, AreRows}
-use Rattle.td_relations.specs.Sets.{TupleSet, body, IsRelation, IsRelationOf}
+use Rattle.td_relations.specs.Sets.{TupleSet, body, Has, IsRelation, IsRelationOf}
 use Rattle.td_relations.specs.Merges.{is_kept, IsMerge}
 use Rattle.td_relations.proofs.Fits.{Fits}
 use Rattle.td_relations.proofs.Members.{holds_of_member, holds_of_all}
@@ -79,3 +81,25 @@ module _ (h : Header) (a b r : RowsData) where
 
   pub difference_of_kept : KeptOf (record { first = true; both = false; second = false }) a b h r → IsRelation h (set.difference (body a) (body b)) r
   difference_of_kept = by_test h _ _ r (λ t. set.contains-difference attrs_order_total (body a) (body b) t ∙ in_first _ _)
+
+-- ---- subsets
+pub subset_tested : (a b : RowsData) (x : Bool) → x ≡ list_all (set.contains (body b)) a.tuples → IsTrue x ↔ (set.is_subset (body a) (body b) ≡ true)
+subset_tested a b x is = (
+  λ t.
+      let all = AllPass-from_list_all (set.contains (body b)) a.tuples (sym is ∙ t) in
+      set.contains-is_subset attrs_order_total (body a) (body b) (λ q has. holds_of_member (λ u. set.contains (body b) u ≡ true) a.tuples q all has),
+  λ s. is ∙ list_all-from_AllPass (set.contains (body b)) a.tuples (holds_of_all (λ u. set.contains (body b) u ≡ true) a.tuples (λ q has. set.is_subset-contains attrs_order_total (body a) (body b) s q has)),
+)
+
+-- ---- changes
+-- what only the new relation has is apart from what only the old one has
+pub difference_apart : (old new i d : RowsData) → body i ≡ set.difference (body new) (body old) → body d ≡ set.difference (body old) (body new) → (t : Attrs) → Has i t → ¬ (Has d t)
+difference_apart old new i d in_new in_old t has_i has_d =
+    let p = ap (λ s. set.contains s t) in_new ∙ set.contains-difference attrs_order_total (body new) (body old) t in
+    let q = ap (λ s. set.contains s t) in_old ∙ set.contains-difference attrs_order_total (body old) (body new) t in
+    never (set.contains (body new) t) (set.contains (body old) t) (sym p ∙ has_i) (sym q ∙ has_d)
+  where
+    never : (x y : Bool) → (x && not y) ≡ true → (y && not x) ≡ true → ⊥
+    never true true e f = true≢false (sym e)
+    never true false e f = true≢false (sym f)
+    never false y e f = true≢false (sym e)

@@ -2,16 +2,22 @@
 ghost use Rattle.std.specs.Prelude.{◌≡◌, ◌↔◌, IsTrue, IfOk, OnOk, OnErr};
 ghost use Rattle.std.specs.FinSet as set;
 ghost use Rattle.td_relations.specs.Sets.{body, IsRelation};
-ghost use Rattle.td_relations.specs.Deltas.{IsApplied, IsDifference, inverse_of};
+ghost use Rattle.td_relations.specs.Deltas.{IsApplied, IsDelta, IsDifference, IsExchanged, inverse_of};
 
 use crate::Relation;
-use crate::merges::minus;
+use crate::merges::{minus, union};
 use crate::places::{put_in_all, take_out_all};
 use std::alloc::{AllocError, Global};
 use std::marker::Model;
 use td_values::{Heading, copy_tuples};
 
-/// Which tuples are put into a relation, and which are taken out of it; both have its heading.
+/// So many changed tuples are many, however large the relation is: the shifts would cost more than a walk.
+const MANY: usize = 512;
+
+/// A change of more than this part of the relation is large.
+const SHARE: usize = 16;
+
+/// Which tuples are put into a relation, and which are taken out of it, none of them both; all have its heading.
 #[derive(Drop)]
 pub struct Delta {
     inserted: Relation,
@@ -19,8 +25,7 @@ pub struct Delta {
 }
 
 impl Model for Delta {
-    ghost use Rattle.std.specs.Prelude.{◌≡◌};
-    ghost use Rattle.td_relations.specs.Deltas.{DeltaData, delta_code};
+    ghost use Rattle.td_relations.specs.Deltas.{DeltaData, IsDelta, delta_code};
 
     ghost Value = { DeltaData };
 
@@ -28,10 +33,18 @@ impl Model for Delta {
 
     ghost view = { λ a. record { inserted = a.inserted; deleted = a.deleted } };
 
-    ghost invariant = { λ a. a.inserted.heading ≡ a.deleted.heading };
+    ghost invariant = { λ a. IsDelta (record { inserted = a.inserted; deleted = a.deleted }) };
 }
 
 impl Delta {
+    /// The change that puts the first tuples in and takes the second ones out. It takes no memory.
+    pub fn of(inserted: Relation, deleted: Relation) -> Delta
+        requires { IsDelta (record { inserted = inserted; deleted = deleted }) }
+        ensures { result ≡ record { inserted = inserted; deleted = deleted } }
+    {
+        Delta { inserted, deleted }
+    }
+
     /// What turns the old relation into the new one, its tuples shared. For lists of n and m tuples it costs n + m.
     pub fn difference(alloc: Global, old: &Relation, new: &Relation) -> Result<Delta, AllocError>
         requires { old.now.heading ≡ new.now.heading }
@@ -84,7 +97,7 @@ impl Delta {
     }
 
     /// Takes the deleted tuples out and puts the inserted ones in. It costs a search and a shift for each tuple of
-    /// the change, and memory for those put in.
+    /// the change, and memory for those put in; where these are many, a walk along the relation and a new list of it.
     pub fn apply(&self, alloc: Global, relation: &mut Relation) -> Result<(), AllocError>
         requires { self.now.inserted.heading ≡ relation.old.heading }
         ensures ok { OnOk result (IsApplied relation.old self.now relation.new) }
@@ -103,15 +116,57 @@ impl Delta {
     }
 }
 
-// Takes the first ones out of the relation and puts the second ones in. What may want memory comes first.
+// Whether a change of so many tuples is better made by a walk along a relation of this size than one by one.
+fn is_large(changed: usize, size: usize) -> bool {
+    changed > MANY || changed > size / SHARE
+}
+
+// Takes the first ones out of the relation and puts the second ones in.
 fn exchange(
     alloc: Global,
     relation: &mut Relation,
     deleted: &Relation,
     inserted: &Relation,
 ) -> Result<(), AllocError>
+    requires deleted { deleted.now.heading ≡ relation.old.heading }
+    requires inserted { inserted.now.heading ≡ relation.old.heading }
+    ensures ok { OnOk result (IsExchanged relation.old deleted.now inserted.now relation.new) }
+    ensures err { OnErr result (relation.new ≡ relation.old) }
+{
+    if is_large(deleted.len().max(inserted.len()), relation.len()) {
+        exchange_all(alloc, relation, deleted, inserted)
+    } else {
+        exchange_each(alloc, relation, deleted, inserted)
+    }
+}
+
+// The same by two walks.
+fn exchange_all(
+    alloc: Global,
+    relation: &mut Relation,
+    deleted: &Relation,
+    inserted: &Relation,
+) -> Result<(), AllocError>
+    requires deleted { deleted.now.heading ≡ relation.old.heading }
+    requires inserted { inserted.now.heading ≡ relation.old.heading }
+    ensures ok { OnOk result (IsExchanged relation.old deleted.now inserted.now relation.new) }
+    ensures err { OnErr result (relation.new ≡ relation.old) }
+{
+    let kept = minus(alloc, relation, deleted)?;
+    let changed = union(alloc, &kept, inserted)?;
+    *relation = changed;
+    Ok(())
+}
+
+// The same tuple by tuple. What may want memory comes first.
+fn exchange_each(
+    alloc: Global,
+    relation: &mut Relation,
+    deleted: &Relation,
+    inserted: &Relation,
+) -> Result<(), AllocError>
     requires { inserted.now.heading ≡ relation.old.heading }
-    ensures ok { OnOk result (IsRelation relation.old.heading (set.union (set.difference (body relation.old) (body deleted.now)) (body inserted.now)) relation.new) }
+    ensures ok { OnOk result (IsExchanged relation.old deleted.now inserted.now relation.new) }
     ensures err { OnErr result (relation.new ≡ relation.old) }
 {
     let fresh = copy_tuples(alloc, inserted.tuples())?;

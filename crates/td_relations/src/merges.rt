@@ -1,6 +1,7 @@
 //! Union, intersection and difference of relations, each by one walk along both lists of tuples.
-ghost use Rattle.std.specs.Prelude.{◌≡◌, true, ◌++◌, ◌∷◌, [], IfOk, OnOk, if◌then◌else◌};
+ghost use Rattle.std.specs.Prelude.{◌≡◌, ◌↔◌, true, ◌++◌, ◌∷◌, [], IsTrue, IfOk, OnOk, if◌then◌else◌};
 ghost use Rattle.std.specs.FinSet as set;
+ghost use Rattle.std.specs.List.{list_all};
 ghost use Rattle.std.specs.List.Sorted.{IsStrictlySortedBy};
 ghost use Rattle.td_values.specs.Order.{attrs_order};
 ghost use Rattle.td_relations.specs.Sets.{body, IsRelation, IsRelationOf};
@@ -48,13 +49,23 @@ fn append(out: &mut Vec<Tuple>, tuples: &[Tuple]) -> Result<(), AllocError>
     Ok(())
 }
 
+// How many tuples may be kept of the lists.
+fn room(xs: &[Tuple], ys: &[Tuple], kept: Kept) -> usize {
+    match (kept.first, kept.second) {
+        (true, true) => xs.len() + ys.len(),
+        (true, false) => xs.len(),
+        (false, true) => ys.len(),
+        (false, false) => xs.len().min(ys.len()),
+    }
+}
+
 // The tuples that are kept of two ascending lists, ascending.
 fn merged(alloc: Global, xs: &[Tuple], ys: &[Tuple], kept: Kept) -> Result<Vec<Tuple>, AllocError>
     requires xs_ascend { IsStrictlySortedBy attrs_order xs.now }
     requires ys_ascend { IsStrictlySortedBy attrs_order ys.now }
     ensures { IfOk result (λ v. IsMerge kept xs.now ys.now v.items) }
 {
-    let mut out = Vec::new(alloc);
+    let mut out = Vec::with_capacity(alloc, room(xs, ys, kept))?;
     let mut i = 0;
     let mut j = 0;
     while i < xs.len() && j < ys.len() {
@@ -128,4 +139,19 @@ pub fn minus(alloc: Global, a: &Relation, b: &Relation) -> Result<Relation, Allo
         second: false,
     };
     combined(alloc, a, b, kept)
+}
+
+// Whether the relation has each of the tuples.
+fn has_all(relation: &Relation, tuples: &[Tuple]) -> bool
+    ensures { result ≡ list_all (set.contains (body relation.now)) tuples.now }
+{
+    tuples.iter().all(|tuple| relation.contains(tuple))
+}
+
+/// Whether each tuple of the first relation is in the second. It takes no memory. For lists of n and m tuples it costs of
+/// the order of n log m comparisons.
+pub fn is_subset(a: &Relation, b: &Relation) -> bool
+    ensures { IsTrue result ↔ (set.is_subset (body a.now) (body b.now) ≡ true) }
+{
+    has_all(b, a.tuples())
 }

@@ -3,7 +3,7 @@ use Rattle.std.specs.FinSet as set
 use Rattle.td_values.specs.Rows.{RowsData, AreRows}
 use Rattle.td_relations.specs.Sets.{tuple_set}
 use Rattle.td_relations.proofs.Changes.{rows_of_change}
-use Rattle.td_relations.proofs.deltas.exchange.Goals as goal
+use Rattle.td_relations.proofs.deltas.exchange_each.Goals as goal
 
 pub invariant_of-relation-2 : goal.invariant_of-relation-2
 invariant_of-relation-2 c =
