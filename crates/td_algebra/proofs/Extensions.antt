@@ -19,7 +19,7 @@ use Rattle.td_relations.proofs.Predicates.{by_list}
 use Rattle.td_tuples.specs.Unions.{beside, tuple_of}
 use Rattle.td_algebra.specs.declared.errors.Fault.{Fault}
 use Rattle.td_algebra.specs.declared.errors.Fault.TheVariants.{Raised, OutOfMemory}
-use Rattle.td_algebra.specs.declared.items.Item.{Item}
+use Rattle.td_tuples.specs.declared.items.Item.{Item}
 use Rattle.td_algebra.specs.Raising.{AnswersBy, Unless, all_of, and_then}
 use Rattle.td_algebra.specs.Extending.{Meaning, field_at, fields_at, extended_at, Extended, RaisedBy}
 use Rattle.td_algebra.proofs.Walks.{Tells, tells, answers_from, answers_there}

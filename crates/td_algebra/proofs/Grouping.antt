@@ -15,7 +15,8 @@ use Rattle.td_tuples.specs.Unions.{with_attribute, with_column}
 use Rattle.td_tuples.proofs.ByName.{fits-with}
 use Rattle.td_algebra.specs.declared.index.Keyed.{Keyed}
 use Rattle.td_algebra.specs.Index.{with_key, has_key, part_of, HoldsGroup}
-use Rattle.td_algebra.specs.Nested.{relation_value, InGroup, WithGroup, Grouped, grouped_columns}
+use Rattle.td_tuples.specs.Nestings.{grouped_columns}
+use Rattle.td_algebra.specs.Nested.{relation_value, InGroup, WithGroup, Grouped}
 use Rattle.td_algebra.proofs.Lists.{In, in_all, all_in, in_map, map_in, in_filter, filter_in}
 use Rattle.td_algebra.proofs.Made.{has_in, in_has, made}
 use Rattle.td_algebra.proofs.Pairs.{itself, same_key, entry_of, of_entry}

@@ -64,23 +64,6 @@ module _ {X : Type 0} where
         | false ↦ λ g. elim h [ inl same ↦ absurd (true≢false (sym e ∙ ap p same ∙ g)) | inr more ↦ filter_in p xs x more e ]
       ] refl
 
-  filter_push : (p : X → Bool) (xs : List X) (x : X) → filter p (xs ++ x ∷ []) ≡ filter p xs ++ cond (p x) (x ∷ []) []
-  filter_push p [] x = refl
-  filter_push p (y ∷ xs) x = elim (p y) as (λ b. cond b (y ∷ filter p (xs ++ x ∷ [])) (filter p (xs ++ x ∷ [])) ≡ cond b (y ∷ filter p xs) (filter p xs) ++ cond (p x) (x ∷ []) []) [
-    | true ↦ ap (λ r. y ∷ r) (filter_push p xs x)
-    | false ↦ filter_push p xs x
-  ]
-
-  -- steps of a walk that keeps what passes
-  pub filter_kept : (p : X → Bool) (xs : List X) (x : X) → p x ≡ true → filter p (xs ++ x ∷ []) ≡ filter p xs ++ x ∷ []
-  filter_kept p xs x e = filter_push p xs x ∙ ap (λ b. filter p xs ++ cond b (x ∷ []) []) e
-
-  pub filter_passed : (p : X → Bool) (xs : List X) (x : X) → p x ≡ false → filter p (xs ++ x ∷ []) ≡ filter p xs
-  filter_passed p xs x e = filter_push p xs x ∙ ap (λ b. filter p xs ++ cond b (x ∷ []) []) e ∙ append-nil (filter p xs)
-
-  pub taken : (xs : List X) (i : ℕ) (x : X) → i < length xs → x ≡ get_or xs i x → take (i + 1) xs ≡ take i xs ++ x ∷ []
-  taken xs i x lt is = take_more xs i x lt ∙ ap (λ w. take i xs ++ w ∷ []) (sym is)
-
   -- something passes where the filter leaves something
   pub some_left : (p : X → Bool) (xs : List X) → not (nat_eq (length (filter p xs)) 0) ≡ list_any p xs
   some_left p [] = refl

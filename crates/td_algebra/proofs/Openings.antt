@@ -16,19 +16,14 @@ use Rattle.td_tuples.specs.Parts.{attributes, Fits, names_of, is_out, cut, cut_o
 use Rattle.td_tuples.specs.Unions.{beside, joined}
 use Rattle.td_tuples.proofs.Lists.{from_entries-entries, entries-from_entries, on_values, sorted_values}
 use Rattle.td_tuples.proofs.ByName.{heading-typed, ascend_is_sorted, fits_get, fits-where, fits-beside, part_by_columns}
-use Rattle.td_algebra.specs.Nested.{tuple_list, field_list, columns_of_type, columns_inside, inner_columns, opened_columns, IsRelationValued, IsTupleValued, Ungrouped, Unwrapped}
+use Rattle.td_tuples.specs.Nestings.{field_list, columns_of_type, columns_inside, inner_columns, opened_columns, IsRelationValued, IsTupleValued}
+use Rattle.td_algebra.specs.Nested.{tuple_list, Ungrouped, Unwrapped}
+use Rattle.td_tuples.proofs.Inner.{columns_back, field_list_back}
 use Rattle.td_algebra.specs.Opened.{tuples_in, tuples_inside, tuples_at, opened, Opened}
 use Rattle.td_algebra.proofs.Lists.{In, in_contains, contains_in, all_in, in_all, in_map, map_in, in_flat_map, flat_map_in}
 use Rattle.td_algebra.proofs.Made.{has_in, in_has, has_fits, made}
 
 -- ---- the insides of types and values
-field_list_back : (es : List (List ℕ × Ty)) → field_list (fields_of es) ≡ es
-field_list_back [] = refl
-field_list_back (e ∷ es) = ap (λ r. e ∷ r) (field_list_back es)
-
-pub columns_back : (h : Header) → by_name.from_entries (field_list (header_fields h)) ≡ h
-columns_back h = ap by_name.from_entries (field_list_back (by_name.entries h)) ∙ from_entries-entries h
-
 pub tuple_list_back : (ts : List Attrs) → tuple_list (tuples_of ts) ≡ ts
 tuple_list_back [] = refl
 tuple_list_back (t ∷ ts) = ap (λ r. t ∷ r) (tuple_list_back ts)
@@ -44,13 +39,6 @@ fits_itself t w =
     let sorted : T (by_name.is_sorted text_cmp es) = subst T (sym (sorted_values type_of (attributes t))) (ascend_is_sorted t (whole_ascends t w)) in
     let listed : field_list (heading_of t) ≡ es = ap field_list (heading-typed t) ∙ field_list_back es in
     heading-typed t ∙ ap fields_of (sym (entries-from_entries es sorted)) ∙ ap (λ fs. header_fields (by_name.from_entries fs)) (sym listed)
-
--- the columns inside a type that is made from a heading
-pub tuple_columns : (ty : Ty) (h : Header) → tuple_type (header_fields h) ≡ ty → h ≡ columns_of_type ty
-tuple_columns ty h e = sym (columns_back h) ∙ ap columns_of_type e
-
-pub relation_columns : (ty : Ty) (h : Header) → relation_type (header_fields h) ≡ ty → h ≡ columns_of_type ty
-relation_columns ty h e = sym (columns_back h) ∙ ap columns_of_type e
 
 pub fit_tuple : (d : Datum) (t : Attrs) (ts : List Attrs) → tuple t ≡ d → ts ≡ t ∷ [] → IsWholeTuple t → All (Fits (columns_of_type (type_of d))) ts
 fit_tuple d t ts e f w = subst (λ v. All (Fits (columns_of_type (type_of v))) ts) e

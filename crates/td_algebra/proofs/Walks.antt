@@ -144,9 +144,6 @@ each_more P (Err d) (Ok x) so is = tt
 each_more P (Err d) (Err (Raised e)) so is = tt
 each_more P (Err d) (Err OutOfMemory) so is = tt
 
-pub mapped_more : {A B : Type 0} (f : A → B) (xs : List A) (i : ℕ) (x : A) → i < length xs → x ≡ get_or xs i x → map f (take i xs) ++ f x ∷ [] ≡ map f (take (i + 1) xs)
-mapped_more f xs i x within is = sym (ap (map f) (take_more xs i x within ∙ ap (λ w. take i xs ++ w ∷ []) (sym is)) ∙ map-append f (take i xs) (x ∷ []))
-
 pub all_more_at : {X A : Type 0} (m : X → Result A Stop) (s : Result (List A) Stop) (xs : List X) (i : ℕ) (x : X) → i < length xs → x ≡ get_or xs i x
     → and_all s (all_of m (drop i xs)) ≡ and_all (and_all s (alone (m x))) (all_of m (drop (i + 1) xs))
 all_more_at m s xs i x within is = all_more m s xs i x within ∙ ap (λ y. and_all (and_all s (alone (m y))) (all_of m (drop (i + 1) xs))) (sym is)

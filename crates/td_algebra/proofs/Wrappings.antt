@@ -10,7 +10,8 @@ use Rattle.td_tuples.specs.Parts.{Fits, names_of, is_in, is_out, cut, cut_off, c
 use Rattle.td_tuples.specs.Unions.{with_attribute, with_column}
 use Rattle.td_tuples.proofs.ByName.{fits-where, fits-with, part_by_columns}
 use Rattle.td_algebra.specs.Index.{wrapped}
-use Rattle.td_algebra.specs.Nested.{Wrapped, wrapped_columns}
+use Rattle.td_tuples.specs.Nestings.{wrapped_columns}
+use Rattle.td_algebra.specs.Nested.{Wrapped}
 use Rattle.td_algebra.proofs.Made.{has_fits, image_fits, image_made}
 
 module _ (r : RowsData) (rows : AreRows r.heading r.tuples) (names : List (List ℕ)) (inner outer : Header) (i : inner ≡ columns_in names r.heading) (o : outer ≡ columns_out names r.heading) where

@@ -14,7 +14,7 @@ use Rattle.td_values.specs.Whole.{type_of}
 use Rattle.td_relations.specs.Sets.{Has}
 use Rattle.td_tuples.specs.Unions.{beside, joined, tuple_of}
 use Rattle.td_algebra.specs.declared.errors.Fault.{Fault}
-use Rattle.td_algebra.specs.declared.items.Item.{Item}
+use Rattle.td_tuples.specs.declared.items.Item.{Item}
 use Rattle.td_algebra.specs.Raising.{Answers, all_of, and_then}
 
 -- what a term means at a tuple: a value or an error
@@ -32,16 +32,6 @@ field_at m t i = and_then (m i.term t) (typed_field i.name i.ty)
 -- the names and values of all items at the tuple, or the least error of theirs
 abbrev pub fields_at : {E : Type 0} → Meaning E → List (Item E) → Attrs → Result (List (List ℕ × Datum)) Stop
 fields_at m items t = all_of (field_at m t) items
-
--- the items' names with their types
-abbrev pub column_of : {E : Type 0} → Item E → List ℕ × Ty
-column_of i = (i.name, i.ty)
-
-abbrev pub columns_of : {E : Type 0} → List (Item E) → Header
-columns_of items = by_name.from_entries {R = text_cmp} (map column_of items)
-
-abbrev pub extended_columns : {E : Type 0} → List (Item E) → Header → Header
-extended_columns items h = joined (columns_of items) h
 
 -- the tuple with the items' values, new or replaced
 abbrev pub extended_at : {E : Type 0} → Meaning E → List (Item E) → Attrs → Result Attrs Stop

@@ -27,26 +27,14 @@ WithGroup names c r v u = (g : RowsData) × (IsRelationOf (columns_in names r.he
 abbrev pub Grouped : List (List ℕ) → List ℕ → RowsData → Attrs → Type 0
 Grouped names c r u = (t : Attrs) × (Has r t) × (WithGroup names c r (cut_off names t) u)
 
--- the columns Y, and C with relations over the columns X
-abbrev pub grouped_columns : List (List ℕ) → List ℕ → Header → Header
-grouped_columns names c h = with_column c (relation_type (header_fields (columns_in names h))) (columns_out names h)
-
 -- each t|Y with C = t|X, t in r
 abbrev pub Wrapped : List (List ℕ) → List ℕ → RowsData → Attrs → Type 0
 Wrapped names c r u = (t : Attrs) × (Has r t) × (u ≡ with_attribute c (tuple (cut names t)) (cut_off names t))
-
--- the columns Y, and C with tuples over the columns X
-abbrev pub wrapped_columns : List (List ℕ) → List ℕ → Header → Header
-wrapped_columns names c h = with_column c (tuple_type (header_fields (columns_in names h))) (columns_out names h)
 
 -- ---- ungroup and unwrap
 abbrev pub tuple_list : Tuples → List Attrs
 tuple_list no_tuples = []
 tuple_list (next_tuple t ts) = t ∷ tuple_list ts
-
-abbrev pub field_list : Fields → List (List ℕ × Ty)
-field_list no_fields = []
-field_list (field n ty fs) = (n, ty) ∷ field_list fs
 
 -- each tuple made of t|Y and a tuple of t's C, t in r, where Y is the other names
 abbrev pub Ungrouped : List ℕ → RowsData → Attrs → Type 0
@@ -55,28 +43,3 @@ Ungrouped c r u = (t : Attrs) × (Has r t) × (h : Fields) × (ts : Tuples) × (
 -- each tuple made of t|Y and t's C, t in r
 abbrev pub Unwrapped : List ℕ → RowsData → Attrs → Type 0
 Unwrapped c r u = (t : Attrs) × (Has r t) × (w : Attrs) × (attribute_of c t ≡ Some (tuple w)) × (u ≡ beside (cut_off (c ∷ []) t) w)
-
--- the columns that a tuple or relation type is made from
-abbrev pub columns_of_type : Ty → Header
-columns_of_type (tuple_type fs) = by_name.from_entries (field_list fs)
-columns_of_type (relation_type fs) = by_name.from_entries (field_list fs)
-columns_of_type ty = by_name.empty
-
-abbrev pub columns_inside : Option Ty → Header
-columns_inside None = by_name.empty
-columns_inside (Some ty) = columns_of_type ty
-
--- those of the type at the name C
-abbrev pub inner_columns : List ℕ → Header → Header
-inner_columns c h = columns_inside (by_name.get h c)
-
--- the columns Y, and those inside C
-abbrev pub opened_columns : List ℕ → Header → Header
-opened_columns c h = joined (columns_out (c ∷ []) h) (inner_columns c h)
-
--- the attribute C is relation-valued, or tuple-valued
-abbrev pub IsRelationValued : List ℕ → Header → Type 0
-IsRelationValued c h = (fs : Fields) × (by_name.get h c ≡ Some (relation_type fs))
-
-abbrev pub IsTupleValued : List ℕ → Header → Type 0
-IsTupleValued c h = (fs : Fields) × (by_name.get h c ≡ Some (tuple_type fs))

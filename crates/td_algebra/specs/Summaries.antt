@@ -10,8 +10,8 @@ use Rattle.td_values.specs.Headings.{Header}
 use Rattle.td_values.specs.Order.{order, attrs_order}
 use Rattle.td_values.specs.Rows.{RowsData}
 use Rattle.td_tuples.specs.Parts.{names_of, cut}
-use Rattle.td_algebra.specs.declared.summaries.Summary.{Summary}
-use Rattle.td_algebra.specs.declared.summaries.Summary.TheVariants.{Count, Sum, Max, Min, And, Or}
+use Rattle.td_tuples.specs.declared.items.Summary.{Summary}
+use Rattle.td_tuples.specs.declared.items.Summary.TheVariants.{Count, Sum, Max, Min, And, Or}
 use Rattle.td_algebra.specs.declared.errors.Fault.{Fault}
 use Rattle.td_algebra.specs.Raising.{all_of, and_then}
 use Rattle.td_algebra.specs.Extending.{Meaning, TakesBoth, Means}

@@ -1,7 +1,6 @@
 //! Extension by new attributes.
 ghost use Rattle.std.specs.Ordering.{is_eq};
 ghost use Rattle.std.specs.Prelude.{◌≡◌, ◌↔◌, IsTrue, ℕ, List, map, Result, Ok, IfOk, OnOk};
-ghost use Rattle.std.specs.FinMap as by_name;
 ghost use Rattle.std.specs.List.{All};
 ghost use Rattle.td_values.specs.Data.{Attrs, Datum, Ty};
 ghost use Rattle.td_values.specs.Order.{text_cmp, ty_order};
@@ -13,37 +12,15 @@ ghost use Rattle.td_tuples.specs.Parts.{Fits};
 ghost use Rattle.td_tuples.specs.Unions.{tuple_of};
 ghost use Rattle.td_algebra.specs.Raising.{Answers, AnswersBy, Unless, all_of};
 ghost use Rattle.td_algebra.specs.Extending as spec;
-ghost use Rattle.td_algebra.specs.Extending.{Meaning, TakesBoth, Means, TakesItems, MeansItems, column_of, Extended, RaisedBy};
+ghost use Rattle.td_tuples.specs.Items.{column_of, extended_columns};
+ghost use Rattle.td_algebra.specs.Extending.{Meaning, TakesBoth, Means, TakesItems, MeansItems, Extended, RaisedBy};
 
 use crate::errors::{Fault, Stop};
 use crate::gathered::Gathered;
-use crate::items::Item;
 use std::alloc::{AllocError, Global};
 use td_relations::Relation;
-use td_tuples::{beside, joined};
-use td_values::{Heading, Name, TdType, Tuple, TupleBuilder, Value, has_type};
-
-// The items' names with their types.
-fn columns_of<E>(alloc: Global, items: &[Item<E>]) -> Result<Heading, AllocError>
-    ensures { IfOk result (λ h. h ≡ spec.columns_of items.now) }
-{
-    let mut columns = Heading::new(alloc)?;
-    for item in items {
-        columns.insert(alloc, item.name.copy()?, item.ty.copy()?)?;
-    }
-    Ok(columns)
-}
-
-/// The tuple of these attributes. Of two of one name the first counts.
-pub fn tuple_of(alloc: Global, fields: Vec<(Name, Value)>) -> Result<Tuple, AllocError>
-    ensures { IfOk result (λ t. t ≡ tuple_of fields.items) }
-{
-    let mut builder = TupleBuilder::new(alloc);
-    for (name, value) in fields {
-        builder.insert(name, value)?;
-    }
-    builder.build(alloc)
-}
+use td_tuples::{Item, beside, extended_columns, tuple_of};
+use td_values::{Name, TdType, Tuple, Value, has_type};
 
 // Whether the value has the type.
 fn is_of(value: &Value, ty: &TdType) -> bool
@@ -108,7 +85,7 @@ fn extended_at<E, F: Fn(&E, &Tuple) -> Result<Value, Fault>>(
 ) -> Result<Tuple, Fault>
     requires { TakesItems (F.pre f.now) items.now tuple.now }
     ensures means { (m : Meaning E) → MeansItems (F.post f.now) m items.now tuple.now → Answers result (spec.extended_at m items.now tuple.now) }
-    ensures typed { (h : Header) → Fits h tuple.now → IfOk result (Fits (spec.extended_columns items.now h)) }
+    ensures typed { (h : Header) → Fits h tuple.now → IfOk result (Fits (extended_columns items.now h)) }
 {
     let fields = match fields_at(alloc, items, tuple, f) {
         Ok(fields) => fields,
@@ -127,7 +104,7 @@ fn extended_all<E, F: Fn(&E, &Tuple) -> Result<Value, Fault>>(
 ) -> Result<Vec<Tuple>, Fault>
     requires { All (TakesItems (F.pre f.now) items.now) tuples.now }
     ensures means { (m : Meaning E) → All (MeansItems (F.post f.now) m items.now) tuples.now → AnswersBy (λ v. v.items) result (all_of (spec.extended_at m items.now) tuples.now) }
-    ensures typed { (h : Header) → All (Fits h) tuples.now → IfOk result (λ v. All (Fits (spec.extended_columns items.now h)) v.items) }
+    ensures typed { (h : Header) → All (Fits h) tuples.now → IfOk result (λ v. All (Fits (extended_columns items.now h)) v.items) }
 {
     let mut gathered = Gathered::new(alloc);
     for tuple in tuples {
@@ -147,13 +124,12 @@ pub fn extend<E, F: Fn(&E, &Tuple) -> Result<Value, Fault>>(
 ) -> Result<Relation, Fault>
     requires { All (TakesItems (F.pre f.now) items.now) relation.now.tuples }
     ensures { (m : Meaning E) → All (MeansItems (F.post f.now) m items.now) relation.now.tuples →
-        Unless (RaisedBy m items.now relation.now) (IsRelationOf (spec.extended_columns items.now relation.now.heading) (Extended m items.now relation.now)) result }
+        Unless (RaisedBy m items.now relation.now) (IsRelationOf (extended_columns items.now relation.now.heading) (Extended m items.now relation.now)) result }
 {
     let tuples = match extended_all(alloc, relation.tuples(), items, f) {
         Ok(tuples) => tuples,
         Err(fault) => return Err(fault),
     };
-    let columns = columns_of(alloc, items)?;
-    let heading = joined(alloc, &columns, relation.heading())?;
+    let heading = extended_columns(alloc, items, relation.heading())?;
     Ok(Relation::from_tuples(heading, tuples))
 }

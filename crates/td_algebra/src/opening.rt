@@ -1,7 +1,8 @@
 //! Tuples and relations taken out of attributes.
 ghost use Rattle.std.specs.Prelude.{◌≡◌, ◌↔◌, ◌++◌, map, IsTrue, IfOk, OnOk};
 ghost use Rattle.std.specs.List.{All, flat_map};
-ghost use Rattle.td_algebra.specs.Nested.{IsRelationValued, IsTupleValued, Ungrouped, Unwrapped, columns_of_type, inner_columns, opened_columns};
+ghost use Rattle.td_tuples.specs.Nestings.{IsRelationValued, IsTupleValued, columns_of_type, inner_columns, opened_columns};
+ghost use Rattle.td_algebra.specs.Nested.{Ungrouped, Unwrapped};
 ghost use Rattle.td_algebra.specs.Opened.{Opened, opened, tuples_at, tuples_in};
 ghost use Rattle.td_relations.specs.Sets.{IsRelationOf};
 ghost use Rattle.td_tuples.specs.Parts.{Fits, names_of};
@@ -13,29 +14,8 @@ ghost use Rattle.td_values.specs.Whole.{type_of};
 use std::alloc::{AllocError, Global};
 use std::slice;
 use td_relations::Relation;
-use td_tuples::{beside, columns_out, cut, joined};
-use td_values::{Heading, Kind, Name, TdType, Tuple, TypeKind, Value, whole_tuple};
-
-// The columns that a tuple or relation type is made from.
-fn columns_of_type(alloc: Global, ty: &TdType) -> Result<Heading, AllocError>
-    ensures { IfOk result (λ h. h ≡ columns_of_type ty.now) }
-{
-    match &ty.kind {
-        TypeKind::Tuple(h) => h.copy(),
-        TypeKind::Relation(h) => h.copy(),
-        _ => Heading::new(alloc),
-    }
-}
-
-// Those of the type at the name.
-fn inner_columns(alloc: Global, heading: &Heading, name: &Name) -> Result<Heading, AllocError>
-    ensures { IfOk result (λ h. h ≡ inner_columns name.now heading.now) }
-{
-    match heading.type_of(name) {
-        Some(ty) => columns_of_type(alloc, ty),
-        None => Heading::new(alloc),
-    }
-}
+use td_tuples::{beside, columns_out, cut, inner_columns, joined};
+use td_values::{Heading, Kind, Name, Tuple, Value, whole_tuple};
 
 // The tuples of a relation, and a tuple itself.
 fn tuples_in(value: &Value) -> &[Tuple]
@@ -122,26 +102,6 @@ fn open(alloc: Global, r: &Relation, name: &Name) -> Result<Relation, AllocError
     let tuples = open_all(alloc, r, &outer, name)?;
     let heading = joined(alloc, &outer, &inner)?;
     Ok(Relation::from_tuples(heading, tuples))
-}
-
-/// Whether the heading has a relation type at the name. It takes no memory.
-pub fn is_relation_valued(heading: &Heading, name: &Name) -> bool
-    ensures { IsTrue result ↔ IsRelationValued name.now heading.now }
-{
-    match heading.type_of(name) {
-        Some(ty) => matches!(&ty.kind, TypeKind::Relation(_)),
-        None => false,
-    }
-}
-
-/// Whether the heading has a tuple type at the name. It takes no memory.
-pub fn is_tuple_valued(heading: &Heading, name: &Name) -> bool
-    ensures { IsTrue result ↔ IsTupleValued name.now heading.now }
-{
-    match heading.type_of(name) {
-        Some(ty) => matches!(&ty.kind, TypeKind::Tuple(_)),
-        None => false,
-    }
 }
 
 /// The tuples made of the other attributes and a tuple of the relation at the name. A tuple whose relation is empty

@@ -15,24 +15,8 @@ use crate::errors::{Fault, Stop};
 use crate::gathered::Gathered;
 use crate::index::Keyed;
 use std::alloc::{AllocError, Global};
+use td_tuples::Summary;
 use td_values::{Kind, Tuple, Value, compare, copy};
-
-/// What is asked of a group of tuples; the term gives a value on each of them.
-#[derive(Drop)]
-pub enum Summary<E> {
-    /// How many tuples there are.
-    Count,
-    /// The sum of the terms, equal ones counted each; of none 0.
-    Sum(E),
-    /// The greatest term; of none it raises `Empty`.
-    Max(E),
-    /// The least term; of none it raises `Empty`.
-    Min(E),
-    /// Whether all terms are true; of none they are.
-    And(E),
-    /// Whether a term is true; of none there is none.
-    Or(E),
-}
 
 fn integer_value(n: i64) -> Value
     ensures { result ≡ integer n }

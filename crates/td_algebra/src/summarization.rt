@@ -8,16 +8,17 @@ ghost use Rattle.td_values.specs.Whole.{type_of};
 ghost use Rattle.td_relations.specs.Sets.{IsRelationOf};
 ghost use Rattle.td_algebra.specs.Index.{has_key, key_of, tuple_in};
 ghost use Rattle.td_algebra.specs.Raising.{Answers, Unless};
-ghost use Rattle.td_algebra.specs.Extending.{Meaning, TakesBoth, Means, Extended, RaisedBy, extended_columns};
+ghost use Rattle.td_tuples.specs.Items.{extended_columns};
+ghost use Rattle.td_algebra.specs.Extending.{Meaning, TakesBoth, Means, Extended, RaisedBy};
 ghost use Rattle.td_algebra.specs.Summaries.{TakesTerm, MeansTerm, over_groups, summary_over};
 
 use crate::errors::Fault;
 use crate::extension::extend;
 use crate::index::{Keyed, indexed, run};
-use crate::items::Item;
-use crate::summaries::{Summary, over_group};
+use crate::summaries::over_group;
 use std::alloc::Global;
 use td_relations::Relation;
+use td_tuples::{Item, Summary};
 use td_values::{Tuple, Value};
 
 // The summary over the entries with this key.

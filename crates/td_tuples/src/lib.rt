@@ -4,10 +4,22 @@
 #![tactic(auto)]
 
 mod headings;
+mod items;
 mod names;
+mod nestings;
+mod shared;
 #[cfg(test)]
 mod tests;
 mod tuples;
 
-pub use headings::{columns_in, columns_out, joined, renamed_columns, with_column};
-pub use tuples::{beside, cut, renamed, with_attribute};
+pub use headings::{
+    columns_in, columns_out, composed_columns, joined, lone_names, renamed_columns, with_column,
+};
+pub use items::{Item, Summary, extended_columns};
+pub use names::{is_in, name_after};
+pub use nestings::{
+    grouped_columns, inner_columns, is_relation_valued, is_tuple_valued, opened_columns,
+    wrapped_columns,
+};
+pub use shared::Shared;
+pub use tuples::{beside, cut, renamed, tuple_of, with_attribute};

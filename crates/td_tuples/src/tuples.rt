@@ -4,7 +4,7 @@ ghost use Rattle.std.specs.FinMap as by_name;
 ghost use Rattle.td_values.specs.Data.{Datum};
 ghost use Rattle.td_tuples.specs.Parts.{cut, names_of};
 ghost use Rattle.td_tuples.specs.Renamings.{renamed};
-ghost use Rattle.td_tuples.specs.Unions.{beside, with_attribute};
+ghost use Rattle.td_tuples.specs.Unions.{beside, tuple_of, with_attribute};
 
 use crate::names::name_after;
 use std::alloc::{AllocError, Global};
@@ -21,6 +21,17 @@ pub fn cut(alloc: Global, heading: &Heading, tuple: &Tuple) -> Result<Tuple, All
         }
     }
     Tuple::of(alloc, attributes)
+}
+
+/// The tuple of these attributes. Of two of one name the first counts.
+pub fn tuple_of(alloc: Global, fields: Vec<(Name, Value)>) -> Result<Tuple, AllocError>
+    ensures { IfOk result (λ t. t ≡ tuple_of fields.items) }
+{
+    let mut builder = TupleBuilder::new(alloc);
+    for (name, value) in fields {
+        builder.insert(name, value)?;
+    }
+    builder.build(alloc)
 }
 
 // Adds the attributes whose names are new.

@@ -4,7 +4,8 @@ use Rattle.std.specs.Option.{option_copied}
 use Rattle.std.proofs.lemmas.List.{take_all}
 use Rattle.td_values.specs.Attributes.{attribute_of}
 use Rattle.td_relations.specs.Sets.{Has}
-use Rattle.td_algebra.proofs.Lists.{In, item_in, taken}
+use Rattle.td_tuples.proofs.Filters.{taken}
+use Rattle.td_algebra.proofs.Lists.{In, item_in}
 use Rattle.td_algebra.proofs.Made.{in_has}
 use Rattle.td_algebra.proofs.Closing.{IsClosedOver, begun, stepped, has_end, missing, closed}
 use Rattle.td_algebra.proofs.closure.tclose.Goals as goal

@@ -3,8 +3,8 @@ use Rattle.std.specs.FinSet as set
 use Rattle.td_values.specs.Headings.{Header}
 use Rattle.td_values.specs.Data.{Attrs}
 use Rattle.td_relations.specs.Sets.{IsRelation, IsRelationOf}
-use Rattle.td_tuples.specs.Unions.{joined}
-use Rattle.td_algebra.specs.Extending.{Extended, extended_columns}
+use Rattle.td_tuples.specs.Items.{extended_columns}
+use Rattle.td_algebra.specs.Extending.{Extended}
 use Rattle.td_algebra.proofs.Extensions.{extension_fails, extends}
 use Rattle.td_algebra.proofs.extension.extend.Goals as goal
 
@@ -19,6 +19,6 @@ returns g c = λ m means.
     let items = c.args.items.now in
     let r = c.args.relation.now in
     let us = c.in-Ok.tuples.items in
-    let heading = c.in_ok-heading.ensures ∙ ap (λ (k : Header). joined k c.heading.result.now) c.in_ok-columns.ensures ∙ ap (λ (k : Header). extended_columns items k) c.heading.ensures in
+    let heading = c.in_ok-heading.ensures ∙ ap (λ (k : Header). extended_columns items k) c.heading.ensures in
     extends m items r (extended_columns items r.heading) us c.from_tuples.result ((rw c.tuples.ensures.all at c.in-Ok.ensures.means) m means)
     (subst (λ h. IsRelation h (set.from_list us) c.from_tuples.result) heading c.from_tuples.ensures)

@@ -4,7 +4,7 @@ use Rattle.td_tuples.specs.Parts.{Fits}
 use Rattle.td_tuples.specs.Unions.{beside, tuple_of}
 use Rattle.td_tuples.proofs.ByName.{fits-tuple_of, fits-beside}
 use Rattle.td_values.specs.Order.{text_cmp}
-use Rattle.td_algebra.specs.Extending.{columns_of, extended_columns}
+use Rattle.td_tuples.specs.Items.{columns_of, extended_columns}
 use Rattle.td_algebra.proofs.extension.extended_at.Goals as goal
 
 pub returns-clause-typed : goal.returns-clause-typed

@@ -3,8 +3,10 @@ use Rattle.std.proofs.lemmas.List.{take_all}
 use Rattle.td_values.specs.Data.{Datum}
 use Rattle.td_values.specs.Whole.{type_of}
 use Rattle.td_algebra.specs.Raising.{AnswersBy, so_far, meaning_of}
-use Rattle.td_algebra.specs.Extending.{Means, column_of, field_at, fields_at}
-use Rattle.td_algebra.proofs.Walks.{all_more_at, all_done, at_item, says_meaning, listed_more, mapped_more, finished}
+use Rattle.td_tuples.specs.Items.{column_of}
+use Rattle.td_algebra.specs.Extending.{Means, field_at, fields_at}
+use Rattle.td_tuples.proofs.Filters.{mapped_more}
+use Rattle.td_algebra.proofs.Walks.{all_more_at, all_done, at_item, says_meaning, listed_more, finished}
 use Rattle.td_algebra.proofs.extension.fields_at.Goals as goal
 
 pub loop-item-preserved : goal.loop-item-preserved

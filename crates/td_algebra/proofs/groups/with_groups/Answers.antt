@@ -5,7 +5,7 @@ use Rattle.td_values.specs.Data.{Attrs}
 use Rattle.td_tuples.specs.Parts.{Fits, names_of}
 use Rattle.td_algebra.specs.declared.index.Keyed.{Keyed}
 use Rattle.td_algebra.specs.Index.{has_key, part_of, HoldsTuples, HoldsGroup}
-use Rattle.td_algebra.proofs.Lists.{taken}
+use Rattle.td_tuples.proofs.Filters.{taken}
 use Rattle.td_algebra.proofs.Grouping.{all_filter}
 use Rattle.td_algebra.proofs.groups.with_groups.Goals as goal
 

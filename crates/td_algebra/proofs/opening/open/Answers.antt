@@ -1,6 +1,6 @@
 use Rattle.std.proofs.Common.{ap, ◌∙◌}
 use Rattle.td_tuples.specs.Parts.{columns_out}
-use Rattle.td_algebra.specs.Nested.{inner_columns}
+use Rattle.td_tuples.specs.Nestings.{inner_columns}
 use Rattle.td_algebra.proofs.Openings.{opened_fit, opened_made}
 use Rattle.td_algebra.proofs.opening.open.Goals as goal
 

@@ -4,7 +4,7 @@ use Rattle.std.proofs.lemmas.List.Elements.{All-more}
 use Rattle.td_values.specs.Data.{Attrs}
 use Rattle.td_values.specs.Whole.{heading_of}
 use Rattle.td_tuples.specs.Parts.{Fits, names_of}
-use Rattle.td_algebra.specs.Nested.{inner_columns}
+use Rattle.td_tuples.specs.Nestings.{inner_columns}
 use Rattle.td_algebra.specs.Opened.{opened, tuples_at}
 use Rattle.td_algebra.proofs.Pairs.{one_more}
 use Rattle.td_algebra.proofs.opening.open_all.Goals as goal

@@ -1,4 +1,4 @@
-use Rattle.td_algebra.specs.Nested.{opened_columns}
+use Rattle.td_tuples.specs.Nestings.{opened_columns}
 use Rattle.td_algebra.proofs.Openings.{ungrouped}
 use Rattle.td_algebra.proofs.opening.ungroup.Goals as goal
 

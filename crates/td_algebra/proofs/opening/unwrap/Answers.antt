@@ -1,4 +1,4 @@
-use Rattle.td_algebra.specs.Nested.{opened_columns}
+use Rattle.td_tuples.specs.Nestings.{opened_columns}
 use Rattle.td_algebra.proofs.Openings.{unwrapped}
 use Rattle.td_algebra.proofs.opening.unwrap.Goals as goal
 

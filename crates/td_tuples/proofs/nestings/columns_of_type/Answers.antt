@@ -1,8 +1,8 @@
 use Rattle.std.proofs.Common.{◌≡◌, sym, ap, ◌∙◌, subst, IfOk}
 use Rattle.td_values.specs.View.{ty_of}
 use Rattle.td_values.specs.Headings.{Header}
-use Rattle.td_algebra.proofs.Openings.{tuple_columns, relation_columns}
-use Rattle.td_algebra.proofs.opening.columns_of_type.Goals as goal
+use Rattle.td_tuples.proofs.Inner.{tuple_columns, relation_columns}
+use Rattle.td_tuples.proofs.nestings.columns_of_type.Goals as goal
 
 pub returns-in-Tuple : goal.returns-in-Tuple
 returns-in-Tuple c =

@@ -1,9 +1,9 @@
 use Rattle.std.proofs.Common.{ap, ◌∙◌, take, map}
 use Rattle.std.specs.FinMap as by_name
 use Rattle.td_tuples.proofs.Steps.{added}
-use Rattle.td_algebra.specs.Extending.{column_of}
-use Rattle.td_algebra.proofs.Walks.{mapped_more}
-use Rattle.td_algebra.proofs.extension.columns_of.Goals as goal
+use Rattle.td_tuples.specs.Items.{column_of}
+use Rattle.td_tuples.proofs.Filters.{mapped_more}
+use Rattle.td_tuples.proofs.items.columns_of.Goals as goal
 
 pub loop-item-preserved : goal.loop-item-preserved
 loop-item-preserved g c =
