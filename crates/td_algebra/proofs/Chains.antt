@@ -29,7 +29,7 @@ use Rattle.td_algebra.proofs.Made.{has_in, in_has, has_fits, made}
 
 module _ (a b : List ℕ) (h : Header) (k : HasColumns a b h) where
   -- the two names ascend
-  names_rise : text_cmp a b ≡ Less
+  pub names_rise : text_cmp a b ≡ Less
   names_rise = rises (k.ty) (subst (λ es. T (by_name.is_sorted text_cmp es)) k.are (by_name.entries_sorted h))
     where
       rises : (ty : Ty) → T (by_name.is_sorted text_cmp ((a, ty) ∷ (b, ty) ∷ [])) → text_cmp a b ≡ Less

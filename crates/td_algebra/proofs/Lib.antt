@@ -17,3 +17,5 @@ pub mod Openings
 pub mod Chains
 pub mod Closing
 pub mod Bridges
+pub mod Reaching
+pub mod Ending

@@ -14,7 +14,7 @@ use Rattle.td_relations.specs.Sets.{Has, IsRelation, IsRelationOf}
 use Rattle.td_relations.proofs.Predicates.{by_predicate}
 use Rattle.td_tuples.specs.Parts.{attributes, Fits, names_of, is_out, cut, cut_off, columns_out}
 use Rattle.td_tuples.specs.Unions.{beside, joined}
-use Rattle.td_tuples.proofs.Lists.{from_entries-entries, entries-from_entries, on_values, sorted_values}
+use Rattle.td_tuples.proofs.Lists.{entries-from_entries, on_values, sorted_values}
 use Rattle.td_tuples.proofs.ByName.{heading-typed, ascend_is_sorted, fits_get, fits-where, fits-beside, part_by_columns}
 use Rattle.td_tuples.specs.Nestings.{field_list, columns_of_type, columns_inside, inner_columns, opened_columns, IsRelationValued, IsTupleValued}
 use Rattle.td_algebra.specs.Nested.{tuple_list, Ungrouped, Unwrapped}

@@ -1,18 +1,16 @@
 -- Extension: each tuple with new attributes, each the value of a function on it (Date and Darwen, The Third Manifesto).
-use Rattle.std.specs.Prelude.{◌≡◌, ℕ, List, map, Result, Ok, Err, if◌then◌else◌}
+use Rattle.std.specs.Prelude.{◌≡◌, ℕ, List, Result, Ok, Err, if◌then◌else◌}
 use Rattle.std.specs.Borrow.{Bor}
-use Rattle.std.specs.FinMap as by_name
 use Rattle.std.specs.List.{All, Contains}
 use Rattle.td_algebra.specs.declared.errors.Stop.{Stop}
 use Rattle.td_algebra.specs.declared.errors.Stop.TheVariants.{Untyped}
 use Rattle.std.specs.Ordering.{is_eq}
 use Rattle.td_values.specs.Data.{Ty, Datum, Attrs}
-use Rattle.td_values.specs.Headings.{Header}
-use Rattle.td_values.specs.Order.{text_cmp, ty_order}
+use Rattle.td_values.specs.Order.{ty_order}
 use Rattle.td_values.specs.Rows.{RowsData}
 use Rattle.td_values.specs.Whole.{type_of}
 use Rattle.td_relations.specs.Sets.{Has}
-use Rattle.td_tuples.specs.Unions.{beside, joined, tuple_of}
+use Rattle.td_tuples.specs.Unions.{beside, tuple_of}
 use Rattle.td_algebra.specs.declared.errors.Fault.{Fault}
 use Rattle.td_tuples.specs.declared.items.Item.{Item}
 use Rattle.td_algebra.specs.Raising.{Answers, all_of, and_then}

@@ -9,3 +9,5 @@ pub mod Extending
 pub mod Summaries
 pub mod Opened
 pub mod Functions
+pub mod Links
+pub mod Ends

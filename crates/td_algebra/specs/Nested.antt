@@ -1,14 +1,13 @@
 -- Operators that put relations and tuples into attributes, and take them out: which tuples their results have.
-use Rattle.std.specs.Prelude.{◌≡◌, ℕ, List, [], ◌∷◌, Option, None, Some}
-use Rattle.std.specs.FinMap as by_name
+use Rattle.std.specs.Prelude.{◌≡◌, ℕ, List, [], ◌∷◌, Some}
 use Rattle.std.specs.List.{Contains}
 use Rattle.td_values.specs.Attributes.{attribute_of}
-use Rattle.td_values.specs.Data.{Ty, tuple_type, relation_type, Fields, no_fields, field, Datum, tuple, relation, Attrs, Tuples, no_tuples, next_tuple, tuples_of}
-use Rattle.td_values.specs.Headings.{Header, header_fields}
+use Rattle.td_values.specs.Data.{Fields, Datum, tuple, relation, Attrs, Tuples, no_tuples, next_tuple, tuples_of}
+use Rattle.td_values.specs.Headings.{header_fields}
 use Rattle.td_values.specs.Rows.{RowsData}
 use Rattle.td_relations.specs.Sets.{Has, IsRelationOf}
-use Rattle.td_tuples.specs.Parts.{cut, cut_off, columns_in, columns_out}
-use Rattle.td_tuples.specs.Unions.{beside, joined, with_attribute, with_column}
+use Rattle.td_tuples.specs.Parts.{cut, cut_off, columns_in}
+use Rattle.td_tuples.specs.Unions.{beside, with_attribute}
 
 -- ---- group and wrap
 -- the relation as a value

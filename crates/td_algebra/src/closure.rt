@@ -1,103 +1,222 @@
-//! The transitive closure.
-ghost use Rattle.std.specs.Prelude.{◌≡◌, ◌↔◌, ◌++◌, map, IsTrue, IfOk, OnOk};
-ghost use Rattle.std.specs.List.{filter, flat_map};
-ghost use Rattle.td_algebra.specs.Closures.{Closed, HasColumns, IsBinary, Through, has_value, links, replaced};
-ghost use Rattle.td_relations.specs.Sets.{IsRelationOf};
+//! The transitive closure: a walk from each value along the pairs.
+ghost use Rattle.std.specs.Prelude.{◌≡◌, ◌↔◌, ◌++◌, ◌<◌, ℕ, Some, true, length, slice_get, IsTrue, IfOk, IfSome, OnOk};
+ghost use Rattle.std.specs.FinSet as set;
+ghost use Rattle.std.specs.List.{All, flat_map};
+ghost use Rattle.std.specs.List.Sorted.{IsStrictlySortedBy};
+ghost use Rattle.std.specs.declared.cmp.Ordering.TheVariants.{Less};
+ghost use Rattle.td_algebra.specs.Closures.{Closed, HasColumns, IsBinary};
+ghost use Rattle.td_algebra.specs.Ends.{AreLinks, ArePairs, HasEnd, IsEnd, Joins, ends_in, pair_at, paired, single, singles};
+ghost use Rattle.td_algebra.specs.Links.{StayWithin};
+ghost use Rattle.td_relations.specs.Sets.{IsRelationOf, tuple_set};
+ghost use Rattle.td_values.specs.Attributes.{attribute_of};
+ghost use Rattle.td_values.specs.Data.{Datum, attr, no_attrs};
+ghost use Rattle.td_values.specs.Order.{attrs_order, text_cmp};
 
+use crate::links::{Links, reached};
 use std::alloc::{AllocError, Global};
 use td_relations::Relation;
-use td_tuples::with_attribute;
-use td_values::{Heading, Name, Tuple, Value, compare, compare_types, copy, copy_tuples};
+use td_values::{Heading, Name, Tuple, Value, compare_types, copy};
 
-// Whether the tuple has this value at the name.
-fn has_value(tuple: &Tuple, name: &Name, value: &Value) -> bool
-    ensures { result ≡ has_value name.now value.now tuple.now }
+// The value alone, under the name.
+fn single(alloc: Global, name: &Name, value: &Value) -> Result<Tuple, AllocError>
+    ensures { IfOk result (λ t. t ≡ single name.now value.now) }
 {
-    match tuple.get(name) {
-        Some(its) => compare(its, value).is_eq(),
-        None => false,
-    }
+    let mut attributes = Vec::with_capacity(alloc, 1)?;
+    attributes.push((name.copy()?, copy(alloc, value)?))?;
+    Tuple::of(alloc, attributes)
 }
 
-// The tuples with this value at the name, shared.
-fn with_value(
-    alloc: Global,
-    tuples: &[Tuple],
-    name: &Name,
-    value: &Value,
-) -> Result<Vec<Tuple>, AllocError>
-    ensures { IfOk result (λ v. v.items ≡ filter (has_value name.now value.now) tuples.now) }
-{
-    let mut kept = Vec::new(alloc);
-    for t in tuples {
-        if has_value(t, name, value) {
-            kept.push(t.copy()?)?;
-        }
-    }
-    Ok(kept)
-}
-
-// The tuple with the other one's value at the name.
-fn replaced(alloc: Global, name: &Name, tuple: &Tuple, other: &Tuple) -> Result<Tuple, AllocError>
-    ensures { IfOk result (λ t. t ≡ replaced name.now tuple.now other.now) }
-{
-    match other.get(name) {
-        Some(value) => with_attribute(alloc, tuple, name.copy()?, copy(alloc, value)?),
-        None => tuple.copy(),
-    }
-}
-
-// Adds the tuple with the value at the name of each of these.
-fn add_replaced(
+// Adds the tuple's value at the one name, alone and under the other one.
+fn add_single(
     alloc: Global,
     out: &mut Vec<Tuple>,
-    name: &Name,
     tuple: &Tuple,
-    others: &[Tuple],
-) -> Result<(), AllocError>
-    ensures { OnOk result (out.new.items ≡ out.old.items ++ map (replaced name.now tuple.now) others.now) }
-{
-    for other in others {
-        out.push(replaced(alloc, name, tuple, other)?)?;
-    }
-    Ok(())
-}
-
-// Adds the links of each tuple that ends in the middle with each of the tails, which begin there.
-fn add_links(
-    alloc: Global,
-    out: &mut Vec<Tuple>,
-    tuples: &[Tuple],
+    at: &Name,
     name: &Name,
-    middle: &Value,
-    tails: &[Tuple],
 ) -> Result<(), AllocError>
-    ensures { OnOk result (out.new.items ≡ out.old.items ++ flat_map (links name.now middle.now tails.now) tuples.now) }
+    ensures { OnOk result (out.new.items ≡ out.old.items ++ singles name.now (attribute_of at.now tuple.now)) }
 {
-    for t in tuples {
-        if has_value(t, name, middle) {
-            add_replaced(alloc, out, name, t, tails)?;
-        }
+    if let Some(value) = tuple.get(at) {
+        out.push(single(alloc, name, value)?)?;
     }
     Ok(())
 }
 
-// The relation with the pairs that go through the middle.
-fn through(
+// These tuples, each once, ascending.
+fn distinct(tuples: Vec<Tuple>) -> Vec<Tuple>
+    ensures ascending { IsStrictlySortedBy attrs_order result.items }
+    ensures same { tuple_set result.items ≡ tuple_set tuples.items }
+{
+    let mut tuples = tuples;
+    tuples.sort_unstable();
+    tuples.dedup();
+    tuples
+}
+
+// The values of the pairs, each alone under the first name, once and ascending.
+fn ends_of(
     alloc: Global,
-    r: &Relation,
+    tuples: &[Tuple],
     first: &Name,
     second: &Name,
-    middle: &Value,
-) -> Result<Relation, AllocError>
-    requires { HasColumns first.now second.now r.now.heading }
-    ensures { IfOk result (IsRelationOf r.now.heading (Through middle.now r.now)) }
+) -> Result<Vec<Tuple>, AllocError>
+    ensures ascending { IfOk result (λ v. IsStrictlySortedBy attrs_order v.items) }
+    ensures all { IfOk result (λ v. tuple_set v.items ≡ tuple_set (flat_map (ends_in first.now second.now) tuples.now)) }
 {
-    let tails = with_value(alloc, r.tuples(), first, middle)?;
-    let mut tuples = copy_tuples(alloc, r.tuples())?;
-    add_links(alloc, &mut tuples, r.tuples(), second, middle, &tails)?;
-    let heading = r.heading().copy()?;
-    Ok(Relation::from_tuples(heading, tuples))
+    let mut ends = Vec::new(alloc);
+    for tuple in tuples {
+        add_single(alloc, &mut ends, tuple, first, first)?;
+        add_single(alloc, &mut ends, tuple, second, first)?;
+    }
+    Ok(distinct(ends))
+}
+
+// Where the end stands.
+fn place_of(ends: &[Tuple], end: &Tuple) -> Option<usize>
+    requires { IsStrictlySortedBy attrs_order ends.now }
+    ensures in_range { IfSome result (λ v. v < length ends.now) }
+    ensures found { set.contains (tuple_set ends.now) end.now ≡ true → (v : ℕ) × (result ≡ Some v) × (slice_get ends.now v ≡ Some end.now) }
+{
+    ends.binary_search(end).ok()
+}
+
+// Where the tuple's value at the one name stands among the ends, which have the other name.
+fn place_at(
+    alloc: Global,
+    ends: &[Tuple],
+    tuple: &Tuple,
+    at: &Name,
+    name: &Name,
+) -> Result<Option<usize>, AllocError>
+    requires { IsStrictlySortedBy attrs_order ends.now }
+    ensures in_range { IfOk result (λ o. IfSome o (λ v. v < length ends.now)) }
+    ensures found { IfOk result (λ o. (x : Datum) → attribute_of at.now tuple.now ≡ Some x → HasEnd ends.now name.now x → (v : ℕ) × (o ≡ Some v) × IsEnd ends.now name.now x v) }
+{
+    match tuple.get(at) {
+        Some(value) => {
+            let end = single(alloc, name, value)?;
+            Ok(place_of(ends, &end))
+        }
+        None => Ok(None),
+    }
+}
+
+// Lets the place of the tuple's first value lead to that of its second one.
+fn add_link(
+    alloc: Global,
+    links: &mut Links,
+    ends: &[Tuple],
+    tuple: &Tuple,
+    first: &Name,
+    second: &Name,
+) -> Result<(), AllocError>
+    requires ascending { IsStrictlySortedBy attrs_order ends.now }
+    requires many { length links.old ≡ length ends.now }
+    ensures { OnOk result ((x y : Datum) → attribute_of first.now tuple.now ≡ Some x → attribute_of second.now tuple.now ≡ Some y → HasEnd ends.now first.now x → HasEnd ends.now first.now y → Joins ends.now first.now x y links.old links.new) }
+{
+    let from = place_at(alloc, ends, tuple, first, first)?;
+    let to = place_at(alloc, ends, tuple, second, first)?;
+    if let (Some(from), Some(to)) = (from, to) {
+        links.add(from, to)?;
+    }
+    Ok(())
+}
+
+// The links between the ends of the pairs.
+fn links_of(
+    alloc: Global,
+    r: &Relation,
+    ends: &[Tuple],
+    first: &Name,
+    second: &Name,
+) -> Result<Links, AllocError>
+    requires ascending { IsStrictlySortedBy attrs_order ends.now }
+    requires columns { HasColumns first.now second.now r.now.heading }
+    requires all { tuple_set ends.now ≡ tuple_set (flat_map (ends_in first.now second.now) r.now.tuples) }
+    ensures { IfOk result (AreLinks first.now second.now ends.now r.now.tuples) }
+{
+    let mut links = Links::new(alloc, ends.len())?;
+    for tuple in r.tuples() {
+        add_link(alloc, &mut links, ends, tuple, first, second)?;
+    }
+    Ok(links)
+}
+
+// The pair of the two values.
+fn pair(
+    alloc: Global,
+    first: &Name,
+    x: &Value,
+    second: &Name,
+    y: &Value,
+) -> Result<Tuple, AllocError>
+    requires { text_cmp first.now second.now ≡ Less }
+    ensures { IfOk result (λ t. t ≡ attr first.now x.now (attr second.now y.now no_attrs)) }
+{
+    let mut attributes = Vec::with_capacity(alloc, 2)?;
+    attributes.push((first.copy()?, copy(alloc, x)?))?;
+    attributes.push((second.copy()?, copy(alloc, y)?))?;
+    Tuple::of(alloc, attributes)
+}
+
+// Adds the pair of the two ends.
+fn add_pair(
+    alloc: Global,
+    out: &mut Vec<Tuple>,
+    first: &Name,
+    second: &Name,
+    from: &Tuple,
+    to: &Tuple,
+) -> Result<(), AllocError>
+    requires { text_cmp first.now second.now ≡ Less }
+    ensures { OnOk result (out.new.items ≡ out.old.items ++ paired first.now second.now (attribute_of first.now from.now) (attribute_of first.now to.now)) }
+{
+    if let (Some(x), Some(y)) = (from.get(first), to.get(first)) {
+        out.push(pair(alloc, first, x, second, y)?)?;
+    }
+    Ok(())
+}
+
+// Adds the pairs of the end at the one place with those at the others.
+fn add_pairs(
+    alloc: Global,
+    out: &mut Vec<Tuple>,
+    first: &Name,
+    second: &Name,
+    ends: &[Tuple],
+    from: usize,
+    places: &[usize],
+) -> Result<(), AllocError>
+    requires names { text_cmp first.now second.now ≡ Less }
+    requires from { from < length ends.now }
+    requires places { All (λ w. w < length ends.now) places.now }
+    ensures { OnOk result (out.new.items ≡ out.old.items ++ flat_map (pair_at first.now second.now ends.now from) places.now) }
+{
+    for place in places {
+        add_pair(alloc, out, first, second, &ends[from], &ends[*place])?;
+    }
+    Ok(())
+}
+
+// The pairs of each end with those that it reaches.
+fn pairs_of(
+    alloc: Global,
+    first: &Name,
+    second: &Name,
+    ends: &[Tuple],
+    links: &Links,
+) -> Result<Vec<Tuple>, AllocError>
+    requires names { text_cmp first.now second.now ≡ Less }
+    requires many { length links.now ≡ length ends.now }
+    requires within { StayWithin (length links.now) links.now }
+    ensures { IfOk result (λ v. ArePairs first.now second.now ends.now links.now (length ends.now) v.items) }
+{
+    let mut pairs = Vec::new(alloc);
+    for from in 0..ends.len() {
+        let places = reached(alloc, links, from)?;
+        add_pairs(alloc, &mut pairs, first, second, ends, from, &places)?;
+    }
+    Ok(pairs)
 }
 
 /// Whether the heading has two columns of one type. It takes no memory.
@@ -108,8 +227,8 @@ pub fn is_binary(heading: &Heading) -> bool
     fields.len() == 2 && compare_types(&fields[0].1, &fields[1].1).is_eq()
 }
 
-/// The least transitive relation that contains the relation. For n pairs with a closure of m pairs it costs of the
-/// order of n m log m comparisons.
+/// The least transitive relation that contains the relation. For n pairs it costs of the order of n log n comparisons, a
+/// look at each pair from each value that leads to it, and for a closure of m pairs m tuples, which are made in order.
 pub fn tclose(alloc: Global, r: &Relation) -> Result<Relation, AllocError>
     requires { IsBinary r.now.heading }
     ensures { IfOk result (IsRelationOf r.now.heading (Closed r.now)) }
@@ -117,11 +236,9 @@ pub fn tclose(alloc: Global, r: &Relation) -> Result<Relation, AllocError>
     let fields = r.heading().fields();
     let first = &fields[0].0;
     let second = &fields[1].0;
-    let mut out = r.copy(alloc)?;
-    for t in r.tuples() {
-        if let Some(middle) = t.get(second) {
-            out = through(alloc, &out, first, second, middle)?;
-        }
-    }
-    Ok(out)
+    let ends = ends_of(alloc, r.tuples(), first, second)?;
+    let links = links_of(alloc, r, &ends, first, second)?;
+    let pairs = pairs_of(alloc, first, second, &ends, &links)?;
+    let heading = r.heading().copy()?;
+    Ok(Relation::from_tuples(heading, pairs))
 }

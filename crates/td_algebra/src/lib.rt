@@ -4,6 +4,8 @@
 //! refusal; those that ask a function of tuples also answer the least error that it raises.
 #![tactic(auto)]
 
+#[cfg(test)]
+mod chain_tests;
 mod closure;
 mod errors;
 mod extension;
@@ -12,6 +14,7 @@ mod groups;
 mod index;
 mod joins;
 pub mod laws;
+mod links;
 mod opening;
 mod parts;
 mod restriction;

@@ -1,43 +1,48 @@
-use Rattle.std.proofs.Common.{◌≡◌, Some, ◌+◌, take, get_or, ap, ◌∙◌, sym, subst, arith}
+use Rattle.std.proofs.Common.{length, get_or, ap, ◌∙◌, subst}
 use Rattle.std.specs.FinMap as by_name
-use Rattle.std.specs.Option.{option_copied}
-use Rattle.std.proofs.lemmas.List.{take_all}
-use Rattle.td_values.specs.Attributes.{attribute_of}
-use Rattle.td_relations.specs.Sets.{Has}
-use Rattle.td_tuples.proofs.Filters.{taken}
-use Rattle.td_algebra.proofs.Lists.{In, item_in}
-use Rattle.td_algebra.proofs.Made.{in_has}
-use Rattle.td_algebra.proofs.Closing.{IsClosedOver, begun, stepped, has_end, missing, closed}
+use Rattle.td_algebra.specs.Ends.{AreLinks, ArePairs}
+use Rattle.td_algebra.proofs.Chains.{names_rise}
+use Rattle.td_algebra.proofs.Ending.{columns_at, links_stay, closed_fit, closed_made}
 use Rattle.td_algebra.proofs.closure.tclose.Goals as goal
-use Rattle.td_algebra.proofs.closure.tclose.Goals.{in-Some+in_ok-out-2, in_default}
 
-pub loop-t-init : goal.loop-t-init
-loop-t-init c = begun c.args.r.now c.requires c.tuples-t-items.ensures.rows c.in_ok-out.out c.in_ok-out.ensures
+pub pairs_of-requires-clause-names : goal.pairs_of-requires-clause-names
+pairs_of-requires-clause-names c =
+    let fields = c.fields-fields.result.now in
+    let k = columns_at c.args.r.now.heading c.requires fields c.index-fields-0.result c.index-fields-1.result (c.fields-fields.ensures ∙ ap by_name.entries c.heading.ensures) in
+    names_rise (get_or fields 0 c.index-fields-0.result).0 (get_or fields 1 c.index-fields-1.result).0 c.args.r.now.heading k
 
-pub loop-t-preserved : goal.loop-t-preserved
-loop-t-preserved c =
+pub pairs_of-requires-clause-within : goal.pairs_of-requires-clause-within
+pairs_of-requires-clause-within c =
+    let fields = c.fields-fields.result.now in
+    links_stay (get_or fields 0 c.index-fields-0.result).0 (get_or fields 1 c.index-fields-1.result).0 c.deref.result.now c.args.r.now.tuples c.in_ok-links.links c.in_ok-links.ensures
+
+pub from_tuples-requires : goal.from_tuples-requires
+from_tuples-requires c =
     let r = c.args.r.now in
-    let rows = c.tuples-t-items.ensures.rows in
-    let xs = c.tuples-t-items.result.now in
-    let i = c.loop-t.t-index in
-    let t = c.t-item.result in
-    let name = ap (λ es. (get_or es 1 c.index-fields-1.result).0) (c.fields-fields.ensures ∙ ap by_name.entries c.heading.ensures ∙ c.requires.columns.are) in
-    let has : Has r t = in_has r t (subst (In t) c.tuples-t-items.ensures.all (item_in xs i t (omega arith) c.t-item.is)) in
-    elim c.match-get.branch [
-      | in-Some+in_ok-out-2 w ↦
-          let z = w.in-Some.middle.now in
-          let ends : attribute_of c.requires.second t ≡ Some z = sym (ap (λ n. attribute_of n t) name) ∙ sym w.in-Some.ensures in
-          subst (IsClosedOver r (take (i + 1) xs)) (sym w.out-is)
-          (subst (λ ms. IsClosedOver r ms w.in_ok-out-2.out) (sym (taken xs i t (omega arith) c.t-item.is))
-          (stepped r c.requires rows (take i xs) c.loop-t.out w.in_ok-out-2.out t has z ends c.loop-t.invariant w.in_ok-out-2.ensures))
-      | in_default w ↦
-          let k = has_end r c.requires rows t has in
-          absurd (missing (attribute_of c.requires.second t) k.0 (sym (ap (λ n. attribute_of n t) name) ∙ sym c.get.ensures ∙ ap option_copied w.in_default.is) k.1)
-    ]
+    let fields = c.fields-fields.result.now in
+    let a = (get_or fields 0 c.index-fields-0.result).0 in
+    let b = (get_or fields 1 c.index-fields-1.result).0 in
+    let k = columns_at r.heading c.requires fields c.index-fields-0.result c.index-fields-1.result (c.fields-fields.ensures ∙ ap by_name.entries c.heading.ensures) in
+    let ends = c.in_ok-ends.ends.items in
+    let links = c.in_ok-links.links in
+    let out = c.in_ok-pairs.pairs.items in
+    closed_fit a b r c.tuples.ensures.rows k ends c.in_ok-ends.ensures.ascending links
+    (subst (λ es. AreLinks a b es r.tuples links) c.deref.ensures.value c.in_ok-links.ensures) out
+    (subst (λ es. ArePairs a b es links (length es) out) c.deref-2.ensures.value c.in_ok-pairs.ensures)
+    c.in_ok-heading.heading (c.in_ok-heading.ensures ∙ c.heading-2.ensures)
 
 pub returns : goal.returns
 returns c =
     let r = c.args.r.now in
-    let xs = c.tuples-t-items.result.now in
-    closed r c.requires c.tuples-t-items.ensures.rows c.loop-t.out
-    (subst (λ ms. IsClosedOver r ms c.loop-t.out) (take_all c.loop-t.t-index xs (omega arith) ∙ c.tuples-t-items.ensures.all) c.loop-t.invariant)
+    let fields = c.fields-fields.result.now in
+    let a = (get_or fields 0 c.index-fields-0.result).0 in
+    let b = (get_or fields 1 c.index-fields-1.result).0 in
+    let k = columns_at r.heading c.requires fields c.index-fields-0.result c.index-fields-1.result (c.fields-fields.ensures ∙ ap by_name.entries c.heading.ensures) in
+    let ends = c.in_ok-ends.ends.items in
+    let links = c.in_ok-links.links in
+    let out = c.in_ok-pairs.pairs.items in
+    closed_made a b r c.tuples.ensures.rows k ends c.in_ok-ends.ensures.ascending links
+    (subst (λ es. AreLinks a b es r.tuples links) c.deref.ensures.value c.in_ok-links.ensures) out
+    (subst (λ es. ArePairs a b es links (length es) out) c.deref-2.ensures.value c.in_ok-pairs.ensures)
+    c.in_ok-heading.heading (c.in_ok-heading.ensures ∙ c.heading-2.ensures)
+    c.from_tuples.result c.from_tuples.ensures
