@@ -1,16 +1,17 @@
 //! Union, intersection and difference of relations, each by one walk along both lists of tuples.
 ghost use Rattle.std.specs.Prelude.{◌≡◌, ◌↔◌, true, ◌++◌, ◌∷◌, [], IsTrue, IfOk, OnOk, if◌then◌else◌};
 ghost use Rattle.std.specs.FinSet as set;
-ghost use Rattle.std.specs.List.{list_all};
+ghost use Rattle.std.specs.List.{All, list_all};
 ghost use Rattle.std.specs.List.Sorted.{IsStrictlySortedBy};
 ghost use Rattle.td_values.specs.Order.{attrs_order};
+ghost use Rattle.td_values.specs.Whole.{heading_of};
 ghost use Rattle.td_relations.specs.Sets.{body, IsRelation, IsRelationOf};
 ghost use Rattle.td_relations.specs.Merges.{is_kept, IsMerge};
 
 use crate::Relation;
 use std::alloc::{AllocError, Global};
 use std::cmp::Ordering;
-use td_values::{Tuple, compare_tuples};
+use td_values::{Tuple, compare_alike};
 
 // Which tuples a walk along two lists keeps: those of the first alone, of both, of the second alone.
 #[derive(Clone, Copy)]
@@ -59,8 +60,9 @@ fn room(xs: &[Tuple], ys: &[Tuple], kept: Kept) -> usize {
     }
 }
 
-// The tuples that are kept of two ascending lists, ascending.
+// The tuples that are kept of two ascending lists of one heading, ascending.
 fn merged(alloc: Global, xs: &[Tuple], ys: &[Tuple], kept: Kept) -> Result<Vec<Tuple>, AllocError>
+    requires alike { All (λ t. All (λ u. heading_of t ≡ heading_of u) ys.now) xs.now }
     requires xs_ascend { IsStrictlySortedBy attrs_order xs.now }
     requires ys_ascend { IsStrictlySortedBy attrs_order ys.now }
     ensures { IfOk result (λ v. IsMerge kept xs.now ys.now v.items) }
@@ -69,7 +71,7 @@ fn merged(alloc: Global, xs: &[Tuple], ys: &[Tuple], kept: Kept) -> Result<Vec<T
     let mut i = 0;
     let mut j = 0;
     while i < xs.len() && j < ys.len() {
-        match compare_tuples(&xs[i], &ys[j]) {
+        match compare_alike(&xs[i], &ys[j]) {
             Ordering::Less => {
                 put(&mut out, kept.first, &xs[i])?;
                 i += 1;

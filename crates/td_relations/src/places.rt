@@ -1,11 +1,23 @@
 //! Ascending lists of tuples: where a tuple stands, and edits there.
 ghost use Rattle.std.specs.Prelude.{◌≡◌, ◌+◌, ◌<◌, ◌≤◌, IfOk, IfErr, vec_len, vec_capacity, length};
 ghost use Rattle.std.specs.FinSet as set;
-ghost use Rattle.std.specs.List.Sorted.{IsStrictlySortedBy};
+ghost use Rattle.std.specs.List.Sorted.{IsPermutation, IsSorted, IsStrictlySortedBy};
+ghost use Rattle.td_values.specs.Alike.{AreAlike};
 ghost use Rattle.td_values.specs.Order.{attrs_order};
 ghost use Rattle.td_relations.specs.Sets.{tuple_set, IsAt, IsGapFor};
 
-use td_values::Tuple;
+use td_values::{Tuple, sort_alike};
+
+/// These tuples in order, by their values alone, since they have one heading.
+pub fn in_order(tuples: Vec<Tuple>) -> Vec<Tuple>
+    requires { AreAlike tuples.items }
+    ensures permutation { IsPermutation tuples.items result.items }
+    ensures sorted { IsSorted attrs_order result.items }
+{
+    let mut tuples = tuples;
+    sort_alike(&mut tuples);
+    tuples
+}
 
 /// Where the tuple is, or where it would go.
 pub fn place(tuples: &[Tuple], tuple: &Tuple) -> Result<usize, usize>

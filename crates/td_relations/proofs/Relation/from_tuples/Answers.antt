@@ -6,9 +6,9 @@ pub invariant_of-result : goal.invariant_of-result
 invariant_of-result c =
     let kept = dedup_is _ _ _ c.dedup.ensures.filtered in
     record {
-      fit = fit_listed c.args.heading _ _ _ c.sort_unstable.ensures.permutation kept c.requires;
-      ascending = (listed c.args.heading _ _ _ c.sort_unstable.ensures.permutation c.sort_unstable.ensures.sorted kept).ascending;
+      fit = fit_listed c.args.heading _ _ _ c.in_order-tuples.ensures.permutation kept c.requires;
+      ascending = (listed c.args.heading _ _ _ c.in_order-tuples.ensures.permutation c.in_order-tuples.ensures.sorted kept).ascending;
     }
 
 pub returns : goal.returns
-returns c = listed c.args.heading _ _ _ c.sort_unstable.ensures.permutation c.sort_unstable.ensures.sorted (dedup_is _ _ _ c.dedup.ensures.filtered)
+returns c = listed c.args.heading _ _ _ c.in_order-tuples.ensures.permutation c.in_order-tuples.ensures.sorted (dedup_is _ _ _ c.dedup.ensures.filtered)
