@@ -5,11 +5,11 @@ use Rattle.td_tokens.specs.Lex.{Text}
 use Rattle.td_tokens.specs.Lexer.{lexemes}
 use Rattle.td_grammar.specs.declared.forms.Form.TheVariants as f
 use Rattle.td_grammar.specs.declared.tree.Expr.{Expr}
-use Rattle.td_grammar.specs.declared.script.Action.{Action}
+use Rattle.td_grammar.specs.declared.script.Statement.{Statement}
 use Rattle.td_grammar.specs.declared.script.Definition.{Definition}
 use Rattle.td_grammar.specs.Levels.{levels}
 use Rattle.td_grammar.specs.Grammar.{Tokens, most_levels}
-use Rattle.td_grammar.specs.Statements.{ReadsStatement, ReadsScript, IsStatement, IsScript, actions_levels, definitions_levels, statement_bytes, script_bytes}
+use Rattle.td_grammar.specs.Statements.{ReadsStatement, ReadsScript, IsStatement, IsScript, statement_levels, definitions_levels, statement_bytes, script_bytes}
 use Rattle.td_grammar.specs.Reader.{Outcome, reads, whole}
 use Rattle.td_grammar.specs.StatementReader as read
 use Rattle.td_grammar.specs.StatementReader.{statement_of_tokens, script_of_tokens, read_statement, read_script}
@@ -20,10 +20,10 @@ use Rattle.td_grammar.proofs.StatementsSound.{statement_sound, script_sound}
 use Rattle.td_grammar.proofs.Shallow.{statement_shallow, script_shallow}
 
 -- no token list is two statements
-pub one_statement : (ts : Tokens) (xs ys : List Action) → ReadsStatement ts xs → ReadsStatement ts ys → xs ≡ ys
-one_statement ts xs ys d k =
-    let m = actions_levels xs + actions_levels ys in
-    (parts xs ys [] [] (sym (statement_read ts xs d m (omega arith)) ∙ statement_read ts ys k m (omega arith))).0
+pub one_statement : (ts : Tokens) (s t : Statement) → ReadsStatement ts s → ReadsStatement ts t → s ≡ t
+one_statement ts s t d k =
+    let m = statement_levels s + statement_levels t in
+    (parts s t [] [] (sym (statement_read d m (omega arith)) ∙ statement_read k m (omega arith))).0
 
 same_scripts : (ds es : List Definition) → Some ds ≡ Some es → ds ≡ es
 same_scripts ds es h = cc
@@ -36,30 +36,30 @@ one_script ts ds es d k =
 
 -- ---- texts
 
-statement_is_read : (bytes : Text) (xs : List Action) → IsStatement bytes xs → read_statement bytes ≡ Some xs
+statement_is_read : (bytes : Text) (s : Statement) → IsStatement bytes s → read_statement bytes ≡ Some s
 unfolding read_statement
-statement_is_read bytes xs is =
-    rw (le-leb (length bytes) statement_bytes is.short) (ap (option_and_then statement_of_tokens) is.lexed ∙ ap (λ (o : Outcome (List Action)). whole o) (statement_read is.tokens xs is.reads most_levels is.shallow))
+statement_is_read bytes s is =
+    rw (le-leb (length bytes) statement_bytes is.short) (ap (option_and_then statement_of_tokens) is.lexed ∙ ap (λ (o : Outcome Statement). whole o) (statement_read is.reads most_levels is.shallow))
 
 shallow_reads : (n b : ℕ) (ts : Tokens) (p : Expr × Tokens) → reads n b f.Expr ts ≡ Some p → levels p.0 ≤ b
 shallow_reads n b ts p h = (sound n b f.Expr ts p h).1
 
-read_is_statement : (bytes : Text) (xs : List Action) → read_statement bytes ≡ Some xs → IsStatement bytes xs
+read_is_statement : (bytes : Text) (s : Statement) → read_statement bytes ≡ Some s → IsStatement bytes s
 unfolding read_statement
-read_is_statement bytes xs h =
-    let c = text_read (length bytes) statement_bytes (lexemes bytes) statement_of_tokens xs (nat_le (length bytes) statement_bytes) refl h in
+read_is_statement bytes s h =
+    let c = text_read (length bytes) statement_bytes (lexemes bytes) statement_of_tokens s (nat_le (length bytes) statement_bytes) refl h in
     let n = length c.1.0 in
-    let whole_read = ended (read.statement_at (reads n) most_levels c.1.0) xs c.1.2 in
+    let whole_read = ended (read.statement_at (reads n) most_levels c.1.0) s c.1.2 in
     record {
       tokens = c.1.0;
       lexed = c.1.1;
-      reads = statement_sound (reads n) most_levels (λ m g us q k. (sound n m g us q k).0) c.1.0 xs [] whole_read;
-      shallow = statement_shallow (reads n) most_levels (shallow_reads n most_levels) c.1.0 xs [] whole_read;
+      reads = statement_sound (reads n) most_levels (λ m g us q k. (sound n m g us q k).0) c.1.0 s whole_read;
+      shallow = statement_shallow (reads n) most_levels (shallow_reads n most_levels) c.1.0 (s, []) whole_read;
       short = c.0;
     }
 
-pub reader_decides_statements : (bytes : Text) (xs : List Action) → (read_statement bytes ≡ Some xs) ↔ IsStatement bytes xs
-reader_decides_statements bytes xs = (read_is_statement bytes xs, statement_is_read bytes xs)
+pub reader_decides_statements : (bytes : Text) (s : Statement) → (read_statement bytes ≡ Some s) ↔ IsStatement bytes s
+reader_decides_statements bytes s = (read_is_statement bytes s, statement_is_read bytes s)
 
 script_is_read : (bytes : Text) (ds : List Definition) → IsScript bytes ds → read_script bytes ≡ Some ds
 unfolding read_script

@@ -11,13 +11,15 @@ use Rattle.td_grammar.specs.declared.tree.TypeExpr.{TypeExpr}
 use Rattle.td_grammar.specs.declared.tree.Expr.{Expr}
 use Rattle.td_grammar.specs.declared.script.Action.{Action}
 use Rattle.td_grammar.specs.declared.script.Action.TheVariants as action
+use Rattle.td_grammar.specs.declared.script.Statement.{Statement}
+use Rattle.td_grammar.specs.declared.script.Statement.TheVariants as statement
 use Rattle.td_grammar.specs.declared.script.Opening.{Opening}
 use Rattle.td_grammar.specs.declared.script.Opening.TheVariants as opening
 use Rattle.td_grammar.specs.declared.script.Definition.{Definition}
 use Rattle.td_grammar.specs.declared.script.Definition.TheVariants as definition
 use Rattle.td_grammar.specs.Levels.{levels, named_levels}
 use Rattle.td_grammar.specs.Grammar.{Tokens}
-use Rattle.td_grammar.specs.Statements.{maybe_levels, action_levels, actions_levels, opening_levels, definition_levels, definitions_levels}
+use Rattle.td_grammar.specs.Statements.{maybe_levels, action_levels, actions_levels, statement_levels, opening_levels, definition_levels, definitions_levels}
 use Rattle.td_grammar.specs.Reader.{Outcome, Reader, and_then, pure, at, tail, eat, expect, take_name, is_over, list_at, listed, attributes_at, heading_at, named_at}
 use Rattle.td_grammar.specs.StatementReader as read
 use Rattle.td_grammar.proofs.Places.{none_some}
@@ -109,9 +111,11 @@ module _ (rds : ℕ → Form → Reader Expr) (b : ℕ) (shallow : (ts : Tokens)
   actions_shallow ts xs r (last {x = x} h) = both_shallow (action_levels x) 0 (action_shallow ts (x, r) h) (omega arith)
   actions_shallow ts xs r (next {mid = mid} {x = x} {xs = ys} h d) = both_shallow (action_levels x) (actions_levels ys) (action_shallow ts (x, word w.Comma ∷ mid) h) (actions_shallow mid ys r d)
 
-  pub statement_shallow : (ts : Tokens) (xs : List Action) (r : Tokens) → read.statement_at rds b ts ≡ Some (xs, r) → actions_levels xs ≤ b
+  pub statement_shallow : (ts : Tokens) (p : Statement × Tokens) → read.statement_at rds b ts ≡ Some p → statement_levels p.0 ≤ b
   unfolding read.statement_at
-  statement_shallow ts xs r h = actions_shallow ts xs (word w.Semicolon ∷ r) (listed_run w.Semicolon (read.action_at rds b) ts xs r h)
+  statement_shallow ts p h =
+      let l = bound (listed w.Semicolon (read.action_at rds b) ts) _ p h in
+      made (λ s r. statement_levels s ≤ b) (statement.Assignment l.0) l.1 p (actions_shallow ts l.0 (word w.Semicolon ∷ l.1) (listed_run w.Semicolon (read.action_at rds b) ts l.0 l.1 l.2)) l.3
 
   -- ---- definitions
 

@@ -11,11 +11,12 @@ use Rattle.td_grammar.specs.declared.tree.Named.{Named}
 use Rattle.td_grammar.specs.declared.tree.Attributes.{Attributes}
 use Rattle.td_grammar.specs.declared.tree.Expr.{Expr}
 use Rattle.td_grammar.specs.declared.script.Action.{Action}
+use Rattle.td_grammar.specs.declared.script.Statement.{Statement}
 use Rattle.td_grammar.specs.declared.script.Opening.{Opening}
 use Rattle.td_grammar.specs.declared.script.Definition.{Definition}
 use Rattle.td_grammar.specs.Levels.{levels, named_levels}
 use Rattle.td_grammar.specs.Grammar.{Tokens, Reads, ReadsFields, last_field, next_field, IsList, last_item, next_item}
-use Rattle.td_grammar.specs.Statements.{ReadsSets, sets, sets_braces, sets_colon, ReadsAction, assign, insert, delete_all, delete_where, update_all, update_where, maybe_levels, action_levels, actions_levels, ReadsMaybeName, no_name, this_name, ReadsComponents, no_components, components, ReadsLimit, no_limit, limit, ReadsOpening, empty, headed_init, init, ReadsKeys, last_key, next_key, IsBase, base_word, real_word, ReadsDefinition, type_, base, virtual, constraint, ReadsScript, nothing, define, opening_levels, definition_levels, definitions_levels}
+use Rattle.td_grammar.specs.Statements.{ReadsSets, sets, sets_braces, sets_colon, ReadsAction, assign, insert, delete_all, delete_where, update_all, update_where, ReadsStatement, assignment, maybe_levels, action_levels, actions_levels, statement_levels, ReadsMaybeName, no_name, this_name, ReadsComponents, no_components, components, ReadsLimit, no_limit, limit, ReadsOpening, empty, headed_init, init, ReadsKeys, last_key, next_key, IsBase, base_word, real_word, ReadsDefinition, type_, base, virtual, constraint, ReadsScript, nothing, define, opening_levels, definition_levels, definitions_levels}
 use Rattle.td_grammar.specs.Reader.{Outcome, Reader, same_word, at, at_name, eat, expect, take_name, is_over, reads}
 use Rattle.td_grammar.specs.StatementReader as read
 use Rattle.td_grammar.proofs.Places.{goes_on, shorter, named_list_shorter, attributes_shorter, heading_shorter, fields_shorter}
@@ -91,9 +92,9 @@ actions_list : {ts : Tokens} {xs : List Action} {r : Tokens} → IsList ReadsAct
 actions_list (last_item d) h z n b le lv = one (action_read d h z n b le (omega arith)) (action_shorter d)
 actions_list (next_item {mid = mid} d k) h z n b le lv = then_more (action_read d refl (comma_no_where mid) n b le (omega arith)) (omega (arith, action_shorter d)) (actions_list k h z n b (omega (arith, action_shorter d)) (omega arith))
 
-pub statement_read : (ts : Tokens) (xs : List Action) → IsList ReadsAction ts xs (word w.Semicolon ∷ []) → (b : ℕ) → actions_levels xs ≤ b → read.statement_at (reads (length ts)) b ts ≡ Some (xs, [])
+pub statement_read : {ts : Tokens} {s : Statement} → ReadsStatement ts s → (b : ℕ) → statement_levels s ≤ b → read.statement_at (reads (length ts)) b ts ≡ Some (s, [])
 unfolding read.statement_at
-statement_read ts xs d b lv = listed_reads w.Semicolon semicolon_closes (actions_list d refl (semicolon_no_where []) (length ts) b (omega arith) lv)
+statement_read (assignment {ts} d) b lv = rw (listed_reads w.Semicolon semicolon_closes (actions_list d refl (semicolon_no_where []) (length ts) b (omega arith) lv)) refl
 
 -- ---- definitions
 

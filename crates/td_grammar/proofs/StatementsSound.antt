@@ -13,13 +13,15 @@ use Rattle.td_grammar.specs.declared.tree.Attributes.{Attributes}
 use Rattle.td_grammar.specs.declared.tree.Expr.{Expr}
 use Rattle.td_grammar.specs.declared.script.Action.{Action}
 use Rattle.td_grammar.specs.declared.script.Action.TheVariants as action
+use Rattle.td_grammar.specs.declared.script.Statement.{Statement}
+use Rattle.td_grammar.specs.declared.script.Statement.TheVariants as statement
 use Rattle.td_grammar.specs.declared.script.Opening.{Opening}
 use Rattle.td_grammar.specs.declared.script.Opening.TheVariants as opening
 use Rattle.td_grammar.specs.declared.script.Definition.{Definition}
 use Rattle.td_grammar.specs.declared.script.Definition.TheVariants as definition
 use Rattle.td_grammar.specs.Grammar.{Tokens, Reads, ReadsAttributes, ReadsHeading, IsList, last_item, next_item}
-use Rattle.td_grammar.specs.Statements.{ReadsSets, sets, sets_braces, sets_colon, ReadsAction, assign, insert, delete_all, delete_where, update_all, update_where, ReadsMaybeName, no_name, this_name, ReadsComponents, no_components, components, ReadsLimit, no_limit, limit, ReadsOpening, empty, headed_init, init, ReadsKeys, last_key, next_key, IsBase, base_word, real_word, ReadsDefinition, type_, base, virtual, constraint, ReadsScript, nothing, define}
-use Rattle.td_grammar.specs.Reader.{Outcome, Reader, and_then, pure, at, at_name, tail, attributes_at, heading_at, field_of, type_at, named_at}
+use Rattle.td_grammar.specs.Statements.{ReadsSets, sets, sets_braces, sets_colon, ReadsAction, assign, insert, delete_all, delete_where, update_all, update_where, ReadsStatement, assignment, ReadsMaybeName, no_name, this_name, ReadsComponents, no_components, components, ReadsLimit, no_limit, limit, ReadsOpening, empty, headed_init, init, ReadsKeys, last_key, next_key, IsBase, base_word, real_word, ReadsDefinition, type_, base, virtual, constraint, ReadsScript, nothing, define}
+use Rattle.td_grammar.specs.Reader.{Outcome, Reader, and_then, pure, at, at_name, tail, attributes_at, heading_at, field_of, type_at, listed, named_at}
 use Rattle.td_grammar.specs.StatementReader as read
 use Rattle.td_grammar.proofs.Places.{none_some}
 use Rattle.td_grammar.proofs.Sound.{bound, parts, tested, at_word, eaten, expected, a_name_read, made, Run, last, next, list_run, listed_run, attributes_sound, heading_sound, type_sound, fields_of, Sound, ended, named_list_of}
@@ -138,9 +140,13 @@ module _ (rds : ℕ → Form → Reader Expr) (b : ℕ) (inside : (m : ℕ) (g :
   actions_of ts xs r (last h) = last_item (action_sound ts _ h)
   actions_of ts xs r (next {mid = mid} {xs = ys} h d) = next_item (action_sound ts _ h) (actions_of mid ys r d)
 
-  pub statement_sound : (ts : Tokens) (xs : List Action) (r : Tokens) → read.statement_at rds b ts ≡ Some (xs, r) → IsList ReadsAction ts xs (word w.Semicolon ∷ r)
+  pub statement_sound : (ts : Tokens) (s : Statement) → read.statement_at rds b ts ≡ Some (s, []) → ReadsStatement ts s
   unfolding read.statement_at
-  statement_sound ts xs r h = actions_of ts xs (word w.Semicolon ∷ r) (listed_run w.Semicolon (read.action_at rds b) ts xs r h)
+  statement_sound ts s h =
+      let l = bound (listed w.Semicolon (read.action_at rds b) ts) _ (s, []) h in
+      let z = parts (statement.Assignment l.0) s l.1 [] l.3 in
+      let run = actions_of ts l.0 (word w.Semicolon ∷ l.1) (listed_run w.Semicolon (read.action_at rds b) ts l.0 l.1 l.2) in
+      subst (ReadsStatement ts) z.0 (assignment (subst (λ r. IsList ReadsAction ts l.0 (word w.Semicolon ∷ r)) z.1 run))
 
   -- ---- definitions
 

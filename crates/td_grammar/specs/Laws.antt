@@ -3,7 +3,7 @@ use Rattle.std.specs.Prelude.{◌≡◌, ◌↔◌, List, [], Some}
 use Rattle.td_tokens.specs.Lex.{Text}
 use Rattle.td_grammar.specs.declared.forms.Form.TheVariants as f
 use Rattle.td_grammar.specs.declared.tree.Expr.{Expr}
-use Rattle.td_grammar.specs.declared.script.Action.{Action}
+use Rattle.td_grammar.specs.declared.script.Statement.{Statement}
 use Rattle.td_grammar.specs.declared.script.Definition.{Definition}
 use Rattle.td_grammar.specs.Grammar.{Tokens, Reads, IsQuery}
 use Rattle.td_grammar.specs.Statements.{ReadsStatement, ReadsScript, IsStatement, IsScript}
@@ -16,7 +16,7 @@ OneExpr = (ts : Tokens) (a b : Expr) → Reads f.Expr ts a [] → Reads f.Expr t
 
 -- none is two statements
 abbrev pub OneStatement : Type 0
-OneStatement = (ts : Tokens) (xs ys : List Action) → ReadsStatement ts xs → ReadsStatement ts ys → xs ≡ ys
+OneStatement = (ts : Tokens) (s t : Statement) → ReadsStatement ts s → ReadsStatement ts t → s ≡ t
 
 -- and none is two scripts
 abbrev pub OneScript : Type 0
@@ -28,7 +28,7 @@ ReaderDecidesQueries = (bytes : Text) (a : Expr) → (read_expr bytes ≡ Some a
 
 -- a statement
 abbrev pub ReaderDecidesStatements : Type 0
-ReaderDecidesStatements = (bytes : Text) (xs : List Action) → (read_statement bytes ≡ Some xs) ↔ IsStatement bytes xs
+ReaderDecidesStatements = (bytes : Text) (s : Statement) → (read_statement bytes ≡ Some s) ↔ IsStatement bytes s
 
 -- and a script
 abbrev pub ReaderDecidesScripts : Type 0

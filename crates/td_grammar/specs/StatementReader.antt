@@ -12,6 +12,8 @@ use Rattle.td_grammar.specs.declared.tree.Attributes.{Attributes}
 use Rattle.td_grammar.specs.declared.tree.Expr.{Expr}
 use Rattle.td_grammar.specs.declared.script.Action.{Action}
 use Rattle.td_grammar.specs.declared.script.Action.TheVariants as action
+use Rattle.td_grammar.specs.declared.script.Statement.{Statement}
+use Rattle.td_grammar.specs.declared.script.Statement.TheVariants as statement
 use Rattle.td_grammar.specs.declared.script.Opening.{Opening}
 use Rattle.td_grammar.specs.declared.script.Opening.TheVariants as opening
 use Rattle.td_grammar.specs.declared.script.Definition.{Definition}
@@ -87,8 +89,10 @@ module _ (reads : ℕ → Form → Reader Expr) (b : ℕ) where
       else (if at w.Update ts then updated (tail ts)
       else assigned ts))
 
-  unfoldable pub statement_at : Reader (List Action)
-  statement_at = listed w.Semicolon action_at
+  unfoldable pub statement_at : Reader Statement
+  statement_at = do
+    xs ← listed w.Semicolon action_at
+    pure (statement.Assignment xs)
 
   unfoldable pub type_definition : Reader Definition
   type_definition = do
@@ -156,14 +160,14 @@ module _ (reads : ℕ → Form → Reader Expr) (b : ℕ) where
   definitions_from zero found ts = if is_over ts then Some found else None
   definitions_from (suc n) found ts = if is_over ts then Some found else option_and_then (λ (p : Definition × Tokens). definitions_from n (found ++ p.0 ∷ []) p.1) (definition_at ts)
 
-abbrev pub statement_of_tokens : Tokens → Option (List Action)
+abbrev pub statement_of_tokens : Tokens → Option Statement
 statement_of_tokens ts = whole (statement_at (reads (length ts)) most_levels ts)
 
 abbrev pub script_of_tokens : Tokens → Option (List Definition)
 script_of_tokens ts = definitions_from (reads (length ts)) most_levels (length ts) [] ts
 
 -- the tree of a statement
-unfoldable pub read_statement : Text → Option (List Action)
+unfoldable pub read_statement : Text → Option Statement
 read_statement bytes = if nat_le (length bytes) statement_bytes then option_and_then statement_of_tokens (lexemes bytes) else None
 
 -- the trees of a script

@@ -12,6 +12,8 @@ use Rattle.td_grammar.specs.declared.tree.Attributes.{Attributes}
 use Rattle.td_grammar.specs.declared.tree.Expr.{Expr}
 use Rattle.td_grammar.specs.declared.script.Action.{Action}
 use Rattle.td_grammar.specs.declared.script.Action.TheVariants as action
+use Rattle.td_grammar.specs.declared.script.Statement.{Statement}
+use Rattle.td_grammar.specs.declared.script.Statement.TheVariants as statement
 use Rattle.td_grammar.specs.declared.script.Opening.{Opening}
 use Rattle.td_grammar.specs.declared.script.Opening.TheVariants as opening
 use Rattle.td_grammar.specs.declared.script.Definition.{Definition}
@@ -39,9 +41,9 @@ pub data ReadsAction : Tokens → Action → Tokens → Type 0 where
   update_all : {x : Text} {ts r : Tokens} {xs : List (Named Expr)} → ReadsSets ts xs r → ReadsAction (word w.Update ∷ name x ∷ ts) (action.Update x None xs) r
   update_where : {x : Text} {ts mid r : Tokens} {a : Expr} {xs : List (Named Expr)} → Reads f.Expr ts a mid → ReadsSets mid xs r → ReadsAction (word w.Update ∷ name x ∷ word w.Where ∷ ts) (action.Update x (Some a) xs) r
 
--- statement: action, .. ";"
-abbrev pub ReadsStatement : Tokens → List Action → Type 0
-ReadsStatement ts xs = IsList ReadsAction ts xs (word w.Semicolon ∷ [])
+pub data ReadsStatement : Tokens → Statement → Type 0 where
+  -- action, .. ";"
+  assignment : {ts : Tokens} {xs : List Action} → IsList ReadsAction ts xs (word w.Semicolon ∷ []) → ReadsStatement ts (statement.Assignment xs)
 
 -- ---- scripts
 
@@ -119,6 +121,9 @@ abbrev pub actions_levels : List Action → ℕ
 actions_levels [] = 0
 actions_levels (x ∷ xs) = max (action_levels x) (actions_levels xs)
 
+abbrev pub statement_levels : Statement → ℕ
+statement_levels (statement.Assignment xs) = actions_levels xs
+
 abbrev pub definitions_levels : List Definition → ℕ
 definitions_levels [] = 0
 definitions_levels (d ∷ ds) = max (definition_levels d) (definitions_levels ds)
@@ -132,11 +137,11 @@ abbrev pub script_bytes : ℕ
 script_bytes = 65536
 
 -- the text is this statement: not too long, and none of its expressions too deep
-pub record IsStatement (bytes : Text) (xs : List Action) : Type 0 where
+pub record IsStatement (bytes : Text) (s : Statement) : Type 0 where
   pub tokens : Tokens
   pub lexed : lexemes bytes ≡ Some tokens
-  pub reads : ReadsStatement tokens xs
-  pub shallow : actions_levels xs ≤ most_levels
+  pub reads : ReadsStatement tokens s
+  pub shallow : statement_levels s ≤ most_levels
   pub short : length bytes ≤ statement_bytes
 
 -- the text is this script, likewise

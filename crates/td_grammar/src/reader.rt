@@ -11,7 +11,7 @@ use crate::cursor::Cursor;
 use crate::error::ReadError;
 use crate::forms::Form;
 use crate::grammar::{Grammar, expr};
-use crate::script::{Action, Definition};
+use crate::script::{Definition, Statement};
 use crate::tree::Expr;
 use sqlite_items::Items;
 use std::alloc::Global;
@@ -59,7 +59,7 @@ pub fn read_expr(alloc: Global, text: &str) -> Result<Expr, ReadError>
 
 /// The tree of a statement.
 #[tactic(auto, unfolding(crate::specs::StatementReader::read_statement))]
-pub fn read_statement(alloc: Global, text: &str) -> Result<Items<Action>, ReadError>
+pub fn read_statement(alloc: Global, text: &str) -> Result<Statement, ReadError>
     ensures { Tells (statements.read_statement text.now) result }
 {
     if text.len() > STATEMENT_BYTES {
@@ -73,9 +73,9 @@ pub fn read_statement(alloc: Global, text: &str) -> Result<Items<Action>, ReadEr
         levels: LEVELS,
         nested: expr,
     };
-    let actions = grammar.statement(&mut rest)?;
+    let statement = grammar.statement(&mut rest)?;
     if rest.is_empty() {
-        Ok(actions)
+        Ok(statement)
     } else {
         Err(ReadError::Syntax)
     }

@@ -4,7 +4,7 @@ use crate::tree::{Attributes, Expr, Named, TypeExpr};
 use sqlite_items::{Boxed, Items};
 use td_values::Name;
 
-/// One assignment of a statement. A condition that is not written is none.
+/// One of the assignments that are made at once. A condition that is not written is none.
 #[derive(Drop)]
 pub enum Action {
     Assign(Name, Boxed<Expr>),
@@ -12,6 +12,13 @@ pub enum Action {
     Delete(Name, Option<Boxed<Expr>>),
     /// The relvar, the condition, and the attributes with their new values.
     Update(Name, Option<Boxed<Expr>>, Items<Named<Boxed<Expr>>>),
+}
+
+/// What a site is asked to do.
+#[derive(Drop)]
+pub enum Statement {
+    /// A multiple assignment: all its targets change at once.
+    Assignment(Items<Action>),
 }
 
 /// What a base relvar holds at first: nothing, under its heading, or the value of an expression, whose heading may be

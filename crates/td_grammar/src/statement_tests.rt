@@ -2,7 +2,7 @@
 
 use crate::error::ReadError;
 use crate::reader::{read_script, read_statement};
-use crate::script::{Action, Definition, Opening};
+use crate::script::{Action, Definition, Opening, Statement};
 use crate::tree::{BinaryOperator, Expr, Named};
 use sqlite_items::{Boxed, Items};
 use std::alloc::AllocError;
@@ -95,7 +95,8 @@ fn sets_c_to_1(items: &Items<Named<Boxed<Expr>>>) -> bool {
 }
 
 // Whether the one action is UPDATE S WHERE A = B with C := 1.
-fn updates_c_where_a_equals_b(actions: &Items<Action>) -> bool {
+fn updates_c_where_a_equals_b(statement: &Statement) -> bool {
+    let Statement::Assignment(actions) = statement;
     match actions.as_slice() {
         [Action::Update(target, Some(condition), items)] => {
             target.as_str() == "S" && is_a_equals_b(condition.get()) && sets_c_to_1(items)
@@ -117,7 +118,8 @@ fn a_condition_ends_before_what_is_set(rt: HostRuntime) -> Result<(), Fail> {
     Ok(())
 }
 
-fn has_each_action(actions: &Items<Action>) -> bool {
+fn has_each_action(statement: &Statement) -> bool {
+    let Statement::Assignment(actions) = statement;
     match actions.as_slice() {
         [
             Action::Assign(_, _),

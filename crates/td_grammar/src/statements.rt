@@ -9,7 +9,7 @@ use crate::cursor::Cursor;
 use crate::error::ReadError;
 use crate::forms::{Form, Naming};
 use crate::grammar::Grammar;
-use crate::script::Action;
+use crate::script::{Action, Statement};
 use crate::tree::{Expr, Named};
 use sqlite_items::{Boxed, Items};
 use std::alloc::Global;
@@ -120,12 +120,12 @@ impl<F: Fn(Global, &mut Cursor<'_>, usize, usize, Form) -> Result<Expr, ReadErro
 
     /// A statement, with the semicolon that ends it.
     #[tactic(auto, unfolding(crate::specs::StatementReader::statement_at, crate::specs::Reader::listed))]
-    pub fn statement(&self, tokens: &mut Cursor<'_>) -> Result<Items<Action>, ReadError>
+    pub fn statement(&self, tokens: &mut Cursor<'_>) -> Result<Statement, ReadError>
         requires { Nests self.now.depth (F.pre self.now.nested) (F.post self.now.nested) }
         ensures { Gives (spec.statement_at (reads self.now.depth) self.now.levels tokens.old) result tokens.new }
     {
         let found = self.actions(tokens)?;
         tokens.expect(Word::Semicolon)?;
-        Ok(found)
+        Ok(Statement::Assignment(found))
     }
 }
