@@ -7,33 +7,33 @@ ghost use Rattle.td_grammar.specs.Readings.{Gives, Nests};
 use crate::cursor::Cursor;
 use crate::error::ReadError;
 use crate::forms::{Form, Naming};
-use crate::grammar::Grammar;
+use crate::grammar::{Grammar, Tree};
 use crate::items::shut;
 use crate::lists::{attributes, listed};
-use crate::primary::unary;
 use crate::tree::{Expr, Nesting, UnaryOperator};
 use sqlite_items::Boxed;
 use std::alloc::Global;
 use td_tokens::token::{Kind, Word};
 
 #[tactic(auto, unfolding(crate::specs::Reader::project_turn))]
-fn project(alloc: Global, tokens: &mut Cursor<'_>, left: Expr) -> Result<Expr, ReadError>
+fn project(alloc: Global, tokens: &mut Cursor<'_>, left: Tree) -> Result<Tree, ReadError>
     ensures { Gives (spec.project_turn left tokens.old) result tokens.new }
 {
-    let relation = Boxed::new(alloc, left)?;
-    Ok(Expr::Project(relation, attributes(alloc, tokens)?))
+    let kept = attributes(alloc, tokens)?;
+    Ok(Boxed::new(alloc, Expr::Project(left, kept))?)
 }
 
 #[tactic(auto, unfolding(crate::specs::Reader::rename_turn))]
-fn rename(alloc: Global, tokens: &mut Cursor<'_>, left: Expr) -> Result<Expr, ReadError>
+fn rename(alloc: Global, tokens: &mut Cursor<'_>, left: Tree) -> Result<Tree, ReadError>
     ensures { Gives (spec.rename_turn left tokens.old) result tokens.new }
 {
-    let relation = Boxed::new(alloc, left)?;
     if tokens.eat(Word::OpenParenthesis) {
-        return Ok(Expr::Rename(relation, listed(alloc, tokens, Word::CloseParenthesis)?));
+        let renamings = listed(alloc, tokens, Word::CloseParenthesis)?;
+        return Ok(Boxed::new(alloc, Expr::Rename(left, renamings))?);
     }
     tokens.expect(Word::OpenBrace)?;
-    Ok(Expr::Rename(relation, listed(alloc, tokens, Word::CloseBrace)?))
+    let renamings = listed(alloc, tokens, Word::CloseBrace)?;
+    Ok(Boxed::new(alloc, Expr::Rename(left, renamings))?)
 }
 
 #[tactic(auto, unfolding(crate::specs::Reader::nest_turn))]
@@ -41,17 +41,16 @@ fn nest(
     alloc: Global,
     tokens: &mut Cursor<'_>,
     nesting: Nesting,
-    left: Expr,
-) -> Result<Expr, ReadError>
+    left: Tree,
+) -> Result<Tree, ReadError>
     ensures { Gives (spec.nest_turn nesting left tokens.old) result tokens.new }
 {
-    let relation = Boxed::new(alloc, left)?;
     let opened = tokens.eat(Word::OpenParenthesis);
     let inside = attributes(alloc, tokens)?;
     tokens.expect(Word::As)?;
     let name = tokens.name(alloc)?;
     shut(tokens, opened)?;
-    Ok(Expr::Nest(nesting, relation, inside, name))
+    Ok(Boxed::new(alloc, Expr::Nest(nesting, left, inside, name))?)
 }
 
 #[tactic(auto, unfolding(crate::specs::Reader::unnest_turn))]
@@ -59,19 +58,18 @@ fn unnest(
     alloc: Global,
     tokens: &mut Cursor<'_>,
     nesting: Nesting,
-    left: Expr,
-) -> Result<Expr, ReadError>
+    left: Tree,
+) -> Result<Tree, ReadError>
     ensures { Gives (spec.unnest_turn nesting left tokens.old) result tokens.new }
 {
-    let relation = Boxed::new(alloc, left)?;
     let opened = tokens.eat(Word::OpenParenthesis);
     let name = tokens.name(alloc)?;
     shut(tokens, opened)?;
-    Ok(Expr::Unnest(nesting, relation, name))
+    Ok(Boxed::new(alloc, Expr::Unnest(nesting, left, name))?)
 }
 
-impl<F: Fn(Global, &mut Cursor<'_>, usize, usize, Form) -> Result<Expr, ReadError>> Grammar<F> {
-    fn more_projection(&self, tokens: &mut Cursor<'_>, mut left: Expr) -> Result<Expr, ReadError>
+impl<F: Fn(Global, &mut Cursor<'_>, usize, usize, Form) -> Result<Tree, ReadError>> Grammar<F> {
+    fn more_projection(&self, tokens: &mut Cursor<'_>, mut left: Tree) -> Result<Tree, ReadError>
         requires { Nests self.now.depth (F.pre self.now.nested) (F.post self.now.nested) }
         ensures { Gives (spec.climb 9 (spec.project_turn) self.now.levels left tokens.old) result tokens.new }
     {
@@ -84,7 +82,7 @@ impl<F: Fn(Global, &mut Cursor<'_>, usize, usize, Form) -> Result<Expr, ReadErro
         Ok(left)
     }
 
-    pub fn projection(&self, tokens: &mut Cursor<'_>) -> Result<Expr, ReadError>
+    pub fn projection(&self, tokens: &mut Cursor<'_>) -> Result<Tree, ReadError>
         requires { Nests self.now.depth (F.pre self.now.nested) (F.post self.now.nested) }
         ensures { Gives (spec.projection_at (reads self.now.depth) self.now.levels tokens.old) result tokens.new }
     {
@@ -93,27 +91,27 @@ impl<F: Fn(Global, &mut Cursor<'_>, usize, usize, Form) -> Result<Expr, ReadErro
     }
 
     #[tactic(auto, unfolding(crate::specs::Reader::prefix))]
-    fn prefix(&self, tokens: &mut Cursor<'_>, operator: UnaryOperator) -> Result<Expr, ReadError>
+    fn prefix(&self, tokens: &mut Cursor<'_>, operator: UnaryOperator) -> Result<Tree, ReadError>
         requires { Nests self.now.depth (F.pre self.now.nested) (F.post self.now.nested) }
         ensures { Gives (spec.prefix (reads self.now.depth) self.now.levels operator tokens.old) result tokens.new }
     {
         let operand = self.nested(tokens, self.levels, Form::Prefixed)?;
-        Ok(unary(self.alloc, operator, operand)?)
+        self.tree(Expr::Unary(operator, operand))
     }
 
     #[tactic(auto, unfolding(crate::specs::Reader::attribute_from))]
-    fn attribute_from(&self, tokens: &mut Cursor<'_>) -> Result<Expr, ReadError>
+    fn attribute_from(&self, tokens: &mut Cursor<'_>) -> Result<Tree, ReadError>
         requires { Nests self.now.depth (F.pre self.now.nested) (F.post self.now.nested) }
         ensures { Gives (spec.attribute_from (reads self.now.depth) self.now.levels tokens.old) result tokens.new }
     {
         let name = tokens.name(self.alloc)?;
         tokens.expect(Word::From)?;
         let tuple = self.nested(tokens, self.levels, Form::Prefixed)?;
-        Ok(Expr::From(name, Boxed::new(self.alloc, tuple)?))
+        self.tree(Expr::From(name, tuple))
     }
 
     #[tactic(auto, unfolding(crate::specs::Reader::prefixed_at))]
-    pub fn prefixed(&self, tokens: &mut Cursor<'_>) -> Result<Expr, ReadError>
+    pub fn prefixed(&self, tokens: &mut Cursor<'_>) -> Result<Tree, ReadError>
         requires { Nests self.now.depth (F.pre self.now.nested) (F.post self.now.nested) }
         ensures { Gives (spec.prefixed_at (reads self.now.depth) self.now.levels tokens.old) result tokens.new }
     {
@@ -137,21 +135,20 @@ impl<F: Fn(Global, &mut Cursor<'_>, usize, usize, Form) -> Result<Expr, ReadErro
     }
 
     #[tactic(auto, unfolding(crate::specs::Reader::binary_turn))]
-    fn multiplicative_turn(&self, tokens: &mut Cursor<'_>, left: Expr) -> Result<Expr, ReadError>
+    fn multiplicative_turn(&self, tokens: &mut Cursor<'_>, left: Tree) -> Result<Tree, ReadError>
         requires { Nests self.now.depth (F.pre self.now.nested) (F.post self.now.nested) }
         ensures { Gives (spec.binary_turn (spec.prefixed_at (reads self.now.depth) self.now.levels) left tokens.old) result tokens.new }
     {
-        let left = Boxed::new(self.alloc, left)?;
         let operator = tokens.infix()?;
         let right = self.prefixed(tokens)?;
-        Ok(Expr::Binary(operator, left, Boxed::new(self.alloc, right)?))
+        self.tree(Expr::Binary(operator, left, right))
     }
 
     fn more_multiplicative(
         &self,
         tokens: &mut Cursor<'_>,
-        mut left: Expr,
-    ) -> Result<Expr, ReadError>
+        mut left: Tree,
+    ) -> Result<Tree, ReadError>
         requires { Nests self.now.depth (F.pre self.now.nested) (F.post self.now.nested) }
         ensures { Gives (spec.climb 7 (spec.binary_turn (spec.prefixed_at (reads self.now.depth) self.now.levels)) self.now.levels left tokens.old) result tokens.new }
     {
@@ -164,7 +161,7 @@ impl<F: Fn(Global, &mut Cursor<'_>, usize, usize, Form) -> Result<Expr, ReadErro
         Ok(left)
     }
 
-    pub fn multiplicative(&self, tokens: &mut Cursor<'_>) -> Result<Expr, ReadError>
+    pub fn multiplicative(&self, tokens: &mut Cursor<'_>) -> Result<Tree, ReadError>
         requires { Nests self.now.depth (F.pre self.now.nested) (F.post self.now.nested) }
         ensures { Gives (spec.multiplicative_at (reads self.now.depth) self.now.levels tokens.old) result tokens.new }
     {
@@ -173,17 +170,16 @@ impl<F: Fn(Global, &mut Cursor<'_>, usize, usize, Form) -> Result<Expr, ReadErro
     }
 
     #[tactic(auto, unfolding(crate::specs::Reader::binary_turn))]
-    fn additive_turn(&self, tokens: &mut Cursor<'_>, left: Expr) -> Result<Expr, ReadError>
+    fn additive_turn(&self, tokens: &mut Cursor<'_>, left: Tree) -> Result<Tree, ReadError>
         requires { Nests self.now.depth (F.pre self.now.nested) (F.post self.now.nested) }
         ensures { Gives (spec.binary_turn (spec.multiplicative_at (reads self.now.depth) self.now.levels) left tokens.old) result tokens.new }
     {
-        let left = Boxed::new(self.alloc, left)?;
         let operator = tokens.infix()?;
         let right = self.multiplicative(tokens)?;
-        Ok(Expr::Binary(operator, left, Boxed::new(self.alloc, right)?))
+        self.tree(Expr::Binary(operator, left, right))
     }
 
-    fn more_additive(&self, tokens: &mut Cursor<'_>, mut left: Expr) -> Result<Expr, ReadError>
+    fn more_additive(&self, tokens: &mut Cursor<'_>, mut left: Tree) -> Result<Tree, ReadError>
         requires { Nests self.now.depth (F.pre self.now.nested) (F.post self.now.nested) }
         ensures { Gives (spec.climb 6 (spec.binary_turn (spec.multiplicative_at (reads self.now.depth) self.now.levels)) self.now.levels left tokens.old) result tokens.new }
     {
@@ -196,7 +192,7 @@ impl<F: Fn(Global, &mut Cursor<'_>, usize, usize, Form) -> Result<Expr, ReadErro
         Ok(left)
     }
 
-    pub fn additive(&self, tokens: &mut Cursor<'_>) -> Result<Expr, ReadError>
+    pub fn additive(&self, tokens: &mut Cursor<'_>) -> Result<Tree, ReadError>
         requires { Nests self.now.depth (F.pre self.now.nested) (F.post self.now.nested) }
         ensures { Gives (spec.additive_at (reads self.now.depth) self.now.levels tokens.old) result tokens.new }
     {
@@ -205,32 +201,30 @@ impl<F: Fn(Global, &mut Cursor<'_>, usize, usize, Form) -> Result<Expr, ReadErro
     }
 
     #[tactic(auto, unfolding(crate::specs::Reader::binary_turn))]
-    fn infix_turn(&self, tokens: &mut Cursor<'_>, left: Expr) -> Result<Expr, ReadError>
+    fn infix_turn(&self, tokens: &mut Cursor<'_>, left: Tree) -> Result<Tree, ReadError>
         requires { Nests self.now.depth (F.pre self.now.nested) (F.post self.now.nested) }
         ensures { Gives (spec.binary_turn (spec.additive_at (reads self.now.depth) self.now.levels) left tokens.old) result tokens.new }
     {
-        let left = Boxed::new(self.alloc, left)?;
         let operator = tokens.infix()?;
         let right = self.additive(tokens)?;
-        Ok(Expr::Binary(operator, left, Boxed::new(self.alloc, right)?))
+        self.tree(Expr::Binary(operator, left, right))
     }
 
     #[tactic(auto, unfolding(crate::specs::Reader::where_turn))]
-    fn restrict(&self, tokens: &mut Cursor<'_>, left: Expr) -> Result<Expr, ReadError>
+    fn restrict(&self, tokens: &mut Cursor<'_>, left: Tree) -> Result<Tree, ReadError>
         requires { Nests self.now.depth (F.pre self.now.nested) (F.post self.now.nested) }
         ensures { Gives (spec.where_turn (reads self.now.depth) self.now.levels left tokens.old) result tokens.new }
     {
-        let relation = Boxed::new(self.alloc, left)?;
-        let condition = self.boxed(tokens)?;
-        Ok(Expr::Where(relation, condition))
+        let condition = self.inner(tokens)?;
+        self.tree(Expr::Where(left, condition))
     }
 
     fn relational_word(
         &self,
         tokens: &mut Cursor<'_>,
         word: Word,
-        left: Expr,
-    ) -> Result<Expr, ReadError>
+        left: Tree,
+    ) -> Result<Tree, ReadError>
         requires { Nests self.now.depth (F.pre self.now.nested) (F.post self.now.nested) }
         ensures { Gives (spec.relational_word (reads self.now.depth) self.now.levels word left tokens.old) result tokens.new }
     {
@@ -264,7 +258,7 @@ impl<F: Fn(Global, &mut Cursor<'_>, usize, usize, Form) -> Result<Expr, ReadErro
     }
 
     #[tactic(auto, unfolding(crate::specs::Reader::relational_turn))]
-    fn relational_turn(&self, tokens: &mut Cursor<'_>, left: Expr) -> Result<Expr, ReadError>
+    fn relational_turn(&self, tokens: &mut Cursor<'_>, left: Tree) -> Result<Tree, ReadError>
         requires { Nests self.now.depth (F.pre self.now.nested) (F.post self.now.nested) }
         ensures { Gives (spec.relational_turn (reads self.now.depth) self.now.levels left tokens.old) result tokens.new }
     {
@@ -274,7 +268,7 @@ impl<F: Fn(Global, &mut Cursor<'_>, usize, usize, Form) -> Result<Expr, ReadErro
         }
     }
 
-    fn more_relational(&self, tokens: &mut Cursor<'_>, mut left: Expr) -> Result<Expr, ReadError>
+    fn more_relational(&self, tokens: &mut Cursor<'_>, mut left: Tree) -> Result<Tree, ReadError>
         requires { Nests self.now.depth (F.pre self.now.nested) (F.post self.now.nested) }
         ensures { Gives (spec.climb 5 (spec.relational_turn (reads self.now.depth) self.now.levels) self.now.levels left tokens.old) result tokens.new }
     {
@@ -287,7 +281,7 @@ impl<F: Fn(Global, &mut Cursor<'_>, usize, usize, Form) -> Result<Expr, ReadErro
         Ok(left)
     }
 
-    pub fn relational(&self, tokens: &mut Cursor<'_>) -> Result<Expr, ReadError>
+    pub fn relational(&self, tokens: &mut Cursor<'_>) -> Result<Tree, ReadError>
         requires { Nests self.now.depth (F.pre self.now.nested) (F.post self.now.nested) }
         ensures { Gives (spec.relational_at (reads self.now.depth) self.now.levels tokens.old) result tokens.new }
     {
@@ -296,18 +290,17 @@ impl<F: Fn(Global, &mut Cursor<'_>, usize, usize, Form) -> Result<Expr, ReadErro
     }
 
     #[tactic(auto, unfolding(crate::specs::Reader::binary_turn))]
-    fn comparison_turn(&self, tokens: &mut Cursor<'_>, left: Expr) -> Result<Expr, ReadError>
+    fn comparison_turn(&self, tokens: &mut Cursor<'_>, left: Tree) -> Result<Tree, ReadError>
         requires { Nests self.now.depth (F.pre self.now.nested) (F.post self.now.nested) }
         ensures { Gives (spec.binary_turn (spec.relational_at (reads self.now.depth) self.now.levels) left tokens.old) result tokens.new }
     {
-        let left = Boxed::new(self.alloc, left)?;
         let operator = tokens.infix()?;
         let right = self.relational(tokens)?;
-        Ok(Expr::Binary(operator, left, Boxed::new(self.alloc, right)?))
+        self.tree(Expr::Binary(operator, left, right))
     }
 
     #[tactic(auto, unfolding(crate::specs::Reader::climb))]
-    pub fn comparison(&self, tokens: &mut Cursor<'_>) -> Result<Expr, ReadError>
+    pub fn comparison(&self, tokens: &mut Cursor<'_>) -> Result<Tree, ReadError>
         requires { Nests self.now.depth (F.pre self.now.nested) (F.post self.now.nested) }
         ensures { Gives (spec.comparison_at (reads self.now.depth) self.now.levels tokens.old) result tokens.new }
     {
@@ -319,30 +312,29 @@ impl<F: Fn(Global, &mut Cursor<'_>, usize, usize, Form) -> Result<Expr, ReadErro
     }
 
     #[tactic(auto, unfolding(crate::specs::Reader::not_at))]
-    pub fn negation(&self, tokens: &mut Cursor<'_>) -> Result<Expr, ReadError>
+    pub fn negation(&self, tokens: &mut Cursor<'_>) -> Result<Tree, ReadError>
         requires { Nests self.now.depth (F.pre self.now.nested) (F.post self.now.nested) }
         ensures { Gives (spec.not_at (reads self.now.depth) self.now.levels tokens.old) result tokens.new }
     {
         if tokens.at(Word::Not) {
             tokens.skip();
             let operand = self.nested(tokens, self.levels, Form::Not)?;
-            return Ok(unary(self.alloc, UnaryOperator::Not, operand)?);
+            return self.tree(Expr::Unary(UnaryOperator::Not, operand));
         }
         self.comparison(tokens)
     }
 
     #[tactic(auto, unfolding(crate::specs::Reader::binary_turn))]
-    fn conjunction_turn(&self, tokens: &mut Cursor<'_>, left: Expr) -> Result<Expr, ReadError>
+    fn conjunction_turn(&self, tokens: &mut Cursor<'_>, left: Tree) -> Result<Tree, ReadError>
         requires { Nests self.now.depth (F.pre self.now.nested) (F.post self.now.nested) }
         ensures { Gives (spec.binary_turn (spec.not_at (reads self.now.depth) self.now.levels) left tokens.old) result tokens.new }
     {
-        let left = Boxed::new(self.alloc, left)?;
         let operator = tokens.infix()?;
         let right = self.negation(tokens)?;
-        Ok(Expr::Binary(operator, left, Boxed::new(self.alloc, right)?))
+        self.tree(Expr::Binary(operator, left, right))
     }
 
-    fn more_conjunction(&self, tokens: &mut Cursor<'_>, mut left: Expr) -> Result<Expr, ReadError>
+    fn more_conjunction(&self, tokens: &mut Cursor<'_>, mut left: Tree) -> Result<Tree, ReadError>
         requires { Nests self.now.depth (F.pre self.now.nested) (F.post self.now.nested) }
         ensures { Gives (spec.climb 2 (spec.binary_turn (spec.not_at (reads self.now.depth) self.now.levels)) self.now.levels left tokens.old) result tokens.new }
     {
@@ -355,7 +347,7 @@ impl<F: Fn(Global, &mut Cursor<'_>, usize, usize, Form) -> Result<Expr, ReadErro
         Ok(left)
     }
 
-    pub fn conjunction(&self, tokens: &mut Cursor<'_>) -> Result<Expr, ReadError>
+    pub fn conjunction(&self, tokens: &mut Cursor<'_>) -> Result<Tree, ReadError>
         requires { Nests self.now.depth (F.pre self.now.nested) (F.post self.now.nested) }
         ensures { Gives (spec.and_at (reads self.now.depth) self.now.levels tokens.old) result tokens.new }
     {
@@ -364,17 +356,16 @@ impl<F: Fn(Global, &mut Cursor<'_>, usize, usize, Form) -> Result<Expr, ReadErro
     }
 
     #[tactic(auto, unfolding(crate::specs::Reader::binary_turn))]
-    fn disjunction_turn(&self, tokens: &mut Cursor<'_>, left: Expr) -> Result<Expr, ReadError>
+    fn disjunction_turn(&self, tokens: &mut Cursor<'_>, left: Tree) -> Result<Tree, ReadError>
         requires { Nests self.now.depth (F.pre self.now.nested) (F.post self.now.nested) }
         ensures { Gives (spec.binary_turn (spec.and_at (reads self.now.depth) self.now.levels) left tokens.old) result tokens.new }
     {
-        let left = Boxed::new(self.alloc, left)?;
         let operator = tokens.infix()?;
         let right = self.conjunction(tokens)?;
-        Ok(Expr::Binary(operator, left, Boxed::new(self.alloc, right)?))
+        self.tree(Expr::Binary(operator, left, right))
     }
 
-    fn more_disjunction(&self, tokens: &mut Cursor<'_>, mut left: Expr) -> Result<Expr, ReadError>
+    fn more_disjunction(&self, tokens: &mut Cursor<'_>, mut left: Tree) -> Result<Tree, ReadError>
         requires { Nests self.now.depth (F.pre self.now.nested) (F.post self.now.nested) }
         ensures { Gives (spec.climb 1 (spec.binary_turn (spec.and_at (reads self.now.depth) self.now.levels)) self.now.levels left tokens.old) result tokens.new }
     {
@@ -387,7 +378,7 @@ impl<F: Fn(Global, &mut Cursor<'_>, usize, usize, Form) -> Result<Expr, ReadErro
         Ok(left)
     }
 
-    pub fn disjunction(&self, tokens: &mut Cursor<'_>) -> Result<Expr, ReadError>
+    pub fn disjunction(&self, tokens: &mut Cursor<'_>) -> Result<Tree, ReadError>
         requires { Nests self.now.depth (F.pre self.now.nested) (F.post self.now.nested) }
         ensures { Gives (spec.or_at (reads self.now.depth) self.now.levels tokens.old) result tokens.new }
     {
@@ -396,28 +387,30 @@ impl<F: Fn(Global, &mut Cursor<'_>, usize, usize, Form) -> Result<Expr, ReadErro
     }
 
     #[tactic(auto, unfolding(crate::specs::Reader::with_after))]
-    fn with_after(&self, tokens: &mut Cursor<'_>) -> Result<Expr, ReadError>
+    fn with_after(&self, tokens: &mut Cursor<'_>) -> Result<Tree, ReadError>
         requires { Nests self.now.depth (F.pre self.now.nested) (F.post self.now.nested) }
         ensures { Gives (spec.with_after (reads self.now.depth) self.now.levels tokens.old) result tokens.new }
     {
         let introduced = self.named_list(tokens, Naming::After)?;
         tokens.expect(Word::Colon)?;
-        Ok(Expr::With(introduced, self.boxed(tokens)?))
+        let body = self.inner(tokens)?;
+        self.tree(Expr::With(introduced, body))
     }
 
     #[tactic(auto, unfolding(crate::specs::Reader::with_assigned))]
-    fn with_assigned(&self, tokens: &mut Cursor<'_>) -> Result<Expr, ReadError>
+    fn with_assigned(&self, tokens: &mut Cursor<'_>) -> Result<Tree, ReadError>
         requires { Nests self.now.depth (F.pre self.now.nested) (F.post self.now.nested) }
         ensures { Gives (spec.with_assigned (reads self.now.depth) self.now.levels tokens.old) result tokens.new }
     {
         tokens.expect(Word::OpenParenthesis)?;
         let introduced = self.named_listed(tokens, Word::CloseParenthesis, Naming::Assigned)?;
         tokens.expect(Word::Colon)?;
-        Ok(Expr::With(introduced, self.boxed(tokens)?))
+        let body = self.inner(tokens)?;
+        self.tree(Expr::With(introduced, body))
     }
 
     #[tactic(auto, unfolding(crate::specs::Reader::with_at))]
-    fn with(&self, tokens: &mut Cursor<'_>) -> Result<Expr, ReadError>
+    fn with(&self, tokens: &mut Cursor<'_>) -> Result<Tree, ReadError>
         requires { Nests self.now.depth (F.pre self.now.nested) (F.post self.now.nested) }
         ensures { Gives (spec.with_at (reads self.now.depth) self.now.levels tokens.old) result tokens.new }
     {
@@ -429,7 +422,7 @@ impl<F: Fn(Global, &mut Cursor<'_>, usize, usize, Form) -> Result<Expr, ReadErro
     }
 
     #[tactic(auto, unfolding(crate::specs::Reader::expr_at, crate::specs::Reader::greedy))]
-    pub fn expr(&self, tokens: &mut Cursor<'_>) -> Result<Expr, ReadError>
+    pub fn expr(&self, tokens: &mut Cursor<'_>) -> Result<Tree, ReadError>
         requires { Nests self.now.depth (F.pre self.now.nested) (F.post self.now.nested) }
         ensures { Gives (spec.expr_at (reads self.now.depth) self.now.levels tokens.old) result tokens.new }
     {

@@ -8,12 +8,12 @@ ghost use Rattle.td_grammar.specs.StatementReader as spec;
 use crate::cursor::Cursor;
 use crate::error::ReadError;
 use crate::forms::Form;
-use crate::grammar::Grammar;
+use crate::grammar::{Grammar, Tree};
 use crate::lists::attributes;
 use crate::script::{Definition, Opening};
-use crate::tree::{Attributes, Expr};
+use crate::tree::Attributes;
 use crate::types::{components, heading};
-use sqlite_items::{Boxed, Items};
+use sqlite_items::Items;
 use std::alloc::Global;
 use td_tokens::token::Word;
 use td_values::Name;
@@ -42,7 +42,7 @@ fn keys(alloc: Global, tokens: &mut Cursor<'_>) -> Result<Items<Attributes>, Rea
     Err(ReadError::Syntax)
 }
 
-impl<F: Fn(Global, &mut Cursor<'_>, usize, usize, Form) -> Result<Expr, ReadError>> Grammar<F> {
+impl<F: Fn(Global, &mut Cursor<'_>, usize, usize, Form) -> Result<Tree, ReadError>> Grammar<F> {
     // The name after TYPE, and what it names.
     #[tactic(auto, unfolding(crate::specs::StatementReader::type_definition))]
     fn type_definition(&self, tokens: &mut Cursor<'_>) -> Result<Definition, ReadError>
@@ -62,12 +62,12 @@ impl<F: Fn(Global, &mut Cursor<'_>, usize, usize, Form) -> Result<Expr, ReadErro
 
     // An expression in round brackets.
     #[tactic(auto, unfolding(crate::specs::StatementReader::bracketed))]
-    fn bracketed(&self, tokens: &mut Cursor<'_>) -> Result<Boxed<Expr>, ReadError>
+    fn bracketed(&self, tokens: &mut Cursor<'_>) -> Result<Tree, ReadError>
         requires { Nests self.now.depth (F.pre self.now.nested) (F.post self.now.nested) }
         ensures { Gives (spec.bracketed (reads self.now.depth) self.now.levels tokens.old) result tokens.new }
     {
         tokens.expect(Word::OpenParenthesis)?;
-        let inside = self.boxed(tokens)?;
+        let inside = self.inner(tokens)?;
         tokens.expect(Word::CloseParenthesis)?;
         Ok(inside)
     }
@@ -139,7 +139,7 @@ impl<F: Fn(Global, &mut Cursor<'_>, usize, usize, Form) -> Result<Expr, ReadErro
         ensures { Gives (spec.constraint_definition (reads self.now.depth) self.now.levels tokens.old) result tokens.new }
     {
         let name = tokens.name(self.alloc)?;
-        let condition = self.boxed(tokens)?;
+        let condition = self.inner(tokens)?;
         tokens.expect(Word::Semicolon)?;
         Ok(Definition::Constraint(name, condition))
     }

@@ -1,10 +1,10 @@
 //! Expressions from tokens. The rules that hold expressions take the reader of those as a parameter, so that each is
 //! proved by itself, and only `expr` calls itself.
 
-ghost use Rattle.std.specs.Prelude.{◌≡◌, ◌<◌, suc};
+ghost use Rattle.std.specs.Prelude.{◌≡◌, ◌<◌, suc, Some};
 ghost use Rattle.td_grammar.specs.Reader as spec;
 ghost use Rattle.td_grammar.specs.Reader.{reads};
-ghost use Rattle.td_grammar.specs.Readings.{Gives, Nests};
+ghost use Rattle.td_grammar.specs.Readings.{Gives, Nests, Tells};
 
 use crate::cursor::Cursor;
 use crate::error::ReadError;
@@ -13,6 +13,11 @@ use crate::levels::within;
 use crate::tree::Expr;
 use sqlite_items::Boxed;
 use std::alloc::Global;
+
+/// An expression on the heap.
+// A box is dropped by one call. Where a tree itself is dropped, as at an early return, there is a case to be proved for
+// each of its forms.
+pub type Tree = Boxed<Expr>;
 
 #[derive(Drop)]
 pub struct Grammar<F> {
@@ -25,13 +30,13 @@ pub struct Grammar<F> {
     ghost shallow: { levels < 18446744073709551615 },
 }
 
-impl<F: Fn(Global, &mut Cursor<'_>, usize, usize, Form) -> Result<Expr, ReadError>> Grammar<F> {
+impl<F: Fn(Global, &mut Cursor<'_>, usize, usize, Form) -> Result<Tree, ReadError>> Grammar<F> {
     pub fn nested(
         &self,
         tokens: &mut Cursor<'_>,
         levels: usize,
         form: Form,
-    ) -> Result<Expr, ReadError>
+    ) -> Result<Tree, ReadError>
         requires { Nests self.now.depth (F.pre self.now.nested) (F.post self.now.nested) }
         ensures { Gives (reads self.now.depth levels form tokens.old) result tokens.new }
     {
@@ -39,24 +44,21 @@ impl<F: Fn(Global, &mut Cursor<'_>, usize, usize, Form) -> Result<Expr, ReadErro
     }
 
     /// An expression one level down.
-    pub fn inner(&self, tokens: &mut Cursor<'_>) -> Result<Expr, ReadError>
+    pub fn inner(&self, tokens: &mut Cursor<'_>) -> Result<Tree, ReadError>
         requires { Nests self.now.depth (F.pre self.now.nested) (F.post self.now.nested) }
         ensures { Gives (spec.inner (reads self.now.depth) self.now.levels tokens.old) result tokens.new }
     {
         self.nested(tokens, self.levels, Form::Expr)
     }
 
-    /// The same on the heap.
-    // A box is dropped by one call. Where a tree itself is dropped, as at an early return, there is a case to be
-    // proved for each of its forms: so what reads on after an expression has it in a box.
-    pub fn boxed(&self, tokens: &mut Cursor<'_>) -> Result<Boxed<Expr>, ReadError>
-        requires { Nests self.now.depth (F.pre self.now.nested) (F.post self.now.nested) }
-        ensures { Gives (spec.inner (reads self.now.depth) self.now.levels tokens.old) result tokens.new }
+    /// A tree of one more form.
+    pub fn tree(&self, form: Expr) -> Result<Tree, ReadError>
+        ensures { Tells (Some form) result }
     {
-        Ok(Boxed::new(self.alloc, self.inner(tokens)?)?)
+        Ok(Boxed::new(self.alloc, form)?)
     }
 
-    pub fn form(&self, tokens: &mut Cursor<'_>, form: Form) -> Result<Expr, ReadError>
+    pub fn form(&self, tokens: &mut Cursor<'_>, form: Form) -> Result<Tree, ReadError>
         requires { Nests self.now.depth (F.pre self.now.nested) (F.post self.now.nested) }
         ensures { Gives (spec.form_at (reads self.now.depth) self.now.levels form tokens.old) result tokens.new }
     {
@@ -77,12 +79,12 @@ impl<F: Fn(Global, &mut Cursor<'_>, usize, usize, Form) -> Result<Expr, ReadErro
 
     // A form whose tree has at most as many levels as it may.
     #[tactic(auto, unfolding(crate::specs::Reader::within))]
-    fn limited(&self, tokens: &mut Cursor<'_>, form: Form) -> Result<Expr, ReadError>
+    fn limited(&self, tokens: &mut Cursor<'_>, form: Form) -> Result<Tree, ReadError>
         requires { Nests self.now.depth (F.pre self.now.nested) (F.post self.now.nested) }
         ensures { Gives (spec.and_then (spec.form_at (reads self.now.depth) self.now.levels form tokens.old) (spec.within (suc self.now.levels))) result tokens.new }
     {
         let tree = self.form(tokens, form)?;
-        if within(&tree, self.levels + 1) {
+        if within(tree.get(), self.levels + 1) {
             Ok(tree)
         } else {
             Err(ReadError::Syntax)
@@ -97,7 +99,7 @@ pub fn expr(
     depth: usize,
     levels: usize,
     form: Form,
-) -> Result<Expr, ReadError>
+) -> Result<Tree, ReadError>
     ensures { Gives (reads depth levels form tokens.old) result tokens.new }
 {
     if depth == 0 {

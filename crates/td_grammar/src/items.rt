@@ -8,20 +8,20 @@ ghost use Rattle.td_grammar.specs.Readings.{Gives, Nests};
 use crate::cursor::{Cursor, aggregate_of, same_word};
 use crate::error::ReadError;
 use crate::forms::{Form, Naming};
-use crate::grammar::Grammar;
+use crate::grammar::{Grammar, Tree};
 use crate::tree::{Aggregate, Expr, Named, Summary};
-use sqlite_items::{Boxed, Items};
+use sqlite_items::Items;
 use std::alloc::Global;
 use td_tokens::token::{Kind, Word};
 
-impl<F: Fn(Global, &mut Cursor<'_>, usize, usize, Form) -> Result<Expr, ReadError>> Grammar<F> {
+impl<F: Fn(Global, &mut Cursor<'_>, usize, usize, Form) -> Result<Tree, ReadError>> Grammar<F> {
     pub fn exprs(&self, tokens: &mut Cursor<'_>) -> Result<Items<Expr>, ReadError>
         requires { Nests self.now.depth (F.pre self.now.nested) (F.post self.now.nested) }
         ensures { Gives (spec.list_at (spec.inner (reads self.now.depth) self.now.levels) tokens.old) result tokens.new }
     {
         let mut found = Items::new(self.alloc);
         for _turn in 0..tokens.len() {
-            found.push(self.inner(tokens)?)?;
+            found.push(self.inner(tokens)?.into_inner())?;
             if !tokens.eat(Word::Comma) {
                 return Ok(found);
             }
@@ -52,17 +52,13 @@ impl<F: Fn(Global, &mut Cursor<'_>, usize, usize, Form) -> Result<Expr, ReadErro
 
     /// An expression with a name.
     #[tactic(auto, unfolding(crate::specs::Reader::named_at))]
-    pub fn named(
-        &self,
-        tokens: &mut Cursor<'_>,
-        naming: Naming,
-    ) -> Result<Named<Boxed<Expr>>, ReadError>
+    pub fn named(&self, tokens: &mut Cursor<'_>, naming: Naming) -> Result<Named<Tree>, ReadError>
         requires { Nests self.now.depth (F.pre self.now.nested) (F.post self.now.nested) }
         ensures { Gives (spec.named_at (reads self.now.depth) self.now.levels naming tokens.old) result tokens.new }
     {
         match naming {
             Naming::After => {
-                let value = self.boxed(tokens)?;
+                let value = self.inner(tokens)?;
                 tokens.expect(Word::As)?;
                 let name = tokens.name(self.alloc)?;
                 Ok(Named { name, value })
@@ -70,12 +66,12 @@ impl<F: Fn(Global, &mut Cursor<'_>, usize, usize, Form) -> Result<Expr, ReadErro
             Naming::Assigned => {
                 let name = tokens.name(self.alloc)?;
                 tokens.expect(Word::Assign)?;
-                let value = self.boxed(tokens)?;
+                let value = self.inner(tokens)?;
                 Ok(Named { name, value })
             }
             Naming::Beside => {
                 let name = tokens.name(self.alloc)?;
-                let value = self.boxed(tokens)?;
+                let value = self.inner(tokens)?;
                 Ok(Named { name, value })
             }
         }
@@ -85,7 +81,7 @@ impl<F: Fn(Global, &mut Cursor<'_>, usize, usize, Form) -> Result<Expr, ReadErro
         &self,
         tokens: &mut Cursor<'_>,
         naming: Naming,
-    ) -> Result<Items<Named<Boxed<Expr>>>, ReadError>
+    ) -> Result<Items<Named<Tree>>, ReadError>
         requires { Nests self.now.depth (F.pre self.now.nested) (F.post self.now.nested) }
         ensures { Gives (spec.list_at (spec.named_at (reads self.now.depth) self.now.levels naming) tokens.old) result tokens.new }
     {
@@ -105,7 +101,7 @@ impl<F: Fn(Global, &mut Cursor<'_>, usize, usize, Form) -> Result<Expr, ReadErro
         tokens: &mut Cursor<'_>,
         end: Word,
         naming: Naming,
-    ) -> Result<Items<Named<Boxed<Expr>>>, ReadError>
+    ) -> Result<Items<Named<Tree>>, ReadError>
         requires { Nests self.now.depth (F.pre self.now.nested) (F.post self.now.nested) }
         ensures { Gives (spec.listed end (spec.named_at (reads self.now.depth) self.now.levels naming) tokens.old) result tokens.new }
     {
@@ -120,7 +116,7 @@ impl<F: Fn(Global, &mut Cursor<'_>, usize, usize, Form) -> Result<Expr, ReadErro
         tokens: &mut Cursor<'_>,
         end: Word,
         naming: Naming,
-    ) -> Result<Items<Named<Boxed<Expr>>>, ReadError>
+    ) -> Result<Items<Named<Tree>>, ReadError>
         requires { Nests self.now.depth (F.pre self.now.nested) (F.post self.now.nested) }
         ensures { Gives (spec.up_to end (spec.named_at (reads self.now.depth) self.now.levels naming) tokens.old) result tokens.new }
     {
@@ -131,7 +127,7 @@ impl<F: Fn(Global, &mut Cursor<'_>, usize, usize, Form) -> Result<Expr, ReadErro
     }
 
     #[tactic(auto, unfolding(crate::specs::Reader::counted))]
-    pub fn counted(&self, tokens: &mut Cursor<'_>) -> Result<Summary<Boxed<Expr>>, ReadError>
+    pub fn counted(&self, tokens: &mut Cursor<'_>) -> Result<Summary<Tree>, ReadError>
         requires { Nests self.now.depth (F.pre self.now.nested) (F.post self.now.nested) }
         ensures { Gives (spec.counted (reads self.now.depth) self.now.levels tokens.old) result tokens.new }
     {
@@ -145,12 +141,12 @@ impl<F: Fn(Global, &mut Cursor<'_>, usize, usize, Form) -> Result<Expr, ReadErro
         &self,
         tokens: &mut Cursor<'_>,
         aggregate: Aggregate,
-    ) -> Result<Summary<Boxed<Expr>>, ReadError>
+    ) -> Result<Summary<Tree>, ReadError>
         requires { Nests self.now.depth (F.pre self.now.nested) (F.post self.now.nested) }
         ensures { Gives (spec.summed (reads self.now.depth) self.now.levels aggregate tokens.old) result tokens.new }
     {
         tokens.expect(Word::OpenParenthesis)?;
-        let term = self.boxed(tokens)?;
+        let term = self.inner(tokens)?;
         tokens.expect(Word::CloseParenthesis)?;
         Ok(Summary::Of(aggregate, term))
     }
@@ -159,7 +155,7 @@ impl<F: Fn(Global, &mut Cursor<'_>, usize, usize, Form) -> Result<Expr, ReadErro
         &self,
         tokens: &mut Cursor<'_>,
         word: Word,
-    ) -> Result<Summary<Boxed<Expr>>, ReadError>
+    ) -> Result<Summary<Tree>, ReadError>
         requires { Nests self.now.depth (F.pre self.now.nested) (F.post self.now.nested) }
         ensures { Gives (spec.summary_word (reads self.now.depth) self.now.levels word tokens.old) result tokens.new }
     {
@@ -173,7 +169,7 @@ impl<F: Fn(Global, &mut Cursor<'_>, usize, usize, Form) -> Result<Expr, ReadErro
     }
 
     #[tactic(auto, unfolding(crate::specs::Reader::summary_at))]
-    pub fn summary(&self, tokens: &mut Cursor<'_>) -> Result<Summary<Boxed<Expr>>, ReadError>
+    pub fn summary(&self, tokens: &mut Cursor<'_>) -> Result<Summary<Tree>, ReadError>
         requires { Nests self.now.depth (F.pre self.now.nested) (F.post self.now.nested) }
         ensures { Gives (spec.summary_at (reads self.now.depth) self.now.levels tokens.old) result tokens.new }
     {
@@ -192,7 +188,7 @@ impl<F: Fn(Global, &mut Cursor<'_>, usize, usize, Form) -> Result<Expr, ReadErro
         &self,
         tokens: &mut Cursor<'_>,
         naming: Naming,
-    ) -> Result<Named<Summary<Boxed<Expr>>>, ReadError>
+    ) -> Result<Named<Summary<Tree>>, ReadError>
         requires { Nests self.now.depth (F.pre self.now.nested) (F.post self.now.nested) }
         ensures { Gives (spec.named_summary (reads self.now.depth) self.now.levels naming tokens.old) result tokens.new }
     {
@@ -217,7 +213,7 @@ impl<F: Fn(Global, &mut Cursor<'_>, usize, usize, Form) -> Result<Expr, ReadErro
         &self,
         tokens: &mut Cursor<'_>,
         naming: Naming,
-    ) -> Result<Items<Named<Summary<Boxed<Expr>>>>, ReadError>
+    ) -> Result<Items<Named<Summary<Tree>>>, ReadError>
         requires { Nests self.now.depth (F.pre self.now.nested) (F.post self.now.nested) }
         ensures { Gives (spec.list_at (spec.named_summary (reads self.now.depth) self.now.levels naming) tokens.old) result tokens.new }
     {
@@ -237,7 +233,7 @@ impl<F: Fn(Global, &mut Cursor<'_>, usize, usize, Form) -> Result<Expr, ReadErro
         tokens: &mut Cursor<'_>,
         end: Word,
         naming: Naming,
-    ) -> Result<Items<Named<Summary<Boxed<Expr>>>>, ReadError>
+    ) -> Result<Items<Named<Summary<Tree>>>, ReadError>
         requires { Nests self.now.depth (F.pre self.now.nested) (F.post self.now.nested) }
         ensures { Gives (spec.listed end (spec.named_summary (reads self.now.depth) self.now.levels naming) tokens.old) result tokens.new }
     {
@@ -250,7 +246,7 @@ impl<F: Fn(Global, &mut Cursor<'_>, usize, usize, Form) -> Result<Expr, ReadErro
     pub fn summaries(
         &self,
         tokens: &mut Cursor<'_>,
-    ) -> Result<Items<Named<Summary<Boxed<Expr>>>>, ReadError>
+    ) -> Result<Items<Named<Summary<Tree>>>, ReadError>
         requires { Nests self.now.depth (F.pre self.now.nested) (F.post self.now.nested) }
         ensures { Gives (spec.summaries (reads self.now.depth) self.now.levels tokens.old) result tokens.new }
     {

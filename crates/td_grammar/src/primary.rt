@@ -1,6 +1,5 @@
 //! Expressions that no operator begins or goes on with.
 
-ghost use Rattle.std.specs.Prelude.{◌≡◌, IfOk};
 ghost use Rattle.td_grammar.specs.Reader as spec;
 ghost use Rattle.td_grammar.specs.Reader.{reads};
 ghost use Rattle.td_grammar.specs.Readings.{Gives, Nests};
@@ -8,24 +7,16 @@ ghost use Rattle.td_grammar.specs.Readings.{Gives, Nests};
 use crate::cursor::{Cursor, aggregate_of};
 use crate::error::ReadError;
 use crate::forms::{Form, Naming};
-use crate::grammar::Grammar;
+use crate::grammar::{Grammar, Tree};
 use crate::lists::attributes;
 use crate::tree::{Aggregate, Expr, Extension, Groups, UnaryOperator};
 use crate::types::heading;
-use sqlite_items::{Boxed, Items};
-use std::alloc::{AllocError, Global};
+use std::alloc::Global;
 use td_tokens::token::{Kind, Word};
 
-/// The operator of the expression.
-pub fn unary(alloc: Global, operator: UnaryOperator, operand: Expr) -> Result<Expr, AllocError>
-    ensures { IfOk result (λ e. e ≡ Expr.Unary operator operand) }
-{
-    Ok(Expr::Unary(operator, Boxed::new(alloc, operand)?))
-}
-
-impl<F: Fn(Global, &mut Cursor<'_>, usize, usize, Form) -> Result<Expr, ReadError>> Grammar<F> {
+impl<F: Fn(Global, &mut Cursor<'_>, usize, usize, Form) -> Result<Tree, ReadError>> Grammar<F> {
     #[tactic(auto, unfolding(crate::specs::Reader::brackets))]
-    pub fn brackets(&self, tokens: &mut Cursor<'_>) -> Result<Expr, ReadError>
+    pub fn brackets(&self, tokens: &mut Cursor<'_>) -> Result<Tree, ReadError>
         requires { Nests self.now.depth (F.pre self.now.nested) (F.post self.now.nested) }
         ensures { Gives (spec.brackets (reads self.now.depth) self.now.levels tokens.old) result tokens.new }
     {
@@ -35,7 +26,7 @@ impl<F: Fn(Global, &mut Cursor<'_>, usize, usize, Form) -> Result<Expr, ReadErro
     }
 
     #[tactic(auto, unfolding(crate::specs::Reader::call))]
-    pub fn call(&self, tokens: &mut Cursor<'_>) -> Result<Expr, ReadError>
+    pub fn call(&self, tokens: &mut Cursor<'_>) -> Result<Tree, ReadError>
         requires { Nests self.now.depth (F.pre self.now.nested) (F.post self.now.nested) }
         ensures { Gives (spec.call (reads self.now.depth) self.now.levels tokens.old) result tokens.new }
     {
@@ -43,43 +34,44 @@ impl<F: Fn(Global, &mut Cursor<'_>, usize, usize, Form) -> Result<Expr, ReadErro
         if tokens.at(Word::OpenParenthesis) && !tokens.then_target() {
             tokens.skip();
             let arguments = self.exprs_up_to(tokens, Word::CloseParenthesis)?;
-            return Ok(Expr::Call(name, arguments));
+            return self.tree(Expr::Call(name, arguments));
         }
-        Ok(Expr::Name(name))
+        self.tree(Expr::Name(name))
     }
 
     #[tactic(auto, unfolding(crate::specs::Reader::tuple))]
-    pub fn tuple(&self, tokens: &mut Cursor<'_>) -> Result<Expr, ReadError>
+    pub fn tuple(&self, tokens: &mut Cursor<'_>) -> Result<Tree, ReadError>
         requires { Nests self.now.depth (F.pre self.now.nested) (F.post self.now.nested) }
         ensures { Gives (spec.tuple (reads self.now.depth) self.now.levels tokens.old) result tokens.new }
     {
         tokens.expect(Word::OpenBrace)?;
-        Ok(Expr::Tuple(self.named_up_to(tokens, Word::CloseBrace, Naming::Beside)?))
+        let items = self.named_up_to(tokens, Word::CloseBrace, Naming::Beside)?;
+        self.tree(Expr::Tuple(items))
     }
 
     #[tactic(auto, unfolding(crate::specs::Reader::headed))]
-    pub fn headed(&self, tokens: &mut Cursor<'_>) -> Result<Expr, ReadError>
+    pub fn headed(&self, tokens: &mut Cursor<'_>) -> Result<Tree, ReadError>
         requires { Nests self.now.depth (F.pre self.now.nested) (F.post self.now.nested) }
         ensures { Gives (spec.headed (reads self.now.depth) self.now.levels tokens.old) result tokens.new }
     {
         let heading = heading(self.alloc, tokens)?;
         tokens.expect(Word::OpenBrace)?;
         let tuples = self.exprs_up_to(tokens, Word::CloseBrace)?;
-        Ok(Expr::Relation(Some(heading), tuples))
+        self.tree(Expr::Relation(Some(heading), tuples))
     }
 
     #[tactic(auto, unfolding(crate::specs::Reader::unheaded))]
-    pub fn unheaded(&self, tokens: &mut Cursor<'_>) -> Result<Expr, ReadError>
+    pub fn unheaded(&self, tokens: &mut Cursor<'_>) -> Result<Tree, ReadError>
         requires { Nests self.now.depth (F.pre self.now.nested) (F.post self.now.nested) }
         ensures { Gives (spec.unheaded (reads self.now.depth) self.now.levels tokens.old) result tokens.new }
     {
         tokens.expect(Word::OpenBrace)?;
         let tuples = self.exprs_listed(tokens, Word::CloseBrace)?;
-        Ok(Expr::Relation(None, tuples))
+        self.tree(Expr::Relation(None, tuples))
     }
 
     #[tactic(auto, unfolding(crate::specs::Reader::relation))]
-    pub fn relation(&self, tokens: &mut Cursor<'_>) -> Result<Expr, ReadError>
+    pub fn relation(&self, tokens: &mut Cursor<'_>) -> Result<Tree, ReadError>
         requires { Nests self.now.depth (F.pre self.now.nested) (F.post self.now.nested) }
         ensures { Gives (spec.relation (reads self.now.depth) self.now.levels tokens.old) result tokens.new }
     {
@@ -96,14 +88,14 @@ impl<F: Fn(Global, &mut Cursor<'_>, usize, usize, Form) -> Result<Expr, ReadErro
         &self,
         tokens: &mut Cursor<'_>,
         operator: UnaryOperator,
-    ) -> Result<Expr, ReadError>
+    ) -> Result<Tree, ReadError>
         requires { Nests self.now.depth (F.pre self.now.nested) (F.post self.now.nested) }
         ensures { Gives (spec.applied (reads self.now.depth) self.now.levels operator tokens.old) result tokens.new }
     {
         tokens.expect(Word::OpenParenthesis)?;
-        let operand = self.boxed(tokens)?;
+        let operand = self.inner(tokens)?;
         tokens.expect(Word::CloseParenthesis)?;
-        Ok(Expr::Unary(operator, operand))
+        self.tree(Expr::Unary(operator, operand))
     }
 
     #[tactic(auto, unfolding(crate::specs::Reader::aggregated))]
@@ -111,60 +103,60 @@ impl<F: Fn(Global, &mut Cursor<'_>, usize, usize, Form) -> Result<Expr, ReadErro
         &self,
         tokens: &mut Cursor<'_>,
         aggregate: Aggregate,
-    ) -> Result<Expr, ReadError>
+    ) -> Result<Tree, ReadError>
         requires { Nests self.now.depth (F.pre self.now.nested) (F.post self.now.nested) }
         ensures { Gives (spec.aggregated (reads self.now.depth) self.now.levels aggregate tokens.old) result tokens.new }
     {
         tokens.expect(Word::OpenParenthesis)?;
-        let relation = self.boxed(tokens)?;
+        let relation = self.inner(tokens)?;
         if tokens.eat(Word::Comma) {
-            let term = self.boxed(tokens)?;
+            let term = self.inner(tokens)?;
             tokens.expect(Word::CloseParenthesis)?;
-            return Ok(Expr::Aggregate(aggregate, relation, Some(term)));
+            return self.tree(Expr::Aggregate(aggregate, relation, Some(term)));
         }
         tokens.expect(Word::CloseParenthesis)?;
-        Ok(Expr::Aggregate(aggregate, relation, None))
+        self.tree(Expr::Aggregate(aggregate, relation, None))
     }
 
     #[tactic(auto, unfolding(crate::specs::Reader::choice))]
-    pub fn choice(&self, tokens: &mut Cursor<'_>) -> Result<Expr, ReadError>
+    pub fn choice(&self, tokens: &mut Cursor<'_>) -> Result<Tree, ReadError>
         requires { Nests self.now.depth (F.pre self.now.nested) (F.post self.now.nested) }
         ensures { Gives (spec.choice (reads self.now.depth) self.now.levels tokens.old) result tokens.new }
     {
-        let test = self.boxed(tokens)?;
+        let test = self.inner(tokens)?;
         tokens.expect(Word::Then)?;
-        let yes = self.boxed(tokens)?;
+        let yes = self.inner(tokens)?;
         tokens.expect(Word::Else)?;
-        let no = self.boxed(tokens)?;
+        let no = self.inner(tokens)?;
         tokens.expect(Word::End)?;
         tokens.expect(Word::If)?;
-        Ok(Expr::If(test, yes, no))
+        self.tree(Expr::If(test, yes, no))
     }
 
     #[tactic(auto, unfolding(crate::specs::Reader::extend))]
-    pub fn extend(&self, tokens: &mut Cursor<'_>) -> Result<Expr, ReadError>
+    pub fn extend(&self, tokens: &mut Cursor<'_>) -> Result<Tree, ReadError>
         requires { Nests self.now.depth (F.pre self.now.nested) (F.post self.now.nested) }
         ensures { Gives (spec.extend (reads self.now.depth) self.now.levels tokens.old) result tokens.new }
     {
-        let relation = self.boxed(tokens)?;
+        let relation = self.inner(tokens)?;
         if tokens.eat(Word::Add) {
             tokens.expect(Word::OpenParenthesis)?;
             let added = self.named_listed(tokens, Word::CloseParenthesis, Naming::After)?;
-            return Ok(Expr::Extend(Extension::Add, relation, added));
+            return self.tree(Expr::Extend(Extension::Add, relation, added));
         }
         tokens.expect(Word::Colon)?;
         tokens.expect(Word::OpenBrace)?;
         let assigned = self.named_listed(tokens, Word::CloseBrace, Naming::Assigned)?;
-        Ok(Expr::Extend(Extension::Assign, relation, assigned))
+        self.tree(Expr::Extend(Extension::Assign, relation, assigned))
     }
 
     #[tactic(auto, unfolding(crate::specs::Reader::groups_at))]
-    pub fn groups(&self, tokens: &mut Cursor<'_>) -> Result<Groups<Boxed<Expr>>, ReadError>
+    pub fn groups(&self, tokens: &mut Cursor<'_>) -> Result<Groups<Tree>, ReadError>
         requires { Nests self.now.depth (F.pre self.now.nested) (F.post self.now.nested) }
         ensures { Gives (spec.groups_at (reads self.now.depth) self.now.levels tokens.old) result tokens.new }
     {
         if tokens.eat(Word::Per) {
-            return Ok(Groups::Per(self.boxed(tokens)?));
+            return Ok(Groups::Per(self.inner(tokens)?));
         }
         if tokens.eat(Word::By) {
             return Ok(Groups::By(attributes(self.alloc, tokens)?));
@@ -173,25 +165,25 @@ impl<F: Fn(Global, &mut Cursor<'_>, usize, usize, Form) -> Result<Expr, ReadErro
     }
 
     #[tactic(auto, unfolding(crate::specs::Reader::summarize))]
-    pub fn summarize(&self, tokens: &mut Cursor<'_>) -> Result<Expr, ReadError>
+    pub fn summarize(&self, tokens: &mut Cursor<'_>) -> Result<Tree, ReadError>
         requires { Nests self.now.depth (F.pre self.now.nested) (F.post self.now.nested) }
         ensures { Gives (spec.summarize (reads self.now.depth) self.now.levels tokens.old) result tokens.new }
     {
-        let relation = self.boxed(tokens)?;
+        let relation = self.inner(tokens)?;
         let groups = self.groups(tokens)?;
         let summaries = self.summaries(tokens)?;
-        Ok(Expr::Summarize(relation, groups, summaries))
+        self.tree(Expr::Summarize(relation, groups, summaries))
     }
 
-    pub fn primary_word(&self, tokens: &mut Cursor<'_>, word: Word) -> Result<Expr, ReadError>
+    pub fn primary_word(&self, tokens: &mut Cursor<'_>, word: Word) -> Result<Tree, ReadError>
         requires { Nests self.now.depth (F.pre self.now.nested) (F.post self.now.nested) }
         ensures { Gives (spec.primary_word (reads self.now.depth) self.now.levels word tokens.old) result tokens.new }
     {
         match word {
-            Word::True => Ok(Expr::Truth(true)),
-            Word::False => Ok(Expr::Truth(false)),
-            Word::TableDee => Ok(Expr::TableDee),
-            Word::TableDum => Ok(Expr::TableDum),
+            Word::True => self.tree(Expr::Truth(true)),
+            Word::False => self.tree(Expr::Truth(false)),
+            Word::TableDee => self.tree(Expr::TableDee),
+            Word::TableDum => self.tree(Expr::TableDum),
             Word::OpenParenthesis => self.brackets(tokens),
             Word::Tuple => self.tuple(tokens),
             Word::Relation => self.relation(tokens),
@@ -208,7 +200,7 @@ impl<F: Fn(Global, &mut Cursor<'_>, usize, usize, Form) -> Result<Expr, ReadErro
     }
 
     #[tactic(auto, unfolding(crate::specs::Reader::primary_at))]
-    pub fn primary(&self, tokens: &mut Cursor<'_>) -> Result<Expr, ReadError>
+    pub fn primary(&self, tokens: &mut Cursor<'_>) -> Result<Tree, ReadError>
         requires { Nests self.now.depth (F.pre self.now.nested) (F.post self.now.nested) }
         ensures { Gives (spec.primary_at (reads self.now.depth) self.now.levels tokens.old) result tokens.new }
     {
@@ -216,9 +208,12 @@ impl<F: Fn(Global, &mut Cursor<'_>, usize, usize, Form) -> Result<Expr, ReadErro
             None => Err(ReadError::Syntax),
             Some(Kind::Int(n)) => {
                 tokens.skip();
-                Ok(Expr::Integer(n))
+                self.tree(Expr::Integer(n))
             }
-            Some(Kind::Text) => Ok(Expr::Text(tokens.text(self.alloc)?)),
+            Some(Kind::Text) => {
+                let text = tokens.text(self.alloc)?;
+                self.tree(Expr::Text(text))
+            }
             Some(Kind::Name) => self.call(tokens),
             Some(Kind::Word(word)) => {
                 tokens.skip();

@@ -13,7 +13,7 @@ use crate::forms::Form;
 use crate::grammar::{Grammar, expr};
 use crate::script::{Definition, Statement};
 use crate::tree::Expr;
-use sqlite_items::Items;
+use sqlite_items::{Boxed, Items};
 use std::alloc::Global;
 use td_tokens::lexer::tokens;
 use td_tokens::token::Token;
@@ -40,7 +40,7 @@ fn tokens_of(alloc: Global, text: &str) -> Result<Vec<Token<'_>>, ReadError>
 
 /// The tree of a query. It takes time linear in the text, at worst times the depth of its expressions.
 #[tactic(auto, unfolding(crate::specs::Reader::read_expr))]
-pub fn read_expr(alloc: Global, text: &str) -> Result<Expr, ReadError>
+pub fn read_expr(alloc: Global, text: &str) -> Result<Boxed<Expr>, ReadError>
     ensures { Tells (spec.read_expr text.now) result }
 {
     if text.len() > QUERY_BYTES {

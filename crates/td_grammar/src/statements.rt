@@ -8,17 +8,17 @@ ghost use Rattle.td_grammar.specs.StatementReader as spec;
 use crate::cursor::Cursor;
 use crate::error::ReadError;
 use crate::forms::{Form, Naming};
-use crate::grammar::Grammar;
+use crate::grammar::{Grammar, Tree};
 use crate::script::{Action, Statement};
-use crate::tree::{Expr, Named};
-use sqlite_items::{Boxed, Items};
+use crate::tree::Named;
+use sqlite_items::Items;
 use std::alloc::Global;
 use td_tokens::token::Word;
 
-impl<F: Fn(Global, &mut Cursor<'_>, usize, usize, Form) -> Result<Expr, ReadError>> Grammar<F> {
+impl<F: Fn(Global, &mut Cursor<'_>, usize, usize, Form) -> Result<Tree, ReadError>> Grammar<F> {
     // The attributes of an UPDATE with their new values.
     #[tactic(auto, unfolding(crate::specs::StatementReader::sets_at))]
-    fn sets(&self, tokens: &mut Cursor<'_>) -> Result<Items<Named<Boxed<Expr>>>, ReadError>
+    fn sets(&self, tokens: &mut Cursor<'_>) -> Result<Items<Named<Tree>>, ReadError>
         requires { Nests self.now.depth (F.pre self.now.nested) (F.post self.now.nested) }
         ensures { Gives (spec.sets_at (reads self.now.depth) self.now.levels tokens.old) result tokens.new }
     {
@@ -32,16 +32,12 @@ impl<F: Fn(Global, &mut Cursor<'_>, usize, usize, Form) -> Result<Expr, ReadErro
 
     /// An expression behind the word, if the word comes next.
     #[tactic(auto, unfolding(crate::specs::StatementReader::behind))]
-    pub fn behind(
-        &self,
-        tokens: &mut Cursor<'_>,
-        word: Word,
-    ) -> Result<Option<Boxed<Expr>>, ReadError>
+    pub fn behind(&self, tokens: &mut Cursor<'_>, word: Word) -> Result<Option<Tree>, ReadError>
         requires { Nests self.now.depth (F.pre self.now.nested) (F.post self.now.nested) }
         ensures { Gives (spec.behind (reads self.now.depth) self.now.levels word tokens.old) result tokens.new }
     {
         if tokens.eat(word) {
-            return Ok(Some(self.boxed(tokens)?));
+            return Ok(Some(self.inner(tokens)?));
         }
         Ok(None)
     }
@@ -53,7 +49,7 @@ impl<F: Fn(Global, &mut Cursor<'_>, usize, usize, Form) -> Result<Expr, ReadErro
     {
         let target = tokens.name(self.alloc)?;
         tokens.expect(Word::Assign)?;
-        Ok(Action::Assign(target, self.boxed(tokens)?))
+        Ok(Action::Assign(target, self.inner(tokens)?))
     }
 
     #[tactic(auto, unfolding(crate::specs::StatementReader::inserted))]
@@ -62,7 +58,7 @@ impl<F: Fn(Global, &mut Cursor<'_>, usize, usize, Form) -> Result<Expr, ReadErro
         ensures { Gives (spec.inserted (reads self.now.depth) self.now.levels tokens.old) result tokens.new }
     {
         let target = tokens.name(self.alloc)?;
-        Ok(Action::Insert(target, self.boxed(tokens)?))
+        Ok(Action::Insert(target, self.inner(tokens)?))
     }
 
     #[tactic(auto, unfolding(crate::specs::StatementReader::deleted))]
