@@ -258,6 +258,10 @@ binary_turn operand a = do
   b ← operand
   pure (e.Binary o a b)
 
+-- an operand, and further ones behind infix operators of the form of this number
+abbrev pub operators : ℕ → Reader Expr → ℕ → Reader Expr
+operators j operand n = operand >>= climb j (binary_turn operand) n
+
 unfoldable pub project_turn : Expr → Reader Expr
 project_turn a = do
   xs ← attributes_at
@@ -482,10 +486,10 @@ module _ (reads : ℕ → Form → Reader Expr) (b : ℕ) where
       else projection_at ts)))
 
   abbrev pub multiplicative_at : Reader Expr
-  multiplicative_at = prefixed_at >>= climb 7 (binary_turn prefixed_at) b
+  multiplicative_at = operators 7 prefixed_at b
 
   abbrev pub additive_at : Reader Expr
-  additive_at = multiplicative_at >>= climb 6 (binary_turn multiplicative_at) b
+  additive_at = operators 6 multiplicative_at b
 
   unfoldable pub where_turn : Expr → Reader Expr
   where_turn a = do
@@ -514,16 +518,16 @@ module _ (reads : ℕ → Form → Reader Expr) (b : ℕ) where
 
   -- one comparison at most
   abbrev pub comparison_at : Reader Expr
-  comparison_at = relational_at >>= climb 4 (binary_turn relational_at) 1
+  comparison_at = operators 4 relational_at 1
 
   unfoldable pub not_at : Reader Expr
   not_at = λ ts. if at w.Not ts then and_then (reads b f.Not (tail ts)) (λ a. pure (e.Unary unary.Not a)) else comparison_at ts
 
   abbrev pub and_at : Reader Expr
-  and_at = not_at >>= climb 2 (binary_turn not_at) b
+  and_at = operators 2 not_at b
 
   abbrev pub or_at : Reader Expr
-  or_at = and_at >>= climb 1 (binary_turn and_at) b
+  or_at = operators 1 and_at b
 
   unfoldable pub with_after : Reader Expr
   with_after = do

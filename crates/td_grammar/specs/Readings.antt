@@ -13,7 +13,7 @@ use Rattle.td_grammar.specs.declared.forms.Form.{Form}
 use Rattle.td_grammar.specs.declared.tree.Expr.{Expr}
 use Rattle.td_grammar.specs.declared.tree.TypeExpr.{TypeExpr}
 use Rattle.td_grammar.specs.Grammar.{Tokens}
-use Rattle.td_grammar.specs.Reader.{Outcome, reads, type_at}
+use Rattle.td_grammar.specs.Reader.{Outcome, Reader, reads, type_at}
 
 -- a name has a name's shape
 abbrev pub fits_name : Lexeme → Bool
@@ -55,3 +55,11 @@ pub record Nests (n : ℕ) (pre : Global → MutBor Tokens → ℕ → ℕ → F
     (post : Global → MutBor Tokens → ℕ → ℕ → Form → Result Expr ReadError → MutBor Tokens → Type 0) : Type 0 where
   pub callable : (alloc : Global) (old : MutBor Tokens) (b : ℕ) (g : Form) → pre alloc old n b g
   pub gives : (alloc : Global) (old new : MutBor Tokens) (b : ℕ) (g : Form) (r : Result Expr ReadError) → post alloc old n b g r new → Gives (reads n b g old.now) r new.now
+
+-- what a function value gives is what the reader reads
+abbrev pub Follows : {A : Type 0} → Reader A → (MutBor Tokens → Result A ReadError → MutBor Tokens → Type 0) → Type 0
+Follows {A = A} at post = (old new : MutBor Tokens) (r : Result A ReadError) → post old r new → Gives (at old.now) r new.now
+
+-- what a function value makes of a tree is what the reader makes of it
+abbrev pub GoesOn : (Expr → Reader Expr) → (MutBor Tokens → Expr → Result Expr ReadError → MutBor Tokens → Type 0) → Type 0
+GoesOn turn post = (old new : MutBor Tokens) (left : Expr) (r : Result Expr ReadError) → post old left r new → Gives (turn left old.now) r new.now

@@ -1,15 +1,18 @@
 //! Operators, and what they stand between.
 
 ghost use Rattle.td_grammar.specs.Reader as spec;
-ghost use Rattle.td_grammar.specs.Reader.{reads};
-ghost use Rattle.td_grammar.specs.Readings.{Gives, Nests};
+ghost use Rattle.td_grammar.specs.Reader.{Reader, reads};
+ghost use Rattle.td_grammar.specs.Readings.{Follows, Gives, GoesOn, Nests};
 
+use crate::binding::{
+    ADDITIVE, COMPARISON, CONJUNCTION, DISJUNCTION, MULTIPLICATIVE, NOTHING, PROJECTION, RELATIONAL,
+};
 use crate::cursor::Cursor;
 use crate::error::ReadError;
 use crate::forms::{Form, Naming};
 use crate::grammar::{Grammar, Tree};
 use crate::items::shut;
-use crate::lists::{attributes, listed};
+use crate::lists::{attributes, renamings};
 use crate::tree::{Expr, Nesting, UnaryOperator};
 use sqlite_items::Boxed;
 use std::alloc::Global;
@@ -28,11 +31,11 @@ fn rename(alloc: Global, tokens: &mut Cursor<'_>, left: Tree) -> Result<Tree, Re
     ensures { Gives (spec.rename_turn left tokens.old) result tokens.new }
 {
     if tokens.eat(Word::OpenParenthesis) {
-        let renamings = listed(alloc, tokens, Word::CloseParenthesis)?;
+        let renamings = renamings(alloc, tokens, Word::CloseParenthesis)?;
         return Ok(Boxed::new(alloc, Expr::Rename(left, renamings))?);
     }
     tokens.expect(Word::OpenBrace)?;
-    let renamings = listed(alloc, tokens, Word::CloseBrace)?;
+    let renamings = renamings(alloc, tokens, Word::CloseBrace)?;
     Ok(Boxed::new(alloc, Expr::Rename(left, renamings))?)
 }
 
@@ -68,26 +71,57 @@ fn unnest(
     Ok(Boxed::new(alloc, Expr::Unnest(nesting, left, name))?)
 }
 
-impl<F: Fn(Global, &mut Cursor<'_>, usize, usize, Form) -> Result<Tree, ReadError>> Grammar<F> {
-    fn more_projection(&self, tokens: &mut Cursor<'_>, mut left: Tree) -> Result<Tree, ReadError>
-        requires { Nests self.now.depth (F.pre self.now.nested) (F.post self.now.nested) }
-        ensures { Gives (spec.climb 9 (spec.project_turn) self.now.levels left tokens.old) result tokens.new }
-    {
-        for _turn in 0..self.levels {
-            if tokens.binds() != 9 {
-                return Ok(left);
-            }
-            left = project(self.alloc, tokens, left)?;
+// Goes on from a tree, turn by turn, as long as a form of this number does and at most so often.
+fn climb<T: Fn(&mut Cursor<'_>, Tree) -> Result<Tree, ReadError> + Drop>(
+    tokens: &mut Cursor<'_>,
+    binding: usize,
+    turns: usize,
+    mut left: Tree,
+    turn: T,
+) -> Result<Tree, ReadError>
+    requires { T.IsAlwaysCallable turn }
+    ensures { (go_on : Expr → Reader Expr) → GoesOn go_on (T.post turn) → Gives (spec.climb binding go_on turns left tokens.old) result tokens.new }
+{
+    for _turn in 0..turns {
+        if tokens.binds() != binding {
+            return Ok(left);
         }
-        Ok(left)
+        left = turn(tokens, left)?;
     }
+    Ok(left)
+}
 
+// An operand, and further ones behind operators of one form, at most so many.
+fn operators<O: Fn(&mut Cursor<'_>) -> Result<Tree, ReadError> + Drop>(
+    alloc: Global,
+    tokens: &mut Cursor<'_>,
+    binding: usize,
+    turns: usize,
+    operand: O,
+) -> Result<Tree, ReadError>
+    requires { O.IsAlwaysCallable operand }
+    ensures { (at : Reader Expr) → Follows at (O.post operand) → Gives (spec.operators binding at turns tokens.old) result tokens.new }
+{
+    let mut left = operand(tokens)?;
+    for _turn in 0..turns {
+        if tokens.binds() != binding {
+            return Ok(left);
+        }
+        let operator = tokens.infix()?;
+        let right = operand(tokens)?;
+        left = Boxed::new(alloc, Expr::Binary(operator, left, right))?;
+    }
+    Ok(left)
+}
+
+impl<F: Fn(Global, &mut Cursor<'_>, usize, usize, Form) -> Result<Tree, ReadError>> Grammar<F> {
     pub fn projection(&self, tokens: &mut Cursor<'_>) -> Result<Tree, ReadError>
         requires { Nests self.now.depth (F.pre self.now.nested) (F.post self.now.nested) }
         ensures { Gives (spec.projection_at (reads self.now.depth) self.now.levels tokens.old) result tokens.new }
     {
         let first = self.primary(tokens)?;
-        self.more_projection(tokens, first)
+        let turn = |tokens: &mut Cursor<'_>, left: Tree| project(self.alloc, tokens, left);
+        climb(tokens, PROJECTION, self.levels, first, turn)
     }
 
     #[tactic(auto, unfolding(crate::specs::Reader::prefix))]
@@ -134,80 +168,20 @@ impl<F: Fn(Global, &mut Cursor<'_>, usize, usize, Form) -> Result<Tree, ReadErro
         self.projection(tokens)
     }
 
-    #[tactic(auto, unfolding(crate::specs::Reader::binary_turn))]
-    fn multiplicative_turn(&self, tokens: &mut Cursor<'_>, left: Tree) -> Result<Tree, ReadError>
-        requires { Nests self.now.depth (F.pre self.now.nested) (F.post self.now.nested) }
-        ensures { Gives (spec.binary_turn (spec.prefixed_at (reads self.now.depth) self.now.levels) left tokens.old) result tokens.new }
-    {
-        let operator = tokens.infix()?;
-        let right = self.prefixed(tokens)?;
-        self.tree(Expr::Binary(operator, left, right))
-    }
-
-    fn more_multiplicative(
-        &self,
-        tokens: &mut Cursor<'_>,
-        mut left: Tree,
-    ) -> Result<Tree, ReadError>
-        requires { Nests self.now.depth (F.pre self.now.nested) (F.post self.now.nested) }
-        ensures { Gives (spec.climb 7 (spec.binary_turn (spec.prefixed_at (reads self.now.depth) self.now.levels)) self.now.levels left tokens.old) result tokens.new }
-    {
-        for _turn in 0..self.levels {
-            if tokens.binds() != 7 {
-                return Ok(left);
-            }
-            left = self.multiplicative_turn(tokens, left)?;
-        }
-        Ok(left)
-    }
-
     pub fn multiplicative(&self, tokens: &mut Cursor<'_>) -> Result<Tree, ReadError>
         requires { Nests self.now.depth (F.pre self.now.nested) (F.post self.now.nested) }
         ensures { Gives (spec.multiplicative_at (reads self.now.depth) self.now.levels tokens.old) result tokens.new }
     {
-        let first = self.prefixed(tokens)?;
-        self.more_multiplicative(tokens, first)
-    }
-
-    #[tactic(auto, unfolding(crate::specs::Reader::binary_turn))]
-    fn additive_turn(&self, tokens: &mut Cursor<'_>, left: Tree) -> Result<Tree, ReadError>
-        requires { Nests self.now.depth (F.pre self.now.nested) (F.post self.now.nested) }
-        ensures { Gives (spec.binary_turn (spec.multiplicative_at (reads self.now.depth) self.now.levels) left tokens.old) result tokens.new }
-    {
-        let operator = tokens.infix()?;
-        let right = self.multiplicative(tokens)?;
-        self.tree(Expr::Binary(operator, left, right))
-    }
-
-    fn more_additive(&self, tokens: &mut Cursor<'_>, mut left: Tree) -> Result<Tree, ReadError>
-        requires { Nests self.now.depth (F.pre self.now.nested) (F.post self.now.nested) }
-        ensures { Gives (spec.climb 6 (spec.binary_turn (spec.multiplicative_at (reads self.now.depth) self.now.levels)) self.now.levels left tokens.old) result tokens.new }
-    {
-        for _turn in 0..self.levels {
-            if tokens.binds() != 6 {
-                return Ok(left);
-            }
-            left = self.additive_turn(tokens, left)?;
-        }
-        Ok(left)
+        let operand = |tokens: &mut Cursor<'_>| self.prefixed(tokens);
+        operators(self.alloc, tokens, MULTIPLICATIVE, self.levels, operand)
     }
 
     pub fn additive(&self, tokens: &mut Cursor<'_>) -> Result<Tree, ReadError>
         requires { Nests self.now.depth (F.pre self.now.nested) (F.post self.now.nested) }
         ensures { Gives (spec.additive_at (reads self.now.depth) self.now.levels tokens.old) result tokens.new }
     {
-        let first = self.multiplicative(tokens)?;
-        self.more_additive(tokens, first)
-    }
-
-    #[tactic(auto, unfolding(crate::specs::Reader::binary_turn))]
-    fn infix_turn(&self, tokens: &mut Cursor<'_>, left: Tree) -> Result<Tree, ReadError>
-        requires { Nests self.now.depth (F.pre self.now.nested) (F.post self.now.nested) }
-        ensures { Gives (spec.binary_turn (spec.additive_at (reads self.now.depth) self.now.levels) left tokens.old) result tokens.new }
-    {
-        let operator = tokens.infix()?;
-        let right = self.additive(tokens)?;
-        self.tree(Expr::Binary(operator, left, right))
+        let operand = |tokens: &mut Cursor<'_>| self.multiplicative(tokens);
+        operators(self.alloc, tokens, ADDITIVE, self.levels, operand)
     }
 
     #[tactic(auto, unfolding(crate::specs::Reader::where_turn))]
@@ -217,6 +191,17 @@ impl<F: Fn(Global, &mut Cursor<'_>, usize, usize, Form) -> Result<Tree, ReadErro
     {
         let condition = self.inner(tokens)?;
         self.tree(Expr::Where(left, condition))
+    }
+
+    // An operator as JOIN, and a sum.
+    #[tactic(auto, unfolding(crate::specs::Reader::binary_turn))]
+    fn joined(&self, tokens: &mut Cursor<'_>, left: Tree) -> Result<Tree, ReadError>
+        requires { Nests self.now.depth (F.pre self.now.nested) (F.post self.now.nested) }
+        ensures { Gives (spec.binary_turn (spec.additive_at (reads self.now.depth) self.now.levels) left tokens.old) result tokens.new }
+    {
+        let operator = tokens.infix()?;
+        let right = self.additive(tokens)?;
+        self.tree(Expr::Binary(operator, left, right))
     }
 
     fn relational_word(
@@ -253,7 +238,7 @@ impl<F: Fn(Global, &mut Cursor<'_>, usize, usize, Form) -> Result<Tree, ReadErro
                 tokens.skip();
                 unnest(self.alloc, tokens, Nesting::Wrap, left)
             }
-            _ => self.infix_turn(tokens, left),
+            _ => self.joined(tokens, left),
         }
     }
 
@@ -268,47 +253,21 @@ impl<F: Fn(Global, &mut Cursor<'_>, usize, usize, Form) -> Result<Tree, ReadErro
         }
     }
 
-    fn more_relational(&self, tokens: &mut Cursor<'_>, mut left: Tree) -> Result<Tree, ReadError>
-        requires { Nests self.now.depth (F.pre self.now.nested) (F.post self.now.nested) }
-        ensures { Gives (spec.climb 5 (spec.relational_turn (reads self.now.depth) self.now.levels) self.now.levels left tokens.old) result tokens.new }
-    {
-        for _turn in 0..self.levels {
-            if tokens.binds() != 5 {
-                return Ok(left);
-            }
-            left = self.relational_turn(tokens, left)?;
-        }
-        Ok(left)
-    }
-
     pub fn relational(&self, tokens: &mut Cursor<'_>) -> Result<Tree, ReadError>
         requires { Nests self.now.depth (F.pre self.now.nested) (F.post self.now.nested) }
         ensures { Gives (spec.relational_at (reads self.now.depth) self.now.levels tokens.old) result tokens.new }
     {
         let first = self.additive(tokens)?;
-        self.more_relational(tokens, first)
+        let turn = |tokens: &mut Cursor<'_>, left: Tree| self.relational_turn(tokens, left);
+        climb(tokens, RELATIONAL, self.levels, first, turn)
     }
 
-    #[tactic(auto, unfolding(crate::specs::Reader::binary_turn))]
-    fn comparison_turn(&self, tokens: &mut Cursor<'_>, left: Tree) -> Result<Tree, ReadError>
-        requires { Nests self.now.depth (F.pre self.now.nested) (F.post self.now.nested) }
-        ensures { Gives (spec.binary_turn (spec.relational_at (reads self.now.depth) self.now.levels) left tokens.old) result tokens.new }
-    {
-        let operator = tokens.infix()?;
-        let right = self.relational(tokens)?;
-        self.tree(Expr::Binary(operator, left, right))
-    }
-
-    #[tactic(auto, unfolding(crate::specs::Reader::climb))]
     pub fn comparison(&self, tokens: &mut Cursor<'_>) -> Result<Tree, ReadError>
         requires { Nests self.now.depth (F.pre self.now.nested) (F.post self.now.nested) }
         ensures { Gives (spec.comparison_at (reads self.now.depth) self.now.levels tokens.old) result tokens.new }
     {
-        let left = self.relational(tokens)?;
-        if tokens.binds() != 4 {
-            return Ok(left);
-        }
-        self.comparison_turn(tokens, left)
+        let operand = |tokens: &mut Cursor<'_>| self.relational(tokens);
+        operators(self.alloc, tokens, COMPARISON, 1, operand)
     }
 
     #[tactic(auto, unfolding(crate::specs::Reader::not_at))]
@@ -324,66 +283,20 @@ impl<F: Fn(Global, &mut Cursor<'_>, usize, usize, Form) -> Result<Tree, ReadErro
         self.comparison(tokens)
     }
 
-    #[tactic(auto, unfolding(crate::specs::Reader::binary_turn))]
-    fn conjunction_turn(&self, tokens: &mut Cursor<'_>, left: Tree) -> Result<Tree, ReadError>
-        requires { Nests self.now.depth (F.pre self.now.nested) (F.post self.now.nested) }
-        ensures { Gives (spec.binary_turn (spec.not_at (reads self.now.depth) self.now.levels) left tokens.old) result tokens.new }
-    {
-        let operator = tokens.infix()?;
-        let right = self.negation(tokens)?;
-        self.tree(Expr::Binary(operator, left, right))
-    }
-
-    fn more_conjunction(&self, tokens: &mut Cursor<'_>, mut left: Tree) -> Result<Tree, ReadError>
-        requires { Nests self.now.depth (F.pre self.now.nested) (F.post self.now.nested) }
-        ensures { Gives (spec.climb 2 (spec.binary_turn (spec.not_at (reads self.now.depth) self.now.levels)) self.now.levels left tokens.old) result tokens.new }
-    {
-        for _turn in 0..self.levels {
-            if tokens.binds() != 2 {
-                return Ok(left);
-            }
-            left = self.conjunction_turn(tokens, left)?;
-        }
-        Ok(left)
-    }
-
     pub fn conjunction(&self, tokens: &mut Cursor<'_>) -> Result<Tree, ReadError>
         requires { Nests self.now.depth (F.pre self.now.nested) (F.post self.now.nested) }
         ensures { Gives (spec.and_at (reads self.now.depth) self.now.levels tokens.old) result tokens.new }
     {
-        let first = self.negation(tokens)?;
-        self.more_conjunction(tokens, first)
-    }
-
-    #[tactic(auto, unfolding(crate::specs::Reader::binary_turn))]
-    fn disjunction_turn(&self, tokens: &mut Cursor<'_>, left: Tree) -> Result<Tree, ReadError>
-        requires { Nests self.now.depth (F.pre self.now.nested) (F.post self.now.nested) }
-        ensures { Gives (spec.binary_turn (spec.and_at (reads self.now.depth) self.now.levels) left tokens.old) result tokens.new }
-    {
-        let operator = tokens.infix()?;
-        let right = self.conjunction(tokens)?;
-        self.tree(Expr::Binary(operator, left, right))
-    }
-
-    fn more_disjunction(&self, tokens: &mut Cursor<'_>, mut left: Tree) -> Result<Tree, ReadError>
-        requires { Nests self.now.depth (F.pre self.now.nested) (F.post self.now.nested) }
-        ensures { Gives (spec.climb 1 (spec.binary_turn (spec.and_at (reads self.now.depth) self.now.levels)) self.now.levels left tokens.old) result tokens.new }
-    {
-        for _turn in 0..self.levels {
-            if tokens.binds() != 1 {
-                return Ok(left);
-            }
-            left = self.disjunction_turn(tokens, left)?;
-        }
-        Ok(left)
+        let operand = |tokens: &mut Cursor<'_>| self.negation(tokens);
+        operators(self.alloc, tokens, CONJUNCTION, self.levels, operand)
     }
 
     pub fn disjunction(&self, tokens: &mut Cursor<'_>) -> Result<Tree, ReadError>
         requires { Nests self.now.depth (F.pre self.now.nested) (F.post self.now.nested) }
         ensures { Gives (spec.or_at (reads self.now.depth) self.now.levels tokens.old) result tokens.new }
     {
-        let first = self.conjunction(tokens)?;
-        self.more_disjunction(tokens, first)
+        let operand = |tokens: &mut Cursor<'_>| self.conjunction(tokens);
+        operators(self.alloc, tokens, DISJUNCTION, self.levels, operand)
     }
 
     #[tactic(auto, unfolding(crate::specs::Reader::with_after))]
@@ -431,7 +344,7 @@ impl<F: Fn(Global, &mut Cursor<'_>, usize, usize, Form) -> Result<Tree, ReadErro
             return self.with(tokens);
         }
         let tree = self.disjunction(tokens)?;
-        if tokens.binds() == 0 {
+        if tokens.binds() == NOTHING {
             Ok(tree)
         } else {
             Err(ReadError::Syntax)

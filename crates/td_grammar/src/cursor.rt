@@ -7,6 +7,9 @@ ghost use Rattle.td_grammar.specs.Grammar as grammar;
 ghost use Rattle.td_grammar.specs.Reader as spec;
 ghost use Rattle.td_grammar.specs.Readings.{Gives, Tells, fits_name};
 
+use crate::binding::{
+    ADDITIVE, COMPARISON, CONJUNCTION, DISJUNCTION, MULTIPLICATIVE, NOTHING, PROJECTION, RELATIONAL,
+};
 use crate::error::ReadError;
 use crate::tree::{Aggregate, BinaryOperator};
 use std::alloc::Global;
@@ -78,28 +81,28 @@ fn infix_word(word: Word) -> Option<(usize, BinaryOperator)>
     ensures { result ≡ grammar.infix_word word }
 {
     match word {
-        Word::Or => Some((1, BinaryOperator::Or)),
-        Word::Xor => Some((1, BinaryOperator::Xor)),
-        Word::And => Some((2, BinaryOperator::And)),
-        Word::Equals => Some((4, BinaryOperator::Equals)),
-        Word::Differs => Some((4, BinaryOperator::Differs)),
-        Word::Less => Some((4, BinaryOperator::Less)),
-        Word::Greater => Some((4, BinaryOperator::Greater)),
-        Word::AtMost => Some((4, BinaryOperator::AtMost)),
-        Word::AtLeast => Some((4, BinaryOperator::AtLeast)),
-        Word::In => Some((4, BinaryOperator::In)),
-        Word::Join => Some((5, BinaryOperator::Join)),
-        Word::Union => Some((5, BinaryOperator::Union)),
-        Word::Intersect => Some((5, BinaryOperator::Intersect)),
-        Word::Minus => Some((5, BinaryOperator::Minus)),
-        Word::Compose => Some((5, BinaryOperator::Compose)),
-        Word::Matching | Word::Semijoin => Some((5, BinaryOperator::Matching)),
-        Word::Semiminus => Some((5, BinaryOperator::NotMatching)),
-        Word::Plus => Some((6, BinaryOperator::Add)),
-        Word::Dash => Some((6, BinaryOperator::Subtract)),
-        Word::Bars => Some((6, BinaryOperator::Concatenate)),
-        Word::Star => Some((7, BinaryOperator::Multiply)),
-        Word::Slash => Some((7, BinaryOperator::Divide)),
+        Word::Or => Some((DISJUNCTION, BinaryOperator::Or)),
+        Word::Xor => Some((DISJUNCTION, BinaryOperator::Xor)),
+        Word::And => Some((CONJUNCTION, BinaryOperator::And)),
+        Word::Equals => Some((COMPARISON, BinaryOperator::Equals)),
+        Word::Differs => Some((COMPARISON, BinaryOperator::Differs)),
+        Word::Less => Some((COMPARISON, BinaryOperator::Less)),
+        Word::Greater => Some((COMPARISON, BinaryOperator::Greater)),
+        Word::AtMost => Some((COMPARISON, BinaryOperator::AtMost)),
+        Word::AtLeast => Some((COMPARISON, BinaryOperator::AtLeast)),
+        Word::In => Some((COMPARISON, BinaryOperator::In)),
+        Word::Join => Some((RELATIONAL, BinaryOperator::Join)),
+        Word::Union => Some((RELATIONAL, BinaryOperator::Union)),
+        Word::Intersect => Some((RELATIONAL, BinaryOperator::Intersect)),
+        Word::Minus => Some((RELATIONAL, BinaryOperator::Minus)),
+        Word::Compose => Some((RELATIONAL, BinaryOperator::Compose)),
+        Word::Matching | Word::Semijoin => Some((RELATIONAL, BinaryOperator::Matching)),
+        Word::Semiminus => Some((RELATIONAL, BinaryOperator::NotMatching)),
+        Word::Plus => Some((ADDITIVE, BinaryOperator::Add)),
+        Word::Dash => Some((ADDITIVE, BinaryOperator::Subtract)),
+        Word::Bars => Some((ADDITIVE, BinaryOperator::Concatenate)),
+        Word::Star => Some((MULTIPLICATIVE, BinaryOperator::Multiply)),
+        Word::Slash => Some((MULTIPLICATIVE, BinaryOperator::Divide)),
         _ => None,
     }
 }
@@ -115,10 +118,10 @@ fn number_of(word: Word) -> usize
         | Word::Group
         | Word::Wrap
         | Word::Ungroup
-        | Word::Unwrap => 5,
+        | Word::Unwrap => RELATIONAL,
         _ => match infix_word(word) {
             Some((number, _)) => number,
-            None => 0,
+            None => NOTHING,
         },
     }
 }
@@ -301,11 +304,15 @@ impl<'a> Cursor<'a> {
         ensures { result ≡ grammar.binds self.now }
     {
         if self.at(Word::OpenBrace) {
-            return if self.then_target() { 0 } else { 9 };
+            return if self.then_target() {
+                NOTHING
+            } else {
+                PROJECTION
+            };
         }
         match self.look() {
             Some(Kind::Word(word)) => number_of(word),
-            _ => 0,
+            _ => NOTHING,
         }
     }
 

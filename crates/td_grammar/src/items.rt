@@ -9,45 +9,35 @@ use crate::cursor::{Cursor, aggregate_of, same_word};
 use crate::error::ReadError;
 use crate::forms::{Form, Naming};
 use crate::grammar::{Grammar, Tree};
+use crate::lists::{list, listed, up_to};
 use crate::tree::{Aggregate, Expr, Named, Summary};
 use sqlite_items::Items;
 use std::alloc::Global;
 use td_tokens::token::{Kind, Word};
 
 impl<F: Fn(Global, &mut Cursor<'_>, usize, usize, Form) -> Result<Tree, ReadError>> Grammar<F> {
-    pub fn exprs(&self, tokens: &mut Cursor<'_>) -> Result<Items<Expr>, ReadError>
+    // An expression one level down, out of its box.
+    fn bare(&self, tokens: &mut Cursor<'_>) -> Result<Expr, ReadError>
         requires { Nests self.now.depth (F.pre self.now.nested) (F.post self.now.nested) }
-        ensures { Gives (spec.list_at (spec.inner (reads self.now.depth) self.now.levels) tokens.old) result tokens.new }
+        ensures { Gives (spec.inner (reads self.now.depth) self.now.levels tokens.old) result tokens.new }
     {
-        let mut found = Items::new(self.alloc);
-        for _turn in 0..tokens.len() {
-            found.push(self.inner(tokens)?.into_inner())?;
-            if !tokens.eat(Word::Comma) {
-                return Ok(found);
-            }
-        }
-        Err(ReadError::Syntax)
+        Ok(self.inner(tokens)?.into_inner())
     }
 
-    #[tactic(auto, unfolding(crate::specs::Reader::listed))]
     pub fn exprs_listed(&self, tokens: &mut Cursor<'_>, end: Word) -> Result<Items<Expr>, ReadError>
         requires { Nests self.now.depth (F.pre self.now.nested) (F.post self.now.nested) }
         ensures { Gives (spec.listed end (spec.inner (reads self.now.depth) self.now.levels) tokens.old) result tokens.new }
     {
-        let found = self.exprs(tokens)?;
-        tokens.expect(end)?;
-        Ok(found)
+        let item = |tokens: &mut Cursor<'_>| self.bare(tokens);
+        listed(self.alloc, tokens, end, item)
     }
 
-    #[tactic(auto, unfolding(crate::specs::Reader::up_to))]
     pub fn exprs_up_to(&self, tokens: &mut Cursor<'_>, end: Word) -> Result<Items<Expr>, ReadError>
         requires { Nests self.now.depth (F.pre self.now.nested) (F.post self.now.nested) }
         ensures { Gives (spec.up_to end (spec.inner (reads self.now.depth) self.now.levels) tokens.old) result tokens.new }
     {
-        if tokens.eat(end) {
-            return Ok(Items::new(self.alloc));
-        }
-        self.exprs_listed(tokens, end)
+        let item = |tokens: &mut Cursor<'_>| self.bare(tokens);
+        up_to(self.alloc, tokens, end, item)
     }
 
     /// An expression with a name.
@@ -85,17 +75,10 @@ impl<F: Fn(Global, &mut Cursor<'_>, usize, usize, Form) -> Result<Tree, ReadErro
         requires { Nests self.now.depth (F.pre self.now.nested) (F.post self.now.nested) }
         ensures { Gives (spec.list_at (spec.named_at (reads self.now.depth) self.now.levels naming) tokens.old) result tokens.new }
     {
-        let mut found = Items::new(self.alloc);
-        for _turn in 0..tokens.len() {
-            found.push(self.named(tokens, naming)?)?;
-            if !tokens.eat(Word::Comma) {
-                return Ok(found);
-            }
-        }
-        Err(ReadError::Syntax)
+        let item = |tokens: &mut Cursor<'_>| self.named(tokens, naming);
+        list(self.alloc, tokens, item)
     }
 
-    #[tactic(auto, unfolding(crate::specs::Reader::listed))]
     pub fn named_listed(
         &self,
         tokens: &mut Cursor<'_>,
@@ -105,12 +88,10 @@ impl<F: Fn(Global, &mut Cursor<'_>, usize, usize, Form) -> Result<Tree, ReadErro
         requires { Nests self.now.depth (F.pre self.now.nested) (F.post self.now.nested) }
         ensures { Gives (spec.listed end (spec.named_at (reads self.now.depth) self.now.levels naming) tokens.old) result tokens.new }
     {
-        let found = self.named_list(tokens, naming)?;
-        tokens.expect(end)?;
-        Ok(found)
+        let item = |tokens: &mut Cursor<'_>| self.named(tokens, naming);
+        listed(self.alloc, tokens, end, item)
     }
 
-    #[tactic(auto, unfolding(crate::specs::Reader::up_to))]
     pub fn named_up_to(
         &self,
         tokens: &mut Cursor<'_>,
@@ -120,10 +101,8 @@ impl<F: Fn(Global, &mut Cursor<'_>, usize, usize, Form) -> Result<Tree, ReadErro
         requires { Nests self.now.depth (F.pre self.now.nested) (F.post self.now.nested) }
         ensures { Gives (spec.up_to end (spec.named_at (reads self.now.depth) self.now.levels naming) tokens.old) result tokens.new }
     {
-        if tokens.eat(end) {
-            return Ok(Items::new(self.alloc));
-        }
-        self.named_listed(tokens, end, naming)
+        let item = |tokens: &mut Cursor<'_>| self.named(tokens, naming);
+        up_to(self.alloc, tokens, end, item)
     }
 
     #[tactic(auto, unfolding(crate::specs::Reader::counted))]
@@ -209,25 +188,6 @@ impl<F: Fn(Global, &mut Cursor<'_>, usize, usize, Form) -> Result<Tree, ReadErro
         }
     }
 
-    pub fn summary_list(
-        &self,
-        tokens: &mut Cursor<'_>,
-        naming: Naming,
-    ) -> Result<Items<Named<Summary<Tree>>>, ReadError>
-        requires { Nests self.now.depth (F.pre self.now.nested) (F.post self.now.nested) }
-        ensures { Gives (spec.list_at (spec.named_summary (reads self.now.depth) self.now.levels naming) tokens.old) result tokens.new }
-    {
-        let mut found = Items::new(self.alloc);
-        for _turn in 0..tokens.len() {
-            found.push(self.named_summary(tokens, naming)?)?;
-            if !tokens.eat(Word::Comma) {
-                return Ok(found);
-            }
-        }
-        Err(ReadError::Syntax)
-    }
-
-    #[tactic(auto, unfolding(crate::specs::Reader::listed))]
     pub fn summary_listed(
         &self,
         tokens: &mut Cursor<'_>,
@@ -237,9 +197,8 @@ impl<F: Fn(Global, &mut Cursor<'_>, usize, usize, Form) -> Result<Tree, ReadErro
         requires { Nests self.now.depth (F.pre self.now.nested) (F.post self.now.nested) }
         ensures { Gives (spec.listed end (spec.named_summary (reads self.now.depth) self.now.levels naming) tokens.old) result tokens.new }
     {
-        let found = self.summary_list(tokens, naming)?;
-        tokens.expect(end)?;
-        Ok(found)
+        let item = |tokens: &mut Cursor<'_>| self.named_summary(tokens, naming);
+        listed(self.alloc, tokens, end, item)
     }
 
     #[tactic(auto, unfolding(crate::specs::Reader::summaries))]

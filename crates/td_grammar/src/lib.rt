@@ -1,6 +1,7 @@
 //! Expressions, statements and scripts of the language, from their texts.
 #![tactic(auto)]
 
+mod binding;
 mod chains;
 pub mod cursor;
 mod definitions;
@@ -11,6 +12,8 @@ mod items;
 pub mod laws;
 pub mod levels;
 pub mod lists;
+#[cfg(test)]
+mod precedence_tests;
 mod primary;
 pub mod reader;
 pub mod script;

@@ -1,9 +1,10 @@
-//! Lists whose items hold no expression.
+//! Lists with commas.
 
-ghost use Rattle.std.specs.Prelude.{◌≡◌, List, Option};
-ghost use Rattle.td_tokens.specs.Lex.{Lexeme};
+ghost use Rattle.std.specs.Prelude.{◌≡◌};
 ghost use Rattle.td_grammar.specs.Reader as spec;
-ghost use Rattle.td_grammar.specs.Readings.{Gives};
+ghost use Rattle.td_grammar.specs.Reader.{Reader};
+ghost use Rattle.td_grammar.specs.Readings.{Follows, Gives};
+ghost use Rattle.td_tokens.specs.declared.token.Word.TheVariants as w;
 
 use crate::cursor::Cursor;
 use crate::error::ReadError;
@@ -13,42 +14,18 @@ use std::alloc::Global;
 use td_tokens::token::Word;
 use td_values::Name;
 
-/// What can stand in a list with commas.
-pub trait Readable: Drop + Sized {
-    /// What is read at a place, and the place after it.
-    ghost at: { List Lexeme → Option (Self × List Lexeme) };
-
-    fn read(alloc: Global, tokens: &mut Cursor<'_>) -> Result<Self, ReadError>
-        ensures { Gives (at tokens.old) result tokens.new };
-}
-
-impl Readable for Name {
-    ghost at = { spec.take_name };
-
-    fn read(alloc: Global, tokens: &mut Cursor<'_>) -> Result<Name, ReadError> {
-        tokens.name(alloc)
-    }
-}
-
-impl Readable for Renaming {
-    ghost at = { spec.renaming_at };
-
-    #[tactic(auto, unfolding(crate::specs::Reader::renaming_at))]
-    fn read(alloc: Global, tokens: &mut Cursor<'_>) -> Result<Renaming, ReadError> {
-        let from = tokens.name(alloc)?;
-        tokens.expect(Word::As)?;
-        let to = tokens.name(alloc)?;
-        Ok(Renaming { from, to })
-    }
-}
-
-// One or more, with commas between.
-fn list<T: Readable>(alloc: Global, tokens: &mut Cursor<'_>) -> Result<Items<T>, ReadError>
-    ensures { Gives (spec.list_at T.at tokens.old) result tokens.new }
+/// One or more items, with commas between.
+pub fn list<T: Drop, I: Fn(&mut Cursor<'_>) -> Result<T, ReadError> + Drop>(
+    alloc: Global,
+    tokens: &mut Cursor<'_>,
+    item: I,
+) -> Result<Items<T>, ReadError>
+    requires { I.IsAlwaysCallable item }
+    ensures { (at : Reader T) → Follows at (I.post item) → Gives (spec.list_at at tokens.old) result tokens.new }
 {
     let mut found = Items::new(alloc);
     for _turn in 0..tokens.len() {
-        found.push(T::read(alloc, tokens)?)?;
+        found.push(item(tokens)?)?;
         if !tokens.eat(Word::Comma) {
             return Ok(found);
         }
@@ -58,31 +35,47 @@ fn list<T: Readable>(alloc: Global, tokens: &mut Cursor<'_>) -> Result<Items<T>,
 
 /// A list and the word that closes it.
 #[tactic(auto, unfolding(crate::specs::Reader::listed))]
-pub fn listed<T: Readable>(
+pub fn listed<T: Drop, I: Fn(&mut Cursor<'_>) -> Result<T, ReadError> + Drop>(
     alloc: Global,
     tokens: &mut Cursor<'_>,
     end: Word,
+    item: I,
 ) -> Result<Items<T>, ReadError>
-    ensures { Gives (spec.listed end T.at tokens.old) result tokens.new }
+    requires { I.IsAlwaysCallable item }
+    ensures { (at : Reader T) → Follows at (I.post item) → Gives (spec.listed end at tokens.old) result tokens.new }
 {
-    let found = list(alloc, tokens)?;
+    let found = list(alloc, tokens, item)?;
     tokens.expect(end)?;
     Ok(found)
 }
 
 /// None or a list, and the word that closes it.
 #[tactic(auto, unfolding(crate::specs::Reader::up_to))]
-pub fn up_to<T: Readable>(
+pub fn up_to<T: Drop, I: Fn(&mut Cursor<'_>) -> Result<T, ReadError> + Drop>(
     alloc: Global,
     tokens: &mut Cursor<'_>,
     end: Word,
+    item: I,
 ) -> Result<Items<T>, ReadError>
-    ensures { Gives (spec.up_to end T.at tokens.old) result tokens.new }
+    requires { I.IsAlwaysCallable item }
+    ensures { (at : Reader T) → Follows at (I.post item) → Gives (spec.up_to end at tokens.old) result tokens.new }
 {
     if tokens.eat(end) {
         return Ok(Items::new(alloc));
     }
-    listed(alloc, tokens, end)
+    listed(alloc, tokens, end, item)
+}
+
+// Names, and the brace that closes them.
+fn names(alloc: Global, tokens: &mut Cursor<'_>) -> Result<Items<Name>, ReadError>
+    ensures { Gives (spec.up_to w.CloseBrace spec.take_name tokens.old) result tokens.new }
+{
+    up_to(
+        alloc,
+        tokens,
+        Word::CloseBrace,
+        |tokens: &mut Cursor<'_>| tokens.name(alloc),
+    )
 }
 
 /// Attributes in braces.
@@ -93,7 +86,33 @@ pub fn attributes(alloc: Global, tokens: &mut Cursor<'_>) -> Result<Attributes, 
     tokens.expect(Word::OpenBrace)?;
     if tokens.eat(Word::All) {
         tokens.expect(Word::But)?;
-        return Ok(Attributes::AllBut(up_to(alloc, tokens, Word::CloseBrace)?));
+        return Ok(Attributes::AllBut(names(alloc, tokens)?));
     }
-    Ok(Attributes::Only(up_to(alloc, tokens, Word::CloseBrace)?))
+    Ok(Attributes::Only(names(alloc, tokens)?))
+}
+
+#[tactic(auto, unfolding(crate::specs::Reader::renaming_at))]
+fn renaming(alloc: Global, tokens: &mut Cursor<'_>) -> Result<Renaming, ReadError>
+    ensures { Gives (spec.renaming_at tokens.old) result tokens.new }
+{
+    let from = tokens.name(alloc)?;
+    tokens.expect(Word::As)?;
+    let to = tokens.name(alloc)?;
+    Ok(Renaming { from, to })
+}
+
+/// Attributes and their new names, and the word that closes them.
+pub fn renamings(
+    alloc: Global,
+    tokens: &mut Cursor<'_>,
+    end: Word,
+) -> Result<Items<Renaming>, ReadError>
+    ensures { Gives (spec.listed end spec.renaming_at tokens.old) result tokens.new }
+{
+    listed(
+        alloc,
+        tokens,
+        end,
+        |tokens: &mut Cursor<'_>| renaming(alloc, tokens),
+    )
 }

@@ -1,7 +1,6 @@
 //! Statements from tokens.
 
 ghost use Rattle.td_grammar.specs.Reader.{reads};
-ghost use Rattle.td_grammar.specs.Reader as reader;
 ghost use Rattle.td_grammar.specs.Readings.{Gives, Nests};
 ghost use Rattle.td_grammar.specs.StatementReader as spec;
 
@@ -9,6 +8,7 @@ use crate::cursor::Cursor;
 use crate::error::ReadError;
 use crate::forms::{Form, Naming};
 use crate::grammar::{Grammar, Tree};
+use crate::lists::listed;
 use crate::script::{Action, Statement};
 use crate::tree::Named;
 use sqlite_items::Items;
@@ -100,28 +100,14 @@ impl<F: Fn(Global, &mut Cursor<'_>, usize, usize, Form) -> Result<Tree, ReadErro
         self.assigned(tokens)
     }
 
-    fn actions(&self, tokens: &mut Cursor<'_>) -> Result<Items<Action>, ReadError>
-        requires { Nests self.now.depth (F.pre self.now.nested) (F.post self.now.nested) }
-        ensures { Gives (reader.list_at (spec.action_at (reads self.now.depth) self.now.levels) tokens.old) result tokens.new }
-    {
-        let mut found = Items::new(self.alloc);
-        for _turn in 0..tokens.len() {
-            found.push(self.action(tokens)?)?;
-            if !tokens.eat(Word::Comma) {
-                return Ok(found);
-            }
-        }
-        Err(ReadError::Syntax)
-    }
-
     /// A statement, with the semicolon that ends it.
-    #[tactic(auto, unfolding(crate::specs::StatementReader::statement_at, crate::specs::Reader::listed))]
+    #[tactic(auto, unfolding(crate::specs::StatementReader::statement_at))]
     pub fn statement(&self, tokens: &mut Cursor<'_>) -> Result<Statement, ReadError>
         requires { Nests self.now.depth (F.pre self.now.nested) (F.post self.now.nested) }
         ensures { Gives (spec.statement_at (reads self.now.depth) self.now.levels tokens.old) result tokens.new }
     {
-        let found = self.actions(tokens)?;
-        tokens.expect(Word::Semicolon)?;
-        Ok(Statement::Assignment(found))
+        let action = |tokens: &mut Cursor<'_>| self.action(tokens);
+        let actions = listed(self.alloc, tokens, Word::Semicolon, action)?;
+        Ok(Statement::Assignment(actions))
     }
 }

@@ -8,6 +8,7 @@ ghost use Rattle.td_grammar.specs.StatementReader.{components_at};
 
 use crate::cursor::Cursor;
 use crate::error::ReadError;
+use crate::lists::{list, up_to};
 use crate::tree::{Named, TypeExpr};
 use sqlite_items::Items;
 use std::alloc::Global;
@@ -43,28 +44,18 @@ impl<F: Fn(Global, &mut Cursor<'_>, usize) -> Result<TypeExpr, ReadError>> Types
         requires { NestsTypes self.now.depth (F.pre self.now.nested) (F.post self.now.nested) }
         ensures { Gives (spec.list_at (spec.field_of (type_at self.now.depth)) tokens.old) result tokens.new }
     {
-        let mut found = Items::new(self.alloc);
-        for _turn in 0..tokens.len() {
-            found.push(self.field(tokens)?)?;
-            if !tokens.eat(Word::Comma) {
-                return Ok(found);
-            }
-        }
-        Err(ReadError::Syntax)
+        let field = |tokens: &mut Cursor<'_>| self.field(tokens);
+        list(self.alloc, tokens, field)
     }
 
-    #[tactic(auto, unfolding(crate::specs::Reader::heading_of, crate::specs::Reader::up_to, crate::specs::Reader::listed))]
+    #[tactic(auto, unfolding(crate::specs::Reader::heading_of))]
     fn heading(&self, tokens: &mut Cursor<'_>) -> Result<Items<Named<TypeExpr>>, ReadError>
         requires { NestsTypes self.now.depth (F.pre self.now.nested) (F.post self.now.nested) }
         ensures { Gives (spec.heading_of (type_at self.now.depth) tokens.old) result tokens.new }
     {
         tokens.expect(Word::OpenBrace)?;
-        if tokens.eat(Word::CloseBrace) {
-            return Ok(Items::new(self.alloc));
-        }
-        let fields = self.fields(tokens)?;
-        tokens.expect(Word::CloseBrace)?;
-        Ok(fields)
+        let field = |tokens: &mut Cursor<'_>| self.field(tokens);
+        up_to(self.alloc, tokens, Word::CloseBrace, field)
     }
 
     fn word(&self, tokens: &mut Cursor<'_>, word: Word) -> Result<TypeExpr, ReadError>

@@ -1,7 +1,0 @@
-use Rattle.std.proofs.Common.{◌≡◌, ◌-◌}
-use Rattle.td_grammar.specs.Reader as spec
-use Rattle.td_grammar.specs.Reader.{climb, reads}
-use Rattle.td_grammar.proofs.grammar.Grammar.more_projection.Given as goal
-
-abbrev pub invariant-loop-turn : goal.invariant-loop-turn
-invariant-loop-turn g l = climb 9 (spec.project_turn) l.self.levels l.fn.left l.fn.tokens ≡ climb 9 (spec.project_turn) (l._turn-end - l._turn) l.left l.tokens
