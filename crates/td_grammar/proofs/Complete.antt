@@ -1,5 +1,5 @@
 -- What the grammar derives is what the reader reads.
-use Rattle.std.proofs.Common.{◌≡◌, ◌≤◌, ◌<◌, ◌-◌, ◌+◌, ℕ, zero, suc, true, false, List, [], ◌∷◌, Some, None, length, refl, ◌∙◌, arith, lit<}
+use Rattle.std.proofs.Common.{◌≡◌, ◌≤◌, ◌<◌, ◌-◌, ◌+◌, ℕ, pos, zero, suc, true, false, List, [], ◌∷◌, Some, None, length, refl, ◌∙◌, arith, lit<}
 use Rattle.td_tokens.specs.declared.token.Word.TheVariants as w
 use Rattle.td_tokens.specs.Lex.{Text, word, name, int, text}
 use Rattle.td_grammar.specs.declared.forms.Form.{Form}
@@ -30,7 +30,7 @@ use Rattle.td_grammar.specs.Grammar.{Reads, with_, with_assigned, greedy, one_an
 use Rattle.td_grammar.specs.Grammar.{integer, characters, is_true, is_false, dee, dum, a_variable, call_none, call, brackets, tuple_none, tuple, relation, headed_none, headed, is_empty, count, aggregate_all, aggregate_of, choice, extend, extend_assigned, summarize, summarize_per, summarize_by}
 use Rattle.td_grammar.specs.Grammar.{ReadsPostfix, where_, rename, rename_braces, nest, nest_brackets, unnest, unnest_brackets, ReadsList, last_expr, next_expr, ReadsNamed, name_after, name_assigned, name_beside, ReadsNamedList, last_named, next_named, ReadsSummary, count_group, count_brackets, summary_of, ReadsNamedSummary, summary_after, summary_assigned, ReadsSummaryList, last_summary, next_summary, ReadsSummaries, summaries, summaries_assigned}
 use Rattle.td_grammar.specs.Reader as read
-use Rattle.td_grammar.specs.Reader.{Outcome, Reader, and_then, pure, refuse, same_word, look, at, tail, eat, expect, take_name, take_text, at_name, at_type, take_infix, list_from, list_at, listed, up_to, renaming_at, attributes_at, field_of, heading_of, type_of, type_at, heading_at, climb, binary_turn, project_turn, shut, form_at, within, reads}
+use Rattle.td_grammar.specs.Reader.{Outcome, Reader, and_then, pure, refuse, same_word, look, at, tail, eat, expect, take_name, take_text, take_integer, at_name, at_type, take_infix, list_from, list_at, listed, up_to, renaming_at, attributes_at, field_of, heading_of, type_of, type_at, heading_at, climb, binary_turn, project_turn, shut, form_at, within, reads}
 use Rattle.td_grammar.specs.Levels.{list_levels, named_levels, summary_levels, summaries_levels}
 use Rattle.td_grammar.proofs.Depths.{some_level, of_call, of_tuple, of_relation, of_unary, of_binary, of_from, of_project, of_where, of_rename, of_nest, of_unnest, of_aggregate_all, of_aggregate, of_choice, of_extend, of_with, of_summarize}
 use Rattle.td_grammar.proofs.Places.{goes_on, lead, infix_shorter, infix_goes, infix_binds, shorter, named_shorter, named_list_shorter, named_summary_shorter, attributes_shorter, heading_shorter, attributes_goes, postfix_goes, postfix_binds, leads, exprs_lead, summaries_goes, expr_ends, no_target}
@@ -458,8 +458,8 @@ colon_ends : (r : Tokens) → Ends (word w.Colon ∷ r)
 unfolding at same_word
 colon_ends r = (refl, refl)
 
-integer_read : (rds : ℕ → Form → Reader Expr) (b i : ℕ) (r : Tokens) → read.primary_at rds b (int i ∷ r) ≡ Some (e.Integer i, r)
-unfolding read.primary_at
+integer_read : (rds : ℕ → Form → Reader Expr) (b i : ℕ) (r : Tokens) → read.primary_at rds b (int i ∷ r) ≡ Some (e.Integer (pos i), r)
+unfolding read.primary_at take_integer
 integer_read rds b i r = refl
 
 characters_read : (rds : ℕ → Form → Reader Expr) (b : ℕ) (s : Text) (r : Tokens) → read.primary_at rds b (text s ∷ r) ≡ Some (e.Text s, r)
@@ -510,7 +510,7 @@ mutual
   goes (one_primary {ts} {r} {a} d) = λ n b le lv h l. starts 9 project_turn (read.primary_at (reads n) b) b ts a r (settle f.Primary ts a r (goes d) n b le lv h l)
   goes (project {ts} {mid} {r} {a} {xs} d k) = λ n b le lv h l. continues 9 project_turn b a (e.Project a xs) mid r _
       (goes d n b le (omega (arith, of_project a xs)) (attributes_goes k) (omega (arith, attributes_bind k))) (omega (arith, of_project a xs)) lv (attributes_bind k) (project_reads k a)
-  goes (integer {n = i} {r}) = λ n b le lv h l. at_once b (e.Integer i) r _ (integer_read (reads n) b i r)
+  goes (integer {n = i} {r}) = λ n b le lv h l. at_once b (e.Integer (pos i)) r _ (integer_read (reads n) b i r)
   goes (characters {s} {r}) = λ n b le lv h l. at_once b (e.Text s) r _ (characters_read (reads n) b s r)
   goes (is_true {r}) = λ n b le lv h l. at_once b (e.Truth true) r _ (constants_read (reads n) b r).0
   goes (is_false {r}) = λ n b le lv h l. at_once b (e.Truth false) r _ (constants_read (reads n) b r).1

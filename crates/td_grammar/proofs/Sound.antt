@@ -1,5 +1,5 @@
 -- What the reader reads, the grammar derives.
-use Rattle.std.proofs.Common.{◌≡◌, ◌≤◌, ◌==◌, ◌⊎◌, inl, inr, ℕ, zero, suc, Bool, true, false, cond, List, [], ◌∷◌, ◌++◌, Option, Some, None, length, refl, ap, sym, ◌∙◌, subst, arith, rules, append_assoc, if◌then◌else◌, ◌&&◌, nat_le}
+use Rattle.std.proofs.Common.{◌≡◌, ◌≤◌, ◌==◌, ◌⊎◌, inl, inr, ℕ, pos, zero, suc, Bool, true, false, cond, List, [], ◌∷◌, ◌++◌, Option, Some, None, length, refl, ap, sym, ◌∙◌, subst, arith, rules, append_assoc, if◌then◌else◌, ◌&&◌, nat_le}
 use Rattle.std.proofs.lemmas.Bool.{leb-true}
 use denote.Enum.Bare.{same_true}
 use Rattle.td_tokens.specs.contracts.token.Word.{the_type}
@@ -36,7 +36,7 @@ use Rattle.td_grammar.specs.Grammar.{Reads, with_, with_assigned, greedy, one_an
 use Rattle.td_grammar.specs.Grammar.{integer, characters, is_true, is_false, dee, dum, a_variable, call_none, call, brackets, tuple_none, tuple, relation, headed_none, headed, is_empty, count, aggregate_all, aggregate_of, choice, extend, extend_assigned, summarize, summarize_per, summarize_by}
 use Rattle.td_grammar.specs.Grammar.{ReadsPostfix, where_, rename, rename_braces, nest, nest_brackets, unnest, unnest_brackets, ReadsList, last_expr, next_expr, ReadsNamed, name_after, name_assigned, name_beside, ReadsNamedList, last_named, next_named, ReadsSummary, count_group, count_brackets, summary_of, ReadsNamedSummary, summary_after, summary_assigned, ReadsSummaryList, last_summary, next_summary, ReadsSummaries, summaries, summaries_assigned}
 use Rattle.td_grammar.specs.Reader as read
-use Rattle.td_grammar.specs.Reader.{Outcome, Reader, and_then, pure, refuse, same_word, look, at, tail, eat, expect, take_name, take_text, at_name, at_type, take_infix, list_from, list_at, listed, up_to, renaming_at, attributes_at, field_of, heading_of, type_of, type_at, heading_at, climb, binary_turn, project_turn, shut, form_at, within, reads}
+use Rattle.td_grammar.specs.Reader.{Outcome, Reader, and_then, pure, refuse, same_word, look, at, tail, eat, expect, take_name, take_text, take_integer, at_name, at_type, take_infix, list_from, list_at, listed, up_to, renaming_at, attributes_at, field_of, heading_of, type_of, type_at, heading_at, climb, binary_turn, project_turn, shut, form_at, within, reads}
 use Rattle.td_grammar.proofs.Places.{none_some}
 
 -- ---- taking a run apart
@@ -586,9 +586,9 @@ module _ (rds : ℕ → Form → Reader Expr) (b : ℕ) (inside : (m : ℕ) (g :
   word_sound v ts p h = primary_aggregate_sound v (read.aggregate_of v) ts p refl h
 
   primary_sound : Sound f.Primary (read.primary_at rds b)
-  unfolding read.primary_at take_text
+  unfolding read.primary_at take_text take_integer
   primary_sound [] p h = absurd (none_some h)
-  primary_sound (int n ∷ ts) p h = made (Reads f.Primary (int n ∷ ts)) (e.Integer n) ts p integer h
+  primary_sound (int n ∷ ts) p h = made (Reads f.Primary (int n ∷ ts)) (e.Integer (pos n)) ts p integer h
   primary_sound (text s ∷ ts) p h = made (Reads f.Primary (text s ∷ ts)) (e.Text s) ts p characters h
   primary_sound (name x ∷ ts) p h = call_sound (name x ∷ ts) p h
   primary_sound (word v ∷ ts) p h = word_sound v ts p h

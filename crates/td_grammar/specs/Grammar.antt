@@ -2,7 +2,7 @@
 -- tokens, the tokens from there on, to a later place. A clause is one form: its tokens, and its parts one behind the
 -- other. Where two spellings have one tree, each has a clause. Beside a form stands how it is written: words as they
 -- are, other tokens in quotes, `x, ..` for one or more x with commas between, [x] for x or nothing.
-use Rattle.std.specs.Prelude.{◌≡◌, ◌≤◌, ℕ, length, Bool, true, false, List, [], ◌∷◌, Option, Some, None, if◌then◌else◌}
+use Rattle.std.specs.Prelude.{◌≡◌, ◌≤◌, ℕ, pos, length, Bool, true, false, List, [], ◌∷◌, Option, Some, None, if◌then◌else◌}
 use Rattle.td_tokens.specs.declared.token.Word.{Word}
 use Rattle.td_tokens.specs.declared.token.Word.TheVariants as w
 use Rattle.td_tokens.specs.Lex.{Text, Lexeme, word, name, int, text}
@@ -216,7 +216,7 @@ mutual
     one_primary : {ts r : Tokens} {a : Expr} → Reads f.Primary ts a r → Reads f.Projection ts a r
     project : {ts mid r : Tokens} {a : Expr} {xs : Attributes} → Reads f.Projection ts a mid → ReadsAttributes mid xs r → Reads f.Projection ts (e.Project a xs) r
     -- primary: a literal, a constant, a name
-    integer : {n : ℕ} {r : Tokens} → Reads f.Primary (int n ∷ r) (e.Integer n) r
+    integer : {n : ℕ} {r : Tokens} → Reads f.Primary (int n ∷ r) (e.Integer (pos n)) r
     characters : {s : Text} {r : Tokens} → Reads f.Primary (text s ∷ r) (e.Text s) r
     is_true : {r : Tokens} → Reads f.Primary (word w.True ∷ r) (e.Truth true) r
     is_false : {r : Tokens} → Reads f.Primary (word w.False ∷ r) (e.Truth false) r

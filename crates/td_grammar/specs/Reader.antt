@@ -1,5 +1,5 @@
 -- How the grammar is read: a function that computes the reading at a place. Private clauses cite it, and the laws say that it decides the grammar.
-use Rattle.std.specs.Prelude.{ℕ, zero, suc, ◌==◌, ◌&&◌, ◌||◌, nat_le, Bool, true, false, if◌then◌else◌, List, [], ◌∷◌, ◌++◌, Option, Some, None, length, option_and_then}
+use Rattle.std.specs.Prelude.{ℕ, zero, suc, ℤ, pos, ◌==◌, ◌&&◌, ◌||◌, nat_le, Bool, true, false, if◌then◌else◌, List, [], ◌∷◌, ◌++◌, Option, Some, None, length, option_and_then}
 use denote.Enum.Bare.{sameb}
 use Rattle.td_tokens.specs.contracts.token.Word.{the_type}
 use Rattle.td_tokens.specs.declared.token.Word.{Word}
@@ -105,6 +105,10 @@ abbrev pub text_of : Lexeme → Option Text
 text_of (text s) = Some s
 text_of _ = None
 
+abbrev pub integer_of : Lexeme → Option ℤ
+integer_of (int n) = Some (pos n)
+integer_of _ = None
+
 abbrev pub with_rest : {A : Type 0} → Option A → Tokens → Outcome A
 with_rest None ts = None
 with_rest (Some a) ts = Some (a, ts)
@@ -116,6 +120,10 @@ take_name (x ∷ ts) = with_rest (name_of x) ts
 unfoldable pub take_text : Reader Text
 take_text [] = None
 take_text (x ∷ ts) = with_rest (text_of x) ts
+
+unfoldable pub take_integer : Reader ℤ
+take_integer [] = None
+take_integer (x ∷ ts) = with_rest (integer_of x) ts
 
 abbrev pub is_name : Lexeme → Bool
 is_name (name x) = true
@@ -454,7 +462,7 @@ module _ (reads : ℕ → Form → Reader Expr) (b : ℕ) where
 
   abbrev pub primary_by : Option Kind → Reader Expr
   primary_by None = refuse
-  primary_by (Some (k.Int n)) = λ ts. Some (e.Integer n, tail ts)
+  primary_by (Some (k.Int n)) = (do z ← take_integer; pure (e.Integer z))
   primary_by (Some k.Text) = (do s ← take_text; pure (e.Text s))
   primary_by (Some k.Name) = call
   primary_by (Some (k.Word v)) = λ ts. primary_word v (tail ts)

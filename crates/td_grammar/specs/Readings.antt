@@ -1,10 +1,10 @@
 -- What a function that reads ensures.
-use Rattle.std.specs.Prelude.{◌≡◌, ℕ, Bool, true, Option, Some, None, Result, Ok, Err, map}
+use Rattle.std.specs.Prelude.{◌≡◌, ℕ, Bool, true, Option, Some, None, Result, Ok, Err, map, nat_le}
 use Rattle.std.specs.Global.{Vec}
 use Rattle.std.specs.declared.alloc.Global.{Global}
 use denote.Ref.{MutBor}
 use Rattle.td_values.specs.Names.{is_name}
-use Rattle.td_tokens.specs.Lex.{Lexeme, name}
+use Rattle.td_tokens.specs.Lex.{Lexeme, name, int, largest_int}
 use Rattle.td_tokens.specs.declared.token.Token.{Token}
 use Rattle.td_tokens.specs.View.{lexeme_of}
 use Rattle.td_grammar.specs.declared.error.ReadError.{ReadError}
@@ -15,10 +15,11 @@ use Rattle.td_grammar.specs.declared.tree.TypeExpr.{TypeExpr}
 use Rattle.td_grammar.specs.Grammar.{Tokens}
 use Rattle.td_grammar.specs.Reader.{Outcome, Reader, reads, type_at}
 
--- a name has a name's shape
-abbrev pub fits_name : Lexeme → Bool
-fits_name (name n) = is_name n
-fits_name _ = true
+-- a name has a name's shape, and an integer is in range
+abbrev pub fits : Lexeme → Bool
+fits (name n) = is_name n
+fits (int n) = nat_le n largest_int
+fits _ = true
 
 -- nothing is read, unless memory ran out
 abbrev pub Fails : {A : Type 0} → ReadError → Option A → Type 0

@@ -5,7 +5,7 @@ ghost use Rattle.std.specs.List.{list_all};
 ghost use Rattle.td_tokens.specs.View.{lexeme_of};
 ghost use Rattle.td_grammar.specs.Grammar as grammar;
 ghost use Rattle.td_grammar.specs.Reader as spec;
-ghost use Rattle.td_grammar.specs.Readings.{Gives, Tells, fits_name};
+ghost use Rattle.td_grammar.specs.Readings.{Gives, Tells, fits};
 
 use crate::binding::{
     ADDITIVE, COMPARISON, CONJUNCTION, DISJUNCTION, MULTIPLICATIVE, NOTHING, PROJECTION, RELATIONAL,
@@ -17,7 +17,7 @@ use std::marker::Model;
 use td_tokens::token::{Kind, Token, Word};
 use td_values::{Name, Text};
 
-/// The tokens from a place on. The names among them are names.
+/// The tokens from a place on. The names among them are names, and the integers are in range.
 #[derive(Drop)]
 pub struct Cursor<'a> {
     rest: &'a [Token<'a>],
@@ -28,13 +28,13 @@ impl<'a> Model for Cursor<'a> {
     ghost use Rattle.std.specs.List.{list_all};
     ghost use Rattle.td_tokens.specs.Lex.{Lexeme};
     ghost use Rattle.td_tokens.specs.View.{lexeme_of};
-    ghost use Rattle.td_grammar.specs.Readings.{fits_name};
+    ghost use Rattle.td_grammar.specs.Readings.{fits};
 
     ghost Value = { List Lexeme };
 
     ghost view = { λ t. map lexeme_of t.rest.now };
 
-    ghost invariant = { λ t. list_all fits_name (map lexeme_of t.rest.now) ≡ true };
+    ghost invariant = { λ t. list_all fits (map lexeme_of t.rest.now) ≡ true };
 }
 
 #[tactic(auto, unfolding(crate::specs::Reader::same_word))]
@@ -128,7 +128,7 @@ fn number_of(word: Word) -> usize
 
 impl<'a> Cursor<'a> {
     pub fn new(tokens: &'a [Token<'a>]) -> Cursor<'a>
-        requires { list_all fits_name (map lexeme_of tokens.now) ≡ true }
+        requires { list_all fits (map lexeme_of tokens.now) ≡ true }
         ensures { result ≡ map lexeme_of tokens.now }
     {
         Cursor { rest: tokens }
@@ -252,7 +252,22 @@ impl<'a> Cursor<'a> {
         }
     }
 
-    // What stands so many tokens further on.
+    /// Takes an integer.
+    #[tactic(auto, unfolding(crate::specs::Reader::take_integer))]
+    pub fn integer(&mut self) -> Result<i64, ReadError>
+        ensures { Gives (spec.take_integer self.old) result self.new }
+    {
+        match self.rest {
+            [] => Err(ReadError::Syntax),
+            [t, rest @ ..] => {
+                let number = integer_of(t)?;
+                self.rest = rest;
+                Ok(number)
+            }
+        }
+    }
+
+    // What stands after the next token.
     fn after(&self) -> Cursor<'a>
         ensures { result ≡ spec.tail self.now }
     {
@@ -346,6 +361,17 @@ fn text_of(alloc: Global, token: &Token<'_>) -> Result<Text, ReadError>
 {
     match token.kind {
         Kind::Text => Ok(Text::new(alloc, token.characters(alloc)?)?),
+        _ => Err(ReadError::Syntax),
+    }
+}
+
+// The integer that the token is.
+fn integer_of(token: &Token<'_>) -> Result<i64, ReadError>
+    requires { fits (lexeme_of token.now) ≡ true }
+    ensures { Tells (spec.integer_of (lexeme_of token.now)) result }
+{
+    match token.kind {
+        Kind::Int(number) => Ok(number as i64),
         _ => Err(ReadError::Syntax),
     }
 }

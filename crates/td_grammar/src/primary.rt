@@ -206,9 +206,9 @@ impl<F: Fn(Global, &mut Cursor<'_>, usize, usize, Form) -> Result<Tree, ReadErro
     {
         match tokens.look() {
             None => Err(ReadError::Syntax),
-            Some(Kind::Int(n)) => {
-                tokens.skip();
-                self.tree(Expr::Integer(n))
+            Some(Kind::Int(_)) => {
+                let number = tokens.integer()?;
+                self.tree(Expr::Integer(number))
             }
             Some(Kind::Text) => {
                 let text = tokens.text(self.alloc)?;

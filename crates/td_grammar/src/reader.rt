@@ -4,7 +4,7 @@ ghost use Rattle.std.specs.Prelude.{◌≡◌, IfOk, true};
 ghost use Rattle.std.specs.List.{list_all};
 ghost use Rattle.td_tokens.specs.Lexer.{lexemes};
 ghost use Rattle.td_grammar.specs.Reader as spec;
-ghost use Rattle.td_grammar.specs.Readings.{Tells, Lexes, fits_name, lexemes_of};
+ghost use Rattle.td_grammar.specs.Readings.{Tells, Lexes, fits, lexemes_of};
 ghost use Rattle.td_grammar.specs.StatementReader as statements;
 
 use crate::cursor::Cursor;
@@ -33,7 +33,7 @@ pub const LEVELS: usize = 256;
 // The tokens of a text.
 fn tokens_of(alloc: Global, text: &str) -> Result<Vec<Token<'_>>, ReadError>
     ensures told { Lexes (lexemes text.now) result }
-    ensures names { IfOk result (λ ts. list_all fits_name (lexemes_of ts) ≡ true) }
+    ensures names { IfOk result (λ ts. list_all fits (lexemes_of ts) ≡ true) }
 {
     Ok(tokens(alloc, text)?)
 }

@@ -118,7 +118,8 @@ pub enum Groups<T> {
 
 #[derive(Drop)]
 pub enum Expr {
-    Integer(u64),
+    /// Never negative in the tree of a text, which has a sign as an operator.
+    Integer(i64),
     Text(Text),
     Truth(bool),
     TableDee,
