@@ -9,7 +9,7 @@ ghost use Rattle.std.specs.Prelude.{◌≡◌, ◌*◌, IfOk, string_len};
 use anyhow::Result;
 use std::alloc::{AllocError, Global};
 use std::time::{Duration, Instant};
-use td_grammar::reader::read_script;
+use td_grammar::read_script;
 
 /// How often each script is read.
 const TURNS: u32 = 20;

@@ -29,9 +29,10 @@ use Rattle.td_grammar.specs.Grammar.{IsList, IsRenaming, ReadsAttributes, no_nam
 use Rattle.td_grammar.specs.Grammar.{Reads, with_, with_assigned, greedy, one_and, more_or, one_not, more_and, not_, one_comparison, one_relational, compared, one_additive, more_relational, postfixed, one_multiplicative, more_additive, one_prefixed, more_multiplicative, negated, closure, tuple_from, name_from, one_projection, one_primary, project}
 use Rattle.td_grammar.specs.Grammar.{integer, characters, is_true, is_false, dee, dum, a_variable, call_none, call, brackets, tuple_none, tuple, relation, headed_none, headed, is_empty, count, aggregate_all, aggregate_of, choice, extend, extend_assigned, summarize, summarize_per, summarize_by}
 use Rattle.td_grammar.specs.Grammar.{ReadsPostfix, where_, rename, rename_braces, nest, nest_brackets, unnest, unnest_brackets, ReadsList, last_expr, next_expr, ReadsNamed, name_after, name_assigned, name_beside, ReadsNamedList, last_named, next_named, ReadsSummary, count_group, count_brackets, summary_of, ReadsNamedSummary, summary_after, summary_assigned, ReadsSummaryList, last_summary, next_summary, ReadsSummaries, summaries, summaries_assigned}
-use Rattle.td_grammar.specs.Reader as read
-use Rattle.td_grammar.specs.Reader.{Outcome, Reader, and_then, pure, refuse, same_word, look, at, tail, eat, expect, take_name, take_text, take_integer, at_name, at_type, take_infix, list_from, list_at, listed, up_to, renaming_at, attributes_at, field_of, heading_of, type_of, type_at, heading_at, climb, binary_turn, project_turn, shut, form_at, within, reads}
-use Rattle.td_grammar.specs.Levels.{list_levels, named_levels, summary_levels, summaries_levels}
+use Rattle.td_grammar.specs.ForProofs.Reader as read
+use Rattle.td_grammar.specs.ForProofs.Reader.{Outcome, Reader, and_then, pure, refuse, same_word, look, at, tail, eat, expect, take_name, take_text, take_integer, at_name, at_type, take_infix, list_from, list_at, listed, up_to, renaming_at, attributes_at, field_of, heading_of, type_of, type_at, heading_at, climb, binary_turn, project_turn, shut, form_at, within, reads}
+use Rattle.td_grammar.specs.Levels.{named_levels}
+use Rattle.td_grammar.specs.ForProofs.Parts.{list_levels, summary_levels, summaries_levels}
 use Rattle.td_grammar.proofs.Depths.{some_level, of_call, of_tuple, of_relation, of_unary, of_binary, of_from, of_project, of_where, of_rename, of_nest, of_unnest, of_aggregate_all, of_aggregate, of_choice, of_extend, of_with, of_summarize}
 use Rattle.td_grammar.proofs.Places.{goes_on, lead, infix_shorter, infix_goes, infix_binds, shorter, named_shorter, named_list_shorter, named_summary_shorter, attributes_shorter, heading_shorter, attributes_goes, postfix_goes, postfix_binds, leads, exprs_lead, summaries_goes, expr_ends, no_target}
 use Rattle.td_grammar.proofs.Steps.{then_some, one_turn, no_turn, binary_reads, within_reads, ListOf, one, then_more, list_reads, bracket_closes, brace_closes, listed_reads, none_read, some_read, renamings_list, attributes_read, attributes_bind, project_reads, heading_reads, has_heading, no_heading, no_close, no_targets, no_call, expr_plain, not_plain, prefixed_plain, relational_infix}

@@ -7,7 +7,7 @@ use Rattle.td_tokens.specs.declared.token.Kind.TheVariants as k
 use Rattle.td_tokens.specs.Lex.{word, name, int, text}
 use Rattle.td_grammar.specs.declared.tree.BinaryOperator.TheVariants as binary
 use Rattle.td_grammar.specs.Grammar.{Tokens, Infix, infix_at, infix_after, infix_word, with_rest, not_matching, target_at, assign_at, binds, number_of}
-use Rattle.td_grammar.specs.Reader.{look, at, at_name, same_word, tail, word_number}
+use Rattle.td_grammar.specs.ForProofs.Reader.{look, at, at_name, same_word, tail, word_number}
 
 -- the number by the kind of the token
 abbrev pub number_by : Option Kind → ℕ

@@ -19,7 +19,8 @@ use Rattle.td_grammar.specs.declared.tree.Expr.TheVariants as e
 use Rattle.td_grammar.specs.declared.tree.Expr.TheOpen.{Expr-F}
 use Rattle.td_grammar.specs.declared.tree.Expr.TheFolds.{fold-roll-Expr}
 use Rattle.td_grammar.specs.declared.tree.Expr.TheShapes.{former-Expr-Summarize-2-at-5}
-use Rattle.td_grammar.specs.Levels.{list_levels, named_levels, summary_levels, summaries_levels, groups_levels, levels, levels_step, deepest, deepest_named, deepest_summary, of_summary}
+use Rattle.td_grammar.specs.Levels.{named_levels, levels, levels_step, deepest, deepest_named, deepest_summary, of_summary}
+use Rattle.td_grammar.specs.ForProofs.Parts.{list_levels, summary_levels, summaries_levels, groups_levels}
 
 some_step : (x : Expr-F ℕ) → 1 ≤ levels_step x
 some_step _ = grind arith

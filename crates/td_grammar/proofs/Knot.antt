@@ -2,7 +2,7 @@
 use Rattle.std.proofs.Common.{◌≡◌, ◌<◌, ◌-◌, ℕ, zero, suc, None, refl, arith}
 use Rattle.td_grammar.specs.declared.forms.Form.{Form}
 use Rattle.td_grammar.specs.Grammar.{Tokens}
-use Rattle.td_grammar.specs.Reader.{and_then, form_at, within, reads}
+use Rattle.td_grammar.specs.ForProofs.Reader.{and_then, form_at, within, reads}
 
 pub no_depth : (n b : ℕ) (g : Form) (ts : Tokens) → n ≡ 0 → reads n b g ts ≡ None
 unfolding reads

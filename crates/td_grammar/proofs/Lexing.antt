@@ -10,7 +10,7 @@ use Rattle.td_tokens.specs.Lexer.{reading, lexemes}
 use Rattle.td_tokens.specs.View.{lexeme_of, spanned_of}
 use Rattle.td_tokens.proofs.Readings.{names_are_names}
 use Rattle.td_tokens.proofs.OneReading.{one_reading}
-use Rattle.td_grammar.specs.Readings.{fits}
+use Rattle.td_grammar.specs.ForProofs.Readings.{fits}
 
 pub lexemes_spanned : (ts : List Token) → map (λ (t : Spanned). t.lexeme) (map spanned_of ts) ≡ map lexeme_of ts
 lexemes_spanned [] = refl

@@ -13,3 +13,4 @@ pub mod StatementsSound
 pub mod Lexing
 pub mod OneStatement
 pub mod Shallow
+pub mod Told

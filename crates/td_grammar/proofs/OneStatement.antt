@@ -10,9 +10,9 @@ use Rattle.td_grammar.specs.declared.script.Definition.{Definition}
 use Rattle.td_grammar.specs.Levels.{levels}
 use Rattle.td_grammar.specs.Grammar.{Tokens, most_levels}
 use Rattle.td_grammar.specs.Statements.{ReadsStatement, ReadsScript, IsStatement, IsScript, statement_levels, definitions_levels, statement_bytes, script_bytes}
-use Rattle.td_grammar.specs.Reader.{Outcome, reads, whole}
-use Rattle.td_grammar.specs.StatementReader as read
-use Rattle.td_grammar.specs.StatementReader.{statement_of_tokens, script_of_tokens, read_statement, read_script}
+use Rattle.td_grammar.specs.ForProofs.Reader.{Outcome, reads, whole}
+use Rattle.td_grammar.specs.ForProofs.StatementReader as read
+use Rattle.td_grammar.specs.ForProofs.StatementReader.{statement_of_tokens, script_of_tokens, read_statement, read_script}
 use Rattle.td_grammar.proofs.OneTree.{text_read, ended}
 use Rattle.td_grammar.proofs.Sound.{parts, sound}
 use Rattle.td_grammar.proofs.StatementsComplete.{statement_read, script_read}

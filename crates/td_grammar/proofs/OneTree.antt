@@ -7,7 +7,7 @@ use Rattle.td_grammar.specs.declared.forms.Form.TheVariants as f
 use Rattle.td_grammar.specs.declared.tree.Expr.{Expr}
 use Rattle.td_grammar.specs.Levels.{levels}
 use Rattle.td_grammar.specs.Grammar.{Tokens, Reads, IsExpr, IsQuery, most_levels, query_bytes}
-use Rattle.td_grammar.specs.Reader.{Outcome, reads, whole, outer, expr_of_tokens, read_expr}
+use Rattle.td_grammar.specs.ForProofs.Reader.{Outcome, reads, whole, outer, expr_of_tokens, read_expr}
 use Rattle.td_grammar.proofs.Places.{none_some}
 use Rattle.td_grammar.proofs.Complete.{read_nested}
 use Rattle.td_grammar.proofs.Sound.{parts, sound}

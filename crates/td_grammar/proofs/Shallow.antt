@@ -20,8 +20,8 @@ use Rattle.td_grammar.specs.declared.script.Definition.TheVariants as definition
 use Rattle.td_grammar.specs.Levels.{levels, named_levels}
 use Rattle.td_grammar.specs.Grammar.{Tokens}
 use Rattle.td_grammar.specs.Statements.{maybe_levels, action_levels, actions_levels, statement_levels, opening_levels, definition_levels, definitions_levels}
-use Rattle.td_grammar.specs.Reader.{Outcome, Reader, and_then, pure, at, tail, eat, expect, take_name, is_over, list_at, listed, attributes_at, heading_at, named_at}
-use Rattle.td_grammar.specs.StatementReader as read
+use Rattle.td_grammar.specs.ForProofs.Reader.{Outcome, Reader, and_then, pure, at, tail, eat, expect, take_name, is_over, list_at, listed, attributes_at, heading_at, named_at}
+use Rattle.td_grammar.specs.ForProofs.StatementReader as read
 use Rattle.td_grammar.proofs.Places.{none_some}
 use Rattle.td_grammar.proofs.Sound.{bound, tested, eaten, expected, a_name_read, made, Run, last, next, listed_run}
 

@@ -17,8 +17,8 @@ use Rattle.td_grammar.specs.declared.script.Definition.{Definition}
 use Rattle.td_grammar.specs.Levels.{levels, named_levels}
 use Rattle.td_grammar.specs.Grammar.{Tokens, Reads, ReadsFields, last_field, next_field, IsList, last_item, next_item}
 use Rattle.td_grammar.specs.Statements.{ReadsSets, sets, sets_braces, sets_colon, ReadsAction, assign, insert, delete_all, delete_where, update_all, update_where, ReadsStatement, assignment, maybe_levels, action_levels, actions_levels, statement_levels, ReadsMaybeName, no_name, this_name, ReadsComponents, no_components, components, ReadsLimit, no_limit, limit, ReadsOpening, empty, headed_init, init, ReadsKeys, last_key, next_key, IsBase, base_word, real_word, ReadsDefinition, type_, base, virtual, constraint, ReadsScript, nothing, define, opening_levels, definition_levels, definitions_levels}
-use Rattle.td_grammar.specs.Reader.{Outcome, Reader, same_word, at, at_name, eat, expect, take_name, is_over, reads}
-use Rattle.td_grammar.specs.StatementReader as read
+use Rattle.td_grammar.specs.ForProofs.Reader.{Outcome, Reader, same_word, at, at_name, eat, expect, take_name, is_over, reads}
+use Rattle.td_grammar.specs.ForProofs.StatementReader as read
 use Rattle.td_grammar.proofs.Places.{goes_on, shorter, named_list_shorter, attributes_shorter, heading_shorter, fields_shorter}
 use Rattle.td_grammar.proofs.Steps.{ListOf, one, then_more, list_reads, Closes, bracket_closes, brace_closes, listed_reads, attributes_read, heading_reads, fields_list}
 use Rattle.td_grammar.proofs.Complete.{read_nested, named_list_read, assigned_begins, bracket_ends, brace_ends}

@@ -21,8 +21,8 @@ use Rattle.td_grammar.specs.declared.script.Definition.{Definition}
 use Rattle.td_grammar.specs.declared.script.Definition.TheVariants as definition
 use Rattle.td_grammar.specs.Grammar.{Tokens, Reads, ReadsAttributes, ReadsHeading, IsList, last_item, next_item}
 use Rattle.td_grammar.specs.Statements.{ReadsSets, sets, sets_braces, sets_colon, ReadsAction, assign, insert, delete_all, delete_where, update_all, update_where, ReadsStatement, assignment, ReadsMaybeName, no_name, this_name, ReadsComponents, no_components, components, ReadsLimit, no_limit, limit, ReadsOpening, empty, headed_init, init, ReadsKeys, last_key, next_key, IsBase, base_word, real_word, ReadsDefinition, type_, base, virtual, constraint, ReadsScript, nothing, define}
-use Rattle.td_grammar.specs.Reader.{Outcome, Reader, and_then, pure, at, at_name, tail, attributes_at, heading_at, field_of, type_at, listed, named_at}
-use Rattle.td_grammar.specs.StatementReader as read
+use Rattle.td_grammar.specs.ForProofs.Reader.{Outcome, Reader, and_then, pure, at, at_name, tail, attributes_at, heading_at, field_of, type_at, listed, named_at}
+use Rattle.td_grammar.specs.ForProofs.StatementReader as read
 use Rattle.td_grammar.proofs.Places.{none_some}
 use Rattle.td_grammar.proofs.Sound.{bound, parts, tested, at_word, eaten, expected, a_name_read, made, Run, last, next, list_run, listed_run, attributes_sound, heading_sound, type_sound, fields_of, Sound, ended, named_list_of}
 

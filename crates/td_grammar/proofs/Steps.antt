@@ -15,8 +15,8 @@ use Rattle.td_grammar.specs.declared.tree.Expr.TheVariants as e
 use Rattle.td_grammar.specs.Levels.{levels}
 use Rattle.td_grammar.specs.Grammar.{Tokens, Infix, infix_at, target_at, assign_at, binds}
 use Rattle.td_grammar.specs.Grammar.{IsList, last_item, next_item, IsName, a_name, IsRenaming, a_renaming, ReadsAttributes, no_names, names, but_none, but, ReadsType, boolean, integer_type, char, character, user, tuple_type, relation_type, ReadsHeading, no_fields, fields, ReadsFields, last_field, next_field}
-use Rattle.td_grammar.specs.Reader as read
-use Rattle.td_grammar.specs.Reader.{Outcome, Reader, and_then, pure, refuse, same_word, look, at, tail, eat, expect, take_name, take_text, at_name, at_type, take_infix, list_from, list_at, listed, up_to, renaming_at, attributes_at, field_of, heading_of, type_of, type_at, heading_at, climb, binary_turn, project_turn, shut, form_at, within, reads}
+use Rattle.td_grammar.specs.ForProofs.Reader as read
+use Rattle.td_grammar.specs.ForProofs.Reader.{Outcome, Reader, and_then, pure, refuse, same_word, look, at, tail, eat, expect, take_name, take_text, at_name, at_type, take_infix, list_from, list_at, listed, up_to, renaming_at, attributes_at, field_of, heading_of, type_of, type_at, heading_at, climb, binary_turn, project_turn, shut, form_at, within, reads}
 use Rattle.td_grammar.proofs.Places.{goes_on, lead, name_lead, tuple_lead, name_shorter, renaming_shorter, type_shorter}
 
 pub then_some : {A B : Type 0} (o : Outcome A) (a : A) (r : Tokens) (g : A → Reader B) → o ≡ Some (a, r) → and_then o g ≡ g a r

@@ -8,7 +8,8 @@ use Rattle.td_grammar.specs.declared.tree.Groups.{Groups}
 use Rattle.td_grammar.specs.declared.tree.Summary.{Summary}
 use Rattle.td_grammar.specs.declared.tree.Expr.{Expr}
 use Rattle.td_grammar.specs.declared.tree.Expr.TheVariants as e
-use Rattle.td_grammar.specs.Levels.{levels, list_levels, named_levels, summary_levels, summaries_levels, groups_levels}
+use Rattle.td_grammar.specs.Levels.{levels, named_levels}
+use Rattle.td_grammar.specs.ForProofs.Parts.{list_levels, summary_levels, summaries_levels, groups_levels}
 use Rattle.td_grammar.specs.declared.tree.TypeExpr.{TypeExpr}
 use Rattle.td_grammar.specs.declared.tree.Extension.{Extension}
 use Rattle.td_grammar.proofs.Depths.{some_level, of_call, of_relation, of_tuple, of_extend, of_with, of_summarize}

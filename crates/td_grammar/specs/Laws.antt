@@ -7,8 +7,8 @@ use Rattle.td_grammar.specs.declared.script.Statement.{Statement}
 use Rattle.td_grammar.specs.declared.script.Definition.{Definition}
 use Rattle.td_grammar.specs.Grammar.{Tokens, Reads, IsQuery}
 use Rattle.td_grammar.specs.Statements.{ReadsStatement, ReadsScript, IsStatement, IsScript}
-use Rattle.td_grammar.specs.Reader.{read_expr}
-use Rattle.td_grammar.specs.StatementReader.{read_statement, read_script}
+use Rattle.td_grammar.specs.ForProofs.Reader.{read_expr}
+use Rattle.td_grammar.specs.ForProofs.StatementReader.{read_statement, read_script}
 
 -- no token list is two expressions
 abbrev pub OneExpr : Type 0

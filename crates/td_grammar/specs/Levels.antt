@@ -63,24 +63,7 @@ levels_step (Expr-F.With all a) = suc (max (deepest_named all) a)
 abbrev pub levels : Expr → ℕ
 levels = fold-Expr ℕ levels_step
 
--- ---- the levels of lists and groups
-
-abbrev pub list_levels : List Expr → ℕ
-list_levels [] = 0
-list_levels (a ∷ all) = max (levels a) (list_levels all)
-
+-- the levels of the deepest
 abbrev pub named_levels : List (Named Expr) → ℕ
 named_levels [] = 0
 named_levels (x ∷ xs) = max (levels x.value) (named_levels xs)
-
-abbrev pub summary_levels : Summary Expr → ℕ
-summary_levels summary.Count = 0
-summary_levels (summary.Of g a) = levels a
-
-abbrev pub summaries_levels : List (Named (Summary Expr)) → ℕ
-summaries_levels [] = 0
-summaries_levels (x ∷ xs) = max (summary_levels x.value) (summaries_levels xs)
-
-abbrev pub groups_levels : Groups Expr → ℕ
-groups_levels (groups.Per a) = levels a
-groups_levels _ = 0

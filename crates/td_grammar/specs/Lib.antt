@@ -1,8 +1,5 @@
+pub mod ForProofs
 pub mod Grammar
 pub mod Laws
 pub mod Levels
-pub mod Reader
-pub mod Readings
-pub mod Refusals
 pub mod Statements
-pub mod StatementReader

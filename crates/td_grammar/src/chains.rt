@@ -1,8 +1,8 @@
 //! Operators, and what they stand between.
 
-ghost use Rattle.td_grammar.specs.Reader as spec;
-ghost use Rattle.td_grammar.specs.Reader.{Reader, reads};
-ghost use Rattle.td_grammar.specs.Readings.{Follows, Gives, GoesOn, Nests};
+ghost use Rattle.td_grammar.specs.ForProofs.Reader as spec;
+ghost use Rattle.td_grammar.specs.ForProofs.Reader.{Reader, reads};
+ghost use Rattle.td_grammar.specs.ForProofs.Readings.{Follows, Gives, GoesOn, Nests};
 
 use crate::binding::{
     ADDITIVE, COMPARISON, CONJUNCTION, DISJUNCTION, MULTIPLICATIVE, NOTHING, PROJECTION, RELATIONAL,
@@ -18,7 +18,7 @@ use sqlite_items::Boxed;
 use std::alloc::Global;
 use td_tokens::token::{Kind, Word};
 
-#[tactic(auto, unfolding(crate::specs::Reader::project_turn))]
+#[tactic(auto, unfolding(crate::specs::ForProofs::Reader::project_turn))]
 fn project(alloc: Global, tokens: &mut Cursor<'_>, left: Tree) -> Result<Tree, ReadError>
     ensures { Gives (spec.project_turn left tokens.old) result tokens.new }
 {
@@ -26,7 +26,7 @@ fn project(alloc: Global, tokens: &mut Cursor<'_>, left: Tree) -> Result<Tree, R
     Ok(Boxed::new(alloc, Expr::Project(left, kept))?)
 }
 
-#[tactic(auto, unfolding(crate::specs::Reader::rename_turn))]
+#[tactic(auto, unfolding(crate::specs::ForProofs::Reader::rename_turn))]
 fn rename(alloc: Global, tokens: &mut Cursor<'_>, left: Tree) -> Result<Tree, ReadError>
     ensures { Gives (spec.rename_turn left tokens.old) result tokens.new }
 {
@@ -39,7 +39,7 @@ fn rename(alloc: Global, tokens: &mut Cursor<'_>, left: Tree) -> Result<Tree, Re
     Ok(Boxed::new(alloc, Expr::Rename(left, renamings))?)
 }
 
-#[tactic(auto, unfolding(crate::specs::Reader::nest_turn))]
+#[tactic(auto, unfolding(crate::specs::ForProofs::Reader::nest_turn))]
 fn nest(
     alloc: Global,
     tokens: &mut Cursor<'_>,
@@ -56,7 +56,7 @@ fn nest(
     Ok(Boxed::new(alloc, Expr::Nest(nesting, left, inside, name))?)
 }
 
-#[tactic(auto, unfolding(crate::specs::Reader::unnest_turn))]
+#[tactic(auto, unfolding(crate::specs::ForProofs::Reader::unnest_turn))]
 fn unnest(
     alloc: Global,
     tokens: &mut Cursor<'_>,
@@ -124,16 +124,16 @@ impl<F: Fn(Global, &mut Cursor<'_>, usize, usize, Form) -> Result<Tree, ReadErro
         climb(tokens, PROJECTION, self.levels, first, turn)
     }
 
-    #[tactic(auto, unfolding(crate::specs::Reader::prefix))]
+    #[tactic(auto, unfolding(crate::specs::ForProofs::Reader::prefix))]
     fn prefix(&self, tokens: &mut Cursor<'_>, operator: UnaryOperator) -> Result<Tree, ReadError>
         requires { Nests self.now.depth (F.pre self.now.nested) (F.post self.now.nested) }
         ensures { Gives (spec.prefix (reads self.now.depth) self.now.levels operator tokens.old) result tokens.new }
     {
         let operand = self.nested(tokens, self.levels, Form::Prefixed)?;
-        self.tree(Expr::Unary(operator, operand))
+        Ok(self.tree(Expr::Unary(operator, operand))?)
     }
 
-    #[tactic(auto, unfolding(crate::specs::Reader::attribute_from))]
+    #[tactic(auto, unfolding(crate::specs::ForProofs::Reader::attribute_from))]
     fn attribute_from(&self, tokens: &mut Cursor<'_>) -> Result<Tree, ReadError>
         requires { Nests self.now.depth (F.pre self.now.nested) (F.post self.now.nested) }
         ensures { Gives (spec.attribute_from (reads self.now.depth) self.now.levels tokens.old) result tokens.new }
@@ -141,10 +141,10 @@ impl<F: Fn(Global, &mut Cursor<'_>, usize, usize, Form) -> Result<Tree, ReadErro
         let name = tokens.name(self.alloc)?;
         tokens.expect(Word::From)?;
         let tuple = self.nested(tokens, self.levels, Form::Prefixed)?;
-        self.tree(Expr::From(name, tuple))
+        Ok(self.tree(Expr::From(name, tuple))?)
     }
 
-    #[tactic(auto, unfolding(crate::specs::Reader::prefixed_at))]
+    #[tactic(auto, unfolding(crate::specs::ForProofs::Reader::prefixed_at))]
     pub fn prefixed(&self, tokens: &mut Cursor<'_>) -> Result<Tree, ReadError>
         requires { Nests self.now.depth (F.pre self.now.nested) (F.post self.now.nested) }
         ensures { Gives (spec.prefixed_at (reads self.now.depth) self.now.levels tokens.old) result tokens.new }
@@ -184,24 +184,24 @@ impl<F: Fn(Global, &mut Cursor<'_>, usize, usize, Form) -> Result<Tree, ReadErro
         operators(self.alloc, tokens, ADDITIVE, self.levels, operand)
     }
 
-    #[tactic(auto, unfolding(crate::specs::Reader::where_turn))]
+    #[tactic(auto, unfolding(crate::specs::ForProofs::Reader::where_turn))]
     fn restrict(&self, tokens: &mut Cursor<'_>, left: Tree) -> Result<Tree, ReadError>
         requires { Nests self.now.depth (F.pre self.now.nested) (F.post self.now.nested) }
         ensures { Gives (spec.where_turn (reads self.now.depth) self.now.levels left tokens.old) result tokens.new }
     {
         let condition = self.inner(tokens)?;
-        self.tree(Expr::Where(left, condition))
+        Ok(self.tree(Expr::Where(left, condition))?)
     }
 
     // An operator as JOIN, and a sum.
-    #[tactic(auto, unfolding(crate::specs::Reader::binary_turn))]
+    #[tactic(auto, unfolding(crate::specs::ForProofs::Reader::binary_turn))]
     fn joined(&self, tokens: &mut Cursor<'_>, left: Tree) -> Result<Tree, ReadError>
         requires { Nests self.now.depth (F.pre self.now.nested) (F.post self.now.nested) }
         ensures { Gives (spec.binary_turn (spec.additive_at (reads self.now.depth) self.now.levels) left tokens.old) result tokens.new }
     {
         let operator = tokens.infix()?;
         let right = self.additive(tokens)?;
-        self.tree(Expr::Binary(operator, left, right))
+        Ok(self.tree(Expr::Binary(operator, left, right))?)
     }
 
     fn relational_word(
@@ -242,7 +242,7 @@ impl<F: Fn(Global, &mut Cursor<'_>, usize, usize, Form) -> Result<Tree, ReadErro
         }
     }
 
-    #[tactic(auto, unfolding(crate::specs::Reader::relational_turn))]
+    #[tactic(auto, unfolding(crate::specs::ForProofs::Reader::relational_turn))]
     fn relational_turn(&self, tokens: &mut Cursor<'_>, left: Tree) -> Result<Tree, ReadError>
         requires { Nests self.now.depth (F.pre self.now.nested) (F.post self.now.nested) }
         ensures { Gives (spec.relational_turn (reads self.now.depth) self.now.levels left tokens.old) result tokens.new }
@@ -270,7 +270,7 @@ impl<F: Fn(Global, &mut Cursor<'_>, usize, usize, Form) -> Result<Tree, ReadErro
         operators(self.alloc, tokens, COMPARISON, 1, operand)
     }
 
-    #[tactic(auto, unfolding(crate::specs::Reader::not_at))]
+    #[tactic(auto, unfolding(crate::specs::ForProofs::Reader::not_at))]
     pub fn negation(&self, tokens: &mut Cursor<'_>) -> Result<Tree, ReadError>
         requires { Nests self.now.depth (F.pre self.now.nested) (F.post self.now.nested) }
         ensures { Gives (spec.not_at (reads self.now.depth) self.now.levels tokens.old) result tokens.new }
@@ -278,7 +278,7 @@ impl<F: Fn(Global, &mut Cursor<'_>, usize, usize, Form) -> Result<Tree, ReadErro
         if tokens.at(Word::Not) {
             tokens.skip();
             let operand = self.nested(tokens, self.levels, Form::Not)?;
-            return self.tree(Expr::Unary(UnaryOperator::Not, operand));
+            return Ok(self.tree(Expr::Unary(UnaryOperator::Not, operand))?);
         }
         self.comparison(tokens)
     }
@@ -299,7 +299,7 @@ impl<F: Fn(Global, &mut Cursor<'_>, usize, usize, Form) -> Result<Tree, ReadErro
         operators(self.alloc, tokens, DISJUNCTION, self.levels, operand)
     }
 
-    #[tactic(auto, unfolding(crate::specs::Reader::with_after))]
+    #[tactic(auto, unfolding(crate::specs::ForProofs::Reader::with_after))]
     fn with_after(&self, tokens: &mut Cursor<'_>) -> Result<Tree, ReadError>
         requires { Nests self.now.depth (F.pre self.now.nested) (F.post self.now.nested) }
         ensures { Gives (spec.with_after (reads self.now.depth) self.now.levels tokens.old) result tokens.new }
@@ -307,10 +307,10 @@ impl<F: Fn(Global, &mut Cursor<'_>, usize, usize, Form) -> Result<Tree, ReadErro
         let introduced = self.named_list(tokens, Naming::After)?;
         tokens.expect(Word::Colon)?;
         let body = self.inner(tokens)?;
-        self.tree(Expr::With(introduced, body))
+        Ok(self.tree(Expr::With(introduced, body))?)
     }
 
-    #[tactic(auto, unfolding(crate::specs::Reader::with_assigned))]
+    #[tactic(auto, unfolding(crate::specs::ForProofs::Reader::with_assigned))]
     fn with_assigned(&self, tokens: &mut Cursor<'_>) -> Result<Tree, ReadError>
         requires { Nests self.now.depth (F.pre self.now.nested) (F.post self.now.nested) }
         ensures { Gives (spec.with_assigned (reads self.now.depth) self.now.levels tokens.old) result tokens.new }
@@ -319,10 +319,10 @@ impl<F: Fn(Global, &mut Cursor<'_>, usize, usize, Form) -> Result<Tree, ReadErro
         let introduced = self.named_listed(tokens, Word::CloseParenthesis, Naming::Assigned)?;
         tokens.expect(Word::Colon)?;
         let body = self.inner(tokens)?;
-        self.tree(Expr::With(introduced, body))
+        Ok(self.tree(Expr::With(introduced, body))?)
     }
 
-    #[tactic(auto, unfolding(crate::specs::Reader::with_at))]
+    #[tactic(auto, unfolding(crate::specs::ForProofs::Reader::with_at))]
     fn with(&self, tokens: &mut Cursor<'_>) -> Result<Tree, ReadError>
         requires { Nests self.now.depth (F.pre self.now.nested) (F.post self.now.nested) }
         ensures { Gives (spec.with_at (reads self.now.depth) self.now.levels tokens.old) result tokens.new }
@@ -334,7 +334,7 @@ impl<F: Fn(Global, &mut Cursor<'_>, usize, usize, Form) -> Result<Tree, ReadErro
         }
     }
 
-    #[tactic(auto, unfolding(crate::specs::Reader::expr_at, crate::specs::Reader::greedy))]
+    #[tactic(auto, unfolding(crate::specs::ForProofs::Reader::expr_at, crate::specs::ForProofs::Reader::greedy))]
     pub fn expr(&self, tokens: &mut Cursor<'_>) -> Result<Tree, ReadError>
         requires { Nests self.now.depth (F.pre self.now.nested) (F.post self.now.nested) }
         ensures { Gives (spec.expr_at (reads self.now.depth) self.now.levels tokens.old) result tokens.new }

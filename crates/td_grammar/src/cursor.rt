@@ -4,8 +4,8 @@ ghost use Rattle.std.specs.Prelude.{◌≡◌, length, map, true, Option};
 ghost use Rattle.std.specs.List.{list_all};
 ghost use Rattle.td_tokens.specs.View.{lexeme_of};
 ghost use Rattle.td_grammar.specs.Grammar as grammar;
-ghost use Rattle.td_grammar.specs.Reader as spec;
-ghost use Rattle.td_grammar.specs.Readings.{Gives, Tells, fits};
+ghost use Rattle.td_grammar.specs.ForProofs.Reader as spec;
+ghost use Rattle.td_grammar.specs.ForProofs.Readings.{Gives, Tells, fits};
 
 use crate::binding::{
     ADDITIVE, COMPARISON, CONJUNCTION, DISJUNCTION, MULTIPLICATIVE, NOTHING, PROJECTION, RELATIONAL,
@@ -28,7 +28,7 @@ impl<'a> Model for Cursor<'a> {
     ghost use Rattle.std.specs.List.{list_all};
     ghost use Rattle.td_tokens.specs.Lex.{Lexeme};
     ghost use Rattle.td_tokens.specs.View.{lexeme_of};
-    ghost use Rattle.td_grammar.specs.Readings.{fits};
+    ghost use Rattle.td_grammar.specs.ForProofs.Readings.{fits};
 
     ghost Value = { List Lexeme };
 
@@ -37,7 +37,7 @@ impl<'a> Model for Cursor<'a> {
     ghost invariant = { λ t. list_all fits (map lexeme_of t.rest.now) ≡ true };
 }
 
-#[tactic(auto, unfolding(crate::specs::Reader::same_word))]
+#[tactic(auto, unfolding(crate::specs::ForProofs::Reader::same_word))]
 pub fn same_word(a: Word, b: Word) -> bool
     ensures { result ≡ spec.same_word a b }
 {
@@ -157,7 +157,7 @@ impl<'a> Cursor<'a> {
     }
 
     /// Whether the word comes next.
-    #[tactic(auto, unfolding(crate::specs::Reader::at))]
+    #[tactic(auto, unfolding(crate::specs::ForProofs::Reader::at))]
     pub fn at(&self, word: Word) -> bool
         ensures { result ≡ spec.at word self.now }
     {
@@ -168,7 +168,7 @@ impl<'a> Cursor<'a> {
     }
 
     /// Whether the word comes after the next token.
-    #[tactic(auto, unfolding(crate::specs::Reader::at))]
+    #[tactic(auto, unfolding(crate::specs::ForProofs::Reader::at))]
     pub fn then_at(&self, word: Word) -> bool
         ensures { result ≡ spec.at word (spec.tail self.now) }
     {
@@ -179,7 +179,7 @@ impl<'a> Cursor<'a> {
     }
 
     /// Whether a name comes next.
-    #[tactic(auto, unfolding(crate::specs::Reader::at_name))]
+    #[tactic(auto, unfolding(crate::specs::ForProofs::Reader::at_name))]
     pub fn at_name(&self) -> bool
         ensures { result ≡ spec.at_name self.now }
     {
@@ -198,7 +198,7 @@ impl<'a> Cursor<'a> {
     }
 
     /// Takes the word if it comes next.
-    #[tactic(auto, unfolding(crate::specs::Reader::eat))]
+    #[tactic(auto, unfolding(crate::specs::ForProofs::Reader::eat))]
     pub fn eat(&mut self, word: Word) -> bool
         ensures { spec.eat word self.old ≡ spec.pure result self.new }
     {
@@ -210,7 +210,7 @@ impl<'a> Cursor<'a> {
     }
 
     /// Takes the word, which has to come next.
-    #[tactic(auto, unfolding(crate::specs::Reader::expect))]
+    #[tactic(auto, unfolding(crate::specs::ForProofs::Reader::expect))]
     pub fn expect(&mut self, word: Word) -> Result<(), ReadError>
         ensures { Gives (spec.expect word self.old) result self.new }
     {
@@ -223,7 +223,7 @@ impl<'a> Cursor<'a> {
     }
 
     /// Takes a name.
-    #[tactic(auto, unfolding(crate::specs::Reader::take_name))]
+    #[tactic(auto, unfolding(crate::specs::ForProofs::Reader::take_name))]
     pub fn name(&mut self, alloc: Global) -> Result<Name, ReadError>
         ensures { Gives (spec.take_name self.old) result self.new }
     {
@@ -238,7 +238,7 @@ impl<'a> Cursor<'a> {
     }
 
     /// Takes a text literal.
-    #[tactic(auto, unfolding(crate::specs::Reader::take_text))]
+    #[tactic(auto, unfolding(crate::specs::ForProofs::Reader::take_text))]
     pub fn text(&mut self, alloc: Global) -> Result<Text, ReadError>
         ensures { Gives (spec.take_text self.old) result self.new }
     {
@@ -253,7 +253,7 @@ impl<'a> Cursor<'a> {
     }
 
     /// Takes an integer.
-    #[tactic(auto, unfolding(crate::specs::Reader::take_integer))]
+    #[tactic(auto, unfolding(crate::specs::ForProofs::Reader::take_integer))]
     pub fn integer(&mut self) -> Result<i64, ReadError>
         ensures { Gives (spec.take_integer self.old) result self.new }
     {
@@ -293,7 +293,7 @@ impl<'a> Cursor<'a> {
     }
 
     /// Whether a type comes next.
-    #[tactic(auto, unfolding(crate::specs::Reader::at_type))]
+    #[tactic(auto, unfolding(crate::specs::ForProofs::Reader::at_type))]
     fn at_type(&self) -> bool
         ensures { result ≡ spec.at_type self.now }
     {
@@ -305,7 +305,7 @@ impl<'a> Cursor<'a> {
     }
 
     /// Whether the braces that come next are those of a heading.
-    #[tactic(auto, unfolding(crate::specs::Reader::has_heading))]
+    #[tactic(auto, unfolding(crate::specs::ForProofs::Reader::has_heading))]
     pub fn has_heading(&self) -> bool
         ensures { result ≡ spec.has_heading self.now }
     {
@@ -332,7 +332,7 @@ impl<'a> Cursor<'a> {
     }
 
     /// Takes an infix operator.
-    #[tactic(auto, unfolding(crate::specs::Reader::take_infix), using(crate::proofs::Cursors::infix_by_look))]
+    #[tactic(auto, unfolding(crate::specs::ForProofs::Reader::take_infix), using(crate::proofs::Cursors::infix_by_look))]
     pub fn infix(&mut self) -> Result<BinaryOperator, ReadError>
         ensures { Gives (spec.take_infix self.old) result self.new }
     {

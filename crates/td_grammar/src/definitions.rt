@@ -1,9 +1,9 @@
 //! Definitions from tokens.
 
 ghost use Rattle.std.specs.Prelude.{◌≡◌, length, List, []};
-ghost use Rattle.td_grammar.specs.Reader.{reads};
-ghost use Rattle.td_grammar.specs.Readings.{Gives, Nests, Tells};
-ghost use Rattle.td_grammar.specs.StatementReader as spec;
+ghost use Rattle.td_grammar.specs.ForProofs.Reader.{reads};
+ghost use Rattle.td_grammar.specs.ForProofs.Readings.{Gives, Nests, Tells};
+ghost use Rattle.td_grammar.specs.ForProofs.StatementReader as spec;
 
 use crate::cursor::Cursor;
 use crate::error::ReadError;
@@ -18,7 +18,7 @@ use std::alloc::Global;
 use td_tokens::token::Word;
 use td_values::Name;
 
-#[tactic(auto, unfolding(crate::specs::StatementReader::maybe_name))]
+#[tactic(auto, unfolding(crate::specs::ForProofs::StatementReader::maybe_name))]
 fn maybe_name(alloc: Global, tokens: &mut Cursor<'_>) -> Result<Option<Name>, ReadError>
     ensures { Gives (spec.maybe_name tokens.old) result tokens.new }
 {
@@ -44,7 +44,7 @@ fn keys(alloc: Global, tokens: &mut Cursor<'_>) -> Result<Items<Attributes>, Rea
 
 impl<F: Fn(Global, &mut Cursor<'_>, usize, usize, Form) -> Result<Tree, ReadError>> Grammar<F> {
     // The name after TYPE, and what it names.
-    #[tactic(auto, unfolding(crate::specs::StatementReader::type_definition))]
+    #[tactic(auto, unfolding(crate::specs::ForProofs::StatementReader::type_definition))]
     fn type_definition(&self, tokens: &mut Cursor<'_>) -> Result<Definition, ReadError>
         requires { Nests self.now.depth (F.pre self.now.nested) (F.post self.now.nested) }
         ensures { Gives (spec.type_definition (reads self.now.depth) self.now.levels tokens.old) result tokens.new }
@@ -61,7 +61,7 @@ impl<F: Fn(Global, &mut Cursor<'_>, usize, usize, Form) -> Result<Tree, ReadErro
     }
 
     // An expression in round brackets.
-    #[tactic(auto, unfolding(crate::specs::StatementReader::bracketed))]
+    #[tactic(auto, unfolding(crate::specs::ForProofs::StatementReader::bracketed))]
     fn bracketed(&self, tokens: &mut Cursor<'_>) -> Result<Tree, ReadError>
         requires { Nests self.now.depth (F.pre self.now.nested) (F.post self.now.nested) }
         ensures { Gives (spec.bracketed (reads self.now.depth) self.now.levels tokens.old) result tokens.new }
@@ -72,7 +72,7 @@ impl<F: Fn(Global, &mut Cursor<'_>, usize, usize, Form) -> Result<Tree, ReadErro
         Ok(inside)
     }
 
-    #[tactic(auto, unfolding(crate::specs::StatementReader::opening_at))]
+    #[tactic(auto, unfolding(crate::specs::ForProofs::StatementReader::opening_at))]
     fn opening(&self, tokens: &mut Cursor<'_>) -> Result<Opening, ReadError>
         requires { Nests self.now.depth (F.pre self.now.nested) (F.post self.now.nested) }
         ensures { Gives (spec.opening_at (reads self.now.depth) self.now.levels tokens.old) result tokens.new }
@@ -88,7 +88,7 @@ impl<F: Fn(Global, &mut Cursor<'_>, usize, usize, Form) -> Result<Tree, ReadErro
         Ok(Opening::Init(None, self.bracketed(tokens)?))
     }
 
-    #[tactic(auto, unfolding(crate::specs::StatementReader::base_definition))]
+    #[tactic(auto, unfolding(crate::specs::ForProofs::StatementReader::base_definition))]
     fn base_definition(&self, tokens: &mut Cursor<'_>, name: Name) -> Result<Definition, ReadError>
         requires { Nests self.now.depth (F.pre self.now.nested) (F.post self.now.nested) }
         ensures { Gives (spec.base_definition (reads self.now.depth) self.now.levels name tokens.old) result tokens.new }
@@ -99,7 +99,7 @@ impl<F: Fn(Global, &mut Cursor<'_>, usize, usize, Form) -> Result<Tree, ReadErro
         Ok(Definition::Base(name, opening, keys))
     }
 
-    #[tactic(auto, unfolding(crate::specs::StatementReader::virtual_definition))]
+    #[tactic(auto, unfolding(crate::specs::ForProofs::StatementReader::virtual_definition))]
     fn virtual_definition(
         &self,
         tokens: &mut Cursor<'_>,
@@ -114,7 +114,7 @@ impl<F: Fn(Global, &mut Cursor<'_>, usize, usize, Form) -> Result<Tree, ReadErro
     }
 
     // The name after VAR, and what it names.
-    #[tactic(auto, unfolding(crate::specs::StatementReader::relvar_definition))]
+    #[tactic(auto, unfolding(crate::specs::ForProofs::StatementReader::relvar_definition))]
     fn relvar_definition(&self, tokens: &mut Cursor<'_>) -> Result<Definition, ReadError>
         requires { Nests self.now.depth (F.pre self.now.nested) (F.post self.now.nested) }
         ensures { Gives (spec.relvar_definition (reads self.now.depth) self.now.levels tokens.old) result tokens.new }
@@ -133,7 +133,7 @@ impl<F: Fn(Global, &mut Cursor<'_>, usize, usize, Form) -> Result<Tree, ReadErro
     }
 
     // The name after CONSTRAINT, and what has to be true.
-    #[tactic(auto, unfolding(crate::specs::StatementReader::constraint_definition))]
+    #[tactic(auto, unfolding(crate::specs::ForProofs::StatementReader::constraint_definition))]
     fn constraint_definition(&self, tokens: &mut Cursor<'_>) -> Result<Definition, ReadError>
         requires { Nests self.now.depth (F.pre self.now.nested) (F.post self.now.nested) }
         ensures { Gives (spec.constraint_definition (reads self.now.depth) self.now.levels tokens.old) result tokens.new }
@@ -144,7 +144,7 @@ impl<F: Fn(Global, &mut Cursor<'_>, usize, usize, Form) -> Result<Tree, ReadErro
         Ok(Definition::Constraint(name, condition))
     }
 
-    #[tactic(auto, unfolding(crate::specs::StatementReader::definition_at))]
+    #[tactic(auto, unfolding(crate::specs::ForProofs::StatementReader::definition_at))]
     fn definition(&self, tokens: &mut Cursor<'_>) -> Result<Definition, ReadError>
         requires { Nests self.now.depth (F.pre self.now.nested) (F.post self.now.nested) }
         ensures { Gives (spec.definition_at (reads self.now.depth) self.now.levels tokens.old) result tokens.new }

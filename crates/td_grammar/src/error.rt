@@ -1,7 +1,7 @@
 //! Why a text has no tree.
 
 ghost use Rattle.std.specs.Prelude.{◌≡◌};
-ghost use Rattle.td_grammar.specs.Refusals.{read_token, read_name};
+ghost use Rattle.td_grammar.specs.ForProofs.Refusals.{read_token, read_name};
 ghost use Rattle.td_grammar.specs.declared.error.ReadError.TheVariants as read_error;
 
 use std::alloc::AllocError;

@@ -1,10 +1,10 @@
 //! Expressions from tokens. The rules that hold expressions take the reader of those as a parameter, so that each is
 //! proved by itself, and only `expr` calls itself.
 
-ghost use Rattle.std.specs.Prelude.{◌≡◌, ◌<◌, suc, Some};
-ghost use Rattle.td_grammar.specs.Reader as spec;
-ghost use Rattle.td_grammar.specs.Reader.{reads};
-ghost use Rattle.td_grammar.specs.Readings.{Gives, Nests, Tells};
+ghost use Rattle.std.specs.Prelude.{◌≡◌, ◌<◌, suc, IfOk};
+ghost use Rattle.td_grammar.specs.ForProofs.Reader as spec;
+ghost use Rattle.td_grammar.specs.ForProofs.Reader.{reads};
+ghost use Rattle.td_grammar.specs.ForProofs.Readings.{Gives, Nests};
 
 use crate::cursor::Cursor;
 use crate::error::ReadError;
@@ -12,7 +12,7 @@ use crate::forms::Form;
 use crate::levels::within;
 use crate::tree::Expr;
 use sqlite_items::Boxed;
-use std::alloc::Global;
+use std::alloc::{AllocError, Global};
 
 /// An expression on the heap.
 // A box is dropped by one call. Where a tree itself is dropped, as at an early return, there is a case to be proved for
@@ -52,10 +52,10 @@ impl<F: Fn(Global, &mut Cursor<'_>, usize, usize, Form) -> Result<Tree, ReadErro
     }
 
     /// A tree of one more form.
-    pub fn tree(&self, form: Expr) -> Result<Tree, ReadError>
-        ensures { Tells (Some form) result }
+    pub fn tree(&self, form: Expr) -> Result<Tree, AllocError>
+        ensures { IfOk result (λ tree. tree ≡ form) }
     {
-        Ok(Boxed::new(self.alloc, form)?)
+        Boxed::new(self.alloc, form)
     }
 
     pub fn form(&self, tokens: &mut Cursor<'_>, form: Form) -> Result<Tree, ReadError>
@@ -78,7 +78,7 @@ impl<F: Fn(Global, &mut Cursor<'_>, usize, usize, Form) -> Result<Tree, ReadErro
     }
 
     // A form whose tree has at most as many levels as it may.
-    #[tactic(auto, unfolding(crate::specs::Reader::within))]
+    #[tactic(auto, unfolding(crate::specs::ForProofs::Reader::within))]
     fn limited(&self, tokens: &mut Cursor<'_>, form: Form) -> Result<Tree, ReadError>
         requires { Nests self.now.depth (F.pre self.now.nested) (F.post self.now.nested) }
         ensures { Gives (spec.and_then (spec.form_at (reads self.now.depth) self.now.levels form tokens.old) (spec.within (suc self.now.levels))) result tokens.new }

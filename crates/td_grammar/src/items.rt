@@ -1,9 +1,9 @@
 //! Lists of expressions.
 
 ghost use Rattle.std.specs.Prelude.{◌≡◌, IfOk};
-ghost use Rattle.td_grammar.specs.Reader as spec;
-ghost use Rattle.td_grammar.specs.Reader.{reads};
-ghost use Rattle.td_grammar.specs.Readings.{Gives, Nests};
+ghost use Rattle.td_grammar.specs.ForProofs.Reader as spec;
+ghost use Rattle.td_grammar.specs.ForProofs.Reader.{reads};
+ghost use Rattle.td_grammar.specs.ForProofs.Readings.{Gives, Nests};
 
 use crate::cursor::{Cursor, aggregate_of, same_word};
 use crate::error::ReadError;
@@ -41,7 +41,7 @@ impl<F: Fn(Global, &mut Cursor<'_>, usize, usize, Form) -> Result<Tree, ReadErro
     }
 
     /// An expression with a name.
-    #[tactic(auto, unfolding(crate::specs::Reader::named_at))]
+    #[tactic(auto, unfolding(crate::specs::ForProofs::Reader::named_at))]
     pub fn named(&self, tokens: &mut Cursor<'_>, naming: Naming) -> Result<Named<Tree>, ReadError>
         requires { Nests self.now.depth (F.pre self.now.nested) (F.post self.now.nested) }
         ensures { Gives (spec.named_at (reads self.now.depth) self.now.levels naming tokens.old) result tokens.new }
@@ -105,7 +105,7 @@ impl<F: Fn(Global, &mut Cursor<'_>, usize, usize, Form) -> Result<Tree, ReadErro
         up_to(self.alloc, tokens, end, item)
     }
 
-    #[tactic(auto, unfolding(crate::specs::Reader::counted))]
+    #[tactic(auto, unfolding(crate::specs::ForProofs::Reader::counted))]
     pub fn counted(&self, tokens: &mut Cursor<'_>) -> Result<Summary<Tree>, ReadError>
         requires { Nests self.now.depth (F.pre self.now.nested) (F.post self.now.nested) }
         ensures { Gives (spec.counted (reads self.now.depth) self.now.levels tokens.old) result tokens.new }
@@ -115,7 +115,7 @@ impl<F: Fn(Global, &mut Cursor<'_>, usize, usize, Form) -> Result<Tree, ReadErro
         Ok(Summary::Count)
     }
 
-    #[tactic(auto, unfolding(crate::specs::Reader::summed))]
+    #[tactic(auto, unfolding(crate::specs::ForProofs::Reader::summed))]
     pub fn summed(
         &self,
         tokens: &mut Cursor<'_>,
@@ -147,7 +147,7 @@ impl<F: Fn(Global, &mut Cursor<'_>, usize, usize, Form) -> Result<Tree, ReadErro
         }
     }
 
-    #[tactic(auto, unfolding(crate::specs::Reader::summary_at))]
+    #[tactic(auto, unfolding(crate::specs::ForProofs::Reader::summary_at))]
     pub fn summary(&self, tokens: &mut Cursor<'_>) -> Result<Summary<Tree>, ReadError>
         requires { Nests self.now.depth (F.pre self.now.nested) (F.post self.now.nested) }
         ensures { Gives (spec.summary_at (reads self.now.depth) self.now.levels tokens.old) result tokens.new }
@@ -162,7 +162,7 @@ impl<F: Fn(Global, &mut Cursor<'_>, usize, usize, Form) -> Result<Tree, ReadErro
     }
 
     /// A summary with a name.
-    #[tactic(auto, unfolding(crate::specs::Reader::named_summary))]
+    #[tactic(auto, unfolding(crate::specs::ForProofs::Reader::named_summary))]
     pub fn named_summary(
         &self,
         tokens: &mut Cursor<'_>,
@@ -201,7 +201,7 @@ impl<F: Fn(Global, &mut Cursor<'_>, usize, usize, Form) -> Result<Tree, ReadErro
         listed(self.alloc, tokens, end, item)
     }
 
-    #[tactic(auto, unfolding(crate::specs::Reader::summaries))]
+    #[tactic(auto, unfolding(crate::specs::ForProofs::Reader::summaries))]
     pub fn summaries(
         &self,
         tokens: &mut Cursor<'_>,
@@ -220,7 +220,7 @@ impl<F: Fn(Global, &mut Cursor<'_>, usize, usize, Form) -> Result<Tree, ReadErro
 }
 
 /// Takes the closing bracket, where one was opened.
-#[tactic(auto, unfolding(crate::specs::Reader::shut))]
+#[tactic(auto, unfolding(crate::specs::ForProofs::Reader::shut))]
 pub fn shut(tokens: &mut Cursor<'_>, opened: bool) -> Result<(), ReadError>
     ensures { Gives (spec.shut opened tokens.old) result tokens.new }
 {

@@ -24,3 +24,11 @@ mod statements;
 mod tests;
 pub mod tree;
 pub mod types;
+
+pub use error::ReadError;
+pub use reader::{read_expr, read_script, read_statement};
+pub use script::{Action, Definition, Opening, Statement};
+pub use tree::{
+    Aggregate, Attributes, BinaryOperator, Expr, Extension, Groups, Named, Nesting, Renaming,
+    Summary, TypeExpr, UnaryOperator,
+};

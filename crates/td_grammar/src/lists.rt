@@ -1,9 +1,9 @@
 //! Lists with commas.
 
 ghost use Rattle.std.specs.Prelude.{◌≡◌};
-ghost use Rattle.td_grammar.specs.Reader as spec;
-ghost use Rattle.td_grammar.specs.Reader.{Reader};
-ghost use Rattle.td_grammar.specs.Readings.{Follows, Gives};
+ghost use Rattle.td_grammar.specs.ForProofs.Reader as spec;
+ghost use Rattle.td_grammar.specs.ForProofs.Reader.{Reader};
+ghost use Rattle.td_grammar.specs.ForProofs.Readings.{Follows, Gives};
 ghost use Rattle.td_tokens.specs.declared.token.Word.TheVariants as w;
 
 use crate::cursor::Cursor;
@@ -34,7 +34,7 @@ pub fn list<T: Drop, I: Fn(&mut Cursor<'_>) -> Result<T, ReadError> + Drop>(
 }
 
 /// A list and the word that closes it.
-#[tactic(auto, unfolding(crate::specs::Reader::listed))]
+#[tactic(auto, unfolding(crate::specs::ForProofs::Reader::listed))]
 pub fn listed<T: Drop, I: Fn(&mut Cursor<'_>) -> Result<T, ReadError> + Drop>(
     alloc: Global,
     tokens: &mut Cursor<'_>,
@@ -50,7 +50,7 @@ pub fn listed<T: Drop, I: Fn(&mut Cursor<'_>) -> Result<T, ReadError> + Drop>(
 }
 
 /// None or a list, and the word that closes it.
-#[tactic(auto, unfolding(crate::specs::Reader::up_to))]
+#[tactic(auto, unfolding(crate::specs::ForProofs::Reader::up_to))]
 pub fn up_to<T: Drop, I: Fn(&mut Cursor<'_>) -> Result<T, ReadError> + Drop>(
     alloc: Global,
     tokens: &mut Cursor<'_>,
@@ -70,16 +70,12 @@ pub fn up_to<T: Drop, I: Fn(&mut Cursor<'_>) -> Result<T, ReadError> + Drop>(
 fn names(alloc: Global, tokens: &mut Cursor<'_>) -> Result<Items<Name>, ReadError>
     ensures { Gives (spec.up_to w.CloseBrace spec.take_name tokens.old) result tokens.new }
 {
-    up_to(
-        alloc,
-        tokens,
-        Word::CloseBrace,
-        |tokens: &mut Cursor<'_>| tokens.name(alloc),
-    )
+    let item = |tokens: &mut Cursor<'_>| tokens.name(alloc);
+    up_to(alloc, tokens, Word::CloseBrace, item)
 }
 
 /// Attributes in braces.
-#[tactic(auto, unfolding(crate::specs::Reader::attributes_at))]
+#[tactic(auto, unfolding(crate::specs::ForProofs::Reader::attributes_at))]
 pub fn attributes(alloc: Global, tokens: &mut Cursor<'_>) -> Result<Attributes, ReadError>
     ensures { Gives (spec.attributes_at tokens.old) result tokens.new }
 {
@@ -91,7 +87,7 @@ pub fn attributes(alloc: Global, tokens: &mut Cursor<'_>) -> Result<Attributes, 
     Ok(Attributes::Only(names(alloc, tokens)?))
 }
 
-#[tactic(auto, unfolding(crate::specs::Reader::renaming_at))]
+#[tactic(auto, unfolding(crate::specs::ForProofs::Reader::renaming_at))]
 fn renaming(alloc: Global, tokens: &mut Cursor<'_>) -> Result<Renaming, ReadError>
     ensures { Gives (spec.renaming_at tokens.old) result tokens.new }
 {
@@ -109,10 +105,6 @@ pub fn renamings(
 ) -> Result<Items<Renaming>, ReadError>
     ensures { Gives (spec.listed end spec.renaming_at tokens.old) result tokens.new }
 {
-    listed(
-        alloc,
-        tokens,
-        end,
-        |tokens: &mut Cursor<'_>| renaming(alloc, tokens),
-    )
+    let item = |tokens: &mut Cursor<'_>| renaming(alloc, tokens);
+    listed(alloc, tokens, end, item)
 }

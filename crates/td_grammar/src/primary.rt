@@ -1,8 +1,8 @@
 //! Expressions that no operator begins or goes on with.
 
-ghost use Rattle.td_grammar.specs.Reader as spec;
-ghost use Rattle.td_grammar.specs.Reader.{reads};
-ghost use Rattle.td_grammar.specs.Readings.{Gives, Nests};
+ghost use Rattle.td_grammar.specs.ForProofs.Reader as spec;
+ghost use Rattle.td_grammar.specs.ForProofs.Reader.{reads};
+ghost use Rattle.td_grammar.specs.ForProofs.Readings.{Gives, Nests};
 
 use crate::cursor::{Cursor, aggregate_of};
 use crate::error::ReadError;
@@ -15,7 +15,7 @@ use std::alloc::Global;
 use td_tokens::token::{Kind, Word};
 
 impl<F: Fn(Global, &mut Cursor<'_>, usize, usize, Form) -> Result<Tree, ReadError>> Grammar<F> {
-    #[tactic(auto, unfolding(crate::specs::Reader::brackets))]
+    #[tactic(auto, unfolding(crate::specs::ForProofs::Reader::brackets))]
     pub fn brackets(&self, tokens: &mut Cursor<'_>) -> Result<Tree, ReadError>
         requires { Nests self.now.depth (F.pre self.now.nested) (F.post self.now.nested) }
         ensures { Gives (spec.brackets (reads self.now.depth) self.now.levels tokens.old) result tokens.new }
@@ -25,7 +25,7 @@ impl<F: Fn(Global, &mut Cursor<'_>, usize, usize, Form) -> Result<Tree, ReadErro
         Ok(inside)
     }
 
-    #[tactic(auto, unfolding(crate::specs::Reader::call))]
+    #[tactic(auto, unfolding(crate::specs::ForProofs::Reader::call))]
     pub fn call(&self, tokens: &mut Cursor<'_>) -> Result<Tree, ReadError>
         requires { Nests self.now.depth (F.pre self.now.nested) (F.post self.now.nested) }
         ensures { Gives (spec.call (reads self.now.depth) self.now.levels tokens.old) result tokens.new }
@@ -34,22 +34,22 @@ impl<F: Fn(Global, &mut Cursor<'_>, usize, usize, Form) -> Result<Tree, ReadErro
         if tokens.at(Word::OpenParenthesis) && !tokens.then_target() {
             tokens.skip();
             let arguments = self.exprs_up_to(tokens, Word::CloseParenthesis)?;
-            return self.tree(Expr::Call(name, arguments));
+            return Ok(self.tree(Expr::Call(name, arguments))?);
         }
-        self.tree(Expr::Name(name))
+        Ok(self.tree(Expr::Name(name))?)
     }
 
-    #[tactic(auto, unfolding(crate::specs::Reader::tuple))]
+    #[tactic(auto, unfolding(crate::specs::ForProofs::Reader::tuple))]
     pub fn tuple(&self, tokens: &mut Cursor<'_>) -> Result<Tree, ReadError>
         requires { Nests self.now.depth (F.pre self.now.nested) (F.post self.now.nested) }
         ensures { Gives (spec.tuple (reads self.now.depth) self.now.levels tokens.old) result tokens.new }
     {
         tokens.expect(Word::OpenBrace)?;
         let items = self.named_up_to(tokens, Word::CloseBrace, Naming::Beside)?;
-        self.tree(Expr::Tuple(items))
+        Ok(self.tree(Expr::Tuple(items))?)
     }
 
-    #[tactic(auto, unfolding(crate::specs::Reader::headed))]
+    #[tactic(auto, unfolding(crate::specs::ForProofs::Reader::headed))]
     pub fn headed(&self, tokens: &mut Cursor<'_>) -> Result<Tree, ReadError>
         requires { Nests self.now.depth (F.pre self.now.nested) (F.post self.now.nested) }
         ensures { Gives (spec.headed (reads self.now.depth) self.now.levels tokens.old) result tokens.new }
@@ -57,20 +57,20 @@ impl<F: Fn(Global, &mut Cursor<'_>, usize, usize, Form) -> Result<Tree, ReadErro
         let heading = heading(self.alloc, tokens)?;
         tokens.expect(Word::OpenBrace)?;
         let tuples = self.exprs_up_to(tokens, Word::CloseBrace)?;
-        self.tree(Expr::Relation(Some(heading), tuples))
+        Ok(self.tree(Expr::Relation(Some(heading), tuples))?)
     }
 
-    #[tactic(auto, unfolding(crate::specs::Reader::unheaded))]
+    #[tactic(auto, unfolding(crate::specs::ForProofs::Reader::unheaded))]
     pub fn unheaded(&self, tokens: &mut Cursor<'_>) -> Result<Tree, ReadError>
         requires { Nests self.now.depth (F.pre self.now.nested) (F.post self.now.nested) }
         ensures { Gives (spec.unheaded (reads self.now.depth) self.now.levels tokens.old) result tokens.new }
     {
         tokens.expect(Word::OpenBrace)?;
         let tuples = self.exprs_listed(tokens, Word::CloseBrace)?;
-        self.tree(Expr::Relation(None, tuples))
+        Ok(self.tree(Expr::Relation(None, tuples))?)
     }
 
-    #[tactic(auto, unfolding(crate::specs::Reader::relation))]
+    #[tactic(auto, unfolding(crate::specs::ForProofs::Reader::relation))]
     pub fn relation(&self, tokens: &mut Cursor<'_>) -> Result<Tree, ReadError>
         requires { Nests self.now.depth (F.pre self.now.nested) (F.post self.now.nested) }
         ensures { Gives (spec.relation (reads self.now.depth) self.now.levels tokens.old) result tokens.new }
@@ -83,7 +83,7 @@ impl<F: Fn(Global, &mut Cursor<'_>, usize, usize, Form) -> Result<Tree, ReadErro
     }
 
     /// An operator of one expression in round brackets.
-    #[tactic(auto, unfolding(crate::specs::Reader::applied))]
+    #[tactic(auto, unfolding(crate::specs::ForProofs::Reader::applied))]
     pub fn applied(
         &self,
         tokens: &mut Cursor<'_>,
@@ -95,10 +95,10 @@ impl<F: Fn(Global, &mut Cursor<'_>, usize, usize, Form) -> Result<Tree, ReadErro
         tokens.expect(Word::OpenParenthesis)?;
         let operand = self.inner(tokens)?;
         tokens.expect(Word::CloseParenthesis)?;
-        self.tree(Expr::Unary(operator, operand))
+        Ok(self.tree(Expr::Unary(operator, operand))?)
     }
 
-    #[tactic(auto, unfolding(crate::specs::Reader::aggregated))]
+    #[tactic(auto, unfolding(crate::specs::ForProofs::Reader::aggregated))]
     pub fn aggregated(
         &self,
         tokens: &mut Cursor<'_>,
@@ -112,13 +112,13 @@ impl<F: Fn(Global, &mut Cursor<'_>, usize, usize, Form) -> Result<Tree, ReadErro
         if tokens.eat(Word::Comma) {
             let term = self.inner(tokens)?;
             tokens.expect(Word::CloseParenthesis)?;
-            return self.tree(Expr::Aggregate(aggregate, relation, Some(term)));
+            return Ok(self.tree(Expr::Aggregate(aggregate, relation, Some(term)))?);
         }
         tokens.expect(Word::CloseParenthesis)?;
-        self.tree(Expr::Aggregate(aggregate, relation, None))
+        Ok(self.tree(Expr::Aggregate(aggregate, relation, None))?)
     }
 
-    #[tactic(auto, unfolding(crate::specs::Reader::choice))]
+    #[tactic(auto, unfolding(crate::specs::ForProofs::Reader::choice))]
     pub fn choice(&self, tokens: &mut Cursor<'_>) -> Result<Tree, ReadError>
         requires { Nests self.now.depth (F.pre self.now.nested) (F.post self.now.nested) }
         ensures { Gives (spec.choice (reads self.now.depth) self.now.levels tokens.old) result tokens.new }
@@ -130,10 +130,10 @@ impl<F: Fn(Global, &mut Cursor<'_>, usize, usize, Form) -> Result<Tree, ReadErro
         let no = self.inner(tokens)?;
         tokens.expect(Word::End)?;
         tokens.expect(Word::If)?;
-        self.tree(Expr::If(test, yes, no))
+        Ok(self.tree(Expr::If(test, yes, no))?)
     }
 
-    #[tactic(auto, unfolding(crate::specs::Reader::extend))]
+    #[tactic(auto, unfolding(crate::specs::ForProofs::Reader::extend))]
     pub fn extend(&self, tokens: &mut Cursor<'_>) -> Result<Tree, ReadError>
         requires { Nests self.now.depth (F.pre self.now.nested) (F.post self.now.nested) }
         ensures { Gives (spec.extend (reads self.now.depth) self.now.levels tokens.old) result tokens.new }
@@ -142,15 +142,15 @@ impl<F: Fn(Global, &mut Cursor<'_>, usize, usize, Form) -> Result<Tree, ReadErro
         if tokens.eat(Word::Add) {
             tokens.expect(Word::OpenParenthesis)?;
             let added = self.named_listed(tokens, Word::CloseParenthesis, Naming::After)?;
-            return self.tree(Expr::Extend(Extension::Add, relation, added));
+            return Ok(self.tree(Expr::Extend(Extension::Add, relation, added))?);
         }
         tokens.expect(Word::Colon)?;
         tokens.expect(Word::OpenBrace)?;
         let assigned = self.named_listed(tokens, Word::CloseBrace, Naming::Assigned)?;
-        self.tree(Expr::Extend(Extension::Assign, relation, assigned))
+        Ok(self.tree(Expr::Extend(Extension::Assign, relation, assigned))?)
     }
 
-    #[tactic(auto, unfolding(crate::specs::Reader::groups_at))]
+    #[tactic(auto, unfolding(crate::specs::ForProofs::Reader::groups_at))]
     pub fn groups(&self, tokens: &mut Cursor<'_>) -> Result<Groups<Tree>, ReadError>
         requires { Nests self.now.depth (F.pre self.now.nested) (F.post self.now.nested) }
         ensures { Gives (spec.groups_at (reads self.now.depth) self.now.levels tokens.old) result tokens.new }
@@ -164,7 +164,7 @@ impl<F: Fn(Global, &mut Cursor<'_>, usize, usize, Form) -> Result<Tree, ReadErro
         Ok(Groups::Whole)
     }
 
-    #[tactic(auto, unfolding(crate::specs::Reader::summarize))]
+    #[tactic(auto, unfolding(crate::specs::ForProofs::Reader::summarize))]
     pub fn summarize(&self, tokens: &mut Cursor<'_>) -> Result<Tree, ReadError>
         requires { Nests self.now.depth (F.pre self.now.nested) (F.post self.now.nested) }
         ensures { Gives (spec.summarize (reads self.now.depth) self.now.levels tokens.old) result tokens.new }
@@ -172,7 +172,7 @@ impl<F: Fn(Global, &mut Cursor<'_>, usize, usize, Form) -> Result<Tree, ReadErro
         let relation = self.inner(tokens)?;
         let groups = self.groups(tokens)?;
         let summaries = self.summaries(tokens)?;
-        self.tree(Expr::Summarize(relation, groups, summaries))
+        Ok(self.tree(Expr::Summarize(relation, groups, summaries))?)
     }
 
     pub fn primary_word(&self, tokens: &mut Cursor<'_>, word: Word) -> Result<Tree, ReadError>
@@ -180,10 +180,10 @@ impl<F: Fn(Global, &mut Cursor<'_>, usize, usize, Form) -> Result<Tree, ReadErro
         ensures { Gives (spec.primary_word (reads self.now.depth) self.now.levels word tokens.old) result tokens.new }
     {
         match word {
-            Word::True => self.tree(Expr::Truth(true)),
-            Word::False => self.tree(Expr::Truth(false)),
-            Word::TableDee => self.tree(Expr::TableDee),
-            Word::TableDum => self.tree(Expr::TableDum),
+            Word::True => Ok(self.tree(Expr::Truth(true))?),
+            Word::False => Ok(self.tree(Expr::Truth(false))?),
+            Word::TableDee => Ok(self.tree(Expr::TableDee)?),
+            Word::TableDum => Ok(self.tree(Expr::TableDum)?),
             Word::OpenParenthesis => self.brackets(tokens),
             Word::Tuple => self.tuple(tokens),
             Word::Relation => self.relation(tokens),
@@ -199,7 +199,7 @@ impl<F: Fn(Global, &mut Cursor<'_>, usize, usize, Form) -> Result<Tree, ReadErro
         }
     }
 
-    #[tactic(auto, unfolding(crate::specs::Reader::primary_at))]
+    #[tactic(auto, unfolding(crate::specs::ForProofs::Reader::primary_at))]
     pub fn primary(&self, tokens: &mut Cursor<'_>) -> Result<Tree, ReadError>
         requires { Nests self.now.depth (F.pre self.now.nested) (F.post self.now.nested) }
         ensures { Gives (spec.primary_at (reads self.now.depth) self.now.levels tokens.old) result tokens.new }
@@ -208,11 +208,11 @@ impl<F: Fn(Global, &mut Cursor<'_>, usize, usize, Form) -> Result<Tree, ReadErro
             None => Err(ReadError::Syntax),
             Some(Kind::Int(_)) => {
                 let number = tokens.integer()?;
-                self.tree(Expr::Integer(number))
+                Ok(self.tree(Expr::Integer(number))?)
             }
             Some(Kind::Text) => {
                 let text = tokens.text(self.alloc)?;
-                self.tree(Expr::Text(text))
+                Ok(self.tree(Expr::Text(text))?)
             }
             Some(Kind::Name) => self.call(tokens),
             Some(Kind::Word(word)) => {

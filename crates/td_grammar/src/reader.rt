@@ -1,16 +1,21 @@
 //! Trees from texts.
 
-ghost use Rattle.std.specs.Prelude.{◌≡◌, IfOk, true};
+ghost use Rattle.std.specs.Prelude.{◌≡◌, IfOk, List, true};
 ghost use Rattle.std.specs.List.{list_all};
 ghost use Rattle.td_tokens.specs.Lexer.{lexemes};
-ghost use Rattle.td_grammar.specs.Reader as spec;
-ghost use Rattle.td_grammar.specs.Readings.{Tells, Lexes, fits, lexemes_of};
-ghost use Rattle.td_grammar.specs.StatementReader as statements;
+ghost use Rattle.td_grammar.specs.ForProofs.Reader as spec;
+ghost use Rattle.td_grammar.specs.ForProofs.Readings.{Tells, Lexes, fits, lexemes_of};
+ghost use Rattle.td_grammar.specs.ForProofs.StatementReader as statements;
+ghost use Rattle.td_grammar.specs.Grammar.{IsQuery};
+ghost use Rattle.td_grammar.specs.Statements.{IsScript, IsStatement};
+ghost use Rattle.td_grammar.specs.declared.script.Definition.{Definition};
+ghost use Rattle.td_grammar.specs.declared.script.Statement.{Statement};
+ghost use Rattle.td_grammar.specs.declared.tree.Expr.{Expr};
 
 use crate::cursor::Cursor;
 use crate::error::ReadError;
 use crate::forms::Form;
-use crate::grammar::{Grammar, expr};
+use crate::grammar::{Grammar, Tree, expr};
 use crate::script::{Definition, Statement};
 use crate::tree::Expr;
 use sqlite_items::{Boxed, Items};
@@ -38,9 +43,9 @@ fn tokens_of(alloc: Global, text: &str) -> Result<Vec<Token<'_>>, ReadError>
     Ok(tokens(alloc, text)?)
 }
 
-/// The tree of a query. It takes time linear in the text, at worst times the depth of its expressions.
-#[tactic(auto, unfolding(crate::specs::Reader::read_expr))]
-pub fn read_expr(alloc: Global, text: &str) -> Result<Boxed<Expr>, ReadError>
+// The tree of a query, as the reader's definition has it.
+#[tactic(auto, unfolding(crate::specs::ForProofs::Reader::read_expr))]
+fn query(alloc: Global, text: &str) -> Result<Tree, ReadError>
     ensures { Tells (spec.read_expr text.now) result }
 {
     if text.len() > QUERY_BYTES {
@@ -57,9 +62,9 @@ pub fn read_expr(alloc: Global, text: &str) -> Result<Boxed<Expr>, ReadError>
     }
 }
 
-/// The tree of a statement.
-#[tactic(auto, unfolding(crate::specs::StatementReader::read_statement))]
-pub fn read_statement(alloc: Global, text: &str) -> Result<Statement, ReadError>
+// The tree of a statement, likewise.
+#[tactic(auto, unfolding(crate::specs::ForProofs::StatementReader::read_statement))]
+fn statement(alloc: Global, text: &str) -> Result<Statement, ReadError>
     ensures { Tells (statements.read_statement text.now) result }
 {
     if text.len() > STATEMENT_BYTES {
@@ -81,9 +86,9 @@ pub fn read_statement(alloc: Global, text: &str) -> Result<Statement, ReadError>
     }
 }
 
-/// The trees of a script's definitions.
-#[tactic(auto, unfolding(crate::specs::StatementReader::read_script))]
-pub fn read_script(alloc: Global, text: &str) -> Result<Items<Definition>, ReadError>
+// The trees of a script's definitions, likewise.
+#[tactic(auto, unfolding(crate::specs::ForProofs::StatementReader::read_script))]
+fn script(alloc: Global, text: &str) -> Result<Items<Definition>, ReadError>
     ensures { Tells (statements.read_script text.now) result }
 {
     if text.len() > SCRIPT_BYTES {
@@ -98,4 +103,31 @@ pub fn read_script(alloc: Global, text: &str) -> Result<Items<Definition>, ReadE
         nested: expr,
     };
     grammar.definitions(&mut rest)
+}
+
+/// The tree of a query.
+///
+/// It takes time linear in the text, at worst times the depth of its expressions. The reading calls itself at most 320
+/// levels deep: once for each level of an expression, and once for each round bracket that is open.
+pub fn read_expr(alloc: Global, text: &str) -> Result<Boxed<Expr>, ReadError>
+    ensures tree { IfOk result (IsQuery text.now) }
+    ensures syntax_only_without_one { result ≡ Err ReadError.Syntax → (tree : Expr) → ¬ IsQuery text.now tree }
+{
+    query(alloc, text)
+}
+
+/// The tree of a statement. Time and depth are as for a query.
+pub fn read_statement(alloc: Global, text: &str) -> Result<Statement, ReadError>
+    ensures tree { IfOk result (IsStatement text.now) }
+    ensures syntax_only_without_one { result ≡ Err ReadError.Syntax → (tree : Statement) → ¬ IsStatement text.now tree }
+{
+    statement(alloc, text)
+}
+
+/// The trees of a script's definitions. Time and depth are as for a query.
+pub fn read_script(alloc: Global, text: &str) -> Result<Items<Definition>, ReadError>
+    ensures trees { IfOk result (IsScript text.now) }
+    ensures syntax_only_without_any { result ≡ Err ReadError.Syntax → (trees : List Definition) → ¬ IsScript text.now trees }
+{
+    script(alloc, text)
 }

@@ -1,8 +1,8 @@
 //! Statements from tokens.
 
-ghost use Rattle.td_grammar.specs.Reader.{reads};
-ghost use Rattle.td_grammar.specs.Readings.{Gives, Nests};
-ghost use Rattle.td_grammar.specs.StatementReader as spec;
+ghost use Rattle.td_grammar.specs.ForProofs.Reader.{reads};
+ghost use Rattle.td_grammar.specs.ForProofs.Readings.{Gives, Nests};
+ghost use Rattle.td_grammar.specs.ForProofs.StatementReader as spec;
 
 use crate::cursor::Cursor;
 use crate::error::ReadError;
@@ -17,7 +17,7 @@ use td_tokens::token::Word;
 
 impl<F: Fn(Global, &mut Cursor<'_>, usize, usize, Form) -> Result<Tree, ReadError>> Grammar<F> {
     // The attributes of an UPDATE with their new values.
-    #[tactic(auto, unfolding(crate::specs::StatementReader::sets_at))]
+    #[tactic(auto, unfolding(crate::specs::ForProofs::StatementReader::sets_at))]
     fn sets(&self, tokens: &mut Cursor<'_>) -> Result<Items<Named<Tree>>, ReadError>
         requires { Nests self.now.depth (F.pre self.now.nested) (F.post self.now.nested) }
         ensures { Gives (spec.sets_at (reads self.now.depth) self.now.levels tokens.old) result tokens.new }
@@ -31,7 +31,7 @@ impl<F: Fn(Global, &mut Cursor<'_>, usize, usize, Form) -> Result<Tree, ReadErro
     }
 
     /// An expression behind the word, if the word comes next.
-    #[tactic(auto, unfolding(crate::specs::StatementReader::behind))]
+    #[tactic(auto, unfolding(crate::specs::ForProofs::StatementReader::behind))]
     pub fn behind(&self, tokens: &mut Cursor<'_>, word: Word) -> Result<Option<Tree>, ReadError>
         requires { Nests self.now.depth (F.pre self.now.nested) (F.post self.now.nested) }
         ensures { Gives (spec.behind (reads self.now.depth) self.now.levels word tokens.old) result tokens.new }
@@ -42,7 +42,7 @@ impl<F: Fn(Global, &mut Cursor<'_>, usize, usize, Form) -> Result<Tree, ReadErro
         Ok(None)
     }
 
-    #[tactic(auto, unfolding(crate::specs::StatementReader::assigned))]
+    #[tactic(auto, unfolding(crate::specs::ForProofs::StatementReader::assigned))]
     fn assigned(&self, tokens: &mut Cursor<'_>) -> Result<Action, ReadError>
         requires { Nests self.now.depth (F.pre self.now.nested) (F.post self.now.nested) }
         ensures { Gives (spec.assigned (reads self.now.depth) self.now.levels tokens.old) result tokens.new }
@@ -52,7 +52,7 @@ impl<F: Fn(Global, &mut Cursor<'_>, usize, usize, Form) -> Result<Tree, ReadErro
         Ok(Action::Assign(target, self.inner(tokens)?))
     }
 
-    #[tactic(auto, unfolding(crate::specs::StatementReader::inserted))]
+    #[tactic(auto, unfolding(crate::specs::ForProofs::StatementReader::inserted))]
     fn inserted(&self, tokens: &mut Cursor<'_>) -> Result<Action, ReadError>
         requires { Nests self.now.depth (F.pre self.now.nested) (F.post self.now.nested) }
         ensures { Gives (spec.inserted (reads self.now.depth) self.now.levels tokens.old) result tokens.new }
@@ -61,7 +61,7 @@ impl<F: Fn(Global, &mut Cursor<'_>, usize, usize, Form) -> Result<Tree, ReadErro
         Ok(Action::Insert(target, self.inner(tokens)?))
     }
 
-    #[tactic(auto, unfolding(crate::specs::StatementReader::deleted))]
+    #[tactic(auto, unfolding(crate::specs::ForProofs::StatementReader::deleted))]
     fn deleted(&self, tokens: &mut Cursor<'_>) -> Result<Action, ReadError>
         requires { Nests self.now.depth (F.pre self.now.nested) (F.post self.now.nested) }
         ensures { Gives (spec.deleted (reads self.now.depth) self.now.levels tokens.old) result tokens.new }
@@ -70,7 +70,7 @@ impl<F: Fn(Global, &mut Cursor<'_>, usize, usize, Form) -> Result<Tree, ReadErro
         Ok(Action::Delete(target, self.behind(tokens, Word::Where)?))
     }
 
-    #[tactic(auto, unfolding(crate::specs::StatementReader::updated))]
+    #[tactic(auto, unfolding(crate::specs::ForProofs::StatementReader::updated))]
     fn updated(&self, tokens: &mut Cursor<'_>) -> Result<Action, ReadError>
         requires { Nests self.now.depth (F.pre self.now.nested) (F.post self.now.nested) }
         ensures { Gives (spec.updated (reads self.now.depth) self.now.levels tokens.old) result tokens.new }
@@ -80,7 +80,7 @@ impl<F: Fn(Global, &mut Cursor<'_>, usize, usize, Form) -> Result<Tree, ReadErro
         Ok(Action::Update(target, condition, self.sets(tokens)?))
     }
 
-    #[tactic(auto, unfolding(crate::specs::StatementReader::action_at))]
+    #[tactic(auto, unfolding(crate::specs::ForProofs::StatementReader::action_at))]
     fn action(&self, tokens: &mut Cursor<'_>) -> Result<Action, ReadError>
         requires { Nests self.now.depth (F.pre self.now.nested) (F.post self.now.nested) }
         ensures { Gives (spec.action_at (reads self.now.depth) self.now.levels tokens.old) result tokens.new }
@@ -101,7 +101,7 @@ impl<F: Fn(Global, &mut Cursor<'_>, usize, usize, Form) -> Result<Tree, ReadErro
     }
 
     /// A statement, with the semicolon that ends it.
-    #[tactic(auto, unfolding(crate::specs::StatementReader::statement_at))]
+    #[tactic(auto, unfolding(crate::specs::ForProofs::StatementReader::statement_at))]
     pub fn statement(&self, tokens: &mut Cursor<'_>) -> Result<Statement, ReadError>
         requires { Nests self.now.depth (F.pre self.now.nested) (F.post self.now.nested) }
         ensures { Gives (spec.statement_at (reads self.now.depth) self.now.levels tokens.old) result tokens.new }

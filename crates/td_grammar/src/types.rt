@@ -1,10 +1,10 @@
 //! Types and headings.
 
 ghost use Rattle.std.specs.Prelude.{◌≡◌};
-ghost use Rattle.td_grammar.specs.Reader as spec;
-ghost use Rattle.td_grammar.specs.Reader.{type_at};
-ghost use Rattle.td_grammar.specs.Readings.{Gives, NestsTypes};
-ghost use Rattle.td_grammar.specs.StatementReader.{components_at};
+ghost use Rattle.td_grammar.specs.ForProofs.Reader as spec;
+ghost use Rattle.td_grammar.specs.ForProofs.Reader.{type_at};
+ghost use Rattle.td_grammar.specs.ForProofs.Readings.{Gives, NestsTypes};
+ghost use Rattle.td_grammar.specs.ForProofs.StatementReader.{components_at};
 
 use crate::cursor::Cursor;
 use crate::error::ReadError;
@@ -30,7 +30,7 @@ impl<F: Fn(Global, &mut Cursor<'_>, usize) -> Result<TypeExpr, ReadError>> Types
         (self.nested)(self.alloc, tokens, self.depth)
     }
 
-    #[tactic(auto, unfolding(crate::specs::Reader::field_of))]
+    #[tactic(auto, unfolding(crate::specs::ForProofs::Reader::field_of))]
     fn field(&self, tokens: &mut Cursor<'_>) -> Result<Named<TypeExpr>, ReadError>
         requires { NestsTypes self.now.depth (F.pre self.now.nested) (F.post self.now.nested) }
         ensures { Gives (spec.field_of (type_at self.now.depth) tokens.old) result tokens.new }
@@ -48,7 +48,7 @@ impl<F: Fn(Global, &mut Cursor<'_>, usize) -> Result<TypeExpr, ReadError>> Types
         list(self.alloc, tokens, field)
     }
 
-    #[tactic(auto, unfolding(crate::specs::Reader::heading_of))]
+    #[tactic(auto, unfolding(crate::specs::ForProofs::Reader::heading_of))]
     fn heading(&self, tokens: &mut Cursor<'_>) -> Result<Items<Named<TypeExpr>>, ReadError>
         requires { NestsTypes self.now.depth (F.pre self.now.nested) (F.post self.now.nested) }
         ensures { Gives (spec.heading_of (type_at self.now.depth) tokens.old) result tokens.new }
@@ -72,7 +72,7 @@ impl<F: Fn(Global, &mut Cursor<'_>, usize) -> Result<TypeExpr, ReadError>> Types
         }
     }
 
-    #[tactic(auto, unfolding(crate::specs::Reader::type_of))]
+    #[tactic(auto, unfolding(crate::specs::ForProofs::Reader::type_of))]
     fn type_expr(&self, tokens: &mut Cursor<'_>) -> Result<TypeExpr, ReadError>
         requires { NestsTypes self.now.depth (F.pre self.now.nested) (F.post self.now.nested) }
         ensures { Gives (spec.type_of (type_at self.now.depth) tokens.old) result tokens.new }
@@ -119,7 +119,7 @@ pub fn heading(alloc: Global, tokens: &mut Cursor<'_>) -> Result<Items<Named<Typ
 }
 
 /// Fields with commas between, if a name comes next, and else none.
-#[tactic(auto, unfolding(crate::specs::StatementReader::components_at))]
+#[tactic(auto, unfolding(crate::specs::ForProofs::StatementReader::components_at))]
 pub fn components(
     alloc: Global,
     tokens: &mut Cursor<'_>,

@@ -1,6 +1,6 @@
 use Rattle.std.proofs.Common.{rules, arith}
 use Rattle.std.proofs.lemmas.Grind.{common_steps}
-use Rattle.td_grammar.specs.StatementReader.{keys_from}
+use Rattle.td_grammar.specs.ForProofs.StatementReader.{keys_from}
 use Rattle.td_grammar.proofs.Turns.{one_more, no_more}
 use Rattle.td_grammar.proofs.definitions.keys.Goals as goal
 

@@ -1,5 +1,5 @@
 use Rattle.std.proofs.Common.{◌≡◌, ◌-◌}
-use Rattle.td_grammar.specs.StatementReader.{keys_at, keys_from}
+use Rattle.td_grammar.specs.ForProofs.StatementReader.{keys_at, keys_from}
 use Rattle.td_grammar.proofs.definitions.keys.Given as goal
 
 abbrev pub invariant-loop-turn : goal.invariant-loop-turn

@@ -1,5 +1,6 @@
 use Rattle.std.proofs.Common.{◌-◌, nat_le, ap, sym, ◌∙◌}
-use Rattle.td_grammar.specs.Levels.{levels, list_levels, named_levels, summaries_levels}
+use Rattle.td_grammar.specs.Levels.{levels, named_levels}
+use Rattle.td_grammar.specs.ForProofs.Parts.{list_levels, summaries_levels}
 use Rattle.td_grammar.proofs.Within.{call_within, relation_within, tuple_within, extend_within, with_within, summarize_within}
 use Rattle.td_grammar.proofs.levels.+within.Goals as goal
 

@@ -1,5 +1,6 @@
 use Rattle.std.proofs.Common.{◌≡◌, ◌+◌, ◌*◌, nat_le, drop}
-use Rattle.td_grammar.specs.Levels.{list_levels, named_levels, summaries_levels}
+use Rattle.td_grammar.specs.Levels.{named_levels}
+use Rattle.td_grammar.specs.ForProofs.Parts.{list_levels, summaries_levels}
 use Rattle.td_grammar.proofs.levels.+within.Given as goal
 
 abbrev pub decreases-within : goal.decreases-within

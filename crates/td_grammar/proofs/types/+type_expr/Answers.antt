@@ -1,5 +1,5 @@
 use Rattle.std.proofs.Common.{◌≡◌, ap, arith}
-use Rattle.td_grammar.specs.Reader.{type_at}
+use Rattle.td_grammar.specs.ForProofs.Reader.{type_at}
 use Rattle.td_grammar.proofs.Turns.{deeper}
 use Rattle.td_grammar.proofs.types.+type_expr.Goals as goal
 

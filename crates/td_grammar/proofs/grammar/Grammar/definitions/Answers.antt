@@ -1,7 +1,7 @@
 use Rattle.std.proofs.Common.{rules, arith}
 use Rattle.std.proofs.lemmas.Grind.{common_steps}
-use Rattle.td_grammar.specs.Reader.{reads}
-use Rattle.td_grammar.specs.StatementReader.{definitions_from}
+use Rattle.td_grammar.specs.ForProofs.Reader.{reads}
+use Rattle.td_grammar.specs.ForProofs.StatementReader.{definitions_from}
 use Rattle.td_grammar.proofs.Turns.{one_more, no_more}
 use Rattle.td_grammar.proofs.grammar.Grammar.definitions.Goals as goal
 

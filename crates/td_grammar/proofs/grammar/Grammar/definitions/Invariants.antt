@@ -1,6 +1,6 @@
 use Rattle.std.proofs.Common.{◌≡◌, ◌-◌, length, []}
-use Rattle.td_grammar.specs.Reader.{reads}
-use Rattle.td_grammar.specs.StatementReader.{definitions_from}
+use Rattle.td_grammar.specs.ForProofs.Reader.{reads}
+use Rattle.td_grammar.specs.ForProofs.StatementReader.{definitions_from}
 use Rattle.td_grammar.proofs.grammar.Grammar.definitions.Given as goal
 
 abbrev pub invariant-loop-turn : goal.invariant-loop-turn

@@ -13,7 +13,7 @@ use Rattle.td_grammar.specs.declared.forms.Form.{Form}
 use Rattle.td_grammar.specs.declared.tree.Expr.{Expr}
 use Rattle.td_grammar.specs.declared.tree.TypeExpr.{TypeExpr}
 use Rattle.td_grammar.specs.Grammar.{Tokens}
-use Rattle.td_grammar.specs.Reader.{Outcome, Reader, reads, type_at}
+use Rattle.td_grammar.specs.ForProofs.Reader.{Outcome, Reader, reads, type_at}
 
 -- a name has a name's shape, and an integer is in range
 abbrev pub fits : Lexeme → Bool

@@ -20,7 +20,7 @@ use Rattle.td_grammar.specs.declared.script.Definition.{Definition}
 use Rattle.td_grammar.specs.declared.script.Definition.TheVariants as definition
 use Rattle.td_grammar.specs.Grammar.{Tokens, most_levels}
 use Rattle.td_grammar.specs.Statements.{statement_bytes, script_bytes}
-use Rattle.td_grammar.specs.Reader.{Reader, and_then, ◌>>=◌, ◌>>◌, pure, refuse, at, at_name, tail, eat, expect, take_name, list_at, listed, attributes_at, heading_at, field_of, type_at, named_at, reads, inner, is_over, whole}
+use Rattle.td_grammar.specs.ForProofs.Reader.{Reader, and_then, ◌>>=◌, ◌>>◌, pure, refuse, at, at_name, tail, eat, expect, take_name, list_at, listed, attributes_at, heading_at, field_of, type_at, named_at, reads, inner, is_over, whole}
 
 -- a name, if one comes next
 unfoldable pub maybe_name : Reader (Option Text)
