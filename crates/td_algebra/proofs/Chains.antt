@@ -11,7 +11,7 @@ use Rattle.td_values.specs.Attributes.{attribute_of}
 use Rattle.td_values.specs.Data.{Ty, Datum, Attrs, no_attrs, attr}
 use Rattle.td_values.specs.Headings.{Header}
 use Rattle.td_values.specs.Order.{order, text_cmp}
-use Rattle.td_values.specs.Total.{order_total, tied}
+use Rattle.td_values.specs.Proving.Total.{order_total, tied}
 use Rattle.td_values.specs.TextOrder.{text_total}
 use Rattle.td_values.specs.Rows.{RowsData, AreRows}
 use Rattle.td_values.specs.Whole.{type_of}

@@ -8,7 +8,7 @@ use Rattle.td_values.specs.Attributes.{attribute_of}
 use Rattle.td_values.specs.Data.{Ty, Datum, Attrs}
 use Rattle.td_values.specs.Headings.{Header}
 use Rattle.td_values.specs.Order.{attrs_order, ty_order}
-use Rattle.td_values.specs.Total.{ty_order_total, ty_tied}
+use Rattle.td_values.specs.Proving.Total.{ty_order_total, ty_tied}
 use Rattle.td_values.proofs.Walks.{is_tied}
 use Rattle.td_values.specs.Rows.{RowsData, AreRows}
 use Rattle.td_relations.specs.Sets.{Has, IsRelationOf}

@@ -6,7 +6,7 @@ use Rattle.td_values.specs.Data.{Attrs}
 use Rattle.td_values.specs.Headings.{Header}
 use Rattle.td_values.specs.Order.{attrs_order}
 use Rattle.td_values.specs.Rows.{RowsData, AreRows}
-use Rattle.td_values.specs.Total.{attrs_order_total, attrs_tied}
+use Rattle.td_values.specs.Proving.Total.{attrs_order_total, attrs_tied}
 use Rattle.td_relations.specs.Sets.{TupleSet, tuple_set, body, IsRelation}
 use Rattle.td_relations.proofs.Edits.{difference_nothing, union_nothing}
 use Rattle.td_relations.proofs.Fits.{Fits}

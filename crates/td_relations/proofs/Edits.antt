@@ -5,7 +5,7 @@ use Rattle.std.specs.FinSet as set
 use Rattle.std.proofs.lemmas.List.{take_more}
 use Rattle.td_values.specs.Data.{Attrs}
 use Rattle.td_values.specs.Order.{attrs_order}
-use Rattle.td_values.specs.Total.{attrs_order_total, attrs_tied}
+use Rattle.td_values.specs.Proving.Total.{attrs_order_total, attrs_tied}
 use Rattle.td_relations.specs.Sets.{TupleSet, tuple_set}
 
 without_empty : (a : Bool) → a ≡ (a && not false)

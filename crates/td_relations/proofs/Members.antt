@@ -16,7 +16,7 @@ use Rattle.td_values.specs.Data.{Attrs}
 use Rattle.td_values.specs.Headings.{Header}
 use Rattle.td_values.specs.Order.{attrs_order}
 use Rattle.td_values.specs.Rows.{RowsData}
-use Rattle.td_values.specs.Total.{attrs_order_total, attrs_equivalence, attrs_tied}
+use Rattle.td_values.specs.Proving.Total.{attrs_order_total, attrs_equivalence, attrs_tied}
 use Rattle.td_values.proofs.Entries.{first, second, less}
 use Rattle.td_values.proofs.Walks.{is_tied}
 use Rattle.td_relations.specs.Sets.{TupleSet, tuple_set, body, Has, ascending, relation_of, IsRelation}

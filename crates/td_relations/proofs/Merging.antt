@@ -7,7 +7,7 @@ use Rattle.std.proofs.lemmas.List.Sums.{AllPass-from_list_all, list_all-from_All
 use Rattle.td_values.specs.Data.{Attrs}
 use Rattle.td_values.specs.Headings.{Header}
 use Rattle.td_values.specs.Order.{attrs_order}
-use Rattle.td_values.specs.Total.{attrs_order_total, attrs_tied}
+use Rattle.td_values.specs.Proving.Total.{attrs_order_total, attrs_tied}
 use Rattle.td_relations.specs.declared.merges.Kept.{Kept}
 use Rattle.td_values.specs.Rows.{RowsData, AreRows}
 use Rattle.td_relations.specs.Sets.{TupleSet, body, Has, IsRelation, IsRelationOf}

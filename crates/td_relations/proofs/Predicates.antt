@@ -5,7 +5,7 @@ use Rattle.std.specs.FinSet as set
 use Rattle.td_values.specs.Data.{Attrs}
 use Rattle.td_values.specs.Headings.{Header}
 use Rattle.td_values.specs.Rows.{RowsData}
-use Rattle.td_values.specs.Total.{attrs_order_total, attrs_tied}
+use Rattle.td_values.specs.Proving.Total.{attrs_order_total, attrs_tied}
 use Rattle.td_relations.specs.Sets.{TupleSet, body, Has, IsRelation, IsRelationOf}
 use Rattle.td_relations.proofs.Sorted.{same_sorted}
 use Rattle.td_relations.proofs.Members.{contains_listed}

@@ -6,7 +6,7 @@ use Rattle.std.specs.Ordering.{is_eq}
 use Rattle.td_values.specs.Data.{tuple_type}
 use Rattle.td_values.specs.Headings.{Header, header_fields}
 use Rattle.td_values.specs.Order.{fields_order}
-use Rattle.td_values.specs.Total.{fields_tied, ty_order_total}
+use Rattle.td_values.specs.Proving.Total.{fields_tied, ty_order_total}
 use Rattle.td_values.proofs.TupleLemmas.{same_header}
 use Rattle.td_values.proofs.Walks.{is_tied}
 

@@ -8,7 +8,7 @@ use Rattle.td_values.specs.Data.{Attrs}
 use Rattle.td_values.specs.Order.{attrs_order}
 use Rattle.td_values.specs.Headings.{Header}
 use Rattle.td_values.specs.Rows.{RowsData}
-use Rattle.td_values.specs.Total.{attrs_order_total, attrs_tied}
+use Rattle.td_values.specs.Proving.Total.{attrs_order_total, attrs_tied}
 use Rattle.td_relations.specs.Sets.{TupleSet, body, IsRelation}
 use Rattle.td_relations.proofs.Members.{relation_is}
 use Rattle.td_replay.specs.Step.{with_tuples}

@@ -9,7 +9,7 @@ use Rattle.td_values.specs.Data.{Datum, Attrs}
 use Rattle.td_values.specs.Order.{attrs_order}
 use Rattle.td_values.specs.Attributes.{attribute_of}
 use Rattle.td_values.specs.Rows.{RowsData}
-use Rattle.td_values.specs.Total.{antisymm, attrs_antisymm, attrs_order_total}
+use Rattle.td_values.specs.Proving.Total.{antisymm, attrs_antisymm, attrs_order_total}
 use Rattle.td_relations.specs.Sets.{body}
 use Rattle.td_relations.proofs.Members.{relation_of_is, has_listed}
 use Rattle.td_replay.proofs.Typed.{all_at}

@@ -10,7 +10,7 @@ use Rattle.td_values.specs.Data.{Attrs, Fields}
 use Rattle.td_values.specs.Order.{fields_order}
 use Rattle.td_values.specs.Headings.{Header, header_fields}
 use Rattle.td_values.specs.Whole.{heading_of}
-use Rattle.td_values.specs.Total.{fields_antisymm, fields_tied}
+use Rattle.td_values.specs.Proving.Total.{fields_antisymm, fields_tied}
 use Rattle.td_replay.specs.declared.catalogue.Relvar.{Relvar}
 use Rattle.td_replay.specs.declared.tree.Component.{Component}
 use Rattle.td_replay.specs.declared.tree.Insertion.{Insertion}

@@ -10,7 +10,7 @@ use Rattle.td_values.specs.Alike.{AreAlike, bare, bare_tuple, bare_tuples, value
 use Rattle.td_values.specs.Data.{Fields, Datum, boolean, integer, char, user, tuple, relation, Attrs, no_attrs, attr, Tuples, no_tuples, next_tuple}
 use Rattle.td_values.specs.Order.{text_cmp, order, items_order, attrs_order, tuples_order, fields_order}
 use Rattle.td_values.specs.TextOrder.{text_total}
-use Rattle.td_values.specs.Total.{attrs_order_total}
+use Rattle.td_values.specs.Proving.Total.{attrs_order_total}
 use Rattle.td_values.specs.Whole.{type_of, heading_of, IsWhole, IsWholeTuple, AreRowsOf}
 use Rattle.td_values.proofs.FieldLemmas.{fields_tie_themselves}
 

@@ -14,7 +14,7 @@ use Rattle.td_values.specs.Data.{Ty, Datum, Attrs, attrs_of}
 use Rattle.td_values.specs.Headings.{Header}
 use Rattle.td_values.specs.Attributes.{attribute_of}
 use Rattle.td_values.specs.Order.{text_cmp}
-use Rattle.td_values.specs.Places.{IsPlaceOf, IsGapFor}
+use Rattle.td_values.specs.Proving.Places.{IsPlaceOf, IsGapFor}
 use Rattle.td_values.specs.TextOrder.{text_total}
 use Rattle.td_values.specs.Whole.{NamesAscend, IsWholeTuple}
 

@@ -9,7 +9,7 @@ use Rattle.std.proofs.lemmas.Map.Lookups.{exact_bytes}
 use Rattle.td_values.specs.Data.{Ty, user_type, relation_type, Fields, field, PossrepData, Datum, user, relation, Items, Attrs, Tuples, attrs_of, fields_of}
 use Rattle.td_values.specs.Order.{text_cmp, fields_order, possrep_order}
 use Rattle.td_values.specs.TextOrder.{text_total}
-use Rattle.td_values.specs.Total.{fields_antisymm, fields_tied, possrep_antisymm}
+use Rattle.td_values.specs.Proving.Total.{fields_antisymm, fields_tied, possrep_antisymm}
 use Rattle.td_values.specs.Whole.{type_of, heading_of}
 use Rattle.td_values.proofs.Walks.{is_tied}
 

@@ -4,7 +4,7 @@ use Rattle.std.specs.Coded.{Coded, coded_ℕ, coded_list}
 use Rattle.std.specs.FinMap as map
 use Rattle.std.specs.Ordering.{eq_by_cmp}
 use Rattle.td_values.specs.Data.{Datum, Attrs, no_attrs, attr}
-use Rattle.td_values.specs.Code.{datum_code}
+use Rattle.td_values.specs.Proving.Code.{datum_code}
 use Rattle.td_values.specs.Order.{text_cmp}
 
 -- the value at a name

@@ -1,7 +1,7 @@
 //! The order of types and of values.
 ghost use Rattle.std.specs.Prelude.{◌≡◌, ◌↔◌, IsTrue, refl};
 ghost use Rattle.std.specs.Ordering.{eq_by_cmp, as_partial_cmp};
-ghost use Rattle.td_values.specs.Total.{attrs_order_total, attrs_equivalence, attrs_partial_order, attrs_partial_equivalence};
+ghost use Rattle.td_values.specs.Proving.Total.{attrs_order_total, attrs_equivalence, attrs_partial_order, attrs_partial_equivalence};
 ghost use Rattle.td_values.specs.Order.{order, rank, ty_rank, ty_order, attrs_order, fields_order, items_order, tuples_order};
 ghost use Rattle.td_values.specs.Data.{fields_of, items_of, attrs_of, tuples_of};
 ghost use Rattle.td_values.specs.Headings.{header_fields};

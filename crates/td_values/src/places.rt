@@ -2,7 +2,7 @@
 ghost use Rattle.std.specs.Prelude.{T, IfOk, IfErr};
 ghost use Rattle.std.specs.FinMap as map;
 ghost use Rattle.td_values.specs.Order.{text_cmp};
-ghost use Rattle.td_values.specs.Places.{IsPlaceOf, IsGapFor};
+ghost use Rattle.td_values.specs.Proving.Places.{IsPlaceOf, IsGapFor};
 
 use crate::names::Name;
 

@@ -1,5 +1,5 @@
 use Rattle.std.proofs.Common.{ap, ◌∙◌}
-use Rattle.td_values.specs.Total.{attrs_order_total, attrs_tied}
+use Rattle.td_values.specs.Proving.Total.{attrs_order_total, attrs_tied}
 use Rattle.td_relations.specs.Sets.{tuple_set}
 use Rattle.td_relations.proofs.Sorted.{body_remove, remove_absent, sorted_remove}
 use Rattle.td_relations.proofs.places.take_out.Goals as goal

@@ -1,4 +1,4 @@
-use Rattle.td_values.specs.Total.{ty_order_total}
+use Rattle.td_values.specs.Proving.Total.{ty_order_total}
 use Rattle.td_values.proofs.laws.type_order_is_total.Goals as goal
 
 pub returns : goal.returns
