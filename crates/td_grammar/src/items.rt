@@ -9,35 +9,30 @@ use crate::cursor::{Cursor, aggregate_of, same_word};
 use crate::error::ReadError;
 use crate::forms::{Form, Naming};
 use crate::grammar::{Grammar, Tree};
-use crate::lists::{list, listed, up_to};
-use crate::tree::{Aggregate, Expr, Named, Summary};
+use crate::lists::{list, listed};
+use crate::tree::{Aggregate, Named, Summary};
 use sqlite_items::Items;
 use std::alloc::Global;
 use td_tokens::token::{Kind, Word};
 
 impl<F: Fn(Global, &mut Cursor<'_>, usize, usize, Form) -> Result<Tree, ReadError>> Grammar<F> {
-    // An expression one level down, out of its box.
-    fn bare(&self, tokens: &mut Cursor<'_>) -> Result<Expr, ReadError>
-        requires { Nests self.now.depth (F.pre self.now.nested) (F.post self.now.nested) }
-        ensures { Gives (spec.inner (reads self.now.depth) self.now.levels tokens.old) result tokens.new }
-    {
-        Ok(self.inner(tokens)?.into_inner())
-    }
-
-    pub fn exprs_listed(&self, tokens: &mut Cursor<'_>, end: Word) -> Result<Items<Expr>, ReadError>
+    pub fn exprs_listed(&self, tokens: &mut Cursor<'_>, end: Word) -> Result<Items<Tree>, ReadError>
         requires { Nests self.now.depth (F.pre self.now.nested) (F.post self.now.nested) }
         ensures { Gives (spec.listed end (spec.inner (reads self.now.depth) self.now.levels) tokens.old) result tokens.new }
     {
-        let item = |tokens: &mut Cursor<'_>| self.bare(tokens);
+        let item = |tokens: &mut Cursor<'_>| self.inner(tokens);
         listed(self.alloc, tokens, end, item)
     }
 
-    pub fn exprs_up_to(&self, tokens: &mut Cursor<'_>, end: Word) -> Result<Items<Expr>, ReadError>
+    #[tactic(auto, unfolding(crate::specs::ForProofs::Reader::up_to))]
+    pub fn exprs_up_to(&self, tokens: &mut Cursor<'_>, end: Word) -> Result<Items<Tree>, ReadError>
         requires { Nests self.now.depth (F.pre self.now.nested) (F.post self.now.nested) }
         ensures { Gives (spec.up_to end (spec.inner (reads self.now.depth) self.now.levels) tokens.old) result tokens.new }
     {
-        let item = |tokens: &mut Cursor<'_>| self.bare(tokens);
-        up_to(self.alloc, tokens, end, item)
+        if tokens.eat(end) {
+            return Ok(Items::new(self.alloc));
+        }
+        self.exprs_listed(tokens, end)
     }
 
     /// An expression with a name.
@@ -79,6 +74,7 @@ impl<F: Fn(Global, &mut Cursor<'_>, usize, usize, Form) -> Result<Tree, ReadErro
         list(self.alloc, tokens, item)
     }
 
+    #[tactic(auto, unfolding(crate::specs::ForProofs::Reader::listed))]
     pub fn named_listed(
         &self,
         tokens: &mut Cursor<'_>,
@@ -88,10 +84,12 @@ impl<F: Fn(Global, &mut Cursor<'_>, usize, usize, Form) -> Result<Tree, ReadErro
         requires { Nests self.now.depth (F.pre self.now.nested) (F.post self.now.nested) }
         ensures { Gives (spec.listed end (spec.named_at (reads self.now.depth) self.now.levels naming) tokens.old) result tokens.new }
     {
-        let item = |tokens: &mut Cursor<'_>| self.named(tokens, naming);
-        listed(self.alloc, tokens, end, item)
+        let found = self.named_list(tokens, naming)?;
+        tokens.expect(end)?;
+        Ok(found)
     }
 
+    #[tactic(auto, unfolding(crate::specs::ForProofs::Reader::up_to))]
     pub fn named_up_to(
         &self,
         tokens: &mut Cursor<'_>,
@@ -101,8 +99,10 @@ impl<F: Fn(Global, &mut Cursor<'_>, usize, usize, Form) -> Result<Tree, ReadErro
         requires { Nests self.now.depth (F.pre self.now.nested) (F.post self.now.nested) }
         ensures { Gives (spec.up_to end (spec.named_at (reads self.now.depth) self.now.levels naming) tokens.old) result tokens.new }
     {
-        let item = |tokens: &mut Cursor<'_>| self.named(tokens, naming);
-        up_to(self.alloc, tokens, end, item)
+        if tokens.eat(end) {
+            return Ok(Items::new(self.alloc));
+        }
+        self.named_listed(tokens, end, naming)
     }
 
     #[tactic(auto, unfolding(crate::specs::ForProofs::Reader::counted))]

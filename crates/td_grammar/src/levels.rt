@@ -8,11 +8,11 @@ use crate::tree::{Expr, Groups, Named, Summary};
 use sqlite_items::Boxed;
 
 #[cycle(within)]
-fn list_within(all: &[Expr], most: usize) -> bool
+fn list_within(all: &[Boxed<Expr>], most: usize) -> bool
     ensures { result ≡ nat_le (list_levels all.now) most }
 {
     for a in all {
-        if !within(a, most) {
+        if !within(a.get(), most) {
             return false;
         }
     }

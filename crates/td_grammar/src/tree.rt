@@ -126,10 +126,10 @@ pub enum Expr {
     TableDum,
     Name(Name),
     /// A selector, or THE_ with a component.
-    Call(Name, Items<Expr>),
+    Call(Name, Items<Boxed<Expr>>),
     Tuple(Items<Named<Boxed<Expr>>>),
     /// Its heading, if it is written, and its tuples.
-    Relation(Option<Items<Named<TypeExpr>>>, Items<Expr>),
+    Relation(Option<Items<Named<TypeExpr>>>, Items<Boxed<Expr>>),
     Unary(UnaryOperator, Boxed<Expr>),
     Binary(BinaryOperator, Boxed<Expr>, Boxed<Expr>),
     /// An attribute of a tuple.
