@@ -19,7 +19,7 @@ use Rattle.td_values.specs.Data.{Ty, Datum, Attrs, no_attrs, attr}
 use Rattle.td_values.specs.Headings.{Header}
 use Rattle.td_values.specs.Order.{attrs_order}
 use Rattle.td_values.specs.Rows.{RowsData, AreRows}
-use Rattle.td_values.specs.Total.{attrs_order_total}
+use Rattle.td_values.specs.Proving.Total.{attrs_order_total}
 use Rattle.td_values.specs.Whole.{type_of}
 use Rattle.td_values.proofs.TupleLemmas.{attribute_here}
 use Rattle.td_relations.specs.Sets.{Has, IsRelation, IsRelationOf, tuple_set}

@@ -6,7 +6,7 @@ use Rattle.td_algebra.specs.declared.errors.Stop.{Stop}
 use Rattle.td_algebra.specs.Stops.{number_of}
 use Rattle.td_values.specs.Data.{Ty, Datum, Attrs}
 use Rattle.td_values.specs.Order.{ty_order}
-use Rattle.td_values.specs.Total.{ty_tied, ty_order_total}
+use Rattle.td_values.specs.Proving.Total.{ty_tied, ty_order_total}
 use Rattle.std.specs.Cmp.{tied_itself}
 use Rattle.std.specs.declared.cmp.Ordering.{Ordering}
 use Rattle.std.specs.declared.cmp.Ordering.TheVariants.{Less, Equal, Greater}
