@@ -19,6 +19,8 @@ mod opening;
 mod parts;
 mod restriction;
 mod sets;
+#[cfg(test)]
+mod stop_tests;
 mod summaries;
 mod summarization;
 #[cfg(test)]
@@ -36,6 +38,7 @@ pub use opening::{ungroup, unwrap};
 pub use parts::{project, rename};
 pub use restriction::restrict;
 pub use sets::{intersect, minus, union};
+pub use summaries::aggregate;
 pub use summarization::summarize;
 pub use td_tuples::{Item, Summary, is_relation_valued, is_tuple_valued};
 pub use wraps::wrap;

@@ -15,6 +15,7 @@ use crate::errors::{Fault, Stop};
 use crate::gathered::Gathered;
 use crate::index::Keyed;
 use std::alloc::{AllocError, Global};
+use td_relations::Relation;
 use td_tuples::Summary;
 use td_values::{Kind, Tuple, Value, compare, copy};
 
@@ -185,6 +186,50 @@ fn values_of<E, F: Fn(&E, &Tuple) -> Result<Value, Fault>>(
         gathered.note(value_of(f, term, &entry.tuple))?;
     }
     gathered.finish()
+}
+
+// The term's values on the tuples, or the least error among theirs.
+fn values_at<E, F: Fn(&E, &Tuple) -> Result<Value, Fault>>(
+    alloc: Global,
+    tuples: &[Tuple],
+    term: &E,
+    f: &F,
+) -> Result<Vec<Value>, Fault>
+    requires { All (TakesBoth (F.pre f.now) term.now) tuples.now }
+    ensures { (m : Meaning E) → All (Means (F.post f.now) m term.now) tuples.now → AnswersBy (λ v. v.items) result (all_of (m term.now) tuples.now) }
+{
+    let mut gathered = Gathered::new(alloc);
+    for tuple in tuples {
+        gathered.note(value_of(f, term, tuple))?;
+    }
+    gathered.finish()
+}
+
+fn number_of(tuples: &[Tuple]) -> Value
+    ensures { result ≡ integer (pos (length tuples.now)) }
+{
+    integer_value(tuples.len() as i64)
+}
+
+/// The summary over all tuples of the relation: of the term's values, in ascending order of the tuples, or the least of the
+/// errors that the function raises, or else what the summary raises. The term is asked of each tuple once.
+pub fn aggregate<E, F: Fn(&E, &Tuple) -> Result<Value, Fault>>(
+    alloc: Global,
+    relation: &Relation,
+    summary: &Summary<E>,
+    f: &F,
+) -> Result<Value, Fault>
+    requires { All (TakesTerm (F.pre f.now) summary.now) relation.now.tuples }
+    ensures { (m : Meaning E) → All (MeansTerm (F.post f.now) m summary.now) relation.now.tuples → Answers result (spec.summary_over m relation.now.tuples summary.now) }
+{
+    let tuples = relation.tuples();
+    match term_of(summary) {
+        None => Ok(number_of(tuples)),
+        Some(term) => match values_at(alloc, tuples, term, f) {
+            Ok(values) => fold_values(alloc, summary, &values),
+            Err(fault) => Err(fault),
+        },
+    }
 }
 
 // The summary over the group.
