@@ -19,3 +19,4 @@ pub mod Closing
 pub mod Bridges
 pub mod Reaching
 pub mod Ending
+pub mod Extremes

@@ -1,8 +1,8 @@
 -- Summaries over groups of tuples (Date and Darwen, The Third Manifesto).
-use Rattle.std.specs.Prelude.{◌^◌, ℤ, pos, neg_ℤ, ◌+ℤ◌, int_le, int_lt, Bool, false, ◌&&◌, if◌then◌else◌, List, [], ◌∷◌, length, Option, None, Some, IfSome, Result, Ok, Err}
+use Rattle.std.specs.Prelude.{◌≡◌, ◌^◌, ℤ, pos, neg_ℤ, ◌+ℤ◌, int_le, int_lt, Bool, false, ◌&&◌, if◌then◌else◌, List, [], ◌∷◌, length, Option, None, Some, IfSome, Result, Ok, Err}
 use Rattle.std.specs.Borrow.{Bor}
-use Rattle.std.specs.List.{filter, fold, list_all, list_any}
-use Rattle.std.specs.Ordering.{eq_by_cmp, is_lt}
+use Rattle.std.specs.List.{All, Contains, filter, fold, list_all, list_any}
+use Rattle.std.specs.Ordering.{eq_by_cmp, is_gt, is_lt}
 use Rattle.td_algebra.specs.declared.errors.Stop.{Stop}
 use Rattle.td_algebra.specs.declared.errors.Stop.TheVariants.{Overflow, Empty}
 use Rattle.td_values.specs.Data.{Datum, boolean, integer, Attrs}
@@ -92,3 +92,18 @@ TakesTerm pre s t = OfTerm (λ e. TakesBoth pre e t) s
 
 abbrev pub MeansTerm : {E : Type 0} → (Bor E → Bor Attrs → Result Datum Fault → Type 0) → Meaning E → Summary E → Attrs → Type 0
 MeansTerm post m s t = OfTerm (λ e. Means post m e t) s
+
+-- ---- what the greatest and the least are
+-- d is one of these, and none is greater
+abbrev pub IsGreatestOf : List Datum → Datum → Type 0
+IsGreatestOf ds d = Contains ds d × All (λ e. is_gt (order e d) ≡ false) ds
+
+-- d is one of these, and none is less
+abbrev pub IsLeastOf : List Datum → Datum → Type 0
+IsLeastOf ds d = Contains ds d × All (λ e. is_gt (order d e) ≡ false) ds
+
+abbrev pub MaxIsGreatest : Type 0
+MaxIsGreatest = (ds : List Datum) (d : Datum) → most greater ds ≡ Ok d → IsGreatestOf ds d
+
+abbrev pub MinIsLeast : Type 0
+MinIsLeast = (ds : List Datum) (d : Datum) → most lesser_of ds ≡ Ok d → IsLeastOf ds d
