@@ -4,6 +4,7 @@ ghost use Rattle.std.specs.List.{All};
 ghost use Rattle.td_values.specs.Headings.{header_fields};
 ghost use Rattle.td_values.specs.Whole.{heading_of};
 
+use crate::operators::OperandNames;
 use anyhow::Result;
 use std::alloc::Global;
 use td_relations::Relation;
@@ -32,6 +33,38 @@ impl Names {
     }
 }
 
+impl Names {
+    /// The names that the operators take.
+    pub fn taken(&self, alloc: Global) -> Result<OperandNames> {
+        Ok(OperandNames {
+            parts: vec![in alloc; self.number.copy()?, self.status.copy()?]?,
+            number: vec![in alloc; self.number.copy()?]?,
+            renamed: vec![in alloc; (self.city.copy()?, self.quantity.copy()?)]?,
+            new: Name::new(alloc, "NEW")?,
+        })
+    }
+
+    /// So many pairs, each of a number and the next one.
+    pub fn chain(&self, alloc: Global, length: u32) -> Result<Relation> {
+        let mut heading = Heading::new(alloc)?;
+        for name in [&self.quantity, &self.status] {
+            let kind = TypeKind::Integer;
+            heading.insert(alloc, name.copy()?, TdType { kind })?;
+        }
+        let mut chain = Relation::empty(alloc, heading);
+        for n in 0..length {
+            let mut builder = TupleBuilder::new(alloc);
+            builder.insert(self.quantity.copy()?, integer(n))?;
+            builder.insert(self.status.copy()?, integer(n.wrapping_add(1)))?;
+            let pair = builder.build(alloc)?;
+            if fits(&pair, chain.heading()) {
+                chain.insert(pair)?;
+            }
+        }
+        Ok(chain)
+    }
+}
+
 /// What the tuples of a relation tell of.
 #[derive(Clone, Copy)]
 pub enum Subject {
@@ -54,6 +87,11 @@ fn heading(alloc: Global, texts: &[&Name], number: &Name) -> Result<Heading> {
 fn text(alloc: Global, letters: &str, n: u32) -> Result<Value> {
     let kind = Kind::Char(Text::new(alloc, format!(in alloc; "{letters}{n}")?)?);
     Ok(Value { kind })
+}
+
+fn integer(n: u32) -> Value {
+    let kind = Kind::Integer(i64::from(n));
+    Value { kind }
 }
 
 fn number(n: u32) -> Value {
