@@ -1,6 +1,9 @@
 -- Restriction: which tuples are selected.
 use Rattle.std.proofs.Common.{◌≡◌, ℕ, ◌+◌, ◌++◌, ◌<◌, ◌≤◌, Bool, true, false, cond, if◌then◌else◌, List, [], ◌∷◌, length, get_or, drop, Result, Ok, Err, refl, sym, ap, ◌∙◌, subst, append_assoc, append-nil, ⊎_elim, inl, inr, ◌⊎◌, arith, min}
-use Rattle.std.specs.List.{All, Contains}
+use Rattle.std.specs.List.{All, AllByRecursion, Contains}
+use Rattle.std.specs.List.Sorted.{IsStrictlySortedBy}
+use Rattle.std.specs.declared.cmp.Ordering.TheVariants.{Less}
+use Rattle.td_values.specs.Order.{attrs_order}
 use Rattle.std.proofs.lemmas.List.{drop_more, drop_all}
 use Rattle.std.proofs.lemmas.List.Elements.{All-contains, All-contains_itself, All-weaker}
 use Rattle.std.proofs.lemmas.Bool.{cases_lt}
@@ -51,6 +54,20 @@ selected_within (x ∷ xs) (b ∷ bs) y there = first_by x b xs (select xs bs) y
 
 pub all_selected : {X : Type 0} (P : X → Type 0) (xs : List X) (bs : List Bool) → All P xs → All P (select xs bs)
 all_selected P xs bs all = All-weaker (Contains (select xs bs)) P (λ x there. All-contains P xs x all (selected_within xs bs x there)) (select xs bs) (All-contains_itself (select xs bs))
+
+-- what ascends does so without those that are not selected
+above_selected : (x : Attrs) (xs : List Attrs) (bs : List Bool) → AllByRecursion (λ y. attrs_order x y ≡ Less) xs → AllByRecursion (λ y. attrs_order x y ≡ Less) (select xs bs)
+above_selected x [] bs a = tt
+above_selected x (y ∷ ys) [] a = tt
+above_selected x (y ∷ ys) (true ∷ bs) a = (a.0, above_selected x ys bs a.1)
+above_selected x (y ∷ ys) (false ∷ bs) a = above_selected x ys bs a.1
+
+pub selected_ascends : (xs : List Attrs) (bs : List Bool) → IsStrictlySortedBy attrs_order xs → IsStrictlySortedBy attrs_order (select xs bs)
+unfolding IsStrictlySortedBy
+selected_ascends [] bs s = tt
+selected_ascends (x ∷ xs) [] s = tt
+selected_ascends (x ∷ xs) (true ∷ bs) s = (above_selected x xs bs s.0, selected_ascends xs bs s.1)
+selected_ascends (x ∷ xs) (false ∷ bs) s = selected_ascends xs bs s.1
 
 module _ {X : Type 0} (m : X → Result Bool Stop) where
   true_by : (x : X) (b : Bool) (xs ys : List X) (y : X) → m x ≡ Ok b → Contains (if b then x ∷ ys else ys) y → (Contains ys y → m y ≡ Ok true) → m y ≡ Ok true

@@ -12,7 +12,7 @@ use crate::errors::Fault;
 use crate::gathered::gather;
 use std::alloc::{AllocError, Global};
 use td_relations::Relation;
-use td_values::Tuple;
+use td_values::{Rows, Tuple};
 
 fn put(kept: &mut Vec<Tuple>, keep: bool, tuple: &Tuple) -> Result<(), AllocError>
     ensures { OnOk result (kept.new.items ≡ kept.old.items ++ cond keep (tuple.now ∷ []) []) }
@@ -49,5 +49,6 @@ pub fn restrict<F: Fn(&Tuple) -> Result<bool, Fault>>(
         Err(fault) => return Err(fault),
     };
     let kept = selected(alloc, relation.tuples(), &keep)?;
-    Ok(Relation::from_tuples(relation.heading().copy()?, kept))
+    let heading = relation.heading().copy()?;
+    Ok(Relation::of(Rows::new(heading, kept)))
 }
