@@ -1,6 +1,6 @@
 -- Restriction: which tuples are selected.
 use Rattle.std.proofs.Common.{◌≡◌, ℕ, ◌+◌, ◌++◌, ◌<◌, ◌≤◌, Bool, true, false, cond, if◌then◌else◌, List, [], ◌∷◌, length, get_or, drop, Result, Ok, Err, refl, sym, ap, ◌∙◌, subst, append_assoc, append-nil, ⊎_elim, inl, inr, ◌⊎◌, arith, min}
-use Rattle.std.specs.List.{All, AllByRecursion, Contains}
+use Rattle.std.specs.List.{All, AllByRecursion, Contains, filter}
 use Rattle.std.specs.List.Sorted.{IsStrictlySortedBy}
 use Rattle.std.specs.declared.cmp.Ordering.TheVariants.{Less}
 use Rattle.td_values.specs.Order.{attrs_order}
@@ -68,6 +68,21 @@ selected_ascends [] bs s = tt
 selected_ascends (x ∷ xs) [] s = tt
 selected_ascends (x ∷ xs) (true ∷ bs) s = (above_selected x xs bs s.0, selected_ascends xs bs s.1)
 selected_ascends (x ∷ xs) (false ∷ bs) s = selected_ascends xs bs s.1
+
+above_filter : (p : Attrs → Bool) (x : Attrs) (xs : List Attrs) → AllByRecursion (λ y. attrs_order x y ≡ Less) xs → AllByRecursion (λ y. attrs_order x y ≡ Less) (filter p xs)
+above_filter p x [] a = tt
+above_filter p x (y ∷ ys) a = elim (p y) as (λ b. AllByRecursion (λ z. attrs_order x z ≡ Less) (cond b (y ∷ filter p ys) (filter p ys))) [
+  | true ↦ (a.0, above_filter p x ys a.1)
+  | false ↦ above_filter p x ys a.1
+]
+
+pub filter_ascends : (p : Attrs → Bool) (xs : List Attrs) → IsStrictlySortedBy attrs_order xs → IsStrictlySortedBy attrs_order (filter p xs)
+unfolding IsStrictlySortedBy
+filter_ascends p [] s = tt
+filter_ascends p (x ∷ xs) s = elim (p x) as (λ b. IsStrictlySortedBy attrs_order (cond b (x ∷ filter p xs) (filter p xs))) [
+  | true ↦ (above_filter p x xs s.0, filter_ascends p xs s.1)
+  | false ↦ filter_ascends p xs s.1
+]
 
 module _ {X : Type 0} (m : X → Result Bool Stop) where
   true_by : (x : X) (b : Bool) (xs ys : List X) (y : X) → m x ≡ Ok b → Contains (if b then x ∷ ys else ys) y → (Contains ys y → m y ≡ Ok true) → m y ≡ Ok true
