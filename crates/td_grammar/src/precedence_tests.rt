@@ -5,57 +5,45 @@ use crate::tree::Expr;
 use std::alloc::{AllocError, Global};
 use std::test::Fail;
 
-// An operator before its operand.
-fn before(alloc: Global, operator: &str, a: &Expr) -> Result<String, AllocError> {
-    let a = shown(alloc, a)?;
-    format!(in alloc; "({operator} {a})")
-}
-
-// An operator behind its operand.
-fn behind(alloc: Global, a: &Expr, operator: &str) -> Result<String, AllocError> {
-    let a = shown(alloc, a)?;
-    format!(in alloc; "({a} {operator})")
-}
-
-// An operator between its operands.
-fn between(alloc: Global, a: &Expr, operator: &str, b: &Expr) -> Result<String, AllocError> {
-    let a = shown(alloc, a)?;
-    let b = shown(alloc, b)?;
-    format!(in alloc; "({a} {operator} {b})")
-}
-
 // The tree in full brackets, with its operators by the names of their variants.
 fn shown(alloc: Global, tree: &Expr) -> Result<String, AllocError> {
     match tree {
         Expr::Name(name) => format!(in alloc; "{}", name.as_str()),
         Expr::Integer(number) => format!(in alloc; "{number}"),
-        Expr::Unary(operator, a) => before(
-            alloc,
-            format!(in alloc; "{operator:?}")?.as_str(),
-            a.get(),
-        ),
-        Expr::From(name, a) => before(alloc, name.as_str(), a.get()),
-        Expr::Binary(operator, a, b) => {
-            between(
-                alloc,
-                a.get(),
-                format!(in alloc; "{operator:?}")?.as_str(),
-                b.get(),
-            )
+        Expr::Unary(operator, a) => {
+            let a = shown(alloc, a.get())?;
+            format!(in alloc; "({operator:?} {a})")
         }
-        Expr::Where(a, b) => between(alloc, a.get(), "Where", b.get()),
-        Expr::Project(a, _) => behind(alloc, a.get(), "Project"),
-        Expr::Rename(a, _) => behind(alloc, a.get(), "Rename"),
-        Expr::Nest(nesting, a, _, _) => behind(
-            alloc,
-            a.get(),
-            format!(in alloc; "{nesting:?}")?.as_str(),
-        ),
-        Expr::Unnest(nesting, a, _) => behind(
-            alloc,
-            a.get(),
-            format!(in alloc; "Un{nesting:?}")?.as_str(),
-        ),
+        Expr::From(name, a) => {
+            let a = shown(alloc, a.get())?;
+            format!(in alloc; "({} {a})", name.as_str())
+        }
+        Expr::Binary(operator, a, b) => {
+            let a = shown(alloc, a.get())?;
+            let b = shown(alloc, b.get())?;
+            format!(in alloc; "({a} {operator:?} {b})")
+        }
+        Expr::Where(a, b) => {
+            let a = shown(alloc, a.get())?;
+            let b = shown(alloc, b.get())?;
+            format!(in alloc; "({a} Where {b})")
+        }
+        Expr::Project(a, _) => {
+            let a = shown(alloc, a.get())?;
+            format!(in alloc; "({a} Project)")
+        }
+        Expr::Rename(a, _) => {
+            let a = shown(alloc, a.get())?;
+            format!(in alloc; "({a} Rename)")
+        }
+        Expr::Nest(nesting, a, _, _) => {
+            let a = shown(alloc, a.get())?;
+            format!(in alloc; "({a} {nesting:?})")
+        }
+        Expr::Unnest(nesting, a, _) => {
+            let a = shown(alloc, a.get())?;
+            format!(in alloc; "({a} Un{nesting:?})")
+        }
         _ => format!(in alloc; "?"),
     }
 }
