@@ -7,7 +7,7 @@ use Rattle.std.specs.List.{fold}
 use Rattle.std.specs.Ordering.{is_gt, is_lt, ordering_reverse}
 use Rattle.td_values.specs.Data.{Datum}
 use Rattle.td_values.specs.Order.{order}
-use Rattle.td_values.specs.Total.{order_total, tied}
+use Rattle.td_values.specs.Proving.Total.{order_total, tied}
 use Rattle.td_algebra.specs.Summaries.{greater, lesser_of, most, IsGreatestOf, IsLeastOf, MaxIsGreatest, MinIsLeast}
 use Rattle.td_algebra.proofs.Lists.{In, in_all, in_contains}
 
