@@ -71,46 +71,58 @@ fn show_into(out: &mut String, title: &str, relation: &Relation) -> Result<()> {
     Ok(())
 }
 
-// The union, the intersection and the difference of the relations of these rows.
-fn merged(alloc: Global, names: &[&str], a: &[&[i64]], b: &[&[i64]]) -> Result<String> {
+// The relation's tuples, and a line's end.
+fn told(alloc: Global, relation: &Relation) -> Result<String> {
+    let mut out = String::new(alloc);
+    show_into(&mut out, "gives", relation)?;
+    Ok(out)
+}
+
+// What the merges of the relations of these rows give.
+fn united(alloc: Global, names: &[&str], a: &[&[i64]], b: &[&[i64]]) -> Result<String> {
     let heading = heading(alloc, names)?;
     let a = relation(alloc, &heading, names, a)?;
     let b = relation(alloc, &heading, names, b)?;
-    let mut out = String::new(alloc);
-    show_into(&mut out, "union", &union(alloc, &a, &b)?)?;
-    show_into(&mut out, "intersect", &intersect(alloc, &a, &b)?)?;
-    show_into(&mut out, "minus", &minus(alloc, &a, &b)?)?;
-    Ok(out)
+    told(alloc, &union(alloc, &a, &b)?)
+}
+
+fn common(alloc: Global, names: &[&str], a: &[&[i64]], b: &[&[i64]]) -> Result<String> {
+    let heading = heading(alloc, names)?;
+    let a = relation(alloc, &heading, names, a)?;
+    let b = relation(alloc, &heading, names, b)?;
+    told(alloc, &intersect(alloc, &a, &b)?)
+}
+
+fn remaining(alloc: Global, names: &[&str], a: &[&[i64]], b: &[&[i64]]) -> Result<String> {
+    let heading = heading(alloc, names)?;
+    let a = relation(alloc, &heading, names, a)?;
+    let b = relation(alloc, &heading, names, b)?;
+    told(alloc, &minus(alloc, &a, &b)?)
 }
 
 #[test]
 fn merges_by_hand(rt: HostRuntime) -> Result<()> {
     let first: &[&[i64]] = &[&[1], &[2], &[4]];
-    let second: &[&[i64]] = &[&[5], &[2]];
-    let there = merged(rt.alloc(), ONE, first, second)?;
-    let want = "union TUPLE { A 1 } TUPLE { A 2 } TUPLE { A 4 } TUPLE { A 5 }
-intersect TUPLE { A 2 }
-minus TUPLE { A 1 } TUPLE { A 4 }
-";
-    assert!(rt; there.as_str() == want);
-    let back = merged(rt.alloc(), ONE, second, first)?;
-    let want = "union TUPLE { A 1 } TUPLE { A 2 } TUPLE { A 4 } TUPLE { A 5 }
-intersect TUPLE { A 2 }
-minus TUPLE { A 5 }
-";
-    assert!(rt; back.as_str() == want);
+    let second: &[&[i64]] = &[&[5], &[2], &[3]];
+    let all = "gives TUPLE { A 1 } TUPLE { A 2 } TUPLE { A 3 } TUPLE { A 4 } TUPLE { A 5 }\n";
+    assert!(rt; united(rt.alloc(), ONE, first, second)?.as_str() == all);
+    assert!(rt; united(rt.alloc(), ONE, second, first)?.as_str() == all);
+    assert!(rt; common(rt.alloc(), ONE, first, second)?.as_str() == "gives TUPLE { A 2 }\n");
+    let first_alone = "gives TUPLE { A 1 } TUPLE { A 4 }\n";
+    assert!(rt; remaining(rt.alloc(), ONE, first, second)?.as_str() == first_alone);
+    let second_alone = "gives TUPLE { A 3 } TUPLE { A 5 }\n";
+    assert!(rt; remaining(rt.alloc(), ONE, second, first)?.as_str() == second_alone);
     Ok(())
 }
 
 // TABLE_DEE and TABLE_DUM have no attributes, and one tuple or none.
 #[test]
 fn dee_and_dum_are_merged(rt: HostRuntime) -> Result<()> {
-    let both = merged(rt.alloc(), NONE, &[], &[&[]])?;
-    assert!(rt; both.as_str() == "union TUPLE { }\nintersect\nminus\n");
-    let back = merged(rt.alloc(), NONE, &[&[]], &[])?;
-    assert!(rt; back.as_str() == "union TUPLE { }\nintersect\nminus TUPLE { }\n");
-    let same = merged(rt.alloc(), NONE, &[&[]], &[&[]])?;
-    assert!(rt; same.as_str() == "union TUPLE { }\nintersect TUPLE { }\nminus\n");
+    let (dee, dum) = ("gives TUPLE { }\n", "gives\n");
+    assert!(rt; united(rt.alloc(), NONE, &[], &[&[]])?.as_str() == dee);
+    assert!(rt; common(rt.alloc(), NONE, &[], &[&[]])?.as_str() == dum);
+    assert!(rt; remaining(rt.alloc(), NONE, &[&[]], &[])?.as_str() == dee);
+    assert!(rt; remaining(rt.alloc(), NONE, &[&[]], &[&[]])?.as_str() == dum);
     Ok(())
 }
 
