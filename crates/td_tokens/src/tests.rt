@@ -6,7 +6,7 @@ use crate::token::{Kind, Token, Word};
 use std::alloc::Global;
 use std::test::Fail;
 
-// (The text is a parameter, for a contract at a literal text is dear to prove.)
+// The tokens of the text.
 fn read(alloc: Global, text: &str) -> Result<Vec<Token<'_>>, TokenError> {
     tokens(alloc, text)
 }
