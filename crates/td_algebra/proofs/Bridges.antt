@@ -43,7 +43,7 @@ use Rattle.td_algebra.proofs.Grouping.{same_group, listed}
 use Rattle.td_algebra.proofs.Lists.{In, in_contains, contains_in, all_in, in_all, in_filter, filter_in, in_map, map_in, in_flat_map, flat_map_in}
 use Rattle.td_algebra.proofs.Made.{has_in, in_has, has_fits, made, image_made}
 use Rattle.td_algebra.proofs.Openings.{ungrouped, unwrapped}
-use Rattle.td_algebra.proofs.Pairs.{itself, same_key}
+use Rattle.td_algebra.proofs.PlacedParts.{itself, same_key}
 use Rattle.td_algebra.proofs.Selections.{restricts, walk_fails}
 
 -- ---- sets

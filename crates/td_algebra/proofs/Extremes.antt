@@ -1,5 +1,5 @@
 -- The greatest and the least of some values.
-use Rattle.std.proofs.Common.{◌≡◌, inl, inr, Bool, true, false, List, [], ◌∷◌, Ok, Err, refl, sym, ap, ◌∙◌, subst, if◌then◌else◌}
+use Rattle.std.proofs.Common.{◌≡◌, inl, inr, Bool, true, false, List, [], ◌∷◌, refl, sym, ap, ◌∙◌, subst, if◌then◌else◌}
 use Rattle.std.specs.declared.cmp.Ordering.{Ordering}
 use Rattle.std.specs.declared.cmp.Ordering.TheVariants.{Less, Equal, Greater}
 use Rattle.std.specs.Cmp.{tied_itself}
@@ -8,7 +8,7 @@ use Rattle.std.specs.Ordering.{is_gt, is_lt, ordering_reverse}
 use Rattle.td_values.specs.Data.{Datum}
 use Rattle.td_values.specs.Order.{order}
 use Rattle.td_values.specs.Proving.Total.{order_total, tied}
-use Rattle.td_algebra.specs.Summaries.{greater, lesser_of, most, IsGreatestOf, IsLeastOf, MaxIsGreatest, MinIsLeast}
+use Rattle.td_algebra.specs.Summaries.{greater, lesser_of, IsGreatestOf, IsLeastOf, MaxIsGreatest, MinIsLeast}
 use Rattle.td_algebra.proofs.Lists.{In, in_all, in_contains}
 
 -- at most

@@ -20,3 +20,4 @@ pub mod Bridges
 pub mod Reaching
 pub mod Ending
 pub mod Extremes
+pub mod PlacedParts

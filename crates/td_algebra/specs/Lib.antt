@@ -2,6 +2,7 @@ pub mod Stops
 pub mod Operators
 pub mod Nested
 pub mod Closures
+pub mod Places
 pub mod Index
 pub mod Raising
 pub mod Restricting

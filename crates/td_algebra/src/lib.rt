@@ -13,11 +13,13 @@ mod gathered;
 mod groups;
 mod index;
 mod joins;
+mod keys;
 pub mod laws;
 mod links;
 mod opening;
 mod parts;
 mod restriction;
+mod searches;
 mod sets;
 #[cfg(test)]
 mod stop_tests;

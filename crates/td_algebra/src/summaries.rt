@@ -1,11 +1,10 @@
 //! Summaries over groups of tuples.
-ghost use Rattle.std.specs.Prelude.{◌≡◌, pos, length, map, Result, IfOk};
+ghost use Rattle.std.specs.Prelude.{◌≡◌, pos, length, Result, IfOk};
 ghost use Rattle.std.specs.List.{All, list_all, list_any};
 ghost use Rattle.std.specs.Option.{option_copied};
 ghost use Rattle.td_values.specs.Data.{Ty, Attrs, integer, boolean};
 ghost use Rattle.td_values.specs.Whole.{type_of};
 ghost use Rattle.td_algebra.specs.declared.errors.Stop.{Stop};
-ghost use Rattle.td_algebra.specs.Index.{tuple_in};
 ghost use Rattle.td_algebra.specs.Raising.{Answers, AnswersBy, all_of};
 ghost use Rattle.td_algebra.specs.Extending.{Meaning, TakesBoth, Means};
 ghost use Rattle.td_algebra.specs.Summaries as spec;
@@ -13,7 +12,6 @@ ghost use Rattle.td_algebra.specs.Summaries.{TakesTerm, MeansTerm};
 
 use crate::errors::{Fault, Stop};
 use crate::gathered::Gathered;
-use crate::index::Keyed;
 use std::alloc::{AllocError, Global};
 use td_relations::Relation;
 use td_tuples::Summary;
@@ -126,12 +124,6 @@ fn is_any_true(values: &[Value]) -> bool
     values.iter().any(|v| is_true(v))
 }
 
-fn size(group: &[Keyed]) -> Value
-    ensures { result ≡ integer (pos (length (map tuple_in group.now))) }
-{
-    integer_value(group.len() as i64)
-}
-
 fn term_of<E>(summary: &Summary<E>) -> Option<&E>
     ensures { option_copied result ≡ spec.term_of summary.now }
 {
@@ -171,23 +163,6 @@ fn value_of<E, F: Fn(&E, &Tuple) -> Result<Value, Fault>>(
     f(term, tuple)
 }
 
-// The term's values on the tuples of the group, or the least error among theirs.
-fn values_of<E, F: Fn(&E, &Tuple) -> Result<Value, Fault>>(
-    alloc: Global,
-    group: &[Keyed],
-    term: &E,
-    f: &F,
-) -> Result<Vec<Value>, Fault>
-    requires { All (λ k. TakesBoth (F.pre f.now) term.now k.tuple) group.now }
-    ensures { (m : Meaning E) → All (λ k. Means (F.post f.now) m term.now k.tuple) group.now → AnswersBy (λ v. v.items) result (all_of (m term.now) (map tuple_in group.now)) }
-{
-    let mut gathered = Gathered::new(alloc);
-    for entry in group {
-        gathered.note(value_of(f, term, &entry.tuple))?;
-    }
-    gathered.finish()
-}
-
 // The term's values on the tuples, or the least error among theirs.
 fn values_at<E, F: Fn(&E, &Tuple) -> Result<Value, Fault>>(
     alloc: Global,
@@ -211,6 +186,25 @@ fn number_of(tuples: &[Tuple]) -> Value
     integer_value(tuples.len() as i64)
 }
 
+// The summary over these tuples.
+pub(crate) fn over_group<E, F: Fn(&E, &Tuple) -> Result<Value, Fault>>(
+    alloc: Global,
+    tuples: &[Tuple],
+    summary: &Summary<E>,
+    f: &F,
+) -> Result<Value, Fault>
+    requires { All (TakesTerm (F.pre f.now) summary.now) tuples.now }
+    ensures { (m : Meaning E) → All (MeansTerm (F.post f.now) m summary.now) tuples.now → Answers result (spec.summary_over m tuples.now summary.now) }
+{
+    match term_of(summary) {
+        None => Ok(number_of(tuples)),
+        Some(term) => match values_at(alloc, tuples, term, f) {
+            Ok(values) => fold_values(alloc, summary, &values),
+            Err(fault) => Err(fault),
+        },
+    }
+}
+
 /// The summary over all tuples of the relation: of the term's values, in ascending order of the tuples, or the least of the
 /// errors that the function raises, or else what the summary raises. The term is asked of each tuple once.
 pub fn aggregate<E, F: Fn(&E, &Tuple) -> Result<Value, Fault>>(
@@ -222,31 +216,5 @@ pub fn aggregate<E, F: Fn(&E, &Tuple) -> Result<Value, Fault>>(
     requires { All (TakesTerm (F.pre f.now) summary.now) relation.now.tuples }
     ensures { (m : Meaning E) → All (MeansTerm (F.post f.now) m summary.now) relation.now.tuples → Answers result (spec.summary_over m relation.now.tuples summary.now) }
 {
-    let tuples = relation.tuples();
-    match term_of(summary) {
-        None => Ok(number_of(tuples)),
-        Some(term) => match values_at(alloc, tuples, term, f) {
-            Ok(values) => fold_values(alloc, summary, &values),
-            Err(fault) => Err(fault),
-        },
-    }
-}
-
-// The summary over the group.
-pub(crate) fn over_group<E, F: Fn(&E, &Tuple) -> Result<Value, Fault>>(
-    alloc: Global,
-    group: &[Keyed],
-    summary: &Summary<E>,
-    f: &F,
-) -> Result<Value, Fault>
-    requires { All (λ k. TakesTerm (F.pre f.now) summary.now k.tuple) group.now }
-    ensures { (m : Meaning E) → All (λ k. MeansTerm (F.post f.now) m summary.now k.tuple) group.now → Answers result (spec.summary_over m (map tuple_in group.now) summary.now) }
-{
-    match term_of(summary) {
-        None => Ok(size(group)),
-        Some(term) => match values_of(alloc, group, term, f) {
-            Ok(values) => fold_values(alloc, summary, &values),
-            Err(fault) => Err(fault),
-        },
-    }
+    over_group(alloc, relation.tuples(), summary, f)
 }

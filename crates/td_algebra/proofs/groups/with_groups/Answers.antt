@@ -1,27 +1,60 @@
-use Rattle.std.proofs.Common.{◌++◌, ◌∷◌, [], ◌+◌, take, map, sym, subst, arith}
-use Rattle.std.specs.List.{All, AllZip}
-use Rattle.std.proofs.lemmas.List.Elements.{AllZip-push}
-use Rattle.td_values.specs.Data.{Attrs}
-use Rattle.td_tuples.specs.Parts.{Fits, names_of}
-use Rattle.td_algebra.specs.declared.index.Keyed.{Keyed}
-use Rattle.td_algebra.specs.Index.{has_key, part_of, HoldsTuples, HoldsGroup}
+use Rattle.std.proofs.Common.{◌≡◌, ◌++◌, ◌∷◌, [], ◌+◌, ◌-◌, ◌<◌, ◌≤◌, ℕ, List, length, get_or, take, map, sym, ap, ◌∙◌, subst, arith, rules}
+use Rattle.std.specs.List.{All, filter}
+use Rattle.std.proofs.lemmas.List.{get_or-take, length-take-le}
+use Rattle.std.proofs.lemmas.List.Elements.{All-filter, All-get_or}
+use Rattle.td_values.specs.Data.{Attrs, no_attrs}
+use Rattle.td_tuples.specs.Parts.{Fits, cut, names_of}
 use Rattle.td_tuples.proofs.Filters.{taken}
-use Rattle.td_algebra.proofs.Grouping.{all_filter}
+use Rattle.td_algebra.specs.Index.{AreGroups, HoldsTuples, found, has_part}
+use Rattle.td_algebra.specs.Places.{has_values, values_at}
+use Rattle.td_algebra.proofs.Grouping.{groups_more, groups_again}
+use Rattle.td_algebra.proofs.Lists.{In, item_in}
+use Rattle.td_algebra.proofs.Runs.{same_at}
+use Rattle.td_algebra.proofs.Walks.{at_item}
 use Rattle.td_algebra.proofs.groups.with_groups.Goals as goal
+use Rattle.td_algebra.proofs.groups.with_groups.Goals.{then-not-repeats+in_ok-with_group+in_ok-push, else-not-repeats}
 
 pub with_group-requires : goal.with_group-requires
 with_group-requires c =
-    let P : Keyed → Type 0 = λ e. Fits c.args.inner.now (part_of (names_of c.args.inner.now) e) in
-    subst (All P) (sym c.run.ensures) (all_filter P (has_key c.key-item.result) c.args.index.now c.requires.fit)
+    let x = c.args.index.now in
+    let P : Attrs → Type 0 = λ t. Fits c.args.inner.now (cut (names_of c.args.inner.now) t) in
+    subst (All P) (sym c.run-run.ensures) (All-filter (has_values x.places.items (values_at x.others.items c.index-tuple.result.now)) P x.tuples.items c.requires.fit)
 
-pub loop-key-preserved : goal.loop-key-preserved
-loop-key-preserved c =
+taken_at : (xs : List Attrs) (n i : ℕ) (d : Attrs) → i < n → n ≤ length xs → In (get_or xs i d) (take n xs)
+taken_at xs n i d lt le =
+    let x = get_or xs i d in
+    let n_long = length-take-le n xs le in
+    item_in (take n xs) i x (omega (arith, n_long, lt)) (same_at xs i d x (omega (arith, lt, le)) ∙ sym (get_or-take n xs i x lt))
+
+pub loop-at-preserved : goal.loop-at-preserved
+loop-at-preserved c =
     let inner = c.args.inner.now in
-    let R : Attrs → Attrs → Type 0 = HoldsGroup inner c.args.name.now c.args.index.now in
-    let ks = c.args.keys.now in
-    let i = c.loop-key.key-index in
-    let k = c.key-item.result in
-    let u = c.in_ok-with_group.field-0 in
-    let held : R k u = subst (λ es. HoldsTuples inner c.args.name.now k (map (part_of (names_of inner)) es) u) c.run.ensures c.in_ok-with_group.ensures in
-    subst (AllZip R (take (i + 1) ks)) (sym c.in_ok-push.ensures.items)
-    (subst (λ w. AllZip R w (c.loop-key.out.items ++ u ∷ [])) (sym (taken ks i k (omega arith) c.key-item.is)) (AllZip-push R (take i ks) c.loop-key.out.items k u c.loop-key.invariant held))
+    let outer = c.args.outer.now in
+    let name = c.args.name.now in
+    let x = c.args.index.now in
+    let es = x.tuples.items in
+    let i = c.loop-at.at in
+    let within : i < length es = search rules in
+    let so_far = c.loop-at.invariant in
+    elim c.if-not-repeats.branch [
+      | then-not-repeats+in_ok-with_group+in_ok-push w ↦
+          let t = w.index-tuple.result.now in
+          let u = w.in_ok-with_group.field-0 in
+          let is = w.index-tuple.ensures in
+          let P : Attrs → Type 0 = λ t. found x t ≡ filter (has_part (names_of outer) (cut (names_of outer) t)) es in
+          let run = w.run-run.ensures ∙ at_item P es i t within is c.requires.by_parts.finds in
+          let holds = subst (λ ts. HoldsTuples inner name (cut (names_of outer) t) (map (cut (names_of inner)) ts) u) run w.in_ok-with_group.ensures in
+          subst (λ us. AreGroups inner outer name es (take (i + 1) es) us) (sym (ap (λ v. v.items) w.out-is ∙ w.in_ok-push.ensures.items))
+          (subst (λ ts. AreGroups inner outer name es ts (c.loop-at.out.items ++ u ∷ [])) (sym (taken es i t within is))
+          (groups_more inner outer name es (take i es) c.loop-at.out.items so_far t u (item_in es i t within is) holds))
+      | else-not-repeats w ↦
+          let again = c.repeats.ensures w.if-not-repeats.false in
+          let later = again.0 in
+          let s = get_or es (i - 1) no_attrs in
+          let t = get_or es i no_attrs in
+          let P : Attrs → Type 0 = λ s. All (λ t. values_at x.places.items s ≡ values_at x.places.items t → cut (names_of outer) s ≡ cut (names_of outer) t) es in
+          let same = All-get_or (λ t. values_at x.places.items s ≡ values_at x.places.items t → cut (names_of outer) s ≡ cut (names_of outer) t) es i no_attrs within (All-get_or P es (i - 1) no_attrs (omega (arith, later, within)) c.requires.by_parts.alike) (again.1 no_attrs) in
+          subst (λ us. AreGroups inner outer name es (take (i + 1) es) us) (sym (ap (λ v. v.items) w.out-is))
+          (subst (λ ts. AreGroups inner outer name es ts c.loop-at.out.items) (sym (taken es i t within (same_at es i no_attrs t within)))
+          (groups_again inner outer name es (take i es) c.loop-at.out.items so_far t s (taken_at es i (i - 1) no_attrs (omega (arith, later)) (omega (arith, within))) same))
+    ]

@@ -1,7 +1,6 @@
 use Rattle.std.proofs.Common.{take}
-use Rattle.std.specs.List.{AllZip}
-use Rattle.td_algebra.specs.Index.{HoldsGroup}
+use Rattle.td_algebra.specs.Index.{AreGroups}
 use Rattle.td_algebra.proofs.groups.with_groups.Given as goal
 
-abbrev pub invariant-loop-key : goal.invariant-loop-key
-invariant-loop-key l = AllZip (HoldsGroup l.inner l.name l.index) (take l.key-index l.keys) l.out.items
+abbrev pub invariant-loop-at : goal.invariant-loop-at
+invariant-loop-at l = AreGroups l.inner l.outer l.name l.index.tuples.items (take l.at l.index.tuples.items) l.out.items
