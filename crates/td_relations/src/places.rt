@@ -1,12 +1,14 @@
 //! Ascending lists of tuples: where a tuple stands, and edits there.
 ghost use Rattle.std.specs.Prelude.{◌≡◌, ◌+◌, ◌<◌, ◌≤◌, IfOk, IfErr, vec_len, vec_capacity, length};
 ghost use Rattle.std.specs.FinSet as set;
+ghost use Rattle.std.specs.List.{dedup};
+ghost use Rattle.std.specs.Ordering.{eq_by_cmp};
 ghost use Rattle.std.specs.List.Sorted.{IsPermutation, IsSorted, IsStrictlySortedBy};
 ghost use Rattle.td_values.specs.Alike.{AreAlike};
 ghost use Rattle.td_values.specs.Order.{attrs_order};
 ghost use Rattle.td_relations.specs.Sets.{tuple_set, IsAt, IsGapFor};
 
-use td_values::{Tuple, sort_alike};
+use td_values::{Tuple, compare_values, sort_alike, whole_tuples};
 
 /// These tuples in order, by their values alone, since they have one heading.
 pub fn in_order(tuples: Vec<Tuple>) -> Vec<Tuple>
@@ -16,6 +18,17 @@ pub fn in_order(tuples: Vec<Tuple>) -> Vec<Tuple>
 {
     let mut tuples = tuples;
     sort_alike(&mut tuples);
+    tuples
+}
+
+/// These tuples, which have one heading, without those that are equal to the one before. By their values alone.
+pub fn without_repeats(tuples: Vec<Tuple>) -> Vec<Tuple>
+    requires { AreAlike tuples.items }
+    ensures { result.items ≡ dedup (eq_by_cmp attrs_order) tuples.items }
+{
+    let mut tuples = tuples;
+    whole_tuples(&tuples);
+    tuples.dedup_by(|s, t| compare_values(s, t).is_eq());
     tuples
 }
 

@@ -1,14 +1,18 @@
-use Rattle.std.proofs.lemmas.List.Filters.{dedup_is}
+use Rattle.td_values.specs.Headings.{header_fields}
+use Rattle.td_values.proofs.AlikeLemmas.{alike_by, alike_moved}
 use Rattle.td_relations.proofs.Listed.{listed, fit_listed}
 use Rattle.td_relations.proofs.Relation.from_tuples.Goals as goal
 
+pub without_repeats-tuples-requires : goal.without_repeats-tuples-requires
+without_repeats-tuples-requires c = alike_moved _ _ c.in_order.ensures.permutation (alike_by (header_fields c.args.heading) c.args.tuples.items c.requires)
+
 pub invariant_of-result : goal.invariant_of-result
 invariant_of-result c =
-    let kept = dedup_is _ _ _ c.dedup.ensures.filtered in
+    let kept = c.without_repeats-tuples.ensures in
     record {
-      fit = fit_listed c.args.heading _ _ _ c.in_order-tuples.ensures.permutation kept c.requires;
-      ascending = (listed c.args.heading _ _ _ c.in_order-tuples.ensures.permutation c.in_order-tuples.ensures.sorted kept).ascending;
+      fit = fit_listed c.args.heading _ _ _ c.in_order.ensures.permutation kept c.requires;
+      ascending = (listed c.args.heading _ _ _ c.in_order.ensures.permutation c.in_order.ensures.sorted kept).ascending;
     }
 
 pub returns : goal.returns
-returns c = listed c.args.heading _ _ _ c.in_order-tuples.ensures.permutation c.in_order-tuples.ensures.sorted (dedup_is _ _ _ c.dedup.ensures.filtered)
+returns c = listed c.args.heading _ _ _ c.in_order.ensures.permutation c.in_order.ensures.sorted c.without_repeats-tuples.ensures
