@@ -22,14 +22,15 @@ use Rattle.td_algebra.specs.declared.errors.Stop.{Stop}
 use Rattle.td_algebra.specs.declared.errors.Stop.TheVariants.{Untyped, Overflow, Divide, Empty, Selector, Cardinality}
 use Rattle.td_tuples.specs.declared.items.Item.{Item}
 use Rattle.td_tuples.specs.declared.items.Summary.{Summary}
-use Rattle.td_algebra.specs.Closures.{HasColumns, IsBinary, Closed, has_value, links}
+use Rattle.td_algebra.specs.Closures.{HasColumns, IsBinary, Closed}
+use Rattle.td_algebra.specs.ForProofs.Steps.{has_value, links}
 use Rattle.td_tuples.specs.Items.{extended_columns}
 use Rattle.td_algebra.specs.Extending.{Meaning, Extended, RaisedBy, extended_at}
 use Rattle.td_algebra.specs.Functions.{relation_from, union_of, intersect_of, minus_of, project_of, rename_of, agrees, join_of, matching_of, not_matching_of, compose_of, group_at, grouping_of, wrap_of, open_of, ungroup_of, unwrap_of, with_through, with_through_end, tclose_of, restricted, extended, summarized}
-use Rattle.td_algebra.specs.Index.{is_matched}
+use Rattle.td_algebra.specs.ForProofs.Index.{is_matched}
 use Rattle.td_tuples.specs.Nestings.{IsRelationValued, IsTupleValued, grouped_columns, wrapped_columns, opened_columns}
 use Rattle.td_algebra.specs.Nested.{relation_value, InGroup, Grouped, Wrapped, Ungrouped, Unwrapped}
-use Rattle.td_algebra.specs.Opened.{Opened, tuples_at}
+use Rattle.td_algebra.specs.ForProofs.Opened.{Opened, tuples_at}
 use Rattle.td_algebra.specs.Operators.{United, Common, Remaining, Projected, Renamed, Joined, Matching, NotMatching, Composed}
 use Rattle.td_algebra.specs.Raising.{Answers, Unless, all_of, and_then}
 use Rattle.td_algebra.specs.Restricting.{Restricted, RaisedIn, select}

@@ -23,7 +23,8 @@ use Rattle.td_tuples.specs.Parts.{attributes, Fits}
 use Rattle.td_tuples.specs.Unions.{with_attribute}
 use Rattle.td_tuples.proofs.Lists.{on_values, keys_of, same_name}
 use Rattle.td_tuples.proofs.ByName.{IsSorted, same_tuple, sorted-tuple_of, attribute-with, fits_typed, typed_fits}
-use Rattle.td_algebra.specs.Closures.{HasColumns, pair_of, pair, Through, has_value, is_value, with_value, replaced, links}
+use Rattle.td_algebra.specs.Closures.{HasColumns, pair_of, pair}
+use Rattle.td_algebra.specs.ForProofs.Steps.{Through, has_value, is_value, with_value, replaced, links}
 use Rattle.td_algebra.proofs.Lists.{In, in_all, in_append, append_in, in_map, map_in, in_filter, filter_in, in_flat_map, flat_map_in}
 use Rattle.td_algebra.proofs.Made.{has_in, in_has, has_fits, made}
 

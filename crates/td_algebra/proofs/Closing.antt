@@ -12,7 +12,8 @@ use Rattle.td_values.specs.Proving.Total.{ty_order_total, ty_tied}
 use Rattle.td_values.proofs.Walks.{is_tied}
 use Rattle.td_values.specs.Rows.{RowsData, AreRows}
 use Rattle.td_relations.specs.Sets.{Has, IsRelationOf}
-use Rattle.td_algebra.specs.Closures.{IsBinary, pair, HasPair, Linked, Closed, IsTransitive, Within, TcloseIsLeast, Through}
+use Rattle.td_algebra.specs.Closures.{IsBinary, pair, HasPair, Linked, Closed, IsTransitive, Within, TcloseIsLeast}
+use Rattle.td_algebra.specs.ForProofs.Steps.{Through}
 use Rattle.td_algebra.proofs.Lists.{In, in_append}
 use Rattle.td_algebra.proofs.Made.{has_in, has_fits}
 use Rattle.td_algebra.proofs.Chains.{pair_is, is_pair, same_pair, second_value}

@@ -27,8 +27,8 @@ use Rattle.td_relations.proofs.Members.{contains_listed, has_listed}
 use Rattle.td_relations.proofs.Searches.{searched}
 use Rattle.td_tuples.specs.Parts.{Fits}
 use Rattle.td_algebra.specs.Closures.{HasColumns, IsBinary, HasPair, Linked, Closed}
-use Rattle.td_algebra.specs.Ends.{single, singles, ends_in, HasEnd, IsEnd, Joins, AreLinks, paired, pair_at, ArePairs}
-use Rattle.td_algebra.specs.Links.{LeadsOn, Leads, Reaches, StayWithin}
+use Rattle.td_algebra.specs.ForProofs.Ends.{single, singles, ends_in, HasEnd, IsEnd, Joins, AreLinks, paired, pair_at, ArePairs}
+use Rattle.td_algebra.specs.ForProofs.Links.{LeadsOn, Leads, Reaches, StayWithin}
 use Rattle.td_algebra.proofs.Chains.{pair_is, first_value, second_value, is_pair, fits_pair, same_pair}
 use Rattle.td_algebra.proofs.Lists.{In, in_contains, contains_in, in_all, append_in, in_flat_map, flat_map_in}
 use Rattle.td_algebra.proofs.Made.{in_has, has_fits, made}

@@ -14,7 +14,7 @@ use Rattle.td_relations.proofs.Predicates.{one_relation}
 use Rattle.td_tuples.specs.Parts.{Fits, names_of, cut, cut_off, columns_in, columns_out}
 use Rattle.td_tuples.specs.Unions.{with_attribute, with_column}
 use Rattle.td_tuples.proofs.ByName.{fits-with}
-use Rattle.td_algebra.specs.Index.{has_part, HoldsTuples, HoldsGroup, AreGroups}
+use Rattle.td_algebra.specs.ForProofs.Index.{has_part, HoldsTuples, HoldsGroup, AreGroups}
 use Rattle.td_tuples.specs.Nestings.{grouped_columns}
 use Rattle.td_algebra.specs.Nested.{relation_value, InGroup, WithGroup, Grouped}
 use Rattle.td_algebra.proofs.PlacedParts.{itself, same_key}

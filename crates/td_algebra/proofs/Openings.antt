@@ -19,7 +19,7 @@ use Rattle.td_tuples.proofs.ByName.{heading-typed, ascend_is_sorted, fits_get, f
 use Rattle.td_tuples.specs.Nestings.{field_list, columns_of_type, columns_inside, inner_columns, opened_columns, IsRelationValued, IsTupleValued}
 use Rattle.td_algebra.specs.Nested.{tuple_list, Ungrouped, Unwrapped}
 use Rattle.td_tuples.proofs.Inner.{columns_back, field_list_back}
-use Rattle.td_algebra.specs.Opened.{tuples_in, tuples_inside, tuples_at, opened, Opened}
+use Rattle.td_algebra.specs.ForProofs.Opened.{tuples_in, tuples_inside, tuples_at, opened, Opened}
 use Rattle.td_algebra.proofs.Lists.{In, in_contains, contains_in, all_in, in_all, in_map, map_in, in_flat_map, flat_map_in}
 use Rattle.td_algebra.proofs.Made.{has_in, in_has, has_fits, made}
 

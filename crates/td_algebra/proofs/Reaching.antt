@@ -9,7 +9,7 @@ use Rattle.std.proofs.lemmas.List.Elements.{All-contains_itself, Contains-append
 use Rattle.std.proofs.lemmas.List.Folds.{sum_by-replicate}
 use Rattle.std.proofs.lemmas.List.Sums.{sum_by-set}
 use Rattle.std.proofs.Math.ListN.{get_or-append}
-use Rattle.td_algebra.specs.Links.{LeadsOn, Leads, Reaches, StayWithin, with_link, one_if_not, IsMarked, Visits}
+use Rattle.td_algebra.specs.ForProofs.Links.{LeadsOn, Leads, Reaches, StayWithin, with_link, one_if_not, IsMarked, Visits}
 
 -- ---- marks
 none_marked : (n w : ℕ) → get_or (replicate n false) w false ≡ false

@@ -9,7 +9,7 @@ use Rattle.td_relations.specs.Sets.{Has, IsRelation, IsRelationOf}
 use Rattle.td_tuples.specs.Parts.{Fits, names_of, is_in, is_out, cut, cut_off, columns_in, columns_out}
 use Rattle.td_tuples.specs.Unions.{with_attribute, with_column}
 use Rattle.td_tuples.proofs.ByName.{fits-where, fits-with, part_by_columns}
-use Rattle.td_algebra.specs.Index.{wrapped}
+use Rattle.td_algebra.specs.ForProofs.Index.{wrapped}
 use Rattle.td_tuples.specs.Nestings.{wrapped_columns}
 use Rattle.td_algebra.specs.Nested.{Wrapped}
 use Rattle.td_algebra.proofs.Made.{has_fits, image_fits, image_made}

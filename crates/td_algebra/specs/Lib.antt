@@ -2,13 +2,9 @@ pub mod Stops
 pub mod Operators
 pub mod Nested
 pub mod Closures
-pub mod Places
-pub mod Index
 pub mod Raising
 pub mod Restricting
 pub mod Extending
 pub mod Summaries
-pub mod Opened
+pub mod ForProofs
 pub mod Functions
-pub mod Links
-pub mod Ends

@@ -1,69 +1,46 @@
 //! Closures of long chains, whose sizes come from the definition: a chain of n pairs has n (n + 1) / 2 pairs of ends.
-use crate::tclose;
+use crate::samples::{Result, add, empty, names, tuple};
+use crate::{is_binary, tclose};
 use std::alloc::Global;
-use std::test::Fail;
 use td_relations::Relation;
-use td_values::{Heading, Kind, Name, TdType, Tuple, TupleBuilder, TypeKind, Value, fits};
-
-type Result<T> = std::result::Result<T, Fail>;
-
-fn integer(n: i64) -> Value {
-    Value {
-        kind: Kind::Integer(n),
-    }
-}
-
-fn pair(alloc: Global, names: &[Name; 2], from: i64, to: i64) -> Result<Tuple> {
-    let mut builder = TupleBuilder::new(alloc);
-    builder.insert(names[0].copy()?, integer(from))?;
-    builder.insert(names[1].copy()?, integer(to))?;
-    Ok(builder.build(alloc)?)
-}
-
-fn heading(alloc: Global, names: &[Name; 2]) -> Result<Heading> {
-    let mut heading = Heading::new(alloc)?;
-    for name in names {
-        let kind = TypeKind::Integer;
-        heading.insert(alloc, name.copy()?, TdType { kind })?;
-    }
-    Ok(heading)
-}
+use td_values::Name;
 
 // The pairs (n, n + 1) below the length.
-fn chain(alloc: Global, names: &[Name; 2], length: i64) -> Result<Relation> {
-    let heading = heading(alloc, names)?;
-    let mut relation = Relation::empty(alloc, heading.copy()?);
+fn chain(alloc: Global, names: &[Name], length: i64) -> Result<Relation> {
+    let mut relation = empty(alloc, names)?;
     for n in 0..length {
-        let tuple = pair(alloc, names, n, n.wrapping_add(1))?;
-        if fits(&tuple, relation.heading()) {
-            relation.insert(tuple)?;
-        }
+        let pair = tuple(alloc, names, &[n, n.wrapping_add(1)])?;
+        add(&mut relation, pair)?;
     }
     Ok(relation)
 }
 
-#[test]
-fn chains_have_all_pairs_of_their_ends(rt: HostRuntime) -> Result<()> {
-    let alloc = rt.alloc();
-    let names = [Name::new(alloc, "FROM")?, Name::new(alloc, "TO")?];
-    for (length, pairs) in [(0, 0), (1, 1), (2, 3), (1000, 500_500)] {
-        let chain = chain(alloc, &names, length)?;
-        if let Some(closure) = closed(alloc, &chain)? {
-            assert_eq!(rt; closure.len(), pairs);
-            let ends = pair(alloc, &names, 0, length)?;
-            assert_eq!(rt; closure.contains(&ends), length > 0);
-        } else {
-            assert!(rt; false);
-        }
-    }
-    Ok(())
+// How many pairs the closure has, and whether that of the chain's ends is there.
+fn told(alloc: Global, closure: &Relation, names: &[Name], length: i64) -> Result<String> {
+    let ends = tuple(alloc, names, &[0, length])?;
+    let is_there = closure.contains(&ends);
+    Ok(format!(in alloc; "{} {is_there}", closure.len())?)
 }
 
-// The closure of a relation of pairs.
-fn closed(alloc: Global, relation: &Relation) -> Result<Option<Relation>> {
-    if crate::is_binary(relation.heading()) {
-        Ok(Some(tclose(alloc, relation)?))
+fn closed(alloc: Global, chain: &Relation, names: &[Name], length: i64) -> Result<String> {
+    if is_binary(chain.heading()) {
+        told(alloc, &tclose(alloc, chain)?, names, length)
     } else {
-        Ok(None)
+        Ok(String::from_str(alloc, "not binary")?)
     }
+}
+
+fn closure(alloc: Global, length: i64) -> Result<String> {
+    let names = names(alloc, &["FROM", "TO"])?;
+    let chain = chain(alloc, &names, length)?;
+    closed(alloc, &chain, &names, length)
+}
+
+#[test]
+fn chains_have_all_pairs_of_their_ends(rt: HostRuntime) -> Result<()> {
+    assert!(rt; closure(rt.alloc(), 0)?.as_str() == "0 false");
+    assert!(rt; closure(rt.alloc(), 1)?.as_str() == "1 true");
+    assert!(rt; closure(rt.alloc(), 2)?.as_str() == "3 true");
+    assert!(rt; closure(rt.alloc(), 1000)?.as_str() == "500500 true");
+    Ok(())
 }

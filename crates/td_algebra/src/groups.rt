@@ -1,7 +1,7 @@
 //! Tuples that agree at some names, put together as one relation.
 ghost use Rattle.std.specs.Prelude.{◌≡◌, map, IfOk};
 ghost use Rattle.std.specs.List.{All};
-ghost use Rattle.td_algebra.specs.Index.{AreGroups, HoldsTuples, IsByParts};
+ghost use Rattle.td_algebra.specs.ForProofs.Index.{AreGroups, HoldsTuples, IsByParts};
 ghost use Rattle.td_tuples.specs.Nestings.{grouped_columns};
 ghost use Rattle.td_algebra.specs.Nested.{Grouped};
 ghost use Rattle.td_relations.specs.Sets.{IsRelationOf};

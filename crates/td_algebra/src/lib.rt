@@ -19,6 +19,8 @@ mod links;
 mod opening;
 mod parts;
 mod restriction;
+#[cfg(test)]
+mod samples;
 mod searches;
 mod sets;
 #[cfg(test)]

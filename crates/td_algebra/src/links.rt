@@ -1,7 +1,7 @@
 //! Links between places, and the places that a walk along them reaches.
 ghost use Rattle.std.specs.Prelude.{◌≡◌, ◌↔◌, ◌+◌, ◌<◌, ℕ, List, [], ◌∷◌, length, slice_index_or, replicate, vec_len, IfOk, OnOk};
 ghost use Rattle.std.specs.List.{All, Contains};
-ghost use Rattle.td_algebra.specs.Links.{IsMarked, Reaches, StayWithin, Visits, with_link};
+ghost use Rattle.td_algebra.specs.ForProofs.Links.{IsMarked, Reaches, StayWithin, Visits, with_link};
 
 use std::alloc::{AllocError, Global};
 use std::marker::Model;

@@ -3,7 +3,7 @@ ghost use Rattle.std.specs.Prelude.{◌≡◌, ◌↔◌, ◌++◌, map, IsTrue,
 ghost use Rattle.std.specs.List.{All, flat_map};
 ghost use Rattle.td_tuples.specs.Nestings.{IsRelationValued, IsTupleValued, columns_of_type, inner_columns, opened_columns};
 ghost use Rattle.td_algebra.specs.Nested.{Ungrouped, Unwrapped};
-ghost use Rattle.td_algebra.specs.Opened.{Opened, opened, tuples_at, tuples_in};
+ghost use Rattle.td_algebra.specs.ForProofs.Opened.{Opened, opened, tuples_at, tuples_in};
 ghost use Rattle.td_relations.specs.Sets.{IsRelationOf};
 ghost use Rattle.td_tuples.specs.Parts.{Fits, names_of};
 ghost use Rattle.td_tuples.specs.Unions.{beside};

@@ -1,129 +1,113 @@
 //! Each stop through each operator that asks a function of tuples, by the rule that the least number stands and that only
 //! tuples that are asked count.
-use crate::{Fault, Item, Stop, Summary, aggregate, extend, restrict, summarize};
+use crate::samples::{Result, Term, aggregated, extended, item, relation, restricted, summarized};
+use crate::{Item, Summary};
 use std::alloc::Global;
-use std::test::Fail;
 use td_relations::Relation;
-use td_values::{Heading, Kind, Name, TdType, Tuple, TupleBuilder, TypeKind, Value, fits};
+use td_values::TypeKind;
 
-type Result<T> = std::result::Result<T, Fail>;
-
-type Answer<T> = std::result::Result<T, Fault>;
-
-const STOPS: [Stop; 6] = [
-    Stop::Untyped,
-    Stop::Overflow,
-    Stop::Divide,
-    Stop::Empty,
-    Stop::Selector,
-    Stop::Cardinality,
+/// The stops, by their numbers.
+const STOPS: [&str; 6] = [
+    "untyped",
+    "overflow",
+    "divide",
+    "empty",
+    "selector",
+    "cardinality",
 ];
 
-fn integer(n: i64) -> Value {
-    Value {
-        kind: Kind::Integer(n),
-    }
-}
+/// A number below 0, 0, and one above it.
+const THREE: &[&[i64]] = &[&[-1], &[0], &[1]];
+
+const NONE: &[&[i64]] = &[];
 
 // The relation of these numbers at the name N.
-fn numbers(alloc: Global, numbers: &[i64]) -> Result<Relation> {
-    let name = Name::new(alloc, "N")?;
-    let mut heading = Heading::new(alloc)?;
-    let kind = TypeKind::Integer;
-    heading.insert(alloc, name.copy()?, TdType { kind })?;
-    let mut relation = Relation::empty(alloc, heading);
-    for n in numbers {
-        let mut builder = TupleBuilder::new(alloc);
-        builder.insert(name.copy()?, integer(*n))?;
-        let tuple = builder.build(alloc)?;
-        if fits(&tuple, relation.heading()) {
-            relation.insert(tuple)?;
-        }
-    }
-    Ok(relation)
+fn numbers(alloc: Global, rows: &[&[i64]]) -> Result<Relation> {
+    relation(alloc, &["N"], rows)
 }
 
-// The first number of the tuple.
-fn number(tuple: &Tuple) -> i64 {
-    match tuple.attributes().first() {
-        Some((_, value)) => match &value.kind {
-            Kind::Integer(n) => *n,
-            _ => 0,
-        },
-        None => 0,
+// The relation of 0, or of nothing, per which summaries are made.
+fn per(alloc: Global, is_empty: bool) -> Result<Relation> {
+    if is_empty {
+        numbers(alloc, NONE)
+    } else {
+        numbers(alloc, &[&[0]])
     }
 }
 
-// The number below 0; at 0 the stop at this place, and above it the last one.
-fn stops_at(tuple: &Tuple, first: usize) -> Answer<i64> {
-    let n = number(tuple);
-    if n < 0 {
-        return Ok(n);
-    }
-    if n == 0 {
-        return Err(Fault::Raised(STOPS[first.min(5)]));
-    }
-    Err(Fault::Raised(Stop::Cardinality))
+fn terms(alloc: Global, first: usize) -> Result<Vec<Item<Term>>> {
+    let mut items = Vec::new(alloc);
+    items.push(item(alloc, "M", TypeKind::Integer, Term::Stops(first))?)?;
+    Ok(items)
 }
 
-fn item<T: Drop>(alloc: Global, term: T) -> Result<Item<T>> {
-    let kind = TypeKind::Integer;
-    Ok(Item {
-        name: Name::new(alloc, "M")?,
-        ty: TdType { kind },
-        term,
-    })
+fn greatest(alloc: Global, first: usize) -> Result<Vec<Item<Summary<Term>>>> {
+    let summary = Summary::Max(Term::Stops(first));
+    let mut items = Vec::new(alloc);
+    items.push(item(alloc, "M", TypeKind::Integer, summary)?)?;
+    Ok(items)
 }
 
-fn is_raised<T>(answer: &Answer<T>, stop: Stop) -> bool {
-    match answer {
-        Ok(_) => false,
-        Err(fault) => *fault == Fault::Raised(stop),
-    }
+fn with_terms(alloc: Global, rows: &[&[i64]], first: usize) -> Result<String> {
+    extended(alloc, numbers(alloc, rows)?, terms(alloc, first)?)
+}
+
+fn with_greatest(alloc: Global, is_empty: bool, first: usize) -> Result<String> {
+    let items = greatest(alloc, first)?;
+    summarized(alloc, numbers(alloc, THREE)?, per(alloc, is_empty)?, items)
 }
 
 #[test]
-fn each_stop_stands(rt: HostRuntime) -> Result<()> {
-    let alloc = rt.alloc();
-    let relation = numbers(alloc, &[-1, 0, 1])?;
-    let empty = numbers(alloc, &[])?;
-    let per = numbers(alloc, &[0])?;
+fn each_stop_stands_in_restrict(rt: HostRuntime) -> Result<()> {
     for first in 0..6usize {
-        let stop = STOPS[first];
-        let term = |at: &usize, t: &Tuple| -> Answer<Value> { Ok(integer(stops_at(t, *at)?)) };
-        let kept = restrict(alloc, &relation, |t: &Tuple| -> Answer<bool> {
-            Ok(stops_at(t, first)? < 0)
-        });
-        assert!(rt; is_raised(&kept, stop));
-        let items = vec![in alloc; item(alloc, first)?]?;
-        assert!(rt; is_raised(&extend(alloc, &relation, &items, &term), stop));
-        assert!(rt; extend(alloc, &empty, &items, &term).is_ok());
-        let summaries = vec![in alloc; item(alloc, Summary::Max(first))?]?;
-        assert!(rt; is_raised(&summarize(alloc, &relation, &per, &summaries, &term), stop));
-        assert!(rt; summarize(alloc, &relation, &empty, &summaries, &term).is_ok());
-        assert!(rt;
-            is_raised(
-                &aggregate(alloc, &relation, &Summary::Sum(first), &term),
-                stop
-            )
-        );
+        let told = restricted(rt.alloc(), numbers(rt.alloc(), THREE)?, Term::Stops(first))?;
+        assert!(rt; told.as_str() == STOPS[first]);
     }
     Ok(())
 }
 
 #[test]
-fn summaries_have_their_values(rt: HostRuntime) -> Result<()> {
-    let alloc = rt.alloc();
-    let relation = numbers(alloc, &[2, -3, 5, 4])?;
-    let term = |_at: &usize, t: &Tuple| -> Answer<Value> { Ok(integer(number(t))) };
-    for (summary, want) in [
-        (Summary::Count, 4),
-        (Summary::Sum(0usize), 8),
-        (Summary::Max(0), 5),
-        (Summary::Min(0), -3),
-    ] {
-        let value = aggregate(alloc, &relation, &summary, &term);
-        assert!(rt; matches!(&value, Ok(Value { kind: Kind::Integer(n) }) if *n == want));
+fn each_stop_stands_in_extend(rt: HostRuntime) -> Result<()> {
+    for first in 0..6usize {
+        let told = with_terms(rt.alloc(), THREE, first)?;
+        assert!(rt; told.as_str() == STOPS[first]);
+        let of_none = with_terms(rt.alloc(), NONE, first)?;
+        assert!(rt; of_none.as_str() == "RELATION { M INTEGER, N INTEGER } { }");
     }
+    Ok(())
+}
+
+#[test]
+fn each_stop_stands_in_summarize(rt: HostRuntime) -> Result<()> {
+    for first in 0..6usize {
+        let told = with_greatest(rt.alloc(), false, first)?;
+        assert!(rt; told.as_str() == STOPS[first]);
+        let per_none = with_greatest(rt.alloc(), true, first)?;
+        assert!(rt; per_none.as_str() == "RELATION { M INTEGER, N INTEGER } { }");
+    }
+    Ok(())
+}
+
+#[test]
+fn each_stop_stands_in_aggregate(rt: HostRuntime) -> Result<()> {
+    for first in 0..6usize {
+        let summary = Summary::Sum(Term::Stops(first));
+        let told = aggregated(rt.alloc(), numbers(rt.alloc(), THREE)?, summary)?;
+        assert!(rt; told.as_str() == STOPS[first]);
+    }
+    Ok(())
+}
+
+fn summary(alloc: Global, summary: Summary<Term>) -> Result<String> {
+    aggregated(alloc, numbers(alloc, &[&[2], &[-3], &[5], &[4]])?, summary)
+}
+
+#[test]
+fn summaries_have_their_values(rt: HostRuntime) -> Result<()> {
+    let term = Term::Number(0);
+    assert!(rt; summary(rt.alloc(), Summary::Count)?.as_str() == "4");
+    assert!(rt; summary(rt.alloc(), Summary::Sum(term))?.as_str() == "8");
+    assert!(rt; summary(rt.alloc(), Summary::Max(term))?.as_str() == "5");
+    assert!(rt; summary(rt.alloc(), Summary::Min(term))?.as_str() == "-3");
     Ok(())
 }

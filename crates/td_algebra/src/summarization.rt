@@ -4,7 +4,7 @@ ghost use Rattle.std.specs.List.{All};
 ghost use Rattle.td_values.specs.Data.{Ty};
 ghost use Rattle.td_values.specs.Whole.{type_of};
 ghost use Rattle.td_relations.specs.Sets.{IsRelationOf};
-ghost use Rattle.td_algebra.specs.Index.{found};
+ghost use Rattle.td_algebra.specs.ForProofs.Index.{found};
 ghost use Rattle.td_algebra.specs.Raising.{Answers, Unless};
 ghost use Rattle.td_tuples.specs.Items.{extended_columns};
 ghost use Rattle.td_algebra.specs.Extending.{Meaning, TakesBoth, Means, Extended, RaisedBy};

@@ -1,26 +1,14 @@
 //! Worked examples, whose answers come from the definitions of the operators.
+use crate::samples::{Result, add, names, shown};
 use crate::{
     compose, group, intersect, is_binary, is_relation_valued, is_tuple_valued, join, matching,
     minus, not_matching, project, rename, tclose, ungroup, union, unwrap, wrap,
 };
 use std::alloc::Global;
-use std::test::Fail;
 use td_relations::Relation;
 use td_values::{
-    Heading, Items, Kind, Name, Possrep, TdType, Text, Tuple, TupleBuilder, TypeKind, Value, fits,
-    show,
+    Heading, Items, Kind, Name, Possrep, TdType, Text, Tuple, TupleBuilder, TypeKind, Value,
 };
-
-type Result<T> = std::result::Result<T, Fail>;
-
-fn names(alloc: Global, texts: &[&str]) -> Result<Vec<Name>> {
-    let mut names = Vec::new(alloc);
-    for text in texts {
-        let name = Name::new(alloc, text)?;
-        names.push(name)?;
-    }
-    Ok(names)
-}
 
 // The heading of CHAR attributes.
 fn heading(alloc: Global, columns: &[&str]) -> Result<Heading> {
@@ -33,23 +21,19 @@ fn heading(alloc: Global, columns: &[&str]) -> Result<Heading> {
     Ok(heading)
 }
 
+fn text_value(text: Text) -> Value {
+    let kind = Kind::Char(text);
+    Value { kind }
+}
+
 fn tuple(alloc: Global, columns: &[&str], row: &[&str]) -> Result<Tuple> {
     let mut builder = TupleBuilder::new(alloc);
     for (column, word) in columns.iter().zip(row) {
         let name = Name::new(alloc, column)?;
         let text = Text::from_str(alloc, word)?;
-        let kind = Kind::Char(text);
-        builder.insert(name, Value { kind })?;
+        builder.insert(name, text_value(text))?;
     }
     Ok(builder.build(alloc)?)
-}
-
-// Adds the tuple, if it has the relation's heading.
-fn add(relation: &mut Relation, tuple: Tuple) -> Result<()> {
-    if fits(&tuple, relation.heading()) {
-        relation.insert(tuple)?;
-    }
-    Ok(())
 }
 
 // The relation over CHAR attributes of these rows, each a list of words in the order of the columns.
@@ -60,11 +44,6 @@ fn table(alloc: Global, columns: &[&str], rows: &[&[&str]]) -> Result<Relation> 
         add(&mut relation, t)?;
     }
     Ok(relation)
-}
-
-fn shown(alloc: Global, relation: Relation) -> Result<String> {
-    let kind = Kind::Relation(relation.into_rows());
-    Ok(show(alloc, &Value { kind })?)
 }
 
 fn suppliers(alloc: Global) -> Result<Relation> {
@@ -100,25 +79,50 @@ const SHIPMENTS: &str =
 /// What is answered in place of a result whose operands have two headings.
 const TWO_HEADINGS: &str = "two headings";
 
-fn united(alloc: Global, a: Relation, b: Relation) -> Result<String> {
-    if !a.same_heading(&b) {
-        return Ok(String::from_str(alloc, TWO_HEADINGS)?);
-    }
-    shown(alloc, union(alloc, &a, &b)?)
+/// An operator of two relations.
+#[derive(Clone, Copy)]
+enum Pair {
+    Union,
+    Intersect,
+    Minus,
+    Join,
+    Matching,
+    NotMatching,
+    Compose,
 }
 
-fn common(alloc: Global, a: Relation, b: Relation) -> Result<String> {
-    if !a.same_heading(&b) {
-        return Ok(String::from_str(alloc, TWO_HEADINGS)?);
+// Those of relations of one heading; nothing where there are two.
+fn merged(alloc: Global, pair: Pair, a: &Relation, b: &Relation) -> Result<Option<Relation>> {
+    if !a.same_heading(b) {
+        return Ok(None);
     }
-    shown(alloc, intersect(alloc, &a, &b)?)
+    match pair {
+        Pair::Union => Ok(Some(union(alloc, a, b)?)),
+        Pair::Intersect => Ok(Some(intersect(alloc, a, b)?)),
+        _ => Ok(Some(minus(alloc, a, b)?)),
+    }
 }
 
-fn remaining(alloc: Global, a: Relation, b: Relation) -> Result<String> {
-    if !a.same_heading(&b) {
-        return Ok(String::from_str(alloc, TWO_HEADINGS)?);
+fn of_pair(alloc: Global, pair: Pair, a: &Relation, b: &Relation) -> Result<Option<Relation>> {
+    match pair {
+        Pair::Union | Pair::Intersect | Pair::Minus => merged(alloc, pair, a, b),
+        Pair::Join => Ok(Some(join(alloc, a, b)?)),
+        Pair::Matching => Ok(Some(matching(alloc, a, b)?)),
+        Pair::NotMatching => Ok(Some(not_matching(alloc, a, b)?)),
+        Pair::Compose => Ok(Some(compose(alloc, a, b)?)),
     }
-    shown(alloc, minus(alloc, &a, &b)?)
+}
+
+fn told(alloc: Global, answer: Option<Relation>) -> Result<String> {
+    match answer {
+        Some(relation) => shown(alloc, relation),
+        None => Ok(String::from_str(alloc, TWO_HEADINGS)?),
+    }
+}
+
+// What the operator gives, as a text.
+fn paired(alloc: Global, pair: Pair, a: Relation, b: Relation) -> Result<String> {
+    told(alloc, of_pair(alloc, pair, &a, &b)?)
 }
 
 fn one_and_two(alloc: Global) -> Result<Relation> {
@@ -129,15 +133,19 @@ fn two_and_three(alloc: Global) -> Result<Relation> {
     table(alloc, &["A"], &[&["2"], &["3"]])
 }
 
+// The merge of 1 and 2 with 2 and 3.
+fn of_numbers(alloc: Global, pair: Pair) -> Result<String> {
+    paired(alloc, pair, one_and_two(alloc)?, two_and_three(alloc)?)
+}
+
 #[test]
 fn merges(rt: HostRuntime) -> Result<()> {
-    let alloc = rt.alloc();
-    let all = united(alloc, one_and_two(alloc)?, two_and_three(alloc)?)?;
+    let all = of_numbers(rt.alloc(), Pair::Union)?;
     let want = "RELATION { A CHAR } { TUPLE { A '1' }, TUPLE { A '2' }, TUPLE { A '3' } }";
     assert!(rt; all.as_str() == want);
-    let both = common(alloc, one_and_two(alloc)?, two_and_three(alloc)?)?;
+    let both = of_numbers(rt.alloc(), Pair::Intersect)?;
     assert!(rt; both.as_str() == "RELATION { A CHAR } { TUPLE { A '2' } }");
-    let rest = remaining(alloc, one_and_two(alloc)?, two_and_three(alloc)?)?;
+    let rest = of_numbers(rt.alloc(), Pair::Minus)?;
     assert!(rt; rest.as_str() == "RELATION { A CHAR } { TUPLE { A '1' } }");
     Ok(())
 }
@@ -145,11 +153,11 @@ fn merges(rt: HostRuntime) -> Result<()> {
 #[test]
 fn merges_of_dee_and_dum(rt: HostRuntime) -> Result<()> {
     let alloc = rt.alloc();
-    let all = united(alloc, dum(alloc)?, dee(alloc)?)?;
+    let all = paired(alloc, Pair::Union, dum(alloc)?, dee(alloc)?)?;
     assert!(rt; all.as_str() == DEE);
-    let both = common(alloc, dum(alloc)?, dee(alloc)?)?;
+    let both = paired(alloc, Pair::Intersect, dum(alloc)?, dee(alloc)?)?;
     assert!(rt; both.as_str() == DUM);
-    let rest = remaining(alloc, dee(alloc)?, dum(alloc)?)?;
+    let rest = paired(alloc, Pair::Minus, dee(alloc)?, dum(alloc)?)?;
     assert!(rt; rest.as_str() == DEE);
     Ok(())
 }
@@ -199,34 +207,23 @@ fn names_are_replaced_at_once(rt: HostRuntime) -> Result<()> {
     Ok(())
 }
 
-fn joined(alloc: Global, a: Relation, b: Relation) -> Result<String> {
-    shown(alloc, join(alloc, &a, &b)?)
-}
-
-fn matched(alloc: Global, a: Relation, b: Relation) -> Result<String> {
-    shown(alloc, matching(alloc, &a, &b)?)
-}
-
-fn unmatched(alloc: Global, a: Relation, b: Relation) -> Result<String> {
-    shown(alloc, not_matching(alloc, &a, &b)?)
-}
-
-fn composed(alloc: Global, a: Relation, b: Relation) -> Result<String> {
-    shown(alloc, compose(alloc, &a, &b)?)
-}
-
 // With some attributes in common, all and none.
 #[test]
 fn joins(rt: HostRuntime) -> Result<()> {
     let alloc = rt.alloc();
-    let some = joined(alloc, suppliers(alloc)?, shipments(alloc)?)?;
+    let some = paired(alloc, Pair::Join, suppliers(alloc)?, shipments(alloc)?)?;
     let want =
         "RELATION { CITY CHAR, PNO CHAR, SNO CHAR } { TUPLE { CITY 'London', PNO 'P1', SNO 'S1' }, TUPLE { CITY 'London', PNO 'P2', SNO 'S1' } }";
     assert!(rt; some.as_str() == want);
-    let all = joined(alloc, one_and_two(alloc)?, two_and_three(alloc)?)?;
+    let all = paired(
+        alloc,
+        Pair::Join,
+        one_and_two(alloc)?,
+        two_and_three(alloc)?,
+    )?;
     assert!(rt; all.as_str() == "RELATION { A CHAR } { TUPLE { A '2' } }");
     let letters = table(alloc, &["B"], &[&["x"], &["y"]])?;
-    let none = joined(alloc, one_and_two(alloc)?, letters)?;
+    let none = paired(alloc, Pair::Join, one_and_two(alloc)?, letters)?;
     let want =
         "RELATION { A CHAR, B CHAR } { TUPLE { A '1', B 'x' }, TUPLE { A '1', B 'y' }, TUPLE { A '2', B 'x' }, TUPLE { A '2', B 'y' } }";
     assert!(rt; none.as_str() == want);
@@ -236,9 +233,9 @@ fn joins(rt: HostRuntime) -> Result<()> {
 #[test]
 fn joins_with_dee_and_dum(rt: HostRuntime) -> Result<()> {
     let alloc = rt.alloc();
-    let with_dum = joined(alloc, dum(alloc)?, shipments(alloc)?)?;
+    let with_dum = paired(alloc, Pair::Join, dum(alloc)?, shipments(alloc)?)?;
     assert!(rt; with_dum.as_str() == "RELATION { PNO CHAR, SNO CHAR } { }");
-    let with_dee = joined(alloc, shipments(alloc)?, dee(alloc)?)?;
+    let with_dee = paired(alloc, Pair::Join, shipments(alloc)?, dee(alloc)?)?;
     assert!(rt; with_dee.as_str() == SHIPMENTS);
     Ok(())
 }
@@ -246,10 +243,15 @@ fn joins_with_dee_and_dum(rt: HostRuntime) -> Result<()> {
 #[test]
 fn suppliers_that_ship_and_that_do_not(rt: HostRuntime) -> Result<()> {
     let alloc = rt.alloc();
-    let ship = matched(alloc, suppliers(alloc)?, shipments(alloc)?)?;
+    let ship = paired(alloc, Pair::Matching, suppliers(alloc)?, shipments(alloc)?)?;
     let want = "RELATION { CITY CHAR, SNO CHAR } { TUPLE { CITY 'London', SNO 'S1' } }";
     assert!(rt; ship.as_str() == want);
-    let rest = unmatched(alloc, suppliers(alloc)?, shipments(alloc)?)?;
+    let rest = paired(
+        alloc,
+        Pair::NotMatching,
+        suppliers(alloc)?,
+        shipments(alloc)?,
+    )?;
     let want = "RELATION { CITY CHAR, SNO CHAR } { TUPLE { CITY 'Paris', SNO 'S2' } }";
     assert!(rt; rest.as_str() == want);
     Ok(())
@@ -258,7 +260,7 @@ fn suppliers_that_ship_and_that_do_not(rt: HostRuntime) -> Result<()> {
 #[test]
 fn cities_with_parts(rt: HostRuntime) -> Result<()> {
     let alloc = rt.alloc();
-    let found = composed(alloc, suppliers(alloc)?, shipments(alloc)?)?;
+    let found = paired(alloc, Pair::Compose, suppliers(alloc)?, shipments(alloc)?)?;
     let want =
         "RELATION { CITY CHAR, PNO CHAR } { TUPLE { CITY 'London', PNO 'P1' }, TUPLE { CITY 'London', PNO 'P2' } }";
     assert!(rt; found.as_str() == want);
@@ -268,11 +270,11 @@ fn cities_with_parts(rt: HostRuntime) -> Result<()> {
 #[test]
 fn all_match_dee_and_none_dum(rt: HostRuntime) -> Result<()> {
     let alloc = rt.alloc();
-    let by_dee = matched(alloc, suppliers(alloc)?, dee(alloc)?)?;
+    let by_dee = paired(alloc, Pair::Matching, suppliers(alloc)?, dee(alloc)?)?;
     assert!(rt; by_dee.as_str() == SUPPLIERS);
-    let by_dum = unmatched(alloc, suppliers(alloc)?, dum(alloc)?)?;
+    let by_dum = paired(alloc, Pair::NotMatching, suppliers(alloc)?, dum(alloc)?)?;
     assert!(rt; by_dum.as_str() == SUPPLIERS);
-    let with_dee = composed(alloc, suppliers(alloc)?, dee(alloc)?)?;
+    let with_dee = paired(alloc, Pair::Compose, suppliers(alloc)?, dee(alloc)?)?;
     assert!(rt; with_dee.as_str() == SUPPLIERS);
     Ok(())
 }
@@ -345,8 +347,7 @@ fn nested_tuple(alloc: Global, a: &str, bs: &[&[&str]]) -> Result<Tuple> {
     let text = Text::from_str(alloc, a)?;
     let inner = table(alloc, &["B"], bs)?;
     let mut builder = TupleBuilder::new(alloc);
-    let kind = Kind::Char(text);
-    builder.insert(at, Value { kind })?;
+    builder.insert(at, text_value(text))?;
     let kind = Kind::Relation(inner.into_rows());
     builder.insert(within, Value { kind })?;
     Ok(builder.build(alloc)?)
@@ -384,7 +385,12 @@ fn a_tuple_with_an_empty_group_vanishes(rt: HostRuntime) -> Result<()> {
 fn nested_relations_are_compared(rt: HostRuntime) -> Result<()> {
     let alloc = rt.alloc();
     let r = nested(alloc, &[("1", &[&["x"], &["y"]]), ("2", &[&["x"]])])?;
-    let text = joined(alloc, r, nested(alloc, &[("1", &[&["y"], &["x"]])])?)?;
+    let text = paired(
+        alloc,
+        Pair::Join,
+        r,
+        nested(alloc, &[("1", &[&["y"], &["x"]])])?,
+    )?;
     let want =
         "RELATION { A CHAR, C RELATION { B CHAR } } { TUPLE { A '1', C RELATION { B CHAR } { TUPLE { B 'x' }, TUPLE { B 'y' } } } }";
     assert!(rt; text.as_str() == want);
@@ -443,17 +449,25 @@ fn user_values(alloc: Global) -> Result<Relation> {
 #[test]
 fn values_without_components(rt: HostRuntime) -> Result<()> {
     let alloc = rt.alloc();
-    let text = joined(alloc, user_values(alloc)?, user_values(alloc)?)?;
+    let text = paired(alloc, Pair::Join, user_values(alloc)?, user_values(alloc)?)?;
     assert!(rt; text.as_str() == "RELATION { A T } { TUPLE { A P ( ) } }");
     Ok(())
 }
 
+// Whether A is relation-valued and tuple-valued, and whether the heading is binary.
+fn kinds(alloc: Global, columns: &[&str]) -> Result<(bool, bool, bool)> {
+    let a = Name::new(alloc, "A")?;
+    let heading = heading(alloc, columns)?;
+    Ok((
+        is_relation_valued(&heading, &a),
+        is_tuple_valued(&heading, &a),
+        is_binary(&heading),
+    ))
+}
+
 #[test]
 fn headings_of_other_kinds(rt: HostRuntime) -> Result<()> {
-    let a = Name::new(rt.alloc(), "A")?;
-    let one = heading(rt.alloc(), &["A"])?;
-    assert!(rt; !is_relation_valued(&one, &a) && !is_tuple_valued(&one, &a) && !is_binary(&one));
-    let two = heading(rt.alloc(), &["A", "B"])?;
-    assert!(rt; is_binary(&two));
+    assert!(rt; kinds(rt.alloc(), &["A"])? == (false, false, false));
+    assert!(rt; kinds(rt.alloc(), &["A", "B"])? == (false, false, true));
     Ok(())
 }

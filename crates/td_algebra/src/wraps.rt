@@ -2,7 +2,7 @@
 ghost use Rattle.std.specs.Prelude.{◌≡◌, map, IfOk};
 ghost use Rattle.td_tuples.specs.Nestings.{wrapped_columns};
 ghost use Rattle.td_algebra.specs.Nested.{Wrapped};
-ghost use Rattle.td_algebra.specs.Index.{wrapped};
+ghost use Rattle.td_algebra.specs.ForProofs.Index.{wrapped};
 ghost use Rattle.td_relations.specs.Sets.{IsRelationOf};
 ghost use Rattle.td_tuples.specs.Parts.{names_of};
 

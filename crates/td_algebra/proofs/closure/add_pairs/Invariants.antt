@@ -1,6 +1,6 @@
 use Rattle.std.proofs.Common.{◌≡◌, ◌++◌, take}
 use Rattle.std.specs.List.{flat_map}
-use Rattle.td_algebra.specs.Ends.{pair_at}
+use Rattle.td_algebra.specs.ForProofs.Ends.{pair_at}
 use Rattle.td_algebra.proofs.closure.add_pairs.Given as goal
 
 abbrev pub invariant-loop-place : goal.invariant-loop-place

@@ -1,6 +1,6 @@
 use Rattle.std.proofs.Common.{◌≡◌, take}
 use Rattle.std.specs.List.{flat_map}
-use Rattle.td_algebra.specs.Ends.{ends_in}
+use Rattle.td_algebra.specs.ForProofs.Ends.{ends_in}
 use Rattle.td_algebra.proofs.closure.ends_of.Given as goal
 
 abbrev pub invariant-loop-tuple : goal.invariant-loop-tuple

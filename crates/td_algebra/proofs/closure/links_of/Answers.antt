@@ -1,6 +1,6 @@
 use Rattle.std.proofs.Common.{[], take, sym, subst, arith}
 use Rattle.td_tuples.proofs.Filters.{taken}
-use Rattle.td_algebra.specs.Ends.{AreLinks}
+use Rattle.td_algebra.specs.ForProofs.Ends.{AreLinks}
 use Rattle.td_algebra.proofs.Ending.{no_links, links_step}
 use Rattle.td_algebra.proofs.Lists.{In, item_in}
 use Rattle.td_algebra.proofs.closure.links_of.Goals as goal

@@ -1,5 +1,5 @@
 use Rattle.std.proofs.Common.{take}
-use Rattle.td_algebra.specs.Ends.{AreLinks}
+use Rattle.td_algebra.specs.ForProofs.Ends.{AreLinks}
 use Rattle.td_algebra.proofs.closure.links_of.Given as goal
 
 abbrev pub invariant-loop-tuple : goal.invariant-loop-tuple

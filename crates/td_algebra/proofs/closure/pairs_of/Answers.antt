@@ -1,6 +1,6 @@
 use Rattle.std.proofs.Common.{◌≡◌, ◌<◌, ◌++◌, length, sym, ap, ◌∙◌, subst, arith}
 use Rattle.std.specs.List.{All, flat_map}
-use Rattle.td_algebra.specs.Ends.{ArePairs, pair_at}
+use Rattle.td_algebra.specs.ForProofs.Ends.{ArePairs, pair_at}
 use Rattle.td_algebra.proofs.Ending.{reached_within, pairs_none, pairs_more}
 use Rattle.td_algebra.proofs.closure.pairs_of.Goals as goal
 

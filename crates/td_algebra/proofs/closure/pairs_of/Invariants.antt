@@ -1,4 +1,4 @@
-use Rattle.td_algebra.specs.Ends.{ArePairs}
+use Rattle.td_algebra.specs.ForProofs.Ends.{ArePairs}
 use Rattle.td_algebra.proofs.closure.pairs_of.Given as goal
 
 abbrev pub invariant-loop-from : goal.invariant-loop-from

@@ -1,6 +1,6 @@
 use Rattle.std.proofs.Common.{length, get_or, ap, ◌∙◌, subst}
 use Rattle.std.specs.FinMap as by_name
-use Rattle.td_algebra.specs.Ends.{AreLinks, ArePairs}
+use Rattle.td_algebra.specs.ForProofs.Ends.{AreLinks, ArePairs}
 use Rattle.td_algebra.proofs.Chains.{names_rise}
 use Rattle.td_algebra.proofs.Ending.{columns_at, links_stay, closed_fit, closed_made}
 use Rattle.td_algebra.proofs.closure.tclose.Goals as goal

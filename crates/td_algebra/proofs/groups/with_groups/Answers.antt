@@ -5,8 +5,8 @@ use Rattle.std.proofs.lemmas.List.Elements.{All-filter, All-get_or}
 use Rattle.td_values.specs.Data.{Attrs, no_attrs}
 use Rattle.td_tuples.specs.Parts.{Fits, cut, names_of}
 use Rattle.td_tuples.proofs.Filters.{taken}
-use Rattle.td_algebra.specs.Index.{AreGroups, HoldsTuples, found, has_part}
-use Rattle.td_algebra.specs.Places.{has_values, values_at}
+use Rattle.td_algebra.specs.ForProofs.Index.{AreGroups, HoldsTuples, found, has_part}
+use Rattle.td_algebra.specs.ForProofs.Places.{has_values, values_at}
 use Rattle.td_algebra.proofs.Grouping.{groups_more, groups_again}
 use Rattle.td_algebra.proofs.Lists.{In, item_in}
 use Rattle.td_algebra.proofs.Runs.{same_at}

@@ -1,5 +1,5 @@
 use Rattle.std.proofs.Common.{take}
-use Rattle.td_algebra.specs.Index.{AreGroups}
+use Rattle.td_algebra.specs.ForProofs.Index.{AreGroups}
 use Rattle.td_algebra.proofs.groups.with_groups.Given as goal
 
 abbrev pub invariant-loop-at : goal.invariant-loop-at

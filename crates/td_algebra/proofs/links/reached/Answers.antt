@@ -1,7 +1,7 @@
 use Rattle.std.proofs.Common.{◌≡◌, ◌<◌, ◌≤◌, [], length, vec_len, get_or, sym, ap, ◌∙◌, subst, arith}
 use Rattle.std.specs.List.{All}
 use Rattle.std.proofs.lemmas.Grind.{get_or_default_zero}
-use Rattle.td_algebra.specs.Links.{IsMarked, Visits}
+use Rattle.td_algebra.specs.ForProofs.Links.{IsMarked, Visits}
 use Rattle.td_algebra.proofs.Reaching.{unmarked, few, begun, gone_on, reaches, stays}
 use Rattle.td_algebra.proofs.links.reached.Goals as goal
 

@@ -1,6 +1,6 @@
 use Rattle.std.proofs.Common.{◌<◌, length, true, sym, subst, arith}
 use Rattle.std.specs.Prelude.{slice_set}
-use Rattle.td_algebra.specs.Links.{IsMarked}
+use Rattle.td_algebra.specs.ForProofs.Links.{IsMarked}
 use Rattle.td_algebra.proofs.Reaching.{marked_more, read_false}
 use Rattle.td_algebra.proofs.links.visit.Goals as goal
 

@@ -1,6 +1,6 @@
 use Rattle.std.proofs.Common.{rules, ◌∙◌, get_or, take, sym, subst}
 use Rattle.std.proofs.lemmas.List.{take_more}
-use Rattle.td_algebra.specs.Links.{Visits}
+use Rattle.td_algebra.specs.ForProofs.Links.{Visits}
 use Rattle.td_algebra.proofs.Reaching.{visits_none, visits_more}
 use Rattle.td_algebra.proofs.links.visit_all.Goals as goal
 

@@ -1,5 +1,5 @@
 use Rattle.std.proofs.Common.{◌≡◌, take, vec_len}
-use Rattle.td_algebra.specs.Links.{IsMarked, Visits}
+use Rattle.td_algebra.specs.ForProofs.Links.{IsMarked, Visits}
 use Rattle.td_algebra.proofs.links.visit_all.Given as goal
 
 abbrev pub invariant-loop-place : goal.invariant-loop-place

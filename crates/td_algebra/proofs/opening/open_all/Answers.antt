@@ -5,7 +5,7 @@ use Rattle.td_values.specs.Data.{Attrs}
 use Rattle.td_values.specs.Whole.{heading_of}
 use Rattle.td_tuples.specs.Parts.{Fits, names_of}
 use Rattle.td_tuples.specs.Nestings.{inner_columns}
-use Rattle.td_algebra.specs.Opened.{opened, tuples_at}
+use Rattle.td_algebra.specs.ForProofs.Opened.{opened, tuples_at}
 use Rattle.td_algebra.proofs.Pairs.{one_more}
 use Rattle.td_algebra.proofs.opening.open_all.Goals as goal
 

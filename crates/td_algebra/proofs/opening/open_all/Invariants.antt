@@ -2,7 +2,7 @@ use Rattle.std.proofs.Common.{◌≡◌, take}
 use Rattle.std.specs.List.{All, flat_map}
 use Rattle.td_tuples.specs.Parts.{Fits, names_of}
 use Rattle.td_tuples.specs.Nestings.{inner_columns}
-use Rattle.td_algebra.specs.Opened.{opened, tuples_at}
+use Rattle.td_algebra.specs.ForProofs.Opened.{opened, tuples_at}
 use Rattle.td_algebra.proofs.opening.open_all.Given as goal
 
 abbrev pub invariant-loop-t : goal.invariant-loop-t

@@ -2,7 +2,7 @@ use Rattle.std.proofs.Common.{sym, subst}
 use Rattle.std.specs.List.{All}
 use Rattle.std.proofs.lemmas.List.Elements.{All-filter}
 use Rattle.td_values.specs.Data.{Attrs}
-use Rattle.td_algebra.specs.Places.{has_values, values_at}
+use Rattle.td_algebra.specs.ForProofs.Places.{has_values, values_at}
 use Rattle.td_algebra.specs.Raising.{Answers}
 use Rattle.td_algebra.specs.Extending.{TakesBoth, Means}
 use Rattle.td_algebra.specs.Summaries.{OfTerm, summary_over}

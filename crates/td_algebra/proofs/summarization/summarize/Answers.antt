@@ -4,7 +4,7 @@ use Rattle.std.proofs.lemmas.List.Sorted.{All-permutation}
 use Rattle.td_values.specs.Data.{Attrs}
 use Rattle.td_tuples.specs.Parts.{Fits, names_of}
 use Rattle.td_tuples.proofs.ByName.{whole_part}
-use Rattle.td_algebra.specs.Index.{has_part}
+use Rattle.td_algebra.specs.ForProofs.Index.{has_part}
 use Rattle.td_algebra.specs.Raising.{Answers}
 use Rattle.td_algebra.specs.Extending.{TakesBoth, Means}
 use Rattle.td_algebra.specs.Summaries.{OfTerm, group_of, over_groups, summary_over}

@@ -1,5 +1,5 @@
 use Rattle.std.proofs.Common.{◌≡◌, take, map}
-use Rattle.td_algebra.specs.Index.{wrapped}
+use Rattle.td_algebra.specs.ForProofs.Index.{wrapped}
 use Rattle.td_tuples.specs.Parts.{names_of}
 use Rattle.td_algebra.proofs.wraps.wrap_all.Given as goal
 

@@ -5,7 +5,7 @@ use Rattle.std.specs.List.{Contains}
 use Rattle.td_values.specs.Attributes.{attribute_of}
 use Rattle.td_values.specs.Data.{Datum, Attrs, no_attrs, attr}
 use Rattle.td_relations.specs.Sets.{tuple_set}
-use Rattle.td_algebra.specs.Links.{LeadsOn, Reaches, with_link}
+use Rattle.td_algebra.specs.ForProofs.Links.{LeadsOn, Reaches, with_link}
 
 -- a value alone
 abbrev pub single : List ℕ → Datum → Attrs

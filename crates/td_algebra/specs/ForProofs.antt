@@ -1,0 +1,6 @@
+pub mod Places
+pub mod Index
+pub mod Steps
+pub mod Opened
+pub mod Links
+pub mod Ends
