@@ -31,8 +31,8 @@ pub enum Summary<E> {
     Or(E),
 }
 
-// The items' names with their types. Of two items of one name the first counts.
-fn columns_of<E>(alloc: Global, items: &[Item<E>]) -> Result<Heading, AllocError>
+/// The items' names with their types. Of two items of one name the first counts.
+pub fn columns_of<E>(alloc: Global, items: &[Item<E>]) -> Result<Heading, AllocError>
     ensures { IfOk result (λ h. h ≡ spec.columns_of items.now) }
 {
     let mut columns = Heading::new(alloc)?;

@@ -15,7 +15,7 @@ mod tuples;
 pub use headings::{
     columns_in, columns_out, composed_columns, joined, lone_names, renamed_columns, with_column,
 };
-pub use items::{Item, Summary, extended_columns};
+pub use items::{Item, Summary, columns_of, extended_columns};
 pub use names::{is_in, name_after};
 pub use nestings::{
     grouped_columns, inner_columns, is_relation_valued, is_tuple_valued, opened_columns,

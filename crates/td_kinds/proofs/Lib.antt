@@ -1,0 +1,5 @@
+pub mod Found
+pub mod KindLemmas
+pub mod Latests
+pub mod Distinct
+pub mod Writings

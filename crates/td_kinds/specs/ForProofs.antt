@@ -1,0 +1,2 @@
+-- Words that only private clauses cite.
+pub mod Latest

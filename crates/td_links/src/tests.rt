@@ -1,0 +1,24 @@
+//! What no contract says: that there are answers.
+
+use crate::{Leads, Links, reached};
+use std::alloc::{AllocError, Global};
+use std::test::Fail;
+
+// Whether each place that is reached is come to once, and a link to no place is passed over.
+fn is_walked(alloc: Global) -> Result<bool, AllocError> {
+    let mut links = Links::new(alloc, 4)?;
+    links.add(0, 1)?;
+    links.add(1, 2)?;
+    links.add(2, 1)?;
+    links.add(1, 3)?;
+    links.add(3, 9)?;
+    let found = reached(alloc, &links, &[1])?;
+    Ok(found.as_slice() == [1, 2, 3].as_slice() && links.places() == 4)
+}
+
+#[test]
+fn a_walk_ends_where_it_has_been(rt: HostRuntime) -> Result<(), Fail> {
+    let alloc = rt.alloc();
+    assert!(rt; is_walked(alloc)?);
+    Ok(())
+}

@@ -1,0 +1,3 @@
+-- Words that clauses of private functions and proofs are written in. What the crate promises doesn't rest on them, but for
+-- the law that inference decides the typing.
+pub mod Infer
