@@ -1,18 +1,17 @@
 -- Kinds of types that are one, and what a kind is by its test.
 use Rattle.std.proofs.Common.{◌≡◌, ◌&&◌, Bool, true, false, IsTrue, List, [], ◌∷◌, map, Some, refl, ap, sym, ◌∙◌}
-use Rattle.std.specs.Ordering.{eq_by_cmp}
 use Rattle.std.specs.List.{list_all, All}
 use Rattle.std.proofs.lemmas.List.Sums.{AllPass-from_list_all, list_all-from_AllPass}
-use Rattle.td_values.specs.Headings.{Header, header_fields}
-use Rattle.td_values.specs.Order.{text_cmp}
+use Rattle.td_values.specs.Headings.{Header}
+use Rattle.td_values.specs.View.{ty_of}
 use Rattle.td_values.specs.declared.TypeKind.{TypeKind}
 use Rattle.td_values.specs.declared.TypeKind.TheVariants as kind
 use Rattle.std.proofs.lemmas.List.Folds.{list_all-map}
-use Rattle.td_values.proofs.FieldLemmas.{same_name, same_fields}
-use Rattle.td_values.proofs.TupleLemmas.{same_header}
+use Rattle.td_values.proofs.Walks.{equal_types_tie}
 use Rattle.td_grammar.specs.declared.tree.Named.{Named}
 use Rattle.td_trees.specs.declared.tree.Typing.{Typing}
-use Rattle.td_kinds.specs.Kinds.{Text, same_kind, same_heading, is_boolean, relation_heading, user_name}
+use Rattle.td_kinds.specs.Kinds.{Text, kind_of, same_kind, is_boolean, relation_heading, user_name}
+use Rattle.td_kinds.proofs.KindLemmas.{kind_back}
 use Rattle.td_typing.specs.Trees.{kinds}
 use Rattle.td_typing.specs.ForProofs.Infer.{fit}
 
@@ -27,63 +26,11 @@ was_true : (b : Bool) → b ≡ true → IsTrue b
 was_true true h = refl
 was_true false h = cc
 
-name_itself : (n : Text) → eq_by_cmp text_cmp n n ≡ true
-name_itself n = is_true _ ((same_name n n _ refl).1 refl)
-
-name_same : (m n : Text) → eq_by_cmp text_cmp m n ≡ true → m ≡ n
-name_same m n h = (same_name m n _ refl).0 (was_true _ h)
-
-heading_itself : (h : Header) → same_heading h h ≡ true
-heading_itself h = is_true _ ((same_fields (header_fields h) (header_fields h) _ _ refl refl).1 refl)
-
-heading_same : (h k : Header) → same_heading h k ≡ true → h ≡ k
-heading_same h k e = same_header h k ((same_fields (header_fields h) (header_fields k) _ _ refl refl).0 (was_true _ e))
-
 pub same_itself : (k : TypeKind) → same_kind k k ≡ true
-same_itself kind.Boolean = refl
-same_itself kind.Integer = refl
-same_itself kind.Char = refl
-same_itself (kind.User n) = name_itself n
-same_itself (kind.Tuple h) = heading_itself h
-same_itself (kind.Relation h) = heading_itself h
+same_itself k = is_true _ ((equal_types_tie (ty_of k) (ty_of k) _ _ refl refl).1 refl)
 
 pub same : (j k : TypeKind) → same_kind j k ≡ true → j ≡ k
-same kind.Boolean kind.Boolean h = refl
-same kind.Integer kind.Integer h = refl
-same kind.Char kind.Char h = refl
-same (kind.User m) (kind.User n) h = ap kind.User (name_same m n h)
-same (kind.Tuple g) (kind.Tuple h) e = ap kind.Tuple (heading_same g h e)
-same (kind.Relation g) (kind.Relation h) e = ap kind.Relation (heading_same g h e)
-same kind.Boolean kind.Integer e = cc
-same kind.Boolean kind.Char e = cc
-same kind.Boolean (kind.User m) e = cc
-same kind.Boolean (kind.Tuple k) e = cc
-same kind.Boolean (kind.Relation k) e = cc
-same kind.Integer kind.Boolean e = cc
-same kind.Integer kind.Char e = cc
-same kind.Integer (kind.User m) e = cc
-same kind.Integer (kind.Tuple k) e = cc
-same kind.Integer (kind.Relation k) e = cc
-same kind.Char kind.Boolean e = cc
-same kind.Char kind.Integer e = cc
-same kind.Char (kind.User m) e = cc
-same kind.Char (kind.Tuple k) e = cc
-same kind.Char (kind.Relation k) e = cc
-same (kind.User n) kind.Boolean e = cc
-same (kind.User n) kind.Integer e = cc
-same (kind.User n) kind.Char e = cc
-same (kind.User n) (kind.Tuple k) e = cc
-same (kind.User n) (kind.Relation k) e = cc
-same (kind.Tuple h) kind.Boolean e = cc
-same (kind.Tuple h) kind.Integer e = cc
-same (kind.Tuple h) kind.Char e = cc
-same (kind.Tuple h) (kind.User m) e = cc
-same (kind.Tuple h) (kind.Relation k) e = cc
-same (kind.Relation h) kind.Boolean e = cc
-same (kind.Relation h) kind.Integer e = cc
-same (kind.Relation h) kind.Char e = cc
-same (kind.Relation h) (kind.User m) e = cc
-same (kind.Relation h) (kind.Tuple k) e = cc
+same j k h = sym (kind_back j) ∙ ap kind_of ((equal_types_tie (ty_of j) (ty_of k) _ _ refl refl).0 (was_true _ h)) ∙ kind_back k
 
 -- ---- what a kind is
 
