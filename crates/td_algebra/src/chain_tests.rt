@@ -36,11 +36,16 @@ fn closure(alloc: Global, length: i64) -> Result<String> {
     closed(alloc, &chain, &names, length)
 }
 
+/// Lengths of chains, and what is told of their closures.
+const LENGTHS: [i64; 4] = [0, 1, 2, 1000];
+
+const TOLD: [&str; 4] = ["0 false", "1 true", "3 true", "500500 true"];
+
 #[test]
 fn chains_have_all_pairs_of_their_ends(rt: HostRuntime) -> Result<()> {
-    assert!(rt; closure(rt.alloc(), 0)?.as_str() == "0 false");
-    assert!(rt; closure(rt.alloc(), 1)?.as_str() == "1 true");
-    assert!(rt; closure(rt.alloc(), 2)?.as_str() == "3 true");
-    assert!(rt; closure(rt.alloc(), 1000)?.as_str() == "500500 true");
+    for case in 0..4usize {
+        let told = closure(rt.alloc(), LENGTHS[case])?;
+        assert!(rt; told.as_str() == TOLD[case]);
+    }
     Ok(())
 }

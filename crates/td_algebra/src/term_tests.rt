@@ -122,12 +122,21 @@ fn restricted_pairs(alloc: Global, rows: Rows<'_>) -> Result<String> {
     restricted(alloc, pairs(alloc, rows)?, Term::LeastShare(1))
 }
 
+/// Relations with tuples that raise Divide, where B is 0, or Overflow, where it is -1; and which of the two is the least.
+const RAISING: [Rows<'static>; 3] = [
+    &[&[1, 0], &[2, 7], &[3, -1]],
+    &[&[1, -1], &[2, 7], &[3, 0]],
+    &[&[1, 7], &[2, 0], &[3, 0]],
+];
+
+const LEAST: [&str; 3] = ["overflow", "overflow", "divide"];
+
 #[test]
 fn restrict_raises_the_least_error(rt: HostRuntime) -> Result<()> {
-    let alloc = rt.alloc();
-    assert!(rt; restricted_pairs(alloc, &[&[1, 0], &[2, 7], &[3, -1]])?.as_str() == "overflow");
-    assert!(rt; restricted_pairs(alloc, &[&[1, -1], &[2, 7], &[3, 0]])?.as_str() == "overflow");
-    assert!(rt; restricted_pairs(alloc, &[&[1, 7], &[2, 0], &[3, 0]])?.as_str() == "divide");
+    for case in 0..3usize {
+        let told = restricted_pairs(rt.alloc(), RAISING[case])?;
+        assert!(rt; told.as_str() == LEAST[case]);
+    }
     Ok(())
 }
 
@@ -146,10 +155,10 @@ fn extended_pairs(alloc: Global, rows: Rows<'_>, first: usize, second: usize) ->
 
 #[test]
 fn extend_raises_the_least_error_of_a_tuple(rt: HostRuntime) -> Result<()> {
-    let alloc = rt.alloc();
-    assert!(rt; extended_pairs(alloc, &[&[1, 0], &[2, 7], &[3, -1]], 0, 1)?.as_str() == "overflow");
-    assert!(rt; extended_pairs(alloc, &[&[1, -1], &[2, 7], &[3, 0]], 0, 1)?.as_str() == "overflow");
-    assert!(rt; extended_pairs(alloc, &[&[1, 7], &[2, 0], &[3, 0]], 0, 1)?.as_str() == "divide");
+    for case in 0..3usize {
+        let told = extended_pairs(rt.alloc(), RAISING[case], 0, 1)?;
+        assert!(rt; told.as_str() == LEAST[case]);
+    }
     Ok(())
 }
 
@@ -189,10 +198,10 @@ fn greatest_each(alloc: Global, rows: Rows<'_>) -> Result<String> {
 
 #[test]
 fn summarize_raises_the_least_error_of_a_group(rt: HostRuntime) -> Result<()> {
-    let alloc = rt.alloc();
-    assert!(rt; greatest(alloc, &[&[1, 0], &[2, 7], &[3, -1]])?.as_str() == "overflow");
-    assert!(rt; greatest(alloc, &[&[1, -1], &[2, 7], &[3, 0]])?.as_str() == "overflow");
-    assert!(rt; greatest(alloc, &[&[1, 7], &[2, 0], &[3, 0]])?.as_str() == "divide");
+    for case in 0..3usize {
+        let told = greatest(rt.alloc(), RAISING[case])?;
+        assert!(rt; told.as_str() == LEAST[case]);
+    }
     Ok(())
 }
 

@@ -48,7 +48,7 @@ loop-at-preserved c =
           (subst (λ ts. AreGroups inner outer name es ts (c.loop-at.out.items ++ u ∷ [])) (sym (taken es i t within is))
           (groups_more inner outer name es (take i es) c.loop-at.out.items so_far t u (item_in es i t within is) holds))
       | else-not-repeats w ↦
-          let again = c.repeats.ensures w.if-not-repeats.false in
+          let again = c.repeats.ensures.0 w.if-not-repeats.false in
           let later = again.0 in
           let s = get_or es (i - 1) no_attrs in
           let t = get_or es i no_attrs in
