@@ -73,7 +73,7 @@ enum Operand {
     User,
 }
 
-fn operand(alloc: Global, operand: Operand) -> Result<Relation> {
+fn made(alloc: Global, operand: Operand) -> Result<Relation> {
     match operand {
         Operand::Suppliers => suppliers(alloc),
         Operand::Shipments => shipments(alloc),
@@ -154,8 +154,8 @@ struct Case {
 
 // What the operator gives, as a text.
 fn answer(alloc: Global, case: Case) -> Result<String> {
-    let a = operand(alloc, case.first)?;
-    let b = operand(alloc, case.second)?;
+    let a = made(alloc, case.first)?;
+    let b = made(alloc, case.second)?;
     told(alloc, of_pair(alloc, case.pair, &a, &b)?)
 }
 
@@ -237,7 +237,7 @@ fn exchanged(alloc: Global) -> Result<String> {
 }
 
 fn no_names_replaced(alloc: Global) -> Result<String> {
-    let dee = operand(alloc, Operand::Dee)?;
+    let dee = made(alloc, Operand::Dee)?;
     shown(alloc, rename(alloc, &dee, &[])?)
 }
 
@@ -392,7 +392,7 @@ fn shipments_grouped(alloc: Global) -> Result<String> {
 }
 
 fn dee_grouped(alloc: Global) -> Result<String> {
-    let dee = operand(alloc, Operand::Dee)?;
+    let dee = made(alloc, Operand::Dee)?;
     shown(alloc, grouped(alloc, &dee, &[], "G")?)
 }
 
@@ -412,7 +412,7 @@ fn shipments_wrapped(alloc: Global) -> Result<String> {
 }
 
 fn dee_wrapped(alloc: Global) -> Result<String> {
-    let dee = operand(alloc, Operand::Dee)?;
+    let dee = made(alloc, Operand::Dee)?;
     shown(alloc, wrapped(alloc, &dee, &[], "W")?)
 }
 
