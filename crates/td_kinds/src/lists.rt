@@ -53,8 +53,8 @@ pub fn attribute_names(alloc: Global, heading: &Heading) -> Result<Items<Name>, 
     Ok(found)
 }
 
-// These names, shared.
-fn copies(alloc: Global, names: &[Name]) -> Result<Items<Name>, AllocError>
+/// These names, shared.
+pub fn copies(alloc: Global, names: &[Name]) -> Result<Items<Name>, AllocError>
     ensures { IfOk result (λ v. v ≡ names.now) }
 {
     let mut copies = Items::new(alloc);

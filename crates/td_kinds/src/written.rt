@@ -15,8 +15,8 @@ use std::alloc::{AllocError, Global};
 use td_grammar::tree::{Named, TypeExpr};
 use td_values::{Heading, Name, TdType, TypeKind};
 
-// The heading of these fields. Of two of one name the first counts.
-fn columns(alloc: Global, fields: &[Named<TypeKind>]) -> Result<Heading, AllocError>
+/// The heading of these fields. Of two of one name the first counts.
+pub fn columns(alloc: Global, fields: &[Named<TypeKind>]) -> Result<Heading, AllocError>
     ensures { IfOk result (λ h. h ≡ spec.columns fields.now) }
 {
     let mut heading = Heading::new(alloc)?;
