@@ -1,0 +1,3 @@
+-- The proofs of the crate.
+pub mod Deciding
+pub mod Placed

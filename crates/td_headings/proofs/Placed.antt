@@ -1,0 +1,98 @@
+-- What is put behind the others, by the fields of a catalogue.
+use Rattle.std.proofs.Common.{◌≡◌, ℕ, Bool, true, false, List, [], ◌∷◌, ◌++◌, map, length, Option, Some, None, is_none, Result, Ok, Err, refl, sym, ap, subst, ◌∙◌}
+use Rattle.td_values.specs.Headings.{Header}
+use Rattle.td_grammar.specs.declared.tree.Attributes.{Attributes}
+use Rattle.td_grammar.specs.declared.script.Opening.{Opening}
+use Rattle.td_grammar.specs.declared.tree.Expr.{Expr}
+use Rattle.td_kinds.specs.declared.error.TypeError.{TypeError}
+use Rattle.td_kinds.specs.declared.error.TypeError.TheVariants.{IllTyped, OutOfMemory}
+use Rattle.td_kinds.specs.Kinds.{Text}
+use Rattle.td_kinds.specs.Results.{Fails, and_then, where_true}
+use Rattle.std.specs.Result.{OnOk}
+use Rattle.td_kinds.specs.declared.schema.Representation.{Representation}
+use Rattle.td_kinds.specs.Schemas.{SchemaData, relvar_named, relvar_added, may_add, type_added}
+use Rattle.td_trees.specs.declared.tree.Typed.{Typed}
+use Rattle.td_headings.specs.Catalogues.{CatalogueData}
+use Rattle.td_headings.specs.Definitions.{with_relvar, with_type, key_tests}
+use Rattle.td_headings.specs.ForProofs.After.{Value, opening_after, keys_after, value_after, relvar_after, possrep_after, base_after}
+use Rattle.td_headings.specs.ForProofs.Changes.{Changes}
+use Rattle.td_headings.specs.declared.catalogue.Origin.{Origin}
+use Rattle.td_headings.specs.declared.catalogue.Origin.TheVariants as origin
+use Rattle.td_headings.specs.declared.catalogue.Test.{Test}
+use Rattle.td_headings.specs.declared.catalogue.Test.TheVariants as test
+
+some_same : {A : Type 0} (a b : A) → Some a ≡ Some b → a ≡ b
+some_same a b h = cc
+
+tested : {A : Type 0} (b : Bool) (a y : A) → where_true b a ≡ Some y → (b ≡ true) × (a ≡ y)
+tested true a y h = (refl, some_same a y h)
+tested false a y h = cc
+
+refused : {A : Type 0} (b : Bool) (a : A) → where_true b a ≡ None → b ≡ false
+refused true a h = cc
+refused false a h = refl
+
+goes : {A B : Type 0} (o : Option A) (a : A) (f : A → Option B) → o ≡ Some a → and_then o f ≡ f a
+goes o a f h = ap (λ x. and_then x f) h
+
+module _ (s : SchemaData) (limits : List (Option Typed)) (origins : List Origin) (tests : List Test) (c : CatalogueData) (seen : record { schema = s; limits = limits; origins = origins; tests = tests } ≡ c) (n : Text) (h : Header) (o : Origin) (ts : List Test) where
+  abbrev more : SchemaData
+  more = record { possreps = s.possreps; relvars = s.relvars ++ record { name = n; value = h } ∷ [] }
+
+  relvar_put : (b : Bool) → is_none (relvar_named s n) ≡ b → relvar_after c n h o ts ≡ where_true b (record { schema = more; limits = limits; origins = origins ++ o ∷ []; tests = tests ++ ts })
+  unfolding relvar_after
+  relvar_put b e =
+      ap (λ (d : CatalogueData). where_true (is_none (relvar_named d.schema n)) (with_relvar d n h o ts)) (sym seen)
+      ∙ ap (λ t. where_true t (record { schema = more; limits = limits; origins = origins ++ o ∷ []; tests = tests ++ ts })) e
+
+  pub put_taken : (t : SchemaData) (os : List Origin) (us : List Test) → relvar_added s n h ≡ Some t → os ≡ origins ++ o ∷ [] → us ≡ tests ++ ts → relvar_after c n h o ts ≡ Some (record { schema = t; limits = limits; origins = os; tests = us })
+  put_taken t os us e p q =
+      let d = tested (is_none (relvar_named s n)) more t e in
+      relvar_put true d.0 ∙ ap Some (λ i. record { schema = d.1 i; limits = limits; origins = sym p i; tests = sym q i })
+
+  pub put_refused : (e : TypeError) → (◌≡◌ {A = Result (Unit {0}) TypeError} (Err e) (Err IllTyped) → relvar_added s n h ≡ None) → Fails e (relvar_after c n h o ts)
+  put_refused OutOfMemory f = tt
+  put_refused IllTyped f = relvar_put false (refused (is_none (relvar_named s n)) more (f refl))
+
+  pub still_seen : (t : SchemaData) (os : List Origin) (us : List Test) → t ≡ s → os ≡ origins → us ≡ tests → record { schema = t; limits = limits; origins = os; tests = us } ≡ c
+  still_seen t os us p q r = (λ i. record { schema = p i; limits = limits; origins = q i; tests = r i }) ∙ seen
+
+module _ (c : CatalogueData) (n m : Text) (is : m ≡ n) where
+  pub base_put : (o : Opening) (as' : List Attributes) (h : Header) (u : Option Typed) (ks : List (List Text)) (l : ℕ) (ts : List Test) → opening_after c.schema o ≡ Some (h, u) → keys_after h as' ≡ Some ks → ts ≡ map (test.Key l) ks → l ≡ length c.origins → base_after c n o as' ≡ relvar_after c m h (origin.Base ks u) ts
+  unfolding base_after
+  base_put o as' h u ks l ts p q r e =
+      goes (opening_after c.schema o) (h, u) (λ v. and_then (keys_after v.0 as') (λ ls. relvar_after c n v.0 (origin.Base ls v.1) (key_tests c ls))) p
+      ∙ goes (keys_after h as') ks (λ ls. relvar_after c n h (origin.Base ls u) (key_tests c ls)) q
+      ∙ (λ i. relvar_after c (sym is i) h (origin.Base ks u) (sym (r ∙ ap (λ k. map (test.Key k) ks) e) i))
+
+module _ (s : SchemaData) (limits : List (Option Typed)) (origins : List Origin) (tests : List Test) (c : CatalogueData) (seen : record { schema = s; limits = limits; origins = origins; tests = tests } ≡ c) (r : Representation) (u : Option Typed) where
+  abbrev also : SchemaData
+  also = record { possreps = s.possreps ++ r ∷ []; relvars = s.relvars }
+
+  type_put : (b : Bool) → may_add s r ≡ b → possrep_after c r u ≡ where_true b (record { schema = also; limits = limits ++ u ∷ []; origins = origins; tests = tests })
+  unfolding possrep_after
+  type_put b e =
+      ap (λ (d : CatalogueData). where_true (may_add d.schema r) (with_type d r u)) (sym seen)
+      ∙ ap (λ t. where_true t (record { schema = also; limits = limits ++ u ∷ []; origins = origins; tests = tests })) e
+
+  pub type_taken : (t : SchemaData) (ls : List (Option Typed)) → type_added s r ≡ Some t → ls ≡ limits ++ u ∷ [] → possrep_after c r u ≡ Some (record { schema = t; limits = ls; origins = origins; tests = tests })
+  type_taken t ls e p =
+      let d = tested (may_add s r) also t e in
+      type_put true d.0 ∙ ap Some (λ i. record { schema = d.1 i; limits = sym p i; origins = origins; tests = tests })
+
+  pub type_refused : (e : TypeError) → (◌≡◌ {A = Result (Unit {0}) TypeError} (Err e) (Err IllTyped) → type_added s r ≡ None) → Fails e (possrep_after c r u)
+  type_refused OutOfMemory f = tt
+  type_refused IllTyped f = type_put false (refused (may_add s r) also (f refl))
+
+  pub still_typed : (t : SchemaData) (ls : List (Option Typed)) → t ≡ s → ls ≡ limits → record { schema = t; limits = ls; origins = origins; tests = tests } ≡ c
+  still_typed t ls p q = (λ i. record { schema = p i; limits = q i; origins = origins; tests = tests }) ∙ seen
+
+-- ---- what a change tells
+pub taken : {A : Type 0} (old new : A) (o : Option A) (P : Type 0) (r : Result (Unit {0}) TypeError) → Changes old o r new → (o ≡ Some new → P) → OnOk r P
+taken old new o P (Ok u) h f = f h
+taken old new o P (Err e) h f = tt
+
+pub ill_typed : {A : Type 0} (old new : A) (o : Option A) (r : Result (Unit {0}) TypeError) → Changes old o r new → r ≡ Err IllTyped → o ≡ None
+ill_typed old new o (Ok u) h e = cc
+ill_typed old new o (Err OutOfMemory) h e = cc
+ill_typed old new o (Err IllTyped) h e = h.0

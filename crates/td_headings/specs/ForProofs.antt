@@ -1,0 +1,3 @@
+-- Words that only private clauses cite.
+pub mod After
+pub mod Changes

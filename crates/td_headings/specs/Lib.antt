@@ -1,0 +1,5 @@
+-- The definitions of the crate.
+pub mod Catalogues
+pub mod Definitions
+pub mod ForProofs
+pub mod Laws
