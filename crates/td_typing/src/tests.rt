@@ -6,6 +6,7 @@ use std::alloc::{AllocError, Global};
 use std::test::Fail;
 use td_grammar::read_expr;
 use td_grammar::tree::Named;
+use td_kinds::kinds::relation_heading;
 use td_kinds::{Representation, Schema, Scope, TypeError};
 use td_values::{Heading, Name, Possrep, TdType, TypeKind, show_type};
 
@@ -26,9 +27,10 @@ fn shown(alloc: Global, schema: &Schema, text: &str) -> Result<String> {
 // The heading of a relation that is written.
 fn heading(alloc: Global, schema: &Schema, text: &str) -> Result<Heading> {
     let expr = read_expr(alloc, text)?;
-    match type_in(alloc, schema, &Scope::Nothing, expr.get())?.kind {
-        TypeKind::Relation(heading) => Ok(heading),
-        _ => Err(TypeError::IllTyped)?,
+    let typing = type_in(alloc, schema, &Scope::Nothing, expr.get())?;
+    match relation_heading(&typing.kind) {
+        Some(heading) => Ok(heading.copy()?),
+        None => Err(TypeError::IllTyped)?,
     }
 }
 
