@@ -139,7 +139,7 @@ module _ (c : CatalogueData) where
       let t = tested (same_heading q.0 r.0.1) (r.0.1, Some r.0.0) p r.2 in
       let one : q.0 ≡ r.0.1 = (let e : kind.Relation q.0 ≡ kind.Relation r.0.1 = same (kind.Relation q.0) (kind.Relation r.0.1) t.0 in cc) in
       subst (λ (r : Header × Option Typed). TypesOpening c (opening.Init (Some fs) a) r.0 r.1) t.1
-          (headed_init (q.1 ∙ ap Some one) (value_is a r.0 r.1))
+      (headed_init (q.1 ∙ ap Some one) (value_is a r.0 r.1))
 
   is_opening : (o : Opening) (h : Header) (u : Option Typed) → TypesOpening c o h u → opening_after c.schema o ≡ Some (h, u)
   is_opening (opening.Empty fs) h None (empty e) = goes (heading_written c.schema fs) h (λ g. Some (g, None)) e
@@ -191,7 +191,7 @@ module _ (c d : CatalogueData) where
       let t = tested (may_add c.schema (represented n l p.0)) (with_type c (represented n l p.0) q.0) d q.2 in
       let b = three (not (begins_with_the l)) (is_none (type_named c.schema n)) (is_none (possrep_named c.schema l)) t.0 in
       subst (Defines c (definition.Type n m xs a)) t.1
-          (type_ (there_is_none (type_named c.schema n) b.1) (there_is_none (possrep_named c.schema l) b.2) (is_false (begins_with_the l) b.0) p.1 (limit_is c p.0 a q.0 q.1))
+      (type_ (there_is_none (type_named c.schema n) b.1) (there_is_none (possrep_named c.schema l) b.2) (is_false (begins_with_the l) b.0) p.1 (limit_is c p.0 a q.0 q.1))
 
   base_is : (n : Text) (o : Opening) (as' : List Attributes) → base_after c n o as' ≡ Some d → Defines c (definition.Base n o as') d
   unfolding base_after relvar_after
@@ -200,7 +200,7 @@ module _ (c d : CatalogueData) where
       let q = inverted (keys_after p.0.0 as') (λ ks. relvar_after c n p.0.0 (origin.Base ks p.0.1) (key_tests c ks)) d p.2 in
       let t = tested (is_none (relvar_named c.schema n)) (with_relvar c n p.0.0 (origin.Base q.0 p.0.1) (key_tests c q.0)) d q.2 in
       subst (Defines c (definition.Base n o as')) t.1
-          (base (there_is_none (relvar_named c.schema n) t.0) (opening_is c o p.0 p.1) (all_keys p.0.0 as' q.0 q.1))
+      (base (there_is_none (relvar_named c.schema n) t.0) (opening_is c o p.0 p.1) (all_keys p.0.0 as' q.0 q.1))
 
   virtual_is : (n : Text) (a : Expr) → virtual_after c n a ≡ Some d → Defines c (definition.Virtual n a) d
   unfolding virtual_after relvar_after
@@ -208,7 +208,7 @@ module _ (c d : CatalogueData) where
       let p = inverted (value_after c.schema a) (λ v. relvar_after c n v.1 (origin.Virtual v.0) []) d h in
       let t = tested (is_none (relvar_named c.schema n)) (with_relvar c n p.0.1 (origin.Virtual p.0.0) []) d p.2 in
       subst (Defines c (definition.Virtual n a)) t.1
-          (virtual (there_is_none (relvar_named c.schema n) t.0) (value_is c a p.0 p.1))
+      (virtual (there_is_none (relvar_named c.schema n) t.0) (value_is c a p.0 p.1))
 
   constraint_is : (n : Text) (a : Expr) → constraint_after c n a ≡ Some d → Defines c (definition.Constraint n a) d
   unfolding constraint_after
@@ -216,7 +216,7 @@ module _ (c d : CatalogueData) where
       let p = inverted (condition_after c.schema a) (λ u. where_true (not (list_any (is_constraint n) c.tests)) (with_constraint c n u)) d h in
       let t = tested (not (list_any (is_constraint n) c.tests)) (with_constraint c n p.0) d p.2 in
       subst (Defines c (definition.Constraint n a)) t.1
-          (constraint (is_false (list_any (is_constraint n) c.tests) t.0) (condition_is c a p.0 p.1))
+      (constraint (is_false (list_any (is_constraint n) c.tests) t.0) (condition_is c a p.0 p.1))
 
 pub after_is : (c d : CatalogueData) (x : Definition) → after c x ≡ Some d → Defines c x d
 after_is c d (definition.Type n m xs a) h = type_is c d n m xs a h
@@ -234,7 +234,7 @@ is_after {c} (type_ {n} {m} {xs} {a} {ks} {u} t p b e l) =
     goes (components_written c.schema xs) ks (λ ls. and_then (limits_after c.schema ls a) (λ v. possrep_after c (represented n o ls) v)) e
     ∙ goes (limits_after c.schema ks a) u (λ v. possrep_after c (represented n o ks) v) (is_limit c ks a u l)
     ∙ passes (may_add c.schema (represented n o ks)) (with_type c (represented n o ks) u)
-        (all_three (not (begins_with_the o)) (is_none (type_named c.schema n)) (is_none (possrep_named c.schema o)) (ap not b) (none_is (type_named c.schema n) t) (none_is (possrep_named c.schema o) p))
+    (all_three (not (begins_with_the o)) (is_none (type_named c.schema n)) (is_none (possrep_named c.schema o)) (ap not b) (none_is (type_named c.schema n) t) (none_is (possrep_named c.schema o) p))
 is_after {c} (base {n} {o} {as'} {h} {u} {ks} e t k) =
     goes (opening_after c.schema o) (h, u) (λ p. and_then (keys_after p.0 as') (λ ls. relvar_after c n p.0 (origin.Base ls p.1) (key_tests c ls))) (is_opening c o h u t)
     ∙ goes (keys_after h as') ks (λ ls. relvar_after c n h (origin.Base ls u) (key_tests c ls)) (are_keys k [])

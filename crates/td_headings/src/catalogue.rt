@@ -226,7 +226,12 @@ impl Catalogue {
     }
 
     #[tactic(auto, unfolding(crate::specs::ForProofs::After::constraint_after))]
-    fn define_constraint(&mut self, alloc: Global, name: &Name, expr: &Expr) -> Result<(), TypeError>
+    fn define_constraint(
+        &mut self,
+        alloc: Global,
+        name: &Name,
+        expr: &Expr,
+    ) -> Result<(), TypeError>
         ensures { Changes self.old (after.constraint_after self.old name.now expr.now) result self.new }
     {
         let tree = condition(alloc, &self.schema, expr)?;
@@ -255,7 +260,10 @@ impl Catalogue {
         let components = components_written(alloc, &self.schema, components)?;
         let limit = limits(alloc, &self.schema, components.as_slice(), limit)?;
         let possrep = Possrep::new(alloc, ty.copy()?, possrep.copy()?)?;
-        let representation = Representation { possrep, components };
+        let representation = Representation {
+            possrep,
+            components,
+        };
         self.put_type(representation, limit)
     }
 

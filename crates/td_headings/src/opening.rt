@@ -52,7 +52,12 @@ fn limit(
     ensures { Gives (spec.limit_after schema.now components.now expr.now) result }
 {
     let heading = columns(alloc, components)?;
-    let typing = typing(alloc, schema, expr, &Scope::Within(&heading, &Scope::Nothing))?;
+    let typing = typing(
+        alloc,
+        schema,
+        expr,
+        &Scope::Within(&heading, &Scope::Nothing),
+    )?;
     truth_of(alloc, typing)
 }
 

@@ -4,8 +4,7 @@ use Rattle.td_headings.proofs.catalogue.Catalogue.put_type.Goals as goal
 pub returns-in-Err : goal.returns-in-Err
 returns-in-Err c =
     let s = c.self.inside in
-    let e = c.in-Err.ensures in
-    (
+    let e = c.in-Err.ensures in (
       type_refused s.schema s.limits.items s.origins.items s.tests.items c.args.self.now c.self.view_is c.args.representation c.args.limit c.in-Err.error e.ill_typed,
       still_typed s.schema s.limits.items s.origins.items s.tests.items c.args.self.now c.self.view_is c.args.representation c.args.limit _ _ e.same_schema e.same_limits,
     )
