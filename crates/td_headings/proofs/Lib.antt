@@ -1,3 +1,4 @@
 -- The proofs of the crate.
 pub mod Deciding
 pub mod Placed
+pub mod Ascending

@@ -174,6 +174,18 @@ impl Catalogue {
         self.origins.get(place)
     }
 
+    pub(crate) fn origins(&self) -> &[Origin]
+        ensures { result.now ≡ self.now.origins }
+    {
+        &self.origins
+    }
+
+    pub(crate) fn limits(&self) -> &[Option<Shared<Typed>>]
+        ensures { result.now ≡ self.now.limits }
+    {
+        &self.limits
+    }
+
     fn put_relvar(
         &mut self,
         name: Name,

@@ -2,7 +2,9 @@
 #![tactic(auto)]
 
 pub mod catalogue;
+pub mod expression;
 pub mod laws;
 mod opening;
+mod reach;
 
 pub use catalogue::{Catalogue, Origin, Test};
