@@ -6,24 +6,24 @@ use Rattle.td_grammar.specs.declared.forms.Form.{Form}
 use Rattle.td_grammar.specs.declared.forms.Form.TheVariants as f
 use Rattle.td_grammar.specs.declared.forms.Naming.{Naming}
 use Rattle.td_grammar.specs.declared.forms.Naming.TheVariants as naming
-use Rattle.td_grammar.specs.declared.tree.TypeExpr.{TypeExpr}
-use Rattle.td_grammar.specs.declared.tree.Named.{Named}
-use Rattle.td_grammar.specs.declared.tree.Attributes.{Attributes}
-use Rattle.td_grammar.specs.declared.tree.Renaming.{Renaming}
-use Rattle.td_grammar.specs.declared.tree.UnaryOperator.{UnaryOperator}
-use Rattle.td_grammar.specs.declared.tree.UnaryOperator.TheVariants as unary
-use Rattle.td_grammar.specs.declared.tree.BinaryOperator.{BinaryOperator}
-use Rattle.td_grammar.specs.declared.tree.Aggregate.{Aggregate}
-use Rattle.td_grammar.specs.declared.tree.Aggregate.TheVariants as aggregate
-use Rattle.td_grammar.specs.declared.tree.Nesting.{Nesting}
-use Rattle.td_grammar.specs.declared.tree.Nesting.TheVariants as nesting
-use Rattle.td_grammar.specs.declared.tree.Extension.TheVariants as extension
-use Rattle.td_grammar.specs.declared.tree.Summary.{Summary}
-use Rattle.td_grammar.specs.declared.tree.Summary.TheVariants as summary
-use Rattle.td_grammar.specs.declared.tree.Groups.TheVariants as groups
-use Rattle.td_grammar.specs.declared.tree.Expr.{Expr}
-use Rattle.td_grammar.specs.declared.tree.Expr.TheVariants as e
-use Rattle.td_grammar.specs.Levels.{levels}
+use Rattle.td_syntax.specs.declared.tree.TypeExpr.{TypeExpr}
+use Rattle.td_syntax.specs.declared.tree.Named.{Named}
+use Rattle.td_syntax.specs.declared.tree.Attributes.{Attributes}
+use Rattle.td_syntax.specs.declared.tree.Renaming.{Renaming}
+use Rattle.td_syntax.specs.declared.tree.UnaryOperator.{UnaryOperator}
+use Rattle.td_syntax.specs.declared.tree.UnaryOperator.TheVariants as unary
+use Rattle.td_syntax.specs.declared.tree.BinaryOperator.{BinaryOperator}
+use Rattle.td_syntax.specs.declared.tree.Aggregate.{Aggregate}
+use Rattle.td_syntax.specs.declared.tree.Aggregate.TheVariants as aggregate
+use Rattle.td_syntax.specs.declared.tree.Nesting.{Nesting}
+use Rattle.td_syntax.specs.declared.tree.Nesting.TheVariants as nesting
+use Rattle.td_syntax.specs.declared.tree.Extension.TheVariants as extension
+use Rattle.td_syntax.specs.declared.tree.Summary.{Summary}
+use Rattle.td_syntax.specs.declared.tree.Summary.TheVariants as summary
+use Rattle.td_syntax.specs.declared.tree.Groups.TheVariants as groups
+use Rattle.td_syntax.specs.declared.tree.Expr.{Expr}
+use Rattle.td_syntax.specs.declared.tree.Expr.TheVariants as e
+use Rattle.td_syntax.specs.Levels.{levels}
 use Rattle.td_grammar.specs.Grammar.{Tokens, infix_at, target_at, binds, aggregate_word, nest_word, unnest_word}
 use Rattle.td_grammar.specs.Grammar.{IsList, IsRenaming, ReadsAttributes, no_names, names, but_none, but, ReadsHeading}
 use Rattle.td_grammar.specs.Grammar.{Reads, with_, with_assigned, greedy, one_and, more_or, one_not, more_and, not_, one_comparison, one_relational, compared, one_additive, more_relational, postfixed, one_multiplicative, more_additive, one_prefixed, more_multiplicative, negated, closure, tuple_from, name_from, one_projection, one_primary, project}
@@ -31,9 +31,9 @@ use Rattle.td_grammar.specs.Grammar.{integer, characters, is_true, is_false, dee
 use Rattle.td_grammar.specs.Grammar.{ReadsPostfix, where_, rename, rename_braces, nest, nest_brackets, unnest, unnest_brackets, ReadsList, last_expr, next_expr, ReadsNamed, name_after, name_assigned, name_beside, ReadsNamedList, last_named, next_named, ReadsSummary, count_group, count_brackets, summary_of, ReadsNamedSummary, summary_after, summary_assigned, ReadsSummaryList, last_summary, next_summary, ReadsSummaries, summaries, summaries_assigned}
 use Rattle.td_grammar.specs.ForProofs.Reader as read
 use Rattle.td_grammar.specs.ForProofs.Reader.{Outcome, Reader, and_then, pure, refuse, same_word, look, at, tail, eat, expect, take_name, take_text, take_integer, at_name, at_type, take_infix, list_from, list_at, listed, up_to, renaming_at, attributes_at, field_of, heading_of, type_of, type_at, heading_at, climb, binary_turn, project_turn, shut, form_at, within, reads}
-use Rattle.td_grammar.specs.Levels.{named_levels}
-use Rattle.td_grammar.specs.ForProofs.Parts.{list_levels, summary_levels, summaries_levels}
-use Rattle.td_grammar.proofs.Depths.{some_level, of_call, of_tuple, of_relation, of_unary, of_binary, of_from, of_project, of_where, of_rename, of_nest, of_unnest, of_aggregate_all, of_aggregate, of_choice, of_extend, of_with, of_summarize}
+use Rattle.td_syntax.specs.Levels.{named_levels}
+use Rattle.td_syntax.specs.ForProofs.Parts.{list_levels, summary_levels, summaries_levels}
+use Rattle.td_syntax.proofs.Depths.{some_level, of_call, of_tuple, of_relation, of_unary, of_binary, of_from, of_project, of_where, of_rename, of_nest, of_unnest, of_aggregate_all, of_aggregate, of_choice, of_extend, of_with, of_summarize}
 use Rattle.td_grammar.proofs.Places.{goes_on, lead, infix_shorter, infix_goes, infix_binds, shorter, named_shorter, named_list_shorter, named_summary_shorter, attributes_shorter, heading_shorter, attributes_goes, postfix_goes, postfix_binds, leads, exprs_lead, summaries_goes, expr_ends, no_target}
 use Rattle.td_grammar.proofs.Steps.{then_some, one_turn, no_turn, binary_reads, within_reads, ListOf, one, then_more, list_reads, bracket_closes, brace_closes, listed_reads, none_read, some_read, renamings_list, attributes_read, attributes_bind, project_reads, heading_reads, has_heading, no_heading, no_close, no_targets, no_call, expr_plain, not_plain, prefixed_plain, relational_infix}
 

@@ -5,7 +5,7 @@ use Rattle.td_tokens.specs.declared.token.Word.TheVariants as w
 use Rattle.td_tokens.specs.declared.token.Kind.{Kind}
 use Rattle.td_tokens.specs.declared.token.Kind.TheVariants as k
 use Rattle.td_tokens.specs.Lex.{word, name, int, text}
-use Rattle.td_grammar.specs.declared.tree.BinaryOperator.TheVariants as binary
+use Rattle.td_syntax.specs.declared.tree.BinaryOperator.TheVariants as binary
 use Rattle.td_grammar.specs.Grammar.{Tokens, Infix, infix_at, infix_after, infix_word, with_rest, not_matching, target_at, assign_at, binds, number_of}
 use Rattle.td_grammar.specs.ForProofs.Reader.{look, at, at_name, same_word, tail, word_number}
 

@@ -1,4 +1,3 @@
-pub mod Depths
 pub mod Places
 pub mod Steps
 pub mod Complete
@@ -6,7 +5,6 @@ pub mod Sound
 pub mod OneTree
 pub mod Cursors
 pub mod Turns
-pub mod Within
 pub mod Knot
 pub mod StatementsComplete
 pub mod StatementsSound

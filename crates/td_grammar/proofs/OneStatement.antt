@@ -4,10 +4,10 @@ use Rattle.std.proofs.lemmas.Bool.{le-leb}
 use Rattle.td_tokens.specs.Lex.{Text}
 use Rattle.td_tokens.specs.Lexer.{lexemes}
 use Rattle.td_grammar.specs.declared.forms.Form.TheVariants as f
-use Rattle.td_grammar.specs.declared.tree.Expr.{Expr}
-use Rattle.td_grammar.specs.declared.script.Statement.{Statement}
-use Rattle.td_grammar.specs.declared.script.Definition.{Definition}
-use Rattle.td_grammar.specs.Levels.{levels}
+use Rattle.td_syntax.specs.declared.tree.Expr.{Expr}
+use Rattle.td_syntax.specs.declared.script.Statement.{Statement}
+use Rattle.td_syntax.specs.declared.script.Definition.{Definition}
+use Rattle.td_syntax.specs.Levels.{levels}
 use Rattle.td_grammar.specs.Grammar.{Tokens, most_levels}
 use Rattle.td_grammar.specs.Statements.{ReadsStatement, ReadsScript, IsStatement, IsScript, statement_levels, definitions_levels, statement_bytes, script_bytes}
 use Rattle.td_grammar.specs.ForProofs.Reader.{Outcome, reads, whole}

@@ -4,8 +4,8 @@ use Rattle.std.proofs.lemmas.Bool.{leb-true, le-leb}
 use Rattle.td_tokens.specs.Lex.{Text}
 use Rattle.td_tokens.specs.Lexer.{lexemes}
 use Rattle.td_grammar.specs.declared.forms.Form.TheVariants as f
-use Rattle.td_grammar.specs.declared.tree.Expr.{Expr}
-use Rattle.td_grammar.specs.Levels.{levels}
+use Rattle.td_syntax.specs.declared.tree.Expr.{Expr}
+use Rattle.td_syntax.specs.Levels.{levels}
 use Rattle.td_grammar.specs.Grammar.{Tokens, Reads, IsExpr, IsQuery, most_levels, query_bytes}
 use Rattle.td_grammar.specs.ForProofs.Reader.{Outcome, reads, whole, outer, expr_of_tokens, read_expr}
 use Rattle.td_grammar.proofs.Places.{none_some}

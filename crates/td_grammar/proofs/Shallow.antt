@@ -6,18 +6,18 @@ use Rattle.td_tokens.specs.Lex.{Text, word}
 use Rattle.td_grammar.specs.declared.forms.Form.{Form}
 use Rattle.td_grammar.specs.declared.forms.Form.TheVariants as f
 use Rattle.td_grammar.specs.declared.forms.Naming.TheVariants as naming
-use Rattle.td_grammar.specs.declared.tree.Named.{Named}
-use Rattle.td_grammar.specs.declared.tree.TypeExpr.{TypeExpr}
-use Rattle.td_grammar.specs.declared.tree.Expr.{Expr}
-use Rattle.td_grammar.specs.declared.script.Action.{Action}
-use Rattle.td_grammar.specs.declared.script.Action.TheVariants as action
-use Rattle.td_grammar.specs.declared.script.Statement.{Statement}
-use Rattle.td_grammar.specs.declared.script.Statement.TheVariants as statement
-use Rattle.td_grammar.specs.declared.script.Opening.{Opening}
-use Rattle.td_grammar.specs.declared.script.Opening.TheVariants as opening
-use Rattle.td_grammar.specs.declared.script.Definition.{Definition}
-use Rattle.td_grammar.specs.declared.script.Definition.TheVariants as definition
-use Rattle.td_grammar.specs.Levels.{levels, named_levels}
+use Rattle.td_syntax.specs.declared.tree.Named.{Named}
+use Rattle.td_syntax.specs.declared.tree.TypeExpr.{TypeExpr}
+use Rattle.td_syntax.specs.declared.tree.Expr.{Expr}
+use Rattle.td_syntax.specs.declared.script.Action.{Action}
+use Rattle.td_syntax.specs.declared.script.Action.TheVariants as action
+use Rattle.td_syntax.specs.declared.script.Statement.{Statement}
+use Rattle.td_syntax.specs.declared.script.Statement.TheVariants as statement
+use Rattle.td_syntax.specs.declared.script.Opening.{Opening}
+use Rattle.td_syntax.specs.declared.script.Opening.TheVariants as opening
+use Rattle.td_syntax.specs.declared.script.Definition.{Definition}
+use Rattle.td_syntax.specs.declared.script.Definition.TheVariants as definition
+use Rattle.td_syntax.specs.Levels.{levels, named_levels}
 use Rattle.td_grammar.specs.Grammar.{Tokens}
 use Rattle.td_grammar.specs.Statements.{maybe_levels, action_levels, actions_levels, statement_levels, opening_levels, definition_levels, definitions_levels}
 use Rattle.td_grammar.specs.ForProofs.Reader.{Outcome, Reader, and_then, pure, at, tail, eat, expect, take_name, is_over, list_at, listed, attributes_at, heading_at, named_at}

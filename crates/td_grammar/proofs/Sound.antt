@@ -10,26 +10,26 @@ use Rattle.td_grammar.specs.declared.forms.Form.{Form}
 use Rattle.td_grammar.specs.declared.forms.Form.TheVariants as f
 use Rattle.td_grammar.specs.declared.forms.Naming.{Naming}
 use Rattle.td_grammar.specs.declared.forms.Naming.TheVariants as naming
-use Rattle.td_grammar.specs.declared.tree.TypeExpr.{TypeExpr}
-use Rattle.td_grammar.specs.declared.tree.TypeExpr.TheVariants as t
-use Rattle.td_grammar.specs.declared.tree.Named.{Named}
-use Rattle.td_grammar.specs.declared.tree.Attributes.{Attributes}
-use Rattle.td_grammar.specs.declared.tree.Attributes.TheVariants as attributes
-use Rattle.td_grammar.specs.declared.tree.Renaming.{Renaming}
-use Rattle.td_grammar.specs.declared.tree.UnaryOperator.{UnaryOperator}
-use Rattle.td_grammar.specs.declared.tree.UnaryOperator.TheVariants as unary
-use Rattle.td_grammar.specs.declared.tree.BinaryOperator.{BinaryOperator}
-use Rattle.td_grammar.specs.declared.tree.Aggregate.{Aggregate}
-use Rattle.td_grammar.specs.declared.tree.Aggregate.TheVariants as aggregate
-use Rattle.td_grammar.specs.declared.tree.Nesting.{Nesting}
-use Rattle.td_grammar.specs.declared.tree.Nesting.TheVariants as nesting
-use Rattle.td_grammar.specs.declared.tree.Extension.TheVariants as extension
-use Rattle.td_grammar.specs.declared.tree.Summary.{Summary}
-use Rattle.td_grammar.specs.declared.tree.Summary.TheVariants as summary
-use Rattle.td_grammar.specs.declared.tree.Groups.TheVariants as groups
-use Rattle.td_grammar.specs.declared.tree.Expr.{Expr}
-use Rattle.td_grammar.specs.declared.tree.Expr.TheVariants as e
-use Rattle.td_grammar.specs.Levels.{levels}
+use Rattle.td_syntax.specs.declared.tree.TypeExpr.{TypeExpr}
+use Rattle.td_syntax.specs.declared.tree.TypeExpr.TheVariants as t
+use Rattle.td_syntax.specs.declared.tree.Named.{Named}
+use Rattle.td_syntax.specs.declared.tree.Attributes.{Attributes}
+use Rattle.td_syntax.specs.declared.tree.Attributes.TheVariants as attributes
+use Rattle.td_syntax.specs.declared.tree.Renaming.{Renaming}
+use Rattle.td_syntax.specs.declared.tree.UnaryOperator.{UnaryOperator}
+use Rattle.td_syntax.specs.declared.tree.UnaryOperator.TheVariants as unary
+use Rattle.td_syntax.specs.declared.tree.BinaryOperator.{BinaryOperator}
+use Rattle.td_syntax.specs.declared.tree.Aggregate.{Aggregate}
+use Rattle.td_syntax.specs.declared.tree.Aggregate.TheVariants as aggregate
+use Rattle.td_syntax.specs.declared.tree.Nesting.{Nesting}
+use Rattle.td_syntax.specs.declared.tree.Nesting.TheVariants as nesting
+use Rattle.td_syntax.specs.declared.tree.Extension.TheVariants as extension
+use Rattle.td_syntax.specs.declared.tree.Summary.{Summary}
+use Rattle.td_syntax.specs.declared.tree.Summary.TheVariants as summary
+use Rattle.td_syntax.specs.declared.tree.Groups.TheVariants as groups
+use Rattle.td_syntax.specs.declared.tree.Expr.{Expr}
+use Rattle.td_syntax.specs.declared.tree.Expr.TheVariants as e
+use Rattle.td_syntax.specs.Levels.{levels}
 use Rattle.td_grammar.specs.Grammar.{Tokens, Infix, infix_at, target_at, postfix, number_of, binds, aggregate_word, nest_word, unnest_word}
 use Rattle.td_grammar.specs.Grammar.{IsList, last_item, next_item, IsName, a_name, IsRenaming, a_renaming, ReadsAttributes, no_names, names, but_none, but, ReadsType, boolean, integer_type, char, character, user, tuple_type, relation_type, ReadsHeading, no_fields, fields, ReadsFields, last_field, next_field}
 use Rattle.td_grammar.specs.Grammar.{Reads, with_, with_assigned, greedy, one_and, more_or, one_not, more_and, not_, one_comparison, one_relational, compared, one_additive, more_relational, postfixed, one_multiplicative, more_additive, one_prefixed, more_multiplicative, negated, closure, tuple_from, name_from, one_projection, one_primary, project}

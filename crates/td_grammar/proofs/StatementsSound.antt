@@ -7,18 +7,18 @@ use Rattle.td_tokens.specs.Lex.{Text, word, name}
 use Rattle.td_grammar.specs.declared.forms.Form.{Form}
 use Rattle.td_grammar.specs.declared.forms.Form.TheVariants as f
 use Rattle.td_grammar.specs.declared.forms.Naming.TheVariants as naming
-use Rattle.td_grammar.specs.declared.tree.TypeExpr.{TypeExpr}
-use Rattle.td_grammar.specs.declared.tree.Named.{Named}
-use Rattle.td_grammar.specs.declared.tree.Attributes.{Attributes}
-use Rattle.td_grammar.specs.declared.tree.Expr.{Expr}
-use Rattle.td_grammar.specs.declared.script.Action.{Action}
-use Rattle.td_grammar.specs.declared.script.Action.TheVariants as action
-use Rattle.td_grammar.specs.declared.script.Statement.{Statement}
-use Rattle.td_grammar.specs.declared.script.Statement.TheVariants as statement
-use Rattle.td_grammar.specs.declared.script.Opening.{Opening}
-use Rattle.td_grammar.specs.declared.script.Opening.TheVariants as opening
-use Rattle.td_grammar.specs.declared.script.Definition.{Definition}
-use Rattle.td_grammar.specs.declared.script.Definition.TheVariants as definition
+use Rattle.td_syntax.specs.declared.tree.TypeExpr.{TypeExpr}
+use Rattle.td_syntax.specs.declared.tree.Named.{Named}
+use Rattle.td_syntax.specs.declared.tree.Attributes.{Attributes}
+use Rattle.td_syntax.specs.declared.tree.Expr.{Expr}
+use Rattle.td_syntax.specs.declared.script.Action.{Action}
+use Rattle.td_syntax.specs.declared.script.Action.TheVariants as action
+use Rattle.td_syntax.specs.declared.script.Statement.{Statement}
+use Rattle.td_syntax.specs.declared.script.Statement.TheVariants as statement
+use Rattle.td_syntax.specs.declared.script.Opening.{Opening}
+use Rattle.td_syntax.specs.declared.script.Opening.TheVariants as opening
+use Rattle.td_syntax.specs.declared.script.Definition.{Definition}
+use Rattle.td_syntax.specs.declared.script.Definition.TheVariants as definition
 use Rattle.td_grammar.specs.Grammar.{Tokens, Reads, ReadsAttributes, ReadsHeading, IsList, last_item, next_item}
 use Rattle.td_grammar.specs.Statements.{ReadsSets, sets, sets_braces, sets_colon, ReadsAction, assign, insert, delete_all, delete_where, update_all, update_where, ReadsStatement, assignment, ReadsMaybeName, no_name, this_name, ReadsComponents, no_components, components, ReadsLimit, no_limit, limit, ReadsOpening, empty, headed_init, init, ReadsKeys, last_key, next_key, IsBase, base_word, real_word, ReadsDefinition, type_, base, virtual, constraint, ReadsScript, nothing, define}
 use Rattle.td_grammar.specs.ForProofs.Reader.{Outcome, Reader, and_then, pure, at, at_name, tail, attributes_at, heading_at, field_of, type_at, listed, named_at}

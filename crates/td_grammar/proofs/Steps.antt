@@ -5,14 +5,14 @@ use Rattle.td_tokens.specs.declared.token.Word.{Word}
 use Rattle.td_tokens.specs.declared.token.Word.TheVariants as w
 use Rattle.td_tokens.specs.Lex.{Text, word, name}
 use Rattle.td_grammar.specs.declared.forms.Form.{Form}
-use Rattle.td_grammar.specs.declared.tree.TypeExpr.{TypeExpr}
-use Rattle.td_grammar.specs.declared.tree.Named.{Named}
-use Rattle.td_grammar.specs.declared.tree.Attributes.{Attributes}
-use Rattle.td_grammar.specs.declared.tree.Renaming.{Renaming}
-use Rattle.td_grammar.specs.declared.tree.BinaryOperator.{BinaryOperator}
-use Rattle.td_grammar.specs.declared.tree.Expr.{Expr}
-use Rattle.td_grammar.specs.declared.tree.Expr.TheVariants as e
-use Rattle.td_grammar.specs.Levels.{levels}
+use Rattle.td_syntax.specs.declared.tree.TypeExpr.{TypeExpr}
+use Rattle.td_syntax.specs.declared.tree.Named.{Named}
+use Rattle.td_syntax.specs.declared.tree.Attributes.{Attributes}
+use Rattle.td_syntax.specs.declared.tree.Renaming.{Renaming}
+use Rattle.td_syntax.specs.declared.tree.BinaryOperator.{BinaryOperator}
+use Rattle.td_syntax.specs.declared.tree.Expr.{Expr}
+use Rattle.td_syntax.specs.declared.tree.Expr.TheVariants as e
+use Rattle.td_syntax.specs.Levels.{levels}
 use Rattle.td_grammar.specs.Grammar.{Tokens, Infix, infix_at, target_at, assign_at, binds}
 use Rattle.td_grammar.specs.Grammar.{IsList, last_item, next_item, IsName, a_name, IsRenaming, a_renaming, ReadsAttributes, no_names, names, but_none, but, ReadsType, boolean, integer_type, char, character, user, tuple_type, relation_type, ReadsHeading, no_fields, fields, ReadsFields, last_field, next_field}
 use Rattle.td_grammar.specs.ForProofs.Reader as read

@@ -2,9 +2,9 @@
 use Rattle.std.specs.Prelude.{◌≡◌, ◌↔◌, List, [], Some}
 use Rattle.td_tokens.specs.Lex.{Text}
 use Rattle.td_grammar.specs.declared.forms.Form.TheVariants as f
-use Rattle.td_grammar.specs.declared.tree.Expr.{Expr}
-use Rattle.td_grammar.specs.declared.script.Statement.{Statement}
-use Rattle.td_grammar.specs.declared.script.Definition.{Definition}
+use Rattle.td_syntax.specs.declared.tree.Expr.{Expr}
+use Rattle.td_syntax.specs.declared.script.Statement.{Statement}
+use Rattle.td_syntax.specs.declared.script.Definition.{Definition}
 use Rattle.td_grammar.specs.Grammar.{Tokens, Reads, IsQuery}
 use Rattle.td_grammar.specs.Statements.{ReadsStatement, ReadsScript, IsStatement, IsScript}
 use Rattle.td_grammar.specs.ForProofs.Reader.{read_expr}

@@ -1,5 +1,4 @@
 pub mod ForProofs
 pub mod Grammar
 pub mod Laws
-pub mod Levels
 pub mod Statements

@@ -6,19 +6,19 @@ use Rattle.td_tokens.specs.Lex.{Text, word, name}
 use Rattle.td_tokens.specs.Lexer.{lexemes}
 use Rattle.td_grammar.specs.declared.forms.Form.TheVariants as f
 use Rattle.td_grammar.specs.declared.forms.Naming.TheVariants as naming
-use Rattle.td_grammar.specs.declared.tree.TypeExpr.{TypeExpr}
-use Rattle.td_grammar.specs.declared.tree.Named.{Named}
-use Rattle.td_grammar.specs.declared.tree.Attributes.{Attributes}
-use Rattle.td_grammar.specs.declared.tree.Expr.{Expr}
-use Rattle.td_grammar.specs.declared.script.Action.{Action}
-use Rattle.td_grammar.specs.declared.script.Action.TheVariants as action
-use Rattle.td_grammar.specs.declared.script.Statement.{Statement}
-use Rattle.td_grammar.specs.declared.script.Statement.TheVariants as statement
-use Rattle.td_grammar.specs.declared.script.Opening.{Opening}
-use Rattle.td_grammar.specs.declared.script.Opening.TheVariants as opening
-use Rattle.td_grammar.specs.declared.script.Definition.{Definition}
-use Rattle.td_grammar.specs.declared.script.Definition.TheVariants as definition
-use Rattle.td_grammar.specs.Levels.{levels, named_levels}
+use Rattle.td_syntax.specs.declared.tree.TypeExpr.{TypeExpr}
+use Rattle.td_syntax.specs.declared.tree.Named.{Named}
+use Rattle.td_syntax.specs.declared.tree.Attributes.{Attributes}
+use Rattle.td_syntax.specs.declared.tree.Expr.{Expr}
+use Rattle.td_syntax.specs.declared.script.Action.{Action}
+use Rattle.td_syntax.specs.declared.script.Action.TheVariants as action
+use Rattle.td_syntax.specs.declared.script.Statement.{Statement}
+use Rattle.td_syntax.specs.declared.script.Statement.TheVariants as statement
+use Rattle.td_syntax.specs.declared.script.Opening.{Opening}
+use Rattle.td_syntax.specs.declared.script.Opening.TheVariants as opening
+use Rattle.td_syntax.specs.declared.script.Definition.{Definition}
+use Rattle.td_syntax.specs.declared.script.Definition.TheVariants as definition
+use Rattle.td_syntax.specs.Levels.{levels, named_levels}
 use Rattle.td_grammar.specs.Grammar.{Tokens, Reads, ReadsNamedList, ReadsAttributes, ReadsHeading, ReadsFields, IsList, most_levels}
 
 -- ---- statements

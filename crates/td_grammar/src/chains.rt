@@ -13,9 +13,9 @@ use crate::forms::{Form, Naming};
 use crate::grammar::{Grammar, Tree};
 use crate::items::shut;
 use crate::lists::{attributes, renamings};
-use crate::tree::{Expr, Nesting, UnaryOperator};
 use sqlite_items::Boxed;
 use std::alloc::Global;
+use td_syntax::tree::{Expr, Nesting, UnaryOperator};
 use td_tokens::token::{Kind, Word};
 
 #[tactic(auto, unfolding(crate::specs::ForProofs::Reader::project_turn))]

@@ -11,9 +11,9 @@ use crate::binding::{
     ADDITIVE, COMPARISON, CONJUNCTION, DISJUNCTION, MULTIPLICATIVE, NOTHING, PROJECTION, RELATIONAL,
 };
 use crate::error::ReadError;
-use crate::tree::{Aggregate, BinaryOperator};
 use std::alloc::Global;
 use std::marker::Model;
+use td_syntax::tree::{Aggregate, BinaryOperator};
 use td_tokens::token::{Kind, Token, Word};
 use td_values::{Name, Text};
 

@@ -10,11 +10,11 @@ use crate::error::ReadError;
 use crate::forms::Form;
 use crate::grammar::{Grammar, Tree};
 use crate::lists::attributes;
-use crate::script::{Definition, Opening};
-use crate::tree::Attributes;
 use crate::types::{components, heading};
 use sqlite_items::Items;
 use std::alloc::Global;
+use td_syntax::script::{Definition, Opening};
+use td_syntax::tree::Attributes;
 use td_tokens::token::Word;
 use td_values::Name;
 

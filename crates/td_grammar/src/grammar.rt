@@ -9,10 +9,10 @@ ghost use Rattle.td_grammar.specs.ForProofs.Readings.{Gives, Nests};
 use crate::cursor::Cursor;
 use crate::error::ReadError;
 use crate::forms::Form;
-use crate::levels::within;
-use crate::tree::Expr;
 use sqlite_items::Boxed;
 use std::alloc::{AllocError, Global};
+use td_syntax::levels::within;
+use td_syntax::tree::Expr;
 
 /// An expression on the heap.
 // A box is dropped by one call. Where a tree itself is dropped, as at an early return, there is a case to be proved for

@@ -10,9 +10,9 @@ use crate::error::ReadError;
 use crate::forms::{Form, Naming};
 use crate::grammar::{Grammar, Tree};
 use crate::lists::{list, listed};
-use crate::tree::{Aggregate, Named, Summary};
 use sqlite_items::Items;
 use std::alloc::Global;
+use td_syntax::tree::{Aggregate, Named, Summary};
 use td_tokens::token::{Kind, Word};
 
 impl<F: Fn(Global, &mut Cursor<'_>, usize, usize, Form) -> Result<Tree, ReadError>> Grammar<F> {

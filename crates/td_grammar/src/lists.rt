@@ -8,9 +8,9 @@ ghost use Rattle.td_tokens.specs.declared.token.Word.TheVariants as w;
 
 use crate::cursor::Cursor;
 use crate::error::ReadError;
-use crate::tree::{Attributes, Renaming};
 use sqlite_items::Items;
 use std::alloc::Global;
+use td_syntax::tree::{Attributes, Renaming};
 use td_tokens::token::Word;
 use td_values::Name;
 

@@ -9,9 +9,9 @@ use crate::error::ReadError;
 use crate::forms::{Form, Naming};
 use crate::grammar::{Grammar, Tree};
 use crate::lists::attributes;
-use crate::tree::{Aggregate, Expr, Extension, Groups, UnaryOperator};
 use crate::types::heading;
 use std::alloc::Global;
+use td_syntax::tree::{Aggregate, Expr, Extension, Groups, UnaryOperator};
 use td_tokens::token::{Kind, Word};
 
 impl<F: Fn(Global, &mut Cursor<'_>, usize, usize, Form) -> Result<Tree, ReadError>> Grammar<F> {

@@ -8,18 +8,18 @@ ghost use Rattle.td_grammar.specs.ForProofs.Readings.{Tells, Lexes, fits, lexeme
 ghost use Rattle.td_grammar.specs.ForProofs.StatementReader as statements;
 ghost use Rattle.td_grammar.specs.Grammar.{IsQuery};
 ghost use Rattle.td_grammar.specs.Statements.{IsScript, IsStatement};
-ghost use Rattle.td_grammar.specs.declared.script.Definition.{Definition};
-ghost use Rattle.td_grammar.specs.declared.script.Statement.{Statement};
-ghost use Rattle.td_grammar.specs.declared.tree.Expr.{Expr};
+ghost use Rattle.td_syntax.specs.declared.script.Definition.{Definition};
+ghost use Rattle.td_syntax.specs.declared.script.Statement.{Statement};
+ghost use Rattle.td_syntax.specs.declared.tree.Expr.{Expr};
 
 use crate::cursor::Cursor;
 use crate::error::ReadError;
 use crate::forms::Form;
 use crate::grammar::{Grammar, Tree, expr};
-use crate::script::{Definition, Statement};
-use crate::tree::Expr;
 use sqlite_items::{Boxed, Items};
 use std::alloc::Global;
+use td_syntax::script::{Definition, Statement};
+use td_syntax::tree::Expr;
 use td_tokens::lexer::tokens;
 use td_tokens::token::Token;
 

@@ -9,10 +9,10 @@ use crate::error::ReadError;
 use crate::forms::{Form, Naming};
 use crate::grammar::{Grammar, Tree};
 use crate::lists::listed;
-use crate::script::{Action, Statement};
-use crate::tree::Named;
 use sqlite_items::Items;
 use std::alloc::Global;
+use td_syntax::script::{Action, Statement};
+use td_syntax::tree::Named;
 use td_tokens::token::Word;
 
 impl<F: Fn(Global, &mut Cursor<'_>, usize, usize, Form) -> Result<Tree, ReadError>> Grammar<F> {

@@ -9,9 +9,9 @@ ghost use Rattle.td_grammar.specs.ForProofs.StatementReader.{components_at};
 use crate::cursor::Cursor;
 use crate::error::ReadError;
 use crate::lists::{list, up_to};
-use crate::tree::{Named, TypeExpr};
 use sqlite_items::Items;
 use std::alloc::Global;
+use td_syntax::tree::{Named, TypeExpr};
 use td_tokens::token::{Kind, Word};
 
 /// Types that nest so deep, by a reader of those one level down.

@@ -11,7 +11,7 @@ use Rattle.std.proofs.lemmas.List.{map-append}
 use Rattle.std.proofs.lemmas.Map.Lookups.{exact_bytes}
 use Rattle.std.proofs.lemmas.Option.{slice_get-map}
 use Rattle.td_values.specs.Headings.{Header}
-use Rattle.td_grammar.specs.declared.tree.Named.{Named}
+use Rattle.td_syntax.specs.declared.tree.Named.{Named}
 use Rattle.td_kinds.specs.declared.schema.Representation.{Representation}
 use Rattle.td_kinds.specs.Kinds.{Text}
 use Rattle.td_kinds.specs.Results.{where_true}

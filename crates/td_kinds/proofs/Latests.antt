@@ -1,7 +1,7 @@
 -- Names of WITH, by the last one that has the name.
 use Rattle.std.proofs.Common.{◌≡◌, true, false, cond, List, [], ◌∷◌, Option, None, Some, refl}
 use Rattle.td_values.specs.declared.TypeKind.{TypeKind}
-use Rattle.td_grammar.specs.declared.tree.Named.{Named}
+use Rattle.td_syntax.specs.declared.tree.Named.{Named}
 use Rattle.td_kinds.specs.declared.scope.Meant.{Meant}
 use Rattle.td_kinds.specs.ForProofs.Latest.{latest}
 use Rattle.td_kinds.specs.Kinds.{Text}

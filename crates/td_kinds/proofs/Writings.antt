@@ -3,11 +3,11 @@ use Rattle.std.proofs.Common.{◌≡◌, List, [], ◌∷◌, ◌++◌, append_a
 use Rattle.std.proofs.lemmas.List.{append-nil}
 use Rattle.td_values.specs.declared.TypeKind.{TypeKind}
 use Rattle.td_values.specs.declared.TypeKind.TheVariants as kind
-use Rattle.td_grammar.specs.declared.tree.Named.{Named}
-use Rattle.td_grammar.specs.declared.tree.TypeExpr.{TypeExpr}
-use Rattle.td_grammar.specs.declared.tree.TypeExpr.TheVariants as t
-use Rattle.td_grammar.specs.declared.tree.TypeExpr.TheOpen.{TypeExpr-F}
-use Rattle.td_grammar.specs.declared.tree.TypeExpr.TheFolds.{fold-roll-TypeExpr}
+use Rattle.td_syntax.specs.declared.tree.Named.{Named}
+use Rattle.td_syntax.specs.declared.tree.TypeExpr.{TypeExpr}
+use Rattle.td_syntax.specs.declared.tree.TypeExpr.TheVariants as t
+use Rattle.td_syntax.specs.declared.tree.TypeExpr.TheOpen.{TypeExpr-F}
+use Rattle.td_syntax.specs.declared.tree.TypeExpr.TheFolds.{fold-roll-TypeExpr}
 use Rattle.td_kinds.specs.declared.error.TypeError.{TypeError}
 use Rattle.td_kinds.specs.declared.error.TypeError.TheVariants.{IllTyped, OutOfMemory}
 use Rattle.td_kinds.specs.Results.{Fails, and_then}

@@ -7,10 +7,10 @@ use Rattle.td_values.specs.declared.TypeKind.TheVariants as kind
 use Rattle.td_tuples.specs.Parts.{columns_in, columns_out}
 use Rattle.td_tuples.specs.Nestings.{grouped_columns, wrapped_columns, opened_columns}
 use Rattle.td_tuples.specs.Renamings.{renamed_columns}
-use Rattle.td_grammar.specs.declared.tree.Nesting.{Nesting}
-use Rattle.td_grammar.specs.declared.tree.Nesting.TheVariants as nesting
-use Rattle.td_grammar.specs.declared.tree.Extension.{Extension}
-use Rattle.td_grammar.specs.declared.tree.Extension.TheVariants as extension
+use Rattle.td_syntax.specs.declared.tree.Nesting.{Nesting}
+use Rattle.td_syntax.specs.declared.tree.Nesting.TheVariants as nesting
+use Rattle.td_syntax.specs.declared.tree.Extension.{Extension}
+use Rattle.td_syntax.specs.declared.tree.Extension.TheVariants as extension
 use Rattle.td_kinds.specs.Kinds.{Text, kind_of, relation_heading, tuple_heading, is_new, are_new}
 use Rattle.td_kinds.specs.Lists.{are_distinct, may_rename}
 use Rattle.td_kinds.specs.Results.{where_true, and_then}

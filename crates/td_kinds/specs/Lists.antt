@@ -2,9 +2,9 @@
 use Rattle.std.specs.Prelude.{Bool, true, not, ◌&&◌, List, [], ◌∷◌, map, Option}
 use Rattle.std.specs.List.{filter}
 use Rattle.td_values.specs.Headings.{Header}
-use Rattle.td_grammar.specs.declared.tree.Attributes.{Attributes}
-use Rattle.td_grammar.specs.declared.tree.Attributes.TheVariants as attributes
-use Rattle.td_grammar.specs.declared.tree.Renaming.{Renaming}
+use Rattle.td_syntax.specs.declared.tree.Attributes.{Attributes}
+use Rattle.td_syntax.specs.declared.tree.Attributes.TheVariants as attributes
+use Rattle.td_syntax.specs.declared.tree.Renaming.{Renaming}
 use Rattle.td_tuples.specs.Parts.{is_in, is_out, names_of}
 use Rattle.td_tuples.specs.Renamings.{name_after}
 use Rattle.td_kinds.specs.Kinds.{Text, are_there}

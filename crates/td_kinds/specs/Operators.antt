@@ -6,12 +6,12 @@ use Rattle.td_values.specs.Headings.{Header}
 use Rattle.td_values.specs.declared.TypeKind.{TypeKind}
 use Rattle.td_values.specs.declared.TypeKind.TheVariants as kind
 use Rattle.td_tuples.specs.Unions.{joined, composed_columns}
-use Rattle.td_grammar.specs.declared.tree.UnaryOperator.{UnaryOperator}
-use Rattle.td_grammar.specs.declared.tree.UnaryOperator.TheVariants as unary
-use Rattle.td_grammar.specs.declared.tree.BinaryOperator.{BinaryOperator}
-use Rattle.td_grammar.specs.declared.tree.BinaryOperator.TheVariants as binary
-use Rattle.td_grammar.specs.declared.tree.Aggregate.{Aggregate}
-use Rattle.td_grammar.specs.declared.tree.Aggregate.TheVariants as aggregate
+use Rattle.td_syntax.specs.declared.tree.UnaryOperator.{UnaryOperator}
+use Rattle.td_syntax.specs.declared.tree.UnaryOperator.TheVariants as unary
+use Rattle.td_syntax.specs.declared.tree.BinaryOperator.{BinaryOperator}
+use Rattle.td_syntax.specs.declared.tree.BinaryOperator.TheVariants as binary
+use Rattle.td_syntax.specs.declared.tree.Aggregate.{Aggregate}
+use Rattle.td_syntax.specs.declared.tree.Aggregate.TheVariants as aggregate
 use Rattle.td_kinds.specs.Kinds.{Text, same_type, same_kind, same_heading, is_boolean, is_integer, is_char, relation_heading, tuple_heading, agree}
 use Rattle.td_kinds.specs.Results.{where_true, and_then}
 

@@ -7,7 +7,7 @@ use Rattle.std.specs.Ordering.{eq_by_cmp}
 use Rattle.td_values.specs.Headings.{Header, header_code}
 use Rattle.td_values.specs.Order.{text_cmp}
 use Rattle.td_values.specs.declared.TypeKind.{TypeKind}
-use Rattle.td_grammar.specs.declared.tree.Named.{Named}
+use Rattle.td_syntax.specs.declared.tree.Named.{Named}
 use Rattle.td_kinds.specs.contracts.schema.Representation.{the_row}
 use Rattle.td_kinds.specs.declared.schema.Representation.{Representation}
 use Rattle.td_kinds.specs.Kinds.{Text}

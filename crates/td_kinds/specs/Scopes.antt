@@ -5,7 +5,7 @@ use Rattle.std.specs.FinMap as by_name
 use Rattle.td_values.specs.Data.{Ty}
 use Rattle.td_values.specs.Headings.{Header}
 use Rattle.td_values.specs.declared.TypeKind.{TypeKind}
-use Rattle.td_grammar.specs.declared.tree.Named.{Named}
+use Rattle.td_syntax.specs.declared.tree.Named.{Named}
 use Rattle.td_kinds.specs.declared.scope.Meant.{Meant}
 pub use Rattle.td_kinds.specs.declared.scope.Meant.TheVariants.{Local as local, Relvar as relvar}
 use Rattle.td_kinds.specs.declared.scope.Scope as scoped

@@ -8,10 +8,10 @@ use Rattle.td_values.specs.Order.{text_cmp}
 use Rattle.td_values.specs.View.{ty_of}
 use Rattle.td_values.specs.declared.TypeKind.{TypeKind}
 use Rattle.td_values.specs.declared.TypeKind.TheVariants as kind
-use Rattle.td_grammar.specs.declared.tree.Named.{Named}
-use Rattle.td_grammar.specs.declared.tree.TypeExpr.{TypeExpr}
-use Rattle.td_grammar.specs.declared.tree.TypeExpr.TheOpen.{TypeExpr-F}
-use Rattle.td_grammar.specs.declared.tree.TypeExpr.TheFolds.{fold-TypeExpr}
+use Rattle.td_syntax.specs.declared.tree.Named.{Named}
+use Rattle.td_syntax.specs.declared.tree.TypeExpr.{TypeExpr}
+use Rattle.td_syntax.specs.declared.tree.TypeExpr.TheOpen.{TypeExpr-F}
+use Rattle.td_syntax.specs.declared.tree.TypeExpr.TheFolds.{fold-TypeExpr}
 use Rattle.td_kinds.specs.Kinds.{Text}
 use Rattle.td_kinds.specs.Lists.{are_distinct}
 use Rattle.td_kinds.specs.Results.{where_true, and_then}

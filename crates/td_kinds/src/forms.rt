@@ -11,7 +11,7 @@ use crate::kinds::{are_new, is_new, relation_heading, tuple_heading};
 use crate::lists::{are_distinct, attribute_names, may_rename};
 use std::alloc::{AllocError, Global};
 use std::slice;
-use td_grammar::tree::{Extension, Nesting};
+use td_syntax::tree::{Extension, Nesting};
 use td_tuples::{
     columns_in, columns_out, grouped_columns, opened_columns, renamed_columns, wrapped_columns,
 };

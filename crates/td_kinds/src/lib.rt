@@ -8,8 +8,6 @@ pub mod lists;
 pub mod operators;
 pub mod schema;
 pub mod scope;
-#[cfg(test)]
-mod tests;
 pub mod written;
 
 pub use error::TypeError;

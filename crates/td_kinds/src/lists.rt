@@ -14,7 +14,7 @@ use crate::kinds::are_there;
 use indexmap::IndexSet;
 use sqlite_items::Items;
 use std::alloc::{AllocError, Global};
-use td_grammar::tree::{Attributes, Named, Renaming};
+use td_syntax::tree::{Attributes, Named, Renaming};
 use td_tuples::{columns_out, name_after};
 use td_values::{Heading, Name};
 

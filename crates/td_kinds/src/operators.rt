@@ -10,7 +10,7 @@ use crate::kinds::{
     tuple_heading,
 };
 use std::alloc::Global;
-use td_grammar::tree::{Aggregate, BinaryOperator, UnaryOperator};
+use td_syntax::tree::{Aggregate, BinaryOperator, UnaryOperator};
 use td_tuples::{composed_columns, joined};
 use td_values::{Name, TdType, TypeKind};
 

@@ -14,7 +14,7 @@ use indexmap::{IndexMap, IndexSet};
 use sqlite_items::Items;
 use std::alloc::{AllocError, Global};
 use std::marker::Model;
-use td_grammar::tree::Named;
+use td_syntax::tree::Named;
 use td_values::{Heading, Name, Possrep, TypeKind};
 
 /// A user-defined type: its names and its components, in order.

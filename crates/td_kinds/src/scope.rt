@@ -8,7 +8,7 @@ ghost use Rattle.td_kinds.specs.Scopes.{visible};
 
 use crate::schema::Schema;
 use std::alloc::AllocError;
-use td_grammar::tree::Named;
+use td_syntax::tree::Named;
 use td_values::{Heading, Name, TypeKind};
 
 /// The names in scope, the innermost first.

@@ -12,7 +12,7 @@ use crate::lists::{are_distinct, names};
 use crate::schema::Schema;
 use sqlite_items::Items;
 use std::alloc::{AllocError, Global};
-use td_grammar::tree::{Named, TypeExpr};
+use td_syntax::tree::{Named, TypeExpr};
 use td_values::{Heading, Name, TdType, TypeKind};
 
 /// The heading of these fields. Of two of one name the first counts.

@@ -1,6 +1,6 @@
 -- Which relvars and possreps an expression names, in the order in which it is written.
 use Rattle.std.specs.Prelude.{ℕ, List, [], ◌∷◌, ◌++◌}
-use Rattle.td_grammar.specs.declared.tree.Named.{Named}
+use Rattle.td_syntax.specs.declared.tree.Named.{Named}
 use Rattle.td_tuples.specs.declared.items.Item.{Item}
 use Rattle.td_tuples.specs.declared.items.Summary.{Summary}
 use Rattle.td_tuples.specs.declared.items.Summary.TheVariants as summary

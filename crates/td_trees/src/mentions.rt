@@ -7,7 +7,7 @@ ghost use Rattle.td_trees.specs.Mentions.{mentioned, possreps_in, relvars_in};
 use crate::tree::{Typed, TypedGroups};
 use sqlite_items::Boxed;
 use std::alloc::{AllocError, Global};
-use td_grammar::tree::Named;
+use td_syntax::tree::Named;
 use td_tuples::{Item, Summary};
 
 /// A relvar or a possrep, by its place in order of definition.

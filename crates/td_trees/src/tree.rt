@@ -1,7 +1,7 @@
 //! Expressions whose names are resolved and whose attribute lists are written out.
 
 use sqlite_items::{Boxed, Items};
-use td_grammar::tree::{BinaryOperator, Named, Nesting, UnaryOperator};
+use td_syntax::tree::{BinaryOperator, Named, Nesting, UnaryOperator};
 use td_tuples::{Item, Summary};
 use td_values::{Heading, Name, Text, TypeKind};
 

@@ -9,10 +9,10 @@ use Rattle.td_tuples.specs.Items.{columns_of, extended_columns}
 use Rattle.td_tuples.specs.declared.items.Item.{Item}
 use Rattle.td_tuples.specs.declared.items.Summary as typed_summary
 use Rattle.td_tuples.specs.declared.items.Summary.TheVariants as typed_summaries
-use Rattle.td_grammar.specs.declared.tree.Named.{Named}
-use Rattle.td_grammar.specs.declared.tree.Summary.{Summary}
-use Rattle.td_grammar.specs.declared.tree.Groups.{Groups}
-use Rattle.td_grammar.specs.declared.tree.Expr.{Expr}
+use Rattle.td_syntax.specs.declared.tree.Named.{Named}
+use Rattle.td_syntax.specs.declared.tree.Summary.{Summary}
+use Rattle.td_syntax.specs.declared.tree.Groups.{Groups}
+use Rattle.td_syntax.specs.declared.tree.Expr.{Expr}
 use Rattle.td_trees.specs.declared.tree.TypedGroups.{TypedGroups}
 use Rattle.td_trees.specs.declared.tree.TypedGroups.TheVariants as typed_groups
 use Rattle.td_trees.specs.declared.tree.Typed.{Typed}

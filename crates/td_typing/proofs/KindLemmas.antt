@@ -8,7 +8,7 @@ use Rattle.td_values.specs.declared.TypeKind.{TypeKind}
 use Rattle.td_values.specs.declared.TypeKind.TheVariants as kind
 use Rattle.std.proofs.lemmas.List.Folds.{list_all-map}
 use Rattle.td_values.proofs.Walks.{equal_types_tie}
-use Rattle.td_grammar.specs.declared.tree.Named.{Named}
+use Rattle.td_syntax.specs.declared.tree.Named.{Named}
 use Rattle.td_trees.specs.declared.tree.Typing.{Typing}
 use Rattle.td_kinds.specs.Kinds.{Text, kind_of, same_kind, is_boolean, relation_heading, user_name}
 use Rattle.td_kinds.proofs.KindLemmas.{kind_back}

@@ -1,15 +1,15 @@
 -- The measures of the recursion: an item of a list is no deeper than the list, and a list less deep than the form it is in.
 use Rattle.std.proofs.Common.{◌≡◌, ◌≤◌, ◌<◌, ◌+◌, ◌*◌, ℕ, zero, suc, max, List, [], ◌∷◌, length, get_or, Option, ap, ◌∙◌, arith}
-use Rattle.td_grammar.specs.declared.tree.Named.{Named}
-use Rattle.td_grammar.specs.declared.tree.Summary.{Summary}
-use Rattle.td_grammar.specs.declared.tree.Extension.{Extension}
-use Rattle.td_grammar.specs.declared.tree.Groups.{Groups}
-use Rattle.td_grammar.specs.declared.tree.TypeExpr.{TypeExpr}
-use Rattle.td_grammar.specs.declared.tree.Expr.{Expr}
-use Rattle.td_grammar.specs.declared.tree.Expr.TheVariants as e
-use Rattle.td_grammar.specs.Levels.{levels, named_levels}
-use Rattle.td_grammar.specs.ForProofs.Parts.{list_levels, summary_levels, summaries_levels, groups_levels}
-use Rattle.td_grammar.proofs.Depths.{of_call, of_relation, of_tuple, of_extend, of_with, of_summarize}
+use Rattle.td_syntax.specs.declared.tree.Named.{Named}
+use Rattle.td_syntax.specs.declared.tree.Summary.{Summary}
+use Rattle.td_syntax.specs.declared.tree.Extension.{Extension}
+use Rattle.td_syntax.specs.declared.tree.Groups.{Groups}
+use Rattle.td_syntax.specs.declared.tree.TypeExpr.{TypeExpr}
+use Rattle.td_syntax.specs.declared.tree.Expr.{Expr}
+use Rattle.td_syntax.specs.declared.tree.Expr.TheVariants as e
+use Rattle.td_syntax.specs.Levels.{levels, named_levels}
+use Rattle.td_syntax.specs.ForProofs.Parts.{list_levels, summary_levels, summaries_levels, groups_levels}
+use Rattle.td_syntax.proofs.Depths.{of_call, of_relation, of_tuple, of_extend, of_with, of_summarize}
 use Rattle.td_kinds.specs.Kinds.{Text}
 
 list_item : (xs : List Expr) (i : ℕ) (d : Expr) → i < length xs → levels (get_or xs i d) ≤ list_levels xs

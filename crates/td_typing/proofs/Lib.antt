@@ -5,3 +5,4 @@ pub mod Sound
 pub mod PlaceLemmas
 pub mod LevelLemmas
 pub mod Told
+pub mod Staying

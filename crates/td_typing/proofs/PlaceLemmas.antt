@@ -6,7 +6,7 @@ use Rattle.td_values.specs.Data.{Ty}
 use Rattle.td_values.specs.Headings.{Header}
 use Rattle.td_values.specs.View.{ty_of}
 use Rattle.td_values.specs.declared.TypeKind.{TypeKind}
-use Rattle.td_grammar.specs.declared.tree.Named.{Named}
+use Rattle.td_syntax.specs.declared.tree.Named.{Named}
 use Rattle.td_trees.specs.declared.tree.Typed.TheVariants as t
 use Rattle.td_trees.specs.declared.tree.Typing.{Typing}
 use Rattle.td_kinds.specs.Results.{and_then}

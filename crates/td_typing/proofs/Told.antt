@@ -1,6 +1,6 @@
 -- What the call says of an expression, from what it gives of inference.
 use Rattle.std.proofs.Common.{◌≡◌, Result, Ok, Err, IfOk, sym, ◌∙◌}
-use Rattle.td_grammar.specs.declared.tree.Expr.{Expr}
+use Rattle.td_syntax.specs.declared.tree.Expr.{Expr}
 use Rattle.td_trees.specs.declared.tree.Typing.{Typing}
 use Rattle.td_kinds.specs.declared.error.TypeError.{TypeError}
 use Rattle.td_kinds.specs.declared.error.TypeError.TheVariants as type_error

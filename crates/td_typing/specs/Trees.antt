@@ -5,9 +5,9 @@ use Rattle.td_values.specs.declared.TypeKind.{TypeKind}
 use Rattle.td_tuples.specs.declared.items.Item.{Item}
 use Rattle.td_tuples.specs.declared.items.Summary.{Summary}
 use Rattle.td_tuples.specs.declared.items.Summary.TheVariants as summary
-use Rattle.td_grammar.specs.declared.tree.Named.{Named}
-use Rattle.td_grammar.specs.declared.tree.Aggregate.{Aggregate}
-use Rattle.td_grammar.specs.declared.tree.Aggregate.TheVariants as aggregate
+use Rattle.td_syntax.specs.declared.tree.Named.{Named}
+use Rattle.td_syntax.specs.declared.tree.Aggregate.{Aggregate}
+use Rattle.td_syntax.specs.declared.tree.Aggregate.TheVariants as aggregate
 use Rattle.td_trees.specs.declared.tree.Typed.{Typed}
 use Rattle.td_trees.specs.declared.tree.Typing.{Typing}
 use Rattle.td_kinds.specs.declared.schema.Representation.{Representation}

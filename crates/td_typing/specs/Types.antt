@@ -12,22 +12,22 @@ use Rattle.td_tuples.specs.Items.{columns_of, extended_columns}
 use Rattle.td_tuples.specs.declared.items.Item.{Item}
 use Rattle.td_tuples.specs.declared.items.Summary as typed_summary
 use Rattle.td_tuples.specs.declared.items.Summary.TheVariants as typed_summaries
-use Rattle.td_grammar.specs.declared.tree.UnaryOperator.{UnaryOperator}
-use Rattle.td_grammar.specs.declared.tree.BinaryOperator.{BinaryOperator}
-use Rattle.td_grammar.specs.declared.tree.Nesting.{Nesting}
-use Rattle.td_grammar.specs.declared.tree.Extension.{Extension}
-use Rattle.td_grammar.specs.declared.tree.Extension.TheVariants as extension
-use Rattle.td_grammar.specs.declared.tree.Aggregate.{Aggregate}
-use Rattle.td_grammar.specs.declared.tree.Attributes.{Attributes}
-use Rattle.td_grammar.specs.declared.tree.Renaming.{Renaming}
-use Rattle.td_grammar.specs.declared.tree.Named.{Named}
-use Rattle.td_grammar.specs.declared.tree.Summary.{Summary}
-use Rattle.td_grammar.specs.declared.tree.Summary.TheVariants as summary
-use Rattle.td_grammar.specs.declared.tree.Groups.{Groups}
-use Rattle.td_grammar.specs.declared.tree.Groups.TheVariants as groups
-use Rattle.td_grammar.specs.declared.tree.TypeExpr.{TypeExpr}
-use Rattle.td_grammar.specs.declared.tree.Expr.{Expr}
-use Rattle.td_grammar.specs.declared.tree.Expr.TheVariants as e
+use Rattle.td_syntax.specs.declared.tree.UnaryOperator.{UnaryOperator}
+use Rattle.td_syntax.specs.declared.tree.BinaryOperator.{BinaryOperator}
+use Rattle.td_syntax.specs.declared.tree.Nesting.{Nesting}
+use Rattle.td_syntax.specs.declared.tree.Extension.{Extension}
+use Rattle.td_syntax.specs.declared.tree.Extension.TheVariants as extension
+use Rattle.td_syntax.specs.declared.tree.Aggregate.{Aggregate}
+use Rattle.td_syntax.specs.declared.tree.Attributes.{Attributes}
+use Rattle.td_syntax.specs.declared.tree.Renaming.{Renaming}
+use Rattle.td_syntax.specs.declared.tree.Named.{Named}
+use Rattle.td_syntax.specs.declared.tree.Summary.{Summary}
+use Rattle.td_syntax.specs.declared.tree.Summary.TheVariants as summary
+use Rattle.td_syntax.specs.declared.tree.Groups.{Groups}
+use Rattle.td_syntax.specs.declared.tree.Groups.TheVariants as groups
+use Rattle.td_syntax.specs.declared.tree.TypeExpr.{TypeExpr}
+use Rattle.td_syntax.specs.declared.tree.Expr.{Expr}
+use Rattle.td_syntax.specs.declared.tree.Expr.TheVariants as e
 use Rattle.td_kinds.specs.declared.schema.Representation.{Representation}
 use Rattle.td_kinds.specs.Kinds.{Text, kind_of, is_part}
 use Rattle.td_kinds.specs.Schemas.{SchemaData, begins_with_the, possrep_named, type_named, component_named}

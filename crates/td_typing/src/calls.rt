@@ -1,7 +1,7 @@
 //! Selectors and components of user types.
 
 ghost use Rattle.std.specs.Prelude.{◌≡◌, drop, MatchOption, None, Some};
-ghost use Rattle.td_grammar.specs.declared.tree.Named as tree;
+ghost use Rattle.td_syntax.specs.declared.tree.Named as tree;
 ghost use Rattle.td_kinds.specs.Results.{Gives};
 ghost use Rattle.td_kinds.specs.Schemas.{component_named};
 ghost use Rattle.td_typing.specs.ForProofs.Infer as spec;
@@ -11,9 +11,9 @@ use crate::forms::typed;
 use crate::parts::Operands;
 use sqlite_items::Boxed;
 use std::alloc::Global;
-use td_grammar::tree::Named;
 use td_kinds::kinds::{same_kind, user_name};
 use td_kinds::{Schema, TypeError};
+use td_syntax::tree::Named;
 use td_trees::tree::{Typed, Typing};
 use td_values::{Name, TypeKind};
 

@@ -9,7 +9,6 @@ ghost use Rattle.td_typing.specs.Trees as trees;
 
 use sqlite_items::{Boxed, Items};
 use std::alloc::{AllocError, Global};
-use td_grammar::tree::{Aggregate, Attributes, BinaryOperator, Nesting, Renaming, UnaryOperator};
 use td_kinds::forms::{
     from_kind, heading_of, nested_heading, part_at, renamed_kind, unnested_heading,
 };
@@ -17,6 +16,7 @@ use td_kinds::kinds::{is_boolean, relation_heading, same_kind};
 use td_kinds::lists::{attributes_of, pairs_of};
 use td_kinds::operators::{binary_kind, suits, unary_kind};
 use td_kinds::{Meant, Scope, TypeError};
+use td_syntax::tree::{Aggregate, Attributes, BinaryOperator, Nesting, Renaming, UnaryOperator};
 use td_trees::tree::{Typed, Typing};
 use td_tuples::Summary;
 use td_values::{Heading, Name, TypeKind};

@@ -6,8 +6,6 @@ pub mod forms;
 pub mod laws;
 pub mod lists;
 pub mod parts;
-#[cfg(test)]
-mod tests;
 pub mod typing;
 
 pub use typing::type_in;

@@ -1,7 +1,7 @@
 //! What the forms with lists hand on.
 
 use sqlite_items::{Boxed, Items};
-use td_grammar::tree::Named;
+use td_syntax::tree::Named;
 use td_trees::tree::{Typed, TypedGroups};
 use td_values::{Heading, TypeKind};
 

@@ -21,14 +21,14 @@ use crate::lists::{
 use crate::parts::{Grouping, Introduced, Operands};
 use sqlite_items::{Boxed, Items};
 use std::alloc::Global;
-use td_grammar::tree::{
-    Aggregate, Attributes, BinaryOperator, Expr, Extension, Groups, Named, Nesting, Renaming,
-    Summary, TypeExpr, UnaryOperator,
-};
 use td_kinds::kinds::relation_heading;
 use td_kinds::lists::names;
 use td_kinds::schema::begins_with_the;
 use td_kinds::{Schema, Scope, TypeError};
+use td_syntax::tree::{
+    Aggregate, Attributes, BinaryOperator, Expr, Extension, Groups, Named, Nesting, Renaming,
+    Summary, TypeExpr, UnaryOperator,
+};
 use td_trees::tree::{Typed, Typing};
 use td_tuples::Item;
 use td_values::{Heading, Name, TypeKind};

@@ -10,8 +10,8 @@ use Rattle.td_tokens.specs.View.{lexeme_of}
 use Rattle.td_grammar.specs.declared.error.ReadError.{ReadError}
 use Rattle.td_grammar.specs.declared.error.ReadError.TheVariants.{Syntax, OutOfMemory}
 use Rattle.td_grammar.specs.declared.forms.Form.{Form}
-use Rattle.td_grammar.specs.declared.tree.Expr.{Expr}
-use Rattle.td_grammar.specs.declared.tree.TypeExpr.{TypeExpr}
+use Rattle.td_syntax.specs.declared.tree.Expr.{Expr}
+use Rattle.td_syntax.specs.declared.tree.TypeExpr.{TypeExpr}
 use Rattle.td_grammar.specs.Grammar.{Tokens}
 use Rattle.td_grammar.specs.ForProofs.Reader.{Outcome, Reader, reads, type_at}
 

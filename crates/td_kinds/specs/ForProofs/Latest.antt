@@ -1,7 +1,7 @@
 -- The last of some names that is a given one.
 use Rattle.std.specs.Prelude.{List, [], ◌∷◌, Option, Some, if◌then◌else◌}
 use Rattle.td_values.specs.declared.TypeKind.{TypeKind}
-use Rattle.td_grammar.specs.declared.tree.Named.{Named}
+use Rattle.td_syntax.specs.declared.tree.Named.{Named}
 use Rattle.td_kinds.specs.Kinds.{Text}
 use Rattle.td_kinds.specs.Schemas.{same_text}
 

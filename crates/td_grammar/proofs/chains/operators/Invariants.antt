@@ -1,5 +1,5 @@
 use Rattle.std.proofs.Common.{◌≡◌, ◌-◌}
-use Rattle.td_grammar.specs.declared.tree.Expr.{Expr}
+use Rattle.td_syntax.specs.declared.tree.Expr.{Expr}
 use Rattle.td_grammar.specs.ForProofs.Reader.{Reader, operators, climb, binary_turn}
 use Rattle.td_grammar.specs.ForProofs.Readings.{Follows}
 use Rattle.td_grammar.proofs.chains.operators.Given as goal

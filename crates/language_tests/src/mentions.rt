@@ -1,9 +1,9 @@
 //! What no contract says: that there are answers.
-use crate::{Mention, Typed, add_mentions, possreps_in, relvars_in};
 use sqlite_items::{Boxed, Items};
 use std::alloc::Global;
 use std::test::Fail;
-use td_grammar::tree::BinaryOperator;
+use td_syntax::tree::BinaryOperator;
+use td_trees::{Mention, Typed, add_mentions, possreps_in, relvars_in};
 
 type Result<T> = std::result::Result<T, Fail>;
 

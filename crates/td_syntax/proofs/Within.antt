@@ -2,17 +2,16 @@
 use Rattle.std.proofs.Common.{◌≡◌, ◌<◌, ◌+◌, ◌-◌, ℕ, suc, max, true, false, List, Option, length, get_or, drop, refl, ap, ◌∙◌, arith, nat_le, ◌&&◌, add-one}
 use Rattle.std.proofs.lemmas.Bool.Decides.{nat_tests}
 use Rattle.std.proofs.Math.Seq.{drop-cons}
-use Rattle.td_tokens.specs.Lex.{Text}
-use Rattle.td_grammar.specs.declared.tree.Named.{Named}
-use Rattle.td_grammar.specs.declared.tree.Groups.{Groups}
-use Rattle.td_grammar.specs.declared.tree.Summary.{Summary}
-use Rattle.td_grammar.specs.declared.tree.Expr.{Expr}
-use Rattle.td_grammar.specs.declared.tree.Expr.TheVariants as e
-use Rattle.td_grammar.specs.Levels.{levels, named_levels}
-use Rattle.td_grammar.specs.ForProofs.Parts.{list_levels, summary_levels, summaries_levels, groups_levels}
-use Rattle.td_grammar.specs.declared.tree.TypeExpr.{TypeExpr}
-use Rattle.td_grammar.specs.declared.tree.Extension.{Extension}
-use Rattle.td_grammar.proofs.Depths.{some_level, of_call, of_relation, of_tuple, of_extend, of_with, of_summarize}
+use Rattle.td_syntax.specs.declared.tree.Named.{Named}
+use Rattle.td_syntax.specs.declared.tree.Groups.{Groups}
+use Rattle.td_syntax.specs.declared.tree.Summary.{Summary}
+use Rattle.td_syntax.specs.declared.tree.Expr.{Expr}
+use Rattle.td_syntax.specs.declared.tree.Expr.TheVariants as e
+use Rattle.td_syntax.specs.Levels.{levels, named_levels}
+use Rattle.td_syntax.specs.ForProofs.Parts.{list_levels, summary_levels, summaries_levels, groups_levels}
+use Rattle.td_syntax.specs.declared.tree.TypeExpr.{TypeExpr}
+use Rattle.td_syntax.specs.declared.tree.Extension.{Extension}
+use Rattle.td_syntax.proofs.Depths.{some_level, of_call, of_relation, of_tuple, of_extend, of_with, of_summarize}
 
 -- two parts are within a number where each is
 pub within_both : (a b m : ℕ) → nat_le (max a b) m ≡ (nat_le a m && nat_le b m)
@@ -56,7 +55,7 @@ summaries_stop all i d m h t = rw (summaries_next all i d h, within_both, t) ref
 
 -- ---- forms
 
-pub call_within : (a : Expr) (x : Text) (all : List Expr) (m : ℕ) → a ≡ e.Call x all → (m ≡ 0 → ⊥) → nat_le (levels a) m ≡ nat_le (list_levels all) (m - 1)
+pub call_within : (a : Expr) (x : List ℕ) (all : List Expr) (m : ℕ) → a ≡ e.Call x all → (m ≡ 0 → ⊥) → nat_le (levels a) m ≡ nat_le (list_levels all) (m - 1)
 call_within a x all m h some = within_more (list_levels all) (levels a) m (ap levels h ∙ of_call x all) some
 
 pub relation_within : (a : Expr) (k : Option (List (Named TypeExpr))) (all : List Expr) (m : ℕ) → a ≡ e.Relation k all → (m ≡ 0 → ⊥) → nat_le (levels a) m ≡ nat_le (list_levels all) (m - 1)

@@ -1,12 +1,11 @@
 //! Texts of statements and scripts of which the trees are known.
 
-use crate::error::ReadError;
-use crate::reader::{read_script, read_statement};
-use crate::script::{Action, Definition, Opening, Statement};
-use crate::tree::{BinaryOperator, Expr, Named};
 use sqlite_items::{Boxed, Items};
 use std::alloc::AllocError;
 use std::test::Fail;
+use td_grammar::{ReadError, read_script, read_statement};
+use td_syntax::script::{Action, Definition, Opening, Statement};
+use td_syntax::tree::{BinaryOperator, Expr, Named};
 
 fn is_statement(rt: &HostRuntime, text: &str) -> bool {
     matches!(&read_statement(rt.alloc(), text), Ok(_))

@@ -1,7 +1,7 @@
 use Rattle.std.proofs.Common.{◌≡◌, ◌+◌, ◌*◌, nat_le, drop}
-use Rattle.td_grammar.specs.Levels.{named_levels}
-use Rattle.td_grammar.specs.ForProofs.Parts.{list_levels, summaries_levels}
-use Rattle.td_grammar.proofs.levels.+within.Given as goal
+use Rattle.td_syntax.specs.Levels.{named_levels}
+use Rattle.td_syntax.specs.ForProofs.Parts.{list_levels, summaries_levels}
+use Rattle.td_syntax.proofs.levels.+within.Given as goal
 
 abbrev pub decreases-within : goal.decreases-within
 decreases-within l = 3 * l.most

@@ -1,18 +1,18 @@
 //! Worked examples, whose answers come from the rules of types.
-use crate::error::TypeError;
-use crate::forms::{
-    from_kind, may_extend, nested_heading, part_at, renamed_kind, unnested_heading,
-};
-use crate::kinds::same_kind;
-use crate::lists::{attributes_of, pairs_of};
-use crate::operators::{binary_kind, suits, unary_kind};
-use crate::schema::{Representation, Schema};
-use crate::scope::{Meant, Scope};
-use crate::written::{components_written, written};
 use sqlite_items::Items;
 use std::alloc::Global;
 use std::test::Fail;
-use td_grammar::tree::{
+use td_kinds::error::TypeError;
+use td_kinds::forms::{
+    from_kind, may_extend, nested_heading, part_at, renamed_kind, unnested_heading,
+};
+use td_kinds::kinds::same_kind;
+use td_kinds::lists::{attributes_of, pairs_of};
+use td_kinds::operators::{binary_kind, suits, unary_kind};
+use td_kinds::schema::{Representation, Schema};
+use td_kinds::scope::{Meant, Scope};
+use td_kinds::written::{components_written, written};
+use td_syntax::tree::{
     Aggregate, Attributes, BinaryOperator, Extension, Named, Nesting, Renaming, TypeExpr,
     UnaryOperator,
 };

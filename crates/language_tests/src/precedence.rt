@@ -1,9 +1,9 @@
 //! Which operators bind tighter: texts, and their trees in full brackets.
 
-use crate::reader::read_expr;
-use crate::tree::Expr;
 use std::alloc::{AllocError, Global};
 use std::test::Fail;
+use td_grammar::read_expr;
+use td_syntax::tree::Expr;
 
 // The tree in full brackets, with its operators by the names of their variants.
 fn shown(alloc: Global, tree: &Expr) -> Result<String, AllocError> {

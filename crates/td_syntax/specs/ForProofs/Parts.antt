@@ -1,12 +1,12 @@
 -- How deep the deepest expression of a list is, of a summary and of groups.
 use Rattle.std.specs.Prelude.{ℕ, max, List, [], ◌∷◌}
-use Rattle.td_grammar.specs.declared.tree.Named.{Named}
-use Rattle.td_grammar.specs.declared.tree.Summary.{Summary}
-use Rattle.td_grammar.specs.declared.tree.Summary.TheVariants as summary
-use Rattle.td_grammar.specs.declared.tree.Groups.{Groups}
-use Rattle.td_grammar.specs.declared.tree.Groups.TheVariants as groups
-use Rattle.td_grammar.specs.declared.tree.Expr.{Expr}
-use Rattle.td_grammar.specs.Levels.{levels}
+use Rattle.td_syntax.specs.declared.tree.Named.{Named}
+use Rattle.td_syntax.specs.declared.tree.Summary.{Summary}
+use Rattle.td_syntax.specs.declared.tree.Summary.TheVariants as summary
+use Rattle.td_syntax.specs.declared.tree.Groups.{Groups}
+use Rattle.td_syntax.specs.declared.tree.Groups.TheVariants as groups
+use Rattle.td_syntax.specs.declared.tree.Expr.{Expr}
+use Rattle.td_syntax.specs.Levels.{levels}
 
 abbrev pub list_levels : List Expr → ℕ
 list_levels [] = 0

@@ -1,10 +1,11 @@
 //! Texts of which the trees are known.
 
-use crate::error::ReadError;
-use crate::reader::read_expr;
-use crate::tree::{Attributes, BinaryOperator, Expr, Extension, Groups, Nesting, UnaryOperator};
 use std::alloc::AllocError;
 use std::test::Fail;
+use td_grammar::{ReadError, read_expr};
+use td_syntax::tree::{
+    Attributes, BinaryOperator, Expr, Extension, Groups, Nesting, UnaryOperator,
+};
 
 fn is_query(rt: &HostRuntime, text: &str) -> bool {
     matches!(&read_expr(rt.alloc(), text), Ok(_))

@@ -1,13 +1,13 @@
 //! The rules of typing, each by texts that keep it and by near misses that break it alone.
 
-use crate::type_in;
 use sqlite_items::Items;
 use std::alloc::{AllocError, Global};
 use std::test::Fail;
 use td_grammar::read_expr;
-use td_grammar::tree::Named;
 use td_kinds::kinds::relation_heading;
 use td_kinds::{Representation, Schema, Scope, TypeError};
+use td_syntax::tree::Named;
+use td_typing::type_in;
 use td_values::{Heading, Name, Possrep, TdType, TypeKind, show_type};
 
 type Result<T> = std::result::Result<T, Fail>;

@@ -1,8 +1,8 @@
 //! How deep an expression is.
 
 ghost use Rattle.std.specs.Prelude.{◌≡◌, nat_le};
-ghost use Rattle.td_grammar.specs.Levels.{levels, named_levels};
-ghost use Rattle.td_grammar.specs.ForProofs.Parts.{list_levels, summaries_levels, summary_levels, groups_levels};
+ghost use Rattle.td_syntax.specs.Levels.{levels, named_levels};
+ghost use Rattle.td_syntax.specs.ForProofs.Parts.{list_levels, summaries_levels, summary_levels, groups_levels};
 
 use crate::tree::{Expr, Groups, Named, Summary};
 use sqlite_items::Boxed;

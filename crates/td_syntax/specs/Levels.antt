@@ -1,13 +1,13 @@
 -- How deep an expression is.
 use Rattle.std.specs.Prelude.{ℕ, suc, max, List, [], ◌∷◌, Option, Some, None}
-use Rattle.td_grammar.specs.declared.tree.Named.{Named}
-use Rattle.td_grammar.specs.declared.tree.Summary.{Summary}
-use Rattle.td_grammar.specs.declared.tree.Summary.TheVariants as summary
-use Rattle.td_grammar.specs.declared.tree.Groups.{Groups}
-use Rattle.td_grammar.specs.declared.tree.Groups.TheVariants as groups
-use Rattle.td_grammar.specs.declared.tree.Expr.{Expr}
-use Rattle.td_grammar.specs.declared.tree.Expr.TheOpen.{Expr-F}
-use Rattle.td_grammar.specs.declared.tree.Expr.TheFolds.{fold-Expr}
+use Rattle.td_syntax.specs.declared.tree.Named.{Named}
+use Rattle.td_syntax.specs.declared.tree.Summary.{Summary}
+use Rattle.td_syntax.specs.declared.tree.Summary.TheVariants as summary
+use Rattle.td_syntax.specs.declared.tree.Groups.{Groups}
+use Rattle.td_syntax.specs.declared.tree.Groups.TheVariants as groups
+use Rattle.td_syntax.specs.declared.tree.Expr.{Expr}
+use Rattle.td_syntax.specs.declared.tree.Expr.TheOpen.{Expr-F}
+use Rattle.td_syntax.specs.declared.tree.Expr.TheFolds.{fold-Expr}
 
 -- the levels of the deepest
 abbrev pub deepest : List ℕ → ℕ

@@ -1,26 +1,25 @@
 -- The levels of each form.
 use Rattle.std.proofs.Common.{◌≡◌, ◌≤◌, ℕ, suc, max, List, [], ◌∷◌, map, Option, Some, None, refl, ap, sym, ◌∙◌, rules, arith}
-use Rattle.td_tokens.specs.Lex.{Text}
-use Rattle.td_grammar.specs.declared.tree.Named.{Named}
-use Rattle.td_grammar.specs.declared.tree.Attributes.{Attributes}
-use Rattle.td_grammar.specs.declared.tree.Renaming.{Renaming}
-use Rattle.td_grammar.specs.declared.tree.TypeExpr.{TypeExpr}
-use Rattle.td_grammar.specs.declared.tree.UnaryOperator.{UnaryOperator}
-use Rattle.td_grammar.specs.declared.tree.BinaryOperator.{BinaryOperator}
-use Rattle.td_grammar.specs.declared.tree.Aggregate.{Aggregate}
-use Rattle.td_grammar.specs.declared.tree.Nesting.{Nesting}
-use Rattle.td_grammar.specs.declared.tree.Extension.{Extension}
-use Rattle.td_grammar.specs.declared.tree.Summary.{Summary}
-use Rattle.td_grammar.specs.declared.tree.Summary.TheVariants as summary
-use Rattle.td_grammar.specs.declared.tree.Groups.{Groups}
-use Rattle.td_grammar.specs.declared.tree.Groups.TheVariants as groups
-use Rattle.td_grammar.specs.declared.tree.Expr.{Expr, the_lemmas}
-use Rattle.td_grammar.specs.declared.tree.Expr.TheVariants as e
-use Rattle.td_grammar.specs.declared.tree.Expr.TheOpen.{Expr-F}
-use Rattle.td_grammar.specs.declared.tree.Expr.TheFolds.{fold-roll-Expr}
-use Rattle.td_grammar.specs.declared.tree.Expr.TheShapes.{former-Expr-Summarize-2-at-5}
-use Rattle.td_grammar.specs.Levels.{named_levels, levels, levels_step, deepest, deepest_named, deepest_summary, of_summary}
-use Rattle.td_grammar.specs.ForProofs.Parts.{list_levels, summary_levels, summaries_levels, groups_levels}
+use Rattle.td_syntax.specs.declared.tree.Named.{Named}
+use Rattle.td_syntax.specs.declared.tree.Attributes.{Attributes}
+use Rattle.td_syntax.specs.declared.tree.Renaming.{Renaming}
+use Rattle.td_syntax.specs.declared.tree.TypeExpr.{TypeExpr}
+use Rattle.td_syntax.specs.declared.tree.UnaryOperator.{UnaryOperator}
+use Rattle.td_syntax.specs.declared.tree.BinaryOperator.{BinaryOperator}
+use Rattle.td_syntax.specs.declared.tree.Aggregate.{Aggregate}
+use Rattle.td_syntax.specs.declared.tree.Nesting.{Nesting}
+use Rattle.td_syntax.specs.declared.tree.Extension.{Extension}
+use Rattle.td_syntax.specs.declared.tree.Summary.{Summary}
+use Rattle.td_syntax.specs.declared.tree.Summary.TheVariants as summary
+use Rattle.td_syntax.specs.declared.tree.Groups.{Groups}
+use Rattle.td_syntax.specs.declared.tree.Groups.TheVariants as groups
+use Rattle.td_syntax.specs.declared.tree.Expr.{Expr, the_lemmas}
+use Rattle.td_syntax.specs.declared.tree.Expr.TheVariants as e
+use Rattle.td_syntax.specs.declared.tree.Expr.TheOpen.{Expr-F}
+use Rattle.td_syntax.specs.declared.tree.Expr.TheFolds.{fold-roll-Expr}
+use Rattle.td_syntax.specs.declared.tree.Expr.TheShapes.{former-Expr-Summarize-2-at-5}
+use Rattle.td_syntax.specs.Levels.{named_levels, levels, levels_step, deepest, deepest_named, deepest_summary, of_summary}
+use Rattle.td_syntax.specs.ForProofs.Parts.{list_levels, summary_levels, summaries_levels, groups_levels}
 
 some_step : (x : Expr-F ℕ) → 1 ≤ levels_step x
 some_step _ = grind arith
@@ -44,7 +43,7 @@ named_list_of (x ∷ xs) = ap (max (levels x.value)) (named_list_of xs)
 
 -- ---- forms
 
-pub of_call : (x : Text) (all : List Expr) → levels (e.Call x all) ≡ suc (list_levels all)
+pub of_call : (x : List ℕ) (all : List Expr) → levels (e.Call x all) ≡ suc (list_levels all)
 of_call x all = search (rules, the_lemmas, list_of)
 
 pub of_tuple : (xs : List (Named Expr)) → levels (e.Tuple xs) ≡ suc (named_levels xs)
@@ -59,7 +58,7 @@ of_unary o a = search (rules, the_lemmas)
 pub of_binary : (o : BinaryOperator) (a b : Expr) → levels (e.Binary o a b) ≡ suc (max (levels a) (levels b))
 of_binary o a b = search (rules, the_lemmas)
 
-pub of_from : (x : Text) (a : Expr) → levels (e.From x a) ≡ suc (levels a)
+pub of_from : (x : List ℕ) (a : Expr) → levels (e.From x a) ≡ suc (levels a)
 of_from x a = search (rules, the_lemmas)
 
 pub of_project : (a : Expr) (xs : Attributes) → levels (e.Project a xs) ≡ suc (levels a)
@@ -71,10 +70,10 @@ of_where a b = search (rules, the_lemmas)
 pub of_rename : (a : Expr) (xs : List Renaming) → levels (e.Rename a xs) ≡ suc (levels a)
 of_rename a xs = search (rules, the_lemmas)
 
-pub of_nest : (g : Nesting) (a : Expr) (xs : Attributes) (x : Text) → levels (e.Nest g a xs x) ≡ suc (levels a)
+pub of_nest : (g : Nesting) (a : Expr) (xs : Attributes) (x : List ℕ) → levels (e.Nest g a xs x) ≡ suc (levels a)
 of_nest g a xs x = search (rules, the_lemmas)
 
-pub of_unnest : (g : Nesting) (a : Expr) (x : Text) → levels (e.Unnest g a x) ≡ suc (levels a)
+pub of_unnest : (g : Nesting) (a : Expr) (x : List ℕ) → levels (e.Unnest g a x) ≡ suc (levels a)
 of_unnest g a x = search (rules, the_lemmas)
 
 pub of_aggregate_all : (g : Aggregate) (a : Expr) → levels (e.Aggregate g a None) ≡ suc (max (levels a) 0)
@@ -95,7 +94,7 @@ of_with xs a = search (rules, the_lemmas, named_list_of)
 abbrev summary_of : Named (Summary Expr) → Named (Summary ℕ)
 summary_of = former-Expr-Summarize-2-at-5.map Expr ℕ levels
 
-of_one : (n : Text) (s : Summary Expr) → of_summary (summary_of (record { name = n; value = s })).value ≡ summary_levels s
+of_one : (n : List ℕ) (s : Summary Expr) → of_summary (summary_of (record { name = n; value = s })).value ≡ summary_levels s
 of_one n summary.Count = refl
 of_one n (summary.Of g a) = refl
 

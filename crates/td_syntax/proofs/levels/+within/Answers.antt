@@ -1,8 +1,8 @@
 use Rattle.std.proofs.Common.{◌-◌, nat_le, ap, sym, ◌∙◌}
-use Rattle.td_grammar.specs.Levels.{levels, named_levels}
-use Rattle.td_grammar.specs.ForProofs.Parts.{list_levels, summaries_levels}
-use Rattle.td_grammar.proofs.Within.{call_within, relation_within, tuple_within, extend_within, with_within, summarize_within}
-use Rattle.td_grammar.proofs.levels.+within.Goals as goal
+use Rattle.td_syntax.specs.Levels.{levels, named_levels}
+use Rattle.td_syntax.specs.ForProofs.Parts.{list_levels, summaries_levels}
+use Rattle.td_syntax.proofs.Within.{call_within, relation_within, tuple_within, extend_within, with_within, summarize_within}
+use Rattle.td_syntax.proofs.levels.+within.Goals as goal
 
 pub within-returns-in-Call : goal.within-returns-in-Call
 within-returns-in-Call t c = c.list_within.ensures ∙ ap (λ xs. nat_le (list_levels xs) (c.args.most - 1)) c.as_slice.ensures ∙ sym (call_within _ _ _ c.args.most c.in-Call.is c.if-most-eq0.false)
