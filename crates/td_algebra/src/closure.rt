@@ -1,19 +1,19 @@
 //! The transitive closure: a walk from each value along the pairs.
 ghost use Rattle.std.specs.Prelude.{◌≡◌, ◌↔◌, ◌++◌, ◌<◌, ℕ, Some, true, length, slice_get, IsTrue, IfOk, IfSome, OnOk};
 ghost use Rattle.std.specs.FinSet as set;
-ghost use Rattle.std.specs.List.{All, flat_map};
+ghost use Rattle.std.specs.List.{All, Contains, flat_map};
 ghost use Rattle.std.specs.List.Sorted.{IsStrictlySortedBy};
 ghost use Rattle.std.specs.declared.cmp.Ordering.TheVariants.{Less};
 ghost use Rattle.td_algebra.specs.Closures.{Closed, HasColumns, IsBinary};
 ghost use Rattle.td_algebra.specs.ForProofs.Ends.{AreLinks, ArePairs, HasEnd, IsEnd, Joins, ends_in, pair_at, paired, single, singles};
-ghost use Rattle.td_algebra.specs.ForProofs.Links.{StayWithin};
+ghost use Rattle.td_algebra.specs.ForProofs.Links.{Reaches, StayWithin};
 ghost use Rattle.td_relations.specs.Sets.{IsRelationOf, tuple_set};
 ghost use Rattle.td_values.specs.Attributes.{attribute_of};
 ghost use Rattle.td_values.specs.Data.{Datum, attr, no_attrs};
 ghost use Rattle.td_values.specs.Order.{attrs_order, text_cmp};
 
-use crate::links::{Links, reached};
 use std::alloc::{AllocError, Global};
+use td_links::{Leads, Links, reached};
 use td_relations::Relation;
 use td_values::{Heading, Name, Tuple, Value, compare_types, copy};
 
@@ -198,6 +198,16 @@ fn add_pairs(
     Ok(())
 }
 
+// The places that are reached from this one, by a step or more.
+fn beyond(alloc: Global, links: &Links, place: usize) -> Result<Vec<usize>, AllocError>
+    requires { StayWithin (length links.now) links.now }
+    ensures { IfOk result (λ v. (w : ℕ) → Contains v.items w ↔ Reaches links.now place w) }
+{
+    let mut next = Vec::new(alloc);
+    links.add_next(place, &mut next)?;
+    reached(alloc, links, &next)
+}
+
 // The pairs of each end with those that it reaches.
 fn pairs_of(
     alloc: Global,
@@ -213,7 +223,7 @@ fn pairs_of(
 {
     let mut pairs = Vec::new(alloc);
     for from in 0..ends.len() {
-        let places = reached(alloc, links, from)?;
+        let places = beyond(alloc, links, from)?;
         add_pairs(alloc, &mut pairs, first, second, ends, from, &places)?;
     }
     Ok(pairs)

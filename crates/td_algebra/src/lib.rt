@@ -4,8 +4,6 @@
 //! refusal; those that ask a function of tuples also answer the least error that it raises.
 #![tactic(auto)]
 
-#[cfg(test)]
-mod chain_tests;
 mod closure;
 mod errors;
 mod extension;
@@ -15,22 +13,13 @@ mod index;
 mod joins;
 mod keys;
 pub mod laws;
-mod links;
 mod opening;
 mod parts;
 mod restriction;
-#[cfg(test)]
-mod samples;
 mod searches;
 mod sets;
-#[cfg(test)]
-mod stop_tests;
 mod summaries;
 mod summarization;
-#[cfg(test)]
-mod term_tests;
-#[cfg(test)]
-mod tests;
 mod wraps;
 
 pub use closure::{is_binary, tclose};

@@ -14,7 +14,7 @@ use Rattle.td_links.specs.Links as walked
 use Rattle.td_links.specs.ForProofs.{one_if_not, IsMarked, Visits}
 
 -- ---- lists of one
-the_one : (w v : ℕ) → Contains (w ∷ []) v → v ≡ w
+pub the_one : (w v : ℕ) → Contains (w ∷ []) v → v ≡ w
 the_one w v (zero, lt, is) = sym is
 the_one w v (suc n, lt, is) = absurd (omega (arith, lt))
 

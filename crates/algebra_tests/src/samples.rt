@@ -1,7 +1,7 @@
 //! What the tests make: relations of integers, terms on their tuples, and answers as texts.
-use crate::{Fault, Item, Stop, Summary, aggregate, extend, restrict, summarize};
 use std::alloc::Global;
 use std::test::Fail;
+use td_algebra::{Fault, Item, Stop, Summary, aggregate, extend, restrict, summarize};
 use td_relations::Relation;
 use td_values::{Heading, Kind, Name, TdType, Tuple, TupleBuilder, TypeKind, Value, fits, show};
 

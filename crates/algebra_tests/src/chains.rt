@@ -1,7 +1,7 @@
 //! Closures of long chains, whose sizes come from the definition: a chain of n pairs has n (n + 1) / 2 pairs of ends.
 use crate::samples::{Result, add, empty, names, tuple};
-use crate::{is_binary, tclose};
 use std::alloc::Global;
+use td_algebra::{is_binary, tclose};
 use td_relations::Relation;
 use td_values::Name;
 

@@ -1,10 +1,10 @@
 //! Worked examples, whose answers come from the definitions of the operators.
 use crate::samples::{Result, add, names, shown};
-use crate::{
+use std::alloc::Global;
+use td_algebra::{
     compose, group, intersect, is_binary, is_relation_valued, is_tuple_valued, join, matching,
     minus, not_matching, project, rename, tclose, ungroup, union, unwrap, wrap,
 };
-use std::alloc::Global;
 use td_relations::Relation;
 use td_values::{
     Heading, Items, Kind, Name, Possrep, TdType, Text, Tuple, TupleBuilder, TypeKind, Value,

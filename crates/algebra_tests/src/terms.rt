@@ -1,7 +1,7 @@
 //! Worked examples of the operators that ask a function of tuples; answers and errors come from their definitions.
 use crate::samples::{Result, Term, extended, item, relation, restricted, summarized};
-use crate::{Item, Summary};
 use std::alloc::Global;
+use td_algebra::{Item, Summary};
 use td_relations::Relation;
 use td_values::TypeKind;
 

@@ -1,8 +1,8 @@
 //! Each stop through each operator that asks a function of tuples, by the rule that the least number stands and that only
 //! tuples that are asked count.
 use crate::samples::{Result, Term, aggregated, extended, item, relation, restricted, summarized};
-use crate::{Item, Summary};
 use std::alloc::Global;
+use td_algebra::{Item, Summary};
 use td_relations::Relation;
 use td_values::TypeKind;
 
