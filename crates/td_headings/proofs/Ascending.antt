@@ -16,3 +16,10 @@ those P xs ys zs has moved sorted is = record {
   );
   ascending = subst (IsStrictlySortedBy nat_cmp) (sym is) (sorted_from_strictly_increasing (dedup nat_eq ys) (IsStrictlyIncreasing-dedup ys sorted));
 }
+
+-- those that stand in a list are those with the property that its members have
+pub those_with : (P : ℕ → Type 0) (xs zs : List ℕ) → ((w : ℕ) → Contains xs w ↔ P w) → AreThose (Contains xs) zs → AreThose P zs
+those_with P xs zs has a = record {
+  members = λ w. ((λ h. (has w).0 ((a.members w).0 h)), (λ p. (a.members w).1 ((has w).1 p)));
+  ascending = a.ascending;
+}

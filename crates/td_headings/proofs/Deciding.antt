@@ -5,14 +5,14 @@ use Rattle.std.proofs.lemmas.List.{append-nil}
 use Rattle.td_values.specs.Headings.{Header}
 use Rattle.td_values.specs.declared.TypeKind.{TypeKind}
 use Rattle.td_values.specs.declared.TypeKind.TheVariants as kind
-use Rattle.td_grammar.specs.declared.tree.Attributes.{Attributes}
-use Rattle.td_grammar.specs.declared.tree.Expr.{Expr}
-use Rattle.td_grammar.specs.declared.tree.Named.{Named}
-use Rattle.td_grammar.specs.declared.tree.TypeExpr.{TypeExpr}
-use Rattle.td_grammar.specs.declared.script.Opening.{Opening}
-use Rattle.td_grammar.specs.declared.script.Opening.TheVariants as opening
-use Rattle.td_grammar.specs.declared.script.Definition.{Definition}
-use Rattle.td_grammar.specs.declared.script.Definition.TheVariants as definition
+use Rattle.td_syntax.specs.declared.tree.Attributes.{Attributes}
+use Rattle.td_syntax.specs.declared.tree.Expr.{Expr}
+use Rattle.td_syntax.specs.declared.tree.Named.{Named}
+use Rattle.td_syntax.specs.declared.tree.TypeExpr.{TypeExpr}
+use Rattle.td_syntax.specs.declared.script.Opening.{Opening}
+use Rattle.td_syntax.specs.declared.script.Opening.TheVariants as opening
+use Rattle.td_syntax.specs.declared.script.Definition.{Definition}
+use Rattle.td_syntax.specs.declared.script.Definition.TheVariants as definition
 use Rattle.td_kinds.specs.Kinds.{Text, is_boolean, relation_heading, same_heading}
 use Rattle.td_kinds.specs.Lists.{attributes_of}
 use Rattle.td_kinds.specs.Results.{and_then, where_true}
@@ -30,7 +30,7 @@ use Rattle.td_typing.proofs.Complete.{complete}
 use Rattle.td_headings.specs.Catalogues.{CatalogueData}
 use Rattle.td_headings.specs.Definitions.{names_of_relvars, represented, with_type, with_relvar, key_tests, is_constraint, with_constraint, TypesLimit, no_limit, limit, TypesOpening, empty, init, headed_init, AreKeys, no_keys, next_key, Defines, type_, base, virtual, constraint}
 use Rattle.td_headings.specs.ForProofs.After.{Value, truth_of, value_of, limit_after, limits_after, value_after, condition_after, beside, opening_after, keys_after, relvar_after, possrep_after, type_after, base_after, virtual_after, constraint_after, after}
-use Rattle.td_headings.specs.declared.catalogue.Origin.TheVariants as origin
+use Rattle.td_headings.specs.declared.defined.Origin.TheVariants as origin
 
 -- ---- steps
 some_same : {A : Type 0} (a b : A) → Some a ≡ Some b → a ≡ b

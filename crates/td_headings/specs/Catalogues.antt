@@ -4,10 +4,10 @@ use Rattle.std.specs.Coded.{Coded, code_by, coded×, coded_list, coded_option}
 use Rattle.td_kinds.specs.Schemas.{SchemaData, schema_code}
 use Rattle.td_trees.specs.contracts.tree.Typed as typed
 use Rattle.td_trees.specs.declared.tree.Typed.{Typed}
-use Rattle.td_headings.specs.contracts.catalogue.Origin as origin
-use Rattle.td_headings.specs.contracts.catalogue.Test as test
-use Rattle.td_headings.specs.declared.catalogue.Origin.{Origin}
-use Rattle.td_headings.specs.declared.catalogue.Test.{Test}
+use Rattle.td_headings.specs.contracts.defined.Origin as origin
+use Rattle.td_headings.specs.contracts.defined.Test as test
+use Rattle.td_headings.specs.declared.defined.Origin.{Origin}
+use Rattle.td_headings.specs.declared.defined.Test.{Test}
 
 pub record CatalogueData : Type 0 where
   pub schema : SchemaData

@@ -6,14 +6,14 @@ use Rattle.std.specs.Option.{is_some}
 use Rattle.td_values.specs.Headings.{Header}
 use Rattle.td_values.specs.declared.TypeKind.{TypeKind}
 use Rattle.td_values.specs.declared.TypeKind.TheVariants as kind
-use Rattle.td_grammar.specs.declared.tree.Attributes.{Attributes}
-use Rattle.td_grammar.specs.declared.tree.Expr.{Expr}
-use Rattle.td_grammar.specs.declared.tree.Named.{Named}
-use Rattle.td_grammar.specs.declared.tree.TypeExpr.{TypeExpr}
-use Rattle.td_grammar.specs.declared.script.Opening.{Opening}
-use Rattle.td_grammar.specs.declared.script.Opening.TheVariants as opening
-use Rattle.td_grammar.specs.declared.script.Definition.{Definition}
-use Rattle.td_grammar.specs.declared.script.Definition.TheVariants as definition
+use Rattle.td_syntax.specs.declared.tree.Attributes.{Attributes}
+use Rattle.td_syntax.specs.declared.tree.Expr.{Expr}
+use Rattle.td_syntax.specs.declared.tree.Named.{Named}
+use Rattle.td_syntax.specs.declared.tree.TypeExpr.{TypeExpr}
+use Rattle.td_syntax.specs.declared.script.Opening.{Opening}
+use Rattle.td_syntax.specs.declared.script.Opening.TheVariants as opening
+use Rattle.td_syntax.specs.declared.script.Definition.{Definition}
+use Rattle.td_syntax.specs.declared.script.Definition.TheVariants as definition
 use Rattle.td_kinds.specs.Kinds.{Text}
 use Rattle.td_kinds.specs.Lists.{attributes_of}
 use Rattle.td_kinds.specs.Schemas.{SchemaData, relvar_named, possrep_named, type_named, same_text, begins_with_the}
@@ -23,10 +23,10 @@ use Rattle.td_kinds.specs.declared.schema.Representation.{Representation}
 use Rattle.td_typing.specs.Types.{Types}
 use Rattle.td_trees.specs.declared.tree.Typed.{Typed}
 use Rattle.td_headings.specs.Catalogues.{CatalogueData, nothing_defined}
-use Rattle.td_headings.specs.declared.catalogue.Origin.{Origin}
-use Rattle.td_headings.specs.declared.catalogue.Origin.TheVariants as origin
-use Rattle.td_headings.specs.declared.catalogue.Test.{Test}
-use Rattle.td_headings.specs.declared.catalogue.Test.TheVariants as test
+use Rattle.td_headings.specs.declared.defined.Origin.{Origin}
+use Rattle.td_headings.specs.declared.defined.Origin.TheVariants as origin
+use Rattle.td_headings.specs.declared.defined.Test.{Test}
+use Rattle.td_headings.specs.declared.defined.Test.TheVariants as test
 
 -- an expression in which no tuple is in scope
 abbrev pub names_of_relvars : CatalogueData → Scope

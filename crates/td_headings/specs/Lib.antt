@@ -6,3 +6,4 @@ pub mod Laws
 pub mod Expressions
 pub mod Reached
 pub mod Statements
+pub mod WellTyped

@@ -1,14 +1,14 @@
 -- What evaluating an expression comes to: the relvars that it names, with those under its virtual relvars; and the possreps that
 -- are selected in it and in these virtual relvars, with those in the CONSTRAINTs of possreps that are selected.
-use Rattle.std.specs.Prelude.{◌≡◌, ◌↔◌, ◌++◌, ℕ, List, [], map, Option, None, Some, slice_get}
+use Rattle.std.specs.Prelude.{◌≡◌, ◌↔◌, ◌++◌, ℕ, Bool, true, false, List, [], map, Option, None, Some, slice_get}
 use Rattle.std.specs.List.{Contains, flat_map}
 use Rattle.std.specs.List.Sorted.{IsStrictlySortedBy}
 use Rattle.std.specs.Ordering.{nat_cmp}
 use Rattle.td_links.specs.Links.{ReachedFrom}
 use Rattle.td_trees.specs.Mentions.{mentioned, relvars_in, possreps_in}
 use Rattle.td_trees.specs.declared.tree.Typed.{Typed}
-use Rattle.td_headings.specs.declared.catalogue.Origin.{Origin}
-use Rattle.td_headings.specs.declared.catalogue.Origin.TheVariants as origin
+use Rattle.td_headings.specs.declared.defined.Origin.{Origin}
+use Rattle.td_headings.specs.declared.defined.Origin.TheVariants as origin
 
 -- the relvars and the possreps that an expression names, by their places
 abbrev pub named_relvars : Typed → List ℕ
@@ -34,6 +34,15 @@ possreps_within (Some u) = named_possreps u
 -- the relvar at this place is named in the expression, or in that of a virtual relvar which is reached
 abbrev pub IsReached : List Origin → Typed → ℕ → Type 0
 IsReached origins u n = ReachedFrom (map relvars_under origins) (named_relvars u) n
+
+-- the relvar at this place is a base relvar
+abbrev pub is_base : Option Origin → Bool
+is_base (Some (origin.Base ks u)) = true
+is_base _ = false
+
+-- the expression reads the base relvar at this place: it names it, or one of the virtual relvars that it reaches does
+abbrev pub Reads : List Origin → Typed → ℕ → Type 0
+Reads origins u n = IsReached origins u n × (is_base (slice_get origins n) ≡ true)
 
 -- the possrep at this place is selected in the expression, in one of the relvars that it reaches, or in the CONSTRAINT of a possrep
 -- that is selected

@@ -1,23 +1,27 @@
 -- Which statements are well typed. Each assignment's source is one expression over its target.
-use Rattle.std.specs.Prelude.{◌≡◌, ℕ, true, false, List, [], ◌∷◌, Option, Some, None, slice_get}
+use Rattle.std.specs.Prelude.{◌≡◌, ℕ, true, false, List, [], ◌∷◌, map, Option, Some, None, slice_get}
+use Rattle.std.specs.List.{Contains}
 use Rattle.td_values.specs.Headings.{Header}
-use Rattle.td_values.specs.declared.TypeKind.{TypeKind}
 use Rattle.td_values.specs.declared.TypeKind.TheVariants as kind
-use Rattle.td_grammar.specs.declared.tree.Expr.{Expr}
-use Rattle.td_grammar.specs.declared.tree.Expr.TheVariants as e
-use Rattle.td_grammar.specs.declared.tree.BinaryOperator.TheVariants as binary
-use Rattle.td_grammar.specs.declared.tree.UnaryOperator.TheVariants as unary
-use Rattle.td_grammar.specs.declared.tree.Extension.TheVariants as extension
-use Rattle.td_grammar.specs.declared.tree.Named.{Named}
-use Rattle.td_grammar.specs.declared.script.Action.{Action}
-use Rattle.td_grammar.specs.declared.script.Action.TheVariants as action
+use Rattle.td_syntax.specs.declared.tree.Expr.{Expr}
+use Rattle.td_syntax.specs.declared.tree.Expr.TheVariants as e
+use Rattle.td_syntax.specs.declared.tree.BinaryOperator.TheVariants as binary
+use Rattle.td_syntax.specs.declared.tree.UnaryOperator.TheVariants as unary
+use Rattle.td_syntax.specs.declared.tree.Extension.TheVariants as extension
+use Rattle.td_syntax.specs.declared.tree.Named.{Named}
+use Rattle.td_syntax.specs.declared.script.Action.{Action}
+use Rattle.td_syntax.specs.declared.script.Action.TheVariants as action
+use Rattle.td_syntax.specs.declared.script.Statement.{Statement}
+use Rattle.td_syntax.specs.declared.script.Statement.TheVariants as statement
 use Rattle.td_kinds.specs.Kinds.{Text}
 use Rattle.td_kinds.specs.Schemas.{relvar_named}
-use Rattle.td_typing.specs.Types.{Types}
 use Rattle.td_trees.specs.declared.tree.Typed.{Typed}
 use Rattle.td_headings.specs.Catalogues.{CatalogueData}
-use Rattle.td_headings.specs.Definitions.{names_of_relvars}
-use Rattle.td_headings.specs.declared.catalogue.Origin.TheVariants as origin
+use Rattle.td_headings.specs.Expressions.{IsExpression, no_tuple}
+use Rattle.td_headings.specs.declared.defined.Origin.TheVariants as origin
+use Rattle.td_headings.specs.declared.statement.TypedAssignment.{TypedAssignment}
+use Rattle.td_headings.specs.declared.statement.TypedStatement.{TypedStatement}
+use Rattle.td_headings.specs.declared.statement.TypedStatement.TheVariants as typed
 
 -- INSERT is an assignment of a union; DELETE of the tuples for which the condition is false, and without one of none; UPDATE of
 -- the tuples that are not selected united with the selected ones changed.
@@ -36,14 +40,33 @@ source_of (action.Update x None all) = e.Extend extension.Assign (e.Name x) all
 source_of (action.Update x (Some c) all) = e.Binary binary.Union (e.Where (e.Name x) (e.Unary unary.Not c)) (e.Extend extension.Assign (e.Where (e.Name x) c) all)
 
 -- The target is a real relvar, and the source has its heading. So an item of an UPDATE names an attribute and has its type.
-pub record TypesAction (c : CatalogueData) (a : Action) (target : ℕ) (u : Typed) : Type 0 where
-  pub heading : Header
+pub record IsAssignment (c : CatalogueData) (a : Action) (x : TypedAssignment) : Type 0 where
+  pub relvar : Named Header
   pub keys : List (List Text)
   pub opening : Option Typed
-  pub names : relvar_named c.schema (target_of a) ≡ Some (target, record { name = target_of a; value = heading })
-  pub is_real : slice_get c.origins target ≡ Some (origin.Base keys opening)
-  pub types : Types c.schema (names_of_relvars c) (source_of a) u (kind.Relation heading)
+  pub names : relvar_named c.schema (target_of a) ≡ Some (x.target, relvar)
+  pub is_real : slice_get c.origins x.target ≡ Some (origin.Base keys opening)
+  pub source : IsExpression c no_tuple (source_of a) x.source
+  pub kind_ : x.source.kind ≡ kind.Relation relvar.value
 
-pub data TypesActions (c : CatalogueData) : List Action → List (ℕ × Typed) → Type 0 where
-  no_actions : TypesActions c [] []
-  next_action : {a : Action} {n : ℕ} {u : Typed} {as' : List Action} {us : List (ℕ × Typed)} → TypesAction c a n u → TypesActions c as' us → TypesActions c (a ∷ as') ((n, u) ∷ us)
+pub data AreAssignments (c : CatalogueData) : List Action → List TypedAssignment → Type 0 where
+  no_assignments : AreAssignments c [] []
+  next_assignment : {a : Action} {x : TypedAssignment} {as' : List Action} {xs : List TypedAssignment} → IsAssignment c a x → AreAssignments c as' xs → AreAssignments c (a ∷ as') (x ∷ xs)
+
+abbrev pub actions_of : Statement → List Action
+actions_of (statement.Assignment as') = as'
+
+abbrev pub assignments_of : TypedStatement → List TypedAssignment
+assignments_of (typed.Assignment xs) = xs
+
+-- x is the statement, typed
+abbrev pub IsStatement : CatalogueData → Statement → TypedStatement → Type 0
+IsStatement c s x = AreAssignments c (actions_of s) (assignments_of x)
+
+-- no rule types it
+abbrev pub IsRefused : CatalogueData → Statement → Type 0
+IsRefused c s = (x : TypedStatement) → IsStatement c s x → ⊥
+
+-- the relvar at this place is assigned
+abbrev pub IsTarget : TypedStatement → ℕ → Type 0
+IsTarget s n = Contains (map (λ (x : TypedAssignment). x.target) (assignments_of s)) n

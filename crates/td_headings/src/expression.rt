@@ -1,63 +1,21 @@
-//! Typed expressions with all that evaluating them wants.
+//! All that is under an expression.
 
 ghost use Rattle.std.specs.Prelude.{◌≡◌, IfOk, slice_get};
 ghost use Rattle.std.specs.List.{filter_map};
-ghost use Rattle.std.specs.Prelude.{Err};
-ghost use Rattle.td_kinds.specs.Scopes.{relvars_of, within};
-ghost use Rattle.td_kinds.specs.declared.error.TypeError.TheVariants as type_error;
-ghost use Rattle.td_typing.specs.Types.{IsIllTyped};
-ghost use Rattle.td_headings.specs.Expressions.{HasAllUnder, IsExpression, base_of, selector_of, virtual_of};
+ghost use Rattle.td_headings.specs.Definitions.{Defined};
+ghost use Rattle.td_headings.specs.Expressions.{HasAllUnder, base_of, selector_of, virtual_of};
 
-use crate::catalogue::{Catalogue, Origin};
+use crate::catalogue::Catalogue;
+use crate::defined::Origin;
 use crate::reach::{possreps_selected, relvars_reached};
-use sqlite_items::{Boxed, Items};
+use sqlite_items::Items;
 use std::alloc::{AllocError, Global};
-use td_grammar::tree::Expr;
-use td_kinds::error::TypeError;
 use td_kinds::lists::names;
 use td_kinds::schema::Schema;
-use td_kinds::scope::Scope;
-use td_trees::tree::{Typed, Typing};
+use td_trees::expression::{BaseUnder, Expression, Selector, VirtualUnder};
+use td_trees::tree::Typed;
 use td_tuples::Shared;
-use td_typing::typing::type_in;
-use td_values::{Heading, Name, Possrep, TypeKind};
-
-/// A base relvar under an expression, by its place in order of definition, with its heading.
-#[derive(Drop)]
-pub struct BaseUnder {
-    pub place: usize,
-    pub heading: Heading,
-}
-
-/// A virtual relvar under an expression, by its place, with the expression whose value it is.
-#[derive(Drop)]
-pub struct VirtualUnder {
-    pub place: usize,
-    pub tree: Shared<Typed>,
-}
-
-/// A possrep that is selected under an expression, by its place: its names, those of its components, and its CONSTRAINT if it
-/// has one.
-#[derive(Drop)]
-pub struct Selector {
-    pub place: usize,
-    pub possrep: Possrep,
-    pub components: Items<Name>,
-    pub limit: Option<Shared<Typed>>,
-}
-
-/// What a typed expression is made of.
-#[derive(Drop)]
-pub struct Expression {
-    pub tree: Boxed<Typed>,
-    pub kind: TypeKind,
-    /// The attributes of the tuple that it sees.
-    pub attributes: Heading,
-    /// What it reads: the base relvars that it names, with those under the virtual ones. In catalogue order, as the others.
-    pub bases: Items<BaseUnder>,
-    pub virtuals: Items<VirtualUnder>,
-    pub selectors: Items<Selector>,
-}
+use td_values::{Heading, TypeKind};
 
 // The base relvar at the place, if there is one.
 fn base_at(
@@ -177,19 +135,21 @@ pub(crate) fn selectors_at(
     Ok(selectors)
 }
 
-// The expression of this tree, with all that is under it.
-fn with_all_under(
+/// The expression of this tree, with all that is under it. It costs its size and that of the expressions of the virtual relvars
+/// under it.
+pub(crate) fn with_all_under(
     alloc: Global,
     catalogue: &Catalogue,
     attributes: Heading,
-    typing: Typing,
+    tree: Shared<Typed>,
+    kind: TypeKind,
 ) -> Result<Expression, AllocError>
+    ensures defined { Defined catalogue.now }
     ensures under { IfOk result (λ x. HasAllUnder catalogue.now x) }
-    ensures tree { IfOk result (λ x. x.tree ≡ typing.tree) }
-    ensures kind { IfOk result (λ x. x.kind ≡ typing.kind) }
+    ensures tree { IfOk result (λ x. x.tree ≡ tree) }
+    ensures kind { IfOk result (λ x. x.kind ≡ kind) }
     ensures attributes { IfOk result (λ x. x.attributes ≡ attributes) }
 {
-    let Typing { tree, kind } = typing;
     let (schema, origins, limits) = (catalogue.schema(), catalogue.origins(), catalogue.limits());
     let relvars = relvars_reached(alloc, origins, tree.get())?;
     let possreps = possreps_selected(alloc, origins, limits, tree.get(), &relvars)?;
@@ -204,25 +164,4 @@ fn with_all_under(
         virtuals,
         selectors,
     })
-}
-
-/// The expression within a tuple of these attributes, with all that evaluating it wants. It costs its size and that of the
-/// expressions of the virtual relvars under it.
-pub fn type_within(
-    alloc: Global,
-    catalogue: &Catalogue,
-    attributes: Heading,
-    expr: &Expr,
-) -> Result<Expression, TypeError>
-    ensures typed { IfOk result (IsExpression catalogue.now expr.now) }
-    ensures refused { result ≡ Err type_error.IllTyped → IsIllTyped catalogue.now.schema (within attributes (relvars_of catalogue.now.schema)) expr.now }
-{
-    let schema = catalogue.schema();
-    let typing = type_in(
-        alloc,
-        schema,
-        &Scope::Within(&attributes, &Scope::Relvars(schema)),
-        expr,
-    )?;
-    Ok(with_all_under(alloc, catalogue, attributes, typing)?)
 }

@@ -2,9 +2,16 @@
 #![tactic(auto)]
 
 pub mod catalogue;
-pub mod expression;
+pub mod defined;
+mod expression;
 pub mod laws;
 mod opening;
 mod reach;
+mod sources;
+pub mod statement;
+pub mod typed;
 
-pub use catalogue::{Catalogue, Origin, Test};
+pub use catalogue::Catalogue;
+pub use defined::{Origin, Test};
+pub use statement::{TypedAssignment, TypedStatement, targets, type_statement};
+pub use typed::{TypedExpr, constraint_expr, init_expr, reads, type_expr, type_within};

@@ -6,14 +6,14 @@ ghost use Rattle.td_headings.specs.ForProofs.After as spec;
 
 use sqlite_items::{Boxed, Items};
 use std::alloc::Global;
-use td_grammar::script::Opening;
-use td_grammar::tree::{Attributes, Expr, Named};
 use td_kinds::error::TypeError;
 use td_kinds::kinds::{is_boolean, relation_heading, same_heading};
 use td_kinds::lists::attributes_of;
 use td_kinds::schema::Schema;
 use td_kinds::scope::Scope;
 use td_kinds::written::{columns, heading_written};
+use td_syntax::script::Opening;
+use td_syntax::tree::{Attributes, Expr, Named};
 use td_trees::tree::{Typed, Typing};
 use td_tuples::Shared;
 use td_typing::typing::typing;

@@ -1,11 +1,11 @@
 //! What evaluating an expression comes to.
 
 ghost use Rattle.std.specs.Prelude.{◌≡◌, ◌++◌, IfOk, slice_get};
-ghost use Rattle.std.specs.List.{flat_map};
+ghost use Rattle.std.specs.List.{Contains, flat_map};
 ghost use Rattle.td_headings.specs.Reached.{AreThose, IsReached, IsSelected, named_possreps, named_relvars, possreps_under};
 ghost use Rattle.td_links.specs.Links.{ReachedFrom};
 
-use crate::catalogue::Origin;
+use crate::defined::Origin;
 use std::alloc::{AllocError, Global};
 use td_links::{Leads, reached};
 use td_trees::tree::Typed;
@@ -82,14 +82,22 @@ impl Leads for Possreps<'_> {
     }
 }
 
+/// These places, ascending, each once.
+pub(crate) fn in_order(places: Vec<usize>) -> Vec<usize>
+    ensures { AreThose (Contains places.items) result.items }
+{
+    let mut places = places;
+    places.sort_unstable();
+    places.dedup();
+    places
+}
+
 // The places that are reached, ascending, each once.
 fn ascending<L: Leads>(alloc: Global, links: &L, starts: &[usize]) -> Result<Vec<usize>, AllocError>
     ensures { IfOk result (λ v. AreThose (ReachedFrom (L.links links.now) starts.now) v.items) }
 {
-    let mut places = reached(alloc, links, starts)?;
-    places.sort_unstable();
-    places.dedup();
-    Ok(places)
+    let places = reached(alloc, links, starts)?;
+    Ok(in_order(places))
 }
 
 /// The places of the relvars that evaluating the expression comes to, ascending. It costs the sizes of the expression and of

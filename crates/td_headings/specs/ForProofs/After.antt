@@ -3,14 +3,14 @@ use Rattle.std.specs.Prelude.{ℕ, Bool, true, false, not, ◌&&◌, List, [], �
 use Rattle.std.specs.List.{list_any}
 use Rattle.td_values.specs.Headings.{Header}
 use Rattle.td_values.specs.declared.TypeKind.{TypeKind}
-use Rattle.td_grammar.specs.declared.tree.Attributes.{Attributes}
-use Rattle.td_grammar.specs.declared.tree.Expr.{Expr}
-use Rattle.td_grammar.specs.declared.tree.Named.{Named}
-use Rattle.td_grammar.specs.declared.tree.TypeExpr.{TypeExpr}
-use Rattle.td_grammar.specs.declared.script.Opening.{Opening}
-use Rattle.td_grammar.specs.declared.script.Opening.TheVariants as opening
-use Rattle.td_grammar.specs.declared.script.Definition.{Definition}
-use Rattle.td_grammar.specs.declared.script.Definition.TheVariants as definition
+use Rattle.td_syntax.specs.declared.tree.Attributes.{Attributes}
+use Rattle.td_syntax.specs.declared.tree.Expr.{Expr}
+use Rattle.td_syntax.specs.declared.tree.Named.{Named}
+use Rattle.td_syntax.specs.declared.tree.TypeExpr.{TypeExpr}
+use Rattle.td_syntax.specs.declared.script.Opening.{Opening}
+use Rattle.td_syntax.specs.declared.script.Opening.TheVariants as opening
+use Rattle.td_syntax.specs.declared.script.Definition.{Definition}
+use Rattle.td_syntax.specs.declared.script.Definition.TheVariants as definition
 use Rattle.td_kinds.specs.Kinds.{Text, is_boolean, relation_heading, same_heading}
 use Rattle.td_kinds.specs.Lists.{attributes_of}
 use Rattle.td_kinds.specs.declared.schema.Representation.{Representation}
@@ -23,9 +23,9 @@ use Rattle.td_trees.specs.declared.tree.Typing.{Typing}
 use Rattle.td_typing.specs.ForProofs.Infer.{each, infer}
 use Rattle.td_headings.specs.Catalogues.{CatalogueData}
 use Rattle.td_headings.specs.Definitions.{represented, with_type, with_relvar, key_tests, is_constraint, with_constraint}
-use Rattle.td_headings.specs.declared.catalogue.Origin.{Origin}
-use Rattle.td_headings.specs.declared.catalogue.Origin.TheVariants as origin
-use Rattle.td_headings.specs.declared.catalogue.Test.{Test}
+use Rattle.td_headings.specs.declared.defined.Origin.{Origin}
+use Rattle.td_headings.specs.declared.defined.Origin.TheVariants as origin
+use Rattle.td_headings.specs.declared.defined.Test.{Test}
 
 abbrev pub Value : Type 0
 Value = Typed × Header

@@ -1,21 +1,26 @@
-use Rattle.std.proofs.Common.{◌≡◌, None, Some, sym, ◌∙◌}
+use Rattle.std.proofs.Common.{◌≡◌, None, Some, OnOk, sym, subst, ◌∙◌}
 use Rattle.td_headings.specs.Definitions.{Defines}
 use Rattle.td_headings.specs.ForProofs.After.{after}
+use Rattle.td_headings.specs.ForProofs.Changes.{Changes}
 use Rattle.td_headings.proofs.Deciding.{after_is, is_after}
 use Rattle.td_headings.proofs.Placed.{taken, ill_typed}
+use Rattle.td_headings.proofs.WellTyped.{still_defined}
 use Rattle.td_headings.proofs.catalogue.Catalogue.define.Goals as goal
+
+pub invariant_of-self : goal.invariant_of-self
+invariant_of-self c = still_defined c.self.inside.definitions _ c.args.definition.now _ c.self.invariant c.define.ensures
 
 pub returns-clause-defined : goal.returns-clause-defined
 returns-clause-defined c =
-    let old = c.args.self.now in
-    let new = c.decided.new.self in
+    let old = c.self.inside.definitions in
+    let new = c.define.new.self in
     let x = c.args.definition.now in
-    taken old new (after old x) (Defines old x new) c.decided.result c.decided.ensures (after_is old new x)
+    subst (λ o. OnOk c.define.result (Defines o x new)) c.self.view_is (taken old new (after old x) (Defines old x new) c.define.result c.define.ensures (after_is old new x))
 
 pub returns-clause-refused : goal.returns-clause-refused
 returns-clause-refused c = λ e d defined.
-    let old = c.args.self.now in
+    let old = c.self.inside.definitions in
     let x = c.args.definition.now in
-    let nothing = ill_typed old c.decided.new.self (after old x) c.decided.result c.decided.ensures e in
-    let no : Some d ≡ None = sym (is_after defined) ∙ nothing in
+    let nothing = ill_typed old c.define.new.self (after old x) c.define.result c.define.ensures e in
+    let no : Some d ≡ None = sym (is_after (subst (λ o. Defines o x d) (sym c.self.view_is) defined)) ∙ nothing in
     cc

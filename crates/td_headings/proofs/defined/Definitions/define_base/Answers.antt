@@ -2,9 +2,9 @@ use Rattle.std.proofs.Common.{ap, sym, ◌∙◌, subst, length, map}
 use Rattle.td_headings.specs.Catalogues.{CatalogueData}
 use Rattle.td_headings.specs.ForProofs.After.{opening_after}
 use Rattle.td_headings.specs.ForProofs.Changes.{Changes}
-use Rattle.td_headings.specs.declared.catalogue.Test.TheVariants as test
+use Rattle.td_headings.specs.declared.defined.Test.TheVariants as test
 use Rattle.td_headings.proofs.Placed.{base_put}
-use Rattle.td_headings.proofs.catalogue.Catalogue.define_base.Goals as goal
+use Rattle.td_headings.proofs.defined.Definitions.define_base.Goals as goal
 
 pub returns : goal.returns
 returns c =

@@ -1,5 +1,5 @@
 use Rattle.td_headings.proofs.Placed.{type_taken, type_refused, still_typed}
-use Rattle.td_headings.proofs.catalogue.Catalogue.put_type.Goals as goal
+use Rattle.td_headings.proofs.defined.Definitions.put_type.Goals as goal
 
 pub returns-in-Err : goal.returns-in-Err
 returns-in-Err c =

@@ -1,5 +1,5 @@
 use Rattle.td_headings.proofs.Placed.{put_taken, put_refused, still_seen}
-use Rattle.td_headings.proofs.catalogue.Catalogue.put_relvar.Goals as goal
+use Rattle.td_headings.proofs.defined.Definitions.put_relvar.Goals as goal
 
 pub returns-in-Err : goal.returns-in-Err
 returns-in-Err c =

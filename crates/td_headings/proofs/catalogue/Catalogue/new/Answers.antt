@@ -1,0 +1,6 @@
+use Rattle.std.proofs.Common.{sym, subst}
+use Rattle.td_headings.specs.Definitions.{Defined, nothing_yet}
+use Rattle.td_headings.proofs.catalogue.Catalogue.new.Goals as goal
+
+pub invariant_of-result : goal.invariant_of-result
+invariant_of-result c = subst Defined (sym c.new.ensures) nothing_yet

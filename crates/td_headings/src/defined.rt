@@ -1,0 +1,307 @@
+//! What a script has defined, definition by definition.
+
+ghost use Rattle.std.specs.Prelude.{◌≡◌, ◌++◌, ◌∷◌, [], Err, IfOk, None, Some, OnErr, OnOk, map};
+ghost use Rattle.std.specs.List.{list_any};
+ghost use Rattle.td_kinds.specs.Schemas.{relvar_added, type_added};
+ghost use Rattle.td_kinds.specs.declared.error.TypeError.TheVariants as type_error;
+ghost use Rattle.td_headings.specs.Catalogues as spec;
+ghost use Rattle.td_headings.specs.Definitions as definitions;
+ghost use Rattle.td_headings.specs.ForProofs.After as after;
+ghost use Rattle.td_headings.specs.ForProofs.Changes.{Changes};
+ghost use Rattle.td_headings.specs.declared.defined.Test.TheVariants as test;
+
+use crate::opening::{condition, keys_of, limits, opened, value};
+use sqlite_items::{Boxed, Items};
+use std::alloc::{AllocError, Global};
+use std::marker::Model;
+use td_kinds::error::TypeError;
+use td_kinds::lists::copies;
+use td_kinds::schema::{Representation, Schema};
+use td_kinds::written::components_written;
+use td_syntax::script::{Definition, Opening};
+use td_syntax::tree::{Attributes, Expr, Named, TypeExpr};
+use td_trees::tree::Typed;
+use td_tuples::Shared;
+use td_values::{Heading, Name, Possrep};
+
+/// Where the value of a relvar comes from.
+#[derive(Drop)]
+pub enum Origin {
+    /// It is stored: its keys, as they were written, and what it holds at first, if that was written.
+    Base(Items<Items<Name>>, Option<Shared<Typed>>),
+    /// It is the value of this expression.
+    Virtual(Shared<Typed>),
+}
+
+/// What must be true after each statement.
+#[derive(Drop)]
+pub enum Test {
+    /// No two tuples of the relvar at this place agree on these attributes.
+    Key(usize, Items<Name>),
+    /// The constraint of this name is true.
+    Constraint(Name, Shared<Typed>),
+}
+
+/// Types, relvars, and what must be true after each statement.
+#[derive(Drop)]
+pub struct Definitions {
+    schema: Schema,
+    limits: Vec<Option<Shared<Typed>>>,
+    origins: Vec<Origin>,
+    tests: Vec<Test>,
+}
+
+impl Model for Definitions {
+    ghost use Rattle.td_headings.specs.Catalogues.{CatalogueData, catalogue_code};
+
+    ghost Value = { CatalogueData };
+
+    ghost coded = { catalogue_code };
+
+    ghost view = { λ c. record { schema = c.schema; limits = c.limits.items; origins = c.origins.items; tests = c.tests.items } };
+}
+
+// All that can fail comes first.
+fn add_relvar(
+    schema: &mut Schema,
+    origins: &mut Vec<Origin>,
+    tests: &mut Vec<Test>,
+    name: Name,
+    heading: Heading,
+    origin: Origin,
+    more: Vec<Test>,
+) -> Result<(), TypeError>
+    ensures schema { OnOk result (relvar_added schema.old name heading ≡ Some schema.new) }
+    ensures origins { OnOk result (origins.new.items ≡ origins.old.items ++ origin ∷ []) }
+    ensures tests { OnOk result (tests.new.items ≡ tests.old.items ++ more.items) }
+    ensures ill_typed { result ≡ Err type_error.IllTyped → relvar_added schema.old name heading ≡ None }
+    ensures same_schema { OnErr result (schema.new ≡ schema.old) }
+    ensures same_origins { OnErr result (origins.new.items ≡ origins.old.items) }
+    ensures same_tests { OnErr result (tests.new.items ≡ tests.old.items) }
+{
+    let mut more = more;
+    origins.reserve(1)?;
+    tests.reserve(more.len())?;
+    match schema.add_relvar(name, heading) {
+        Ok(()) => {}
+        Err(error) => return Err(error),
+    }
+    origins.push(origin).unwrap();
+    tests.append(&mut more).unwrap();
+    Ok(())
+}
+
+// All that can fail comes first.
+fn add_type(
+    schema: &mut Schema,
+    limits: &mut Vec<Option<Shared<Typed>>>,
+    representation: Representation,
+    limit: Option<Shared<Typed>>,
+) -> Result<(), TypeError>
+    ensures schema { OnOk result (type_added schema.old representation ≡ Some schema.new) }
+    ensures limits { OnOk result (limits.new.items ≡ limits.old.items ++ limit ∷ []) }
+    ensures ill_typed { result ≡ Err type_error.IllTyped → type_added schema.old representation ≡ None }
+    ensures same_schema { OnErr result (schema.new ≡ schema.old) }
+    ensures same_limits { OnErr result (limits.new.items ≡ limits.old.items) }
+{
+    limits.reserve(1)?;
+    match schema.add_type(representation) {
+        Ok(()) => {}
+        Err(error) => return Err(error),
+    }
+    limits.push(limit).unwrap();
+    Ok(())
+}
+
+fn is_constraint(name: &Name, test: &Test) -> bool
+    ensures { result ≡ definitions.is_constraint name.now test.now }
+{
+    match test {
+        Test::Constraint(other, _) => other == name,
+        Test::Key(_, _) => false,
+    }
+}
+
+fn is_constraint_among(tests: &[Test], name: &Name) -> bool
+    ensures { result ≡ list_any (definitions.is_constraint name.now) tests.now }
+{
+    tests.iter().any(|test| is_constraint(name, test))
+}
+
+fn key_tests(alloc: Global, place: usize, keys: &[Items<Name>]) -> Result<Vec<Test>, AllocError>
+    ensures { IfOk result (λ v. v.items ≡ map (test.Key place) keys.now) }
+{
+    let mut tests = Vec::with_capacity(alloc, keys.len())?;
+    for key in keys {
+        tests.push(Test::Key(place, copies(alloc, key.as_slice())?))?;
+    }
+    Ok(tests)
+}
+
+impl Definitions {
+    /// No definitions.
+    pub fn new(alloc: Global) -> Definitions
+        ensures { result ≡ spec.nothing_defined }
+    {
+        Definitions {
+            schema: Schema::new(alloc),
+            limits: Vec::new(alloc),
+            origins: Vec::new(alloc),
+            tests: Vec::new(alloc),
+        }
+    }
+
+    /// The types and relvars that expressions name.
+    pub fn schema(&self) -> &Schema
+        ensures { result.now ≡ self.now.schema }
+    {
+        &self.schema
+    }
+
+    /// The CONSTRAINT of each possrep.
+    pub fn limits(&self) -> &[Option<Shared<Typed>>]
+        ensures { result.now ≡ self.now.limits }
+    {
+        &self.limits
+    }
+
+    /// Where the value of each relvar comes from.
+    pub fn origins(&self) -> &[Origin]
+        ensures { result.now ≡ self.now.origins }
+    {
+        &self.origins
+    }
+
+    /// What must be true after each statement, in the order of the script.
+    pub fn tests(&self) -> &[Test]
+        ensures { result.now ≡ self.now.tests }
+    {
+        &self.tests
+    }
+
+    fn put_relvar(
+        &mut self,
+        name: Name,
+        heading: Heading,
+        origin: Origin,
+        tests: Vec<Test>,
+    ) -> Result<(), TypeError>
+        ensures { Changes self.old (after.relvar_after self.old name heading origin tests.items) result self.new }
+    {
+        match add_relvar(
+            &mut self.schema,
+            &mut self.origins,
+            &mut self.tests,
+            name,
+            heading,
+            origin,
+            tests,
+        ) {
+            Ok(()) => {}
+            Err(error) => return Err(error),
+        }
+        Ok(())
+    }
+
+    #[tactic(auto, unfolding(crate::specs::ForProofs::After::base_after))]
+    fn define_base(
+        &mut self,
+        alloc: Global,
+        name: &Name,
+        opening: &Opening,
+        keys: &[Attributes],
+    ) -> Result<(), TypeError>
+        ensures { Changes self.old (after.base_after self.old name.now opening.now keys.now) result self.new }
+    {
+        let (heading, init) = opened(alloc, &self.schema, opening)?;
+        let keys = keys_of(alloc, &heading, keys)?;
+        let place = self.origins.as_slice().len();
+        let tests = key_tests(alloc, place, keys.as_slice())?;
+        let name = name.copy()?;
+        self.put_relvar(name, heading, Origin::Base(keys, init), tests)
+    }
+
+    #[tactic(auto, unfolding(crate::specs::ForProofs::After::virtual_after))]
+    fn define_virtual(&mut self, alloc: Global, name: &Name, expr: &Expr) -> Result<(), TypeError>
+        ensures { Changes self.old (after.virtual_after self.old name.now expr.now) result self.new }
+    {
+        let (tree, heading) = value(alloc, &self.schema, expr)?;
+        let name = name.copy()?;
+        self.put_relvar(name, heading, Origin::Virtual(tree), Vec::new(alloc))
+    }
+
+    #[tactic(auto, unfolding(crate::specs::ForProofs::After::constraint_after))]
+    fn define_constraint(
+        &mut self,
+        alloc: Global,
+        name: &Name,
+        expr: &Expr,
+    ) -> Result<(), TypeError>
+        ensures { Changes self.old (after.constraint_after self.old name.now expr.now) result self.new }
+    {
+        let tree = condition(alloc, &self.schema, expr)?;
+        if is_constraint_among(&self.tests, name) {
+            return Err(TypeError::IllTyped);
+        }
+        let name = name.copy()?;
+        match self.tests.push(Test::Constraint(name, tree)) {
+            Ok(()) => {}
+            Err(_) => return Err(TypeError::OutOfMemory),
+        }
+        Ok(())
+    }
+
+    #[tactic(auto, unfolding(crate::specs::ForProofs::After::type_after))]
+    fn define_type(
+        &mut self,
+        alloc: Global,
+        ty: &Name,
+        possrep: &Name,
+        components: &[Named<TypeExpr>],
+        limit: &Option<Boxed<Expr>>,
+    ) -> Result<(), TypeError>
+        ensures { Changes self.old (after.type_after self.old ty.now possrep.now components.now limit.now) result self.new }
+    {
+        let components = components_written(alloc, &self.schema, components)?;
+        let limit = limits(alloc, &self.schema, components.as_slice(), limit)?;
+        let possrep = Possrep::new(alloc, ty.copy()?, possrep.copy()?)?;
+        let representation = Representation {
+            possrep,
+            components,
+        };
+        self.put_type(representation, limit)
+    }
+
+    fn put_type(
+        &mut self,
+        representation: Representation,
+        limit: Option<Shared<Typed>>,
+    ) -> Result<(), TypeError>
+        ensures { Changes self.old (after.possrep_after self.old representation limit) result self.new }
+    {
+        match add_type(&mut self.schema, &mut self.limits, representation, limit) {
+            Ok(()) => {}
+            Err(error) => return Err(error),
+        }
+        Ok(())
+    }
+
+    /// Adds a definition behind the others, where it is well typed after them; a refusal changes nothing.
+    pub fn define(&mut self, alloc: Global, definition: &Definition) -> Result<(), TypeError>
+        ensures { Changes self.old (after.after self.old definition.now) result self.new }
+    {
+        match definition {
+            Definition::Type(name, None, components, limit) => {
+                self.define_type(alloc, name, name, components.as_slice(), limit)
+            }
+            Definition::Type(name, Some(possrep), components, limit) => {
+                self.define_type(alloc, name, possrep, components.as_slice(), limit)
+            }
+            Definition::Base(name, opening, keys) => {
+                self.define_base(alloc, name, opening, keys.as_slice())
+            }
+            Definition::Virtual(name, expr) => self.define_virtual(alloc, name, expr.get()),
+            Definition::Constraint(name, expr) => self.define_constraint(alloc, name, expr.get()),
+        }
+    }
+}

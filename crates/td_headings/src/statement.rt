@@ -1,0 +1,189 @@
+//! Typed statements.
+
+ghost use Rattle.std.specs.Prelude.{◌≡◌, List, Err, IfOk, MatchOption, None, Some, map};
+ghost use Rattle.td_kinds.specs.Kinds as kinds;
+ghost use Rattle.td_kinds.specs.Results.{Gives};
+ghost use Rattle.td_kinds.specs.declared.error.TypeError.TheVariants as type_error;
+ghost use Rattle.td_values.specs.declared.TypeKind.TheVariants as type_kind;
+ghost use Rattle.td_headings.specs.ForProofs.Sources as sources;
+ghost use Rattle.td_headings.specs.Reached.{AreThose};
+ghost use Rattle.td_headings.specs.Statements as spec;
+ghost use Rattle.td_headings.specs.Statements.{AreAssignments, IsAssignment, IsRefused, IsStatement, IsTarget};
+ghost use Rattle.td_headings.specs.declared.statement.TypedAssignment as typed;
+
+use crate::catalogue::Catalogue;
+use crate::defined::Origin;
+use crate::reach::in_order;
+use crate::sources::source;
+use crate::typed::{TypedExpr, whole};
+use sqlite_items::Items;
+use std::alloc::{AllocError, Global};
+use td_kinds::error::TypeError;
+use td_kinds::kinds::{relation_heading, same_heading};
+use td_kinds::schema::Schema;
+use td_syntax::script::{Action, Statement};
+use td_trees::tree::Typing;
+use td_tuples::Shared;
+use td_values::{Heading, Name, TypeKind};
+
+/// An assignment, whose source is one expression over its target: a DELETE is the tuples for which the condition is false, an
+/// UPDATE those united with the others changed.
+#[derive(Drop)]
+pub struct TypedAssignment {
+    /// The place of the base relvar that is assigned.
+    pub target: usize,
+    pub source: TypedExpr,
+}
+
+#[derive(Drop)]
+pub enum TypedStatement {
+    /// A multiple assignment: all its targets change at once.
+    Assignment(Items<TypedAssignment>),
+}
+
+fn target_of(action: &Action) -> &Name
+    ensures { result.now ≡ spec.target_of action.now }
+{
+    match action {
+        Action::Assign(target, _)
+        | Action::Insert(target, _)
+        | Action::Delete(target, _)
+        | Action::Update(target, _, _) => target,
+    }
+}
+
+// The base relvar of this name.
+#[tactic(auto, unfolding(crate::specs::ForProofs::Sources::real))]
+fn real<'a>(schema: &'a Schema, origins: &[Origin], name: &Name) -> Option<(usize, &'a Heading)>
+    ensures { MatchOption result (sources.real schema.now origins.now name.now ≡ None) (λ r. sources.real schema.now origins.now name.now ≡ Some (r.0, r.1.now)) }
+{
+    let Some((place, heading)) = schema.relvar(name) else {
+        return None;
+    };
+    match origins.get(place) {
+        Some(Origin::Base(_, _)) => Some((place, heading)),
+        _ => None,
+    }
+}
+
+fn is_relation_of(kind: &TypeKind, heading: &Heading) -> bool
+    ensures { result ≡ kinds.same_kind (type_kind.Relation heading.now) kind.now }
+{
+    match relation_heading(kind) {
+        Some(own) => same_heading(heading, own),
+        None => false,
+    }
+}
+
+// The place of an action's target, which has this name, with the action's source.
+#[tactic(auto, unfolding(crate::specs::ForProofs::Sources::assigned))]
+fn assigned(
+    alloc: Global,
+    schema: &Schema,
+    origins: &[Origin],
+    target: &Name,
+    action: &Action,
+) -> Result<(usize, Typing), TypeError>
+    ensures { Gives (sources.assigned schema.now origins.now target.now action.now) result }
+{
+    let Some((place, heading)) = real(schema, origins, target) else {
+        return Err(TypeError::IllTyped);
+    };
+    let typing = source(alloc, schema, action)?;
+    if !is_relation_of(&typing.kind, heading) {
+        return Err(TypeError::IllTyped);
+    }
+    Ok((place, typing))
+}
+
+fn assignment(
+    alloc: Global,
+    catalogue: &Catalogue,
+    action: &Action,
+) -> Result<TypedAssignment, TypeError>
+    ensures typed { IfOk result (IsAssignment catalogue.now action.now) }
+    ensures refused { result ≡ Err type_error.IllTyped → (x : typed.TypedAssignment) → IsAssignment catalogue.now action.now x → ⊥ }
+{
+    let (schema, origins) = (catalogue.schema(), catalogue.origins());
+    let (target, Typing { tree, kind }) = match assigned(
+        alloc,
+        schema,
+        origins,
+        target_of(action),
+        action,
+    ) {
+        Ok(found) => found,
+        Err(error) => return Err(error),
+    };
+    let tree = Shared::new(alloc, tree.into_inner())?;
+    let source = whole(alloc, catalogue, tree, kind)?;
+    Ok(TypedAssignment { target, source })
+}
+
+fn assignments(
+    alloc: Global,
+    catalogue: &Catalogue,
+    actions: &[Action],
+) -> Result<Items<TypedAssignment>, TypeError>
+    ensures typed { IfOk result (AreAssignments catalogue.now actions.now) }
+    ensures refused { result ≡ Err type_error.IllTyped → (xs : List typed.TypedAssignment) → AreAssignments catalogue.now actions.now xs → ⊥ }
+{
+    let mut found = Items::new(alloc);
+    for action in actions {
+        match assignment(alloc, catalogue, action) {
+            Ok(assignment) => found.push(assignment)?,
+            Err(error) => return Err(error),
+        }
+    }
+    Ok(found)
+}
+
+fn actions_of(statement: &Statement) -> &[Action]
+    ensures { result.now ≡ spec.actions_of statement.now }
+{
+    match statement {
+        Statement::Assignment(actions) => actions.as_slice(),
+    }
+}
+
+/// The statement with its targets and sources. It costs its size and, for each source, that of the expressions of the virtual
+/// relvars under it.
+pub fn type_statement(
+    alloc: Global,
+    catalogue: &Catalogue,
+    statement: &Statement,
+) -> Result<TypedStatement, TypeError>
+    ensures typed { IfOk result (IsStatement catalogue.now statement.now) }
+    ensures refused { result ≡ Err type_error.IllTyped → IsRefused catalogue.now statement.now }
+{
+    match assignments(alloc, catalogue, actions_of(statement)) {
+        Ok(assignments) => Ok(TypedStatement::Assignment(assignments)),
+        Err(error) => Err(error),
+    }
+}
+
+fn targets_of(alloc: Global, assignments: &[TypedAssignment]) -> Result<Vec<usize>, AllocError>
+    ensures { IfOk result (λ v. v.items ≡ map (λ (x : typed.TypedAssignment). x.target) assignments.now) }
+{
+    let mut places = Vec::with_capacity(alloc, assignments.len())?;
+    for assignment in assignments {
+        places.push(assignment.target)?;
+    }
+    Ok(places)
+}
+
+fn assignments_of(statement: &TypedStatement) -> &[TypedAssignment]
+    ensures { result.now ≡ spec.assignments_of statement.now }
+{
+    match statement {
+        TypedStatement::Assignment(assignments) => assignments.as_slice(),
+    }
+}
+
+/// The places of the base relvars that the statement assigns, in order of definition, each once.
+pub fn targets(alloc: Global, statement: &TypedStatement) -> Result<Vec<usize>, AllocError>
+    ensures { IfOk result (λ v. AreThose (IsTarget statement.now) v.items) }
+{
+    let places = targets_of(alloc, assignments_of(statement))?;
+    Ok(in_order(places))
+}
