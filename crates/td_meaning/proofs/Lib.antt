@@ -1,0 +1,10 @@
+-- The proofs of the crate.
+pub mod Depths
+pub mod Falls
+pub mod Forms
+pub mod Walks
+pub mod Selecting
+pub mod KindLemmas
+pub mod Decided
+pub mod Scopes
+pub mod Dee

@@ -1,0 +1,148 @@
+-- Steps of the loops over lists of operands.
+use Rattle.std.proofs.Common.{◌≡◌, ◌<◌, ◌+◌, ◌++◌, ℕ, List, [], ◌∷◌, length, get_or, drop, true, false, cond, Option, None, Some, Result, Ok, Err, refl, sym, ap, ◌∙◌, append_assoc}
+use Rattle.std.proofs.lemmas.List.{append-nil, drop_more}
+use Rattle.td_values.specs.Data.{Datum}
+use Rattle.td_values.specs.Rows.{RowsData}
+use Rattle.td_syntax.specs.declared.tree.Named.{Named}
+use Rattle.td_tuples.specs.declared.items.Item.{Item}
+use Rattle.td_trees.specs.declared.tree.Typed.{Typed}
+use Rattle.td_algebra.specs.declared.errors.Fault.{Fault}
+use Rattle.td_algebra.specs.declared.errors.Fault.TheVariants.{Raised, OutOfMemory}
+use Rattle.td_algebra.specs.declared.errors.Stop.{Stop}
+use Rattle.td_algebra.specs.Nested.{relation_value}
+use Rattle.td_algebra.specs.Raising.{Answers, AnswersBy, and_then}
+use Rattle.td_meaning.specs.declared.scope.Held.{Held}
+use Rattle.td_meaning.specs.ForProofs.Latest.{latest}
+use Rattle.td_meaning.specs.ForProofs.Over.{Means, list_meant, items_meant, item_meant, all_meant, turn}
+use Rattle.td_meaning.specs.Mean.{Names, at, named_at, introduced, given, same_text}
+use Rattle.td_meaning.specs.Operators.{as_value, in_turn}
+use Rattle.td_meaning.specs.Seen.{all_given, held_value}
+
+-- ---- in turn
+
+module _ {X A : Type 0} (f : X → Result A Stop) where
+  put_before : (done : List A) (a : A) (w : Result (List A) Stop) → and_then w (λ rest. Ok ((done ++ a ∷ []) ++ rest)) ≡ and_then (and_then w (λ rest. Ok (a ∷ rest))) (λ rest. Ok (done ++ rest))
+  put_before done a (Ok rest) = ap Ok (append_assoc done (a ∷ []) rest)
+  put_before done a (Err e) = refl
+
+  by_first : (done : List A) (xs : List X) (w : Result A Stop) → ((a : A) → turn f (done ++ a ∷ []) xs ≡ and_then (in_turn f xs) (λ rest. Ok ((done ++ a ∷ []) ++ rest)))
+      → and_then w (λ a. turn f (done ++ a ∷ []) xs) ≡ and_then (and_then w (λ a. and_then (in_turn f xs) (λ rest. Ok (a ∷ rest)))) (λ rest. Ok (done ++ rest))
+  by_first done xs (Ok a) more = more a ∙ put_before done a (in_turn f xs)
+  by_first done xs (Err e) more = refl
+
+  turn_from : (done : List A) (xs : List X) → turn f done xs ≡ and_then (in_turn f xs) (λ rest. Ok (done ++ rest))
+  turn_from done [] = ap Ok (sym (append-nil done))
+  turn_from done (x ∷ xs) = by_first done xs (f x) (λ a. turn_from (done ++ a ∷ []) xs)
+
+  behind_none : (w : Result (List A) Stop) → and_then w (λ rest. Ok ([] ++ rest)) ≡ w
+  behind_none (Ok xs) = refl
+  behind_none (Err e) = refl
+
+  pub turn_begins : (xs : List X) → in_turn f xs ≡ turn f [] xs
+  turn_begins xs = sym (turn_from [] xs ∙ behind_none (in_turn f xs))
+
+  module _ (xs : List X) (i : ℕ) (x : X) (done : List A) (within : i < length xs) (is : x ≡ get_or xs i x) where
+    turn_more : turn f done (drop i xs) ≡ and_then (f x) (λ a. turn f (done ++ a ∷ []) (drop (i + 1) xs))
+    turn_more =
+        ap (turn f done) (drop_more xs i x within)
+        ∙ ap (λ y. and_then (f y) (λ a. turn f (done ++ a ∷ []) (drop (i + 1) xs))) (sym is)
+
+    pub turn_goes : (a : A) → f x ≡ Ok a → turn f done (drop i xs) ≡ turn f (done ++ a ∷ []) (drop (i + 1) xs)
+    turn_goes a h = turn_more ∙ ap (λ w. and_then w (λ a. turn f (done ++ a ∷ []) (drop (i + 1) xs))) h
+
+    pub turn_stops : (e : Stop) → f x ≡ Err e → turn f done (drop i xs) ≡ Err e
+    turn_stops e h = turn_more ∙ ap (λ w. and_then w (λ a. turn f (done ++ a ∷ []) (drop (i + 1) xs))) h
+
+-- an error that was answered within, as the answer
+pub fails : {A B V : Type 0} (see : V → B) (fault : Fault) (w : Result A Stop) (all : Result B Stop) → ((e : Stop) → w ≡ Err e → all ≡ Err e) → Answers {A = A} (Err fault) w → AnswersBy see (Err fault) all
+fails see OutOfMemory w all stops h = tt
+fails see (Raised e) w all stops h = stops e h
+
+module _ (m : Means) (names : Names) where
+  -- ---- values
+  module _ (xs : List Typed) (i : ℕ) (x a : Typed) (done : List Datum) (within : i < length xs) (is : x ≡ get_or xs i x) (value : a ≡ x) where
+    at_is : at names (m x) ≡ m a names
+    unfolding at
+    at_is = ap (λ b. m b names) (sym value)
+
+    value_more : turn (at names) done (list_meant m (drop i xs)) ≡ and_then (at names (m x)) (λ d. turn (at names) (done ++ d ∷ []) (list_meant m (drop (i + 1) xs)))
+    value_more =
+        ap (λ ys. turn (at names) done (list_meant m ys)) (drop_more xs i x within)
+        ∙ ap (λ y. and_then (at names (m y)) (λ d. turn (at names) (done ++ d ∷ []) (list_meant m (drop (i + 1) xs)))) (sym is)
+
+    pub value_goes : (d : Datum) → m a names ≡ Ok d → turn (at names) done (list_meant m (drop i xs)) ≡ turn (at names) (done ++ d ∷ []) (list_meant m (drop (i + 1) xs))
+    value_goes d h = value_more ∙ ap (λ w. and_then w (λ d. turn (at names) (done ++ d ∷ []) (list_meant m (drop (i + 1) xs)))) (at_is ∙ h)
+
+    pub value_stops : (e : Stop) → m a names ≡ Err e → turn (at names) done (list_meant m (drop i xs)) ≡ Err e
+    value_stops e h = value_more ∙ ap (λ w. and_then w (λ d. turn (at names) (done ++ d ∷ []) (list_meant m (drop (i + 1) xs)))) (at_is ∙ h)
+
+  -- ---- names and values
+  module _ (xs : List (Item Typed)) (i : ℕ) (x : Item Typed) (a : Typed) (done : List (List ℕ × Datum)) (within : i < length xs) (is : x ≡ get_or xs i x) (value : a ≡ x.term) where
+    named_is : named_at names (item_meant m x) ≡ and_then (m a names) (λ d. Ok (x.name, d))
+    unfolding named_at
+    named_is = ap (λ b. and_then (m b names) (λ d. Ok (x.name, d))) (sym value)
+
+    field_more : turn (named_at names) done (items_meant m (drop i xs)) ≡ and_then (named_at names (item_meant m x)) (λ f. turn (named_at names) (done ++ f ∷ []) (items_meant m (drop (i + 1) xs)))
+    field_more =
+        ap (λ ys. turn (named_at names) done (items_meant m ys)) (drop_more xs i x within)
+        ∙ ap (λ y. and_then (named_at names (item_meant m y)) (λ f. turn (named_at names) (done ++ f ∷ []) (items_meant m (drop (i + 1) xs)))) (sym is)
+
+    pub field_goes : (d : Datum) → m a names ≡ Ok d → turn (named_at names) done (items_meant m (drop i xs)) ≡ turn (named_at names) (done ++ (x.name, d) ∷ []) (items_meant m (drop (i + 1) xs))
+    field_goes d h = field_more ∙ ap (λ w. and_then w (λ f. turn (named_at names) (done ++ f ∷ []) (items_meant m (drop (i + 1) xs)))) (named_is ∙ ap (λ w. and_then w (λ d. Ok (x.name, d))) h)
+
+    pub field_stops : (e : Stop) → m a names ≡ Err e → turn (named_at names) done (items_meant m (drop i xs)) ≡ Err e
+    field_stops e h = field_more ∙ ap (λ w. and_then w (λ f. turn (named_at names) (done ++ f ∷ []) (items_meant m (drop (i + 1) xs)))) (named_is ∙ ap (λ w. and_then w (λ d. Ok (x.name, d))) h)
+
+-- ---- names of WITH
+
+module _ (m : Means) (names : Names) (xs : List (Named Typed)) (i : ℕ) (x : Named Typed) (a : Typed) (within : i < length xs) (is : x ≡ get_or xs i x) (value : a ≡ x.value) where
+  name_more : introduced (all_meant m (drop i xs)) names ≡ and_then (m a names) (λ d. introduced (all_meant m (drop (i + 1) xs)) (given x.name d names))
+  unfolding introduced
+  name_more =
+      ap (λ ys. introduced (all_meant m ys) names) (drop_more xs i x within)
+      ∙ ap (λ (y : Named Typed). and_then (m y.value names) (λ d. introduced (all_meant m (drop (i + 1) xs)) (given y.name d names))) (sym is)
+      ∙ ap (λ b. and_then (m b names) (λ d. introduced (all_meant m (drop (i + 1) xs)) (given x.name d names))) (sym value)
+
+  pub name_goes : (d : Datum) → m a names ≡ Ok d → introduced (all_meant m (drop i xs)) names ≡ introduced (all_meant m (drop (i + 1) xs)) (given x.name d names)
+  name_goes d h = name_more ∙ ap (λ w. and_then w (λ d. introduced (all_meant m (drop (i + 1) xs)) (given x.name d names))) h
+
+  pub name_stops : (e : Stop) → m a names ≡ Err e → introduced (all_meant m (drop i xs)) names ≡ Err e
+  name_stops e h = name_more ∙ ap (λ w. and_then w (λ d. introduced (all_meant m (drop (i + 1) xs)) (given x.name d names))) h
+
+given_behind : (ns : List (Named Held)) (n : Named Held) (outer : Names) → all_given (ns ++ n ∷ []) outer ≡ given n.name (held_value n.value) (all_given ns outer)
+given_behind [] n outer = refl
+given_behind (m ∷ ns) n outer = given_behind ns n (given m.name (held_value m.value) outer)
+
+pub one_more_given : (old new : List (Named Held)) (x : List ℕ) (h : Held) (d : Datum) (outer : Names) → held_value h ≡ d → new ≡ old ++ record { name = x; value = h } ∷ [] → all_given new outer ≡ given x d (all_given old outer)
+one_more_given old new x h d outer same is =
+    ap (λ ns. all_given ns outer) is ∙ given_behind old (record { name = x; value = h }) outer ∙ ap (λ d. given x d (all_given old outer)) same
+
+-- the last of the names, as it is found
+abbrev pub or_outer : Option Held → Option Datum → Option Datum
+or_outer None o = o
+or_outer (Some h) o = Some (held_value h)
+
+pub last_given : (ns : List (Named Held)) (names : Names) (x : List ℕ) (f : Option Held) (o : Option Datum) → names x ≡ or_outer f o → all_given ns names x ≡ or_outer (latest ns x f) o
+last_given [] names x f o e = e
+last_given (n ∷ ns) names x f o e =
+    last_given ns (given n.name (held_value n.value) names) x (cond (same_text n.name x) (Some n.value) f) o
+    (elim (same_text n.name x) as (λ b. cond b (Some (held_value n.value)) (names x) ≡ or_outer (cond b (Some n.value) f) o) [ true ↦ refl | false ↦ e ])
+
+-- ---- a relation made over a relation
+
+module _ (all : Result RowsData Stop) (f : RowsData → Result RowsData Stop) (ts us : RowsData) (first : all ≡ Ok ts) (lent : us ≡ ts) where
+  over_first : and_then all (λ r. and_then (f r) as_value) ≡ and_then (f us) as_value
+  over_first = ap (λ w. and_then w (λ r. and_then (f r) as_value)) first ∙ ap (λ r. and_then (f r) as_value) (sym lent)
+
+  pub made_over : (n : RowsData) (d : Datum) → f us ≡ Ok n → d ≡ relation_value n → and_then all (λ r. and_then (f r) as_value) ≡ Ok d
+  made_over n d made is = over_first ∙ ap (λ w. and_then w as_value) made ∙ ap Ok (sym is)
+
+  pub stops_over : (e : Stop) → f us ≡ Err e → and_then all (λ r. and_then (f r) as_value) ≡ Err e
+  stops_over e stop = over_first ∙ ap (λ w. and_then w as_value) stop
+
+module _ (all : Result RowsData Stop) (g : RowsData → Result RowsData Stop) (f : RowsData → RowsData → Result RowsData Stop) (ts us t1 t2 u : RowsData) where
+  pub over_both : all ≡ Ok ts → t1 ≡ ts → t2 ≡ ts → g t1 ≡ Ok us → u ≡ us → and_then all (λ r. and_then (g r) (λ s. and_then (f r s) as_value)) ≡ and_then (f t2 u) as_value
+  over_both first p1 p2 second q =
+      ap (λ w. and_then w (λ r. and_then (g r) (λ s. and_then (f r s) as_value))) first
+      ∙ ap (λ w. and_then w (λ s. and_then (f ts s) as_value)) (ap g (sym p1) ∙ second)
+      ∙ (λ i. and_then (f (sym p2 i) (sym q i)) as_value)

@@ -1,0 +1,58 @@
+-- The forms with terms, over the expressions themselves and not over their meanings.
+use Rattle.std.specs.Prelude.{List, [], ◌∷◌, ◌++◌, map, Result, Ok}
+use Rattle.td_values.specs.Data.{Datum, Attrs}
+use Rattle.td_syntax.specs.declared.tree.Named.{Named}
+use Rattle.td_tuples.specs.declared.items.Item.{Item}
+use Rattle.td_tuples.specs.declared.items.Summary.{Summary}
+use Rattle.td_trees.specs.declared.tree.TypedGroups.{TypedGroups}
+use Rattle.td_trees.specs.declared.tree.TypedGroups.TheVariants as groups
+use Rattle.td_trees.specs.declared.tree.Typed.{Typed}
+use Rattle.td_algebra.specs.declared.errors.Stop.{Stop}
+use Rattle.td_algebra.specs.Functions.{extended, summarized}
+use Rattle.td_algebra.specs.Raising.{and_then}
+use Rattle.td_algebra.specs.Summaries.{summary_over}
+use Rattle.td_meaning.specs.Mean.{Names, Meaning, within, rows_in, groups_at}
+use Rattle.td_meaning.specs.Operators.{as_value}
+
+-- what terms mean, and their values at tuples
+abbrev pub Means : Type 0
+Means = Typed → Meaning
+
+unfoldable pub terms : Means → Names → Typed → Attrs → Result Datum Stop
+terms m names e t = m e (within t names)
+
+-- the meanings of lists
+abbrev pub list_meant : Means → List Typed → List Meaning
+list_meant m all = map m all
+
+abbrev pub item_meant : Means → Item Typed → Item Meaning
+item_meant m i = record { name = i.name; ty = i.ty; term = m i.term }
+
+abbrev pub items_meant : Means → List (Item Typed) → List (Item Meaning)
+items_meant m items = map (item_meant m) items
+
+abbrev pub named_meant : Means → Named Typed → Named Meaning
+named_meant m n = record { name = n.name; value = m n.value }
+
+abbrev pub all_meant : Means → List (Named Typed) → List (Named Meaning)
+all_meant m xs = map (named_meant m) xs
+
+abbrev pub groups_meant : Means → TypedGroups Typed → TypedGroups Meaning
+groups_meant m groups.Whole = groups.Whole
+groups_meant m (groups.Per a) = groups.Per (m a)
+groups_meant m (groups.By xs) = groups.By xs
+
+-- the forms
+unfoldable pub over_aggregate : Means → Typed → Summary Typed → Meaning
+over_aggregate m r s names = and_then (rows_in (m r) names) (λ ts. summary_over (terms m names) ts.tuples s)
+
+unfoldable pub over_extend : Means → Typed → List (Item Typed) → Meaning
+over_extend m r items names = and_then (rows_in (m r) names) (λ ts. and_then (extended (terms m names) items ts) as_value)
+
+unfoldable pub over_summarize : Means → Typed → TypedGroups Typed → List (Item (Summary Typed)) → Meaning
+over_summarize m r g items names = and_then (rows_in (m r) names) (λ ts. and_then (groups_at (groups_meant m g) names ts) (λ us. and_then (summarized (terms m names) items ts us) as_value))
+
+-- ---- in turn, behind what was found
+abbrev pub turn : {X A : Type 0} → (X → Result A Stop) → List A → List X → Result (List A) Stop
+turn f done [] = Ok done
+turn f done (x ∷ xs) = and_then (f x) (λ a. turn f (done ++ a ∷ []) xs)

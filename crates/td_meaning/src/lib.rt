@@ -1,0 +1,17 @@
+//! What typed expressions mean: their values, or the errors that they raise.
+#![tactic(auto)]
+
+pub mod environment;
+mod evaluation;
+pub mod operand;
+mod operators;
+mod pairs;
+mod parts;
+mod relations;
+pub mod scope;
+mod selections;
+mod tuples;
+
+pub use environment::{Environment, Known};
+pub use evaluation::eval;
+pub use scope::{Held, Scope};

@@ -1,0 +1,106 @@
+//! Names in scope.
+
+ghost use Rattle.std.specs.Prelude.{◌≡◌, IfOk, MatchOption, None, Some};
+ghost use Rattle.std.specs.Option.{option_copied};
+ghost use Rattle.td_meaning.specs.ForProofs.Lent.{meant_value};
+ghost use Rattle.td_meaning.specs.ForProofs.Latest.{latest};
+ghost use Rattle.td_meaning.specs.Seen.{held_value, visible};
+ghost use Rattle.td_meaning.specs.Selections.{components};
+
+use td_relations::Relation;
+use td_syntax::tree::Named;
+use td_values::{Kind, Name, Tuple, Value};
+
+/// The value of a name of WITH. A relation is held as operators take it, so that it can be lent.
+#[derive(Drop)]
+pub enum Held {
+    Rows(Relation),
+    Other(Value),
+}
+
+/// The names in scope, the innermost first.
+#[derive(Clone, Copy)]
+pub enum Scope<'a> {
+    Nothing,
+    /// The attributes of a tuple.
+    Within(&'a Tuple, &'a Scope<'a>),
+    /// Names of WITH, of which a later one hides an earlier one.
+    Given(&'a [Named<Held>], &'a Scope<'a>),
+    /// The components of a possrep: their names, and as many values.
+    Components(&'a [Name], &'a [Value]),
+}
+
+/// What a name stands for, where it stands.
+#[derive(Clone, Copy)]
+pub enum Meant<'a> {
+    Value(&'a Value),
+    Rows(&'a Relation),
+}
+
+/// The value, held as a name of WITH.
+pub(crate) fn hold(value: Value) -> Held
+    ensures { held_value result ≡ value }
+{
+    match value.kind {
+        Kind::Relation(rows) => Held::Rows(Relation::of(rows)),
+        kind => Held::Other(Value { kind }),
+    }
+}
+
+fn lent(held: &Held) -> Meant<'_>
+    ensures { meant_value result ≡ held_value held.now }
+{
+    match held {
+        Held::Rows(relation) => Meant::Rows(relation),
+        Held::Other(value) => Meant::Value(value),
+    }
+}
+
+// What stands at the last of these that has the name.
+fn latest<'a>(names: &'a [Named<Held>], name: &Name) -> Option<&'a Held>
+    ensures { option_copied result ≡ latest names.now name.now None }
+{
+    let mut found = None;
+    for named in names {
+        if named.name == *name {
+            found = Some(&named.value);
+        }
+    }
+    found
+}
+
+// The value at the first of these that is the name.
+fn component<'a>(names: &[Name], values: &'a [Value], name: &Name) -> Option<&'a Value>
+    ensures { option_copied result ≡ components names.now values.now name.now }
+{
+    for i in 0..names.len().min(values.len()) {
+        if names[i] == *name {
+            return Some(&values[i]);
+        }
+    }
+    None
+}
+
+impl Scope<'_> {
+    /// What the name stands for: the innermost names are looked at first. It takes as many look-ups as scopes are around, and
+    /// as many steps as WITH has names and a possrep components.
+    pub(crate) fn find(&self, name: &Name) -> Option<Meant<'_>>
+        ensures { MatchOption result (visible self.now name.now ≡ None) (λ m. visible self.now name.now ≡ Some (meant_value m)) }
+    {
+        match self {
+            Scope::Nothing => None,
+            Scope::Within(tuple, outer) => match tuple.get(name) {
+                Some(value) => Some(Meant::Value(value)),
+                None => outer.find(name),
+            },
+            Scope::Given(names, outer) => match latest(names, name) {
+                Some(held) => Some(lent(held)),
+                None => outer.find(name),
+            },
+            Scope::Components(names, values) => match component(names, values, name) {
+                Some(value) => Some(Meant::Value(value)),
+                None => None,
+            },
+        }
+    }
+}
