@@ -1,0 +1,126 @@
+//! Evaluation.
+
+ghost use Rattle.std.specs.Prelude.{◌≡◌, IfOk, OnOk};
+ghost use Rattle.td_algebra.specs.Raising.{Answers};
+ghost use Rattle.td_meaning.specs.Mean.{rows_in};
+ghost use Rattle.td_meaning.specs.Seen.{mean_in};
+ghost use Rattle.td_meaning.specs.Selections.{selection};
+ghost use Rattle.td_meaning.specs.Values as spec;
+ghost use Rattle.td_eval.specs.ForProofs.Environments.{Keeps, base_known, bases_known, one_more, virtual_known, virtuals_known};
+ghost use Rattle.td_eval.specs.Meanings.{means, no_names};
+
+use crate::lookup::Lookup;
+use std::alloc::{AllocError, Global};
+use td_algebra::{Fault, Stop};
+use td_headings::TypedExpr;
+use td_meaning::{Environment, Known, Scope};
+use td_relations::Relation;
+use td_trees::expression::{BaseUnder, Selector, VirtualUnder};
+use td_trees::tree::Typed;
+use td_values::{Kind, Tuple, Value};
+
+// The answer, with the error that it may be.
+fn kept(answer: Result<Relation, Fault>) -> Result<Result<Relation, Stop>, AllocError>
+    ensures { Keeps answer result }
+{
+    match answer {
+        Ok(relation) => Ok(Ok(relation)),
+        Err(Fault::Raised(stop)) => Ok(Err(stop)),
+        Err(Fault::OutOfMemory) => Err(AllocError),
+    }
+}
+
+fn known_base<L: Lookup>(alloc: Global, lookup: &L, base: &BaseUnder) -> Result<Known, AllocError>
+    ensures { IfOk result (λ k. k ≡ base_known (L.relvars lookup.now) base.now) }
+{
+    let value = kept(lookup.value(alloc, base.place))?;
+    Ok(Known {
+        place: base.place,
+        value,
+    })
+}
+
+// Each base relvar is looked up once.
+fn known_bases<L: Lookup>(
+    alloc: Global,
+    lookup: &L,
+    bases: &[BaseUnder],
+) -> Result<Vec<Known>, AllocError>
+    ensures { IfOk result (λ v. v.items ≡ bases_known (L.relvars lookup.now) bases.now) }
+{
+    let mut known = Vec::with_capacity(alloc, bases.len())?;
+    for base in bases {
+        known.push(known_base(alloc, lookup, base)?)?;
+    }
+    Ok(known)
+}
+
+fn relation_of(value: Value) -> Result<Relation, Fault>
+    ensures { Answers result (spec.rows_of value) }
+{
+    match value.kind {
+        Kind::Relation(rows) => Ok(Relation::of(rows)),
+        _ => Err(Fault::Raised(Stop::Untyped)),
+    }
+}
+
+#[tactic(auto, unfolding(td_meaning::specs::Mean::rows_in))]
+fn rows(alloc: Global, env: &Environment, tree: &Typed) -> Result<Relation, Fault>
+    ensures { Answers result (rows_in (mean_in env.now tree.now) no_names) }
+{
+    relation_of(td_meaning::eval(alloc, env, tree, &Scope::Nothing)?)
+}
+
+fn known_virtual(
+    alloc: Global,
+    relvars: &[Known],
+    selectors: &[Selector],
+    under: &VirtualUnder,
+) -> Result<Known, AllocError>
+    ensures { IfOk result (λ k. k ≡ virtual_known (selection selectors.now) relvars.now under.now) }
+{
+    let env = Environment { relvars, selectors };
+    let value = kept(rows(alloc, &env, under.tree.get()))?;
+    Ok(Known {
+        place: under.place,
+        value,
+    })
+}
+
+// Each virtual relvar is evaluated once, over those before it. What it raises is kept: it may not be needed.
+fn add_virtuals(
+    alloc: Global,
+    known: &mut Vec<Known>,
+    selectors: &[Selector],
+    virtuals: &[VirtualUnder],
+) -> Result<(), AllocError>
+    ensures { OnOk result (known.new.items ≡ virtuals_known (selection selectors.now) virtuals.now known.old.items) }
+{
+    for under in virtuals {
+        let next = known_virtual(alloc, known, selectors, under)?;
+        known.push(next)?;
+    }
+    Ok(())
+}
+
+/// The value of the expression within the tuple, or the error that it raises. Each base relvar that it reads is looked up once, and
+/// each virtual relvar under it is evaluated once.
+pub fn eval<L: Lookup>(
+    alloc: Global,
+    expr: &TypedExpr,
+    lookup: &L,
+    tuple: &Tuple,
+) -> Result<Value, Fault>
+    ensures { Answers result (means expr.now (L.relvars lookup.now) tuple.now) }
+{
+    let expression = expr.get();
+    let selectors = expression.selectors.as_slice();
+    let mut known = known_bases(alloc, lookup, expression.bases.as_slice())?;
+    add_virtuals(alloc, &mut known, selectors, expression.virtuals.as_slice())?;
+    let env = Environment {
+        relvars: &known,
+        selectors,
+    };
+    let scope = Scope::Within(tuple, &Scope::Nothing);
+    td_meaning::eval(alloc, &env, expression.tree.get(), &scope)
+}

@@ -1,0 +1,9 @@
+//! Evaluation of typed expressions: their values, or the errors that they raise.
+#![tactic(auto)]
+
+mod evaluation;
+pub mod laws;
+pub mod lookup;
+
+pub use evaluation::eval;
+pub use lookup::Lookup;
