@@ -1,0 +1,4 @@
+//! What typed expressions mean has their types.
+#![tactic(auto)]
+
+pub mod laws;
