@@ -42,13 +42,13 @@ use Rattle.td_eval.proofs.Named.{named_agree}
 use Rattle.td_eval.proofs.Placed.{named_defined, names_earlier}
 
 -- ---- lists of places
-either : {P : Type 0} (x : ℕ) (xs : List ℕ) (n : ℕ) → Contains (x ∷ xs) n → (n ≡ x → P) → (Contains xs n → P) → P
+pub either : {P : Type 0} (x : ℕ) (xs : List ℕ) (n : ℕ) → Contains (x ∷ xs) n → (n ≡ x → P) → (Contains xs n → P) → P
 either x xs n h here there = ⊎_elim (λ p. here (the_one x n p)) there (Contains-append_cases (x ∷ []) xs n h)
 
 pub further : (x : ℕ) (xs : List ℕ) (n : ℕ) → Contains xs n → Contains (x ∷ xs) n
 further x xs n h = Contains-append_right (x ∷ []) xs n h
 
-none_there : {P : Type 0} (n : ℕ) → Contains [] n → P
+pub none_there : {P : Type 0} (n : ℕ) → Contains [] n → P
 none_there n h = absurd (omega (arith, h.1))
 
 -- later places are greater
@@ -131,7 +131,7 @@ module _ (c : CatalogueData) (defined : Defined c) (x : Expression) (tree : IsTr
   inside n h = reached_within c.origins x.tree n ((u.reached.members n).0 h)
 
   -- what the tree names, and what the expression of a virtual relvar among them names, is among them
-  tree_names : (w : ℕ) → Contains (named_relvars x.tree) w → Contains all_places w
+  pub tree_names : (w : ℕ) → Contains (named_relvars x.tree) w → Contains all_places w
   tree_names w h =
       let lt = named_defined c defined x.attributes x.tree x.kind tree w h in
       (u.reached.members w).1 (start h (omega (arith, lt, length-map c.origins relvars_under)))

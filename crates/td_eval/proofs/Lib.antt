@@ -3,3 +3,9 @@ pub mod Named
 pub mod Placed
 pub mod Known
 pub mod Virtuals
+pub mod Selected
+pub mod AllThere
+pub mod OfTypes
+pub mod TypeNames
+pub mod HasValues
+pub mod Told

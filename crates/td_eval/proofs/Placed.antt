@@ -1,4 +1,5 @@
--- The relvars that typed expressions name are defined, and those in the expression of a virtual relvar before it.
+-- The relvars and possreps that typed expressions name are defined, those in the expression of a virtual relvar before it, and so
+-- are those in the CONSTRAINT of a possrep.
 use Rattle.std.proofs.Common.{◌≡◌, ℕ, ℤ, zero, suc, ◌<◌, ◌+◌, ◌++◌, Bool, true, false, List, [], ◌∷◌, map, length, Option, Some, None, if◌then◌else◌, ⊎_elim, refl, ap, sym, subst, arith, rules}
 use Rattle.std.specs.Prelude.{slice_get}
 use Rattle.std.specs.FinMap as by_name
@@ -21,9 +22,11 @@ use Rattle.td_syntax.specs.declared.tree.Summary.{Summary}
 use Rattle.td_kinds.specs.declared.scope.Meant.TheVariants.{Local as local, Relvar as relvar}
 use Rattle.td_kinds.specs.Kinds.{Text}
 use Rattle.td_kinds.specs.Lists.{pair_of}
-use Rattle.td_kinds.specs.Schemas.{SchemaData, first_from, is_named, relvar_named, same_text}
-use Rattle.td_kinds.specs.Scopes.{Scope, within, given, all_given, relvars_of, as_relvar, or_outer}
-use Rattle.td_trees.specs.Mentions.{Mentions, mentioned, relvars_in}
+use Rattle.td_kinds.specs.Schemas.{SchemaData, first_from, has_possrep, is_named, possrep_named, relvar_named, same_text}
+use Rattle.td_kinds.specs.Scopes.{Scope, nothing, within, given, all_given, relvars_of, as_relvar, or_outer}
+use Rattle.td_kinds.specs.Written.{columns}
+use Rattle.td_kinds.specs.declared.schema.Representation.{Representation}
+use Rattle.td_trees.specs.Mentions.{Mentions, mentioned, relvars_in, possreps_in}
 use Rattle.td_trees.specs.ForProofs.Mentioned.{list_mentioned, items_mentioned, named_mentioned, summary_mentioned, summaries_mentioned, groups_mentioned}
 use Rattle.td_trees.specs.declared.mentions.Mention.TheVariants as mention
 use Rattle.td_trees.specs.declared.tree.TypedGroups.{TypedGroups}
@@ -35,13 +38,13 @@ use Rattle.td_typing.specs.Trees.{trees, summary_of}
 use Rattle.td_typing.specs.Types as types
 use Rattle.td_typing.specs.Types.{Types, TypesEach, TypesItems, TypesInTurn, TypesGroups, TypesSummaries}
 use Rattle.td_headings.specs.Catalogues.{CatalogueData}
-use Rattle.td_headings.specs.Definitions.{Defines, type_, base, virtual, constraint, Defined, nothing_yet, one_more, names_of_relvars}
+use Rattle.td_headings.specs.Definitions.{Defines, type_, base, virtual, constraint, Defined, nothing_yet, one_more, names_of_relvars, TypesLimit, no_limit, limit}
 use Rattle.td_headings.specs.Expressions.{IsTree}
-use Rattle.td_headings.specs.Reached.{named_relvars}
+use Rattle.td_headings.specs.Reached.{named_relvars, named_possreps, possreps_within}
 use Rattle.td_headings.specs.declared.defined.Origin.{Origin}
 use Rattle.td_headings.specs.declared.defined.Origin.TheVariants as origin
 use Rattle.td_headings.proofs.WellTyped.{all_typed}
-use Rattle.td_eval.proofs.Named.{relvars_append}
+use Rattle.td_eval.proofs.Named.{relvars_append, possreps_append}
 
 -- ---- what the other forms mention
 of_integer : (n : ℤ) → mentioned (t.Integer n) ≡ []
@@ -74,7 +77,7 @@ of_nest o a xs c = search (rules, the_lemmas)
 of_unnest : (o : Nesting) (a : Typed) (c : Text) → mentioned (t.Unnest o a c) ≡ mentioned a
 of_unnest o a c = search (rules, the_lemmas)
 
--- ---- names that stand for relvars stand for relvars that are defined
+-- ---- names that stand for relvars and possreps stand for those that are defined
 abbrev Below : ℕ → Scope → Type 0
 Below n s = (x : Text) (m : ℕ) (h : Header) → s x ≡ Some (relvar m h) → m < n
 
@@ -115,19 +118,34 @@ relvars_below cat x m h is = by (relvar_named cat x) refl is
     by None p e = cc
     by (Some r) p e = let same : r.0 ≡ m = cc in let lt = first_below 0 (is_named x) cat.relvars r p in omega (arith, same, lt)
 
--- ---- so what is typed names relvars that are defined
+nothing_below : (n : ℕ) → Below n nothing
+nothing_below n x m h is = cc
+
+possrep_below : (cat : SchemaData) (x : Text) (n : ℕ) (r : Representation) → possrep_named cat x ≡ Some (n, r) → n < length cat.possreps
+possrep_below cat x n r is = let lt = first_below 0 (has_possrep x) cat.possreps (n, r) is in omega (arith, lt)
+
+-- ---- so what is typed names relvars and possreps that are defined
 module _ (cat : SchemaData) where
   abbrev Inside : Mentions → Type 0
-  Inside ms = (w : ℕ) → Contains (relvars_in ms) w → w < length cat.relvars
+  Inside ms = ((w : ℕ) → Contains (relvars_in ms) w → w < length cat.relvars) × ((w : ℕ) → Contains (possreps_in ms) w → w < length cat.possreps)
 
   none : Inside []
-  none w h = absurd (omega (arith, h.1))
+  none = (λ w h. absurd (omega (arith, h.1)), λ w h. absurd (omega (arith, h.1)))
 
   one : (n : ℕ) → n < length cat.relvars → Inside (mention.Relvar n ∷ [])
-  one n lt w h = subst (λ m. m < length cat.relvars) (sym (the_one n w h)) lt
+  one n lt = (λ w h. subst (λ m. m < length cat.relvars) (sym (the_one n w h)) lt, λ w h. absurd (omega (arith, h.1)))
+
+  selects : (n : ℕ) (ms : Mentions) → n < length cat.possreps → Inside ms → Inside (mention.Possrep n ∷ ms)
+  selects n ms lt rest = (
+    rest.0,
+    (λ w h. ⊎_elim (λ here. subst (λ m. m < length cat.possreps) (sym (the_one n w here)) lt) (rest.1 w) (Contains-append_cases (n ∷ []) (possreps_in ms) w h)),
+  )
 
   both : (ms ns : Mentions) → Inside ms → Inside ns → Inside (ms ++ ns)
-  both ms ns p q w h = ⊎_elim (p w) (q w) (Contains-append_cases (relvars_in ms) (relvars_in ns) w (subst (λ l. Contains l w) (relvars_append ms ns) h))
+  both ms ns p q = (
+    (λ w h. ⊎_elim (p.0 w) (q.0 w) (Contains-append_cases (relvars_in ms) (relvars_in ns) w (subst (λ l. Contains l w) (relvars_append ms ns) h))),
+    (λ w h. ⊎_elim (p.1 w) (q.1 w) (Contains-append_cases (possreps_in ms) (possreps_in ns) w (subst (λ l. Contains l w) (possreps_append ms ns) h))),
+  )
 
   seen : (ms ns : Mentions) → ms ≡ ns → Inside ns → Inside ms
   seen ms ns is = subst Inside (sym is)
@@ -151,7 +169,7 @@ module _ (cat : SchemaData) where
     inside s sees types.table_dum = seen _ _ (of_relation by_name.empty []) none
     inside s sees (types.local_name {x} is) = seen _ _ (of_local x) none
     inside s sees (types.relvar_name {x} {n} {h} is) = seen _ _ (of_relvar n) (one n (sees x n h is))
-    inside s sees (types.selector {ys} {n} plain is all fit) = seen _ _ (of_select n (trees ys)) (inside_each s sees all)
+    inside s sees (types.selector {x} {ys} {n} {r} plain is all fit) = seen _ _ (of_select n (trees ys)) (selects n (list_mentioned (trees ys)) (possrep_below cat x n r is) (inside_each s sees all))
     inside s sees (types.component {u} {i} the a is has) = seen _ _ (of_component i u) (inside s sees a)
     inside s sees (types.tuple {is} distinct all) = seen _ _ (of_tuple is) (inside_items s sees all)
     inside s sees (types.tuples {ys} {h} all fit) = seen _ _ (of_relation h (trees ys)) (inside_each s sees all)
@@ -193,17 +211,27 @@ module _ (cat : SchemaData) where
     inside_in_turn s sees types.last = none
     inside_in_turn s sees (types.further {ks} {u} {us} a rest) = both (mentioned u) (named_mentioned us) (inside (all_given ks s) (all_given_below _ ks s sees) a) (inside_in_turn s sees rest)
 
-pub named_defined : (c : CatalogueData) → Defined c → (h : Header) (u : Typed) (k : TypeKind) → IsTree c h u k → (w : ℕ) → Contains (named_relvars u) w → w < length c.origins
-named_defined c defined h u k tree w named =
-    let lt = inside c.schema (within h (relvars_of c.schema)) (within_below (length c.schema.relvars) h (relvars_of c.schema) (relvars_below c.schema)) tree.types w named in
-    let each = (all_typed c defined).origin_each in
-    omega (arith, lt, each)
+module _ (c : CatalogueData) (defined : Defined c) (h : Header) (u : Typed) (k : TypeKind) (tree : IsTree c h u k) where
+  tree_inside : Inside c.schema (mentioned u)
+  tree_inside = inside c.schema (within h (relvars_of c.schema)) (within_below (length c.schema.relvars) h (relvars_of c.schema) (relvars_below c.schema)) tree.types
+
+  pub named_defined : (w : ℕ) → Contains (named_relvars u) w → w < length c.origins
+  named_defined w named =
+      let lt = tree_inside.0 w named in
+      let each = (all_typed c defined).origin_each in
+      omega (arith, lt, each)
+
+  pub selected_defined : (w : ℕ) → Contains (named_possreps u) w → w < length c.limits
+  selected_defined w named =
+      let lt = tree_inside.1 w named in
+      let each = (all_typed c defined).limit_each in
+      omega (arith, lt, each)
 
 -- ---- what stands at a place stands in the front, or is the last
-some_same : {A : Type 0} (a b : A) → Some a ≡ Some b → a ≡ b
+pub some_same : {A : Type 0} (a b : A) → Some a ≡ Some b → a ≡ b
 some_same a b h = cc
 
-front_or_last : {A P : Type 0} (xs : List A) (y : A) (n : ℕ) (z : A) → slice_get (xs ++ y ∷ []) n ≡ Some z → (slice_get xs n ≡ Some z → P) → (n ≡ length xs → y ≡ z → P) → P
+pub front_or_last : {A P : Type 0} (xs : List A) (y : A) (n : ℕ) (z : A) → slice_get (xs ++ y ∷ []) n ≡ Some z → (slice_get xs n ≡ Some z → P) → (n ≡ length xs → y ≡ z → P) → P
 front_or_last [] y zero z h front last = last refl (some_same y z h)
 front_or_last [] y (suc n) z h front last = cc
 front_or_last (x ∷ xs) y zero z h front last = front h
@@ -225,9 +253,33 @@ defines_earlier c x d defined before (virtual {u = v} new is) n u h w named =
     (λ old. before n u old w named)
     (λ at same.
     let each = (all_typed c defined).origin_each in
-    let lt = inside c.schema (names_of_relvars c) (relvars_below c.schema) is w (subst (λ (z : Typed). Contains (named_relvars z) w) (sym (ap (tree_in u) same)) named) in
+    let lt = (inside c.schema (names_of_relvars c) (relvars_below c.schema) is).0 w (subst (λ (z : Typed). Contains (named_relvars z) w) (sym (ap (tree_in u) same)) named) in
     omega (arith, at, each, lt))
 
 pub names_earlier : (c : CatalogueData) → Defined c → Earlier c
 names_earlier c nothing_yet n u h w named = cc
 names_earlier c (one_more {c = old} {x} before is) n u h w named = defines_earlier old x c before (names_earlier old before) is n u h w named
+
+-- ---- and the CONSTRAINT of a possrep selects those before it
+limit_inside : (c : CatalogueData) (ks : List (Named TypeKind)) (a : Option Expr) (u : Option Typed) → TypesLimit c ks a u → (w : ℕ) → Contains (possreps_within u) w → w < length c.schema.possreps
+limit_inside c ks a u no_limit w h = absurd (omega (arith, h.1))
+limit_inside c ks a u (limit d) w h = (inside c.schema (within (columns ks) nothing) (within_below (length c.schema.relvars) (columns ks) nothing (nothing_below (length c.schema.relvars))) d).1 w h
+
+abbrev SelectsEarlier : CatalogueData → Type 0
+SelectsEarlier c = (n : ℕ) (u : Option Typed) → slice_get c.limits n ≡ Some u → (w : ℕ) → Contains (possreps_within u) w → w < n
+
+defines_selecting : (c : CatalogueData) (x : Definition) (d : CatalogueData) → Defined c → SelectsEarlier c → Defines c x d → SelectsEarlier d
+defines_selecting c x d defined before (type_ {a} {ks} {u = v} new_type new_possrep plain are is) n u h w named =
+    front_or_last c.limits v n u h
+    (λ old. before n u old w named)
+    (λ at same.
+    let each = (all_typed c defined).limit_each in
+    let lt = limit_inside c ks a v is w (subst (λ (z : Option Typed). Contains (possreps_within z) w) (sym same) named) in
+    omega (arith, at, each, lt))
+defines_selecting c x d defined before (constraint new is) n u h w named = before n u h w named
+defines_selecting c x d defined before (base new is are) n u h w named = before n u h w named
+defines_selecting c x d defined before (virtual new is) n u h w named = before n u h w named
+
+pub selects_earlier : (c : CatalogueData) → Defined c → SelectsEarlier c
+selects_earlier c nothing_yet n u h w named = cc
+selects_earlier c (one_more {c = old} {x} before is) n u h w named = defines_selecting old x c before (selects_earlier old before) is n u h w named

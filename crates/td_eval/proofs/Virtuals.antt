@@ -49,7 +49,7 @@ module _ (c : CatalogueData) (defined : Defined c) (selected : Selection) where
       rest (put m e r) n (λ h. f (further m ms n h))
       ∙ other_stays m e r n (λ same. absurd (true≢false (sym (f (0, omega arith, same)) ∙ ap stored (sym same) ∙ ap is_base is)))
 
-  stays : (ns : List ℕ) → Stays ns
+  pub stays : (ns : List ℕ) → Stays ns
   stays [] r n f = refl
   stays (m ∷ ms) r n f = one_stays m ms (stays ms) r n f (slice_get c.origins m) refl
 
@@ -75,7 +75,7 @@ module _ (c : CatalogueData) (defined : Defined c) (selected : Selection) where
       (λ same. subst (IsIts (after ms (put m e r))) same (first_is m ms e r sorted is))
       (rest (put m e r))
 
-  each_is : (ns : List ℕ) → IsStrictlySortedBy nat_cmp ns → (r : Relvars) (v : VirtualUnder) → Contains (filter_map (virtual_at c) ns) v → IsIts (after ns r) v
+  pub each_is : (ns : List ℕ) → IsStrictlySortedBy nat_cmp ns → (r : Relvars) (v : VirtualUnder) → Contains (filter_map (virtual_at c) ns) v → IsIts (after ns r) v
   each_is [] sorted r v h = absurd (omega (arith, h.1))
   each_is (m ∷ ms) sorted r v h = one_is m ms v sorted (λ q. each_is ms (sorted_tail nat_cmp m ms sorted) q v) r (slice_get c.origins m) refl h
 

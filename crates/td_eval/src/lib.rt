@@ -4,6 +4,8 @@
 mod evaluation;
 pub mod laws;
 pub mod lookup;
+pub mod valued;
 
 pub use evaluation::eval;
 pub use lookup::Lookup;
+pub use valued::{Failure, relation, truth, value};
