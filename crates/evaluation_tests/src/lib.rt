@@ -9,3 +9,5 @@ mod database;
 mod queries;
 #[cfg(test)]
 mod virtuals;
+#[cfg(test)]
+mod worked;
