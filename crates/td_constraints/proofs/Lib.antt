@@ -1,0 +1,4 @@
+-- The proofs of the crate.
+pub mod Keys
+pub mod Tested
+pub mod Judged

@@ -1,0 +1,5 @@
+-- The definitions of the crate.
+pub mod Tests
+pub mod Stored
+pub mod Reports
+pub mod ForProofs

@@ -1,0 +1,20 @@
+//! What is told of a test that fails.
+
+use td_values::{Name, Raise};
+
+/// A test, as it is told.
+#[derive(Drop)]
+pub enum Broken {
+    /// A key of this relvar.
+    Key(Name),
+    /// The constraint of this name.
+    Constraint(Name),
+}
+
+/// A test that fails.
+#[derive(Drop)]
+pub struct TestFailure {
+    pub test: Broken,
+    /// The error that it raises; none where it is false.
+    pub raised: Option<Raise>,
+}

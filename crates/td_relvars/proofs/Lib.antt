@@ -1,0 +1,6 @@
+-- The proofs of the crate.
+pub mod Stores
+pub mod Defining
+pub mod Inits
+pub mod Asked
+pub mod Told

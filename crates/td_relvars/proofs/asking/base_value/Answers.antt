@@ -1,0 +1,18 @@
+use Rattle.std.proofs.Common.{Some, ap, sym, ◌∙◌, slice_get}
+use Rattle.std.specs.Option.{option_copied}
+use Rattle.td_relvars.specs.Databases.{relvars_in}
+use Rattle.td_relvars.proofs.Asked.{base_stays}
+use Rattle.td_relvars.proofs.Stores.{looked_up, not_stored}
+use Rattle.td_relvars.proofs.asking.base_value.Goals as goal
+
+pub unreachable-requires : goal.unreachable-requires
+unreachable-requires c =
+    let d = c.args.database.now in
+    not_stored (slice_get d.stored c.args.place) c.requires.relation c.requires.has (sym c.base_at.ensures ∙ ap option_copied c.in-None.is)
+
+pub returns : goal.returns
+returns c =
+    let d = c.args.database.now in
+    let n = c.args.place in
+    base_stays d.catalogue (relvars_in d.stored) n c.requires.is_real
+    ∙ looked_up (slice_get d.stored n) c.in_ok-copy_relation-in-Some.field-0 (sym c.in-Some.ensures ∙ ap Some (sym c.in_ok-copy_relation-in-Some.ensures))

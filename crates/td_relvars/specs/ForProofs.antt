@@ -1,0 +1,4 @@
+-- Words that only proofs and private functions use.
+pub mod Empty
+pub mod Asked
+pub mod Opened

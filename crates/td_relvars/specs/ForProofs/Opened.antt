@@ -1,0 +1,58 @@
+-- What each step of opening a script gives.
+use Rattle.std.specs.Prelude.{◌≡◌, ℕ, List, Option, None, Some, Result, Ok, Err}
+use Rattle.td_values.specs.Headings.{Header}
+use Rattle.td_values.specs.Rows.{RowsData}
+use Rattle.td_syntax.specs.declared.script.Definition.{Definition}
+use Rattle.td_trees.specs.declared.tree.Typed.{Typed}
+use Rattle.td_algebra.specs.declared.errors.Stop.{Stop}
+use Rattle.td_grammar.specs.Statements.{IsScript}
+use Rattle.td_headings.specs.Catalogues.{CatalogueData}
+use Rattle.td_headings.specs.declared.defined.Test.{Test}
+use Rattle.td_eval.specs.Raises.{Tells, stop_of}
+use Rattle.td_eval.specs.declared.valued.Failure.{Failure}
+use Rattle.td_eval.specs.declared.valued.Failure.TheVariants as failure
+use Rattle.td_constraints.specs.Reports.{title}
+use Rattle.td_constraints.specs.Tests.{failing}
+use Rattle.td_relvars.specs.Databases.{DatabaseData, Stored, relvars_in}
+use Rattle.td_relvars.specs.Openings.{opening, relation_in}
+use Rattle.td_relvars.specs.Scripts.{IsIllTyped, IsScriptOf}
+use Rattle.td_relvars.specs.declared.error.OpenError.{OpenError}
+use Rattle.td_relvars.specs.declared.error.OpenError.TheVariants as refusal
+
+-- the catalogue of a script
+abbrev pub Reads : List ℕ → Result CatalogueData OpenError → Type 0
+Reads text (Ok c) = IsScriptOf text c
+Reads text (Err refusal.Syntax) = (ds : List Definition) → ¬ IsScript text ds
+Reads text (Err refusal.IllTyped) = IsIllTyped text
+Reads text (Err (refusal.OpeningRaised e)) = ⊥
+Reads text (Err (refusal.OpeningBroken b)) = ⊥
+Reads text (Err refusal.OutOfMemory) = Unit {0}
+
+-- the value of an INIT that is there
+abbrev pub TellsInit : CatalogueData → Stored → Option (Typed × Header) → Result RowsData Failure → Type 0
+TellsInit c stored None a = ⊥
+TellsInit c stored (Some v) a = Tells a (relation_in c stored v.0)
+
+-- what is stored after a step that may raise
+abbrev pub Leaves : Result (Unit {0}) Failure → Stored → Result Stored Stop → Type 0
+Leaves (Ok u) new m = m ≡ Ok new
+Leaves (Err (failure.Raised e)) new m = m ≡ Err (stop_of e)
+Leaves (Err failure.OutOfMemory) new m = Unit {0}
+
+-- the opening relvars of a catalogue
+abbrev pub Fills : CatalogueData → Result DatabaseData Failure → Type 0
+Fills c (Ok d) = (d.catalogue ≡ c) × (opening c ≡ Ok d.stored)
+Fills c (Err (failure.Raised e)) = opening c ≡ Err (stop_of e)
+Fills c (Err failure.OutOfMemory) = Unit {0}
+
+abbrev pub first_in : DatabaseData → Option (Test × Option Stop)
+first_in d = failing d.catalogue (relvars_in d.stored) d.catalogue.tests
+
+-- the database where its tests are true
+abbrev pub Judges : DatabaseData → Result DatabaseData OpenError → Type 0
+Judges d (Ok e) = (e ≡ d) × (first_in d ≡ None)
+Judges d (Err refusal.Syntax) = ⊥
+Judges d (Err refusal.IllTyped) = ⊥
+Judges d (Err (refusal.OpeningRaised e)) = ⊥
+Judges d (Err (refusal.OpeningBroken b)) = (t : Test) × (o : Option Stop) × (first_in d ≡ Some (t, o)) × (b ≡ title d.catalogue t)
+Judges d (Err refusal.OutOfMemory) = Unit {0}

@@ -1,0 +1,6 @@
+-- The definitions of the crate.
+pub mod Databases
+pub mod Openings
+pub mod Scripts
+pub mod Answers
+pub mod ForProofs

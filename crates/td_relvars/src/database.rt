@@ -1,0 +1,138 @@
+//! Databases.
+
+ghost use Rattle.std.specs.Prelude.{◌≡◌, IfOk, slice_get};
+ghost use Rattle.std.specs.Option.{option_copied};
+ghost use Rattle.std.specs.FinSet as set;
+ghost use Rattle.td_relations.specs.Sets.{relation_of};
+ghost use Rattle.td_headings.specs.Definitions.{Defined};
+ghost use Rattle.td_relvars.specs.Databases as spec;
+ghost use Rattle.td_relvars.specs.Databases.{Belongs, IsDatabase, put};
+ghost use Rattle.td_relvars.specs.ForProofs.Empty.{empty_in};
+ghost use Rattle.td_relvars.specs.Openings as opening;
+
+use crate::base::Base;
+use sqlite_items::Items;
+use std::alloc::{AllocError, Global};
+use std::marker::Model;
+use td_algebra::{Fault, Stop};
+use td_eval::Lookup;
+use td_headings::{Catalogue, Origin};
+use td_relations::Relation;
+use td_values::{Heading, Name};
+
+/// What a script has defined, and what each base relvar has.
+#[derive(Drop)]
+pub struct Database {
+    catalogue: Catalogue,
+    stored: Items<Option<Base>>,
+}
+
+impl Model for Database {
+    ghost use Rattle.td_relvars.specs.Databases.{DatabaseData, IsDatabase, database_code};
+
+    ghost Value = { DatabaseData };
+
+    ghost coded = { database_code };
+
+    ghost view = { λ d. record { catalogue = d.catalogue; stored = d.stored } };
+
+    ghost invariant = { λ d. IsDatabase (record { catalogue = d.catalogue; stored = d.stored }) };
+}
+
+impl Lookup for Database {
+    ghost use Rattle.td_relvars.specs.Databases.{relvars_in};
+
+    ghost relvars = { λ d. relvars_in d.stored };
+
+    fn value(&self, alloc: Global, relvar: usize) -> Result<Relation, Fault> {
+        match self.base_at(relvar) {
+            Some(base) => Ok(base.copy_relation(alloc)?),
+            None => Err(Fault::Raised(Stop::Untyped)),
+        }
+    }
+}
+
+// No tuples of the heading.
+fn no_tuples(alloc: Global, heading: &Heading) -> Result<Base, AllocError>
+    ensures { IfOk result (λ b. b ≡ relation_of heading.now set.empty) }
+{
+    let heading = heading.copy()?;
+    Ok(Base::of(Relation::empty(alloc, heading)))
+}
+
+// What the relvar at the place has where it is empty, if it is a base relvar.
+fn empty_at(alloc: Global, catalogue: &Catalogue, place: usize) -> Result<Option<Base>, AllocError>
+    ensures { IfOk result (λ b. b ≡ empty_in (slice_get catalogue.now.origins place) (slice_get catalogue.now.schema.relvars place)) }
+{
+    match (catalogue.origin(place), catalogue.schema().relvar_at(place)) {
+        (Some(Origin::Base(_, _)), Some((_, heading))) => Ok(Some(no_tuples(alloc, heading)?)),
+        _ => Ok(None),
+    }
+}
+
+fn all_empty(alloc: Global, catalogue: &Catalogue) -> Result<Items<Option<Base>>, AllocError>
+    ensures empty { IfOk result (λ s. s ≡ opening.all_empty catalogue.now.origins catalogue.now.schema.relvars) }
+    ensures defined { Defined catalogue.now }
+{
+    let mut stored = Items::new(alloc);
+    for place in 0..catalogue.schema().relvar_count() {
+        stored.push(empty_at(alloc, catalogue, place)?)?;
+    }
+    Ok(stored)
+}
+
+impl Database {
+    /// One whose base relvars are empty.
+    pub(crate) fn empty(alloc: Global, catalogue: Catalogue) -> Result<Database, AllocError>
+        ensures catalogue { IfOk result (λ d. d.catalogue ≡ catalogue) }
+        ensures stored { IfOk result (λ d. d.stored ≡ opening.all_empty catalogue.origins catalogue.schema.relvars) }
+    {
+        let stored = all_empty(alloc, &catalogue)?;
+        Ok(Database { catalogue, stored })
+    }
+
+    /// What the script has defined.
+    pub fn catalogue(&self) -> &Catalogue
+        ensures same { result.now ≡ self.now.catalogue }
+        ensures database { IsDatabase self.now }
+    {
+        &self.catalogue
+    }
+
+    /// What the relvar at the place has, if something is stored there.
+    pub fn base_at(&self, place: usize) -> Option<&Base>
+        ensures { option_copied result ≡ spec.base_at self.now place }
+    {
+        match self.stored.get(place) {
+            Some(Some(base)) => Some(base),
+            _ => None,
+        }
+    }
+
+    /// What the relvar of this name has, if something is stored.
+    pub fn base_of(&self, name: &Name) -> Option<&Base>
+        ensures { option_copied result ≡ spec.base_named self.now name.now }
+    {
+        match self.catalogue.schema().relvar(name) {
+            Some((place, _)) => self.base_at(place),
+            None => None,
+        }
+    }
+
+    /// The relation, to be what the relvar at the place has. It takes no memory.
+    pub fn make_base(&self, relvar: usize, relation: Relation) -> Base
+        requires { Belongs self.now.catalogue relvar relation }
+        ensures { result ≡ relation }
+    {
+        Base::of(relation)
+    }
+
+    /// Puts what the base relvar at the place is to have in place of what it has. It takes no memory.
+    pub fn set(&mut self, relvar: usize, base: Base)
+        requires { Belongs self.old.catalogue relvar base }
+        ensures catalogue { self.new.catalogue ≡ self.old.catalogue }
+        ensures stored { self.new.stored ≡ put relvar base self.old.stored }
+    {
+        self.stored.set(relvar, Some(base));
+    }
+}

@@ -1,0 +1,39 @@
+//! Why a script opens no database, and why a relvar is not told.
+
+ghost use Rattle.std.specs.Prelude.{◌≡◌};
+ghost use Rattle.td_relvars.specs.declared.error.AskError.TheVariants as ask_error;
+
+use std::alloc::AllocError;
+use td_constraints::Broken;
+use td_values::Raise;
+use thiserror::Error;
+
+/// Why a script opens no database.
+#[derive(Drop)]
+pub enum OpenError {
+    /// The text is no script.
+    Syntax,
+    IllTyped,
+    /// What a relvar is to hold at first raises this error.
+    OpeningRaised(Raise),
+    /// This test is the first that is false of the opening relvars, or raises.
+    OpeningBroken(Broken),
+    OutOfMemory,
+}
+
+/// Why a relvar is not told.
+#[derive(Clone, Copy, Debug, Drop, PartialEq, Eq, Error)]
+pub enum AskError {
+    #[error("no relvar has this name")]
+    Unknown,
+    #[error("out of memory")]
+    OutOfMemory,
+}
+
+impl From<AllocError> for AskError {
+    ghost from_gives = { λ _ e. e ≡ ask_error.OutOfMemory };
+
+    fn from(_e: AllocError) -> AskError {
+        AskError::OutOfMemory
+    }
+}
