@@ -6,6 +6,8 @@
 #[cfg(test)]
 mod database;
 #[cfg(test)]
+mod opening;
+#[cfg(test)]
 mod queries;
 #[cfg(test)]
 mod virtuals;
