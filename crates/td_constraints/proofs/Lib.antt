@@ -2,3 +2,5 @@
 pub mod Keys
 pub mod Tested
 pub mod Judged
+pub mod Apart
+pub mod Legal

@@ -2,4 +2,5 @@
 pub mod Tests
 pub mod Stored
 pub mod Reports
+pub mod Laws
 pub mod ForProofs

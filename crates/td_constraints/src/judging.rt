@@ -18,7 +18,7 @@ use td_headings::{Catalogue, Test, constraint_expr};
 use td_relations::Relation;
 use td_values::{Name, Raise};
 
-// As many parts as tuples are there where no two tuples have one part.
+// Whether no two tuples agree on the key's attributes: then their parts there are as many as they are.
 fn is_key(alloc: Global, relation: &Relation, key: &[Name]) -> Result<bool, AllocError>
     ensures { IfOk result (λ b. b ≡ spec.is_key key.now relation.now.tuples) }
 {
@@ -26,7 +26,7 @@ fn is_key(alloc: Global, relation: &Relation, key: &[Name]) -> Result<bool, Allo
     Ok(parts.len() == relation.tuples().len())
 }
 
-// What a relvar has that has a relation.
+// What a relvar has, of which it is known to be a relation.
 fn stored<L: Lookup>(alloc: Global, lookup: &L, relvar: usize) -> Result<Relation, AllocError>
     requires { HasRelation (L.relvars lookup.now relvar) }
     ensures { IfOk result (λ r. L.relvars lookup.now relvar ≡ Ok r) }

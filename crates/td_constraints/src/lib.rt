@@ -3,6 +3,7 @@
 
 pub mod failure;
 mod judging;
+pub mod laws;
 
 pub use failure::{Broken, TestFailure};
 pub use judging::first_failure;

@@ -13,6 +13,7 @@ use Rattle.td_relvars.specs.declared.answer.Answer.TheVariants.{Relation, Raised
 use Rattle.td_relvars.specs.declared.error.AskError.{AskError}
 use Rattle.td_relvars.specs.declared.error.AskError.TheVariants.{Unknown, OutOfMemory}
 
+-- the answer says what is meant
 abbrev pub Says : Answer → Result RowsData Stop → Type 0
 Says (Relation r) m = m ≡ Ok r
 Says (Raised e) m = m ≡ Err (stop_of e)

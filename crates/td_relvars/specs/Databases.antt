@@ -28,6 +28,7 @@ abbrev pub database_code : Coded DatabaseData
 database_code =
     code_by (CatalogueData × Stored) (coded× catalogue_code (coded_list (coded_option rows_code))) (λ d. (d.catalogue, d.stored)) (λ p. record { catalogue = p.0; stored = p.1 }) (λ _. refl)
 
+-- what base relvars have
 abbrev pub at_place : Option (Option RowsData) → Result RowsData Stop
 at_place (Some (Some r)) = Ok r
 at_place _ = Err Untyped

@@ -17,6 +17,7 @@ use Rattle.td_meaning.specs.Values.{rows_of}
 use Rattle.td_eval.specs.Trees.{places, tree_means}
 use Rattle.td_relvars.specs.Databases.{Stored, put, relvars_in}
 
+-- a base relvar is empty at first; for a virtual one nothing is stored
 abbrev pub empty_at : Origin → Named Header → Option RowsData
 empty_at (origin.Base ks u) v = Some (relation_of v.value set.empty)
 empty_at (origin.Virtual u) v = None
@@ -29,14 +30,16 @@ all_empty os vs = []
 abbrev pub relation_in : CatalogueData → Stored → Typed → Result RowsData Stop
 relation_in c stored u = and_then (tree_means c (relvars_in stored) u no_attrs) rows_of
 
--- with the value of the INIT, if there is one. It names only relvars before its own, so that those behind are still empty is not seen
+-- with the value of the INIT, if there is one. It names only relvars before its own, and doesn't see that those behind are empty
 abbrev pub with_init : CatalogueData → Stored → ℕ → Option (Typed × Header) → Result Stored Stop
 with_init c stored n None = Ok stored
 with_init c stored n (Some v) = and_then (relation_in c stored v.0) (λ r. Ok (put n r stored))
 
+-- with those of the relvars at these places, one after the other; the first error stands
 abbrev pub opened : CatalogueData → List ℕ → Stored → Result Stored Stop
 opened c [] stored = Ok stored
 opened c (n ∷ ns) stored = and_then (with_init c stored n (init_at c n)) (opened c ns)
 
+-- with those of all
 abbrev pub opening : CatalogueData → Result Stored Stop
 opening c = opened c (places c.origins) (all_empty c.origins c.schema.relvars)

@@ -1,12 +1,11 @@
 -- What a script opens: the first refusal, or a database whose tests are all true.
-use Rattle.std.specs.Prelude.{◌≡◌, ℕ, List, [], ◌∷◌, None, Some, Result, Ok, Err}
+use Rattle.std.specs.Prelude.{◌≡◌, ℕ, List, [], ◌∷◌, Option, None, Some, Result, Ok, Err}
 use Rattle.td_syntax.specs.declared.script.Definition.{Definition}
 use Rattle.td_grammar.specs.Statements.{IsScript}
 use Rattle.td_headings.specs.Catalogues.{CatalogueData, nothing_defined}
 use Rattle.td_headings.specs.Definitions.{Defines}
 use Rattle.td_headings.specs.declared.defined.Test.{Test}
 use Rattle.td_algebra.specs.declared.errors.Stop.{Stop}
-use Rattle.std.specs.Prelude.{Option}
 use Rattle.td_eval.specs.Raises.{stop_of}
 use Rattle.td_constraints.specs.Reports.{title}
 use Rattle.td_constraints.specs.Tests.{failing}
@@ -32,12 +31,13 @@ pub record IsIllTyped (text : List ℕ) : Type 0 where
   pub reads : IsScript text definitions
   pub refused : (c : CatalogueData) → DefinesAll nothing_defined definitions c → ⊥
 
--- the first test that fails over the opening relvars is this one
+-- the script opens these relvars, over which this test is the first that fails, or none does
 pub record OpensOn (text : List ℕ) (failure : Option (Test × Option Stop)) (d : DatabaseData) : Type 0 where
   pub script : IsScriptOf text d.catalogue
   pub opens : opening d.catalogue ≡ Ok d.stored
   pub first : failing d.catalogue (relvars_in d.stored) d.catalogue.tests ≡ failure
 
+-- a database, or the first refusal; want of memory tells nothing
 abbrev pub Opens : List ℕ → Result DatabaseData OpenError → Type 0
 Opens text (Ok d) = OpensOn text None d
 Opens text (Err Syntax) = (ds : List Definition) → ¬ IsScript text ds

@@ -31,6 +31,7 @@ pub record IsNameOf (c : CatalogueData) (n : ℕ) (h : Header) (x : Expression) 
   pub kind_ : x.kind ≡ kind.Relation h
   pub within : IsIn c x
 
+-- what the relvar at the place has, which is there
 abbrev pub TellsAt : DatabaseData → ℕ → Result Answer AskError → Type 0
 TellsAt d n (Ok a) = Says a (all_relvars d.catalogue (relvars_in d.stored) n)
 TellsAt d n (Err Unknown) = ⊥

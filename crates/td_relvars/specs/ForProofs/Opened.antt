@@ -45,6 +45,7 @@ Fills c (Ok d) = (d.catalogue ≡ c) × (opening c ≡ Ok d.stored)
 Fills c (Err (failure.Raised e)) = opening c ≡ Err (stop_of e)
 Fills c (Err failure.OutOfMemory) = Unit {0}
 
+-- the first test that fails of a database
 abbrev pub first_in : DatabaseData → Option (Test × Option Stop)
 first_in d = failing d.catalogue (relvars_in d.stored) d.catalogue.tests
 
