@@ -13,7 +13,7 @@ use Rattle.td_replay.specs.declared.refusal.IssueError.{IssueError}
 use Rattle.td_replay.specs.declared.refusal.IssueError.TheVariants as issue_error
 use Rattle.td_replay.specs.Reader.{read_statement}
 use Rattle.td_replay.specs.Typing.{Typed, typed, catalogue_of, statement_of}
-use Rattle.td_replay.specs.Step.{Relations, step, opening, relations_after, outcomes_of, AreRelations}
+use Rattle.td_replay.specs.Step.{Relations, entry_step, opening, relations_after, outcomes_of, AreRelations}
 use Rattle.td_replay.specs.Seen.{Seen, Keeps, with_entries, relvars_in}
 use Rattle.td_stamps.specs.declared.entry.Stamp.{Stamp}
 use Rattle.td_stamps.specs.Entries.{stamp_of}
@@ -26,7 +26,7 @@ use Rattle.td_replay.proofs.Steps.{step_keeps, opening_are}
 
 -- the relations of a story are those of its relvars, with every key true
 pub story_are : (rs : List Relvar) (es : List Entry) → AreRelations rs (relations_after rs es)
-story_are rs es = kept_at_end (step rs) (AreRelations rs) (λ xs text are. step_keeps rs xs text are) (opening rs) es (opening_are rs)
+story_are rs es = kept_at_end (entry_step rs) (AreRelations rs) (λ xs e are. step_keeps rs xs e.text are) (opening rs) es (opening_are rs)
 
 short_by : (n : ℕ) (b : Bool) (o : Option Insertion) (i : Insertion) → nat_le n 8192 ≡ b → cond b o None ≡ Some i → n ≤ 8192
 short_by n true o i test e = leb-true n 8192 test
@@ -85,16 +85,16 @@ pub keeps_last : (script : List ℕ) (site : ℕ) (rs : List Relvar) (es es' : L
 keeps_last script site rs es es' e xs ys outs outs' ran keeps told all moved said = record {
   site_fits = keeps.site_fits;
   accepted = keeps.accepted;
-  relations_are = moved ∙ ap (λ (zs : Relations). changed zs ran.change) keeps.relations_are ∙ sym told.change ∙ sym (state_after-push (step rs) (opening rs) es e) ∙ ap (relations_after rs) (sym all);
+  relations_are = moved ∙ ap (λ (zs : Relations). changed zs ran.change) keeps.relations_are ∙ sym told.change ∙ sym (state_after-push (entry_step rs) (opening rs) es e) ∙ ap (relations_after rs) (sym all);
   outcomes_are = said ∙ ap (λ (o : List (Stamp × Outcome)). o ++ (stamp_of e, ran.outcome) ∷ []) keeps.outcomes_are
-      ∙ ap (λ (o : Outcome). outcomes_of rs es ++ (stamp_of e, o) ∷ []) (sym told.outcome) ∙ sym (outcomes_from-push (step rs) (opening rs) es e) ∙ ap (outcomes_of rs) (sym all);
+      ∙ ap (λ (o : Outcome). outcomes_of rs es ++ (stamp_of e, o) ∷ []) (sym told.outcome) ∙ sym (outcomes_from-push (entry_step rs) (opening rs) es e) ∙ ap (outcomes_of rs) (sym all);
 }
 
 -- the outcomes of a site with one more entry, which comes last
 pub told_last : (s s' : Seen) (e : Entry) (text : List ℕ) (stamp : Stamp) (outcome : Outcome) → s' ≡ with_entries s (s.entries ++ e ∷ []) → e.text ≡ text → stamp ≡ stamp_of e → outcome ≡ outcome_in s text → told_of s' ≡ told_of s ++ (stamp, outcome) ∷ []
 told_last s s' e text stamp outcome added is at told =
     ap told_of added
-    ∙ outcomes_from-push (step (relvars_in s)) (opening (relvars_in s)) s.entries e
+    ∙ outcomes_from-push (entry_step (relvars_in s)) (opening (relvars_in s)) s.entries e
     ∙ ap (λ (t : List ℕ). told_of s ++ (stamp_of e, outcome_in s t) ∷ []) is
     ∙ ap (λ (o : Outcome). told_of s ++ (stamp_of e, o) ∷ []) (sym told)
     ∙ ap (λ (m : Stamp). told_of s ++ (m, outcome) ∷ []) (sym at)

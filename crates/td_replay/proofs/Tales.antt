@@ -7,7 +7,7 @@ use Rattle.td_replay.specs.declared.catalogue.Relvar.{Relvar}
 use Rattle.td_replay.specs.declared.step.Outcome.{Outcome}
 use Rattle.td_replay.specs.declared.step.Ran.{Ran}
 use Rattle.td_replay.specs.Typing.{statement_of}
-use Rattle.td_replay.specs.Step.{Relations, step, AreRelations}
+use Rattle.td_replay.specs.Step.{Relations, step, entry_step, AreRelations}
 use Rattle.td_replay.specs.Runs.{changed, RunsTyped}
 use Rattle.td_replay.proofs.Steps.{step_keeps}
 
@@ -19,14 +19,14 @@ module _ (rs : List Relvar) (xs ys : Relations) (e : Entry) (ran : Ran) (told : 
   left : (step rs xs e.text).1 ≡ ys
   left = told.change ∙ sym moved
 
-  pub state_goes_on : (es rest : List Entry) → es ≡ e ∷ rest → story.state_after (step rs) ys rest ≡ story.state_after (step rs) xs es
-  state_goes_on es rest is = sym (ap (story.state_after (step rs) xs) is ∙ ap (λ (zs : Relations). story.state_after (step rs) zs rest) left)
+  pub state_goes_on : (es rest : List Entry) → es ≡ e ∷ rest → story.state_after (entry_step rs) ys rest ≡ story.state_after (entry_step rs) xs es
+  state_goes_on es rest is = sym (ap (story.state_after (entry_step rs) xs) is ∙ ap (λ (zs : Relations). story.state_after (entry_step rs) zs rest) left)
 
-  pub outcomes_go_on : (es rest : List Entry) → es ≡ e ∷ rest → (stamp_of e, ran.outcome) ∷ story.outcomes_from (step rs) ys rest ≡ story.outcomes_from (step rs) xs es
+  pub outcomes_go_on : (es rest : List Entry) → es ≡ e ∷ rest → (stamp_of e, ran.outcome) ∷ story.outcomes_from (entry_step rs) ys rest ≡ story.outcomes_from (entry_step rs) xs es
   outcomes_go_on es rest is =
-      sym (ap (story.outcomes_from (step rs) xs) is
-      ∙ ap (λ (o : Outcome). (stamp_of e, o) ∷ story.outcomes_from (step rs) (step rs xs e.text).1 rest) told.outcome
-      ∙ ap (λ (zs : Relations). (stamp_of e, ran.outcome) ∷ story.outcomes_from (step rs) zs rest) left)
+      sym (ap (story.outcomes_from (entry_step rs) xs) is
+      ∙ ap (λ (o : Outcome). (stamp_of e, o) ∷ story.outcomes_from (entry_step rs) (step rs xs e.text).1 rest) told.outcome
+      ∙ ap (λ (zs : Relations). (stamp_of e, ran.outcome) ∷ story.outcomes_from (entry_step rs) zs rest) left)
 
   pub keys_go_on : AreRelations rs xs → AreRelations rs ys
   keys_go_on are = subst (AreRelations rs) left (step_keeps rs xs e.text are)

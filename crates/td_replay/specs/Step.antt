@@ -76,12 +76,16 @@ step_of rs old (Some s) = let new = with_tuples_at s.0 s.1 old in judged old new
 abbrev pub step : List Relvar → Relations → List ℕ → Outcome × Relations
 step rs old text = step_of rs old (statement_of rs text)
 
+-- an entry's step is that of its text
+abbrev pub entry_step : List Relvar → Relations → Entry → Outcome × Relations
+entry_step rs old e = step rs old e.text
+
 -- the story of a set of entries in stamp order: each run once, the first from the opening relvars
 abbrev pub relations_after : List Relvar → List Entry → Relations
-relations_after rs es = story.state_after (step rs) (opening rs) es
+relations_after rs es = story.state_after (entry_step rs) (opening rs) es
 
 abbrev pub outcomes_of : List Relvar → List Entry → List (Stamp × Outcome)
-outcomes_of rs es = story.outcomes_from (step rs) (opening rs) es
+outcomes_of rs es = story.outcomes_from (entry_step rs) (opening rs) es
 
 -- every key is true
 abbrev pub IsLegal : List Relvar → Relations → Type 0

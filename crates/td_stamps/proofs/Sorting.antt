@@ -259,7 +259,7 @@ none_of None h = refl
 none_of (Some x) h = absurd (h x refl)
 
 -- where a map by numbers finds a key
-at_number : (m n : ℕ) → tree.is_at (nat_cmp m) n ≡ eqb m n
+pub at_number : (m n : ℕ) → tree.is_at (nat_cmp m) n ≡ eqb m n
 at_number m n = elim (cases_Bool (ltb m n)) [
   | inl less ↦ let differ : eqb m n ≡ false = grind (arith, nat_tests) in rw (less, differ) refl
   | inr not_less ↦ rw not_less (elim (eqb m n) as (λ b. tree.is_at (λ _. cond b Equal Greater) n ≡ b) [ true ↦ refl | false ↦ refl ])

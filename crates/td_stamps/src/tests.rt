@@ -1,5 +1,5 @@
 //! Worked examples, on the entries that a site holds.
-use crate::{CheckError, Entry, Held, NextError, PrepareError, Stamp};
+use crate::{CheckError, Entry, Held, NextError, PrepareError, Stamp, Vector};
 use std::alloc::{AllocError, Global};
 use std::test::Fail;
 use td_values::Text;
@@ -185,5 +185,57 @@ fn next_clock_counts_all_sites(rt: HostRuntime) -> Result<(), Fail> {
     assert!(rt; next(alloc, &[one, two], 3)? == Ok((1, 2)));
     let last = (2, 1, END, DELETE);
     assert!(rt; next(alloc, &[last], 1)? == Err(NextError::ClockEnd));
+    Ok(())
+}
+
+// Whether a site that holds the first entries has this version vector, is sent so many of the
+// second ones by it, and has these stamps then.
+fn meets(
+    alloc: Global,
+    before: &[Parts],
+    vector: &[(u16, u32)],
+    others: &[Parts],
+    count: usize,
+    after: &[(u64, u16)],
+) -> Result<bool, PrepareError> {
+    let mut held = held_of(alloc, 10_000, before)?;
+    let own = held.vector(alloc)?;
+    let is_vector = own.entries(alloc)?.as_slice() == vector;
+    let sent = held_of(alloc, 10_000, others)?.after(alloc, &own)?;
+    take(&mut held, alloc, &sent)?;
+    Ok(is_vector && sent.len() == count && has_stamps(&held, after))
+}
+
+#[test]
+fn vector_stops_at_a_gap(rt: HostRuntime) -> Result<(), Fail> {
+    let alloc = rt.alloc();
+    let (first, second, third) = ((1, 1, 1, FIRST), (1, 2, 3, SECOND), (1, 3, 5, DELETE));
+    let other = (2, 1, 2, DELETE);
+    let all: &[Parts] = &[first, other, second, third];
+    let stamps: &[(u64, u16)] = &[(1, 1), (2, 2), (3, 1), (5, 1)];
+    assert!(rt; meets(alloc, &[first, third], &[(1, 1)], all, 3, stamps)?);
+    assert!(rt; meets(alloc, &[third, second, first], &[(1, 3)], all, 1, stamps)?);
+    assert!(rt; meets(alloc, all, &[(1, 3), (2, 1)], all, 0, stamps)?);
+    Ok(())
+}
+
+#[test]
+fn vector_by_hand(rt: HostRuntime) -> Result<(), Fail> {
+    let mut vector = Vector::new(rt.alloc());
+    assert!(rt; vector.is_empty());
+    assert!(rt; vector.insert(2, 7)? && vector.insert(1, 3)? && !vector.insert(2, 9)?);
+    let copy = vector.copy()?;
+    assert!(rt; copy.len() == 2 && copy.number(2) == 7 && copy.number(3) == 0);
+    Ok(())
+}
+
+#[test]
+fn last_is_popped(rt: HostRuntime) -> Result<(), Fail> {
+    let mut held = held_of(rt.alloc(), 2, &[(2, 1, 1, SECOND), (1, 1, 1, FIRST)])?;
+    match held.pop_last() {
+        Some(last) => assert!(rt; last.site == 2),
+        None => assert!(rt; false),
+    }
+    assert!(rt; has_stamps(&held, &[(1, 1)]));
     Ok(())
 }

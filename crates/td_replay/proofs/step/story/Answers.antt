@@ -1,7 +1,7 @@
 use Rattle.std.proofs.Common.{◌∷◌, [], ◌++◌, refl, sym, ap, ◌∙◌, subst, append_assoc}
 use Rattle.td_stamps.specs.declared.entry.Stamp.{Stamp}
 use Rattle.td_stamps.specs.Story as story
-use Rattle.td_replay.specs.Step.{Relations, step, AreRelations}
+use Rattle.td_replay.specs.Step.{Relations, entry_step, AreRelations}
 use Rattle.td_replay.proofs.Steps.{opening_are}
 use Rattle.td_replay.proofs.Tales.{next_is, state_goes_on, outcomes_go_on, keys_go_on}
 use Rattle.td_replay.proofs.step.story.Goals as goal
@@ -10,7 +10,7 @@ pub loop-entry-init : goal.loop-entry-init
 loop-entry-init c =
     let rs = c.args.relvars.now in
     let es = c.args.entries.now in record {
-      relations = ap (λ (xs : Relations). story.state_after (step rs) xs es) c.in_ok-relations.ensures;
+      relations = ap (λ (xs : Relations). story.state_after (entry_step rs) xs es) c.in_ok-relations.ensures;
       outcomes = rw (c.in_ok-outcomes.ensures.items, c.in_ok-relations.ensures) refl;
       are = subst (AreRelations rs) (sym c.in_ok-relations.ensures) (opening_are rs);
     }
