@@ -1,0 +1,8 @@
+-- The proofs of the crate.
+pub mod Unique
+pub mod Legal
+pub mod Giving
+pub mod Replacing
+pub mod Differing
+pub mod Assigning
+pub mod Preparing

@@ -1,0 +1,39 @@
+use Rattle.std.proofs.Common.{List, refl, sym, subst}
+use Rattle.td_headings.specs.Catalogues.{CatalogueData}
+use Rattle.td_constraints.specs.Stored.{AreStored}
+use Rattle.td_relvars.specs.Databases.{relvars_in}
+use Rattle.td_assign.specs.Changes.{put_all, replaced}
+use Rattle.td_assign.specs.Differences.{AreDifferences}
+use Rattle.td_assign.specs.declared.changes.Change.{Change}
+use Rattle.td_assign.proofs.Preparing.{none_fails, refused_by, report_is}
+use Rattle.td_assign.proofs.Replacing.{replaced_stored}
+use Rattle.td_assign.proofs.running.judged.Goals as goal
+
+pub first_failure-requires : goal.first_failure-requires
+first_failure-requires c =
+    let d = c.args.database.now in
+    let ys = c.deref.result.now in
+    subst (λ (k : CatalogueData). AreStored k (replaced ys (relvars_in d.stored))) (sym c.catalogue.ensures.same)
+    (subst (λ (zs : List Change). AreStored d.catalogue (replaced zs (relvars_in d.stored))) (sym c.deref.ensures.value) (replaced_stored d.catalogue c.args.changes.items c.requires d.stored c.catalogue.ensures.database))
+
+pub returns-in-Some : goal.returns-in-Some
+returns-in-Some c =
+    let d = c.args.database.now in
+    let cs = c.args.changes.items in
+    let o = c.in_ok-failure.field-0 in
+    refused_by d cs o c.in-Some.failure c.refusal.result c.in-Some.is (report_is d cs c.deref.result.now c.catalogue.result.now o c.catalogue.ensures.database c.requires c.catalogue.ensures.same c.deref.ensures.value c.in_ok-failure.ensures) c.refusal.ensures
+
+pub returns-in_ok-delta-in-None : goal.returns-in_ok-delta-in-None
+returns-in_ok-delta-in-None c =
+    let d = c.args.database.now in
+    let cs = c.args.changes.items in
+    let o = c.in_ok-failure.field-0 in
+    let old = relvars_in d.stored in
+    let ds = c.in_ok-delta-in-None.delta.items in (
+      refl,
+      record {
+        given = c.requires;
+        passes = none_fails d cs o c.in-None.is (report_is d cs c.deref.result.now c.catalogue.result.now o c.catalogue.ensures.database c.requires c.catalogue.ensures.same c.deref.ensures.value c.in_ok-failure.ensures);
+        differences = subst (λ (zs : List Change). AreDifferences old (relvars_in (put_all zs d.stored)) ds) c.deref-in-None.ensures.value c.in_ok-delta-in-None.ensures;
+      },
+    )

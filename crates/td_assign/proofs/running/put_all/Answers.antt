@@ -1,0 +1,41 @@
+use Rattle.std.proofs.Common.{◌≡◌, All, refl, ap, sym, subst, ◌∙◌, rules}
+use Rattle.std.specs.Vec.Iter.{into_iter_items}
+use Rattle.std.proofs.lemmas.List.Elements.{All-head, All-tail}
+use Rattle.td_headings.specs.Catalogues.{CatalogueData}
+use Rattle.td_relvars.specs.Databases.{Belongs, put}
+use Rattle.td_assign.specs.Changes.{put_all}
+use Rattle.td_assign.specs.ForProofs.Given.{IsChange}
+use Rattle.td_assign.proofs.running.put_all.Goals as goal
+
+pub loop-change-init : goal.loop-change-init
+loop-change-init c =
+    let d = c.args.database.now in
+    let seen : c.args.changes.items ≡ into_iter_items c.into_iter-change-iterator.result = search rules in
+    record { same = refl; left = ap (λ cs. put_all cs d.stored) (sym seen); each = subst (All (IsChange d.catalogue)) seen c.requires.each }
+
+pub make_base-base-requires : goal.make_base-base-requires
+make_base-base-requires c =
+    let k = c.args.database.now.catalogue in
+    let x = c.in-Some.change in
+    let rest = into_iter_items c.next.new.self in
+    subst (λ (z : CatalogueData). Belongs z x.target x.relation) (sym c.loop-change.invariant.same) (All-head (IsChange k) x rest (subst (All (IsChange k)) c.in-Some.ensures.steps.0 c.loop-change.invariant.each))
+
+pub set-requires : goal.set-requires
+set-requires c =
+    let k = c.args.database.now.catalogue in
+    let x = c.in-Some.change in
+    let rest = into_iter_items c.next.new.self in
+    let own = subst (λ (z : CatalogueData). Belongs z x.target x.relation) (sym c.loop-change.invariant.same) (All-head (IsChange k) x rest (subst (All (IsChange k)) c.in-Some.ensures.steps.0 c.loop-change.invariant.each)) in
+    subst (Belongs c.loop-change.database.catalogue x.target) (sym c.make_base-base.ensures) own
+
+pub loop-change-preserved : goal.loop-change-preserved
+loop-change-preserved c =
+    let k = c.args.database.now.catalogue in
+    let x = c.in-Some.change in
+    let rest = into_iter_items c.next.new.self in
+    let before = c.loop-change.database.stored in
+    record {
+      same = c.set.ensures.catalogue ∙ c.loop-change.invariant.same;
+      left = ap (put_all rest) (c.set.ensures.stored ∙ ap (λ r. put x.target r before) c.make_base-base.ensures) ∙ sym (ap (λ cs. put_all cs before) c.in-Some.ensures.steps.0) ∙ c.loop-change.invariant.left;
+      each = All-tail (IsChange k) x rest (subst (All (IsChange k)) c.in-Some.ensures.steps.0 c.loop-change.invariant.each);
+    }

@@ -1,0 +1,8 @@
+-- The definitions of the crate.
+pub mod Changes
+pub mod Sources
+pub mod Steps
+pub mod Differences
+pub mod Counts
+pub mod Laws
+pub mod ForProofs

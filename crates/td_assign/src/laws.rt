@@ -1,0 +1,12 @@
+//! The laws of statements.
+ghost use Rattle.td_assign.specs.Laws.{StepIsLegal, StepIsUnique};
+
+/// Every test is true after a statement where every one was true before.
+pub fn step_is_legal()
+    ensures { StepIsLegal }
+{}
+
+/// A text has one outcome, and leaves one database.
+pub fn step_is_unique()
+    ensures { StepIsUnique }
+{}

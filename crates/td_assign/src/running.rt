@@ -1,0 +1,170 @@
+//! Running a statement.
+
+ghost use Rattle.std.specs.Prelude.{◌≡◌, [], IfOk, MatchOption, OnErr, Some};
+ghost use Rattle.td_constraints.specs.Reports.{IsReport};
+ghost use Rattle.td_headings.specs.Catalogues.{CatalogueData};
+ghost use Rattle.td_headings.specs.Statements as typed;
+ghost use Rattle.td_headings.specs.declared.defined.Test.{Test};
+ghost use Rattle.td_algebra.specs.declared.errors.Stop.{Stop};
+ghost use Rattle.std.specs.Prelude.{Option};
+ghost use Rattle.td_relvars.specs.Databases.{relvars_in};
+ghost use Rattle.td_assign.specs.Counts.{one_more};
+ghost use Rattle.td_assign.specs.Differences.{AreDifferences};
+ghost use Rattle.td_assign.specs.ForProofs.Given.{AreAssigned, AreChanges};
+ghost use Rattle.td_assign.specs.ForProofs.Prepared.{AreAssignedTo, IsJudged, IsPrepared};
+ghost use Rattle.td_assign.specs.Steps as spec;
+ghost use Rattle.td_assign.specs.Steps.{IsRead, IsUnread, Steps};
+
+use crate::changes::Change;
+use crate::deltas::differences;
+use crate::meter::Meter;
+use crate::outcome::{Outcome, Ran};
+use crate::seen::Replaced;
+use crate::sources::changes;
+use std::alloc::{AllocError, Global};
+use td_constraints::{Broken, TestFailure, first_failure};
+use td_eval::Failure;
+use td_grammar::{ReadError, read_statement};
+use td_headings::{Catalogue, TypedAssignment, TypedStatement, type_statement};
+use td_kinds::error::TypeError;
+use td_relations::Delta;
+use td_relvars::Database;
+
+// The statement that the text is, typed, if it is one.
+fn read(
+    alloc: Global,
+    catalogue: &Catalogue,
+    text: &str,
+) -> Result<Option<TypedStatement>, AllocError>
+    ensures { IfOk result (λ o. MatchOption o (IsUnread catalogue.now text.now) (IsRead catalogue.now text.now)) }
+{
+    let statement = match read_statement(alloc, text) {
+        Ok(statement) => statement,
+        Err(ReadError::Syntax) => return Ok(None),
+        Err(ReadError::OutOfMemory) => return Err(AllocError),
+    };
+    match type_statement(alloc, catalogue, &statement) {
+        Ok(typed) => Ok(Some(typed)),
+        Err(TypeError::IllTyped) => Ok(None),
+        Err(TypeError::OutOfMemory) => Err(AllocError),
+    }
+}
+
+// A test that raises gives its error, one that is false what it is of.
+fn refusal(failure: TestFailure) -> Outcome
+    ensures { (c : CatalogueData) (t : Test) (o : Option Stop) → IsReport c (Some (t, o)) (Some failure) → spec.Tells c t o result }
+{
+    match (failure.raised, failure.test) {
+        (Some(raise), _) => Outcome::Raised(raise),
+        (None, Broken::Key(relvar)) => Outcome::BreaksKey(relvar),
+        (None, Broken::Constraint(name)) => Outcome::BreaksConstraint(name),
+    }
+}
+
+/// What a statement makes of a database that it has not changed yet: changes with the differences that they make, or the outcome
+/// that it has without effect.
+#[derive(Drop)]
+pub(crate) enum Prepared {
+    Changes(Vec<Change>, Vec<(usize, Delta)>),
+    Refused(Outcome),
+}
+
+// With these changes made, the tests decide.
+fn judged(alloc: Global, database: &Database, changes: Vec<Change>) -> Result<Prepared, AllocError>
+    requires { AreChanges database.now.catalogue changes.items }
+    ensures { IfOk result (IsJudged database.now changes.items) }
+{
+    let replaced = Replaced {
+        database,
+        changes: &changes,
+    };
+    match first_failure(alloc, database.catalogue(), &replaced)? {
+        Some(failure) => Ok(Prepared::Refused(refusal(failure))),
+        None => {
+            let delta = differences(alloc, database, &changes)?;
+            Ok(Prepared::Changes(changes, delta))
+        }
+    }
+}
+
+// What the assignments make of the database.
+fn assigned(
+    alloc: Global,
+    database: &Database,
+    assignments: &[TypedAssignment],
+) -> Result<Prepared, AllocError>
+    requires { AreAssigned database.now.catalogue assignments.now }
+    ensures { IfOk result (AreAssignedTo database.now assignments.now) }
+{
+    match changes(alloc, database, assignments) {
+        Ok(changes) => judged(alloc, database, changes),
+        Err(Failure::Raised(raise)) => Ok(Prepared::Refused(Outcome::Raised(raise))),
+        Err(Failure::OutOfMemory) => Err(AllocError),
+    }
+}
+
+fn assignments_of(statement: &TypedStatement) -> &[TypedAssignment]
+    ensures { result.now ≡ typed.assignments_of statement.now }
+{
+    match statement {
+        TypedStatement::Assignment(assignments) => assignments.as_slice(),
+    }
+}
+
+// What the text makes of the database.
+fn prepare(alloc: Global, database: &Database, text: &str) -> Result<Prepared, AllocError>
+    ensures { IfOk result (IsPrepared database.now text.now) }
+{
+    match read(alloc, database.catalogue(), text)? {
+        Some(statement) => assigned(alloc, database, assignments_of(&statement)),
+        None => Ok(Prepared::Refused(Outcome::Unread)),
+    }
+}
+
+// The relations move: no memory is taken.
+fn put_all(database: &mut Database, changes: Vec<Change>)
+    requires { AreChanges database.old.catalogue changes.items }
+    ensures { database.new ≡ spec.with_changes database.old changes.items }
+{
+    for change in changes {
+        let base = database.make_base(change.target, change.relation);
+        database.set(change.target, base);
+    }
+}
+
+fn unchanged(alloc: Global, outcome: Outcome) -> Ran
+    ensures outcome { result.outcome ≡ outcome }
+    ensures delta { result.delta.items ≡ [] }
+{
+    Ran {
+        outcome,
+        delta: Vec::new(alloc),
+    }
+}
+
+/// Runs the statement: its text is read and typed once, each source is evaluated once, every test is made, and the relvars change
+/// where all are true. A refusal for want of memory leaves the database; the meter has counted then.
+#[tactic(auto, using(crate::proofs::Preparing::no_differences))]
+pub fn run(
+    alloc: Global,
+    database: &mut Database,
+    text: &str,
+    meter: &mut Meter,
+) -> Result<Ran, AllocError>
+    ensures step { IfOk result (λ r. Steps database.old text.now r.outcome database.new) }
+    ensures delta { IfOk result (λ r. AreDifferences (relvars_in database.old.stored) (relvars_in database.new.stored) r.delta.items) }
+    ensures kept { OnErr result (database.new ≡ database.old) }
+    ensures counted { meter.new.count ≡ one_more meter.old.count }
+{
+    meter.tick();
+    match prepare(alloc, database, text)? {
+        Prepared::Changes(changes, delta) => {
+            put_all(database, changes);
+            Ok(Ran {
+                outcome: Outcome::Done,
+                delta,
+            })
+        }
+        Prepared::Refused(outcome) => Ok(unchanged(alloc, outcome)),
+    }
+}

@@ -1,0 +1,50 @@
+//! The relvars that sources and tests see before anything is changed.
+
+ghost use Rattle.td_assign.specs.Changes as spec;
+ghost use Rattle.td_relvars.specs.Databases.{relvars_in};
+
+use crate::changes::{Change, given_to};
+use std::alloc::Global;
+use td_algebra::Fault;
+use td_eval::Lookup;
+use td_relations::Relation;
+use td_relvars::Database;
+
+/// The relvars of a database, but one target with what it was given.
+#[derive(Drop)]
+pub(crate) struct Seen<'a> {
+    pub database: &'a Database,
+    pub changes: &'a [Change],
+    pub target: usize,
+}
+
+impl Lookup for Seen<'_> {
+    ghost relvars = { λ s. spec.seen s.changes.now s.target (relvars_in s.database.now.stored) };
+
+    fn value(&self, alloc: Global, relvar: usize) -> Result<Relation, Fault> {
+        if self.target == relvar {
+            if let Some(relation) = given_to(self.changes, relvar) {
+                return Ok(relation.copy(alloc)?);
+            }
+        }
+        self.database.value(alloc, relvar)
+    }
+}
+
+/// The relvars of a database with all targets replaced.
+#[derive(Drop)]
+pub(crate) struct Replaced<'a> {
+    pub database: &'a Database,
+    pub changes: &'a [Change],
+}
+
+impl Lookup for Replaced<'_> {
+    ghost relvars = { λ s. spec.replaced s.changes.now (relvars_in s.database.now.stored) };
+
+    fn value(&self, alloc: Global, relvar: usize) -> Result<Relation, Fault> {
+        match given_to(self.changes, relvar) {
+            Some(relation) => Ok(relation.copy(alloc)?),
+            None => self.database.value(alloc, relvar),
+        }
+    }
+}

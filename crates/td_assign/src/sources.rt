@@ -1,0 +1,78 @@
+//! The sources of a multiple assignment.
+
+ghost use Rattle.std.specs.Prelude.{[], IfOk, OnOk};
+ghost use Rattle.td_eval.specs.Raises.{Tells};
+ghost use Rattle.td_relvars.specs.Databases.{Belongs, relvars_in};
+ghost use Rattle.td_assign.specs.ForProofs.Given.{AreAssigned, AreChanges, GivesMore, IsAssigned, TellsChanges};
+ghost use Rattle.td_assign.specs.Sources.{source_means, sources};
+
+use crate::changes::{Change, give};
+use crate::seen::Seen;
+use std::alloc::Global;
+use td_eval::Failure;
+use td_headings::TypedAssignment;
+use td_relations::Relation;
+use td_relvars::Database;
+
+// The relation that the source has.
+fn source(
+    alloc: Global,
+    database: &Database,
+    changes: &[Change],
+    assignment: &TypedAssignment,
+) -> Result<Relation, Failure>
+    requires assigned { IsAssigned database.now.catalogue assignment.now }
+    requires given { AreChanges database.now.catalogue changes.now }
+    ensures told { Tells result (source_means database.now.catalogue (relvars_in database.now.stored) changes.now assignment.now) }
+    ensures typed { IfOk result (Belongs database.now.catalogue assignment.now.target) }
+{
+    let catalogue = database.catalogue();
+    let seen = Seen {
+        database,
+        changes,
+        target: assignment.target,
+    };
+    match catalogue.schema().relvar_at(assignment.target) {
+        Some((_, heading)) => {
+            td_eval::relation(alloc, catalogue, heading, &assignment.source, &seen)
+        }
+        None => unreachable!(),
+    }
+}
+
+fn add_source(
+    alloc: Global,
+    database: &Database,
+    changes: &mut Vec<Change>,
+    assignment: &TypedAssignment,
+) -> Result<(), Failure>
+    requires assigned { IsAssigned database.now.catalogue assignment.now }
+    requires given { AreChanges database.now.catalogue changes.old.items }
+    ensures told { GivesMore (source_means database.now.catalogue (relvars_in database.now.stored) changes.old.items assignment.now) assignment.now.target changes.old.items result changes.new.items }
+    ensures given { OnOk result (AreChanges database.now.catalogue changes.new.items) }
+{
+    match source(alloc, database, changes, assignment) {
+        Ok(relation) => Ok(give(changes, assignment.target, relation)?),
+        Err(failure) => Err(failure),
+    }
+}
+
+/// What the assignments give to their targets, each source evaluated once, in written order.
+pub(crate) fn changes(
+    alloc: Global,
+    database: &Database,
+    assignments: &[TypedAssignment],
+) -> Result<Vec<Change>, Failure>
+    requires { AreAssigned database.now.catalogue assignments.now }
+    ensures told { TellsChanges result (sources database.now.catalogue (relvars_in database.now.stored) [] assignments.now) }
+    ensures given { IfOk result (λ v. AreChanges database.now.catalogue v.items) }
+{
+    let mut changes = Vec::new(alloc);
+    for assignment in assignments {
+        match add_source(alloc, database, &mut changes, assignment) {
+            Ok(()) => {}
+            Err(failure) => return Err(failure),
+        }
+    }
+    Ok(changes)
+}
