@@ -1,12 +1,11 @@
 //! Running a statement.
 
-ghost use Rattle.std.specs.Prelude.{◌≡◌, [], IfOk, MatchOption, OnErr, Some};
+ghost use Rattle.std.specs.Prelude.{◌≡◌, [], IfOk, MatchOption, OnErr, Option, Some};
 ghost use Rattle.td_constraints.specs.Reports.{IsReport};
 ghost use Rattle.td_headings.specs.Catalogues.{CatalogueData};
 ghost use Rattle.td_headings.specs.Statements as typed;
 ghost use Rattle.td_headings.specs.declared.defined.Test.{Test};
 ghost use Rattle.td_algebra.specs.declared.errors.Stop.{Stop};
-ghost use Rattle.std.specs.Prelude.{Option};
 ghost use Rattle.td_relvars.specs.Databases.{relvars_in};
 ghost use Rattle.td_assign.specs.Counts.{one_more};
 ghost use Rattle.td_assign.specs.Differences.{AreDifferences};
