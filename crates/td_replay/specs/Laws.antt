@@ -1,30 +1,32 @@
--- The laws of this crate.
-use Rattle.std.specs.Prelude.{◌≡◌, ◌↔◌, ℕ, List, take, Some}
+-- The laws of sites.
+use Rattle.std.specs.Prelude.{◌≡◌, ℕ, true, List, take}
+use Rattle.td_stamps.specs.Sets.{has, is_set}
 use Rattle.td_stamps.specs.declared.entry.Entry.{Entry}
-use Rattle.td_replay.specs.declared.catalogue.Relvar.{Relvar}
-use Rattle.td_replay.specs.declared.tree.Definition.{Definition}
-use Rattle.td_replay.specs.declared.tree.Insertion.{Insertion}
-use Rattle.td_replay.specs.Grammar.{IsStatement, IsScript}
-use Rattle.td_replay.specs.Reader.{read_statement, read_script}
-use Rattle.td_replay.specs.Typing.{catalogue_of}
-use Rattle.td_replay.specs.Step.{relations_after, IsLegal}
+use Rattle.td_stamps.specs.declared.entry.Stamp.{Stamp}
+use Rattle.td_constraints.specs.Tests.{AreLegal}
+use Rattle.td_relvars.specs.Databases.{DatabaseData, relvars_in}
+use Rattle.td_assign.specs.declared.outcome.Outcome.{Outcome}
+use Rattle.td_replay.specs.Seen.{Seen, IsTold}
+use Rattle.td_replay.specs.Stories.{IsStory}
 
--- the reader finds a statement exactly where the text is one
-abbrev pub ReaderDecidesStatements : Type 0
-ReaderDecidesStatements = (bytes : List ℕ) (i : Insertion) → (read_statement bytes ≡ Some i) ↔ IsStatement bytes i
-
--- and a script exactly where it is one
-abbrev pub ReaderDecidesScripts : Type 0
-ReaderDecidesScripts = (bytes : List ℕ) (ds : List Definition) → (read_script bytes ≡ Some ds) ↔ IsScript bytes ds
-
--- no text is two statements
-abbrev pub OneStatement : Type 0
-OneStatement = (bytes : List ℕ) (i j : Insertion) → IsStatement bytes i → IsStatement bytes j → i ≡ j
-
--- and none is two scripts
-abbrev pub OneScript : Type 0
-OneScript = (bytes : List ℕ) (ds es : List Definition) → IsScript bytes ds → IsScript bytes es → ds ≡ es
-
--- after each entry of a story every key is true
+-- the front of a story is the story of the front of its entries, after which every key and constraint is true
 abbrev pub StoryIsLegal : Type 0
-StoryIsLegal = (script : List ℕ) (rs : List Relvar) → catalogue_of script ≡ Some rs → (es : List Entry) (n : ℕ) → IsLegal rs (relations_after rs (take n es))
+StoryIsLegal =
+    (script : List ℕ) (es : List Entry) (os : List (Stamp × Outcome)) (d : DatabaseData) → IsStory script es os d → (n : ℕ)
+    → (e : DatabaseData) × IsStory script (take n es) (take n os) e × AreLegal e.catalogue (relvars_in e.stored)
+
+-- a list of entries has one story
+abbrev pub StoryIsOne : Type 0
+StoryIsOne =
+    (script : List ℕ) (es : List Entry) (os ps : List (Stamp × Outcome)) (d e : DatabaseData) → IsStory script es os d → IsStory script es ps e → (os ≡ ps) × (d ≡ e)
+
+-- two sites of one script that hold the same set of entries
+pub record HoldTheSame (s t : Seen) : Type 0 where
+  pub script : s.script ≡ t.script
+  pub one_set : is_set s.entries ≡ true
+  pub other_set : is_set t.entries ≡ true
+  pub members : (e : Entry) → has s.entries e ≡ has t.entries e
+
+-- have the same outcomes and relvars, whatever their numbers and limits
+abbrev pub SitesAgree : Type 0
+SitesAgree = (s t : Seen) → HoldTheSame s t → (os ps : List (Stamp × Outcome)) (d e : DatabaseData) → IsTold s os d → IsTold t ps e → (os ≡ ps) × (d ≡ e)

@@ -1,11 +1,6 @@
-pub mod Refusals
-pub mod Grammar
-pub mod Laws
-pub mod Reader
-pub mod Readings
-pub mod Typing
-pub mod Typings
-pub mod Step
-pub mod Runs
+-- The definitions of the crate.
+pub mod Stories
 pub mod Seen
-pub mod Sites
+pub mod Calls
+pub mod Openings
+pub mod Laws

@@ -1,32 +1,48 @@
--- What a site is seen as: the script that it started from, its number, its limit, and the entries that it holds, in stamp order.
-use Rattle.std.specs.Prelude.{◌≡◌, ◌≤◌, ℕ, List, [], Some, unwrap_or}
+-- What a site is seen as: the script that it started from, its number, the most entries that it may hold, those that it holds, in
+-- stamp order, and whether it is open.
+use Rattle.std.specs.Prelude.{◌≡◌, ◌≤◌, ℕ, nat_le, Bool, true, ◌&&◌, List, length}
+use Rattle.std.specs.List.{list_all}
+use Rattle.td_stamps.specs.Entries.{in_range}
+use Rattle.td_stamps.specs.Sets.{Holding, is_set}
 use Rattle.td_stamps.specs.declared.entry.Entry.{Entry}
-use Rattle.td_replay.specs.declared.catalogue.Relvar.{Relvar}
 use Rattle.td_stamps.specs.declared.entry.Stamp.{Stamp}
-use Rattle.td_replay.specs.declared.step.Outcome.{Outcome}
-use Rattle.td_replay.specs.Typing.{catalogue_of}
-use Rattle.td_replay.specs.Step.{Relations, relations_after, outcomes_of}
+use Rattle.td_relvars.specs.Databases.{DatabaseData}
+use Rattle.td_assign.specs.declared.outcome.Outcome.{Outcome}
+use Rattle.td_replay.specs.Stories.{IsStory}
 
 pub record Seen : Type 0 where
   pub script : List ℕ
   pub site : ℕ
   pub limit : ℕ
   pub entries : List Entry
+  pub live : Bool
 
 abbrev pub with_entries : Seen → List Entry → Seen
-with_entries s es = record { script = s.script; site = s.site; limit = s.limit; entries = es }
+with_entries s es = record { script = s.script; site = s.site; limit = s.limit; entries = es; live = s.live }
 
--- no entries
-abbrev pub opened : List ℕ → ℕ → ℕ → Seen
-opened script site limit = record { script = script; site = site; limit = limit; entries = [] }
+abbrev pub holding : Seen → Holding
+holding s = record { entries = s.entries; limit = s.limit }
 
--- the relvars of its script
-abbrev pub relvars_in : Seen → List Relvar
-relvars_in s = unwrap_or (catalogue_of s.script) []
+-- the outcomes of the story of what it holds, and the database after it
+abbrev pub IsTold : Seen → List (Stamp × Outcome) → DatabaseData → Type 0
+IsTold s os d = IsStory s.script s.entries os d
 
--- what a site keeps: the relvars that its script defines, and the relations and outcomes of the story of its entries
-pub record Keeps (script : List ℕ) (site : ℕ) (relvars : List Relvar) (entries : List Entry) (relations : Relations) (outcomes : List (Stamp × Outcome)) : Type 0 where
-  pub site_fits : 1 ≤ site
-  pub accepted : catalogue_of script ≡ Some relvars
-  pub relations_are : relations ≡ relations_after relvars entries
-  pub outcomes_are : outcomes ≡ outcomes_of relvars entries
+abbrev pub AreOutcomes : Seen → List (Stamp × Outcome) → Type 0
+AreOutcomes s os = (d : DatabaseData) × IsTold s os d
+
+abbrev pub Leaves : Seen → DatabaseData → Type 0
+Leaves s d = (os : List (Stamp × Outcome)) × IsTold s os d
+
+-- the most entries that a site may hold
+abbrev pub is_limit : ℕ → Bool
+is_limit n = nat_le 1 n && nat_le n 100000
+
+-- what every site keeps to: its number is one, it holds a set within its limit, and its script was accepted
+pub record IsSound (s : Seen) : Type 0 where
+  pub site : 1 ≤ s.site
+  pub limit : is_limit s.limit ≡ true
+  pub set : is_set s.entries ≡ true
+  pub ranges : list_all in_range s.entries ≡ true
+  pub within : length s.entries ≤ s.limit
+  pub outcomes : List (Stamp × Outcome)
+  pub told : AreOutcomes s outcomes

@@ -1,20 +1,17 @@
-//! Laws of the grammar and of the story.
+//! The laws of sites.
+ghost use Rattle.td_replay.specs.Laws.{SitesAgree, StoryIsLegal, StoryIsOne};
 
-ghost use Rattle.td_replay.specs.Laws.{OneScript, OneStatement, ReaderDecidesScripts, ReaderDecidesStatements, StoryIsLegal};
-
-/// The reader finds what the grammar says: a tree where the text's tokens are those that spell it, and else none.
-pub fn reader_decides_grammar()
-    ensures statements { ReaderDecidesStatements }
-    ensures scripts { ReaderDecidesScripts }
-{}
-
-/// A text reads as one tree at most.
-pub fn one_tree()
-    ensures statement { OneStatement }
-    ensures script { OneScript }
-{}
-
-/// Every key is true in the opening relvars and after each entry.
+/// Every key and constraint is true in the opening relvars and after each entry of a story.
 pub fn story_is_legal()
     ensures { StoryIsLegal }
+{}
+
+/// Entries have one story: one list of outcomes, and one database after it.
+pub fn story_is_one()
+    ensures { StoryIsOne }
+{}
+
+/// Sites of one script that hold the same set of entries have the same outcomes and the same relvars.
+pub fn sites_agree()
+    ensures { SitesAgree }
 {}

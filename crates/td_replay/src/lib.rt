@@ -1,21 +1,13 @@
-//! Sites that keep statements as entries and show what running them in stamp order gives, with the language of
-//! today's statements.
+//! Sites: replicas that hold statements as entries and tell what running these once, in stamp order, gives.
 #![tactic(auto)]
 
-mod catalogue;
-mod cursor;
+pub mod answer;
 pub mod laws;
-mod reader;
-mod refusal;
-mod site;
-mod step;
-#[cfg(test)]
-mod tests;
-mod tree;
+mod plain;
+pub mod refusal;
+mod replica;
 
-pub use catalogue::{Insert, Relvar};
-pub use reader::{SCRIPT_BYTES, STATEMENT_BYTES, read_script, read_statement};
-pub use refusal::{IssueError, OpenError, ReadError, TypeError};
-pub use site::{Issued, MOST_ENTRIES, PlainSite, Taken};
-pub use step::{Outcome, Ran, Told};
-pub use tree::{Component, Definition, Field, Insertion, Literal, ScalarType};
+pub use answer::{Issued, Reply, Taken};
+pub use plain::{MOST_ENTRIES, PlainSite};
+pub use refusal::{AskError, IssueError, NotOpen, OpenError, TakeError, TellError, ValueError};
+pub use replica::Replica;

@@ -1,57 +1,26 @@
-//! Why calls are refused.
+//! Why calls are refused: each error's variants stand in the order in which their causes are judged.
 
-ghost use Rattle.std.specs.Prelude.{◌≡◌};
-ghost use Rattle.td_replay.specs.Refusals.{read_token, read_name, opened_read, opened_typed, issued_read, issued_typed};
-ghost use Rattle.td_replay.specs.declared.refusal.ReadError.TheVariants as read_error;
-ghost use Rattle.td_replay.specs.declared.refusal.TypeError.TheVariants as type_error;
-ghost use Rattle.td_replay.specs.declared.refusal.OpenError.TheVariants as open_error;
-ghost use Rattle.td_replay.specs.declared.refusal.IssueError.TheVariants as issue_error;
-
-use std::alloc::{AllocError, AllocFailed};
-use td_stamps::NextError;
-use td_tokens::error::TokenError;
-use td_values::NameError;
 use thiserror::Error;
 
-/// Why a text has no tree.
-#[derive(Clone, Copy, Debug, Drop, PartialEq, Eq, Error)]
-pub enum ReadError {
-    #[error("the text has no reading")]
-    Syntax,
-    #[error("out of memory")]
-    OutOfMemory,
-}
-
-/// Why a text is not typed.
-#[derive(Clone, Copy, Debug, Drop, PartialEq, Eq, Error)]
-pub enum TypeError {
-    #[error("the text is not typed")]
-    IllTyped,
-    #[error("out of memory")]
-    OutOfMemory,
-}
-
-/// Why a site is not opened, in the order in which causes are judged.
-#[derive(Clone, Copy, Debug, Drop, PartialEq, Eq, Error)]
+/// Why a site is not opened.
+#[derive(Drop)]
 pub enum OpenError {
-    #[error("0 is no site")]
+    /// 0 is no site.
     BadSite,
-    #[error("a limit is 1 to 100,000")]
+    /// A limit is 1 to 100,000.
     BadLimit,
-    #[error("the script has no reading")]
-    Syntax,
-    #[error("the script is not typed")]
-    IllTyped,
-    #[error("out of memory")]
-    OutOfMemory,
+    /// What the script is refused for.
+    Script(td_relvars::OpenError),
 }
 
-/// Why a statement is not issued, in the order in which causes are judged.
+/// Why a statement is not issued.
 #[derive(Clone, Copy, Debug, Drop, PartialEq, Eq, Error)]
 pub enum IssueError {
-    #[error("the statement has no reading")]
+    #[error("the site's journal failed")]
+    Broken,
+    #[error("the text is no statement")]
     Syntax,
-    #[error("the statement is not typed")]
+    #[error("the statement is ill typed")]
     IllTyped,
     #[error("the site has no number or clock left")]
     ClockEnd,
@@ -59,112 +28,61 @@ pub enum IssueError {
     Full,
     #[error("out of memory")]
     OutOfMemory,
+    #[error("the journal cannot be written")]
+    JournalWrite,
 }
 
-impl From<AllocError> for ReadError {
-    ghost from_gives = { λ _ e. e ≡ read_error.OutOfMemory };
-
-    fn from(_e: AllocError) -> ReadError {
-        ReadError::OutOfMemory
-    }
+/// Why a batch is not taken.
+#[derive(Clone, Copy, Debug, Drop, PartialEq, Eq, Error)]
+pub enum TakeError {
+    #[error("the site's journal failed")]
+    Broken,
+    #[error("an entry is out of its ranges")]
+    BadEntry,
+    #[error("an entry claims the place of another one: site {site}, sequence number {seq}")]
+    Clash { site: u16, seq: u32 },
+    #[error("the site has no room for the batch")]
+    Full,
+    #[error("out of memory")]
+    OutOfMemory,
+    #[error("the journal cannot be written")]
+    JournalWrite,
 }
 
-impl From<TokenError> for ReadError {
-    ghost from_gives = { λ t e. e ≡ read_token t };
-
-    fn from(e: TokenError) -> ReadError {
-        match e {
-            TokenError::Syntax => ReadError::Syntax,
-            TokenError::OutOfMemory => ReadError::OutOfMemory,
-        }
-    }
+/// Why a query is not answered.
+#[derive(Clone, Copy, Debug, Drop, PartialEq, Eq, Error)]
+pub enum AskError {
+    #[error("the site's journal failed")]
+    Broken,
+    #[error("the text is no query")]
+    Syntax,
+    #[error("the query is ill typed")]
+    IllTyped,
+    #[error("out of memory")]
+    OutOfMemory,
 }
 
-impl From<NameError> for ReadError {
-    ghost from_gives = { λ n e. e ≡ read_name n };
-
-    fn from(e: NameError) -> ReadError {
-        match e {
-            NameError::BadName => ReadError::Syntax,
-            NameError::OutOfMemory => ReadError::OutOfMemory,
-        }
-    }
+/// Why a relvar is not told.
+#[derive(Clone, Copy, Debug, Drop, PartialEq, Eq, Error)]
+pub enum ValueError {
+    #[error("the site's journal failed")]
+    Broken,
+    #[error("no relvar has this name")]
+    Unknown,
+    #[error("out of memory")]
+    OutOfMemory,
 }
 
-impl From<AllocError> for TypeError {
-    ghost from_gives = { λ _ e. e ≡ type_error.OutOfMemory };
-
-    fn from(_e: AllocError) -> TypeError {
-        TypeError::OutOfMemory
-    }
+/// Why outcomes are not told.
+#[derive(Clone, Copy, Debug, Drop, PartialEq, Eq, Error)]
+pub enum TellError {
+    #[error("the site's journal failed")]
+    Broken,
+    #[error("out of memory")]
+    OutOfMemory,
 }
 
-impl From<AllocError> for OpenError {
-    ghost from_gives = { λ _ e. e ≡ open_error.OutOfMemory };
-
-    fn from(_e: AllocError) -> OpenError {
-        OpenError::OutOfMemory
-    }
-}
-
-impl From<ReadError> for OpenError {
-    ghost from_gives = { λ r e. e ≡ opened_read r };
-
-    fn from(e: ReadError) -> OpenError {
-        match e {
-            ReadError::Syntax => OpenError::Syntax,
-            ReadError::OutOfMemory => OpenError::OutOfMemory,
-        }
-    }
-}
-
-impl From<TypeError> for OpenError {
-    ghost from_gives = { λ t e. e ≡ opened_typed t };
-
-    fn from(e: TypeError) -> OpenError {
-        match e {
-            TypeError::IllTyped => OpenError::IllTyped,
-            TypeError::OutOfMemory => OpenError::OutOfMemory,
-        }
-    }
-}
-
-impl From<AllocError> for IssueError {
-    ghost from_gives = { λ _ e. e ≡ issue_error.OutOfMemory };
-
-    fn from(_e: AllocError) -> IssueError {
-        IssueError::OutOfMemory
-    }
-}
-
-impl From<ReadError> for IssueError {
-    ghost from_gives = { λ r e. e ≡ issued_read r };
-
-    fn from(e: ReadError) -> IssueError {
-        match e {
-            ReadError::Syntax => IssueError::Syntax,
-            ReadError::OutOfMemory => IssueError::OutOfMemory,
-        }
-    }
-}
-
-impl From<TypeError> for IssueError {
-    ghost from_gives = { λ t e. e ≡ issued_typed t };
-
-    fn from(e: TypeError) -> IssueError {
-        match e {
-            TypeError::IllTyped => IssueError::IllTyped,
-            TypeError::OutOfMemory => IssueError::OutOfMemory,
-        }
-    }
-}
-
-impl From<NextError> for IssueError {
-    ghost from_gives = { λ _ e. e ≡ issue_error.ClockEnd };
-
-    fn from(e: NextError) -> IssueError {
-        match e {
-            NextError::ClockEnd => IssueError::ClockEnd,
-        }
-    }
-}
+/// The site is not open: its journal failed.
+#[derive(Clone, Copy, Debug, Drop, PartialEq, Eq, Error)]
+#[error("the site's journal failed")]
+pub struct NotOpen;
