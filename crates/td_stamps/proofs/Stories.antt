@@ -1,36 +1,45 @@
--- Running entries in parts: lemmas on the story, for any state and any step.
-use Rattle.std.proofs.Common.{◌≡◌, ℕ, List, [], ◌∷◌, ◌++◌, length, take, refl, ap, arith}
+-- Stories in parts: lemmas for any state and any step.
+use Rattle.std.proofs.Common.{◌≡◌, ℕ, zero, suc, List, [], ◌∷◌, ◌++◌, length, map, take, refl, ap, sym, subst}
 use Rattle.td_stamps.specs.declared.entry.Entry.{Entry}
+use Rattle.td_stamps.specs.declared.entry.Stamp.{Stamp}
 use Rattle.td_stamps.specs.Entries.{stamp_of}
-use Rattle.td_stamps.specs.Story.{state_after, outcomes_from}
+use Rattle.td_stamps.specs.Story.{Story, nothing_ran, next_ran}
 
-module _ {S O : Type 0} (step : S → Entry → O × S) where
-  -- entries run in two parts
-  pub state_after-append : (s : S) (xs ys : List Entry) → state_after step s (xs ++ ys) ≡ state_after step (state_after step s xs) ys
-  state_after-append s [] ys = refl
-  state_after-append s (x ∷ xs) ys = state_after-append (step s x).1 xs ys
-
-  pub outcomes_from-append : (s : S) (xs ys : List Entry) → outcomes_from step s (xs ++ ys) ≡ outcomes_from step s xs ++ outcomes_from step (state_after step s xs) ys
-  outcomes_from-append s [] ys = refl
-  outcomes_from-append s (x ∷ xs) ys = ap (λ l. (stamp_of x, (step s x).0) ∷ l) (outcomes_from-append (step s x).1 xs ys)
-
+module _ {S O : Type 0} (Step : S → Entry → O → S → Type 0) where
   -- one entry more, at the end
-  pub state_after-push : (s : S) (es : List Entry) (e : Entry) → state_after step s (es ++ e ∷ []) ≡ (step (state_after step s es) e).1
-  state_after-push s es e = state_after-append s es (e ∷ [])
+  pub one_more : (s t u : S) (es : List Entry) (os : List (Stamp × O)) (e : Entry) (o : O) → Story Step s es os t → Step t e o u → Story Step s (es ++ e ∷ []) (os ++ (stamp_of e, o) ∷ []) u
+  one_more s t u es os e o nothing_ran now = next_ran now nothing_ran
+  one_more s t u es os e o (next_ran {t = v} {es = fs} {os = ps} step rest) now = next_ran step (one_more v t u fs ps e o rest now)
 
-  pub outcomes_from-push : (s : S) (es : List Entry) (e : Entry) → outcomes_from step s (es ++ e ∷ []) ≡ outcomes_from step s es ++ (stamp_of e, (step (state_after step s es) e).0) ∷ []
-  outcomes_from-push s es e = outcomes_from-append s es (e ∷ [])
+  -- the front of a story is the story of the front
+  pub front : (s t : S) (es : List Entry) (os : List (Stamp × O)) → Story Step s es os t → (n : ℕ) → (u : S) × Story Step s (take n es) (take n os) u
+  front s t es os nothing_ran zero = (s, nothing_ran)
+  front s t es os nothing_ran (suc n) = (s, nothing_ran)
+  front s t es os (next_ran step rest) zero = (s, nothing_ran)
+  front s t es os (next_ran {t = v} {es = fs} {os = ps} step rest) (suc n) = let some = front v t fs ps rest n in (some.0, next_ran step some.1)
 
-  -- one outcome for each entry
-  pub length-outcomes_from : (s : S) (es : List Entry) → length (outcomes_from step s es) ≡ length es
-  length-outcomes_from s [] = refl
-  length-outcomes_from s (e ∷ es) = let rest = length-outcomes_from (step s e).1 es in omega arith
+  -- one outcome for each entry, with its stamp
+  pub as_many : (s t : S) (es : List Entry) (os : List (Stamp × O)) → Story Step s es os t → length os ≡ length es
+  as_many s t es os nothing_ran = refl
+  as_many s t es os (next_ran {t = v} {es = fs} {os = ps} step rest) = ap suc (as_many v t fs ps rest)
 
-  -- what each step keeps holds after the story, and after each prefix of it
-  module _ (P : S → Type 0) (keeps : (s : S) (e : Entry) → P s → P (step s e).1) where
-    pub kept_at_end : (s : S) (es : List Entry) → P s → P (state_after step s es)
-    kept_at_end s [] ok = ok
-    kept_at_end s (e ∷ es) ok = kept_at_end (step s e).1 es (keeps s e ok)
+  pub stamps : (s t : S) (es : List Entry) (os : List (Stamp × O)) → Story Step s es os t → map (λ p. p.0) os ≡ map stamp_of es
+  stamps s t es os nothing_ran = refl
+  stamps s t es os (next_ran {t = v} {e = e} {es = fs} {os = ps} step rest) = ap (λ l. stamp_of e ∷ l) (stamps v t fs ps rest)
 
-    pub kept_after : (s : S) (es : List Entry) (n : ℕ) → P s → P (state_after step s (take n es))
-    kept_after s es n ok = kept_at_end s (take n es) ok
+  -- what each step keeps holds after the story
+  pub kept : (P : S → Type 0) → ((s t : S) (e : Entry) (o : O) → Step s e o t → P s → P t) → (s t : S) (es : List Entry) (os : List (Stamp × O)) → Story Step s es os t → P s → P t
+  kept P keeps s t es os nothing_ran first = first
+  kept P keeps s t es os (next_ran {t = v} {e = e} {es = fs} {o = o} {os = ps} step rest) first = kept P keeps v t fs ps rest (keeps s v e o step first)
+
+-- the step has one outcome, and leaves one state
+abbrev pub HasOneEnd : {S O : Type 0} → (S → Entry → O → S → Type 0) → Type 0
+HasOneEnd {S = S} {O = O} Step = (s t u : S) (e : Entry) (o p : O) → Step s e o t → Step s e p u → (o ≡ p) × (t ≡ u)
+
+-- a step that has one end makes a story that has one
+pub one_story : {S O : Type 0} (Step : S → Entry → O → S → Type 0) → HasOneEnd Step → (s t u : S) (es : List Entry) (os ps : List (Stamp × O)) → Story Step s es os t → Story Step s es ps u → (os ≡ ps) × (t ≡ u)
+one_story Step one s t u es os ps nothing_ran nothing_ran = (refl, refl)
+one_story Step one s t u es os ps (next_ran {t = v} {e = e} {es = fs} {o = o} {os = qs} step rest) (next_ran {t = w} {o = p} {os = rs} other others) =
+    let same = one s v w e o p step other in
+    let behind = one_story Step one v t u fs qs rs rest (subst (λ x. Story Step x fs rs u) (sym same.1) others) in
+    (λ i. (stamp_of e, same.0 i) ∷ behind.0 i, behind.1)
