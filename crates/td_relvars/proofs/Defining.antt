@@ -1,5 +1,5 @@
 -- Definitions one after the other.
-use Rattle.std.proofs.Common.{◌≡◌, ℕ, suc, ◌+◌, ◌<◌, length, get_or, drop, drop-cons, add-one, List, [], ◌∷◌, sym, ap, subst, ◌∙◌}
+use Rattle.std.proofs.Common.{◌≡◌, ℕ, suc, ◌+◌, ◌<◌, length, get_or, drop, drop-cons, add-one, List, [], ◌∷◌, refl, sym, ap, subst, ◌∙◌}
 use Rattle.td_syntax.specs.declared.script.Definition.{Definition}
 use Rattle.td_typing.proofs.KindLemmas.{some_same}
 use Rattle.td_headings.specs.Catalogues.{CatalogueData, nothing_defined}
@@ -13,6 +13,11 @@ one c d e x p q = some_same d e (sym (is_after p) ∙ is_after q)
 
 first : (c : CatalogueData) (x : Definition) (xs : List Definition) (e : CatalogueData) → DefinesAll c (x ∷ xs) e → (d : CatalogueData) × Defines c x d × DefinesAll d xs e
 first c x xs e (next_defined {d} p q) = (d, p, q)
+
+-- and definitions one after the other one
+pub one_made : (c d e : CatalogueData) (xs : List Definition) → DefinesAll c xs d → DefinesAll c xs e → d ≡ e
+one_made c d e [] all_defined all_defined = refl
+one_made c d e (x ∷ xs) (next_defined {d = f} p ps) (next_defined {d = g} q qs) = one_made f d e xs ps (subst (λ z. DefinesAll z xs e) (one c g f x q p) qs)
 
 -- what is left of the definitions makes of c what all make of nothing
 pub record Walked (all rest : List Definition) (c : CatalogueData) : Type 0 where

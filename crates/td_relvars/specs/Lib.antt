@@ -3,4 +3,5 @@ pub mod Databases
 pub mod Openings
 pub mod Scripts
 pub mod Answers
+pub mod Laws
 pub mod ForProofs

@@ -11,6 +11,8 @@ use Rattle.td_constraints.specs.Reports.{title}
 use Rattle.td_constraints.specs.Tests.{failing}
 use Rattle.td_relvars.specs.Databases.{DatabaseData, relvars_in}
 use Rattle.td_relvars.specs.Openings.{opening}
+use Rattle.td_relvars.specs.declared.error.CatalogueError.{CatalogueError}
+use Rattle.td_relvars.specs.declared.error.CatalogueError.TheVariants as catalogue_error
 use Rattle.td_relvars.specs.declared.error.OpenError.{OpenError}
 use Rattle.td_relvars.specs.declared.error.OpenError.TheVariants.{Syntax, IllTyped, OpeningRaised, OpeningBroken, OutOfMemory}
 
@@ -30,6 +32,13 @@ pub record IsIllTyped (text : List ℕ) : Type 0 where
   pub definitions : List Definition
   pub reads : IsScript text definitions
   pub refused : (c : CatalogueData) → DefinesAll nothing_defined definitions c → ⊥
+
+-- its catalogue, or why there is none; want of memory tells nothing
+abbrev pub IsCatalogue : List ℕ → Result CatalogueData CatalogueError → Type 0
+IsCatalogue text (Ok c) = IsScriptOf text c
+IsCatalogue text (Err catalogue_error.Syntax) = (ds : List Definition) → ¬ IsScript text ds
+IsCatalogue text (Err catalogue_error.IllTyped) = IsIllTyped text
+IsCatalogue text (Err catalogue_error.OutOfMemory) = Unit {0}
 
 -- the script opens these relvars, over which this test is the first that fails, or none does
 pub record OpensOn (text : List ℕ) (failure : Option (Test × Option Stop)) (d : DatabaseData) : Type 0 where

@@ -1,4 +1,4 @@
-//! Why a script opens no database, and why a relvar is not told.
+//! Why a script has no catalogue or opens no database, and why a relvar is not told.
 
 ghost use Rattle.std.specs.Prelude.{◌≡◌};
 ghost use Rattle.td_relvars.specs.declared.error.AskError.TheVariants as ask_error;
@@ -7,6 +7,17 @@ use std::alloc::AllocError;
 use td_constraints::Broken;
 use td_values::Raise;
 use thiserror::Error;
+
+/// Why a text has no catalogue.
+#[derive(Clone, Copy, Debug, Drop, PartialEq, Eq, Error)]
+pub enum CatalogueError {
+    #[error("the text is no script")]
+    Syntax,
+    #[error("a definition is ill typed")]
+    IllTyped,
+    #[error("out of memory")]
+    OutOfMemory,
+}
 
 /// Why a script opens no database.
 #[derive(Drop)]

@@ -6,10 +6,11 @@ mod asking;
 pub mod base;
 pub mod database;
 pub mod error;
+pub mod laws;
 mod opening;
 
 pub use answer::Answer;
 pub use base::Base;
 pub use database::Database;
-pub use error::{AskError, OpenError};
-pub use opening::open_script;
+pub use error::{AskError, CatalogueError, OpenError};
+pub use opening::{catalogue_of, open_script};

@@ -5,13 +5,13 @@ ghost use Rattle.td_kinds.specs.declared.error.TypeError.TheVariants as type_err
 ghost use Rattle.td_headings.specs.Catalogues.{CatalogueData, nothing_defined};
 ghost use Rattle.td_headings.specs.Expressions as expressions;
 ghost use Rattle.td_relvars.specs.Databases.{Belongs};
-ghost use Rattle.td_relvars.specs.ForProofs.Opened.{Fills, Judges, Leaves, Reads, TellsInit};
+ghost use Rattle.td_relvars.specs.ForProofs.Opened.{Fills, Judges, Leaves, TellsInit};
 ghost use Rattle.td_relvars.specs.Openings as spec;
-ghost use Rattle.td_relvars.specs.Scripts.{DefinesAll, Opens};
+ghost use Rattle.td_relvars.specs.Scripts.{DefinesAll, IsCatalogue, Opens};
 
 use crate::base::Base;
 use crate::database::Database;
-use crate::error::OpenError;
+use crate::error::{CatalogueError, OpenError};
 use std::alloc::Global;
 use td_constraints::{TestFailure, first_failure};
 use td_eval::{Failure, relation};
@@ -34,18 +34,19 @@ fn define_all(alloc: Global, definitions: &[Definition]) -> Result<Catalogue, Ty
     Ok(catalogue)
 }
 
-fn catalogue_of(alloc: Global, text: &str) -> Result<Catalogue, OpenError>
-    ensures { Reads text.now result }
+/// What the definitions of a script make. It costs the reading and typing of the text.
+pub fn catalogue_of(alloc: Global, text: &str) -> Result<Catalogue, CatalogueError>
+    ensures { IsCatalogue text.now result }
 {
     let definitions = match read_script(alloc, text) {
         Ok(definitions) => definitions,
-        Err(ReadError::Syntax) => return Err(OpenError::Syntax),
-        Err(ReadError::OutOfMemory) => return Err(OpenError::OutOfMemory),
+        Err(ReadError::Syntax) => return Err(CatalogueError::Syntax),
+        Err(ReadError::OutOfMemory) => return Err(CatalogueError::OutOfMemory),
     };
     match define_all(alloc, definitions.as_slice()) {
         Ok(catalogue) => Ok(catalogue),
-        Err(TypeError::IllTyped) => Err(OpenError::IllTyped),
-        Err(TypeError::OutOfMemory) => Err(OpenError::OutOfMemory),
+        Err(TypeError::IllTyped) => Err(CatalogueError::IllTyped),
+        Err(TypeError::OutOfMemory) => Err(CatalogueError::OutOfMemory),
     }
 }
 
@@ -125,7 +126,9 @@ pub fn open_script(alloc: Global, text: &str) -> Result<Database, OpenError>
 {
     let catalogue = match catalogue_of(alloc, text) {
         Ok(catalogue) => catalogue,
-        Err(error) => return Err(error),
+        Err(CatalogueError::Syntax) => return Err(OpenError::Syntax),
+        Err(CatalogueError::IllTyped) => return Err(OpenError::IllTyped),
+        Err(CatalogueError::OutOfMemory) => return Err(OpenError::OutOfMemory),
     };
     let database = match opened(alloc, catalogue) {
         Ok(database) => database,

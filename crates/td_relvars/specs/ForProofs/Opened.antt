@@ -1,11 +1,9 @@
 -- What each step of opening a script gives.
-use Rattle.std.specs.Prelude.{◌≡◌, ℕ, List, Option, None, Some, Result, Ok, Err}
+use Rattle.std.specs.Prelude.{◌≡◌, Option, None, Some, Result, Ok, Err}
 use Rattle.td_values.specs.Headings.{Header}
 use Rattle.td_values.specs.Rows.{RowsData}
-use Rattle.td_syntax.specs.declared.script.Definition.{Definition}
 use Rattle.td_trees.specs.declared.tree.Typed.{Typed}
 use Rattle.td_algebra.specs.declared.errors.Stop.{Stop}
-use Rattle.td_grammar.specs.Statements.{IsScript}
 use Rattle.td_headings.specs.Catalogues.{CatalogueData}
 use Rattle.td_headings.specs.declared.defined.Test.{Test}
 use Rattle.td_eval.specs.Raises.{Tells, stop_of}
@@ -15,18 +13,8 @@ use Rattle.td_constraints.specs.Reports.{title}
 use Rattle.td_constraints.specs.Tests.{failing}
 use Rattle.td_relvars.specs.Databases.{DatabaseData, Stored, relvars_in}
 use Rattle.td_relvars.specs.Openings.{opening, relation_in}
-use Rattle.td_relvars.specs.Scripts.{IsIllTyped, IsScriptOf}
 use Rattle.td_relvars.specs.declared.error.OpenError.{OpenError}
 use Rattle.td_relvars.specs.declared.error.OpenError.TheVariants as refusal
-
--- the catalogue of a script
-abbrev pub Reads : List ℕ → Result CatalogueData OpenError → Type 0
-Reads text (Ok c) = IsScriptOf text c
-Reads text (Err refusal.Syntax) = (ds : List Definition) → ¬ IsScript text ds
-Reads text (Err refusal.IllTyped) = IsIllTyped text
-Reads text (Err (refusal.OpeningRaised e)) = ⊥
-Reads text (Err (refusal.OpeningBroken b)) = ⊥
-Reads text (Err refusal.OutOfMemory) = Unit {0}
 
 -- the value of an INIT that is there
 abbrev pub TellsInit : CatalogueData → Stored → Option (Typed × Header) → Result RowsData Failure → Type 0
