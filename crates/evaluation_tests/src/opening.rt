@@ -4,7 +4,7 @@ use crate::database::Result;
 use std::alloc::{AllocError, Global};
 use td_constraints::Broken;
 use td_relations::Relation;
-use td_relvars::{Answer, AskError, Database, OpenError, open_script};
+use td_relvars::{Answer, AskError, Database, OpenError, catalogue_of, open_script};
 use td_values::{Kind, Name, Value, show};
 
 fn broken(alloc: Global, test: &Broken) -> Result<String> {
@@ -79,6 +79,35 @@ fn scripts(rt: HostRuntime) -> Result<()> {
     ];
     for (script, expected) in table {
         let found = told(alloc, script)?;
+        assert!(rt; found.as_str() == expected, "{script}: {found}");
+    }
+    Ok(())
+}
+
+// How many relvars the script defines, or why it has no catalogue.
+fn defined(alloc: Global, script: &str) -> Result<String> {
+    match catalogue_of(alloc, script) {
+        Ok(catalogue) => {
+            Ok(format!(in alloc; "{} relvars", catalogue.schema().relvar_count())?)
+        }
+        Err(error) => Ok(format!(in alloc; "{error}")?),
+    }
+}
+
+#[test]
+fn catalogues(rt: HostRuntime) -> Result<()> {
+    let alloc = rt.alloc();
+    let table: [(&str, &str); 3] = [
+        // its key is not judged here
+        (
+            "VAR R BASE INIT ( RELATION { TUPLE { A 1 }, TUPLE { A 2 } } ) KEY { }; VAR V VIRTUAL ( R );",
+            "2 relvars",
+        ),
+        ("VAR R BASE RELATION { A INTEGER };", "the text is no script"),
+        ("VAR R VIRTUAL ( NOSUCH );", "a definition is ill typed"),
+    ];
+    for (script, expected) in table {
+        let found = defined(alloc, script)?;
         assert!(rt; found.as_str() == expected, "{script}: {found}");
     }
     Ok(())
