@@ -4,3 +4,4 @@ pub mod Seen
 pub mod Calls
 pub mod Openings
 pub mod Laws
+pub mod ForProofs

@@ -2,10 +2,13 @@
 #![tactic(auto)]
 
 pub mod answer;
+mod asked;
+mod judged;
 pub mod laws;
 mod plain;
 pub mod refusal;
 mod replica;
+mod told;
 
 pub use answer::{Issued, Reply, Taken};
 pub use plain::{MOST_ENTRIES, PlainSite};

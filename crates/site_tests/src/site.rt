@@ -1,0 +1,113 @@
+//! What a site answers to calls, a line for each.
+
+use crate::answers::{Result, counted, issued, listed, replied, taken, told};
+use std::alloc::Global;
+use td_assign::Meter;
+use td_replay::{OpenError, PlainSite, Replica};
+use td_stamps::Entry;
+use td_values::{Name, Text};
+
+/// Site, sequence number, clock and text of an entry.
+pub type Written<'a> = (u16, u32, u64, &'a str);
+
+/// A call on a site.
+#[derive(Clone, Copy)]
+pub enum Call<'a> {
+    Issue(&'a str),
+    Take(&'a [Written<'a>]),
+    Ask(&'a str),
+    ValueOf(&'a str),
+    Outcomes,
+    Vector,
+}
+
+fn batch(alloc: Global, written: &[Written]) -> Result<Vec<Entry>> {
+    let mut batch = Vec::new(alloc);
+    for (site, seq, clock, text) in written {
+        let text = Text::from_str(alloc, text)?;
+        batch.push(Entry {
+            site: *site,
+            seq: *seq,
+            clock: *clock,
+            text,
+        })?;
+    }
+    Ok(batch)
+}
+
+fn take<R: Replica>(
+    alloc: Global,
+    site: &mut R,
+    meter: &mut Meter,
+    written: &[Written],
+) -> Result<String> {
+    let batch = batch(alloc, written)?;
+    taken(alloc, site.take(alloc, batch.as_slice(), meter))
+}
+
+fn value_of<R: Replica>(alloc: Global, site: &R, name: &str) -> Result<String> {
+    let name = Name::new(alloc, name)?;
+    told(alloc, site.value_of(alloc, &name))
+}
+
+fn vector<R: Replica>(alloc: Global, site: &R) -> Result<String> {
+    match site.held() {
+        Ok(held) => counted(alloc, &held.vector(alloc)?),
+        Err(error) => Ok(format!(in alloc; "{error}")?),
+    }
+}
+
+fn answered<R: Replica>(
+    alloc: Global,
+    site: &mut R,
+    meter: &mut Meter,
+    call: Call,
+) -> Result<String> {
+    match call {
+        Call::Issue(text) => issued(alloc, site.issue(alloc, text, meter)),
+        Call::Take(written) => take(alloc, site, meter, written),
+        Call::Ask(text) => replied(alloc, site.ask(alloc, text)),
+        Call::ValueOf(name) => value_of(alloc, site, name),
+        Call::Outcomes => listed(alloc, site.outcomes(alloc)),
+        Call::Vector => vector(alloc, site),
+    }
+}
+
+// The first call that the site does not answer as it stands there, with its answer.
+fn unlike_at<R: Replica>(
+    alloc: Global,
+    site: &mut R,
+    meter: &mut Meter,
+    calls: &[(Call, &str)],
+) -> Result<String> {
+    for (n, (call, expected)) in calls.iter().enumerate() {
+        let found = answered(alloc, site, meter, *call)?;
+        if found.as_str() != *expected {
+            return Ok(format!(in alloc; "{n}: {found}")?);
+        }
+    }
+    Ok(String::new(alloc))
+}
+
+/// Of a site of this script, number and limit, the first call that is not answered as it stands there, with its answer.
+pub fn unlike(
+    alloc: Global,
+    meter: &mut Meter,
+    opening: (&str, u16, usize),
+    calls: &[(Call, &str)],
+) -> Result<String> {
+    let (script, number, limit) = opening;
+    match PlainSite::open_script(alloc, script, number, limit) {
+        Ok(mut site) => unlike_at(alloc, &mut site, meter, calls),
+        Err(error) => refused(alloc, error),
+    }
+}
+
+fn refused(alloc: Global, error: OpenError) -> Result<String> {
+    let text = match error {
+        OpenError::BadSite => "bad site",
+        OpenError::BadLimit => "bad limit",
+        OpenError::Script(_) => "bad script",
+    };
+    Ok(String::from_str(alloc, text)?)
+}

@@ -1,0 +1,39 @@
+-- What a site is asked, from what its database is asked.
+use Rattle.std.proofs.Common.{◌≡◌, ℕ, true, List, Result, Ok, Err}
+use Rattle.td_headings.specs.Catalogues.{CatalogueData}
+use Rattle.td_headings.specs.Definitions.{names_of_relvars}
+use Rattle.td_headings.specs.Expressions.{IsExpression, no_tuple}
+use Rattle.td_headings.proofs.NoTuple.{at_relvars}
+use Rattle.td_typing.specs.Types.{IsIllTyped}
+use Rattle.td_syntax.specs.declared.tree.Expr.{Expr}
+use Rattle.td_trees.specs.declared.expression.Expression.{Expression}
+use Rattle.td_relvars.specs.Databases.{DatabaseData}
+use Rattle.td_relvars.specs.declared.answer.Answer.{Answer}
+use Rattle.td_replay.specs.Calls.{Asks, TellsValue}
+use Rattle.td_replay.specs.ForProofs.Asked.{Answers, TellsNamed}
+use Rattle.td_replay.specs.ForProofs.Told.{Outcomes}
+use Rattle.td_replay.specs.Seen.{Seen}
+use Rattle.td_replay.specs.Stories.{IsStory}
+use Rattle.td_replay.specs.declared.answer.Reply.{Reply}
+use Rattle.td_replay.specs.declared.refusal.AskError.{AskError}
+use Rattle.td_replay.specs.declared.refusal.AskError.TheVariants as ask_error
+use Rattle.td_replay.specs.declared.refusal.ValueError.{ValueError}
+use Rattle.td_replay.specs.declared.refusal.ValueError.TheVariants as value_error
+use Rattle.td_replay.proofs.Telling.{story_catalogue}
+
+pub never_typed : (c : CatalogueData) (a : Expr) → IsIllTyped c.schema (names_of_relvars c) a → (x : Expression) → IsExpression c no_tuple a x → ⊥
+never_typed c a h x d = h x.tree x.kind (at_relvars c a x.tree x.kind d.types)
+
+module _ (s : Seen) (os : Outcomes) (d : DatabaseData) (live : s.live ≡ true) (st : IsStory s.script s.entries os d) where
+  pub asks : (text : List ℕ) (r : Result Reply AskError) → Answers d text r → Asks s text r
+  asks text (Ok r) h = record { database = d; query = h.query; expression = h.expression; live = live; leaves = (os, st); reads = h.reads; types = h.types; says = h.says }
+  asks text (Err ask_error.Broken) h = absurd h
+  asks text (Err ask_error.Syntax) h = (live, h)
+  asks text (Err ask_error.IllTyped) h = (live, record { catalogue = d.catalogue; query = h.query; defines = story_catalogue s.script s.entries os d st; reads = h.reads; refused = h.refused })
+  asks text (Err ask_error.OutOfMemory) h = live
+
+  pub tells_value : (x : List ℕ) (r : Result Answer ValueError) → TellsNamed d x r → TellsValue s x r
+  tells_value x (Ok a) h = (live, d, (os, st), h)
+  tells_value x (Err value_error.Broken) h = absurd h
+  tells_value x (Err value_error.Unknown) h = (live, d, (os, st), h)
+  tells_value x (Err value_error.OutOfMemory) h = live

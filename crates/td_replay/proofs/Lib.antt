@@ -1,0 +1,6 @@
+-- The proofs of the crate.
+pub mod Telling
+pub mod Issuing
+pub mod Taking
+pub mod Asking
+pub mod Agreeing

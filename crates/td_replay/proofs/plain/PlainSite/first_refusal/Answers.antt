@@ -1,0 +1,30 @@
+use Rattle.std.proofs.Common.{true, Err, Ok, Result, refl, ap, sym, subst, ◌∙◌}
+use Rattle.td_headings.specs.Catalogues.{CatalogueData}
+use Rattle.td_replay.specs.Calls.{Issues}
+use Rattle.td_replay.specs.ForProofs.Judged.{IsRefusal, Judges}
+use Rattle.td_replay.specs.ForProofs.Told.{Numbers}
+use Rattle.td_replay.specs.Seen.{Seen}
+use Rattle.td_replay.specs.declared.refusal.IssueError.{IssueError}
+use Rattle.td_replay.proofs.Issuing.{issues_no_entry, issues_refusal}
+use Rattle.td_replay.proofs.plain.PlainSite.first_refusal.Goals as goal
+
+pub returns-in-Ok : goal.returns-in-Ok
+returns-in-Ok c =
+    let i = c.self.inside in
+    let s : Seen = record { script = i.script; site = i.site; limit = i.held.limit; entries = i.held.entries; live = true } in
+    let text = c.args.text.now in
+    let d = i.told.database in
+    let here = subst (λ (k : CatalogueData). Judges k text c.judge.result) c.catalogue.ensures.same c.judge.ensures in
+    let read = subst (λ (r : Result (Unit {0}) IssueError). Judges d.catalogue text r) c.in-Ok.is here in
+    let none = subst (λ (z : Seen). Numbers z text (Err c.args.error)) (sym c.self.view_is) c.requires in
+    subst (λ (z : Seen). Issues z text (Err c.args.error) z) c.self.view_is (issues_no_entry s text i.told.outcomes.items d c.args.error read.0 refl c.self.invariant.2 read.1 none)
+
+pub returns-in-Err : goal.returns-in-Err
+returns-in-Err c =
+    let i = c.self.inside in
+    let s : Seen = record { script = i.script; site = i.site; limit = i.held.limit; entries = i.held.entries; live = true } in
+    let text = c.args.text.now in
+    let d = i.told.database in
+    let here = subst (λ (k : CatalogueData). Judges k text c.judge.result) c.catalogue.ensures.same c.judge.ensures in
+    let refused = subst (λ (r : Result (Unit {0}) IssueError). Judges d.catalogue text r) c.in-Err.is here in
+    subst (λ (z : Seen). Issues z text (Err c.in-Err.refusal) z) c.self.view_is (issues_refusal s s text i.told.outcomes.items d c.in-Err.refusal refl c.self.invariant.2 refl refused)

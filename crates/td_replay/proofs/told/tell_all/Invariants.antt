@@ -1,0 +1,6 @@
+use Rattle.std.proofs.Common.{take}
+use Rattle.td_replay.specs.Stories.{IsStory}
+use Rattle.td_replay.proofs.told.tell_all.Given as goal
+
+abbrev pub invariant-loop-entry : goal.invariant-loop-entry
+invariant-loop-entry l = IsStory l.script (take l.entry-index l.entries) l.told.outcomes.items l.told.database

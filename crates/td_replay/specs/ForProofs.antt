@@ -1,0 +1,4 @@
+-- Words that only proofs and private functions use.
+pub mod Told
+pub mod Judged
+pub mod Asked

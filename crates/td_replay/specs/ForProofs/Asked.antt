@@ -1,0 +1,45 @@
+-- What a database is asked.
+use Rattle.std.specs.Prelude.{ℕ, List, Result, Ok, Err}
+use Rattle.td_values.specs.Data.{no_attrs}
+use Rattle.td_syntax.specs.declared.tree.Expr.{Expr}
+use Rattle.td_grammar.specs.Grammar.{IsQuery}
+use Rattle.td_trees.specs.declared.expression.Expression.{Expression}
+use Rattle.td_headings.specs.Expressions.{IsExpression, no_tuple}
+use Rattle.td_eval.specs.Trees.{tree_means}
+use Rattle.td_relvars.specs.Answers.{TellsRelvar}
+use Rattle.td_relvars.specs.Databases.{DatabaseData, relvars_in}
+use Rattle.td_relvars.specs.declared.answer.Answer.{Answer}
+use Rattle.td_relvars.specs.declared.error.AskError.TheVariants as relvar_error
+use Rattle.td_replay.specs.Calls.{Says}
+use Rattle.td_replay.specs.declared.answer.Reply.{Reply}
+use Rattle.td_replay.specs.declared.refusal.AskError.{AskError}
+use Rattle.td_replay.specs.declared.refusal.AskError.TheVariants as ask_error
+use Rattle.td_replay.specs.declared.refusal.ValueError.{ValueError}
+use Rattle.td_replay.specs.declared.refusal.ValueError.TheVariants as value_error
+
+-- the text is this query, and the reply says what it means
+pub record Means (d : DatabaseData) (text : List ℕ) (r : Reply) : Type 0 where
+  pub query : Expr
+  pub expression : Expression
+  pub reads : IsQuery text query
+  pub types : IsExpression d.catalogue no_tuple query expression
+  pub says : Says r (tree_means d.catalogue (relvars_in d.stored) expression.tree no_attrs)
+
+-- the text is a query that is ill typed
+pub record IsIllTyped (d : DatabaseData) (text : List ℕ) : Type 0 where
+  pub query : Expr
+  pub reads : IsQuery text query
+  pub refused : (x : Expression) → IsExpression d.catalogue no_tuple query x → ⊥
+
+abbrev pub Answers : DatabaseData → List ℕ → Result Reply AskError → Type 0
+Answers d text (Ok r) = Means d text r
+Answers d text (Err ask_error.Broken) = ⊥
+Answers d text (Err ask_error.Syntax) = (e : Expr) → IsQuery text e → ⊥
+Answers d text (Err ask_error.IllTyped) = IsIllTyped d text
+Answers d text (Err ask_error.OutOfMemory) = Unit {0}
+
+abbrev pub TellsNamed : DatabaseData → List ℕ → Result Answer ValueError → Type 0
+TellsNamed d x (Ok a) = TellsRelvar d x (Ok a)
+TellsNamed d x (Err value_error.Broken) = ⊥
+TellsNamed d x (Err value_error.Unknown) = TellsRelvar d x (Err relvar_error.Unknown)
+TellsNamed d x (Err value_error.OutOfMemory) = Unit {0}

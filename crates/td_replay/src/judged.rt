@@ -1,0 +1,37 @@
+//! Whether a text is a statement, well typed.
+
+ghost use Rattle.td_assign.specs.Steps.{IsUnread};
+ghost use Rattle.td_replay.specs.ForProofs.Judged.{IsRefusal, Judges};
+
+use crate::refusal::IssueError;
+use std::alloc::Global;
+use td_grammar::{ReadError, read_statement};
+use td_headings::{Catalogue, type_statement};
+use td_kinds::error::TypeError;
+
+/// Why the text is no statement of the catalogue, if it is none.
+pub(crate) fn judge(alloc: Global, catalogue: &Catalogue, text: &str) -> Result<(), IssueError>
+    ensures { Judges catalogue.now text.now result }
+{
+    let statement = match read_statement(alloc, text) {
+        Ok(statement) => statement,
+        Err(ReadError::Syntax) => return Err(IssueError::Syntax),
+        Err(ReadError::OutOfMemory) => return Err(IssueError::OutOfMemory),
+    };
+    match type_statement(alloc, catalogue, &statement) {
+        Ok(_) => Ok(()),
+        Err(TypeError::IllTyped) => Err(IssueError::IllTyped),
+        Err(TypeError::OutOfMemory) => Err(IssueError::OutOfMemory),
+    }
+}
+
+/// Why a text that is none is no statement of the catalogue.
+pub(crate) fn refusal(alloc: Global, catalogue: &Catalogue, text: &str) -> IssueError
+    requires { IsUnread catalogue.now text.now }
+    ensures { IsRefusal catalogue.now text.now result }
+{
+    match judge(alloc, catalogue, text) {
+        Ok(()) => unreachable!(),
+        Err(error) => error,
+    }
+}

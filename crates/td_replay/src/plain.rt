@@ -1,0 +1,229 @@
+//! A site that runs all statements that it holds anew where it takes more of them.
+
+ghost use Rattle.std.specs.Prelude.{◌≡◌, ◌≤◌, Err, Ok, length};
+ghost use Rattle.td_replay.specs.Calls.{Issues, entry_of};
+ghost use Rattle.td_replay.specs.ForProofs.Told.{Numbers};
+ghost use Rattle.td_replay.specs.Openings.{OpensSite};
+
+use crate::answer::{Issued, Reply, Taken};
+use crate::asked;
+use crate::judged::{judge, refusal};
+use crate::refusal::{
+    AskError, IssueError, NotOpen, OpenError, TakeError, TellError, ValueError,
+};
+use crate::replica::Replica;
+use crate::told::{Told, add_last, copies, tell_all};
+use std::alloc::Global;
+use std::marker::Model;
+use td_assign::{Meter, Outcome};
+use td_relvars::Answer;
+use td_stamps::{Entry, Held, NextError, PrepareError, Stamp};
+use td_values::{Name, Text};
+
+/// The greatest limit of a site.
+pub const MOST_ENTRIES: usize = 100_000;
+
+// The most bytes that a statement's text has.
+const MOST_BYTES: usize = 8192;
+
+/// A site in memory. It keeps the database and the outcomes of its story, so to issue a statement runs that one alone; to take
+/// entries that are new runs all.
+#[derive(Drop)]
+pub struct PlainSite {
+    script: Text,
+    site: u16,
+    held: Held,
+    told: Told,
+}
+
+impl Model for PlainSite {
+    ghost use Rattle.std.specs.Prelude.{◌≡◌, ◌≤◌, true};
+    ghost use Rattle.td_replay.specs.Seen.{Seen, is_limit};
+    ghost use Rattle.td_replay.specs.Stories.{IsStory};
+
+    ghost Value = { Seen };
+
+    ghost view = { λ s. record { script = s.script; site = s.site; limit = s.held.limit; entries = s.held.entries; live = true } };
+
+    ghost invariant = { λ s. (1 ≤ s.site) × (is_limit s.held.limit ≡ true) × IsStory s.script s.held.entries s.told.outcomes.items s.told.database };
+}
+
+impl PlainSite {
+    /// A site of this number that holds nothing and may hold so many entries. It costs what opening the script costs.
+    pub fn open_script(
+        alloc: Global,
+        script: &str,
+        site: u16,
+        limit: usize,
+    ) -> Result<PlainSite, OpenError>
+        ensures { OpensSite script.now site limit result }
+    {
+        if site == 0 {
+            return Err(OpenError::BadSite);
+        }
+        if limit == 0 || limit > MOST_ENTRIES {
+            return Err(OpenError::BadLimit);
+        }
+        let database = match td_relvars::open_script(alloc, script) {
+            Ok(database) => database,
+            Err(error) => return Err(OpenError::Script(error)),
+        };
+        let script = match Text::from_str(alloc, script) {
+            Ok(script) => script,
+            Err(_) => return Err(OpenError::Script(td_relvars::OpenError::OutOfMemory)),
+        };
+        Ok(PlainSite {
+            script,
+            site,
+            held: Held::new(alloc, limit),
+            told: Told {
+                database,
+                outcomes: Vec::new(alloc),
+            },
+        })
+    }
+
+    // The site's next entry, with this text.
+    fn next_entry(&self, alloc: Global, text: &str) -> Result<Entry, IssueError>
+        ensures { Numbers self.now text.now result }
+    {
+        let (seq, clock) = match self.held.next(self.site) {
+            Ok(numbers) => numbers,
+            Err(NextError::ClockEnd) => return Err(IssueError::ClockEnd),
+        };
+        if self.held.len() >= self.held.limit() {
+            return Err(IssueError::Full);
+        }
+        match Text::from_str(alloc, text) {
+            Ok(text) => Ok(Entry {
+                site: self.site,
+                seq,
+                clock,
+                text,
+            }),
+            Err(_) => Err(IssueError::OutOfMemory),
+        }
+    }
+
+    // Adds the next entry, with this text, where it is read.
+    fn issue_entry(
+        &mut self,
+        alloc: Global,
+        entry: Entry,
+        text: &str,
+        meter: &mut Meter,
+    ) -> Result<Issued, IssueError>
+        requires next { entry_of self.old text.now ≡ Ok entry }
+        requires short { length text.now ≤ 8192 }
+        ensures { Issues self.old text.now result self.new }
+    {
+        let stamp = entry.stamp();
+        let outcome = match add_last(alloc, &mut self.held, &mut self.told, entry, meter) {
+            Ok(Some(outcome)) => outcome,
+            Ok(None) => return Err(refusal(alloc, self.told.database.catalogue(), text)),
+            Err(_) => return Err(IssueError::OutOfMemory),
+        };
+        Ok(Issued { stamp, outcome })
+    }
+
+    // Why a text is refused that has no next entry: what is wrong with it stands before that.
+    fn first_refusal(&self, alloc: Global, text: &str, error: IssueError) -> IssueError
+        requires { Numbers self.now text.now (Err error) }
+        ensures { Issues self.now text.now (Err result) self.now }
+    {
+        match judge(alloc, self.told.database.catalogue(), text) {
+            Ok(()) => error,
+            Err(refusal) => refusal,
+        }
+    }
+}
+
+impl Replica for PlainSite {
+    ghost seen = { λ s. s };
+
+    fn issue(
+        &mut self,
+        alloc: Global,
+        text: &str,
+        meter: &mut Meter,
+    ) -> Result<Issued, IssueError> {
+        // It shows that the site is open, and does nothing when it runs.
+        let _site = &self.site;
+        if text.len() > MOST_BYTES {
+            return Err(IssueError::Syntax);
+        }
+        let entry = match self.next_entry(alloc, text) {
+            Ok(entry) => entry,
+            Err(error) => return Err(self.first_refusal(alloc, text, error)),
+        };
+        self.issue_entry(alloc, entry, text, meter)
+    }
+
+    fn take(
+        &mut self,
+        alloc: Global,
+        batch: &[Entry],
+        meter: &mut Meter,
+    ) -> Result<Taken, TakeError> {
+        let prepared = match self.held.prepare(alloc, batch) {
+            Ok(prepared) => prepared,
+            Err(PrepareError::BadEntry) => return Err(TakeError::BadEntry),
+            Err(PrepareError::Clash { site, seq }) => return Err(TakeError::Clash { site, seq }),
+            Err(PrepareError::Full) => return Err(TakeError::Full),
+            Err(PrepareError::OutOfMemory) => return Err(TakeError::OutOfMemory),
+        };
+        // It shows that a set is held, and does nothing when it runs.
+        let _held = self.held.entries();
+        let fresh = prepared.fresh();
+        if fresh == 0 {
+            return Ok(Taken {
+                fresh: 0,
+                known: batch.len(),
+            });
+        }
+        let told = match tell_all(alloc, self.script.as_str(), prepared.entries(), meter) {
+            Ok(told) => told,
+            Err(_) => return Err(TakeError::OutOfMemory),
+        };
+        self.held.commit(prepared);
+        self.told = told;
+        Ok(Taken {
+            fresh,
+            known: batch.len() - fresh,
+        })
+    }
+
+    fn ask(&self, alloc: Global, text: &str) -> Result<Reply, AskError> {
+        asked::ask(alloc, &self.told.database, text)
+    }
+
+    fn value_of(&self, alloc: Global, name: &Name) -> Result<Answer, ValueError> {
+        asked::value_of(alloc, &self.told.database, name)
+    }
+
+    fn outcomes(&self, alloc: Global) -> Result<Vec<(Stamp, Outcome)>, TellError> {
+        match copies(alloc, &self.told.outcomes) {
+            Ok(copies) => Ok(copies),
+            Err(_) => Err(TellError::OutOfMemory),
+        }
+    }
+
+    fn held(&self) -> Result<&Held, NotOpen> {
+        Ok(&self.held)
+    }
+
+    fn is_open(&self) -> bool {
+        let _site = &self.site;
+        true
+    }
+
+    fn site(&self) -> u16 {
+        // They show that a set within its limit is held, and do nothing when they run.
+        let _entries = self.held.entries();
+        self.site
+    }
+
+    fn script(&self) -> &str {
+        self.script.as_str()
+    }
+}
