@@ -1,7 +1,5 @@
 -- The laws of sites.
-use Rattle.std.proofs.Common.{◌≡◌, ℕ, List, take, None, sym, ap, subst, ◌∙◌}
-use Rattle.td_stamps.specs.declared.entry.Entry.{Entry}
-use Rattle.td_stamps.specs.declared.entry.Stamp.{Stamp}
+use Rattle.std.proofs.Common.{take, None, subst}
 use Rattle.td_stamps.specs.Story.{Story}
 use Rattle.td_stamps.proofs.Merges.{same_set}
 use Rattle.td_stamps.proofs.Stories as stories
@@ -10,7 +8,6 @@ use Rattle.td_relvars.specs.Databases.{DatabaseData, relvars_in}
 use Rattle.td_relvars.proofs.OneOpening.{one_opening}
 use Rattle.td_assign.proofs.Legal.{all_pass, step_is_legal}
 use Rattle.td_assign.proofs.Unique.{one_step}
-use Rattle.td_assign.specs.declared.outcome.Outcome.{Outcome}
 use Rattle.td_replay.specs.Laws.{SitesAgree, StoryIsLegal, StoryIsOne}
 use Rattle.td_replay.specs.Stories.{IsStory, StepsEntry}
 

@@ -1,8 +1,7 @@
 -- The next entry of a site: what is known of it, and that it comes last.
-use Rattle.std.proofs.Common.{◌≡◌, ◌≤◌, ◌<◌, ℕ, suc, Bool, true, false, cond, List, [], ◌∷◌, ◌++◌, length, Result, Ok, Err, refl, sym, ap, subst, ◌∙◌}
+use Rattle.std.proofs.Common.{◌≡◌, ◌≤◌, ◌<◌, ℕ, Bool, true, false, cond, List, [], ◌∷◌, ◌++◌, length, Result, Ok, Err, refl, sym, ap, subst, ◌∙◌}
 use Rattle.std.specs.Prelude.{nat_lt, IsOk}
 use Rattle.std.proofs.lemmas.Bool.{ltb-true}
-use Rattle.td_syntax.specs.declared.script.Statement.{Statement}
 use Rattle.td_headings.specs.declared.statement.TypedStatement.{TypedStatement}
 use Rattle.td_stamps.specs.declared.entry.Entry.{Entry}
 use Rattle.td_stamps.specs.declared.entry.Stamp.{Stamp}
@@ -12,10 +11,8 @@ use Rattle.td_stamps.specs.Entries.{stamp_of}
 use Rattle.td_stamps.specs.Sets.{union}
 use Rattle.td_stamps.proofs.Next.{next_fits, union_last}
 use Rattle.td_relvars.specs.Databases.{DatabaseData}
-use Rattle.td_relvars.specs.Scripts.{IsScriptOf}
 use Rattle.td_assign.specs.Steps.{IsRead}
-use Rattle.td_assign.specs.declared.outcome.Outcome.{Outcome}
-use Rattle.td_replay.specs.Calls.{entry_of, if_room, numbered, Issues, IssuesEntry, IsStatementOf}
+use Rattle.td_replay.specs.Calls.{entry_of, numbered, Issues, IssuesEntry}
 use Rattle.td_replay.specs.ForProofs.Judged.{IsRefusal}
 use Rattle.td_replay.specs.ForProofs.Told.{Numbers, Outcomes, RunsNext}
 use Rattle.td_replay.specs.Seen.{Seen, with_entries}

@@ -1,5 +1,5 @@
 -- What taking a batch answers.
-use Rattle.std.proofs.Common.{◌≡◌, ℕ, ◌+◌, ◌≤◌, true, List, Option, Some, None, Result, Ok, Err, length, refl, sym, ap, subst, ◌∙◌, arith}
+use Rattle.std.proofs.Common.{◌≡◌, ℕ, true, List, Ok, refl, sym, subst}
 use Rattle.std.specs.Prelude.{IsOk}
 use Rattle.std.specs.List.{list_all}
 use Rattle.td_stamps.specs.declared.entry.Entry.{Entry}
@@ -8,9 +8,7 @@ use Rattle.td_stamps.specs.Entries.{in_range}
 use Rattle.td_stamps.specs.Sets.{is_set, union}
 use Rattle.td_stamps.proofs.Known.{known_adds_nothing}
 use Rattle.td_stamps.proofs.SetLemmas.{fits}
-use Rattle.td_replay.specs.Calls.{TakesBatch}
 use Rattle.td_replay.specs.Seen.{Seen, with_entries}
-use Rattle.td_replay.specs.declared.answer.Taken.{Taken}
 
 -- a batch that may be added is in range
 pub in_ranges : (held : List Entry) (limit : ℕ) (batch : List Entry) (n : ℕ) → check_of held limit batch ≡ Ok n → list_all in_range batch ≡ true

@@ -1,6 +1,6 @@
 -- What the calls on a site answer, and what they leave. Of the causes of refusal that stand, the first in the order of each call's
 -- errors is answered, or want of memory in place of one that was not reached yet.
-use Rattle.std.specs.Prelude.{◌≡◌, ◌+◌, ℕ, nat_lt, Bool, true, false, List, [], ◌∷◌, ◌++◌, length, Result, Ok, Err, IsOk, if◌then◌else◌}
+use Rattle.std.specs.Prelude.{◌≡◌, ◌+◌, ℕ, nat_lt, true, false, List, [], ◌∷◌, ◌++◌, length, Result, Ok, Err, IsOk, if◌then◌else◌}
 use Rattle.std.specs.List.{list_all}
 use Rattle.td_values.specs.Data.{Datum, no_attrs}
 use Rattle.td_syntax.specs.declared.tree.Expr.{Expr}

@@ -8,9 +8,7 @@ ghost use Rattle.td_replay.specs.Openings.{OpensSite};
 use crate::answer::{Issued, Reply, Taken};
 use crate::asked;
 use crate::judged::{judge, refusal};
-use crate::refusal::{
-    AskError, IssueError, NotOpen, OpenError, TakeError, TellError, ValueError,
-};
+use crate::refusal::{AskError, IssueError, NotOpen, OpenError, TakeError, TellError, ValueError};
 use crate::replica::Replica;
 use crate::told::{Told, add_last, copies, tell_all};
 use std::alloc::Global;

@@ -21,7 +21,12 @@ pub trait Replica {
         ensures { Issues (seen self.old) text.now result (seen self.new) };
 
     /// Adds the entries that are not held yet.
-    fn take(&mut self, alloc: Global, batch: &[Entry], meter: &mut Meter) -> Result<Taken, TakeError>
+    fn take(
+        &mut self,
+        alloc: Global,
+        batch: &[Entry],
+        meter: &mut Meter,
+    ) -> Result<Taken, TakeError>
         ensures { Takes (seen self.old) batch.now result (seen self.new) };
 
     /// What a query means over the relvars.

@@ -47,8 +47,7 @@ impl Told {
     ) -> Result<(), AllocError>
         ensures ran { OnOk result (RunsSome self.old.database self.old.outcomes.items entry.now self.new.database self.new.outcomes.items) }
     {
-        let Ran { outcome, delta: _ } =
-            run(alloc, &mut self.database, entry.text.as_str(), meter)?;
+        let Ran { outcome, delta: _ } = run(alloc, &mut self.database, entry.text.as_str(), meter)?;
         self.outcomes.push((entry.stamp(), outcome))?;
         Ok(())
     }
@@ -63,8 +62,7 @@ impl Told {
         ensures { TellsNext self.old.database self.old.outcomes.items entry.now result self.new.database self.new.outcomes.items }
     {
         self.outcomes.reserve(1)?;
-        let Ran { outcome, delta: _ } =
-            run(alloc, &mut self.database, entry.text.as_str(), meter)?;
+        let Ran { outcome, delta: _ } = run(alloc, &mut self.database, entry.text.as_str(), meter)?;
         if is_unread(&outcome) {
             return Ok(None);
         }

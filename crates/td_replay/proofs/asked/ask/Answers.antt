@@ -1,7 +1,6 @@
 use Rattle.std.proofs.Common.{Err, sym, ap, subst, ◌∙◌}
 use Rattle.td_values.specs.Data.{no_attrs}
 use Rattle.td_syntax.specs.declared.tree.Expr.{Expr}
-use Rattle.td_trees.specs.declared.expression.Expression.{Expression}
 use Rattle.td_typing.specs.Types.{IsIllTyped}
 use Rattle.td_headings.specs.Catalogues.{CatalogueData}
 use Rattle.td_headings.specs.Definitions.{names_of_relvars}

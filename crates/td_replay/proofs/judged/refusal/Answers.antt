@@ -1,4 +1,4 @@
-use Rattle.std.proofs.Common.{Ok, Result, subst}
+use Rattle.std.proofs.Common.{Result, subst}
 use Rattle.td_replay.specs.ForProofs.Judged.{Judges}
 use Rattle.td_replay.specs.declared.refusal.IssueError.{IssueError}
 use Rattle.td_replay.proofs.judged.refusal.Goals as goal

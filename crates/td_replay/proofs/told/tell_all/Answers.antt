@@ -1,4 +1,4 @@
-use Rattle.std.proofs.Common.{List, None, length, sym, subst, arith}
+use Rattle.std.proofs.Common.{List, sym, subst, arith}
 use Rattle.std.proofs.lemmas.List.{take_all}
 use Rattle.td_stamps.specs.declared.entry.Entry.{Entry}
 use Rattle.td_replay.specs.ForProofs.Told.{Outcomes}

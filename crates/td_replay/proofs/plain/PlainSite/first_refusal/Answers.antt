@@ -1,7 +1,7 @@
-use Rattle.std.proofs.Common.{true, Err, Ok, Result, refl, ap, sym, subst, ◌∙◌}
+use Rattle.std.proofs.Common.{true, Err, Result, refl, sym, subst}
 use Rattle.td_headings.specs.Catalogues.{CatalogueData}
 use Rattle.td_replay.specs.Calls.{Issues}
-use Rattle.td_replay.specs.ForProofs.Judged.{IsRefusal, Judges}
+use Rattle.td_replay.specs.ForProofs.Judged.{Judges}
 use Rattle.td_replay.specs.ForProofs.Told.{Numbers}
 use Rattle.td_replay.specs.Seen.{Seen}
 use Rattle.td_replay.specs.declared.refusal.IssueError.{IssueError}

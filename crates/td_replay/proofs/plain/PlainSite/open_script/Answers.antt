@@ -1,6 +1,5 @@
 use Rattle.std.proofs.Common.{◌≡◌, ◌≤◌, ℕ, List, [], true, sym, subst, arith}
 use Rattle.std.proofs.lemmas.Bool.Decides.{nat_tests}
-use Rattle.td_relvars.specs.Databases.{DatabaseData}
 use Rattle.td_stamps.specs.Sets.{Holding}
 use Rattle.td_replay.specs.ForProofs.Told.{Outcomes}
 use Rattle.td_replay.specs.Seen.{is_limit}

@@ -1,5 +1,4 @@
-use Rattle.std.proofs.Common.{◌≡◌, true, List, length, Ok, refl, sym, ap, subst, ◌∙◌, arith}
-use Rattle.td_stamps.specs.Checks.{check_of}
+use Rattle.std.proofs.Common.{true, length, Ok, refl, sym, ap, subst, ◌∙◌, arith}
 use Rattle.td_replay.specs.Calls.{TakesBatch}
 use Rattle.td_replay.specs.Seen.{Seen}
 use Rattle.td_replay.proofs.Taking.{nothing_new}
