@@ -4,8 +4,8 @@ use std::alloc::Global;
 use std::test::Fail;
 use td_assign::Outcome;
 use td_relations::Relation;
-use td_replay::{AskError, IssueError, Issued, Reply, TakeError, Taken, TellError, ValueError};
 use td_relvars::Answer;
+use td_replay::{AskError, IssueError, Issued, Reply, TakeError, Taken, TellError, ValueError};
 use td_stamps::{Stamp, Vector};
 use td_values::{Kind, Value, show};
 
@@ -28,10 +28,7 @@ fn stamped(alloc: Global, stamp: Stamp, outcome: &Outcome) -> Result<String> {
     Ok(format!(in alloc; "{}.{} {named}", stamp.clock, stamp.site)?)
 }
 
-pub fn issued(
-    alloc: Global,
-    answer: std::result::Result<Issued, IssueError>,
-) -> Result<String> {
+pub fn issued(alloc: Global, answer: std::result::Result<Issued, IssueError>) -> Result<String> {
     match answer {
         Ok(issued) => stamped(alloc, issued.stamp, &issued.outcome),
         Err(error) => Ok(format!(in alloc; "{error}")?),
@@ -66,11 +63,7 @@ pub fn told(alloc: Global, answer: std::result::Result<Answer, ValueError>) -> R
     }
 }
 
-fn add_outcomes(
-    alloc: Global,
-    text: &mut String,
-    outcomes: &[(Stamp, Outcome)],
-) -> Result<()> {
+fn add_outcomes(alloc: Global, text: &mut String, outcomes: &[(Stamp, Outcome)]) -> Result<()> {
     for (stamp, outcome) in outcomes {
         let line = stamped(alloc, *stamp, outcome)?;
         text.push_str(line.as_str())?;

@@ -20,7 +20,8 @@ const LONDON: &str = "INSERT S RELATION { TUPLE { SNO 'S1', STATUS 20, CITY 'Lon
 
 const PARIS: &str = "INSERT S RELATION { TUPLE { SNO 'S2', STATUS 10, CITY 'Paris' } };";
 
-const BOTH: &str = "RELATION { CITY CHAR, SNO CHAR, STATUS INTEGER } { TUPLE { CITY 'London', SNO 'S1', STATUS 20 }, TUPLE { CITY 'Paris', SNO 'S2', STATUS 10 } }";
+const BOTH: &str =
+    "RELATION { CITY CHAR, SNO CHAR, STATUS INTEGER } { TUPLE { CITY 'London', SNO 'S1', STATUS 20 }, TUPLE { CITY 'Paris', SNO 'S2', STATUS 10 } }";
 
 const END: u64 = 1_000_000_000_000_000_000;
 
@@ -122,14 +123,8 @@ fn clash_clock_end_bad_entry(rt: HostRuntime) -> Result<()> {
         &mut meter,
         (SHIPMENTS, 1, 10_000),
         &[
-            (
-                Call::Take(&[(2, 1, END, "DELETE S;")]),
-                "fresh 1 known 0",
-            ),
-            (
-                Call::Issue(LONDON),
-                "the site has no number or clock left",
-            ),
+            (Call::Take(&[(2, 1, END, "DELETE S;")]), "fresh 1 known 0"),
+            (Call::Issue(LONDON), "the site has no number or clock left"),
             (
                 Call::Take(&[(2, 1, END, "DELETE SP;")]),
                 "an entry claims the place of another one: site 2, sequence number 1",
@@ -164,10 +159,7 @@ fn unread_entry_and_a_gap(rt: HostRuntime) -> Result<()> {
             ),
             (Call::Vector, "2:1 "),
             (Call::Outcomes, "1.2 unread; 3.2 done; "),
-            (
-                Call::Take(&[(2, 2, 2, "DELETE SP;")]),
-                "fresh 1 known 0",
-            ),
+            (Call::Take(&[(2, 2, 2, "DELETE SP;")]), "fresh 1 known 0"),
             (Call::Vector, "2:3 "),
             (Call::Outcomes, "1.2 unread; 2.2 done; 3.2 done; "),
         ],
