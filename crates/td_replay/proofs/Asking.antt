@@ -8,17 +8,14 @@ use Rattle.td_typing.specs.Types.{IsIllTyped}
 use Rattle.td_syntax.specs.declared.tree.Expr.{Expr}
 use Rattle.td_trees.specs.declared.expression.Expression.{Expression}
 use Rattle.td_relvars.specs.Databases.{DatabaseData}
-use Rattle.td_relvars.specs.declared.answer.Answer.{Answer}
-use Rattle.td_replay.specs.Calls.{Asks, TellsValue}
-use Rattle.td_replay.specs.ForProofs.Asked.{Answers, TellsNamed}
+use Rattle.td_replay.specs.Calls.{Asks}
+use Rattle.td_replay.specs.ForProofs.Asked.{Answers}
 use Rattle.td_replay.specs.ForProofs.Told.{Outcomes}
 use Rattle.td_replay.specs.Seen.{Seen}
 use Rattle.td_replay.specs.Stories.{IsStory}
 use Rattle.td_replay.specs.declared.answer.Reply.{Reply}
 use Rattle.td_replay.specs.declared.refusal.AskError.{AskError}
 use Rattle.td_replay.specs.declared.refusal.AskError.TheVariants as ask_error
-use Rattle.td_replay.specs.declared.refusal.ValueError.{ValueError}
-use Rattle.td_replay.specs.declared.refusal.ValueError.TheVariants as value_error
 use Rattle.td_replay.proofs.Telling.{story_catalogue}
 
 pub never_typed : (c : CatalogueData) (a : Expr) → IsIllTyped c.schema (names_of_relvars c) a → (x : Expression) → IsExpression c no_tuple a x → ⊥
@@ -31,9 +28,3 @@ module _ (s : Seen) (os : Outcomes) (d : DatabaseData) (live : s.live ≡ true) 
   asks text (Err ask_error.Syntax) h = (live, h)
   asks text (Err ask_error.IllTyped) h = (live, record { catalogue = d.catalogue; query = h.query; defines = story_catalogue s.script s.entries os d st; reads = h.reads; refused = h.refused })
   asks text (Err ask_error.OutOfMemory) h = live
-
-  pub tells_value : (x : List ℕ) (r : Result Answer ValueError) → TellsNamed d x r → TellsValue s x r
-  tells_value x (Ok a) h = (live, d, (os, st), h)
-  tells_value x (Err value_error.Broken) h = absurd h
-  tells_value x (Err value_error.Unknown) h = (live, d, (os, st), h)
-  tells_value x (Err value_error.OutOfMemory) h = live

@@ -13,7 +13,7 @@ use Rattle.td_relvars.specs.Scripts.{IsScriptOf, OpensOn}
 use Rattle.td_assign.specs.Steps.{IsRead, IsUnread, Steps, Tells, unread, raised, refused, done}
 use Rattle.td_assign.specs.declared.outcome.Outcome.{Outcome}
 use Rattle.td_assign.specs.declared.outcome.Outcome.TheVariants as outcome
-use Rattle.td_replay.specs.ForProofs.Told.{IsAccepted, Outcomes, RunsNext, RunsSome}
+use Rattle.td_replay.specs.ForProofs.Told.{Outcomes, RunsNext, RunsSome}
 use Rattle.td_replay.specs.Stories.{IsStory, StepsEntry}
 
 -- ---- a step
@@ -63,9 +63,6 @@ pub story_catalogue : (script : List ℕ) (es : List Entry) (os : Outcomes) (d :
 story_catalogue script es os d st =
     let P : DatabaseData → Type 0 = λ e. IsScriptOf script e.catalogue in
     stories.kept StepsEntry P (λ s t e o step is. subst (IsScriptOf script) (sym (same_catalogue s t e.text o step)) is) st.opening d es os st.runs st.opens.script
-
-pub story_accepted : (script : List ℕ) (es : List Entry) (os : Outcomes) (d : DatabaseData) → IsStory script es os d → IsAccepted script
-story_accepted script es os d st = (st.opening, st.opens)
 
 -- the next of a walk over the entries
 pub walked : (script : List ℕ) (es : List Entry) (i : ℕ) (e : Entry) (os told : Outcomes) (d after : DatabaseData) → i < length es → e ≡ get_or es i e → IsStory script (take i es) os d → RunsSome d os e after told → IsStory script (take (i + 1) es) told after
