@@ -87,9 +87,7 @@ fn scripts(rt: HostRuntime) -> Result<()> {
 // How many relvars the script defines, or why it has no catalogue.
 fn defined(alloc: Global, script: &str) -> Result<String> {
     match catalogue_of(alloc, script) {
-        Ok(catalogue) => {
-            Ok(format!(in alloc; "{} relvars", catalogue.schema().relvar_count())?)
-        }
+        Ok(catalogue) => { Ok(format!(in alloc; "{} relvars", catalogue.schema().relvar_count())?) }
         Err(error) => Ok(format!(in alloc; "{error}")?),
     }
 }
@@ -103,7 +101,10 @@ fn catalogues(rt: HostRuntime) -> Result<()> {
             "VAR R BASE INIT ( RELATION { TUPLE { A 1 }, TUPLE { A 2 } } ) KEY { }; VAR V VIRTUAL ( R );",
             "2 relvars",
         ),
-        ("VAR R BASE RELATION { A INTEGER };", "the text is no script"),
+        (
+            "VAR R BASE RELATION { A INTEGER };",
+            "the text is no script",
+        ),
         ("VAR R VIRTUAL ( NOSUCH );", "a definition is ill typed"),
     ];
     for (script, expected) in table {
