@@ -5,15 +5,14 @@ use Rattle.td_grammar.specs.Statements.{IsScript}
 use Rattle.td_grammar.proofs.OneStatement.{reader_decides_scripts}
 use Rattle.td_typing.proofs.KindLemmas.{some_same}
 use Rattle.td_algebra.specs.declared.errors.Stop.{Stop}
-use Rattle.td_headings.specs.Catalogues.{CatalogueData, nothing_defined}
+use Rattle.td_headings.specs.Catalogues.{nothing_defined}
 use Rattle.td_headings.specs.declared.defined.Test.{Test}
 use Rattle.td_constraints.specs.Tests.{failing}
 use Rattle.td_eval.specs.Raises.{stop_of}
-use Rattle.td_relvars.specs.Databases.{DatabaseData, Stored, relvars_in}
+use Rattle.td_relvars.specs.Databases.{DatabaseData, relvars_in}
 use Rattle.td_relvars.specs.Laws.{OpeningIsOne, OpensOrWants, ScriptIsOne}
 use Rattle.td_relvars.specs.Openings.{opening}
-use Rattle.td_relvars.specs.Scripts.{DefinesAll, IsIllTyped, IsScriptOf, Opens, OpensOn}
-use Rattle.td_relvars.specs.declared.error.OpenError.{OpenError}
+use Rattle.td_relvars.specs.Scripts.{DefinesAll, OpensOn}
 use Rattle.td_relvars.specs.declared.error.OpenError.TheVariants.{Syntax, IllTyped, OpeningRaised, OpeningBroken, OutOfMemory}
 use Rattle.td_relvars.proofs.Defining.{one_made}
 

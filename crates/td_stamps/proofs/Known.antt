@@ -1,16 +1,16 @@
 -- A batch that has nothing fresh adds nothing.
-use Rattle.std.proofs.Common.{◌≡◌, ℕ, ◌+◌, Bool, true, false, ◌||◌, if◌then◌else◌, List, [], ◌∷◌, ◌++◌, length, Option, Some, None, Result, Ok, Err, refl, sym, ap, subst, ◌∙◌, inl, inr, arith}
+use Rattle.std.proofs.Common.{◌≡◌, ℕ, ◌+◌, Bool, true, false, ◌||◌, if◌then◌else◌, List, [], ◌∷◌, ◌++◌, length, Option, Some, None, Result, Ok, Err, refl, sym, subst, ◌∙◌, inl, inr, arith}
 use Rattle.std.specs.Prelude.{IsOk, nat_le}
 use mathlib.Core.Bool.{false≢true}
 use Rattle.std.specs.List.{list_all}
-use Rattle.std.proofs.lemmas.Bool.{or_cases, or_left}
+use Rattle.std.proofs.lemmas.Bool.{or_cases}
 use Rattle.std.proofs.lemmas.List.Folds.{list_any-append}
 use Rattle.td_stamps.specs.declared.entry.Entry.{Entry}
 use Rattle.td_stamps.specs.declared.errors.CheckError.{CheckError}
 use Rattle.td_stamps.specs.declared.errors.CheckError.TheVariants.{BadEntry, Full}
 use Rattle.td_stamps.specs.Entries.{same, in_range}
-use Rattle.td_stamps.specs.Sets.{has, union, is_set}
-use Rattle.td_stamps.specs.Checks.{check_of, clash_or, first_clash, fresh_count, room_for}
+use Rattle.td_stamps.specs.Sets.{has, union}
+use Rattle.td_stamps.specs.Checks.{check_of, clash_or, first_clash, fresh_count}
 use Rattle.td_stamps.specs.Laws.{KnownAddsNothing}
 use Rattle.td_stamps.proofs.EntryLemmas.{same-is}
 use Rattle.td_stamps.proofs.Merges.{same_set}
