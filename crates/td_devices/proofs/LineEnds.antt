@@ -1,0 +1,103 @@
+-- Lines of bytes: where they end, and what is kept of one.
+use Rattle.std.proofs.Common.{◌≡◌, ◌≢◌, inl, inr, ℕ, ◌+◌, ◌-◌, ◌≤◌, ◌<◌, ◌==◌, Bool, true, false, not, cond, ◌&&◌, nat_le, nat_lt, List, [], ◌∷◌, ◌++◌, take, drop, length, Option, Some, None, refl, sym, ap, ◌∙◌, subst, arith, leb-true, ltb-true, length-append, length-take-le, unwrap_or, option_and_then}
+use Rattle.std.proofs.lemmas.Bool.{eqb-true, ne_eqb, leb-false, ltb-false}
+use Rattle.std.specs.Option.{option_map_or}
+use Rattle.std.proofs.lemmas.List.Folds.{list_all-append}
+use Rattle.std.specs.Str.{bytes_eq}
+use Rattle.td_devices.specs.Lines.{onto, raw_lines, cut, cut_cr, content, is_one_line, IsWholeLine, IsOfOneLine, IsKept}
+use Rattle.td_devices.specs.ForProofs.Held.{begun, with_byte, kept}
+
+-- ---- splitting at LF
+
+-- a byte after a part of a line ends the line, or is of it
+pub part_more : (front : List ℕ) (b : ℕ) → is_one_line front ≡ true → IsOfOneLine (front ++ b ∷ [])
+part_more front b one = by (b == 10) refl
+  where
+    by : (t : Bool) → (b == 10) ≡ t → IsOfOneLine (front ++ b ∷ [])
+    by true e = inr (front, one, ap (λ (c : ℕ). front ++ c ∷ []) (eqb-true b 10 e))
+    by false e = inl (list_all-append (λ c. not (c == 10)) front (b ∷ []) ∙ rw (one, e) refl)
+
+-- a byte that is no LF is of the line
+pub one_more : (front : List ℕ) (b : ℕ) → is_one_line front ≡ true → (b ≡ 10 → ⊥) → is_one_line (front ++ b ∷ []) ≡ true
+one_more front b one other = list_all-append (λ c. not (c == 10)) front (b ∷ []) ∙ rw (one, ne_eqb b 10 other) refl
+
+no_lf : (b : ℕ) (bs : List ℕ) → is_one_line (b ∷ bs) ≡ true → ((b == 10) ≡ false) × (is_one_line bs ≡ true)
+no_lf b bs h = by (b == 10) h
+  where
+    by : (t : Bool) → (not t && is_one_line bs) ≡ true → (t ≡ false) × (is_one_line bs ≡ true)
+    by true e = cc
+    by false e = (refl, e)
+
+whole_first : (front more : List ℕ) → is_one_line front ≡ true → raw_lines ((front ++ 10 ∷ []) ++ more) ≡ (front ++ 10 ∷ []) ∷ raw_lines more
+whole_first [] more one = refl
+whole_first (b ∷ front) more one = let h = no_lf b front one in rw h.0 (ap (onto b) (whole_first front more h.1))
+
+-- a whole line is the first
+pub raw_first : (l more : List ℕ) → IsWholeLine l → raw_lines (l ++ more) ≡ l ∷ raw_lines more
+raw_first l more (front, one, is) = subst (λ (k : List ℕ). raw_lines (k ++ more) ≡ k ∷ raw_lines more) (sym is) (whole_first front more one)
+
+raw_part : (b : ℕ) (bs : List ℕ) → is_one_line (b ∷ bs) ≡ true → raw_lines (b ∷ bs) ≡ (b ∷ bs) ∷ []
+raw_part b [] one = let h = no_lf b [] one in rw h.0 refl
+raw_part b (c ∷ bs) one = let h = no_lf b (c ∷ bs) one in rw h.0 (ap (onto b) (raw_part c bs h.1))
+
+-- what has no LF is one line, where there is anything
+pub raw_last : (l : List ℕ) → is_one_line l ≡ true → l ≢ [] → raw_lines l ≡ l ∷ []
+raw_last [] one some = absurd (some refl)
+raw_last (b ∷ bs) one some = raw_part b bs one
+
+-- ---- what is kept of a line
+
+cut_length : (b : ℕ) (bs : List ℕ) → length bs ≤ length (unwrap_or (cut b bs) bs) + 1
+cut_length b bs = by (bytes_eq (drop (length bs - 1) bs) (b ∷ []))
+  where
+    by : (t : Bool) → length bs ≤ length (unwrap_or (cond t (Some (take (length bs - 1) bs)) None) bs) + 1
+    by true = omega (arith, length-take-le (length bs - 1) bs (omega arith))
+    by false = omega arith
+
+content_length : (bs : List ℕ) → length bs ≤ length (content bs) + 2
+content_length bs = by (bytes_eq (drop (length bs - 1) bs) (10 ∷ [])) (cut_length 13 (take (length bs - 1) bs))
+  where
+    by : (t : Bool) → length (take (length bs - 1) bs) ≤ length (cut_cr (take (length bs - 1) bs)) + 1 → length bs ≤ length (option_map_or cut_cr (cond t (Some (take (length bs - 1) bs)) None) bs) + 2
+    by true h = omega (arith, length-take-le (length bs - 1) bs (omega arith))
+    by false h = omega arith
+
+-- what is kept of a line that was read to its end
+kept_of_begun : (most : ℕ) (raw : List ℕ) → option_and_then (kept most) (begun most raw) ≡ kept most raw
+kept_of_begun most raw = by (nat_le (length raw) (most + 2)) (nat_le (length (content raw)) most) refl refl
+  where
+    by : (s t : Bool) → nat_le (length raw) (most + 2) ≡ s → nat_le (length (content raw)) most ≡ t
+        → option_and_then (kept most) (cond s (Some raw) None) ≡ cond t (Some raw) None
+    by true t e f = rw f refl
+    by false true e f = absurd (omega (arith, content_length raw, leb-true _ _ f, leb-false _ _ e))
+    by false false e f = refl
+
+-- what is held of a line that was read to its end says what is kept of it
+pub kept_at_end : (most : ℕ) (raw : List ℕ) (held all : Option (List ℕ)) → all ≡ begun most raw → held ≡ option_and_then (kept most) all → IsKept most raw held
+kept_at_end most raw held all e f = subst (IsKept most raw) (sym (f ∙ ap (option_and_then (kept most)) e ∙ kept_of_begun most raw)) (by (nat_le (length (content raw)) most) refl)
+  where
+    by : (t : Bool) → nat_le (length (content raw)) most ≡ t → IsKept most raw (cond t (Some raw) None)
+    by true g = (refl, leb-true _ _ g)
+    by false g = leb-false _ _ g
+
+begun_step : (most b : ℕ) (raw : List ℕ) → option_and_then (with_byte most b) (begun most raw) ≡ begun most (raw ++ b ∷ [])
+begun_step most b raw = by (nat_le (length raw) (most + 2)) (nat_lt (length raw) (most + 2)) (nat_le (length (raw ++ b ∷ [])) (most + 2)) refl refl refl
+  where
+    long : length (raw ++ b ∷ []) ≡ length raw + 1
+    long = length-append raw (b ∷ [])
+
+    by : (s t u : Bool) → nat_le (length raw) (most + 2) ≡ s → nat_lt (length raw) (most + 2) ≡ t → nat_le (length (raw ++ b ∷ [])) (most + 2) ≡ u
+        → option_and_then (with_byte most b) (cond s (Some raw) None) ≡ cond u (Some (raw ++ b ∷ [])) None
+    by true true true e f g = rw f refl
+    by true true false e f g = absurd (omega (arith, long, ltb-true _ _ f, leb-false _ _ g))
+    by true false true e f g = absurd (omega (arith, long, ltb-false _ _ f, leb-true _ _ g))
+    by true false false e f g = rw f refl
+    by false t true e f g = absurd (omega (arith, long, leb-false _ _ e, leb-true _ _ g))
+    by false t false e f g = refl
+
+-- what is held of a line with one byte more
+pub begun_more : (most b : ℕ) (raw : List ℕ) (held more : Option (List ℕ)) → held ≡ begun most raw → more ≡ option_and_then (with_byte most b) held → more ≡ begun most (raw ++ b ∷ [])
+begun_more most b raw held more e f = f ∙ ap (option_and_then (with_byte most b)) e ∙ begun_step most b raw
+
+-- the reads that were made for the bytes and for one more
+pub one_read_more : (old now b : ℕ) (raw : List ℕ) → now + length raw ≡ old → 0 < now → old - (now - 1) ≡ length (raw ++ b ∷ []) + 0
+one_read_more old now b raw count some = omega (arith, length-append raw (b ∷ []))

@@ -1,0 +1,6 @@
+-- The definitions of the crate.
+pub mod Counted
+pub mod Streams
+pub mod Lines
+pub mod Laws
+pub mod ForProofs

@@ -1,0 +1,73 @@
+//! Devices: readers, writers and links that go on after an interruption and count their failures.
+
+ghost use Rattle.std.specs.Prelude.{◌≡◌};
+
+mod attempts;
+mod sides;
+
+use std::marker::{Model, PhantomData};
+
+/// The role of a device that only reads, or only writes.
+pub struct Single;
+
+/// The role of a device that does both.
+pub struct Both;
+
+/// Wraps a reader or a writer, or a link, which is both. Its bytes are those of what it wraps. It goes on after an
+/// interruption; each other error, each thousandth interruption in a row, and each write of bytes that takes none of them is
+/// a failure and counted, and nothing else is. The count stays at the greatest number of 64 bits.
+#[derive(Drop)]
+pub struct Device<D, K = Single> {
+    inner: D,
+    failures: u64,
+    role: PhantomData<K>,
+}
+
+impl<D, K> Model for Device<D, K> {
+    ghost use Rattle.td_devices.specs.Counted.{DeviceData};
+
+    ghost Value = { DeviceData D };
+
+    ghost view = { λ d. record { inner = d.inner; failures = d.failures } };
+}
+
+impl<D, K> Device<D, K> {
+    // A device with no failure counted.
+    fn begin(inner: D) -> Self
+        ensures inner { result.inner ≡ inner }
+        ensures failures { result.failures ≡ 0 }
+    {
+        Device {
+            inner,
+            failures: 0,
+            role: PhantomData,
+        }
+    }
+
+    /// How many failures were counted.
+    pub fn failures(&self) -> u64
+        ensures { result ≡ self.now.failures }
+    {
+        self.failures
+    }
+}
+
+impl<D> Device<D, Single> {
+    /// A device that reads or writes, with no failure counted.
+    pub fn new(inner: D) -> Self
+        ensures inner { result.inner ≡ inner }
+        ensures failures { result.failures ≡ 0 }
+    {
+        Device::begin(inner)
+    }
+}
+
+impl<D> Device<D, Both> {
+    /// A device that reads and writes, with no failure counted.
+    pub fn link(inner: D) -> Self
+        ensures inner { result.inner ≡ inner }
+        ensures failures { result.failures ≡ 0 }
+    {
+        Device::begin(inner)
+    }
+}

@@ -1,0 +1,15 @@
+//! Readers and writers that count their failures, and lines read from them.
+#![tactic(auto)]
+
+mod device;
+pub mod laws;
+mod lines;
+mod link;
+mod pieces;
+mod streams;
+
+pub use device::{Both, Device, Single};
+pub use lines::{LineError, RawLine, content, read_line};
+pub use link::{Link, Pair};
+pub use pieces::{Short, fill, put, read_byte, write_all};
+pub use streams::{Channel, Failed, Sink, Source};

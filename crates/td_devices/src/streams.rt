@@ -1,0 +1,67 @@
+//! What can be read and what can be written, with a count of failures.
+
+ghost use Rattle.std.specs.Prelude.{◌≡◌, ◌<◌, ℕ, List, Option, length, IfOk};
+ghost use Rattle.std.specs.Io.{ReadsAtMost, WritesAtMost};
+ghost use Rattle.std.specs.Io.KnownBytes.{Keeps, ReadConsumes, WriteAppends};
+ghost use Rattle.td_devices.specs.Counted.{Counts};
+
+use thiserror::Error;
+
+/// A device failed, and has counted it.
+#[derive(Clone, Copy, Debug, PartialEq, Eq, Drop, Error)]
+#[error("a device failed")]
+pub struct Failed;
+
+/// What can be read, with a count of failures.
+pub trait Source {
+    /// The bytes that reads will give from here on, where they are known.
+    ghost left: { Self → Option (List ℕ) };
+
+    /// What the other side holds, where it is known: reading leaves it.
+    ghost beside: { Self → Option (List ℕ) };
+
+    /// How many failures were counted.
+    ghost failures: { Self → ℕ };
+
+    /// Reads some bytes into the front of the buffer, at least one where it has room and the input has not ended.
+    fn read_some(&mut self, buf: &mut [u8]) -> Result<usize, Failed>
+        ensures bound { ReadsAtMost result buf.new }
+        ensures bytes { ReadConsumes (left self.old) (left self.new) result buf.new }
+        ensures beside { Keeps (beside self.old) (beside self.new) }
+        ensures count { Counts (failures self.old) (failures self.new) result };
+}
+
+/// What can be written, with a count of failures.
+pub trait Sink {
+    /// The bytes that were written, where they are known.
+    ghost held: { Self → Option (List ℕ) };
+
+    /// What the other side will give, where it is known: writing leaves it.
+    ghost aside: { Self → Option (List ℕ) };
+
+    /// How many failures were counted.
+    ghost faults: { Self → ℕ };
+
+    /// Writes a front of the bytes, at least one where there is one.
+    fn write_some(&mut self, bytes: &[u8]) -> Result<usize, Failed>
+        ensures bound { WritesAtMost result bytes.now }
+        ensures some { IfOk result (λ n. 0 < length bytes.now → 0 < n) }
+        ensures bytes { WriteAppends (held self.old) (held self.new) result bytes.now }
+        ensures aside { Keeps (aside self.old) (aside self.new) }
+        ensures count { Counts (faults self.old) (faults self.new) result };
+
+    /// Hands on what was written and is still kept back.
+    fn flush(&mut self) -> Result<(), Failed>
+        ensures held { Keeps (held self.old) (held self.new) }
+        ensures aside { Keeps (aside self.old) (aside self.new) }
+        ensures count { Counts (faults self.old) (faults self.new) result };
+}
+
+/// What is read and written in turn: what one side leaves is what the other side has, and both have one count.
+pub trait Channel: Source + Sink {
+    ghost same_held: { (x : Self) → Self.beside x ≡ Self.held x };
+
+    ghost same_left: { (x : Self) → Self.aside x ≡ Self.left x };
+
+    ghost same_count: { (x : Self) → Self.faults x ≡ Self.failures x };
+}
