@@ -1,0 +1,28 @@
+-- What a command is seen as: the line that it stands for.
+use Rattle.std.specs.Prelude.{ℕ, List}
+use Rattle.std.specs.Borrow.{Bor}
+use Rattle.td_lines.specs.declared.command.Command.{Command}
+use Rattle.td_lines.specs.declared.command.Command.TheVariants as command
+use Rattle.td_lines.specs.Lines.{Line, nothing, quit, issue, query, meet, listing, log, vector, table, serve, call, faulty}
+
+abbrev pub meant : Command → Line
+meant command.Nothing = nothing
+meant command.Quit = quit
+meant (command.Issue n text) = issue n text.now
+meant (command.Query n text) = query n text.now
+meant (command.Meet n m) = meet n m
+meant (command.Listing n) = listing n
+meant (command.Log n) = log n
+meant (command.Vector n) = vector n
+meant (command.Table n relvar) = table n relvar.now
+meant (command.Serve n address) = serve n address.now
+meant (command.Call n address) = call n address.now
+meant command.Faulty = faulty
+
+-- what two references point to
+abbrev pub both : Bor (List ℕ) × Bor (List ℕ) → List ℕ × List ℕ
+both p = (p.0.now, p.1.now)
+
+-- a number, and what a reference points to
+abbrev pub beside : ℕ × Bor (List ℕ) → ℕ × List ℕ
+beside p = (p.0, p.1.now)

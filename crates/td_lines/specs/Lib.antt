@@ -1,0 +1,3 @@
+-- The definitions of the crate.
+pub mod Lines
+pub mod Commands

@@ -1,0 +1,109 @@
+-- What a line of the workbench says.
+use Rattle.std.specs.Prelude.{ℕ, ◌+◌, ◌-◌, ◌*◌, min, nat_le, nat_lt, ◌==◌, Bool, true, false, ◌&&◌, ◌||◌, not, if◌then◌else◌, List, [], ◌∷◌, length, take, drop, fold, codes, Option, Some, None, option_map, option_and_then, unwrap_or}
+use Rattle.std.specs.List.{list_all, before_first, after_first, position_or_len}
+use Rattle.std.specs.Char.{is_ascii_digit}
+use Rattle.std.specs.Str.{bytes_eq, is_utf8}
+
+pub data Line : Type 0 where
+  nothing : Line
+  quit : Line
+  issue : ℕ → List ℕ → Line
+  query : ℕ → List ℕ → Line
+  meet : ℕ → ℕ → Line
+  listing : ℕ → Line
+  log : ℕ → Line
+  vector : ℕ → Line
+  table : ℕ → List ℕ → Line
+  serve : ℕ → List ℕ → Line
+  call : ℕ → List ℕ → Line
+  faulty : Line
+
+-- ---- numbers and words
+
+abbrev pub value : List ℕ → ℕ
+value = fold (λ n b. 10 * n + (b - 48)) 0
+
+-- digits without leading zeros
+abbrev pub is_number : List ℕ → Bool
+is_number [] = false
+is_number (b ∷ bs) = list_all is_ascii_digit (b ∷ bs) && (not (b == 48) || (length bs == 0))
+
+-- no number of a site is larger than this; all those that no site has are alike
+abbrev pub no_site : ℕ
+no_site = 65536
+
+abbrev pub number_of : List ℕ → Option ℕ
+number_of bs = if is_number bs then Some (min (value bs) no_site) else None
+
+-- bytes without a space, of which there are some
+abbrev pub is_word : List ℕ → Bool
+is_word bs = not (length bs == 0) && list_all (λ b. not (b == 32)) bs
+
+-- what follows a front, which it has
+abbrev pub after : List ℕ → List ℕ → Option (List ℕ)
+after front bs = if bytes_eq (take (length front) bs) front then Some (drop (length front) bs) else None
+
+-- what is before the first byte c, and what is after it
+abbrev pub parted : ℕ → List ℕ → Option (List ℕ × List ℕ)
+parted c bs = if nat_lt (position_or_len (λ b. b == c) bs) (length bs) then Some (before_first (λ b. b == c) bs, after_first (λ b. b == c) bs) else None
+
+-- ---- the forms of lines: an empty line, n: text, n? text, and those that begin with a dot, whose words have one space between and none after
+
+-- without one space in front, where there is one
+abbrev pub text_of : List ℕ → List ℕ
+text_of bs = unwrap_or (after (codes " ") bs) bs
+
+-- a site's number and a text, with this mark between
+abbrev pub site_and_text : ℕ → List ℕ → Option (ℕ × List ℕ)
+site_and_text mark bs = option_and_then (λ (p : List ℕ × List ℕ). option_map (λ n. (n, text_of p.1)) (number_of p.0)) (parted mark bs)
+
+-- a site's number and a word
+abbrev pub site_and_word : List ℕ → Option (ℕ × List ℕ)
+site_and_word bs = option_and_then (λ (p : List ℕ × List ℕ). if is_word p.1 then option_map (λ n. (n, p.1)) (number_of p.0) else None) (parted 32 bs)
+
+-- the numbers of two sites
+abbrev pub two_sites : List ℕ → Option (ℕ × ℕ)
+two_sites bs = option_and_then (λ (p : List ℕ × List ℕ). option_and_then (λ n. option_map (λ m. (n, m)) (number_of p.1)) (number_of p.0)) (parted 32 bs)
+
+abbrev pub of_site : (ℕ → Line) → List ℕ → Option Line
+of_site form bs = option_map form (number_of bs)
+
+abbrev pub of_pair : {A : Type 0} → (ℕ → A → Line) → Option (ℕ × A) → Option Line
+of_pair {A} form o = option_map (λ (p : ℕ × A). form p.0 p.1) o
+
+-- what follows the first word of a line that begins with a dot
+abbrev pub dotted : List ℕ → List ℕ → Option Line
+dotted word rest =
+    if bytes_eq word (codes ".meet") then of_pair meet (two_sites rest)
+    else (if bytes_eq word (codes ".listing") then of_site listing rest
+    else (if bytes_eq word (codes ".log") then of_site log rest
+    else (if bytes_eq word (codes ".vector") then of_site vector rest
+    else (if bytes_eq word (codes ".csv") then of_pair table (site_and_word rest)
+    else (if bytes_eq word (codes ".serve") then of_pair serve (site_and_word rest)
+    else (if bytes_eq word (codes ".call") then of_pair call (site_and_word rest)
+    else None))))))
+
+abbrev pub dot_form : List ℕ → Option Line
+dot_form bs = option_and_then (λ (p : List ℕ × List ℕ). dotted p.0 p.1) (parted 32 bs)
+
+-- the first, or else the second
+abbrev pub or_else : Option Line → Option Line → Option Line
+or_else (Some l) m = Some l
+or_else None m = m
+
+abbrev pub text_form : List ℕ → Option Line
+text_form bs = or_else (of_pair issue (site_and_text 58 bs)) (of_pair query (site_and_text 63 bs))
+
+abbrev pub form_of : List ℕ → Option Line
+form_of bs =
+    if bytes_eq bs [] then Some nothing
+    else (if bytes_eq bs (codes ".quit") then Some quit
+    else or_else (dot_form bs) (text_form bs))
+
+-- a line has at most 16,384 bytes, without its line end, which are text
+abbrev pub line_of : List ℕ → Line
+line_of bs = if nat_le (length bs) 16384 && is_utf8 bs then unwrap_or (form_of bs) faulty else faulty
+
+abbrev pub is_quit : Line → Bool
+is_quit quit = true
+is_quit _ = false

@@ -1,0 +1,249 @@
+//! What a line of the workbench says.
+
+ghost use Rattle.std.specs.Prelude.{◌≡◌, ◌<◌, ◌==◌, not, option_map};
+ghost use Rattle.std.specs.List.{list_all};
+ghost use Rattle.std.specs.Option.{option_copied};
+ghost use Rattle.td_lines.specs.Lines as spec;
+ghost use Rattle.td_lines.specs.Lines.{after, form_of, line_of, number_of, parted, text_of};
+ghost use Rattle.td_lines.specs.Commands.{beside, both, meant};
+
+/// The most bytes of a line, without its line end.
+pub const LINE_BYTES: usize = 16_384;
+
+/// What a line says. A number too large for a site stands as 65,536.
+#[derive(Clone, Copy, Debug, PartialEq, Eq)]
+pub enum Command<'a> {
+    /// The empty line.
+    Nothing,
+    Quit,
+    Issue { site: u32, text: &'a str },
+    Query { site: u32, text: &'a str },
+    Meet { first: u32, second: u32 },
+    Listing { site: u32 },
+    Log { site: u32 },
+    Vector { site: u32 },
+    Table { site: u32, relvar: &'a str },
+    Serve { site: u32, address: &'a str },
+    Call { site: u32, address: &'a str },
+    /// It has none of the forms.
+    Faulty,
+}
+
+/// What stands for each number that is too large for a site.
+const NO_SITE: u32 = 65_536;
+
+// The decimal number without leading zeros that this is.
+fn number(digits: &str) -> Option<u32>
+    ensures { result ≡ number_of digits.now }
+{
+    number_in(digits.as_bytes())
+}
+
+fn number_in(digits: &[u8]) -> Option<u32>
+    ensures { result ≡ number_of digits.now }
+{
+    if digits.is_empty() || digits[0] == b'0' && digits.len() > 1 {
+        return None;
+    }
+    let mut value: u32 = 0;
+    for b in digits {
+        if !b.is_ascii_digit() {
+            return None;
+        }
+        value = (value * 10 + u32::from(*b - b'0')).min(NO_SITE);
+    }
+    Some(value)
+}
+
+// What follows the front, which the line has.
+fn after<'a>(front: &str, line: &'a str) -> Option<&'a str>
+    ensures { option_copied result ≡ after front.now line.now }
+{
+    line.strip_prefix(front)
+}
+
+// What is before the first such character, and what is after it.
+fn parted(c: char, line: &str) -> Option<(&str, &str)>
+    requires { c < 128 }
+    ensures { option_map both result ≡ parted c line.now }
+{
+    line.split_once(c)
+}
+
+// The text without one space in front of it, where there is one.
+fn text_of(text: &str) -> &str
+    ensures { result.now ≡ text_of text.now }
+{
+    after(" ", text).unwrap_or(text)
+}
+
+// A site's number and a text, with this mark between.
+fn site_and_text(mark: char, line: &str) -> Option<(u32, &str)>
+    requires { mark < 128 }
+    ensures { option_map beside result ≡ spec.site_and_text mark line.now }
+{
+    let (site, text) = parted(mark, line)?;
+    let site = number(site)?;
+    Some((site, text_of(text)))
+}
+
+fn has_no_space(word: &[u8]) -> bool
+    ensures { result ≡ list_all (λ b. not (b == 32)) word.now }
+{
+    word.iter().all(|b| *b != b' ')
+}
+
+fn is_word(word: &str) -> bool
+    ensures { result ≡ spec.is_word word.now }
+{
+    !word.is_empty() && has_no_space(word.as_bytes())
+}
+
+// A site's number and a word.
+fn site_and_word(words: &str) -> Option<(u32, &str)>
+    ensures { option_map beside result ≡ spec.site_and_word words.now }
+{
+    let (site, word) = parted(' ', words)?;
+    if !is_word(word) {
+        return None;
+    }
+    let site = number(site)?;
+    Some((site, word))
+}
+
+fn meeting(words: &str) -> Option<Command<'_>>
+    ensures { option_map meant result ≡ spec.of_pair spec.meet (spec.two_sites words.now) }
+{
+    let (first, second) = parted(' ', words)?;
+    let first = number(first)?;
+    let second = number(second)?;
+    Some(Command::Meet { first, second })
+}
+
+fn listing(word: &str) -> Option<Command<'static>>
+    ensures { option_map meant result ≡ spec.of_site spec.listing word.now }
+{
+    let site = number(word)?;
+    Some(Command::Listing { site })
+}
+
+fn log(word: &str) -> Option<Command<'static>>
+    ensures { option_map meant result ≡ spec.of_site spec.log word.now }
+{
+    let site = number(word)?;
+    Some(Command::Log { site })
+}
+
+fn vector(word: &str) -> Option<Command<'static>>
+    ensures { option_map meant result ≡ spec.of_site spec.vector word.now }
+{
+    let site = number(word)?;
+    Some(Command::Vector { site })
+}
+
+fn table(words: &str) -> Option<Command<'_>>
+    ensures { option_map meant result ≡ spec.of_pair spec.table (spec.site_and_word words.now) }
+{
+    let (site, relvar) = site_and_word(words)?;
+    Some(Command::Table { site, relvar })
+}
+
+fn serve(words: &str) -> Option<Command<'_>>
+    ensures { option_map meant result ≡ spec.of_pair spec.serve (spec.site_and_word words.now) }
+{
+    let (site, address) = site_and_word(words)?;
+    Some(Command::Serve { site, address })
+}
+
+fn call(words: &str) -> Option<Command<'_>>
+    ensures { option_map meant result ≡ spec.of_pair spec.call (spec.site_and_word words.now) }
+{
+    let (site, address) = site_and_word(words)?;
+    Some(Command::Call { site, address })
+}
+
+fn issue(line: &str) -> Option<Command<'_>>
+    ensures { option_map meant result ≡ spec.of_pair spec.issue (spec.site_and_text 58 line.now) }
+{
+    let (site, text) = site_and_text(':', line)?;
+    Some(Command::Issue { site, text })
+}
+
+fn query(line: &str) -> Option<Command<'_>>
+    ensures { option_map meant result ≡ spec.of_pair spec.query (spec.site_and_text 63 line.now) }
+{
+    let (site, text) = site_and_text('?', line)?;
+    Some(Command::Query { site, text })
+}
+
+// The form of a line that begins with this word, which has a dot.
+fn dotted<'a>(word: &str, rest: &'a str) -> Option<Command<'a>>
+    ensures { option_map meant result ≡ spec.dotted word.now rest.now }
+{
+    if word == ".meet" {
+        return meeting(rest);
+    }
+    if word == ".listing" {
+        return listing(rest);
+    }
+    if word == ".log" {
+        return log(rest);
+    }
+    if word == ".vector" {
+        return vector(rest);
+    }
+    if word == ".csv" {
+        return table(rest);
+    }
+    if word == ".serve" {
+        return serve(rest);
+    }
+    if word == ".call" {
+        return call(rest);
+    }
+    None
+}
+
+fn dot_form(line: &str) -> Option<Command<'_>>
+    ensures { option_map meant result ≡ spec.dot_form line.now }
+{
+    let (word, rest) = parted(' ', line)?;
+    dotted(word, rest)
+}
+
+fn text_form(line: &str) -> Option<Command<'_>>
+    ensures { option_map meant result ≡ spec.text_form line.now }
+{
+    match issue(line) {
+        Some(command) => Some(command),
+        None => query(line),
+    }
+}
+
+fn form(line: &str) -> Option<Command<'_>>
+    ensures { option_map meant result ≡ form_of line.now }
+{
+    if line.is_empty() {
+        return Some(Command::Nothing);
+    }
+    if line == ".quit" {
+        return Some(Command::Quit);
+    }
+    match dot_form(line) {
+        Some(command) => Some(command),
+        None => text_form(line),
+    }
+}
+
+/// What a line says, without its line end.
+pub fn command_of(line: &[u8]) -> Command<'_>
+    ensures { meant result ≡ line_of line.now }
+{
+    if line.len() > LINE_BYTES {
+        return Command::Faulty;
+    }
+    match std::str::from_utf8(line) {
+        Ok(line) => form(line).unwrap_or(Command::Faulty),
+        Err(_) => Command::Faulty,
+    }
+}
