@@ -1,0 +1,21 @@
+//! The texts that a site shows: its listing, its log, the tables of its relvars, and version vectors.
+#![tactic(auto)]
+
+pub mod error;
+pub mod laws;
+mod listings;
+mod log;
+mod records;
+mod table;
+mod vector;
+mod words;
+mod writing;
+
+pub use error::{ExportError, ListError, ListingError, TableError};
+pub use listings::listing_text;
+pub use log::log_text;
+pub use records::relation_table;
+pub use table::table_text;
+pub use vector::vector_text;
+pub use words::{show_number, show_outcome, show_raise, show_stamp};
+pub use writing::{export, listing, script_catalogue};

@@ -1,0 +1,103 @@
+//! Texts of a site, written.
+
+ghost use Rattle.std.specs.Prelude.{◌≡◌, Ok, Err, IfOk, MatchResult, string_bytes};
+ghost use Rattle.std.specs.Io.KnownBytes.{Keeps};
+ghost use Rattle.td_relvars.specs.Scripts.{IsScriptOf};
+ghost use Rattle.td_listings.specs.Calls.{Lists};
+ghost use Rattle.td_listings.specs.ForProofs.Scripted.{IsOfScript};
+ghost use Rattle.td_listings.specs.Writings.{WritesListing, WritesTable};
+
+use crate::error::{ExportError, ListError, ListingError, TableError};
+use crate::listings::listing_text;
+use crate::table::table_text;
+use std::alloc::{AllocError, Global};
+use td_devices::{Sink, put};
+use td_headings::Catalogue;
+use td_relvars::laws::script_opens_one;
+use td_relvars::{CatalogueError, catalogue_of};
+use td_replay::Replica;
+
+/// The catalogue of a site's script. It costs the reading and typing of the script.
+pub fn script_catalogue<R: Replica>(alloc: Global, replica: &R) -> Result<Catalogue, AllocError>
+    ensures { IfOk result (IsScriptOf (R.seen replica.now).script) }
+{
+    script_opens_one();
+    let _site = replica.site();
+    match catalogue_of(alloc, replica.script()) {
+        Ok(catalogue) => Ok(catalogue),
+        Err(CatalogueError::OutOfMemory) => Err(AllocError),
+        Err(CatalogueError::Syntax) => unreachable!(),
+        Err(CatalogueError::IllTyped) => unreachable!(),
+    }
+}
+
+// The listing by the catalogue of the site's script.
+fn listed<R: Replica>(alloc: Global, replica: &R) -> Result<String, ListError>
+    ensures { MatchResult result (λ text. Lists (R.seen replica.now) (Ok (string_bytes text))) (λ e. Lists (R.seen replica.now) (Err e)) }
+{
+    if !replica.is_open() {
+        return Err(ListError::Broken);
+    }
+    let catalogue = match script_catalogue(alloc, replica) {
+        Ok(catalogue) => catalogue,
+        Err(_) => return Err(ListError::OutOfMemory),
+    };
+    listing_text(alloc, &catalogue, replica)
+}
+
+/// Writes the listing of a site, and flushes. It is built whole before any of it is written.
+pub fn listing<R: Replica, K: Sink>(
+    alloc: Global,
+    replica: &R,
+    sink: &mut K,
+) -> Result<(), ListingError>
+    ensures writes { WritesListing (R.seen replica.now) (record { held = K.held sink.old; faults = K.faults sink.old }) (record { held = K.held sink.new; faults = K.faults sink.new }) result }
+    ensures aside { Keeps (K.aside sink.old) (K.aside sink.new) }
+{
+    let text = match listed(alloc, replica) {
+        Ok(text) => text,
+        Err(ListError::Broken) => return Err(ListingError::Broken),
+        Err(ListError::OutOfMemory) => return Err(ListingError::OutOfMemory),
+    };
+    match put(sink, text.as_bytes()) {
+        Ok(()) => Ok(()),
+        Err(_) => Err(ListingError::WriteFault),
+    }
+}
+
+// The table by the catalogue of the site's script.
+fn tabulated<R: Replica>(alloc: Global, replica: &R, name: &str) -> Result<Vec<u8>, TableError>
+    ensures { MatchResult result (λ text. IsOfScript (R.seen replica.now) name.now (Ok text.items)) (λ e. IsOfScript (R.seen replica.now) name.now (Err e)) }
+{
+    let catalogue = match script_catalogue(alloc, replica) {
+        Ok(catalogue) => catalogue,
+        Err(_) => return Err(TableError::OutOfMemory),
+    };
+    table_text(alloc, &catalogue, replica, name)
+}
+
+/// Writes the table of the relvar of this name, and flushes. It is built whole before any of it is written.
+pub fn export<R: Replica, K: Sink>(
+    alloc: Global,
+    replica: &R,
+    name: &str,
+    sink: &mut K,
+) -> Result<(), ExportError>
+    ensures writes { WritesTable (R.seen replica.now) name.now (record { held = K.held sink.old; faults = K.faults sink.old }) (record { held = K.held sink.new; faults = K.faults sink.new }) result }
+    ensures aside { Keeps (K.aside sink.old) (K.aside sink.new) }
+{
+    // It shows that the script was accepted, and does nothing when it runs.
+    let _site = replica.site();
+    let text = match tabulated(alloc, replica, name) {
+        Ok(text) => text,
+        Err(TableError::Unknown) => return Err(ExportError::Unknown),
+        Err(TableError::NoAttributes) => return Err(ExportError::NoAttributes),
+        Err(TableError::Broken) => return Err(ExportError::Broken),
+        Err(TableError::Raised(raise)) => return Err(ExportError::Raised(raise)),
+        Err(TableError::OutOfMemory) => return Err(ExportError::OutOfMemory),
+    };
+    match put(sink, text.as_slice()) {
+        Ok(()) => Ok(()),
+        Err(_) => Err(ExportError::WriteFault),
+    }
+}
