@@ -6,3 +6,5 @@ pub mod Replacing
 pub mod Differing
 pub mod Assigning
 pub mod Preparing
+pub mod TreeReads
+pub mod Footprint

@@ -21,7 +21,7 @@ put_there n r [] lt = absurd (omega arith)
 put_there zero r (x ∷ xs) lt = refl
 put_there (suc n) r (x ∷ xs) lt = put_there n r xs (omega arith)
 
-put_other : (n m : ℕ) (r : RowsData) (xs : Stored) → (n ≡ m → ⊥) → slice_get (put n r xs) m ≡ slice_get xs m
+pub put_other : (n m : ℕ) (r : RowsData) (xs : Stored) → (n ≡ m → ⊥) → slice_get (put n r xs) m ≡ slice_get xs m
 put_other n m r [] apart = refl
 put_other zero zero r (x ∷ xs) apart = absurd (apart refl)
 put_other zero (suc m) r (x ∷ xs) apart = refl
