@@ -1,0 +1,76 @@
+//! Statements on a database.
+
+use anyhow::{Result, bail};
+use std::time::{Duration, Instant};
+use td_assign::{Meter, Outcome, run};
+use td_constraints::first_failure;
+use td_relvars::{Database, open_script};
+use td_values::Name;
+
+const SCRIPT: &str = "VAR R BASE RELATION { N INTEGER, V CHAR } KEY { N };
+CONSTRAINT C IS_EMPTY ( R WHERE N < 0 );";
+
+/// How long statements took, how long the tests after them take alone, and how many tuples there are then.
+pub struct Times {
+    pub statements: Duration,
+    pub tests: Duration,
+    pub count: usize,
+}
+
+fn opened(rt: &HostRuntime) -> Result<Database> {
+    match open_script(rt.alloc(), SCRIPT) {
+        Ok(database) => Ok(database),
+        Err(_) => bail!("the script is refused"),
+    }
+}
+
+fn insert(
+    rt: &HostRuntime,
+    database: &mut Database,
+    n: u32,
+    meter: &mut Meter,
+) -> Result<Duration> {
+    let text = format!(in rt.alloc(); "INSERT R RELATION {{ TUPLE {{ N {n}, V 'x' }} }};")?;
+    let start = Instant::now(rt)?;
+    let ran = run(rt.alloc(), database, text.as_str(), meter)?;
+    let time = start.elapsed(rt)?;
+    match ran.outcome {
+        Outcome::Done => Ok(time),
+        _ => bail!("a statement is refused"),
+    }
+}
+
+fn test(rt: &HostRuntime, database: &Database) -> Result<Duration> {
+    let start = Instant::now(rt)?;
+    let failure = first_failure(rt.alloc(), database.catalogue(), database)?;
+    let time = start.elapsed(rt)?;
+    match failure {
+        None => Ok(time),
+        Some(_) => bail!("a test fails"),
+    }
+}
+
+fn count_of(rt: &HostRuntime, database: &Database) -> Result<usize> {
+    let name = Name::new(rt.alloc(), "R")?;
+    match database.base_of(&name) {
+        Some(base) => Ok(base.len()),
+        None => bail!("no relvar"),
+    }
+}
+
+/// So many INSERTs of one tuple each.
+pub fn insert_all(rt: &HostRuntime, size: u32) -> Result<Times> {
+    let mut database = opened(rt)?;
+    let mut meter = Meter::new(rt);
+    let mut statements = Duration::ZERO;
+    let mut tests = Duration::ZERO;
+    for n in 0..size {
+        statements = statements.saturating_add(insert(rt, &mut database, n, &mut meter)?);
+        tests = tests.saturating_add(test(rt, &database)?);
+    }
+    Ok(Times {
+        statements,
+        tests,
+        count: count_of(rt, &database)?,
+    })
+}
