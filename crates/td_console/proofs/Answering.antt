@@ -11,16 +11,16 @@ use Rattle.td_stamps.specs.declared.errors.PrepareError.{PrepareError}
 use Rattle.td_stamps.specs.declared.errors.PrepareError.TheVariants as prepare
 use Rattle.td_stamps.specs.Entries.{stamp_of}
 use Rattle.td_stamps.specs.Checks.{check_of}
-use Rattle.td_replay.specs.declared.refusal.IssueError.{IssueError}
-use Rattle.td_replay.specs.declared.refusal.IssueError.TheVariants as issue_error
-use Rattle.td_replay.specs.declared.site.Issued.{Issued}
-use Rattle.td_replay.specs.declared.site.Taken.{Taken}
+use Rattle.td_first.specs.declared.refusal.IssueError.{IssueError}
+use Rattle.td_first.specs.declared.refusal.IssueError.TheVariants as issue_error
+use Rattle.td_first.specs.declared.site.Issued.{Issued}
+use Rattle.td_first.specs.declared.site.Taken.{Taken}
 use Rattle.td_console.specs.declared.workbench.Ended.{Ended}
 use Rattle.td_console.specs.declared.workbench.Ended.TheVariants.{OutOfMemory, ReadFault, WriteFault}
 use Rattle.td_console.specs.declared.workbench.Reply.{Reply}
 use Rattle.td_console.specs.declared.workbench.Reply.TheVariants as reply
-use Rattle.td_replay.specs.Seen.{Seen}
-use Rattle.td_replay.specs.Sites.{issue_of, IssuesEntry, Issues, Takes}
+use Rattle.td_first.specs.Seen.{Seen}
+use Rattle.td_first.specs.Sites.{issue_of, IssuesEntry, Issues, Takes}
 use Rattle.td_console.specs.Texts.{listing_of}
 use Rattle.td_console.specs.Lines.{Line, is_quit}
 use Rattle.td_console.specs.Printed.{Sites, Placed, Answer, site_of, issue_fault, issued_text, issued, issue_answer, listing_answer, take_fault, met_line, joined, first_take, second_take, meet_answer, half_taken, half_met, answer_to, half_done, is_command, Answered}

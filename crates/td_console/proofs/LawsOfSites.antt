@@ -3,8 +3,8 @@ use Rattle.std.proofs.Common.{ℕ, List, ap, ◌∙◌}
 use Rattle.td_stamps.specs.declared.entry.Entry.{Entry}
 use Rattle.td_stamps.proofs.Merges.{same_members}
 use Rattle.td_console.specs.Laws.{SitesAgree}
-use Rattle.td_replay.specs.Seen.{Seen}
-use Rattle.td_replay.specs.Sites.{outcomes_of}
+use Rattle.td_first.specs.Seen.{Seen}
+use Rattle.td_first.specs.Sites.{outcomes_of}
 use Rattle.td_console.specs.Texts.{listing_of}
 
 -- a site's outcomes and listing follow from its script and its entries

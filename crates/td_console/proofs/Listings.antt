@@ -2,7 +2,7 @@
 use Rattle.std.proofs.Common.{◌≡◌, ◌≤◌, ℕ, List, [], ◌∷◌, ◌++◌, drop, length, refl, sym, ap, ◌∙◌, append-nil}
 use Rattle.std.proofs.lemmas.List.{drop_all}
 use Rattle.td_values.specs.Rows.{RowsData}
-use Rattle.td_replay.specs.declared.catalogue.Relvar.{Relvar}
+use Rattle.td_first.specs.declared.catalogue.Relvar.{Relvar}
 use Rattle.td_console.specs.Texts.{relvars_lines}
 
 no_lines : (rs : List Relvar) → relvars_lines rs [] ≡ []

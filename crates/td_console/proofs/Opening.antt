@@ -2,15 +2,15 @@
 use Rattle.std.proofs.Common.{◌≡◌, ◌⊎◌, inl, inr, ℕ, Bool, true, false, cond, List, [], ◌∷◌, Option, None, Some, Result, Ok, Err, refl, sym, ap, ◌∙◌, subst}
 use Rattle.std.specs.Str.{is_utf8, IsUtf8}
 use Rattle.std.proofs.lemmas.Str.{IsUtf8-from_is_utf8, is_utf8-from_IsUtf8}
-use Rattle.td_replay.specs.declared.catalogue.Relvar.{Relvar}
-use Rattle.td_replay.specs.declared.tree.Definition.{Definition}
-use Rattle.td_replay.specs.declared.refusal.OpenError.{OpenError}
-use Rattle.td_replay.specs.declared.refusal.OpenError.TheVariants.{BadSite, BadLimit, Syntax, IllTyped, OutOfMemory}
+use Rattle.td_first.specs.declared.catalogue.Relvar.{Relvar}
+use Rattle.td_first.specs.declared.tree.Definition.{Definition}
+use Rattle.td_first.specs.declared.refusal.OpenError.{OpenError}
+use Rattle.td_first.specs.declared.refusal.OpenError.TheVariants.{BadSite, BadLimit, Syntax, IllTyped, OutOfMemory}
 use Rattle.td_console.specs.declared.workbench.Ended.{Ended}
 use Rattle.td_console.specs.declared.workbench.Ended.TheVariants as ended
-use Rattle.td_replay.specs.Reader.{read_script}
-use Rattle.td_replay.specs.Seen.{Seen}
-use Rattle.td_replay.specs.Sites.{open_of, script_read, typed_script, Opens}
+use Rattle.td_first.specs.Reader.{read_script}
+use Rattle.td_first.specs.Seen.{Seen}
+use Rattle.td_first.specs.Sites.{open_of, script_read, typed_script, Opens}
 use Rattle.td_console.specs.Workbench.{PutEnds}
 use Rattle.td_console.specs.Program.{first_site, second_site, sites_of, OpensSites, Says, IsFault, IsReady, Stops, EndsAfter, script_fault, ready}
 

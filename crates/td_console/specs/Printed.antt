@@ -7,11 +7,11 @@ use Rattle.td_stamps.specs.declared.errors.CheckError.TheVariants.{BadEntry, Cla
 use Rattle.td_stamps.specs.Entries.{stamp_of}
 use Rattle.td_stamps.specs.Sets.{union}
 use Rattle.td_stamps.specs.Checks.{check_of}
-use Rattle.td_replay.specs.declared.step.Outcome.{Outcome}
-use Rattle.td_replay.specs.declared.refusal.IssueError.{IssueError}
-use Rattle.td_replay.specs.declared.refusal.IssueError.TheVariants as issue_error
-use Rattle.td_replay.specs.Seen.{Seen, with_entries}
-use Rattle.td_replay.specs.Sites.{issue_of, outcome_in}
+use Rattle.td_first.specs.declared.step.Outcome.{Outcome}
+use Rattle.td_first.specs.declared.refusal.IssueError.{IssueError}
+use Rattle.td_first.specs.declared.refusal.IssueError.TheVariants as issue_error
+use Rattle.td_first.specs.Seen.{Seen, with_entries}
+use Rattle.td_first.specs.Sites.{issue_of, outcome_in}
 use Rattle.td_console.specs.Texts.{shown_stamp, shown_outcome, listing_of}
 use Rattle.td_console.specs.Lines.{Line, nothing, quit, issue, meet, listing, faulty}
 

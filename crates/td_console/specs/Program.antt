@@ -2,16 +2,16 @@
 use Rattle.std.specs.Prelude.{◌≡◌, ◌⊎◌, ℕ, Bool, true, false, if◌then◌else◌, List, [], ◌∷◌, ◌++◌, codes, Option, Some, None, Result, Ok, Err}
 use Rattle.std.specs.Io.KnownBytes.{Appends, Consumes, IsAtEnd}
 use Rattle.std.specs.Str.{is_utf8}
-use Rattle.td_replay.specs.declared.refusal.OpenError.{OpenError}
-use Rattle.td_replay.specs.declared.refusal.OpenError.TheVariants as open_error
+use Rattle.td_first.specs.declared.refusal.OpenError.{OpenError}
+use Rattle.td_first.specs.declared.refusal.OpenError.TheVariants as open_error
 use Rattle.td_console.specs.declared.workbench.Ended.{Ended}
 use Rattle.td_console.specs.declared.workbench.Ended.TheVariants.{OutOfMemory, ReadFault, WriteFault}
 use Rattle.td_console.specs.declared.program.Script.{Script}
 use Rattle.td_console.specs.declared.program.Unready.{Unready}
 use Rattle.td_console.specs.declared.program.Unready.TheVariants as unready
 use Rattle.td_console.specs.Streams.{AppendsFront}
-use Rattle.td_replay.specs.Seen.{Seen}
-use Rattle.td_replay.specs.Sites.{open_of}
+use Rattle.td_first.specs.Seen.{Seen}
+use Rattle.td_first.specs.Sites.{open_of}
 use Rattle.td_console.specs.Lines.{raw_lines, script_then}
 use Rattle.td_console.specs.Printed.{Sites}
 use Rattle.td_console.specs.Workbench.{Ends}

@@ -1,9 +1,9 @@
 -- What taking from another site of the same sites tells.
 use Rattle.std.specs.Prelude.{◌≡◌, ℕ, Some, Result, slice_get, slice_set}
 use Rattle.td_stamps.specs.declared.errors.PrepareError.{PrepareError}
-use Rattle.td_replay.specs.declared.site.Taken.{Taken}
-use Rattle.td_replay.specs.Seen.{Seen}
-use Rattle.td_replay.specs.Sites.{Takes}
+use Rattle.td_first.specs.declared.site.Taken.{Taken}
+use Rattle.td_first.specs.Seen.{Seen}
+use Rattle.td_first.specs.Sites.{Takes}
 use Rattle.td_console.specs.Printed.{Sites, Placed}
 
 abbrev pub first_of : Placed → ℕ

@@ -5,12 +5,12 @@ use Rattle.td_values.specs.Data.{Attrs, tuple}
 use Rattle.td_values.specs.Shown.{shown}
 use Rattle.td_values.specs.Rows.{RowsData}
 use Rattle.td_stamps.specs.declared.entry.Stamp.{Stamp}
-use Rattle.td_replay.specs.declared.catalogue.Relvar.{Relvar}
-use Rattle.td_replay.specs.declared.step.Outcome.{Outcome}
-use Rattle.td_replay.specs.declared.step.Outcome.TheVariants.{Done, Unread, BreaksKey}
-use Rattle.td_replay.specs.Step as step
-use Rattle.td_replay.specs.Seen.{Seen, relvars_in}
-use Rattle.td_replay.specs.Sites.{outcomes_of}
+use Rattle.td_first.specs.declared.catalogue.Relvar.{Relvar}
+use Rattle.td_first.specs.declared.step.Outcome.{Outcome}
+use Rattle.td_first.specs.declared.step.Outcome.TheVariants.{Done, Unread, BreaksKey}
+use Rattle.td_first.specs.Step as step
+use Rattle.td_first.specs.Seen.{Seen, relvars_in}
+use Rattle.td_first.specs.Sites.{outcomes_of}
 
 -- CLOCK.SITE
 abbrev pub shown_stamp : Stamp → List ℕ

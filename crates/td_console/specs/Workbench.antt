@@ -7,7 +7,7 @@ use Rattle.td_console.specs.declared.workbench.Ended.TheVariants.{OutOfMemory, R
 use Rattle.td_console.specs.declared.workbench.Reply.{Reply}
 use Rattle.td_console.specs.declared.workbench.Reply.TheVariants as reply
 use Rattle.td_console.specs.Streams.{AppendsFront}
-use Rattle.td_replay.specs.Seen.{Seen}
+use Rattle.td_first.specs.Seen.{Seen}
 use Rattle.td_console.specs.Lines.{Line, quit, is_quit, said, asked, raw_lines}
 use Rattle.td_stamps.specs.declared.errors.CheckError.TheVariants.{BadEntry, Clash, Full}
 use Rattle.td_stamps.specs.declared.errors.PrepareError.{PrepareError}

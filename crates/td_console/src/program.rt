@@ -10,7 +10,7 @@ use crate::input::{LineError, content, read_line};
 use crate::workbench::{Ended, put_text, serve};
 use std::alloc::Global;
 use std::io::{Read, Write};
-use td_replay::{OpenError, PlainSite};
+use td_first::{OpenError, PlainSite};
 
 /// The limit of each site.
 const LIMIT: usize = 10_000;

@@ -7,7 +7,7 @@ use std::alloc::{AllocError, Global};
 use std::io;
 use std::io::{ErrorKind, Read, Write};
 use std::test::Fail;
-use td_replay::{OpenError, PlainSite};
+use td_first::{OpenError, PlainSite};
 use td_stamps::Entry;
 use td_values::Text;
 

@@ -15,7 +15,7 @@ use crate::listing::{listing_text, show_number, show_outcome, show_stamp};
 use crate::output::put;
 use std::alloc::{AllocError, Global};
 use std::io::{Read, Write};
-use td_replay::{IssueError, Issued, PlainSite, Taken};
+use td_first::{IssueError, Issued, PlainSite, Taken};
 use td_stamps::{Entry, PrepareError};
 use thiserror::Error;
 

@@ -3,7 +3,7 @@ use Rattle.std.specs.List.{list_all}
 use Rattle.td_stamps.specs.declared.entry.Entry.{Entry}
 use Rattle.td_stamps.specs.Entries.{in_range}
 use Rattle.td_stamps.specs.Sets.{Holding}
-use Rattle.td_replay.specs.Seen.{Seen}
+use Rattle.td_first.specs.Seen.{Seen}
 use Rattle.td_console.proofs.Answering.{took, read_is, set_there}
 use Rattle.td_console.proofs.workbench.take_from.Goals as goal
 

@@ -1,0 +1,10 @@
+pub mod Stories
+pub mod Turns
+pub mod Lexing
+pub mod Grammars
+pub mod Typed
+pub mod Added
+pub mod Keys
+pub mod Steps
+pub mod Tales
+pub mod Issuing

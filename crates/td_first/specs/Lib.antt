@@ -1,0 +1,12 @@
+pub mod Refusals
+pub mod Grammar
+pub mod Laws
+pub mod Reader
+pub mod Readings
+pub mod Typing
+pub mod Typings
+pub mod Folds
+pub mod Step
+pub mod Runs
+pub mod Seen
+pub mod Sites
