@@ -5,4 +5,6 @@ VAR S BASE RELATION { SNO CHAR, STATUS INTEGER, CITY CHAR } KEY { SNO };
 .meet 1 2
 .listing 1
 .listing 2
+.csv 1 S
+.vector 1
 .quit
