@@ -1,0 +1,107 @@
+//! The workbench over sites that are handed to it.
+
+use crate::run::workbench;
+use std::alloc::Global;
+use std::test::Fail;
+use td_answers::NoLinks;
+use td_assign::Meter;
+use td_devices::Device;
+use td_replay::{OpenError, PlainSite, Replica};
+use td_stamps::Entry;
+use td_values::Text;
+
+const SCRIPT: &str = "VAR S BASE RELATION { SNO CHAR, STATUS INTEGER, CITY CHAR } KEY { SNO };";
+
+fn site(alloc: Global, number: u16, limit: usize) -> Result<PlainSite, OpenError> {
+    PlainSite::open_script(alloc, SCRIPT, number, limit)
+}
+
+// What the sites 7 and 9, of the limits 2 and 1, answer to these lines.
+fn answers(rt: &HostRuntime, lines: &str) -> Result<Vec<u8>, Fail> {
+    let alloc = rt.alloc();
+    let mut meter = Meter::new(rt);
+    let mut sites = [site(alloc, 7, 2)?, site(alloc, 9, 1)?];
+    let mut source = Device::new(lines.as_bytes());
+    let mut output = Vec::new(alloc);
+    let mut sink = Device::new(&mut output);
+    workbench(alloc, &mut sites, &mut NoLinks, &mut meter, &mut source, &mut sink)?;
+    Ok(output)
+}
+
+#[test]
+fn refused_takes_of_a_meeting(rt: HostRuntime) -> Result<(), Fail> {
+    let lines = "7: INSERT S RELATION { TUPLE { SNO 'S1', STATUS 20, CITY 'London' } };
+9: INSERT S RELATION { TUPLE { SNO 'S2', STATUS 10, CITY 'Paris' } };
+9: DELETE S;
+.meet 9 7
+.meet 7 9
+.listing 7
+.listing 9
+";
+    let want = "1.7 done
+1.9 done
+fault full
+fault full
+fault full
+relvar S 2
+TUPLE { CITY 'London', SNO 'S1', STATUS 20 }
+TUPLE { CITY 'Paris', SNO 'S2', STATUS 10 }
+held 2
+relvar S 1
+TUPLE { CITY 'Paris', SNO 'S2', STATUS 10 }
+held 1
+";
+    let found = answers(&rt, lines)?;
+    assert!(rt; found.as_slice() == want.as_bytes());
+    Ok(())
+}
+
+#[test]
+fn no_sites_at_all(rt: HostRuntime) -> Result<(), Fail> {
+    let mut meter = Meter::new(&rt);
+    let mut sites: [PlainSite; 0] = [];
+    let mut source = Device::new(&b".listing 1\n\n1? 1\n.quit\n"[..]);
+    let mut output = Vec::new(rt.alloc());
+    let mut sink = Device::new(&mut output);
+    workbench(rt.alloc(), &mut sites, &mut NoLinks, &mut meter, &mut source, &mut sink)?;
+    assert!(rt; output.as_slice() == b"fault site\nfault site\n".as_slice());
+    Ok(())
+}
+
+fn entry(alloc: Global, site: u16, seq: u32, clock: u64, text: &str) -> Result<Entry, Fail> {
+    let text = Text::from_str(alloc, text)?;
+    Ok(Entry { site, seq, clock, text })
+}
+
+// What sites 1 and 2 answer to these lines after each has taken an entry.
+fn after_taking(rt: &HostRuntime, first: Entry, second: Entry, lines: &str) -> Result<Vec<u8>, Fail> {
+    let alloc = rt.alloc();
+    let mut meter = Meter::new(rt);
+    let mut one = site(alloc, 1, 10)?;
+    one.take(alloc, &[first], &mut meter)?;
+    let mut two = site(alloc, 2, 10)?;
+    two.take(alloc, &[second], &mut meter)?;
+    let mut sites = [one, two];
+    let mut source = Device::new(lines.as_bytes());
+    let mut output = Vec::new(alloc);
+    let mut sink = Device::new(&mut output);
+    workbench(alloc, &mut sites, &mut NoLinks, &mut meter, &mut source, &mut sink)?;
+    Ok(output)
+}
+
+#[test]
+fn entries_of_other_sites(rt: HostRuntime) -> Result<(), Fail> {
+    let late = entry(rt.alloc(), 3, 1, 1_000_000_000_000_000_000, "DELETE S;")?;
+    let unread = entry(rt.alloc(), 3, 1, 1, "INSERT Q X;")?;
+    let lines = "1: DELETE S;\n.meet 2 1\n.meet 1 2\n.log 2\n.vector 2\n2: DELETE S;\n";
+    let want = "fault clock
+met 2 1 fresh 0 0
+met 1 2 fresh 0 0
+1.3 1 refused unread: INSERT Q X;
+vector 3:1
+2.2 done
+";
+    let found = after_taking(&rt, late, unread, lines)?;
+    assert!(rt; found.as_slice() == want.as_bytes());
+    Ok(())
+}
