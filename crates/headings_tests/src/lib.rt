@@ -1,0 +1,7 @@
+//! Which definitions and statements are well typed, and what is under expressions, expected from the rules.
+//!
+//! These tests stand apart from the crate that they call, since a crate is proved once more for the tests in it.
+#![tactic(auto)]
+
+#[cfg(test)]
+mod definitions;
