@@ -1,11 +1,10 @@
 //! What scripts open, and what their relvars have.
 
+use crate::contents::held;
 use crate::database::Result;
 use std::alloc::{AllocError, Global};
 use td_constraints::Broken;
-use td_relations::Relation;
-use td_relvars::{Answer, AskError, Database, OpenError, catalogue_of, open_script};
-use td_values::{Kind, Name, Value, show};
+use td_relvars::{OpenError, catalogue_of, open_script};
 
 fn broken(alloc: Global, test: &Broken) -> Result<String> {
     match test {
@@ -122,29 +121,13 @@ VAR V VIRTUAL ( Q WHERE B > 1 );
 VAR W VIRTUAL ( EXTEND Q ADD ( 1 / A AS C ) );
 ";
 
-fn shown(alloc: Global, relation: Relation) -> Result<String> {
-    let kind = Kind::Relation(relation.into_rows());
-    Ok(show(alloc, &Value { kind })?)
-}
-
-// What the relvar of this name has.
-fn asked(alloc: Global, database: &Database, name: &str) -> Result<String> {
-    let name = Name::new(alloc, name)?;
-    match database.value_of(alloc, &name) {
-        Ok(Answer::Relation(relation)) => shown(alloc, relation),
-        Ok(Answer::Raised(raise)) => Ok(format!(in alloc; "raised {raise}")?),
-        Err(AskError::Unknown) => Ok(String::from_str(alloc, "unknown")?),
-        Err(AskError::OutOfMemory) => Err(AllocError)?,
-    }
-}
-
 // The first relvar that has not what stands there, with what it has.
 fn unlike(alloc: Global, script: &str, table: &[(&str, &str)]) -> Result<String> {
     let Ok(database) = open_script(alloc, script) else {
         return Ok(String::from_str(alloc, "not opened")?);
     };
     for (name, expected) in table {
-        let found = asked(alloc, &database, name)?;
+        let found = held(alloc, &database, name)?;
         if found.as_str() != *expected {
             return Ok(format!(in alloc; "{name}: {found}")?);
         }
