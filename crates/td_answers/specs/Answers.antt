@@ -1,0 +1,157 @@
+-- What each line is answered, and what it leaves: said of what the sites are seen as, and of the catalogue of their script alone. Of the
+-- faults of a line the first that stands is told: its form, its sites, its address or relvar, and then what the call is refused for.
+-- Want of memory may be told in place of what a call on an open site has not reached yet.
+use Rattle.std.specs.Prelude.{◌≡◌, ℕ, true, false, List, [], ◌++◌, codes, decimal, Option, Some, None, Result, Ok, Err, slice_set}
+use Rattle.std.specs.Net.Grammar.{IsSocketText, Parses}
+use Rattle.std.specs.declared.net.parser.AddrParseError.{AddrParseError}
+use Rattle.std.specs.declared.net.socket_addr.SocketAddr.{SocketAddr}
+use Rattle.td_values.specs.Shown.{shown}
+use Rattle.td_headings.specs.Catalogues.{CatalogueData}
+use Rattle.td_stamps.specs.Vectors.{VersionVector, IsVector}
+use Rattle.td_replay.specs.Calls.{Asks, Issues}
+use Rattle.td_replay.specs.Seen.{Seen}
+use Rattle.td_replay.specs.declared.answer.Issued.{Issued}
+use Rattle.td_replay.specs.declared.answer.Reply.{Reply}
+use Rattle.td_replay.specs.declared.answer.Reply.TheVariants as reply
+use Rattle.td_replay.specs.declared.refusal.AskError.{AskError}
+use Rattle.td_replay.specs.declared.refusal.IssueError.{IssueError}
+use Rattle.td_replay.specs.declared.refusal.TakeError.{TakeError}
+use Rattle.td_listings.specs.Calls.{Lists, Logs, Tabulates}
+use Rattle.td_listings.specs.Texts.{shown_outcome, shown_stamp, vector_of}
+use Rattle.td_listings.specs.declared.error.ListError.{ListError}
+use Rattle.td_listings.specs.declared.error.ListError.TheVariants as list_error
+use Rattle.td_listings.specs.declared.error.TableError.{TableError}
+use Rattle.td_lines.specs.Lines.{Line, nothing, quit, issue, query, meet, listing, log, vector, table, serve, call, faulty}
+use Rattle.td_answers.specs.Faults.{ask_fault, issue_fault, link_fault, list_fault, raised_line, table_fault, take_fault}
+use Rattle.td_answers.specs.Meetings.{Meets}
+use Rattle.td_answers.specs.Sites.{Sites, Placed, site_of, sites_of}
+
+-- where a site is not there
+abbrev pub TellsNoSite : Sites → List ℕ → Sites → Type 0
+TellsNoSite old text new = (text ≡ codes "fault site\n") × (new ≡ old)
+
+-- a site is asked, and no site changes
+abbrev pub Tells : (Seen → List ℕ → Type 0) → Sites → Option Placed → List ℕ → Sites → Type 0
+Tells Asked old None text new = TellsNoSite old text new
+Tells Asked old (Some p) text new = Asked p.1 text × (new ≡ old)
+
+-- ---- n: text
+
+-- CLOCK.SITE OUTCOME
+abbrev pub issued_line : Issued → List ℕ
+issued_line i = shown_stamp i.stamp ++ codes " " ++ shown_outcome i.outcome ++ codes "\n"
+
+abbrev pub issue_answer : Result Issued IssueError → List ℕ
+issue_answer (Ok i) = issued_line i
+issue_answer (Err e) = issue_fault e
+
+pub record TellsIssued (t : List ℕ) (s : Seen) (text : List ℕ) (after : Seen) : Type 0 where
+  pub answer : Result Issued IssueError
+  pub issues : Issues s t answer after
+  pub line : text ≡ issue_answer answer
+
+abbrev pub IssueAnswered : List ℕ → Sites → Option Placed → List ℕ → Sites → Type 0
+IssueAnswered t old None text new = TellsNoSite old text new
+IssueAnswered t old (Some p) text new = (after : Seen) × TellsIssued t p.1 text after × (new ≡ slice_set old p.0 after)
+
+-- ---- n? text
+
+-- the shown value, or raised E
+abbrev pub reply_line : Reply → List ℕ
+reply_line (reply.Value v) = shown v ++ codes "\n"
+reply_line (reply.Raised e) = raised_line e
+
+abbrev pub ask_answer : Result Reply AskError → List ℕ
+ask_answer (Ok r) = reply_line r
+ask_answer (Err e) = ask_fault e
+
+pub record TellsAsked (t : List ℕ) (s : Seen) (text : List ℕ) : Type 0 where
+  pub answer : Result Reply AskError
+  pub asks : Asks s t answer
+  pub line : text ≡ ask_answer answer
+
+-- ---- .listing n, .log n, .vector n
+
+abbrev pub list_answer : Result (List ℕ) ListError → List ℕ
+list_answer (Ok text) = text
+list_answer (Err e) = list_fault e
+
+pub record TellsListing (s : Seen) (text : List ℕ) : Type 0 where
+  pub answer : Result (List ℕ) ListError
+  pub lists : Lists s answer
+  pub lines : text ≡ list_answer answer
+
+pub record TellsLog (s : Seen) (text : List ℕ) : Type 0 where
+  pub answer : Result (List ℕ) ListError
+  pub logs : Logs s answer
+  pub lines : text ≡ list_answer answer
+
+-- the version vector of what a site holds
+pub record IsVectorLine (s : Seen) (text : List ℕ) : Type 0 where
+  pub vector : VersionVector
+  pub counts : IsVector s.entries vector
+  pub line : text ≡ vector_of vector
+
+abbrev pub Counts : Seen → Result (List ℕ) ListError → Type 0
+Counts s (Ok text) = (s.live ≡ true) × IsVectorLine s text
+Counts s (Err list_error.Broken) = s.live ≡ false
+Counts s (Err list_error.OutOfMemory) = s.live ≡ true
+
+pub record TellsVector (s : Seen) (text : List ℕ) : Type 0 where
+  pub answer : Result (List ℕ) ListError
+  pub counts : Counts s answer
+  pub line : text ≡ list_answer answer
+
+-- ---- .csv n R
+
+abbrev pub table_answer : Result (List ℕ) TableError → List ℕ
+table_answer (Ok text) = text
+table_answer (Err e) = table_fault e
+
+pub record TellsTable (c : CatalogueData) (x : List ℕ) (s : Seen) (text : List ℕ) : Type 0 where
+  pub answer : Result (List ℕ) TableError
+  pub tabulates : Tabulates c s x answer
+  pub records : text ≡ table_answer answer
+
+-- ---- .serve n ADDRESS, .call n ADDRESS
+
+pub record TellsLink (address : List ℕ) (s : Seen) (text : List ℕ) : Type 0 where
+  pub answer : Result SocketAddr AddrParseError
+  pub parses : Parses IsSocketText address answer
+  pub line : text ≡ link_fault answer
+
+-- ---- .meet n m
+
+-- met n m fresh A B
+abbrev pub met_line : ℕ → ℕ → ℕ × ℕ → List ℕ
+met_line n m fresh = codes "met " ++ decimal n ++ codes " " ++ decimal m ++ codes " fresh " ++ decimal fresh.0 ++ codes " " ++ decimal fresh.1 ++ codes "\n"
+
+abbrev pub meet_answer : ℕ → ℕ → Result (ℕ × ℕ) TakeError → List ℕ
+meet_answer n m (Ok fresh) = met_line n m fresh
+meet_answer n m (Err e) = take_fault e
+
+pub record TellsMet (n m : ℕ) (s t : Seen) (text : List ℕ) (after other : Seen) : Type 0 where
+  pub answer : Result (ℕ × ℕ) TakeError
+  pub meets : Meets s t answer after other
+  pub line : text ≡ meet_answer n m answer
+
+abbrev pub MeetAnswered : ℕ → ℕ → Sites → Option (Placed × Placed) → List ℕ → Sites → Type 0
+MeetAnswered n m old None text new = TellsNoSite old text new
+MeetAnswered n m old (Some two) text new =
+    (after : Seen) × (other : Seen) × TellsMet n m two.0.1 two.1.1 text after other × (new ≡ slice_set (slice_set old two.0.0 after) two.1.0 other)
+
+-- ---- the lines
+
+abbrev pub Answered : CatalogueData → Sites → Line → List ℕ → Sites → Type 0
+Answered c old nothing text new = (text ≡ []) × (new ≡ old)
+Answered c old quit text new = (text ≡ []) × (new ≡ old)
+Answered c old faulty text new = (text ≡ codes "fault line\n") × (new ≡ old)
+Answered c old (issue n t) text new = IssueAnswered t old (site_of n old) text new
+Answered c old (query n t) text new = Tells (TellsAsked t) old (site_of n old) text new
+Answered c old (meet n m) text new = MeetAnswered n m old (sites_of n m old) text new
+Answered c old (listing n) text new = Tells TellsListing old (site_of n old) text new
+Answered c old (log n) text new = Tells TellsLog old (site_of n old) text new
+Answered c old (vector n) text new = Tells TellsVector old (site_of n old) text new
+Answered c old (table n x) text new = Tells (TellsTable c x) old (site_of n old) text new
+Answered c old (serve n address) text new = Tells (TellsLink address) old (site_of n old) text new
+Answered c old (call n address) text new = Tells (TellsLink address) old (site_of n old) text new

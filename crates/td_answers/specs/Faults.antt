@@ -1,0 +1,64 @@
+-- The lines that tell why a call is refused, or which error a query or a relvar raises.
+use Rattle.std.specs.Prelude.{ℕ, List, ◌++◌, codes, decimal, Result, Ok, Err}
+use Rattle.std.specs.declared.net.parser.AddrParseError.{AddrParseError}
+use Rattle.std.specs.declared.net.socket_addr.SocketAddr.{SocketAddr}
+use Rattle.td_values.specs.declared.raises.Raise.{Raise}
+use Rattle.td_replay.specs.declared.refusal.AskError.{AskError}
+use Rattle.td_replay.specs.declared.refusal.AskError.TheVariants as ask_error
+use Rattle.td_replay.specs.declared.refusal.IssueError.{IssueError}
+use Rattle.td_replay.specs.declared.refusal.IssueError.TheVariants as issue_error
+use Rattle.td_replay.specs.declared.refusal.TakeError.{TakeError}
+use Rattle.td_replay.specs.declared.refusal.TakeError.TheVariants as take_error
+use Rattle.td_listings.specs.Texts.{shown_raise}
+use Rattle.td_listings.specs.declared.error.ListError.{ListError}
+use Rattle.td_listings.specs.declared.error.ListError.TheVariants as list_error
+use Rattle.td_listings.specs.declared.error.TableError.{TableError}
+use Rattle.td_listings.specs.declared.error.TableError.TheVariants as table_error
+
+-- raised E
+abbrev pub raised_line : Raise → List ℕ
+raised_line e = codes "raised " ++ shown_raise e ++ codes "\n"
+
+abbrev pub issue_fault : IssueError → List ℕ
+issue_fault issue_error.Broken = codes "fault broken\n"
+issue_fault issue_error.Syntax = codes "fault syntax\n"
+issue_fault issue_error.IllTyped = codes "fault type\n"
+issue_fault issue_error.ClockEnd = codes "fault clock\n"
+issue_fault issue_error.Full = codes "fault full\n"
+issue_fault issue_error.OutOfMemory = codes "fault memory\n"
+issue_fault issue_error.JournalWrite = codes "fault journal\n"
+
+abbrev pub ask_fault : AskError → List ℕ
+ask_fault ask_error.Broken = codes "fault broken\n"
+ask_fault ask_error.Syntax = codes "fault syntax\n"
+ask_fault ask_error.IllTyped = codes "fault type\n"
+ask_fault ask_error.OutOfMemory = codes "fault memory\n"
+
+-- fault clash SITE SEQ
+abbrev pub clash_line : ℕ → ℕ → List ℕ
+clash_line site seq = codes "fault clash " ++ decimal site ++ codes " " ++ decimal seq ++ codes "\n"
+
+abbrev pub take_fault : TakeError → List ℕ
+take_fault take_error.Broken = codes "fault broken\n"
+take_fault take_error.BadEntry = codes "fault entry\n"
+take_fault (take_error.Clash site seq) = clash_line site seq
+take_fault take_error.Full = codes "fault full\n"
+take_fault take_error.OutOfMemory = codes "fault memory\n"
+take_fault take_error.JournalWrite = codes "fault journal\n"
+
+abbrev pub list_fault : ListError → List ℕ
+list_fault list_error.Broken = codes "fault broken\n"
+list_fault list_error.OutOfMemory = codes "fault memory\n"
+
+-- a relvar that raises is told as a query that raises is
+abbrev pub table_fault : TableError → List ℕ
+table_fault table_error.Unknown = codes "fault relvar\n"
+table_fault table_error.NoAttributes = codes "fault csv\n"
+table_fault table_error.Broken = codes "fault broken\n"
+table_fault (table_error.Raised e) = raised_line e
+table_fault table_error.OutOfMemory = codes "fault memory\n"
+
+-- a word that is no socket address; or no link is opened to the address that it is
+abbrev pub link_fault : Result SocketAddr AddrParseError → List ℕ
+link_fault (Ok a) = codes "fault net\n"
+link_fault (Err e) = codes "fault address\n"

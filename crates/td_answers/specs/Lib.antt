@@ -1,0 +1,7 @@
+-- The definitions of the crate.
+pub mod Sites
+pub mod Faults
+pub mod Meetings
+pub mod Answers
+pub mod Replies
+pub mod ForProofs

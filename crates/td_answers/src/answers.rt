@@ -1,0 +1,171 @@
+//! Lines answered by sites.
+
+ghost use Rattle.std.specs.Prelude.{◌≡◌, IfOk, codes, map};
+ghost use Rattle.td_lines.specs.Lines.{line_of};
+ghost use Rattle.td_answers.specs.Answers.{IssueAnswered, MeetAnswered, TellsAsked, TellsLink, TellsListing, TellsLog, TellsTable, TellsVector};
+ghost use Rattle.td_answers.specs.Replies.{Replies};
+ghost use Rattle.td_answers.specs.Sites.{AreOfScript, OneScript, site_of, sites_of};
+ghost use Rattle.td_answers.specs.ForProofs.Said.{Says, TellsIn};
+
+use crate::links::Links;
+use crate::meeting::meet_at;
+use crate::places::{place_of, site_in};
+use crate::reply::Reply;
+use crate::telling;
+use std::alloc::{AllocError, Global};
+use td_assign::Meter;
+use td_headings::Catalogue;
+use td_lines::{Command, command_of};
+use td_listings::script_catalogue;
+use td_replay::Replica;
+
+/// The catalogue of the sites' script; without sites an empty one. It costs the reading and typing of the script.
+pub fn catalogue_for<R: Replica>(alloc: Global, sites: &[R]) -> Result<Catalogue, AllocError>
+    requires { OneScript (map R.seen sites.now) }
+    ensures { IfOk result (λ catalogue. AreOfScript catalogue (map R.seen sites.now)) }
+{
+    match sites {
+        [] => Ok(Catalogue::new(alloc)),
+        [first, ..] => script_catalogue(alloc, first),
+    }
+}
+
+fn no_site() -> Reply
+    ensures { Says (λ words. words ≡ codes "fault site\n") result }
+{
+    Reply::Fixed("fault site\n")
+}
+
+fn issue_in<R: Replica>(
+    alloc: Global,
+    sites: &mut [R],
+    number: u32,
+    text: &str,
+    meter: &mut Meter,
+) -> Reply
+    ensures { Says (λ words. IssueAnswered text.now (map R.seen sites.old) (site_of number (map R.seen sites.old)) words (map R.seen sites.new)) result }
+{
+    match place_of(sites, number) {
+        Some(at) => telling::issue(alloc, &mut sites[at], text, meter),
+        None => no_site(),
+    }
+}
+
+fn query_in<R: Replica>(alloc: Global, sites: &[R], number: u32, text: &str) -> Reply
+    ensures { Says (TellsIn (TellsAsked text.now) number (map R.seen sites.now)) result }
+{
+    match site_in(sites, number) {
+        Some(site) => telling::query(alloc, site, text),
+        None => no_site(),
+    }
+}
+
+fn meet_in<R: Replica>(
+    alloc: Global,
+    sites: &mut [R],
+    first: u32,
+    second: u32,
+    meter: &mut Meter,
+) -> Reply
+    ensures { Says (λ words. MeetAnswered first second (map R.seen sites.old) (sites_of first second (map R.seen sites.old)) words (map R.seen sites.new)) result }
+{
+    match (place_of(sites, first), place_of(sites, second)) {
+        (Some(a), Some(b)) if a != b => meet_at(alloc, sites, (first, second), a, b, meter),
+        _ => no_site(),
+    }
+}
+
+fn listing_in<R: Replica>(alloc: Global, catalogue: &Catalogue, sites: &[R], number: u32) -> Reply
+    requires { AreOfScript catalogue.now (map R.seen sites.now) }
+    ensures { Says (TellsIn TellsListing number (map R.seen sites.now)) result }
+{
+    match site_in(sites, number) {
+        Some(site) => telling::listing(alloc, catalogue, site),
+        None => no_site(),
+    }
+}
+
+fn log_in<R: Replica>(alloc: Global, sites: &[R], number: u32) -> Reply
+    ensures { Says (TellsIn TellsLog number (map R.seen sites.now)) result }
+{
+    match site_in(sites, number) {
+        Some(site) => telling::log(alloc, site),
+        None => no_site(),
+    }
+}
+
+fn vector_in<R: Replica>(alloc: Global, sites: &[R], number: u32) -> Reply
+    ensures { Says (TellsIn TellsVector number (map R.seen sites.now)) result }
+{
+    match site_in(sites, number) {
+        Some(site) => telling::vector(alloc, site),
+        None => no_site(),
+    }
+}
+
+fn table_in<R: Replica>(
+    alloc: Global,
+    catalogue: &Catalogue,
+    sites: &[R],
+    number: u32,
+    relvar: &str,
+) -> Reply
+    requires { AreOfScript catalogue.now (map R.seen sites.now) }
+    ensures { Says (TellsIn (TellsTable catalogue.now relvar.now) number (map R.seen sites.now)) result }
+{
+    match site_in(sites, number) {
+        Some(site) => telling::table(alloc, catalogue, site, relvar),
+        None => no_site(),
+    }
+}
+
+fn link_in<R: Replica>(sites: &[R], number: u32, address: &str) -> Reply
+    ensures { Says (TellsIn (TellsLink address.now) number (map R.seen sites.now)) result }
+{
+    match site_in(sites, number) {
+        Some(site) => telling::link(site, address),
+        None => no_site(),
+    }
+}
+
+fn reply_to<R: Replica>(
+    alloc: Global,
+    catalogue: &Catalogue,
+    sites: &mut [R],
+    meter: &mut Meter,
+    line: &[u8],
+) -> Reply
+    requires { AreOfScript catalogue.now (map R.seen sites.old) }
+    ensures { Replies catalogue.now (map R.seen sites.old) (line_of line.now) result (map R.seen sites.new) }
+{
+    match command_of(line) {
+        Command::Nothing => Reply::Fixed(""),
+        Command::Quit => Reply::Quit,
+        Command::Issue { site, text } => issue_in(alloc, sites, site, text, meter),
+        Command::Query { site, text } => query_in(alloc, sites, site, text),
+        Command::Meet { first, second } => meet_in(alloc, sites, first, second, meter),
+        Command::Listing { site } => listing_in(alloc, catalogue, sites, site),
+        Command::Log { site } => log_in(alloc, sites, site),
+        Command::Vector { site } => vector_in(alloc, sites, site),
+        Command::Table { site, relvar } => table_in(alloc, catalogue, sites, site, relvar),
+        Command::Serve { site, address } => link_in(sites, site, address),
+        Command::Call { site, address } => link_in(sites, site, address),
+        Command::Faulty => Reply::Fixed("fault line\n"),
+    }
+}
+
+/// Answers a line, which comes without its line end. It costs what the calls that it makes cost, and a search among the sites.
+pub fn answer<R: Replica, L: Links>(
+    alloc: Global,
+    catalogue: &Catalogue,
+    sites: &mut [R],
+    _links: &mut L,
+    meter: &mut Meter,
+    line: &[u8],
+) -> Reply
+    requires { AreOfScript catalogue.now (map R.seen sites.old) }
+    ensures replies { Replies catalogue.now (map R.seen sites.old) (line_of line.now) result (map R.seen sites.new) }
+    ensures kept { AreOfScript catalogue.now (map R.seen sites.new) }
+{
+    reply_to(alloc, catalogue, sites, meter, line)
+}

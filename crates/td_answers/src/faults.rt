@@ -1,0 +1,66 @@
+//! The lines of refusals that take no memory.
+
+ghost use Rattle.std.specs.Prelude.{◌≡◌};
+ghost use Rattle.td_answers.specs.Faults as spec;
+
+use td_listings::{ListError, TableError};
+use td_replay::{AskError, IssueError};
+use td_values::Raise;
+
+pub(crate) fn raised_line(raise: Raise) -> &'static str
+    ensures { result.now ≡ spec.raised_line raise }
+{
+    match raise {
+        Raise::Overflow => "raised overflow\n",
+        Raise::Divide => "raised divide\n",
+        Raise::Empty => "raised empty\n",
+        Raise::Selector => "raised selector\n",
+        Raise::Cardinality => "raised cardinality\n",
+    }
+}
+
+pub(crate) fn issue_fault(error: IssueError) -> &'static str
+    ensures { result.now ≡ spec.issue_fault error }
+{
+    match error {
+        IssueError::Broken => "fault broken\n",
+        IssueError::Syntax => "fault syntax\n",
+        IssueError::IllTyped => "fault type\n",
+        IssueError::ClockEnd => "fault clock\n",
+        IssueError::Full => "fault full\n",
+        IssueError::OutOfMemory => "fault memory\n",
+        IssueError::JournalWrite => "fault journal\n",
+    }
+}
+
+pub(crate) fn ask_fault(error: AskError) -> &'static str
+    ensures { result.now ≡ spec.ask_fault error }
+{
+    match error {
+        AskError::Broken => "fault broken\n",
+        AskError::Syntax => "fault syntax\n",
+        AskError::IllTyped => "fault type\n",
+        AskError::OutOfMemory => "fault memory\n",
+    }
+}
+
+pub(crate) fn list_fault(error: ListError) -> &'static str
+    ensures { result.now ≡ spec.list_fault error }
+{
+    match error {
+        ListError::Broken => "fault broken\n",
+        ListError::OutOfMemory => "fault memory\n",
+    }
+}
+
+pub(crate) fn table_fault(error: TableError) -> &'static str
+    ensures { result.now ≡ spec.table_fault error }
+{
+    match error {
+        TableError::Unknown => "fault relvar\n",
+        TableError::NoAttributes => "fault csv\n",
+        TableError::Broken => "fault broken\n",
+        TableError::Raised(raise) => raised_line(raise),
+        TableError::OutOfMemory => "fault memory\n",
+    }
+}

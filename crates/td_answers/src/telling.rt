@@ -1,0 +1,131 @@
+//! What one site answers.
+
+ghost use Rattle.std.specs.Prelude.{◌≡◌, Ok, Err, IfOk, MatchResult, string_bytes};
+ghost use Rattle.td_relvars.specs.Scripts.{IsScriptOf};
+ghost use Rattle.td_replay.specs.declared.answer.Reply.TheVariants as told;
+ghost use Rattle.td_answers.specs.Answers.{Counts, TellsAsked, TellsIssued, TellsLink, TellsListing, TellsLog, TellsTable, TellsVector, reply_line};
+ghost use Rattle.td_answers.specs.ForProofs.Said.{Says};
+
+use crate::faults::{ask_fault, issue_fault, list_fault, raised_line, table_fault};
+use crate::reply::Reply;
+use crate::writing::{blank_line, issued_line};
+use std::alloc::{AllocError, Global};
+use std::net::SocketAddr;
+use td_assign::Meter;
+use td_headings::Catalogue;
+use td_listings::{ListError, listing_text, log_text, table_text, vector_text};
+use td_replay::Replica;
+use td_values::{Value, show};
+
+/// Issues a statement. The room for its line is taken first.
+pub(crate) fn issue<R: Replica>(alloc: Global, site: &mut R, text: &str, meter: &mut Meter) -> Reply
+    ensures { Says (λ words. TellsIssued text.now (R.seen site.old) words (R.seen site.new)) result }
+{
+    if !site.is_open() {
+        return Reply::Fixed("fault broken\n");
+    }
+    let Some(line) = blank_line(alloc) else {
+        return Reply::Fixed("fault memory\n");
+    };
+    match site.issue(alloc, text, meter) {
+        Ok(issued) => Reply::Text(issued_line(line, &issued)),
+        Err(error) => Reply::Fixed(issue_fault(error)),
+    }
+}
+
+fn value_line(alloc: Global, value: &Value) -> Result<String, AllocError>
+    ensures { IfOk result (λ line. string_bytes line ≡ reply_line (told.Value value.now)) }
+{
+    let mut line = show(alloc, value)?;
+    line.push_str("\n")?;
+    Ok(line)
+}
+
+/// Asks a query.
+pub(crate) fn query<R: Replica>(alloc: Global, site: &R, text: &str) -> Reply
+    ensures { Says (TellsAsked text.now (R.seen site.now)) result }
+{
+    let value = match site.ask(alloc, text) {
+        Ok(td_replay::Reply::Value(value)) => value,
+        Ok(td_replay::Reply::Raised(raise)) => return Reply::Fixed(raised_line(raise)),
+        Err(error) => return Reply::Fixed(ask_fault(error)),
+    };
+    match value_line(alloc, &value) {
+        Ok(line) => Reply::Text(line),
+        Err(_) => Reply::Fixed("fault memory\n"),
+    }
+}
+
+/// Lists a site.
+pub(crate) fn listing<R: Replica>(alloc: Global, catalogue: &Catalogue, site: &R) -> Reply
+    requires { IsScriptOf (R.seen site.now).script catalogue.now }
+    ensures { Says (TellsListing (R.seen site.now)) result }
+{
+    match listing_text(alloc, catalogue, site) {
+        Ok(text) => Reply::Text(text),
+        Err(error) => Reply::Fixed(list_fault(error)),
+    }
+}
+
+/// Logs a site.
+pub(crate) fn log<R: Replica>(alloc: Global, site: &R) -> Reply
+    ensures { Says (TellsLog (R.seen site.now)) result }
+{
+    match log_text(alloc, site) {
+        Ok(text) => Reply::Text(text),
+        Err(error) => Reply::Fixed(list_fault(error)),
+    }
+}
+
+fn vector_line<R: Replica>(alloc: Global, site: &R) -> Result<String, ListError>
+    ensures { MatchResult result (λ text. Counts (R.seen site.now) (Ok (string_bytes text))) (λ e. Counts (R.seen site.now) (Err e)) }
+{
+    let held = match site.held() {
+        Ok(held) => held,
+        Err(_) => return Err(ListError::Broken),
+    };
+    let vector = match held.vector(alloc) {
+        Ok(vector) => vector,
+        Err(_) => return Err(ListError::OutOfMemory),
+    };
+    match vector_text(alloc, &vector) {
+        Ok(text) => Ok(text),
+        Err(_) => Err(ListError::OutOfMemory),
+    }
+}
+
+/// Tells a site's version vector.
+pub(crate) fn vector<R: Replica>(alloc: Global, site: &R) -> Reply
+    ensures { Says (TellsVector (R.seen site.now)) result }
+{
+    match vector_line(alloc, site) {
+        Ok(text) => Reply::Text(text),
+        Err(error) => Reply::Fixed(list_fault(error)),
+    }
+}
+
+/// Tells the table of a relvar.
+pub(crate) fn table<R: Replica>(
+    alloc: Global,
+    catalogue: &Catalogue,
+    site: &R,
+    relvar: &str,
+) -> Reply
+    requires { IsScriptOf (R.seen site.now).script catalogue.now }
+    ensures { Says (TellsTable catalogue.now relvar.now (R.seen site.now)) result }
+{
+    match table_text(alloc, catalogue, site, relvar) {
+        Ok(text) => Reply::Table(text),
+        Err(error) => Reply::Fixed(table_fault(error)),
+    }
+}
+
+/// Tells why no link is opened to an address.
+pub(crate) fn link<R: Replica>(site: &R, address: &str) -> Reply
+    ensures { Says (TellsLink address.now (R.seen site.now)) result }
+{
+    match address.parse::<SocketAddr>() {
+        Ok(_) => Reply::Fixed("fault net\n"),
+        Err(_) => Reply::Fixed("fault address\n"),
+    }
+}
