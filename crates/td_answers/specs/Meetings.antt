@@ -22,7 +22,7 @@ pub record IsBatch (s t : Seen) (batch : List Entry) : Type 0 where
 
 -- a site takes what another has for it
 pub record TakesFrom (s t : Seen) (r : Result Taken TakeError) (after : Seen) : Type 0 where
-  pub open : AreOpen s t
+  pub both : AreOpen s t
   pub batch : List Entry
   pub lacks : IsBatch s t batch
   pub takes : Takes s batch r after

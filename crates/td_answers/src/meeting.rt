@@ -1,7 +1,8 @@
 //! Meetings of two sites.
 
-ghost use Rattle.std.specs.Prelude.{◌≡◌, ◌≢◌, ◌<◌, Ok, Err, MatchResult, length, map};
+ghost use Rattle.std.specs.Prelude.{◌≡◌, ◌≢◌, ◌<◌, Ok, Err, MatchBool, MatchResult, length, map};
 ghost use Rattle.td_answers.specs.Faults as spec;
+ghost use Rattle.td_answers.specs.Meetings.{AreOpen, IsOneClosed};
 ghost use Rattle.td_answers.specs.ForProofs.Drawn.{DrawsAt, HasFor, MeetsAt, TellsMetAt};
 ghost use Rattle.td_answers.specs.ForProofs.Said.{IsBlank, Says};
 
@@ -11,6 +12,12 @@ use std::alloc::Global;
 use td_assign::Meter;
 use td_replay::{Replica, TakeError, Taken, TellError};
 use td_stamps::Entry;
+
+fn are_open<R: Replica>(first: &R, second: &R) -> bool
+    ensures { MatchBool result (AreOpen (R.seen first.now) (R.seen second.now)) (IsOneClosed (R.seen first.now) (R.seen second.now)) }
+{
+    first.is_open() && second.is_open()
+}
 
 // What the second site has for the first.
 fn batch_for<R: Replica>(alloc: Global, first: &R, second: &R) -> Result<Vec<Entry>, TellError>
@@ -100,7 +107,7 @@ pub(crate) fn meet_at<R: Replica>(
     requires two { first ≢ second }
     ensures { Says (λ words. TellsMetAt numbers (map R.seen sites.old) first second words (map R.seen sites.new)) result }
 {
-    if !sites[first].is_open() || !sites[second].is_open() {
+    if !are_open(&sites[first], &sites[second]) {
         return Reply::Fixed("fault broken\n");
     }
     let Some(line) = blank_line(alloc) else {

@@ -1,0 +1,4 @@
+pub mod Placing
+pub mod Drawing
+pub mod Kept
+pub mod Saying

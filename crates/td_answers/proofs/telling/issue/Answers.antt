@@ -1,0 +1,9 @@
+use Rattle.std.proofs.Common.{Err, refl, sym, ◌∙◌}
+use Rattle.td_replay.specs.declared.refusal.IssueError.TheVariants as issue_error
+use Rattle.td_answers.proofs.telling.issue.Goals as goal
+
+pub returns-then-not-is_open : goal.returns-then-not-is_open
+returns-then-not-is_open g c = record { answer = Err issue_error.Broken; issues = (sym c.is_open.ensures ∙ c.if-not-is_open.true, refl); line = refl }
+
+pub returns-in_default : goal.returns-in_default
+returns-in_default g c = record { answer = Err issue_error.OutOfMemory; issues = (sym c.is_open.ensures ∙ c.if-not-is_open.false, refl); line = refl }
