@@ -1,6 +1,7 @@
 //! How a run over memory is made.
 
-use crate::program::{Options, run_program};
+use crate::opening::Options;
+use crate::program::run_program;
 use crate::run::Ended;
 use std::alloc::{AllocError, Global};
 use td_answers::NoLinks;
@@ -63,12 +64,12 @@ pub const TWO: Options = Options {
 
 /// How a run ended, and what it wrote.
 #[derive(Drop)]
-pub struct Written {
+pub struct Ran {
     pub end: Result<bool, Ended>,
     pub output: Vec<u8>,
 }
 
-impl Written {
+impl Ran {
     pub fn text(&self) -> &str {
         std::str::from_utf8(&self.output).unwrap_or("no text")
     }
@@ -79,13 +80,13 @@ impl Written {
     }
 }
 
-pub fn run(rt: &HostRuntime, input: &[u8]) -> Written {
+pub fn run(rt: &HostRuntime, input: &[u8]) -> Ran {
     let mut meter = Meter::new(rt);
     let mut output = Vec::new(rt.alloc());
     let mut source = Device::new(input);
     let mut sink = Device::new(&mut output);
     let end = run_program(rt.alloc(), &TWO, &mut NoLinks, &mut meter, &mut source, &mut sink);
-    Written { end, output }
+    Ran { end, output }
 }
 
 // What the run of this script and these lines writes, or how else it ended.

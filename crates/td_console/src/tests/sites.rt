@@ -1,19 +1,23 @@
 //! The workbench over sites that are handed to it.
 
 use crate::run::workbench;
-use std::alloc::Global;
+use std::alloc::{AllocError, Global};
 use std::test::Fail;
 use td_answers::NoLinks;
 use td_assign::Meter;
 use td_devices::Device;
-use td_replay::{OpenError, PlainSite, Replica};
+use td_replay::{PlainSite, Replica};
 use td_stamps::Entry;
 use td_values::Text;
 
 const SCRIPT: &str = "VAR S BASE RELATION { SNO CHAR, STATUS INTEGER, CITY CHAR } KEY { SNO };";
 
-fn site(alloc: Global, number: u16, limit: usize) -> Result<PlainSite, OpenError> {
-    PlainSite::open_script(alloc, SCRIPT, number, limit)
+// The script opens, so nothing but memory can be wanting.
+fn site(alloc: Global, number: u16, limit: usize) -> Result<PlainSite, AllocError> {
+    match PlainSite::open_script(alloc, SCRIPT, number, limit) {
+        Ok(site) => Ok(site),
+        Err(_) => Err(AllocError),
+    }
 }
 
 // What the sites 7 and 9, of the limits 2 and 1, answer to these lines.

@@ -1,7 +1,7 @@
 //! Readers and writers that are interrupted or fail.
 
 use super::fakes::{Full, SlowReader, SlowWriter};
-use super::runs::{TWO, TWO_SITES_MEET, TWO_SITES_MET, Written};
+use super::runs::{TWO, TWO_SITES_MEET, TWO_SITES_MET, Ran};
 use crate::program::run_program;
 use crate::run::Ended;
 use td_answers::NoLinks;
@@ -26,7 +26,7 @@ fn answered(read: usize) -> usize {
 }
 
 // The run of the first bytes of two sites that meet, a byte a read, behind which the reader fails or ends.
-fn read_to(rt: &HostRuntime, bytes: usize, fails: bool) -> Written {
+fn read_to(rt: &HostRuntime, bytes: usize, fails: bool) -> Ran {
     let mut meter = Meter::new(rt);
     let mut source = Device::new(SlowReader {
         rest: &TWO_SITES_MEET.as_bytes()[..bytes],
@@ -36,7 +36,7 @@ fn read_to(rt: &HostRuntime, bytes: usize, fails: bool) -> Written {
     let mut output = Vec::new(rt.alloc());
     let mut sink = Device::new(&mut output);
     let end = run_program(rt.alloc(), &TWO, &mut NoLinks, &mut meter, &mut source, &mut sink);
-    Written { end, output }
+    Ran { end, output }
 }
 
 // Whether the run ended by a read fault, behind the answers to the lines that were read whole.

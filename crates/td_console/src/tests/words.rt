@@ -10,7 +10,7 @@ use td_devices::Device;
 
 /// What a call of the program ended with: its status, and what it wrote to its output and to its faults.
 #[derive(Drop)]
-struct Called {
+struct Exit {
     status: u8,
     output: Vec<u8>,
     faults: Vec<u8>,
@@ -24,7 +24,7 @@ fn words_of(alloc: Global, line: &str) -> Result<Vec<String>, AllocError> {
     Ok(words)
 }
 
-fn called(rt: &HostRuntime, line: &str, input: &str) -> Result<Called, AllocError> {
+fn called(rt: &HostRuntime, line: &str, input: &str) -> Result<Exit, AllocError> {
     let words = words_of(rt.alloc(), line)?;
     let mut meter = Meter::new(rt);
     let mut output = Vec::new(rt.alloc());
@@ -38,7 +38,7 @@ fn called(rt: &HostRuntime, line: &str, input: &str) -> Result<Called, AllocErro
         &mut Device::new(&mut output),
         &mut Device::new(&mut faults),
     );
-    Ok(Called { status, output, faults })
+    Ok(Exit { status, output, faults })
 }
 
 #[test]
@@ -100,7 +100,7 @@ fn tells(rt: &HostRuntime, line: &str, part: &str) -> Result<bool, AllocError> {
 
 #[test]
 fn help_and_version(rt: HostRuntime) -> Result<(), Fail> {
-    for part in ["--sites", "1 to 16", "--first", "1 to 65520", "--limit", "1 to 100000", ".begin", "n: ", "n? ", ".meet n m", ".csv n "] {
+    for part in ["--sites", "1 to 16", "--first", "1 to 65520", "--limit", "1 to 100000", ".begin", "N: TEXT", "N? TEXT", ".meet N M", ".csv N RELVAR"] {
         assert!(rt; tells(&rt, "td_console --help", part)?, "{part}");
     }
     assert!(rt; tells(&rt, "td_console --version", "td_console ")?);
