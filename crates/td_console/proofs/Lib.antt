@@ -1,8 +1,5 @@
-pub mod Streamed
-pub mod Fronts
-pub mod LawsOfSites
-pub mod Listings
-pub mod Answering
+pub mod Lines
 pub mod Serving
-pub mod Opening
-pub mod Scripts
+pub mod Answering
+pub mod Scripting
+pub mod Starting

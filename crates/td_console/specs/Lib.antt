@@ -1,11 +1,7 @@
-pub mod Refusals
-pub mod Laws
-pub mod Lines
+-- The definitions of the crate.
 pub mod Streams
-pub mod Commands
-pub mod Texts
-pub mod Listed
-pub mod Printed
-pub mod Program
-pub mod Workbench
-pub mod Takings
+pub mod Runs
+pub mod Scripts
+pub mod Programs
+pub mod Exits
+pub mod ForProofs

@@ -1,36 +1,26 @@
--- What writing all of some bytes, and reading a line, do to a writer's and a reader's bytes, where those are known.
-use Rattle.std.specs.Prelude.{◌≡◌, ◌⊎◌, ℕ, ◌==◌, Bool, true, not, List, [], ◌∷◌, ◌++◌, Option, Some, None, Result, Ok, Err, MatchResult, MatchBool}
-use Rattle.std.specs.List.{list_all}
-use Rattle.std.specs.Io.KnownBytes.{Appends, Consumes, IsAtEnd}
-use Rattle.td_console.specs.declared.input.RawLine.{RawLine}
+-- What a run has read of its input, and why it reads no more.
+use Rattle.std.specs.Prelude.{◌≡◌, ◌⊎◌, ℕ, ◌-◌, ◌^◌, List, Option, length}
+use Rattle.std.specs.Io.KnownBytes.{Consumes}
+use Rattle.td_devices.specs.Counted.{counted}
 
--- a front of the bytes was appended
-abbrev pub AppendsFront : Option (List ℕ) → Option (List ℕ) → List ℕ → Type 0
-AppendsFront old new bytes = (front : List ℕ) × (rest : List ℕ) × (bytes ≡ front ++ rest) × Appends old new front
+-- the bytes that are left to be read, where they are known, and the failures that were counted
+pub record Input : Type 0 where
+  pub left : Option (List ℕ)
+  pub failures : ℕ
 
--- all of the bytes were appended, or the writer failed and a front of them was
-abbrev pub Writes : {E : Type 0} → Option (List ℕ) → Option (List ℕ) → Result (Unit {0}) E → List ℕ → Type 0
-Writes old new r bytes = MatchResult r (λ _. Appends old new bytes) (λ _. AppendsFront old new bytes)
+-- the bytes were read, and no failure was counted
+abbrev pub Reads : List ℕ → Input → Input → Type 0
+Reads bytes from after = Consumes from.left after.left bytes × (after.failures ≡ from.failures)
 
--- no LF is among the bytes
-abbrev pub is_one_line : List ℕ → Bool
-is_one_line bs = list_all (λ b. not (b == 10)) bs
+-- the most reads that a run makes; each gives one byte
+abbrev pub most_reads : ℕ
+most_reads = 2 ^ 64 - 1
 
--- a whole line with its LF
-abbrev pub IsWholeLine : List ℕ → Type 0
-IsWholeLine raw = (front : List ℕ) × (is_one_line front ≡ true) × (raw ≡ front ++ 10 ∷ [])
+-- how many of the reads are left behind the bytes
+abbrev pub reads_left : List ℕ → ℕ
+reads_left bytes = most_reads - length bytes
 
--- what a reader of a byte told
-abbrev pub ByteRead : {E : Type 0} → Option (List ℕ) → Option (List ℕ) → Result (Option ℕ) E → Type 0
-ByteRead old new (Ok (Some b)) = Consumes old new (b ∷ [])
-ByteRead old new (Ok None) = Consumes old new [] × IsAtEnd new
-ByteRead old new (Err e) = Consumes old new []
-
--- bytes of one line alone
-abbrev pub IsOfOneLine : List ℕ → Type 0
-IsOfOneLine bytes = (is_one_line bytes ≡ true) ⊎ IsWholeLine bytes
-
--- what a reader of a line told: a whole line, or what the input's end left of one; at a failure, bytes of one line were read
-abbrev pub LineRead : {E : Type 0} → Option (List ℕ) → Option (List ℕ) → Result RawLine E → Type 0
-LineRead old new (Ok line) = Consumes old new line.bytes.items × MatchBool line.is_last ((is_one_line line.bytes.items ≡ true) × IsAtEnd new) (IsWholeLine line.bytes.items)
-LineRead old new (Err e) = (bytes : List ℕ) × Consumes old new bytes × IsOfOneLine bytes
+-- the bytes were read, and then a failure was counted, or no reads were left
+abbrev pub ReadsNoMore : ℕ → List ℕ → Input → Input → Type 0
+ReadsNoMore spare bytes from after =
+    Consumes from.left after.left bytes × ((after.failures ≡ counted from.failures) ⊎ ((after.failures ≡ from.failures) × (spare ≡ 0)))

@@ -1,118 +1,78 @@
-//! What a line of the workbench says.
+//! The program over its words and its streams.
 
-ghost use Rattle.std.specs.Prelude.{◌≡◌, ◌<◌, option_map, unwrap_or, codes};
-ghost use Rattle.std.specs.Option.{option_copied};
-ghost use Rattle.td_console.specs.Lines.{number_of, after, parted, meet_form, issue_form, listing_form, form_of, line_of};
-ghost use Rattle.td_console.specs.Commands.{meant, both};
+ghost use Rattle.std.specs.Prelude.{◌≡◌};
+ghost use Rattle.td_console.specs.Exits.{Exits, PutsHelp, PutsRefusal, TellsWords, status_of};
 
-/// The most bytes of a line, without its line end.
-pub const LINE_BYTES: usize = 16_384;
+use crate::program::run_program;
+use crate::run::Ended;
+use crate::words::read_options;
+use clap::Error;
+use clap::error::ErrorKind;
+use std::alloc::Global;
+use td_answers::Links;
+use td_assign::Meter;
+use td_devices::{Sink, Source, put};
 
-/// A line's form. A number too large for a site stands as 65,536.
-#[derive(Clone, Copy, Debug, PartialEq, Eq)]
-pub enum Command<'a> {
-    Nothing,
-    Quit,
-    Issue { site: u32, text: &'a str },
-    Meet { first: u32, second: u32 },
-    Listing { site: u32 },
-    Faulty,
-}
-
-/// What stands for each number that is too large for a site.
-const NO_SITE: u32 = 65_536;
-
-// The decimal number without leading zeros that this is.
-fn number(digits: &[u8]) -> Option<u32>
-    ensures { result ≡ number_of digits.now }
+fn status(end: Result<bool, Ended>) -> u8
+    ensures { result ≡ status_of end }
 {
-    if digits.is_empty() || digits[0] == b'0' && digits.len() > 1 {
-        return None;
+    match end {
+        Ok(true) => 0,
+        Ok(false) | Err(_) => 1,
     }
-    let mut value: u32 = 0;
-    for b in digits {
-        if !b.is_ascii_digit() {
-            return None;
-        }
-        value = (value * 10 + u32::from(*b - b'0')).min(NO_SITE);
+}
+
+// Writes help or the version.
+fn put_help<K: Sink>(sink: &mut K, text: &[u8]) -> u8
+    ensures { PutsHelp text.now result (record { held = K.held sink.old; faults = K.faults sink.old }) (record { held = K.held sink.new; faults = K.faults sink.new }) }
+{
+    match put(sink, text) {
+        Ok(()) => 0,
+        Err(_) => 1,
     }
-    Some(value)
 }
 
-// What follows the front, which the line has.
-fn after<'a>(front: &str, line: &'a str) -> Option<&'a str>
-    ensures { option_copied result ≡ after front.now line.now }
+// Writes why the words are refused.
+fn put_refusal<F: Sink>(faults: &mut F, text: &[u8]) -> u8
+    ensures { PutsRefusal text.now result (record { held = F.held faults.old; faults = F.faults faults.old }) (record { held = F.held faults.new; faults = F.faults faults.new }) }
 {
-    line.strip_prefix(front)
-}
-
-// What is before the first such character, and what is after it.
-fn parted(c: char, line: &str) -> Option<(&str, &str)>
-    requires { c < 128 }
-    ensures { option_map both result ≡ parted c line.now }
-{
-    line.split_once(c)
-}
-
-// The text without one space in front of it, where there is one.
-fn without_space(text: &str) -> &str
-    ensures { result.now ≡ unwrap_or (after (codes " ") text.now) text.now }
-{
-    after(" ", text).unwrap_or(text)
-}
-
-fn meeting(words: &str) -> Option<Command<'_>>
-    ensures { option_map meant result ≡ meet_form words.now }
-{
-    let (first, second) = parted(' ', words)?;
-    let first = number(first.as_bytes())?;
-    let second = number(second.as_bytes())?;
-    Some(Command::Meet { first, second })
-}
-
-fn issue(line: &str) -> Option<Command<'_>>
-    ensures { option_map meant result ≡ issue_form line.now }
-{
-    let (site, text) = parted(':', line)?;
-    let site = number(site.as_bytes())?;
-    let text = without_space(text);
-    Some(Command::Issue { site, text })
-}
-
-fn listing(word: &[u8]) -> Option<Command<'static>>
-    ensures { option_map meant result ≡ listing_form word.now }
-{
-    let site = number(word)?;
-    Some(Command::Listing { site })
-}
-
-fn form(line: &str) -> Option<Command<'_>>
-    ensures { option_map meant result ≡ form_of line.now }
-{
-    if line.is_empty() {
-        return Some(Command::Nothing);
+    match put(faults, text) {
+        Ok(()) => 2,
+        Err(_) => 2,
     }
-    if line == ".quit" {
-        return Some(Command::Quit);
-    }
-    if let Some(word) = after(".listing ", line) {
-        return listing(word.as_bytes());
-    }
-    if let Some(words) = after(".meet ", line) {
-        return meeting(words);
-    }
-    issue(line)
 }
 
-/// The form of a line, without its line end.
-pub fn command_of(line: &[u8]) -> Command<'_>
-    ensures { meant result ≡ line_of line.now }
+// Tells what the words asked for in place of a run, or why they are refused.
+fn tell<K: Sink, F: Sink>(alloc: Global, error: &Error, sink: &mut K, faults: &mut F) -> u8
+    ensures { TellsWords result (record { held = K.held sink.old; faults = K.faults sink.old }) (record { held = F.held faults.old; faults = F.faults faults.old }) (record { held = K.held sink.new; faults = K.faults sink.new }) (record { held = F.held faults.new; faults = F.faults faults.new }) }
 {
-    if line.len() > LINE_BYTES {
-        return Command::Faulty;
+    if error.kind() == ErrorKind::OutOfMemory {
+        return 1;
     }
-    match std::str::from_utf8(line) {
-        Ok(line) => form(line).unwrap_or(Command::Faulty),
-        Err(_) => Command::Faulty,
+    let Ok(text) = error.to_string(alloc) else {
+        return 1;
+    };
+    if error.use_stderr() {
+        return put_refusal(faults, text.as_bytes());
+    }
+    put_help(sink, text.as_bytes())
+}
+
+/// Reads the words, the first of which names the program, and runs it by them. The answer is the exit status: 0 at `.quit`, at the end of the
+/// input and after help; 1 for a refused script, a stream that fails, and want of memory that ends the program; 2 for refused words.
+pub fn program<L: Links, S: Source, K: Sink, F: Sink>(
+    alloc: Global,
+    words: &[String],
+    links: &mut L,
+    meter: &mut Meter,
+    source: &mut S,
+    sink: &mut K,
+    faults: &mut F,
+) -> u8
+    ensures { Exits result (record { input = record { left = S.left source.old; failures = S.failures source.old }; output = record { held = K.held sink.old; faults = K.faults sink.old }; faults = record { held = F.held faults.old; faults = F.faults faults.old } }) (record { input = record { left = S.left source.new; failures = S.failures source.new }; output = record { held = K.held sink.new; faults = K.faults sink.new }; faults = record { held = F.held faults.new; faults = F.faults faults.new } }) }
+{
+    match read_options(alloc, words) {
+        Ok(options) => status(run_program(alloc, &options, links, meter, source, sink)),
+        Err(error) => tell(alloc, &error, sink, faults),
     }
 }

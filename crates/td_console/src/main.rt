@@ -1,27 +1,46 @@
-//! The workbench of Ketsarimo: two sites of one script, in memory.
+//! The workbench of Ketsarimo: sites of one script, in memory.
 #![tactic(auto)]
 
 mod command;
-mod input;
-mod laws;
-mod listing;
-mod output;
+mod opening;
 mod program;
-#[cfg(test)]
-mod tests;
-mod workbench;
+mod refusal;
+mod run;
+mod script;
+mod words;
+mod writing;
 
-use crate::program::run_program;
+use crate::command::program;
+use std::env;
 use std::io::BufReader;
 use std::process::ExitCode;
+use td_answers::NoLinks;
+use td_assign::Meter;
+use td_devices::Device;
 
 fn main(rt: HostRuntime) -> ExitCode {
-    let Ok(mut reader) = BufReader::new(rt.alloc(), rt.reader()) else {
+    let alloc = rt.alloc();
+    let Ok(words) = env::args(&rt) else {
         return ExitCode::FAILURE;
     };
-    let mut writer = rt.stdout();
-    match run_program(rt.alloc(), &mut reader, &mut writer) {
-        Ok(true) => ExitCode::SUCCESS,
-        _ => ExitCode::FAILURE,
-    }
+    let Ok(words) = words.collect::<Vec<String>>(alloc) else {
+        return ExitCode::FAILURE;
+    };
+    let Ok(reader) = BufReader::new(alloc, rt.reader()) else {
+        return ExitCode::FAILURE;
+    };
+    let mut source = Device::new(reader);
+    let mut sink = Device::new(rt.stdout());
+    let mut faults = Device::new(rt.stderr());
+    let mut meter = Meter::new(&rt);
+    let status = program(
+        alloc,
+        &words,
+        &mut NoLinks,
+        &mut meter,
+        &mut source,
+        &mut sink,
+        &mut faults,
+    );
+    ExitCode::from(status)
 }

@@ -1,5 +1,0 @@
-use Rattle.std.proofs.Common.{append_assoc}
-use Rattle.td_console.proofs.listing.show_broken.Goals as goal
-
-pub returns : goal.returns
-returns c = rw (c.in_ok-push_str-3.ensures.bytes, c.in_ok-push_str-2.ensures.bytes, c.in_ok-push_str.ensures.bytes, c.as_str.ensures.text) (simp append_assoc)

@@ -1,0 +1,21 @@
+use Rattle.std.proofs.Common.{◌≡◌, inl, inr, ℕ, List, [], ◌∷◌, ◌++◌, ap, sym, ◌∙◌, subst, arith}
+use Rattle.td_replay.specs.Seen.{Seen}
+use Rattle.td_console.specs.Scripts.{new_sites}
+use Rattle.td_console.proofs.Starting.{new_sites_more}
+use Rattle.td_console.proofs.opening.open_sites.Goals as goal
+
+pub returns : goal.returns
+returns c =
+    let all : c.loop-at.at ≡ c.args.options.now.sites = omega (arith, c.loop-at-test.false, c.loop-at.auto.at-end) in
+    elim c.loop-at.invariant.1 [
+      | inl none ↦ absurd (omega (arith, none, all, c.requires.some_sites))
+      | inr opens ↦ (opens.0, opens.1, c.loop-at.invariant.0 ∙ ap (λ (n : ℕ). new_sites c.args.script.now c.args.options.now.limit c.args.options.now.first n) all)
+    ]
+
+pub loop-at-preserved : goal.loop-at-preserved
+loop-at-preserved c = (
+  c.in-Ok-push.ensures.items ∙ ap (λ (ss : List Seen). ss ++ c.in-Ok.site ∷ []) c.loop-at.invariant.0
+  ∙ ap (λ (s : Seen). new_sites c.args.script.now c.args.options.now.limit c.args.options.now.first c.loop-at.at ++ s ∷ []) c.in-Ok.ensures.3
+  ∙ new_sites_more c.args.script.now c.args.options.now.limit c.args.options.now.first c.loop-at.at,
+  inr (c.in-Ok.ensures.1, c.in-Ok.ensures.2),
+)

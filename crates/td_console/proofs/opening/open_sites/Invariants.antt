@@ -1,0 +1,10 @@
+use Rattle.std.proofs.Common.{◌≡◌, ◌⊎◌, Ok}
+use Rattle.td_relvars.specs.Databases.{DatabaseData}
+use Rattle.td_relvars.specs.Scripts.{Opens}
+use Rattle.td_console.specs.Scripts.{new_sites}
+use Rattle.td_console.proofs.opening.open_sites.Given as goal
+
+-- the first of the sites were opened, so the script opens where there is one
+abbrev pub invariant-loop-at : goal.invariant-loop-at
+invariant-loop-at l =
+    (l.sites.items ≡ new_sites l.script l.options.limit l.options.first l.at) × ((l.at ≡ 0) ⊎ ((d : DatabaseData) × Opens l.script (Ok d)))

@@ -1,0 +1,3 @@
+pub mod Serving
+pub mod Reading
+pub mod Opening

@@ -1,0 +1,59 @@
+-- What is told of a script that is refused, and what running the lines behind an accepted one comes to.
+use Rattle.std.specs.Prelude.{◌≡◌, ◌⊎◌, ℕ, ◌++◌, Bool, true, false, List, option_map, Result, Ok, Err, String, string_bytes}
+use Rattle.std.specs.Global.{Global}
+use Rattle.std.specs.declared.alloc.AllocError.{AllocError}
+use Rattle.td_devices.specs.Lines.{raw_lines}
+use Rattle.td_listings.specs.Writings.{Written, WritesWhole, WritesFront}
+use Rattle.td_relvars.specs.declared.error.OpenError.{OpenError}
+use Rattle.td_relvars.specs.declared.error.OpenError.TheVariants.{Syntax, IllTyped, OpeningRaised, OpeningBroken, OutOfMemory}
+use Rattle.td_headings.specs.Catalogues.{CatalogueData}
+use Rattle.td_relvars.specs.Databases.{DatabaseData}
+use Rattle.td_relvars.specs.Scripts.{Opens}
+use Rattle.td_answers.specs.Sites.{Sites}
+use Rattle.td_console.specs.Streams.{Input, most_reads}
+use Rattle.td_console.specs.Programs.{ProgramEnds}
+use Rattle.td_console.specs.ForProofs.Reading.{HasScript}
+use Rattle.td_console.specs.declared.script.Script.{Script}
+use Rattle.td_console.specs.ForProofs.Serving.{Serves}
+use Rattle.td_console.specs.declared.opening.Options.{Options}
+use Rattle.td_console.specs.Scripts.{new_sites, script_fault}
+use Rattle.td_console.specs.declared.run.Ended.{Ended}
+use Rattle.td_console.specs.declared.run.Ended.TheVariants as ended
+
+-- what may be told of a refusal: it, or that there is no memory for its text
+abbrev pub MayTell : OpenError → OpenError → Type 0
+MayTell (OpeningRaised e) told = (told ≡ OpeningRaised e) ⊎ (told ≡ OutOfMemory)
+MayTell (OpeningBroken b) told = (told ≡ OpeningBroken b) ⊎ (told ≡ OutOfMemory)
+MayTell Syntax told = told ≡ Syntax
+MayTell IllTyped told = told ≡ IllTyped
+MayTell OutOfMemory told = told ≡ OutOfMemory
+
+-- a fault was told, or a front of it
+abbrev pub PutsFault : List ℕ → Result Bool Ended → Written → Written → Type 0
+PutsFault text (Ok true) w after = ⊥
+PutsFault text (Ok false) w after = WritesWhole text w after
+PutsFault text (Err ended.WriteFault) w after = WritesFront text w after
+PutsFault text (Err ended.ReadFault) w after = ⊥
+PutsFault text (Err ended.OutOfMemory) w after = ⊥
+
+abbrev pub TellsRefusal : OpenError → Result Bool Ended → Written → Written → Type 0
+TellsRefusal e r w after = (told : OpenError) × MayTell e told × PutsFault (script_fault told) r w after
+
+-- the script opens, and these are its sites
+abbrev pub OpensAll : Options → List ℕ → Sites → Type 0
+OpensAll options script sites = (d : DatabaseData) × Opens script (Ok d) × (sites ≡ new_sites script options.limit options.first options.sites)
+
+-- the lines behind the script, which are none where its `.begin` ended the input
+abbrev pub BehindEnds : Bool → CatalogueData → Sites → ℕ → Input → Written → Result (Unit {0}) Ended → Input → Written → Type 0
+BehindEnds true c old reads from w r left after = (r ≡ Ok tt) × (left ≡ from) × (after ≡ w)
+BehindEnds false c old reads from w r left after = (new : Sites) × Serves c old reads from w r new left after
+
+-- a text that was made, or that there was no memory for it
+abbrev pub TellsMade : Result (String Global) AllocError → Result Bool Ended → Written → Written → Type 0
+TellsMade (Ok text) r w after = PutsFault (string_bytes text) r w after
+TellsMade (Err e) r w after = PutsFault (script_fault OutOfMemory) r w after
+
+-- what the program ends in, whatever was read before: bytes that say the script, which was kept, by all reads but so many
+abbrev pub StartEnds : Options → Script → ℕ → Input → Written → Result Bool Ended → Input → Written → Type 0
+StartEnds options script reads mid w r left after =
+    (from : Input) → HasScript most_reads reads from mid (option_map (λ v. v.items) script.bytes) script.is_last → ProgramEnds options from w r left after
