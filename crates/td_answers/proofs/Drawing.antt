@@ -37,12 +37,14 @@ get_other (y ∷ ss) (suc a) (suc b) x two = get_other ss a b x (λ e. two (ap s
 
 pub has_for : (s t : Seen) (h k : Holding) (v : VersionVector) (batch : List Entry) → (s.live ≡ true) × (h ≡ holding s) → (t.live ≡ true) × (k ≡ holding t)
     → IsVector h.entries v → batch ≡ after_vector v k.entries → HasFor s t (Ok batch)
-has_for s t h k v batch one other counts rest =
-    ((one.0, other.0), record {
-      vector = v;
-      first = subst (λ es. IsVector es v) (ap (λ (x : Holding). x.entries) one.1) counts;
-      rest = rest ∙ ap (λ (x : Holding). after_vector v x.entries) other.1
-    })
+has_for s t h k v batch one other counts rest = (
+  (one.0, other.0),
+  record {
+    vector = v;
+    first = subst (λ es. IsVector es v) (ap (λ (x : Holding). x.entries) one.1) counts;
+    rest = rest ∙ ap (λ (x : Holding). after_vector v x.entries) other.1;
+  },
+)
 
 pub draws : (s t : Seen) (batch : List Entry) (r : Result Taken TakeError) (after : Seen) → AreOpen s t → IsBatch s t batch → Takes s batch r after → Draws s t r after
 draws s t batch (Ok taken) after both lacks takes = record { both = both; batch = batch; lacks = lacks; takes = takes }

@@ -35,7 +35,7 @@ pub reached : {R : Type 0} (seen : R → Seen) (n : ℕ) (rs : List R) (at : ℕ
 reached seen n rs at x within is number reaches =
     let left = first_left seen rs at x within is in
     let there : option_map (λ (k : ℕ). at + k) (option_map place_in (site_of n (map seen (x ∷ drop (at + 1) rs)))) ≡ Some at =
-        rw (same_numbers (seen x).site n number) (ap Some (add-zero at)) in
+    rw (same_numbers (seen x).site n number) (ap Some (add-zero at)) in
     sym (reaches ∙ ap (λ l. option_map (λ (k : ℕ). at + k) (option_map place_in (site_of n (map seen l)))) left ∙ there)
 
 one_further : (at : ℕ) (o : Option Placed) → option_map (λ (k : ℕ). at + k) (option_map place_in (option_map one_on o)) ≡ option_map (λ (k : ℕ). (at + 1) + k) (option_map place_in o)
@@ -46,7 +46,7 @@ pub reaches_on : {R : Type 0} (seen : R → Seen) (n : ℕ) (rs : List R) (at : 
 reaches_on seen n rs at x within is other reaches =
     let left = first_left seen rs at x within is in
     let there : option_map (λ (k : ℕ). at + k) (option_map place_in (site_of n (map seen (x ∷ drop (at + 1) rs)))) ≡ option_map (λ (k : ℕ). (at + 1) + k) (option_map place_in (site_of n (map seen (drop (at + 1) rs)))) =
-        rw (ne_eqb (seen x).site n other) (one_further at (site_of n (map seen (drop (at + 1) rs)))) in
+    rw (ne_eqb (seen x).site n other) (one_further at (site_of n (map seen (drop (at + 1) rs)))) in
     reaches ∙ ap (λ l. option_map (λ (k : ℕ). at + k) (option_map place_in (site_of n (map seen l)))) left ∙ there
 
 -- ---- the site at a place

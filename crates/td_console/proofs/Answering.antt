@@ -1,5 +1,5 @@
 -- One line, answered or not read.
-use Rattle.std.proofs.Common.{◌≡◌, ◌⊎◌, ◌≤◌, inl, inr, ℕ, ◌+◌, ◌-◌, ◌==◌, Bool, true, false, ◌&&◌, List, [], ◌∷◌, ◌++◌, length, Option, Result, Ok, Err, refl, sym, ap, ◌∙◌, subst, arith, MatchBool}
+use Rattle.std.proofs.Common.{◌≡◌, ◌≤◌, inl, inr, ℕ, ◌+◌, ◌-◌, ◌==◌, Bool, true, false, ◌&&◌, List, [], ◌∷◌, length, Option, Ok, Err, refl, sym, ◌∙◌, subst, arith, MatchBool}
 use Rattle.std.specs.Io.KnownBytes.{Consumes, IsAtEnd}
 use Rattle.std.proofs.KnownBytes.{Consumes-nil}
 use Rattle.std.proofs.lemmas.Bool.{false≢true}
@@ -8,17 +8,16 @@ use Rattle.td_devices.specs.Lines.{raw_lines, is_one_line, IsWholeLine, TellsLin
 use Rattle.td_devices.specs.declared.lines.LineError.{LineError}
 use Rattle.td_devices.specs.declared.lines.LineError.TheVariants as line_error
 use Rattle.td_devices.specs.declared.streams.Failed.{Failed}
-use Rattle.td_lines.specs.Lines.{Line, quit, is_quit, line_of}
+use Rattle.td_lines.specs.Lines.{Line, is_quit}
 use Rattle.td_listings.specs.Writings.{Written, WritesWhole}
 use Rattle.td_answers.specs.Sites.{Sites}
 use Rattle.td_answers.specs.Answers.{Answered}
 use Rattle.td_console.specs.Streams.{Input, Reads}
-use Rattle.td_console.specs.Runs.{said, GoesOn, IsReadOut, Quits, RunsOut}
+use Rattle.td_console.specs.Runs.{said, GoesOn, Quits, RunsOut}
 use Rattle.td_console.specs.ForProofs.Serving.{LineEnds, ReadEnds, Serves, ended_by}
-use Rattle.td_console.specs.declared.run.Ended.{Ended}
-use Rattle.td_console.specs.declared.run.Ended.TheVariants.{OutOfMemory, ReadFault, WriteFault}
+use Rattle.td_console.specs.declared.run.Ended.TheVariants.{ReadFault, WriteFault}
 use Rattle.td_console.proofs.Lines.{one_line, no_bytes}
-use Rattle.td_console.proofs.Serving.{writes_nothing, reads_nothing, printed_one, served_none}
+use Rattle.td_console.proofs.Serving.{writes_nothing, printed_one, served_none}
 
 -- what was read of a line
 abbrev pub IsRead : Bool → List ℕ → Option (List ℕ) → Type 0

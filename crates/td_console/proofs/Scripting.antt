@@ -1,5 +1,5 @@
 -- Lines up to the first `.begin`.
-use Rattle.std.proofs.Common.{◌≡◌, ◌≤◌, inl, inr, ℕ, ◌+◌, ◌-◌, ◌==◌, Bool, true, false, List, [], ◌∷◌, ◌++◌, length, cond, Option, None, Some, option_map, Result, Ok, Err, refl, sym, ap, ◌∙◌, subst, append_assoc, append-nil, arith, length-append, MatchBool}
+use Rattle.std.proofs.Common.{◌≡◌, ◌≤◌, inl, inr, ℕ, ◌+◌, ◌-◌, Bool, true, false, List, [], ◌∷◌, ◌++◌, length, cond, Option, None, Some, option_map, Err, refl, sym, ap, ◌∙◌, subst, append_assoc, append-nil, arith, length-append, MatchBool}
 use Rattle.std.specs.List.{AllByRecursion}
 use Rattle.std.specs.Io.KnownBytes.{Consumes, IsAtEnd}
 use Rattle.std.proofs.KnownBytes.{Consumes-nil}
@@ -7,14 +7,12 @@ use Rattle.std.proofs.lemmas.Bool.{false≢true, true≢false}
 use Rattle.td_devices.specs.Lines.{raw_lines, is_one_line, IsWholeLine, TellsLine, byteless_reads, HasCause}
 use Rattle.td_devices.specs.declared.lines.LineError.{LineError}
 use Rattle.td_devices.specs.declared.lines.LineError.TheVariants as line_error
-use Rattle.td_devices.specs.declared.lines.RawLine.{RawLine}
-use Rattle.td_console.specs.Runs.{IsCut}
 use Rattle.td_console.specs.Scripts.{is_begin, script_then, Says, IsOfScript, IsUnfinished}
-use Rattle.td_console.specs.Streams.{Input, Reads, ReadsNoMore}
+use Rattle.td_console.specs.Streams.{Input, Reads}
 use Rattle.td_console.specs.ForProofs.Reading.{IsKeptScript, HasScript, ScriptRead, unready_by}
 use Rattle.td_console.specs.declared.script.Unready.TheVariants as unready
 use Rattle.td_console.proofs.Lines.{joined, joined_none, joined_last, raw_whole, raw_some, all_append}
-use Rattle.td_console.proofs.Serving.{reads_nothing, reads_trans, no_more_trans, no_more_spare}
+use Rattle.td_console.proofs.Serving.{reads_nothing, reads_trans, no_more_trans}
 use Rattle.td_devices.proofs.LineEnds.{raw_first}
 
 skips : (l : List ℕ) (ls : List (List ℕ)) → is_begin l ≡ false → script_then (l ∷ ls) ≡ option_map (λ (p : List ℕ × List (List ℕ)). (l ++ p.0, p.1)) (script_then ls)

@@ -1,13 +1,10 @@
 -- A run over lines, and what was served before it.
-use Rattle.std.proofs.Common.{◌≡◌, ◌⊎◌, ◌≤◌, inl, inr, ℕ, ◌+◌, ◌-◌, List, [], ◌∷◌, ◌++◌, length, Option, Result, Ok, Err, refl, sym, ap, ◌∙◌, subst, append_assoc, append-nil, arith, length-append}
-use Rattle.std.specs.List.{AllByRecursion}
-use Rattle.std.specs.Io.KnownBytes.{Appends, Consumes}
+use Rattle.std.proofs.Common.{◌≡◌, ◌≤◌, inl, inr, ℕ, ◌+◌, ◌-◌, List, [], ◌∷◌, ◌++◌, length, Option, Result, Ok, Err, refl, sym, ap, ◌∙◌, subst, append_assoc, append-nil, arith, length-append}
 use Rattle.std.proofs.KnownBytes.{Appends-nil, Appends-trans, Consumes-nil, Consumes-trans}
 use Rattle.td_headings.specs.Catalogues.{CatalogueData}
 use Rattle.td_devices.specs.Counted.{counted}
 use Rattle.td_devices.specs.Lines.{raw_lines, IsWholeLine}
-use Rattle.td_lines.specs.Lines.{Line}
-use Rattle.td_listings.specs.Writings.{Written, WritesWhole, WritesFront}
+use Rattle.td_listings.specs.Writings.{Written, WritesWhole}
 use Rattle.td_answers.specs.Sites.{Sites}
 use Rattle.td_answers.specs.Answers.{Answered}
 use Rattle.td_console.specs.Streams.{Input, Reads, ReadsNoMore}
@@ -170,7 +167,7 @@ serves_behind c old reads now from at left w half after mid new r d s =
     record {
       bytes = joined d.lines ++ more;
       ends = ends_spare c old (raw_lines (joined d.lines ++ more)) (now - length more) (reads - length (joined d.lines ++ more)) (joined d.lines ++ more) from left w after r new
-      (λ none. omega (arith, length-append (joined d.lines) more, d.spent, none))
-      (subst (λ (ks : List (List ℕ)). Ends c old ks (now - length more) (joined d.lines ++ more) from w r new left after) (sym (raw_whole d.lines more d.served.whole))
-      (ends_behind c old d.lines d.text mid d.served (raw_lines more) (now - length more) (joined d.lines) more from at left w half after r new d.read d.wrote s.ends));
+          (λ none. omega (arith, length-append (joined d.lines) more, d.spent, none))
+          (subst (λ (ks : List (List ℕ)). Ends c old ks (now - length more) (joined d.lines ++ more) from w r new left after) (sym (raw_whole d.lines more d.served.whole))
+          (ends_behind c old d.lines d.text mid d.served (raw_lines more) (now - length more) (joined d.lines) more from at left w half after r new d.read d.wrote s.ends));
     }

@@ -1,5 +1,5 @@
 -- The sites of a script, and the program behind it.
-use Rattle.std.proofs.Common.{◌≡◌, ◌⊎◌, ◌≤◌, inl, inr, ℕ, zero, suc, ◌+◌, ◌-◌, Bool, true, false, List, [], ◌∷◌, ◌++◌, length, Option, None, Some, option_map, Result, Ok, Err, refl, sym, ap, ◌∙◌, subst, append-nil, arith, length-append, map, IfOk, MatchResult, String, string_bytes}
+use Rattle.std.proofs.Common.{◌≡◌, ◌⊎◌, ◌≤◌, inl, inr, ℕ, zero, suc, ◌+◌, ◌-◌, Bool, true, false, List, [], ◌∷◌, ◌++◌, length, Option, Result, Ok, Err, refl, sym, ap, ◌∙◌, subst, append-nil, arith, length-append, map, IfOk, MatchResult, String, string_bytes}
 use Rattle.std.proofs.lemmas.Bool.{false≢true, true≢false, false_from_ne_true}
 use Rattle.std.proofs.lemmas.Str.{IsUtf8-from_is_utf8, is_utf8-from_IsUtf8}
 use Rattle.std.specs.List.{AllByRecursion}
@@ -16,8 +16,8 @@ use Rattle.td_replay.specs.Openings.{opened}
 use Rattle.td_answers.specs.Sites.{Sites, AreOfScript}
 use Rattle.td_console.specs.Streams.{Input, Reads, reads_left, most_reads}
 use Rattle.td_console.specs.Runs.{Ends, RunsOut}
-use Rattle.td_console.specs.Scripts.{IsAccepted, IsRefused, Says, TellsFault, TellsReady, new_sites, ready, script_fault}
-use Rattle.td_console.specs.Programs.{Answers, ProgramEnds, Stops}
+use Rattle.td_console.specs.Scripts.{IsAccepted, IsRefused, Says, TellsFault, new_sites, ready, script_fault}
+use Rattle.td_console.specs.Programs.{Answers, ProgramEnds}
 use Rattle.td_console.specs.ForProofs.Opening.{BehindEnds, OpensAll, MayTell, PutsFault, TellsMade, TellsRefusal}
 use Rattle.td_console.specs.ForProofs.Reading.{HasScript}
 use Rattle.td_console.specs.ForProofs.Serving.{Serves}
@@ -139,6 +139,6 @@ answers_behind options now from mid left kept false w told after c old r has acc
       ready_told = wrote;
       new = new;
       ends = ends_spare c old (raw_lines more) (now - length more) (reads_left (has.bytes ++ more)) (has.bytes ++ more) from left told after r new
-      (λ none. omega (arith, length-append has.bytes more, has.spent refl, none))
-      (ends_behind c old [] [] old (served_none c old) (raw_lines more) (now - length more) has.bytes more from mid left told told after r new has.read (writes_nothing told) serves.ends);
+          (λ none. omega (arith, length-append has.bytes more, has.spent refl, none))
+          (ends_behind c old [] [] old (served_none c old) (raw_lines more) (now - length more) has.bytes more from mid left told told after r new has.read (writes_nothing told) serves.ends);
     }

@@ -7,6 +7,8 @@ mod program;
 mod refusal;
 mod run;
 mod script;
+#[cfg(test)]
+mod tests;
 mod words;
 mod writing;
 

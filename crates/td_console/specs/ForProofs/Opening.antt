@@ -1,8 +1,7 @@
 -- What is told of a script that is refused, and what running the lines behind an accepted one comes to.
-use Rattle.std.specs.Prelude.{◌≡◌, ◌⊎◌, ℕ, ◌++◌, Bool, true, false, List, option_map, Result, Ok, Err, String, string_bytes}
+use Rattle.std.specs.Prelude.{◌≡◌, ◌⊎◌, ℕ, Bool, true, false, List, option_map, Result, Ok, Err, String, string_bytes}
 use Rattle.std.specs.Global.{Global}
 use Rattle.std.specs.declared.alloc.AllocError.{AllocError}
-use Rattle.td_devices.specs.Lines.{raw_lines}
 use Rattle.td_listings.specs.Writings.{Written, WritesWhole, WritesFront}
 use Rattle.td_relvars.specs.declared.error.OpenError.{OpenError}
 use Rattle.td_relvars.specs.declared.error.OpenError.TheVariants.{Syntax, IllTyped, OpeningRaised, OpeningBroken, OutOfMemory}

@@ -64,11 +64,23 @@ fn faulty_lines(rt: HostRuntime) -> Result<(), Fail> {
 fn faulty_scripts(rt: HostRuntime) {
     for (script, want) in [
         ("", "fault script end\n"),
-        ("VAR R BASE RELATION { A INTEGER } KEY { };\n", "fault script end\n"),
-        ("VAR R BASE RELATION { A INTEGER };\n.begin\n", "fault script syntax\n"),
-        ("VAR R BASE RELATION { A REAL } KEY { };\n.begin\n", "fault script syntax\n"),
+        (
+            "VAR R BASE RELATION { A INTEGER } KEY { };\n",
+            "fault script end\n",
+        ),
+        (
+            "VAR R BASE RELATION { A INTEGER };\n.begin\n",
+            "fault script syntax\n",
+        ),
+        (
+            "VAR R BASE RELATION { A REAL } KEY { };\n.begin\n",
+            "fault script syntax\n",
+        ),
         ("/*\n.begin\n*/\n.begin\n", "fault script syntax\n"),
-        ("VAR R BASE RELATION { A CHAR } KEY { B };\n.begin\n", "fault script type\n"),
+        (
+            "VAR R BASE RELATION { A CHAR } KEY { B };\n.begin\n",
+            "fault script type\n",
+        ),
         (
             "VAR R BASE RELATION { } KEY { };\nVAR R BASE RELATION { } KEY { };\n.begin\n",
             "fault script type\n",
@@ -81,8 +93,14 @@ fn faulty_scripts(rt: HostRuntime) {
             "VAR R BASE INIT ( EXTEND TABLE_DEE ADD ( 1 / 0 AS A ) ) KEY { };\n.begin\n",
             "fault script raised divide\n",
         ),
-        ("CONSTRAINT C FALSE;\n.begin\n", "fault script broken constraint C\n"),
-        ("CONSTRAINT C 1 / 0 = 1;\n.begin\n", "fault script broken constraint C\n"),
+        (
+            "CONSTRAINT C FALSE;\n.begin\n",
+            "fault script broken constraint C\n",
+        ),
+        (
+            "CONSTRAINT C 1 / 0 = 1;\n.begin\n",
+            "fault script broken constraint C\n",
+        ),
     ] {
         let found = run(&rt, script.as_bytes());
         assert!(rt; found.is(false, want), "{script}: {}", found.text());

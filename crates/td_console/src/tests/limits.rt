@@ -26,21 +26,30 @@ fn longest_lines_and_texts(rt: HostRuntime) -> Result<(), Fail> {
     Ok(())
 }
 
-// Whether a script of this many bytes, without or with `.begin`, is accepted and answered so.
-fn is_answered(rt: &HostRuntime, bytes: usize, rest: &str, accepted: bool, want: &str) -> Result<bool, AllocError> {
-    let spaces = " ".repeat(rt.alloc(), bytes - 1)?;
+// Whether a script of this many spaces and a line end, without or with `.begin`, is accepted and answered so.
+fn is_answered(
+    rt: &HostRuntime,
+    spaces: usize,
+    rest: &str,
+    accepted: bool,
+    want: &str,
+) -> Result<bool, AllocError> {
+    let spaces = " ".repeat(rt.alloc(), spaces)?;
     let input = format!(in rt.alloc(); "{spaces}\n{rest}")?;
     Ok(run(rt, input.as_bytes()).is(accepted, want))
 }
 
 #[test]
 fn longest_scripts(rt: HostRuntime) -> Result<(), Fail> {
-    for (bytes, rest, accepted, want) in [
-        (65_536, ".begin\n", true, "ready 2\n"),
-        (65_537, ".begin\n", false, "fault script syntax\n"),
-        (65_537, "", false, "fault script end\n"),
+    for (spaces, rest, accepted, want) in [
+        (65_535, ".begin\n", true, "ready 2\n"),
+        (65_536, ".begin\n", false, "fault script syntax\n"),
+        (65_536, "", false, "fault script end\n"),
     ] {
-        assert!(rt; is_answered(&rt, bytes, rest, accepted, want)?, "{bytes}{rest}");
+        assert!(rt;
+            is_answered(&rt, spaces, rest, accepted, want)?,
+            "{spaces}{rest}"
+        );
     }
     Ok(())
 }

@@ -9,12 +9,14 @@ use td_assign::Meter;
 use td_devices::Device;
 
 /// A relvar of suppliers.
-pub const SUPPLIERS: &str = "VAR S BASE RELATION { SNO CHAR, STATUS INTEGER, CITY CHAR } KEY { SNO };
+pub const SUPPLIERS: &str =
+    "VAR S BASE RELATION { SNO CHAR, STATUS INTEGER, CITY CHAR } KEY { SNO };
 .begin
 ";
 
 /// Suppliers, shipments, a virtual relvar, and constraints over them.
-pub const SHIPMENTS: &str = "VAR S BASE RELATION { SNO CHAR, STATUS INTEGER, CITY CHAR } KEY { SNO };
+pub const SHIPMENTS: &str =
+    "VAR S BASE RELATION { SNO CHAR, STATUS INTEGER, CITY CHAR } KEY { SNO };
 VAR SP BASE RELATION { SNO CHAR, PNO CHAR, QTY INTEGER } KEY { SNO, PNO };
 VAR LS VIRTUAL ( S WHERE CITY = 'London' );
 CONSTRAINT C1 IS_EMPTY ( SP NOT MATCHING S );
@@ -25,7 +27,8 @@ CONSTRAINT C3 IS_EMPTY ( MOST WHERE N < COUNT ( LS ) );
 ";
 
 /// Two sites insert apart and meet.
-pub const TWO_SITES_MEET: &str = "VAR S BASE RELATION { SNO CHAR, STATUS INTEGER, CITY CHAR } KEY { SNO };
+pub const TWO_SITES_MEET: &str =
+    "VAR S BASE RELATION { SNO CHAR, STATUS INTEGER, CITY CHAR } KEY { SNO };
 .begin
 1: INSERT S RELATION { TUPLE { SNO 'S1', STATUS 20, CITY 'London' } };
 2: INSERT S RELATION { TUPLE { SNO 'S2', STATUS 10, CITY 'Paris' } };
@@ -85,7 +88,14 @@ pub fn run(rt: &HostRuntime, input: &[u8]) -> Ran {
     let mut output = Vec::new(rt.alloc());
     let mut source = Device::new(input);
     let mut sink = Device::new(&mut output);
-    let end = run_program(rt.alloc(), &TWO, &mut NoLinks, &mut meter, &mut source, &mut sink);
+    let end = run_program(
+        rt.alloc(),
+        &TWO,
+        &mut NoLinks,
+        &mut meter,
+        &mut source,
+        &mut sink,
+    );
     Ran { end, output }
 }
 

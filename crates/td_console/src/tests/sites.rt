@@ -1,20 +1,22 @@
 //! The workbench over sites that are handed to it.
 
+ghost use Rattle.std.specs.Prelude.{◌≡◌, IfOk};
+
 use crate::run::workbench;
 use std::alloc::{AllocError, Global};
 use std::test::Fail;
 use td_answers::NoLinks;
 use td_assign::Meter;
 use td_devices::Device;
-use td_replay::{PlainSite, Replica};
-use td_stamps::Entry;
-use td_values::Text;
+use td_replay::PlainSite;
 
 const SCRIPT: &str = "VAR S BASE RELATION { SNO CHAR, STATUS INTEGER, CITY CHAR } KEY { SNO };";
 
 // The script opens, so nothing but memory can be wanting.
-fn site(alloc: Global, number: u16, limit: usize) -> Result<PlainSite, AllocError> {
-    match PlainSite::open_script(alloc, SCRIPT, number, limit) {
+fn site(alloc: Global, script: &str, number: u16, limit: usize) -> Result<PlainSite, AllocError>
+    ensures { IfOk result (λ s. s.script ≡ script.now) }
+{
+    match PlainSite::open_script(alloc, script, number, limit) {
         Ok(site) => Ok(site),
         Err(_) => Err(AllocError),
     }
@@ -24,11 +26,18 @@ fn site(alloc: Global, number: u16, limit: usize) -> Result<PlainSite, AllocErro
 fn answers(rt: &HostRuntime, lines: &str) -> Result<Vec<u8>, Fail> {
     let alloc = rt.alloc();
     let mut meter = Meter::new(rt);
-    let mut sites = [site(alloc, 7, 2)?, site(alloc, 9, 1)?];
+    let mut sites = [site(alloc, SCRIPT, 7, 2)?, site(alloc, SCRIPT, 9, 1)?];
     let mut source = Device::new(lines.as_bytes());
     let mut output = Vec::new(alloc);
     let mut sink = Device::new(&mut output);
-    workbench(alloc, &mut sites, &mut NoLinks, &mut meter, &mut source, &mut sink)?;
+    workbench(
+        alloc,
+        &mut sites,
+        &mut NoLinks,
+        &mut meter,
+        &mut source,
+        &mut sink,
+    )?;
     Ok(output)
 }
 
@@ -67,45 +76,14 @@ fn no_sites_at_all(rt: HostRuntime) -> Result<(), Fail> {
     let mut source = Device::new(&b".listing 1\n\n1? 1\n.quit\n"[..]);
     let mut output = Vec::new(rt.alloc());
     let mut sink = Device::new(&mut output);
-    workbench(rt.alloc(), &mut sites, &mut NoLinks, &mut meter, &mut source, &mut sink)?;
+    workbench(
+        rt.alloc(),
+        &mut sites,
+        &mut NoLinks,
+        &mut meter,
+        &mut source,
+        &mut sink,
+    )?;
     assert!(rt; output.as_slice() == b"fault site\nfault site\n".as_slice());
-    Ok(())
-}
-
-fn entry(alloc: Global, site: u16, seq: u32, clock: u64, text: &str) -> Result<Entry, Fail> {
-    let text = Text::from_str(alloc, text)?;
-    Ok(Entry { site, seq, clock, text })
-}
-
-// What sites 1 and 2 answer to these lines after each has taken an entry.
-fn after_taking(rt: &HostRuntime, first: Entry, second: Entry, lines: &str) -> Result<Vec<u8>, Fail> {
-    let alloc = rt.alloc();
-    let mut meter = Meter::new(rt);
-    let mut one = site(alloc, 1, 10)?;
-    one.take(alloc, &[first], &mut meter)?;
-    let mut two = site(alloc, 2, 10)?;
-    two.take(alloc, &[second], &mut meter)?;
-    let mut sites = [one, two];
-    let mut source = Device::new(lines.as_bytes());
-    let mut output = Vec::new(alloc);
-    let mut sink = Device::new(&mut output);
-    workbench(alloc, &mut sites, &mut NoLinks, &mut meter, &mut source, &mut sink)?;
-    Ok(output)
-}
-
-#[test]
-fn entries_of_other_sites(rt: HostRuntime) -> Result<(), Fail> {
-    let late = entry(rt.alloc(), 3, 1, 1_000_000_000_000_000_000, "DELETE S;")?;
-    let unread = entry(rt.alloc(), 3, 1, 1, "INSERT Q X;")?;
-    let lines = "1: DELETE S;\n.meet 2 1\n.meet 1 2\n.log 2\n.vector 2\n2: DELETE S;\n";
-    let want = "fault clock
-met 2 1 fresh 0 0
-met 1 2 fresh 0 0
-1.3 1 refused unread: INSERT Q X;
-vector 3:1
-2.2 done
-";
-    let found = after_taking(&rt, late, unread, lines)?;
-    assert!(rt; found.as_slice() == want.as_bytes());
     Ok(())
 }

@@ -1,7 +1,7 @@
 //! Readers and writers that are interrupted or fail.
 
 use super::fakes::{Full, SlowReader, SlowWriter};
-use super::runs::{TWO, TWO_SITES_MEET, TWO_SITES_MET, Ran};
+use super::runs::{Ran, TWO, TWO_SITES_MEET, TWO_SITES_MET};
 use crate::program::run_program;
 use crate::run::Ended;
 use td_answers::NoLinks;
@@ -22,27 +22,44 @@ const ENDS: &[(usize, usize)] = &[
 
 // How many bytes are written once so many were read.
 fn answered(read: usize) -> usize {
-    ENDS.iter().filter(|it| it.0 <= read).map(|it| it.1).last().unwrap_or(0)
+    ENDS.iter()
+        .filter(|it| it.0 <= read)
+        .map(|it| it.1)
+        .last()
+        .unwrap_or(0)
+}
+
+// The first bytes of a text.
+fn front(text: &str, bytes: usize) -> &[u8] {
+    text.as_bytes().get(..bytes).unwrap_or(text.as_bytes())
 }
 
 // The run of the first bytes of two sites that meet, a byte a read, behind which the reader fails or ends.
 fn read_to(rt: &HostRuntime, bytes: usize, fails: bool) -> Ran {
     let mut meter = Meter::new(rt);
     let mut source = Device::new(SlowReader {
-        rest: &TWO_SITES_MEET.as_bytes()[..bytes],
+        rest: front(TWO_SITES_MEET, bytes),
         fails,
         is_interrupted: false,
     });
     let mut output = Vec::new(rt.alloc());
     let mut sink = Device::new(&mut output);
-    let end = run_program(rt.alloc(), &TWO, &mut NoLinks, &mut meter, &mut source, &mut sink);
+    let end = run_program(
+        rt.alloc(),
+        &TWO,
+        &mut NoLinks,
+        &mut meter,
+        &mut source,
+        &mut sink,
+    );
     Ran { end, output }
 }
 
 // Whether the run ended by a read fault, behind the answers to the lines that were read whole.
 fn is_cut(rt: &HostRuntime, bytes: usize) -> bool {
     let found = read_to(rt, bytes, true);
-    found.end == Err(Ended::ReadFault) && found.text() == &TWO_SITES_MET[..answered(bytes)]
+    found.end == Err(Ended::ReadFault)
+        && found.output.as_slice() == front(TWO_SITES_MET, answered(bytes))
 }
 
 #[test]
@@ -61,7 +78,14 @@ fn write_into(rt: &HostRuntime, writer: &mut SlowWriter) -> Result<bool, Ended> 
     let mut meter = Meter::new(rt);
     let mut source = Device::new(TWO_SITES_MEET.as_bytes());
     let mut sink = Device::new(writer);
-    run_program(rt.alloc(), &TWO, &mut NoLinks, &mut meter, &mut source, &mut sink)
+    run_program(
+        rt.alloc(),
+        &TWO,
+        &mut NoLinks,
+        &mut meter,
+        &mut source,
+        &mut sink,
+    )
 }
 
 // A writer with room for so many bytes, of which so many flushes are let through.
@@ -79,7 +103,7 @@ fn writer(rt: &HostRuntime, room: usize, then: Full, most_flushes: usize) -> Slo
 fn is_filled(rt: &HostRuntime, room: usize, then: Full) -> bool {
     let mut writer = writer(rt, room, then, 100);
     let end = write_into(rt, &mut writer);
-    end == Err(Ended::WriteFault) && writer.taken.as_slice() == &TWO_SITES_MET.as_bytes()[..room]
+    end == Err(Ended::WriteFault) && writer.taken.as_slice() == front(TWO_SITES_MET, room)
 }
 
 #[test]
@@ -101,6 +125,9 @@ fn flushed(rt: &HostRuntime, most: usize) -> (Result<bool, Ended>, usize, usize)
 fn each_answer_is_flushed(rt: HostRuntime) {
     assert!(rt; flushed(&rt, 100) == (Ok(true), 8, 314));
     for (most, end) in ENDS.iter().enumerate() {
-        assert!(rt; flushed(&rt, most) == (Err(Ended::WriteFault), most, end.1), "{most}");
+        assert!(rt;
+            flushed(&rt, most) == (Err(Ended::WriteFault), most, end.1),
+            "{most}"
+        );
     }
 }

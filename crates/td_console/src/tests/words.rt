@@ -38,7 +38,11 @@ fn called(rt: &HostRuntime, line: &str, input: &str) -> Result<Exit, AllocError>
         &mut Device::new(&mut output),
         &mut Device::new(&mut faults),
     );
-    Ok(Exit { status, output, faults })
+    Ok(Exit {
+        status,
+        output,
+        faults,
+    })
 }
 
 #[test]
@@ -48,8 +52,18 @@ fn words_that_are_understood(rt: HostRuntime) -> Result<(), Fail> {
         ("td_console", ".begin\n.quit\n", 0, "ready 2\n"),
         ("td_console", "VAR\n.begin\n", 1, "fault script syntax\n"),
         ("td_console", "", 1, "fault script end\n"),
-        ("td_console --sites 1", ".begin\n.listing 2\n", 0, "ready 1\nfault site\n"),
-        ("td_console --sites 16", ".begin\n.listing 16\n", 0, "ready 16\nheld 0\n"),
+        (
+            "td_console --sites 1",
+            ".begin\n.listing 2\n",
+            0,
+            "ready 1\nfault site\n",
+        ),
+        (
+            "td_console --sites 16",
+            ".begin\n.listing 16\n",
+            0,
+            "ready 16\nheld 0\n",
+        ),
         (
             "td_console --sites=16 --first 65520",
             ".begin\n.listing 65535\n.listing 65519\n",
@@ -65,7 +79,12 @@ fn words_that_are_understood(rt: HostRuntime) -> Result<(), Fail> {
         ("td_console --limit 100000", ".begin\n", 0, "ready 2\n"),
     ] {
         let found = called(&rt, line, input)?;
-        assert!(rt; found.status == status && found.output.as_slice() == want.as_bytes() && found.faults.is_empty(), "{line}");
+        assert!(rt;
+            found.status == status
+                && found.output.as_slice() == want.as_bytes()
+                && found.faults.is_empty(),
+            "{line}"
+        );
     }
     Ok(())
 }
@@ -86,7 +105,10 @@ fn words_that_are_not_understood(rt: HostRuntime) -> Result<(), Fail> {
         "td_console --sites 1 --sites 2",
     ] {
         let found = called(&rt, line, ".begin\n")?;
-        assert!(rt; found.status == 2 && found.output.is_empty() && !found.faults.is_empty(), "{line}");
+        assert!(rt;
+            found.status == 2 && found.output.is_empty() && !found.faults.is_empty(),
+            "{line}"
+        );
     }
     Ok(())
 }
@@ -100,7 +122,19 @@ fn tells(rt: &HostRuntime, line: &str, part: &str) -> Result<bool, AllocError> {
 
 #[test]
 fn help_and_version(rt: HostRuntime) -> Result<(), Fail> {
-    for part in ["--sites", "1 to 16", "--first", "1 to 65520", "--limit", "1 to 100000", ".begin", "N: TEXT", "N? TEXT", ".meet N M", ".csv N RELVAR"] {
+    for part in [
+        "--sites",
+        "1 to 16",
+        "--first",
+        "1 to 65520",
+        "--limit",
+        "1 to 100000",
+        ".begin",
+        "N: TEXT",
+        "N? TEXT",
+        ".meet N M",
+        ".csv N RELVAR",
+    ] {
         assert!(rt; tells(&rt, "td_console --help", part)?, "{part}");
     }
     assert!(rt; tells(&rt, "td_console --version", "td_console ")?);

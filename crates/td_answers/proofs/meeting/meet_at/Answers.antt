@@ -12,9 +12,9 @@ returns-then-not-are_open g c =
     let seen = g.R.Replica.seen in
     tells_meeting c.args.numbers (map seen c.args.sites.now) c.args.first c.args.second (Err take_error.Broken) _ (map seen c.args.sites.now)
     (meets_none (map seen c.args.sites.now) c.args.first c.args.second (seen c.index-sites-first.result) (seen c.index-sites-second.result) take_error.Broken c.requires.two
-      (seen_there seen c.args.sites.now c.args.first c.index-sites-first.result c.requires.first c.index-sites-first.is)
-      (seen_there seen c.args.sites.now c.args.second c.index-sites-second.result c.requires.second c.index-sites-second.is)
-      (c.if-not-are_open.ensures, refl))
+    (seen_there seen c.args.sites.now c.args.first c.index-sites-first.result c.requires.first c.index-sites-first.is)
+    (seen_there seen c.args.sites.now c.args.second c.index-sites-second.result c.requires.second c.index-sites-second.is)
+    (c.if-not-are_open.ensures, refl))
     refl
 
 pub returns-in_default : goal.returns-in_default
@@ -22,9 +22,9 @@ returns-in_default g c =
     let seen = g.R.Replica.seen in
     tells_meeting c.args.numbers (map seen c.args.sites.now) c.args.first c.args.second (Err take_error.OutOfMemory) _ (map seen c.args.sites.now)
     (meets_none (map seen c.args.sites.now) c.args.first c.args.second (seen c.index-sites-first.result) (seen c.index-sites-second.result) take_error.OutOfMemory c.requires.two
-      (seen_there seen c.args.sites.now c.args.first c.index-sites-first.result c.requires.first c.index-sites-first.is)
-      (seen_there seen c.args.sites.now c.args.second c.index-sites-second.result c.requires.second c.index-sites-second.is)
-      (c.if-not-are_open.ensures, (c.if-not-are_open.ensures.0, refl)))
+    (seen_there seen c.args.sites.now c.args.first c.index-sites-first.result c.requires.first c.index-sites-first.is)
+    (seen_there seen c.args.sites.now c.args.second c.index-sites-second.result c.requires.second c.index-sites-second.is)
+    (c.if-not-are_open.ensures, (c.if-not-are_open.ensures.0, refl)))
     refl
 
 pub returns-in-Ok : goal.returns-in-Ok

@@ -1,4 +1,4 @@
-use Rattle.std.proofs.Common.{◌≡◌, ℕ, List, Option, option_map, Vec, sym, ap, ◌∙◌, subst, inl}
+use Rattle.std.proofs.Common.{ℕ, Option, option_map, Vec, sym, ◌∙◌, subst, inl}
 use Rattle.std.specs.Global.{Global}
 use Rattle.std.specs.Str.{IsUtf8}
 use Rattle.td_console.specs.ForProofs.Reading.{IsKeptScript}

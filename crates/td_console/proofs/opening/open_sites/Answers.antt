@@ -1,4 +1,4 @@
-use Rattle.std.proofs.Common.{◌≡◌, inl, inr, ℕ, List, [], ◌∷◌, ◌++◌, ap, sym, ◌∙◌, subst, arith}
+use Rattle.std.proofs.Common.{◌≡◌, inl, inr, ℕ, List, [], ◌∷◌, ◌++◌, ap, ◌∙◌, arith}
 use Rattle.td_replay.specs.Seen.{Seen}
 use Rattle.td_console.specs.Scripts.{new_sites}
 use Rattle.td_console.proofs.Starting.{new_sites_more}
@@ -15,7 +15,7 @@ returns c =
 pub loop-at-preserved : goal.loop-at-preserved
 loop-at-preserved c = (
   c.in-Ok-push.ensures.items ∙ ap (λ (ss : List Seen). ss ++ c.in-Ok.site ∷ []) c.loop-at.invariant.0
-  ∙ ap (λ (s : Seen). new_sites c.args.script.now c.args.options.now.limit c.args.options.now.first c.loop-at.at ++ s ∷ []) c.in-Ok.ensures.3
-  ∙ new_sites_more c.args.script.now c.args.options.now.limit c.args.options.now.first c.loop-at.at,
+      ∙ ap (λ (s : Seen). new_sites c.args.script.now c.args.options.now.limit c.args.options.now.first c.loop-at.at ++ s ∷ []) c.in-Ok.ensures.3
+      ∙ new_sites_more c.args.script.now c.args.options.now.limit c.args.options.now.first c.loop-at.at,
   inr (c.in-Ok.ensures.1, c.in-Ok.ensures.2),
 )

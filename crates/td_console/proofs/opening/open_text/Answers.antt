@@ -1,6 +1,6 @@
-use Rattle.std.proofs.Common.{◌≡◌, ℕ, List, map, sym, ◌∙◌, subst}
+use Rattle.std.proofs.Common.{◌≡◌, sym, ◌∙◌, subst}
 use Rattle.std.specs.List.{AllByRecursion}
-use Rattle.td_answers.specs.Sites.{AreOfScript, Sites}
+use Rattle.td_answers.specs.Sites.{Sites}
 use Rattle.td_console.proofs.Starting.{one_script, seen_same}
 use Rattle.td_console.proofs.opening.open_text.Goals as goal
 

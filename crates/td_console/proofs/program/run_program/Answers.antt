@@ -1,4 +1,4 @@
-use Rattle.std.proofs.Common.{inl, inr, refl}
+use Rattle.std.proofs.Common.{inl, inr}
 use Rattle.td_console.proofs.Starting.{fault_told}
 use Rattle.td_console.proofs.program.run_program.Goals as goal
 

@@ -1,4 +1,4 @@
-use Rattle.std.proofs.Common.{refl, subst, ◌≡◌, ◌+◌, ◌-◌, ℕ, Bool, length, cond, arith}
+use Rattle.std.proofs.Common.{subst, ◌≡◌, ◌+◌, ◌-◌, Bool, length, cond, arith}
 use Rattle.td_console.proofs.Answering.{unread_serves, unbegun_serves, over_serves, failed_serves}
 use Rattle.td_console.proofs.Serving.{done_none, done_more, serves_behind, served_one}
 use Rattle.td_console.proofs.run.serve.Goals as goal
@@ -31,15 +31,19 @@ returns-in-Ok-true g c =
 pub loop-reads-preserved : goal.loop-reads-preserved
 loop-reads-preserved g c =
     let (raw, took, tells, count) = c.in-Ok.ensures.line in
-    let ends = rw c.in-Ok-false.field-0-test at c.in-Ok-false.ensures.ends raw _ tells in
-    (done_more _ _ _ c.loop-reads.reads c.read_line.new.reads _ _ _ _ _ _ _ _ raw ends.0 c.loop-reads.invariant.0 (took, c.in-Ok.ensures.cause)
-    (subst (λ (b : Bool). c.loop-reads.reads - c.read_line.new.reads ≡ length raw + cond b 1 0) ends.1 count) c.in-Ok.ensures.no_more
-    (served_one _ _ raw ends.0 _ ends.2 ends.3 ends.4) ends.5, c.in-Ok-false.ensures.kept)
+    let ends = rw c.in-Ok-false.field-0-test at c.in-Ok-false.ensures.ends raw _ tells in (
+      done_more _ _ _ c.loop-reads.reads c.read_line.new.reads _ _ _ _ _ _ _ _ raw ends.0 c.loop-reads.invariant.0 (took, c.in-Ok.ensures.cause)
+          (subst (λ (b : Bool). c.loop-reads.reads - c.read_line.new.reads ≡ length raw + cond b 1 0) ends.1 count) c.in-Ok.ensures.no_more
+          (served_one _ _ raw ends.0 _ ends.2 ends.3 ends.4) ends.5,
+      c.in-Ok-false.ensures.kept,
+    )
 
 pub loop-reads-preserved-in-Ok-false : goal.loop-reads-preserved-in-Ok-false
 loop-reads-preserved-in-Ok-false g c =
     let (raw, took, tells, count) = c.in-Ok.ensures.line in
-    let ends = rw c.in-Ok-false.field-0-test at c.in-Ok-false.ensures.ends raw _ tells in
-    (done_more _ _ _ c.loop-reads.reads c.read_line.new.reads _ _ _ _ _ _ _ _ raw ends.0 c.loop-reads.invariant.0 (took, c.in-Ok.ensures.cause)
-    (subst (λ (b : Bool). c.loop-reads.reads - c.read_line.new.reads ≡ length raw + cond b 1 0) ends.1 count) c.in-Ok.ensures.no_more
-    (served_one _ _ raw ends.0 _ ends.2 ends.3 ends.4) ends.5, c.in-Ok-false.ensures.kept)
+    let ends = rw c.in-Ok-false.field-0-test at c.in-Ok-false.ensures.ends raw _ tells in (
+      done_more _ _ _ c.loop-reads.reads c.read_line.new.reads _ _ _ _ _ _ _ _ raw ends.0 c.loop-reads.invariant.0 (took, c.in-Ok.ensures.cause)
+          (subst (λ (b : Bool). c.loop-reads.reads - c.read_line.new.reads ≡ length raw + cond b 1 0) ends.1 count) c.in-Ok.ensures.no_more
+          (served_one _ _ raw ends.0 _ ends.2 ends.3 ends.4) ends.5,
+      c.in-Ok-false.ensures.kept,
+    )

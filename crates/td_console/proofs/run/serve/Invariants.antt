@@ -1,4 +1,4 @@
-use Rattle.std.proofs.Common.{ℕ, List, map}
+use Rattle.std.proofs.Common.{map}
 use Rattle.td_answers.specs.Sites.{AreOfScript}
 use Rattle.td_console.proofs.Serving.{Done}
 use Rattle.td_console.proofs.run.serve.Given as goal

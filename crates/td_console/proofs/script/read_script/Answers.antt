@@ -1,4 +1,4 @@
-use Rattle.std.proofs.Common.{◌≡◌, ◌+◌, ◌-◌, ℕ, Bool, cond, length, refl, sym, ◌∙◌, subst, arith, ap, Some}
+use Rattle.std.proofs.Common.{◌≡◌, ◌+◌, ◌-◌, Bool, cond, length, sym, ◌∙◌, subst, arith, ap, Some}
 use Rattle.td_console.proofs.Scripting.{begun_none, begun_more, unread_script, no_reads_script, unended_script, unkept_script, has_script}
 use Rattle.td_console.proofs.script.read_script.Goals as goal
 

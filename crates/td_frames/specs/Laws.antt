@@ -1,0 +1,16 @@
+-- The laws of frames.
+use Rattle.std.specs.Prelude.{◌≡◌, ◌<◌, ℕ, List, ◌++◌, Some, Ok, slice_index}
+use Rattle.td_stamps.specs.declared.entry.Entry.{Entry}
+use Rattle.td_frames.specs.Spelling.{HasFrame, entry_frame}
+use Rattle.td_frames.specs.Reading.{frame_at}
+
+abbrev pub FrameIsReadAgain : Type 0
+FrameIsReadAgain = (e : Entry) (more : List ℕ) → HasFrame e → frame_at (entry_frame e ++ more) ≡ Ok (Some e, more)
+
+-- numbers that are bytes
+abbrev pub AreBytes : List ℕ → Type 0
+AreBytes bs = (i : ℕ) → slice_index bs i < 256
+
+-- what is read as an entry was spelled so
+abbrev pub FrameWasSpelled : Type 0
+FrameWasSpelled = (bytes rest : List ℕ) (e : Entry) → AreBytes bytes → frame_at bytes ≡ Ok (Some e, rest) → bytes ≡ entry_frame e ++ rest

@@ -1,0 +1,5 @@
+-- The definitions of the crate.
+pub mod Spelling
+pub mod Reading
+pub mod Laws
+pub mod ForProofs

@@ -1,0 +1,77 @@
+//! Greetings, written.
+
+ghost use Rattle.std.specs.Prelude.{◌≡◌, ◌<◌, ◌≤◌, length};
+ghost use Rattle.std.specs.List.{flat_map};
+ghost use Rattle.std.specs.Io.KnownBytes.{Keeps};
+ghost use Rattle.td_devices.specs.Counted.{Counts};
+ghost use Rattle.td_devices.specs.Streams.{Writes};
+ghost use Rattle.td_frames.specs.Spelling as spelled;
+
+use td_devices::{Failed, Sink, write_all};
+
+fn head_bytes(site: u16) -> [u8; 7]
+    ensures { result ≡ spelled.head_frame site }
+{
+    let s = site.to_be_bytes();
+    [b'H', b'T', b'D', b'B', 1, s[0], s[1]]
+}
+
+fn place_bytes(place: &(u16, u32)) -> [u8; 6]
+    ensures { result ≡ spelled.place place.now }
+{
+    let s = place.0.to_be_bytes();
+    let n = place.1.to_be_bytes();
+    [s[0], s[1], n[0], n[1], n[2], n[3]]
+}
+
+fn put_places<K: Sink>(sink: &mut K, places: &[(u16, u32)]) -> Result<(), Failed>
+    ensures bytes { Writes (K.held sink.old) (K.held sink.new) result (flat_map spelled.place places.now) }
+    ensures count { Counts (K.faults sink.old) (K.faults sink.new) result }
+    ensures aside { Keeps (K.aside sink.old) (K.aside sink.new) }
+{
+    for place in places {
+        write_all(sink, &place_bytes(place))?;
+    }
+    Ok(())
+}
+
+fn put_vector<K: Sink>(sink: &mut K, places: &[(u16, u32)]) -> Result<(), Failed>
+    requires { length places.now < 65536 }
+    ensures bytes { Writes (K.held sink.old) (K.held sink.new) result (spelled.vector_frame places.now) }
+    ensures count { Counts (K.faults sink.old) (K.faults sink.new) result }
+    ensures aside { Keeps (K.aside sink.old) (K.aside sink.new) }
+{
+    let count = places.len() as u16;
+    write_all(sink, &count.to_be_bytes())?;
+    put_places(sink, places)
+}
+
+fn put_script<K: Sink>(sink: &mut K, script: &str) -> Result<(), Failed>
+    requires { length script.now ≤ 65536 }
+    ensures bytes { Writes (K.held sink.old) (K.held sink.new) result (spelled.script_frame script.now) }
+    ensures count { Counts (K.faults sink.old) (K.faults sink.new) result }
+    ensures aside { Keeps (K.aside sink.old) (K.aside sink.new) }
+{
+    let length = script.len() as u32;
+    write_all(sink, &length.to_be_bytes())?;
+    write_all(sink, script.as_bytes())
+}
+
+/// Writes the greeting of a site: its number, its script, and the sites of its version vector, ascending, each with its number. It takes
+/// no memory, and flushes nothing.
+pub fn put_greeting<K: Sink>(
+    sink: &mut K,
+    site: u16,
+    script: &str,
+    places: &[(u16, u32)],
+) -> Result<(), Failed>
+    requires script { length script.now ≤ 65536 }
+    requires places { length places.now < 65536 }
+    ensures bytes { Writes (K.held sink.old) (K.held sink.new) result (spelled.greeting_frame site script.now places.now) }
+    ensures count { Counts (K.faults sink.old) (K.faults sink.new) result }
+    ensures aside { Keeps (K.aside sink.old) (K.aside sink.new) }
+{
+    write_all(sink, &head_bytes(site))?;
+    put_script(sink, script)?;
+    put_vector(sink, places)
+}

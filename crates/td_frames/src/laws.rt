@@ -1,0 +1,13 @@
+//! Laws of the frames alone.
+
+ghost use Rattle.td_frames.specs.Laws.{FrameIsReadAgain, FrameWasSpelled};
+
+/// A frame that is written is read, whatever follows.
+pub fn frame_is_read_again()
+    ensures { FrameIsReadAgain }
+{}
+
+/// What is read as the frame of an entry was written so: an entry has one spelling.
+pub fn frame_was_spelled()
+    ensures { FrameWasSpelled }
+{}

@@ -1,0 +1,158 @@
+//! Frames of a meeting, byte for byte.
+
+ghost use Rattle.std.specs.Prelude.{◌≤◌, IfOk, length};
+
+use crate::{FrameError, Greeting, put_end, put_entry, put_greeting, read_entries, read_greeting};
+use std::alloc::{AllocError, Global};
+use std::test::Fail;
+use td_devices::Device;
+use td_stamps::Entry;
+use td_values::Text;
+
+const SCRIPT: &str = "VAR R BASE RELATION { A INTEGER } KEY { A };";
+
+/// What site 1 greets with, which holds nothing.
+const GREETING: &[u8] =
+    b"HTDB\x01\x00\x01\x00\x00\x00\x2cVAR R BASE RELATION { A INTEGER } KEY { A };\x00\x00";
+
+/// What site 2 answers, which holds two entries.
+const ANSWER: &[u8] =
+    b"HTDB\x01\x00\x02\x00\x00\x00\x2cVAR R BASE RELATION { A INTEGER } KEY { A };\x00\x01\x00\x02\x00\x00\x00\x02\
+E\x00\x02\x00\x00\x00\x01\x00\x00\x00\x00\x00\x00\x00\x05\x00\x09DELETE R;\
+E\x00\x02\x00\x00\x00\x02\x00\x00\x00\x00\x00\x00\x00\x06\x00\x09DELETE R;Z";
+
+fn entry(alloc: Global, seq: u32, clock: u64) -> Result<Entry, AllocError>
+    ensures { IfOk result (λ e. length e.text ≤ 8192) }
+{
+    Ok(Entry {
+        site: 2,
+        seq,
+        clock,
+        text: Text::from_str(alloc, "DELETE R;")?,
+    })
+}
+
+// What site 2 answers.
+fn answered(alloc: Global) -> Result<Vec<u8>, Fail> {
+    let first = entry(alloc, 1, 5)?;
+    let second = entry(alloc, 2, 6)?;
+    let mut bytes = Vec::new(alloc);
+    let mut sink = Device::new(&mut bytes);
+    put_greeting(&mut sink, 2, SCRIPT, &[(2, 2)])?;
+    put_entry(&mut sink, &first)?;
+    put_entry(&mut sink, &second)?;
+    put_end(&mut sink)?;
+    Ok(bytes)
+}
+
+#[test]
+fn the_bytes_of_a_meeting(rt: HostRuntime) -> Result<(), Fail> {
+    let mut greeting = Vec::new(rt.alloc());
+    put_greeting(&mut Device::new(&mut greeting), 1, SCRIPT, &[])?;
+    assert!(rt; greeting.len() == 57 && greeting.as_slice() == GREETING);
+    let answer = answered(rt.alloc())?;
+    assert!(rt; answer.len() == 116 && answer.as_slice() == ANSWER);
+    Ok(())
+}
+
+// A greeting, as it is read: its site, how long its script is, how many sites its version vector has, and the number of site 2.
+fn greeted(alloc: Global, bytes: &[u8]) -> Result<(u16, usize, usize, u32), FrameError> {
+    let greeting = read_greeting(alloc, &mut Device::new(bytes))?;
+    let Greeting {
+        site,
+        script,
+        vector,
+    } = &greeting;
+    Ok((*site, script.as_str().len(), vector.len(), vector.number(2)))
+}
+
+#[test]
+fn greetings(rt: HostRuntime) {
+    let bad = Err(FrameError::BadFrame);
+    for (bytes, want) in [
+        (GREETING, Ok((1, 44, 0, 0))),
+        (ANSWER, Ok((2, 44, 1, 2))),
+        (b"HTDC\x01", Err(FrameError::Magic)),
+        (b"HTDB\x02", Err(FrameError::Version)),
+        (b"HTDB\x01\x00\x00", bad),
+        (b"HTDB\x01\x00\x01\x00\x01\x00\x01", bad),
+        (b"HTDB\x01\x00\x01\x00\x01\x00\x00", Err(FrameError::Cut)),
+        (b"HTDB\x01\x00\x01\x00\x00\x00\x01\xff", bad),
+        (b"HTDB\x01\x00\x01\x00\x00\x00\x00\x00\x01\x00\x00", bad),
+        (
+            b"HTDB\x01\x00\x01\x00\x00\x00\x00\x00\x01\x00\x03\x00\x00\x00\x00",
+            bad,
+        ),
+        (
+            b"HTDB\x01\x00\x01\x00\x00\x00\x00\x00\x01\x00\x03\x3b\x9a\xca\x01",
+            bad,
+        ),
+        (
+            b"HTDB\x01\x00\x01\x00\x00\x00\x00\x00\x01\x00\x02\x3b\x9a\xca\x00",
+            Ok((1, 0, 1, 1_000_000_000)),
+        ),
+        (
+            b"HTDB\x01\x00\x01\x00\x00\x00\x00\x00\x02\x00\x02\x00\x00\x00\x01\x00\x02",
+            bad,
+        ),
+        (
+            b"HTDB\x01\x00\x01\x00\x00\x00\x00\x00\x02\x00\x03\x00\x00\x00\x01\x00\x02",
+            bad,
+        ),
+    ] {
+        assert!(rt; greeted(rt.alloc(), bytes) == want);
+    }
+    for cut in 0..GREETING.len() {
+        assert!(rt;
+            greeted(rt.alloc(), &GREETING[..cut]) == Err(FrameError::Cut),
+            "{cut}"
+        );
+    }
+}
+
+// How many entries are read whole, of at most two, and how the reading ends.
+fn streamed(alloc: Global, bytes: &[u8]) -> (usize, Result<(), FrameError>) {
+    let (entries, end) = read_entries(alloc, &mut Device::new(bytes), 2);
+    (entries.len(), end)
+}
+
+#[test]
+fn streams_of_entries(rt: HostRuntime) -> Result<(), Fail> {
+    let stream = &ANSWER[63..];
+    for (bytes, whole, end) in [
+        (stream, 2, Ok(())),
+        (b"Z and more", 0, Ok(())),
+        (b"F", 0, Err(FrameError::BadFrame)),
+        (
+            b"E\x00\x02\x00\x00\x00\x01\x00\x00\x00\x00\x00\x00\x00\x05\x20\x01",
+            0,
+            Err(FrameError::BadFrame),
+        ),
+        (
+            b"E\x00\x02\x00\x00\x00\x01\x00\x00\x00\x00\x00\x00\x00\x05\x20\x00",
+            0,
+            Err(FrameError::Cut),
+        ),
+        (
+            b"E\x00\x02\x00\x00\x00\x01\x00\x00\x00\x00\x00\x00\x00\x05\x00\x01\xff",
+            0,
+            Err(FrameError::BadFrame),
+        ),
+    ] {
+        let found = streamed(rt.alloc(), bytes);
+        assert!(rt; found == (whole, end));
+    }
+    for cut in 0..stream.len() {
+        assert!(rt;
+            streamed(rt.alloc(), &stream[..cut]) == (cut / 26, Err(FrameError::Cut)),
+            "{cut}"
+        );
+    }
+    Ok(())
+}
+
+#[test]
+fn one_entry_too_many(rt: HostRuntime) {
+    let (entries, end) = read_entries(rt.alloc(), &mut Device::new(&ANSWER[63..]), 1);
+    assert!(rt; entries.len() == 1 && end == Err(FrameError::BadFrame));
+}
