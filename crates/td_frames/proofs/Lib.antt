@@ -7,3 +7,4 @@ pub mod Loops
 pub mod Writing
 pub mod Again
 pub mod Spelled
+pub mod GreetedAgain

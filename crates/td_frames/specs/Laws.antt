@@ -1,8 +1,10 @@
 -- The laws of frames.
 use Rattle.std.specs.Prelude.{◌≡◌, ◌<◌, ℕ, List, ◌++◌, Some, Ok, slice_index}
+use Rattle.std.specs.FinMap as by_site
 use Rattle.td_stamps.specs.declared.entry.Entry.{Entry}
-use Rattle.td_frames.specs.Spelling.{HasFrame, entry_frame}
-use Rattle.td_frames.specs.Reading.{frame_at}
+use Rattle.td_stamps.specs.Vectors.{VersionVector}
+use Rattle.td_frames.specs.Spelling.{HasFrame, HasGreeting, entry_frame, greeting_frame}
+use Rattle.td_frames.specs.Reading.{frame_at, greeting_at}
 
 abbrev pub FrameIsReadAgain : Type 0
 FrameIsReadAgain = (e : Entry) (more : List ℕ) → HasFrame e → frame_at (entry_frame e ++ more) ≡ Ok (Some e, more)
@@ -14,3 +16,8 @@ AreBytes bs = (i : ℕ) → slice_index bs i < 256
 -- what is read as an entry was spelled so
 abbrev pub FrameWasSpelled : Type 0
 FrameWasSpelled = (bytes rest : List ℕ) (e : Entry) → AreBytes bytes → frame_at bytes ≡ Ok (Some e, rest) → bytes ≡ entry_frame e ++ rest
+
+-- a greeting that is written is read, whatever follows
+abbrev pub GreetingIsReadAgain : Type 0
+GreetingIsReadAgain = (site : ℕ) (script : List ℕ) (v : VersionVector) (more : List ℕ) → HasGreeting site script v
+    → greeting_at (greeting_frame site script (by_site.entries v) ++ more) ≡ Ok (record { site = site; script = script; vector = v }, more)

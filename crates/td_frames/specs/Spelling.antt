@@ -1,7 +1,9 @@
 -- The frames of a meeting: each has one spelling. Numbers are big-endian.
 use Rattle.std.specs.Prelude.{ℕ, ◌<◌, ◌≤◌, ◌^◌, List, [], ◌∷◌, ◌++◌, length, codes, IsUtf8}
-use Rattle.std.specs.List.{flat_map}
+use Rattle.std.specs.FinMap as by_site
+use Rattle.std.specs.List.{AllByRecursion, flat_map}
 use Rattle.std.specs.Int.{w16, w32, w64, to_be_bytes}
+use Rattle.td_stamps.specs.Vectors.{VersionVector}
 use Rattle.td_stamps.specs.declared.entry.Entry.{Entry}
 
 -- the fields before the text, 16 bytes: site, sequence number, clock, length of the text
@@ -33,6 +35,10 @@ pub record HasFrame (e : Entry) : Type 0 where
 
 -- ---- greetings
 
+-- a site and its number, as a vector has them
+abbrev pub IsPlace : ℕ × ℕ → Type 0
+IsPlace p = (1 ≤ p.0) × (p.0 < 2 ^ 16) × (1 ≤ p.1) × (p.1 ≤ 1000000000)
+
 -- a site and its number
 abbrev pub place : ℕ × ℕ → List ℕ
 place p = to_be_bytes w16 p.0 ++ to_be_bytes w32 p.1
@@ -51,3 +57,12 @@ script_frame script = to_be_bytes w32 (length script) ++ script
 
 abbrev pub greeting_frame : ℕ → List ℕ → List (ℕ × ℕ) → List ℕ
 greeting_frame site script ps = head_frame site ++ (script_frame script ++ vector_frame ps)
+
+-- what has a greeting: a site, a script, and the version vector
+pub record HasGreeting (site : ℕ) (script : List ℕ) (v : VersionVector) : Type 0 where
+  pub some_site : 1 ≤ site
+  pub site_fits : site < 2 ^ 16
+  pub short : length script ≤ 65536
+  pub text : IsUtf8 script
+  pub few : length (by_site.entries v) < 2 ^ 16
+  pub places : AllByRecursion IsPlace (by_site.entries v)

@@ -1,6 +1,6 @@
 //! Laws of the frames alone.
 
-ghost use Rattle.td_frames.specs.Laws.{FrameIsReadAgain, FrameWasSpelled};
+ghost use Rattle.td_frames.specs.Laws.{FrameIsReadAgain, FrameWasSpelled, GreetingIsReadAgain};
 
 /// A frame that is written is read, whatever follows.
 pub fn frame_is_read_again()
@@ -10,4 +10,9 @@ pub fn frame_is_read_again()
 /// What is read as the frame of an entry was written so: an entry has one spelling.
 pub fn frame_was_spelled()
     ensures { FrameWasSpelled }
+{}
+
+/// A greeting that is written is read, whatever follows.
+pub fn greeting_is_read_again()
+    ensures { GreetingIsReadAgain }
 {}
