@@ -23,10 +23,10 @@ use Rattle.td_frames.proofs.Places.{is_new, at_most_after}
 use Rattle.td_frames.proofs.Vectors.{none_is_at_most}
 
 -- the greeting, once its version vector is read
-abbrev greeting_with : ℕ → List ℕ → VersionVector → List ℕ → Result (Greeting × List ℕ) Miss
+abbrev pub greeting_with : ℕ → List ℕ → VersionVector → List ℕ → Result (Greeting × List ℕ) Miss
 greeting_with site script v rest = Ok (record { site = site; script = script; vector = v }, rest)
 
-abbrev vector_then : ℕ → List ℕ → List ℕ → Result (Greeting × List ℕ) Miss
+abbrev pub vector_then : ℕ → List ℕ → List ℕ → Result (Greeting × List ℕ) Miss
 vector_then site script b = then_at (vector_at b) (greeting_with site script)
 
 -- a site that comes after the last one
@@ -68,7 +68,7 @@ head_again site more some fits =
 
 -- ---- the sites of a vector, which rise
 
-abbrev Rising : ℕ → List (ℕ × ℕ) → Type 0
+abbrev pub Rising : ℕ → List (ℕ × ℕ) → Type 0
 Rising last [] = Unit {0}
 Rising last (p ∷ ps) = (last < p.0) × Rising p.0 ps
 
@@ -95,7 +95,7 @@ rising_from : (ps : List (ℕ × ℕ)) → T (is_sorted nat_cmp ps) → AllByRec
 rising_from [] h all = tt
 rising_from (p ∷ ps) h all = (all.0.0, rising p ps h)
 
-abbrev sites_of : List (ℕ × ℕ) → VersionVector
+abbrev pub sites_of : List (ℕ × ℕ) → VersionVector
 sites_of ps = by_site.from_entries ps
 
 missing : {A : Type 0} (o : Option A) → is_some o ≡ false → o ≡ None
@@ -108,6 +108,14 @@ made_whole v =
     by_site.same_map nat_cmp_total by_site.nat_cmp-IsAntisymmetric (sites_of (by_site.entries v)) v
     (λ q. by_site.get-from_entries nat_cmp_total (by_site.entries v) q ∙ sym (by_site.get-entries v q))
 
+-- one site more, after the last one
+pub one_more : (last : ℕ) (done : List (ℕ × ℕ)) (s n : ℕ) → AreAtMost last (sites_of done) → last < s → by_site.insert (sites_of done) s n ≡ sites_of (done ++ (s, n) ∷ [])
+one_more last done s n most lt =
+    sym (by_site.from_entries_push nat_cmp_total by_site.nat_cmp-IsAntisymmetric done s n (sym (by_site.get-from_entries nat_cmp_total done s) ∙ missing (by_site.get (sites_of done) s) (is_new last s (sites_of done) most lt)))
+
+pub grown : (last : ℕ) (done : List (ℕ × ℕ)) (s n : ℕ) → AreAtMost last (sites_of done) → last < s → AreAtMost s (sites_of (done ++ (s, n) ∷ []))
+grown last done s n most lt = subst (AreAtMost s) (one_more last done s n most lt) (at_most_after last s (sites_of done) n most lt)
+
 sites_again : (ps : List (ℕ × ℕ)) (last : ℕ) (done : List (ℕ × ℕ)) (more : List ℕ) → AreAtMost last (sites_of done) → Rising last ps → AllByRecursion IsPlace ps
     → sites_at (length ps) last (sites_of done) (flat_map place ps ++ more) ≡ Ok (sites_of (done ++ ps), more)
 unfolding sites_at
@@ -117,14 +125,11 @@ sites_again (p ∷ ps) last done more most up all =
     let rest = flat_map place ps ++ more in
     let bytes : flat_map place (p ∷ ps) ++ more ≡ to_be_bytes w16 p.0 ++ (to_be_bytes w32 p.1 ++ rest) =
     ap (λ (l : List ℕ). l ++ more) (flat_map-cons place p ps) ∙ append_assoc (place p) (flat_map place ps) more ∙ append_assoc (to_be_bytes w16 p.0) (to_be_bytes w32 p.1) rest in
-    let new : by_site.insert w p.0 p.1 ≡ sites_of (done ++ p ∷ []) =
-    sym (by_site.from_entries_push nat_cmp_total by_site.nat_cmp-IsAntisymmetric done p.0 p.1 (sym (by_site.get-from_entries nat_cmp_total done p.0) ∙ missing (by_site.get w p.0) (is_new last p.0 w most up.0))) in
-    let grown : AreAtMost p.0 (sites_of (done ++ p ∷ [])) = subst (AreAtMost p.0) new (at_most_after last p.0 w p.1 most up.0) in
     ap (λ (b : List ℕ). sites_at (suc (length ps)) last w b) bytes
     ∙ ap (λ r. then_at r (λ s b. then_at (number_at b) (λ n c. sites_at (length ps) s (by_site.insert w s n) c))) (site_again last p.0 (to_be_bytes w32 p.1 ++ rest) up.0 all.0.1)
     ∙ ap (λ r. then_at r (λ n c. sites_at (length ps) p.0 (by_site.insert w p.0 n) c)) (number_again p.1 rest all.0.2 all.0.3)
-    ∙ ap (λ (x : VersionVector). sites_at (length ps) p.0 x rest) new
-    ∙ sites_again ps p.0 (done ++ p ∷ []) more grown up.1 all.1
+    ∙ ap (λ (x : VersionVector). sites_at (length ps) p.0 x rest) (one_more last done p.0 p.1 most up.0)
+    ∙ sites_again ps p.0 (done ++ p ∷ []) more (grown last done p.0 p.1 most up.0) up.1 all.1
     ∙ ap (λ (l : List (ℕ × ℕ)). Ok (sites_of l, more)) (append_assoc done (p ∷ []) ps)
 
 vector_again : (v : VersionVector) (more : List ℕ) → length (by_site.entries v) < 2 ^ 16 → AllByRecursion IsPlace (by_site.entries v) → vector_at (vector_frame (by_site.entries v) ++ more) ≡ Ok (v, more)

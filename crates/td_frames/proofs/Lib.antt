@@ -8,3 +8,4 @@ pub mod Writing
 pub mod Again
 pub mod Spelled
 pub mod GreetedAgain
+pub mod GreetedSo

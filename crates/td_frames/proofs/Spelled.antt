@@ -12,13 +12,13 @@ use Rattle.td_frames.specs.Spelling.{head_of, entry_frame}
 use Rattle.td_frames.specs.Reading.{Miss, short, bad, fields, with_text, text_at, entry_at, frame_at, some_entry}
 use Rattle.td_frames.proofs.Loops.{guard, guard_ok}
 
-bytes_taken : (n : ℕ) (bs : List ℕ) → AreBytes bs → AreBytes (take n bs)
+pub bytes_taken : (n : ℕ) (bs : List ℕ) → AreBytes bs → AreBytes (take n bs)
 bytes_taken n bs all i = elim (cases_lt i n) [
   | inl lt ↦ subst (λ b. b < 256) (sym (get_or-take n bs i 0 lt)) (all i)
   | inr ge ↦ let none : get_or (take n bs) i 0 ≡ 0 = get_or_past (take n bs) i 0 (omega (arith, length-take n bs, ge)) in subst (λ b. b < 256) (sym none) (omega arith)
 ]
 
-bytes_after : (n : ℕ) (bs : List ℕ) → AreBytes bs → AreBytes (drop n bs)
+pub bytes_after : (n : ℕ) (bs : List ℕ) → AreBytes bs → AreBytes (drop n bs)
 bytes_after n bs all i = subst (λ b. b < 256) (sym (get_or-drop n bs i 0)) (all (n + i))
 
 none_dropped : (m : ℕ) → drop {A = ℕ} m [] ≡ []

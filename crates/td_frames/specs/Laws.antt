@@ -3,6 +3,7 @@ use Rattle.std.specs.Prelude.{◌≡◌, ◌<◌, ℕ, List, ◌++◌, Some, Ok,
 use Rattle.std.specs.FinMap as by_site
 use Rattle.td_stamps.specs.declared.entry.Entry.{Entry}
 use Rattle.td_stamps.specs.Vectors.{VersionVector}
+use Rattle.td_frames.specs.declared.greeting.Greeting.{Greeting}
 use Rattle.td_frames.specs.Spelling.{HasFrame, HasGreeting, entry_frame, greeting_frame}
 use Rattle.td_frames.specs.Reading.{frame_at, greeting_at}
 
@@ -21,3 +22,7 @@ FrameWasSpelled = (bytes rest : List ℕ) (e : Entry) → AreBytes bytes → fra
 abbrev pub GreetingIsReadAgain : Type 0
 GreetingIsReadAgain = (site : ℕ) (script : List ℕ) (v : VersionVector) (more : List ℕ) → HasGreeting site script v
     → greeting_at (greeting_frame site script (by_site.entries v) ++ more) ≡ Ok (record { site = site; script = script; vector = v }, more)
+
+-- what is read as a greeting was spelled so
+abbrev pub GreetingWasSpelled : Type 0
+GreetingWasSpelled = (bytes rest : List ℕ) (g : Greeting) → AreBytes bytes → greeting_at bytes ≡ Ok (g, rest) → bytes ≡ greeting_frame g.site g.script (by_site.entries g.vector) ++ rest

@@ -1,6 +1,6 @@
 //! Laws of the frames alone.
 
-ghost use Rattle.td_frames.specs.Laws.{FrameIsReadAgain, FrameWasSpelled, GreetingIsReadAgain};
+ghost use Rattle.td_frames.specs.Laws.{FrameIsReadAgain, FrameWasSpelled, GreetingIsReadAgain, GreetingWasSpelled};
 
 /// A frame that is written is read, whatever follows.
 pub fn frame_is_read_again()
@@ -15,4 +15,9 @@ pub fn frame_was_spelled()
 /// A greeting that is written is read, whatever follows.
 pub fn greeting_is_read_again()
     ensures { GreetingIsReadAgain }
+{}
+
+/// What is read as a greeting was written so: a greeting has one spelling.
+pub fn greeting_was_spelled()
+    ensures { GreetingWasSpelled }
 {}
