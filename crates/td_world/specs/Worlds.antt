@@ -1,0 +1,62 @@
+-- Worlds of many sites that meet only now and then (the tentative writes of Terry et al. 1995, Bayou). A list of entries stands here for
+-- the set of them, whatever its order and repeats.
+use Rattle.std.specs.Prelude.{◌≡◌, ◌⊎◌, ℕ, ◌≤◌, true, ◌==◌, if◌then◌else◌, List, [], ◌∷◌, length, Ok}
+use Rattle.td_stamps.specs.declared.entry.Entry.{Entry}
+use Rattle.td_stamps.specs.Sets.{has}
+use Rattle.td_stamps.specs.Checks.{next_of}
+
+-- what each site holds, what was ever issued, and what was ever sent
+pub record World : Type 0 where
+  pub held : ℕ → List Entry
+  pub issued : List Entry
+  pub sent : List Entry
+
+abbrev pub nothing : World
+nothing = record { held = λ site. []; issued = []; sent = [] }
+
+-- a site issues a text, an entry that a site holds is sent, an entry comes to a site, a site comes back with these entries
+pub data Event : Type 0 where
+  issue : ℕ → List ℕ → Event
+  send : ℕ → Entry → Event
+  deliver : ℕ → Entry → Event
+  reopen : ℕ → List Entry → Event
+
+-- one site's set becomes another
+abbrev pub with_held : (ℕ → List Entry) → ℕ → List Entry → ℕ → List Entry
+with_held held site es t = if t == site then es else held t
+
+abbrev pub with_issued : World → ℕ → Entry → World
+with_issued w site e = record { held = with_held w.held site (e ∷ w.held site); issued = e ∷ w.issued; sent = w.sent }
+
+abbrev pub with_sent : World → Entry → World
+with_sent w e = record { held = w.held; issued = w.issued; sent = e ∷ w.sent }
+
+abbrev pub with_set : World → ℕ → List Entry → World
+with_set w site es = record { held = with_held w.held site es; issued = w.issued; sent = w.sent }
+
+abbrev pub entry_of : ℕ → ℕ × ℕ → List ℕ → Entry
+entry_of site n text = record { site = site; seq = n.0; clock = n.1; text = text }
+
+-- A site issues any text, of at most 8,192 bytes, with its next numbers, as long as these are in their ranges. What was sent comes to any
+-- site, late, again, or never. A site that comes back has lost no entry of its own that was sent.
+abbrev pub Happens : World → Event → World → Type 0
+Happens w (issue site text) v = (n : ℕ × ℕ) × (next_of site (w.held site) ≡ Ok n) × (length text ≤ 8192) × (v ≡ with_issued w site (entry_of site n text))
+Happens w (send site e) v = (has (w.held site) e ≡ true) × (v ≡ with_sent w e)
+Happens w (deliver site e) v = (has w.sent e ≡ true) × (v ≡ with_set w site (e ∷ w.held site))
+Happens w (reopen site es) v =
+    ((e : Entry) → has es e ≡ true → has (w.held site) e ≡ true) × ((e : Entry) → e.site ≡ site → has w.sent e ≡ true → has es e ≡ true) × (v ≡ with_set w site es)
+
+-- these events, of which the last stands first, lead to the world
+abbrev pub Reached : List Event → World → Type 0
+Reached [] w = w ≡ nothing
+Reached (ev ∷ evs) w = (before : World) × Reached evs before × Happens before ev w
+
+-- a site holds the entry, or it was sent
+abbrev pub IsKnown : World → Entry → Type 0
+IsKnown w e = (has w.sent e ≡ true) ⊎ ((site : ℕ) × (has (w.held site) e ≡ true))
+
+-- no site comes back with a part of what it held
+abbrev pub NoneReopens : List Event → Type 0
+NoneReopens [] = Unit {0}
+NoneReopens (reopen site es ∷ evs) = ⊥
+NoneReopens (ev ∷ evs) = NoneReopens evs

@@ -1,0 +1,24 @@
+//! The laws of worlds.
+
+ghost use Rattle.td_world.specs.Laws.{IssuedIsHeld, SentIsHeld, WorldHasNoClash};
+
+use td_stamps::laws::next_comes_last;
+
+/// No two entries of a world clash, at whichever sites they are or were sent.
+pub fn world_has_no_clash()
+    ensures { WorldHasNoClash }
+{
+    next_comes_last();
+}
+
+/// An entry that was sent is held by the site that issued it.
+pub fn sent_is_held()
+    ensures { SentIsHeld }
+{
+    next_comes_last();
+}
+
+/// Where no site comes back with a part of what it held, each issued entry is held by the site that issued it.
+pub fn issued_is_held()
+    ensures { IssuedIsHeld }
+{}
