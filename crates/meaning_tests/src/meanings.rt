@@ -1,5 +1,8 @@
 //! Trees made by hand; the values and the errors come from the rules.
 
+ghost use Rattle.std.specs.Prelude.{◌≡◌, IfOk};
+ghost use Rattle.td_trees.specs.declared.tree.Typed.TheVariants as t;
+
 use sqlite_items::{Boxed, Items};
 use std::alloc::{AllocError, Global};
 use std::test::Fail;
@@ -26,7 +29,9 @@ fn shown(alloc: Global, selectors: &[Selector], tree: &Typed) -> Result<String> 
     }
 }
 
-fn number(alloc: Global, n: i64) -> Result<Boxed<Typed>> {
+fn number(alloc: Global, n: i64) -> Result<Boxed<Typed>>
+    ensures { IfOk result (λ tree. tree ≡ t.Integer n) }
+{
     Ok(Boxed::new(alloc, Typed::Integer(n))?)
 }
 
@@ -40,12 +45,16 @@ fn two(
     operator: BinaryOperator,
     a: Boxed<Typed>,
     b: Boxed<Typed>,
-) -> Result<Boxed<Typed>> {
+) -> Result<Boxed<Typed>>
+    ensures { IfOk result (λ tree. tree ≡ t.Binary operator a b) }
+{
     Ok(Boxed::new(alloc, Typed::Binary(operator, a, b))?)
 }
 
 // The operator between two integers.
-fn of_numbers(alloc: Global, operator: BinaryOperator, m: i64, n: i64) -> Result<Boxed<Typed>> {
+fn of_numbers(alloc: Global, operator: BinaryOperator, m: i64, n: i64) -> Result<Boxed<Typed>>
+    ensures { IfOk result (λ tree. tree ≡ t.Binary operator (t.Integer m) (t.Integer n)) }
+{
     let a = number(alloc, m)?;
     let b = number(alloc, n)?;
     two(alloc, operator, a, b)
