@@ -1,5 +1,9 @@
 //! Texts of which the trees are known.
 
+ghost use Rattle.std.specs.Prelude.{IsTrue};
+ghost use Rattle.td_grammar.specs.Grammar.{IsQuery};
+ghost use Rattle.td_syntax.specs.declared.tree.Expr.{Expr};
+
 use std::alloc::AllocError;
 use std::test::Fail;
 use td_grammar::{ReadError, read_expr};
@@ -7,7 +11,9 @@ use td_syntax::tree::{
     Attributes, BinaryOperator, Expr, Extension, Groups, Nesting, UnaryOperator,
 };
 
-fn is_query(rt: &HostRuntime, text: &str) -> bool {
+fn is_query(rt: &HostRuntime, text: &str) -> bool
+    ensures { IsTrue result → (tree : Expr) × IsQuery text.now tree }
+{
     matches!(&read_expr(rt.alloc(), text), Ok(_))
 }
 

@@ -1,5 +1,10 @@
 //! Texts of statements and scripts of which the trees are known.
 
+ghost use Rattle.std.specs.Prelude.{IsTrue, List};
+ghost use Rattle.td_grammar.specs.Statements.{IsScript, IsStatement};
+ghost use Rattle.td_syntax.specs.declared.script.Definition.{Definition};
+ghost use Rattle.td_syntax.specs.declared.script.Statement.{Statement};
+
 use sqlite_items::{Boxed, Items};
 use std::alloc::AllocError;
 use std::test::Fail;
@@ -7,7 +12,9 @@ use td_grammar::{ReadError, read_script, read_statement};
 use td_syntax::script::{Action, Definition, Opening, Statement};
 use td_syntax::tree::{BinaryOperator, Expr, Named};
 
-fn is_statement(rt: &HostRuntime, text: &str) -> bool {
+fn is_statement(rt: &HostRuntime, text: &str) -> bool
+    ensures { IsTrue result → (tree : Statement) × IsStatement text.now tree }
+{
     matches!(&read_statement(rt.alloc(), text), Ok(_))
 }
 
@@ -15,7 +22,9 @@ fn is_no_statement(rt: &HostRuntime, text: &str) -> bool {
     matches!(&read_statement(rt.alloc(), text), Err(ReadError::Syntax))
 }
 
-fn is_script(rt: &HostRuntime, text: &str) -> bool {
+fn is_script(rt: &HostRuntime, text: &str) -> bool
+    ensures { IsTrue result → (trees : List Definition) × IsScript text.now trees }
+{
     matches!(&read_script(rt.alloc(), text), Ok(_))
 }
 
