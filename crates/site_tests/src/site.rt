@@ -1,5 +1,7 @@
 //! What a site answers to calls, a line for each.
 
+ghost use Rattle.std.specs.Prelude.{◌≡◌, IfOk};
+
 use crate::answers::{Result, counted, issued, listed, replied, taken, told};
 use std::alloc::Global;
 use td_assign::Meter;
@@ -21,16 +23,22 @@ pub enum Call<'a> {
     Vector,
 }
 
+fn entry(alloc: Global, site: u16, seq: u32, clock: u64, text: &str) -> Result<Entry>
+    ensures { IfOk result (λ e. e ≡ record { site = site; seq = seq; clock = clock; text = text.now }) }
+{
+    let text = Text::from_str(alloc, text)?;
+    Ok(Entry {
+        site,
+        seq,
+        clock,
+        text,
+    })
+}
+
 fn batch(alloc: Global, written: &[Written]) -> Result<Vec<Entry>> {
     let mut batch = Vec::new(alloc);
     for (site, seq, clock, text) in written {
-        let text = Text::from_str(alloc, text)?;
-        batch.push(Entry {
-            site: *site,
-            seq: *seq,
-            clock: *clock,
-            text,
-        })?;
+        batch.push(entry(alloc, *site, *seq, *clock, text)?)?;
     }
     Ok(batch)
 }
