@@ -1,5 +1,9 @@
 //! The rules of typing, each by texts that keep it and by near misses that break it alone.
 
+ghost use Rattle.std.specs.Prelude.{◌≡◌, OnOk, Some};
+ghost use Rattle.td_kinds.specs.Schemas.{type_added};
+ghost use Rattle.td_kinds.specs.declared.schema.Representation.{Representation};
+
 use sqlite_items::Items;
 use std::alloc::{AllocError, Global};
 use std::test::Fail;
@@ -34,7 +38,9 @@ fn heading(alloc: Global, schema: &Schema, text: &str) -> Result<Heading> {
     }
 }
 
-fn add_type(alloc: Global, schema: &mut Schema, ty: &str, possrep: &str, x: &str) -> Result<()> {
+fn add_type(alloc: Global, schema: &mut Schema, ty: &str, possrep: &str, x: &str) -> Result<()>
+    ensures { OnOk result ((r : Representation) × (type_added schema.old r ≡ Some schema.new) × (r.possrep.ty ≡ ty.now)) }
+{
     let mut components = Items::new(alloc);
     let name = Name::new(alloc, x)?;
     components.push(Named {
