@@ -84,14 +84,14 @@ lt_of m n h = elim (cases_Bool (ltb m n)) [
       absurd (elim (eqb m n) as (λ t. T (is_lt (cond t Equal Greater)) → ⊥) [ true ↦ λ x. x | false ↦ λ x. x ] other)
 ]
 
-rising : (p : ℕ × ℕ) (ps : List (ℕ × ℕ)) → T (is_sorted nat_cmp (p ∷ ps)) → Rising p.0 ps
+pub rising : (p : ℕ × ℕ) (ps : List (ℕ × ℕ)) → T (is_sorted nat_cmp (p ∷ ps)) → Rising p.0 ps
 rising p [] h = tt
 rising p (q ∷ ps) h =
     let both = T_and (below_all nat_cmp p.0 (q ∷ ps)) (is_sorted nat_cmp (q ∷ ps)) h in
     let first = T_and (is_lt (nat_cmp p.0 q.0)) (below_all nat_cmp p.0 ps) both.0 in
     (lt_of p.0 q.0 first.0, rising q ps both.1)
 
-rising_from : (ps : List (ℕ × ℕ)) → T (is_sorted nat_cmp ps) → AllByRecursion IsPlace ps → Rising 0 ps
+pub rising_from : (ps : List (ℕ × ℕ)) → T (is_sorted nat_cmp ps) → AllByRecursion IsPlace ps → Rising 0 ps
 rising_from [] h all = tt
 rising_from (p ∷ ps) h all = (all.0.0, rising p ps h)
 

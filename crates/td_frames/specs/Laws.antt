@@ -1,11 +1,12 @@
 -- The laws of frames.
-use Rattle.std.specs.Prelude.{◌≡◌, ◌<◌, ℕ, List, ◌++◌, Some, Ok, slice_index}
+use Rattle.std.specs.Prelude.{◌≡◌, ◌<◌, ◌≤◌, ℕ, List, ◌++◌, length, Some, Ok, slice_index}
+use Rattle.std.specs.List.{AllByRecursion}
 use Rattle.std.specs.FinMap as by_site
 use Rattle.td_stamps.specs.declared.entry.Entry.{Entry}
 use Rattle.td_stamps.specs.Vectors.{VersionVector}
 use Rattle.td_frames.specs.declared.greeting.Greeting.{Greeting}
-use Rattle.td_frames.specs.Spelling.{HasFrame, HasGreeting, entry_frame, greeting_frame}
-use Rattle.td_frames.specs.Reading.{frame_at, greeting_at}
+use Rattle.td_frames.specs.Spelling.{HasFrame, HasGreeting, entry_frame, greeting_frame, stream}
+use Rattle.td_frames.specs.Reading.{entries_at, frame_at, greeting_at}
 
 abbrev pub FrameIsReadAgain : Type 0
 FrameIsReadAgain = (e : Entry) (more : List ℕ) → HasFrame e → frame_at (entry_frame e ++ more) ≡ Ok (Some e, more)
@@ -26,3 +27,7 @@ GreetingIsReadAgain = (site : ℕ) (script : List ℕ) (v : VersionVector) (more
 -- what is read as a greeting was spelled so
 abbrev pub GreetingWasSpelled : Type 0
 GreetingWasSpelled = (bytes rest : List ℕ) (g : Greeting) → AreBytes bytes → greeting_at bytes ≡ Ok (g, rest) → bytes ≡ greeting_frame g.site g.script (by_site.entries g.vector) ++ rest
+
+-- a stream of entries that is written is read, whatever follows, where no more than so many entries are allowed
+abbrev pub StreamIsReadAgain : Type 0
+StreamIsReadAgain = (most : ℕ) (es : List Entry) (more : List ℕ) → length es ≤ most → AllByRecursion HasFrame es → entries_at most (stream es ++ more) ≡ (es, Ok more)

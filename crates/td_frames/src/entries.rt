@@ -6,7 +6,7 @@ ghost use Rattle.std.specs.Io.KnownBytes.{Keeps, Consumes};
 ghost use Rattle.td_devices.specs.Counted.{Counts};
 ghost use Rattle.td_devices.specs.Streams.{Writes};
 ghost use Rattle.td_frames.specs.Reading.{ToldEntries, entries_at};
-ghost use Rattle.td_frames.specs.Spelling.{end_frame, entry_frame};
+ghost use Rattle.td_frames.specs.Spelling.{HasFrame, end_frame, entry_frame};
 
 use crate::entry::read_frame;
 use crate::error::FrameError;
@@ -59,6 +59,7 @@ fn head_bytes(site: u16, seq: u32, clock: u64, length: u16) -> [u8; 17]
 pub fn put_entry<K: Sink>(sink: &mut K, entry: &Entry) -> Result<(), Failed>
     requires { length entry.now.text ≤ 8192 }
     ensures bytes { Writes (K.held sink.old) (K.held sink.new) result (entry_frame entry.now) }
+    ensures has { HasFrame entry.now }
     ensures count { Counts (K.faults sink.old) (K.faults sink.new) result }
     ensures aside { Keeps (K.aside sink.old) (K.aside sink.new) }
 {

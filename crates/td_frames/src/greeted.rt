@@ -1,6 +1,6 @@
 //! Greetings, written.
 
-ghost use Rattle.std.specs.Prelude.{◌≡◌, ◌<◌, ◌≤◌, length};
+ghost use Rattle.std.specs.Prelude.{◌≡◌, ◌<◌, ◌≤◌, ◌^◌, IsUtf8, length};
 ghost use Rattle.std.specs.List.{flat_map};
 ghost use Rattle.std.specs.Io.KnownBytes.{Keeps};
 ghost use Rattle.td_devices.specs.Counted.{Counts};
@@ -68,6 +68,8 @@ pub fn put_greeting<K: Sink>(
     requires script { length script.now ≤ 65536 }
     requires places { length places.now < 65536 }
     ensures bytes { Writes (K.held sink.old) (K.held sink.new) result (spelled.greeting_frame site script.now places.now) }
+    ensures site { site < 2 ^ 16 }
+    ensures text { IsUtf8 script.now }
     ensures count { Counts (K.faults sink.old) (K.faults sink.new) result }
     ensures aside { Keeps (K.aside sink.old) (K.aside sink.new) }
 {

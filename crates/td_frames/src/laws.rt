@@ -1,6 +1,6 @@
 //! Laws of the frames alone.
 
-ghost use Rattle.td_frames.specs.Laws.{FrameIsReadAgain, FrameWasSpelled, GreetingIsReadAgain, GreetingWasSpelled};
+ghost use Rattle.td_frames.specs.Laws.{FrameIsReadAgain, FrameWasSpelled, GreetingIsReadAgain, GreetingWasSpelled, StreamIsReadAgain};
 
 /// A frame that is written is read, whatever follows.
 pub fn frame_is_read_again()
@@ -20,4 +20,9 @@ pub fn greeting_is_read_again()
 /// What is read as a greeting was written so: a greeting has one spelling.
 pub fn greeting_was_spelled()
     ensures { GreetingWasSpelled }
+{}
+
+/// A stream of entries that is written is read, whatever follows.
+pub fn stream_is_read_again()
+    ensures { StreamIsReadAgain }
 {}

@@ -52,3 +52,7 @@ after_vector v xs = filter (lacks v) xs
 -- a listed vector's sites and numbers begin at 1
 abbrev pub from_one : List (ℕ × ℕ) → Bool
 from_one es = list_all (λ e. nat_le 1 e.0 && nat_le 1 e.1) es
+
+-- and its sites are numbers of 16 bits
+abbrev pub sites_fit : List (ℕ × ℕ) → Bool
+sites_fit es = list_all (λ e. nat_lt e.0 65536) es

@@ -4,7 +4,7 @@ ghost use Rattle.std.specs.FinMap as map;
 ghost use Rattle.std.specs.List.{list_all};
 ghost use Rattle.td_stamps.specs.Entries.{in_range};
 ghost use Rattle.td_stamps.specs.Sets.{is_set};
-ghost use Rattle.td_stamps.specs.Vectors.{IsVector, number_of, after_vector, from_one};
+ghost use Rattle.td_stamps.specs.Vectors.{IsVector, number_of, after_vector, from_one, sites_fit};
 
 use crate::entry::Entry;
 use std::alloc::{AllocError, Global};
@@ -67,6 +67,7 @@ impl Vector {
     pub fn entries(&self, alloc: Global) -> Result<Vec<(u16, u32)>, AllocError>
         ensures entries { IfOk result (λ v. v.items ≡ map.entries self.now) }
         ensures from_one { IfOk result (λ v. from_one v.items ≡ true) }
+        ensures fit { IfOk result (λ v. sites_fit v.items ≡ true) }
     {
         let mut entries = Vec::with_capacity(alloc, self.numbers.len())?;
         for (site, number) in &self.numbers {

@@ -1,0 +1,7 @@
+-- What the proofs of the crate share.
+pub mod Places
+pub mod Sound
+pub mod Greeting
+pub mod InTurn
+pub mod Told
+pub mod Whole

@@ -1,0 +1,5 @@
+-- The definitions of the crate.
+pub mod Reading
+pub mod Writing
+pub mod Steps
+pub mod ForProofs

@@ -1,0 +1,11 @@
+//! Meetings of two sites: four steps over any readers and writers, in which each site tells the other what it holds, and takes what it lacks.
+#![tactic(auto)]
+
+pub mod error;
+mod hearing;
+mod sending;
+pub mod steps;
+mod taking;
+
+pub use error::MeetingError;
+pub use steps::{answer, finish, greet, settle};

@@ -1,0 +1,104 @@
+//! The entries that the other site sent, read and taken.
+
+ghost use Rattle.std.specs.Prelude.{◌≡◌, List, true, IfErr, IfOk};
+ghost use Rattle.std.specs.Io.KnownBytes.{Keeps};
+ghost use Rattle.td_replay.specs.Calls.{TakesBatch};
+ghost use Rattle.td_stamps.specs.declared.entry.Entry.{Entry};
+ghost use Rattle.td_meeting.specs.ForProofs as proofs;
+ghost use Rattle.td_meeting.specs.Reading.{ReadsStream, Unreceived};
+
+use crate::error::MeetingError;
+use std::alloc::Global;
+use td_assign::Meter;
+use td_devices::Source;
+use td_frames::{FrameError, read_entries};
+use td_replay::{Replica, TakeError, Taken};
+use td_stamps::Entry;
+
+/// The most entries of a stream.
+const MOST_ENTRIES: u32 = 100_000;
+
+// Why an open site does not take a batch.
+fn untaken(error: TakeError) -> MeetingError
+    ensures { result ≡ proofs.untaken error }
+{
+    match error {
+        TakeError::Broken => MeetingError::Broken,
+        TakeError::OutOfMemory => MeetingError::OutOfMemory,
+        error => MeetingError::Take(error),
+    }
+}
+
+fn take_all<R: Replica>(
+    alloc: Global,
+    site: &mut R,
+    batch: &[Entry],
+    meter: &mut Meter,
+) -> Result<Taken, MeetingError>
+    requires { (R.seen site.old).live ≡ true }
+    ensures ok { IfOk result (λ t. TakesBatch (R.seen site.old) batch.now t (R.seen site.new)) }
+    ensures err { IfErr result (λ e. proofs.Untaken (R.seen site.old) batch.now e (R.seen site.new)) }
+{
+    match site.take(alloc, batch, meter) {
+        Ok(taken) => Ok(taken),
+        Err(error) => Err(untaken(error)),
+    }
+}
+
+// Takes what was read before a stream was cut or its reader failed.
+fn take_front<R: Replica>(
+    alloc: Global,
+    site: &mut R,
+    batch: &[Entry],
+    error: FrameError,
+    meter: &mut Meter,
+) -> MeetingError
+    requires { (R.seen site.old).live ≡ true }
+    ensures { proofs.TakesShort (R.seen site.old) batch.now error result (R.seen site.new) }
+{
+    match take_all(alloc, site, batch, meter) {
+        Ok(taken) => MeetingError::Frame {
+            error,
+            taken: taken.fresh,
+        },
+        Err(error) => error,
+    }
+}
+
+fn stopped<R: Replica>(
+    alloc: Global,
+    site: &mut R,
+    batch: &[Entry],
+    error: FrameError,
+    meter: &mut Meter,
+) -> MeetingError
+    requires { (R.seen site.old).live ≡ true }
+    ensures { proofs.StopsAt (R.seen site.old) batch.now error result (R.seen site.new) }
+{
+    match error {
+        FrameError::OutOfMemory => MeetingError::OutOfMemory,
+        FrameError::ReadFault => take_front(alloc, site, batch, FrameError::ReadFault, meter),
+        FrameError::Cut => take_front(alloc, site, batch, FrameError::Cut, meter),
+        error => MeetingError::Frame { error, taken: 0 },
+    }
+}
+
+/// Reads a stream of entries, and takes them as one batch.
+pub(crate) fn receive<R: Replica, S: Source>(
+    alloc: Global,
+    site: &mut R,
+    source: &mut S,
+    meter: &mut Meter,
+) -> Result<Taken, MeetingError>
+    requires { (R.seen site.old).live ≡ true }
+    ensures ok { IfOk result (λ t. (batch : List Entry) × ReadsStream (S.left source.old) (S.left source.new) batch × TakesBatch (R.seen site.old) batch t (R.seen site.new)
+        × (S.failures source.new ≡ S.failures source.old)) }
+    ensures err { IfErr result (λ e. Unreceived (R.seen site.old) e (S.left source.old) (S.left source.new) (S.failures source.old) (S.failures source.new) (R.seen site.new)) }
+    ensures beside { Keeps (S.beside source.old) (S.beside source.new) }
+{
+    let (batch, ending) = read_entries(alloc, source, MOST_ENTRIES);
+    match ending {
+        Ok(()) => take_all(alloc, site, batch.as_slice(), meter),
+        Err(error) => Err(stopped(alloc, site, batch.as_slice(), error, meter)),
+    }
+}
