@@ -5,3 +5,4 @@ pub mod Greeting
 pub mod InTurn
 pub mod Told
 pub mod Whole
+pub mod Steady

@@ -1,7 +1,8 @@
 -- What the steps tell, put together from what their parts tell.
-use Rattle.std.proofs.Common.{◌≡◌, ℕ, true, List, [], Option, Result, Ok, Err, refl, sym, subst}
+use Rattle.std.proofs.Common.{◌≡◌, ◌⊎◌, inl, inr, ℕ, true, List, [], Option, Result, Ok, Err, refl, sym, subst}
 use Rattle.std.specs.FinMap as by_site
-use Rattle.std.specs.Io.KnownBytes.{Consumes}
+use Rattle.std.specs.Io.KnownBytes.{Consumes, IsAtEnd}
+use Rattle.td_devices.specs.Counted.{counted}
 use Rattle.std.specs.Result.{IfErr, IfOk}
 use Rattle.td_stamps.specs.Vectors.{VersionVector, IsVector, sites_fit}
 use Rattle.td_stamps.specs.declared.entry.Entry.{Entry}
@@ -26,13 +27,13 @@ places_told es v (Err x) items is places fit = tt
 -- ---- entries that are not taken
 
 -- a link before and after entries were read from it, and these
-pub record Read (left after : Option (List ℕ)) (es : List Entry) (ending : Result (List ℕ) Miss) : Type 0 where
+pub record Read (left after : Option (List ℕ)) (old new : ℕ) (es : List Entry) (ending : Result (List ℕ) Miss) : Type 0 where
   pub bytes : List ℕ
   pub consumed : Consumes left after bytes
   pub reads : entries_at most_entries bytes ≡ (es, ending)
-  pub is_taken : IsTaken ending
+  pub is_taken : IsTaken ending after old new
 
-pub refused : (s : Seen) (left after : Option (List ℕ)) (old new : ℕ) (es : List Entry) (t : Seen) (ending : Result (List ℕ) Miss) (e : MeetingError) → Read left after es ending → Untaken s es e t → Unreceived s e left after old new t
+pub refused : (s : Seen) (left after : Option (List ℕ)) (old new : ℕ) (es : List Entry) (t : Seen) (ending : Result (List ℕ) Miss) (e : MeetingError) → Read left after old new es ending → Untaken s es e t → Unreceived s e left after old new t
 refused s left after old new es t ending (Take take_error.Broken) read u = u
 refused s left after old new es t ending (Take take_error.OutOfMemory) read u = u
 refused s left after old new es t ending (Take take_error.BadEntry) read u = record { entries = es; ending = ending; reads = record { bytes = read.bytes; consumed = read.consumed; reads = read.reads }; is_taken = read.is_taken; takes = u }
@@ -51,21 +52,21 @@ pub refused_if : (s : Seen) (left after : Option (List ℕ)) (old new : ℕ) (es
 refused_if s left after old new es batch t bytes x told (Ok y) consumed tells is same u = tt
 refused_if s left after old new es batch t bytes x told (Err e) consumed tells is same u =
     let all : ToldEntries (Ok x) es (entries_at most_entries bytes) after old new = subst (λ (r : Result (Unit {0}) FrameError). ToldEntries r es (entries_at most_entries bytes) after old new) is tells in
-    refused s left after old new es t (Ok []) e (record { bytes = bytes; consumed = consumed; reads = all.0; is_taken = refl }) (subst (λ (l : List Entry). Untaken s l e t) same u)
+    refused s left after old new es t (Ok []) e (record { bytes = bytes; consumed = consumed; reads = all.0; is_taken = (refl, all.1) }) (subst (λ (l : List Entry). Untaken s l e t) same u)
 
 -- ---- a stream that isn't whole
 
 takes_short : (s : Seen) (left after : Option (List ℕ)) (old new : ℕ) (es : List Entry) (t : Seen) (bytes : List ℕ) (error : FrameError) (e : MeetingError)
     → Consumes left after bytes → entries_at most_entries bytes ≡ (es, Err short) → ToldEntries (Err error) es (entries_at most_entries bytes) after old new
-    → ((n : ℕ) (x : Taken) → n ≡ x.fresh → TakesBatch s es x t → TakesFront s es error n t) → TakesShort s es error e t → Unreceived s e left after old new t
-takes_short s left after old new es t bytes error (Frame f n) consumed reads told front u =
+    → (IsAtEnd after × (new ≡ old)) ⊎ (new ≡ counted old) → ((n : ℕ) (x : Taken) → n ≡ x.fresh → TakesBatch s es x t → TakesFront s es error n t) → TakesShort s es error e t → Unreceived s e left after old new t
+takes_short s left after old new es t bytes error (Frame f n) consumed reads told why front u =
     subst (λ (f : FrameError). MissesEntries s f n left after old new t) (sym u.0) (record { entries = es; bytes = bytes; consumed = consumed; told = told; takes = front n u.1 u.3 u.2 })
-takes_short s left after old new es t bytes error (Take x) consumed reads told front u = refused s left after old new es t (Err short) (Take x) (record { bytes = bytes; consumed = consumed; reads = reads; is_taken = tt }) u
-takes_short s left after old new es t bytes error OutOfMemory consumed reads told front u = u
-takes_short s left after old new es t bytes error Broken consumed reads told front u = absurd u
-takes_short s left after old new es t bytes error OtherScript consumed reads told front u = u
-takes_short s left after old new es t bytes error SameSite consumed reads told front u = u
-takes_short s left after old new es t bytes error (WriteFault n) consumed reads told front u = u
+takes_short s left after old new es t bytes error (Take x) consumed reads told why front u = refused s left after old new es t (Err short) (Take x) (record { bytes = bytes; consumed = consumed; reads = reads; is_taken = why }) u
+takes_short s left after old new es t bytes error OutOfMemory consumed reads told why front u = u
+takes_short s left after old new es t bytes error Broken consumed reads told why front u = absurd u
+takes_short s left after old new es t bytes error OtherScript consumed reads told why front u = u
+takes_short s left after old new es t bytes error SameSite consumed reads told why front u = u
+takes_short s left after old new es t bytes error (WriteFault n) consumed reads told why front u = u
 
 misses : (s : Seen) (left after : Option (List ℕ)) (old new : ℕ) (es : List Entry) (t : Seen) (bytes : List ℕ) (error : FrameError) (e : MeetingError)
     → Consumes left after bytes → ToldEntries (Err error) es (entries_at most_entries bytes) after old new → TakesFront s es error 0 t → e ≡ Frame error 0 → Unreceived s e left after old new t
@@ -75,8 +76,8 @@ misses s left after old new es t bytes error e consumed told takes is =
 stops : (s : Seen) (left after : Option (List ℕ)) (old new : ℕ) (es : List Entry) (t : Seen) (bytes : List ℕ) (error : FrameError) (e : MeetingError)
     → Consumes left after bytes → ToldEntries (Err error) es (entries_at most_entries bytes) after old new → StopsAt s es error e t → Unreceived s e left after old new t
 stops s left after old new es t bytes frame_error.OutOfMemory e consumed told u = subst (λ (e : MeetingError). Unreceived s e left after old new t) (sym u.0) u.1
-stops s left after old new es t bytes frame_error.ReadFault e consumed told u = takes_short s left after old new es t bytes frame_error.ReadFault e consumed told.0 told (λ n x same takes. (x, takes, same)) u
-stops s left after old new es t bytes frame_error.Cut e consumed told u = takes_short s left after old new es t bytes frame_error.Cut e consumed told.0 told (λ n x same takes. (x, takes, same)) u
+stops s left after old new es t bytes frame_error.ReadFault e consumed told u = takes_short s left after old new es t bytes frame_error.ReadFault e consumed told.0 told (inr told.1) (λ n x same takes. (x, takes, same)) u
+stops s left after old new es t bytes frame_error.Cut e consumed told u = takes_short s left after old new es t bytes frame_error.Cut e consumed told.0 told (inl (told.1, told.2)) (λ n x same takes. (x, takes, same)) u
 stops s left after old new es t bytes frame_error.Magic e consumed told u = misses s left after old new es t bytes frame_error.Magic e consumed told (u.1, refl) u.0
 stops s left after old new es t bytes frame_error.Version e consumed told u = misses s left after old new es t bytes frame_error.Version e consumed told (u.1, refl) u.0
 stops s left after old new es t bytes frame_error.BadFrame e consumed told u = misses s left after old new es t bytes frame_error.BadFrame e consumed told (u.1, refl) u.0

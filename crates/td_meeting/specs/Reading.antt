@@ -1,7 +1,8 @@
 -- What a site reads of another one, and what it takes of it. A link is told of by the bytes that it has left and by the failures that it
 -- counted, before and after.
-use Rattle.std.specs.Prelude.{◌≡◌, ◌≢◌, ℕ, List, [], ◌++◌, Option, Result, Ok, Err}
-use Rattle.std.specs.Io.KnownBytes.{Consumes}
+use Rattle.std.specs.Prelude.{◌≡◌, ◌≢◌, ◌⊎◌, ℕ, List, [], ◌++◌, Option, Result, Ok, Err}
+use Rattle.std.specs.Io.KnownBytes.{Consumes, IsAtEnd}
+use Rattle.td_devices.specs.Counted.{counted}
 use Rattle.td_stamps.specs.declared.entry.Entry.{Entry}
 use Rattle.td_frames.specs.Reading.{Miss, short, ToldErr, ToldEntries, entries_at, greeting_at}
 use Rattle.td_frames.specs.declared.error.FrameError.{FrameError}
@@ -72,18 +73,18 @@ pub record MissesEntries (s : Seen) (e : FrameError) (taken : ℕ) (left after :
   pub told : ToldEntries (Err e) entries (entries_at most_entries bytes) after old new
   pub takes : TakesFront s entries e taken t
 
--- so that its entries are taken
-abbrev pub IsTaken : Result (List ℕ) Miss → Type 0
-IsTaken (Ok rest) = rest ≡ []
-IsTaken (Err short) = Unit {0}
-IsTaken (Err m) = ⊥
+-- its entries are taken: the stream was whole, it was cut, or its reader failed
+abbrev pub IsTaken : Result (List ℕ) Miss → Option (List ℕ) → ℕ → ℕ → Type 0
+IsTaken (Ok rest) after old new = (rest ≡ []) × (new ≡ old)
+IsTaken (Err short) after old new = (IsAtEnd after × (new ≡ old)) ⊎ (new ≡ counted old)
+IsTaken (Err m) after old new = ⊥
 
 -- `take` refuses what was read
-pub record Refuses (s : Seen) (e : TakeError) (left after : Option (List ℕ)) (t : Seen) : Type 0 where
+pub record Refuses (s : Seen) (e : TakeError) (left after : Option (List ℕ)) (old new : ℕ) (t : Seen) : Type 0 where
   pub entries : List Entry
   pub ending : Result (List ℕ) Miss
   pub reads : ReadsEntries left after entries ending
-  pub is_taken : IsTaken ending
+  pub is_taken : IsTaken ending after old new
   pub takes : Takes s entries (Err e) t
 
 -- why an open site doesn't take a stream, and what it is then
@@ -91,6 +92,6 @@ abbrev pub Unreceived : Seen → MeetingError → Option (List ℕ) → Option (
 Unreceived s (Frame e taken) left after old new t = MissesEntries s e taken left after old new t
 Unreceived s (Take take_error.Broken) left after old new t = ⊥
 Unreceived s (Take take_error.OutOfMemory) left after old new t = ⊥
-Unreceived s (Take e) left after old new t = Refuses s e left after t
+Unreceived s (Take e) left after old new t = Refuses s e left after old new t
 Unreceived s OutOfMemory left after old new t = t ≡ s
 Unreceived s e left after old new t = ⊥

@@ -3,6 +3,7 @@
 
 pub mod error;
 mod hearing;
+mod memory;
 mod sending;
 pub mod steps;
 mod taking;
