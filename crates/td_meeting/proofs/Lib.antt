@@ -6,3 +6,5 @@ pub mod InTurn
 pub mod Told
 pub mod Whole
 pub mod Steady
+pub mod Carrying
+pub mod Exchanged

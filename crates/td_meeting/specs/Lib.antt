@@ -3,3 +3,5 @@ pub mod Reading
 pub mod Writing
 pub mod Steps
 pub mod ForProofs
+pub mod Meetings
+pub mod Carried

@@ -3,10 +3,12 @@
 
 pub mod error;
 mod hearing;
+pub mod meeting;
 mod memory;
 mod sending;
 pub mod steps;
 mod taking;
 
 pub use error::MeetingError;
+pub use meeting::{MeetingRefusal, Met, meet};
 pub use steps::{answer, finish, greet, settle};

@@ -6,6 +6,7 @@ use std::alloc::Global;
 use td_devices::{Failed, Sink, Source};
 
 /// Bytes that are read: none is wanting, and no read fails.
+#[derive(Drop)]
 pub(crate) struct Incoming<'a> {
     rest: &'a [u8],
 }
