@@ -1,139 +1,95 @@
--- Takes and meetings of sites at their places.
-use Rattle.std.proofs.Common.{◌≡◌, ◌≢◌, ◌<◌, ◌==◌, inl, inr, ℕ, zero, suc, Bool, true, false, cond, List, [], ◌∷◌, Option, Some, None, option_map, length, map, get_or, Result, Ok, Err, refl, sym, ap, ◌∙◌, subst}
+-- Meetings of sites at their places.
+use Rattle.std.proofs.Common.{◌≡◌, ◌≢◌, ◌<◌, ◌≤◌, ◌==◌, eqb, inl, inr, ℕ, zero, suc, Bool, true, false, cond, List, [], ◌∷◌, ◌++◌, ◌+◌, Option, Some, None, option_map, length, take, drop, map, get_or, Result, Ok, Err, refl, sym, ap, ◌∙◌, subst, arith}
 use Rattle.std.specs.List.{slice_get, slice_set}
-use Rattle.std.proofs.lemmas.Bool.{ne_eqb}
-use Rattle.std.proofs.lemmas.List.{map-set}
-use Rattle.td_stamps.specs.Sets.{Holding}
-use Rattle.td_stamps.specs.Vectors.{VersionVector, IsVector, after_vector}
-use Rattle.td_stamps.specs.declared.entry.Entry.{Entry}
-use Rattle.td_replay.specs.Calls.{Takes}
-use Rattle.td_replay.specs.Seen.{Seen, holding}
-use Rattle.td_replay.specs.declared.answer.Taken.{Taken}
-use Rattle.td_replay.specs.declared.refusal.TakeError.{TakeError}
-use Rattle.td_replay.specs.declared.refusal.TakeError.TheVariants as take_error
+use Rattle.std.proofs.lemmas.Bool.{cases_Bool, ne_eqb}
+use Rattle.std.proofs.lemmas.Bool.Decides.{nat_tests}
+use Rattle.std.proofs.lemmas.List.{get_or-drop, get_or-take, map-set}
+use Rattle.td_replay.specs.Seen.{Seen}
+use Rattle.td_meeting.specs.Meetings.{Meets, MeetsNot}
+use Rattle.td_meeting.specs.declared.error.MeetingError.{MeetingError}
+use Rattle.td_meeting.specs.declared.meeting.Met.{Met}
+use Rattle.td_meeting.specs.declared.meeting.MeetingRefusal.{MeetingRefusal}
 use Rattle.td_answers.specs.Answers.{MeetAnswered, TellsMet, meet_answer}
-use Rattle.td_answers.specs.Faults.{take_fault}
-use Rattle.td_answers.specs.ForProofs.Drawn.{DrawsAt, HasFor, MeetsAt, TellsMetAt}
+use Rattle.td_answers.specs.ForProofs.Drawn.{MeetsAt, TellsMetAt}
 use Rattle.td_answers.specs.ForProofs.Said.{place_in}
-use Rattle.td_answers.specs.Meetings.{AreOpen, Draws, IsBatch, IsOneClosed, Meets, Stops}
 use Rattle.td_answers.specs.Sites.{Placed, Sites, site_of, sites_of, two_of}
 use Rattle.td_answers.proofs.Placing.{seen_read, seen_there, set_there, site_there, some_seen}
 
--- ---- what is read where a site was put
+-- ---- a list apart at a place, with an element put into each part
 
-pub get_set : (ss : Sites) (a : ℕ) (s x : Seen) → slice_get ss a ≡ Some s → slice_get (slice_set ss a x) a ≡ Some x
-get_set [] a s x e = cc
-get_set (y ∷ ss) zero s x e = refl
-get_set (y ∷ ss) (suc a) s x e = get_set ss a s x e
+set_behind : {X : Type 0} (xs : List X) (b : ℕ) (y : X) → b < length xs → take b xs ++ slice_set (drop b xs) 0 y ≡ slice_set xs b y
+set_behind [] b y lt = absurd (omega (arith, lt))
+set_behind (x ∷ xs) zero y lt = refl
+set_behind (x ∷ xs) (suc b) y lt = ap (λ l. x ∷ l) (set_behind xs b y (omega (arith, lt)))
 
-pub get_other : (ss : Sites) (a b : ℕ) (x : Seen) → a ≢ b → slice_get (slice_set ss a x) b ≡ slice_get ss b
-get_other [] a b x two = refl
-get_other (y ∷ ss) zero zero x two = absurd (two refl)
-get_other (y ∷ ss) zero (suc b) x two = refl
-get_other (y ∷ ss) (suc a) zero x two = refl
-get_other (y ∷ ss) (suc a) (suc b) x two = get_other ss a b x (λ e. two (ap suc e))
+pub set_apart : {X : Type 0} (xs : List X) (a b : ℕ) (x y : X) → a < b → b < length xs → slice_set (take b xs) a x ++ slice_set (drop b xs) 0 y ≡ slice_set (slice_set xs a x) b y
+set_apart xs a zero x y lt within = absurd (omega (arith, lt))
+set_apart [] a (suc b) x y lt within = absurd (omega (arith, within))
+set_apart (z ∷ xs) zero (suc b) x y lt within = ap (λ l. x ∷ l) (set_behind xs b y (omega (arith, within)))
+set_apart (z ∷ xs) (suc a) (suc b) x y lt within = ap (λ l. z ∷ l) (set_apart xs a b x y (omega (arith, lt)) (omega (arith, within)))
 
--- ---- one take
+-- elements put at two places, in either order
+pub set_either : {X : Type 0} (xs : List X) (a b : ℕ) (x y : X) → a ≢ b → slice_set (slice_set xs a x) b y ≡ slice_set (slice_set xs b y) a x
+set_either [] a b x y two = refl
+set_either (z ∷ xs) zero zero x y two = absurd (two refl)
+set_either (z ∷ xs) zero (suc b) x y two = refl
+set_either (z ∷ xs) (suc a) zero x y two = refl
+set_either (z ∷ xs) (suc a) (suc b) x y two = ap (λ l. z ∷ l) (set_either xs a b x y (λ e. two (ap suc e)))
 
-pub has_for : (s t : Seen) (h k : Holding) (v : VersionVector) (batch : List Entry) → (s.live ≡ true) × (h ≡ holding s) → (t.live ≡ true) × (k ≡ holding t)
-    → IsVector h.entries v → batch ≡ after_vector v k.entries → HasFor s t (Ok batch)
-has_for s t h k v batch one other counts rest = (
-  (one.0, other.0),
-  record {
-    vector = v;
-    first = subst (λ es. IsVector es v) (ap (λ (x : Holding). x.entries) one.1) counts;
-    rest = rest ∙ ap (λ (x : Holding). after_vector v x.entries) other.1;
-  },
-)
+at_back : {X : Type 0} (xs : List X) (b : ℕ) (d : X) → get_or (drop b xs) 0 d ≡ get_or xs b d
+at_back xs b d = get_or-drop b xs 0 d ∙ ap (λ (n : ℕ). get_or xs n d) (omega arith)
 
-pub draws : (s t : Seen) (batch : List Entry) (r : Result Taken TakeError) (after : Seen) → AreOpen s t → IsBatch s t batch → Takes s batch r after → Draws s t r after
-draws s t batch (Ok taken) after both lacks takes = record { both = both; batch = batch; lacks = lacks; takes = takes }
-draws s t batch (Err take_error.Broken) after both lacks takes = (inl takes.0, takes.1)
-draws s t batch (Err take_error.BadEntry) after both lacks takes = record { both = both; batch = batch; lacks = lacks; takes = takes }
-draws s t batch (Err (take_error.Clash site seq)) after both lacks takes = record { both = both; batch = batch; lacks = lacks; takes = takes }
-draws s t batch (Err take_error.Full) after both lacks takes = record { both = both; batch = batch; lacks = lacks; takes = takes }
-draws s t batch (Err take_error.OutOfMemory) after both lacks takes = (both, takes.0)
-draws s t batch (Err take_error.JournalWrite) after both lacks takes = record { both = both; batch = batch; lacks = lacks; takes = takes }
+module _ {R : Type 0} (seen : R → Seen) where
+  two_set : (rs : List R) (a b : ℕ) (p q : R) → map seen (slice_set (slice_set rs a p) b q) ≡ slice_set (slice_set (map seen rs) a (seen p)) b (seen q)
+  two_set rs a b p q = map-set seen (slice_set rs a p) b q ∙ ap (λ l. slice_set l b (seen q)) (map-set seen rs a p)
 
-pub draws_at : (ss : Sites) (a b : ℕ) (x y : Seen) (r : Result Taken TakeError) (after : Seen) (new : Sites) → slice_get ss a ≡ Some x → slice_get ss b ≡ Some y → Draws x y r after → new ≡ slice_set ss a after → DrawsAt ss a b r new
-draws_at ss a b x y r after new at_a at_b told is = λ s t at_s at_t.
-    let first = some_seen x s (sym at_a ∙ at_s) in
-    let second = some_seen y t (sym at_b ∙ at_t) in
-    (after, subst (λ (u : Seen). Draws u t r after) first (subst (λ (u : Seen). Draws x u r after) second told), is)
+  -- sites that met are those at the two places
+  met_there : (rs new : List R) (a b : ℕ) (x y p q : R) (d e : R) (r : Result Met MeetingRefusal) → a < length rs → b < length rs → x ≡ get_or rs a d → y ≡ get_or rs b e → Meets (seen x) (seen y) r (seen p) (seen q)
+      → new ≡ slice_set (slice_set rs a p) b q → MeetsAt (map seen rs) a b r (map seen new)
+  met_there rs new a b x y p q d e r within_a within_b is_x is_y told is = λ s t at_s at_t.
+      let first : seen x ≡ s = ap seen is_x ∙ some_seen _ _ (sym (seen_read seen rs a d within_a) ∙ at_s) in
+      let second : seen y ≡ t = ap seen is_y ∙ some_seen _ _ (sym (seen_read seen rs b e within_b) ∙ at_t) in (
+        seen p,
+        seen q,
+        subst (λ (u : Seen). Meets u t r (seen p) (seen q)) first (subst (λ (u : Seen). Meets (seen x) u r (seen p) (seen q)) second told),
+        ap (map seen) is ∙ two_set rs a b p q,
+      )
 
--- a take that leaves the site as it was
-pub draws_none : (ss : Sites) (a b : ℕ) (x y : Seen) (r : Result Taken TakeError) → slice_get ss a ≡ Some x → slice_get ss b ≡ Some y → Draws x y r x → DrawsAt ss a b r ss
-draws_none ss a b x y r at_a at_b told = draws_at ss a b x y r x ss at_a at_b told (sym (set_there ss a x at_a))
+  -- the first stands before the second
+  pub meets_before : (rs front back : List R) (a b : ℕ) (p q d e : R) (r : Result Met MeetingRefusal) → front ≡ take b rs → back ≡ drop b rs → a < b → a < length rs → b < length rs
+      → Meets (seen (get_or front a d)) (seen (get_or back 0 e)) r (seen p) (seen q) → MeetsAt (map seen rs) a b r (map seen (slice_set front a p ++ slice_set back 0 q))
+  meets_before rs front back a b p q d e r is_front is_back lt within_a within_b told =
+      met_there rs (slice_set front a p ++ slice_set back 0 q) a b (get_or front a d) (get_or back 0 e) p q d e r within_a within_b (ap (λ l. get_or l a d) is_front ∙ get_or-take b rs a d lt) (ap (λ l. get_or l 0 e) is_back ∙ at_back rs b e) told
+      (ap (λ l. slice_set l a p ++ slice_set back 0 q) is_front ∙ ap (λ l. slice_set (take b rs) a p ++ slice_set l 0 q) is_back ∙ set_apart rs a b p q lt within_b)
 
-pub draws_take : {R : Type 0} (seen : R → Seen) (rs : List R) (a b : ℕ) (x y d after : R) (batch es : List Entry) (r : Result Taken TakeError) → a < length rs → b < length rs → x ≡ get_or rs a x → y ≡ get_or rs b y
-    → HasFor (seen x) (seen y) (Ok batch) → es ≡ batch → Takes (seen (get_or rs a d)) es r (seen after) → DrawsAt (map seen rs) a b r (map seen (slice_set rs a after))
-draws_take seen rs a b x y d after batch es r within_a within_b is_x is_y has same takes =
-    let at_a = seen_there seen rs a x within_a is_x in
-    let read : seen (get_or rs a d) ≡ seen x = some_seen _ _ (sym (seen_read seen rs a d within_a) ∙ at_a) in
-    let took : Takes (seen x) batch r (seen after) = subst (λ (l : List Entry). Takes (seen x) l r (seen after)) same (subst (λ (s : Seen). Takes s es r (seen after)) read takes) in
-    draws_at (map seen rs) a b (seen x) (seen y) r (seen after) (map seen (slice_set rs a after)) at_a (seen_there seen rs b y within_b is_y)
-    (draws (seen x) (seen y) batch r (seen after) has.0 has.1 took) (map-set seen rs a after)
+  -- and behind it
+  pub meets_behind : (rs front back : List R) (a b : ℕ) (p q d e : R) (r : Result Met MeetingRefusal) → front ≡ take a rs → back ≡ drop a rs → b < a → a < length rs → b < length rs
+      → Meets (seen (get_or back 0 d)) (seen (get_or front b e)) r (seen p) (seen q) → MeetsAt (map seen rs) a b r (map seen (slice_set front b q ++ slice_set back 0 p))
+  meets_behind rs front back a b p q d e r is_front is_back lt within_a within_b told =
+      met_there rs (slice_set front b q ++ slice_set back 0 p) a b (get_or back 0 d) (get_or front b e) p q d e r within_a within_b (ap (λ l. get_or l 0 d) is_back ∙ at_back rs a d) (ap (λ l. get_or l b e) is_front ∙ get_or-take a rs b e lt) told
+      (ap (λ l. slice_set l b q ++ slice_set back 0 p) is_front ∙ ap (λ l. slice_set (take a rs) b q ++ slice_set l 0 p) is_back ∙ set_apart rs b a q p lt within_a ∙ set_either rs b a q p (λ (same : b ≡ a). absurd (omega (arith, lt, same))))
 
--- ---- two takes
-
--- a site that took is open
-took_open : (s t : Seen) (taken : Taken) (after : Seen) → Draws s t (Ok taken) after → AreOpen t after
-took_open s t taken after told = (told.both.1, ap (λ (u : Seen). u.live) told.takes.union ∙ told.both.0)
-
-true_false : (b : Bool) → b ≡ true → b ≡ false → ⊥
-true_false b is is_not = cc
-
-both_open : (s t : Seen) → AreOpen s t → IsOneClosed s t → ⊥
-both_open s t both (inl closed) = true_false s.live both.0 closed
-both_open s t both (inr closed) = true_false t.live both.1 closed
-
-stops_first : (s t : Seen) (e : TakeError) (after : Seen) → Draws s t (Err e) after → Meets s t (Err e) after t
-stops_first s t take_error.Broken after told = (told.0, told.1, refl)
-stops_first s t take_error.BadEntry after told = (told.both, inl (told, refl))
-stops_first s t (take_error.Clash site seq) after told = (told.both, inl (told, refl))
-stops_first s t take_error.Full after told = (told.both, inl (told, refl))
-stops_first s t take_error.OutOfMemory after told = (told.0, inl (told, refl))
-stops_first s t take_error.JournalWrite after told = (told.both, inl (told, refl))
-
-stops_second : (s t : Seen) (taken : Taken) (e : TakeError) (after other : Seen) → Draws s t (Ok taken) after → Draws t after (Err e) other → Meets s t (Err e) after other
-stops_second s t taken take_error.Broken after other first told = absurd (both_open t after (took_open s t taken after first) told.0)
-stops_second s t taken take_error.BadEntry after other first told = (first.both, inr (taken, first, told))
-stops_second s t taken (take_error.Clash site seq) after other first told = (first.both, inr (taken, first, told))
-stops_second s t taken take_error.Full after other first told = (first.both, inr (taken, first, told))
-stops_second s t taken take_error.OutOfMemory after other first told = (first.both, inr (taken, first, told))
-stops_second s t taken take_error.JournalWrite after other first told = (first.both, inr (taken, first, told))
-
-pub meets_no_first : (ss : Sites) (a b : ℕ) (e : TakeError) (new : Sites) → a ≢ b → DrawsAt ss a b (Err e) new → MeetsAt ss a b (Err e) new
-meets_no_first ss a b e new two first = λ s t at_s at_t.
-    let (after, told, is) = first s t at_s at_t in
-    (after, t, stops_first s t e after told, is ∙ sym (set_there (slice_set ss a after) b t (get_other ss a b after two ∙ at_t)))
-
-pub meets_no_second : (ss : Sites) (a b : ℕ) (taken : Taken) (e : TakeError) (mid new : Sites) → a ≢ b → DrawsAt ss a b (Ok taken) mid → DrawsAt mid b a (Err e) new → MeetsAt ss a b (Err e) new
-meets_no_second ss a b taken e mid new two first second = λ s t at_s at_t.
-    let (after, told, is) = first s t at_s at_t in
-    let at_b : slice_get mid b ≡ Some t = ap (λ (xs : Sites). slice_get xs b) is ∙ get_other ss a b after two ∙ at_t in
-    let at_a : slice_get mid a ≡ Some after = ap (λ (xs : Sites). slice_get xs a) is ∙ get_set ss a s after at_s in
-    let (other, then, so) = second t after at_b at_a in
-    (after, other, stops_second s t taken e after other told then, so ∙ ap (λ (xs : Sites). slice_set xs b other) is)
-
-pub meets_whole : (ss : Sites) (a b : ℕ) (gains gives : Taken) (mid new : Sites) → a ≢ b → DrawsAt ss a b (Ok gains) mid → DrawsAt mid b a (Ok gives) new → MeetsAt ss a b (Ok (gains.fresh, gives.fresh)) new
-meets_whole ss a b gains gives mid new two first second = λ s t at_s at_t.
-    let (after, told, is) = first s t at_s at_t in
-    let at_b : slice_get mid b ≡ Some t = ap (λ (xs : Sites). slice_get xs b) is ∙ get_other ss a b after two ∙ at_t in
-    let at_a : slice_get mid a ≡ Some after = ap (λ (xs : Sites). slice_get xs a) is ∙ get_set ss a s after at_s in
-    let (other, then, so) = second t after at_b at_a in
-    (after, other, record { gains = gains; gives = gives; first = told; second = then; counts = refl }, so ∙ ap (λ (xs : Sites). slice_set xs b other) is)
+pub goes_before : (a b : ℕ) → a ≢ b → b ≤ a → b < a
+goes_before a b two le = elim (cases_Bool (eqb a b)) [
+  | inl same ↦ absurd (two (grind (arith, nat_tests)))
+  | inr other ↦ grind (arith, nat_tests)
+]
 
 -- ---- what is told of it
 
-pub tells_meeting : (ns : ℕ × ℕ) (ss : Sites) (a b : ℕ) (r : Result (ℕ × ℕ) TakeError) (text : List ℕ) (new : Sites) → MeetsAt ss a b r new → text ≡ meet_answer ns.0 ns.1 r → TellsMetAt ns ss a b text new
+pub tells_meeting : (ns : ℕ × ℕ) (ss : Sites) (a b : ℕ) (r : Result Met MeetingRefusal) (text : List ℕ) (new : Sites) → MeetsAt ss a b r new → text ≡ meet_answer ns.0 ns.1 r → TellsMetAt ns ss a b text new
 tells_meeting ns ss a b r text new meets line = λ s t at_s at_t.
     let (after, other, told, is) = meets s t at_s at_t in
     (after, other, record { answer = r; meets = told; line = line }, is)
 
 -- a meeting that leaves both sites as they were
-pub meets_none : (ss : Sites) (a b : ℕ) (x y : Seen) (e : TakeError) → a ≢ b → slice_get ss a ≡ Some x → slice_get ss b ≡ Some y → Draws x y (Err e) x → MeetsAt ss a b (Err e) ss
-meets_none ss a b x y e two at_a at_b told = meets_no_first ss a b e ss two (draws_none ss a b x y (Err e) at_a at_b told)
+pub meets_none : (ss : Sites) (a b : ℕ) (x y : Seen) (e : MeetingError) → slice_get ss a ≡ Some x → slice_get ss b ≡ Some y → MeetsNot x y e 0 x y
+    → MeetsAt ss a b (Err (record { error = e; first_took = 0 })) ss
+meets_none ss a b x y e at_a at_b told = λ s t at_s at_t.
+    let first = some_seen x s (sym at_a ∙ at_s) in
+    let second = some_seen y t (sym at_b ∙ at_t) in
+    let same = subst (λ (u : Seen). MeetsNot u t e 0 u t) first (subst (λ (u : Seen). MeetsNot x u e 0 x u) second told) in
+    (s, t, same, sym (ap (λ (xs : Sites). slice_set xs b t) (set_there ss a s at_s) ∙ set_there ss b t at_t))
 
 placed_by : (n : ℕ) (ss : Sites) (at : ℕ) (o : Option Placed) → site_of n ss ≡ o → Some at ≡ option_map place_in o → (s : Seen) × (site_of n ss ≡ Some (at, s)) × (slice_get ss at ≡ Some s)
 placed_by n ss at None is e = cc

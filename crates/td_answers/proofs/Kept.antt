@@ -14,7 +14,11 @@ use Rattle.td_replay.specs.declared.refusal.IssueError.TheVariants as issue_erro
 use Rattle.td_replay.specs.declared.refusal.TakeError.{TakeError}
 use Rattle.td_replay.specs.declared.refusal.TakeError.TheVariants as take_error
 use Rattle.td_answers.specs.Answers.{Answered, IssueAnswered, MeetAnswered, Tells}
-use Rattle.td_answers.specs.Meetings.{Draws, Meets}
+use Rattle.td_meeting.specs.Meetings.{Meets, MeetsNot, Stay, Stops, TakesFrom}
+use Rattle.td_meeting.specs.declared.error.MeetingError.{MeetingError}
+use Rattle.td_meeting.specs.declared.error.MeetingError.TheVariants as meeting_error
+use Rattle.td_meeting.specs.declared.meeting.Met.{Met}
+use Rattle.td_meeting.specs.declared.meeting.MeetingRefusal.{MeetingRefusal}
 use Rattle.td_answers.specs.Replies.{Replies, words}
 use Rattle.td_answers.specs.Sites.{AreOfScript, Placed, Sites, site_of, sites_of, two_of}
 use Rattle.td_answers.specs.declared.reply.Reply.{Reply}
@@ -34,31 +38,47 @@ issue_keeps s t (Err issue_error.Full) after told = same_script s after told.0.1
 issue_keeps s t (Err issue_error.OutOfMemory) after told = same_script s after told.1
 issue_keeps s t (Err issue_error.JournalWrite) after told = told.0.script
 
-draw_keeps : (s t : Seen) (r : Result Taken TakeError) (after : Seen) → Draws s t r after → after.script ≡ s.script
-draw_keeps s t (Ok taken) after told = ap (λ (u : Seen). u.script) told.takes.union
-draw_keeps s t (Err take_error.Broken) after told = same_script s after told.1
-draw_keeps s t (Err take_error.BadEntry) after told = same_script s after told.takes.0.1
-draw_keeps s t (Err (take_error.Clash site seq)) after told = same_script s after told.takes.0.1
-draw_keeps s t (Err take_error.Full) after told = same_script s after told.takes.0.1
-draw_keeps s t (Err take_error.OutOfMemory) after told = same_script s after told.1.1
-draw_keeps s t (Err take_error.JournalWrite) after told = told.takes.0.script
+take_keeps : (s : Seen) (batch : List Entry) (r : Result Taken TakeError) (after : Seen) → Takes s batch r after → after.script ≡ s.script
+take_keeps s batch (Ok taken) after told = ap (λ (u : Seen). u.script) told.union
+take_keeps s batch (Err take_error.Broken) after told = same_script s after told.1
+take_keeps s batch (Err take_error.BadEntry) after told = same_script s after told.0.1
+take_keeps s batch (Err (take_error.Clash site seq)) after told = same_script s after told.0.1
+take_keeps s batch (Err take_error.Full) after told = same_script s after told.0.1
+take_keeps s batch (Err take_error.OutOfMemory) after told = same_script s after told.0.1
+take_keeps s batch (Err take_error.JournalWrite) after told = told.0.script
+
+takes_keep : (s t : Seen) (r : Result Taken TakeError) (after : Seen) → TakesFrom s t r after → after.script ≡ s.script
+takes_keep s t r after told = take_keeps s told.batch r after told.takes
 
 pub record Keep (s t after other : Seen) : Type 0 where
   pub first : after.script ≡ s.script
   pub second : other.script ≡ t.script
 
-stop_keeps : (s t : Seen) (e : TakeError) (after other : Seen) → (Draws s t (Err e) after × (other ≡ t)) ⊎ ((taken : Taken) × Draws s t (Ok taken) after × Draws t after (Err e) other) → Keep s t after other
-stop_keeps s t e after other (inl told) = record { first = draw_keeps s t (Err e) after told.0; second = same_script t other told.1 }
-stop_keeps s t e after other (inr (taken, first, told)) = record { first = draw_keeps s t (Ok taken) after first; second = draw_keeps t after (Err e) other told }
+stay_keeps : (s t : Seen) (took : ℕ) (after other : Seen) → Stay s t took after other → Keep s t after other
+stay_keeps s t took after other told = record { first = same_script s after told.0; second = same_script t other told.1 }
 
-meet_keeps : (s t : Seen) (r : Result (ℕ × ℕ) TakeError) (after other : Seen) → Meets s t r after other → Keep s t after other
-meet_keeps s t (Ok fresh) after other told = record { first = draw_keeps s t (Ok told.gains) after told.first; second = draw_keeps t after (Ok told.gives) other told.second }
-meet_keeps s t (Err take_error.Broken) after other told = record { first = same_script s after told.1; second = same_script t other told.2 }
-meet_keeps s t (Err take_error.BadEntry) after other told = stop_keeps s t take_error.BadEntry after other told.1
-meet_keeps s t (Err (take_error.Clash site seq)) after other told = stop_keeps s t (take_error.Clash site seq) after other told.1
-meet_keeps s t (Err take_error.Full) after other told = stop_keeps s t take_error.Full after other told.1
-meet_keeps s t (Err take_error.OutOfMemory) after other told = stop_keeps s t take_error.OutOfMemory after other told.1
-meet_keeps s t (Err take_error.JournalWrite) after other told = stop_keeps s t take_error.JournalWrite after other told.1
+stop_keeps : (s t : Seen) (e : TakeError) (took : ℕ) (after other : Seen) → Stops s t e took after other → Keep s t after other
+stop_keeps s t e took after other (inl told) = record { first = takes_keep s t (Err e) after told.0; second = same_script t other told.1 }
+stop_keeps s t e took after other (inr (taken, first, told, count)) = record { first = takes_keep s t (Ok taken) after first; second = takes_keep t after (Err e) other told }
+
+meets_not_keeps : (s t : Seen) (e : MeetingError) (took : ℕ) (after other : Seen) → MeetsNot s t e took after other → Keep s t after other
+meets_not_keeps s t meeting_error.Broken took after other told = stay_keeps s t took after other told.1
+meets_not_keeps s t meeting_error.OtherScript took after other told = stay_keeps s t took after other told.2
+meets_not_keeps s t meeting_error.SameSite took after other told = stay_keeps s t took after other told.3
+meets_not_keeps s t meeting_error.OutOfMemory took after other (both, inl told) = stay_keeps s t took after other told
+meets_not_keeps s t meeting_error.OutOfMemory took after other (both, inr (x, first, same, count)) = record { first = takes_keep s t (Ok x) after first; second = same_script t other same }
+meets_not_keeps s t (meeting_error.Take take_error.Broken) took after other told = absurd told
+meets_not_keeps s t (meeting_error.Take take_error.OutOfMemory) took after other told = absurd told
+meets_not_keeps s t (meeting_error.Take take_error.BadEntry) took after other told = stop_keeps s t take_error.BadEntry took after other told.1
+meets_not_keeps s t (meeting_error.Take (take_error.Clash site seq)) took after other told = stop_keeps s t (take_error.Clash site seq) took after other told.1
+meets_not_keeps s t (meeting_error.Take take_error.Full) took after other told = stop_keeps s t take_error.Full took after other told.1
+meets_not_keeps s t (meeting_error.Take take_error.JournalWrite) took after other told = stop_keeps s t take_error.JournalWrite took after other told.1
+meets_not_keeps s t (meeting_error.Frame e taken) took after other told = absurd told
+meets_not_keeps s t (meeting_error.WriteFault taken) took after other told = absurd told
+
+meet_keeps : (s t : Seen) (r : Result Met MeetingRefusal) (after other : Seen) → Meets s t r after other → Keep s t after other
+meet_keeps s t (Ok met) after other told = record { first = takes_keep s t (Ok told.gains) after told.first; second = takes_keep t after (Ok told.gives) other told.second }
+meet_keeps s t (Err r) after other told = meets_not_keeps s t r.error r.first_took after other told
 
 -- ---- all sites
 

@@ -15,15 +15,16 @@ use Rattle.td_replay.specs.declared.answer.Reply.{Reply}
 use Rattle.td_replay.specs.declared.answer.Reply.TheVariants as reply
 use Rattle.td_replay.specs.declared.refusal.AskError.{AskError}
 use Rattle.td_replay.specs.declared.refusal.IssueError.{IssueError}
-use Rattle.td_replay.specs.declared.refusal.TakeError.{TakeError}
 use Rattle.td_listings.specs.Calls.{Lists, Logs, Tabulates}
 use Rattle.td_listings.specs.Texts.{shown_outcome, shown_stamp, vector_of}
 use Rattle.td_listings.specs.declared.error.ListError.{ListError}
 use Rattle.td_listings.specs.declared.error.ListError.TheVariants as list_error
 use Rattle.td_listings.specs.declared.error.TableError.{TableError}
 use Rattle.td_lines.specs.Lines.{Line, nothing, quit, issue, query, meet, listing, log, vector, table, serve, call, faulty}
-use Rattle.td_answers.specs.Faults.{ask_fault, issue_fault, link_fault, list_fault, raised_line, table_fault, take_fault}
-use Rattle.td_answers.specs.Meetings.{Meets}
+use Rattle.td_answers.specs.Faults.{ask_fault, issue_fault, link_fault, list_fault, meeting_fault, raised_line, table_fault}
+use Rattle.td_meeting.specs.Meetings.{Meets}
+use Rattle.td_meeting.specs.declared.meeting.Met.{Met}
+use Rattle.td_meeting.specs.declared.meeting.MeetingRefusal.{MeetingRefusal}
 use Rattle.td_answers.specs.Sites.{Sites, Placed, site_of, sites_of}
 
 -- where a site is not there
@@ -123,15 +124,15 @@ pub record TellsLink (address : List ℕ) (s : Seen) (text : List ℕ) : Type 0 
 -- ---- .meet n m
 
 -- met n m fresh A B
-abbrev pub met_line : ℕ → ℕ → ℕ × ℕ → List ℕ
-met_line n m fresh = codes "met " ++ decimal n ++ codes " " ++ decimal m ++ codes " fresh " ++ decimal fresh.0 ++ codes " " ++ decimal fresh.1 ++ codes "\n"
+abbrev pub met_line : ℕ → ℕ → Met → List ℕ
+met_line n m met = codes "met " ++ decimal n ++ codes " " ++ decimal m ++ codes " fresh " ++ decimal met.first ++ codes " " ++ decimal met.second ++ codes "\n"
 
-abbrev pub meet_answer : ℕ → ℕ → Result (ℕ × ℕ) TakeError → List ℕ
-meet_answer n m (Ok fresh) = met_line n m fresh
-meet_answer n m (Err e) = take_fault e
+abbrev pub meet_answer : ℕ → ℕ → Result Met MeetingRefusal → List ℕ
+meet_answer n m (Ok met) = met_line n m met
+meet_answer n m (Err r) = meeting_fault r.error
 
 pub record TellsMet (n m : ℕ) (s t : Seen) (text : List ℕ) (after other : Seen) : Type 0 where
-  pub answer : Result (ℕ × ℕ) TakeError
+  pub answer : Result Met MeetingRefusal
   pub meets : Meets s t answer after other
   pub line : text ≡ meet_answer n m answer
 

@@ -9,6 +9,10 @@ use Rattle.td_replay.specs.declared.refusal.IssueError.{IssueError}
 use Rattle.td_replay.specs.declared.refusal.IssueError.TheVariants as issue_error
 use Rattle.td_replay.specs.declared.refusal.TakeError.{TakeError}
 use Rattle.td_replay.specs.declared.refusal.TakeError.TheVariants as take_error
+use Rattle.td_frames.specs.declared.error.FrameError.{FrameError}
+use Rattle.td_frames.specs.declared.error.FrameError.TheVariants as frame_error
+use Rattle.td_meeting.specs.declared.error.MeetingError.{MeetingError}
+use Rattle.td_meeting.specs.declared.error.MeetingError.TheVariants as meeting_error
 use Rattle.td_listings.specs.Texts.{shown_raise}
 use Rattle.td_listings.specs.declared.error.ListError.{ListError}
 use Rattle.td_listings.specs.declared.error.ListError.TheVariants as list_error
@@ -45,6 +49,27 @@ take_fault (take_error.Clash site seq) = clash_line site seq
 take_fault take_error.Full = codes "fault full\n"
 take_fault take_error.OutOfMemory = codes "fault memory\n"
 take_fault take_error.JournalWrite = codes "fault journal\n"
+
+-- fault WHAT TAKEN
+abbrev pub counted_line : List ℕ → ℕ → List ℕ
+counted_line what taken = codes "fault " ++ what ++ codes " " ++ decimal taken ++ codes "\n"
+
+abbrev pub frame_fault : FrameError → ℕ → List ℕ
+frame_fault frame_error.OutOfMemory taken = codes "fault memory\n"
+frame_fault frame_error.ReadFault taken = counted_line (codes "read") taken
+frame_fault frame_error.Cut taken = counted_line (codes "cut") taken
+frame_fault frame_error.Magic taken = codes "fault magic\n"
+frame_fault frame_error.Version taken = codes "fault version\n"
+frame_fault frame_error.BadFrame taken = codes "fault frame\n"
+
+abbrev pub meeting_fault : MeetingError → List ℕ
+meeting_fault meeting_error.Broken = codes "fault broken\n"
+meeting_fault meeting_error.OutOfMemory = codes "fault memory\n"
+meeting_fault (meeting_error.Frame e taken) = frame_fault e taken
+meeting_fault meeting_error.OtherScript = codes "fault script\n"
+meeting_fault meeting_error.SameSite = codes "fault same site\n"
+meeting_fault (meeting_error.WriteFault taken) = counted_line (codes "write") taken
+meeting_fault (meeting_error.Take e) = take_fault e
 
 abbrev pub list_fault : ListError → List ℕ
 list_fault list_error.Broken = codes "fault broken\n"

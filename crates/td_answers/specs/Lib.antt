@@ -1,7 +1,6 @@
 -- The definitions of the crate.
 pub mod Sites
 pub mod Faults
-pub mod Meetings
 pub mod Answers
 pub mod Replies
 pub mod ForProofs

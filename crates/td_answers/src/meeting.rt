@@ -1,17 +1,18 @@
 //! Meetings of two sites.
 
-ghost use Rattle.std.specs.Prelude.{◌≡◌, ◌≢◌, ◌<◌, Ok, Err, MatchBool, MatchResult, length, map};
+ghost use Rattle.std.specs.Prelude.{◌≡◌, ◌≢◌, ◌<◌, MatchBool, length, map};
 ghost use Rattle.td_answers.specs.Faults as spec;
-ghost use Rattle.td_answers.specs.Meetings.{AreOpen, IsOneClosed};
-ghost use Rattle.td_answers.specs.ForProofs.Drawn.{DrawsAt, HasFor, MeetsAt, TellsMetAt};
+ghost use Rattle.td_meeting.specs.Meetings.{AreOpen, IsOneClosed};
+ghost use Rattle.td_answers.specs.ForProofs.Drawn.{MeetsAt, TellsMetAt};
 ghost use Rattle.td_answers.specs.ForProofs.Said.{IsBlank, Says};
 
 use crate::reply::Reply;
-use crate::writing::{blank_line, clash_line, met_line};
+use crate::writing::{blank_line, clash_line, counted_line, met_line};
 use std::alloc::Global;
 use td_assign::Meter;
-use td_replay::{Replica, TakeError, Taken, TellError};
-use td_stamps::Entry;
+use td_frames::FrameError;
+use td_meeting::{MeetingError, MeetingRefusal, Met, meet};
+use td_replay::{Replica, TakeError};
 
 fn are_open<R: Replica>(first: &R, second: &R) -> bool
     ensures { MatchBool result (AreOpen (R.seen first.now) (R.seen second.now)) (IsOneClosed (R.seen first.now) (R.seen second.now)) }
@@ -19,64 +20,26 @@ fn are_open<R: Replica>(first: &R, second: &R) -> bool
     first.is_open() && second.is_open()
 }
 
-// What the second site has for the first.
-fn batch_for<R: Replica>(alloc: Global, first: &R, second: &R) -> Result<Vec<Entry>, TellError>
-    ensures { MatchResult result (λ v. HasFor (R.seen first.now) (R.seen second.now) (Ok v.items)) (λ e. HasFor (R.seen first.now) (R.seen second.now) (Err e)) }
-{
-    let (Ok(held), Ok(other)) = (first.held(), second.held()) else {
-        return Err(TellError::Broken);
-    };
-    let Ok(vector) = held.vector(alloc) else {
-        return Err(TellError::OutOfMemory);
-    };
-    match other.after(alloc, &vector) {
-        Ok(batch) => Ok(batch),
-        Err(_) => Err(TellError::OutOfMemory),
-    }
-}
-
-// The first site takes what the second has for it.
-fn draw<R: Replica>(
-    alloc: Global,
-    sites: &mut [R],
-    first: usize,
-    second: usize,
-    meter: &mut Meter,
-) -> Result<Taken, TakeError>
-    requires first { first < length sites.old }
-    requires second { second < length sites.old }
-    ensures { DrawsAt (map R.seen sites.old) first second result (map R.seen sites.new) }
-{
-    let batch = match batch_for(alloc, &sites[first], &sites[second]) {
-        Ok(batch) => batch,
-        Err(TellError::Broken) => return Err(TakeError::Broken),
-        Err(TellError::OutOfMemory) => return Err(TakeError::OutOfMemory),
-    };
-    sites[first].take(alloc, batch.as_slice(), meter)
-}
-
-// Each of the sites takes what the other has for it; how many entries were fresh to each.
+// A meeting of the sites at two places.
 fn meeting<R: Replica>(
     alloc: Global,
     sites: &mut [R],
     first: usize,
     second: usize,
     meter: &mut Meter,
-) -> Result<(usize, usize), TakeError>
+) -> Result<Met, MeetingRefusal>
     requires first { first < length sites.old }
     requires second { second < length sites.old }
     requires two { first ≢ second }
     ensures { MeetsAt (map R.seen sites.old) first second result (map R.seen sites.new) }
 {
-    let gains = match draw(alloc, sites, first, second, meter) {
-        Ok(taken) => taken.fresh,
-        Err(error) => return Err(error),
-    };
-    let gives = match draw(alloc, sites, second, first, meter) {
-        Ok(taken) => taken.fresh,
-        Err(error) => return Err(error),
-    };
-    Ok((gains, gives))
+    if first < second {
+        let (front, back) = sites.split_at_mut(second);
+        meet(alloc, &mut front[first], &mut back[0], meter)
+    } else {
+        let (front, back) = sites.split_at_mut(first);
+        meet(alloc, &mut back[0], &mut front[second], meter)
+    }
 }
 
 fn take_fault(line: String, error: TakeError) -> Reply
@@ -90,6 +53,35 @@ fn take_fault(line: String, error: TakeError) -> Reply
         TakeError::Full => Reply::Fixed("fault full\n"),
         TakeError::OutOfMemory => Reply::Fixed("fault memory\n"),
         TakeError::JournalWrite => Reply::Fixed("fault journal\n"),
+    }
+}
+
+fn frame_fault(line: String, error: FrameError, taken: usize) -> Reply
+    requires { IsBlank line }
+    ensures { Says (λ words. words ≡ spec.frame_fault error taken) result }
+{
+    match error {
+        FrameError::OutOfMemory => Reply::Fixed("fault memory\n"),
+        FrameError::ReadFault => Reply::Text(counted_line(line, "read", taken)),
+        FrameError::Cut => Reply::Text(counted_line(line, "cut", taken)),
+        FrameError::Magic => Reply::Fixed("fault magic\n"),
+        FrameError::Version => Reply::Fixed("fault version\n"),
+        FrameError::BadFrame => Reply::Fixed("fault frame\n"),
+    }
+}
+
+fn meeting_fault(line: String, error: MeetingError) -> Reply
+    requires { IsBlank line }
+    ensures { Says (λ words. words ≡ spec.meeting_fault error) result }
+{
+    match error {
+        MeetingError::Broken => Reply::Fixed("fault broken\n"),
+        MeetingError::OutOfMemory => Reply::Fixed("fault memory\n"),
+        MeetingError::Frame { error, taken } => frame_fault(line, error, taken),
+        MeetingError::OtherScript => Reply::Fixed("fault script\n"),
+        MeetingError::SameSite => Reply::Fixed("fault same site\n"),
+        MeetingError::WriteFault { taken } => Reply::Text(counted_line(line, "write", taken)),
+        MeetingError::Take(error) => take_fault(line, error),
     }
 }
 
@@ -114,7 +106,7 @@ pub(crate) fn meet_at<R: Replica>(
         return Reply::Fixed("fault memory\n");
     };
     match meeting(alloc, sites, first, second, meter) {
-        Ok(fresh) => Reply::Text(met_line(line, numbers, fresh)),
-        Err(error) => take_fault(line, error),
+        Ok(met) => Reply::Text(met_line(line, numbers, met)),
+        Err(refusal) => meeting_fault(line, refusal.error),
     }
 }

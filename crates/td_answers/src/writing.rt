@@ -10,6 +10,7 @@ ghost use Rattle.td_assign.specs.declared.outcome.Outcome.TheVariants as became;
 use itoa::Buffer;
 use std::alloc::Global;
 use td_assign::Outcome;
+use td_meeting::Met;
 use td_replay::Issued;
 use td_stamps::Stamp;
 use td_values::{Name, Raise};
@@ -136,6 +137,20 @@ pub(crate) fn clash_line(mut line: String, site: u16, seq: u32) -> String
     line
 }
 
+/// The line of a fault before which so many fresh entries were taken.
+pub(crate) fn counted_line(mut line: String, what: &str, taken: usize) -> String
+    requires blank { IsBlank line }
+    requires short { length what.now ≤ 5 }
+    ensures { string_bytes result ≡ faults.counted_line what.now taken }
+{
+    put(&mut line, "fault ");
+    put(&mut line, what);
+    put(&mut line, " ");
+    put_number(&mut line, taken as u64);
+    put(&mut line, "\n");
+    line
+}
+
 // The front of the line of a meeting.
 fn put_met(line: &mut String, first: u32, second: u32)
     requires { string_len line.old + 52 ≤ string_capacity line.old }
@@ -151,14 +166,14 @@ fn put_met(line: &mut String, first: u32, second: u32)
 }
 
 /// The line of a meeting of two sites, by their numbers and how many entries were fresh to each.
-pub(crate) fn met_line(mut line: String, numbers: (u32, u32), fresh: (usize, usize)) -> String
+pub(crate) fn met_line(mut line: String, numbers: (u32, u32), met: Met) -> String
     requires { IsBlank line }
-    ensures { string_bytes result ≡ answers.met_line numbers.0 numbers.1 fresh }
+    ensures { string_bytes result ≡ answers.met_line numbers.0 numbers.1 met }
 {
     put_met(&mut line, numbers.0, numbers.1);
-    put_number(&mut line, fresh.0 as u64);
+    put_number(&mut line, met.first as u64);
     put(&mut line, " ");
-    put_number(&mut line, fresh.1 as u64);
+    put_number(&mut line, met.second as u64);
     put(&mut line, "\n");
     line
 }

@@ -13,11 +13,7 @@ use td_devices::{Channel, Failed, Sink, Source};
 use td_replay::{Replica, Taken};
 
 /// The first step, of the first site: it writes its greeting, and hands it on. It costs a walk along what the site holds.
-pub fn greet<R: Replica, K: Sink>(
-    alloc: Global,
-    site: &R,
-    sink: &mut K,
-) -> Result<(), MeetingError>
+pub fn greet<R: Replica, K: Sink>(alloc: Global, site: &R, sink: &mut K) -> Result<(), MeetingError>
     ensures greeted { Greeted (R.seen site.now) (record { left = K.aside sink.old; held = K.held sink.old; failures = K.faults sink.old }) result
         (record { left = K.aside sink.new; held = K.held sink.new; failures = K.faults sink.new }) }
     ensures aside { Keeps (K.aside sink.old) (K.aside sink.new) }

@@ -1,18 +1,14 @@
-use Rattle.std.proofs.Common.{map}
-use Rattle.td_answers.proofs.Drawing.{meets_no_first, meets_no_second, meets_whole}
+use Rattle.td_answers.proofs.Drawing.{goes_before, meets_before, meets_behind}
 use Rattle.td_answers.proofs.meeting.meeting.Goals as goal
 
-pub returns-in-Err : goal.returns-in-Err
-returns-in-Err g c =
-    let seen = g.R.Replica.seen in
-    meets_no_first (map seen c.args.sites.now) c.args.first c.args.second c.in-Err.error (map seen c.draw.new.sites) c.requires.two c.in-Err.ensures
+pub returns-then-first-second : goal.returns-then-first-second
+returns-then-first-second g c =
+    meets_before g.R.Replica.seen c.args.sites.now c.split_at_mut-front.result.0.now c.split_at_mut-front.result.1.now c.args.first c.args.second c.meet.new.first c.meet.new.second c.index-front-first.result c.index-back-0.result c.meet.result
+    c.split_at_mut-front.ensures.front c.split_at_mut-front.ensures.back c.if-first-second.true c.requires.first c.requires.second c.meet.ensures
 
-pub returns-in-Err-draw : goal.returns-in-Err-draw
-returns-in-Err-draw g c =
-    let seen = g.R.Replica.seen in
-    meets_no_second (map seen c.args.sites.now) c.args.first c.args.second c.in-Ok.taken c.in-Err-draw.error (map seen c.draw.new.sites) (map seen c.draw-2.new.sites) c.requires.two c.in-Ok.ensures c.in-Err-draw.ensures
-
-pub returns : goal.returns
-returns g c =
-    let seen = g.R.Replica.seen in
-    meets_whole (map seen c.args.sites.now) c.args.first c.args.second c.in-Ok.taken c.in-Ok-draw.taken (map seen c.draw.new.sites) (map seen c.draw-2.new.sites) c.requires.two c.in-Ok.ensures c.in-Ok-draw.ensures
+pub returns-else-first-second : goal.returns-else-first-second
+returns-else-first-second g c =
+    let split = c.split_at_mut-front-else-first-second in
+    let met = c.meet-else-first-second in
+    meets_behind g.R.Replica.seen c.args.sites.now split.result.0.now split.result.1.now c.args.first c.args.second met.new.first met.new.second c.index-back-0-else-first-second.result c.index-front-second.result met.result
+    split.ensures.front split.ensures.back (goes_before c.args.first c.args.second c.requires.two c.if-first-second.false) c.requires.first c.requires.second met.ensures

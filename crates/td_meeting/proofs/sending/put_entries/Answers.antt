@@ -31,7 +31,7 @@ loop-entry-preserved g c =
     let e = c.entry-item.result in
     record {
       bytes = subst (Appends _ _) (sym (more_of (frames_of v) xs i e c.loop-entry-test.true))
-      (Appends-trans _ _ _ _ _ l.invariant.bytes (subst (Appends _ _) (ap (frames_of v) c.entry-item.is) c.in_ok-put_lacking.ensures.bytes));
+          (Appends-trans _ _ _ _ _ l.invariant.bytes (subst (Appends _ _) (ap (frames_of v) c.entry-item.is) c.in_ok-put_lacking.ensures.bytes));
       has = framed_more v xs i e c.loop-entry-test.true l.invariant.has (subst (λ (x : Entry). AllByRecursion HasFrame (after_vector v (x ∷ []))) c.entry-item.is c.in_ok-put_lacking.ensures.has);
       aside = Keeps-trans _ _ _ l.invariant.aside c.in_ok-put_lacking.ensures.aside;
       count = search rules;
