@@ -8,3 +8,4 @@ pub mod Whole
 pub mod Steady
 pub mod Carrying
 pub mod Exchanged
+pub mod Unions

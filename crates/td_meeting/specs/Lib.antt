@@ -5,3 +5,4 @@ pub mod Steps
 pub mod ForProofs
 pub mod Meetings
 pub mod Carried
+pub mod Laws

@@ -3,6 +3,7 @@
 
 pub mod error;
 mod hearing;
+pub mod laws;
 pub mod meeting;
 mod memory;
 mod sending;
