@@ -34,7 +34,7 @@ ok_is x y e = cc
 ok_err : (x : Greeting × List ℕ) (m : Miss) → ◌≡◌ {A = Found} (Ok x) (Err m) → ⊥
 ok_err x m e = absurd cc
 
-reads_same : (left rest more : List ℕ) (x g : Greeting) → ReadsGreeting (Some left) (Some rest) x → greeting_at left ≡ Ok (g, more) → ◌≡◌ {A = Greeting × List ℕ} (x, rest) (g, more)
+pub reads_same : (left rest more : List ℕ) (x g : Greeting) → ReadsGreeting (Some left) (Some rest) x → greeting_at left ≡ Ok (g, more) → ◌≡◌ {A = Greeting × List ℕ} (x, rest) (g, more)
 reads_same left rest more x g read is = ok_is (x, rest) (g, more) (sym (read.reads rest) ∙ ap greeting_at (sym read.consumed) ∙ is)
 
 refused_not : (left rest bytes : List ℕ) (y : Greeting × List ℕ) (m : Miss) → m ≢ short → left ≡ bytes ++ rest → greeting_at bytes ≡ Err m → greeting_at left ≡ Ok y → ⊥
@@ -80,7 +80,7 @@ Stream = List Entry × Result (List ℕ) Miss
 whole_err : (es fs : List Entry) (rest : List ℕ) (m : Miss) → ◌≡◌ {A = Stream} (es, Ok rest) (fs, Err m) → ⊥
 whole_err es fs rest m e = let ends = ap (λ (p : Stream). p.1) e in absurd cc
 
-same_entries : (left rest : List ℕ) (es fs : List Entry) (bytes : List ℕ) → left ≡ bytes ++ rest → entries_at most_entries bytes ≡ (fs, Ok []) → entries_at most_entries left ≡ (es, Ok []) → fs ≡ es
+pub same_entries : (left rest : List ℕ) (es fs : List Entry) (bytes : List ℕ) → left ≡ bytes ++ rest → entries_at most_entries bytes ≡ (fs, Ok []) → entries_at most_entries left ≡ (es, Ok []) → fs ≡ es
 same_entries left rest es fs bytes split read is = ap (λ (p : Stream). p.0) (sym (stream_reads most_entries bytes rest [] fs read) ∙ ap (entries_at most_entries) (sym split) ∙ is)
 
 cut_not : (left rest bytes : List ℕ) (es fs : List Entry) → left ≡ bytes ++ rest → rest ≡ [] → entries_at most_entries bytes ≡ (fs, Err short) → entries_at most_entries left ≡ (es, Ok []) → ⊥

@@ -37,7 +37,7 @@ use Rattle.td_meeting.specs.ForProofs.{Untaken}
 abbrev pub greeting_of : (s : Seen) → VersionVector → Greeting
 greeting_of s v = record { site = s.site; script = s.script; vector = v }
 
-greets_read : (s : Seen) (own more : List ℕ) (g : Greets s own) → greeting_at (own ++ more) ≡ Ok (greeting_of s g.vector, more)
+pub greets_read : (s : Seen) (own more : List ℕ) (g : Greets s own) → greeting_at (own ++ more) ≡ Ok (greeting_of s g.vector, more)
 greets_read s own more g = ap (λ (l : List ℕ). greeting_at (l ++ more)) g.spelled ∙ greeting_again s.site s.script g.vector more g.has
 
 fewer_step : (p : Entry → Bool) (b : Bool) (x : Entry) (xs : List Entry) (n : ℕ) → length (filter p xs) ≤ n → length (cond b (x ∷ filter p xs) (filter p xs)) ≤ suc n
@@ -106,10 +106,14 @@ settles_untaken s left bytes rest x e r after same is hears receives = λ g more
 
 -- ---- the last two steps
 
-module _ (s t : Seen) (bytes : List ℕ) (answer : IsAnswer s t bytes) (both : AreOpen s t) (two : AreTwo s t) where
-  found : greeting_at bytes ≡ Ok (greeting_of t answer.greets.vector, sends t answer.vector)
-  found = ap greeting_at answer.whole ∙ greets_read t answer.own (sends t answer.vector) answer.greets
+-- what the first site reads
+pub found : (s t : Seen) (bytes : List ℕ) (answer : IsAnswer s t bytes) → greeting_at bytes ≡ Ok (greeting_of t answer.greets.vector, sends t answer.vector)
+found s t bytes answer = ap greeting_at answer.whole ∙ greets_read t answer.own (sends t answer.vector) answer.greets
 
+pub whole_stream : (s t : Seen) (bytes : List ℕ) (answer : IsAnswer s t bytes) → IsSound t → entries_at most_entries (sends t answer.vector) ≡ (after_vector answer.vector t.entries, Ok [])
+whole_stream s t bytes answer sound = sends_read t answer.vector answer.sent (few_held t answer.vector sound.limit sound.within)
+
+module _ (s t : Seen) (bytes : List ℕ) (answer : IsAnswer s t bytes) (both : AreOpen s t) (two : AreTwo s t) where
   pub takes_first : (r : Result Taken TakeError) (after : Seen) → Takes s (after_vector answer.vector t.entries) r after → TakesFrom s t r after
   takes_first r after takes = record { both = both; batch = after_vector answer.vector t.entries; lacks = record { vector = answer.vector; first = answer.is; rest = refl }; takes = takes }
 
@@ -133,7 +137,7 @@ module _ (s t : Seen) (bytes : List ℕ) (answer : IsAnswer s t bytes) (both : A
 
   pub settles : (r : Result (Taken × List ℕ) MeetingRefusal) (after : Seen) → IsSound t → SettlesIn s bytes r after → Settling s (greeting_of t answer.greets.vector) (after_vector answer.vector t.entries) r after
   settles r after sound told =
-      told (greeting_of t answer.greets.vector) (sends t answer.vector) (after_vector answer.vector t.entries) found (sends_read t answer.vector answer.sent (few_held t answer.vector sound.limit sound.within))
+      told (greeting_of t answer.greets.vector) (sends t answer.vector) (after_vector answer.vector t.entries) (found s t bytes answer) (whole_stream s t bytes answer sound)
 
   pub meets_stopped : (r : MeetingRefusal) (after : Seen) → IsSound t → SettlesIn s bytes (Err r) after → MeetsNot s t r.error r.first_took after t
   meets_stopped r after sound told = stops_by r.error r.first_took after (settles (Err r) after sound told)

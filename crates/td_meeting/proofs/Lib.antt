@@ -8,4 +8,5 @@ pub mod Whole
 pub mod Steady
 pub mod Carrying
 pub mod Exchanged
+pub mod Stepping
 pub mod Unions
