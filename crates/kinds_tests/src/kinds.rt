@@ -1,4 +1,10 @@
 //! Worked examples, whose answers come from the rules of types.
+
+ghost use Rattle.std.specs.Prelude.{◌≡◌, None, Some, Err, Ok};
+ghost use Rattle.td_values.specs.declared.TypeKind.{TypeKind};
+ghost use Rattle.td_kinds.specs.declared.error.TypeError.TheVariants as type_error;
+ghost use Rattle.td_kinds.specs.declared.scope.Meant.TheVariants as means;
+
 use sqlite_items::Items;
 use std::alloc::Global;
 use std::test::Fail;
@@ -140,7 +146,10 @@ fn what_is_defined_is_found(rt: HostRuntime) -> Result<()> {
     Ok(())
 }
 
-fn kind_of(meant: Option<Meant>) -> Found {
+fn kind_of(meant: Option<Meant>) -> Found
+    ensures unknown { meant ≡ None → result ≡ Err type_error.IllTyped }
+    ensures local { (kind : TypeKind) → meant ≡ Some (means.Local kind) → result ≡ Ok kind }
+{
     match meant {
         Some(Meant::Local(kind)) => Ok(kind),
         Some(Meant::Relvar(_, heading)) => Ok(TypeKind::Relation(heading)),
