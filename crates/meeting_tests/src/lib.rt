@@ -10,6 +10,8 @@ mod cuts;
 #[cfg(test)]
 mod fakes;
 #[cfg(test)]
+mod meetings;
+#[cfg(test)]
 mod site;
 #[cfg(test)]
 mod worked;

@@ -61,7 +61,7 @@ fn said<R: Replica, C: Channel>(
     }
 }
 
-fn batch(alloc: Global, written: &[Written]) -> Result<Vec<Entry>> {
+pub fn batch(alloc: Global, written: &[Written]) -> Result<Vec<Entry>> {
     let mut batch = Vec::new(alloc);
     for (site, seq, clock, text) in written {
         let text = Text::from_str(alloc, text)?;
@@ -75,7 +75,7 @@ fn batch(alloc: Global, written: &[Written]) -> Result<Vec<Entry>> {
     Ok(batch)
 }
 
-fn vector<R: Replica>(alloc: Global, site: &R) -> Result<String> {
+pub fn vector<R: Replica>(alloc: Global, site: &R) -> Result<String> {
     let mut text = String::new(alloc);
     let Ok(held) = site.held() else {
         return Ok(text);
