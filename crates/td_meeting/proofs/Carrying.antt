@@ -1,6 +1,5 @@
 -- Bytes that are there whole are read whole: no field of theirs misses.
-use Rattle.std.proofs.Common.{◌≡◌, ◌≢◌, ◌≤◌, ◌+◌, ℕ, zero, Bool, true, false, cond, inl, inr, List, [], ◌∷◌, ◌++◌, length, Option, Some, None, Result, Ok, Err, refl, sym, ap, subst, ◌∙◌, append-nil, arith}
-use Rattle.std.specs.Io.KnownBytes.{Consumes, IsAtEnd}
+use Rattle.std.proofs.Common.{◌≡◌, ◌≢◌, ℕ, inl, inr, List, [], ◌++◌, Some, Result, Ok, Err, sym, ap, subst, ◌∙◌, append-nil}
 use Rattle.std.specs.Result.{IfErr, IfOk}
 use Rattle.td_devices.specs.Counted.{counted}
 use Rattle.td_stamps.specs.declared.entry.Entry.{Entry}
@@ -15,8 +14,8 @@ use Rattle.td_replay.specs.declared.refusal.TakeError.{TakeError}
 use Rattle.td_replay.specs.declared.refusal.TakeError.TheVariants as take_error
 use Rattle.td_meeting.specs.declared.error.MeetingError.{MeetingError}
 use Rattle.td_meeting.specs.declared.error.MeetingError.TheVariants.{Broken, OutOfMemory, Frame, OtherScript, SameSite, WriteFault, Take}
-use Rattle.td_meeting.specs.Reading.{Hears, IsTaken, MissesEntries, MissesGreeting, ReadsEntries, ReadsGreeting, ReadsStream, Refuses, Unheard, Unreceived, most_entries}
-use Rattle.td_meeting.specs.Carried.{Heard, HearsIn, ReceivesIn, Taking}
+use Rattle.td_meeting.specs.Reading.{Hears, IsTaken, MissesEntries, MissesGreeting, ReadsGreeting, ReadsStream, Refuses, Unheard, Unreceived, most_entries}
+use Rattle.td_meeting.specs.Carried.{Heard, HearsIn, ReceivesIn}
 use Rattle.td_meeting.specs.ForProofs.{Untaken}
 use Rattle.td_meeting.proofs.Steady.{greeting_steady, stream_reads, stream_refuses}
 

@@ -1,34 +1,29 @@
 -- A meeting in memory: what one site wrote is what the other one reads.
-use Rattle.std.proofs.Common.{◌≡◌, ◌≢◌, ◌≤◌, ◌+◌, ℕ, zero, suc, Bool, true, false, cond, leb, ◌&&◌, inl, inr, List, [], ◌∷◌, ◌++◌, length, Result, Ok, Err, IsOk, refl, sym, ap, subst, ◌∙◌, append-nil, arith}
-use Rattle.std.specs.FinMap as by_site
-use Rattle.std.specs.List.{filter, list_all}
+use Rattle.std.proofs.Common.{◌≡◌, ◌≤◌, ℕ, suc, Bool, true, false, cond, inl, inr, List, [], ◌∷◌, ◌++◌, length, Result, Ok, Err, IsOk, refl, sym, ap, subst, ◌∙◌, append-nil, arith}
+use Rattle.std.specs.List.{filter}
 use Rattle.std.proofs.lemmas.Bool.Decides.{nat_tests}
-use Rattle.td_stamps.specs.Checks.{check_of}
-use Rattle.td_stamps.specs.Entries.{in_range}
-use Rattle.td_stamps.specs.Sets.{is_set, union}
-use Rattle.td_stamps.specs.Vectors.{VersionVector, IsVector, after_vector, lacks}
+use Rattle.td_stamps.specs.Sets.{union}
+use Rattle.td_stamps.specs.Vectors.{VersionVector, after_vector, lacks}
 use Rattle.td_stamps.specs.declared.entry.Entry.{Entry}
 use Rattle.td_stamps.specs.declared.errors.CheckError.{CheckError}
 use Rattle.td_stamps.proofs.SetLemmas.{added}
-use Rattle.td_frames.specs.Reading.{Miss, entries_at, greeting_at}
-use Rattle.td_frames.specs.Spelling.{stream}
+use Rattle.td_frames.specs.Reading.{entries_at, greeting_at}
 use Rattle.td_frames.specs.declared.greeting.Greeting.{Greeting}
 use Rattle.td_frames.proofs.Again.{stream_again}
 use Rattle.td_frames.proofs.GreetedAgain.{greeting_again}
-use Rattle.td_replay.specs.Calls.{Takes, TakesBatch}
+use Rattle.td_replay.specs.Calls.{Takes}
 use Rattle.td_replay.specs.Seen.{Seen, IsSound, is_limit}
 use Rattle.td_replay.specs.declared.answer.Taken.{Taken}
 use Rattle.td_replay.specs.declared.refusal.TakeError.{TakeError}
 use Rattle.td_replay.specs.declared.refusal.TakeError.TheVariants as take_error
 use Rattle.td_meeting.specs.declared.error.MeetingError.{MeetingError}
 use Rattle.td_meeting.specs.declared.error.MeetingError.TheVariants.{Broken, OutOfMemory, Frame, OtherScript, SameSite, WriteFault, Take}
-use Rattle.td_meeting.specs.declared.meeting.Met.{Met}
 use Rattle.td_meeting.specs.declared.meeting.MeetingRefusal.{MeetingRefusal}
 use Rattle.td_meeting.specs.Reading.{most_entries}
 use Rattle.td_meeting.specs.Writing.{Greets, sends}
 use Rattle.td_meeting.specs.Steps.{AreSent}
-use Rattle.td_meeting.specs.Meetings.{AreOpen, AreTwo, IsBatch, MeetsNot, MeetsWhole, TakesFrom}
-use Rattle.td_meeting.specs.Carried.{AnswersIn, Heard, HearsIn, IsAnswer, NoReply, ReceivesIn, Replies, Settling, SettlesIn, SettlesNot, Taking}
+use Rattle.td_meeting.specs.Meetings.{AreOpen, AreTwo, MeetsNot, MeetsWhole, TakesFrom}
+use Rattle.td_meeting.specs.Carried.{AnswersIn, Heard, HearsIn, IsAnswer, NoReply, ReceivesIn, Settling, SettlesIn, SettlesNot}
 use Rattle.td_meeting.specs.ForProofs.{Untaken}
 
 -- ---- what is read

@@ -1,5 +1,5 @@
 -- What was refused by a field is refused by it, whatever follows.
-use Rattle.std.proofs.Common.{◌≡◌, ◌≢◌, ◌≤◌, ℕ, zero, suc, Bool, true, false, cond, ltb, leb, eqb, ◌&&◌, inl, inr, List, [], ◌∷◌, ◌++◌, length, take, drop, codes, Option, Some, None, Result, Ok, Err, refl, sym, ap, subst, ◌∙◌, arith, length-append}
+use Rattle.std.proofs.Common.{◌≡◌, ◌≢◌, ◌≤◌, ℕ, zero, suc, Bool, true, false, cond, ltb, leb, eqb, ◌&&◌, inl, inr, List, [], ◌∷◌, ◌++◌, length, take, drop, codes, Option, Some, None, Result, Ok, Err, refl, sym, ap, ◌∙◌, arith, length-append}
 use Rattle.std.specs.FinMap as by_site
 use Rattle.std.specs.Int.{w16, w32, from_be_bytes}
 use Rattle.std.specs.Str.{is_utf8, bytes_eq}
@@ -9,8 +9,7 @@ use lib.Seq.{take-append-le}
 use Rattle.td_stamps.specs.Vectors.{VersionVector}
 use Rattle.td_stamps.specs.declared.entry.Entry.{Entry}
 use Rattle.td_frames.specs.declared.fields.Head.{Head}
-use Rattle.td_frames.specs.declared.greeting.Greeting.{Greeting}
-use Rattle.td_frames.specs.Reading.{Miss, short, magic, version, bad, checked_at, then_at, magic_at, version_at, site_at, length_at, text_of, script_at, count_at, number_at, sites_at, vector_at, head_at, rest_at, greeting_at, fields, with_text, text_at, entry_at, some_entry, frame_at, Entries, entries_at, with_frame, with_item, last_frame, last_item}
+use Rattle.td_frames.specs.Reading.{Miss, short, magic, version, bad, checked_at, then_at, magic_at, version_at, site_at, length_at, text_of, script_at, count_at, number_at, sites_at, vector_at, head_at, rest_at, greeting_at, fields, with_text, text_at, entry_at, some_entry, frame_at, Entries, entries_at, with_frame, last_frame}
 use Rattle.td_frames.proofs.Loops.{frame_more}
 
 -- a value that was read is read, whatever follows, and so is a field refused

@@ -1,8 +1,8 @@
 -- Four steps over links whose bytes are known.
-use Rattle.std.proofs.Common.{◌≡◌, ℕ, List, [], ◌++◌, Option, Some, None, Ok, refl, sym, ap, subst, ◌∙◌, append-nil}
+use Rattle.std.proofs.Common.{◌≡◌, ℕ, List, [], ◌++◌, Option, Some, None, Ok, sym, ap, subst, ◌∙◌, append-nil}
 use Rattle.td_frames.specs.Reading.{entries_at, greeting_at}
 use Rattle.td_frames.specs.declared.greeting.Greeting.{Greeting}
-use Rattle.td_stamps.specs.Vectors.{VersionVector, after_vector}
+use Rattle.td_stamps.specs.Vectors.{after_vector}
 use Rattle.td_stamps.specs.declared.entry.Entry.{Entry}
 use Rattle.td_replay.specs.Calls.{TakesBatch}
 use Rattle.td_replay.specs.Seen.{Seen, IsSound}

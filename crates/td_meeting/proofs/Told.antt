@@ -12,7 +12,6 @@ use Rattle.td_frames.specs.declared.error.FrameError.TheVariants as frame_error
 use Rattle.td_replay.specs.Calls.{TakesBatch}
 use Rattle.td_replay.specs.Seen.{Seen}
 use Rattle.td_replay.specs.declared.answer.Taken.{Taken}
-use Rattle.td_replay.specs.declared.refusal.TakeError.{TakeError}
 use Rattle.td_replay.specs.declared.refusal.TakeError.TheVariants as take_error
 use Rattle.td_meeting.specs.declared.error.MeetingError.{MeetingError}
 use Rattle.td_meeting.specs.declared.error.MeetingError.TheVariants.{Broken, OutOfMemory, Frame, OtherScript, SameSite, WriteFault, Take}

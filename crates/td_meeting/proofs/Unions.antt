@@ -1,11 +1,10 @@
 -- What two sites hold after they met.
 use Rattle.std.proofs.Common.{◌≡◌, Bool, true, false, ◌||◌, List, ◌++◌, Ok, inl, inr, refl, sym, ap, subst, ◌∙◌}
-use Rattle.std.specs.List.{list_all, list_any}
+use Rattle.std.specs.List.{list_all}
 use Rattle.std.proofs.lemmas.Bool.{or_cases}
 use Rattle.std.proofs.lemmas.List.Folds.{list_any-append}
 use Rattle.td_stamps.specs.Entries.{in_range, same}
 use Rattle.td_stamps.specs.Sets.{NoClash, has, is_set, union}
-use Rattle.td_stamps.specs.Vectors.{VersionVector, IsVector, after_vector}
 use Rattle.td_stamps.specs.declared.entry.Entry.{Entry}
 use Rattle.td_stamps.proofs.Gaps.{after_completes}
 use Rattle.td_stamps.proofs.Merges.{NoClash-fewer, has-append_right, merged, same_set, union_has_both, union_is_set}

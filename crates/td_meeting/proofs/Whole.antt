@@ -1,20 +1,19 @@
 -- The steps, put together from what is heard, received and sent.
-use Rattle.std.proofs.Common.{◌≡◌, ℕ, true, List, [], ◌++◌, inl, inr, Option, Some, None, Result, Ok, Err, refl, sym, ap, subst, ◌∙◌, append-nil}
-use Rattle.std.specs.Io.KnownBytes.{Keeps, Appends, Consumes}
+use Rattle.std.proofs.Common.{◌≡◌, ℕ, true, List, [], ◌++◌, inr, Option, Some, None, Result, Ok, Err, refl, sym, ap, subst, ◌∙◌, append-nil}
+use Rattle.std.specs.Io.KnownBytes.{Keeps, Appends}
 use Rattle.std.proofs.KnownBytes.{Appends-kept, Consumes-kept, Keeps-trans}
 use Rattle.td_devices.specs.Counted.{counted}
 use Rattle.td_devices.specs.Streams.{AppendsFront, Writes}
 use Rattle.td_stamps.specs.declared.entry.Entry.{Entry}
 use Rattle.td_frames.specs.declared.greeting.Greeting.{Greeting}
-use Rattle.td_frames.proofs.Writing.{front_longer}
 use Rattle.td_replay.specs.Calls.{TakesBatch}
 use Rattle.td_replay.specs.Seen.{Seen}
 use Rattle.td_replay.specs.declared.answer.Taken.{Taken}
 use Rattle.td_meeting.specs.declared.error.MeetingError.{MeetingError}
 use Rattle.td_meeting.specs.declared.error.MeetingError.TheVariants.{Broken, OutOfMemory, Frame, OtherScript, SameSite, WriteFault, Take}
-use Rattle.td_meeting.specs.Reading.{Hears, ReadsEntries, ReadsStream, Unreceived}
-use Rattle.td_meeting.specs.Writing.{Greets, sends}
-use Rattle.td_meeting.specs.Steps.{Answered, AreSent, LinkData, Settled}
+use Rattle.td_meeting.specs.Reading.{Hears, ReadsStream, Unreceived}
+use Rattle.td_meeting.specs.Writing.{sends}
+use Rattle.td_meeting.specs.Steps.{Answered, AreSent, Settled}
 use Rattle.td_meeting.specs.ForProofs.{Replied}
 
 abbrev pub Bytes : Type 0

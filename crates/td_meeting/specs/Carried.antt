@@ -7,7 +7,6 @@ use Rattle.td_frames.specs.declared.greeting.Greeting.{Greeting}
 use Rattle.td_replay.specs.Calls.{TakesBatch}
 use Rattle.td_replay.specs.Seen.{Seen, IsSound}
 use Rattle.td_replay.specs.declared.answer.Taken.{Taken}
-use Rattle.td_replay.specs.declared.refusal.TakeError.{TakeError}
 use Rattle.td_meeting.specs.declared.error.MeetingError.{MeetingError}
 use Rattle.td_meeting.specs.declared.error.MeetingError.TheVariants.{Broken, OutOfMemory, OtherScript, SameSite, Take}
 use Rattle.td_meeting.specs.declared.meeting.MeetingRefusal.{MeetingRefusal}

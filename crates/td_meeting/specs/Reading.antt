@@ -14,7 +14,7 @@ use Rattle.td_replay.specs.declared.answer.Taken.{Taken}
 use Rattle.td_replay.specs.declared.refusal.TakeError.{TakeError}
 use Rattle.td_replay.specs.declared.refusal.TakeError.TheVariants as take_error
 use Rattle.td_meeting.specs.declared.error.MeetingError.{MeetingError}
-use Rattle.td_meeting.specs.declared.error.MeetingError.TheVariants.{Broken, OutOfMemory, Frame, OtherScript, SameSite, WriteFault, Take}
+use Rattle.td_meeting.specs.declared.error.MeetingError.TheVariants.{OutOfMemory, Frame, OtherScript, SameSite, Take}
 
 -- ---- a greeting
 

@@ -1,4 +1,4 @@
-use Rattle.std.proofs.Common.{rules, ◌≡◌, ◌≢◌, sym, ◌∙◌}
+use Rattle.std.proofs.Common.{sym, ◌∙◌}
 use Rattle.td_meeting.proofs.Greeting.{differ, equal}
 use Rattle.td_meeting.proofs.hearing.hear.Goals as goal
 

@@ -1,4 +1,4 @@
-use Rattle.std.proofs.Common.{rules, ◌≡◌, ◌+◌, ◌∙◌, List, [], ◌∷◌, ◌++◌, get_or, take, drop, sym, ap, subst}
+use Rattle.std.proofs.Common.{rules, ◌+◌, ◌∙◌, List, [], ◌∷◌, ◌++◌, get_or, take, drop, sym, ap, subst}
 use Rattle.std.proofs.lemmas.Result.{err_from_is_err_and}
 use Rattle.std.proofs.lemmas.List.{take_all}
 use Rattle.std.specs.List.{AllByRecursion, flat_map}

@@ -1,4 +1,3 @@
-use Rattle.std.proofs.Common.{◌≡◌, ◌<◌, ℕ, List, length, refl, sym, ap, subst, ◌∙◌}
 use Rattle.td_meeting.proofs.Greeting.{few_of, greets_by}
 use Rattle.td_meeting.proofs.sending.put_own.Goals as goal
 

@@ -1,4 +1,4 @@
-use Rattle.std.proofs.Common.{List, ◌++◌, ap, subst}
+use Rattle.std.proofs.Common.{List, ap, subst}
 use Rattle.std.specs.Io.KnownBytes.{Appends}
 use Rattle.td_devices.specs.Streams.{AppendsFront}
 use Rattle.td_stamps.specs.declared.entry.Entry.{Entry}

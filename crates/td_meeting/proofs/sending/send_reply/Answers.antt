@@ -1,4 +1,3 @@
-use Rattle.std.proofs.Common.{◌++◌}
 use Rattle.std.proofs.lemmas.Result.{err_from_is_err_and}
 use Rattle.td_frames.proofs.Writing.{front_longer, writes_then}
 use Rattle.td_meeting.specs.Writing.{sends}

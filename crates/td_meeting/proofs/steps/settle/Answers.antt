@@ -1,4 +1,4 @@
-use Rattle.std.proofs.Common.{rules, ◌≡◌, ◌∙◌, ℕ, true, sym, ap, subst}
+use Rattle.std.proofs.Common.{rules, ◌≡◌, ◌∙◌, true, sym, ap}
 use Rattle.std.proofs.KnownBytes.{Keeps-trans}
 use Rattle.td_devices.specs.Counted.{counted}
 use Rattle.td_meeting.proofs.Whole.{keeps_as, settled, settled_front, unsettled}
