@@ -7,7 +7,7 @@ use Rattle.td_stamps.proofs.vector.Vector.entries.Goals as goal
 pub loop-site-init : goal.loop-site-init
 loop-site-init c = record {
   whole = ap (λ t. t ++ c.into_iter-site-iterator.result) c.in_ok-entries.ensures.items ∙ c.into_iter-site-iterator.ensures.into_iter_gives.0
-  ∙ sym (entries_seen c.self.inside.numbers.entries c.self.invariant.0 c.self.view_is);
+      ∙ sym (entries_seen c.self.inside.numbers.entries c.self.invariant.0 c.self.view_is);
   fit = rw c.in_ok-entries.ensures.items refl;
 }
 
