@@ -1,5 +1,5 @@
 -- Meetings of sites at their places.
-use Rattle.std.proofs.Common.{◌≡◌, ◌≢◌, ◌<◌, ◌≤◌, ◌==◌, eqb, inl, inr, ℕ, zero, suc, Bool, true, false, cond, List, [], ◌∷◌, ◌++◌, ◌+◌, Option, Some, None, option_map, length, take, drop, map, get_or, Result, Ok, Err, refl, sym, ap, ◌∙◌, subst, arith}
+use Rattle.std.proofs.Common.{◌≡◌, ◌≢◌, ◌<◌, ◌≤◌, eqb, inl, inr, ℕ, zero, suc, Bool, cond, List, [], ◌∷◌, ◌++◌, Option, Some, None, option_map, length, take, drop, map, get_or, Result, Err, refl, sym, ap, ◌∙◌, subst, arith}
 use Rattle.std.specs.List.{slice_get, slice_set}
 use Rattle.std.proofs.lemmas.Bool.{cases_Bool, ne_eqb}
 use Rattle.std.proofs.lemmas.Bool.Decides.{nat_tests}
@@ -9,11 +9,11 @@ use Rattle.td_meeting.specs.Meetings.{Meets, MeetsNot}
 use Rattle.td_meeting.specs.declared.error.MeetingError.{MeetingError}
 use Rattle.td_meeting.specs.declared.meeting.Met.{Met}
 use Rattle.td_meeting.specs.declared.meeting.MeetingRefusal.{MeetingRefusal}
-use Rattle.td_answers.specs.Answers.{MeetAnswered, TellsMet, meet_answer}
+use Rattle.td_answers.specs.Answers.{MeetAnswered, meet_answer}
 use Rattle.td_answers.specs.ForProofs.Drawn.{MeetsAt, TellsMetAt}
 use Rattle.td_answers.specs.ForProofs.Said.{place_in}
 use Rattle.td_answers.specs.Sites.{Placed, Sites, site_of, sites_of, two_of}
-use Rattle.td_answers.proofs.Placing.{seen_read, seen_there, set_there, site_there, some_seen}
+use Rattle.td_answers.proofs.Placing.{seen_read, set_there, site_there, some_seen}
 
 -- ---- a list apart at a place, with an element put into each part
 

@@ -1,5 +1,5 @@
 -- Sites keep their scripts.
-use Rattle.std.proofs.Common.{◌≡◌, ◌⊎◌, ◌==◌, inl, inr, ℕ, Bool, true, false, cond, List, Option, Some, None, Result, Ok, Err, refl, sym, ap, ◌∙◌, subst}
+use Rattle.std.proofs.Common.{◌≡◌, ◌==◌, inl, inr, ℕ, Bool, true, false, cond, List, Option, Some, None, Result, Ok, Err, refl, sym, ap, subst}
 use Rattle.std.specs.List.{slice_get, slice_set}
 use Rattle.td_headings.specs.Catalogues.{CatalogueData}
 use Rattle.td_lines.specs.Lines.{Line, nothing, quit, issue, query, meet, listing, log, vector, table, serve, call, faulty}

@@ -1,5 +1,5 @@
 -- What replies say.
-use Rattle.std.proofs.Common.{◌≡◌, ◌<◌, ℕ, false, List, Option, Some, None, length, map, get_or, option_map, refl, sym, ap, ◌∙◌, subst}
+use Rattle.std.proofs.Common.{◌≡◌, ◌<◌, ℕ, false, List, Option, Some, length, map, get_or, option_map, sym, subst}
 use Rattle.std.specs.List.{slice_set}
 use Rattle.std.proofs.lemmas.List.{map-set}
 use Rattle.td_headings.specs.Catalogues.{CatalogueData}
