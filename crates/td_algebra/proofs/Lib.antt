@@ -21,3 +21,4 @@ pub mod Reaching
 pub mod Ending
 pub mod Extremes
 pub mod PlacedParts
+pub mod Apart

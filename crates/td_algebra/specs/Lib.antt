@@ -1,6 +1,7 @@
 pub mod Stops
 pub mod Operators
 pub mod Nested
+pub mod Keys
 pub mod Closures
 pub mod Raising
 pub mod Restricting

@@ -20,6 +20,7 @@ mod searches;
 mod sets;
 mod summaries;
 mod summarization;
+mod uniqueness;
 mod wraps;
 
 pub use closure::{is_binary, tclose};
@@ -34,4 +35,5 @@ pub use sets::{intersect, minus, union};
 pub use summaries::aggregate;
 pub use summarization::summarize;
 pub use td_tuples::{Item, Summary, is_relation_valued, is_tuple_valued};
+pub use uniqueness::tell_apart;
 pub use wraps::wrap;
