@@ -3,7 +3,7 @@ use crate::samples::{Result, add, names, shown};
 use std::alloc::Global;
 use td_algebra::{
     compose, group, intersect, is_binary, is_relation_valued, is_tuple_valued, join, matching,
-    minus, not_matching, project, rename, tclose, ungroup, union, unwrap, wrap,
+    minus, not_matching, project, rename, tclose, tell_apart, ungroup, union, unwrap, wrap,
 };
 use td_relations::Relation;
 use td_values::{
@@ -216,6 +216,19 @@ fn projections(rt: HostRuntime) -> Result<()> {
     let want = "RELATION { SNO CHAR } { TUPLE { SNO 'S1' } }";
     assert!(rt; projected(rt.alloc(), &["SNO"])?.as_str() == want);
     assert!(rt; projected(rt.alloc(), &[])?.as_str() == DEE);
+    Ok(())
+}
+
+fn are_apart(alloc: Global, by: &[&str]) -> Result<bool> {
+    let by = names(alloc, by)?;
+    Ok(tell_apart(alloc, &shipments(alloc)?, &by)?)
+}
+
+#[test]
+fn parts_tell_tuples_apart(rt: HostRuntime) -> Result<()> {
+    assert!(rt; are_apart(rt.alloc(), &["PNO"])?);
+    assert!(rt; !are_apart(rt.alloc(), &["SNO"])?);
+    assert!(rt; !are_apart(rt.alloc(), &[])?);
     Ok(())
 }
 

@@ -150,6 +150,7 @@ tells names r h x b e index sorted repeats = by b repeats
   where
     part : (t : Attrs) → Has r t → cut (names_of h) t ≡ cut names t
     part = by_columns names r index.rows h e
+
     by : (b : Bool) → IsTrue b ↔ Repeat x.places.items x.tuples.items → IsTrue (not b) ↔ TellApart names r
     by true says = (
       λ no. absurd (true≢false (sym no)),

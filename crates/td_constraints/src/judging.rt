@@ -12,18 +12,19 @@ ghost use Rattle.td_constraints.specs.Tests.{failing, judgement, or_behind};
 
 use crate::failure::{Broken, TestFailure};
 use std::alloc::{AllocError, Global};
-use td_algebra::{Fault, project};
+use td_algebra::{Fault, tell_apart};
 use td_eval::{Failure, Lookup, truth};
 use td_headings::{Catalogue, Test, constraint_expr};
 use td_relations::Relation;
 use td_values::{Name, Raise};
 
-// Whether no two tuples agree on the key's attributes: then their parts there are as many as they are.
+// Whether no two tuples agree on the key's attributes.
 fn is_key(alloc: Global, relation: &Relation, key: &[Name]) -> Result<bool, AllocError>
     ensures { IfOk result (λ b. b ≡ spec.is_key key.now relation.now.tuples) }
 {
-    let parts = project(alloc, relation, key)?;
-    Ok(parts.len() == relation.tuples().len())
+    // It shows that the tuples ascend, and does nothing when it runs.
+    let _tuples = relation.tuples();
+    tell_apart(alloc, relation, key)
 }
 
 // What a relvar has, of which it is known to be a relation.
@@ -125,8 +126,8 @@ fn failure_at<L: Lookup>(
     }
 }
 
-/// The first test, in the order of the script, that is false or raises. A key of n tuples costs a sort of their parts at its
-/// attributes; a constraint costs its evaluation.
+/// The first test, in the order of the script, that is false or raises. A key of n tuples costs what `tell_apart` of
+/// td_algebra does; a constraint costs its evaluation.
 pub fn first_failure<L: Lookup>(
     alloc: Global,
     catalogue: &Catalogue,
