@@ -11,7 +11,7 @@ use Rattle.td_values.specs.Proving.Total.{attrs_order_total, attrs_tied}
 use Rattle.td_relations.specs.declared.merges.Kept.{Kept}
 use Rattle.td_values.specs.Rows.{RowsData, AreRows}
 use Rattle.td_relations.specs.Sets.{TupleSet, body, Has, IsRelation, IsRelationOf}
-use Rattle.td_relations.specs.Merges.{is_kept, IsMerge}
+use Rattle.td_relations.specs.Merges.{is_kept, IsMerge, second_alone}
 use Rattle.td_relations.proofs.Fits.{Fits}
 use Rattle.td_relations.proofs.Members.{holds_of_member, holds_of_all}
 use Rattle.td_relations.proofs.Predicates.{by_predicate, set_of}
@@ -72,6 +72,12 @@ in_first true false = refl
 in_first false true = refl
 in_first false false = refl
 
+in_second : (p q : Bool) → (q && not p) ≡ is_kept second_alone p q
+in_second true true = refl
+in_second true false = refl
+in_second false true = refl
+in_second false false = refl
+
 module _ (h : Header) (a b r : RowsData) where
   pub union_of_kept : KeptOf (record { first = true; both = true; second = true }) a b h r → IsRelation h (set.union (body a) (body b)) r
   union_of_kept = by_test h _ _ r (λ t. set.contains-union attrs_order_total (body a) (body b) t ∙ in_any _ _)
@@ -81,6 +87,12 @@ module _ (h : Header) (a b r : RowsData) where
 
   pub difference_of_kept : KeptOf (record { first = true; both = false; second = false }) a b h r → IsRelation h (set.difference (body a) (body b)) r
   difference_of_kept = by_test h _ _ r (λ t. set.contains-difference attrs_order_total (body a) (body b) t ∙ in_first _ _)
+
+  pub difference_of_second : KeptOf second_alone a b h r → IsRelation h (set.difference (body b) (body a)) r
+  difference_of_second = by_test h _ _ r (λ t. set.contains-difference attrs_order_total (body b) (body a) t ∙ in_second _ _)
+
+pub of_merge : (k : Kept) (a b : RowsData) (zs : List Attrs) → IsMerge k a.tuples b.tuples zs → KeptOf k a b a.heading (record { heading = a.heading; tuples = zs })
+of_merge k a b zs is = record { heading = refl; only = λ t has. sym (is.members t) ∙ has; all = λ t p. is.members t ∙ p; ascending = is.ascending }
 
 -- ---- subsets
 pub subset_tested : (a b : RowsData) (x : Bool) → x ≡ list_all (set.contains (body b)) a.tuples → IsTrue x ↔ (set.is_subset (body a) (body b) ≡ true)

@@ -120,6 +120,14 @@ module _ {X : Type 0} (R : X → X → Ordering) (f b s : Bool) where
     | inl a ↦ rw (drop_all ys j (elim (cases_lt j (length ys)) [ inr b ↦ b | inl b ↦ absurd (h a b) ])) (first_left (drop i xs))
   ]
 
+-- ---- where one list has ended, what is left of the other is what that one still has alone
+module _ {X : Type 0} (R : X → X → Ordering) (xs ys : List X) (i j : ℕ) (h : i < length xs → j < length ys → ⊥) where
+  pub left_of_first : drop i xs ≡ walk R true false false (drop i xs) (drop j ys)
+  left_of_first = sym (append_nothing (drop i xs)) ∙ ended R true false false xs ys i j h
+
+  pub left_of_second : drop j ys ≡ walk R false false true (drop i xs) (drop j ys)
+  left_of_second = ended R false false true xs ys i j h
+
 -- what `&xs[i..]` is
 take_all : {X : Type 0} (n : ℕ) (xs : List X) → length xs ≤ n → take n xs ≡ xs
 take_all zero [] h = refl

@@ -7,6 +7,13 @@ use Rattle.td_values.specs.Order.{attrs_order}
 use Rattle.td_relations.specs.Sets.{tuple_set}
 use Rattle.td_relations.specs.declared.merges.Kept.{Kept}
 
+-- what the first list alone has, or what the second alone has
+abbrev pub first_alone : Kept
+first_alone = record { first = true; both = false; second = false }
+
+abbrev pub second_alone : Kept
+second_alone = record { first = false; both = false; second = true }
+
 -- whether a tuple is kept that is in the first list or not, and in the second or not
 abbrev pub is_kept : Kept → Bool → Bool → Bool
 is_kept k true true = k.both

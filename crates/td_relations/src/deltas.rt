@@ -5,7 +5,7 @@ ghost use Rattle.td_relations.specs.Sets.{body, IsRelation};
 ghost use Rattle.td_relations.specs.Deltas.{IsApplied, IsDelta, IsDifference, IsExchanged, inverse_of};
 
 use crate::Relation;
-use crate::merges::{minus, union};
+use crate::merges::{apart, minus, union};
 use crate::places::{put_in_all, take_out_all};
 use std::alloc::{AllocError, Global};
 use std::marker::Model;
@@ -45,15 +45,14 @@ impl Delta {
         Delta { inserted, deleted }
     }
 
-    /// What turns the old relation into the new one, its tuples shared. For lists of n and m tuples it costs n + m.
+    /// What turns the old relation into the new one, its tuples shared. For lists of n and m tuples it costs n + m, and
+    /// memory for what differs.
     pub fn difference(alloc: Global, old: &Relation, new: &Relation) -> Result<Delta, AllocError>
         requires { old.now.heading ≡ new.now.heading }
         ensures { IfOk result (IsDifference old.now new.now) }
     {
-        Ok(Delta {
-            inserted: minus(alloc, new, old)?,
-            deleted: minus(alloc, old, new)?,
-        })
+        let (deleted, inserted) = apart(alloc, old, new)?;
+        Ok(Delta { inserted, deleted })
     }
 
     /// The heading of the relations that it changes.

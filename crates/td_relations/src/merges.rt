@@ -6,7 +6,8 @@ ghost use Rattle.std.specs.List.Sorted.{IsStrictlySortedBy};
 ghost use Rattle.td_values.specs.Order.{attrs_order};
 ghost use Rattle.td_values.specs.Whole.{heading_of};
 ghost use Rattle.td_relations.specs.Sets.{body, IsRelation, IsRelationOf};
-ghost use Rattle.td_relations.specs.Merges.{is_kept, IsMerge};
+ghost use Rattle.td_values.specs.Rows.{AreRows};
+ghost use Rattle.td_relations.specs.Merges.{first_alone, is_kept, IsMerge, second_alone};
 
 use crate::Relation;
 use std::alloc::{AllocError, Global};
@@ -92,16 +93,71 @@ fn merged(alloc: Global, xs: &[Tuple], ys: &[Tuple], kept: Kept) -> Result<Vec<T
     Ok(out)
 }
 
+// The tuples that the first of two ascending lists of one heading has alone, ascending, and those that the second has alone.
+fn alone(alloc: Global, xs: &[Tuple], ys: &[Tuple]) -> Result<(Vec<Tuple>, Vec<Tuple>), AllocError>
+    requires alike { All (λ t. All (λ u. heading_of t ≡ heading_of u) ys.now) xs.now }
+    requires xs_ascend { IsStrictlySortedBy attrs_order xs.now }
+    requires ys_ascend { IsStrictlySortedBy attrs_order ys.now }
+    ensures { IfOk result (λ v. IsMerge first_alone xs.now ys.now v.0.items × IsMerge second_alone xs.now ys.now v.1.items) }
+{
+    // They mostly differ in few tuples, so no room is taken ahead.
+    let mut firsts = Vec::new(alloc);
+    let mut seconds = Vec::new(alloc);
+    let mut i = 0;
+    let mut j = 0;
+    while i < xs.len() && j < ys.len() {
+        match compare_alike(&xs[i], &ys[j]) {
+            Ordering::Less => {
+                firsts.push(xs[i].copy()?)?;
+                i += 1;
+            }
+            Ordering::Equal => {
+                i += 1;
+                j += 1;
+            }
+            Ordering::Greater => {
+                seconds.push(ys[j].copy()?)?;
+                j += 1;
+            }
+        }
+    }
+    append(&mut firsts, &xs[i..])?;
+    append(&mut seconds, &ys[j..])?;
+    Ok((firsts, seconds))
+}
+
+// These tuples under the heading of the relation.
+fn with_tuples(relation: &Relation, tuples: Vec<Tuple>) -> Result<Relation, AllocError>
+    requires { AreRows relation.now.heading tuples.items }
+    ensures { IfOk result (λ r. r ≡ record { heading = relation.now.heading; tuples = tuples.items }) }
+{
+    Ok(Relation {
+        heading: relation.heading().copy()?,
+        tuples,
+    })
+}
+
+// The tuples that the first relation has alone, and those that the second has alone, shared. It costs as `union`, and takes memory
+// for what it answers.
+pub(crate) fn apart(
+    alloc: Global,
+    a: &Relation,
+    b: &Relation,
+) -> Result<(Relation, Relation), AllocError>
+    requires { a.now.heading ≡ b.now.heading }
+    ensures { IfOk result (λ v. IsRelation a.now.heading (set.difference (body a.now) (body b.now)) v.0 × IsRelation a.now.heading (set.difference (body b.now) (body a.now)) v.1) }
+{
+    let (firsts, seconds) = alone(alloc, a.tuples(), b.tuples())?;
+    Ok((with_tuples(a, firsts)?, with_tuples(a, seconds)?))
+}
+
 // The relation of the tuples that are kept.
 fn combined(alloc: Global, a: &Relation, b: &Relation, kept: Kept) -> Result<Relation, AllocError>
     requires { a.now.heading ≡ b.now.heading }
     ensures { IfOk result (IsRelationOf a.now.heading (λ t. is_kept kept (set.contains (body a.now) t) (set.contains (body b.now) t) ≡ true)) }
 {
     let tuples = merged(alloc, a.tuples(), b.tuples(), kept)?;
-    Ok(Relation {
-        heading: a.heading().copy()?,
-        tuples,
-    })
+    with_tuples(a, tuples)
 }
 
 /// The tuples of either relation, shared. For lists of n and m tuples it costs n + m.

@@ -4,9 +4,9 @@ use Rattle.td_relations.proofs.deltas.Delta.difference.Goals as goal
 
 pub invariant_of-result : goal.invariant_of-result
 invariant_of-result c =
-    let inserted = c.in_ok-minus.ensures in
-    let deleted = c.in_ok-minus-2.ensures in
+    let inserted = c.in_ok-deleted.ensures.1 in
+    let deleted = c.in_ok-deleted.ensures.0 in
     record {
-      heading = inserted.heading ∙ sym c.requires ∙ sym deleted.heading;
-      apart = difference_apart c.args.old.now c.args.new.now c.in_ok-minus.field-0 c.in_ok-minus-2.field-0 inserted.members deleted.members;
+      heading = inserted.heading ∙ sym deleted.heading;
+      apart = difference_apart c.args.old.now c.args.new.now c.in_ok-deleted.inserted c.in_ok-deleted.deleted inserted.members deleted.members;
     }
