@@ -7,9 +7,9 @@ use Rattle.td_values.specs.Data.{Attrs}
 use Rattle.td_values.specs.Order.{attrs_order}
 use Rattle.td_values.specs.Proving.Total.{attrs_order_total}
 use Rattle.td_values.specs.Rows.{RowsData}
-use Rattle.td_relations.specs.Sets.{Has}
 use Rattle.td_relations.proofs.Sorted.{none_above}
 use Rattle.td_tuples.specs.Parts.{cut}
+use Rattle.td_algebra.specs.Keys.{TellApart}
 use Rattle.td_algebra.proofs.Lists.{In, any_in, in_any}
 use Rattle.td_algebra.proofs.Made.{has_in, in_has}
 use Rattle.td_algebra.proofs.PlacedParts.{itself, same_key}
@@ -62,7 +62,7 @@ module _ (key : List (List ℕ)) where
       not_again w ws sorted (subst (λ z. In z ws) (sym (h w u.0 (inl refl) (inr u.1) (same_key (cut key w) (cut key u.0) u.2))) u.1)))
       (told_apart ws (behind w ws sorted) (λ t u p q e. h t u (inr p) (inr q) e))
 
-  pub keys_apart : (r : RowsData) → IsStrictlySortedBy attrs_order r.tuples → (is_key key r.tuples ≡ true) ↔ ((t u : Attrs) → Has r t → Has r u → cut key t ≡ cut key u → t ≡ u)
+  pub keys_apart : (r : RowsData) → IsStrictlySortedBy attrs_order r.tuples → (is_key key r.tuples ≡ true) ↔ TellApart key r
   keys_apart r sorted = (
     λ h t u p q e. tells_apart r.tuples h t u (has_in r t p) (has_in r u q) e,
     λ h. told_apart r.tuples sorted (λ t u p q e. h t u (in_has r t p) (in_has r u q) e),
