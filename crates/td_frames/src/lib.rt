@@ -8,8 +8,6 @@ mod fields;
 mod greeted;
 pub mod greeting;
 pub mod laws;
-#[cfg(test)]
-mod tests;
 
 pub use entries::{put_end, put_entry, read_entries};
 pub use entry::read_frame;

@@ -12,8 +12,6 @@ mod front;
 pub mod laws;
 pub mod lexer;
 mod piece;
-#[cfg(test)]
-mod tests;
 pub mod token;
 mod words;
 

@@ -8,8 +8,6 @@ mod items;
 mod names;
 mod nestings;
 mod shared;
-#[cfg(test)]
-mod tests;
 mod tuples;
 
 pub use headings::{

@@ -2,10 +2,12 @@
 
 ghost use Rattle.std.specs.Prelude.{◌≤◌, IfOk, length};
 
-use crate::{FrameError, Greeting, put_end, put_entry, put_greeting, read_entries, read_greeting};
 use std::alloc::{AllocError, Global};
 use std::test::Fail;
 use td_devices::Device;
+use td_frames::{
+    FrameError, Greeting, put_end, put_entry, put_greeting, read_entries, read_greeting,
+};
 use td_stamps::Entry;
 use td_values::Text;
 

@@ -4,8 +4,8 @@ use Rattle.td_values.specs.Data.{Attrs}
 use Rattle.td_values.specs.Headings.{Header, header_fields}
 use Rattle.td_values.specs.Rows.{AreRows}
 use Rattle.td_values.specs.Whole.{heading_of}
-use Rattle.td_values.proofs.tests.fitting.Goals as goal
-use Rattle.td_values.proofs.tests.fitting.Goals.{then-fits+in_ok-push, else-fits}
+use Rattle.value_tests.proofs.values.fitting.Goals as goal
+use Rattle.value_tests.proofs.values.fitting.Goals.{then-fits+in_ok-push, else-fits}
 
 none : (h : Header) → AreRows h []
 unfolding IsStrictlySortedBy

@@ -4,9 +4,9 @@ ghost use Rattle.std.specs.List.{All};
 ghost use Rattle.td_values.specs.Headings.{header_fields};
 ghost use Rattle.td_values.specs.Whole.{heading_of};
 
-use crate::{Delta, Relation, intersect, minus, union};
 use std::alloc::Global;
 use std::test::Fail;
+use td_relations::{Delta, Relation, intersect, minus, union};
 use td_values::{
     Heading, Kind, Name, TdType, Tuple, TupleBuilder, TypeKind, Value, fits, show, show_tuple_into,
 };

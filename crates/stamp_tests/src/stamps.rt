@@ -1,7 +1,7 @@
 //! Worked examples, on the entries that a site holds.
-use crate::{CheckError, Entry, Held, NextError, PrepareError, Stamp, Vector};
 use std::alloc::{AllocError, Global};
 use std::test::Fail;
+use td_stamps::{CheckError, Entry, Held, NextError, PrepareError, Stamp, Vector};
 use td_values::Text;
 
 /// The last clock.

@@ -1,10 +1,8 @@
 //! Texts of which the tokens are known.
 
-use crate::error::TokenError;
-use crate::lexer::tokens;
-use crate::token::{Kind, Token, Word};
 use std::alloc::Global;
 use std::test::Fail;
+use td_tokens::{Kind, Token, TokenError, Word, tokens};
 
 // The tokens of the text.
 fn read(alloc: Global, text: &str) -> Result<Vec<Token<'_>>, TokenError> {

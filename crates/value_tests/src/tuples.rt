@@ -1,10 +1,10 @@
 //! Worked examples, whose answers come from the definitions of parts, unions and renamings.
-use crate::{
+use std::alloc::Global;
+use std::test::Fail;
+use td_tuples::{
     beside, columns_in, columns_out, cut, joined, renamed, renamed_columns, with_attribute,
     with_column,
 };
-use std::alloc::Global;
-use std::test::Fail;
 use td_values::{
     Heading, Kind, Name, TdType, Tuple, TupleBuilder, TypeKind, Value, show_tuple_into, show_type,
 };

@@ -2,14 +2,14 @@
 ghost use Rattle.std.specs.Prelude.{IfOk};
 ghost use Rattle.td_values.specs.Rows.{AreRows};
 
-use crate::{
+use std::alloc::{AllocError, Global};
+use std::cmp::Ordering;
+use std::hash::{DefaultHasher, Hash, Hasher};
+use td_values::{
     Heading, Items, Kind, Name, NameError, Possrep, Rows, TdType, Text, Tuple, TupleBuilder,
     TypeKind, Value, compare, compare_alike, copy, equal, equal_headings, equal_kinds, equal_types,
     fits, has_type, search_alike, show, show_tuple_into, show_type, sort_alike,
 };
-use std::alloc::{AllocError, Global};
-use std::cmp::Ordering;
-use std::hash::{DefaultHasher, Hash, Hasher};
 
 type Result<T> = std::result::Result<T, NameError>;
 
