@@ -21,7 +21,7 @@ use Rattle.td_headings.specs.declared.statement.TypedAssignment.{TypedAssignment
 use Rattle.td_headings.specs.declared.statement.TypedStatement.{TypedStatement}
 use Rattle.td_headings.proofs.WellTyped.{all_typed}
 use Rattle.td_meaning.specs.Mean.{Relvars}
-use Rattle.td_meaning.specs.Values.{rows_of, truth_of}
+use Rattle.td_operators.specs.Values.{rows_of, truth_of}
 use Rattle.td_constraints.specs.Tests.{AreLegal, failing, is_key, judgement, or_behind}
 use Rattle.td_relvars.specs.Databases.{DatabaseData, IsDatabase, Stored, at_place, put, relvars_in}
 use Rattle.td_assign.specs.Changes.{given, given_to, or_old, put_all, seen}

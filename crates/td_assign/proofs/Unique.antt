@@ -17,7 +17,7 @@ use Rattle.td_headings.specs.declared.defined.Test.{Test}
 use Rattle.td_headings.specs.declared.statement.TypedAssignment.{TypedAssignment}
 use Rattle.td_headings.specs.declared.statement.TypedStatement.{TypedStatement}
 use Rattle.td_meaning.specs.Mean.{Relvars}
-use Rattle.td_meaning.specs.Values.{rows_of}
+use Rattle.td_operators.specs.Values.{rows_of}
 use Rattle.td_eval.specs.Raises.{stop_of}
 use Rattle.td_eval.specs.Trees.{tree_means}
 use Rattle.td_constraints.specs.Tests.{failing}

@@ -7,7 +7,7 @@ use Rattle.td_algebra.specs.Raising.{and_then}
 use Rattle.td_headings.specs.Catalogues.{CatalogueData}
 use Rattle.td_headings.specs.declared.statement.TypedAssignment.{TypedAssignment}
 use Rattle.td_meaning.specs.Mean.{Relvars}
-use Rattle.td_meaning.specs.Values.{rows_of}
+use Rattle.td_operators.specs.Values.{rows_of}
 use Rattle.td_eval.specs.Trees.{tree_means}
 use Rattle.td_assign.specs.Changes.{given, seen}
 use Rattle.td_assign.specs.declared.changes.Change.{Change}

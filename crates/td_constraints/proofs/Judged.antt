@@ -12,7 +12,7 @@ use Rattle.td_headings.specs.Expressions.{IsTree, IsWhole, IsConstraint, no_tupl
 use Rattle.td_headings.specs.declared.defined.Test.TheVariants as test
 use Rattle.td_headings.proofs.WellTyped.{constraint_tree}
 use Rattle.td_meaning.specs.Mean.{Relvars}
-use Rattle.td_meaning.specs.Values.{truth_of}
+use Rattle.td_operators.specs.Values.{truth_of}
 use Rattle.td_soundness.specs.Meanings.{GivesRelation}
 use Rattle.td_eval.specs.Raises.{Tells}
 use Rattle.td_eval.specs.Trees.{AreBases, IsIn, tree_means}

@@ -11,7 +11,7 @@ use Rattle.td_headings.specs.Catalogues.{CatalogueData}
 use Rattle.td_headings.specs.declared.defined.Test.{Test}
 use Rattle.td_headings.specs.declared.defined.Test.TheVariants as test
 use Rattle.td_meaning.specs.Mean.{Relvars}
-use Rattle.td_meaning.specs.Values.{truth_of}
+use Rattle.td_operators.specs.Values.{truth_of}
 use Rattle.td_eval.specs.Trees.{tree_means}
 
 -- the tuples agree on these attributes

@@ -17,7 +17,7 @@ use Rattle.td_trees.specs.declared.tree.Typed.TheFolds.{fold-roll-Typed, ind-Typ
 use Rattle.td_trees.specs.declared.tree.Typed.TheShapes.{former-Typed-Summarize-2-at-13}
 use Rattle.td_algebra.specs.Raising.{and_then}
 use Rattle.td_meaning.specs.Mean.{Meaning, Relvars, Selection, mean, mean_step, at, mean_relvar, mean_by, mean_binary, mean_if, mean_select, mean_relation, mean_tuple, mean_with, mean_where, mean_aggregate, mean_extend, mean_summarize}
-use Rattle.td_meaning.specs.Operators.{operate_on, component_at, attribute_at, part_at, with_new_names, nested, unnested, in_turn, as_value}
+use Rattle.td_operators.specs.Operators.{operate_on, component_at, attribute_at, part_at, with_new_names, nested, unnested, in_turn, as_value}
 
 pub relvars_append : (ms ns : Mentions) → relvars_in (ms ++ ns) ≡ relvars_in ms ++ relvars_in ns
 relvars_append [] ns = refl

@@ -24,8 +24,8 @@ use Rattle.td_algebra.specs.Raising.{and_then}
 use Rattle.td_algebra.specs.declared.errors.Stop.{Stop}
 use Rattle.td_meaning.specs.Mean.{Names, Relvars}
 use Rattle.td_meaning.specs.Selections.{components}
-use Rattle.td_meaning.specs.Values.{rows_of, truth_of}
-use Rattle.td_meaning.proofs.KindLemmas.{items_back}
+use Rattle.td_operators.specs.Values.{rows_of, truth_of}
+use Rattle.td_operators.proofs.KindLemmas.{items_back}
 use Rattle.td_soundness.specs.Meanings.{AreMeant, Gives, GivesRelation, HasKind, IsMeant, IsRelation, OrError}
 use Rattle.td_soundness.specs.Values.{AreComponentsOf, AreValues}
 use Rattle.td_soundness.proofs.Errors.{goes_on}

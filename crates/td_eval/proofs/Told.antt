@@ -14,7 +14,7 @@ use Rattle.td_headings.specs.Definitions.{Defined}
 use Rattle.td_headings.specs.Expressions.{IsTree, no_tuple}
 use Rattle.td_kinds.specs.Schemas.{SchemaData}
 use Rattle.td_meaning.specs.Mean.{Relvars}
-use Rattle.td_meaning.specs.Values.{rows_of}
+use Rattle.td_operators.specs.Values.{rows_of}
 use Rattle.td_soundness.specs.Meanings.{Gives, HasKind, IsError, IsRelation, OrError}
 use Rattle.td_soundness.proofs.Values.{rows_given}
 use Rattle.td_eval.specs.Meanings.{means}

@@ -4,7 +4,7 @@ ghost use Rattle.std.specs.Prelude.{◌≡◌, IfOk, IsOk, Ok};
 ghost use Rattle.td_values.specs.Data.{no_attrs};
 ghost use Rattle.td_values.specs.declared.TypeKind.TheVariants as type_kind;
 ghost use Rattle.td_algebra.specs.Raising.{and_then};
-ghost use Rattle.td_meaning.specs.Values as spec;
+ghost use Rattle.td_operators.specs.Values as spec;
 ghost use Rattle.td_soundness.specs.Meanings.{HasKind, IsError, IsRelation};
 ghost use Rattle.td_eval.specs.Raises.{Tells, stop_of};
 ghost use Rattle.td_eval.specs.Trees.{AreBases, IsIn, tree_means};

@@ -47,8 +47,8 @@ use Rattle.td_kinds.specs.Written.{names}
 use Rattle.td_kinds.proofs.KindLemmas.{kind_back}
 use Rattle.td_meaning.specs.ForProofs.Over.{list_meant, items_meant}
 use Rattle.td_meaning.specs.Mean.{Names, Meaning, Relvars, Selection, mean, at, named_at, mean_by, mean_both, mean_select, mean_tuple, mean_relation}
-use Rattle.td_meaning.specs.Operators.{in_turn, fits, tuple_over, relation_over, operate, operate_on, of_integers, as_value}
-use Rattle.td_meaning.specs.Values.{item_list}
+use Rattle.td_operators.specs.Operators.{in_turn, fits, tuple_over, relation_over, operate, operate_on, of_integers, as_value}
+use Rattle.td_operators.specs.Values.{item_list}
 use Rattle.td_meaning.proofs.Forms as forms
 use Rattle.td_typing.specs.Trees.{kinds, trees, typing, item_of, component_kinds}
 use Rattle.td_typing.specs.Types as types

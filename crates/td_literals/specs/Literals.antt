@@ -14,7 +14,7 @@ use Rattle.td_kinds.specs.declared.schema.Representation.{Representation}
 use Rattle.td_kinds.specs.Kinds.{Text}
 use Rattle.td_kinds.specs.Schemas.{SchemaData, begins_with_the, possrep_named, type_named}
 use Rattle.td_meaning.specs.Mean.{Selection}
-use Rattle.td_meaning.specs.Values.{item_list}
+use Rattle.td_operators.specs.Values.{item_list}
 use Rattle.td_soundness.specs.Values.{AreColumns, IsValue}
 
 -- the shape of a name, and no keyword

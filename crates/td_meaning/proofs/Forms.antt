@@ -29,7 +29,7 @@ use Rattle.td_algebra.specs.Summaries.{summary_over, over_groups, group_of}
 use Rattle.td_algebra.proofs.Walks.{all_mapped}
 use Rattle.td_meaning.specs.ForProofs.Over.{Means, terms, list_meant, items_meant, all_meant, over_aggregate, over_extend, over_summarize}
 use Rattle.td_meaning.specs.Mean.{Meaning, Relvars, Selection, mean, mean_step, mean_local, mean_relvar, mean_by, mean_both, mean_binary, mean_if, mean_select, mean_relation, mean_tuple, mean_with, mean_where, mean_aggregate, mean_extend, mean_summarize, groups_at, rows_in, value_at}
-use Rattle.td_meaning.specs.Operators.{operate_on, component_at, attribute_at, part_at, with_new_names, nested, unnested, as_value}
+use Rattle.td_operators.specs.Operators.{operate_on, component_at, attribute_at, part_at, with_new_names, nested, unnested, as_value}
 
 -- the infix operators but AND and OR evaluate both operands
 pub others : (o : BinaryOperator) (a b : Meaning) → o ≢ binary.And → o ≢ binary.Or → mean_binary o a b ≡ mean_both o a b

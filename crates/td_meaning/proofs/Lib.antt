@@ -4,7 +4,4 @@ pub mod Falls
 pub mod Forms
 pub mod Walks
 pub mod Selecting
-pub mod KindLemmas
-pub mod Decided
 pub mod Scopes
-pub mod Dee

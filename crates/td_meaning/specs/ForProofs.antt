@@ -1,7 +1,6 @@
 -- Words that only proofs and private functions use.
 pub mod Levels
 pub mod Over
-pub mod Lent
+pub mod Standing
 pub mod Latest
-pub mod Kinds
 pub mod Found

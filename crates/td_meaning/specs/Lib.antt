@@ -1,6 +1,4 @@
 -- The definitions of the crate.
-pub mod Values
-pub mod Operators
 pub mod Mean
 pub mod Selections
 pub mod Seen

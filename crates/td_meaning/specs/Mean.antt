@@ -22,8 +22,8 @@ use Rattle.td_algebra.specs.declared.errors.Stop.{Stop}
 use Rattle.td_algebra.specs.Functions.{project_of, restricted, extended, summarized}
 use Rattle.td_algebra.specs.Raising.{and_then}
 use Rattle.td_algebra.specs.Summaries.{summary_over}
-use Rattle.td_meaning.specs.Operators.{operate_on, component_at, attribute_at, part_at, with_new_names, nested, unnested, operate, in_turn, relation_over, table_dee, as_value}
-use Rattle.td_meaning.specs.Values.{truth_of, rows_of, known}
+use Rattle.td_operators.specs.Operators.{operate_on, component_at, attribute_at, part_at, with_new_names, nested, unnested, operate, in_turn, relation_over, table_dee, as_value}
+use Rattle.td_operators.specs.Values.{truth_of, rows_of, known}
 
 -- what each name in scope stands for
 abbrev pub Names : Type 0

@@ -4,29 +4,26 @@ ghost use Rattle.std.specs.Prelude.{◌≡◌, ◌++◌, ◌∷◌, [], OnOk};
 ghost use Rattle.td_algebra.specs.Functions as functions;
 ghost use Rattle.td_algebra.specs.Raising.{Answers, AnswersBy};
 ghost use Rattle.td_algebra.specs.Summaries.{summary_over};
-ghost use Rattle.td_meaning.specs.ForProofs.Lent.{lease_rows, operand_value};
+ghost use Rattle.td_operators.specs.ForProofs.Lent.{lease_rows, operand_value};
 ghost use Rattle.td_meaning.specs.ForProofs.Over as over;
 ghost use Rattle.td_meaning.specs.ForProofs.Over.{list_meant, items_meant, all_meant, groups_meant, terms};
 ghost use Rattle.td_meaning.specs.Mean as spec;
 ghost use Rattle.td_meaning.specs.Mean.{Names, truth_at};
-ghost use Rattle.td_meaning.specs.Operators as operators;
+ghost use Rattle.td_operators.specs.Operators as operators;
 ghost use Rattle.td_meaning.specs.Seen.{all_given, held_value, mean_in, relvars_at, visible};
 ghost use Rattle.td_meaning.specs.Selections as selections;
 
 use crate::environment::{Environment, relvar_at};
-use crate::operand::{Lease, Operand, operand_meant, rows_of, value_meant};
-use crate::operators::{
-    attribute_at, component_at, nested, operate_on, part_at, unnested, with_new_names,
-};
-use crate::pairs::operate;
-use crate::parts::{integer_value, relation_value, text_value, truth_of, truth_value, tuple_value};
-use crate::relations::project_of;
-use crate::scope::{Held, Scope, hold};
+use crate::scope::{Held, Scope, hold, operand_meant, value_meant};
 use crate::selections::{selector_at, user_value};
-use crate::tuples::{relation_over, table_dee};
 use sqlite_items::{Boxed, Items};
 use std::alloc::{AllocError, Global};
 use td_algebra::{Fault, Stop, aggregate, extend, restrict, summarize};
+use td_operators::{
+    Lease, Operand, attribute_at, component_at, integer_value, nested, operate, operate_on,
+    part_at, project_of, relation_over, relation_value, rows_of, table_dee, text_value, truth_of,
+    truth_value, tuple_value, unnested, with_new_names,
+};
 use td_relations::Relation;
 use td_syntax::tree::{BinaryOperator, Named, Nesting, UnaryOperator};
 use td_trees::expression::Selector;

@@ -3,14 +3,8 @@
 
 pub mod environment;
 mod evaluation;
-pub mod operand;
-mod operators;
-mod pairs;
-mod parts;
-mod relations;
 pub mod scope;
 mod selections;
-mod tuples;
 
 pub use environment::{Environment, Known};
 pub use evaluation::eval;

@@ -2,14 +2,17 @@
 
 ghost use Rattle.std.specs.Prelude.{◌≡◌, IfOk, MatchOption, None, Some};
 ghost use Rattle.std.specs.Option.{option_copied};
-ghost use Rattle.td_meaning.specs.ForProofs.Lent.{meant_value};
+ghost use Rattle.td_operators.specs.ForProofs.Lent.{operand_value};
+ghost use Rattle.td_meaning.specs.ForProofs.Standing.{meant_value};
 ghost use Rattle.td_meaning.specs.ForProofs.Latest.{latest};
 ghost use Rattle.td_meaning.specs.Seen.{held_value, visible};
 ghost use Rattle.td_meaning.specs.Selections.{components};
 
+use std::alloc::{AllocError, Global};
+use td_operators::{Operand, relation_value};
 use td_relations::Relation;
 use td_syntax::tree::Named;
-use td_values::{Kind, Name, Tuple, Value};
+use td_values::{Kind, Name, Tuple, Value, copy};
 
 /// The value of a name of WITH. A relation is held as operators take it, so that it can be lent.
 #[derive(Drop)]
@@ -44,6 +47,26 @@ pub(crate) fn hold(value: Value) -> Held
     match value.kind {
         Kind::Relation(rows) => Held::Rows(Relation::of(rows)),
         kind => Held::Other(Value { kind }),
+    }
+}
+
+/// What a name stands for, as an operand. A relation-valued attribute is copied: it is no `Relation` where it stands.
+pub(crate) fn operand_meant<'a>(alloc: Global, meant: Meant<'a>) -> Result<Operand<'a>, AllocError>
+    ensures { IfOk result (λ o. operand_value o ≡ meant_value meant.entry) }
+{
+    match meant {
+        Meant::Value(value) => Ok(Operand::Made(copy(alloc, value)?)),
+        Meant::Rows(relation) => Ok(Operand::Lent(relation)),
+    }
+}
+
+/// What a name stands for, copied.
+pub(crate) fn value_meant(alloc: Global, meant: Meant<'_>) -> Result<Value, AllocError>
+    ensures { IfOk result (λ v. v ≡ meant_value meant.entry) }
+{
+    match meant {
+        Meant::Value(value) => copy(alloc, value),
+        Meant::Rows(relation) => Ok(relation_value(relation.copy(alloc)?)),
     }
 }
 

@@ -32,10 +32,10 @@ use Rattle.td_headings.specs.declared.defined.Origin.{Origin}
 use Rattle.td_headings.specs.declared.defined.Origin.TheVariants as origin
 use Rattle.td_headings.proofs.NoTuple.{at_relvars}
 use Rattle.td_meaning.specs.Mean.{Meaning, Relvars, Selection, mean, mean_relvar, rows_in, within as names_within}
-use Rattle.td_meaning.specs.Operators.{as_value}
-use Rattle.td_meaning.specs.Values.{rows_of}
+use Rattle.td_operators.specs.Operators.{as_value}
+use Rattle.td_operators.specs.Values.{rows_of}
 use Rattle.td_meaning.proofs.Forms as meant
-use Rattle.td_meaning.proofs.KindLemmas.{rows_back}
+use Rattle.td_operators.proofs.KindLemmas.{rows_back}
 use Rattle.td_eval.specs.Meanings.{no_names, with_virtual, with_virtuals}
 use Rattle.td_eval.specs.Trees.{all_relvars, places, selection_of, tree_means}
 use Rattle.td_relvars.specs.Answers.{TellsRelvar}

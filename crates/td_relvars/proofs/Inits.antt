@@ -19,7 +19,7 @@ use Rattle.td_headings.specs.Reached.{is_base}
 use Rattle.td_headings.specs.declared.defined.Origin.{Origin}
 use Rattle.td_headings.specs.declared.defined.Origin.TheVariants as origin
 use Rattle.td_headings.proofs.WellTyped.{all_typed, init_tree}
-use Rattle.td_meaning.specs.Values.{rows_of}
+use Rattle.td_operators.specs.Values.{rows_of}
 use Rattle.td_soundness.specs.Meanings.{IsRelation}
 use Rattle.td_eval.specs.Raises.{Tells, stop_of}
 use Rattle.td_eval.specs.Trees.{IsIn, places_from, tree_means}

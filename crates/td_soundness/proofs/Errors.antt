@@ -5,8 +5,8 @@ use Rattle.td_algebra.specs.declared.errors.Stop.TheVariants.{Overflow, Divide, 
 use Rattle.td_algebra.specs.Raising.{all_of, alone, and_all, and_then}
 use Rattle.td_algebra.specs.Stops.{lesser, number_of}
 use Rattle.td_algebra.proofs.Lists.{In}
-use Rattle.td_meaning.specs.Operators.{in_turn}
-use Rattle.td_meaning.specs.Values.{both}
+use Rattle.td_operators.specs.Operators.{in_turn}
+use Rattle.td_operators.specs.Values.{both}
 use Rattle.td_soundness.specs.Meanings.{IsError, OrError}
 
 pub overflow_is : IsError Overflow

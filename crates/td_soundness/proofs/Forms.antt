@@ -26,8 +26,8 @@ use Rattle.td_kinds.specs.Operators.{binary_kind, suits}
 use Rattle.td_kinds.specs.Schemas.{SchemaData}
 use Rattle.td_meaning.specs.ForProofs.Over.{Means, terms, groups_meant, over_aggregate, over_extend, over_summarize}
 use Rattle.td_meaning.specs.Mean.{Names, Meaning, Relvars, within, given, truth_in, rows_in, truth_at, mean_local, mean_relvar, mean_by, mean_both, mean_and, mean_or, mean_binary, mean_if, mean_where, introduced, mean_with, groups_at}
-use Rattle.td_meaning.specs.Operators.{operate, as_value}
-use Rattle.td_meaning.specs.Values.{truth_of, rows_of, known}
+use Rattle.td_operators.specs.Operators.{operate, as_value}
+use Rattle.td_operators.specs.Values.{truth_of, rows_of, known}
 use Rattle.td_typing.specs.Trees.{named, summary_of}
 use Rattle.td_soundness.specs.Meanings.{OrError, Gives, HasKind, HasHeading, IsRelation, GivesRelation}
 use Rattle.td_soundness.proofs.Errors.{Each, goes_on}

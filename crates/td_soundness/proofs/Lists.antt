@@ -18,9 +18,9 @@ use Rattle.td_kinds.specs.declared.schema.Representation.{Representation}
 use Rattle.td_kinds.specs.Schemas.{SchemaData}
 use Rattle.td_meaning.specs.ForProofs.Over.{Means, item_meant, items_meant}
 use Rattle.td_meaning.specs.Mean.{Names, Meaning, Selection, at, named_at, mean_select, mean_relation, mean_tuple}
-use Rattle.td_meaning.specs.Operators.{in_turn, fits, if_fits, tuple_over, relation_over, as_value}
-use Rattle.td_meaning.specs.Values.{tuple_in}
-use Rattle.td_meaning.proofs.KindLemmas.{items_back}
+use Rattle.td_operators.specs.Operators.{in_turn, fits, if_fits, tuple_over, relation_over, as_value}
+use Rattle.td_operators.specs.Values.{tuple_in}
+use Rattle.td_operators.proofs.KindLemmas.{items_back}
 use Rattle.td_typing.specs.Trees.{component_kinds}
 use Rattle.td_soundness.specs.Values.{AreValues}
 use Rattle.td_soundness.specs.Meanings.{OrError, Gives, HasKind, HasHeading, Selects}

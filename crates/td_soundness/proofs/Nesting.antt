@@ -26,7 +26,7 @@ use Rattle.td_kinds.specs.Forms.{nested_heading, nested_columns, unnested_headin
 use Rattle.td_kinds.specs.Kinds.{Text, kind_of, is_new, are_new}
 use Rattle.td_kinds.specs.Results.{where_true, and_then}
 use Rattle.td_kinds.specs.Schemas.{SchemaData}
-use Rattle.td_meaning.specs.Operators.{nested_of, unnested_of, is_relation_type, is_tuple_type}
+use Rattle.td_operators.specs.Operators.{nested_of, unnested_of, is_relation_type, is_tuple_type}
 use Rattle.td_typing.proofs.KindLemmas as kinds
 use Rattle.td_soundness.specs.Values.{IsValue}
 use Rattle.td_soundness.specs.Meanings.{HasHeading, IsRelation, GivesRelation}

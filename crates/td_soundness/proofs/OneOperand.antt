@@ -30,8 +30,8 @@ use Rattle.td_kinds.specs.Lists.{may_rename}
 use Rattle.td_kinds.specs.Operators as tables
 use Rattle.td_kinds.specs.Results.{where_true}
 use Rattle.td_kinds.specs.Schemas.{SchemaData, type_named, first_from, component_named, is_named}
-use Rattle.td_meaning.specs.Operators.{within_64_bits, only_tuple, is_pair, closed, operate_on, component_at, attribute_at, part_at, with_new_names, as_value, nested, nested_of, unnested, unnested_of}
-use Rattle.td_meaning.specs.Values.{truth_of, integer_of, tuple_in, rows_of, item_list, known}
+use Rattle.td_operators.specs.Operators.{within_64_bits, only_tuple, is_pair, closed, operate_on, component_at, attribute_at, part_at, with_new_names, as_value, nested, nested_of, unnested, unnested_of}
+use Rattle.td_operators.specs.Values.{truth_of, integer_of, tuple_in, rows_of, item_list, known}
 use Rattle.td_typing.proofs.KindLemmas as kinds
 use Rattle.td_soundness.specs.Values.{IsValue, AreValues, AreComponentsOf, HasPossrep}
 use Rattle.td_soundness.specs.Meanings.{Gives, HasKind, HasHeading, IsRelation}

@@ -19,7 +19,7 @@ use Rattle.td_algebra.proofs.Grouping.{listed}
 use Rattle.td_algebra.proofs.Lists.{in_all, in_map, in_filter, in_flat_map}
 use Rattle.td_algebra.proofs.Made.{has_in, in_has}
 use Rattle.td_kinds.specs.Schemas.{SchemaData}
-use Rattle.td_meaning.specs.Operators.{table_dee}
+use Rattle.td_operators.specs.Operators.{table_dee}
 use Rattle.td_soundness.specs.Meanings.{HasHeading, IsRelation}
 use Rattle.td_soundness.proofs.Errors.{Each}
 use Rattle.td_soundness.proofs.Attributes.{has_part, has_beside, has_renamed}

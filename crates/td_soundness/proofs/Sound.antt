@@ -33,7 +33,7 @@ use Rattle.td_kinds.specs.Scopes.{Scope, all_given}
 use Rattle.td_meaning.specs.ForProofs.Over.{terms, list_meant, items_meant, all_meant, groups_meant, over_aggregate, over_extend, over_summarize}
 use Rattle.td_meaning.specs.Mean as mean
 use Rattle.td_meaning.specs.Mean.{Names, Meaning, Relvars, Selection, at, introduced, groups_at}
-use Rattle.td_meaning.specs.Operators.{in_turn, operate_on, component_at, attribute_at, part_at, with_new_names, nested, unnested}
+use Rattle.td_operators.specs.Operators.{in_turn, operate_on, component_at, attribute_at, part_at, with_new_names, nested, unnested}
 use Rattle.td_meaning.proofs.Forms as forms
 use Rattle.td_typing.specs.Trees.{kinds, trees, summary_of}
 use Rattle.td_typing.specs.Types as types

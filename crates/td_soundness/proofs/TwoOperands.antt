@@ -19,8 +19,8 @@ use Rattle.td_algebra.specs.Summaries.{in_64_bits}
 use Rattle.td_kinds.specs.Kinds.{same_heading, agree}
 use Rattle.td_kinds.specs.Operators as tables
 use Rattle.td_kinds.specs.Schemas.{SchemaData}
-use Rattle.td_meaning.specs.Operators.{if_alike, related, decided, calculated, of_truths, of_integers, of_relations, concatenated, same, member, is_subset, is_proper_subset, of_alike, less, at_most, operate, as_value}
-use Rattle.td_meaning.specs.Values.{truth_of, integer_of, text_of, tuple_in, rows_of, both}
+use Rattle.td_operators.specs.Operators.{if_alike, related, decided, calculated, of_truths, of_integers, of_relations, concatenated, same, member, is_subset, is_proper_subset, of_alike, less, at_most, operate, as_value}
+use Rattle.td_operators.specs.Values.{truth_of, integer_of, text_of, tuple_in, rows_of, both}
 use Rattle.td_soundness.specs.Meanings.{OrError, Gives, HasKind, HasHeading, IsRelation, GivesRelation}
 use Rattle.td_soundness.proofs.Errors.{goes_on, both_are, divide_is}
 use Rattle.td_soundness.proofs.OneOperand.{of_kind, as_relation, in_64_bits_gives}

@@ -11,7 +11,7 @@ use Rattle.td_algebra.specs.Nested.{relation_value, tuple_list}
 use Rattle.td_algebra.proofs.Lists.{in_all, all_in}
 use Rattle.td_kinds.specs.Kinds.{kind_of}
 use Rattle.td_kinds.specs.Schemas.{SchemaData}
-use Rattle.td_meaning.specs.Values.{truth_of, integer_of, text_of, tuple_in, rows_of}
+use Rattle.td_operators.specs.Values.{truth_of, integer_of, text_of, tuple_in, rows_of}
 use Rattle.td_soundness.specs.Values.{AreColumns, IsValue, AreAttributes, AreTuples}
 use Rattle.td_soundness.specs.Meanings.{OrError, HasKind, HasHeading, IsRelation, GivesRelation}
 use Rattle.td_soundness.proofs.Errors.{Each, with_first}

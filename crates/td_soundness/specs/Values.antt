@@ -8,7 +8,7 @@ use Rattle.td_values.specs.Whole.{type_of, heading_of}
 use Rattle.td_kinds.specs.declared.schema.Representation.{Representation}
 use Rattle.td_kinds.specs.Schemas.{SchemaData, type_named}
 use Rattle.td_typing.specs.Trees.{component_kinds}
-use Rattle.td_meaning.specs.Values.{item_list}
+use Rattle.td_operators.specs.Values.{item_list}
 
 -- the fields are those of a heading: distinct names, in order
 abbrev pub AreColumns : Fields → Type 0

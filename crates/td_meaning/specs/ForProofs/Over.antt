@@ -1,5 +1,5 @@
 -- The forms with terms, over the expressions themselves and not over their meanings.
-use Rattle.std.specs.Prelude.{List, [], ◌∷◌, ◌++◌, map, Result, Ok}
+use Rattle.std.specs.Prelude.{List, map, Result, Ok}
 use Rattle.td_values.specs.Data.{Datum, Attrs}
 use Rattle.td_syntax.specs.declared.tree.Named.{Named}
 use Rattle.td_tuples.specs.declared.items.Item.{Item}
@@ -12,7 +12,7 @@ use Rattle.td_algebra.specs.Functions.{extended, summarized}
 use Rattle.td_algebra.specs.Raising.{and_then}
 use Rattle.td_algebra.specs.Summaries.{summary_over}
 use Rattle.td_meaning.specs.Mean.{Names, Meaning, within, rows_in, groups_at}
-use Rattle.td_meaning.specs.Operators.{as_value}
+use Rattle.td_operators.specs.Operators.{as_value}
 
 -- what terms mean, and their values at tuples
 abbrev pub Means : Type 0
@@ -51,8 +51,3 @@ over_extend m r items names = and_then (rows_in (m r) names) (λ ts. and_then (e
 
 unfoldable pub over_summarize : Means → Typed → TypedGroups Typed → List (Item (Summary Typed)) → Meaning
 over_summarize m r g items names = and_then (rows_in (m r) names) (λ ts. and_then (groups_at (groups_meant m g) names ts) (λ us. and_then (summarized (terms m names) items ts us) as_value))
-
--- ---- in turn, behind what was found
-abbrev pub turn : {X A : Type 0} → (X → Result A Stop) → List A → List X → Result (List A) Stop
-turn f done [] = Ok done
-turn f done (x ∷ xs) = and_then (f x) (λ a. turn f (done ++ a ∷ []) xs)

@@ -1,6 +1,6 @@
 use Rattle.std.proofs.Common.{Ok, sym, ap, ◌∙◌}
 use Rattle.td_values.specs.View.{datum_of}
-use Rattle.td_meaning.proofs.KindLemmas.{rows_back}
+use Rattle.td_operators.proofs.KindLemmas.{rows_back}
 use Rattle.td_eval.proofs.valued.relation_in.Goals as goal
 
 pub returns : goal.returns

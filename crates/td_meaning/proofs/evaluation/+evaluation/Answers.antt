@@ -6,15 +6,17 @@ use Rattle.td_algebra.specs.Functions.{extended, summarized}
 use Rattle.td_algebra.specs.Raising.{Answers, AnswersBy, and_then}
 use Rattle.td_algebra.proofs.Bridges.{restricts_to, extends_to, summarizes_to}
 use Rattle.td_meaning.specs.declared.scope.Held.{Held}
-use Rattle.td_meaning.specs.ForProofs.Lent.{lease_rows, operand_value}
-use Rattle.td_meaning.specs.ForProofs.Over.{terms, list_meant, items_meant, all_meant, groups_meant, turn, over_aggregate, over_extend, over_summarize}
+use Rattle.td_operators.specs.ForProofs.Lent.{lease_rows, operand_value}
+use Rattle.td_meaning.specs.ForProofs.Over.{terms, list_meant, items_meant, all_meant, groups_meant, over_aggregate, over_extend, over_summarize}
+use Rattle.td_operators.specs.ForProofs.Turns.{turn}
 use Rattle.td_meaning.specs.Mean.{at, named_at, introduced, truth_at, truth_in, rows_in, groups_at, mean, mean_by, mean_binary, mean_where, mean_if, mean_with}
-use Rattle.td_meaning.specs.Operators.{as_value, in_turn, operate_on, attribute_at, part_at, with_new_names, nested, unnested}
+use Rattle.td_operators.specs.Operators.{as_value, in_turn, operate_on, attribute_at, part_at, with_new_names, nested, unnested}
 use Rattle.td_meaning.specs.Seen.{all_given, mean_in, relvars_at, visible}
 use Rattle.td_meaning.specs.Selections.{admits, no_relvars, selection}
 use Rattle.td_meaning.proofs.Falls.{in_list, in_items, in_named, term_within, summary_within, of_term, select_falls, relation_falls, tuple_falls, extend_falls, with_falls, summarize_falls}
 use Rattle.td_meaning.proofs.Forms.{of_relvar, of_unary, of_binary, of_from, of_project, of_where, of_rename, of_nest, of_unnest, of_aggregate, of_if, of_extend, of_summarize, of_with}
-use Rattle.td_meaning.proofs.Walks.{turn_begins, value_goes, value_stops, field_goes, field_stops, name_goes, name_stops, one_more_given, fails, made_over, stops_over, over_both}
+use Rattle.td_meaning.proofs.Walks.{value_goes, value_stops, field_goes, field_stops, name_goes, name_stops, one_more_given, fails, made_over, stops_over, over_both}
+use Rattle.td_operators.proofs.Turns.{turn_begins}
 use Rattle.td_meaning.proofs.evaluation.+evaluation.Goals as goal
 
 -- ---- closures

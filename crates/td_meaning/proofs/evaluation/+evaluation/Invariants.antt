@@ -1,8 +1,9 @@
 use Rattle.std.proofs.Common.{◌≡◌, ◌+◌, ◌*◌, max, drop}
 use Rattle.td_meaning.specs.ForProofs.Levels.{levels, list_levels, item_levels, named_levels, summary_levels, summaries_levels, groups_levels, limit_levels, weight}
-use Rattle.td_meaning.specs.ForProofs.Over.{list_meant, items_meant, all_meant, turn}
+use Rattle.td_meaning.specs.ForProofs.Over.{list_meant, items_meant, all_meant}
+use Rattle.td_operators.specs.ForProofs.Turns.{turn}
 use Rattle.td_meaning.specs.Mean.{at, named_at, introduced}
-use Rattle.td_meaning.specs.Operators.{in_turn}
+use Rattle.td_operators.specs.Operators.{in_turn}
 use Rattle.td_meaning.specs.Seen.{all_given, mean_in, visible}
 use Rattle.td_meaning.proofs.evaluation.+evaluation.Given as goal
 

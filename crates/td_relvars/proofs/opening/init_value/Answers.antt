@@ -4,7 +4,7 @@ use Rattle.td_values.specs.Rows.{RowsData}
 use Rattle.td_kinds.specs.Schemas.{SchemaData}
 use Rattle.td_algebra.specs.Raising.{and_then}
 use Rattle.td_headings.specs.Catalogues.{CatalogueData}
-use Rattle.td_meaning.specs.Values.{rows_of}
+use Rattle.td_operators.specs.Values.{rows_of}
 use Rattle.td_soundness.specs.Meanings.{IsRelation}
 use Rattle.td_eval.specs.Raises.{Tells}
 use Rattle.td_eval.specs.Trees.{IsIn, tree_means}

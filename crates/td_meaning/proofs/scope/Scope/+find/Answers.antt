@@ -1,5 +1,5 @@
 use Rattle.std.proofs.Common.{◌≡◌, MatchOption, None, Some, refl, ap, sym, ◌∙◌, subst}
-use Rattle.td_meaning.specs.ForProofs.Lent.{meant_value}
+use Rattle.td_meaning.specs.ForProofs.Standing.{meant_value}
 use Rattle.td_meaning.specs.Seen.{visible}
 use Rattle.td_meaning.proofs.Walks.{last_given, or_outer}
 use Rattle.td_meaning.proofs.scope.Scope.+find.Goals as goal

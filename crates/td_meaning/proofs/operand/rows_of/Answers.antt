@@ -1,7 +1,0 @@
-use Rattle.std.proofs.Common.{ap}
-use Rattle.td_meaning.specs.ForProofs.Lent.{operand_value}
-use Rattle.td_meaning.proofs.KindLemmas.{rows_back}
-use Rattle.td_meaning.proofs.operand.rows_of.Goals as goal
-
-pub returns-in-Lent : goal.returns-in-Lent
-returns-in-Lent c = rows_back (operand_value c.args.operand) c.in-Lent.relation.now (ap operand_value c.in-Lent.is)

@@ -1,6 +1,0 @@
-use Rattle.td_meaning.specs.ForProofs.Lent.{operand_value}
-use Rattle.td_meaning.proofs.Decided.{same_tested}
-use Rattle.td_meaning.proofs.pairs.same.Goals as goal
-
-pub returns : goal.returns
-returns c = same_tested (operand_value c.args.u.now) (operand_value c.args.v.now) c.are_same.result c.are_same.ensures

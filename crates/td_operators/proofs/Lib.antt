@@ -1,0 +1,5 @@
+-- The proofs of the crate.
+pub mod KindLemmas
+pub mod Decided
+pub mod Dee
+pub mod Turns

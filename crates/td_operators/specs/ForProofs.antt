@@ -1,0 +1,4 @@
+-- Words that only proofs and private functions use.
+pub mod Lent
+pub mod Kinds
+pub mod Turns

@@ -1,0 +1,18 @@
+//! What operators make of values, or the errors that they raise.
+#![tactic(auto)]
+
+pub mod operand;
+mod operators;
+mod pairs;
+mod parts;
+mod relations;
+mod tuples;
+
+pub use operand::{Lease, Operand, rows_of};
+pub use operators::{
+    attribute_at, component_at, nested, operate_on, part_at, unnested, with_new_names,
+};
+pub use pairs::operate;
+pub use parts::{integer_value, relation_value, text_value, truth_of, truth_value, tuple_value};
+pub use relations::project_of;
+pub use tuples::{relation_over, table_dee};

@@ -1,0 +1,139 @@
+//! Values as operators take them: a relation may be lent.
+
+ghost use Rattle.std.specs.Prelude.{◌≡◌};
+ghost use Rattle.td_algebra.specs.Raising.{Answers, AnswersBy};
+ghost use Rattle.td_operators.specs.ForProofs.Kinds.{HasShape};
+ghost use Rattle.td_operators.specs.ForProofs.Lent.{lease_rows, operand_value};
+ghost use Rattle.td_operators.specs.Values as spec;
+
+use td_algebra::{Fault, Stop};
+use td_relations::Relation;
+use td_values::{Kind, Text, Tuple, Value};
+
+/// The value of an operand.
+#[derive(Drop)]
+pub enum Operand<'a> {
+    Made(Value),
+    Lent(&'a Relation),
+}
+
+/// The relation of an operand.
+#[derive(Drop)]
+pub enum Lease<'a> {
+    Own(Relation),
+    Lent(&'a Relation),
+}
+
+/// What an operand is, where that decides what is done with it.
+#[derive(Clone, Copy)]
+pub enum Shape<'a> {
+    Integer(i64),
+    Text(&'a Text),
+    Tuple(&'a Tuple),
+    Other,
+}
+
+impl Lease<'_> {
+    /// The relation, lent.
+    pub fn get(&self) -> &Relation
+        ensures { result.now ≡ lease_rows self.now }
+    {
+        match self {
+            Lease::Own(relation) => relation,
+            Lease::Lent(relation) => relation,
+        }
+    }
+}
+
+pub(crate) fn truth_of(operand: &Operand) -> Result<bool, Fault>
+    ensures { Answers result (spec.truth_of (operand_value operand.now)) }
+{
+    match operand {
+        Operand::Made(value) => match &value.kind {
+            Kind::Boolean(b) => Ok(*b),
+            _ => Err(Fault::Raised(Stop::Untyped)),
+        },
+        Operand::Lent(_) => Err(Fault::Raised(Stop::Untyped)),
+    }
+}
+
+pub(crate) fn integer_of(operand: &Operand) -> Result<i64, Fault>
+    ensures { Answers result (spec.integer_of (operand_value operand.now)) }
+{
+    match operand {
+        Operand::Made(value) => match &value.kind {
+            Kind::Integer(n) => Ok(*n),
+            _ => Err(Fault::Raised(Stop::Untyped)),
+        },
+        Operand::Lent(_) => Err(Fault::Raised(Stop::Untyped)),
+    }
+}
+
+pub(crate) fn text_of<'a>(operand: &'a Operand) -> Result<&'a Text, Fault>
+    ensures { AnswersBy (λ s. s.now) result (spec.text_of (operand_value operand.now)) }
+{
+    match operand {
+        Operand::Made(value) => match &value.kind {
+            Kind::Char(text) => Ok(text),
+            _ => Err(Fault::Raised(Stop::Untyped)),
+        },
+        Operand::Lent(_) => Err(Fault::Raised(Stop::Untyped)),
+    }
+}
+
+pub(crate) fn tuple_of<'a>(operand: &'a Operand) -> Result<&'a Tuple, Fault>
+    ensures { AnswersBy (λ t. t.now) result (spec.tuple_in (operand_value operand.now)) }
+{
+    match operand {
+        Operand::Made(value) => match &value.kind {
+            Kind::Tuple(tuple) => Ok(tuple),
+            _ => Err(Fault::Raised(Stop::Untyped)),
+        },
+        Operand::Lent(_) => Err(Fault::Raised(Stop::Untyped)),
+    }
+}
+
+pub(crate) fn components_of<'a>(operand: &'a Operand) -> Result<&'a [Value], Fault>
+    ensures { AnswersBy (λ vs. vs.now) result (spec.components_of (operand_value operand.now)) }
+{
+    match operand {
+        Operand::Made(value) => match &value.kind {
+            Kind::User(_, items) => Ok(items.values()),
+            _ => Err(Fault::Raised(Stop::Untyped)),
+        },
+        Operand::Lent(_) => Err(Fault::Raised(Stop::Untyped)),
+    }
+}
+
+pub(crate) fn shape_of<'a>(operand: &'a Operand) -> Shape<'a>
+    ensures { HasShape result (operand_value operand.now) }
+{
+    match operand {
+        Operand::Made(value) => match &value.kind {
+            Kind::Integer(n) => Shape::Integer(*n),
+            Kind::Char(text) => Shape::Text(text),
+            Kind::Tuple(tuple) => Shape::Tuple(tuple),
+            _ => Shape::Other,
+        },
+        Operand::Lent(_) => Shape::Other,
+    }
+}
+
+fn own_rows<'a>(value: Value) -> Result<Lease<'a>, Fault>
+    ensures { AnswersBy lease_rows result (spec.rows_of value) }
+{
+    match value.kind {
+        Kind::Relation(rows) => Ok(Lease::Own(Relation::of(rows))),
+        _ => Err(Fault::Raised(Stop::Untyped)),
+    }
+}
+
+/// The relation of the operand. It takes no memory.
+pub fn rows_of<'a>(operand: Operand<'a>) -> Result<Lease<'a>, Fault>
+    ensures { AnswersBy lease_rows result (spec.rows_of (operand_value operand.entry)) }
+{
+    match operand {
+        Operand::Made(value) => own_rows(value),
+        Operand::Lent(relation) => Ok(Lease::Lent(relation)),
+    }
+}

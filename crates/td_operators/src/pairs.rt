@@ -1,0 +1,337 @@
+//! What operators make of two values.
+
+ghost use Rattle.std.specs.Prelude.{◌≡◌, ◌↔◌, ◌++◌, ◌+ℤ◌, ◌-ℤ◌, ◌*ℤ◌, IfOk, IsTrue};
+ghost use Rattle.td_algebra.specs.Nested.{relation_value};
+ghost use Rattle.td_algebra.specs.Raising.{Answers};
+ghost use Rattle.td_operators.specs.ForProofs.Lent.{operand_value};
+ghost use Rattle.td_syntax.specs.declared.tree.BinaryOperator.TheVariants as binary;
+ghost use Rattle.td_operators.specs.Operators as spec;
+
+use crate::operand::{Operand, Shape, integer_of, rows_of, shape_of, text_of, truth_of, tuple_of};
+use crate::parts::{integer_value, relation_value, text_value, truth_value};
+use crate::relations::{
+    compose_of, intersect_of, join_of, matching_of, minus_of, not_matching_of, union_of,
+};
+use std::alloc::{AllocError, Global};
+use td_algebra::{Fault, Stop};
+use td_relations::{Relation, is_subset};
+use td_syntax::tree::BinaryOperator;
+use td_values::{Heading, Kind, Text, Tuple, Value, equal, equal_headings};
+
+// ---- truth values, integers, texts
+
+fn decided(operator: BinaryOperator, a: bool, b: bool) -> Result<Value, Fault>
+    ensures { Answers result (spec.decided operator a b) }
+{
+    match operator {
+        BinaryOperator::Or => Ok(truth_value(a || b)),
+        BinaryOperator::Xor => Ok(truth_value(a != b)),
+        BinaryOperator::And => Ok(truth_value(a && b)),
+        _ => Err(Fault::Raised(Stop::Untyped)),
+    }
+}
+
+#[tactic(auto, unfolding(crate::specs::Operators::of_truths))]
+fn of_truths(operator: BinaryOperator, u: &Operand<'_>, v: &Operand<'_>) -> Result<Value, Fault>
+    ensures { Answers result (spec.of_truths operator (operand_value u.now) (operand_value v.now)) }
+{
+    let a = truth_of(u)?;
+    let b = truth_of(v)?;
+    decided(operator, a, b)
+}
+
+fn quotient(m: i64, n: i64) -> Result<Value, Fault>
+    ensures { Answers result (spec.quotient m n) }
+{
+    if n == 0 {
+        return Err(Fault::Raised(Stop::Divide));
+    }
+    match m.checked_div(n) {
+        Some(q) => Ok(integer_value(q)),
+        None => Err(Fault::Raised(Stop::Overflow)),
+    }
+}
+
+fn sum(m: i64, n: i64) -> Result<Value, Fault>
+    ensures { Answers result (spec.within_64_bits (m +ℤ n)) }
+{
+    match m.checked_add(n) {
+        Some(sum) => Ok(integer_value(sum)),
+        None => Err(Fault::Raised(Stop::Overflow)),
+    }
+}
+
+fn difference(m: i64, n: i64) -> Result<Value, Fault>
+    ensures { Answers result (spec.within_64_bits (m -ℤ n)) }
+{
+    match m.checked_sub(n) {
+        Some(difference) => Ok(integer_value(difference)),
+        None => Err(Fault::Raised(Stop::Overflow)),
+    }
+}
+
+fn product(m: i64, n: i64) -> Result<Value, Fault>
+    ensures { Answers result (spec.within_64_bits (m *ℤ n)) }
+{
+    match m.checked_mul(n) {
+        Some(product) => Ok(integer_value(product)),
+        None => Err(Fault::Raised(Stop::Overflow)),
+    }
+}
+
+fn calculated(operator: BinaryOperator, m: i64, n: i64) -> Result<Value, Fault>
+    ensures { Answers result (spec.calculated operator m n) }
+{
+    match operator {
+        BinaryOperator::Add => sum(m, n),
+        BinaryOperator::Subtract => difference(m, n),
+        BinaryOperator::Multiply => product(m, n),
+        BinaryOperator::Divide => quotient(m, n),
+        _ => Err(Fault::Raised(Stop::Untyped)),
+    }
+}
+
+#[tactic(auto, unfolding(crate::specs::Operators::of_integers))]
+fn of_integers(operator: BinaryOperator, u: &Operand<'_>, v: &Operand<'_>) -> Result<Value, Fault>
+    ensures { Answers result (spec.of_integers operator (operand_value u.now) (operand_value v.now)) }
+{
+    let m = integer_of(u)?;
+    let n = integer_of(v)?;
+    calculated(operator, m, n)
+}
+
+// The one text behind the other.
+fn joined(alloc: Global, s: &Text, t: &Text) -> Result<Text, AllocError>
+    ensures { IfOk result (λ u. u ≡ s.now ++ t.now) }
+{
+    let mut text = String::from_str(alloc, s.as_str())?;
+    text.push_str(t.as_str())?;
+    Text::new(alloc, text)
+}
+
+#[tactic(auto, unfolding(crate::specs::Operators::concatenated))]
+fn concatenated(alloc: Global, u: &Operand<'_>, v: &Operand<'_>) -> Result<Value, Fault>
+    ensures { Answers result (spec.concatenated (operand_value u.now) (operand_value v.now)) }
+{
+    let s = text_of(u)?;
+    let t = text_of(v)?;
+    Ok(text_value(joined(alloc, s, t)?))
+}
+
+// ---- values of any kind
+
+fn same_tuples(ts: &[Tuple], us: &[Tuple]) -> bool
+    ensures { IsTrue result ↔ (ts.now ≡ us.now) }
+{
+    ts == us
+}
+
+fn same_rows(g: &Heading, ts: &[Tuple], h: &Heading, us: &[Tuple]) -> bool
+    ensures { IsTrue result ↔ ((g.now ≡ h.now) × (ts.now ≡ us.now)) }
+{
+    equal_headings(g, h) && same_tuples(ts, us)
+}
+
+fn is_relation(value: &Value, r: &Relation) -> bool
+    ensures { IsTrue result ↔ (value.now ≡ relation_value r.now) }
+{
+    match &value.kind {
+        Kind::Relation(rows) => {
+            same_rows(rows.heading(), rows.tuples(), r.heading(), r.tuples())
+        }
+        _ => false,
+    }
+}
+
+fn are_same(u: &Operand<'_>, v: &Operand<'_>) -> bool
+    ensures { IsTrue result ↔ (operand_value u.now ≡ operand_value v.now) }
+{
+    match (u, v) {
+        (Operand::Made(a), Operand::Made(b)) => equal(a, b),
+        (Operand::Made(a), Operand::Lent(r)) => is_relation(a, r),
+        (Operand::Lent(r), Operand::Made(b)) => is_relation(b, r),
+        (Operand::Lent(r), Operand::Lent(s)) => {
+            same_rows(r.heading(), r.tuples(), s.heading(), s.tuples())
+        }
+    }
+}
+
+fn same(u: &Operand<'_>, v: &Operand<'_>) -> bool
+    ensures { result ≡ spec.same (operand_value u.now) (operand_value v.now) }
+{
+    are_same(u, v)
+}
+
+// ---- relations
+
+fn have_one_heading(r: &Relation, s: &Relation) -> bool
+    ensures test { result ≡ spec.same_heading r.now.heading s.now.heading }
+    ensures same { IsTrue result ↔ (r.now.heading ≡ s.now.heading) }
+{
+    r.same_heading(s)
+}
+
+fn united(alloc: Global, r: &Relation, s: &Relation) -> Result<Relation, Fault>
+    ensures { Answers result (spec.related binary.Union r.now s.now) }
+{
+    if !have_one_heading(r, s) {
+        return Err(Fault::Raised(Stop::Untyped));
+    }
+    Ok(union_of(alloc, r, s)?)
+}
+
+fn common(alloc: Global, r: &Relation, s: &Relation) -> Result<Relation, Fault>
+    ensures { Answers result (spec.related binary.Intersect r.now s.now) }
+{
+    if !have_one_heading(r, s) {
+        return Err(Fault::Raised(Stop::Untyped));
+    }
+    Ok(intersect_of(alloc, r, s)?)
+}
+
+fn remaining(alloc: Global, r: &Relation, s: &Relation) -> Result<Relation, Fault>
+    ensures { Answers result (spec.related binary.Minus r.now s.now) }
+{
+    if !have_one_heading(r, s) {
+        return Err(Fault::Raised(Stop::Untyped));
+    }
+    Ok(minus_of(alloc, r, s)?)
+}
+
+fn related(
+    alloc: Global,
+    operator: BinaryOperator,
+    r: &Relation,
+    s: &Relation,
+) -> Result<Relation, Fault>
+    ensures { Answers result (spec.related operator r.now s.now) }
+{
+    match operator {
+        BinaryOperator::Join => Ok(join_of(alloc, r, s)?),
+        BinaryOperator::Compose => Ok(compose_of(alloc, r, s)?),
+        BinaryOperator::Matching => Ok(matching_of(alloc, r, s)?),
+        BinaryOperator::NotMatching => Ok(not_matching_of(alloc, r, s)?),
+        BinaryOperator::Union => united(alloc, r, s),
+        BinaryOperator::Intersect => common(alloc, r, s),
+        BinaryOperator::Minus => remaining(alloc, r, s),
+        _ => Err(Fault::Raised(Stop::Untyped)),
+    }
+}
+
+#[tactic(auto, unfolding(crate::specs::Operators::of_relations))]
+fn of_relations(
+    alloc: Global,
+    operator: BinaryOperator,
+    u: Operand<'_>,
+    v: Operand<'_>,
+) -> Result<Value, Fault>
+    ensures { Answers result (spec.of_relations operator (operand_value u.entry) (operand_value v.entry)) }
+{
+    let r = rows_of(u)?;
+    let s = rows_of(v)?;
+    Ok(relation_value(related(alloc, operator, r.get(), s.get())?))
+}
+
+#[tactic(auto, unfolding(crate::specs::Operators::member))]
+fn member(u: Operand<'_>, v: Operand<'_>) -> Result<Value, Fault>
+    ensures { Answers result (spec.member (operand_value u.entry) (operand_value v.entry)) }
+{
+    let tuple = tuple_of(&u)?;
+    let rows = rows_of(v)?;
+    Ok(truth_value(rows.get().contains(tuple)))
+}
+
+// ---- order
+
+fn is_part(r: &Relation, s: &Relation) -> bool
+    ensures { result ≡ spec.is_subset r.now s.now }
+{
+    is_subset(r, s)
+}
+
+fn is_proper_part(r: &Relation, s: &Relation) -> bool
+    ensures { result ≡ spec.is_proper_subset r.now s.now }
+{
+    is_part(r, s) && !is_part(s, r)
+}
+
+#[tactic(auto, unfolding(crate::specs::Operators::of_alike))]
+fn is_less(u: Operand<'_>, v: Operand<'_>) -> Result<Value, Fault>
+    ensures { Answers result (spec.of_alike spec.is_proper_subset (operand_value u.entry) (operand_value v.entry)) }
+{
+    let r = rows_of(u)?;
+    let s = rows_of(v)?;
+    if !have_one_heading(r.get(), s.get()) {
+        return Err(Fault::Raised(Stop::Untyped));
+    }
+    Ok(truth_value(is_proper_part(r.get(), s.get())))
+}
+
+#[tactic(auto, unfolding(crate::specs::Operators::of_alike))]
+fn is_at_most(u: Operand<'_>, v: Operand<'_>) -> Result<Value, Fault>
+    ensures { Answers result (spec.of_alike spec.is_subset (operand_value u.entry) (operand_value v.entry)) }
+{
+    let r = rows_of(u)?;
+    let s = rows_of(v)?;
+    if !have_one_heading(r.get(), s.get()) {
+        return Err(Fault::Raised(Stop::Untyped));
+    }
+    Ok(truth_value(is_part(r.get(), s.get())))
+}
+
+fn less(u: Operand<'_>, v: Operand<'_>) -> Result<Value, Fault>
+    ensures { Answers result (spec.less (operand_value u.entry) (operand_value v.entry)) }
+{
+    match shape_of(&u) {
+        Shape::Integer(m) => Ok(truth_value(m < integer_of(&v)?)),
+        Shape::Text(s) => Ok(truth_value(s.compare(text_of(&v)?).is_lt())),
+        _ => is_less(u, v),
+    }
+}
+
+fn at_most(u: Operand<'_>, v: Operand<'_>) -> Result<Value, Fault>
+    ensures { Answers result (spec.at_most (operand_value u.entry) (operand_value v.entry)) }
+{
+    match shape_of(&u) {
+        Shape::Integer(m) => Ok(truth_value(m <= integer_of(&v)?)),
+        Shape::Text(s) => Ok(truth_value(s.compare(text_of(&v)?).is_le())),
+        _ => is_at_most(u, v),
+    }
+}
+
+// ---- all of them
+
+/// What an operator makes of two values.
+pub fn operate(
+    alloc: Global,
+    operator: BinaryOperator,
+    u: Operand<'_>,
+    v: Operand<'_>,
+) -> Result<Value, Fault>
+    ensures { Answers result (spec.operate operator (operand_value u.entry) (operand_value v.entry)) }
+{
+    match operator {
+        BinaryOperator::Or | BinaryOperator::Xor | BinaryOperator::And => {
+            of_truths(operator, &u, &v)
+        }
+        BinaryOperator::Equals => Ok(truth_value(same(&u, &v))),
+        BinaryOperator::Differs => Ok(truth_value(!same(&u, &v))),
+        BinaryOperator::Less => less(u, v),
+        BinaryOperator::Greater => less(v, u),
+        BinaryOperator::AtMost => at_most(u, v),
+        BinaryOperator::AtLeast => at_most(v, u),
+        BinaryOperator::In => member(u, v),
+        BinaryOperator::Add
+        | BinaryOperator::Subtract
+        | BinaryOperator::Multiply
+        | BinaryOperator::Divide => of_integers(operator, &u, &v),
+        BinaryOperator::Concatenate => concatenated(alloc, &u, &v),
+        BinaryOperator::Join
+        | BinaryOperator::Union
+        | BinaryOperator::Intersect
+        | BinaryOperator::Minus
+        | BinaryOperator::Compose
+        | BinaryOperator::Matching
+        | BinaryOperator::NotMatching => of_relations(alloc, operator, u, v),
+    }
+}
