@@ -53,8 +53,8 @@ fn opened(alloc: Global, catalogue: &Catalogue, stored: &Stored, place: usize) -
     }
 }
 
-/// What the script defines.
-pub fn defined(alloc: Global, script: &str) -> Result<Catalogue> {
+// What the script defines.
+fn defined(alloc: Global, script: &str) -> Result<Catalogue> {
     let definitions = read_script(alloc, script)?;
     let mut catalogue = Catalogue::new(alloc);
     for definition in definitions.as_slice() {
@@ -63,8 +63,8 @@ pub fn defined(alloc: Global, script: &str) -> Result<Catalogue> {
     Ok(catalogue)
 }
 
-/// What its relvars hold at first.
-pub fn held_at_first(alloc: Global, catalogue: &Catalogue) -> Result<Stored> {
+// What its relvars hold at first.
+fn held_at_first(alloc: Global, catalogue: &Catalogue) -> Result<Stored> {
     let mut stored = Stored {
         relations: Vec::new(alloc),
     };
@@ -75,8 +75,8 @@ pub fn held_at_first(alloc: Global, catalogue: &Catalogue) -> Result<Stored> {
     Ok(stored)
 }
 
-/// The shown value of the query, or the name of its error.
-pub fn shown(alloc: Global, catalogue: &Catalogue, stored: &Stored, query: &str) -> Result<String> {
+// The shown value of the query, or the name of its error.
+fn shown(alloc: Global, catalogue: &Catalogue, stored: &Stored, query: &str) -> Result<String> {
     let expr = read_expr(alloc, query)?;
     let expr = type_expr(alloc, catalogue, expr.get())?;
     match value(alloc, &expr, stored) {
@@ -86,15 +86,25 @@ pub fn shown(alloc: Global, catalogue: &Catalogue, stored: &Stored, query: &str)
     }
 }
 
-/// The first query whose answer is not as it stands there, with the answer.
-pub fn unlike(alloc: Global, script: &str, table: &[(&str, &str)]) -> Result<String> {
-    let catalogue = defined(alloc, script)?;
-    let stored = held_at_first(alloc, &catalogue)?;
+// The first query whose answer is not as it stands there, with the answer.
+fn unlike_over(
+    alloc: Global,
+    catalogue: &Catalogue,
+    stored: &Stored,
+    table: &[(&str, &str)],
+) -> Result<String> {
     for (query, expected) in table {
-        let found = shown(alloc, &catalogue, &stored, query)?;
+        let found = shown(alloc, catalogue, stored, query)?;
         if found.as_str() != *expected {
             return Ok(format!(in alloc; "{query}: {found}")?);
         }
     }
     Ok(String::new(alloc))
+}
+
+/// The same over what the relvars of the script hold at first.
+pub fn unlike(alloc: Global, script: &str, table: &[(&str, &str)]) -> Result<String> {
+    let catalogue = defined(alloc, script)?;
+    let stored = held_at_first(alloc, &catalogue)?;
+    unlike_over(alloc, &catalogue, &stored, table)
 }

@@ -4,7 +4,7 @@ use crate::contents::held;
 use crate::database::Result;
 use std::alloc::{AllocError, Global};
 use td_constraints::Broken;
-use td_relvars::{OpenError, catalogue_of, open_script};
+use td_relvars::{Database, OpenError, catalogue_of, open_script};
 
 fn broken(alloc: Global, test: &Broken) -> Result<String> {
     match test {
@@ -122,17 +122,22 @@ VAR W VIRTUAL ( EXTEND Q ADD ( 1 / A AS C ) );
 ";
 
 // The first relvar that has not what stands there, with what it has.
-fn unlike(alloc: Global, script: &str, table: &[(&str, &str)]) -> Result<String> {
-    let Ok(database) = open_script(alloc, script) else {
-        return Ok(String::from_str(alloc, "not opened")?);
-    };
+fn unlike_in(alloc: Global, database: &Database, table: &[(&str, &str)]) -> Result<String> {
     for (name, expected) in table {
-        let found = held(alloc, &database, name)?;
+        let found = held(alloc, database, name)?;
         if found.as_str() != *expected {
             return Ok(format!(in alloc; "{name}: {found}")?);
         }
     }
     Ok(String::new(alloc))
+}
+
+// The same of a database that the script opens.
+fn unlike(alloc: Global, script: &str, table: &[(&str, &str)]) -> Result<String> {
+    match open_script(alloc, script) {
+        Ok(database) => unlike_in(alloc, &database, table),
+        Err(_) => Ok(String::from_str(alloc, "not opened")?),
+    }
 }
 
 #[test]

@@ -1,6 +1,6 @@
 //! Virtual relvars.
 
-use crate::database::{Result, defined, held_at_first, shown, unlike};
+use crate::database::{Result, unlike};
 use std::alloc::Global;
 use std::fmt::Write;
 
@@ -63,9 +63,7 @@ fn chain(alloc: Global, count: usize) -> Result<String> {
 fn each_virtual_relvar_is_evaluated_once(rt: HostRuntime) -> Result<()> {
     let alloc = rt.alloc();
     let script = chain(alloc, 60)?;
-    let catalogue = defined(alloc, script.as_str())?;
-    let stored = held_at_first(alloc, &catalogue)?;
-    let found = shown(alloc, &catalogue, &stored, "COUNT ( V60 )")?;
-    assert!(rt; found.as_str() == "1");
+    let unlike = unlike(alloc, &script, &[("COUNT ( V60 )", "1")])?;
+    assert!(rt; unlike.as_str() == "", "{unlike}");
     Ok(())
 }

@@ -58,19 +58,23 @@ fn count_of(rt: &HostRuntime, database: &Database) -> Result<usize> {
     }
 }
 
-/// So many INSERTs of one tuple each.
-pub fn insert_all(rt: &HostRuntime, size: u32) -> Result<Times> {
-    let mut database = opened(rt)?;
+fn insert_into(rt: &HostRuntime, database: &mut Database, size: u32) -> Result<Times> {
     let mut meter = Meter::new(rt);
     let mut statements = Duration::ZERO;
     let mut tests = Duration::ZERO;
     for n in 0..size {
-        statements = statements.saturating_add(insert(rt, &mut database, n, &mut meter)?);
-        tests = tests.saturating_add(test(rt, &database)?);
+        statements = statements.saturating_add(insert(rt, &mut *database, n, &mut meter)?);
+        tests = tests.saturating_add(test(rt, &*database)?);
     }
     Ok(Times {
         statements,
         tests,
-        count: count_of(rt, &database)?,
+        count: count_of(rt, &*database)?,
     })
+}
+
+/// So many INSERTs of one tuple each.
+pub fn insert_all(rt: &HostRuntime, size: u32) -> Result<Times> {
+    let mut database = opened(rt)?;
+    insert_into(rt, &mut database, size)
 }

@@ -57,36 +57,37 @@ fn field(alloc: Global, name: &str, value: TypeExpr) -> Result<Named<TypeExpr>> 
     Ok(Named { name, value })
 }
 
+// A type of no components.
+fn representation(alloc: Global, ty: &str, possrep: &str) -> Result<Representation> {
+    let possrep = Possrep::new(alloc, Name::new(alloc, ty)?, Name::new(alloc, possrep)?)?;
+    let components = Items::new(alloc);
+    Ok(Representation {
+        possrep,
+        components,
+    })
+}
+
+fn define(alloc: Global, schema: &mut Schema) -> Result<()> {
+    schema.add_type(representation(alloc, "LENGTH", "METRES")?)?;
+    let r = Name::new(alloc, "R")?;
+    schema.add_relvar(r, heading(alloc, &["A"])?)?;
+    Ok(())
+}
+
 // A schema with the type LENGTH of the possrep METRES and the relvar R { A INTEGER }.
 fn schema(alloc: Global) -> Result<Schema> {
     let mut schema = Schema::new(alloc);
-    let possrep = Possrep::new(
-        alloc,
-        Name::new(alloc, "LENGTH")?,
-        Name::new(alloc, "METRES")?,
-    )?;
-    let components = Items::new(alloc);
-    schema.add_type(Representation {
-        possrep,
-        components,
-    })?;
-    let r = Name::new(alloc, "R")?;
-    schema.add_relvar(r, heading(alloc, &["A"])?)?;
+    define(alloc, &mut schema)?;
     Ok(schema)
+}
+
+fn takes(alloc: Global, schema: &mut Schema, ty: &str, possrep: &str) -> Result<bool> {
+    Ok(schema.add_type(representation(alloc, ty, possrep)?).is_ok())
 }
 
 fn takes_type(alloc: Global, ty: &str, possrep: &str) -> Result<bool> {
     let mut schema = schema(alloc)?;
-    let possrep = Possrep::new(alloc, Name::new(alloc, ty)?, Name::new(alloc, possrep)?)?;
-    let components = Items::new(alloc);
-    Ok(
-        schema
-            .add_type(Representation {
-                possrep,
-                components,
-            })
-            .is_ok(),
-    )
+    takes(alloc, &mut schema, ty, possrep)
 }
 
 #[test]
@@ -100,13 +101,18 @@ fn names_of_types_and_possreps_are_new(rt: HostRuntime) -> Result<()> {
     Ok(())
 }
 
+// Whether another R is refused, and changes nothing.
+fn refuses_relvar(alloc: Global, schema: &mut Schema) -> Result<bool> {
+    let r = Name::new(alloc, "R")?;
+    let empty = Heading::new(alloc)?;
+    let is_refused = matches!(schema.add_relvar(r, empty), Err(TypeError::IllTyped));
+    Ok(is_refused && schema.relvar_count() == 1 && schema.type_count() == 1)
+}
+
 #[test]
 fn names_of_relvars_are_new(rt: HostRuntime) -> Result<()> {
     let mut schema = schema(rt.alloc())?;
-    let r = Name::new(rt.alloc(), "R")?;
-    let empty = Heading::new(rt.alloc())?;
-    assert!(rt; matches!(schema.add_relvar(r, empty), Err(TypeError::IllTyped)));
-    assert!(rt; schema.relvar_count() == 1 && schema.type_count() == 1);
+    assert!(rt; refuses_relvar(rt.alloc(), &mut schema)?);
     Ok(())
 }
 
@@ -209,14 +215,20 @@ fn the_innermost_name_is_meant(rt: HostRuntime) -> Result<()> {
     Ok(())
 }
 
-// The text of the type RELATION { first TUPLE { }, second USER }.
-fn written_with(alloc: Global, first: &str, second: &str, user: &str) -> Result<String> {
-    let schema = schema(alloc)?;
+// The type RELATION { first TUPLE { }, second USER }.
+fn relation_with(alloc: Global, first: &str, second: &str, user: &str) -> Result<TypeExpr> {
     let mut fields = Items::new(alloc);
-    let user = TypeExpr::User(Name::new(alloc, user)?);
     fields.push(field(alloc, first, TypeExpr::Tuple(Items::new(alloc)))?)?;
-    fields.push(field(alloc, second, user)?)?;
-    shown(alloc, written(alloc, &schema, &TypeExpr::Relation(fields)))
+    let user = Name::new(alloc, user)?;
+    fields.push(field(alloc, second, TypeExpr::User(user))?)?;
+    Ok(TypeExpr::Relation(fields))
+}
+
+// The text of that type.
+fn written_with(alloc: Global, first: &str, second: &str, user: &str) -> Result<String> {
+    let relation = relation_with(alloc, first, second, user)?;
+    let schema = schema(alloc)?;
+    shown(alloc, written(alloc, &schema, &relation))
 }
 
 #[test]
@@ -231,11 +243,16 @@ fn types_are_written(rt: HostRuntime) -> Result<()> {
     Ok(())
 }
 
-fn components(alloc: Global, first: &str, second: &str) -> Result<usize> {
-    let schema = schema(alloc)?;
+fn two_parts(alloc: Global, first: &str, second: &str) -> Result<Items<Named<TypeExpr>>> {
     let mut parts = Items::new(alloc);
     parts.push(field(alloc, first, TypeExpr::Char)?)?;
     parts.push(field(alloc, second, TypeExpr::Boolean)?)?;
+    Ok(parts)
+}
+
+fn components(alloc: Global, first: &str, second: &str) -> Result<usize> {
+    let parts = two_parts(alloc, first, second)?;
+    let schema = schema(alloc)?;
     match components_written(alloc, &schema, parts.as_slice()) {
         Ok(kinds) => Ok(kinds.len()),
         Err(_) => Ok(0),

@@ -89,24 +89,40 @@ fn tell(
     Ok(())
 }
 
+fn tell_all(rt: &HostRuntime, catalogue: &Catalogue, stored: &Stored) -> Result<()> {
+    for query in QUERIES {
+        tell(rt, catalogue, stored, query)?;
+    }
+    Ok(())
+}
+
+// Those that the word names.
+fn tell_named(rt: &HostRuntime, catalogue: &Catalogue, stored: &Stored, word: &str) -> Result<()> {
+    for query in QUERIES {
+        if query.0 == word {
+            tell(rt, catalogue, stored, query)?;
+        }
+    }
+    if LONGER.0 == word {
+        tell(rt, catalogue, stored, LONGER)?;
+    }
+    Ok(())
+}
+
+// The queries that the command line asks for.
+fn tell_asked(rt: &HostRuntime, catalogue: &Catalogue, stored: &Stored) -> Result<()> {
+    let words = env::args(rt)?;
+    if words.len() < 2 {
+        return tell_all(rt, catalogue, stored);
+    }
+    for word in words.skip(1) {
+        tell_named(rt, catalogue, stored, word.as_str())?;
+    }
+    Ok(())
+}
+
 fn main(rt: HostRuntime) -> Result<()> {
     let catalogue = defined(rt.alloc(), SCRIPT)?;
     let stored = held_at_first(rt.alloc(), &catalogue)?;
-    let words = env::args(&rt)?;
-    if words.len() < 2 {
-        for query in QUERIES {
-            tell(&rt, &catalogue, &stored, query)?;
-        }
-    }
-    for word in words.skip(1) {
-        for query in QUERIES {
-            if query.0 == word.as_str() {
-                tell(&rt, &catalogue, &stored, query)?;
-            }
-        }
-        if LONGER.0 == word.as_str() {
-            tell(&rt, &catalogue, &stored, LONGER)?;
-        }
-    }
-    Ok(())
+    tell_asked(&rt, &catalogue, &stored)
 }
