@@ -89,17 +89,22 @@ fn times_of(rt: &HostRuntime, catalogue: &Catalogue, text: &str) -> Result<(Dura
 }
 
 // The least times of some turns.
-fn least_times(rt: &HostRuntime) -> Result<(Duration, Duration)> {
-    let catalogue = catalogue(rt.alloc())?;
-    let text = statement(rt.alloc())?;
-    let (mut read, mut typed) = times_of(rt, &catalogue, &text)?;
+fn least_of(rt: &HostRuntime, catalogue: &Catalogue, text: &str) -> Result<(Duration, Duration)> {
+    let (mut read, mut typed) = times_of(rt, catalogue, text)?;
     for _ in 1..TURNS {
-        let (again, once_more) = times_of(rt, &catalogue, &text)?;
+        let (again, once_more) = times_of(rt, catalogue, text)?;
         read = read.min(again);
         typed = typed.min(once_more);
     }
     println!(rt; "{} bytes: a statement", text.len())?;
     Ok((read, typed))
+}
+
+// Those of the statement over a catalogue that has its relvar.
+fn least_times(rt: &HostRuntime) -> Result<(Duration, Duration)> {
+    let text = statement(rt.alloc())?;
+    let catalogue = catalogue(rt.alloc())?;
+    least_of(rt, &catalogue, &text)
 }
 
 fn main(rt: HostRuntime) -> Result<()> {

@@ -25,11 +25,21 @@ pub struct Representation {
 }
 
 /// The relvars, and the types with their possreps, each in order of definition. They are found by a hash of their names.
-#[derive(Drop)]
 pub struct Schema {
     types: IndexSet<Name>,
     possreps: IndexMap<Name, Representation>,
     relvars: IndexMap<Name, Heading>,
+}
+
+// By hand, since a derived one is proved anew at each place where a schema is dropped: this one is a call there.
+impl Drop for Schema {
+    fn drop(self) {
+        let Schema {
+            types: _,
+            possreps: _,
+            relvars: _,
+        } = self;
+    }
 }
 
 impl Model for Schema {

@@ -21,10 +21,19 @@ use td_relations::Relation;
 use td_values::{Heading, Name};
 
 /// What a script has defined, and what each base relvar has.
-#[derive(Drop)]
 pub struct Database {
     catalogue: Catalogue,
     stored: Items<Option<Base>>,
+}
+
+// By hand, since a derived one is proved anew at each place where a database is dropped: this one is a call there.
+impl Drop for Database {
+    fn drop(self) {
+        let Database {
+            catalogue: _,
+            stored: _,
+        } = self;
+    }
 }
 
 impl Model for Database {

@@ -32,7 +32,12 @@ fn shown(alloc: Global, schema: &Schema, text: &str) -> Result<String> {
 fn heading(alloc: Global, schema: &Schema, text: &str) -> Result<Heading> {
     let expr = read_expr(alloc, text)?;
     let typing = type_in(alloc, schema, &Scope::Nothing, expr.get())?;
-    match relation_heading(&typing.kind) {
+    heading_of(&typing.kind)
+}
+
+// The heading of this type, if it is a relation's.
+fn heading_of(kind: &TypeKind) -> Result<Heading> {
+    match relation_heading(kind) {
         Some(heading) => Ok(heading.copy()?),
         None => Err(TypeError::IllTyped)?,
     }
