@@ -2,8 +2,9 @@
 
 use crate::database::Result;
 use std::alloc::{AllocError, Global};
+use td_story::{Answer, RelvarError};
 use td_relations::Relation;
-use td_relvars::{Answer, AskError, Database};
+use td_relvars::Database;
 use td_values::{Kind, Name, Value, show};
 
 fn shown(alloc: Global, relation: Relation) -> Result<String> {
@@ -17,7 +18,7 @@ pub fn held(alloc: Global, database: &Database, name: &str) -> Result<String> {
     match database.value_of(alloc, &name) {
         Ok(Answer::Relation(relation)) => shown(alloc, relation),
         Ok(Answer::Raised(raise)) => Ok(format!(in alloc; "raised {raise}")?),
-        Err(AskError::Unknown) => Ok(String::from_str(alloc, "unknown")?),
-        Err(AskError::OutOfMemory) => Err(AllocError)?,
+        Err(RelvarError::Unknown) => Ok(String::from_str(alloc, "unknown")?),
+        Err(RelvarError::OutOfMemory) => Err(AllocError)?,
     }
 }

@@ -3,8 +3,8 @@
 use crate::contents::held;
 use crate::database::Result;
 use std::alloc::{AllocError, Global};
-use td_constraints::Broken;
-use td_relvars::{Database, OpenError, catalogue_of, open_script};
+use td_story::{Broken, ScriptError, catalogue_of};
+use td_relvars::{Database, open_script};
 
 fn broken(alloc: Global, test: &Broken) -> Result<String> {
     match test {
@@ -14,13 +14,13 @@ fn broken(alloc: Global, test: &Broken) -> Result<String> {
 }
 
 // Why the script is refused.
-fn refusal(alloc: Global, error: &OpenError) -> Result<String> {
+fn refusal(alloc: Global, error: &ScriptError) -> Result<String> {
     match error {
-        OpenError::Syntax => Ok(String::from_str(alloc, "syntax")?),
-        OpenError::IllTyped => Ok(String::from_str(alloc, "ill typed")?),
-        OpenError::OpeningRaised(raise) => Ok(format!(in alloc; "raised {raise}")?),
-        OpenError::OpeningBroken(test) => broken(alloc, test),
-        OpenError::OutOfMemory => Err(AllocError)?,
+        ScriptError::Syntax => Ok(String::from_str(alloc, "syntax")?),
+        ScriptError::IllTyped => Ok(String::from_str(alloc, "ill typed")?),
+        ScriptError::OpeningRaised(raise) => Ok(format!(in alloc; "raised {raise}")?),
+        ScriptError::OpeningBroken(test) => broken(alloc, test),
+        ScriptError::OutOfMemory => Err(AllocError)?,
     }
 }
 

@@ -2,7 +2,8 @@
 
 use anyhow::{Result, bail};
 use std::time::{Duration, Instant};
-use td_assign::{Meter, Outcome, run};
+use td_story::{Meter, Outcome};
+use td_assign::run;
 use td_constraints::first_failure;
 use td_relvars::{Database, open_script};
 use td_values::Name;

@@ -4,7 +4,7 @@ use crate::bytes::ANSWER;
 use crate::fakes::{Given, Narrow};
 use crate::site::{Result, Start, Step, told};
 use std::alloc::Global;
-use td_assign::Meter;
+use td_story::Meter;
 use td_devices::Pair;
 
 // What a new site says that settles on these bytes, and how many bytes it writes.

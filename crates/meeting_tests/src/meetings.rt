@@ -3,9 +3,9 @@
 use crate::bytes::SCRIPT;
 use crate::site::{Result, Start, Written, batch, vector};
 use std::alloc::Global;
-use td_assign::Meter;
+use td_story::{Meter, Replica};
 use td_meeting::meet;
-use td_replay::{PlainSite, Replica};
+use td_replay::PlainSite;
 
 /// The same definitions, but for a space.
 const OTHER_SCRIPT: &str = "VAR R BASE RELATION { A INTEGER } KEY { A } ;";

@@ -4,10 +4,10 @@ use crate::bytes::SCRIPT;
 use crate::fakes::{Given, Narrow};
 use std::alloc::Global;
 use std::test::Fail;
-use td_assign::Meter;
+use td_story::{Meter, Replica, Taken};
 use td_devices::{Channel, Device, Pair};
 use td_meeting::{MeetingError, answer, finish, greet, settle};
-use td_replay::{PlainSite, Replica, Taken};
+use td_replay::PlainSite;
 use td_stamps::Entry;
 use td_values::Text;
 

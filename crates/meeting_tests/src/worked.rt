@@ -7,7 +7,7 @@ use crate::bytes::{
 use crate::fakes::{Given, Narrow};
 use crate::site::{Result, Start, Step, Written, told};
 use std::alloc::Global;
-use td_assign::Meter;
+use td_story::Meter;
 use td_devices::Pair;
 
 /// A step of a site: the bytes that it is given, what it says, what it writes in the room that it has, and how often it flushes.

@@ -2,10 +2,8 @@
 
 use std::alloc::Global;
 use std::test::Fail;
-use td_assign::Outcome;
+use td_story::{Answer, AskError, IssueError, Issued, Outcome, Reply, TakeError, Taken, TellError, ValueError};
 use td_relations::Relation;
-use td_relvars::Answer;
-use td_replay::{AskError, IssueError, Issued, Reply, TakeError, Taken, TellError, ValueError};
 use td_stamps::{Stamp, Vector};
 use td_values::{Kind, Value, show};
 

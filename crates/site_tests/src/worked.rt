@@ -2,7 +2,7 @@
 
 use crate::answers::Result;
 use crate::site::{Call, unlike};
-use td_assign::Meter;
+use td_story::Meter;
 
 const SUPPLIERS: &str = "VAR S BASE RELATION { SNO CHAR, STATUS INTEGER, CITY CHAR } KEY { SNO };";
 

@@ -3,16 +3,16 @@ use Rattle.std.proofs.Common.{◌≡◌, ◌==◌, inl, inr, ℕ, Bool, true, fa
 use Rattle.std.specs.List.{slice_get, slice_set}
 use Rattle.td_headings.specs.Catalogues.{CatalogueData}
 use Rattle.td_lines.specs.Lines.{Line, nothing, quit, issue, query, meet, listing, log, vector, table, serve, call, faulty}
-use Rattle.td_relvars.specs.Scripts.{IsScriptOf}
+use Rattle.td_story.specs.Scripts.{IsScriptOf}
 use Rattle.td_stamps.specs.declared.entry.Entry.{Entry}
-use Rattle.td_replay.specs.Calls.{Issues, Takes}
-use Rattle.td_replay.specs.Seen.{Seen}
-use Rattle.td_replay.specs.declared.answer.Issued.{Issued}
-use Rattle.td_replay.specs.declared.answer.Taken.{Taken}
-use Rattle.td_replay.specs.declared.refusal.IssueError.{IssueError}
-use Rattle.td_replay.specs.declared.refusal.IssueError.TheVariants as issue_error
-use Rattle.td_replay.specs.declared.refusal.TakeError.{TakeError}
-use Rattle.td_replay.specs.declared.refusal.TakeError.TheVariants as take_error
+use Rattle.td_story.specs.Calls.{Issues, Takes}
+use Rattle.td_story.specs.Seen.{Seen}
+use Rattle.td_story.specs.declared.answer.Issued.{Issued}
+use Rattle.td_story.specs.declared.answer.Taken.{Taken}
+use Rattle.td_story.specs.declared.refusal.IssueError.{IssueError}
+use Rattle.td_story.specs.declared.refusal.IssueError.TheVariants as issue_error
+use Rattle.td_story.specs.declared.refusal.TakeError.{TakeError}
+use Rattle.td_story.specs.declared.refusal.TakeError.TheVariants as take_error
 use Rattle.td_answers.specs.Answers.{Answered, IssueAnswered, MeetAnswered, Tells}
 use Rattle.td_meeting.specs.Meetings.{Meets, MeetsNot, Stay, Stops, TakesFrom}
 use Rattle.td_meeting.specs.declared.error.MeetingError.{MeetingError}

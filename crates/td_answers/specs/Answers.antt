@@ -8,13 +8,13 @@ use Rattle.std.specs.declared.net.socket_addr.SocketAddr.{SocketAddr}
 use Rattle.td_values.specs.Shown.{shown}
 use Rattle.td_headings.specs.Catalogues.{CatalogueData}
 use Rattle.td_stamps.specs.Vectors.{VersionVector, IsVector}
-use Rattle.td_replay.specs.Calls.{Asks, Issues}
-use Rattle.td_replay.specs.Seen.{Seen}
-use Rattle.td_replay.specs.declared.answer.Issued.{Issued}
-use Rattle.td_replay.specs.declared.answer.Reply.{Reply}
-use Rattle.td_replay.specs.declared.answer.Reply.TheVariants as reply
-use Rattle.td_replay.specs.declared.refusal.AskError.{AskError}
-use Rattle.td_replay.specs.declared.refusal.IssueError.{IssueError}
+use Rattle.td_story.specs.Calls.{Asks, Issues}
+use Rattle.td_story.specs.Seen.{Seen}
+use Rattle.td_story.specs.declared.answer.Issued.{Issued}
+use Rattle.td_story.specs.declared.answer.Reply.{Reply}
+use Rattle.td_story.specs.declared.answer.Reply.TheVariants as reply
+use Rattle.td_story.specs.declared.refusal.AskError.{AskError}
+use Rattle.td_story.specs.declared.refusal.IssueError.{IssueError}
 use Rattle.td_listings.specs.Calls.{Lists, Logs, Tabulates}
 use Rattle.td_listings.specs.Texts.{shown_outcome, shown_stamp, vector_of}
 use Rattle.td_listings.specs.declared.error.ListError.{ListError}

@@ -3,12 +3,12 @@ use Rattle.std.specs.Prelude.{ℕ, List, ◌++◌, codes, decimal, Result, Ok, E
 use Rattle.std.specs.declared.net.parser.AddrParseError.{AddrParseError}
 use Rattle.std.specs.declared.net.socket_addr.SocketAddr.{SocketAddr}
 use Rattle.td_values.specs.declared.raises.Raise.{Raise}
-use Rattle.td_replay.specs.declared.refusal.AskError.{AskError}
-use Rattle.td_replay.specs.declared.refusal.AskError.TheVariants as ask_error
-use Rattle.td_replay.specs.declared.refusal.IssueError.{IssueError}
-use Rattle.td_replay.specs.declared.refusal.IssueError.TheVariants as issue_error
-use Rattle.td_replay.specs.declared.refusal.TakeError.{TakeError}
-use Rattle.td_replay.specs.declared.refusal.TakeError.TheVariants as take_error
+use Rattle.td_story.specs.declared.refusal.AskError.{AskError}
+use Rattle.td_story.specs.declared.refusal.AskError.TheVariants as ask_error
+use Rattle.td_story.specs.declared.refusal.IssueError.{IssueError}
+use Rattle.td_story.specs.declared.refusal.IssueError.TheVariants as issue_error
+use Rattle.td_story.specs.declared.refusal.TakeError.{TakeError}
+use Rattle.td_story.specs.declared.refusal.TakeError.TheVariants as take_error
 use Rattle.td_frames.specs.declared.error.FrameError.{FrameError}
 use Rattle.td_frames.specs.declared.error.FrameError.TheVariants as frame_error
 use Rattle.td_meeting.specs.declared.error.MeetingError.{MeetingError}

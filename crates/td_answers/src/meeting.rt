@@ -9,10 +9,9 @@ ghost use Rattle.td_answers.specs.ForProofs.Said.{IsBlank, Says};
 use crate::reply::Reply;
 use crate::writing::{blank_line, clash_line, counted_line, met_line};
 use std::alloc::Global;
-use td_assign::Meter;
+use td_story::{Meter, Replica, TakeError};
 use td_frames::FrameError;
 use td_meeting::{MeetingError, MeetingRefusal, Met, meet};
-use td_replay::{Replica, TakeError};
 
 fn are_open<R: Replica>(first: &R, second: &R) -> bool
     ensures { MatchBool result (AreOpen (R.seen first.now) (R.seen second.now)) (IsOneClosed (R.seen first.now) (R.seen second.now)) }

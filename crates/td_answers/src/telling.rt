@@ -1,8 +1,8 @@
 //! What one site answers.
 
 ghost use Rattle.std.specs.Prelude.{◌≡◌, Ok, Err, IfOk, MatchResult, string_bytes};
-ghost use Rattle.td_relvars.specs.Scripts.{IsScriptOf};
-ghost use Rattle.td_replay.specs.declared.answer.Reply.TheVariants as told;
+ghost use Rattle.td_story.specs.Scripts.{IsScriptOf};
+ghost use Rattle.td_story.specs.declared.answer.Reply.TheVariants as told;
 ghost use Rattle.td_answers.specs.Answers.{Counts, TellsAsked, TellsIssued, TellsLink, TellsListing, TellsLog, TellsTable, TellsVector, reply_line};
 ghost use Rattle.td_answers.specs.ForProofs.Said.{Says};
 
@@ -11,10 +11,9 @@ use crate::reply::Reply;
 use crate::writing::{blank_line, issued_line};
 use std::alloc::{AllocError, Global};
 use std::net::SocketAddr;
-use td_assign::Meter;
+use td_story::{Meter, Replica};
 use td_headings::Catalogue;
 use td_listings::{ListError, listing_text, log_text, table_text, vector_text};
-use td_replay::Replica;
 use td_values::{Value, show};
 
 /// Issues a statement. The room for its line is taken first.
@@ -46,8 +45,8 @@ pub(crate) fn query<R: Replica>(alloc: Global, site: &R, text: &str) -> Reply
     ensures { Says (TellsAsked text.now (R.seen site.now)) result }
 {
     let value = match site.ask(alloc, text) {
-        Ok(td_replay::Reply::Value(value)) => value,
-        Ok(td_replay::Reply::Raised(raise)) => return Reply::Fixed(raised_line(raise)),
+        Ok(td_story::Reply::Value(value)) => value,
+        Ok(td_story::Reply::Raised(raise)) => return Reply::Fixed(raised_line(raise)),
         Err(error) => return Reply::Fixed(ask_fault(error)),
     };
     match value_line(alloc, &value) {

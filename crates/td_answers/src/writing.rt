@@ -5,13 +5,12 @@ ghost use Rattle.td_listings.specs.Texts as shown;
 ghost use Rattle.td_answers.specs.Answers as answers;
 ghost use Rattle.td_answers.specs.Faults as faults;
 ghost use Rattle.td_answers.specs.ForProofs.Said.{IsBlank};
-ghost use Rattle.td_assign.specs.declared.outcome.Outcome.TheVariants as became;
+ghost use Rattle.td_story.specs.declared.outcome.Outcome.TheVariants as became;
 
 use itoa::Buffer;
 use std::alloc::Global;
-use td_assign::Outcome;
+use td_story::{Issued, Outcome};
 use td_meeting::Met;
-use td_replay::Issued;
 use td_stamps::Stamp;
 use td_values::{Name, Raise};
 

@@ -13,17 +13,19 @@ use Rattle.td_algebra.specs.Raising.{and_then}
 use Rattle.td_algebra.specs.declared.errors.Stop.{Stop}
 use Rattle.td_meaning.specs.Mean.{Relvars}
 use Rattle.td_soundness.specs.Meanings.{IsRelation}
-use Rattle.td_eval.specs.Raises.{Tells}
-use Rattle.td_eval.specs.declared.valued.Failure.{Failure}
-use Rattle.td_eval.specs.declared.valued.Failure.TheVariants as failure
-use Rattle.td_eval.specs.Trees.{IsIn}
-use Rattle.td_relvars.specs.Databases.{Belongs}
+use Rattle.td_story.specs.Raises.{Tells}
+use Rattle.td_story.specs.declared.failure.Failure.{Failure}
+use Rattle.td_story.specs.declared.failure.Failure.TheVariants as failure
+use Rattle.td_story.specs.Trees.{IsIn}
+use Rattle.td_story.specs.Databases.{Belongs}
 use Rattle.td_relvars.proofs.Asked.{relvar_there}
-use Rattle.td_assign.specs.Changes.{given}
+use Rattle.td_story.specs.Given.{Given, gives, nothing_given}
+use Rattle.td_assign.specs.ForProofs.Lists.{given, given_to}
 use Rattle.td_assign.specs.ForProofs.Given.{IsAssigned, Stands}
-use Rattle.td_assign.specs.Sources.{source_means, sources}
+use Rattle.td_story.specs.Sources.{source_means, sources}
 use Rattle.td_assign.specs.declared.changes.Change.{Change}
 use Rattle.td_assign.proofs.Differing.{left_at}
+use Rattle.td_assign.proofs.Giving.{given_gives}
 
 module _ (c : CatalogueData) (x : TypedAssignment) (is : IsAssigned c x) where
   there : slice_get c.schema.relvars x.target ≡ Some is.1.relvar
@@ -55,16 +57,16 @@ pub stands : (m : Result RowsData Stop) (f : Failure) → Tells {A = RowsData} (
 stands m (failure.Raised e) h = h
 stands m failure.OutOfMemory h = tt
 
-module _ (c : CatalogueData) (r : Relvars) (all : List TypedAssignment) (i : ℕ) (x : TypedAssignment) (cs : List Change) (lt : i < length all) (at : x ≡ get_or all i x) (left : sources c r cs (drop i all) ≡ sources c r [] all) where
-  abbrev after : Result RowsData Stop → Result (List Change) Stop
-  after m = and_then m (λ q. sources c r (given x.target q cs) (drop (i + 1) all))
+module _ (c : CatalogueData) (r : Relvars) (all : List TypedAssignment) (i : ℕ) (x : TypedAssignment) (cs : List Change) (lt : i < length all) (at : x ≡ get_or all i x) (left : sources c r (given_to cs) (drop i all) ≡ sources c r nothing_given all) where
+  abbrev after : Result RowsData Stop → Result Given Stop
+  after m = and_then m (λ q. sources c r (gives x.target q (given_to cs)) (drop (i + 1) all))
 
-  next : after (source_means c r cs x) ≡ sources c r [] all
-  next = ap (sources c r cs) (sym (left_at all i x lt at)) ∙ left
+  next : after (source_means c r (given_to cs) x) ≡ sources c r nothing_given all
+  next = ap (sources c r (given_to cs)) (sym (left_at all i x lt at)) ∙ left
 
-  pub more : (new : List Change) → (q : RowsData) × (source_means c r cs x ≡ Ok q) × (new ≡ given x.target q cs) → sources c r new (drop (i + 1) all) ≡ sources c r [] all
-  more new g = ap (λ ys. sources c r ys (drop (i + 1) all)) g.2 ∙ sym (ap after g.1) ∙ next
+  pub more : (new : List Change) → (q : RowsData) × (source_means c r (given_to cs) x ≡ Ok q) × (new ≡ given x.target q cs) → sources c r (given_to new) (drop (i + 1) all) ≡ sources c r nothing_given all
+  more new g = ap (λ ys. sources c r ys (drop (i + 1) all)) (ap given_to g.2 ∙ given_gives x.target g.0 cs) ∙ sym (ap after g.1) ∙ next
 
-  pub stopped : (f : Failure) → Stands f (source_means c r cs x) → Stands f (sources c r [] all)
+  pub stopped : (f : Failure) → Stands f (source_means c r (given_to cs) x) → Stands f (sources c r nothing_given all)
   stopped (failure.Raised e) h = sym next ∙ ap after h
   stopped failure.OutOfMemory h = tt

@@ -11,8 +11,9 @@ use Rattle.td_relations.specs.Sets.{body}
 use Rattle.td_relations.proofs.Changes.{none_between, same_by_nothing}
 use Rattle.td_meaning.specs.Mean.{Relvars}
 use Rattle.td_typing.proofs.KindLemmas.{some_same}
-use Rattle.td_assign.specs.Changes.{given_to, or_old, replaced}
-use Rattle.td_assign.specs.Differences.{AreDifferences, Differs}
+use Rattle.td_story.specs.Given.{or_old, replaced}
+use Rattle.td_assign.specs.ForProofs.Lists.{given_to}
+use Rattle.td_story.specs.Differences.{AreDifferences, Differs}
 use Rattle.td_assign.specs.ForProofs.Given.{AreDistinct, DiffersBy, Turns}
 use Rattle.td_assign.specs.declared.changes.Change.{Change}
 
@@ -107,27 +108,27 @@ module _ (old : Relvars) (all rest : List Change) (x : Change) (ds : List (ℕ �
 
 -- at the end all are found
 module _ (old : Relvars) (all : List Change) (ds : List (ℕ × DeltaData)) (f : Found old all [] ds) where
-  differs_at : (p : ℕ × DeltaData) → Contains ds p → Differs old (replaced all old) p.0 p.1
+  differs_at : (p : ℕ × DeltaData) → Contains ds p → Differs old (replaced (given_to all) old) p.0 p.1
   differs_at p there =
       let k = f.only p there in
       let x = k.0 in
       let by_ = k.3 in
       subst (λ n. Differs old (replaced all old) n p.1) k.2
-      (record { before = by_.0; after = x.relation; was = by_.1; is = ap (λ o. or_old o (old x.target)) k.1; apart = by_.2.apart; difference = by_.2.difference })
+      (record { before = by_.0; after = x.relation; was = by_.1; is = ap (λ o. or_old o (old x.target)) k.1; one_heading = by_.2.one_heading; was_rows = by_.2.was_rows; is_rows = by_.2.is_rows; apart = by_.2.apart; difference = by_.2.difference })
 
   stays_at : (n : ℕ) (r : RowsData) → ((d : DeltaData) → Contains ds (n, d) → ⊥) → Settled old ds [] n r → Ok r ≡ old n
   stays_at n r never (has h) = sym h
   stays_at n r never (differs d h) = absurd (never d h)
   stays_at n r never (waits h) = cc
 
-  stays : (n : ℕ) → ((d : DeltaData) → Contains ds (n, d) → ⊥) → replaced all old n ≡ old n
+  stays : (n : ℕ) → ((d : DeltaData) → Contains ds (n, d) → ⊥) → replaced (given_to all) old n ≡ old n
   stays n never = by (given_to all n) refl
     where
       by : (o : Option RowsData) → given_to all n ≡ o → or_old o (old n) ≡ old n
       by None e = refl
       by (Some r) e = stays_at n r never (f.settled n r e)
 
-  pub ended : AreDifferences old (replaced all old) ds
+  pub ended : AreDifferences old (replaced (given_to all) old) ds
   ended = record { once = f.once; only = differs_at; all = stays }
 
 -- ---- one change
@@ -135,8 +136,11 @@ module _ (old new : RowsData) (d : DeltaData) (b : Bool) (same : old.heading ≡
   pub unturned : AreRows old.heading old.tuples → AreRows new.heading new.tuples → b ≡ true → old ≡ new
   unturned low up e = let none = empty.0 e in same_by_nothing old new d.deleted d.inserted same low.ascending up.ascending old.heading old.heading is.deleted is.inserted none.1 none.0
 
-  pub turned : b ≡ false → Turns old new d
-  turned e = record {
+  pub turned : AreRows old.heading old.tuples → AreRows new.heading new.tuples → b ≡ false → Turns old new d
+  turned low up e = record {
+    one_heading = same;
+    was_rows = low;
+    is_rows = up;
     apart = λ p. true≢false (sym (empty.1 (is.inserted.members ∙ none_between new old (sym p), is.deleted.members ∙ none_between old new p)) ∙ e);
     difference = is;
   }

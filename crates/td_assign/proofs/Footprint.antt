@@ -1,5 +1,5 @@
 -- Legal databases that agree on the footprint of a text give it one outcome and the same differences.
-use Rattle.std.proofs.Common.{◌≡◌, ◌⊎◌, inl, inr, ⊎_elim, ◌==◌, ℕ, zero, suc, pred, Bool, true, false, if◌then◌else◌, List, [], ◌∷◌, map, length, Some, slice_get, Result, Ok, Err, refl, ap, sym, ◌∙◌, subst, arith}
+use Rattle.std.proofs.Common.{◌≡◌, ◌⊎◌, inl, inr, ⊎_elim, ◌==◌, ℕ, zero, suc, pred, Bool, true, false, if◌then◌else◌, eqb-true, List, [], ◌∷◌, map, length, Option, None, Some, slice_get, Result, Ok, Err, refl, ap, sym, ◌∙◌, subst, arith}
 use Rattle.std.specs.List.{Contains}
 use Rattle.std.proofs.lemmas.Bool.{cases_eq}
 use Rattle.std.proofs.lemmas.List.Elements.{Contains-append_right}
@@ -22,17 +22,16 @@ use Rattle.td_headings.specs.declared.statement.TypedStatement.{TypedStatement}
 use Rattle.td_headings.proofs.WellTyped.{all_typed}
 use Rattle.td_meaning.specs.Mean.{Relvars}
 use Rattle.td_operators.specs.Values.{rows_of, truth_of}
-use Rattle.td_constraints.specs.Tests.{AreLegal, failing, is_key, judgement, or_behind}
-use Rattle.td_relvars.specs.Databases.{DatabaseData, IsDatabase, Stored, at_place, put, relvars_in}
-use Rattle.td_assign.specs.Changes.{given, given_to, or_old, put_all, seen}
-use Rattle.td_assign.specs.Differences.{AreDifferences, Differs}
-use Rattle.td_assign.specs.Footprints.{AgreeOnFootprint, InFootprint, IsInFootprint, TestReads, by_source, by_test, target}
+use Rattle.td_story.specs.Tests.{AreLegal, failing, is_key, judgement, or_behind}
+use Rattle.td_story.specs.Databases.{DatabaseData, IsDatabase, Stored, at_place, relvars_in}
+use Rattle.td_story.specs.Given.{Given, gives, nothing_given, or_old, or_stored, seen, with_given}
+use Rattle.td_story.specs.Differences.{AreDifferences, Differs}
+use Rattle.td_story.specs.Footprints.{AgreeOnFootprint, InFootprint, IsInFootprint, TestReads, by_source, by_test, target}
 use Rattle.td_assign.specs.Laws.{StepsAlike}
-use Rattle.td_assign.specs.Sources.{source_means, sources}
-use Rattle.td_assign.specs.Steps.{IsRead, Steps, unread, raised, refused, done, with_changes}
-use Rattle.td_assign.specs.declared.changes.Change.{Change}
-use Rattle.td_assign.specs.declared.outcome.Outcome.{Outcome}
-use Rattle.td_assign.proofs.Replacing.{put_other}
+use Rattle.td_story.specs.Sources.{source_means, sources}
+use Rattle.td_story.specs.Steps.{IsRead, Steps, unread, raised, refused, done, failing_with, given_by, with_all}
+use Rattle.td_story.specs.declared.outcome.Outcome.{Outcome}
+use Rattle.td_assign.proofs.Replacing.{given_none}
 use Rattle.td_assign.proofs.TreeReads.{trees_alike}
 
 -- ---- elements of lists
@@ -85,21 +84,21 @@ by_cases P m n if_so if_not =
 
 -- ---- sources and tests over relvars that agree on what they read
 module _ (c : CatalogueData) (defined : Defined c) (r s : Relvars) where
-  seen_alike : (cs : List Change) (m n : ℕ) → r n ≡ s n → seen cs m r n ≡ seen cs m s n
-  seen_alike cs m n same = ap (λ v. if m == n then or_old (given_to cs n) v else v) same
+  seen_alike : (g : Given) (m n : ℕ) → r n ≡ s n → seen g m r n ≡ seen g m s n
+  seen_alike g m n same = ap (λ v. if m == n then or_old (g n) v else v) same
 
-  source_alike : (a : Action) (x : TypedAssignment) → IsAssignment c a x → ((n : ℕ) → Reads c.origins x.source.tree n → r n ≡ s n) → (cs : List Change) → source_means c r cs x ≡ source_means c s cs x
-  source_alike a x p same cs =
+  source_alike : (a : Action) (x : TypedAssignment) → IsAssignment c a x → ((n : ℕ) → Reads c.origins x.source.tree n → r n ≡ s n) → (g : Given) → source_means c r g x ≡ source_means c s g x
+  source_alike a x p same g =
       ap (λ m. and_then m rows_of)
-      (trees_alike c defined x.source.tree x.source.kind (record { expr = source_of a; types = p.source.types }) (seen cs x.target r) (seen cs x.target s) (λ n h. seen_alike cs x.target n (same n h)))
+      (trees_alike c defined x.source.tree x.source.kind (record { expr = source_of a; types = p.source.types }) (seen g x.target r) (seen g x.target s) (λ n h. seen_alike g x.target n (same n h)))
 
-  sources_alike : (as' : List Action) (xs : List TypedAssignment) → AreAssignments c as' xs → ((x : TypedAssignment) → Contains xs x → (n : ℕ) → Reads c.origins x.source.tree n → r n ≡ s n) → (cs : List Change) → sources c r cs xs ≡ sources c s cs xs
-  sources_alike [] [] no_assignments same cs = refl
-  sources_alike [] (x ∷ xs) p same cs = elim p [ ]
-  sources_alike (a ∷ as') [] p same cs = elim p [ ]
-  sources_alike (a ∷ as') (x ∷ xs) (next_assignment p ps) same cs =
-      let here = source_alike a x p (same x (first x xs)) cs in
-      λ i. and_then (here i) (λ v. sources_alike as' xs ps (λ y h. same y (further x xs y h)) (given x.target v cs) i)
+  sources_alike : (as' : List Action) (xs : List TypedAssignment) → AreAssignments c as' xs → ((x : TypedAssignment) → Contains xs x → (n : ℕ) → Reads c.origins x.source.tree n → r n ≡ s n) → (g : Given) → sources c r g xs ≡ sources c s g xs
+  sources_alike [] [] no_assignments same g = refl
+  sources_alike [] (x ∷ xs) p same g = elim p [ ]
+  sources_alike (a ∷ as') [] p same g = elim p [ ]
+  sources_alike (a ∷ as') (x ∷ xs) (next_assignment p ps) same g =
+      let here = source_alike a x p (same x (first x xs)) g in
+      λ i. and_then (here i) (λ v. sources_alike as' xs ps (λ y h. same y (further x xs y h)) (gives x.target v g) i)
 
   judged_alike : (t : Test) → Contains c.tests t → ((n : ℕ) → TestReads c t n → r n ≡ s n) → judgement c r t ≡ judgement c s t
   judged_alike (test.Key m key) there same = ap (λ o. and_then o (λ (v : RowsData). Ok (is_key key v.tuples))) (same m refl)
@@ -110,62 +109,49 @@ module _ (c : CatalogueData) (defined : Defined c) (r s : Relvars) where
   failing_alike [] same = refl
   failing_alike (t ∷ ts) same = λ i. or_behind t (same t (first t ts) i) (failing_alike ts (λ u h. same u (further t ts u h)) i)
 
--- ---- what is stored after changes
-put_length : (n : ℕ) (r : RowsData) (s : Stored) → length (put n r s) ≡ length s
-put_length n r [] = refl
-put_length zero r (x ∷ s) = refl
-put_length (suc n) r (x ∷ s) = ap suc (put_length n r s)
-
-put_alike : (n m : ℕ) (r : RowsData) (s t : Stored) → length s ≡ length t → relvars_in s m ≡ relvars_in t m → relvars_in (put n r s) m ≡ relvars_in (put n r t) m
-put_alike n m r [] [] e h = h
-put_alike n m r [] (y ∷ t) e h = cc
-put_alike n m r (x ∷ s) [] e h = cc
-put_alike zero zero r (x ∷ s) (y ∷ t) e h = refl
-put_alike zero (suc m) r (x ∷ s) (y ∷ t) e h = h
-put_alike (suc n) zero r (x ∷ s) (y ∷ t) e h = h
-put_alike (suc n) (suc m) r (x ∷ s) (y ∷ t) e h = put_alike n m r s t (ap pred e) h
-
-all_alike : (cs : List Change) (s t : Stored) (m : ℕ) → length s ≡ length t → relvars_in s m ≡ relvars_in t m → relvars_in (put_all cs s) m ≡ relvars_in (put_all cs t) m
-all_alike [] s t m e h = h
-all_alike (x ∷ cs) s t m e h =
-    all_alike cs (put x.target x.relation s) (put x.target x.relation t) m
-    (put_length x.target x.relation s ∙ e ∙ sym (put_length x.target x.relation t))
-    (put_alike x.target m x.relation s t e h)
+-- ---- what is stored with all targets replaced
+given_alike : (g : Given) (s t : Stored) (m : ℕ) → length s ≡ length t → relvars_in s m ≡ relvars_in t m → relvars_in (with_given g s) m ≡ relvars_in (with_given g t) m
+given_alike g [] [] m e h = h
+given_alike g [] (y ∷ t) m e h = cc
+given_alike g (x ∷ s) [] m e h = cc
+given_alike g (x ∷ s) (y ∷ t) zero e h = by (g zero)
+  where
+    by : (o : Option RowsData) → at_place (Some (or_stored o x)) ≡ at_place (Some (or_stored o y))
+    by None = h
+    by (Some r) = refl
+given_alike g (x ∷ s) (y ∷ t) (suc m) e h = given_alike (λ n. g (suc n)) s t m (ap pred e) h
 
 -- ---- only targets change
 module _ (P : ℕ → Type 0) where
-  abbrev AreOf : List Change → Type 0
-  AreOf [] = Unit {0}
-  AreOf (x ∷ cs) = P x.target × AreOf cs
+  abbrev AreOf : Given → Type 0
+  AreOf g = (n : ℕ) (r : RowsData) → g n ≡ Some r → P n
 
-  given_of : (n : ℕ) (r : RowsData) (cs : List Change) → P n → AreOf cs → AreOf (given n r cs)
-  given_of n r [] p h = (p, tt)
-  given_of n r (x ∷ cs) p h = by (x.target == n) (given_of n r cs p h.1)
+  gives_of : (n : ℕ) (r : RowsData) (g : Given) → P n → AreOf g → AreOf (gives n r g)
+  gives_of n r g p h m q is = by (n == m) refl is
     where
-      by : (b : Bool) → AreOf (given n r cs) → AreOf (if b then record { target = n; relation = r } ∷ cs else x ∷ given n r cs)
-      by true rest = (p, h.1)
-      by false rest = (h.0, rest)
+      by : (b : Bool) → n == m ≡ b → (if b then Some r else g m) ≡ Some q → P m
+      by true e same = subst P (eqb-true n m e) p
+      by false e same = h m q same
 
-  sources_of : (c : CatalogueData) (r : Relvars) (xs : List TypedAssignment) → ((n : ℕ) → Contains (map (λ (x : TypedAssignment). x.target) xs) n → P n) → (cs ds : List Change) → AreOf cs → sources c r cs xs ≡ Ok ds → AreOf ds
-  sources_of c r [] each cs ds h is = subst AreOf (same is) h
+  sources_of : (c : CatalogueData) (r : Relvars) (xs : List TypedAssignment) → ((n : ℕ) → Contains (map (λ (x : TypedAssignment). x.target) xs) n → P n) → (g h : Given) → AreOf g → sources c r g xs ≡ Ok h → AreOf h
+  sources_of c r [] each g h are is = subst AreOf (same is) are
     where
-      same : ◌≡◌ {A = Result (List Change) Stop} (Ok cs) (Ok ds) → cs ≡ ds
+      same : ◌≡◌ {A = Result Given Stop} (Ok g) (Ok h) → g ≡ h
       same e = cc
-  sources_of c r (x ∷ xs) each cs ds h is =
-      by (source_means c r cs x) is (λ v. sources_of c r xs (λ n q. each n (further x.target (map (λ (y : TypedAssignment). y.target) xs) n q)) (given x.target v cs) ds (given_of x.target v cs (each x.target (first x.target (map (λ (y : TypedAssignment). y.target) xs))) h))
+  sources_of c r (x ∷ xs) each g h are is =
+      by (source_means c r g x) is (λ v. sources_of c r xs (λ n q. each n (further x.target (map (λ (y : TypedAssignment). y.target) xs) n q)) (gives x.target v g) h (gives_of x.target v g (each x.target (first x.target (map (λ (y : TypedAssignment). y.target) xs))) are))
     where
-      by : (m : Result RowsData Stop) → and_then m (λ v. sources c r (given x.target v cs) xs) ≡ Ok ds → ((v : RowsData) → sources c r (given x.target v cs) xs ≡ Ok ds → AreOf ds) → AreOf ds
+      by : (m : Result RowsData Stop) → and_then m (λ v. sources c r (gives x.target v g) xs) ≡ Ok h → ((v : RowsData) → sources c r (gives x.target v g) xs ≡ Ok h → AreOf h) → AreOf h
       by (Ok v) e rest = rest v e
       by (Err f) e rest = cc
 
-  -- a relvar is a target, or has after the changes what it had
-  of_or_stays : (cs : List Change) → AreOf cs → (n : ℕ) → P n ⊎ ((s : Stored) → relvars_in (put_all cs s) n ≡ relvars_in s n)
-  of_or_stays [] h n = inr (λ s. refl)
-  of_or_stays (x ∷ cs) h n =
-      ⊎_elim
-      (λ same. inl (subst P same h.0))
-      (λ apart. ⊎_elim (λ p. inl p) (λ rest. inr (λ s. rest (put x.target x.relation s) ∙ ap at_place (put_other x.target n x.relation s apart))) (of_or_stays cs h.1 n))
-      (cases_eq x.target n)
+  -- a relvar is a target, or has afterwards what it had
+  of_or_stays : (g : Given) → AreOf g → (n : ℕ) → P n ⊎ ((s : Stored) → relvars_in (with_given g s) n ≡ relvars_in s n)
+  of_or_stays g h n = by (g n) refl
+    where
+      by : (o : Option RowsData) → g n ≡ o → P n ⊎ ((s : Stored) → relvars_in (with_given g s) n ≡ relvars_in s n)
+      by None e = inr (λ s. ap at_place (given_none g s n e))
+      by (Some r) e = inl (h n r e)
 
 -- ---- no differences
 ok_same : (a b : RowsData) → ◌≡◌ {A = Result RowsData Stop} (Ok a) (Ok b) → a ≡ b
@@ -188,64 +174,67 @@ module _ (d : DatabaseData) (stored : Stored) (text : List ℕ) (is : IsDatabase
     agree_at : (n : ℕ) → InFootprint d.catalogue x n → relvars_in d.stored n ≡ relvars_in stored n
     agree_at n h = agree n (record { statement = x; reads = p; within = h })
 
-    same_sources : sources d.catalogue (relvars_in d.stored) [] (assignments_of x) ≡ sources d.catalogue (relvars_in stored) [] (assignments_of x)
-    same_sources = sources_alike d.catalogue is.defined (relvars_in d.stored) (relvars_in stored) (actions_of p.statement) (assignments_of x) p.types (λ a there n h. agree_at n (by_source there h)) []
+    same_sources : given_by d x ≡ given_by other x
+    same_sources = sources_alike d.catalogue is.defined (relvars_in d.stored) (relvars_in stored) (actions_of p.statement) (assignments_of x) p.types (λ a there n h. agree_at n (by_source there h)) nothing_given
 
-    module _ (cs : List Change) (gives : sources d.catalogue (relvars_in d.stored) [] (assignments_of x) ≡ Ok cs) where
-      changed : (n : ℕ) → IsTarget x n ⊎ ((s : Stored) → relvars_in (put_all cs s) n ≡ relvars_in s n)
-      changed = of_or_stays (IsTarget x) cs (sources_of (IsTarget x) d.catalogue (relvars_in d.stored) (assignments_of x) (λ n h. h) [] cs tt gives)
+    module _ (g : Given) (given : given_by d x ≡ Ok g) where
+      nothing_of : AreOf (IsTarget x) nothing_given
+      nothing_of n r is = cc
 
-      agree_after : (n : ℕ) → InFootprint d.catalogue x n → relvars_in (put_all cs d.stored) n ≡ relvars_in (put_all cs stored) n
-      agree_after n h = all_alike cs d.stored stored n length_same (agree_at n h)
+      changed : (n : ℕ) → IsTarget x n ⊎ ((s : Stored) → relvars_in (with_given g s) n ≡ relvars_in s n)
+      changed = of_or_stays (IsTarget x) g (sources_of (IsTarget x) d.catalogue (relvars_in d.stored) (assignments_of x) (λ n h. h) nothing_given g nothing_of given)
+
+      agree_after : (n : ℕ) → InFootprint d.catalogue x n → relvars_in (with_given g d.stored) n ≡ relvars_in (with_given g stored) n
+      agree_after n h = given_alike g d.stored stored n length_same (agree_at n h)
 
       -- a test that reads no target is true as before
-      still_true : (s : Stored) → AreLegal d.catalogue (relvars_in s) → (t : Test) → Contains d.catalogue.tests t → ((m : ℕ) → TestReads d.catalogue t m → IsTarget x m → ⊥) → judgement d.catalogue (relvars_in (put_all cs s)) t ≡ Ok true
+      still_true : (s : Stored) → AreLegal d.catalogue (relvars_in s) → (t : Test) → Contains d.catalogue.tests t → ((m : ℕ) → TestReads d.catalogue t m → IsTarget x m → ⊥) → judgement d.catalogue (relvars_in (with_given g s)) t ≡ Ok true
       still_true s was t there never =
-          judged_alike d.catalogue is.defined (relvars_in (put_all cs s)) (relvars_in s) t there (λ n h. ⊎_elim (λ q. absurd (never n h q)) (λ stays. stays s) (changed n))
+          judged_alike d.catalogue is.defined (relvars_in (with_given g s)) (relvars_in s) t there (λ n h. ⊎_elim (λ q. absurd (never n h q)) (λ stays. stays s) (changed n))
           ∙ was t there
 
-      same_judgement : (t : Test) → Contains d.catalogue.tests t → judgement d.catalogue (relvars_in (put_all cs d.stored)) t ≡ judgement d.catalogue (relvars_in (put_all cs stored)) t
+      same_judgement : (t : Test) → Contains d.catalogue.tests t → judgement d.catalogue (relvars_in (with_given g d.stored)) t ≡ judgement d.catalogue (relvars_in (with_given g stored)) t
       same_judgement t there =
-          by_cases ((m : ℕ) × TestReads d.catalogue t m × IsTarget x m) (judgement d.catalogue (relvars_in (put_all cs d.stored)) t) (judgement d.catalogue (relvars_in (put_all cs stored)) t)
-          (λ q. judged_alike d.catalogue is.defined (relvars_in (put_all cs d.stored)) (relvars_in (put_all cs stored)) t there (λ n h. agree_after n (by_test there q.1 q.2 h)))
+          by_cases ((m : ℕ) × TestReads d.catalogue t m × IsTarget x m) (judgement d.catalogue (relvars_in (with_given g d.stored)) t) (judgement d.catalogue (relvars_in (with_given g stored)) t)
+          (λ q. judged_alike d.catalogue is.defined (relvars_in (with_given g d.stored)) (relvars_in (with_given g stored)) t there (λ n h. agree_after n (by_test there q.1 q.2 h)))
           (λ none.
           let never : (m : ℕ) → TestReads d.catalogue t m → IsTarget x m → ⊥ = λ m h k. none (m, h, k) in
           still_true d.stored legal t there never ∙ sym (still_true stored other_legal t there never))
 
-      same_failing : failing d.catalogue (relvars_in (put_all cs d.stored)) d.catalogue.tests ≡ failing d.catalogue (relvars_in (put_all cs stored)) d.catalogue.tests
-      same_failing = failing_alike d.catalogue is.defined (relvars_in (put_all cs d.stored)) (relvars_in (put_all cs stored)) d.catalogue.tests same_judgement
+      same_failing : failing_with d g ≡ failing_with other g
+      same_failing = failing_alike d.catalogue is.defined (relvars_in (with_given g d.stored)) (relvars_in (with_given g stored)) d.catalogue.tests same_judgement
 
-      module _ (ds : List (ℕ × DeltaData)) (a : AreDifferences (relvars_in d.stored) (relvars_in (put_all cs d.stored)) ds) where
-        differs : (q : ℕ × DeltaData) → Contains ds q → Differs (relvars_in stored) (relvars_in (put_all cs stored)) q.0 q.1
+      module _ (ds : List (ℕ × DeltaData)) (a : AreDifferences (relvars_in d.stored) (relvars_in (with_given g d.stored)) ds) where
+        differs : (q : ℕ × DeltaData) → Contains ds q → Differs (relvars_in stored) (relvars_in (with_given g stored)) q.0 q.1
         differs q there =
             let o = a.only q there in
             ⊎_elim
-            (λ h. record { before = o.before; after = o.after; was = sym (agree_at q.0 (target h)) ∙ o.was; is = sym (agree_after q.0 (target h)) ∙ o.is; apart = o.apart; difference = o.difference })
+            (λ h. record { before = o.before; after = o.after; was = sym (agree_at q.0 (target h)) ∙ o.was; is = sym (agree_after q.0 (target h)) ∙ o.is; one_heading = o.one_heading; was_rows = o.was_rows; is_rows = o.is_rows; apart = o.apart; difference = o.difference })
             (λ stays. absurd (o.apart (ok_same o.before o.after (sym o.was ∙ sym (stays d.stored) ∙ o.is))))
             (changed q.0)
 
-        stays_there : (n : ℕ) → relvars_in (put_all cs d.stored) n ≡ relvars_in d.stored n → relvars_in (put_all cs stored) n ≡ relvars_in stored n
+        stays_there : (n : ℕ) → relvars_in (with_given g d.stored) n ≡ relvars_in d.stored n → relvars_in (with_given g stored) n ≡ relvars_in stored n
         stays_there n same =
             ⊎_elim
             (λ h. sym (agree_after n (target h)) ∙ same ∙ agree_at n (target h))
             (λ stays. stays stored)
             (changed n)
 
-        same_differences : AreDifferences (relvars_in stored) (relvars_in (put_all cs stored)) ds
+        same_differences : AreDifferences (relvars_in stored) (relvars_in (with_given g stored)) ds
         same_differences = record { once = a.once; only = differs; all = λ n never. stays_there n (a.all n never) }
 
   alike : (f : DatabaseData) (o : Outcome) → Steps d text o f → StepsAlike d f other text o
   alike f o (unread h) = record { after = other; step = unread h; differences = none_differ (relvars_in d.stored) (relvars_in stored) }
   alike f o (raised {x = x} p h) = record { after = other; step = raised p (sym (same_sources x p) ∙ h); differences = none_differ (relvars_in d.stored) (relvars_in stored) }
-  alike f o (refused {x = x} {cs = cs} p h i j) = record {
+  alike f o (refused {x = x} {g = g} p h i j) = record {
     after = other;
-    step = refused p (sym (same_sources x p) ∙ h) (sym (same_failing x p cs h) ∙ i) j;
+    step = refused p (sym (same_sources x p) ∙ h) (sym (same_failing x p g h) ∙ i) j;
     differences = none_differ (relvars_in d.stored) (relvars_in stored);
   }
-  alike f o (done {x = x} {cs = cs} p h i) = record {
-    after = with_changes other cs;
-    step = done p (sym (same_sources x p) ∙ h) (sym (same_failing x p cs h) ∙ i);
-    differences = same_differences x p cs h;
+  alike f o (done {x = x} {g = g} p h i) = record {
+    after = with_all other g;
+    step = done p (sym (same_sources x p) ∙ h) (sym (same_failing x p g h) ∙ i);
+    differences = same_differences x p g h;
   }
 
 pub step_by_footprint : (d e f : DatabaseData) (text : List ℕ) (o : Outcome) → IsDatabase d → IsDatabase e → AreLegal d.catalogue (relvars_in d.stored) → AreLegal e.catalogue (relvars_in e.stored) → AgreeOnFootprint d e text → Steps d text o f → StepsAlike d f e text o

@@ -1,5 +1,5 @@
 -- What targets are given.
-use Rattle.std.proofs.Common.{◌≡◌, ℕ, suc, ◌+◌, ◌==◌, Bool, true, false, cond, if◌then◌else◌, eqb-true, ne_eqb, List, [], ◌∷◌, ◌++◌, None, Some, position, slice_set, refl, ap, sym, ◌∙◌, subst, arith}
+use Rattle.std.proofs.Common.{◌≡◌, ℕ, suc, ◌+◌, ◌==◌, Option, Bool, true, false, cond, if◌then◌else◌, eqb-true, ne_eqb, List, [], ◌∷◌, ◌++◌, None, Some, position, slice_set, refl, ap, sym, ◌∙◌, subst, arith}
 use Rattle.std.specs.List.{All, position_from}
 use Rattle.std.proofs.lemmas.Bool.{eqb-false}
 use Rattle.std.proofs.lemmas.Iterator.Adapters.{position_from-zero}
@@ -7,8 +7,9 @@ use Rattle.std.proofs.lemmas.List.Elements.{All-cons, All-head, All-nil, All-tai
 use Rattle.td_values.specs.Rows.{RowsData}
 use Rattle.td_headings.specs.Catalogues.{CatalogueData}
 use Rattle.td_typing.proofs.KindLemmas.{some_same}
-use Rattle.td_relvars.specs.Databases.{Belongs}
-use Rattle.td_assign.specs.Changes.{given, given_to}
+use Rattle.td_story.specs.Databases.{Belongs}
+use Rattle.td_story.specs.Given.{gives}
+use Rattle.td_assign.specs.ForProofs.Lists.{given, given_to}
 use Rattle.td_assign.specs.ForProofs.Given.{AreChanges, AreDistinct, IsChange, is_target}
 use Rattle.td_assign.specs.declared.changes.Change.{Change}
 
@@ -73,6 +74,34 @@ module _ (n : ℕ) (r : RowsData) where
 
   pub are_given : (c : CatalogueData) → Belongs c n r → (xs : List Change) → AreChanges c xs → AreChanges c (given n r xs)
   are_given c belongs xs are = record { each = each_given c belongs xs are.each; distinct = distinct_given xs are.distinct }
+
+-- ---- the list gives what is meant
+same_test : (k n m : ℕ) (q r : RowsData) (o : Option RowsData) → k == n ≡ true → (if n == m then Some r else o) ≡ (if n == m then Some r else (if k == m then Some q else o))
+same_test k n m q r o e = by (n == m) refl
+  where
+    by : (b : Bool) → n == m ≡ b → (if b then Some r else o) ≡ (if b then Some r else (if k == m then Some q else o))
+    by true f = refl
+    by false f = sym (ap (λ (t : Bool). if t then Some q else o) (ap (λ j. j == m) (eqb-true k n e) ∙ f))
+
+other_test : (k n m : ℕ) (q r : RowsData) (o : Option RowsData) → k == n ≡ false → (if k == m then Some q else (if n == m then Some r else o)) ≡ (if n == m then Some r else (if k == m then Some q else o))
+other_test k n m q r o e = by (k == m) (n == m) refl refl
+  where
+    by : (a b : Bool) → k == m ≡ a → n == m ≡ b → (if a then Some q else (if b then Some r else o)) ≡ (if b then Some r else (if a then Some q else o))
+    by true true f g = absurd (eqb-false k n e (eqb-true k m f ∙ sym (eqb-true n m g)))
+    by true false f g = refl
+    by false true f g = refl
+    by false false f g = refl
+
+given_at : (n : ℕ) (r : RowsData) (xs : List Change) (m : ℕ) → given_to (given n r xs) m ≡ gives n r (given_to xs) m
+given_at n r [] m = refl
+given_at n r (x ∷ xs) m = by (x.target == n) refl (given_at n r xs m)
+  where
+    by : (b : Bool) → x.target == n ≡ b → given_to (given n r xs) m ≡ gives n r (given_to xs) m → given_to (if b then record { target = n; relation = r } ∷ xs else x ∷ given n r xs) m ≡ gives n r (given_to (x ∷ xs)) m
+    by true e later = same_test x.target n m x.relation r (given_to xs m) e
+    by false e later = ap (λ o. if x.target == m then Some x.relation else o) later ∙ other_test x.target n m x.relation r (given_to xs m) e
+
+pub given_gives : (n : ℕ) (r : RowsData) (xs : List Change) → given_to (given n r xs) ≡ gives n r (given_to xs)
+given_gives n r xs = λ i m. given_at n r xs m i
 
 pub none_given : (c : CatalogueData) → AreChanges c []
 none_given c = record { each = All-nil (IsChange c); distinct = tt }

@@ -1,6 +1,4 @@
 -- The proofs of the crate.
-pub mod Unique
-pub mod Legal
 pub mod Giving
 pub mod Replacing
 pub mod Differing

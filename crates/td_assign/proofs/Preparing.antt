@@ -15,25 +15,26 @@ use Rattle.td_headings.specs.declared.defined.Test.{Test}
 use Rattle.td_headings.specs.declared.statement.TypedAssignment.{TypedAssignment}
 use Rattle.td_headings.specs.declared.statement.TypedStatement.{TypedStatement}
 use Rattle.td_meaning.specs.Mean.{Relvars}
-use Rattle.td_eval.specs.Raises.{stop_of}
-use Rattle.td_constraints.specs.Reports.{IsReport, title}
-use Rattle.td_constraints.specs.declared.failure.Broken.{Broken}
-use Rattle.td_constraints.specs.declared.failure.Broken.TheVariants as broken
-use Rattle.td_constraints.specs.declared.failure.TestFailure.{TestFailure}
-use Rattle.td_constraints.specs.Tests.{failing}
-use Rattle.td_relvars.specs.Databases.{DatabaseData, IsDatabase, relvars_in}
-use Rattle.td_assign.specs.Changes.{replaced}
-use Rattle.td_assign.specs.Differences.{AreDifferences}
+use Rattle.td_story.specs.Raises.{stop_of}
+use Rattle.td_story.specs.Reports.{IsReport, title}
+use Rattle.td_story.specs.declared.broken.Broken.{Broken}
+use Rattle.td_story.specs.declared.broken.Broken.TheVariants as broken
+use Rattle.td_story.specs.declared.broken.TestFailure.{TestFailure}
+use Rattle.td_story.specs.Tests.{failing}
+use Rattle.td_story.specs.Databases.{DatabaseData, IsDatabase, relvars_in}
+use Rattle.td_story.specs.Given.{replaced}
+use Rattle.td_assign.specs.ForProofs.Lists.{given_to}
+use Rattle.td_story.specs.Differences.{AreDifferences}
 use Rattle.td_assign.specs.ForProofs.Given.{AreAssigned, AreChanges, IsAssigned}
-use Rattle.td_assign.specs.ForProofs.Prepared.{AreAssignedTo, IsJudged, IsPrepared, MayChange, Refuses, by_source, by_test, failing_after, given_by}
-use Rattle.td_assign.specs.Steps.{IsRead, IsUnread, Steps, Tells, done, raised, refused}
+use Rattle.td_assign.specs.ForProofs.Prepared.{AreAssignedTo, IsJudged, IsPrepared, MayChange, Refuses, by_source, by_test, failing_after, assigned_by}
+use Rattle.td_story.specs.Steps.{IsRead, IsUnread, Steps, TellsTest, done, raised, refused}
 use Rattle.td_assign.specs.declared.changes.Change.{Change}
-use Rattle.td_assign.specs.declared.outcome.Outcome.{Outcome}
-use Rattle.td_assign.specs.declared.outcome.Outcome.TheVariants as outcome
+use Rattle.td_story.specs.declared.outcome.Outcome.{Outcome}
+use Rattle.td_story.specs.declared.outcome.Outcome.TheVariants as outcome
 use Rattle.td_assign.specs.declared.running.Prepared.{Prepared}
 use Rattle.td_assign.specs.declared.running.Prepared.TheVariants.{Changes, Refused}
 use Rattle.td_assign.proofs.Replacing.{all_replaced}
-use Rattle.td_assign.proofs.Unique.{one_text}
+use Rattle.td_story.proofs.Unique.{one_text}
 
 -- ---- no reading, or no typing
 module _ (c : CatalogueData) (text : List ℕ) where
@@ -54,15 +55,15 @@ are_assigned c text x p = all_assigned c (typed.actions_of p.statement) (assignm
 
 -- ---- how a test is told
 module _ (c : CatalogueData) (t : Test) where
-  pub tells_error : (o : Option Stop) (f : Option Raise) (e : Raise) → f ≡ Some e → option_map stop_of f ≡ o → Tells c t o (outcome.Raised e)
+  pub tells_error : (o : Option Stop) (f : Option Raise) (e : Raise) → f ≡ Some e → option_map stop_of f ≡ o → TellsTest c t o (outcome.Raised e)
   tells_error None f e is h = let nothing : Some (stop_of e) ≡ None = sym (ap (option_map stop_of) is) ∙ h in cc
   tells_error (Some s) f e is h = sym (some_same (stop_of e) s (sym (ap (option_map stop_of) is) ∙ h))
 
-  pub tells_key : (o : Option Stop) (f : Option Raise) (b : Broken) (n : List ℕ) → f ≡ None → b ≡ broken.Key n → b ≡ title c t → option_map stop_of f ≡ o → Tells c t o (outcome.BreaksKey n)
+  pub tells_key : (o : Option Stop) (f : Option Raise) (b : Broken) (n : List ℕ) → f ≡ None → b ≡ broken.Key n → b ≡ title c t → option_map stop_of f ≡ o → TellsTest c t o (outcome.BreaksKey n)
   tells_key None f b n no_error is at h = sym at ∙ is
   tells_key (Some s) f b n no_error is at h = let nothing : None ≡ Some s = sym (ap (option_map stop_of) no_error) ∙ h in cc
 
-  pub tells_constraint : (o : Option Stop) (f : Option Raise) (b : Broken) (n : List ℕ) → f ≡ None → b ≡ broken.Constraint n → b ≡ title c t → option_map stop_of f ≡ o → Tells c t o (outcome.BreaksConstraint n)
+  pub tells_constraint : (o : Option Stop) (f : Option Raise) (b : Broken) (n : List ℕ) → f ≡ None → b ≡ broken.Constraint n → b ≡ title c t → option_map stop_of f ≡ o → TellsTest c t o (outcome.BreaksConstraint n)
   tells_constraint None f b n no_error is at h = sym at ∙ is
   tells_constraint (Some s) f b n no_error is at h = let nothing : None ≡ Some s = sym (ap (option_map stop_of) no_error) ∙ h in cc
 
@@ -75,13 +76,13 @@ passes c None h = refl
 passes c (Some p) h = absurd h
 
 module _ (d : DatabaseData) (cs : List Change) where
-  pub report_is : (ys : List Change) (k : CatalogueData) (o : Option TestFailure) → IsDatabase d → AreChanges d.catalogue cs → k ≡ d.catalogue → ys ≡ cs → IsReport k (failing k (replaced ys (relvars_in d.stored)) k.tests) o → IsReport d.catalogue (failing_after d cs) o
+  pub report_is : (ys : List Change) (k : CatalogueData) (o : Option TestFailure) → IsDatabase d → AreChanges d.catalogue cs → k ≡ d.catalogue → ys ≡ cs → IsReport k (failing k (replaced (given_to ys) (relvars_in d.stored)) k.tests) o → IsReport d.catalogue (failing_after d cs) o
   report_is ys k o is are same seen h =
       subst (λ r. IsReport d.catalogue (failing d.catalogue r d.catalogue.tests) o) (all_replaced d.catalogue cs are d.stored is)
-      (subst (λ (zs : List Change). IsReport d.catalogue (failing d.catalogue (replaced zs (relvars_in d.stored)) d.catalogue.tests) o) seen
-      (subst (λ (z : CatalogueData). IsReport z (failing z (replaced ys (relvars_in d.stored)) z.tests) o) same h))
+      (subst (λ (zs : List Change). IsReport d.catalogue (failing d.catalogue (replaced (given_to zs) (relvars_in d.stored)) d.catalogue.tests) o) seen
+      (subst (λ (z : CatalogueData). IsReport z (failing z (replaced (given_to ys) (relvars_in d.stored)) z.tests) o) same h))
 
-  pub refused_by : (o : Option TestFailure) (f : TestFailure) (out : Outcome) → o ≡ Some f → IsReport d.catalogue (failing_after d cs) o → ((c : CatalogueData) (t : Test) (e : Option Stop) → IsReport c (Some (t, e)) (Some f) → Tells c t e out) → IsJudged d cs (Refused out)
+  pub refused_by : (o : Option TestFailure) (f : TestFailure) (out : Outcome) → o ≡ Some f → IsReport d.catalogue (failing_after d cs) o → ((c : CatalogueData) (t : Test) (e : Option Stop) → IsReport c (Some (t, e)) (Some f) → TellsTest c t e out) → IsJudged d cs (Refused out)
   refused_by o f out is h tells =
       let r = reported d.catalogue (failing_after d cs) f (subst (IsReport d.catalogue (failing_after d cs)) is h) in
       (r.0, r.1, r.2, tells d.catalogue r.0 r.1 r.3)
@@ -97,8 +98,8 @@ module _ (c k : CatalogueData) (text : List ℕ) (o : Option TypedStatement) (sa
   unread_is is = subst (λ (z : CatalogueData). IsUnread z text) same (subst (λ q. MatchOption q (IsUnread k text) (IsRead k text)) is h)
 
 -- ---- what follows from each step
-pub judged : {E : Type 0} (d : DatabaseData) (xs : List TypedAssignment) (cs : List Change) → given_by d xs ≡ Ok cs → (m : Result Prepared E) → IfOk m (IsJudged d cs) → IfOk m (AreAssignedTo d xs)
-judged d xs cs given (Ok (Changes v ds)) h = (given ∙ ap Ok (sym h.0), subst (λ ys. MayChange d ys ds.items) (sym h.0) h.1)
+pub judged : {E : Type 0} (d : DatabaseData) (xs : List TypedAssignment) (cs : List Change) → assigned_by d xs ≡ Ok (given_to cs) → (m : Result Prepared E) → IfOk m (IsJudged d cs) → IfOk m (AreAssignedTo d xs)
+judged d xs cs given (Ok (Changes v ds)) h = (given ∙ ap (λ ys. Ok (given_to ys)) (sym h.0), subst (λ ys. MayChange d ys ds.items) (sym h.0) h.1)
 judged d xs cs given (Ok (Refused o)) h = by_test given h
 judged d xs cs given (Err e) h = tt
 

@@ -1,68 +1,115 @@
 -- The relvars with all targets replaced are those of a database.
-use Rattle.std.proofs.Common.{◌≡◌, ℕ, zero, suc, ◌<◌, ◌==◌, Bool, true, false, if◌then◌else◌, eqb-true, List, [], ◌∷◌, length, slice_get, None, Some, Ok, refl, ap, sym, ◌∙◌, subst, arith}
+use Rattle.std.proofs.Common.{◌≡◌, ⊎_elim, ℕ, zero, suc, ◌<◌, ◌==◌, Bool, true, false, if◌then◌else◌, eqb-true, true≢false, List, [], ◌∷◌, length, slice_get, Option, None, Some, Ok, refl, ap, sym, ◌∙◌, subst, arith}
 use Rattle.std.specs.List.{All}
-use Rattle.std.proofs.lemmas.Bool.{eqb-false}
+use Rattle.std.specs.Option.{option_flatten}
+use Rattle.std.proofs.lemmas.Bool.{cases_eq, eqb-false}
 use Rattle.std.proofs.lemmas.List.Elements.{All-head, All-tail}
+use Rattle.td_values.specs.Headings.{Header}
 use Rattle.td_values.specs.Rows.{RowsData}
+use Rattle.td_syntax.specs.declared.tree.Named.{Named}
+use Rattle.td_typing.proofs.KindLemmas.{some_same}
 use Rattle.td_headings.specs.Catalogues.{CatalogueData}
-use Rattle.td_soundness.specs.Meanings.{GivesRelation}
-use Rattle.td_eval.specs.Trees.{AreBases}
-use Rattle.td_constraints.specs.Stored.{AreStored}
+use Rattle.td_headings.specs.Reached.{is_base}
+use Rattle.td_soundness.specs.Meanings.{GivesRelation, IsRelation}
+use Rattle.td_story.specs.Trees.{AreBases}
+use Rattle.td_story.specs.Stored.{AreStored}
 use Rattle.td_constraints.proofs.Judged.{are_bases}
-use Rattle.td_relvars.specs.Databases.{IsDatabase, Stored, at_place, put, relvars_in}
-use Rattle.td_relvars.proofs.Stores.{place_within, put_is}
-use Rattle.td_assign.specs.Changes.{given_to, or_old, put_all, replaced, seen}
+use Rattle.td_story.specs.Databases.{Belongs, IsDatabase, Stored, at_place, put, relvars_in}
+use Rattle.td_relvars.proofs.Stores.{base_within, put_is}
+use Rattle.td_story.specs.Given.{Given, or_old, or_stored, replaced, seen, with_given}
 use Rattle.td_assign.specs.ForProofs.Given.{AreChanges, AreDistinct, IsChange}
+use Rattle.td_assign.specs.ForProofs.Lists.{given_to}
 use Rattle.td_assign.specs.declared.changes.Change.{Change}
 
 -- ---- the places of a store
-put_there : (n : ℕ) (r : RowsData) (xs : Stored) → n < length xs → slice_get (put n r xs) n ≡ Some (Some r)
-put_there n r [] lt = absurd (omega arith)
-put_there zero r (x ∷ xs) lt = refl
-put_there (suc n) r (x ∷ xs) lt = put_there n r xs (omega arith)
+pub given_length : (g : Given) (xs : Stored) → length (with_given g xs) ≡ length xs
+given_length g [] = refl
+given_length g (x ∷ xs) = ap suc (given_length (λ n. g (suc n)) xs)
 
-pub put_other : (n m : ℕ) (r : RowsData) (xs : Stored) → (n ≡ m → ⊥) → slice_get (put n r xs) m ≡ slice_get xs m
-put_other n m r [] apart = refl
-put_other zero zero r (x ∷ xs) apart = absurd (apart refl)
-put_other zero (suc m) r (x ∷ xs) apart = refl
-put_other (suc n) zero r (x ∷ xs) apart = refl
-put_other (suc n) (suc m) r (x ∷ xs) apart = put_other n m r xs (λ e. apart (ap suc e))
+-- a place that is given nothing keeps what it has
+pub given_none : (g : Given) (xs : Stored) (n : ℕ) → g n ≡ None → slice_get (with_given g xs) n ≡ slice_get xs n
+given_none g [] n h = refl
+given_none g (x ∷ xs) zero h = ap (λ o. Some (or_stored o x)) h
+given_none g (x ∷ xs) (suc n) h = given_none (λ m. g (suc m)) xs n h
 
--- ---- changes one after the other
+given_some : (g : Given) (xs : Stored) (n : ℕ) (r : RowsData) → n < length xs → g n ≡ Some r → slice_get (with_given g xs) n ≡ Some (Some r)
+given_some g [] n r lt h = absurd (omega arith)
+given_some g (x ∷ xs) zero r lt h = ap (λ o. Some (or_stored o x)) h
+given_some g (x ∷ xs) (suc n) r lt h = given_some (λ m. g (suc m)) xs n r (omega arith) h
+
+-- ---- what a list of changes gives belongs to the places
 module _ (c : CatalogueData) where
   abbrev IsOf : Stored → Type 0
   IsOf stored = IsDatabase (record { catalogue = c; stored = stored })
 
-  all_put : (cs : List Change) (stored : Stored) → IsOf stored → All (IsChange c) cs → IsOf (put_all cs stored)
-  all_put [] stored is each = is
-  all_put (x ∷ cs) stored is each = all_put cs (put x.target x.relation stored) (put_is c stored is x.target x.relation (All-head (IsChange c) x cs each)) (All-tail (IsChange c) x cs each)
-
-  replaced_at : (cs : List Change) (stored : Stored) → IsOf stored → All (IsChange c) cs → AreDistinct cs → (n : ℕ) → relvars_in (put_all cs stored) n ≡ replaced cs (relvars_in stored) n
-  replaced_at [] stored is each distinct n = refl
-  replaced_at (x ∷ cs) stored is each distinct n =
-      let belongs = All-head (IsChange c) x cs each in
-      replaced_at cs (put x.target x.relation stored) (put_is c stored is x.target x.relation belongs) (All-tail (IsChange c) x cs each) distinct.1 n ∙ by (x.target == n) refl belongs
+  given_belongs : (cs : List Change) → All (IsChange c) cs → (n : ℕ) (r : RowsData) → given_to cs n ≡ Some r → Belongs c n r
+  given_belongs [] each n r h = cc
+  given_belongs (x ∷ cs) each n r h = by (x.target == n) refl h (given_belongs cs (All-tail (IsChange c) x cs each) n r) (All-head (IsChange c) x cs each)
     where
-      by : (b : Bool) → x.target == n ≡ b → IsChange c x → or_old (given_to cs n) (relvars_in (put x.target x.relation stored) n) ≡ or_old (if b then Some x.relation else given_to cs n) (relvars_in stored n)
-      by true e belongs =
-          let same = eqb-true x.target n e in
-          ap (λ o. or_old o (relvars_in (put x.target x.relation stored) n)) (subst (λ m. given_to cs m ≡ None) same distinct.0)
-          ∙ subst (λ m. relvars_in (put x.target x.relation stored) m ≡ Ok x.relation) same (ap at_place (put_there x.target x.relation stored (place_within c stored is x.target x.relation belongs)))
-      by false e belongs = ap (or_old (given_to cs n)) (ap at_place (put_other x.target n x.relation stored (eqb-false x.target n e)))
+      by : (b : Bool) → x.target == n ≡ b → (if b then Some x.relation else given_to cs n) ≡ Some r → (given_to cs n ≡ Some r → Belongs c n r) → IsChange c x → Belongs c n r
+      by true e is later here = subst (Belongs c n) (one x.relation is) (subst (λ m. Belongs c m x.relation) (eqb-true x.target n e) here)
+        where
+          one : (q : RowsData) → Some q ≡ Some r → q ≡ r
+          one q same = cc
+      by false e is later here = later is
+
+  module _ (g : Given) (each : (n : ℕ) (r : RowsData) → g n ≡ Some r → Belongs c n r) (stored : Stored) (is : IsOf stored) where
+    within : (n : ℕ) → is_base (slice_get c.origins n) ≡ true → n < length stored
+    within n base = let lt = base_within c.origins n base in let count = is.each in omega (arith, lt, count)
+
+    replaced_at : (n : ℕ) → relvars_in (with_given g stored) n ≡ replaced g (relvars_in stored) n
+    replaced_at n = by (g n) refl
+      where
+        by : (o : Option RowsData) → g n ≡ o → relvars_in (with_given g stored) n ≡ or_old o (relvars_in stored n)
+        by None h = ap at_place (given_none g stored n h)
+        by (Some r) h = ap at_place (given_some g stored n r (within n (each n r h).stored) h)
+
+    pub given_replaced : replaced g (relvars_in stored) ≡ relvars_in (with_given g stored)
+    given_replaced = λ i n. sym (replaced_at n) i
+
+    given_stored : AreStored c (relvars_in (with_given g stored))
+    given_stored n v base at = by (g n) refl
+      where
+        by : (o : Option RowsData) → g n ≡ o → (r : RowsData) × (relvars_in (with_given g stored) n ≡ Ok r) × IsRelation c.schema v.value r
+        by None h = let k = is.stored n v base at in (k.0, ap at_place (given_none g stored n h) ∙ k.1, k.2)
+        by (Some r) h =
+            let b = each n r h in
+            (r, ap at_place (given_some g stored n r (within n base) h), subst (λ (w : Named Header). IsRelation c.schema w.value r) (some_same b.relvar v (sym b.there ∙ at)) b.relation)
+
+    nothing_given_of_virtual : (n : ℕ) → is_base (slice_get c.origins n) ≡ false → option_flatten (slice_get (with_given g stored) n) ≡ None
+    nothing_given_of_virtual n virtual = by (g n) refl
+      where
+        by : (o : Option RowsData) → g n ≡ o → option_flatten (slice_get (with_given g stored) n) ≡ None
+        by None h = ap option_flatten (given_none g stored n h) ∙ is.nothing_else n virtual
+        by (Some r) h = absurd (true≢false (sym (each n r h).stored ∙ virtual))
+
+    pub given_is : IsOf (with_given g stored)
+    given_is = record {
+      defined = is.defined;
+      each = given_length g stored ∙ is.each;
+      stored = given_stored;
+      nothing_else = nothing_given_of_virtual;
+    }
 
   module _ (cs : List Change) (are : AreChanges c cs) (stored : Stored) (is : IsOf stored) where
-    pub is_after : IsOf (put_all cs stored)
-    is_after = all_put cs stored is are.each
+    pub is_after : IsOf (with_given (given_to cs) stored)
+    is_after = given_is (given_to cs) (given_belongs cs are.each) stored is
 
-    pub all_replaced : replaced cs (relvars_in stored) ≡ relvars_in (put_all cs stored)
-    all_replaced = λ i n. sym (replaced_at cs stored is are.each are.distinct n) i
+    pub all_replaced : replaced (given_to cs) (relvars_in stored) ≡ relvars_in (with_given (given_to cs) stored)
+    all_replaced = given_replaced (given_to cs) (given_belongs cs are.each) stored is
 
-    pub replaced_stored : AreStored c (replaced cs (relvars_in stored))
+    pub replaced_stored : AreStored c (replaced (given_to cs) (relvars_in stored))
     replaced_stored = subst (AreStored c) (sym all_replaced) is_after.stored
 
-    pub seen_bases : (t : ℕ) → AreBases c (seen cs t (relvars_in stored))
+    pub seen_bases : (t : ℕ) → AreBases c (seen (given_to cs) t (relvars_in stored))
     seen_bases t n v base at = by (t == n)
       where
         by : (b : Bool) → GivesRelation c.schema v.value (if b then or_old (given_to cs n) (relvars_in stored n) else relvars_in stored n)
-        by true = are_bases c (replaced cs (relvars_in stored)) replaced_stored n v base at
+        by true = are_bases c (replaced (given_to cs) (relvars_in stored)) replaced_stored n v base at
         by false = are_bases c (relvars_in stored) is.stored n v base at
+
+-- ---- one target after the other
+pub put_first : (t : ℕ) (r : RowsData) (g : Given) (xs : Stored) → g t ≡ None → with_given (λ n. if t == n then Some r else g n) xs ≡ with_given g (put t r xs)
+put_first t r g [] h = refl
+put_first zero r g (x ∷ xs) h = ap (λ o. o ∷ with_given (λ n. g (suc n)) xs) (sym (ap (λ o. or_stored o (Some r)) h))
+put_first (suc t) r g (x ∷ xs) h = ap (λ ys. or_stored (g zero) x ∷ ys) (put_first t r (λ n. g (suc n)) xs h)

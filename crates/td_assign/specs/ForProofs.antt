@@ -1,3 +1,4 @@
 -- Words that only proofs and private functions use.
+pub mod Lists
 pub mod Given
 pub mod Prepared

@@ -1,7 +1,7 @@
 //! What a statement gives to its targets.
 
 ghost use Rattle.std.specs.Prelude.{◌≡◌, MatchOption, None, OnOk, Some, position};
-ghost use Rattle.td_assign.specs.Changes as spec;
+ghost use Rattle.td_assign.specs.ForProofs.Lists as spec;
 ghost use Rattle.td_assign.specs.ForProofs.Given.{is_target};
 
 use std::alloc::AllocError;

@@ -1,9 +1,10 @@
 //! The exact difference that a statement makes.
 
 ghost use Rattle.std.specs.Prelude.{◌≡◌, IfOk, MatchOption, Ok};
-ghost use Rattle.td_relvars.specs.Databases.{IsDatabase, relvars_in};
-ghost use Rattle.td_assign.specs.Changes as spec;
-ghost use Rattle.td_assign.specs.Differences.{AreDifferences};
+ghost use Rattle.td_story.specs.Databases.{IsDatabase, relvars_in};
+ghost use Rattle.td_story.specs.Given as spec;
+ghost use Rattle.td_assign.specs.ForProofs.Lists.{given_to};
+ghost use Rattle.td_story.specs.Differences.{AreDifferences};
 ghost use Rattle.td_assign.specs.ForProofs.Given.{AreChanges, DiffersBy, IsChange, Turns};
 
 use crate::changes::Change;
@@ -51,7 +52,7 @@ pub(crate) fn differences(
 ) -> Result<Vec<(usize, Delta)>, AllocError>
     requires database { IsDatabase database.now }
     requires changes { AreChanges database.now.catalogue changes.now }
-    ensures { IfOk result (λ v. AreDifferences (relvars_in database.now.stored) (relvars_in (spec.put_all changes.now database.now.stored)) v.items) }
+    ensures { IfOk result (λ v. AreDifferences (relvars_in database.now.stored) (relvars_in (spec.with_given (given_to changes.now) database.now.stored)) v.items) }
 {
     let mut found = Vec::new(alloc);
     for change in changes {

@@ -4,13 +4,11 @@
 pub mod changes;
 mod deltas;
 pub mod laws;
-pub mod meter;
-pub mod outcome;
+pub mod ran;
 mod running;
 mod seen;
 mod sources;
 
 pub use changes::Change;
-pub use meter::Meter;
-pub use outcome::{Outcome, Ran};
+pub use ran::Ran;
 pub use running::run;

@@ -1,28 +1,28 @@
 //! Running a statement.
 
 ghost use Rattle.std.specs.Prelude.{◌≡◌, [], IfOk, MatchOption, OnErr, Option, Some};
-ghost use Rattle.td_constraints.specs.Reports.{IsReport};
+ghost use Rattle.td_story.specs.Reports.{IsReport};
 ghost use Rattle.td_headings.specs.Catalogues.{CatalogueData};
 ghost use Rattle.td_headings.specs.Statements as typed;
 ghost use Rattle.td_headings.specs.declared.defined.Test.{Test};
 ghost use Rattle.td_algebra.specs.declared.errors.Stop.{Stop};
-ghost use Rattle.td_relvars.specs.Databases.{relvars_in};
-ghost use Rattle.td_assign.specs.Counts.{one_more};
-ghost use Rattle.td_assign.specs.Differences.{AreDifferences};
+ghost use Rattle.td_story.specs.Databases.{relvars_in};
+ghost use Rattle.td_story.specs.Counts.{one_more};
+ghost use Rattle.td_story.specs.Differences.{AreDifferences};
 ghost use Rattle.td_assign.specs.ForProofs.Given.{AreAssigned, AreChanges};
 ghost use Rattle.td_assign.specs.ForProofs.Prepared.{AreAssignedTo, IsJudged, IsPrepared};
-ghost use Rattle.td_assign.specs.Steps as spec;
-ghost use Rattle.td_assign.specs.Steps.{IsRead, IsUnread, Steps};
+ghost use Rattle.td_assign.specs.ForProofs.Lists.{given_to};
+ghost use Rattle.td_story.specs.Steps as spec;
+ghost use Rattle.td_story.specs.Steps.{IsRead, IsUnread, Steps};
 
 use crate::changes::Change;
 use crate::deltas::differences;
-use crate::meter::Meter;
-use crate::outcome::{Outcome, Ran};
+use td_story::{Broken, Failure, Meter, Outcome, TestFailure};
+use crate::ran::Ran;
 use crate::seen::Replaced;
 use crate::sources::changes;
 use std::alloc::{AllocError, Global};
-use td_constraints::{Broken, TestFailure, first_failure};
-use td_eval::Failure;
+use td_constraints::first_failure;
 use td_grammar::{ReadError, read_statement};
 use td_headings::{Catalogue, TypedAssignment, TypedStatement, type_statement};
 use td_kinds::error::TypeError;
@@ -51,7 +51,7 @@ fn read(
 
 // A test that raises gives its error, one that is false what it is of.
 fn refusal(failure: TestFailure) -> Outcome
-    ensures { (c : CatalogueData) (t : Test) (o : Option Stop) → IsReport c (Some (t, o)) (Some failure) → spec.Tells c t o result }
+    ensures { (c : CatalogueData) (t : Test) (o : Option Stop) → IsReport c (Some (t, o)) (Some failure) → spec.TellsTest c t o result }
 {
     match (failure.raised, failure.test) {
         (Some(raise), _) => Outcome::Raised(raise),
@@ -73,16 +73,14 @@ fn judged(alloc: Global, database: &Database, changes: Vec<Change>) -> Result<Pr
     requires { AreChanges database.now.catalogue changes.items }
     ensures { IfOk result (IsJudged database.now changes.items) }
 {
+    let delta = differences(alloc, database, &changes)?;
     let replaced = Replaced {
         database,
         changes: &changes,
     };
     match first_failure(alloc, database.catalogue(), &replaced)? {
         Some(failure) => Ok(Prepared::Refused(refusal(failure))),
-        None => {
-            let delta = differences(alloc, database, &changes)?;
-            Ok(Prepared::Changes(changes, delta))
-        }
+        None => Ok(Prepared::Changes(changes, delta)),
     }
 }
 
@@ -123,7 +121,7 @@ fn prepare(alloc: Global, database: &Database, text: &str) -> Result<Prepared, A
 // The relations move: no memory is taken.
 fn put_all(database: &mut Database, changes: Vec<Change>)
     requires { AreChanges database.old.catalogue changes.items }
-    ensures { database.new ≡ spec.with_changes database.old changes.items }
+    ensures { database.new ≡ spec.with_all database.old (given_to changes.items) }
 {
     for change in changes {
         let base = database.make_base(change.target, change.relation);

@@ -1,7 +1,8 @@
 //! The relvars that sources and tests see before anything is changed.
 
-ghost use Rattle.td_assign.specs.Changes as spec;
-ghost use Rattle.td_relvars.specs.Databases.{relvars_in};
+ghost use Rattle.td_assign.specs.ForProofs.Lists as lists;
+ghost use Rattle.td_story.specs.Given as spec;
+ghost use Rattle.td_story.specs.Databases.{relvars_in};
 
 use crate::changes::{Change, given_to};
 use std::alloc::Global;
@@ -19,7 +20,7 @@ pub(crate) struct Seen<'a> {
 }
 
 impl Lookup for Seen<'_> {
-    ghost relvars = { λ s. spec.seen s.changes.now s.target (relvars_in s.database.now.stored) };
+    ghost relvars = { λ s. spec.seen (lists.given_to s.changes.now) s.target (relvars_in s.database.now.stored) };
 
     fn value(&self, alloc: Global, relvar: usize) -> Result<Relation, Fault> {
         if self.target == relvar {
@@ -39,7 +40,7 @@ pub(crate) struct Replaced<'a> {
 }
 
 impl Lookup for Replaced<'_> {
-    ghost relvars = { λ s. spec.replaced s.changes.now (relvars_in s.database.now.stored) };
+    ghost relvars = { λ s. spec.replaced (lists.given_to s.changes.now) (relvars_in s.database.now.stored) };
 
     fn value(&self, alloc: Global, relvar: usize) -> Result<Relation, Fault> {
         match given_to(self.changes, relvar) {

@@ -1,15 +1,17 @@
 //! The sources of a multiple assignment.
 
-ghost use Rattle.std.specs.Prelude.{[], IfOk, OnOk};
-ghost use Rattle.td_eval.specs.Raises.{Tells};
-ghost use Rattle.td_relvars.specs.Databases.{Belongs, relvars_in};
+ghost use Rattle.std.specs.Prelude.{IfOk, OnOk};
+ghost use Rattle.td_story.specs.Raises.{Tells};
+ghost use Rattle.td_story.specs.Databases.{Belongs, relvars_in};
 ghost use Rattle.td_assign.specs.ForProofs.Given.{AreAssigned, AreChanges, GivesMore, IsAssigned, TellsChanges};
-ghost use Rattle.td_assign.specs.Sources.{source_means, sources};
+ghost use Rattle.td_assign.specs.ForProofs.Lists.{given_to};
+ghost use Rattle.td_story.specs.Given.{nothing_given};
+ghost use Rattle.td_story.specs.Sources.{source_means, sources};
 
 use crate::changes::{Change, give};
 use crate::seen::Seen;
 use std::alloc::Global;
-use td_eval::Failure;
+use td_story::Failure;
 use td_headings::TypedAssignment;
 use td_relations::Relation;
 use td_relvars::Database;
@@ -23,7 +25,7 @@ fn source(
 ) -> Result<Relation, Failure>
     requires assigned { IsAssigned database.now.catalogue assignment.now }
     requires given { AreChanges database.now.catalogue changes.now }
-    ensures told { Tells result (source_means database.now.catalogue (relvars_in database.now.stored) changes.now assignment.now) }
+    ensures told { Tells result (source_means database.now.catalogue (relvars_in database.now.stored) (given_to changes.now) assignment.now) }
     ensures typed { IfOk result (Belongs database.now.catalogue assignment.now.target) }
 {
     let catalogue = database.catalogue();
@@ -48,7 +50,7 @@ fn add_source(
 ) -> Result<(), Failure>
     requires assigned { IsAssigned database.now.catalogue assignment.now }
     requires given { AreChanges database.now.catalogue changes.old.items }
-    ensures told { GivesMore (source_means database.now.catalogue (relvars_in database.now.stored) changes.old.items assignment.now) assignment.now.target changes.old.items result changes.new.items }
+    ensures told { GivesMore (source_means database.now.catalogue (relvars_in database.now.stored) (given_to changes.old.items) assignment.now) assignment.now.target changes.old.items result changes.new.items }
     ensures given { OnOk result (AreChanges database.now.catalogue changes.new.items) }
 {
     match source(alloc, database, changes, assignment) {
@@ -64,7 +66,7 @@ pub(crate) fn changes(
     assignments: &[TypedAssignment],
 ) -> Result<Vec<Change>, Failure>
     requires { AreAssigned database.now.catalogue assignments.now }
-    ensures told { TellsChanges result (sources database.now.catalogue (relvars_in database.now.stored) [] assignments.now) }
+    ensures told { TellsChanges result (sources database.now.catalogue (relvars_in database.now.stored) nothing_given assignments.now) }
     ensures given { IfOk result (λ v. AreChanges database.now.catalogue v.items) }
 {
     let mut changes = Vec::new(alloc);

@@ -9,10 +9,10 @@ use Rattle.std.specs.declared.alloc.AllocError.{AllocError}
 use Rattle.td_devices.specs.Lines.{raw_lines}
 use Rattle.td_headings.specs.Catalogues.{CatalogueData}
 use Rattle.td_listings.specs.Writings.{Written, WritesWhole, WritesFront}
-use Rattle.td_relvars.specs.Scripts.{Opens}
-use Rattle.td_relvars.specs.declared.error.OpenError.{OpenError}
-use Rattle.td_relvars.specs.declared.error.OpenError.TheVariants.{Syntax, IllTyped, OpeningRaised, OpeningBroken, OutOfMemory}
-use Rattle.td_replay.specs.Openings.{opened}
+use Rattle.td_story.specs.Scripts.{Opens}
+use Rattle.td_story.specs.declared.error.ScriptError.{ScriptError}
+use Rattle.td_story.specs.declared.error.ScriptError.TheVariants.{Syntax, IllTyped, OpeningRaised, OpeningBroken, OutOfMemory}
+use Rattle.td_story.specs.NewSites.{opened}
 use Rattle.td_answers.specs.Sites.{Sites, AreOfScript}
 use Rattle.td_console.specs.Streams.{Input, Reads, reads_left, most_reads}
 use Rattle.td_console.specs.Runs.{Ends, RunsOut}
@@ -53,14 +53,14 @@ behind_ran false c old ss reads from left w after r new other same serves = (new
 
 -- ---- a script that is judged
 
-refused_by : (script : List ℕ) (e : OpenError) → is_utf8 script ≡ true → length script ≤ 65536 → Opens script (Err e) → IsRefused script e
+refused_by : (script : List ℕ) (e : ScriptError) → is_utf8 script ≡ true → length script ≤ 65536 → Opens script (Err e) → IsRefused script e
 refused_by script Syntax text short opens = inr opens
 refused_by script IllTyped text short opens = (text, opens)
 refused_by script (OpeningRaised x) text short opens = (text, opens)
 refused_by script (OpeningBroken b) text short opens = (text, opens)
 refused_by script OutOfMemory text short opens = (text, short)
 
-pub judged : (options : Options) (script text : List ℕ) (r : Result Opened OpenError) → script ≡ text → IsUtf8 script → length text ≤ 65536
+pub judged : (options : Options) (script text : List ℕ) (r : Result Opened ScriptError) → script ≡ text → IsUtf8 script → length text ≤ 65536
     → MatchResult r (λ o. OpensAll options script o.sites.items × AreOfScript o.catalogue o.sites.items × (string_bytes o.ready ≡ ready options.sites)) (λ e. Opens script (Err e))
     → MatchResult r (λ o. IsAccepted options text o.sites.items × AreOfScript o.catalogue o.sites.items × (string_bytes o.ready ≡ ready options.sites)) (λ e. IsRefused text e)
 judged options script text (Ok o) same utf8 short ((d, opens, sites), of, told) =
@@ -70,7 +70,7 @@ judged options script text (Ok o) same utf8 short ((d, opens, sites), of, told) 
 judged options script text (Err e) same utf8 short opens =
     subst (λ (t : List ℕ). IsRefused t e) same (refused_by script e (is_utf8-from_IsUtf8 script utf8) (subst (λ (t : List ℕ). length t ≤ 65536) (sym same) short) opens)
 
-pub opened_of : (options : Options) (script : List ℕ) (r : Result Opened OpenError)
+pub opened_of : (options : Options) (script : List ℕ) (r : Result Opened ScriptError)
     → MatchResult r (λ o. OpensAll options script o.sites.items × AreOfScript o.catalogue o.sites.items × (string_bytes o.ready ≡ ready options.sites)) (λ e. Opens script (Err e))
     → IfOk r (λ o. AreOfScript o.catalogue o.sites.items)
 opened_of options script (Ok o) (opens, of, told) = of
@@ -82,8 +82,8 @@ no_text bytes text same other = subst (λ (t : List ℕ). is_utf8 t ≡ false) s
 -- ---- what is told of a script
 
 -- the text was made, or there was no memory for it
-pub told_made : (e : OpenError) (t : Result (String Global) AllocError) (r : Result Bool Ended) (w after : Written) → IfOk t (λ text. string_bytes text ≡ script_fault e) → TellsMade t r w after
-    → (told : OpenError) × ((told ≡ e) ⊎ (told ≡ OutOfMemory)) × PutsFault (script_fault told) r w after
+pub told_made : (e : ScriptError) (t : Result (String Global) AllocError) (r : Result Bool Ended) (w after : Written) → IfOk t (λ text. string_bytes text ≡ script_fault e) → TellsMade t r w after
+    → (told : ScriptError) × ((told ≡ e) ⊎ (told ≡ OutOfMemory)) × PutsFault (script_fault told) r w after
 told_made e (Ok text) r w after is puts = (e, inl refl, subst (λ (t : List ℕ). PutsFault t r w after) is puts)
 told_made e (Err x) r w after is puts = (OutOfMemory, inr refl, puts)
 
@@ -95,21 +95,21 @@ fault_told options bytes text from left w after (Err ended.ReadFault) read tells
 fault_told options bytes text from left w after (Err ended.OutOfMemory) read tells puts = absurd puts
 
 -- a refusal for which there may be no memory is one of a text that is short
-may_refuse : (script : List ℕ) (e told : OpenError) → IsRefused script e → MayTell e told → IsRefused script told
-may_refuse script Syntax told is tells = subst (λ (x : OpenError). IsRefused script x) (sym tells) is
-may_refuse script IllTyped told is tells = subst (λ (x : OpenError). IsRefused script x) (sym tells) is
-may_refuse script OutOfMemory told is tells = subst (λ (x : OpenError). IsRefused script x) (sym tells) is
-may_refuse script (OpeningRaised x) told is (inl tells) = subst (λ (x : OpenError). IsRefused script x) (sym tells) is
-may_refuse script (OpeningRaised x) told (utf8, (c, of, raises)) (inr tells) = subst (λ (x : OpenError). IsRefused script x) (sym tells) (utf8, of.reads.short)
-may_refuse script (OpeningBroken b) told is (inl tells) = subst (λ (x : OpenError). IsRefused script x) (sym tells) is
-may_refuse script (OpeningBroken b) told (utf8, (d, t, o, opens, is)) (inr tells) = subst (λ (x : OpenError). IsRefused script x) (sym tells) (utf8, opens.script.reads.short)
+may_refuse : (script : List ℕ) (e told : ScriptError) → IsRefused script e → MayTell e told → IsRefused script told
+may_refuse script Syntax told is tells = subst (λ (x : ScriptError). IsRefused script x) (sym tells) is
+may_refuse script IllTyped told is tells = subst (λ (x : ScriptError). IsRefused script x) (sym tells) is
+may_refuse script OutOfMemory told is tells = subst (λ (x : ScriptError). IsRefused script x) (sym tells) is
+may_refuse script (OpeningRaised x) told is (inl tells) = subst (λ (x : ScriptError). IsRefused script x) (sym tells) is
+may_refuse script (OpeningRaised x) told (utf8, (c, of, raises)) (inr tells) = subst (λ (x : ScriptError). IsRefused script x) (sym tells) (utf8, of.reads.short)
+may_refuse script (OpeningBroken b) told is (inl tells) = subst (λ (x : ScriptError). IsRefused script x) (sym tells) is
+may_refuse script (OpeningBroken b) told (utf8, (d, t, o, opens, is)) (inr tells) = subst (λ (x : ScriptError). IsRefused script x) (sym tells) (utf8, opens.script.reads.short)
 
 module _ (options : Options) (now : ℕ) (from mid : Input) (kept : Option (List ℕ)) (is_last : Bool) (has : HasScript most_reads now from mid kept is_last) where
   -- nothing behind the script was read
   says_alone : Says has.bytes has.text []
   says_alone = subst (λ (bs : List ℕ). Says bs has.text []) (append-nil has.bytes) (has.leads [] (λ last. refl))
 
-  pub refused_told : (e : OpenError) (r : Result Bool Ended) (w after : Written) → IsRefused has.text e → TellsRefusal e r w after → ProgramEnds options from w r mid after
+  pub refused_told : (e : ScriptError) (r : Result Bool Ended) (w after : Written) → IsRefused has.text e → TellsRefusal e r w after → ProgramEnds options from w r mid after
   refused_told e r w after is (told, may, puts) =
       fault_told options has.bytes (script_fault told) from mid w after r has.read (inr (inl (has.text, told, says_alone, may_refuse has.text e told is may, refl))) puts
 

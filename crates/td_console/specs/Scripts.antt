@@ -3,13 +3,13 @@ use Rattle.std.specs.Prelude.{◌≡◌, ◌⊎◌, ◌≤◌, ℕ, zero, suc, B
 use Rattle.std.specs.List.{AllByRecursion}
 use Rattle.std.specs.Str.{bytes_eq, is_utf8}
 use Rattle.std.specs.Io.KnownBytes.{IsAtEnd}
-use Rattle.td_constraints.specs.declared.failure.Broken.TheVariants as broken
+use Rattle.td_story.specs.declared.broken.Broken.TheVariants as broken
 use Rattle.td_devices.specs.Lines.{raw_lines, content, IsWholeLine, IsOfOneLine}
-use Rattle.td_relvars.specs.Databases.{DatabaseData}
-use Rattle.td_relvars.specs.Scripts.{Opens}
-use Rattle.td_relvars.specs.declared.error.OpenError.{OpenError}
-use Rattle.td_relvars.specs.declared.error.OpenError.TheVariants.{Syntax, IllTyped, OpeningRaised, OpeningBroken, OutOfMemory}
-use Rattle.td_replay.specs.Openings.{opened}
+use Rattle.td_story.specs.Databases.{DatabaseData}
+use Rattle.td_story.specs.Scripts.{Opens}
+use Rattle.td_story.specs.declared.error.ScriptError.{ScriptError}
+use Rattle.td_story.specs.declared.error.ScriptError.TheVariants.{Syntax, IllTyped, OpeningRaised, OpeningBroken, OutOfMemory}
+use Rattle.td_story.specs.NewSites.{opened}
 use Rattle.td_listings.specs.Texts.{shown_raise}
 use Rattle.td_answers.specs.Sites.{Sites}
 use Rattle.td_console.specs.declared.opening.Options.{Options}
@@ -63,14 +63,14 @@ ready n = codes "ready " ++ decimal n ++ codes "\n"
 -- ---- a script that is refused
 
 -- Bytes that are no text are no script. Memory is wanted only where the bytes may be a script.
-abbrev pub IsRefused : List ℕ → OpenError → Type 0
+abbrev pub IsRefused : List ℕ → ScriptError → Type 0
 IsRefused script Syntax = (is_utf8 script ≡ false) ⊎ Opens script (Err Syntax)
 IsRefused script IllTyped = (is_utf8 script ≡ true) × Opens script (Err IllTyped)
 IsRefused script (OpeningRaised e) = (is_utf8 script ≡ true) × Opens script (Err (OpeningRaised e))
 IsRefused script (OpeningBroken b) = (is_utf8 script ≡ true) × Opens script (Err (OpeningBroken b))
 IsRefused script OutOfMemory = (is_utf8 script ≡ true) × (length script ≤ script_bytes)
 
-abbrev pub script_fault : OpenError → List ℕ
+abbrev pub script_fault : ScriptError → List ℕ
 script_fault Syntax = codes "fault script syntax\n"
 script_fault IllTyped = codes "fault script type\n"
 script_fault (OpeningRaised e) = codes "fault script raised " ++ shown_raise e ++ codes "\n"
@@ -87,7 +87,7 @@ HasNoEnd bytes left text = (script_then (raw_lines bytes) ≡ None) × IsAtEnd l
 
 -- the script is refused, and nothing behind it was read
 abbrev pub HasFault : List ℕ → List ℕ → Type 0
-HasFault bytes text = (script : List ℕ) × (e : OpenError) × Says bytes script [] × IsRefused script e × (text ≡ script_fault e)
+HasFault bytes text = (script : List ℕ) × (e : ScriptError) × Says bytes script [] × IsRefused script e × (text ≡ script_fault e)
 
 -- there was no memory for the script
 abbrev pub IsNotKept : List ℕ → List ℕ → Type 0

@@ -10,7 +10,7 @@ use clap::Error;
 use clap::error::ErrorKind;
 use std::alloc::Global;
 use td_answers::Links;
-use td_assign::Meter;
+use td_story::Meter;
 use td_devices::{Sink, Source, put};
 
 fn status(end: Result<bool, Ended>) -> u8

@@ -17,7 +17,7 @@ use std::env;
 use std::io::BufReader;
 use std::process::ExitCode;
 use td_answers::NoLinks;
-use td_assign::Meter;
+use td_story::Meter;
 use td_devices::Device;
 
 fn main(rt: HostRuntime) -> ExitCode {

@@ -6,9 +6,9 @@ ghost use Rattle.td_console.specs.ForProofs.Opening.{OpensAll};
 ghost use Rattle.td_console.specs.ForProofs.Reading.{IsKeptScript};
 ghost use Rattle.td_console.specs.Programs.{InRange};
 ghost use Rattle.td_console.specs.Scripts.{IsAccepted, IsRefused, ready};
-ghost use Rattle.td_relvars.specs.Scripts.{Opens};
-ghost use Rattle.td_replay.specs.Openings.{OpensSite};
-ghost use Rattle.td_replay.specs.Seen.{is_limit};
+ghost use Rattle.td_story.specs.Scripts.{Opens};
+ghost use Rattle.td_story.specs.NewSites.{OpensSite};
+ghost use Rattle.td_story.specs.Seen.{is_limit};
 
 use crate::script::Script;
 use std::alloc::{AllocError, Global};
@@ -16,7 +16,7 @@ use std::str;
 use td_answers::catalogue_for;
 use td_headings::Catalogue;
 use td_listings::show_number;
-use td_relvars::OpenError;
+use td_story::ScriptError;
 use td_replay::PlainSite;
 
 /// What the words of the program give.
@@ -39,21 +39,21 @@ pub struct Opened {
     pub ready: String,
 }
 
-fn open_site(alloc: Global, script: &str, site: u16, limit: usize) -> Result<PlainSite, OpenError>
+fn open_site(alloc: Global, script: &str, site: u16, limit: usize) -> Result<PlainSite, ScriptError>
     requires site { 1 ≤ site }
     requires limit { is_limit limit ≡ true }
     ensures { MatchResult result (λ s. OpensSite script.now site limit (Ok s)) (λ e. Opens script.now (Err e)) }
 {
     match PlainSite::open_script(alloc, script, site, limit) {
         Ok(site) => Ok(site),
-        Err(td_replay::OpenError::Script(e)) => Err(e),
-        Err(td_replay::OpenError::BadSite) => unreachable!(),
-        Err(td_replay::OpenError::BadLimit) => unreachable!(),
+        Err(td_story::OpenError::Script(e)) => Err(e),
+        Err(td_story::OpenError::BadSite) => unreachable!(),
+        Err(td_story::OpenError::BadLimit) => unreachable!(),
     }
 }
 
 // One site after the other.
-fn open_sites(alloc: Global, options: &Options, script: &str) -> Result<Vec<PlainSite>, OpenError>
+fn open_sites(alloc: Global, options: &Options, script: &str) -> Result<Vec<PlainSite>, ScriptError>
     requires { InRange options.now }
     ensures { MatchResult result (λ v. OpensAll options.now script.now v.items) (λ e. Opens script.now (Err e)) }
 {
@@ -65,7 +65,7 @@ fn open_sites(alloc: Global, options: &Options, script: &str) -> Result<Vec<Plai
         };
         match sites.push(site) {
             Ok(()) => {}
-            Err(_) => return Err(OpenError::OutOfMemory),
+            Err(_) => return Err(ScriptError::OutOfMemory),
         }
     }
     Ok(sites)
@@ -81,7 +81,7 @@ fn ready_text(alloc: Global, sites: u16) -> Result<String, AllocError>
     Ok(out)
 }
 
-fn open_text(alloc: Global, options: &Options, script: &str) -> Result<Opened, OpenError>
+fn open_text(alloc: Global, options: &Options, script: &str) -> Result<Opened, ScriptError>
     requires { InRange options.now }
     ensures { MatchResult result (λ o. OpensAll options.now script.now o.sites.items × AreOfScript o.catalogue o.sites.items × (string_bytes o.ready ≡ ready options.now.sites)) (λ e. Opens script.now (Err e)) }
 {
@@ -91,7 +91,7 @@ fn open_text(alloc: Global, options: &Options, script: &str) -> Result<Opened, O
     };
     let catalogue = match catalogue_for(alloc, &sites) {
         Ok(catalogue) => catalogue,
-        Err(_) => return Err(OpenError::OutOfMemory),
+        Err(_) => return Err(ScriptError::OutOfMemory),
     };
     match ready_text(alloc, options.sites) {
         Ok(ready) => Ok(Opened {
@@ -99,22 +99,22 @@ fn open_text(alloc: Global, options: &Options, script: &str) -> Result<Opened, O
             catalogue,
             ready,
         }),
-        Err(_) => Err(OpenError::OutOfMemory),
+        Err(_) => Err(ScriptError::OutOfMemory),
     }
 }
 
 /// Opens the sites of a script. It costs what opening one site costs, for each, and reading and typing the script once more.
-pub fn open(alloc: Global, options: &Options, script: &Script) -> Result<Opened, OpenError>
+pub fn open(alloc: Global, options: &Options, script: &Script) -> Result<Opened, ScriptError>
     requires { InRange options.now }
     ensures judged { (text : List ℕ) → IsKeptScript text (option_map (λ v. v.items) script.now.bytes)
         → MatchResult result (λ o. IsAccepted options.now text o.sites.items × AreOfScript o.catalogue o.sites.items × (string_bytes o.ready ≡ ready options.now.sites)) (λ e. IsRefused text e) }
     ensures catalogue { IfOk result (λ o. AreOfScript o.catalogue o.sites.items) }
 {
     let Some(bytes) = &script.bytes else {
-        return Err(OpenError::Syntax);
+        return Err(ScriptError::Syntax);
     };
     match str::from_utf8(bytes) {
         Ok(text) => open_text(alloc, options, text),
-        Err(_) => Err(OpenError::Syntax),
+        Err(_) => Err(ScriptError::Syntax),
     }
 }

@@ -13,7 +13,7 @@ use crate::script::{Script, Unready, read_script};
 use crate::writing::put_fault;
 use std::alloc::Global;
 use td_answers::Links;
-use td_assign::Meter;
+use td_story::Meter;
 use td_devices::{Sink, Source, put};
 
 // Answers the lines behind the script.

@@ -3,15 +3,14 @@
 ghost use Rattle.std.specs.Prelude.{◌≡◌, ◌++◌, codes, IfOk, string_bytes};
 ghost use Rattle.td_console.specs.ForProofs.Opening.{TellsMade, TellsRefusal};
 ghost use Rattle.td_console.specs.Scripts.{script_fault};
-ghost use Rattle.td_relvars.specs.declared.error.OpenError.TheVariants as open_error;
+ghost use Rattle.td_story.specs.declared.error.ScriptError.TheVariants as open_error;
 
 use crate::run::Ended;
 use crate::writing::put_fault;
 use std::alloc::{AllocError, Global};
-use td_constraints::Broken;
+use td_story::{Broken, ScriptError};
 use td_devices::Sink;
 use td_listings::show_raise;
-use td_relvars::OpenError;
 use td_values::{Name, Raise};
 
 fn raised_text(alloc: Global, raise: Raise) -> Result<String, AllocError>
@@ -54,14 +53,14 @@ fn put_made<K: Sink>(sink: &mut K, text: Result<String, AllocError>) -> Result<b
 }
 
 /// Writes why a script is refused.
-pub fn refuse<K: Sink>(alloc: Global, e: OpenError, sink: &mut K) -> Result<bool, Ended>
+pub fn refuse<K: Sink>(alloc: Global, e: ScriptError, sink: &mut K) -> Result<bool, Ended>
     ensures { TellsRefusal e result (record { held = K.held sink.old; faults = K.faults sink.old }) (record { held = K.held sink.new; faults = K.faults sink.new }) }
 {
     match e {
-        OpenError::Syntax => put_fault(sink, b"fault script syntax\n".as_slice()),
-        OpenError::IllTyped => put_fault(sink, b"fault script type\n".as_slice()),
-        OpenError::OpeningRaised(raise) => put_made(sink, raised_text(alloc, raise)),
-        OpenError::OpeningBroken(broken) => put_made(sink, broken_text(alloc, &broken)),
-        OpenError::OutOfMemory => put_fault(sink, b"fault script memory\n".as_slice()),
+        ScriptError::Syntax => put_fault(sink, b"fault script syntax\n".as_slice()),
+        ScriptError::IllTyped => put_fault(sink, b"fault script type\n".as_slice()),
+        ScriptError::OpeningRaised(raise) => put_made(sink, raised_text(alloc, raise)),
+        ScriptError::OpeningBroken(broken) => put_made(sink, broken_text(alloc, &broken)),
+        ScriptError::OutOfMemory => put_fault(sink, b"fault script memory\n".as_slice()),
     }
 }

@@ -1,6 +1,3 @@
 -- The definitions of the crate.
-pub mod Tests
-pub mod Stored
-pub mod Reports
 pub mod Laws
 pub mod ForProofs

@@ -3,17 +3,17 @@
 ghost use Rattle.std.specs.Prelude.{◌≡◌, IfOk, None, Ok, Some, option_map};
 ghost use Rattle.td_algebra.specs.Raising.{and_then};
 ghost use Rattle.td_headings.specs.Definitions.{Defined};
-ghost use Rattle.td_eval.specs.Raises.{Tells, stop_of};
+ghost use Rattle.td_story.specs.Raises.{Tells, stop_of};
 ghost use Rattle.td_constraints.specs.ForProofs.Tested.{HasRelation, HasRelvar, StandsAt};
-ghost use Rattle.td_constraints.specs.Reports.{IsReport, title};
-ghost use Rattle.td_constraints.specs.Stored.{AreStored};
-ghost use Rattle.td_constraints.specs.Tests as spec;
-ghost use Rattle.td_constraints.specs.Tests.{failing, judgement, or_behind};
+ghost use Rattle.td_story.specs.Reports.{IsReport, title};
+ghost use Rattle.td_story.specs.Stored.{AreStored};
+ghost use Rattle.td_story.specs.Tests as spec;
+ghost use Rattle.td_story.specs.Tests.{failing, judgement, or_behind};
 
-use crate::failure::{Broken, TestFailure};
+use td_story::{Broken, Failure, TestFailure};
 use std::alloc::{AllocError, Global};
 use td_algebra::{Fault, tell_apart};
-use td_eval::{Failure, Lookup, truth};
+use td_eval::{Lookup, truth};
 use td_headings::{Catalogue, Test, constraint_expr};
 use td_relations::Relation;
 use td_values::{Name, Raise};

@@ -35,8 +35,8 @@ use Rattle.td_soundness.specs.Values.{AreComponentsOf, AreValues}
 use Rattle.td_soundness.proofs.Errors.{overflow_is}
 use Rattle.td_soundness.proofs.Scoped.{within_are}
 use Rattle.td_soundness.proofs.Sound.{gives}
-use Rattle.td_eval.specs.Meanings.{no_names}
-use Rattle.td_eval.specs.Trees.{AreBases, all_relvars, places, selection_of, tree_means}
+use Rattle.td_story.specs.Meanings.{no_names}
+use Rattle.td_story.specs.Trees.{AreBases, all_relvars, places, selection_of, tree_means}
 use Rattle.td_eval.proofs.AllThere.{ascending, has_place, in_filter_map}
 use Rattle.td_eval.proofs.Named.{agree}
 use Rattle.td_eval.proofs.OfTypes.{GivesTruth, components_meant, relvars_meant, rows_given, truth_given}

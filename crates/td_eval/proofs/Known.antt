@@ -36,7 +36,7 @@ use Rattle.td_meaning.specs.Mean.{Meaning, Relvars, Selection, mean, rows_in, wi
 use Rattle.td_meaning.specs.Seen.{relvars_at}
 use Rattle.td_meaning.specs.Selections.{selection}
 use Rattle.td_meaning.specs.declared.environment.Known.{Known}
-use Rattle.td_eval.specs.Meanings.{no_names, with_virtual, with_virtuals, means}
+use Rattle.td_story.specs.Meanings.{no_names, with_virtual, with_virtuals, means}
 use Rattle.td_eval.specs.ForProofs.Environments.{base_known, bases_known, virtual_known, one_more, virtuals_known, all_known}
 use Rattle.td_eval.proofs.Named.{named_agree}
 use Rattle.td_eval.proofs.Placed.{named_defined, names_earlier}

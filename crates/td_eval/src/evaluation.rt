@@ -7,7 +7,7 @@ ghost use Rattle.td_meaning.specs.Seen.{mean_in};
 ghost use Rattle.td_meaning.specs.Selections.{selection};
 ghost use Rattle.td_operators.specs.Values as spec;
 ghost use Rattle.td_eval.specs.ForProofs.Environments.{Keeps, base_known, bases_known, one_more, virtual_known, virtuals_known};
-ghost use Rattle.td_eval.specs.Meanings.{means, no_names};
+ghost use Rattle.td_story.specs.Meanings.{means, no_names};
 
 use crate::lookup::Lookup;
 use std::alloc::{AllocError, Global};

@@ -8,4 +8,4 @@ pub mod valued;
 
 pub use evaluation::eval;
 pub use lookup::Lookup;
-pub use valued::{Failure, relation, truth, value};
+pub use valued::{relation, truth, value};

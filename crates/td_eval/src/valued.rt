@@ -6,36 +6,17 @@ ghost use Rattle.td_values.specs.declared.TypeKind.TheVariants as type_kind;
 ghost use Rattle.td_algebra.specs.Raising.{and_then};
 ghost use Rattle.td_operators.specs.Values as spec;
 ghost use Rattle.td_soundness.specs.Meanings.{HasKind, IsError, IsRelation};
-ghost use Rattle.td_eval.specs.Raises.{Tells, stop_of};
-ghost use Rattle.td_eval.specs.Trees.{AreBases, IsIn, tree_means};
+ghost use Rattle.td_story.specs.Raises.{Tells, stop_of};
+ghost use Rattle.td_story.specs.Trees.{AreBases, IsIn, tree_means};
 
 use crate::evaluation::eval;
 use crate::lookup::Lookup;
-use std::alloc::{AllocError, Global};
+use std::alloc::Global;
 use td_algebra::{Fault, Stop};
 use td_headings::{Catalogue, TypedExpr};
 use td_relations::Relation;
+use td_story::Failure;
 use td_values::{Heading, Kind, Raise, Tuple, Value};
-use thiserror::Error;
-
-/// Why there is no value.
-#[derive(Clone, Copy, Debug, Drop, Error, PartialEq, Eq)]
-pub enum Failure {
-    #[error("{0}")]
-    Raised(Raise),
-    #[error("out of memory")]
-    OutOfMemory,
-}
-
-impl From<AllocError> for Failure {
-    ghost use Rattle.td_eval.specs.declared.valued.Failure.TheVariants.{OutOfMemory};
-
-    ghost from_gives = { λ _ f. f ≡ OutOfMemory };
-
-    fn from(_error: AllocError) -> Failure {
-        Failure::OutOfMemory
-    }
-}
 
 // The error of the language that stopped evaluation.
 fn raise_of(stop: Stop) -> Raise

@@ -10,11 +10,11 @@ use Rattle.td_values.specs.declared.raises.Raise.{Raise}
 use Rattle.td_syntax.specs.declared.tree.Named.{Named}
 use Rattle.td_algebra.specs.declared.errors.Stop.{Stop}
 use Rattle.td_algebra.specs.declared.errors.Stop.TheVariants as stop
-use Rattle.td_eval.specs.Raises.{stop_of}
-use Rattle.td_eval.specs.Trees.{all_relvars}
-use Rattle.td_relvars.specs.Databases.{DatabaseData, relvars_in}
-use Rattle.td_assign.specs.declared.outcome.Outcome.{Outcome}
-use Rattle.td_assign.specs.declared.outcome.Outcome.TheVariants.{Done, Unread, Raised, BreaksKey, BreaksConstraint}
+use Rattle.td_story.specs.Raises.{stop_of}
+use Rattle.td_story.specs.Trees.{all_relvars}
+use Rattle.td_story.specs.Databases.{DatabaseData, relvars_in}
+use Rattle.td_story.specs.declared.outcome.Outcome.{Outcome}
+use Rattle.td_story.specs.declared.outcome.Outcome.TheVariants.{Done, Unread, Raised, BreaksKey, BreaksConstraint}
 use Rattle.td_stamps.specs.Entries.{stamp_of}
 use Rattle.td_stamps.specs.Vectors.{VersionVector}
 use Rattle.td_stamps.specs.declared.entry.Entry.{Entry}

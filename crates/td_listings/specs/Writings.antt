@@ -5,8 +5,8 @@ use Rattle.std.specs.Io.KnownBytes.{Appends}
 use Rattle.td_devices.specs.Counted.{counted}
 use Rattle.td_devices.specs.Streams.{AppendsFront}
 use Rattle.td_headings.specs.Catalogues.{CatalogueData}
-use Rattle.td_relvars.specs.Scripts.{IsScriptOf}
-use Rattle.td_replay.specs.Seen.{Seen}
+use Rattle.td_story.specs.Scripts.{IsScriptOf}
+use Rattle.td_story.specs.Seen.{Seen}
 use Rattle.td_listings.specs.Calls.{Tabulates}
 use Rattle.td_listings.specs.Sites.{IsListing}
 use Rattle.td_listings.specs.declared.error.ExportError.{ExportError}

@@ -2,7 +2,7 @@
 
 ghost use Rattle.std.specs.Prelude.{◌≡◌, None, Ok, Err, MatchOption, MatchResult};
 ghost use Rattle.td_kinds.specs.Schemas.{relvar_named, same_text};
-ghost use Rattle.td_relvars.specs.Scripts.{IsScriptOf};
+ghost use Rattle.td_story.specs.Scripts.{IsScriptOf};
 ghost use Rattle.td_listings.specs.Calls.{Tabulates};
 ghost use Rattle.td_listings.specs.ForProofs.Written.{IsFound, Renders};
 
@@ -11,8 +11,7 @@ use crate::listings::value_at;
 use crate::records::relation_table;
 use std::alloc::Global;
 use td_headings::Catalogue;
-use td_relvars::Answer;
-use td_replay::Replica;
+use td_story::{Answer, Replica};
 use td_values::{Heading, Name};
 
 fn is_named(text: &str, name: &Name) -> bool

@@ -6,7 +6,7 @@ ghost use Rattle.td_listings.specs.Texts as spec;
 
 use itoa::Buffer;
 use std::alloc::AllocError;
-use td_assign::Outcome;
+use td_story::Outcome;
 use td_stamps::Stamp;
 use td_values::{Name, Raise};
 

@@ -2,7 +2,7 @@
 
 ghost use Rattle.std.specs.Prelude.{◌≡◌, Ok, Err, IfOk, MatchResult, string_bytes};
 ghost use Rattle.std.specs.Io.KnownBytes.{Keeps};
-ghost use Rattle.td_relvars.specs.Scripts.{IsScriptOf};
+ghost use Rattle.td_story.specs.Scripts.{IsScriptOf};
 ghost use Rattle.td_listings.specs.Calls.{Lists};
 ghost use Rattle.td_listings.specs.ForProofs.Scripted.{IsOfScript};
 ghost use Rattle.td_listings.specs.Writings.{WritesListing, WritesTable};
@@ -13,9 +13,8 @@ use crate::table::table_text;
 use std::alloc::{AllocError, Global};
 use td_devices::{Sink, put};
 use td_headings::Catalogue;
-use td_relvars::laws::script_opens_one;
-use td_relvars::{CatalogueError, catalogue_of};
-use td_replay::Replica;
+use td_story::laws::script_opens_one;
+use td_story::{CatalogueError, Replica, catalogue_of};
 
 /// The catalogue of a site's script. It costs the reading and typing of the script.
 pub fn script_catalogue<R: Replica>(alloc: Global, replica: &R) -> Result<Catalogue, AllocError>

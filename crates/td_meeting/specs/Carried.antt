@@ -4,9 +4,9 @@ use Rattle.td_stamps.specs.Vectors.{VersionVector, IsVector}
 use Rattle.td_stamps.specs.declared.entry.Entry.{Entry}
 use Rattle.td_frames.specs.Reading.{entries_at, greeting_at}
 use Rattle.td_frames.specs.declared.greeting.Greeting.{Greeting}
-use Rattle.td_replay.specs.Calls.{TakesBatch}
-use Rattle.td_replay.specs.Seen.{Seen, IsSound}
-use Rattle.td_replay.specs.declared.answer.Taken.{Taken}
+use Rattle.td_story.specs.Calls.{TakesBatch}
+use Rattle.td_story.specs.Seen.{Seen, IsSound}
+use Rattle.td_story.specs.declared.answer.Taken.{Taken}
 use Rattle.td_meeting.specs.declared.error.MeetingError.{MeetingError}
 use Rattle.td_meeting.specs.declared.error.MeetingError.TheVariants.{Broken, OutOfMemory, OtherScript, SameSite, Take}
 use Rattle.td_meeting.specs.declared.meeting.MeetingRefusal.{MeetingRefusal}

@@ -10,9 +10,9 @@ use Rattle.td_stamps.specs.Vectors.{VersionVector, after_vector}
 use Rattle.td_stamps.specs.declared.entry.Entry.{Entry}
 use Rattle.td_frames.specs.Spelling.{HasFrame}
 use Rattle.td_frames.specs.declared.greeting.Greeting.{Greeting}
-use Rattle.td_replay.specs.Calls.{TakesBatch}
-use Rattle.td_replay.specs.Seen.{Seen}
-use Rattle.td_replay.specs.declared.answer.Taken.{Taken}
+use Rattle.td_story.specs.Calls.{TakesBatch}
+use Rattle.td_story.specs.Seen.{Seen}
+use Rattle.td_story.specs.declared.answer.Taken.{Taken}
 use Rattle.td_meeting.specs.Reading.{Hears, ReadsStream, Unheard, Unreceived}
 use Rattle.td_meeting.specs.Writing.{Greets, sends}
 use Rattle.td_meeting.specs.declared.error.MeetingError.{MeetingError}

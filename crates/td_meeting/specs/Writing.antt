@@ -3,7 +3,7 @@ use Rattle.std.specs.Prelude.{◌≡◌, ℕ, List}
 use Rattle.std.specs.FinMap as by_site
 use Rattle.td_stamps.specs.Vectors.{VersionVector, IsVector, after_vector}
 use Rattle.td_frames.specs.Spelling.{HasGreeting, greeting_frame, stream}
-use Rattle.td_replay.specs.Seen.{Seen}
+use Rattle.td_story.specs.Seen.{Seen}
 
 -- its greeting: its number, its script, and its version vector
 pub record Greets (s : Seen) (bytes : List ℕ) : Type 0 where

@@ -9,7 +9,7 @@ use crate::error::MeetingError;
 use std::alloc::Global;
 use td_devices::Source;
 use td_frames::{FrameError, Greeting, read_greeting};
-use td_replay::Replica;
+use td_story::Replica;
 
 // Why a greeting cannot be read, or that memory is wanting.
 fn unread(error: FrameError) -> MeetingError

@@ -1,7 +1,7 @@
 //! A meeting of two sites in memory.
 
 ghost use Rattle.std.specs.Prelude.{◌≡◌, true, Ok, Err, MatchResult, OnOk};
-ghost use Rattle.td_replay.specs.Seen.{IsSound};
+ghost use Rattle.td_story.specs.Seen.{IsSound};
 ghost use Rattle.td_meeting.specs.Carried.{AnswersIn, HearsIn, IsAnswer, Judges, ReceivesIn, SettlesIn};
 ghost use Rattle.td_meeting.specs.Meetings.{AreOpen, AreTwo, Meets};
 ghost use Rattle.td_meeting.specs.Writing.{Greets};
@@ -14,10 +14,9 @@ use crate::sending::{reply, send};
 use crate::steps::greet;
 use crate::taking::receive;
 use std::alloc::Global;
-use td_assign::Meter;
+use td_story::{Meter, Replica, Taken};
 use td_devices::Failed;
 use td_frames::Greeting;
-use td_replay::{Replica, Taken};
 use thiserror::Error;
 
 /// How many entries were fresh to each site of a meeting.

@@ -16,7 +16,7 @@ use crate::error::MeetingError;
 use std::alloc::{AllocError, Global};
 use td_devices::{Failed, Sink};
 use td_frames::{put_end, put_entry, put_greeting};
-use td_replay::Replica;
+use td_story::Replica;
 use td_stamps::{Entry, Held, Vector};
 
 /// The sites of the version vector of what is held, each with its number.

@@ -2,17 +2,16 @@
 
 ghost use Rattle.std.specs.Prelude.{◌≡◌, List, true, IfErr, IfOk};
 ghost use Rattle.std.specs.Io.KnownBytes.{Keeps};
-ghost use Rattle.td_replay.specs.Calls.{TakesBatch};
+ghost use Rattle.td_story.specs.Calls.{TakesBatch};
 ghost use Rattle.td_stamps.specs.declared.entry.Entry.{Entry};
 ghost use Rattle.td_meeting.specs.ForProofs as proofs;
 ghost use Rattle.td_meeting.specs.Reading.{ReadsStream, Unreceived};
 
 use crate::error::MeetingError;
 use std::alloc::Global;
-use td_assign::Meter;
+use td_story::{Meter, Replica, TakeError, Taken};
 use td_devices::Source;
 use td_frames::{FrameError, read_entries};
-use td_replay::{Replica, TakeError, Taken};
 use td_stamps::Entry;
 
 /// The most entries of a stream.

@@ -21,12 +21,12 @@ use Rattle.td_headings.specs.declared.defined.Origin.TheVariants as origin
 use Rattle.td_headings.proofs.WellTyped.{all_typed, init_tree}
 use Rattle.td_operators.specs.Values.{rows_of}
 use Rattle.td_soundness.specs.Meanings.{IsRelation}
-use Rattle.td_eval.specs.Raises.{Tells, stop_of}
-use Rattle.td_eval.specs.Trees.{IsIn, places_from, tree_means}
-use Rattle.td_eval.specs.declared.valued.Failure.{Failure}
-use Rattle.td_eval.specs.declared.valued.Failure.TheVariants as failure
-use Rattle.td_relvars.specs.Databases.{Belongs, DatabaseData, Stored, put, relvars_in}
-use Rattle.td_relvars.specs.Openings.{with_init, opened, opening}
+use Rattle.td_story.specs.Raises.{Tells, stop_of}
+use Rattle.td_story.specs.Trees.{IsIn, places_from, tree_means}
+use Rattle.td_story.specs.declared.failure.Failure.{Failure}
+use Rattle.td_story.specs.declared.failure.Failure.TheVariants as failure
+use Rattle.td_story.specs.Databases.{Belongs, DatabaseData, Stored, put, relvars_in}
+use Rattle.td_story.specs.Openings.{with_init, opened, opening}
 use Rattle.td_relvars.specs.ForProofs.Opened.{Fills, Leaves, TellsInit}
 
 -- ---- the INIT of a relvar

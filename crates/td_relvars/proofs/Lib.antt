@@ -1,7 +1,5 @@
 -- The proofs of the crate.
 pub mod Stores
-pub mod Defining
-pub mod OneOpening
 pub mod Inits
 pub mod Asked
 pub mod Told

@@ -1,5 +1,5 @@
 -- What is stored, place by place.
-use Rattle.std.proofs.Common.{◌≡◌, ⊎_elim, ℕ, zero, suc, pred, ◌+◌, ◌<◌, ◌≤◌, true, List, [], ◌∷◌, ◌++◌, append_assoc, append-nil, length, drop, Option, None, Some, Ok, slice_get, refl, ap, sym, ◌∙◌, subst, arith}
+use Rattle.std.proofs.Common.{◌≡◌, ⊎_elim, ℕ, zero, suc, pred, ◌+◌, ◌<◌, ◌≤◌, true, false, true≢false, List, [], ◌∷◌, ◌++◌, append_assoc, append-nil, length, drop, Option, None, Some, Ok, slice_get, refl, ap, sym, ◌∙◌, subst, arith}
 use Rattle.std.specs.FinSet as set
 use Rattle.std.specs.Prelude.{slice_set}
 use Rattle.std.specs.List.{All}
@@ -21,15 +21,15 @@ use Rattle.td_headings.specs.declared.defined.Origin.{Origin}
 use Rattle.td_headings.specs.declared.defined.Origin.TheVariants as origin
 use Rattle.td_headings.proofs.WellTyped.{all_typed}
 use Rattle.td_soundness.specs.Meanings.{HasHeading, IsRelation}
-use Rattle.td_eval.specs.Trees.{AreBases}
-use Rattle.td_constraints.specs.Stored.{AreStored}
+use Rattle.td_story.specs.Trees.{AreBases}
+use Rattle.td_story.specs.Stored.{AreStored}
 use Rattle.td_constraints.proofs.Judged.{are_bases}
-use Rattle.td_relvars.specs.Databases.{Stored, DatabaseData, IsDatabase, Belongs, at_place, put, relvars_in}
-use Rattle.td_relvars.specs.Openings.{all_empty}
+use Rattle.td_story.specs.Databases.{Stored, DatabaseData, IsDatabase, Belongs, at_place, put, relvars_in}
+use Rattle.td_story.specs.Openings.{all_empty}
 use Rattle.td_relvars.specs.ForProofs.Empty.{empty_in}
 
 -- ---- places
-base_within : (os : List Origin) (n : ℕ) → is_base (slice_get os n) ≡ true → n < length os
+pub base_within : (os : List Origin) (n : ℕ) → is_base (slice_get os n) ≡ true → n < length os
 base_within [] n h = cc
 base_within (o ∷ os) zero h = omega arith
 base_within (o ∷ os) (suc n) h = let lt = base_within os n h in omega (arith, lt)
@@ -78,6 +78,7 @@ module _ (c : CatalogueData) (stored : Stored) (is : IsDatabase (record { catalo
     defined = is.defined;
     each = put_length n r stored ∙ is.each;
     stored = all_have;
+    nothing_else = λ m virtual. ap option_flatten (put_other n m r stored (λ same. true≢false (sym b.stored ∙ ap (λ k. is_base (slice_get c.origins k)) same ∙ virtual))) ∙ is.nothing_else m virtual;
   }
 
 -- ---- empty relvars
@@ -103,11 +104,19 @@ empty_there (origin.Base ks u ∷ os) (r ∷ rs) zero v base at = ap (λ (w : Na
 empty_there (origin.Virtual u ∷ os) (r ∷ rs) zero v base at = cc
 empty_there (o ∷ os) (r ∷ rs) (suc n) v base at = empty_there os rs n v base at
 
+none_virtual : (os : List Origin) (rs : List (Named Header)) (n : ℕ) → is_base (slice_get os n) ≡ false → option_flatten (slice_get (all_empty os rs) n) ≡ None
+none_virtual [] rs n virtual = refl
+none_virtual (o ∷ os) [] n virtual = refl
+none_virtual (origin.Base ks u ∷ os) (r ∷ rs) zero virtual = cc
+none_virtual (origin.Virtual u ∷ os) (r ∷ rs) zero virtual = refl
+none_virtual (o ∷ os) (r ∷ rs) (suc n) virtual = none_virtual os rs n virtual
+
 pub empty_database : (c : CatalogueData) → Defined c → IsDatabase (record { catalogue = c; stored = all_empty c.origins c.schema.relvars })
 empty_database c defined = record {
   defined = defined;
   each = empty_length c.origins c.schema.relvars (all_typed c defined).origin_each;
   stored = λ n v base at. (relation_of v.value set.empty, ap at_place (empty_there c.origins c.schema.relvars n v base at), empty_is c.schema v.value);
+  nothing_else = none_virtual c.origins c.schema.relvars;
 }
 
 -- the places that are left

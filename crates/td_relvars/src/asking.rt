@@ -2,15 +2,14 @@
 
 ghost use Rattle.std.specs.Prelude.{◌≡◌, IfOk, slice_get};
 ghost use Rattle.td_headings.specs.Reached as reached;
-ghost use Rattle.td_relvars.specs.Answers.{TellsRelvar};
+ghost use Rattle.td_story.specs.Answers.{TellsRelvar};
 ghost use Rattle.td_relvars.specs.ForProofs.Asked.{IsNameOf, IsRelvar, IsStoredAt, TellsAt};
 
-use crate::answer::Answer;
+use td_story::{Answer, Failure, RelvarError};
 use crate::database::Database;
-use crate::error::AskError;
 use sqlite_items::Boxed;
 use std::alloc::{AllocError, Global};
-use td_eval::{Failure, relation};
+use td_eval::relation;
 use td_headings::{Catalogue, Origin, TypedExpr, type_expr};
 use td_kinds::error::TypeError;
 use td_syntax::tree::Expr;
@@ -42,7 +41,7 @@ fn named(
 }
 
 // What the base relvar at the place has.
-fn base_value(alloc: Global, database: &Database, place: usize) -> Result<Answer, AskError>
+fn base_value(alloc: Global, database: &Database, place: usize) -> Result<Answer, RelvarError>
     requires { IsStoredAt database.now place }
     ensures { TellsAt database.now place result }
 {
@@ -59,7 +58,7 @@ fn evaluated(
     name: &Name,
     place: usize,
     heading: &Heading,
-) -> Result<Answer, AskError>
+) -> Result<Answer, RelvarError>
     requires { IsRelvar database.now.catalogue name.now place heading.now }
     ensures { TellsAt database.now place result }
 {
@@ -67,19 +66,19 @@ fn evaluated(
     match relation(alloc, database.catalogue(), heading, &expr, database) {
         Ok(relation) => Ok(Answer::Relation(relation)),
         Err(Failure::Raised(error)) => Ok(Answer::Raised(error)),
-        Err(Failure::OutOfMemory) => Err(AskError::OutOfMemory),
+        Err(Failure::OutOfMemory) => Err(RelvarError::OutOfMemory),
     }
 }
 
 impl Database {
     /// What the relvar of this name has, or the error that evaluating it raises. Of a base relvar it is a copy, whose tuples are
     /// shared; a virtual one is evaluated.
-    pub fn value_of(&self, alloc: Global, name: &Name) -> Result<Answer, AskError>
+    pub fn value_of(&self, alloc: Global, name: &Name) -> Result<Answer, RelvarError>
         ensures { TellsRelvar self.now name.now result }
     {
         let catalogue = self.catalogue();
         let Some((place, heading)) = catalogue.schema().relvar(name) else {
-            return Err(AskError::Unknown);
+            return Err(RelvarError::Unknown);
         };
         if is_base(catalogue, place) {
             base_value(alloc, self, place)

@@ -5,10 +5,10 @@ ghost use Rattle.std.specs.Option.{option_copied};
 ghost use Rattle.std.specs.FinSet as set;
 ghost use Rattle.td_relations.specs.Sets.{relation_of};
 ghost use Rattle.td_headings.specs.Definitions.{Defined};
-ghost use Rattle.td_relvars.specs.Databases as spec;
-ghost use Rattle.td_relvars.specs.Databases.{Belongs, IsDatabase, put};
+ghost use Rattle.td_story.specs.Databases as spec;
+ghost use Rattle.td_story.specs.Databases.{Belongs, IsDatabase, put};
 ghost use Rattle.td_relvars.specs.ForProofs.Empty.{empty_in};
-ghost use Rattle.td_relvars.specs.Openings as opening;
+ghost use Rattle.td_story.specs.Openings as opening;
 
 use crate::base::Base;
 use sqlite_items::Items;
@@ -37,7 +37,7 @@ impl Drop for Database {
 }
 
 impl Model for Database {
-    ghost use Rattle.td_relvars.specs.Databases.{DatabaseData, IsDatabase, database_code};
+    ghost use Rattle.td_story.specs.Databases.{DatabaseData, IsDatabase, database_code};
 
     ghost Value = { DatabaseData };
 
@@ -49,7 +49,7 @@ impl Model for Database {
 }
 
 impl Lookup for Database {
-    ghost use Rattle.td_relvars.specs.Databases.{relvars_in};
+    ghost use Rattle.td_story.specs.Databases.{relvars_in};
 
     ghost relvars = { λ d. relvars_in d.stored };
 

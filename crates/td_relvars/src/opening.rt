@@ -1,54 +1,19 @@
 //! What a script opens.
 
-ghost use Rattle.std.specs.Prelude.{◌≡◌, Err, IfOk};
-ghost use Rattle.td_kinds.specs.declared.error.TypeError.TheVariants as type_error;
-ghost use Rattle.td_headings.specs.Catalogues.{CatalogueData, nothing_defined};
+ghost use Rattle.std.specs.Prelude.{◌≡◌, IfOk};
 ghost use Rattle.td_headings.specs.Expressions as expressions;
-ghost use Rattle.td_relvars.specs.Databases.{Belongs};
+ghost use Rattle.td_story.specs.Databases.{Belongs};
 ghost use Rattle.td_relvars.specs.ForProofs.Opened.{Fills, Judges, Leaves, TellsInit};
-ghost use Rattle.td_relvars.specs.Openings as spec;
-ghost use Rattle.td_relvars.specs.Scripts.{DefinesAll, IsCatalogue, Opens};
+ghost use Rattle.td_story.specs.Openings as spec;
+ghost use Rattle.td_story.specs.Scripts.{Opens};
 
 use crate::base::Base;
 use crate::database::Database;
-use crate::error::{CatalogueError, OpenError};
+use td_story::{CatalogueError, Failure, ScriptError, TestFailure};
 use std::alloc::Global;
-use td_constraints::{TestFailure, first_failure};
-use td_eval::{Failure, relation};
-use td_grammar::{ReadError, read_script};
+use td_constraints::first_failure;
+use td_eval::relation;
 use td_headings::{Catalogue, TypedExpr, init_expr};
-use td_kinds::error::TypeError;
-use td_syntax::script::Definition;
-
-fn define_all(alloc: Global, definitions: &[Definition]) -> Result<Catalogue, TypeError>
-    ensures typed { IfOk result (DefinesAll nothing_defined definitions.now) }
-    ensures refused { result ≡ Err type_error.IllTyped → (c : CatalogueData) → DefinesAll nothing_defined definitions.now c → ⊥ }
-{
-    let mut catalogue = Catalogue::new(alloc);
-    for definition in definitions {
-        match catalogue.define(alloc, definition) {
-            Ok(()) => {}
-            Err(error) => return Err(error),
-        }
-    }
-    Ok(catalogue)
-}
-
-/// What the definitions of a script make. It costs the reading and typing of the text.
-pub fn catalogue_of(alloc: Global, text: &str) -> Result<Catalogue, CatalogueError>
-    ensures { IsCatalogue text.now result }
-{
-    let definitions = match read_script(alloc, text) {
-        Ok(definitions) => definitions,
-        Err(ReadError::Syntax) => return Err(CatalogueError::Syntax),
-        Err(ReadError::OutOfMemory) => return Err(CatalogueError::OutOfMemory),
-    };
-    match define_all(alloc, definitions.as_slice()) {
-        Ok(catalogue) => Ok(catalogue),
-        Err(TypeError::IllTyped) => Err(CatalogueError::IllTyped),
-        Err(TypeError::OutOfMemory) => Err(CatalogueError::OutOfMemory),
-    }
-}
 
 // What the INIT of the relvar at the place gives it.
 fn init_value(
@@ -106,34 +71,34 @@ fn opened(alloc: Global, catalogue: Catalogue) -> Result<Database, Failure>
 }
 
 // The database, where every test is true.
-fn judged(alloc: Global, database: Database) -> Result<Database, OpenError>
+fn judged(alloc: Global, database: Database) -> Result<Database, ScriptError>
     ensures { Judges database result }
 {
     match first_failure(alloc, database.catalogue(), &database) {
         Ok(None) => Ok(database),
         Ok(Some(failure)) => {
             let TestFailure { test, raised: _ } = failure;
-            Err(OpenError::OpeningBroken(test))
+            Err(ScriptError::OpeningBroken(test))
         }
-        Err(_) => Err(OpenError::OutOfMemory),
+        Err(_) => Err(ScriptError::OutOfMemory),
     }
 }
 
 /// The database that the script opens: its types and relvars, each with what it holds at first, where every test is true. It
 /// costs the reading and typing of the text, the evaluation of each INIT, and the tests.
-pub fn open_script(alloc: Global, text: &str) -> Result<Database, OpenError>
+pub fn open_script(alloc: Global, text: &str) -> Result<Database, ScriptError>
     ensures { Opens text.now result }
 {
     let catalogue = match catalogue_of(alloc, text) {
         Ok(catalogue) => catalogue,
-        Err(CatalogueError::Syntax) => return Err(OpenError::Syntax),
-        Err(CatalogueError::IllTyped) => return Err(OpenError::IllTyped),
-        Err(CatalogueError::OutOfMemory) => return Err(OpenError::OutOfMemory),
+        Err(CatalogueError::Syntax) => return Err(ScriptError::Syntax),
+        Err(CatalogueError::IllTyped) => return Err(ScriptError::IllTyped),
+        Err(CatalogueError::OutOfMemory) => return Err(ScriptError::OutOfMemory),
     };
     let database = match opened(alloc, catalogue) {
         Ok(database) => database,
-        Err(Failure::Raised(error)) => return Err(OpenError::OpeningRaised(error)),
-        Err(Failure::OutOfMemory) => return Err(OpenError::OutOfMemory),
+        Err(Failure::Raised(error)) => return Err(ScriptError::OpeningRaised(error)),
+        Err(Failure::OutOfMemory) => return Err(ScriptError::OutOfMemory),
     };
     judged(alloc, database)
 }

@@ -7,15 +7,15 @@ use Rattle.td_headings.proofs.NoTuple.{at_relvars}
 use Rattle.td_typing.specs.Types.{IsIllTyped}
 use Rattle.td_syntax.specs.declared.tree.Expr.{Expr}
 use Rattle.td_trees.specs.declared.expression.Expression.{Expression}
-use Rattle.td_relvars.specs.Databases.{DatabaseData}
-use Rattle.td_replay.specs.Calls.{Asks}
+use Rattle.td_story.specs.Databases.{DatabaseData}
+use Rattle.td_story.specs.Calls.{Asks}
 use Rattle.td_replay.specs.ForProofs.Asked.{Answers}
 use Rattle.td_replay.specs.ForProofs.Told.{Outcomes}
-use Rattle.td_replay.specs.Seen.{Seen}
-use Rattle.td_replay.specs.Stories.{IsStory}
-use Rattle.td_replay.specs.declared.answer.Reply.{Reply}
-use Rattle.td_replay.specs.declared.refusal.AskError.{AskError}
-use Rattle.td_replay.specs.declared.refusal.AskError.TheVariants as ask_error
+use Rattle.td_story.specs.Seen.{Seen}
+use Rattle.td_story.specs.Stories.{IsStory}
+use Rattle.td_story.specs.declared.answer.Reply.{Reply}
+use Rattle.td_story.specs.declared.refusal.AskError.{AskError}
+use Rattle.td_story.specs.declared.refusal.AskError.TheVariants as ask_error
 use Rattle.td_replay.proofs.Telling.{story_catalogue}
 
 pub never_typed : (c : CatalogueData) (a : Expr) → IsIllTyped c.schema (names_of_relvars c) a → (x : Expression) → IsExpression c no_tuple a x → ⊥

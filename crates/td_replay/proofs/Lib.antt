@@ -3,4 +3,3 @@ pub mod Telling
 pub mod Issuing
 pub mod Taking
 pub mod Asking
-pub mod Agreeing

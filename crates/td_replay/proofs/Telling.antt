@@ -8,13 +8,13 @@ use Rattle.td_headings.specs.declared.statement.TypedStatement.{TypedStatement}
 use Rattle.td_stamps.specs.declared.entry.Entry.{Entry}
 use Rattle.td_stamps.specs.Story.{Story, nothing_ran}
 use Rattle.td_stamps.proofs.Stories as stories
-use Rattle.td_relvars.specs.Databases.{DatabaseData}
-use Rattle.td_relvars.specs.Scripts.{IsScriptOf, OpensOn}
-use Rattle.td_assign.specs.Steps.{IsRead, IsUnread, Steps, Tells, unread, raised, refused, done}
-use Rattle.td_assign.specs.declared.outcome.Outcome.{Outcome}
-use Rattle.td_assign.specs.declared.outcome.Outcome.TheVariants as outcome
+use Rattle.td_story.specs.Databases.{DatabaseData}
+use Rattle.td_story.specs.Scripts.{IsScriptOf, OpensOn}
+use Rattle.td_story.specs.Steps.{IsRead, IsUnread, Steps, Tells, unread, raised, refused, done}
+use Rattle.td_story.specs.declared.outcome.Outcome.{Outcome}
+use Rattle.td_story.specs.declared.outcome.Outcome.TheVariants as outcome
 use Rattle.td_replay.specs.ForProofs.Told.{Outcomes, RunsNext, RunsSome}
-use Rattle.td_replay.specs.Stories.{IsStory, StepsEntry}
+use Rattle.td_story.specs.Stories.{IsStory, StepsEntry}
 
 -- ---- a step
 pub same_catalogue : (d e : DatabaseData) (text : List ℕ) (o : Outcome) → Steps d text o e → e.catalogue ≡ d.catalogue

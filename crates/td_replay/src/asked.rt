@@ -2,14 +2,13 @@
 
 ghost use Rattle.td_replay.specs.ForProofs.Asked.{Answers, TellsNamed};
 
-use crate::answer::Reply;
-use crate::refusal::{AskError, ValueError};
+use td_story::{Answer, AskError, Failure, Reply, ValueError};
 use std::alloc::Global;
-use td_eval::{Failure, value};
+use td_eval::value;
 use td_grammar::{ReadError, read_expr};
 use td_headings::type_expr;
 use td_kinds::error::TypeError;
-use td_relvars::{Answer, Database};
+use td_relvars::Database;
 use td_values::Name;
 
 /// What the query means over the relvars.
@@ -44,7 +43,7 @@ pub(crate) fn value_of(
 {
     match database.value_of(alloc, name) {
         Ok(answer) => Ok(answer),
-        Err(td_relvars::AskError::Unknown) => Err(ValueError::Unknown),
-        Err(td_relvars::AskError::OutOfMemory) => Err(ValueError::OutOfMemory),
+        Err(td_story::RelvarError::Unknown) => Err(ValueError::Unknown),
+        Err(td_story::RelvarError::OutOfMemory) => Err(ValueError::OutOfMemory),
     }
 }

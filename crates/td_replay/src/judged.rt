@@ -1,9 +1,9 @@
 //! Whether a text is a statement, well typed.
 
-ghost use Rattle.td_assign.specs.Steps.{IsUnread};
+ghost use Rattle.td_story.specs.Steps.{IsUnread};
 ghost use Rattle.td_replay.specs.ForProofs.Judged.{IsRefusal, Judges};
 
-use crate::refusal::IssueError;
+use td_story::IssueError;
 use std::alloc::Global;
 use td_grammar::{ReadError, read_statement};
 use td_headings::{Catalogue, type_statement};

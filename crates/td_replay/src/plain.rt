@@ -1,20 +1,16 @@
 //! A site that runs all statements that it holds anew where it takes more of them.
 
 ghost use Rattle.std.specs.Prelude.{◌≡◌, ◌≤◌, Err, Ok, length};
-ghost use Rattle.td_replay.specs.Calls.{Issues, entry_of};
+ghost use Rattle.td_story.specs.Calls.{Issues, entry_of};
 ghost use Rattle.td_replay.specs.ForProofs.Told.{Numbers};
-ghost use Rattle.td_replay.specs.Openings.{OpensSite};
+ghost use Rattle.td_story.specs.NewSites.{OpensSite};
 
-use crate::answer::{Issued, Reply, Taken};
+use td_story::{Answer, AskError, IssueError, Issued, Meter, NotOpen, OpenError, Outcome, Replica, Reply, TakeError, Taken, TellError, ValueError};
 use crate::asked;
 use crate::judged::{judge, refusal};
-use crate::refusal::{AskError, IssueError, NotOpen, OpenError, TakeError, TellError, ValueError};
-use crate::replica::Replica;
 use crate::told::{Told, add_last, copies, tell_all};
 use std::alloc::Global;
 use std::marker::Model;
-use td_assign::{Meter, Outcome};
-use td_relvars::Answer;
 use td_stamps::{Entry, Held, NextError, PrepareError, Stamp};
 use td_values::{Name, Text};
 
@@ -47,8 +43,8 @@ impl Drop for PlainSite {
 
 impl Model for PlainSite {
     ghost use Rattle.std.specs.Prelude.{◌≡◌, ◌≤◌, true};
-    ghost use Rattle.td_replay.specs.Seen.{Seen, is_limit};
-    ghost use Rattle.td_replay.specs.Stories.{IsStory};
+    ghost use Rattle.td_story.specs.Seen.{Seen, is_limit};
+    ghost use Rattle.td_story.specs.Stories.{IsStory};
 
     ghost Value = { Seen };
 
@@ -79,7 +75,7 @@ impl PlainSite {
         };
         let script = match Text::from_str(alloc, script) {
             Ok(script) => script,
-            Err(_) => return Err(OpenError::Script(td_relvars::OpenError::OutOfMemory)),
+            Err(_) => return Err(OpenError::Script(td_story::ScriptError::OutOfMemory)),
         };
         Ok(PlainSite {
             script,

@@ -1,16 +1,17 @@
 //! What running entries in turn gives.
 
 ghost use Rattle.std.specs.Prelude.{◌≡◌, ◌↔◌, ◌++◌, ◌∷◌, [], IfOk, IsOk, IsTrue, None, OnErr, OnOk};
-ghost use Rattle.td_relvars.specs.Scripts.{OpensOn};
+ghost use Rattle.td_story.specs.Scripts.{OpensOn};
 ghost use Rattle.td_stamps.specs.Checks.{check_of};
 ghost use Rattle.td_stamps.specs.Sets.{union};
-ghost use Rattle.td_assign.specs.declared.outcome.Outcome.TheVariants as became;
+ghost use Rattle.td_story.specs.declared.outcome.Outcome.TheVariants as became;
 ghost use Rattle.td_replay.specs.ForProofs.Told.{HoldsNext, IsAccepted, RunsSome, TellsNext};
-ghost use Rattle.td_replay.specs.Stories.{IsStory};
+ghost use Rattle.td_story.specs.Stories.{IsStory};
 
 use std::alloc::{AllocError, Global};
-use td_assign::{Meter, Outcome, Ran, run};
-use td_relvars::{Database, OpenError, open_script};
+use td_story::{Meter, Outcome, ScriptError};
+use td_assign::{Ran, run};
+use td_relvars::{Database, open_script};
 use td_stamps::{Entry, Held, Stamp};
 
 /// The database after some entries, and the outcome of each with its stamp.
@@ -80,7 +81,7 @@ fn opening(alloc: Global, script: &str) -> Result<Database, AllocError>
     match open_script(alloc, script) {
         Ok(database) => Ok(database),
         Err(error) => match error {
-            OpenError::OutOfMemory => Err(AllocError),
+            ScriptError::OutOfMemory => Err(AllocError),
             _ => unreachable!(),
         },
     }

@@ -1,6 +1,6 @@
 -- Meetings of sites at their places.
 use Rattle.std.specs.Prelude.{◌≡◌, ℕ, List, Some, Result, slice_get, slice_set}
-use Rattle.td_replay.specs.Seen.{Seen}
+use Rattle.td_story.specs.Seen.{Seen}
 use Rattle.td_meeting.specs.Meetings.{Meets}
 use Rattle.td_meeting.specs.declared.meeting.Met.{Met}
 use Rattle.td_meeting.specs.declared.meeting.MeetingRefusal.{MeetingRefusal}

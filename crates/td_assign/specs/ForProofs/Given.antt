@@ -1,7 +1,7 @@
 -- What holds of changes while sources are evaluated.
 use Rattle.std.specs.Prelude.{◌≡◌, ◌==◌, ℕ, Bool, List, [], ◌∷◌, None, Result, Ok, Err, Vec}
 use Rattle.std.specs.List.{All}
-use Rattle.td_values.specs.Rows.{RowsData}
+use Rattle.td_values.specs.Rows.{AreRows, RowsData}
 use Rattle.td_syntax.specs.declared.script.Action.{Action}
 use Rattle.td_algebra.specs.declared.errors.Stop.{Stop}
 use Rattle.td_relations.specs.Deltas.{DeltaData, IsDifference}
@@ -9,11 +9,12 @@ use Rattle.td_headings.specs.Catalogues.{CatalogueData}
 use Rattle.td_meaning.specs.Mean.{Relvars}
 use Rattle.td_headings.specs.Statements.{IsAssignment}
 use Rattle.td_headings.specs.declared.statement.TypedAssignment.{TypedAssignment}
-use Rattle.td_eval.specs.Raises.{stop_of}
-use Rattle.td_eval.specs.declared.valued.Failure.{Failure}
-use Rattle.td_eval.specs.declared.valued.Failure.TheVariants.{Raised, OutOfMemory}
-use Rattle.td_relvars.specs.Databases.{Belongs}
-use Rattle.td_assign.specs.Changes.{given, given_to}
+use Rattle.td_story.specs.Raises.{stop_of}
+use Rattle.td_story.specs.declared.failure.Failure.{Failure}
+use Rattle.td_story.specs.declared.failure.Failure.TheVariants.{Raised, OutOfMemory}
+use Rattle.td_story.specs.Databases.{Belongs}
+use Rattle.td_story.specs.Given.{Given}
+use Rattle.td_assign.specs.ForProofs.Lists.{given, given_to}
 use Rattle.td_assign.specs.declared.changes.Change.{Change}
 
 -- it is some action, typed
@@ -40,8 +41,11 @@ pub record AreChanges (c : CatalogueData) (xs : List Change) : Type 0 where
   pub each : All (IsChange c) xs
   pub distinct : AreDistinct xs
 
--- the relations differ by this
+-- the relations, of one heading and with ascending tuples, differ by this
 pub record Turns (before after : RowsData) (d : DeltaData) : Type 0 where
+  pub one_heading : before.heading ≡ after.heading
+  pub was_rows : AreRows before.heading before.tuples
+  pub is_rows : AreRows after.heading after.tuples
   pub apart : before ≡ after → ⊥
   pub difference : IsDifference before after d
 
@@ -60,6 +64,6 @@ GivesMore m n old (Ok u) new = (r : RowsData) × (m ≡ Ok r) × (new ≡ given 
 GivesMore m n old (Err f) new = Stands f m
 
 -- the changes, or the error
-abbrev pub TellsChanges : {Z : Type 0} → Result (Vec Change Z) Failure → Result (List Change) Stop → Type 0
-TellsChanges (Ok v) m = m ≡ Ok v.items
+abbrev pub TellsChanges : {Z : Type 0} → Result (Vec Change Z) Failure → Result Given Stop → Type 0
+TellsChanges (Ok v) m = m ≡ Ok (given_to v.items)
 TellsChanges (Err f) m = Stands f m

@@ -5,48 +5,49 @@ use Rattle.td_algebra.specs.declared.errors.Stop.{Stop}
 use Rattle.td_relations.specs.Deltas.{DeltaData}
 use Rattle.td_headings.specs.declared.defined.Test.{Test}
 use Rattle.td_headings.specs.declared.statement.TypedAssignment.{TypedAssignment}
-use Rattle.td_eval.specs.Raises.{stop_of}
-use Rattle.td_constraints.specs.Tests.{failing}
-use Rattle.td_relvars.specs.Databases.{DatabaseData, relvars_in}
-use Rattle.td_assign.specs.Changes.{put_all}
-use Rattle.td_assign.specs.Differences.{AreDifferences}
+use Rattle.td_story.specs.Raises.{stop_of}
+use Rattle.td_story.specs.Tests.{failing}
+use Rattle.td_story.specs.Databases.{DatabaseData, relvars_in}
+use Rattle.td_story.specs.Given.{Given, nothing_given, with_given}
+use Rattle.td_story.specs.Differences.{AreDifferences}
 use Rattle.td_assign.specs.ForProofs.Given.{AreChanges}
-use Rattle.td_assign.specs.Sources.{sources}
-use Rattle.td_assign.specs.Steps.{Steps, Tells, with_changes}
+use Rattle.td_assign.specs.ForProofs.Lists.{given_to}
+use Rattle.td_story.specs.Sources.{sources}
+use Rattle.td_story.specs.Steps.{Steps, TellsTest, failing_with, with_all}
 use Rattle.td_assign.specs.declared.changes.Change.{Change}
-use Rattle.td_assign.specs.declared.outcome.Outcome.{Outcome}
-use Rattle.td_assign.specs.declared.outcome.Outcome.TheVariants.{Done, Raised}
+use Rattle.td_story.specs.declared.outcome.Outcome.{Outcome}
+use Rattle.td_story.specs.declared.outcome.Outcome.TheVariants.{Done, Raised}
 use Rattle.td_assign.specs.declared.running.Prepared.{Prepared}
 use Rattle.td_assign.specs.declared.running.Prepared.TheVariants.{Changes, Refused}
 
-abbrev pub given_by : DatabaseData → List TypedAssignment → Result (List Change) Stop
-given_by d xs = sources d.catalogue (relvars_in d.stored) [] xs
+abbrev pub assigned_by : DatabaseData → List TypedAssignment → Result Given Stop
+assigned_by d xs = sources d.catalogue (relvars_in d.stored) nothing_given xs
 
 abbrev pub failing_after : DatabaseData → List Change → Option (Test × Option Stop)
-failing_after d cs = failing d.catalogue (relvars_in (put_all cs d.stored)) d.catalogue.tests
+failing_after d cs = failing_with d (given_to cs)
 
 -- changes that may be made, and the differences that they make
 pub record MayChange (d : DatabaseData) (cs : List Change) (ds : List (ℕ × DeltaData)) : Type 0 where
   pub given : AreChanges d.catalogue cs
   pub passes : failing_after d cs ≡ None
-  pub differences : AreDifferences (relvars_in d.stored) (relvars_in (put_all cs d.stored)) ds
+  pub differences : AreDifferences (relvars_in d.stored) (relvars_in (with_given (given_to cs) d.stored)) ds
 
 -- with these changes the tests decide
 abbrev pub IsJudged : DatabaseData → List Change → Prepared → Type 0
 IsJudged d cs (Changes v ds) = (v.items ≡ cs) × MayChange d cs ds.items
-IsJudged d cs (Refused o) = (t : Test) × (e : Option Stop) × (failing_after d cs ≡ Some (t, e)) × Tells d.catalogue t e o
+IsJudged d cs (Refused o) = (t : Test) × (e : Option Stop) × (failing_after d cs ≡ Some (t, e)) × TellsTest d.catalogue t e o
 
 -- a source raises, or a test decides
 pub data Refuses (d : DatabaseData) (xs : List TypedAssignment) : Outcome → Type 0 where
-  by_source : {e : Raise} → given_by d xs ≡ Err (stop_of e) → Refuses d xs (Raised e)
-  by_test : {cs : List Change} {o : Outcome} → given_by d xs ≡ Ok cs → IsJudged d cs (Refused o) → Refuses d xs o
+  by_source : {e : Raise} → assigned_by d xs ≡ Err (stop_of e) → Refuses d xs (Raised e)
+  by_test : {cs : List Change} {o : Outcome} → assigned_by d xs ≡ Ok (given_to cs) → IsJudged d cs (Refused o) → Refuses d xs o
 
 -- what assignments come to
 abbrev pub AreAssignedTo : DatabaseData → List TypedAssignment → Prepared → Type 0
-AreAssignedTo d xs (Changes v ds) = (given_by d xs ≡ Ok v.items) × MayChange d v.items ds.items
+AreAssignedTo d xs (Changes v ds) = (assigned_by d xs ≡ Ok (given_to v.items)) × MayChange d v.items ds.items
 AreAssignedTo d xs (Refused o) = Refuses d xs o
 
 -- what a text comes to
 abbrev pub IsPrepared : DatabaseData → List ℕ → Prepared → Type 0
-IsPrepared d text (Changes v ds) = Steps d text Done (with_changes d v.items) × MayChange d v.items ds.items
+IsPrepared d text (Changes v ds) = Steps d text Done (with_all d (given_to v.items)) × MayChange d v.items ds.items
 IsPrepared d text (Refused o) = Steps d text o d

@@ -3,11 +3,11 @@ use Rattle.std.specs.Prelude.{◌≡◌, ◌⊎◌, ℕ, Bool, true, false, List
 use Rattle.std.specs.Global.{Global}
 use Rattle.std.specs.declared.alloc.AllocError.{AllocError}
 use Rattle.td_listings.specs.Writings.{Written, WritesWhole, WritesFront}
-use Rattle.td_relvars.specs.declared.error.OpenError.{OpenError}
-use Rattle.td_relvars.specs.declared.error.OpenError.TheVariants.{Syntax, IllTyped, OpeningRaised, OpeningBroken, OutOfMemory}
+use Rattle.td_story.specs.declared.error.ScriptError.{ScriptError}
+use Rattle.td_story.specs.declared.error.ScriptError.TheVariants.{Syntax, IllTyped, OpeningRaised, OpeningBroken, OutOfMemory}
 use Rattle.td_headings.specs.Catalogues.{CatalogueData}
-use Rattle.td_relvars.specs.Databases.{DatabaseData}
-use Rattle.td_relvars.specs.Scripts.{Opens}
+use Rattle.td_story.specs.Databases.{DatabaseData}
+use Rattle.td_story.specs.Scripts.{Opens}
 use Rattle.td_answers.specs.Sites.{Sites}
 use Rattle.td_console.specs.Streams.{Input, most_reads}
 use Rattle.td_console.specs.Programs.{ProgramEnds}
@@ -20,7 +20,7 @@ use Rattle.td_console.specs.declared.run.Ended.{Ended}
 use Rattle.td_console.specs.declared.run.Ended.TheVariants as ended
 
 -- what may be told of a refusal: it, or that there is no memory for its text
-abbrev pub MayTell : OpenError → OpenError → Type 0
+abbrev pub MayTell : ScriptError → ScriptError → Type 0
 MayTell (OpeningRaised e) told = (told ≡ OpeningRaised e) ⊎ (told ≡ OutOfMemory)
 MayTell (OpeningBroken b) told = (told ≡ OpeningBroken b) ⊎ (told ≡ OutOfMemory)
 MayTell Syntax told = told ≡ Syntax
@@ -35,8 +35,8 @@ PutsFault text (Err ended.WriteFault) w after = WritesFront text w after
 PutsFault text (Err ended.ReadFault) w after = ⊥
 PutsFault text (Err ended.OutOfMemory) w after = ⊥
 
-abbrev pub TellsRefusal : OpenError → Result Bool Ended → Written → Written → Type 0
-TellsRefusal e r w after = (told : OpenError) × MayTell e told × PutsFault (script_fault told) r w after
+abbrev pub TellsRefusal : ScriptError → Result Bool Ended → Written → Written → Type 0
+TellsRefusal e r w after = (told : ScriptError) × MayTell e told × PutsFault (script_fault told) r w after
 
 -- the script opens, and these are its sites
 abbrev pub OpensAll : Options → List ℕ → Sites → Type 0

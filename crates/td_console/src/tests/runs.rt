@@ -5,7 +5,7 @@ use crate::program::run_program;
 use crate::run::Ended;
 use std::alloc::{AllocError, Global};
 use td_answers::NoLinks;
-use td_assign::Meter;
+use td_story::Meter;
 use td_devices::Device;
 
 /// A relvar of suppliers.

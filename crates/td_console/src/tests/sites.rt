@@ -6,7 +6,7 @@ use crate::run::workbench;
 use std::alloc::{AllocError, Global};
 use std::test::Fail;
 use td_answers::NoLinks;
-use td_assign::Meter;
+use td_story::Meter;
 use td_devices::Device;
 use td_replay::PlainSite;
 

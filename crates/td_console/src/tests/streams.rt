@@ -5,7 +5,7 @@ use super::runs::{Ran, TWO, TWO_SITES_MEET, TWO_SITES_MET};
 use crate::program::run_program;
 use crate::run::Ended;
 use td_answers::NoLinks;
-use td_assign::Meter;
+use td_story::Meter;
 use td_devices::Device;
 
 /// Where `.begin`, and each line behind it up to `.quit`, ends in what two sites that meet read, and its answer in what they write.

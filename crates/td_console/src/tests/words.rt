@@ -5,7 +5,7 @@ use crate::command::program;
 use std::alloc::{AllocError, Global};
 use std::test::Fail;
 use td_answers::NoLinks;
-use td_assign::Meter;
+use td_story::Meter;
 use td_devices::Device;
 
 /// What a call of the program ended with: its status, and what it wrote to its output and to its faults.

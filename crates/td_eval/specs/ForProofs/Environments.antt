@@ -12,7 +12,7 @@ use Rattle.td_meaning.specs.Mean.{Relvars, Selection, mean, rows_in}
 use Rattle.td_meaning.specs.Seen.{relvars_at}
 use Rattle.td_meaning.specs.Selections.{selection}
 use Rattle.td_meaning.specs.declared.environment.Known.{Known}
-use Rattle.td_eval.specs.Meanings.{no_names}
+use Rattle.td_story.specs.Meanings.{no_names}
 
 -- what the base relvars have
 abbrev pub base_known : Relvars → BaseUnder → Known

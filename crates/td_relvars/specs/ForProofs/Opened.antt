@@ -6,15 +6,15 @@ use Rattle.td_trees.specs.declared.tree.Typed.{Typed}
 use Rattle.td_algebra.specs.declared.errors.Stop.{Stop}
 use Rattle.td_headings.specs.Catalogues.{CatalogueData}
 use Rattle.td_headings.specs.declared.defined.Test.{Test}
-use Rattle.td_eval.specs.Raises.{Tells, stop_of}
-use Rattle.td_eval.specs.declared.valued.Failure.{Failure}
-use Rattle.td_eval.specs.declared.valued.Failure.TheVariants as failure
-use Rattle.td_constraints.specs.Reports.{title}
-use Rattle.td_constraints.specs.Tests.{failing}
-use Rattle.td_relvars.specs.Databases.{DatabaseData, Stored, relvars_in}
-use Rattle.td_relvars.specs.Openings.{opening, relation_in}
-use Rattle.td_relvars.specs.declared.error.OpenError.{OpenError}
-use Rattle.td_relvars.specs.declared.error.OpenError.TheVariants as refusal
+use Rattle.td_story.specs.Raises.{Tells, stop_of}
+use Rattle.td_story.specs.declared.failure.Failure.{Failure}
+use Rattle.td_story.specs.declared.failure.Failure.TheVariants as failure
+use Rattle.td_story.specs.Reports.{title}
+use Rattle.td_story.specs.Tests.{failing}
+use Rattle.td_story.specs.Databases.{DatabaseData, Stored, relvars_in}
+use Rattle.td_story.specs.Openings.{opening, relation_in}
+use Rattle.td_story.specs.declared.error.ScriptError.{ScriptError}
+use Rattle.td_story.specs.declared.error.ScriptError.TheVariants as refusal
 
 -- the value of an INIT that is there
 abbrev pub TellsInit : CatalogueData → Stored → Option (Typed × Header) → Result RowsData Failure → Type 0
@@ -38,7 +38,7 @@ abbrev pub first_in : DatabaseData → Option (Test × Option Stop)
 first_in d = failing d.catalogue (relvars_in d.stored) d.catalogue.tests
 
 -- the database where its tests are true
-abbrev pub Judges : DatabaseData → Result DatabaseData OpenError → Type 0
+abbrev pub Judges : DatabaseData → Result DatabaseData ScriptError → Type 0
 Judges d (Ok e) = (e ≡ d) × (first_in d ≡ None)
 Judges d (Err refusal.Syntax) = ⊥
 Judges d (Err refusal.IllTyped) = ⊥

@@ -5,17 +5,17 @@ use Rattle.td_syntax.specs.declared.tree.Expr.{Expr}
 use Rattle.td_grammar.specs.Grammar.{IsQuery}
 use Rattle.td_trees.specs.declared.expression.Expression.{Expression}
 use Rattle.td_headings.specs.Expressions.{IsExpression, no_tuple}
-use Rattle.td_eval.specs.Trees.{tree_means}
-use Rattle.td_relvars.specs.Answers.{TellsRelvar}
-use Rattle.td_relvars.specs.Databases.{DatabaseData, relvars_in}
-use Rattle.td_relvars.specs.declared.answer.Answer.{Answer}
-use Rattle.td_relvars.specs.declared.error.AskError.TheVariants as relvar_error
-use Rattle.td_replay.specs.Calls.{Says}
-use Rattle.td_replay.specs.declared.answer.Reply.{Reply}
-use Rattle.td_replay.specs.declared.refusal.AskError.{AskError}
-use Rattle.td_replay.specs.declared.refusal.AskError.TheVariants as ask_error
-use Rattle.td_replay.specs.declared.refusal.ValueError.{ValueError}
-use Rattle.td_replay.specs.declared.refusal.ValueError.TheVariants as value_error
+use Rattle.td_story.specs.Trees.{tree_means}
+use Rattle.td_story.specs.Answers.{TellsRelvar}
+use Rattle.td_story.specs.Databases.{DatabaseData, relvars_in}
+use Rattle.td_story.specs.declared.answer.Answer.{Answer}
+use Rattle.td_story.specs.declared.error.RelvarError.TheVariants as relvar_error
+use Rattle.td_story.specs.Calls.{Says}
+use Rattle.td_story.specs.declared.answer.Reply.{Reply}
+use Rattle.td_story.specs.declared.refusal.AskError.{AskError}
+use Rattle.td_story.specs.declared.refusal.AskError.TheVariants as ask_error
+use Rattle.td_story.specs.declared.refusal.ValueError.{ValueError}
+use Rattle.td_story.specs.declared.refusal.ValueError.TheVariants as value_error
 
 -- the text is this query, and the reply says what it means
 pub record Means (d : DatabaseData) (text : List ℕ) (r : Reply) : Type 0 where

@@ -5,9 +5,9 @@ use Rattle.td_grammar.specs.Statements as grammar
 use Rattle.td_headings.specs.Catalogues.{CatalogueData}
 use Rattle.td_headings.specs.Statements.{IsRefused}
 use Rattle.td_headings.specs.declared.statement.TypedStatement.{TypedStatement}
-use Rattle.td_assign.specs.Steps.{IsRead}
-use Rattle.td_replay.specs.declared.refusal.IssueError.{IssueError}
-use Rattle.td_replay.specs.declared.refusal.IssueError.TheVariants as issue_error
+use Rattle.td_story.specs.Steps.{IsRead}
+use Rattle.td_story.specs.declared.refusal.IssueError.{IssueError}
+use Rattle.td_story.specs.declared.refusal.IssueError.TheVariants as issue_error
 
 -- why it is none; want of memory tells nothing
 abbrev pub IsRefusal : CatalogueData → List ℕ → IssueError → Type 0

@@ -6,14 +6,14 @@ use Rattle.td_stamps.specs.declared.entry.Entry.{Entry}
 use Rattle.td_stamps.specs.declared.entry.Stamp.{Stamp}
 use Rattle.td_stamps.specs.Entries.{stamp_of}
 use Rattle.td_stamps.specs.Sets.{Holding}
-use Rattle.td_relvars.specs.Databases.{DatabaseData}
-use Rattle.td_relvars.specs.Scripts.{OpensOn}
-use Rattle.td_assign.specs.Steps.{IsRead, IsUnread, Steps}
-use Rattle.td_assign.specs.declared.outcome.Outcome.{Outcome}
-use Rattle.td_replay.specs.Calls.{entry_of}
-use Rattle.td_replay.specs.Seen.{Seen}
-use Rattle.td_replay.specs.declared.refusal.IssueError.{IssueError}
-use Rattle.td_replay.specs.declared.refusal.IssueError.TheVariants as issue_error
+use Rattle.td_story.specs.Databases.{DatabaseData}
+use Rattle.td_story.specs.Scripts.{OpensOn}
+use Rattle.td_story.specs.Steps.{IsRead, IsUnread, Steps}
+use Rattle.td_story.specs.declared.outcome.Outcome.{Outcome}
+use Rattle.td_story.specs.Calls.{entry_of}
+use Rattle.td_story.specs.Seen.{Seen}
+use Rattle.td_story.specs.declared.refusal.IssueError.{IssueError}
+use Rattle.td_story.specs.declared.refusal.IssueError.TheVariants as issue_error
 
 -- the script opens a database
 abbrev pub IsAccepted : List ℕ → Type 0

@@ -1,7 +1,7 @@
 use Rattle.std.proofs.Common.{sym, subst}
-use Rattle.td_constraints.specs.Stored.{AreStored}
+use Rattle.td_story.specs.Stored.{AreStored}
 use Rattle.td_headings.specs.Catalogues.{CatalogueData}
-use Rattle.td_relvars.specs.Databases.{relvars_in}
+use Rattle.td_story.specs.Databases.{relvars_in}
 use Rattle.insert_bench.proofs.inserting.test.Goals as goal
 
 pub first_failure-requires : goal.first_failure-requires

@@ -1,5 +1,5 @@
 use Rattle.std.proofs.Common.{Err, refl}
-use Rattle.td_replay.specs.declared.refusal.AskError.TheVariants as ask_error
+use Rattle.td_story.specs.declared.refusal.AskError.TheVariants as ask_error
 use Rattle.td_answers.proofs.telling.query.Goals as goal
 
 pub returns : goal.returns

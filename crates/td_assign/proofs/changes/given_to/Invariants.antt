@@ -1,5 +1,5 @@
 use Rattle.std.proofs.Common.{◌≡◌, drop}
-use Rattle.td_assign.specs.Changes.{given_to}
+use Rattle.td_assign.specs.ForProofs.Lists.{given_to}
 use Rattle.td_assign.proofs.changes.given_to.Given as goal
 
 abbrev pub invariant-loop-change : goal.invariant-loop-change

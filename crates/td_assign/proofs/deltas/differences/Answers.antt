@@ -1,8 +1,8 @@
 use Rattle.std.proofs.Common.{◌+◌, drop, ap, sym, subst, ◌∙◌, arith}
 use Rattle.std.proofs.lemmas.List.{drop_all}
 use Rattle.std.proofs.lemmas.List.Elements.{All-get_or}
-use Rattle.td_relvars.specs.Databases.{relvars_in}
-use Rattle.td_assign.specs.Differences.{AreDifferences}
+use Rattle.td_story.specs.Databases.{relvars_in}
+use Rattle.td_story.specs.Differences.{AreDifferences}
 use Rattle.td_assign.specs.ForProofs.Given.{IsChange}
 use Rattle.td_assign.proofs.Differing.{Found, begun, by_none, by_option, ended, left_at}
 use Rattle.td_assign.proofs.Replacing.{all_replaced}

@@ -5,4 +5,4 @@ pub returns-then-is_empty : goal.returns-then-is_empty
 returns-then-is_empty c = unturned c.args.old.now c.args.new.now c.in_ok-delta.delta c.is_empty.result c.requires c.in_ok-delta.ensures c.is_empty.ensures c.tuples-old.ensures.rows c.tuples-new.ensures.rows c.if-is_empty.true
 
 pub returns-else-is_empty : goal.returns-else-is_empty
-returns-else-is_empty c = turned c.args.old.now c.args.new.now c.in_ok-delta.delta c.is_empty.result c.requires c.in_ok-delta.ensures c.is_empty.ensures c.if-is_empty.false
+returns-else-is_empty c = turned c.args.old.now c.args.new.now c.in_ok-delta.delta c.is_empty.result c.requires c.in_ok-delta.ensures c.is_empty.ensures c.tuples-old.ensures.rows c.tuples-new.ensures.rows c.if-is_empty.false

@@ -1,7 +1,7 @@
 use Rattle.std.proofs.Common.{IfOk, sym, subst}
 use Rattle.td_assign.specs.ForProofs.Given.{AreAssigned}
 use Rattle.td_assign.specs.ForProofs.Prepared.{AreAssignedTo}
-use Rattle.td_assign.specs.Steps.{unread}
+use Rattle.td_story.specs.Steps.{unread}
 use Rattle.td_assign.proofs.Preparing.{are_assigned, prepared, read_is, unread_is}
 use Rattle.td_assign.proofs.running.prepare.Goals as goal
 

@@ -2,16 +2,18 @@ use Rattle.std.proofs.Common.{◌≡◌, All, refl, ap, sym, subst, ◌∙◌, r
 use Rattle.std.specs.Vec.Iter.{into_iter_items}
 use Rattle.std.proofs.lemmas.List.Elements.{All-head, All-tail}
 use Rattle.td_headings.specs.Catalogues.{CatalogueData}
-use Rattle.td_relvars.specs.Databases.{Belongs, put}
-use Rattle.td_assign.specs.Changes.{put_all}
-use Rattle.td_assign.specs.ForProofs.Given.{IsChange}
+use Rattle.td_story.specs.Databases.{Belongs, put}
+use Rattle.td_story.specs.Given.{with_given}
+use Rattle.td_assign.specs.ForProofs.Given.{AreDistinct, IsChange}
+use Rattle.td_assign.specs.ForProofs.Lists.{given_to}
+use Rattle.td_assign.proofs.Replacing.{put_first}
 use Rattle.td_assign.proofs.running.put_all.Goals as goal
 
 pub loop-change-init : goal.loop-change-init
 loop-change-init c =
     let d = c.args.database.now in
     let seen : c.args.changes.items ≡ into_iter_items c.into_iter-change-iterator.result = search rules in
-    record { same = refl; left = ap (λ cs. put_all cs d.stored) (sym seen); each = subst (All (IsChange d.catalogue)) seen c.requires.each }
+    record { same = refl; left = ap (λ cs. with_given (given_to cs) d.stored) (sym seen); distinct = subst AreDistinct seen c.requires.distinct; each = subst (All (IsChange d.catalogue)) seen c.requires.each }
 
 pub make_base-base-requires : goal.make_base-base-requires
 make_base-base-requires c =
@@ -34,8 +36,14 @@ loop-change-preserved c =
     let x = c.in-Some.change in
     let rest = into_iter_items c.next.new.self in
     let before = c.loop-change.database.stored in
+    let step = c.in-Some.ensures.steps.0 in
+    let distinct = subst AreDistinct step c.loop-change.invariant.distinct in
     record {
       same = c.set.ensures.catalogue ∙ c.loop-change.invariant.same;
-      left = ap (put_all rest) (c.set.ensures.stored ∙ ap (λ r. put x.target r before) c.make_base-base.ensures) ∙ sym (ap (λ cs. put_all cs before) c.in-Some.ensures.steps.0) ∙ c.loop-change.invariant.left;
+      left =
+          ap (with_given (given_to rest)) (c.set.ensures.stored ∙ ap (λ r. put x.target r before) c.make_base-base.ensures)
+          ∙ sym (put_first x.target x.relation (given_to rest) before distinct.0)
+          ∙ sym (ap (λ cs. with_given (given_to cs) before) step) ∙ c.loop-change.invariant.left;
+      distinct = distinct.1;
       each = All-tail (IsChange k) x rest (subst (All (IsChange k)) c.in-Some.ensures.steps.0 c.loop-change.invariant.each);
     }

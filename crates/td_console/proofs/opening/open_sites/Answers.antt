@@ -1,5 +1,5 @@
 use Rattle.std.proofs.Common.{◌≡◌, inl, inr, ℕ, List, [], ◌∷◌, ◌++◌, ap, ◌∙◌, arith}
-use Rattle.td_replay.specs.Seen.{Seen}
+use Rattle.td_story.specs.Seen.{Seen}
 use Rattle.td_console.specs.Scripts.{new_sites}
 use Rattle.td_console.proofs.Starting.{new_sites_more}
 use Rattle.td_console.proofs.opening.open_sites.Goals as goal

@@ -1,6 +1,6 @@
 use Rattle.std.proofs.Common.{◌≡◌, ◌⊎◌, Ok}
-use Rattle.td_relvars.specs.Databases.{DatabaseData}
-use Rattle.td_relvars.specs.Scripts.{Opens}
+use Rattle.td_story.specs.Databases.{DatabaseData}
+use Rattle.td_story.specs.Scripts.{Opens}
 use Rattle.td_console.specs.Scripts.{new_sites}
 use Rattle.td_console.proofs.opening.open_sites.Given as goal
 

@@ -1,5 +1,5 @@
 use Rattle.std.proofs.Common.{refl}
-use Rattle.td_relvars.specs.declared.error.OpenError.TheVariants.{OpeningRaised, OpeningBroken, OutOfMemory}
+use Rattle.td_story.specs.declared.error.ScriptError.TheVariants.{OpeningRaised, OpeningBroken, OutOfMemory}
 use Rattle.td_console.proofs.Starting.{told_made}
 use Rattle.td_console.proofs.refusal.refuse.Goals as goal
 

@@ -1,5 +1,5 @@
 use Rattle.std.proofs.Common.{◌≡◌, drop}
-use Rattle.td_constraints.specs.Tests.{failing}
+use Rattle.td_story.specs.Tests.{failing}
 use Rattle.td_constraints.proofs.judging.first_failure.Given as goal
 
 abbrev pub invariant-loop-place : goal.invariant-loop-place

@@ -1,8 +1,8 @@
 use Rattle.std.proofs.Common.{◌≡◌, None, MatchOption, sym, subst}
 use Rattle.td_headings.specs.Expressions.{IsConstraint, constraint_at}
-use Rattle.td_eval.specs.Raises.{Tells}
+use Rattle.td_story.specs.Raises.{Tells}
 use Rattle.td_constraints.specs.ForProofs.Tested.{StandsAt}
-use Rattle.td_constraints.specs.Tests.{judgement}
+use Rattle.td_story.specs.Tests.{judgement}
 use Rattle.td_constraints.proofs.Judged.{has_relation, tells, within}
 use Rattle.td_constraints.proofs.judging.judge.Goals as goal
 

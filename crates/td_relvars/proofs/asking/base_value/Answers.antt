@@ -1,6 +1,6 @@
 use Rattle.std.proofs.Common.{Some, ap, sym, ◌∙◌, slice_get}
 use Rattle.std.specs.Option.{option_copied}
-use Rattle.td_relvars.specs.Databases.{relvars_in}
+use Rattle.td_story.specs.Databases.{relvars_in}
 use Rattle.td_relvars.proofs.Asked.{base_stays}
 use Rattle.td_relvars.proofs.Stores.{looked_up, not_stored}
 use Rattle.td_relvars.proofs.asking.base_value.Goals as goal

@@ -1,5 +1,5 @@
 use Rattle.std.proofs.Common.{◌≡◌, ◌++◌, drop}
-use Rattle.td_relvars.specs.Openings.{all_empty}
+use Rattle.td_story.specs.Openings.{all_empty}
 use Rattle.td_relvars.proofs.database.all_empty.Given as goal
 
 abbrev pub invariant-loop-place : goal.invariant-loop-place

@@ -1,9 +1,9 @@
 use Rattle.std.proofs.Common.{subst, sym}
 use Rattle.td_headings.specs.Catalogues.{CatalogueData}
-use Rattle.td_constraints.specs.Reports.{IsReport}
-use Rattle.td_constraints.specs.Stored.{AreStored}
-use Rattle.td_constraints.specs.Tests.{failing}
-use Rattle.td_relvars.specs.Databases.{relvars_in}
+use Rattle.td_story.specs.Reports.{IsReport}
+use Rattle.td_story.specs.Stored.{AreStored}
+use Rattle.td_story.specs.Tests.{failing}
+use Rattle.td_story.specs.Databases.{relvars_in}
 use Rattle.td_relvars.specs.ForProofs.Opened.{first_in}
 use Rattle.td_relvars.proofs.Told.{of_test}
 use Rattle.td_relvars.proofs.opening.judged.Goals as goal

@@ -5,8 +5,8 @@ use Rattle.td_typing.specs.Types.{IsIllTyped}
 use Rattle.td_headings.specs.Catalogues.{CatalogueData}
 use Rattle.td_headings.specs.Definitions.{names_of_relvars}
 use Rattle.td_headings.specs.Expressions.{IsExpression, no_tuple}
-use Rattle.td_eval.specs.Trees.{tree_means}
-use Rattle.td_relvars.specs.Databases.{relvars_in}
+use Rattle.td_story.specs.Trees.{tree_means}
+use Rattle.td_story.specs.Databases.{relvars_in}
 use Rattle.td_replay.proofs.Asking.{never_typed}
 use Rattle.td_replay.proofs.asked.ask.Goals as goal
 

@@ -2,7 +2,7 @@ use Rattle.std.proofs.Common.{List, sym, subst, arith}
 use Rattle.std.proofs.lemmas.List.{take_all}
 use Rattle.td_stamps.specs.declared.entry.Entry.{Entry}
 use Rattle.td_replay.specs.ForProofs.Told.{Outcomes}
-use Rattle.td_replay.specs.Stories.{IsStory}
+use Rattle.td_story.specs.Stories.{IsStory}
 use Rattle.td_replay.proofs.Telling.{begun, walked}
 use Rattle.td_replay.proofs.told.tell_all.Goals as goal
 

@@ -1,5 +1,5 @@
 use Rattle.std.proofs.Common.{take}
-use Rattle.td_replay.specs.Stories.{IsStory}
+use Rattle.td_story.specs.Stories.{IsStory}
 use Rattle.td_replay.proofs.told.tell_all.Given as goal
 
 abbrev pub invariant-loop-entry : goal.invariant-loop-entry

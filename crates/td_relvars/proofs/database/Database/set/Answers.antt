@@ -1,5 +1,5 @@
 use Rattle.std.proofs.Common.{ap, sym, ◌∙◌, subst}
-use Rattle.td_relvars.specs.Databases.{Belongs, DatabaseData, IsDatabase, put}
+use Rattle.td_story.specs.Databases.{Belongs, DatabaseData, IsDatabase, put}
 use Rattle.td_relvars.proofs.Stores.{put_is, put_set}
 use Rattle.td_relvars.proofs.database.Database.set.Goals as goal
 

@@ -1,10 +1,10 @@
 use Rattle.std.proofs.Common.{true, Err, Result, refl, sym, subst}
 use Rattle.td_headings.specs.Catalogues.{CatalogueData}
-use Rattle.td_replay.specs.Calls.{Issues}
+use Rattle.td_story.specs.Calls.{Issues}
 use Rattle.td_replay.specs.ForProofs.Judged.{Judges}
 use Rattle.td_replay.specs.ForProofs.Told.{Numbers}
-use Rattle.td_replay.specs.Seen.{Seen}
-use Rattle.td_replay.specs.declared.refusal.IssueError.{IssueError}
+use Rattle.td_story.specs.Seen.{Seen}
+use Rattle.td_story.specs.declared.refusal.IssueError.{IssueError}
 use Rattle.td_replay.proofs.Issuing.{issues_no_entry, issues_refusal}
 use Rattle.td_replay.proofs.plain.PlainSite.first_refusal.Goals as goal
 

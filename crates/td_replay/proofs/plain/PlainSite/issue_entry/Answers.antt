@@ -1,13 +1,13 @@
 use Rattle.std.proofs.Common.{◌≡◌, ℕ, true, List, Ok, Err, refl, sym, ap, subst, ◌∙◌}
 use Rattle.td_headings.specs.Catalogues.{CatalogueData}
 use Rattle.td_stamps.specs.Sets.{Holding}
-use Rattle.td_relvars.specs.Databases.{DatabaseData}
-use Rattle.td_assign.specs.Steps.{IsUnread}
-use Rattle.td_replay.specs.Calls.{Issues, IssuesEntry, entry_of}
+use Rattle.td_story.specs.Databases.{DatabaseData}
+use Rattle.td_story.specs.Steps.{IsUnread}
+use Rattle.td_story.specs.Calls.{Issues, IssuesEntry, entry_of}
 use Rattle.td_replay.specs.ForProofs.Judged.{IsRefusal}
-use Rattle.td_replay.specs.Seen.{Seen, is_limit}
-use Rattle.td_replay.specs.Stories.{IsStory}
-use Rattle.td_replay.specs.declared.answer.Issued.{Issued}
+use Rattle.td_story.specs.Seen.{Seen, is_limit}
+use Rattle.td_story.specs.Stories.{IsStory}
+use Rattle.td_story.specs.declared.answer.Issued.{Issued}
 use Rattle.td_replay.proofs.Issuing.{issues_entry, issues_refusal, next_is_known, next_is_last, next_may_be_added}
 use Rattle.td_replay.proofs.Telling.{one_more}
 use Rattle.td_replay.proofs.plain.PlainSite.issue_entry.Goals as goal

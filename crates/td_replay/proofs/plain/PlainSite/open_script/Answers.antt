@@ -2,8 +2,8 @@ use Rattle.std.proofs.Common.{◌≡◌, ◌≤◌, ℕ, List, [], true, sym, su
 use Rattle.std.proofs.lemmas.Bool.Decides.{nat_tests}
 use Rattle.td_stamps.specs.Sets.{Holding}
 use Rattle.td_replay.specs.ForProofs.Told.{Outcomes}
-use Rattle.td_replay.specs.Seen.{is_limit}
-use Rattle.td_replay.specs.Stories.{IsStory}
+use Rattle.td_story.specs.Seen.{is_limit}
+use Rattle.td_story.specs.Stories.{IsStory}
 use Rattle.td_replay.proofs.Telling.{begun}
 use Rattle.td_replay.proofs.plain.PlainSite.open_script.Goals as goal
 

@@ -1,6 +1,6 @@
 use Rattle.std.proofs.Common.{true, refl, subst}
-use Rattle.td_replay.specs.Calls.{Asks}
-use Rattle.td_replay.specs.Seen.{Seen}
+use Rattle.td_story.specs.Calls.{Asks}
+use Rattle.td_story.specs.Seen.{Seen}
 use Rattle.td_replay.proofs.Asking.{asks}
 use Rattle.td_replay.proofs.plain.PlainSiteReplica.ask.Goals as goal
 

@@ -1,8 +1,8 @@
 use Rattle.std.proofs.Common.{◌≡◌, true, refl, sym, subst, ◌∙◌}
-use Rattle.td_relvars.specs.Databases.{DatabaseData}
+use Rattle.td_story.specs.Databases.{DatabaseData}
 use Rattle.td_replay.specs.ForProofs.Told.{Outcomes}
-use Rattle.td_replay.specs.Seen.{Seen}
-use Rattle.td_replay.specs.Stories.{IsStory}
+use Rattle.td_story.specs.Seen.{Seen}
+use Rattle.td_story.specs.Stories.{IsStory}
 use Rattle.td_replay.proofs.plain.PlainSiteReplica.outcomes.Goals as goal
 
 pub returns-in-Ok : goal.returns-in-Ok

@@ -1,5 +1,5 @@
 use Rattle.std.proofs.Common.{subst}
-use Rattle.td_replay.specs.Seen.{IsSound}
+use Rattle.td_story.specs.Seen.{IsSound}
 use Rattle.td_replay.proofs.plain.PlainSiteReplica.site.Goals as goal
 
 pub returns-clause-sound : goal.returns-clause-sound

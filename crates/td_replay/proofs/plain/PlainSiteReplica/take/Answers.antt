@@ -1,6 +1,6 @@
 use Rattle.std.proofs.Common.{true, length, Ok, refl, sym, ap, subst, ◌∙◌, arith}
-use Rattle.td_replay.specs.Calls.{TakesBatch}
-use Rattle.td_replay.specs.Seen.{Seen}
+use Rattle.td_story.specs.Calls.{TakesBatch}
+use Rattle.td_story.specs.Seen.{Seen}
 use Rattle.td_replay.proofs.Taking.{nothing_new}
 use Rattle.td_replay.proofs.plain.PlainSiteReplica.take.Goals as goal
 

@@ -1,8 +1,8 @@
 use Rattle.std.proofs.Common.{List, ℕ, [], ◌∷◌, ◌++◌, sym, ap, subst, ◌∙◌, true≢false}
 use Rattle.td_stamps.specs.declared.entry.Stamp.{Stamp}
 use Rattle.td_stamps.specs.Entries.{stamp_of}
-use Rattle.td_assign.specs.Steps.{Steps}
-use Rattle.td_assign.specs.declared.outcome.Outcome.{Outcome}
+use Rattle.td_story.specs.Steps.{Steps}
+use Rattle.td_story.specs.declared.outcome.Outcome.{Outcome}
 use Rattle.td_replay.specs.ForProofs.Told.{Outcomes}
 use Rattle.td_replay.proofs.Telling.{read_is, unread_is, unread_stays}
 use Rattle.td_replay.proofs.told.Told.tell_next.Goals as goal

@@ -1,0 +1,15 @@
+-- The list in which the program keeps what targets are given.
+use Rattle.std.specs.Prelude.{ℕ, ◌==◌, if◌then◌else◌, List, [], ◌∷◌, None, Some}
+use Rattle.td_values.specs.Rows.{RowsData}
+use Rattle.td_story.specs.Given.{Given}
+use Rattle.td_assign.specs.declared.changes.Change.{Change}
+
+-- with the relation for the target, in place of what an earlier assignment gave it
+abbrev pub given : ℕ → RowsData → List Change → List Change
+given n r [] = record { target = n; relation = r } ∷ []
+given n r (c ∷ cs) = if c.target == n then record { target = n; relation = r } ∷ cs else c ∷ given n r cs
+
+-- what the list gives
+abbrev pub given_to : List Change → Given
+given_to [] n = None
+given_to (c ∷ cs) n = if c.target == n then Some c.relation else given_to cs n

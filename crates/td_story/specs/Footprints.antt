@@ -1,0 +1,40 @@
+-- The footprint of a statement: the base relvars on which its outcome and its differences hang.
+use Rattle.std.specs.Prelude.{◌≡◌, ℕ, List}
+use Rattle.std.specs.List.{Contains}
+use Rattle.td_headings.specs.Catalogues.{CatalogueData}
+use Rattle.td_headings.specs.Reached.{Reads}
+use Rattle.td_headings.specs.Statements.{IsTarget, assignments_of}
+use Rattle.td_headings.specs.declared.defined.Test.{Test}
+use Rattle.td_headings.specs.declared.defined.Test.TheVariants as test
+use Rattle.td_headings.specs.declared.statement.TypedAssignment.{TypedAssignment}
+use Rattle.td_headings.specs.declared.statement.TypedStatement.{TypedStatement}
+use Rattle.td_story.specs.Databases.{DatabaseData, relvars_in}
+use Rattle.td_story.specs.Steps.{IsRead}
+
+-- a KEY reads its relvar, a CONSTRAINT the base relvars that its expression reads, virtual ones expanded
+abbrev pub TestReads : CatalogueData → Test → ℕ → Type 0
+TestReads c (test.Key m key) n = n ≡ m
+TestReads c (test.Constraint x u) n = Reads c.origins u n
+
+-- the targets, what the sources read, and what each test reads that reads a target
+pub data InFootprint (c : CatalogueData) (x : TypedStatement) : ℕ → Type 0 where
+  target : {n : ℕ} → IsTarget x n → InFootprint c x n
+  by_source : {n : ℕ} {a : TypedAssignment} → Contains (assignments_of x) a → Reads c.origins a.source.tree n → InFootprint c x n
+  by_test : {m n : ℕ} {t : Test} → Contains c.tests t → TestReads c t m → IsTarget x m → TestReads c t n → InFootprint c x n
+
+-- of a text: that of its statement; an unread text has none
+pub record IsInFootprint (c : CatalogueData) (text : List ℕ) (n : ℕ) : Type 0 where
+  pub statement : TypedStatement
+  pub reads : IsRead c text statement
+  pub within : InFootprint c statement n
+
+-- a target of a text: one of its statement's; an unread text has none
+pub record IsTargetOfText (c : CatalogueData) (text : List ℕ) (n : ℕ) : Type 0 where
+  pub statement : TypedStatement
+  pub reads : IsRead c text statement
+  pub target : IsTarget statement n
+
+-- databases of one catalogue that agree on the footprint of the text
+pub record AgreeOnFootprint (d e : DatabaseData) (text : List ℕ) : Type 0 where
+  pub catalogue : d.catalogue ≡ e.catalogue
+  pub relvars : (n : ℕ) → IsInFootprint d.catalogue text n → relvars_in d.stored n ≡ relvars_in e.stored n

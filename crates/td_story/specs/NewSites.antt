@@ -1,0 +1,20 @@
+-- What opening a site answers: the first refusal in order, or a site that holds nothing.
+use Rattle.std.specs.Prelude.{◌≡◌, ℕ, true, false, List, [], None, Result, Ok, Err}
+use Rattle.td_story.specs.Databases.{DatabaseData}
+use Rattle.td_story.specs.Scripts as scripts
+use Rattle.td_story.specs.Seen.{Seen, is_limit}
+use Rattle.td_story.specs.declared.refusal.OpenError.{OpenError}
+use Rattle.td_story.specs.declared.refusal.OpenError.TheVariants.{BadSite, BadLimit, Script}
+
+abbrev pub opened : List ℕ → ℕ → ℕ → Seen
+opened script site limit = record { script = script; site = site; limit = limit; entries = []; live = true }
+
+-- the number and the limit are those of a site
+abbrev pub Fit : ℕ → ℕ → Type 0
+Fit site limit = (site ≡ 0 → ⊥) × (is_limit limit ≡ true)
+
+abbrev pub OpensSite : List ℕ → ℕ → ℕ → Result Seen OpenError → Type 0
+OpensSite script site limit (Ok s) = Fit site limit × (d : DatabaseData) × scripts.OpensOn script None d × (s ≡ opened script site limit)
+OpensSite script site limit (Err BadSite) = site ≡ 0
+OpensSite script site limit (Err BadLimit) = (site ≡ 0 → ⊥) × (is_limit limit ≡ false)
+OpensSite script site limit (Err (Script e)) = Fit site limit × scripts.Opens script (Err e)

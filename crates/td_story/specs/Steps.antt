@@ -1,0 +1,69 @@
+-- The step of one statement: its outcome, and the database after it.
+use Rattle.std.specs.Prelude.{◌≡◌, ℕ, List, [], Option, None, Some, Ok, Err}
+use Rattle.td_values.specs.declared.raises.Raise.{Raise}
+use Rattle.td_syntax.specs.declared.script.Statement.{Statement}
+use Rattle.td_grammar.specs.Statements as grammar
+use Rattle.td_headings.specs.Catalogues.{CatalogueData}
+use Rattle.td_headings.specs.Statements as typed
+use Rattle.td_headings.specs.declared.defined.Test.{Test}
+use Rattle.td_headings.specs.declared.statement.TypedStatement.{TypedStatement}
+use Rattle.td_algebra.specs.declared.errors.Stop.{Stop}
+use Rattle.td_story.specs.Raises.{stop_of}
+use Rattle.td_story.specs.Reports.{title}
+use Rattle.td_story.specs.Tests.{failing}
+use Rattle.td_story.specs.declared.broken.Broken.TheVariants as broken
+use Rattle.td_story.specs.Databases.{DatabaseData, relvars_in}
+use Rattle.td_story.specs.Given.{Given, nothing_given, with_given}
+use Rattle.td_story.specs.Sources.{sources}
+use Rattle.td_story.specs.declared.outcome.Outcome.{Outcome}
+use Rattle.td_story.specs.declared.outcome.Outcome.TheVariants.{Done, Unread, Raised, BreaksKey, BreaksConstraint}
+
+-- the text is the statement, of this typed form
+pub record IsRead (c : CatalogueData) (text : List ℕ) (x : TypedStatement) : Type 0 where
+  pub statement : Statement
+  pub reads : grammar.IsStatement text statement
+  pub types : typed.IsStatement c statement x
+
+abbrev pub IsUnread : CatalogueData → List ℕ → Type 0
+IsUnread c text = (x : TypedStatement) → IsRead c text x → ⊥
+
+-- the database with what its targets are given
+abbrev pub with_all : DatabaseData → Given → DatabaseData
+with_all d g = record { catalogue = d.catalogue; stored = with_given g d.stored }
+
+-- what the statement gives to its targets over these relvars
+abbrev pub given_by : DatabaseData → TypedStatement → Result Given Stop
+given_by d x = sources d.catalogue (relvars_in d.stored) nothing_given (typed.assignments_of x)
+
+-- the first test that is false or raises with all targets replaced
+abbrev pub failing_with : DatabaseData → Given → Option (Test × Option Stop)
+failing_with d g = failing d.catalogue (relvars_in (with_given g d.stored)) d.catalogue.tests
+
+-- a test that is false breaks its key or its constraint; one that raises gives its error
+abbrev pub TellsTest : CatalogueData → Test → Option Stop → Outcome → Type 0
+TellsTest c t None (BreaksKey n) = title c t ≡ broken.Key n
+TellsTest c t None (BreaksConstraint n) = title c t ≡ broken.Constraint n
+TellsTest c t (Some e) (Raised r) = e ≡ stop_of r
+TellsTest c t o outcome = ⊥
+
+-- A text that has no reading or no typing is unread. Else its sources are evaluated; where one raises, that error stands. Else, with
+-- all targets replaced, the first test that is false or raises decides. Only where none does, the database changes.
+pub data Steps (d : DatabaseData) (text : List ℕ) : Outcome → DatabaseData → Type 0 where
+  unread :
+      IsUnread d.catalogue text
+      → Steps d text Unread d
+  raised : {x : TypedStatement} {e : Raise}
+      → IsRead d.catalogue text x
+      → given_by d x ≡ Err (stop_of e)
+      → Steps d text (Raised e) d
+  refused : {x : TypedStatement} {g : Given} {t : Test} {o : Option Stop} {outcome : Outcome}
+      → IsRead d.catalogue text x
+      → given_by d x ≡ Ok g
+      → failing_with d g ≡ Some (t, o)
+      → TellsTest d.catalogue t o outcome
+      → Steps d text outcome d
+  done : {x : TypedStatement} {g : Given}
+      → IsRead d.catalogue text x
+      → given_by d x ≡ Ok g
+      → failing_with d g ≡ None
+      → Steps d text Done (with_all d g)

@@ -1,0 +1,89 @@
+//! Why calls are refused: each error's variants stand in the order in which their causes are judged.
+
+use crate::error::ScriptError;
+use thiserror::Error;
+
+/// Why a site is not opened.
+#[derive(Drop)]
+pub enum OpenError {
+    /// 0 is no site.
+    BadSite,
+    /// A limit is 1 to 100,000.
+    BadLimit,
+    /// What the script is refused for.
+    Script(ScriptError),
+}
+
+/// Why a statement is not issued.
+#[derive(Clone, Copy, Debug, Drop, PartialEq, Eq, Error)]
+pub enum IssueError {
+    #[error("the site's journal failed")]
+    Broken,
+    #[error("the text is no statement")]
+    Syntax,
+    #[error("the statement is ill typed")]
+    IllTyped,
+    #[error("the site has no number or clock left")]
+    ClockEnd,
+    #[error("the site is full")]
+    Full,
+    #[error("out of memory")]
+    OutOfMemory,
+    #[error("the journal cannot be written")]
+    JournalWrite,
+}
+
+/// Why a batch is not taken.
+#[derive(Clone, Copy, Debug, Drop, PartialEq, Eq, Error)]
+pub enum TakeError {
+    #[error("the site's journal failed")]
+    Broken,
+    #[error("an entry is out of its ranges")]
+    BadEntry,
+    #[error("an entry claims the place of another one: site {site}, sequence number {seq}")]
+    Clash { site: u16, seq: u32 },
+    #[error("the site has no room for the batch")]
+    Full,
+    #[error("out of memory")]
+    OutOfMemory,
+    #[error("the journal cannot be written")]
+    JournalWrite,
+}
+
+/// Why a query is not answered.
+#[derive(Clone, Copy, Debug, Drop, PartialEq, Eq, Error)]
+pub enum AskError {
+    #[error("the site's journal failed")]
+    Broken,
+    #[error("the text is no query")]
+    Syntax,
+    #[error("the query is ill typed")]
+    IllTyped,
+    #[error("out of memory")]
+    OutOfMemory,
+}
+
+/// Why a relvar is not told.
+#[derive(Clone, Copy, Debug, Drop, PartialEq, Eq, Error)]
+pub enum ValueError {
+    #[error("the site's journal failed")]
+    Broken,
+    #[error("no relvar has this name")]
+    Unknown,
+    #[error("out of memory")]
+    OutOfMemory,
+}
+
+/// Why outcomes are not told.
+#[derive(Clone, Copy, Debug, Drop, PartialEq, Eq, Error)]
+pub enum TellError {
+    #[error("the site's journal failed")]
+    Broken,
+    #[error("out of memory")]
+    OutOfMemory,
+}
+
+/// The site is not open: its journal failed.
+#[derive(Clone, Copy, Debug, Drop, PartialEq, Eq, Error)]
+#[error("the site's journal failed")]
+pub struct NotOpen;

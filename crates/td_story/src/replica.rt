@@ -1,0 +1,60 @@
+//! What every kind of site is.
+
+ghost use Rattle.std.specs.Prelude.{◌≡◌, MatchResult, false, true};
+ghost use Rattle.td_story.specs.Calls.{Asks, Issues, Takes, TellsOutcomes, TellsValue};
+ghost use Rattle.td_story.specs.Seen.{IsSound, Seen, holding};
+
+use crate::answer::{Answer, Issued, Reply, Taken};
+use crate::meter::Meter;
+use crate::outcome::Outcome;
+use crate::refusal::{AskError, IssueError, NotOpen, TakeError, TellError, ValueError};
+use std::alloc::Global;
+use td_stamps::{Entry, Held, Stamp};
+use td_values::Name;
+
+/// A site that holds a set of entries and tells what running it once, in stamp order, from what its script opens gives.
+pub trait Replica {
+    ghost seen: { Self → Seen };
+
+    /// Adds the site's next entry, with this text, and tells what became of it.
+    fn issue(&mut self, alloc: Global, text: &str, meter: &mut Meter) -> Result<Issued, IssueError>
+        ensures { Issues (seen self.old) text.now result (seen self.new) };
+
+    /// Adds the entries that are not held yet.
+    fn take(
+        &mut self,
+        alloc: Global,
+        batch: &[Entry],
+        meter: &mut Meter,
+    ) -> Result<Taken, TakeError>
+        ensures { Takes (seen self.old) batch.now result (seen self.new) };
+
+    /// What a query means over the relvars.
+    fn ask(&self, alloc: Global, text: &str) -> Result<Reply, AskError>
+        ensures { Asks (seen self.now) text.now result };
+
+    /// What the relvar of this name has, or the error that evaluating it raises.
+    fn value_of(&self, alloc: Global, name: &Name) -> Result<Answer, ValueError>
+        ensures { TellsValue (seen self.now) name.now result };
+
+    /// Each outcome with its stamp, in stamp order.
+    fn outcomes(&self, alloc: Global) -> Result<Vec<(Stamp, Outcome)>, TellError>
+        ensures { MatchResult result (λ v. TellsOutcomes (seen self.now) (Ok v.items)) (λ e. TellsOutcomes (seen self.now) (Err e)) };
+
+    /// The entries that are held.
+    fn held(&self) -> Result<&Held, NotOpen>
+        ensures { MatchResult result (λ h. ((seen self.now).live ≡ true) × (h.now ≡ holding (seen self.now))) (λ _. (seen self.now).live ≡ false) };
+
+    /// Whether it answers calls: one whose journal failed does not.
+    fn is_open(&self) -> bool
+        ensures { result ≡ (seen self.now).live };
+
+    /// Its number.
+    fn site(&self) -> u16
+        ensures number { result ≡ (seen self.now).site }
+        ensures sound { IsSound (seen self.now) };
+
+    /// The script that it started from.
+    fn script(&self) -> &str
+        ensures { result.now ≡ (seen self.now).script };
+}
