@@ -3,13 +3,13 @@
 use crate::contents::held;
 use crate::database::Result;
 use std::alloc::{AllocError, Global};
-use td_story::{Broken, ScriptError, catalogue_of};
+use td_story::{BrokenTest, ScriptError, catalogue_of};
 use td_relvars::{Database, open_script};
 
-fn broken(alloc: Global, test: &Broken) -> Result<String> {
+fn broken(alloc: Global, test: &BrokenTest) -> Result<String> {
     match test {
-        Broken::Key(relvar) => Ok(format!(in alloc; "broken key {}", relvar.as_str())?),
-        Broken::Constraint(name) => Ok(format!(in alloc; "broken constraint {}", name.as_str())?),
+        BrokenTest::Key(relvar) => Ok(format!(in alloc; "broken key {}", relvar.as_str())?),
+        BrokenTest::Constraint(name) => Ok(format!(in alloc; "broken constraint {}", name.as_str())?),
     }
 }
 

@@ -2,7 +2,7 @@
 
 use std::alloc::Global;
 use std::test::Fail;
-use td_story::{Answer, AskError, IssueError, Issued, Outcome, Reply, TakeError, Taken, TellError, ValueError};
+use td_story::{Answer, AskError, IssueError, Issued, Outcome, Asked, TakeError, Taken, TellError, ValueError};
 use td_relations::Relation;
 use td_stamps::{Stamp, Vector};
 use td_values::{Kind, Value, show};
@@ -40,10 +40,10 @@ pub fn taken(alloc: Global, answer: std::result::Result<Taken, TakeError>) -> Re
     }
 }
 
-pub fn replied(alloc: Global, answer: std::result::Result<Reply, AskError>) -> Result<String> {
+pub fn replied(alloc: Global, answer: std::result::Result<Asked, AskError>) -> Result<String> {
     match answer {
-        Ok(Reply::Value(value)) => Ok(show(alloc, &value)?),
-        Ok(Reply::Raised(raise)) => Ok(format!(in alloc; "raised {raise}")?),
+        Ok(Asked::Value(value)) => Ok(show(alloc, &value)?),
+        Ok(Asked::Raised(raise)) => Ok(format!(in alloc; "raised {raise}")?),
         Err(error) => Ok(format!(in alloc; "{error}")?),
     }
 }

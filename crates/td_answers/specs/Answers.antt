@@ -11,8 +11,8 @@ use Rattle.td_stamps.specs.Vectors.{VersionVector, IsVector}
 use Rattle.td_story.specs.Calls.{Asks, Issues}
 use Rattle.td_story.specs.Seen.{Seen}
 use Rattle.td_story.specs.declared.answer.Issued.{Issued}
-use Rattle.td_story.specs.declared.answer.Reply.{Reply}
-use Rattle.td_story.specs.declared.answer.Reply.TheVariants as reply
+use Rattle.td_story.specs.declared.answer.Asked.{Asked}
+use Rattle.td_story.specs.declared.answer.Asked.TheVariants as asked
 use Rattle.td_story.specs.declared.refusal.AskError.{AskError}
 use Rattle.td_story.specs.declared.refusal.IssueError.{IssueError}
 use Rattle.td_listings.specs.Calls.{Lists, Logs, Tabulates}
@@ -58,16 +58,16 @@ IssueAnswered t old (Some p) text new = (after : Seen) × TellsIssued t p.1 text
 -- ---- n? text
 
 -- the shown value, or raised E
-abbrev pub reply_line : Reply → List ℕ
-reply_line (reply.Value v) = shown v ++ codes "\n"
-reply_line (reply.Raised e) = raised_line e
+abbrev pub reply_line : Asked → List ℕ
+reply_line (asked.Value v) = shown v ++ codes "\n"
+reply_line (asked.Raised e) = raised_line e
 
-abbrev pub ask_answer : Result Reply AskError → List ℕ
+abbrev pub ask_answer : Result Asked AskError → List ℕ
 ask_answer (Ok r) = reply_line r
 ask_answer (Err e) = ask_fault e
 
 pub record TellsAsked (t : List ℕ) (s : Seen) (text : List ℕ) : Type 0 where
-  pub answer : Result Reply AskError
+  pub answer : Result Asked AskError
   pub asks : Asks s t answer
   pub line : text ≡ ask_answer answer
 

@@ -2,7 +2,7 @@
 
 ghost use Rattle.std.specs.Prelude.{◌≡◌, Ok, Err, IfOk, MatchResult, string_bytes};
 ghost use Rattle.td_story.specs.Scripts.{IsScriptOf};
-ghost use Rattle.td_story.specs.declared.answer.Reply.TheVariants as told;
+ghost use Rattle.td_story.specs.declared.answer.Asked.TheVariants as told;
 ghost use Rattle.td_answers.specs.Answers.{Counts, TellsAsked, TellsIssued, TellsLink, TellsListing, TellsLog, TellsTable, TellsVector, reply_line};
 ghost use Rattle.td_answers.specs.ForProofs.Said.{Says};
 
@@ -45,8 +45,8 @@ pub(crate) fn query<R: Replica>(alloc: Global, site: &R, text: &str) -> Reply
     ensures { Says (TellsAsked text.now (R.seen site.now)) result }
 {
     let value = match site.ask(alloc, text) {
-        Ok(td_story::Reply::Value(value)) => value,
-        Ok(td_story::Reply::Raised(raise)) => return Reply::Fixed(raised_line(raise)),
+        Ok(td_story::Asked::Value(value)) => value,
+        Ok(td_story::Asked::Raised(raise)) => return Reply::Fixed(raised_line(raise)),
         Err(error) => return Reply::Fixed(ask_fault(error)),
     };
     match value_line(alloc, &value) {

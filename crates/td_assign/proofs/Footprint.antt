@@ -23,7 +23,7 @@ use Rattle.td_headings.proofs.WellTyped.{all_typed}
 use Rattle.td_meaning.specs.Mean.{Relvars}
 use Rattle.td_operators.specs.Values.{rows_of, truth_of}
 use Rattle.td_story.specs.Tests.{AreLegal, failing, is_key, judgement, or_behind}
-use Rattle.td_story.specs.Databases.{DatabaseData, IsDatabase, Stored, at_place, relvars_in}
+use Rattle.td_story.specs.Databases.{DatabaseData, IsDatabase, Stored, at_place, stored_relvars}
 use Rattle.td_story.specs.Given.{Given, gives, nothing_given, or_old, or_stored, seen, with_given}
 use Rattle.td_story.specs.Differences.{AreDifferences, Differs}
 use Rattle.td_story.specs.Footprints.{AgreeOnFootprint, InFootprint, IsInFootprint, TestReads, by_source, by_test, target}
@@ -110,7 +110,7 @@ module _ (c : CatalogueData) (defined : Defined c) (r s : Relvars) where
   failing_alike (t ∷ ts) same = λ i. or_behind t (same t (first t ts) i) (failing_alike ts (λ u h. same u (further t ts u h)) i)
 
 -- ---- what is stored with all targets replaced
-given_alike : (g : Given) (s t : Stored) (m : ℕ) → length s ≡ length t → relvars_in s m ≡ relvars_in t m → relvars_in (with_given g s) m ≡ relvars_in (with_given g t) m
+given_alike : (g : Given) (s t : Stored) (m : ℕ) → length s ≡ length t → stored_relvars s m ≡ stored_relvars t m → stored_relvars (with_given g s) m ≡ stored_relvars (with_given g t) m
 given_alike g [] [] m e h = h
 given_alike g [] (y ∷ t) m e h = cc
 given_alike g (x ∷ s) [] m e h = cc
@@ -146,10 +146,10 @@ module _ (P : ℕ → Type 0) where
       by (Err f) e rest = cc
 
   -- a relvar is a target, or has afterwards what it had
-  of_or_stays : (g : Given) → AreOf g → (n : ℕ) → P n ⊎ ((s : Stored) → relvars_in (with_given g s) n ≡ relvars_in s n)
+  of_or_stays : (g : Given) → AreOf g → (n : ℕ) → P n ⊎ ((s : Stored) → stored_relvars (with_given g s) n ≡ stored_relvars s n)
   of_or_stays g h n = by (g n) refl
     where
-      by : (o : Option RowsData) → g n ≡ o → P n ⊎ ((s : Stored) → relvars_in (with_given g s) n ≡ relvars_in s n)
+      by : (o : Option RowsData) → g n ≡ o → P n ⊎ ((s : Stored) → stored_relvars (with_given g s) n ≡ stored_relvars s n)
       by None e = inr (λ s. ap at_place (given_none g s n e))
       by (Some r) e = inl (h n r e)
 
@@ -166,46 +166,46 @@ module _ (r s : Relvars) (ds : List (ℕ × DeltaData)) where
   }
 
 -- ---- two databases
-module _ (d : DatabaseData) (stored : Stored) (text : List ℕ) (is : IsDatabase d) (length_same : length d.stored ≡ length stored) (legal : AreLegal d.catalogue (relvars_in d.stored)) (other_legal : AreLegal d.catalogue (relvars_in stored)) (agree : (n : ℕ) → IsInFootprint d.catalogue text n → relvars_in d.stored n ≡ relvars_in stored n) where
+module _ (d : DatabaseData) (stored : Stored) (text : List ℕ) (is : IsDatabase d) (length_same : length d.stored ≡ length stored) (legal : AreLegal d.catalogue (stored_relvars d.stored)) (other_legal : AreLegal d.catalogue (stored_relvars stored)) (agree : (n : ℕ) → IsInFootprint d.catalogue text n → stored_relvars d.stored n ≡ stored_relvars stored n) where
   abbrev other : DatabaseData
   other = record { catalogue = d.catalogue; stored = stored }
 
   module _ (x : TypedStatement) (p : IsRead d.catalogue text x) where
-    agree_at : (n : ℕ) → InFootprint d.catalogue x n → relvars_in d.stored n ≡ relvars_in stored n
+    agree_at : (n : ℕ) → InFootprint d.catalogue x n → stored_relvars d.stored n ≡ stored_relvars stored n
     agree_at n h = agree n (record { statement = x; reads = p; within = h })
 
     same_sources : given_by d x ≡ given_by other x
-    same_sources = sources_alike d.catalogue is.defined (relvars_in d.stored) (relvars_in stored) (actions_of p.statement) (assignments_of x) p.types (λ a there n h. agree_at n (by_source there h)) nothing_given
+    same_sources = sources_alike d.catalogue is.defined (stored_relvars d.stored) (stored_relvars stored) (actions_of p.statement) (assignments_of x) p.types (λ a there n h. agree_at n (by_source there h)) nothing_given
 
     module _ (g : Given) (given : given_by d x ≡ Ok g) where
       nothing_of : AreOf (IsTarget x) nothing_given
       nothing_of n r is = cc
 
-      changed : (n : ℕ) → IsTarget x n ⊎ ((s : Stored) → relvars_in (with_given g s) n ≡ relvars_in s n)
-      changed = of_or_stays (IsTarget x) g (sources_of (IsTarget x) d.catalogue (relvars_in d.stored) (assignments_of x) (λ n h. h) nothing_given g nothing_of given)
+      changed : (n : ℕ) → IsTarget x n ⊎ ((s : Stored) → stored_relvars (with_given g s) n ≡ stored_relvars s n)
+      changed = of_or_stays (IsTarget x) g (sources_of (IsTarget x) d.catalogue (stored_relvars d.stored) (assignments_of x) (λ n h. h) nothing_given g nothing_of given)
 
-      agree_after : (n : ℕ) → InFootprint d.catalogue x n → relvars_in (with_given g d.stored) n ≡ relvars_in (with_given g stored) n
+      agree_after : (n : ℕ) → InFootprint d.catalogue x n → stored_relvars (with_given g d.stored) n ≡ stored_relvars (with_given g stored) n
       agree_after n h = given_alike g d.stored stored n length_same (agree_at n h)
 
       -- a test that reads no target is true as before
-      still_true : (s : Stored) → AreLegal d.catalogue (relvars_in s) → (t : Test) → Contains d.catalogue.tests t → ((m : ℕ) → TestReads d.catalogue t m → IsTarget x m → ⊥) → judgement d.catalogue (relvars_in (with_given g s)) t ≡ Ok true
+      still_true : (s : Stored) → AreLegal d.catalogue (stored_relvars s) → (t : Test) → Contains d.catalogue.tests t → ((m : ℕ) → TestReads d.catalogue t m → IsTarget x m → ⊥) → judgement d.catalogue (stored_relvars (with_given g s)) t ≡ Ok true
       still_true s was t there never =
-          judged_alike d.catalogue is.defined (relvars_in (with_given g s)) (relvars_in s) t there (λ n h. ⊎_elim (λ q. absurd (never n h q)) (λ stays. stays s) (changed n))
+          judged_alike d.catalogue is.defined (stored_relvars (with_given g s)) (stored_relvars s) t there (λ n h. ⊎_elim (λ q. absurd (never n h q)) (λ stays. stays s) (changed n))
           ∙ was t there
 
-      same_judgement : (t : Test) → Contains d.catalogue.tests t → judgement d.catalogue (relvars_in (with_given g d.stored)) t ≡ judgement d.catalogue (relvars_in (with_given g stored)) t
+      same_judgement : (t : Test) → Contains d.catalogue.tests t → judgement d.catalogue (stored_relvars (with_given g d.stored)) t ≡ judgement d.catalogue (stored_relvars (with_given g stored)) t
       same_judgement t there =
-          by_cases ((m : ℕ) × TestReads d.catalogue t m × IsTarget x m) (judgement d.catalogue (relvars_in (with_given g d.stored)) t) (judgement d.catalogue (relvars_in (with_given g stored)) t)
-          (λ q. judged_alike d.catalogue is.defined (relvars_in (with_given g d.stored)) (relvars_in (with_given g stored)) t there (λ n h. agree_after n (by_test there q.1 q.2 h)))
+          by_cases ((m : ℕ) × TestReads d.catalogue t m × IsTarget x m) (judgement d.catalogue (stored_relvars (with_given g d.stored)) t) (judgement d.catalogue (stored_relvars (with_given g stored)) t)
+          (λ q. judged_alike d.catalogue is.defined (stored_relvars (with_given g d.stored)) (stored_relvars (with_given g stored)) t there (λ n h. agree_after n (by_test there q.1 q.2 h)))
           (λ none.
           let never : (m : ℕ) → TestReads d.catalogue t m → IsTarget x m → ⊥ = λ m h k. none (m, h, k) in
           still_true d.stored legal t there never ∙ sym (still_true stored other_legal t there never))
 
       same_failing : failing_with d g ≡ failing_with other g
-      same_failing = failing_alike d.catalogue is.defined (relvars_in (with_given g d.stored)) (relvars_in (with_given g stored)) d.catalogue.tests same_judgement
+      same_failing = failing_alike d.catalogue is.defined (stored_relvars (with_given g d.stored)) (stored_relvars (with_given g stored)) d.catalogue.tests same_judgement
 
-      module _ (ds : List (ℕ × DeltaData)) (a : AreDifferences (relvars_in d.stored) (relvars_in (with_given g d.stored)) ds) where
-        differs : (q : ℕ × DeltaData) → Contains ds q → Differs (relvars_in stored) (relvars_in (with_given g stored)) q.0 q.1
+      module _ (ds : List (ℕ × DeltaData)) (a : AreDifferences (stored_relvars d.stored) (stored_relvars (with_given g d.stored)) ds) where
+        differs : (q : ℕ × DeltaData) → Contains ds q → Differs (stored_relvars stored) (stored_relvars (with_given g stored)) q.0 q.1
         differs q there =
             let o = a.only q there in
             ⊎_elim
@@ -213,23 +213,23 @@ module _ (d : DatabaseData) (stored : Stored) (text : List ℕ) (is : IsDatabase
             (λ stays. absurd (o.apart (ok_same o.before o.after (sym o.was ∙ sym (stays d.stored) ∙ o.is))))
             (changed q.0)
 
-        stays_there : (n : ℕ) → relvars_in (with_given g d.stored) n ≡ relvars_in d.stored n → relvars_in (with_given g stored) n ≡ relvars_in stored n
+        stays_there : (n : ℕ) → stored_relvars (with_given g d.stored) n ≡ stored_relvars d.stored n → stored_relvars (with_given g stored) n ≡ stored_relvars stored n
         stays_there n same =
             ⊎_elim
             (λ h. sym (agree_after n (target h)) ∙ same ∙ agree_at n (target h))
             (λ stays. stays stored)
             (changed n)
 
-        same_differences : AreDifferences (relvars_in stored) (relvars_in (with_given g stored)) ds
+        same_differences : AreDifferences (stored_relvars stored) (stored_relvars (with_given g stored)) ds
         same_differences = record { once = a.once; only = differs; all = λ n never. stays_there n (a.all n never) }
 
   alike : (f : DatabaseData) (o : Outcome) → Steps d text o f → StepsAlike d f other text o
-  alike f o (unread h) = record { after = other; step = unread h; differences = none_differ (relvars_in d.stored) (relvars_in stored) }
-  alike f o (raised {x = x} p h) = record { after = other; step = raised p (sym (same_sources x p) ∙ h); differences = none_differ (relvars_in d.stored) (relvars_in stored) }
+  alike f o (unread h) = record { after = other; step = unread h; differences = none_differ (stored_relvars d.stored) (stored_relvars stored) }
+  alike f o (raised {x = x} p h) = record { after = other; step = raised p (sym (same_sources x p) ∙ h); differences = none_differ (stored_relvars d.stored) (stored_relvars stored) }
   alike f o (refused {x = x} {g = g} p h i j) = record {
     after = other;
     step = refused p (sym (same_sources x p) ∙ h) (sym (same_failing x p g h) ∙ i) j;
-    differences = none_differ (relvars_in d.stored) (relvars_in stored);
+    differences = none_differ (stored_relvars d.stored) (stored_relvars stored);
   }
   alike f o (done {x = x} {g = g} p h i) = record {
     after = with_all other g;
@@ -237,10 +237,10 @@ module _ (d : DatabaseData) (stored : Stored) (text : List ℕ) (is : IsDatabase
     differences = same_differences x p g h;
   }
 
-pub step_by_footprint : (d e f : DatabaseData) (text : List ℕ) (o : Outcome) → IsDatabase d → IsDatabase e → AreLegal d.catalogue (relvars_in d.stored) → AreLegal e.catalogue (relvars_in e.stored) → AgreeOnFootprint d e text → Steps d text o f → StepsAlike d f e text o
+pub step_by_footprint : (d e f : DatabaseData) (text : List ℕ) (o : Outcome) → IsDatabase d → IsDatabase e → AreLegal d.catalogue (stored_relvars d.stored) → AreLegal e.catalogue (stored_relvars e.stored) → AgreeOnFootprint d e text → Steps d text o f → StepsAlike d f e text o
 step_by_footprint d e f text o is other_is legal other_legal a step =
     let same = a.catalogue in
     let length_same = is.each ∙ ap (λ (c : CatalogueData). length c.origins) same ∙ sym other_is.each in
-    let moved : AreLegal d.catalogue (relvars_in e.stored) = subst (λ (c : CatalogueData). AreLegal c (relvars_in e.stored)) (sym same) other_legal in
+    let moved : AreLegal d.catalogue (stored_relvars e.stored) = subst (λ (c : CatalogueData). AreLegal c (stored_relvars e.stored)) (sym same) other_legal in
     subst (λ (c : CatalogueData). StepsAlike d f (record { catalogue = c; stored = e.stored }) text o) same
     (alike d e.stored text is length_same legal moved a.relvars f o step)

@@ -17,11 +17,11 @@ use Rattle.td_headings.specs.declared.statement.TypedStatement.{TypedStatement}
 use Rattle.td_meaning.specs.Mean.{Relvars}
 use Rattle.td_story.specs.Raises.{stop_of}
 use Rattle.td_story.specs.Reports.{IsReport, title}
-use Rattle.td_story.specs.declared.broken.Broken.{Broken}
-use Rattle.td_story.specs.declared.broken.Broken.TheVariants as broken
+use Rattle.td_story.specs.declared.broken.BrokenTest.{BrokenTest}
+use Rattle.td_story.specs.declared.broken.BrokenTest.TheVariants as broken
 use Rattle.td_story.specs.declared.broken.TestFailure.{TestFailure}
 use Rattle.td_story.specs.Tests.{failing}
-use Rattle.td_story.specs.Databases.{DatabaseData, IsDatabase, relvars_in}
+use Rattle.td_story.specs.Databases.{DatabaseData, IsDatabase, stored_relvars}
 use Rattle.td_story.specs.Given.{replaced}
 use Rattle.td_assign.specs.ForProofs.Lists.{given_to}
 use Rattle.td_story.specs.Differences.{AreDifferences}
@@ -59,11 +59,11 @@ module _ (c : CatalogueData) (t : Test) where
   tells_error None f e is h = let nothing : Some (stop_of e) ≡ None = sym (ap (option_map stop_of) is) ∙ h in cc
   tells_error (Some s) f e is h = sym (some_same (stop_of e) s (sym (ap (option_map stop_of) is) ∙ h))
 
-  pub tells_key : (o : Option Stop) (f : Option Raise) (b : Broken) (n : List ℕ) → f ≡ None → b ≡ broken.Key n → b ≡ title c t → option_map stop_of f ≡ o → TellsTest c t o (outcome.BreaksKey n)
+  pub tells_key : (o : Option Stop) (f : Option Raise) (b : BrokenTest) (n : List ℕ) → f ≡ None → b ≡ broken.Key n → b ≡ title c t → option_map stop_of f ≡ o → TellsTest c t o (outcome.BreaksKey n)
   tells_key None f b n no_error is at h = sym at ∙ is
   tells_key (Some s) f b n no_error is at h = let nothing : None ≡ Some s = sym (ap (option_map stop_of) no_error) ∙ h in cc
 
-  pub tells_constraint : (o : Option Stop) (f : Option Raise) (b : Broken) (n : List ℕ) → f ≡ None → b ≡ broken.Constraint n → b ≡ title c t → option_map stop_of f ≡ o → TellsTest c t o (outcome.BreaksConstraint n)
+  pub tells_constraint : (o : Option Stop) (f : Option Raise) (b : BrokenTest) (n : List ℕ) → f ≡ None → b ≡ broken.Constraint n → b ≡ title c t → option_map stop_of f ≡ o → TellsTest c t o (outcome.BreaksConstraint n)
   tells_constraint None f b n no_error is at h = sym at ∙ is
   tells_constraint (Some s) f b n no_error is at h = let nothing : None ≡ Some s = sym (ap (option_map stop_of) no_error) ∙ h in cc
 
@@ -76,11 +76,11 @@ passes c None h = refl
 passes c (Some p) h = absurd h
 
 module _ (d : DatabaseData) (cs : List Change) where
-  pub report_is : (ys : List Change) (k : CatalogueData) (o : Option TestFailure) → IsDatabase d → AreChanges d.catalogue cs → k ≡ d.catalogue → ys ≡ cs → IsReport k (failing k (replaced (given_to ys) (relvars_in d.stored)) k.tests) o → IsReport d.catalogue (failing_after d cs) o
+  pub report_is : (ys : List Change) (k : CatalogueData) (o : Option TestFailure) → IsDatabase d → AreChanges d.catalogue cs → k ≡ d.catalogue → ys ≡ cs → IsReport k (failing k (replaced (given_to ys) (stored_relvars d.stored)) k.tests) o → IsReport d.catalogue (failing_after d cs) o
   report_is ys k o is are same seen h =
       subst (λ r. IsReport d.catalogue (failing d.catalogue r d.catalogue.tests) o) (all_replaced d.catalogue cs are d.stored is)
-      (subst (λ (zs : List Change). IsReport d.catalogue (failing d.catalogue (replaced (given_to zs) (relvars_in d.stored)) d.catalogue.tests) o) seen
-      (subst (λ (z : CatalogueData). IsReport z (failing z (replaced (given_to ys) (relvars_in d.stored)) z.tests) o) same h))
+      (subst (λ (zs : List Change). IsReport d.catalogue (failing d.catalogue (replaced (given_to zs) (stored_relvars d.stored)) d.catalogue.tests) o) seen
+      (subst (λ (z : CatalogueData). IsReport z (failing z (replaced (given_to ys) (stored_relvars d.stored)) z.tests) o) same h))
 
   pub refused_by : (o : Option TestFailure) (f : TestFailure) (out : Outcome) → o ≡ Some f → IsReport d.catalogue (failing_after d cs) o → ((c : CatalogueData) (t : Test) (e : Option Stop) → IsReport c (Some (t, e)) (Some f) → TellsTest c t e out) → IsJudged d cs (Refused out)
   refused_by o f out is h tells =

@@ -14,7 +14,7 @@ use Rattle.td_soundness.specs.Meanings.{GivesRelation, IsRelation}
 use Rattle.td_story.specs.Trees.{AreBases}
 use Rattle.td_story.specs.Stored.{AreStored}
 use Rattle.td_constraints.proofs.Judged.{are_bases}
-use Rattle.td_story.specs.Databases.{Belongs, IsDatabase, Stored, at_place, put, relvars_in}
+use Rattle.td_story.specs.Databases.{Belongs, IsDatabase, Stored, at_place, put, stored_relvars}
 use Rattle.td_relvars.proofs.Stores.{base_within, put_is}
 use Rattle.td_story.specs.Given.{Given, or_old, or_stored, replaced, seen, with_given}
 use Rattle.td_assign.specs.ForProofs.Given.{AreChanges, AreDistinct, IsChange}
@@ -57,20 +57,20 @@ module _ (c : CatalogueData) where
     within : (n : ℕ) → is_base (slice_get c.origins n) ≡ true → n < length stored
     within n base = let lt = base_within c.origins n base in let count = is.each in omega (arith, lt, count)
 
-    replaced_at : (n : ℕ) → relvars_in (with_given g stored) n ≡ replaced g (relvars_in stored) n
+    replaced_at : (n : ℕ) → stored_relvars (with_given g stored) n ≡ replaced g (stored_relvars stored) n
     replaced_at n = by (g n) refl
       where
-        by : (o : Option RowsData) → g n ≡ o → relvars_in (with_given g stored) n ≡ or_old o (relvars_in stored n)
+        by : (o : Option RowsData) → g n ≡ o → stored_relvars (with_given g stored) n ≡ or_old o (stored_relvars stored n)
         by None h = ap at_place (given_none g stored n h)
         by (Some r) h = ap at_place (given_some g stored n r (within n (each n r h).stored) h)
 
-    pub given_replaced : replaced g (relvars_in stored) ≡ relvars_in (with_given g stored)
+    pub given_replaced : replaced g (stored_relvars stored) ≡ stored_relvars (with_given g stored)
     given_replaced = λ i n. sym (replaced_at n) i
 
-    given_stored : AreStored c (relvars_in (with_given g stored))
+    given_stored : AreStored c (stored_relvars (with_given g stored))
     given_stored n v base at = by (g n) refl
       where
-        by : (o : Option RowsData) → g n ≡ o → (r : RowsData) × (relvars_in (with_given g stored) n ≡ Ok r) × IsRelation c.schema v.value r
+        by : (o : Option RowsData) → g n ≡ o → (r : RowsData) × (stored_relvars (with_given g stored) n ≡ Ok r) × IsRelation c.schema v.value r
         by None h = let k = is.stored n v base at in (k.0, ap at_place (given_none g stored n h) ∙ k.1, k.2)
         by (Some r) h =
             let b = each n r h in
@@ -95,18 +95,18 @@ module _ (c : CatalogueData) where
     pub is_after : IsOf (with_given (given_to cs) stored)
     is_after = given_is (given_to cs) (given_belongs cs are.each) stored is
 
-    pub all_replaced : replaced (given_to cs) (relvars_in stored) ≡ relvars_in (with_given (given_to cs) stored)
+    pub all_replaced : replaced (given_to cs) (stored_relvars stored) ≡ stored_relvars (with_given (given_to cs) stored)
     all_replaced = given_replaced (given_to cs) (given_belongs cs are.each) stored is
 
-    pub replaced_stored : AreStored c (replaced (given_to cs) (relvars_in stored))
+    pub replaced_stored : AreStored c (replaced (given_to cs) (stored_relvars stored))
     replaced_stored = subst (AreStored c) (sym all_replaced) is_after.stored
 
-    pub seen_bases : (t : ℕ) → AreBases c (seen (given_to cs) t (relvars_in stored))
+    pub seen_bases : (t : ℕ) → AreBases c (seen (given_to cs) t (stored_relvars stored))
     seen_bases t n v base at = by (t == n)
       where
-        by : (b : Bool) → GivesRelation c.schema v.value (if b then or_old (given_to cs n) (relvars_in stored n) else relvars_in stored n)
-        by true = are_bases c (replaced (given_to cs) (relvars_in stored)) replaced_stored n v base at
-        by false = are_bases c (relvars_in stored) is.stored n v base at
+        by : (b : Bool) → GivesRelation c.schema v.value (if b then or_old (given_to cs n) (stored_relvars stored n) else stored_relvars stored n)
+        by true = are_bases c (replaced (given_to cs) (stored_relvars stored)) replaced_stored n v base at
+        by false = are_bases c (stored_relvars stored) is.stored n v base at
 
 -- ---- one target after the other
 pub put_first : (t : ℕ) (r : RowsData) (g : Given) (xs : Stored) → g t ≡ None → with_given (λ n. if t == n then Some r else g n) xs ≡ with_given g (put t r xs)

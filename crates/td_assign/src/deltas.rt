@@ -1,7 +1,7 @@
 //! The exact difference that a statement makes.
 
 ghost use Rattle.std.specs.Prelude.{◌≡◌, IfOk, MatchOption, Ok};
-ghost use Rattle.td_story.specs.Databases.{IsDatabase, relvars_in};
+ghost use Rattle.td_story.specs.Databases.{IsDatabase, stored_relvars};
 ghost use Rattle.td_story.specs.Given as spec;
 ghost use Rattle.td_assign.specs.ForProofs.Lists.{given_to};
 ghost use Rattle.td_story.specs.Differences.{AreDifferences};
@@ -36,7 +36,7 @@ fn difference(
 ) -> Result<Option<Delta>, AllocError>
     requires database { IsDatabase database.now }
     requires change { IsChange database.now.catalogue change.now }
-    ensures { IfOk result (λ o. MatchOption o (relvars_in database.now.stored change.now.target ≡ Ok change.now.relation) (DiffersBy (relvars_in database.now.stored) change.now)) }
+    ensures { IfOk result (λ o. MatchOption o (stored_relvars database.now.stored change.now.target ≡ Ok change.now.relation) (DiffersBy (stored_relvars database.now.stored) change.now)) }
 {
     match database.base_at(change.target) {
         Some(base) => turning(alloc, base.relation(), &change.relation),
@@ -52,7 +52,7 @@ pub(crate) fn differences(
 ) -> Result<Vec<(usize, Delta)>, AllocError>
     requires database { IsDatabase database.now }
     requires changes { AreChanges database.now.catalogue changes.now }
-    ensures { IfOk result (λ v. AreDifferences (relvars_in database.now.stored) (relvars_in (spec.with_given (given_to changes.now) database.now.stored)) v.items) }
+    ensures { IfOk result (λ v. AreDifferences (stored_relvars database.now.stored) (stored_relvars (spec.with_given (given_to changes.now) database.now.stored)) v.items) }
 {
     let mut found = Vec::new(alloc);
     for change in changes {

@@ -6,7 +6,7 @@ ghost use Rattle.td_headings.specs.Catalogues.{CatalogueData};
 ghost use Rattle.td_headings.specs.Statements as typed;
 ghost use Rattle.td_headings.specs.declared.defined.Test.{Test};
 ghost use Rattle.td_algebra.specs.declared.errors.Stop.{Stop};
-ghost use Rattle.td_story.specs.Databases.{relvars_in};
+ghost use Rattle.td_story.specs.Databases.{stored_relvars};
 ghost use Rattle.td_story.specs.Counts.{one_more};
 ghost use Rattle.td_story.specs.Differences.{AreDifferences};
 ghost use Rattle.td_assign.specs.ForProofs.Given.{AreAssigned, AreChanges};
@@ -17,7 +17,7 @@ ghost use Rattle.td_story.specs.Steps.{IsRead, IsUnread, Steps};
 
 use crate::changes::Change;
 use crate::deltas::differences;
-use td_story::{Broken, Failure, Meter, Outcome, TestFailure};
+use td_story::{BrokenTest, Failure, Meter, Outcome, TestFailure};
 use crate::ran::Ran;
 use crate::seen::Replaced;
 use crate::sources::changes;
@@ -55,8 +55,8 @@ fn refusal(failure: TestFailure) -> Outcome
 {
     match (failure.raised, failure.test) {
         (Some(raise), _) => Outcome::Raised(raise),
-        (None, Broken::Key(relvar)) => Outcome::BreaksKey(relvar),
-        (None, Broken::Constraint(name)) => Outcome::BreaksConstraint(name),
+        (None, BrokenTest::Key(relvar)) => Outcome::BreaksKey(relvar),
+        (None, BrokenTest::Constraint(name)) => Outcome::BreaksConstraint(name),
     }
 }
 
@@ -149,7 +149,7 @@ pub fn run(
     meter: &mut Meter,
 ) -> Result<Ran, AllocError>
     ensures step { IfOk result (λ r. Steps database.old text.now r.outcome database.new) }
-    ensures delta { IfOk result (λ r. AreDifferences (relvars_in database.old.stored) (relvars_in database.new.stored) r.delta.items) }
+    ensures delta { IfOk result (λ r. AreDifferences (stored_relvars database.old.stored) (stored_relvars database.new.stored) r.delta.items) }
     ensures kept { OnErr result (database.new ≡ database.old) }
     ensures counted { meter.new.count ≡ one_more meter.old.count }
 {

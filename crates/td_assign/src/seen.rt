@@ -2,7 +2,7 @@
 
 ghost use Rattle.td_assign.specs.ForProofs.Lists as lists;
 ghost use Rattle.td_story.specs.Given as spec;
-ghost use Rattle.td_story.specs.Databases.{relvars_in};
+ghost use Rattle.td_story.specs.Databases.{stored_relvars};
 
 use crate::changes::{Change, given_to};
 use std::alloc::Global;
@@ -20,7 +20,7 @@ pub(crate) struct Seen<'a> {
 }
 
 impl Lookup for Seen<'_> {
-    ghost relvars = { λ s. spec.seen (lists.given_to s.changes.now) s.target (relvars_in s.database.now.stored) };
+    ghost relvars = { λ s. spec.seen (lists.given_to s.changes.now) s.target (stored_relvars s.database.now.stored) };
 
     fn value(&self, alloc: Global, relvar: usize) -> Result<Relation, Fault> {
         if self.target == relvar {
@@ -40,7 +40,7 @@ pub(crate) struct Replaced<'a> {
 }
 
 impl Lookup for Replaced<'_> {
-    ghost relvars = { λ s. spec.replaced (lists.given_to s.changes.now) (relvars_in s.database.now.stored) };
+    ghost relvars = { λ s. spec.replaced (lists.given_to s.changes.now) (stored_relvars s.database.now.stored) };
 
     fn value(&self, alloc: Global, relvar: usize) -> Result<Relation, Fault> {
         match given_to(self.changes, relvar) {

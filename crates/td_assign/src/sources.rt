@@ -2,7 +2,7 @@
 
 ghost use Rattle.std.specs.Prelude.{IfOk, OnOk};
 ghost use Rattle.td_story.specs.Raises.{Tells};
-ghost use Rattle.td_story.specs.Databases.{Belongs, relvars_in};
+ghost use Rattle.td_story.specs.Databases.{Belongs, stored_relvars};
 ghost use Rattle.td_assign.specs.ForProofs.Given.{AreAssigned, AreChanges, GivesMore, IsAssigned, TellsChanges};
 ghost use Rattle.td_assign.specs.ForProofs.Lists.{given_to};
 ghost use Rattle.td_story.specs.Given.{nothing_given};
@@ -25,7 +25,7 @@ fn source(
 ) -> Result<Relation, Failure>
     requires assigned { IsAssigned database.now.catalogue assignment.now }
     requires given { AreChanges database.now.catalogue changes.now }
-    ensures told { Tells result (source_means database.now.catalogue (relvars_in database.now.stored) (given_to changes.now) assignment.now) }
+    ensures told { Tells result (source_means database.now.catalogue (stored_relvars database.now.stored) (given_to changes.now) assignment.now) }
     ensures typed { IfOk result (Belongs database.now.catalogue assignment.now.target) }
 {
     let catalogue = database.catalogue();
@@ -50,7 +50,7 @@ fn add_source(
 ) -> Result<(), Failure>
     requires assigned { IsAssigned database.now.catalogue assignment.now }
     requires given { AreChanges database.now.catalogue changes.old.items }
-    ensures told { GivesMore (source_means database.now.catalogue (relvars_in database.now.stored) (given_to changes.old.items) assignment.now) assignment.now.target changes.old.items result changes.new.items }
+    ensures told { GivesMore (source_means database.now.catalogue (stored_relvars database.now.stored) (given_to changes.old.items) assignment.now) assignment.now.target changes.old.items result changes.new.items }
     ensures given { OnOk result (AreChanges database.now.catalogue changes.new.items) }
 {
     match source(alloc, database, changes, assignment) {
@@ -66,7 +66,7 @@ pub(crate) fn changes(
     assignments: &[TypedAssignment],
 ) -> Result<Vec<Change>, Failure>
     requires { AreAssigned database.now.catalogue assignments.now }
-    ensures told { TellsChanges result (sources database.now.catalogue (relvars_in database.now.stored) nothing_given assignments.now) }
+    ensures told { TellsChanges result (sources database.now.catalogue (stored_relvars database.now.stored) nothing_given assignments.now) }
     ensures given { IfOk result (λ v. AreChanges database.now.catalogue v.items) }
 {
     let mut changes = Vec::new(alloc);

@@ -3,7 +3,7 @@ use Rattle.std.specs.Prelude.{◌≡◌, ◌⊎◌, ◌≤◌, ℕ, zero, suc, B
 use Rattle.std.specs.List.{AllByRecursion}
 use Rattle.std.specs.Str.{bytes_eq, is_utf8}
 use Rattle.std.specs.Io.KnownBytes.{IsAtEnd}
-use Rattle.td_story.specs.declared.broken.Broken.TheVariants as broken
+use Rattle.td_story.specs.declared.broken.BrokenTest.TheVariants as broken
 use Rattle.td_devices.specs.Lines.{raw_lines, content, IsWholeLine, IsOfOneLine}
 use Rattle.td_story.specs.Databases.{DatabaseData}
 use Rattle.td_story.specs.Scripts.{Opens}

@@ -8,7 +8,7 @@ ghost use Rattle.td_story.specs.declared.error.ScriptError.TheVariants as open_e
 use crate::run::Ended;
 use crate::writing::put_fault;
 use std::alloc::{AllocError, Global};
-use td_story::{Broken, ScriptError};
+use td_story::{BrokenTest, ScriptError};
 use td_devices::Sink;
 use td_listings::show_raise;
 use td_values::{Name, Raise};
@@ -33,12 +33,12 @@ fn named_text(alloc: Global, words: &str, name: &Name) -> Result<String, AllocEr
     Ok(out)
 }
 
-fn broken_text(alloc: Global, broken: &Broken) -> Result<String, AllocError>
+fn broken_text(alloc: Global, broken: &BrokenTest) -> Result<String, AllocError>
     ensures { IfOk result (λ text. string_bytes text ≡ script_fault (open_error.OpeningBroken broken.now)) }
 {
     match broken {
-        Broken::Key(relvar) => named_text(alloc, "fault script broken key ", relvar),
-        Broken::Constraint(name) => named_text(alloc, "fault script broken constraint ", name),
+        BrokenTest::Key(relvar) => named_text(alloc, "fault script broken key ", relvar),
+        BrokenTest::Constraint(name) => named_text(alloc, "fault script broken constraint ", name),
     }
 }
 

@@ -10,7 +10,7 @@ ghost use Rattle.td_story.specs.Stored.{AreStored};
 ghost use Rattle.td_story.specs.Tests as spec;
 ghost use Rattle.td_story.specs.Tests.{failing, judgement, or_behind};
 
-use td_story::{Broken, Failure, TestFailure};
+use td_story::{BrokenTest, Failure, TestFailure};
 use std::alloc::{AllocError, Global};
 use td_algebra::{Fault, tell_apart};
 use td_eval::{Lookup, truth};
@@ -80,16 +80,16 @@ fn judge<L: Lookup>(
 }
 
 // The test, as it is told.
-fn broken(catalogue: &Catalogue, test: &Test) -> Result<Broken, AllocError>
+fn broken(catalogue: &Catalogue, test: &Test) -> Result<BrokenTest, AllocError>
     requires { HasRelvar catalogue.now test.now }
     ensures { IfOk result (λ b. b ≡ title catalogue.now test.now) }
 {
     match test {
         Test::Key(relvar, _) => match catalogue.schema().relvar_at(*relvar) {
-            Some((name, _)) => Ok(Broken::Key(name.copy()?)),
+            Some((name, _)) => Ok(BrokenTest::Key(name.copy()?)),
             None => unreachable!(),
         },
-        Test::Constraint(name, _) => Ok(Broken::Constraint(name.copy()?)),
+        Test::Constraint(name, _) => Ok(BrokenTest::Constraint(name.copy()?)),
     }
 }
 

@@ -6,7 +6,7 @@ use Rattle.td_algebra.specs.declared.errors.Stop.{Stop}
 use Rattle.td_syntax.specs.declared.tree.Named.{Named}
 use Rattle.td_kinds.specs.Schemas.{relvar_named}
 use Rattle.td_headings.specs.Catalogues.{CatalogueData}
-use Rattle.td_story.specs.Answers.{Says}
+use Rattle.td_story.specs.Answers.{SaysRelation}
 use Rattle.td_story.specs.Databases.{DatabaseData}
 use Rattle.td_story.specs.Scripts.{IsScriptOf}
 use Rattle.td_story.specs.Laws.{ScriptIsOne}
@@ -48,7 +48,7 @@ module _ (one_story : StoryIsOne) (one_script : ScriptIsOne) (s : Seen) (c : Cat
   one_database : (d e : DatabaseData) → Leaves s d → Leaves s e → d ≡ e
   one_database d e k l = (one_story s.script s.entries k.0 l.0 d e k.1 l.1).1
 
-  said : (a : Answer) (m : Result RowsData Stop) → Says a m → m ≡ meant a
+  said : (a : Answer) (m : Result RowsData Stop) → SaysRelation a m → m ≡ meant a
   said (Relation r) m h = h
   said (Raised e) m h = h
 

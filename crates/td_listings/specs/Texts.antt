@@ -12,7 +12,7 @@ use Rattle.td_algebra.specs.declared.errors.Stop.{Stop}
 use Rattle.td_algebra.specs.declared.errors.Stop.TheVariants as stop
 use Rattle.td_story.specs.Raises.{stop_of}
 use Rattle.td_story.specs.Trees.{all_relvars}
-use Rattle.td_story.specs.Databases.{DatabaseData, relvars_in}
+use Rattle.td_story.specs.Databases.{DatabaseData, stored_relvars}
 use Rattle.td_story.specs.declared.outcome.Outcome.{Outcome}
 use Rattle.td_story.specs.declared.outcome.Outcome.TheVariants.{Done, Unread, Raised, BreaksKey, BreaksConstraint}
 use Rattle.td_stamps.specs.Entries.{stamp_of}
@@ -67,7 +67,7 @@ relvar_lines name (Err e) = codes "relvar " ++ name ++ codes " raised " ++ shown
 
 -- what the relvar at a place has, or raises
 abbrev pub value_at : DatabaseData → ℕ → Result RowsData Stop
-value_at d n = all_relvars d.catalogue (relvars_in d.stored) n
+value_at d n = all_relvars d.catalogue (stored_relvars d.stored) n
 
 -- the lines of these relvars, of which the first is at place n
 abbrev pub relvars_from : DatabaseData → ℕ → List (Named Header) → List ℕ

@@ -25,7 +25,7 @@ use Rattle.td_story.specs.Raises.{Tells, stop_of}
 use Rattle.td_story.specs.Trees.{IsIn, places_from, tree_means}
 use Rattle.td_story.specs.declared.failure.Failure.{Failure}
 use Rattle.td_story.specs.declared.failure.Failure.TheVariants as failure
-use Rattle.td_story.specs.Databases.{Belongs, DatabaseData, Stored, put, relvars_in}
+use Rattle.td_story.specs.Databases.{Belongs, DatabaseData, Stored, put, stored_relvars}
 use Rattle.td_story.specs.Openings.{with_init, opened, opening}
 use Rattle.td_relvars.specs.ForProofs.Opened.{Fills, Leaves, TellsInit}
 
@@ -83,8 +83,8 @@ module _ (c : CatalogueData) (n : ℕ) (x : Expression) (i : Init c n x) where
     pub belongs : (r : RowsData) → IsRelation c.schema v.value r → Belongs c n r
     belongs r is = record { relvar = v; stored = relvar.stored; there = at; relation = is }
 
-  pub tells_init : (stored : Stored) (a : Result RowsData Failure) → Tells a (and_then (tree_means c (relvars_in stored) x.tree no_attrs) rows_of) → TellsInit c stored (init_at c n) a
-  tells_init stored a h = subst (λ o. TellsInit c stored o a) (sym i.is) (subst (λ u. Tells a (and_then (tree_means c (relvars_in stored) u no_attrs) rows_of)) i.whole.tree h)
+  pub tells_init : (stored : Stored) (a : Result RowsData Failure) → Tells a (and_then (tree_means c (stored_relvars stored) x.tree no_attrs) rows_of) → TellsInit c stored (init_at c n) a
+  tells_init stored a h = subst (λ o. TellsInit c stored o a) (sym i.is) (subst (λ u. Tells a (and_then (tree_means c (stored_relvars stored) u no_attrs) rows_of)) i.whole.tree h)
 
 -- ---- with its value
 module _ (c : CatalogueData) (stored : Stored) (n : ℕ) where

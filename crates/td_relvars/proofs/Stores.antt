@@ -24,7 +24,7 @@ use Rattle.td_soundness.specs.Meanings.{HasHeading, IsRelation}
 use Rattle.td_story.specs.Trees.{AreBases}
 use Rattle.td_story.specs.Stored.{AreStored}
 use Rattle.td_constraints.proofs.Judged.{are_bases}
-use Rattle.td_story.specs.Databases.{Stored, DatabaseData, IsDatabase, Belongs, at_place, put, relvars_in}
+use Rattle.td_story.specs.Databases.{Stored, DatabaseData, IsDatabase, Belongs, at_place, put, stored_relvars}
 use Rattle.td_story.specs.Openings.{all_empty}
 use Rattle.td_relvars.specs.ForProofs.Empty.{empty_in}
 
@@ -65,9 +65,9 @@ module _ (c : CatalogueData) (stored : Stored) (is : IsDatabase (record { catalo
   here v at = subst (λ (w : Named Header). IsRelation c.schema w.value r) (some_same b.relvar v (sym b.there ∙ at)) b.relation
 
   abbrev HasOne : ℕ → Named Header → Type 0
-  HasOne m v = (q : RowsData) × (relvars_in (put n r stored) m ≡ Ok q) × IsRelation c.schema v.value q
+  HasOne m v = (q : RowsData) × (stored_relvars (put n r stored) m ≡ Ok q) × IsRelation c.schema v.value q
 
-  all_have : AreStored c (relvars_in (put n r stored))
+  all_have : AreStored c (stored_relvars (put n r stored))
   all_have m v base at = ⊎_elim
       (λ same. subst (λ k. HasOne k v) same (r, ap at_place (put_there n r stored place_within), here v (subst (λ k. slice_get c.schema.relvars k ≡ Some v) (sym same) at)))
       (λ apart. let k = is.stored m v base at in (k.0, ap at_place (put_other n m r stored apart) ∙ k.1, k.2))
@@ -142,8 +142,8 @@ module _ (os : List Origin) (rs : List (Named Header)) (n : ℕ) (each : length 
       sym (h ∙ ap (λ l. done ++ l) none ∙ append-nil done)
 
 -- ---- what is looked up
-pub bases : (d : DatabaseData) → IsDatabase d → AreBases d.catalogue (relvars_in d.stored)
-bases d is = are_bases d.catalogue (relvars_in d.stored) is.stored
+pub bases : (d : DatabaseData) → IsDatabase d → AreBases d.catalogue (stored_relvars d.stored)
+bases d is = are_bases d.catalogue (stored_relvars d.stored) is.stored
 
 pub looked_up : (o : Option (Option RowsData)) (r : RowsData) → option_flatten o ≡ Some r → at_place o ≡ Ok r
 looked_up None r h = cc

@@ -49,9 +49,9 @@ impl Model for Database {
 }
 
 impl Lookup for Database {
-    ghost use Rattle.td_story.specs.Databases.{relvars_in};
+    ghost use Rattle.td_story.specs.Databases.{stored_relvars};
 
-    ghost relvars = { λ d. relvars_in d.stored };
+    ghost relvars = { λ d. stored_relvars d.stored };
 
     fn value(&self, alloc: Global, relvar: usize) -> Result<Relation, Fault> {
         match self.base_at(relvar) {
@@ -110,7 +110,7 @@ impl Database {
 
     /// What the relvar at the place has, if something is stored there.
     pub fn base_at(&self, place: usize) -> Option<&Base>
-        ensures { option_copied result ≡ spec.base_at self.now place }
+        ensures { option_copied result ≡ spec.stored_at self.now place }
     {
         match self.stored.get(place) {
             Some(Some(base)) => Some(base),
@@ -120,7 +120,7 @@ impl Database {
 
     /// What the relvar of this name has, if something is stored.
     pub fn base_of(&self, name: &Name) -> Option<&Base>
-        ensures { option_copied result ≡ spec.base_named self.now name.now }
+        ensures { option_copied result ≡ spec.stored_named self.now name.now }
     {
         match self.catalogue.schema().relvar(name) {
             Some((place, _)) => self.base_at(place),

@@ -13,7 +13,7 @@ use Rattle.td_replay.specs.ForProofs.Asked.{Answers}
 use Rattle.td_replay.specs.ForProofs.Told.{Outcomes}
 use Rattle.td_story.specs.Seen.{Seen}
 use Rattle.td_story.specs.Stories.{IsStory}
-use Rattle.td_story.specs.declared.answer.Reply.{Reply}
+use Rattle.td_story.specs.declared.answer.Asked.{Asked}
 use Rattle.td_story.specs.declared.refusal.AskError.{AskError}
 use Rattle.td_story.specs.declared.refusal.AskError.TheVariants as ask_error
 use Rattle.td_replay.proofs.Telling.{story_catalogue}
@@ -22,7 +22,7 @@ pub never_typed : (c : CatalogueData) (a : Expr) → IsIllTyped c.schema (names_
 never_typed c a h x d = h x.tree x.kind (at_relvars c a x.tree x.kind d.types)
 
 module _ (s : Seen) (os : Outcomes) (d : DatabaseData) (live : s.live ≡ true) (st : IsStory s.script s.entries os d) where
-  pub asks : (text : List ℕ) (r : Result Reply AskError) → Answers d text r → Asks s text r
+  pub asks : (text : List ℕ) (r : Result Asked AskError) → Answers d text r → Asks s text r
   asks text (Ok r) h = record { database = d; query = h.query; expression = h.expression; live = live; leaves = (os, st); reads = h.reads; types = h.types; says = h.says }
   asks text (Err ask_error.Broken) h = absurd h
   asks text (Err ask_error.Syntax) h = (live, h)

@@ -2,7 +2,7 @@
 
 ghost use Rattle.td_replay.specs.ForProofs.Asked.{Answers, TellsNamed};
 
-use td_story::{Answer, AskError, Failure, Reply, ValueError};
+use td_story::{Answer, AskError, Failure, Asked, ValueError};
 use std::alloc::Global;
 use td_eval::value;
 use td_grammar::{ReadError, read_expr};
@@ -12,7 +12,7 @@ use td_relvars::Database;
 use td_values::Name;
 
 /// What the query means over the relvars.
-pub(crate) fn ask(alloc: Global, database: &Database, text: &str) -> Result<Reply, AskError>
+pub(crate) fn ask(alloc: Global, database: &Database, text: &str) -> Result<Asked, AskError>
     ensures { Answers database.now text.now result }
 {
     let query = match read_expr(alloc, text) {
@@ -27,8 +27,8 @@ pub(crate) fn ask(alloc: Global, database: &Database, text: &str) -> Result<Repl
         Err(TypeError::OutOfMemory) => return Err(AskError::OutOfMemory),
     };
     match value(alloc, catalogue, &typed, database) {
-        Ok(value) => Ok(Reply::Value(value)),
-        Err(Failure::Raised(raise)) => Ok(Reply::Raised(raise)),
+        Ok(value) => Ok(Asked::Value(value)),
+        Err(Failure::Raised(raise)) => Ok(Asked::Raised(raise)),
         Err(Failure::OutOfMemory) => Err(AskError::OutOfMemory),
     }
 }

@@ -5,7 +5,7 @@ ghost use Rattle.td_story.specs.Calls.{Issues, entry_of};
 ghost use Rattle.td_replay.specs.ForProofs.Told.{Numbers};
 ghost use Rattle.td_story.specs.NewSites.{OpensSite};
 
-use td_story::{Answer, AskError, IssueError, Issued, Meter, NotOpen, OpenError, Outcome, Replica, Reply, TakeError, Taken, TellError, ValueError};
+use td_story::{Answer, AskError, IssueError, Issued, Meter, NotOpen, OpenError, Outcome, Replica, Asked, TakeError, Taken, TellError, ValueError};
 use crate::asked;
 use crate::judged::{judge, refusal};
 use crate::told::{Told, add_last, copies, tell_all};
@@ -198,7 +198,7 @@ impl Replica for PlainSite {
         })
     }
 
-    fn ask(&self, alloc: Global, text: &str) -> Result<Reply, AskError> {
+    fn ask(&self, alloc: Global, text: &str) -> Result<Asked, AskError> {
         asked::ask(alloc, &self.told.database, text)
     }
 

@@ -4,7 +4,7 @@ use Rattle.td_stamps.specs.Story.{Story}
 use Rattle.td_stamps.proofs.Merges.{same_set}
 use Rattle.td_stamps.proofs.Stories as stories
 use Rattle.td_story.specs.Tests.{AreLegal}
-use Rattle.td_story.specs.Databases.{DatabaseData, relvars_in}
+use Rattle.td_story.specs.Databases.{DatabaseData, stored_relvars}
 use Rattle.td_story.proofs.OneOpening.{one_opening}
 use Rattle.td_story.proofs.Legal.{all_pass, step_is_legal}
 use Rattle.td_story.proofs.Unique.{one_step}
@@ -12,12 +12,12 @@ use Rattle.td_story.specs.Laws.{SitesAgree, StoryIsLegal, StoryIsOne}
 use Rattle.td_story.specs.Stories.{IsStory, StepsEntry}
 
 abbrev IsLegal : DatabaseData → Type 0
-IsLegal d = AreLegal d.catalogue (relvars_in d.stored)
+IsLegal d = AreLegal d.catalogue (stored_relvars d.stored)
 
 pub story_is_legal : StoryIsLegal
 story_is_legal script es os d st n =
     let part = stories.front StepsEntry st.opening d es os st.runs n in
-    let first : IsLegal st.opening = all_pass st.opening.catalogue (relvars_in st.opening.stored) st.opening.catalogue.tests st.opens.first in
+    let first : IsLegal st.opening = all_pass st.opening.catalogue (stored_relvars st.opening.stored) st.opening.catalogue.tests st.opens.first in
     let last = stories.kept StepsEntry IsLegal (λ s t e o step legal. step_is_legal s t e.text o step legal) st.opening part.0 (take n es) (take n os) part.1 first in
     (part.0, record { opening = st.opening; opens = st.opens; runs = part.1 }, last)
 

@@ -6,7 +6,7 @@ use Rattle.td_headings.specs.Catalogues.{CatalogueData}
 use Rattle.td_headings.specs.declared.defined.Test.{Test}
 use Rattle.td_meaning.specs.Mean.{Relvars}
 use Rattle.td_story.specs.Tests.{judgement, or_behind, failing, AreLegal}
-use Rattle.td_story.specs.Databases.{DatabaseData, relvars_in}
+use Rattle.td_story.specs.Databases.{DatabaseData, stored_relvars}
 use Rattle.td_story.specs.Steps.{Steps, unread, raised, refused, done}
 use Rattle.td_story.specs.declared.outcome.Outcome.{Outcome}
 
@@ -28,8 +28,8 @@ all_pass c r (u ∷ ts) h t there =
     let now = passed u (judgement c r u) (failing c r ts) h in
     head_or_tail u ts t there (λ same. subst (λ v. judgement c r v ≡ Ok true) same now.0) (all_pass c r ts now.1 t)
 
-pub step_is_legal : (d e : DatabaseData) (text : List ℕ) (o : Outcome) → Steps d text o e → AreLegal d.catalogue (relvars_in d.stored) → AreLegal e.catalogue (relvars_in e.stored)
+pub step_is_legal : (d e : DatabaseData) (text : List ℕ) (o : Outcome) → Steps d text o e → AreLegal d.catalogue (stored_relvars d.stored) → AreLegal e.catalogue (stored_relvars e.stored)
 step_is_legal d e text o (unread h) legal = legal
 step_is_legal d e text o (raised p h) legal = legal
 step_is_legal d e text o (refused p h i j) legal = legal
-step_is_legal d e text o (done p h i) legal = all_pass e.catalogue (relvars_in e.stored) e.catalogue.tests i
+step_is_legal d e text o (done p h i) legal = all_pass e.catalogue (stored_relvars e.stored) e.catalogue.tests i

@@ -9,7 +9,7 @@ use Rattle.td_headings.specs.Catalogues.{nothing_defined}
 use Rattle.td_headings.specs.declared.defined.Test.{Test}
 use Rattle.td_story.specs.Tests.{failing}
 use Rattle.td_story.specs.Raises.{stop_of}
-use Rattle.td_story.specs.Databases.{DatabaseData, relvars_in}
+use Rattle.td_story.specs.Databases.{DatabaseData, stored_relvars}
 use Rattle.td_story.specs.Laws.{OpeningIsOne, OpensOrWants, ScriptIsOne}
 use Rattle.td_story.specs.Openings.{opening}
 use Rattle.td_story.specs.Scripts.{DefinesAll, OpensOn}
@@ -32,7 +32,7 @@ none_some : {A P : Type 0} (a : A) → None ≡ Some a → P
 none_some a h = cc
 
 abbrev first_in : DatabaseData → Option (Test × Option Stop)
-first_in d = failing d.catalogue (relvars_in d.stored) d.catalogue.tests
+first_in d = failing d.catalogue (stored_relvars d.stored) d.catalogue.tests
 
 one_database : (text : List ℕ) (f g : Option (Test × Option Stop)) (d e : DatabaseData) → OpensOn text f d → OpensOn text g e → d ≡ e
 one_database text f g d e p q =

@@ -21,7 +21,7 @@ use Rattle.td_operators.specs.Values.{rows_of}
 use Rattle.td_story.specs.Raises.{stop_of}
 use Rattle.td_story.specs.Trees.{tree_means}
 use Rattle.td_story.specs.Tests.{failing}
-use Rattle.td_story.specs.Databases.{DatabaseData, relvars_in}
+use Rattle.td_story.specs.Databases.{DatabaseData, stored_relvars}
 use Rattle.td_story.specs.Given.{Given, gives, nothing_given, seen}
 use Rattle.td_story.specs.Sources.{sources}
 use Rattle.td_story.specs.Steps.{IsRead, Steps, unread, raised, refused, done, TellsTest, failing_with, given_by, with_all}
@@ -116,7 +116,7 @@ one_telling c t (Some e) (outcome.BreaksConstraint m) q h k = absurd h
 -- ---- a step ends in one way
 module _ (d : DatabaseData) (text : List ℕ) where
   same_given : (x y : TypedStatement) → IsRead d.catalogue text x → IsRead d.catalogue text y → given_by d x ≡ given_by d y
-  same_given x y p q = one_reading d.catalogue (relvars_in d.stored) text x y p q
+  same_given x y p q = one_reading d.catalogue (stored_relvars d.stored) text x y p q
 
   same_changes : (x y : TypedStatement) (cs ds : Given) → IsRead d.catalogue text x → IsRead d.catalogue text y → given_by d x ≡ Ok cs → given_by d y ≡ Ok ds → cs ≡ ds
   same_changes x y cs ds p q h k = ok_same cs ds (sym h ∙ same_given x y p q ∙ k)

@@ -1,12 +1,14 @@
 -- What the calls on a site answer, and what they leave. Of the causes of refusal that stand, the first in the order of each call's
--- errors is answered, or want of memory in place of one that was not reached yet.
-use Rattle.std.specs.Prelude.{◌≡◌, ◌+◌, ℕ, nat_lt, true, false, List, [], ◌∷◌, ◌++◌, length, Result, Ok, Err, IsOk, if◌then◌else◌}
+-- errors is answered, or want of memory in place of one that was not reached yet: a text over its limit and an entry out of its ranges are
+-- found without memory.
+use Rattle.std.specs.Prelude.{◌≡◌, ◌≤◌, ◌<◌, ◌+◌, ℕ, nat_lt, true, false, List, [], ◌∷◌, ◌++◌, length, Result, Ok, Err, if◌then◌else◌}
 use Rattle.std.specs.List.{list_all}
 use Rattle.td_values.specs.Data.{Datum, no_attrs}
 use Rattle.td_syntax.specs.declared.tree.Expr.{Expr}
 use Rattle.td_syntax.specs.declared.script.Statement.{Statement}
-use Rattle.td_grammar.specs.Grammar.{IsQuery}
+use Rattle.td_grammar.specs.Grammar.{IsQuery, query_bytes}
 use Rattle.td_grammar.specs.Statements as grammar
+use Rattle.td_grammar.specs.Statements.{statement_bytes}
 use Rattle.td_algebra.specs.declared.errors.Stop.{Stop}
 use Rattle.td_headings.specs.Catalogues.{CatalogueData}
 use Rattle.td_headings.specs.Expressions.{IsExpression, no_tuple}
@@ -23,7 +25,7 @@ use Rattle.td_stamps.specs.declared.entry.Stamp.{Stamp}
 use Rattle.td_stamps.specs.declared.errors.CheckError.TheVariants as check
 use Rattle.td_stamps.specs.declared.errors.NextError.{NextError}
 use Rattle.td_story.specs.Answers.{TellsRelvar}
-use Rattle.td_story.specs.Databases.{DatabaseData, relvars_in}
+use Rattle.td_story.specs.Databases.{DatabaseData, stored_relvars}
 use Rattle.td_story.specs.Scripts.{IsScriptOf}
 use Rattle.td_story.specs.declared.answer.Answer.{Answer}
 use Rattle.td_story.specs.declared.error.RelvarError.TheVariants as relvar_error
@@ -31,8 +33,8 @@ use Rattle.td_story.specs.Steps.{IsRead}
 use Rattle.td_story.specs.declared.outcome.Outcome.{Outcome}
 use Rattle.td_story.specs.Seen.{Seen, AreOutcomes, Leaves, with_entries}
 use Rattle.td_story.specs.declared.answer.Issued.{Issued}
-use Rattle.td_story.specs.declared.answer.Reply.{Reply}
-use Rattle.td_story.specs.declared.answer.Reply.TheVariants as reply
+use Rattle.td_story.specs.declared.answer.Asked.{Asked}
+use Rattle.td_story.specs.declared.answer.Asked.TheVariants as asked
 use Rattle.td_story.specs.declared.answer.Taken.{Taken}
 use Rattle.td_story.specs.declared.refusal.AskError.{AskError}
 use Rattle.td_story.specs.declared.refusal.AskError.TheVariants as ask_error
@@ -53,13 +55,9 @@ Stays s after = (s.live ≡ true) × (after ≡ s)
 abbrev pub StaysClosed : Seen → Seen → Type 0
 StaysClosed s after = (s.live ≡ false) × (after ≡ s)
 
--- an open site is open no longer
-pub record Closes (s after : Seen) : Type 0 where
-  pub was : s.live ≡ true
-  pub script : after.script ≡ s.script
-  pub site : after.site ≡ s.site
-  pub limit : after.limit ≡ s.limit
-  pub live : after.live ≡ false
+-- an open site is open no longer, and holds these entries, some of which its journal may lack
+abbrev pub Closes : Seen → List Entry → Seen → Type 0
+Closes s es after = (s.live ≡ true) × (after ≡ record { script = s.script; site = s.site; limit = s.limit; entries = es; live = false })
 
 -- ---- issue: the site's next entry, of a text that is a well-typed statement of its script
 
@@ -80,7 +78,7 @@ pub record IsStatementOf (script text : List ℕ) : Type 0 where
   pub defines : IsScriptOf script catalogue
   pub read : IsRead catalogue text statement
 
-pub record IsIllTyped (script text : List ℕ) : Type 0 where
+pub record IsIllTypedStatement (script text : List ℕ) : Type 0 where
   pub catalogue : CatalogueData
   pub statement : Statement
   pub defines : IsScriptOf script catalogue
@@ -104,11 +102,11 @@ abbrev pub Issues : Seen → List ℕ → Result Issued IssueError → Seen → 
 Issues s text (Ok i) after = IssuesEntry s text i after
 Issues s text (Err issue_error.Broken) after = StaysClosed s after
 Issues s text (Err issue_error.Syntax) after = Stays s after × ((t : Statement) → grammar.IsStatement text t → ⊥)
-Issues s text (Err issue_error.IllTyped) after = Stays s after × IsIllTyped s.script text
+Issues s text (Err issue_error.IllTyped) after = Stays s after × IsIllTypedStatement s.script text
 Issues s text (Err issue_error.ClockEnd) after = Stays s after × IsStatementOf s.script text × (entry_of s text ≡ Err issue_error.ClockEnd)
 Issues s text (Err issue_error.Full) after = Stays s after × IsStatementOf s.script text × (entry_of s text ≡ Err issue_error.Full)
-Issues s text (Err issue_error.OutOfMemory) after = Stays s after
-Issues s text (Err issue_error.JournalWrite) after = Closes s after × IsStatementOf s.script text × IsOk (entry_of s text)
+Issues s text (Err issue_error.OutOfMemory) after = Stays s after × (length text ≤ statement_bytes)
+Issues s text (Err issue_error.JournalWrite) after = IsStatementOf s.script text × (e : Entry) × (entry_of s text ≡ Ok e) × Closes s (s.entries ++ e ∷ []) after
 
 -- ---- take: the union with a batch, whose fresh entries are counted once
 
@@ -125,15 +123,15 @@ Takes s batch (Err take_error.BadEntry) after = Stays s after × (check_of s.ent
 Takes s batch (Err (take_error.Clash site seq)) after = Stays s after × (check_of s.entries s.limit batch ≡ Err (check.Clash site seq))
 Takes s batch (Err take_error.Full) after = Stays s after × (check_of s.entries s.limit batch ≡ Err check.Full)
 Takes s batch (Err take_error.OutOfMemory) after = Stays s after × (list_all in_range batch ≡ true)
-Takes s batch (Err take_error.JournalWrite) after = Closes s after × IsOk (check_of s.entries s.limit batch)
+Takes s batch (Err take_error.JournalWrite) after = (n : ℕ) × (check_of s.entries s.limit batch ≡ Ok n) × (0 < n) × Closes s (union s.entries batch) after
 
 -- ---- ask: what a query means over the relvars that the story leaves
 
-abbrev pub Says : Reply → Result Datum Stop → Type 0
-Says (reply.Value v) m = m ≡ Ok v
-Says (reply.Raised e) m = m ≡ Err (stop_of e)
+abbrev pub SaysValue : Asked → Result Datum Stop → Type 0
+SaysValue (asked.Value v) m = m ≡ Ok v
+SaysValue (asked.Raised e) m = m ≡ Err (stop_of e)
 
-pub record Replies (s : Seen) (text : List ℕ) (r : Reply) : Type 0 where
+pub record AsksQuery (s : Seen) (text : List ℕ) (r : Asked) : Type 0 where
   pub database : DatabaseData
   pub query : Expr
   pub expression : Expression
@@ -141,7 +139,7 @@ pub record Replies (s : Seen) (text : List ℕ) (r : Reply) : Type 0 where
   pub leaves : Leaves s database
   pub reads : IsQuery text query
   pub types : IsExpression database.catalogue no_tuple query expression
-  pub says : Says r (tree_means database.catalogue (relvars_in database.stored) expression.tree no_attrs)
+  pub says : SaysValue r (tree_means database.catalogue (stored_relvars database.stored) expression.tree no_attrs)
 
 pub record IsIllTypedQuery (script text : List ℕ) : Type 0 where
   pub catalogue : CatalogueData
@@ -150,12 +148,12 @@ pub record IsIllTypedQuery (script text : List ℕ) : Type 0 where
   pub reads : IsQuery text query
   pub refused : (x : Expression) → IsExpression catalogue no_tuple query x → ⊥
 
-abbrev pub Asks : Seen → List ℕ → Result Reply AskError → Type 0
-Asks s text (Ok r) = Replies s text r
+abbrev pub Asks : Seen → List ℕ → Result Asked AskError → Type 0
+Asks s text (Ok r) = AsksQuery s text r
 Asks s text (Err ask_error.Broken) = s.live ≡ false
 Asks s text (Err ask_error.Syntax) = (s.live ≡ true) × ((e : Expr) → IsQuery text e → ⊥)
 Asks s text (Err ask_error.IllTyped) = (s.live ≡ true) × IsIllTypedQuery s.script text
-Asks s text (Err ask_error.OutOfMemory) = s.live ≡ true
+Asks s text (Err ask_error.OutOfMemory) = (s.live ≡ true) × (length text ≤ query_bytes)
 
 -- ---- value_of: what a relvar has after the story
 

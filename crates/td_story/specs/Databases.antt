@@ -33,8 +33,8 @@ abbrev pub at_place : Option (Option RowsData) → Result RowsData Stop
 at_place (Some (Some r)) = Ok r
 at_place _ = Err Untyped
 
-abbrev pub relvars_in : Stored → Relvars
-relvars_in stored n = at_place (slice_get stored n)
+abbrev pub stored_relvars : Stored → Relvars
+stored_relvars stored n = at_place (slice_get stored n)
 
 -- the relation at the place in place of the one there
 abbrev pub put : ℕ → RowsData → Stored → Stored
@@ -43,15 +43,15 @@ put zero r (x ∷ xs) = Some r ∷ xs
 put (suc n) r (x ∷ xs) = x ∷ put n r xs
 
 -- what is stored of the relvar at a place, and of the relvar of a name
-abbrev pub base_at : DatabaseData → ℕ → Option RowsData
-base_at d n = option_flatten (slice_get d.stored n)
+abbrev pub stored_at : DatabaseData → ℕ → Option RowsData
+stored_at d n = option_flatten (slice_get d.stored n)
 
-abbrev pub base_under : DatabaseData → Option (ℕ × Named Header) → Option RowsData
-base_under d None = None
-base_under d (Some v) = base_at d v.0
+abbrev pub stored_under : DatabaseData → Option (ℕ × Named Header) → Option RowsData
+stored_under d None = None
+stored_under d (Some v) = stored_at d v.0
 
-abbrev pub base_named : DatabaseData → List ℕ → Option RowsData
-base_named d x = base_under d (relvar_named d.catalogue.schema x)
+abbrev pub stored_named : DatabaseData → List ℕ → Option RowsData
+stored_named d x = stored_under d (relvar_named d.catalogue.schema x)
 
 -- the relvar at the place is a base relvar, of whose heading the relation is
 pub record Belongs (c : CatalogueData) (n : ℕ) (r : RowsData) : Type 0 where
@@ -64,5 +64,5 @@ pub record Belongs (c : CatalogueData) (n : ℕ) (r : RowsData) : Type 0 where
 pub record IsDatabase (d : DatabaseData) : Type 0 where
   pub defined : Defined d.catalogue
   pub each : length d.stored ≡ length d.catalogue.origins
-  pub stored : AreStored d.catalogue (relvars_in d.stored)
-  pub nothing_else : (n : ℕ) → is_base (slice_get d.catalogue.origins n) ≡ false → base_at d n ≡ None
+  pub stored : AreStored d.catalogue (stored_relvars d.stored)
+  pub nothing_else : (n : ℕ) → is_base (slice_get d.catalogue.origins n) ≡ false → stored_at d n ≡ None

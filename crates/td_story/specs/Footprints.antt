@@ -8,7 +8,7 @@ use Rattle.td_headings.specs.declared.defined.Test.{Test}
 use Rattle.td_headings.specs.declared.defined.Test.TheVariants as test
 use Rattle.td_headings.specs.declared.statement.TypedAssignment.{TypedAssignment}
 use Rattle.td_headings.specs.declared.statement.TypedStatement.{TypedStatement}
-use Rattle.td_story.specs.Databases.{DatabaseData, relvars_in}
+use Rattle.td_story.specs.Databases.{DatabaseData, stored_relvars}
 use Rattle.td_story.specs.Steps.{IsRead}
 
 -- a KEY reads its relvar, a CONSTRAINT the base relvars that its expression reads, virtual ones expanded
@@ -37,4 +37,4 @@ pub record IsTargetOfText (c : CatalogueData) (text : List ℕ) (n : ℕ) : Type
 -- databases of one catalogue that agree on the footprint of the text
 pub record AgreeOnFootprint (d e : DatabaseData) (text : List ℕ) : Type 0 where
   pub catalogue : d.catalogue ≡ e.catalogue
-  pub relvars : (n : ℕ) → IsInFootprint d.catalogue text n → relvars_in d.stored n ≡ relvars_in e.stored n
+  pub relvars : (n : ℕ) → IsInFootprint d.catalogue text n → stored_relvars d.stored n ≡ stored_relvars e.stored n

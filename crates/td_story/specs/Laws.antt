@@ -7,7 +7,7 @@ use Rattle.td_headings.specs.Catalogues.{CatalogueData}
 use Rattle.td_headings.specs.declared.defined.Test.{Test}
 use Rattle.td_algebra.specs.declared.errors.Stop.{Stop}
 use Rattle.td_story.specs.Tests.{AreLegal}
-use Rattle.td_story.specs.Databases.{DatabaseData, relvars_in}
+use Rattle.td_story.specs.Databases.{DatabaseData, stored_relvars}
 use Rattle.td_story.specs.Scripts.{IsScriptOf, Opens, OpensOn}
 use Rattle.td_story.specs.declared.error.ScriptError.{ScriptError}
 use Rattle.td_story.specs.declared.error.ScriptError.TheVariants.{OutOfMemory}
@@ -34,7 +34,7 @@ OpensOrWants = (text : List ℕ) (d : DatabaseData) (e : ScriptError) → OpensO
 
 -- every test is true after a statement where every one was true before
 abbrev pub StepIsLegal : Type 0
-StepIsLegal = (d e : DatabaseData) (text : List ℕ) (o : Outcome) → Steps d text o e → AreLegal d.catalogue (relvars_in d.stored) → AreLegal e.catalogue (relvars_in e.stored)
+StepIsLegal = (d e : DatabaseData) (text : List ℕ) (o : Outcome) → Steps d text o e → AreLegal d.catalogue (stored_relvars d.stored) → AreLegal e.catalogue (stored_relvars e.stored)
 
 -- a text has one outcome, and leaves one database
 abbrev pub StepIsUnique : Type 0
@@ -46,7 +46,7 @@ StepIsUnique = (d e f : DatabaseData) (text : List ℕ) (o p : Outcome) → Step
 abbrev pub StoryIsLegal : Type 0
 StoryIsLegal =
     (script : List ℕ) (es : List Entry) (os : List (Stamp × Outcome)) (d : DatabaseData) → IsStory script es os d → (n : ℕ)
-    → (e : DatabaseData) × IsStory script (take n es) (take n os) e × AreLegal e.catalogue (relvars_in e.stored)
+    → (e : DatabaseData) × IsStory script (take n es) (take n os) e × AreLegal e.catalogue (stored_relvars e.stored)
 
 -- a list of entries has one story
 abbrev pub StoryIsOne : Type 0

@@ -13,6 +13,7 @@ opened script site limit = record { script = script; site = site; limit = limit;
 abbrev pub Fit : ℕ → ℕ → Type 0
 Fit site limit = (site ≡ 0 → ⊥) × (is_limit limit ≡ true)
 
+-- a site, or why there is none
 abbrev pub OpensSite : List ℕ → ℕ → ℕ → Result Seen OpenError → Type 0
 OpensSite script site limit (Ok s) = Fit site limit × (d : DatabaseData) × scripts.OpensOn script None d × (s ≡ opened script site limit)
 OpensSite script site limit (Err BadSite) = site ≡ 0

@@ -15,7 +15,7 @@ use Rattle.td_headings.specs.declared.defined.Origin.{Origin}
 use Rattle.td_headings.specs.declared.defined.Origin.TheVariants as origin
 use Rattle.td_operators.specs.Values.{rows_of}
 use Rattle.td_story.specs.Trees.{places, tree_means}
-use Rattle.td_story.specs.Databases.{Stored, put, relvars_in}
+use Rattle.td_story.specs.Databases.{Stored, put, stored_relvars}
 
 -- a base relvar is empty at first; for a virtual one nothing is stored
 abbrev pub empty_at : Origin → Named Header → Option RowsData
@@ -28,7 +28,7 @@ all_empty os vs = []
 
 -- the relation that an expression has over these relvars
 abbrev pub relation_in : CatalogueData → Stored → Typed → Result RowsData Stop
-relation_in c stored u = and_then (tree_means c (relvars_in stored) u no_attrs) rows_of
+relation_in c stored u = and_then (tree_means c (stored_relvars stored) u no_attrs) rows_of
 
 -- with the value of the INIT, if there is one. It names only relvars before its own, and doesn't see that those behind are empty
 abbrev pub with_init : CatalogueData → Stored → ℕ → Option (Typed × Header) → Result Stored Stop

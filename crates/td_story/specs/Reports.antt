@@ -7,8 +7,8 @@ use Rattle.td_headings.specs.Catalogues.{CatalogueData}
 use Rattle.td_headings.specs.declared.defined.Test.{Test}
 use Rattle.td_headings.specs.declared.defined.Test.TheVariants as test
 use Rattle.td_story.specs.Raises.{stop_of}
-use Rattle.td_story.specs.declared.broken.Broken.{Broken}
-use Rattle.td_story.specs.declared.broken.Broken.TheVariants as broken
+use Rattle.td_story.specs.declared.broken.BrokenTest.{BrokenTest}
+use Rattle.td_story.specs.declared.broken.BrokenTest.TheVariants as broken
 use Rattle.td_story.specs.declared.broken.TestFailure.{TestFailure}
 
 -- the name of the relvar at a place
@@ -17,7 +17,7 @@ name_in None = []
 name_in (Some v) = v.name
 
 -- a key is told by its relvar, a constraint by its name
-abbrev pub title : CatalogueData → Test → Broken
+abbrev pub title : CatalogueData → Test → BrokenTest
 title c (test.Key n key) = broken.Key (name_in (slice_get c.schema.relvars n))
 title c (test.Constraint x u) = broken.Constraint x
 

@@ -9,7 +9,7 @@ use Rattle.td_algebra.specs.declared.errors.Stop.{Stop}
 use Rattle.td_story.specs.Raises.{stop_of}
 use Rattle.td_story.specs.Reports.{title}
 use Rattle.td_story.specs.Tests.{failing}
-use Rattle.td_story.specs.Databases.{DatabaseData, relvars_in}
+use Rattle.td_story.specs.Databases.{DatabaseData, stored_relvars}
 use Rattle.td_story.specs.Openings.{opening}
 use Rattle.td_story.specs.declared.error.CatalogueError.{CatalogueError}
 use Rattle.td_story.specs.declared.error.CatalogueError.TheVariants as catalogue_error
@@ -28,7 +28,7 @@ pub record IsScriptOf (text : List ℕ) (c : CatalogueData) : Type 0 where
   pub defines : DefinesAll nothing_defined definitions c
 
 -- the text is a script whose definitions are ill typed
-pub record IsIllTyped (text : List ℕ) : Type 0 where
+pub record IsIllTypedScript (text : List ℕ) : Type 0 where
   pub definitions : List Definition
   pub reads : IsScript text definitions
   pub refused : (c : CatalogueData) → DefinesAll nothing_defined definitions c → ⊥
@@ -37,20 +37,20 @@ pub record IsIllTyped (text : List ℕ) : Type 0 where
 abbrev pub IsCatalogue : List ℕ → Result CatalogueData CatalogueError → Type 0
 IsCatalogue text (Ok c) = IsScriptOf text c
 IsCatalogue text (Err catalogue_error.Syntax) = (ds : List Definition) → ¬ IsScript text ds
-IsCatalogue text (Err catalogue_error.IllTyped) = IsIllTyped text
+IsCatalogue text (Err catalogue_error.IllTyped) = IsIllTypedScript text
 IsCatalogue text (Err catalogue_error.OutOfMemory) = Unit {0}
 
 -- the script opens these relvars, over which this test is the first that fails, or none does
 pub record OpensOn (text : List ℕ) (failure : Option (Test × Option Stop)) (d : DatabaseData) : Type 0 where
   pub script : IsScriptOf text d.catalogue
   pub opens : opening d.catalogue ≡ Ok d.stored
-  pub first : failing d.catalogue (relvars_in d.stored) d.catalogue.tests ≡ failure
+  pub first : failing d.catalogue (stored_relvars d.stored) d.catalogue.tests ≡ failure
 
 -- a database, or the first refusal; want of memory tells nothing
 abbrev pub Opens : List ℕ → Result DatabaseData ScriptError → Type 0
 Opens text (Ok d) = OpensOn text None d
 Opens text (Err Syntax) = (ds : List Definition) → ¬ IsScript text ds
-Opens text (Err IllTyped) = IsIllTyped text
+Opens text (Err IllTyped) = IsIllTypedScript text
 Opens text (Err (OpeningRaised e)) = (c : CatalogueData) × IsScriptOf text c × (opening c ≡ Err (stop_of e))
 Opens text (Err (OpeningBroken b)) = (d : DatabaseData) × (t : Test) × (o : Option Stop) × OpensOn text (Some (t, o)) d × (b ≡ title d.catalogue t)
 Opens text (Err OutOfMemory) = Unit {0}

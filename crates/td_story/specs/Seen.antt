@@ -17,6 +17,16 @@ pub record Seen : Type 0 where
   pub entries : List Entry
   pub live : Bool
 
+-- a site that is always open
+pub record Contents : Type 0 where
+  pub script : List ℕ
+  pub site : ℕ
+  pub limit : ℕ
+  pub entries : List Entry
+
+abbrev pub always_open : Contents → Seen
+always_open s = record { script = s.script; site = s.site; limit = s.limit; entries = s.entries; live = true }
+
 abbrev pub with_entries : Seen → List Entry → Seen
 with_entries s es = record { script = s.script; site = s.site; limit = s.limit; entries = es; live = s.live }
 

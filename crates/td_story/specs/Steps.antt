@@ -11,8 +11,8 @@ use Rattle.td_algebra.specs.declared.errors.Stop.{Stop}
 use Rattle.td_story.specs.Raises.{stop_of}
 use Rattle.td_story.specs.Reports.{title}
 use Rattle.td_story.specs.Tests.{failing}
-use Rattle.td_story.specs.declared.broken.Broken.TheVariants as broken
-use Rattle.td_story.specs.Databases.{DatabaseData, relvars_in}
+use Rattle.td_story.specs.declared.broken.BrokenTest.TheVariants as broken
+use Rattle.td_story.specs.Databases.{DatabaseData, stored_relvars}
 use Rattle.td_story.specs.Given.{Given, nothing_given, with_given}
 use Rattle.td_story.specs.Sources.{sources}
 use Rattle.td_story.specs.declared.outcome.Outcome.{Outcome}
@@ -33,11 +33,11 @@ with_all d g = record { catalogue = d.catalogue; stored = with_given g d.stored 
 
 -- what the statement gives to its targets over these relvars
 abbrev pub given_by : DatabaseData → TypedStatement → Result Given Stop
-given_by d x = sources d.catalogue (relvars_in d.stored) nothing_given (typed.assignments_of x)
+given_by d x = sources d.catalogue (stored_relvars d.stored) nothing_given (typed.assignments_of x)
 
 -- the first test that is false or raises with all targets replaced
 abbrev pub failing_with : DatabaseData → Given → Option (Test × Option Stop)
-failing_with d g = failing d.catalogue (relvars_in (with_given g d.stored)) d.catalogue.tests
+failing_with d g = failing d.catalogue (stored_relvars (with_given g d.stored)) d.catalogue.tests
 
 -- a test that is false breaks its key or its constraint; one that raises gives its error
 abbrev pub TellsTest : CatalogueData → Test → Option Stop → Outcome → Type 0

@@ -30,7 +30,7 @@ pub struct Taken {
 
 /// What a query is answered.
 #[derive(Drop)]
-pub enum Reply {
+pub enum Asked {
     Value(Value),
     /// Evaluating it raises this error.
     Raised(Raise),

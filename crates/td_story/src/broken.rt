@@ -4,7 +4,7 @@ use td_values::{Name, Raise};
 
 /// A test, as it is told.
 #[derive(Drop)]
-pub enum Broken {
+pub enum BrokenTest {
     /// A key of this relvar.
     Key(Name),
     /// The constraint of this name.
@@ -14,7 +14,7 @@ pub enum Broken {
 /// A test that fails.
 #[derive(Drop)]
 pub struct TestFailure {
-    pub test: Broken,
+    pub test: BrokenTest,
     /// The error that it raises; none where it is false.
     pub raised: Option<Raise>,
 }

@@ -28,7 +28,7 @@ pub enum ScriptError {
     /// What a relvar is to hold at first raises this error.
     OpeningRaised(Raise),
     /// This test is the first that is false of the opening relvars, or raises.
-    OpeningBroken(Broken),
+    OpeningBroken(BrokenTest),
     OutOfMemory,
 }
 

@@ -13,7 +13,7 @@ pub mod outcome;
 pub mod refusal;
 pub mod replica;
 
-pub use answer::{Answer, Issued, Reply, Taken};
+pub use answer::{Answer, Issued, Asked, Taken};
 pub use broken::{Broken, TestFailure};
 pub use catalogue::catalogue_of;
 pub use error::{CatalogueError, RelvarError, ScriptError};
@@ -21,4 +21,4 @@ pub use failure::Failure;
 pub use meter::Meter;
 pub use outcome::Outcome;
 pub use refusal::{AskError, IssueError, NotOpen, OpenError, TakeError, TellError, ValueError};
-pub use replica::Replica;
+pub use replica::{Opens, Replica};

@@ -1,13 +1,16 @@
 //! What every kind of site is.
 
-ghost use Rattle.std.specs.Prelude.{◌≡◌, MatchResult, false, true};
+ghost use Rattle.std.specs.Prelude.{◌≡◌, Err, MatchResult, Ok, false, true};
 ghost use Rattle.td_story.specs.Calls.{Asks, Issues, Takes, TellsOutcomes, TellsValue};
+ghost use Rattle.td_story.specs.NewSites.{OpensSite};
 ghost use Rattle.td_story.specs.Seen.{IsSound, Seen, holding};
+ghost use Rattle.td_story.specs.declared.refusal.IssueError.TheVariants as issue_error;
+ghost use Rattle.td_story.specs.declared.refusal.TakeError.TheVariants as take_error;
 
-use crate::answer::{Answer, Issued, Reply, Taken};
+use crate::answer::{Answer, Issued, Asked, Taken};
 use crate::meter::Meter;
 use crate::outcome::Outcome;
-use crate::refusal::{AskError, IssueError, NotOpen, TakeError, TellError, ValueError};
+use crate::refusal::{AskError, IssueError, NotOpen, OpenError, TakeError, TellError, ValueError};
 use std::alloc::Global;
 use td_stamps::{Entry, Held, Stamp};
 use td_values::Name;
@@ -16,9 +19,13 @@ use td_values::Name;
 pub trait Replica {
     ghost seen: { Self → Seen };
 
+    /// Whether a journal of the site has counted a failure between these two states: never, where it has no journal.
+    ghost failed: { Self → Self → Type 0 };
+
     /// Adds the site's next entry, with this text, and tells what became of it.
     fn issue(&mut self, alloc: Global, text: &str, meter: &mut Meter) -> Result<Issued, IssueError>
-        ensures { Issues (seen self.old) text.now result (seen self.new) };
+        ensures issues { Issues (seen self.old) text.now result (seen self.new) }
+        ensures journal { result ≡ Err issue_error.JournalWrite → failed self.old self.new };
 
     /// Adds the entries that are not held yet.
     fn take(
@@ -27,10 +34,11 @@ pub trait Replica {
         batch: &[Entry],
         meter: &mut Meter,
     ) -> Result<Taken, TakeError>
-        ensures { Takes (seen self.old) batch.now result (seen self.new) };
+        ensures takes { Takes (seen self.old) batch.now result (seen self.new) }
+        ensures journal { result ≡ Err take_error.JournalWrite → failed self.old self.new };
 
     /// What a query means over the relvars.
-    fn ask(&self, alloc: Global, text: &str) -> Result<Reply, AskError>
+    fn ask(&self, alloc: Global, text: &str) -> Result<Asked, AskError>
         ensures { Asks (seen self.now) text.now result };
 
     /// What the relvar of this name has, or the error that evaluating it raises.
@@ -57,4 +65,14 @@ pub trait Replica {
     /// The script that it started from.
     fn script(&self) -> &str
         ensures { result.now ≡ (seen self.now).script };
+}
+
+/// A kind of site that a script opens, and that is always open.
+pub trait Opens: Replica {
+    /// A site of this number that holds nothing and may hold so many entries. It costs what opening the script costs.
+    fn open_script(alloc: Global, script: &str, site: u16, limit: usize) -> Result<Self, OpenError>
+        ensures { MatchResult result (λ s. OpensSite script.now site limit (Ok (seen s))) (λ e. OpensSite script.now site limit (Err e)) };
+
+    /// No call closes it.
+    ghost stays_open: { (s : Self) → (seen s).live ≡ true };
 }

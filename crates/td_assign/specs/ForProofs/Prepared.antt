@@ -7,7 +7,7 @@ use Rattle.td_headings.specs.declared.defined.Test.{Test}
 use Rattle.td_headings.specs.declared.statement.TypedAssignment.{TypedAssignment}
 use Rattle.td_story.specs.Raises.{stop_of}
 use Rattle.td_story.specs.Tests.{failing}
-use Rattle.td_story.specs.Databases.{DatabaseData, relvars_in}
+use Rattle.td_story.specs.Databases.{DatabaseData, stored_relvars}
 use Rattle.td_story.specs.Given.{Given, nothing_given, with_given}
 use Rattle.td_story.specs.Differences.{AreDifferences}
 use Rattle.td_assign.specs.ForProofs.Given.{AreChanges}
@@ -21,7 +21,7 @@ use Rattle.td_assign.specs.declared.running.Prepared.{Prepared}
 use Rattle.td_assign.specs.declared.running.Prepared.TheVariants.{Changes, Refused}
 
 abbrev pub assigned_by : DatabaseData → List TypedAssignment → Result Given Stop
-assigned_by d xs = sources d.catalogue (relvars_in d.stored) nothing_given xs
+assigned_by d xs = sources d.catalogue (stored_relvars d.stored) nothing_given xs
 
 abbrev pub failing_after : DatabaseData → List Change → Option (Test × Option Stop)
 failing_after d cs = failing_with d (given_to cs)
@@ -30,7 +30,7 @@ failing_after d cs = failing_with d (given_to cs)
 pub record MayChange (d : DatabaseData) (cs : List Change) (ds : List (ℕ × DeltaData)) : Type 0 where
   pub given : AreChanges d.catalogue cs
   pub passes : failing_after d cs ≡ None
-  pub differences : AreDifferences (relvars_in d.stored) (relvars_in (with_given (given_to cs) d.stored)) ds
+  pub differences : AreDifferences (stored_relvars d.stored) (stored_relvars (with_given (given_to cs) d.stored)) ds
 
 -- with these changes the tests decide
 abbrev pub IsJudged : DatabaseData → List Change → Prepared → Type 0

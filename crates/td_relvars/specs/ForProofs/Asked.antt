@@ -9,8 +9,8 @@ use Rattle.td_trees.specs.declared.tree.Typed.TheVariants as t
 use Rattle.td_headings.specs.Catalogues.{CatalogueData}
 use Rattle.td_headings.specs.Reached.{is_base}
 use Rattle.td_story.specs.Trees.{IsIn, all_relvars}
-use Rattle.td_story.specs.Answers.{Says}
-use Rattle.td_story.specs.Databases.{DatabaseData, relvars_in}
+use Rattle.td_story.specs.Answers.{SaysRelation}
+use Rattle.td_story.specs.Databases.{DatabaseData, stored_relvars}
 use Rattle.td_story.specs.declared.answer.Answer.{Answer}
 use Rattle.td_story.specs.declared.error.RelvarError.{AskError}
 use Rattle.td_story.specs.declared.error.RelvarError.TheVariants.{Unknown, OutOfMemory}
@@ -19,7 +19,7 @@ use Rattle.td_story.specs.declared.error.RelvarError.TheVariants.{Unknown, OutOf
 pub record IsStoredAt (d : DatabaseData) (n : ℕ) : Type 0 where
   pub is_real : is_base (slice_get d.catalogue.origins n) ≡ true
   pub relation : RowsData
-  pub has : relvars_in d.stored n ≡ Ok relation
+  pub has : stored_relvars d.stored n ≡ Ok relation
 
 -- the relvar of this name is there, and has the heading
 abbrev pub IsRelvar : CatalogueData → List ℕ → ℕ → Header → Type 0
@@ -33,6 +33,6 @@ pub record IsNameOf (c : CatalogueData) (n : ℕ) (h : Header) (x : Expression) 
 
 -- what the relvar at the place has, which is there
 abbrev pub TellsAt : DatabaseData → ℕ → Result Answer AskError → Type 0
-TellsAt d n (Ok a) = Says a (all_relvars d.catalogue (relvars_in d.stored) n)
+TellsAt d n (Ok a) = SaysRelation a (all_relvars d.catalogue (stored_relvars d.stored) n)
 TellsAt d n (Err Unknown) = ⊥
 TellsAt d n (Err OutOfMemory) = Unit {0}

@@ -11,7 +11,7 @@ use Rattle.td_story.specs.declared.failure.Failure.{Failure}
 use Rattle.td_story.specs.declared.failure.Failure.TheVariants as failure
 use Rattle.td_story.specs.Reports.{title}
 use Rattle.td_story.specs.Tests.{failing}
-use Rattle.td_story.specs.Databases.{DatabaseData, Stored, relvars_in}
+use Rattle.td_story.specs.Databases.{DatabaseData, Stored, stored_relvars}
 use Rattle.td_story.specs.Openings.{opening, relation_in}
 use Rattle.td_story.specs.declared.error.ScriptError.{ScriptError}
 use Rattle.td_story.specs.declared.error.ScriptError.TheVariants as refusal
@@ -35,7 +35,7 @@ Fills c (Err failure.OutOfMemory) = Unit {0}
 
 -- the first test that fails of a database
 abbrev pub first_in : DatabaseData → Option (Test × Option Stop)
-first_in d = failing d.catalogue (relvars_in d.stored) d.catalogue.tests
+first_in d = failing d.catalogue (stored_relvars d.stored) d.catalogue.tests
 
 -- the database where its tests are true
 abbrev pub Judges : DatabaseData → Result DatabaseData ScriptError → Type 0

@@ -7,23 +7,23 @@ use Rattle.td_trees.specs.declared.expression.Expression.{Expression}
 use Rattle.td_headings.specs.Expressions.{IsExpression, no_tuple}
 use Rattle.td_story.specs.Trees.{tree_means}
 use Rattle.td_story.specs.Answers.{TellsRelvar}
-use Rattle.td_story.specs.Databases.{DatabaseData, relvars_in}
+use Rattle.td_story.specs.Databases.{DatabaseData, stored_relvars}
 use Rattle.td_story.specs.declared.answer.Answer.{Answer}
 use Rattle.td_story.specs.declared.error.RelvarError.TheVariants as relvar_error
-use Rattle.td_story.specs.Calls.{Says}
-use Rattle.td_story.specs.declared.answer.Reply.{Reply}
+use Rattle.td_story.specs.Calls.{SaysValue}
+use Rattle.td_story.specs.declared.answer.Asked.{Asked}
 use Rattle.td_story.specs.declared.refusal.AskError.{AskError}
 use Rattle.td_story.specs.declared.refusal.AskError.TheVariants as ask_error
 use Rattle.td_story.specs.declared.refusal.ValueError.{ValueError}
 use Rattle.td_story.specs.declared.refusal.ValueError.TheVariants as value_error
 
 -- the text is this query, and the reply says what it means
-pub record Means (d : DatabaseData) (text : List ℕ) (r : Reply) : Type 0 where
+pub record Means (d : DatabaseData) (text : List ℕ) (r : Asked) : Type 0 where
   pub query : Expr
   pub expression : Expression
   pub reads : IsQuery text query
   pub types : IsExpression d.catalogue no_tuple query expression
-  pub says : Says r (tree_means d.catalogue (relvars_in d.stored) expression.tree no_attrs)
+  pub says : SaysValue r (tree_means d.catalogue (stored_relvars d.stored) expression.tree no_attrs)
 
 -- the text is a query that is ill typed
 pub record IsIllTyped (d : DatabaseData) (text : List ℕ) : Type 0 where
@@ -31,7 +31,7 @@ pub record IsIllTyped (d : DatabaseData) (text : List ℕ) : Type 0 where
   pub reads : IsQuery text query
   pub refused : (x : Expression) → IsExpression d.catalogue no_tuple query x → ⊥
 
-abbrev pub Answers : DatabaseData → List ℕ → Result Reply AskError → Type 0
+abbrev pub Answers : DatabaseData → List ℕ → Result Asked AskError → Type 0
 Answers d text (Ok r) = Means d text r
 Answers d text (Err ask_error.Broken) = ⊥
 Answers d text (Err ask_error.Syntax) = (e : Expr) → IsQuery text e → ⊥

@@ -1,5 +1,5 @@
 use Rattle.std.proofs.Common.{Some, slice_get, ap, sym, ◌∙◌}
-use Rattle.td_story.specs.Databases.{relvars_in}
+use Rattle.td_story.specs.Databases.{stored_relvars}
 use Rattle.td_relvars.proofs.Stores.{looked_up}
 use Rattle.td_assign.proofs.Differing.{told}
 use Rattle.td_assign.proofs.deltas.difference.Goals as goal
@@ -9,4 +9,4 @@ returns c =
     let d = c.args.database.now in
     let x = c.args.change.now in
     let before = c.relation.result.now in
-    told (relvars_in d.stored) x before (looked_up (slice_get d.stored x.target) before (sym c.in-Some.ensures ∙ ap Some (sym c.relation.ensures))) c.turning.result c.turning.ensures
+    told (stored_relvars d.stored) x before (looked_up (slice_get d.stored x.target) before (sym c.in-Some.ensures ∙ ap Some (sym c.relation.ensures))) c.turning.result c.turning.ensures

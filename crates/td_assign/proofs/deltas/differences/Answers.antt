@@ -1,7 +1,7 @@
 use Rattle.std.proofs.Common.{◌+◌, drop, ap, sym, subst, ◌∙◌, arith}
 use Rattle.std.proofs.lemmas.List.{drop_all}
 use Rattle.std.proofs.lemmas.List.Elements.{All-get_or}
-use Rattle.td_story.specs.Databases.{relvars_in}
+use Rattle.td_story.specs.Databases.{stored_relvars}
 use Rattle.td_story.specs.Differences.{AreDifferences}
 use Rattle.td_assign.specs.ForProofs.Given.{IsChange}
 use Rattle.td_assign.proofs.Differing.{Found, begun, by_none, by_option, ended, left_at}
@@ -17,13 +17,13 @@ difference-requires-clause-change c =
 
 pub loop-change-init : goal.loop-change-init
 loop-change-init c =
-    let old = relvars_in c.args.database.now.stored in
+    let old = stored_relvars c.args.database.now.stored in
     let all = c.args.changes.now in
     subst (Found old all all) (sym c.new-found.ensures.items) (begun old all c.requires.changes.distinct)
 
 pub loop-change-preserved : goal.loop-change-preserved
 loop-change-preserved c =
-    let old = relvars_in c.args.database.now.stored in
+    let old = stored_relvars c.args.database.now.stored in
     let all = c.args.changes.now in
     let i = c.loop-change.change-index in
     let x = c.change-item.result in
@@ -40,6 +40,6 @@ returns c =
     let d = c.args.database.now in
     let all = c.args.changes.now in
     let ds = c.loop-change.found.items in
-    let old = relvars_in d.stored in
+    let old = stored_relvars d.stored in
     subst (λ r. AreDifferences old r ds) (all_replaced d.catalogue all c.requires.changes d.stored c.requires.database)
     (ended old all ds (subst (λ ys. Found old all ys ds) (drop_all c.loop-change.change-index all (omega arith)) c.loop-change.invariant))

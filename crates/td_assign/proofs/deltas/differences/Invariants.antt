@@ -1,7 +1,7 @@
 use Rattle.std.proofs.Common.{drop}
-use Rattle.td_story.specs.Databases.{relvars_in}
+use Rattle.td_story.specs.Databases.{stored_relvars}
 use Rattle.td_assign.proofs.Differing.{Found}
 use Rattle.td_assign.proofs.deltas.differences.Given as goal
 
 abbrev pub invariant-loop-change : goal.invariant-loop-change
-invariant-loop-change l = Found (relvars_in l.database.stored) l.changes (drop l.change-index l.changes) l.found.items
+invariant-loop-change l = Found (stored_relvars l.database.stored) l.changes (drop l.change-index l.changes) l.found.items

@@ -1,7 +1,7 @@
 use Rattle.std.proofs.Common.{List, refl, sym, subst}
 use Rattle.td_headings.specs.Catalogues.{CatalogueData}
 use Rattle.td_story.specs.Stored.{AreStored}
-use Rattle.td_story.specs.Databases.{relvars_in}
+use Rattle.td_story.specs.Databases.{stored_relvars}
 use Rattle.td_story.specs.Given.{replaced, with_given}
 use Rattle.td_assign.specs.ForProofs.Lists.{given_to}
 use Rattle.td_story.specs.Differences.{AreDifferences}
@@ -14,8 +14,8 @@ pub first_failure-requires : goal.first_failure-requires
 first_failure-requires c =
     let d = c.args.database.now in
     let ys = c.deref.result.now in
-    subst (λ (k : CatalogueData). AreStored k (replaced (given_to ys) (relvars_in d.stored))) (sym c.catalogue.ensures.same)
-    (subst (λ (zs : List Change). AreStored d.catalogue (replaced (given_to zs) (relvars_in d.stored))) (sym c.deref.ensures.value) (replaced_stored d.catalogue c.args.changes.items c.requires d.stored c.catalogue.ensures.database))
+    subst (λ (k : CatalogueData). AreStored k (replaced (given_to ys) (stored_relvars d.stored))) (sym c.catalogue.ensures.same)
+    (subst (λ (zs : List Change). AreStored d.catalogue (replaced (given_to zs) (stored_relvars d.stored))) (sym c.deref.ensures.value) (replaced_stored d.catalogue c.args.changes.items c.requires d.stored c.catalogue.ensures.database))
 
 pub returns-in-Some : goal.returns-in-Some
 returns-in-Some c =
@@ -29,12 +29,12 @@ returns-in_ok-delta-in-None c =
     let d = c.args.database.now in
     let cs = c.args.changes.items in
     let o = c.in_ok-failure.field-0 in
-    let old = relvars_in d.stored in
+    let old = stored_relvars d.stored in
     let ds = c.in_ok-delta-in-None.delta.items in (
       refl,
       record {
         given = c.requires;
         passes = none_fails d cs o c.in-None.is (report_is d cs c.deref.result.now c.catalogue.result.now o c.catalogue.ensures.database c.requires c.catalogue.ensures.same c.deref.ensures.value c.in_ok-failure.ensures);
-        differences = subst (λ (zs : List Change). AreDifferences old (relvars_in (with_given (given_to zs) d.stored)) ds) c.deref-in-None.ensures.value c.in_ok-delta-in-None.ensures;
+        differences = subst (λ (zs : List Change). AreDifferences old (stored_relvars (with_given (given_to zs) d.stored)) ds) c.deref-in-None.ensures.value c.in_ok-delta-in-None.ensures;
       },
     )

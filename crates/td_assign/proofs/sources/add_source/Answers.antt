@@ -1,7 +1,7 @@
 use Rattle.std.proofs.Common.{◌≡◌, List, Err, Ok, sym, subst}
 use Rattle.td_values.specs.Rows.{RowsData}
 use Rattle.td_story.specs.Raises.{Tells}
-use Rattle.td_story.specs.Databases.{relvars_in}
+use Rattle.td_story.specs.Databases.{stored_relvars}
 use Rattle.td_assign.specs.ForProofs.Given.{AreChanges}
 use Rattle.td_assign.specs.ForProofs.Lists.{given_to}
 use Rattle.td_story.specs.Sources.{source_means}
@@ -14,7 +14,7 @@ pub returns-in_ok-give-in-Ok-clause-told : goal.returns-in_ok-give-in-Ok-clause-
 returns-in_ok-give-in-Ok-clause-told c =
     let d = c.args.database.now in
     let x = c.args.assignment.now in
-    (c.in-Ok.relation, subst (λ (zs : List Change). source_means d.catalogue (relvars_in d.stored) (given_to zs) x ≡ Ok c.in-Ok.relation) c.deref.ensures.value c.in-Ok.ensures.told, c.in_ok-give-in-Ok.ensures)
+    (c.in-Ok.relation, subst (λ (zs : List Change). source_means d.catalogue (stored_relvars d.stored) (given_to zs) x ≡ Ok c.in-Ok.relation) c.deref.ensures.value c.in-Ok.ensures.told, c.in_ok-give-in-Ok.ensures)
 
 pub returns-in_ok-give-in-Ok-clause-given : goal.returns-in_ok-give-in-Ok-clause-given
 returns-in_ok-give-in-Ok-clause-given c =
@@ -26,5 +26,5 @@ returns-in-Err-clause-told c =
     let d = c.args.database.now in
     let x = c.args.assignment.now in
     let f = c.in-Err.failure in
-    let told = subst (λ (zs : List Change). Tells {A = RowsData} (Err f) (source_means d.catalogue (relvars_in d.stored) (given_to zs) x)) c.deref.ensures.value c.in-Err.ensures.told in
-    stands (source_means d.catalogue (relvars_in d.stored) (given_to c.args.changes.now.items) x) f told
+    let told = subst (λ (zs : List Change). Tells {A = RowsData} (Err f) (source_means d.catalogue (stored_relvars d.stored) (given_to zs) x)) c.deref.ensures.value c.in-Err.ensures.told in
+    stands (source_means d.catalogue (stored_relvars d.stored) (given_to c.args.changes.now.items) x) f told

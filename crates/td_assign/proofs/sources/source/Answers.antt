@@ -7,7 +7,7 @@ use Rattle.td_operators.specs.Values.{rows_of}
 use Rattle.td_soundness.specs.Meanings.{IsRelation}
 use Rattle.td_story.specs.Raises.{Tells}
 use Rattle.td_story.specs.Trees.{AreBases, tree_means}
-use Rattle.td_story.specs.Databases.{relvars_in}
+use Rattle.td_story.specs.Databases.{stored_relvars}
 use Rattle.td_story.specs.Given.{seen}
 use Rattle.td_assign.specs.ForProofs.Lists.{given_to}
 use Rattle.td_assign.proofs.Assigning.{if_belongs, is_there, kind_is}
@@ -28,7 +28,7 @@ relation-requires-clause-bases c =
     let cs = c.args.changes.now in
     let n = c.args.assignment.now.target in
     let k = c.catalogue-catalogue.ensures in
-    subst (λ (z : CatalogueData). AreBases z (seen (given_to cs) n (relvars_in d.stored))) (sym k.same) (seen_bases d.catalogue cs c.requires.given d.stored k.database n)
+    subst (λ (z : CatalogueData). AreBases z (seen (given_to cs) n (stored_relvars d.stored))) (sym k.same) (seen_bases d.catalogue cs c.requires.given d.stored k.database n)
 
 pub unreachable-requires : goal.unreachable-requires
 unreachable-requires c =
@@ -40,7 +40,7 @@ unreachable-requires c =
 pub returns-clause-told : goal.returns-clause-told
 returns-clause-told c =
     let x = c.args.assignment.now in
-    subst (λ (z : CatalogueData). Tells c.relation.result (and_then (tree_means z (seen (given_to c.args.changes.now) x.target (relvars_in c.args.database.now.stored)) x.source.tree no_attrs) rows_of)) c.catalogue-catalogue.ensures.same c.relation.ensures.told
+    subst (λ (z : CatalogueData). Tells c.relation.result (and_then (tree_means z (seen (given_to c.args.changes.now) x.target (stored_relvars c.args.database.now.stored)) x.source.tree no_attrs) rows_of)) c.catalogue-catalogue.ensures.same c.relation.ensures.told
 
 pub returns-clause-typed : goal.returns-clause-typed
 returns-clause-typed c =

@@ -1,6 +1,6 @@
 use Rattle.std.proofs.Common.{Some, ap, sym, ◌∙◌, slice_get}
 use Rattle.std.specs.Option.{option_copied}
-use Rattle.td_story.specs.Databases.{relvars_in}
+use Rattle.td_story.specs.Databases.{stored_relvars}
 use Rattle.td_relvars.proofs.Asked.{base_stays}
 use Rattle.td_relvars.proofs.Stores.{looked_up, not_stored}
 use Rattle.td_relvars.proofs.asking.base_value.Goals as goal
@@ -14,5 +14,5 @@ pub returns : goal.returns
 returns c =
     let d = c.args.database.now in
     let n = c.args.place in
-    base_stays d.catalogue (relvars_in d.stored) n c.requires.is_real
+    base_stays d.catalogue (stored_relvars d.stored) n c.requires.is_real
     ∙ looked_up (slice_get d.stored n) c.in_ok-copy_relation-in-Some.field-0 (sym c.in-Some.ensures ∙ ap Some (sym c.in_ok-copy_relation-in-Some.ensures))

@@ -8,7 +8,7 @@ use Rattle.td_operators.specs.Values.{rows_of}
 use Rattle.td_soundness.specs.Meanings.{IsRelation}
 use Rattle.td_story.specs.Raises.{Tells}
 use Rattle.td_story.specs.Trees.{IsIn, tree_means}
-use Rattle.td_story.specs.Databases.{Belongs, relvars_in}
+use Rattle.td_story.specs.Databases.{Belongs, stored_relvars}
 use Rattle.td_relvars.proofs.Inits.{init, init_in, belongs, tells_init}
 use Rattle.td_relvars.proofs.opening.init_value.Goals as goal
 
@@ -37,7 +37,7 @@ returns-in-Ok-clause-told c =
     let d = c.args.database.now in
     let x = c.args.init.now in
     let i = init d.catalogue c.args.place x c.requires in
-    let told = ap (λ (z : CatalogueData). and_then (tree_means z (relvars_in d.stored) x.tree no_attrs) rows_of) (sym c.catalogue-catalogue.ensures.same) ∙ c.in-Ok.ensures.told ∙ ap Ok (sym c.make_base.ensures) in
+    let told = ap (λ (z : CatalogueData). and_then (tree_means z (stored_relvars d.stored) x.tree no_attrs) rows_of) (sym c.catalogue-catalogue.ensures.same) ∙ c.in-Ok.ensures.told ∙ ap Ok (sym c.make_base.ensures) in
     tells_init d.catalogue c.args.place x i d.stored (Ok c.make_base.result) told
 
 pub returns-in-Ok-clause-belongs : goal.returns-in-Ok-clause-belongs
@@ -57,5 +57,5 @@ returns-in-Err-clause-told c =
     let d = c.args.database.now in
     let x = c.args.init.now in
     let i = init d.catalogue c.args.place x c.requires in
-    let told = subst (λ (z : CatalogueData). Tells {A = RowsData} (Err c.in-Err.failure) (and_then (tree_means z (relvars_in d.stored) x.tree no_attrs) rows_of)) c.catalogue-catalogue.ensures.same c.in-Err.ensures.told in
+    let told = subst (λ (z : CatalogueData). Tells {A = RowsData} (Err c.in-Err.failure) (and_then (tree_means z (stored_relvars d.stored) x.tree no_attrs) rows_of)) c.catalogue-catalogue.ensures.same c.in-Err.ensures.told in
     tells_init d.catalogue c.args.place x i d.stored (Err c.in-Err.failure) told

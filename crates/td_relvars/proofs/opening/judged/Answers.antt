@@ -3,16 +3,16 @@ use Rattle.td_headings.specs.Catalogues.{CatalogueData}
 use Rattle.td_story.specs.Reports.{IsReport}
 use Rattle.td_story.specs.Stored.{AreStored}
 use Rattle.td_story.specs.Tests.{failing}
-use Rattle.td_story.specs.Databases.{relvars_in}
+use Rattle.td_story.specs.Databases.{stored_relvars}
 use Rattle.td_relvars.specs.ForProofs.Opened.{first_in}
 use Rattle.td_relvars.proofs.Told.{of_test}
 use Rattle.td_relvars.proofs.opening.judged.Goals as goal
 
 pub first_failure-requires : goal.first_failure-requires
-first_failure-requires c = subst (λ (k : CatalogueData). AreStored k (relvars_in c.args.database.stored)) (sym c.catalogue.ensures.same) c.catalogue.ensures.database.stored
+first_failure-requires c = subst (λ (k : CatalogueData). AreStored k (stored_relvars c.args.database.stored)) (sym c.catalogue.ensures.same) c.catalogue.ensures.database.stored
 
 pub returns-in-Ok-Some : goal.returns-in-Ok-Some
 returns-in-Ok-Some c =
     let d = c.args.database in
-    let told = subst (λ (k : CatalogueData). IsReport k (failing k (relvars_in d.stored) k.tests) c.in-Ok-Some.field-0) c.catalogue.ensures.same c.in-Ok-Some.ensures in
+    let told = subst (λ (k : CatalogueData). IsReport k (failing k (stored_relvars d.stored) k.tests) c.in-Ok-Some.field-0) c.catalogue.ensures.same c.in-Ok-Some.ensures in
     of_test d.catalogue (first_in d) c.in-Ok-Some.failure (subst (IsReport d.catalogue (first_in d)) c.in-Ok-Some.field-0-is told)

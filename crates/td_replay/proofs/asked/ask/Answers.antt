@@ -6,7 +6,7 @@ use Rattle.td_headings.specs.Catalogues.{CatalogueData}
 use Rattle.td_headings.specs.Definitions.{names_of_relvars}
 use Rattle.td_headings.specs.Expressions.{IsExpression, no_tuple}
 use Rattle.td_story.specs.Trees.{tree_means}
-use Rattle.td_story.specs.Databases.{relvars_in}
+use Rattle.td_story.specs.Databases.{stored_relvars}
 use Rattle.td_replay.proofs.Asking.{never_typed}
 use Rattle.td_replay.proofs.asked.ask.Goals as goal
 
@@ -30,7 +30,7 @@ returns-in-Ok-value c =
       expression = x;
       reads = c.in-Ok.ensures.tree;
       types = subst (λ (a : Expr). IsExpression d.catalogue no_tuple a x) c.get.ensures here;
-      says = ap (λ (z : CatalogueData). tree_means z (relvars_in d.stored) x.tree no_attrs) (sym c.catalogue-catalogue.ensures.same) ∙ c.in-Ok-value.ensures.told;
+      says = ap (λ (z : CatalogueData). tree_means z (stored_relvars d.stored) x.tree no_attrs) (sym c.catalogue-catalogue.ensures.same) ∙ c.in-Ok-value.ensures.told;
     }
 
 pub returns-in-Err-Raised : goal.returns-in-Err-Raised
@@ -43,5 +43,5 @@ returns-in-Err-Raised c =
       expression = x;
       reads = c.in-Ok.ensures.tree;
       types = subst (λ (a : Expr). IsExpression d.catalogue no_tuple a x) c.get.ensures here;
-      says = ap (λ (z : CatalogueData). tree_means z (relvars_in d.stored) x.tree no_attrs) (sym c.catalogue-catalogue.ensures.same) ∙ (rw c.in-Err-Raised.field-0-is at c.in-Err-Raised.ensures.told);
+      says = ap (λ (z : CatalogueData). tree_means z (stored_relvars d.stored) x.tree no_attrs) (sym c.catalogue-catalogue.ensures.same) ∙ (rw c.in-Err-Raised.field-0-is at c.in-Err-Raised.ensures.told);
     }
