@@ -1,8 +1,7 @@
 -- The laws of statements.
 use Rattle.std.specs.Prelude.{ℕ, List}
 use Rattle.td_relations.specs.Deltas.{DeltaData}
-use Rattle.td_story.specs.Tests.{AreLegal}
-use Rattle.td_story.specs.Databases.{DatabaseData, IsDatabase, stored_relvars}
+use Rattle.td_story.specs.Databases.{DatabaseData, IsDatabase, IsLegal, stored_relvars}
 use Rattle.td_story.specs.Differences.{AreDifferences}
 use Rattle.td_story.specs.Footprints.{AgreeOnFootprint}
 use Rattle.td_story.specs.Steps.{Steps}
@@ -17,5 +16,5 @@ pub record StepsAlike (d f e : DatabaseData) (text : List ℕ) (o : Outcome) : T
 -- legal databases that agree on the footprint of a text give it one outcome and the same differences
 abbrev pub StepByFootprint : Type 0
 StepByFootprint =
-    (d e f : DatabaseData) (text : List ℕ) (o : Outcome) → IsDatabase d → IsDatabase e → AreLegal d.catalogue (stored_relvars d.stored) → AreLegal e.catalogue (stored_relvars e.stored)
+    (d e f : DatabaseData) (text : List ℕ) (o : Outcome) → IsDatabase d → IsDatabase e → IsLegal d → IsLegal e
     → AgreeOnFootprint d e text → Steps d text o f → StepsAlike d f e text o

@@ -6,7 +6,7 @@ ghost use Rattle.td_headings.specs.Catalogues.{CatalogueData};
 ghost use Rattle.td_headings.specs.Statements as typed;
 ghost use Rattle.td_headings.specs.declared.defined.Test.{Test};
 ghost use Rattle.td_algebra.specs.declared.errors.Stop.{Stop};
-ghost use Rattle.td_story.specs.Databases.{stored_relvars};
+ghost use Rattle.td_story.specs.Databases.{IsLegal, stored_relvars};
 ghost use Rattle.td_story.specs.Counts.{one_more};
 ghost use Rattle.td_story.specs.Differences.{AreDifferences};
 ghost use Rattle.td_assign.specs.ForProofs.Given.{AreAssigned, AreChanges};
@@ -139,8 +139,8 @@ fn unchanged(alloc: Global, outcome: Outcome) -> Ran
     }
 }
 
-/// Runs the statement: its text is read and typed once, each source is evaluated once, every test is made, and the relvars change
-/// where all are true. A refusal for want of memory leaves the database; the meter has counted then.
+/// Runs the statement over relvars of which every test is true: its text is read and typed once, each source is evaluated once, the
+/// differences are made and then every test, and the relvars change where all are true. A refusal for want of memory leaves the database; the meter has counted then.
 #[tactic(auto, using(crate::proofs::Preparing::no_differences))]
 pub fn run(
     alloc: Global,
@@ -148,9 +148,11 @@ pub fn run(
     text: &str,
     meter: &mut Meter,
 ) -> Result<Ran, AllocError>
+    requires { IsLegal database.old }
     ensures step { IfOk result (λ r. Steps database.old text.now r.outcome database.new) }
     ensures delta { IfOk result (λ r. AreDifferences (stored_relvars database.old.stored) (stored_relvars database.new.stored) r.delta.items) }
     ensures kept { OnErr result (database.new ≡ database.old) }
+    ensures legal { IsLegal database.new }
     ensures counted { meter.new.count ≡ one_more meter.old.count }
 {
     meter.tick();

@@ -2,7 +2,7 @@
 
 ghost use Rattle.std.specs.Prelude.{◌≡◌, IfOk};
 ghost use Rattle.td_headings.specs.Expressions as expressions;
-ghost use Rattle.td_story.specs.Databases.{Belongs};
+ghost use Rattle.td_story.specs.Databases.{Belongs, IsLegal};
 ghost use Rattle.td_relvars.specs.ForProofs.Opened.{Fills, Judges, Leaves, TellsInit};
 ghost use Rattle.td_story.specs.Openings as spec;
 ghost use Rattle.td_story.specs.Scripts.{Opens};
@@ -87,7 +87,8 @@ fn judged(alloc: Global, database: Database) -> Result<Database, ScriptError>
 /// The database that the script opens: its types and relvars, each with what it holds at first, where every test is true. It
 /// costs the reading and typing of the text, the evaluation of each INIT, and the tests.
 pub fn open_script(alloc: Global, text: &str) -> Result<Database, ScriptError>
-    ensures { Opens text.now result }
+    ensures opens { Opens text.now result }
+    ensures legal { IfOk result IsLegal }
 {
     let catalogue = match catalogue_of(alloc, text) {
         Ok(catalogue) => catalogue,

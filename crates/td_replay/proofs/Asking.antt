@@ -27,4 +27,4 @@ module _ (s : Seen) (os : Outcomes) (d : DatabaseData) (live : s.live ≡ true) 
   asks text (Err ask_error.Broken) h = absurd h
   asks text (Err ask_error.Syntax) h = (live, h)
   asks text (Err ask_error.IllTyped) h = (live, record { catalogue = d.catalogue; query = h.query; defines = story_catalogue s.script s.entries os d st; reads = h.reads; refused = h.refused })
-  asks text (Err ask_error.OutOfMemory) h = live
+  asks text (Err ask_error.OutOfMemory) h = (live, h)

@@ -77,17 +77,17 @@ issues_entry s after text e i os told d end x live st next runs read stamp is =
 pub issues_refusal : (s after : Seen) (text : List ℕ) (os : Outcomes) (d : DatabaseData) (error : IssueError) → s.live ≡ true → IsStory s.script s.entries os d → after ≡ s → IsRefusal d.catalogue text error → Issues s text (Err error) after
 issues_refusal s after text os d issue_error.Syntax live st same h = ((live, same), h)
 issues_refusal s after text os d issue_error.IllTyped live st same h = ((live, same), record { catalogue = d.catalogue; statement = h.0; defines = story_catalogue s.script s.entries os d st; reads = h.1; refused = h.2 })
-issues_refusal s after text os d issue_error.OutOfMemory live st same h = (live, same)
+issues_refusal s after text os d issue_error.OutOfMemory live st same h = ((live, same), h)
 issues_refusal s after text os d issue_error.Broken live st same h = absurd h
 issues_refusal s after text os d issue_error.ClockEnd live st same h = absurd h
 issues_refusal s after text os d issue_error.Full live st same h = absurd h
 issues_refusal s after text os d issue_error.JournalWrite live st same h = absurd h
 
-pub issues_no_entry : (s : Seen) (text : List ℕ) (os : Outcomes) (d : DatabaseData) (error : IssueError) (x : TypedStatement) → s.live ≡ true → IsStory s.script s.entries os d → IsRead d.catalogue text x → Numbers s text (Err error) → Issues s text (Err error) s
-issues_no_entry s text os d issue_error.ClockEnd x live st read h = ((live, refl), record { catalogue = d.catalogue; statement = x; defines = story_catalogue s.script s.entries os d st; read = read }, h)
-issues_no_entry s text os d issue_error.Full x live st read h = ((live, refl), record { catalogue = d.catalogue; statement = x; defines = story_catalogue s.script s.entries os d st; read = read }, h)
-issues_no_entry s text os d issue_error.OutOfMemory x live st read h = (live, refl)
-issues_no_entry s text os d issue_error.Broken x live st read h = absurd h
-issues_no_entry s text os d issue_error.Syntax x live st read h = absurd h
-issues_no_entry s text os d issue_error.IllTyped x live st read h = absurd h
-issues_no_entry s text os d issue_error.JournalWrite x live st read h = absurd h
+pub issues_no_entry : (s : Seen) (text : List ℕ) (os : Outcomes) (d : DatabaseData) (error : IssueError) (x : TypedStatement) → s.live ≡ true → IsStory s.script s.entries os d → IsRead d.catalogue text x → length text ≤ 8192 → Numbers s text (Err error) → Issues s text (Err error) s
+issues_no_entry s text os d issue_error.ClockEnd x live st read short h = ((live, refl), record { catalogue = d.catalogue; statement = x; defines = story_catalogue s.script s.entries os d st; read = read }, h)
+issues_no_entry s text os d issue_error.Full x live st read short h = ((live, refl), record { catalogue = d.catalogue; statement = x; defines = story_catalogue s.script s.entries os d st; read = read }, h)
+issues_no_entry s text os d issue_error.OutOfMemory x live st read short h = ((live, refl), short)
+issues_no_entry s text os d issue_error.Broken x live st read short h = absurd h
+issues_no_entry s text os d issue_error.Syntax x live st read short h = absurd h
+issues_no_entry s text os d issue_error.IllTyped x live st read short h = absurd h
+issues_no_entry s text os d issue_error.JournalWrite x live st read short h = absurd h

@@ -10,7 +10,7 @@ use Rattle.td_stamps.specs.Story.{Story, nothing_ran}
 use Rattle.td_stamps.proofs.Stories as stories
 use Rattle.td_story.specs.Databases.{DatabaseData}
 use Rattle.td_story.specs.Scripts.{IsScriptOf, OpensOn}
-use Rattle.td_story.specs.Steps.{IsRead, IsUnread, Steps, Tells, unread, raised, refused, done}
+use Rattle.td_story.specs.Steps.{IsRead, IsUnread, Steps, TellsTest, unread, raised, refused, done}
 use Rattle.td_story.specs.declared.outcome.Outcome.{Outcome}
 use Rattle.td_story.specs.declared.outcome.Outcome.TheVariants as outcome
 use Rattle.td_replay.specs.ForProofs.Told.{Outcomes, RunsNext, RunsSome}
@@ -29,14 +29,14 @@ undone_stays d e text o (raised p h) other = refl
 undone_stays d e text o (refused p h i j) other = refl
 undone_stays d e text o (done p h i) other = absurd (other refl)
 
-never_unread : (c : CatalogueData) (t : Test) (o : Option Stop) → Tells c t o outcome.Unread → ⊥
+never_unread : (c : CatalogueData) (t : Test) (o : Option Stop) → TellsTest c t o outcome.Unread → ⊥
 never_unread c t None h = h
 never_unread c t (Some e) h = h
 
 pub unread_is : (d e : DatabaseData) (text : List ℕ) (o : Outcome) → Steps d text o e → o ≡ outcome.Unread → IsUnread d.catalogue text
 unread_is d e text o (unread h) is = h
 unread_is d e text o (raised p h) is = cc
-unread_is d e text o (refused {t = t} {o = m} p h i j) is = absurd (never_unread d.catalogue t m (subst (Tells d.catalogue t m) is j))
+unread_is d e text o (refused {t = t} {o = m} p h i j) is = absurd (never_unread d.catalogue t m (subst (TellsTest d.catalogue t m) is j))
 unread_is d e text o (done p h i) is = cc
 
 pub unread_stays : (d e : DatabaseData) (text : List ℕ) (o : Outcome) → Steps d text o e → o ≡ outcome.Unread → e ≡ d

@@ -11,10 +11,16 @@ use td_kinds::error::TypeError;
 use td_relvars::Database;
 use td_values::Name;
 
+// The most bytes that a query has. A longer one is refused before anything takes memory.
+const MOST_BYTES: usize = 8192;
+
 /// What the query means over the relvars.
 pub(crate) fn ask(alloc: Global, database: &Database, text: &str) -> Result<Asked, AskError>
     ensures { Answers database.now text.now result }
 {
+    if text.len() > MOST_BYTES {
+        return Err(AskError::Syntax);
+    }
     let query = match read_expr(alloc, text) {
         Ok(query) => query,
         Err(ReadError::Syntax) => return Err(AskError::Syntax),

@@ -1,5 +1,6 @@
 //! Whether a text is a statement, well typed.
 
+ghost use Rattle.std.specs.Prelude.{◌≤◌, length};
 ghost use Rattle.td_story.specs.Steps.{IsUnread};
 ghost use Rattle.td_replay.specs.ForProofs.Judged.{IsRefusal, Judges};
 
@@ -11,6 +12,7 @@ use td_kinds::error::TypeError;
 
 /// Why the text is no statement of the catalogue, if it is none.
 pub(crate) fn judge(alloc: Global, catalogue: &Catalogue, text: &str) -> Result<(), IssueError>
+    requires { length text.now ≤ 8192 }
     ensures { Judges catalogue.now text.now result }
 {
     let statement = match read_statement(alloc, text) {
@@ -27,7 +29,8 @@ pub(crate) fn judge(alloc: Global, catalogue: &Catalogue, text: &str) -> Result<
 
 /// Why a text that is none is no statement of the catalogue.
 pub(crate) fn refusal(alloc: Global, catalogue: &Catalogue, text: &str) -> IssueError
-    requires { IsUnread catalogue.now text.now }
+    requires unread { IsUnread catalogue.now text.now }
+    requires short { length text.now ≤ 8192 }
     ensures { IsRefusal catalogue.now text.now result }
 {
     match judge(alloc, catalogue, text) {

@@ -1,11 +1,15 @@
 //! A site that runs all statements that it holds anew where it takes more of them.
 
-ghost use Rattle.std.specs.Prelude.{◌≡◌, ◌≤◌, Err, Ok, length};
-ghost use Rattle.td_story.specs.Calls.{Issues, entry_of};
+ghost use Rattle.std.specs.Prelude.{◌≡◌, ◌≤◌, ◌+◌, Err, Ok, length, refl};
+ghost use Rattle.td_stamps.specs.Sets.{union};
+ghost use Rattle.td_story.specs.Databases.{IsLegal};
+ghost use Rattle.td_story.specs.Calls.{Issues, Takes, entry_of};
+ghost use Rattle.td_story.specs.Seen.{always_open};
+ghost use Rattle.td_story.specs.declared.refusal.IssueError.TheVariants as issue_error;
+ghost use Rattle.td_story.specs.declared.refusal.TakeError.TheVariants as take_error;
 ghost use Rattle.td_replay.specs.ForProofs.Told.{Numbers};
-ghost use Rattle.td_story.specs.NewSites.{OpensSite};
 
-use td_story::{Answer, AskError, IssueError, Issued, Meter, NotOpen, OpenError, Outcome, Replica, Asked, TakeError, Taken, TellError, ValueError};
+use td_story::{Answer, AskError, Asked, IssueError, Issued, Meter, NotOpen, OpenError, Opens, Outcome, Replica, TakeError, Taken, TellError, ValueError};
 use crate::asked;
 use crate::judged::{judge, refusal};
 use crate::told::{Told, add_last, copies, tell_all};
@@ -43,54 +47,20 @@ impl Drop for PlainSite {
 
 impl Model for PlainSite {
     ghost use Rattle.std.specs.Prelude.{◌≡◌, ◌≤◌, true};
-    ghost use Rattle.td_story.specs.Seen.{Seen, is_limit};
+    ghost use Rattle.td_story.specs.Seen.{Contents, is_limit};
     ghost use Rattle.td_story.specs.Stories.{IsStory};
 
-    ghost Value = { Seen };
+    ghost Value = { Contents };
 
-    ghost view = { λ s. record { script = s.script; site = s.site; limit = s.held.limit; entries = s.held.entries; live = true } };
+    ghost view = { λ s. record { script = s.script; site = s.site; limit = s.held.limit; entries = s.held.entries } };
 
     ghost invariant = { λ s. (1 ≤ s.site) × (is_limit s.held.limit ≡ true) × IsStory s.script s.held.entries s.told.outcomes.items s.told.database };
 }
 
 impl PlainSite {
-    /// A site of this number that holds nothing and may hold so many entries. It costs what opening the script costs.
-    pub fn open_script(
-        alloc: Global,
-        script: &str,
-        site: u16,
-        limit: usize,
-    ) -> Result<PlainSite, OpenError>
-        ensures { OpensSite script.now site limit result }
-    {
-        if site == 0 {
-            return Err(OpenError::BadSite);
-        }
-        if limit == 0 || limit > MOST_ENTRIES {
-            return Err(OpenError::BadLimit);
-        }
-        let database = match td_relvars::open_script(alloc, script) {
-            Ok(database) => database,
-            Err(error) => return Err(OpenError::Script(error)),
-        };
-        let script = match Text::from_str(alloc, script) {
-            Ok(script) => script,
-            Err(_) => return Err(OpenError::Script(td_story::ScriptError::OutOfMemory)),
-        };
-        Ok(PlainSite {
-            script,
-            site,
-            held: Held::new(alloc, limit),
-            told: Told {
-                database,
-                outcomes: Vec::new(alloc),
-            },
-        })
-    }
-
     // The site's next entry, with this text.
     fn next_entry(&self, alloc: Global, text: &str) -> Result<Entry, IssueError>
-        ensures { Numbers self.now text.now result }
+        ensures { Numbers (always_open self.now) text.now result }
     {
         let (seq, clock) = match self.held.next(self.site) {
             Ok(numbers) => numbers,
@@ -118,9 +88,11 @@ impl PlainSite {
         text: &str,
         meter: &mut Meter,
     ) -> Result<Issued, IssueError>
-        requires next { entry_of self.old text.now ≡ Ok entry }
+        requires next { entry_of (always_open self.old) text.now ≡ Ok entry }
         requires short { length text.now ≤ 8192 }
-        ensures { Issues self.old text.now result self.new }
+        ensures issues { Issues (always_open self.old) text.now result (always_open self.new) }
+        ensures journal { result ≡ Err issue_error.JournalWrite → ⊥ }
+        ensures meter { meter.new.count ≤ meter.old.count + 1 }
     {
         let stamp = entry.stamp();
         let outcome = match add_last(alloc, &mut self.held, &mut self.told, entry, meter) {
@@ -133,8 +105,10 @@ impl PlainSite {
 
     // Why a text is refused that has no next entry: what is wrong with it stands before that.
     fn first_refusal(&self, alloc: Global, text: &str, error: IssueError) -> IssueError
-        requires { Numbers self.now text.now (Err error) }
-        ensures { Issues self.now text.now (Err result) self.now }
+        requires numbers { Numbers (always_open self.now) text.now (Err error) }
+        requires short { length text.now ≤ 8192 }
+        ensures issues { Issues (always_open self.now) text.now (Err result) (always_open self.now) }
+        ensures journal { result ≡ issue_error.JournalWrite → ⊥ }
     {
         match judge(alloc, self.told.database.catalogue(), text) {
             Ok(()) => error,
@@ -144,14 +118,20 @@ impl PlainSite {
 }
 
 impl Replica for PlainSite {
-    ghost seen = { λ s. s };
+    ghost seen = { λ s. always_open s };
+
+    ghost failed = { λ _ _. ⊥ };
 
     fn issue(
         &mut self,
         alloc: Global,
         text: &str,
         meter: &mut Meter,
-    ) -> Result<Issued, IssueError> {
+    ) -> Result<Issued, IssueError>
+        ensures issues { Issues (always_open self.old) text.now result (always_open self.new) }
+        ensures journal { result ≡ Err issue_error.JournalWrite → ⊥ }
+        ensures meter { meter.new.count ≤ meter.old.count + 1 }
+    {
         // It shows that the site is open, and does nothing when it runs.
         let _site = &self.site;
         if text.len() > MOST_BYTES {
@@ -169,7 +149,11 @@ impl Replica for PlainSite {
         alloc: Global,
         batch: &[Entry],
         meter: &mut Meter,
-    ) -> Result<Taken, TakeError> {
+    ) -> Result<Taken, TakeError>
+        ensures takes { Takes (always_open self.old) batch.now result (always_open self.new) }
+        ensures journal { result ≡ Err take_error.JournalWrite → ⊥ }
+        ensures meter { meter.new.count ≤ meter.old.count + length (union self.old.entries batch.now) }
+    {
         let prepared = match self.held.prepare(alloc, batch) {
             Ok(prepared) => prepared,
             Err(PrepareError::BadEntry) => return Err(TakeError::BadEntry),
@@ -230,5 +214,40 @@ impl Replica for PlainSite {
 
     fn script(&self) -> &str {
         self.script.as_str()
+    }
+}
+
+impl Opens for PlainSite {
+    ghost stays_open = { λ _. refl };
+
+    fn open_script(
+        alloc: Global,
+        script: &str,
+        site: u16,
+        limit: usize,
+    ) -> Result<PlainSite, OpenError> {
+        if site == 0 {
+            return Err(OpenError::BadSite);
+        }
+        if limit == 0 || limit > MOST_ENTRIES {
+            return Err(OpenError::BadLimit);
+        }
+        let database = match td_relvars::open_script(alloc, script) {
+            Ok(database) => database,
+            Err(error) => return Err(OpenError::Script(error)),
+        };
+        let script = match Text::from_str(alloc, script) {
+            Ok(script) => script,
+            Err(_) => return Err(OpenError::Script(td_story::ScriptError::OutOfMemory)),
+        };
+        Ok(PlainSite {
+            script,
+            site,
+            held: Held::new(alloc, limit),
+            told: Told {
+                database,
+                outcomes: Vec::new(alloc),
+            },
+        })
     }
 }

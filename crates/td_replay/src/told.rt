@@ -1,6 +1,7 @@
 //! What running entries in turn gives.
 
-ghost use Rattle.std.specs.Prelude.{◌≡◌, ◌↔◌, ◌++◌, ◌∷◌, [], IfOk, IsOk, IsTrue, None, OnErr, OnOk};
+ghost use Rattle.std.specs.Prelude.{◌≡◌, ◌≤◌, ◌+◌, ◌↔◌, ◌++◌, ◌∷◌, [], IfOk, IsOk, IsTrue, None, OnErr, OnOk, length};
+ghost use Rattle.td_story.specs.Databases.{IsLegal};
 ghost use Rattle.td_story.specs.Scripts.{OpensOn};
 ghost use Rattle.td_stamps.specs.Checks.{check_of};
 ghost use Rattle.td_stamps.specs.Sets.{union};
@@ -46,6 +47,9 @@ impl Told {
         entry: &Entry,
         meter: &mut Meter,
     ) -> Result<(), AllocError>
+        requires { IsLegal self.old.database }
+        ensures counted { meter.new.count ≤ meter.old.count + 1 }
+        ensures legal { OnOk result (IsLegal self.new.database) }
         ensures ran { OnOk result (RunsSome self.old.database self.old.outcomes.items entry.now self.new.database self.new.outcomes.items) }
     {
         let Ran { outcome, delta: _ } = run(alloc, &mut self.database, entry.text.as_str(), meter)?;
@@ -60,7 +64,9 @@ impl Told {
         entry: &Entry,
         meter: &mut Meter,
     ) -> Result<Option<Outcome>, AllocError>
-        ensures { TellsNext self.old.database self.old.outcomes.items entry.now result self.new.database self.new.outcomes.items }
+        requires { IsLegal self.old.database }
+        ensures counted { meter.new.count ≤ meter.old.count + 1 }
+        ensures told { TellsNext self.old.database self.old.outcomes.items entry.now result self.new.database self.new.outcomes.items }
     {
         self.outcomes.reserve(1)?;
         let Ran { outcome, delta: _ } = run(alloc, &mut self.database, entry.text.as_str(), meter)?;
@@ -76,7 +82,8 @@ impl Told {
 // What the script opens. It opened before, so no refusal but want of memory comes.
 fn opening(alloc: Global, script: &str) -> Result<Database, AllocError>
     requires { IsAccepted script.now }
-    ensures { IfOk result (OpensOn script.now None) }
+    ensures opens { IfOk result (OpensOn script.now None) }
+    ensures legal { IfOk result IsLegal }
 {
     match open_script(alloc, script) {
         Ok(database) => Ok(database),
@@ -95,7 +102,8 @@ pub(crate) fn tell_all(
     meter: &mut Meter,
 ) -> Result<Told, AllocError>
     requires { IsAccepted script.now }
-    ensures { IfOk result (λ t. IsStory script.now entries.now t.outcomes.items t.database) }
+    ensures counted { meter.new.count ≤ meter.old.count + length entries.now }
+    ensures told { IfOk result (λ t. IsStory script.now entries.now t.outcomes.items t.database) }
 {
     let mut told = Told {
         database: opening(alloc, script)?,
@@ -118,6 +126,8 @@ pub(crate) fn add_last(
 ) -> Result<Option<Outcome>, AllocError>
     requires fits { IsOk (check_of held.old.entries held.old.limit (entry ∷ [])) }
     requires last { union held.old.entries (entry ∷ []) ≡ held.old.entries ++ entry ∷ [] }
+    requires legal { IsLegal told.old.database }
+    ensures counted { meter.new.count ≤ meter.old.count + 1 }
     ensures ran { TellsNext told.old.database told.old.outcomes.items entry result told.new.database told.new.outcomes.items }
     ensures holds { HoldsNext held.old entry result held.new }
 {

@@ -1,25 +1,32 @@
 -- The laws of sites.
-use Rattle.std.proofs.Common.{take, None, subst}
+use Rattle.std.proofs.Common.{ℕ, List, take, None, subst}
+use Rattle.td_stamps.specs.declared.entry.Entry.{Entry}
+use Rattle.td_stamps.specs.declared.entry.Stamp.{Stamp}
 use Rattle.td_stamps.specs.Story.{Story}
 use Rattle.td_stamps.proofs.Merges.{same_set}
 use Rattle.td_stamps.proofs.Stories as stories
-use Rattle.td_story.specs.Tests.{AreLegal}
-use Rattle.td_story.specs.Databases.{DatabaseData, stored_relvars}
+use Rattle.td_story.specs.Databases.{DatabaseData, IsLegal, stored_relvars}
 use Rattle.td_story.proofs.OneOpening.{one_opening}
 use Rattle.td_story.proofs.Legal.{all_pass, step_is_legal}
 use Rattle.td_story.proofs.Unique.{one_step}
 use Rattle.td_story.specs.Laws.{SitesAgree, StoryIsLegal, StoryIsOne}
+use Rattle.td_story.specs.Scripts.{OpensOn}
 use Rattle.td_story.specs.Stories.{IsStory, StepsEntry}
+use Rattle.td_story.specs.declared.outcome.Outcome.{Outcome}
 
-abbrev IsLegal : DatabaseData → Type 0
-IsLegal d = AreLegal d.catalogue (stored_relvars d.stored)
+pub opens_legal : (script : List ℕ) (d : DatabaseData) → OpensOn script None d → IsLegal d
+opens_legal script d opens = all_pass d.catalogue (stored_relvars d.stored) d.catalogue.tests opens.first
+
+runs_legal : (d e : DatabaseData) (es : List Entry) (os : List (Stamp × Outcome)) → Story StepsEntry d es os e → IsLegal d → IsLegal e
+runs_legal d e es os runs legal = stories.kept StepsEntry IsLegal (λ s t x o step first. step_is_legal s t x.text o step first) d e es os runs legal
+
+pub ends_legal : (script : List ℕ) (es : List Entry) (os : List (Stamp × Outcome)) (d : DatabaseData) → IsStory script es os d → IsLegal d
+ends_legal script es os d st = runs_legal st.opening d es os st.runs (opens_legal script st.opening st.opens)
 
 pub story_is_legal : StoryIsLegal
 story_is_legal script es os d st n =
     let part = stories.front StepsEntry st.opening d es os st.runs n in
-    let first : IsLegal st.opening = all_pass st.opening.catalogue (stored_relvars st.opening.stored) st.opening.catalogue.tests st.opens.first in
-    let last = stories.kept StepsEntry IsLegal (λ s t e o step legal. step_is_legal s t e.text o step legal) st.opening part.0 (take n es) (take n os) part.1 first in
-    (part.0, record { opening = st.opening; opens = st.opens; runs = part.1 }, last)
+    (part.0, record { opening = st.opening; opens = st.opens; runs = part.1 }, runs_legal st.opening part.0 (take n es) (take n os) part.1 (opens_legal script st.opening st.opens))
 
 pub story_is_one : StoryIsOne
 story_is_one script es os ps d e st tt' =

@@ -14,6 +14,7 @@ use Rattle.td_headings.specs.Reached.{is_base}
 use Rattle.td_meaning.specs.Mean.{Relvars}
 use Rattle.td_soundness.specs.Meanings.{IsRelation}
 use Rattle.td_story.specs.Stored.{AreStored}
+use Rattle.td_story.specs.Tests.{AreLegal}
 
 -- for each relvar, in order of definition, its relation; for a virtual one nothing is stored
 abbrev pub Stored : Type 0
@@ -66,3 +67,7 @@ pub record IsDatabase (d : DatabaseData) : Type 0 where
   pub each : length d.stored ≡ length d.catalogue.origins
   pub stored : AreStored d.catalogue (stored_relvars d.stored)
   pub nothing_else : (n : ℕ) → is_base (slice_get d.catalogue.origins n) ≡ false → stored_at d n ≡ None
+
+-- every key and constraint is true
+abbrev pub IsLegal : DatabaseData → Type 0
+IsLegal d = AreLegal d.catalogue (stored_relvars d.stored)

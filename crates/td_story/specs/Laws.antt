@@ -6,8 +6,7 @@ use Rattle.td_stamps.specs.declared.entry.Stamp.{Stamp}
 use Rattle.td_headings.specs.Catalogues.{CatalogueData}
 use Rattle.td_headings.specs.declared.defined.Test.{Test}
 use Rattle.td_algebra.specs.declared.errors.Stop.{Stop}
-use Rattle.td_story.specs.Tests.{AreLegal}
-use Rattle.td_story.specs.Databases.{DatabaseData, stored_relvars}
+use Rattle.td_story.specs.Databases.{DatabaseData, IsLegal}
 use Rattle.td_story.specs.Scripts.{IsScriptOf, Opens, OpensOn}
 use Rattle.td_story.specs.declared.error.ScriptError.{ScriptError}
 use Rattle.td_story.specs.declared.error.ScriptError.TheVariants.{OutOfMemory}
@@ -34,7 +33,7 @@ OpensOrWants = (text : List ℕ) (d : DatabaseData) (e : ScriptError) → OpensO
 
 -- every test is true after a statement where every one was true before
 abbrev pub StepIsLegal : Type 0
-StepIsLegal = (d e : DatabaseData) (text : List ℕ) (o : Outcome) → Steps d text o e → AreLegal d.catalogue (stored_relvars d.stored) → AreLegal e.catalogue (stored_relvars e.stored)
+StepIsLegal = (d e : DatabaseData) (text : List ℕ) (o : Outcome) → Steps d text o e → IsLegal d → IsLegal e
 
 -- a text has one outcome, and leaves one database
 abbrev pub StepIsUnique : Type 0
@@ -46,7 +45,7 @@ StepIsUnique = (d e f : DatabaseData) (text : List ℕ) (o p : Outcome) → Step
 abbrev pub StoryIsLegal : Type 0
 StoryIsLegal =
     (script : List ℕ) (es : List Entry) (os : List (Stamp × Outcome)) (d : DatabaseData) → IsStory script es os d → (n : ℕ)
-    → (e : DatabaseData) × IsStory script (take n es) (take n os) e × AreLegal e.catalogue (stored_relvars e.stored)
+    → (e : DatabaseData) × IsStory script (take n es) (take n os) e × IsLegal e
 
 -- a list of entries has one story
 abbrev pub StoryIsOne : Type 0

@@ -1,5 +1,5 @@
 -- What a database is asked.
-use Rattle.std.specs.Prelude.{ℕ, List, Result, Ok, Err}
+use Rattle.std.specs.Prelude.{◌≤◌, ℕ, List, Result, Ok, Err, length}
 use Rattle.td_values.specs.Data.{no_attrs}
 use Rattle.td_syntax.specs.declared.tree.Expr.{Expr}
 use Rattle.td_grammar.specs.Grammar.{IsQuery}
@@ -36,7 +36,7 @@ Answers d text (Ok r) = Means d text r
 Answers d text (Err ask_error.Broken) = ⊥
 Answers d text (Err ask_error.Syntax) = (e : Expr) → IsQuery text e → ⊥
 Answers d text (Err ask_error.IllTyped) = IsIllTyped d text
-Answers d text (Err ask_error.OutOfMemory) = Unit {0}
+Answers d text (Err ask_error.OutOfMemory) = length text ≤ 8192
 
 abbrev pub TellsNamed : DatabaseData → List ℕ → Result Answer ValueError → Type 0
 TellsNamed d x (Ok a) = TellsRelvar d x (Ok a)

@@ -3,7 +3,7 @@ use Rattle.td_headings.specs.Catalogues.{CatalogueData}
 use Rattle.td_story.specs.Calls.{Issues}
 use Rattle.td_replay.specs.ForProofs.Judged.{Judges}
 use Rattle.td_replay.specs.ForProofs.Told.{Numbers}
-use Rattle.td_story.specs.Seen.{Seen}
+use Rattle.td_story.specs.Seen.{Contents, always_open}
 use Rattle.td_story.specs.declared.refusal.IssueError.{IssueError}
 use Rattle.td_replay.proofs.Issuing.{issues_no_entry, issues_refusal}
 use Rattle.td_replay.proofs.plain.PlainSite.first_refusal.Goals as goal
@@ -11,20 +11,22 @@ use Rattle.td_replay.proofs.plain.PlainSite.first_refusal.Goals as goal
 pub returns-in-Ok : goal.returns-in-Ok
 returns-in-Ok c =
     let i = c.self.inside in
-    let s : Seen = record { script = i.script; site = i.site; limit = i.held.limit; entries = i.held.entries; live = true } in
+    let k : Contents = record { script = i.script; site = i.site; limit = i.held.limit; entries = i.held.entries } in
+    let s = always_open k in
     let text = c.args.text.now in
     let d = i.told.database in
     let here = subst (λ (k : CatalogueData). Judges k text c.judge.result) c.catalogue.ensures.same c.judge.ensures in
     let read = subst (λ (r : Result (Unit {0}) IssueError). Judges d.catalogue text r) c.in-Ok.is here in
-    let none = subst (λ (z : Seen). Numbers z text (Err c.args.error)) (sym c.self.view_is) c.requires in
-    subst (λ (z : Seen). Issues z text (Err c.args.error) z) c.self.view_is (issues_no_entry s text i.told.outcomes.items d c.args.error read.0 refl c.self.invariant.2 read.1 none)
+    let none = subst (λ (z : Contents). Numbers (always_open z) text (Err c.args.error)) (sym c.self.view_is) c.requires.numbers in
+    subst (λ (z : Contents). Issues (always_open z) text (Err c.args.error) (always_open z)) c.self.view_is (issues_no_entry s text i.told.outcomes.items d c.args.error read.0 refl c.self.invariant.2 read.1 c.requires.short none)
 
 pub returns-in-Err : goal.returns-in-Err
 returns-in-Err c =
     let i = c.self.inside in
-    let s : Seen = record { script = i.script; site = i.site; limit = i.held.limit; entries = i.held.entries; live = true } in
+    let k : Contents = record { script = i.script; site = i.site; limit = i.held.limit; entries = i.held.entries } in
+    let s = always_open k in
     let text = c.args.text.now in
     let d = i.told.database in
     let here = subst (λ (k : CatalogueData). Judges k text c.judge.result) c.catalogue.ensures.same c.judge.ensures in
     let refused = subst (λ (r : Result (Unit {0}) IssueError). Judges d.catalogue text r) c.in-Err.is here in
-    subst (λ (z : Seen). Issues z text (Err c.in-Err.refusal) z) c.self.view_is (issues_refusal s s text i.told.outcomes.items d c.in-Err.refusal refl c.self.invariant.2 refl refused)
+    subst (λ (z : Contents). Issues (always_open z) text (Err c.in-Err.refusal) (always_open z)) c.self.view_is (issues_refusal s s text i.told.outcomes.items d c.in-Err.refusal refl c.self.invariant.2 refl refused)

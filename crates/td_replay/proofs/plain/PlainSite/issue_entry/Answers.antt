@@ -5,7 +5,7 @@ use Rattle.td_story.specs.Databases.{DatabaseData}
 use Rattle.td_story.specs.Steps.{IsUnread}
 use Rattle.td_story.specs.Calls.{Issues, IssuesEntry, entry_of}
 use Rattle.td_replay.specs.ForProofs.Judged.{IsRefusal}
-use Rattle.td_story.specs.Seen.{Seen, is_limit}
+use Rattle.td_story.specs.Seen.{Contents, Seen, always_open, is_limit}
 use Rattle.td_story.specs.Stories.{IsStory}
 use Rattle.td_story.specs.declared.answer.Issued.{Issued}
 use Rattle.td_replay.proofs.Issuing.{issues_entry, issues_refusal, next_is_known, next_is_last, next_may_be_added}
@@ -15,28 +15,31 @@ use Rattle.td_replay.proofs.plain.PlainSite.issue_entry.Goals as goal
 pub add_last-requires-clause-fits : goal.add_last-requires-clause-fits
 add_last-requires-clause-fits c =
     let i = c.self.inside in
-    let s : Seen = record { script = i.script; site = i.site; limit = i.held.limit; entries = i.held.entries; live = true } in
+    let k : Contents = record { script = i.script; site = i.site; limit = i.held.limit; entries = i.held.entries } in
+    let s = always_open k in
     let text = c.args.text.now in
     let e = c.args.entry in
-    let next : entry_of s text ≡ Ok e = subst (λ (z : Seen). entry_of z text ≡ Ok e) (sym c.self.view_is) c.requires.next in
+    let next : entry_of s text ≡ Ok e = subst (λ (z : Contents). entry_of (always_open z) text ≡ Ok e) (sym c.self.view_is) c.requires.next in
     next_may_be_added s text e c.self.invariant.0 c.requires.short next
 
 pub add_last-requires-clause-last : goal.add_last-requires-clause-last
 add_last-requires-clause-last c =
     let i = c.self.inside in
-    let s : Seen = record { script = i.script; site = i.site; limit = i.held.limit; entries = i.held.entries; live = true } in
+    let k : Contents = record { script = i.script; site = i.site; limit = i.held.limit; entries = i.held.entries } in
+    let s = always_open k in
     let text = c.args.text.now in
     let e = c.args.entry in
-    let next : entry_of s text ≡ Ok e = subst (λ (z : Seen). entry_of z text ≡ Ok e) (sym c.self.view_is) c.requires.next in
+    let next : entry_of s text ≡ Ok e = subst (λ (z : Contents). entry_of (always_open z) text ≡ Ok e) (sym c.self.view_is) c.requires.next in
     next_is_last s text e c.self.invariant.0 c.requires.short next
 
 pub refusal-requires : goal.refusal-requires
 refusal-requires c =
     let i = c.self.inside in
-    let s : Seen = record { script = i.script; site = i.site; limit = i.held.limit; entries = i.held.entries; live = true } in
+    let k : Contents = record { script = i.script; site = i.site; limit = i.held.limit; entries = i.held.entries } in
+    let s = always_open k in
     let text = c.args.text.now in
     let e = c.args.entry in
-    let next : entry_of s text ≡ Ok e = subst (λ (z : Seen). entry_of z text ≡ Ok e) (sym c.self.view_is) c.requires.next in
+    let next : entry_of s text ≡ Ok e = subst (λ (z : Contents). entry_of (always_open z) text ≡ Ok e) (sym c.self.view_is) c.requires.next in
     let known = next_is_known s text e next in
     let ran = rw c.in-Ok-None.field-0-is at c.in-Ok-None.ensures.ran in
     subst (λ (k : CatalogueData). IsUnread k text) (sym (c.catalogue.ensures.same ∙ ap (λ (z : DatabaseData). z.catalogue) ran.0)) (subst (λ (t : List ℕ). IsUnread i.told.database.catalogue t) known.text_is ran.2)
@@ -44,7 +47,8 @@ refusal-requires c =
 pub returns-in-Ok-None : goal.returns-in-Ok-None
 returns-in-Ok-None c =
     let i = c.self.inside in
-    let s : Seen = record { script = i.script; site = i.site; limit = i.held.limit; entries = i.held.entries; live = true } in
+    let k : Contents = record { script = i.script; site = i.site; limit = i.held.limit; entries = i.held.entries } in
+    let s = always_open k in
     let text = c.args.text.now in
     let d = i.told.database in
     let ran = rw c.in-Ok-None.field-0-is at c.in-Ok-None.ensures.ran in
@@ -52,7 +56,7 @@ returns-in-Ok-None c =
     let with_held : Holding → Seen = λ h. record { script = i.script; site = i.site; limit = h.limit; entries = h.entries; live = true } in
     let after = with_held c.add_last.new.held in
     let refused = subst (λ (k : CatalogueData). IsRefusal k text c.refusal.result) (c.catalogue.ensures.same ∙ ap (λ (z : DatabaseData). z.catalogue) ran.0) c.refusal.ensures in
-    subst (λ (z : Seen). Issues z text (Err c.refusal.result) after) c.self.view_is (issues_refusal s after text i.told.outcomes.items d c.refusal.result refl c.self.invariant.2 (ap with_held holds) refused)
+    subst (λ (z : Contents). Issues (always_open z) text (Err c.refusal.result) after) c.self.view_is (issues_refusal s after text i.told.outcomes.items d c.refusal.result refl c.self.invariant.2 (ap with_held holds) refused)
 
 pub invariant_of-self-2 : goal.invariant_of-self-2
 invariant_of-self-2 c =
@@ -69,10 +73,11 @@ invariant_of-self-2 c =
 pub returns : goal.returns
 returns c =
     let i = c.self.inside in
-    let s : Seen = record { script = i.script; site = i.site; limit = i.held.limit; entries = i.held.entries; live = true } in
+    let k : Contents = record { script = i.script; site = i.site; limit = i.held.limit; entries = i.held.entries } in
+    let s = always_open k in
     let text = c.args.text.now in
     let e = c.args.entry in
-    let next : entry_of s text ≡ Ok e = subst (λ (z : Seen). entry_of z text ≡ Ok e) (sym c.self.view_is) c.requires.next in
+    let next : entry_of s text ≡ Ok e = subst (λ (z : Contents). entry_of (always_open z) text ≡ Ok e) (sym c.self.view_is) c.requires.next in
     let d = i.told.database in
     let new = c.add_last.new in
     let issued : Issued = record { stamp = c.stamp-stamp.result; outcome = c.in-Ok-Some.outcome } in
@@ -80,5 +85,5 @@ returns c =
     let holds = rw c.in-Ok-Some.field-0-is at c.in-Ok-Some.ensures.holds in
     let with_held : Holding → Seen = λ h. record { script = i.script; site = i.site; limit = h.limit; entries = h.entries; live = true } in
     let after = with_held new.held in
-    subst (λ (z : Seen). IssuesEntry z text issued after) c.self.view_is
+    subst (λ (z : Contents). IssuesEntry (always_open z) text issued after) c.self.view_is
     (issues_entry s after text e issued i.told.outcomes.items new.told.outcomes.items d new.told.database ran.1.0 refl c.self.invariant.2 next ran.0 ran.1.1 c.stamp-stamp.ensures (ap with_held holds))

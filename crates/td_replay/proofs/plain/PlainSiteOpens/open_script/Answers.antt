@@ -5,7 +5,7 @@ use Rattle.td_replay.specs.ForProofs.Told.{Outcomes}
 use Rattle.td_story.specs.Seen.{is_limit}
 use Rattle.td_story.specs.Stories.{IsStory}
 use Rattle.td_replay.proofs.Telling.{begun}
-use Rattle.td_replay.proofs.plain.PlainSite.open_script.Goals as goal
+use Rattle.td_replay.proofs.plain.PlainSiteOpens.open_script.Goals as goal
 
 within : (n : ℕ) → 1 ≤ n → n ≤ 100000 → is_limit n ≡ true
 within n low high = grind (arith, nat_tests)
