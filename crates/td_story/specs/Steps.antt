@@ -1,5 +1,5 @@
 -- The step of one statement: its outcome, and the database after it.
-use Rattle.std.specs.Prelude.{◌≡◌, ℕ, List, [], Option, None, Some, Ok, Err}
+use Rattle.std.specs.Prelude.{◌≡◌, ℕ, List, Option, None, Some, Result, Ok, Err}
 use Rattle.td_values.specs.declared.raises.Raise.{Raise}
 use Rattle.td_syntax.specs.declared.script.Statement.{Statement}
 use Rattle.td_grammar.specs.Statements as grammar

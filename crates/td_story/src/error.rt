@@ -4,7 +4,7 @@ ghost use Rattle.std.specs.Prelude.{◌≡◌};
 ghost use Rattle.td_story.specs.declared.error.RelvarError.TheVariants as relvar_error;
 
 use std::alloc::AllocError;
-use crate::broken::Broken;
+use crate::broken::BrokenTest;
 use td_values::Raise;
 use thiserror::Error;
 

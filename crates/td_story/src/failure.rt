@@ -1,5 +1,7 @@
 //! Why there is no value.
 
+ghost use Rattle.std.specs.Prelude.{◌≡◌};
+
 use std::alloc::AllocError;
 use td_values::Raise;
 use thiserror::Error;

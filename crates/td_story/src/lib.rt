@@ -14,7 +14,7 @@ pub mod refusal;
 pub mod replica;
 
 pub use answer::{Answer, Issued, Asked, Taken};
-pub use broken::{Broken, TestFailure};
+pub use broken::{BrokenTest, TestFailure};
 pub use catalogue::catalogue_of;
 pub use error::{CatalogueError, RelvarError, ScriptError};
 pub use failure::Failure;

@@ -71,8 +71,8 @@ pub trait Replica {
 pub trait Opens: Replica {
     /// A site of this number that holds nothing and may hold so many entries. It costs what opening the script costs.
     fn open_script(alloc: Global, script: &str, site: u16, limit: usize) -> Result<Self, OpenError>
-        ensures { MatchResult result (λ s. OpensSite script.now site limit (Ok (seen s))) (λ e. OpensSite script.now site limit (Err e)) };
+        ensures { MatchResult result (λ s. OpensSite script.now site limit (Ok (Self.seen s))) (λ e. OpensSite script.now site limit (Err e)) };
 
     /// No call closes it.
-    ghost stays_open: { (s : Self) → (seen s).live ≡ true };
+    ghost stays_open: { (s : Self) → (Self.seen s).live ≡ true };
 }
