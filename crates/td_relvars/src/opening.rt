@@ -9,7 +9,7 @@ ghost use Rattle.td_story.specs.Scripts.{Opens};
 
 use crate::base::Base;
 use crate::database::Database;
-use td_story::{CatalogueError, Failure, ScriptError, TestFailure};
+use td_story::{CatalogueError, Failure, ScriptError, TestFailure, catalogue_of};
 use std::alloc::Global;
 use td_constraints::first_failure;
 use td_eval::relation;

@@ -12,7 +12,7 @@ use Rattle.td_story.specs.Trees.{IsIn, all_relvars}
 use Rattle.td_story.specs.Answers.{SaysRelation}
 use Rattle.td_story.specs.Databases.{DatabaseData, stored_relvars}
 use Rattle.td_story.specs.declared.answer.Answer.{Answer}
-use Rattle.td_story.specs.declared.error.RelvarError.{AskError}
+use Rattle.td_story.specs.declared.error.RelvarError.{RelvarError}
 use Rattle.td_story.specs.declared.error.RelvarError.TheVariants.{Unknown, OutOfMemory}
 
 -- a base relvar is at the place, with its relation
@@ -32,7 +32,7 @@ pub record IsNameOf (c : CatalogueData) (n : ℕ) (h : Header) (x : Expression) 
   pub within : IsIn c x
 
 -- what the relvar at the place has, which is there
-abbrev pub TellsAt : DatabaseData → ℕ → Result Answer AskError → Type 0
+abbrev pub TellsAt : DatabaseData → ℕ → Result Answer RelvarError → Type 0
 TellsAt d n (Ok a) = SaysRelation a (all_relvars d.catalogue (stored_relvars d.stored) n)
 TellsAt d n (Err Unknown) = ⊥
 TellsAt d n (Err OutOfMemory) = Unit {0}
