@@ -113,7 +113,7 @@ module _ (old : Relvars) (all : List Change) (ds : List (ℕ × DeltaData)) (f :
       let k = f.only p there in
       let x = k.0 in
       let by_ = k.3 in
-      subst (λ n. Differs old (replaced all old) n p.1) k.2
+      subst (λ n. Differs old (replaced (given_to all) old) n p.1) k.2
       (record { before = by_.0; after = x.relation; was = by_.1; is = ap (λ o. or_old o (old x.target)) k.1; one_heading = by_.2.one_heading; was_rows = by_.2.was_rows; is_rows = by_.2.is_rows; apart = by_.2.apart; difference = by_.2.difference })
 
   stays_at : (n : ℕ) (r : RowsData) → ((d : DeltaData) → Contains ds (n, d) → ⊥) → Settled old ds [] n r → Ok r ≡ old n

@@ -100,13 +100,13 @@ module _ (c k : CatalogueData) (text : List ℕ) (o : Option TypedStatement) (sa
 -- ---- what follows from each step
 pub judged : {E : Type 0} (d : DatabaseData) (xs : List TypedAssignment) (cs : List Change) → assigned_by d xs ≡ Ok (given_to cs) → (m : Result Prepared E) → IfOk m (IsJudged d cs) → IfOk m (AreAssignedTo d xs)
 judged d xs cs given (Ok (Changes v ds)) h = (given ∙ ap (λ ys. Ok (given_to ys)) (sym h.0), subst (λ ys. MayChange d ys ds.items) (sym h.0) h.1)
-judged d xs cs given (Ok (Refused o)) h = by_test given h
+judged d xs cs given (Ok (Refused o)) h = by_test cs given h
 judged d xs cs given (Err e) h = tt
 
 module _ (d : DatabaseData) (text : List ℕ) (x : TypedStatement) (p : IsRead d.catalogue text x) where
   refuses : (o : Outcome) → Refuses d (assignments_of x) o → Steps d text o d
   refuses (outcome.Raised e) (by_source given) = raised p given
-  refuses o (by_test given j) = refused p given j.2 j.3
+  refuses o (by_test cs given j) = refused p given j.2 j.3
 
   pub prepared : {E : Type 0} (m : Result Prepared E) → IfOk m (AreAssignedTo d (assignments_of x)) → IfOk m (IsPrepared d text)
   prepared (Ok (Changes v ds)) h = (done p h.0 h.1.passes, h.1)

@@ -1,5 +1,5 @@
 -- The relvars with all targets replaced are those of a database.
-use Rattle.std.proofs.Common.{◌≡◌, ⊎_elim, ℕ, zero, suc, ◌<◌, ◌==◌, Bool, true, false, if◌then◌else◌, eqb-true, true≢false, List, [], ◌∷◌, length, slice_get, Option, None, Some, Ok, refl, ap, sym, ◌∙◌, subst, arith}
+use Rattle.std.proofs.Common.{◌≡◌, ⊎_elim, ℕ, zero, suc, pred, ◌<◌, ◌==◌, Bool, true, false, if◌then◌else◌, eqb-true, eq-eqb, ne_eqb, true≢false, List, [], ◌∷◌, length, slice_get, Option, None, Some, Ok, refl, ap, sym, ◌∙◌, subst, arith}
 use Rattle.std.specs.List.{All}
 use Rattle.std.specs.Option.{option_flatten}
 use Rattle.std.proofs.lemmas.Bool.{cases_eq, eqb-false}
@@ -16,7 +16,7 @@ use Rattle.td_story.specs.Stored.{AreStored}
 use Rattle.td_constraints.proofs.Judged.{are_bases}
 use Rattle.td_story.specs.Databases.{Belongs, IsDatabase, Stored, at_place, put, stored_relvars}
 use Rattle.td_relvars.proofs.Stores.{base_within, put_is}
-use Rattle.td_story.specs.Given.{Given, or_old, or_stored, replaced, seen, with_given}
+use Rattle.td_story.specs.Given.{Given, nothing_given, or_old, or_stored, replaced, seen, with_given}
 use Rattle.td_assign.specs.ForProofs.Given.{AreChanges, AreDistinct, IsChange}
 use Rattle.td_assign.specs.ForProofs.Lists.{given_to}
 use Rattle.td_assign.specs.declared.changes.Change.{Change}
@@ -109,7 +109,36 @@ module _ (c : CatalogueData) where
         by false = are_bases c (stored_relvars stored) is.stored n v base at
 
 -- ---- one target after the other
-pub put_first : (t : ℕ) (r : RowsData) (g : Given) (xs : Stored) → g t ≡ None → with_given (λ n. if t == n then Some r else g n) xs ≡ with_given g (put t r xs)
+pub given_nothing : (xs : Stored) → with_given nothing_given xs ≡ xs
+given_nothing [] = refl
+given_nothing (x ∷ xs) = ap (λ ys. x ∷ ys) (given_nothing xs)
+
+zero_suc : (n : ℕ) → zero == suc n ≡ false
+zero_suc n = ne_eqb zero (suc n) (λ e. let no : zero ≡ suc n = e in omega (arith, no))
+
+suc_suc : (t n : ℕ) → suc t == suc n ≡ t == n
+suc_suc t n = by (t == n) refl
+  where
+    by : (b : Bool) → t == n ≡ b → suc t == suc n ≡ b
+    by true e = eq-eqb (suc t) (suc n) (ap suc (eqb-true t n e))
+    by false e = ne_eqb (suc t) (suc n) (λ h. eqb-false t n e (ap pred h))
+
+abbrev first : ℕ → RowsData → Given → Given
+first t r g n = if t == n then Some r else g n
+
+behind_zero : (r : RowsData) (g : Given) → ◌≡◌ {A = Given} (λ n. first zero r g (suc n)) (λ n. g (suc n))
+behind_zero r g = λ i n. ap (λ b. if b then Some r else g (suc n)) (zero_suc n) i
+
+behind_suc : (t : ℕ) (r : RowsData) (g : Given) → ◌≡◌ {A = Given} (λ n. first (suc t) r g (suc n)) (first t r (λ n. g (suc n)))
+behind_suc t r g = λ i n. ap (λ b. if b then Some r else g (suc n)) (suc_suc t n) i
+
+pub put_first : (t : ℕ) (r : RowsData) (g : Given) (xs : Stored) → g t ≡ None → with_given (first t r g) xs ≡ with_given g (put t r xs)
 put_first t r g [] h = refl
-put_first zero r g (x ∷ xs) h = ap (λ o. o ∷ with_given (λ n. g (suc n)) xs) (sym (ap (λ o. or_stored o (Some r)) h))
-put_first (suc t) r g (x ∷ xs) h = ap (λ ys. or_stored (g zero) x ∷ ys) (put_first t r (λ n. g (suc n)) xs h)
+put_first zero r g (x ∷ xs) h =
+    ap (λ o. or_stored o x ∷ with_given (λ n. first zero r g (suc n)) xs) (ap (λ b. if b then Some r else g zero) (eq-eqb zero zero refl))
+    ∙ ap (λ (f : Given). Some r ∷ with_given f xs) (behind_zero r g)
+    ∙ ap (λ o. o ∷ with_given (λ n. g (suc n)) xs) (sym (ap (λ o. or_stored o (Some r)) h))
+put_first (suc t) r g (x ∷ xs) h =
+    ap (λ o. or_stored o x ∷ with_given (λ n. first (suc t) r g (suc n)) xs) (ap (λ b. if b then Some r else g zero) (ne_eqb (suc t) zero (λ e. let no : suc t ≡ zero = e in omega (arith, no))))
+    ∙ ap (λ (f : Given). or_stored (g zero) x ∷ with_given f xs) (behind_suc t r g)
+    ∙ ap (λ ys. or_stored (g zero) x ∷ ys) (put_first t r (λ n. g (suc n)) xs h)

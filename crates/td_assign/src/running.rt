@@ -73,12 +73,13 @@ fn judged(alloc: Global, database: &Database, changes: Vec<Change>) -> Result<Pr
     requires { AreChanges database.now.catalogue changes.items }
     ensures { IfOk result (IsJudged database.now changes.items) }
 {
+    let catalogue = database.catalogue();
     let delta = differences(alloc, database, &changes)?;
     let replaced = Replaced {
         database,
         changes: &changes,
     };
-    match first_failure(alloc, database.catalogue(), &replaced)? {
+    match first_failure(alloc, catalogue, &replaced)? {
         Some(failure) => Ok(Prepared::Refused(refusal(failure))),
         None => Ok(Prepared::Changes(changes, delta)),
     }

@@ -40,7 +40,7 @@ IsJudged d cs (Refused o) = (t : Test) × (e : Option Stop) × (failing_after d 
 -- a source raises, or a test decides
 pub data Refuses (d : DatabaseData) (xs : List TypedAssignment) : Outcome → Type 0 where
   by_source : {e : Raise} → assigned_by d xs ≡ Err (stop_of e) → Refuses d xs (Raised e)
-  by_test : {cs : List Change} {o : Outcome} → assigned_by d xs ≡ Ok (given_to cs) → IsJudged d cs (Refused o) → Refuses d xs o
+  by_test : (cs : List Change) {o : Outcome} → assigned_by d xs ≡ Ok (given_to cs) → IsJudged d cs (Refused o) → Refuses d xs o
 
 -- what assignments come to
 abbrev pub AreAssignedTo : DatabaseData → List TypedAssignment → Prepared → Type 0

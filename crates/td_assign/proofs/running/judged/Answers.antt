@@ -13,28 +13,28 @@ use Rattle.td_assign.proofs.running.judged.Goals as goal
 pub first_failure-requires : goal.first_failure-requires
 first_failure-requires c =
     let d = c.args.database.now in
-    let ys = c.deref.result.now in
-    subst (λ (k : CatalogueData). AreStored k (replaced (given_to ys) (stored_relvars d.stored))) (sym c.catalogue.ensures.same)
-    (subst (λ (zs : List Change). AreStored d.catalogue (replaced (given_to zs) (stored_relvars d.stored))) (sym c.deref.ensures.value) (replaced_stored d.catalogue c.args.changes.items c.requires d.stored c.catalogue.ensures.database))
+    let ys = c.deref-2.result.now in
+    subst (λ (k : CatalogueData). AreStored k (replaced (given_to ys) (stored_relvars d.stored))) (sym c.catalogue-catalogue.ensures.same)
+    (subst (λ (zs : List Change). AreStored d.catalogue (replaced (given_to zs) (stored_relvars d.stored))) (sym c.deref-2.ensures.value) (replaced_stored d.catalogue c.args.changes.items c.requires d.stored c.catalogue-catalogue.ensures.database))
 
 pub returns-in-Some : goal.returns-in-Some
 returns-in-Some c =
     let d = c.args.database.now in
     let cs = c.args.changes.items in
     let o = c.in_ok-failure.field-0 in
-    refused_by d cs o c.in-Some.failure c.refusal.result c.in-Some.is (report_is d cs c.deref.result.now c.catalogue.result.now o c.catalogue.ensures.database c.requires c.catalogue.ensures.same c.deref.ensures.value c.in_ok-failure.ensures) c.refusal.ensures
+    refused_by d cs o c.in-Some.failure c.refusal.result c.in-Some.is (report_is d cs c.deref-2.result.now c.catalogue-catalogue.result.now o c.catalogue-catalogue.ensures.database c.requires c.catalogue-catalogue.ensures.same c.deref-2.ensures.value c.in_ok-failure.ensures) c.refusal.ensures
 
-pub returns-in_ok-delta-in-None : goal.returns-in_ok-delta-in-None
-returns-in_ok-delta-in-None c =
+pub returns-in-None : goal.returns-in-None
+returns-in-None c =
     let d = c.args.database.now in
     let cs = c.args.changes.items in
     let o = c.in_ok-failure.field-0 in
     let old = stored_relvars d.stored in
-    let ds = c.in_ok-delta-in-None.delta.items in (
+    let ds = c.in_ok-delta.delta.items in (
       refl,
       record {
         given = c.requires;
-        passes = none_fails d cs o c.in-None.is (report_is d cs c.deref.result.now c.catalogue.result.now o c.catalogue.ensures.database c.requires c.catalogue.ensures.same c.deref.ensures.value c.in_ok-failure.ensures);
-        differences = subst (λ (zs : List Change). AreDifferences old (stored_relvars (with_given (given_to zs) d.stored)) ds) c.deref-in-None.ensures.value c.in_ok-delta-in-None.ensures;
+        passes = none_fails d cs o c.in-None.is (report_is d cs c.deref-2.result.now c.catalogue-catalogue.result.now o c.catalogue-catalogue.ensures.database c.requires c.catalogue-catalogue.ensures.same c.deref-2.ensures.value c.in_ok-failure.ensures);
+        differences = subst (λ (zs : List Change). AreDifferences old (stored_relvars (with_given (given_to zs) d.stored)) ds) c.deref.ensures.value c.in_ok-delta.ensures;
       },
     )

@@ -1,12 +1,13 @@
-use Rattle.std.proofs.Common.{◌≡◌, All, refl, ap, sym, subst, ◌∙◌, rules}
+use Rattle.std.proofs.Common.{◌≡◌, [], All, refl, ap, sym, subst, ◌∙◌, rules}
 use Rattle.std.specs.Vec.Iter.{into_iter_items}
+use Rattle.std.proofs.lemmas.List.{nil_from_length}
 use Rattle.std.proofs.lemmas.List.Elements.{All-head, All-tail}
 use Rattle.td_headings.specs.Catalogues.{CatalogueData}
 use Rattle.td_story.specs.Databases.{Belongs, put}
 use Rattle.td_story.specs.Given.{with_given}
 use Rattle.td_assign.specs.ForProofs.Given.{AreDistinct, IsChange}
 use Rattle.td_assign.specs.ForProofs.Lists.{given_to}
-use Rattle.td_assign.proofs.Replacing.{put_first}
+use Rattle.td_assign.proofs.Replacing.{given_nothing, put_first}
 use Rattle.td_assign.proofs.running.put_all.Goals as goal
 
 pub loop-change-init : goal.loop-change-init
@@ -47,3 +48,14 @@ loop-change-preserved c =
       distinct = distinct.1;
       each = All-tail (IsChange k) x rest (subst (All (IsChange k)) c.in-Some.ensures.steps.0 c.loop-change.invariant.each);
     }
+
+pub returns : goal.returns
+returns c =
+    let l = c.loop-change in
+    let none : into_iter_items l.change-iterator ≡ [] = nil_from_length _ (sym l.change-iterator.rest.ok.0 ∙ c.in-None.ensures.steps.0) in
+    let stored =
+        sym (given_nothing l.database.stored)
+        ∙ sym (ap (λ cs. with_given (given_to cs) l.database.stored) none)
+        ∙ l.invariant.left
+    in
+    λ i. record { catalogue = l.invariant.same i; stored = stored i }
