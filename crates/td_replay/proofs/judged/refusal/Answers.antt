@@ -6,4 +6,4 @@ use Rattle.td_replay.proofs.judged.refusal.Goals as goal
 pub unreachable-requires : goal.unreachable-requires
 unreachable-requires c =
     let read = subst (λ (r : Result (Unit {0}) IssueError). Judges c.args.catalogue.now c.args.text.now r) c.in-Ok.is c.judge.ensures in
-    c.requires read.0 read.1
+    c.requires.unread read.0 read.1

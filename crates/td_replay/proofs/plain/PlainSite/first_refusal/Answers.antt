@@ -1,15 +1,15 @@
 use Rattle.std.proofs.Common.{true, Err, Result, refl, sym, subst}
 use Rattle.td_headings.specs.Catalogues.{CatalogueData}
 use Rattle.td_story.specs.Calls.{Issues}
-use Rattle.td_replay.specs.ForProofs.Judged.{Judges}
+use Rattle.td_replay.specs.ForProofs.Judged.{IsRefusal, Judges}
 use Rattle.td_replay.specs.ForProofs.Told.{Numbers}
 use Rattle.td_story.specs.Seen.{Contents, always_open}
 use Rattle.td_story.specs.declared.refusal.IssueError.{IssueError}
 use Rattle.td_replay.proofs.Issuing.{issues_no_entry, issues_refusal}
 use Rattle.td_replay.proofs.plain.PlainSite.first_refusal.Goals as goal
 
-pub returns-in-Ok : goal.returns-in-Ok
-returns-in-Ok c =
+pub returns-in-Ok-clause-issues : goal.returns-in-Ok-clause-issues
+returns-in-Ok-clause-issues c =
     let i = c.self.inside in
     let k : Contents = record { script = i.script; site = i.site; limit = i.held.limit; entries = i.held.entries } in
     let s = always_open k in
@@ -20,8 +20,8 @@ returns-in-Ok c =
     let none = subst (λ (z : Contents). Numbers (always_open z) text (Err c.args.error)) (sym c.self.view_is) c.requires.numbers in
     subst (λ (z : Contents). Issues (always_open z) text (Err c.args.error) (always_open z)) c.self.view_is (issues_no_entry s text i.told.outcomes.items d c.args.error read.0 refl c.self.invariant.2 read.1 c.requires.short none)
 
-pub returns-in-Err : goal.returns-in-Err
-returns-in-Err c =
+pub returns-in-Err-clause-issues : goal.returns-in-Err-clause-issues
+returns-in-Err-clause-issues c =
     let i = c.self.inside in
     let k : Contents = record { script = i.script; site = i.site; limit = i.held.limit; entries = i.held.entries } in
     let s = always_open k in
@@ -30,3 +30,12 @@ returns-in-Err c =
     let here = subst (λ (k : CatalogueData). Judges k text c.judge.result) c.catalogue.ensures.same c.judge.ensures in
     let refused = subst (λ (r : Result (Unit {0}) IssueError). Judges d.catalogue text r) c.in-Err.is here in
     subst (λ (z : Contents). Issues (always_open z) text (Err c.in-Err.refusal) (always_open z)) c.self.view_is (issues_refusal s s text i.told.outcomes.items d c.in-Err.refusal refl c.self.invariant.2 refl refused)
+
+pub returns-in-Ok-clause-journal : goal.returns-in-Ok-clause-journal
+returns-in-Ok-clause-journal c = λ is. subst (λ (e : IssueError). Numbers (always_open c.args.self.now) c.args.text.now (Err e)) is c.requires.numbers
+
+pub returns-in-Err-clause-journal : goal.returns-in-Err-clause-journal
+returns-in-Err-clause-journal c =
+    let here = subst (λ (k : CatalogueData). Judges k c.args.text.now c.judge.result) c.catalogue.ensures.same c.judge.ensures in
+    let refused = subst (λ (r : Result (Unit {0}) IssueError). Judges c.self.inside.told.database.catalogue c.args.text.now r) c.in-Err.is here in
+    λ is. subst (IsRefusal c.self.inside.told.database.catalogue c.args.text.now) is refused

@@ -8,6 +8,8 @@ use Rattle.td_replay.specs.ForProofs.Judged.{IsRefusal}
 use Rattle.td_story.specs.Seen.{Contents, Seen, always_open, is_limit}
 use Rattle.td_story.specs.Stories.{IsStory}
 use Rattle.td_story.specs.declared.answer.Issued.{Issued}
+use Rattle.td_story.specs.declared.refusal.IssueError.TheVariants as issue_error
+use Rattle.td_story.proofs.Agreeing.{ends_legal}
 use Rattle.td_replay.proofs.Issuing.{issues_entry, issues_refusal, next_is_known, next_is_last, next_may_be_added}
 use Rattle.td_replay.proofs.Telling.{one_more}
 use Rattle.td_replay.proofs.plain.PlainSite.issue_entry.Goals as goal
@@ -32,8 +34,8 @@ add_last-requires-clause-last c =
     let next : entry_of s text ≡ Ok e = subst (λ (z : Contents). entry_of (always_open z) text ≡ Ok e) (sym c.self.view_is) c.requires.next in
     next_is_last s text e c.self.invariant.0 c.requires.short next
 
-pub refusal-requires : goal.refusal-requires
-refusal-requires c =
+pub refusal-requires-clause-unread : goal.refusal-requires-clause-unread
+refusal-requires-clause-unread c =
     let i = c.self.inside in
     let k : Contents = record { script = i.script; site = i.site; limit = i.held.limit; entries = i.held.entries } in
     let s = always_open k in
@@ -44,8 +46,8 @@ refusal-requires c =
     let ran = rw c.in-Ok-None.field-0-is at c.in-Ok-None.ensures.ran in
     subst (λ (k : CatalogueData). IsUnread k text) (sym (c.catalogue.ensures.same ∙ ap (λ (z : DatabaseData). z.catalogue) ran.0)) (subst (λ (t : List ℕ). IsUnread i.told.database.catalogue t) known.text_is ran.2)
 
-pub returns-in-Ok-None : goal.returns-in-Ok-None
-returns-in-Ok-None c =
+pub returns-in-Ok-None-clause-issues : goal.returns-in-Ok-None-clause-issues
+returns-in-Ok-None-clause-issues c =
     let i = c.self.inside in
     let k : Contents = record { script = i.script; site = i.site; limit = i.held.limit; entries = i.held.entries } in
     let s = always_open k in
@@ -70,8 +72,8 @@ invariant_of-self-2 c =
       subst (λ (h : Holding). IsStory i.script h.entries new.told.outcomes.items new.told.database) (sym holds) (one_more i.script i.held.entries i.told.outcomes.items new.told.outcomes.items i.told.database new.told.database e c.in-Ok-Some.outcome c.self.invariant.2 ran.0),
     )
 
-pub returns : goal.returns
-returns c =
+pub returns-clause-issues : goal.returns-clause-issues
+returns-clause-issues c =
     let i = c.self.inside in
     let k : Contents = record { script = i.script; site = i.site; limit = i.held.limit; entries = i.held.entries } in
     let s = always_open k in
@@ -87,3 +89,13 @@ returns c =
     let after = with_held new.held in
     subst (λ (z : Contents). IssuesEntry (always_open z) text issued after) c.self.view_is
     (issues_entry s after text e issued i.told.outcomes.items new.told.outcomes.items d new.told.database ran.1.0 refl c.self.invariant.2 next ran.0 ran.1.1 c.stamp-stamp.ensures (ap with_held holds))
+
+pub returns-in-Ok-None-clause-journal : goal.returns-in-Ok-None-clause-journal
+returns-in-Ok-None-clause-journal c = λ is.
+    let same : c.refusal.result ≡ issue_error.JournalWrite = cc in
+    subst (IsRefusal c.catalogue.result.now c.args.text.now) same c.refusal.ensures
+
+pub add_last-requires-clause-legal : goal.add_last-requires-clause-legal
+add_last-requires-clause-legal c =
+    let i = c.self.inside in
+    ends_legal i.script i.held.entries i.told.outcomes.items i.told.database c.self.invariant.2

@@ -14,7 +14,7 @@ pub invariant_of-result : goal.invariant_of-result
 invariant_of-result c =
     let d = c.in-Ok.database in
     let text = c.args.script.now in
-    let story = subst (λ (os : Outcomes). IsStory text [] os d) (sym c.new-2.ensures.items) (begun text d c.in-Ok.ensures) in
+    let story = subst (λ (os : Outcomes). IsStory text [] os d) (sym c.new-2.ensures.items) (begun text d c.in-Ok.ensures.opens) in
     let kept = subst (λ (t : List ℕ). IsStory t [] c.new-2.result.items d) (sym c.in-Ok-from_str.ensures) story in
     let fits : 1 ≤ c.args.site = omega (arith, c.if-site-eq0.false) in
     let low : 1 ≤ c.args.limit = omega (arith, c.if-limit-eq0.false) in

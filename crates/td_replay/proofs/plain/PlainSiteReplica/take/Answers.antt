@@ -4,8 +4,8 @@ use Rattle.td_story.specs.Seen.{Contents, always_open}
 use Rattle.td_replay.proofs.Taking.{nothing_new}
 use Rattle.td_replay.proofs.plain.PlainSiteReplica.take.Goals as goal
 
-pub returns-then-fresh-eq0 : goal.returns-then-fresh-eq0
-returns-then-fresh-eq0 c =
+pub returns-then-fresh-eq0-clause-takes : goal.returns-then-fresh-eq0-clause-takes
+returns-then-fresh-eq0-clause-takes c =
     let i = c.self.inside in
     let k : Contents = record { script = i.script; site = i.site; limit = i.held.limit; entries = i.held.entries } in
     let s = always_open k in

@@ -7,8 +7,8 @@ use Rattle.td_replay.specs.ForProofs.Told.{Outcomes}
 use Rattle.td_replay.proofs.Telling.{read_is, unread_is, unread_stays}
 use Rattle.td_replay.proofs.told.Told.tell_next.Goals as goal
 
-pub returns-then-is_unread : goal.returns-then-is_unread
-returns-then-is_unread c =
+pub returns-then-is_unread-clause-told : goal.returns-then-is_unread-clause-told
+returns-then-is_unread-clause-told c =
     let d = c.args.self.now.database in
     let e = c.run.new.database in
     let text = c.args.entry.now.text in
@@ -17,8 +17,8 @@ returns-then-is_unread c =
     let is = c.is_unread.ensures.0 c.if-is_unread.true in
     (unread_stays d e text o step is, c.in_ok-reserve.ensures.items, unread_is d e text o step is)
 
-pub returns : goal.returns
-returns c =
+pub returns-clause-told : goal.returns-clause-told
+returns-clause-told c =
     let d = c.args.self.now.database in
     let e = c.run.new.database in
     let os = c.args.self.now.outcomes.items in
