@@ -1,7 +1,8 @@
 //! Both sides of one device.
 
-ghost use Rattle.std.specs.Prelude.{IsTrue};
+ghost use Rattle.std.specs.Prelude.{◌≡◌, IsTrue};
 ghost use Rattle.std.specs.Io.KnownBytes.{Appends, Consumes};
+ghost use Rattle.td_devices.specs.Views.{input_of, output_of};
 
 use crate::fakes::{Narrow, Slow, Then, Unsteady};
 use std::io::BufReader;
@@ -11,7 +12,8 @@ use td_devices::{Channel, Device, Pair, fill, put};
 
 // Writes the question, and reads an answer of so many bytes.
 fn ask<C: Channel>(channel: &mut C, question: &[u8], answer: &mut [u8]) -> bool
-    ensures { IsTrue result → Appends (C.held channel.old) (C.held channel.new) question.now × Consumes (C.left channel.old) (C.left channel.new) answer.new }
+    ensures bytes { IsTrue result → Appends (output_of C.Sink channel.old).held (output_of C.Sink channel.new).held question.now × Consumes (input_of C.Source channel.old).left (input_of C.Source channel.new).left answer.new }
+    ensures faults { IsTrue result → (output_of C.Sink channel.new).faults ≡ (output_of C.Sink channel.old).faults }
 {
     put(channel, question).is_ok() && fill(channel, answer).is_ok()
 }
@@ -49,6 +51,36 @@ fn a_socket_is_asked_and_answers(rt: HostRuntime) -> Result<(), Fail> {
     assert!(rt; answer.as_slice() == b"who?".as_slice());
     assert!(rt; near.failures() == 0 && far.failures() == 0);
     Ok(())
+}
+
+// What both sides tell of a value that would block once, with the count behind each.
+fn blocked_sides() -> [(bool, u64); 4] {
+    let blocks = Unsteady {
+        interruptions: 0,
+        then: Then::Blocks,
+    };
+    let too = Unsteady {
+        interruptions: 0,
+        then: Then::Blocks,
+    };
+    let mut channel = Device::link(Pair {
+        reader: blocks,
+        writer: too,
+    });
+    let mut answer = [0u8; 1];
+    let written = put(&mut channel, b"a").is_ok();
+    let first = (written, channel.failures());
+    let written = put(&mut channel, b"a").is_ok();
+    let second = (written, channel.failures());
+    let filled = fill(&mut channel, &mut answer).is_ok();
+    let third = (filled, channel.failures());
+    let filled = fill(&mut channel, &mut answer).is_ok();
+    [first, second, third, (filled, channel.failures())]
+}
+
+#[test]
+fn a_side_that_would_block_has_failed(rt: HostRuntime) {
+    assert!(rt; blocked_sides() == [(false, 1), (true, 1), (false, 2), (true, 2)]);
 }
 
 #[test]

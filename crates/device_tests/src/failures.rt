@@ -42,6 +42,8 @@ fn reads_are_counted(rt: HostRuntime) {
         (999, Then::Idles, [('e', 0), ('e', 0)]),
         (0, Then::Fails, [('f', 1), ('f', 2)]),
         (999, Then::Fails, [('f', 1), ('f', 2)]),
+        (0, Then::Blocks, [('f', 1), ('x', 1)]),
+        (999, Then::Blocks, [('f', 1), ('x', 1)]),
     ] {
         let found = two_reads(interruptions, then);
         assert!(rt; found == want, "{interruptions} interruptions");
@@ -75,6 +77,7 @@ fn writes_are_counted(rt: HostRuntime) {
         (0, Then::Idles, b"ab", [('f', 1), ('f', 2)]),
         (0, Then::Idles, empty, [('0', 0), ('0', 0)]),
         (0, Then::Fails, b"ab", [('f', 1), ('f', 2)]),
+        (0, Then::Blocks, b"ab", [('f', 1), ('x', 1)]),
     ] {
         let found = two_writes(interruptions, then, bytes);
         assert!(rt; found == want, "{interruptions} interruptions");
@@ -103,6 +106,7 @@ fn flushes_are_counted(rt: HostRuntime) {
         (999, Then::Works, [('x', 0), ('x', 0)]),
         (1_000, Then::Works, [('f', 1), ('x', 1)]),
         (0, Then::Fails, [('f', 1), ('f', 2)]),
+        (0, Then::Blocks, [('f', 1), ('x', 1)]),
     ] {
         let found = two_flushes(interruptions, then);
         assert!(rt; found == want, "{interruptions} interruptions");

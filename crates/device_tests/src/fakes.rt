@@ -11,6 +11,8 @@ pub enum Then {
     Works,
     /// Has nothing to give, and takes nothing.
     Idles,
+    /// Would block once, and works from then on.
+    Blocks,
     Fails,
 }
 
@@ -31,6 +33,10 @@ impl Unsteady {
         match self.then {
             Then::Works => Ok(1),
             Then::Idles => Ok(0),
+            Then::Blocks => {
+                self.then = Then::Works;
+                Err(io::Error::from(ErrorKind::WouldBlock))
+            }
             Then::Fails => Err(io::Error::from(ErrorKind::ConnectionReset)),
         }
     }

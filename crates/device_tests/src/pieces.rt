@@ -1,8 +1,9 @@
 //! Buffers that are filled, and bytes that are written whole.
 
 use crate::fakes::{Narrow, Slow};
+use std::alloc::Global;
 use std::test::Fail;
-use td_devices::{Device, Failed, Short, fill, put, write_all};
+use td_devices::{Device, Failed, Pair, Short, Sink, fill, put, write_all};
 
 #[test]
 fn a_buffer_is_filled_read_by_read(rt: HostRuntime) {
@@ -41,4 +42,31 @@ fn all_bytes_are_written_unflushed(rt: HostRuntime) -> Result<(), Fail> {
     assert!(rt; writer.taken.as_slice() == b"abcd".as_slice());
     assert!(rt; writer.flushes == 0);
     Ok(())
+}
+
+// How often a writer is flushed by one flush of a device, alone or as one side of a link.
+fn flushes_of_one(alloc: Global, is_link: bool, flush_fails: bool) -> u32 {
+    let mut writer = Narrow::new(alloc, 9, flush_fails);
+    let told = if is_link {
+        let reader = Slow { bytes: b"" };
+        let pair = Pair {
+            reader,
+            writer: &mut writer,
+        };
+        Device::link(pair).flush()
+    } else {
+        Device::new(&mut writer).flush()
+    };
+    if told.is_err() == flush_fails {
+        writer.flushes
+    } else {
+        0
+    }
+}
+
+#[test]
+fn a_flush_is_handed_on_once(rt: HostRuntime) {
+    for (is_link, flush_fails) in [(false, false), (false, true), (true, false), (true, true)] {
+        assert!(rt; flushes_of_one(rt.alloc(), is_link, flush_fails) == 1);
+    }
 }

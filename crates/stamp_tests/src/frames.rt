@@ -153,8 +153,93 @@ fn streams_of_entries(rt: HostRuntime) -> Result<(), Fail> {
     Ok(())
 }
 
+// How many entries are read whole, of at most so many, how the reading ends, and how many bytes it leaves.
+fn streamed_at_most(
+    alloc: Global,
+    bytes: &[u8],
+    most: u32,
+) -> (usize, Result<(), FrameError>, usize) {
+    let mut rest = bytes;
+    let (entries, end) = read_entries(alloc, &mut Device::new(&mut rest), most);
+    (entries.len(), end, rest.len())
+}
+
 #[test]
 fn one_entry_too_many(rt: HostRuntime) {
-    let (entries, end) = read_entries(rt.alloc(), &mut Device::new(&ANSWER[63..]), 1);
-    assert!(rt; entries.len() == 1 && end == Err(FrameError::BadFrame));
+    let stream = &ANSWER[63..];
+    let bad = Err(FrameError::BadFrame);
+    for (bytes, most, want) in [
+        (stream, 2, (2, Ok(()), 0)),
+        (stream, 1, (1, bad, 26)),
+        (stream, 0, (0, bad, 52)),
+        // no more is there than the letter
+        (&stream[..27], 1, (1, bad, 0)),
+        (b"E".as_slice(), 0, (0, bad, 0)),
+        (b"".as_slice(), 0, (0, Err(FrameError::Cut), 0)),
+        (b"Z".as_slice(), 0, (0, Ok(()), 0)),
+    ] {
+        let found = streamed_at_most(rt.alloc(), bytes, most);
+        assert!(rt; found == want);
+    }
+}
+
+// A text of so many bytes.
+fn long_text(alloc: Global, count: u32) -> Result<String, Fail> {
+    let mut text = String::new(alloc);
+    for _ in 0..count {
+        text.push('x')?;
+    }
+    Ok(text)
+}
+
+// How long the script is of a greeting that was written with this one, and read again.
+fn script_again(alloc: Global, script: &str) -> Result<usize, Fail> {
+    let mut bytes = Vec::new(alloc);
+    if script.len() <= 65_536 {
+        put_greeting(&mut Device::new(&mut bytes), 1, script, &[])?;
+    }
+    let greeting = read_greeting(alloc, &mut Device::new(bytes.as_slice()))?;
+    if greeting.script.as_str() != script {
+        return Ok(0);
+    }
+    Ok(script.len())
+}
+
+#[test]
+fn the_longest_script_is_read_again(rt: HostRuntime) -> Result<(), Fail> {
+    for count in [8_192, 8_193, 65_536] {
+        let script = long_text(rt.alloc(), count)?;
+        let found = script_again(rt.alloc(), script.as_str())?;
+        assert!(rt; found == script.len() && found > 0);
+    }
+    Ok(())
+}
+
+// How long the text is of an entry that was written with this one, and read again.
+fn text_again(alloc: Global, text: &str) -> Result<usize, Fail> {
+    let written = Entry {
+        site: 1,
+        seq: 1,
+        clock: 1,
+        text: Text::from_str(alloc, text)?,
+    };
+    let mut bytes = Vec::new(alloc);
+    if written.text.as_str().len() <= 8_192 {
+        put_entry(&mut Device::new(&mut bytes), &written)?;
+    }
+    let (entries, _) = read_entries(alloc, &mut Device::new(bytes.as_slice()), 1);
+    match entries.first() {
+        Some(read) if read.is_same(&written) => Ok(read.text.as_str().len()),
+        _ => Ok(0),
+    }
+}
+
+#[test]
+fn the_longest_text_is_read_again(rt: HostRuntime) -> Result<(), Fail> {
+    for count in [1, 8_192] {
+        let text = long_text(rt.alloc(), count)?;
+        let found = text_again(rt.alloc(), text.as_str())?;
+        assert!(rt; found == text.len() && found > 0);
+    }
+    Ok(())
 }

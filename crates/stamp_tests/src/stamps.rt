@@ -1,7 +1,7 @@
 //! Worked examples, on the entries that a site holds.
 use std::alloc::{AllocError, Global};
 use std::test::Fail;
-use td_stamps::{CheckError, Entry, Held, NextError, PrepareError, Stamp, Vector};
+use td_stamps::{CheckError, Entry, Held, NextError, PrepareError, Stamp, Vector, all_in_range};
 use td_values::Text;
 
 /// The last clock.
@@ -163,6 +163,64 @@ fn entries_that_are_held(rt: HostRuntime) -> Result<(), Fail> {
     let prepared = held.prepare(alloc, &[])?;
     assert!(rt; prepared.entries().len() == 1 && held.entries().len() == 1);
     assert!(rt; !held.is_empty() && Held::new(alloc, 1).is_empty());
+    Ok(())
+}
+
+// Whether the fresh ones of these entries have these stamps, in this order.
+fn fresh_have(
+    alloc: Global,
+    held: &Held,
+    entries: &[Parts],
+    stamps: &[(u64, u16)],
+) -> Result<bool, AllocError> {
+    let batch = batch(alloc, entries)?;
+    let fresh = held.fresh(alloc, &batch)?;
+    for (i, (clock, site)) in stamps.iter().enumerate() {
+        match fresh.get(i) {
+            Some(entry) if entry.clock == *clock && entry.site == *site => {}
+            _ => return Ok(false),
+        }
+    }
+    Ok(fresh.len() == stamps.len() && all_in_range(&batch))
+}
+
+#[test]
+fn fresh_entries_in_batch_order(rt: HostRuntime) -> Result<(), Fail> {
+    let alloc = rt.alloc();
+    let (first, second) = ((1, 1, 1, FIRST), (2, 1, 1, SECOND));
+    let (third, last) = ((1, 2, 3, DELETE), (2, 2, 5, DELETE));
+    let held = held_of(alloc, 10_000, &[first, second])?;
+    assert!(rt; fresh_have(alloc, &held, &[], &[])?);
+    assert!(rt; fresh_have(alloc, &held, &[second, first], &[])?);
+    assert!(rt; fresh_have(alloc, &held, &[last, third, last], &[(5, 2), (3, 1)])?);
+    assert!(rt;
+        fresh_have(
+            alloc,
+            &held,
+            &[third, first, third, last],
+            &[(3, 1), (5, 2)]
+        )?
+    );
+    Ok(())
+}
+
+// How many entries stand before the first new one, once these are added to those.
+fn front(alloc: Global, before: &[Parts], entries: &[Parts]) -> Result<usize, PrepareError> {
+    let batch = batch(alloc, entries)?;
+    let prepared = held_of(alloc, 10_000, before)?.prepare(alloc, &batch)?;
+    Ok(prepared.front())
+}
+
+#[test]
+fn entries_before_the_first_new_one(rt: HostRuntime) -> Result<(), Fail> {
+    let alloc = rt.alloc();
+    let (first, second) = ((1, 1, 1, FIRST), (2, 1, 1, SECOND));
+    let last = (1, 2, 2, DELETE);
+    assert!(rt; front(alloc, &[], &[first])? == 0);
+    assert!(rt; front(alloc, &[second], &[first])? == 0);
+    assert!(rt; front(alloc, &[first, last], &[second])? == 1);
+    assert!(rt; front(alloc, &[first, second], &[last])? == 2);
+    assert!(rt; front(alloc, &[first, second, last], &[second])? == 3);
     Ok(())
 }
 

@@ -1,6 +1,6 @@
 //! Devices: readers, writers and links that go on after an interruption and count their failures.
 
-ghost use Rattle.std.specs.Prelude.{◌≡◌};
+ghost use Rattle.std.specs.Prelude.{◌≡◌, true};
 
 mod attempts;
 mod sides;
@@ -20,6 +20,7 @@ pub struct Both;
 pub struct Device<D, K = Single> {
     inner: D,
     failures: u64,
+    is_flushed: bool,
     role: PhantomData<K>,
 }
 
@@ -28,7 +29,7 @@ impl<D, K> Model for Device<D, K> {
 
     ghost Value = { DeviceData D };
 
-    ghost view = { λ d. record { inner = d.inner; failures = d.failures } };
+    ghost view = { λ d. record { inner = d.inner; failures = d.failures; is_flushed = d.is_flushed } };
 }
 
 impl<D, K> Device<D, K> {
@@ -36,10 +37,12 @@ impl<D, K> Device<D, K> {
     fn begin(inner: D) -> Self
         ensures inner { result.inner ≡ inner }
         ensures failures { result.failures ≡ 0 }
+        ensures flushed { result.is_flushed ≡ true }
     {
         Device {
             inner,
             failures: 0,
+            is_flushed: true,
             role: PhantomData,
         }
     }
@@ -57,6 +60,7 @@ impl<D> Device<D, Single> {
     pub fn new(inner: D) -> Self
         ensures inner { result.inner ≡ inner }
         ensures failures { result.failures ≡ 0 }
+        ensures flushed { result.is_flushed ≡ true }
     {
         Device::begin(inner)
     }
@@ -67,6 +71,7 @@ impl<D> Device<D, Both> {
     pub fn link(inner: D) -> Self
         ensures inner { result.inner ≡ inner }
         ensures failures { result.failures ≡ 0 }
+        ensures flushed { result.is_flushed ≡ true }
     {
         Device::begin(inner)
     }

@@ -1,6 +1,6 @@
 //! Whole pieces read and written: a buffer, a byte, a text.
 
-ghost use Rattle.std.specs.Prelude.{◌≡◌, ◌<◌, ℕ, List, length, OnOk, IfErr};
+ghost use Rattle.std.specs.Prelude.{◌≡◌, ◌<◌, ℕ, true, List, length, OnOk, IfErr};
 ghost use Rattle.std.specs.Io.KnownBytes.{Keeps, Consumes};
 ghost use Rattle.td_devices.specs.Counted.{Counts};
 ghost use Rattle.td_devices.specs.Streams.{ByteRead, FellShort, Writes};
@@ -67,6 +67,7 @@ pub fn write_all<K: Sink>(sink: &mut K, bytes: &[u8]) -> Result<(), Failed>
 /// Writes all of the bytes, and then flushes. At `Err` a front of them was written; where the flush failed, all of them.
 pub fn put<K: Sink>(sink: &mut K, bytes: &[u8]) -> Result<(), Failed>
     ensures bytes { Writes (K.held sink.old) (K.held sink.new) result bytes.now }
+    ensures flushed { OnOk result (K.is_flushed sink.new ≡ true) }
     ensures aside { Keeps (K.aside sink.old) (K.aside sink.new) }
     ensures count { Counts (K.faults sink.old) (K.faults sink.new) result }
 {

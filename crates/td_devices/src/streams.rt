@@ -1,6 +1,6 @@
 //! What can be read and what can be written, with a count of failures.
 
-ghost use Rattle.std.specs.Prelude.{◌≡◌, ◌<◌, ℕ, List, Option, length, IfOk};
+ghost use Rattle.std.specs.Prelude.{◌≡◌, ◌<◌, ℕ, Bool, true, List, Option, length, IfOk, OnOk};
 ghost use Rattle.std.specs.Io.{ReadsAtMost, WritesAtMost};
 ghost use Rattle.std.specs.Io.KnownBytes.{Keeps, ReadConsumes, WriteAppends};
 ghost use Rattle.td_devices.specs.Counted.{Counts};
@@ -42,6 +42,9 @@ pub trait Sink {
     /// How many failures were counted.
     ghost faults: { Self → ℕ };
 
+    /// Whether all that was written has been handed on: a flush that ends well makes it so.
+    ghost is_flushed: { Self → Bool };
+
     /// Writes a front of the bytes, at least one where there is one.
     fn write_some(&mut self, bytes: &[u8]) -> Result<usize, Failed>
         ensures bound { WritesAtMost result bytes.now }
@@ -53,6 +56,7 @@ pub trait Sink {
     /// Hands on what was written and is still kept back.
     fn flush(&mut self) -> Result<(), Failed>
         ensures held { Keeps (held self.old) (held self.new) }
+        ensures flushed { OnOk result (is_flushed self.new ≡ true) }
         ensures aside { Keeps (aside self.old) (aside self.new) }
         ensures count { Counts (faults self.old) (faults self.new) result };
 }

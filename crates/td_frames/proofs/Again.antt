@@ -6,7 +6,9 @@ use Rattle.std.proofs.lemmas.Nat.{from_be_bytes-to_be_bytes_2, from_be_bytes-to_
 use Rattle.td_stamps.specs.declared.entry.Entry.{Entry}
 use Rattle.td_frames.specs.declared.fields.Head.{Head}
 use Rattle.td_frames.specs.Spelling.{head_of, entry_frame, entry_frames, end_frame, stream, HasFrame}
-use Rattle.td_frames.specs.Reading.{fields, text_at, frame_at, some_entry, Entries, entries_at, with_frame}
+use Rattle.td_frames.specs.Reading.{bad, fields, text_at, frame_at, some_entry, Entries, entries_at, last_frame, with_frame}
+use Rattle.std.specs.Str.{bytes_eq}
+use Rattle.td_frames.proofs.InTurn.{checked_passes}
 use Rattle.td_frames.proofs.Steps.{text_whole, entry_then, letter_entry}
 
 fields_again : (e : Entry) → HasFrame e → fields (head_of e) ≡ record { site = e.site; seq = e.seq; clock = e.clock; length = length e.text }
@@ -31,7 +33,7 @@ frame_first e es more =
 
 pub stream_again : (most : ℕ) (es : List Entry) (more : List ℕ) → length es ≤ most → AllByRecursion HasFrame es → entries_at most (stream es ++ more) ≡ (es, Ok more)
 unfolding entries_at frame_at
-stream_again zero [] more le has = refl
+stream_again zero [] more le has = ap last_frame (checked_passes 1 (λ b. bytes_eq b (90 ∷ [])) (λ b. tt) bad (90 ∷ []) more refl refl)
 stream_again (suc n) [] more le has = refl
 stream_again zero (e ∷ es) more le has = absurd (omega (arith, le))
 stream_again (suc n) (e ∷ es) more le has =

@@ -8,7 +8,7 @@ use Rattle.td_stamps.specs.declared.entry.Entry.{Entry}
 use Rattle.td_frames.specs.declared.fields.Head.{Head}
 use Rattle.td_frames.specs.declared.error.FrameError.{FrameError}
 use Rattle.td_frames.specs.declared.error.FrameError.TheVariants.{OutOfMemory, ReadFault, Cut, Magic, Version, BadFrame}
-use Rattle.td_frames.specs.Reading.{ToldErr, ToldEntries, last_frame, Miss, short, magic, version, bad, fields, with_text, text_at, entry_at, frame_at, some_entry, Entries, entries_at, with_frame}
+use Rattle.td_frames.specs.Reading.{ToldErr, ToldEntries, end_at, last_frame, Miss, short, magic, version, bad, fields, with_text, text_at, entry_at, frame_at, some_entry, Entries, entries_at, with_frame}
 
 -- what was read before, and what is still read
 abbrev pub with_front : List Entry → Entries → Entries
@@ -80,7 +80,7 @@ stops most i front done bytes ending lt read so_far =
     so_far bytes ∙ ap (with_front front) one ∙ ap (λ (es : List Entry). (es, ending)) (append-nil front)
 
 -- the frame after the last entry
-pub closes : (most i : ℕ) (front : List Entry) (done bytes : List ℕ) (ending : Result (List ℕ) Miss) → most ≤ i → last_frame (frame_at bytes) ≡ ([], ending)
+pub closes : (most i : ℕ) (front : List Entry) (done bytes : List ℕ) (ending : Result (List ℕ) Miss) → most ≤ i → last_frame (end_at bytes) ≡ ([], ending)
     → ((more : List ℕ) → entries_at most (done ++ more) ≡ with_front front (entries_at (most - i) more))
     → entries_at most (done ++ bytes) ≡ (front, ending)
 unfolding entries_at
@@ -90,7 +90,7 @@ closes most i front done bytes ending le read so_far =
     so_far bytes ∙ ap (with_front front) one ∙ ap (λ (es : List Entry). (es, ending)) (append-nil front)
 
 -- what is told of a frame that ends the reading
-pub told_entries : (e : FrameError) (es : List Entry) (frame-read : Result (Option Entry × List ℕ) Miss) (read : Entries) (left : Option (List ℕ)) (old new : ℕ)
+pub told_entries : {A : Type 0} (e : FrameError) (es : List Entry) (frame-read : Result (A × List ℕ) Miss) (read : Entries) (left : Option (List ℕ)) (old new : ℕ)
     → ((m : Miss) → frame-read ≡ Err m → read ≡ (es, Err m)) → ToldErr e frame-read left old new → ToldEntries (Err e) es read left old new
 told_entries OutOfMemory es frame-read read left old new h told = told
 told_entries ReadFault es frame-read read left old new h told = (h short told.0, told.1)

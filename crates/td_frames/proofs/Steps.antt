@@ -9,7 +9,8 @@ use Rattle.td_frames.specs.declared.fields.Head.{Head}
 use Rattle.td_frames.specs.declared.error.FrameError.{FrameError}
 use Rattle.td_frames.specs.declared.error.FrameError.TheVariants.{OutOfMemory, ReadFault, Cut, Magic, Version, BadFrame}
 use Rattle.td_stamps.specs.declared.entry.Entry.{Entry}
-use Rattle.td_frames.specs.Reading.{Miss, short, bad, fields, with_text, text_at, entry_at, frame_at, some_entry, ToldErr, Unfilled}
+use Rattle.td_frames.specs.Reading.{Miss, short, bad, fields, with_text, text_at, entry_at, frame_at, some_entry, ToldErr}
+use Rattle.td_frames.specs.ForProofs.{Unfilled}
 
 -- a field that isn't there whole
 pub told_short : {A : Type 0} (e : FrameError) (count : ℕ) (bytes : List ℕ) (read : Result (A × List ℕ) Miss) (left : Option (List ℕ)) (old new : ℕ)

@@ -1,5 +1,5 @@
 -- The reading of frames, field by field: a value and the bytes after it, or the first field that misses.
-use Rattle.std.specs.Prelude.{◌≡◌, ◌<◌, ℕ, zero, suc, Bool, true, ◌&&◌, List, [], ◌∷◌, ◌++◌, length, take, drop, codes, Option, Some, None, Result, Ok, Err, nat_le, nat_lt, ◌==◌, if◌then◌else◌}
+use Rattle.std.specs.Prelude.{◌≡◌, ℕ, zero, suc, Bool, true, ◌&&◌, List, [], ◌∷◌, ◌++◌, length, take, drop, codes, Option, Some, None, Result, Ok, Err, nat_le, nat_lt, ◌==◌, if◌then◌else◌}
 use Rattle.std.specs.FinMap as by_site
 use Rattle.std.specs.Int.{w16, w32, w64, from_be_bytes}
 use Rattle.std.specs.Str.{bytes_eq, is_utf8}
@@ -129,18 +129,17 @@ abbrev pub with_frame : (List ℕ → Entries) → Result (Option Entry × List 
 with_frame others (Ok x) = with_item others x.1 x.0
 with_frame others (Err m) = ([], Err m)
 
-abbrev pub last_item : List ℕ → Option Entry → Entries
-last_item rest None = ([], Ok rest)
-last_item rest (Some e) = ([], Err bad)
+-- The end, where no entry may follow: any other letter is refused, whatever is behind it.
+abbrev pub end_at : List ℕ → Result (Unit {0} × List ℕ) Miss
+end_at bytes = checked_at 1 (λ b. bytes_eq b (90 ∷ [])) (λ b. tt) bad bytes
 
--- where no entry may follow
-abbrev pub last_frame : Result (Option Entry × List ℕ) Miss → Entries
-last_frame (Ok x) = last_item x.1 x.0
+abbrev pub last_frame : Result (Unit {0} × List ℕ) Miss → Entries
+last_frame (Ok x) = ([], Ok x.1)
 last_frame (Err m) = ([], Err m)
 
 -- the stream of at most so many entries
 unfoldable pub entries_at : ℕ → List ℕ → Entries
-entries_at zero bytes = last_frame (frame_at bytes)
+entries_at zero bytes = last_frame (end_at bytes)
 entries_at (suc n) bytes = with_frame (entries_at n) (frame_at bytes)
 
 -- ---- what a reader tells of the bytes that it took: it took exactly a value's, or up to the first field that misses
@@ -170,10 +169,3 @@ ToldEntries (Err Cut) es read left old new = (read ≡ (es, Err short)) × IsAtE
 ToldEntries (Err Magic) es read left old new = (read ≡ (es, Err magic)) × (new ≡ old)
 ToldEntries (Err Version) es read left old new = (read ≡ (es, Err version)) × (new ≡ old)
 ToldEntries (Err BadFrame) es read left old new = (read ≡ (es, Err bad)) × (new ≡ old)
-
--- a field of so many bytes wasn't there whole, or there was no memory for it
-abbrev pub Unfilled : FrameError → ℕ → List ℕ → Option (List ℕ) → ℕ → ℕ → Type 0
-Unfilled OutOfMemory count bytes left old new = new ≡ old
-Unfilled ReadFault count bytes left old new = (length bytes < count) × (new ≡ counted old)
-Unfilled Cut count bytes left old new = (length bytes < count) × IsAtEnd left × (new ≡ old)
-Unfilled e count bytes left old new = ⊥

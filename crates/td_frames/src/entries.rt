@@ -5,16 +5,35 @@ ghost use Rattle.std.specs.Int.{w16, w32, w64, to_be_bytes};
 ghost use Rattle.std.specs.Io.KnownBytes.{Keeps, Consumes};
 ghost use Rattle.td_devices.specs.Counted.{Counts};
 ghost use Rattle.td_devices.specs.Streams.{Writes};
-ghost use Rattle.td_frames.specs.Reading.{ToldEntries, entries_at};
+ghost use Rattle.td_frames.specs.Reading.{Told, ToldEntries, end_at, entries_at};
 ghost use Rattle.td_frames.specs.Spelling.{HasFrame, end_frame, entry_frame};
 
 use crate::entry::read_frame;
 use crate::error::FrameError;
+use crate::fields::read_field;
 use std::alloc::Global;
 use td_devices::{Failed, Sink, Source, write_all};
 use td_stamps::Entry;
 
-/// Reads the frames of at most so many entries, and the end. What was read whole before an error is there too.
+// Reads the end, where no entry may follow: one byte.
+fn read_end<S: Source>(source: &mut S) -> Result<(), FrameError>
+    ensures told { (bytes : List ℕ) × Consumes (S.left source.old) (S.left source.new) bytes
+        × Told result (end_at bytes) (S.left source.new) (S.failures source.old) (S.failures source.new) }
+    ensures beside { Keeps (S.beside source.old) (S.beside source.new) }
+{
+    let mut letter = [0u8; 1];
+    match read_field(source, &mut letter) {
+        Ok(()) => {}
+        Err(e) => return Err(e),
+    }
+    if letter.as_slice() != [b'Z'].as_slice() {
+        return Err(FrameError::BadFrame);
+    }
+    Ok(())
+}
+
+/// Reads the frames of at most so many entries, and the end. A frame of one entry more is refused at its letter. What was read whole
+/// before an error is there too.
 pub fn read_entries<S: Source>(
     alloc: Global,
     source: &mut S,
@@ -35,10 +54,9 @@ pub fn read_entries<S: Source>(
             },
         }
     }
-    match read_frame(alloc, source) {
+    match read_end(source) {
         Err(e) => (entries, Err(e)),
-        Ok(None) => (entries, Ok(())),
-        Ok(Some(_)) => (entries, Err(FrameError::BadFrame)),
+        Ok(()) => (entries, Ok(())),
     }
 }
 

@@ -2,7 +2,8 @@
 
 ghost use Rattle.std.specs.Prelude.{◌≡◌, ℕ, List, length, OnOk, IfOk, IfErr};
 ghost use Rattle.std.specs.Io.KnownBytes.{Keeps, Consumes};
-ghost use Rattle.td_frames.specs.Reading.{Unfilled, fields};
+ghost use Rattle.td_frames.specs.ForProofs.{Unfilled};
+ghost use Rattle.td_frames.specs.Reading.{fields};
 
 use crate::error::FrameError;
 use std::alloc::Global;

@@ -15,8 +15,8 @@ use Rattle.td_story.specs.declared.refusal.TakeError.TheVariants as take_error
 use Rattle.td_meeting.specs.declared.error.MeetingError.{MeetingError}
 use Rattle.td_meeting.specs.declared.error.MeetingError.TheVariants.{Broken, OutOfMemory, Frame, OtherScript, SameSite, WriteFault, Take}
 use Rattle.td_meeting.specs.Reading.{Hears, IsTaken, MissesEntries, MissesGreeting, ReadsGreeting, ReadsStream, Refuses, Unheard, Unreceived, most_entries}
-use Rattle.td_meeting.specs.Carried.{Heard, HearsIn, ReceivesIn}
-use Rattle.td_meeting.specs.ForProofs.{Untaken}
+use Rattle.td_meeting.specs.ForProofs.Carried.{Heard, HearsIn, ReceivesIn}
+use Rattle.td_meeting.specs.ForProofs.Parts.{Untaken}
 use Rattle.td_meeting.proofs.Steady.{greeting_steady, stream_reads, stream_refuses}
 
 not_counted : 0 ≡ counted 0 → ⊥
@@ -111,7 +111,7 @@ refuses_in s left rest es e t u is = refuses_by s left rest es u.entries u.reads
 
 unreceived_in : (s : Seen) (left rest : List ℕ) (es : List Entry) (e : MeetingError) (t : Seen) → Unreceived s e (Some left) (Some rest) 0 0 t → entries_at most_entries left ≡ (es, Ok []) → Untaken s es e t
 unreceived_in s left rest es Broken t u is = absurd u
-unreceived_in s left rest es OutOfMemory t u is = u
+unreceived_in s left rest es OutOfMemory t u is = u.0
 unreceived_in s left rest es (Frame e n) t u is = absurd (misses_entries_not s left rest es e n t u is)
 unreceived_in s left rest es OtherScript t u is = u
 unreceived_in s left rest es SameSite t u is = u

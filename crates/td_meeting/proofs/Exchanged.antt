@@ -23,8 +23,8 @@ use Rattle.td_meeting.specs.Reading.{most_entries}
 use Rattle.td_meeting.specs.Writing.{Greets, sends}
 use Rattle.td_meeting.specs.Steps.{AreSent}
 use Rattle.td_meeting.specs.Meetings.{AreOpen, AreTwo, MeetsNot, MeetsWhole, TakesFrom}
-use Rattle.td_meeting.specs.Carried.{AnswersIn, Heard, HearsIn, IsAnswer, NoReply, ReceivesIn, Settling, SettlesIn, SettlesNot}
-use Rattle.td_meeting.specs.ForProofs.{Untaken}
+use Rattle.td_meeting.specs.ForProofs.Carried.{AnswersIn, Heard, HearsIn, IsAnswer, NoReply, ReceivesIn, Settling, SettlesIn, SettlesNot}
+use Rattle.td_meeting.specs.ForProofs.Parts.{Untaken}
 
 -- ---- what is read
 
@@ -122,8 +122,8 @@ module _ (s t : Seen) (bytes : List ℕ) (answer : IsAnswer s t bytes) (both : A
 
   stops_by : (e : MeetingError) (took : ℕ) (after : Seen) → SettlesNot s (greeting_of t answer.greets.vector) (after_vector answer.vector t.entries) e took after → MeetsNot s t e took after t
   stops_by Broken took after u = absurd u
-  stops_by OutOfMemory took after (inl (stays, none)) = (both, inl (stays, refl, none))
-  stops_by OutOfMemory took after (inr (x, takes, fresh)) = (both, inr (x, takes_first (Ok x) after takes, refl, fresh))
+  stops_by OutOfMemory took after (inl (stays, none)) = (both, two, inl (stays, refl, none))
+  stops_by OutOfMemory took after (inr (x, takes, fresh)) = (both, two, inr (x, takes_first (Ok x) after takes, refl, fresh))
   stops_by (Frame e n) took after u = absurd u
   stops_by OtherScript took after u = absurd (u (sym two.0))
   stops_by SameSite took after u = absurd (two.1 (sym u))
@@ -177,7 +177,7 @@ module _ (s t : Seen) (bytes : List ℕ) (answer : IsAnswer s t bytes) (both : A
 
     halts : (e : MeetingError) (other : Seen) → Untaken t (after_vector answer.greets.vector after.entries) e other → MeetsNot s t e gains.fresh after other
     halts Broken other u = absurd u
-    halts OutOfMemory other u = (both, inr (gains, takes_first (Ok gains) after settled.0, u, refl))
+    halts OutOfMemory other u = (both, two, inr (gains, takes_first (Ok gains) after settled.0, u, refl))
     halts (Frame e n) other u = absurd u
     halts OtherScript other u = absurd u
     halts SameSite other u = absurd u
@@ -191,7 +191,7 @@ module _ (s t : Seen) (bytes : List ℕ) (answer : IsAnswer s t bytes) (both : A
 
 unanswered : (s t : Seen) (v : VersionVector) (e : MeetingError) → AreOpen s t → AreTwo s t → NoReply t (greeting_of s v) e → MeetsNot s t e 0 s t
 unanswered s t v Broken both two u = absurd u
-unanswered s t v OutOfMemory both two u = (both, inl (refl, refl, refl))
+unanswered s t v OutOfMemory both two u = (both, two, inl (refl, refl, refl))
 unanswered s t v (Frame e n) both two u = absurd u
 unanswered s t v OtherScript both two u = absurd (u two.0)
 unanswered s t v SameSite both two u = absurd (two.1 u)

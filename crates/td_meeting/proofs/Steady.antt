@@ -9,7 +9,7 @@ use lib.Seq.{take-append-le}
 use Rattle.td_stamps.specs.Vectors.{VersionVector}
 use Rattle.td_stamps.specs.declared.entry.Entry.{Entry}
 use Rattle.td_frames.specs.declared.fields.Head.{Head}
-use Rattle.td_frames.specs.Reading.{Miss, short, magic, version, bad, checked_at, then_at, magic_at, version_at, site_at, length_at, text_of, script_at, count_at, number_at, sites_at, vector_at, head_at, rest_at, greeting_at, fields, with_text, text_at, entry_at, some_entry, frame_at, Entries, entries_at, with_frame, last_frame}
+use Rattle.td_frames.specs.Reading.{Miss, short, magic, version, bad, checked_at, then_at, magic_at, version_at, site_at, length_at, text_of, script_at, count_at, number_at, sites_at, vector_at, head_at, rest_at, greeting_at, fields, with_text, text_at, entry_at, some_entry, frame_at, Entries, end_at, entries_at, with_frame, last_frame}
 use Rattle.td_frames.proofs.Loops.{frame_more}
 
 -- a value that was read is read, whatever follows, and so is a field refused
@@ -171,14 +171,20 @@ frame_refuses (letter ∷ rest) more m not_short e = letter_refuses (eqb letter 
 
 -- ---- streams
 
+-- where no entry may follow
+end_steady : Steady end_at
+end_steady = field_steady 1 (λ b. bytes_eq b (90 ∷ [])) (λ b. tt) bad
+
+abbrev End : Type 0
+End = Result (Unit {0} × List ℕ) Miss
+
 -- what was read is no whole stream
-last_ends : (bytes more : List ℕ) (es : List Entry) (m : Miss) (r : Frame) → m ≢ short → frame_at bytes ≡ r → last_frame r ≡ (es, Err m) → last_frame (frame_at (bytes ++ more)) ≡ (es, Err m)
-last_ends bytes more es m (Ok (None, rest)) not_short is e = let wrong = ap (λ (r : Entries). r.1) e in absurd cc
-last_ends bytes more es m (Ok (Some x, rest)) not_short is e = ap last_frame (frame_more bytes more (Some x, rest) is) ∙ e
+last_ends : (bytes more : List ℕ) (es : List Entry) (m : Miss) (r : End) → m ≢ short → end_at bytes ≡ r → last_frame r ≡ (es, Err m) → last_frame (end_at (bytes ++ more)) ≡ (es, Err m)
+last_ends bytes more es m (Ok x) not_short is e = let wrong = ap (λ (r : Entries). r.1) e in absurd cc
 last_ends bytes more es m (Err k) not_short is e =
     let ends = ap (λ (r : Entries). r.1) e in
     let same : k ≡ m = cc in
-    ap last_frame (frame_refuses bytes more m not_short (is ∙ ap (λ j. Err j) same)) ∙ ap (λ (j : Miss). ([], Err j)) (sym same) ∙ e
+    ap last_frame (end_steady.refuses bytes more m not_short (is ∙ ap (λ j. Err j) same)) ∙ ap (λ (j : Miss). ([], Err j)) (sym same) ∙ e
 
 abbrev onto : Entry → Entries → Entries
 onto x r = (x ∷ r.0, r.1)
@@ -203,7 +209,7 @@ next_ends n bytes more es m others (Err k) not_short is e =
 
 pub stream_refuses : (n : ℕ) (bytes more : List ℕ) (es : List Entry) (m : Miss) → m ≢ short → entries_at n bytes ≡ (es, Err m) → entries_at n (bytes ++ more) ≡ (es, Err m)
 unfolding entries_at
-stream_refuses zero bytes more es m not_short e = last_ends bytes more es m (frame_at bytes) not_short refl e
+stream_refuses zero bytes more es m not_short e = last_ends bytes more es m (end_at bytes) not_short refl e
 stream_refuses (suc n) bytes more es m not_short e = next_ends n bytes more es m (λ bs ms fs e. stream_refuses n bs ms fs m not_short e) (frame_at bytes) not_short refl e
 
 abbrev longer_by : List ℕ → Result (List ℕ) Miss → Result (List ℕ) Miss
@@ -213,9 +219,8 @@ longer_by more (Err m) = Err m
 abbrev longer : List ℕ → Entries → Entries
 longer more r = (r.0, longer_by more r.1)
 
-last_read : (bytes more rest : List ℕ) (es : List Entry) (r : Frame) → frame_at bytes ≡ r → last_frame r ≡ (es, Ok rest) → last_frame (frame_at (bytes ++ more)) ≡ (es, Ok (rest ++ more))
-last_read bytes more rest es (Ok (None, left)) is e = ap last_frame (frame_more bytes more (None, left) is) ∙ ap (λ (r : Entries). longer more r) e
-last_read bytes more rest es (Ok (Some x, left)) is e = let wrong = ap (λ (r : Entries). r.1) e in absurd cc
+last_read : (bytes more rest : List ℕ) (es : List Entry) (r : End) → end_at bytes ≡ r → last_frame r ≡ (es, Ok rest) → last_frame (end_at (bytes ++ more)) ≡ (es, Ok (rest ++ more))
+last_read bytes more rest es (Ok x) is e = ap last_frame (end_steady.reads bytes more x is) ∙ ap (λ (r : Entries). longer more r) e
 last_read bytes more rest es (Err k) is e = let wrong = ap (λ (r : Entries). r.1) e in absurd cc
 
 entry_read : (x : Entry) (es : List Entry) (rest more : List ℕ) (p q : Entries) → ((fs : List Entry) → p ≡ (fs, Ok rest) → q ≡ (fs, Ok (rest ++ more))) → onto x p ≡ (es, Ok rest) → onto x q ≡ (es, Ok (rest ++ more))
@@ -235,5 +240,5 @@ next_read n bytes more rest es others (Err k) is e = let wrong = ap (λ (r : Ent
 -- a whole stream is read, whatever follows
 pub stream_reads : (n : ℕ) (bytes more rest : List ℕ) (es : List Entry) → entries_at n bytes ≡ (es, Ok rest) → entries_at n (bytes ++ more) ≡ (es, Ok (rest ++ more))
 unfolding entries_at
-stream_reads zero bytes more rest es e = last_read bytes more rest es (frame_at bytes) refl e
+stream_reads zero bytes more rest es e = last_read bytes more rest es (end_at bytes) refl e
 stream_reads (suc n) bytes more rest es e = next_read n bytes more rest es (λ bs fs e. stream_reads n bs more rest fs e) (frame_at bytes) refl e

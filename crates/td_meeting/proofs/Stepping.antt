@@ -7,7 +7,7 @@ use Rattle.td_stamps.specs.declared.entry.Entry.{Entry}
 use Rattle.td_story.specs.Calls.{TakesBatch}
 use Rattle.td_story.specs.Seen.{Seen, IsSound}
 use Rattle.td_story.specs.declared.answer.Taken.{Taken}
-use Rattle.td_meeting.specs.Carried.{IsAnswer, ReceivesIn, Settling}
+use Rattle.td_meeting.specs.ForProofs.Carried.{IsAnswer, ReceivesIn, Settling}
 use Rattle.td_meeting.specs.Laws.{MeetBySteps}
 use Rattle.td_meeting.specs.Meetings.{AreOpen, AreTwo, MeetsWhole}
 use Rattle.td_meeting.specs.Reading.{Hears, ReadsStream, most_entries}
@@ -40,7 +40,7 @@ pub leave_exchange : (s t : Seen) (gains gives : Taken) (after other : Seen) →
 leave_exchange s t gains gives after other sound_s sound_t steps =
     let (live, own, greets_own, written) = steps.greeted.0 in
     let greets : Greets s steps.greeting = subst (Greets s) (sym written) greets_own in
-    let (g, answers, sent, count) = steps.answered in
+    let (g, answers, sent, count, flushed) = steps.answered in
     let is_first = heard_first s t steps.greeting steps.behind greets g answers.heard in
     let answer : IsAnswer s t steps.answer = record {
       vector = greets.vector;
@@ -52,7 +52,7 @@ leave_exchange s t gains gives after other sound_s sound_t steps =
     } in
     let two : AreTwo s t = (sym (ap (λ (x : Greeting). x.script) is_first) ∙ answers.heard.script, λ same. answers.heard.other (ap (λ (x : Greeting). x.site) is_first ∙ same)) in
     let both : AreOpen s t = (live, answers.live) in
-    let (h, settles, sent_back, settled_count) = steps.settled in
+    let (h, settles, sent_back, settled_count, settled_flushed) = steps.settled in
     let is_second = heard_second s t steps.answer answer settles.between h settles.heard in
     let reads : ReadsStream (Some (sends t greets.vector)) (Some steps.beyond) settles.batch = subst (λ (o : Option (List ℕ)). ReadsStream o (Some steps.beyond) settles.batch) is_second.1 settles.reads in
     let batch : settles.batch ≡ after_vector greets.vector t.entries = stream_is (sends t greets.vector) steps.beyond (after_vector greets.vector t.entries) settles.batch reads (whole_stream s t steps.answer answer sound_t) in

@@ -1,5 +1,5 @@
 -- The laws of meetings.
-use Rattle.std.specs.Prelude.{◌≡◌, ℕ, List, [], ◌++◌, Option, Some, Ok}
+use Rattle.std.specs.Prelude.{◌≡◌, ℕ, Bool, List, [], ◌++◌, Option, Some, Ok}
 use Rattle.td_stamps.specs.Sets.{NoClash, union}
 use Rattle.td_story.specs.Seen.{Seen, IsSound}
 use Rattle.td_story.specs.declared.answer.Taken.{Taken}
@@ -14,8 +14,8 @@ MeetingLeavesUnion =
     → (after.entries ≡ union s.entries t.entries) × (other.entries ≡ union s.entries t.entries)
 
 -- a link that has these bytes left, and to which these were written
-abbrev pub link : Option (List ℕ) → List ℕ → ℕ → LinkData
-link left held failures = record { left = left; held = Some held; failures = failures }
+abbrev pub link : Option (List ℕ) → List ℕ → ℕ → Bool → LinkData
+link left held failures is_flushed = record { left = left; held = Some held; failures = failures; is_flushed = is_flushed }
 
 -- Two sites meet by the four steps, with no other call between them: what each step wrote came to the other site, by any links, and
 -- each step ended well.
@@ -29,9 +29,10 @@ pub record MeetBySteps (s t : Seen) (gains gives : Taken) (after other : Seen) :
   pub beyond : List ℕ
   pub last : List ℕ
   pub counts : ℕ → ℕ
-  pub greeted : Greeted s (link left_to_first [] (counts 0)) (Ok tt) (link rest_to_first greeting (counts 1))
-  pub answered : Answered t (link (Some greeting) [] (counts 2)) (Ok tt) (link (Some behind) answer (counts 3))
-  pub settled : Settled s (link (Some answer) [] (counts 4)) (Ok gains) (link (Some beyond) back (counts 5)) after
+  pub flushed : ℕ → Bool
+  pub greeted : Greeted s (link left_to_first [] (counts 0) (flushed 0)) (Ok tt) (link rest_to_first greeting (counts 1) (flushed 1))
+  pub answered : Answered t (link (Some greeting) [] (counts 2) (flushed 2)) (Ok tt) (link (Some behind) answer (counts 3) (flushed 3))
+  pub settled : Settled s (link (Some answer) [] (counts 4) (flushed 4)) (Ok gains) (link (Some beyond) back (counts 5) (flushed 5)) after
   pub finished : Finished t (Some back) (Some last) (counts 6) (counts 7) (Ok gives) other
 
 -- which leaves what a meeting in memory does

@@ -2,7 +2,6 @@
 pub mod Reading
 pub mod Writing
 pub mod Steps
-pub mod ForProofs
 pub mod Meetings
-pub mod Carried
 pub mod Laws
+pub mod ForProofs

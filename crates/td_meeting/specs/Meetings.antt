@@ -3,7 +3,7 @@ use Rattle.std.specs.Prelude.{◌≡◌, ◌≢◌, ◌⊎◌, ℕ, true, false,
 use Rattle.td_stamps.specs.Vectors.{VersionVector, IsVector, after_vector}
 use Rattle.td_stamps.specs.declared.entry.Entry.{Entry}
 use Rattle.td_story.specs.Calls.{Takes}
-use Rattle.td_story.specs.Seen.{Seen}
+use Rattle.td_story.specs.Seen.{Seen, IsSound}
 use Rattle.td_story.specs.declared.answer.Taken.{Taken}
 use Rattle.td_story.specs.declared.refusal.TakeError.{TakeError}
 use Rattle.td_story.specs.declared.refusal.TakeError.TheVariants as take_error
@@ -34,6 +34,14 @@ pub record TakesFrom (s t : Seen) (r : Result Taken TakeError) (after : Seen) : 
 abbrev pub AreTwo : Seen → Seen → Type 0
 AreTwo s t = (s.script ≡ t.script) × (s.site ≢ t.site)
 
+-- two sites may meet, or why not
+abbrev pub Judges : Seen → Seen → Result (Unit {0}) MeetingError → Type 0
+Judges s t (Ok x) = AreOpen s t × AreTwo s t × IsSound s × IsSound t
+Judges s t (Err Broken) = IsOneClosed s t
+Judges s t (Err OtherScript) = AreOpen s t × (s.script ≢ t.script)
+Judges s t (Err SameSite) = AreOpen s t × (s.script ≡ t.script) × (s.site ≡ t.site)
+Judges s t (Err e) = ⊥
+
 -- how many entries were fresh to each
 pub record MeetsWhole (s t : Seen) (met : Met) (after other : Seen) : Type 0 where
   pub two : AreTwo s t
@@ -62,7 +70,7 @@ abbrev pub MeetsNot : Seen → Seen → MeetingError → ℕ → Seen → Seen �
 MeetsNot s t Broken took after other = IsOneClosed s t × Stay s t took after other
 MeetsNot s t OtherScript took after other = AreOpen s t × (s.script ≢ t.script) × Stay s t took after other
 MeetsNot s t SameSite took after other = AreOpen s t × (s.script ≡ t.script) × (s.site ≡ t.site) × Stay s t took after other
-MeetsNot s t OutOfMemory took after other = AreOpen s t × (Stay s t took after other ⊎ OneTook s t took after other)
+MeetsNot s t OutOfMemory took after other = AreOpen s t × AreTwo s t × (Stay s t took after other ⊎ OneTook s t took after other)
 MeetsNot s t (Take take_error.Broken) took after other = ⊥
 MeetsNot s t (Take take_error.OutOfMemory) took after other = ⊥
 MeetsNot s t (Take e) took after other = AreTwo s t × Stops s t e took after other

@@ -35,12 +35,12 @@ abbrev pub MissesGreeting : FrameError → Option (List ℕ) → Option (List �
 MissesGreeting frame_error.OutOfMemory left after old new = ⊥
 MissesGreeting e left after old new = (bytes : List ℕ) × Consumes left after bytes × ToldErr e (greeting_at bytes) after old new
 
--- why no such greeting was read; nothing is told of want of memory
+-- why no such greeting was read; where memory was wanted, a part of one
 abbrev pub Unheard : Seen → MeetingError → Option (List ℕ) → Option (List ℕ) → ℕ → ℕ → Type 0
 Unheard s (Frame e taken) left after old new = MissesGreeting e left after old new × (taken ≡ 0)
 Unheard s OtherScript left after old new = (g : Greeting) × ReadsGreeting left after g × (g.script ≢ s.script) × (new ≡ old)
 Unheard s SameSite left after old new = (g : Greeting) × ReadsGreeting left after g × (g.script ≡ s.script) × (g.site ≡ s.site) × (new ≡ old)
-Unheard s OutOfMemory left after old new = new ≡ old
+Unheard s OutOfMemory left after old new = (bytes : List ℕ) × Consumes left after bytes × (new ≡ old)
 Unheard s e left after old new = ⊥
 
 -- ---- a stream of entries
@@ -87,11 +87,12 @@ pub record Refuses (s : Seen) (e : TakeError) (left after : Option (List ℕ)) (
   pub is_taken : IsTaken ending after old new
   pub takes : Takes s entries (Err e) t
 
--- why an open site doesn't take a stream, and what it is then
+-- why an open site doesn't take a stream, and what it is then; memory may be wanted for a part of it, and for taking what was read
+-- before a reader failed
 abbrev pub Unreceived : Seen → MeetingError → Option (List ℕ) → Option (List ℕ) → ℕ → ℕ → Seen → Type 0
 Unreceived s (Frame e taken) left after old new t = MissesEntries s e taken left after old new t
 Unreceived s (Take take_error.Broken) left after old new t = ⊥
 Unreceived s (Take take_error.OutOfMemory) left after old new t = ⊥
 Unreceived s (Take e) left after old new t = Refuses s e left after old new t
-Unreceived s OutOfMemory left after old new t = t ≡ s
+Unreceived s OutOfMemory left after old new t = (t ≡ s) × (bytes : List ℕ) × Consumes left after bytes × ((new ≡ old) ⊎ (new ≡ counted old))
 Unreceived s e left after old new t = ⊥

@@ -1,10 +1,12 @@
 -- The four steps of a meeting of a first and a second site. `greet`: the first writes its greeting. `answer`: the second reads it, and writes
 -- its own greeting and what it holds after the first's version vector. `settle`: the first reads all of that, takes the entries as one batch,
 -- and writes what it then holds after the second's version vector. `finish`: the second reads and takes this.
-use Rattle.std.specs.Prelude.{◌≡◌, ◌⊎◌, ℕ, true, false, List, ◌++◌, Option, Result, Ok, Err}
+use Rattle.std.specs.Prelude.{◌≡◌, ◌⊎◌, ℕ, Bool, true, false, List, ◌++◌, Option, Result, Ok, Err}
 use Rattle.std.specs.List.{AllByRecursion}
 use Rattle.std.specs.Io.KnownBytes.{Keeps, Appends}
 use Rattle.td_devices.specs.Counted.{counted}
+use Rattle.td_devices.specs.declared.streams.Source as source
+use Rattle.td_devices.specs.declared.streams.Sink as sink
 use Rattle.td_devices.specs.Streams.{AppendsFront}
 use Rattle.td_stamps.specs.Vectors.{VersionVector, after_vector}
 use Rattle.td_stamps.specs.declared.entry.Entry.{Entry}
@@ -18,11 +20,20 @@ use Rattle.td_meeting.specs.Writing.{Greets, sends}
 use Rattle.td_meeting.specs.declared.error.MeetingError.{MeetingError}
 use Rattle.td_meeting.specs.declared.error.MeetingError.TheVariants.{Broken, OutOfMemory, WriteFault}
 
--- what is known of a link: the bytes that it has left, those that were written to it, and how many failures it counted
+-- what is known of a link: the bytes that it has left, those that were written to it, how many failures it counted, and whether all that was
+-- written has been handed on
 pub record LinkData : Type 0 where
   pub left : Option (List ℕ)
   pub held : Option (List ℕ)
   pub failures : ℕ
+  pub is_flushed : Bool
+
+-- of a channel, and of a sink that may be a side of one
+abbrev pub link_of : {C : Type 0} → source.Ghosts C → sink.Ghosts C → C → LinkData
+link_of reads writes c = record { left = reads.left c; held = writes.held c; failures = reads.failures c; is_flushed = writes.is_flushed c }
+
+abbrev pub side_of : {K : Type 0} → sink.Ghosts K → K → LinkData
+side_of writes k = record { left = writes.aside k; held = writes.held k; failures = writes.faults k; is_flushed = writes.is_flushed k }
 
 -- a site that isn't open reads and writes nothing
 abbrev pub IsClosed : Seen → LinkData → LinkData → Type 0
@@ -38,7 +49,7 @@ abbrev pub GreetsOn : Seen → (List ℕ → Type 0) → Type 0
 GreetsOn s Written = (s.live ≡ true) × (bytes : List ℕ) × Greets s bytes × Written bytes
 
 abbrev pub Greeted : Seen → LinkData → Result (Unit {0}) MeetingError → LinkData → Type 0
-Greeted s old (Ok x) new = GreetsOn s (Appends old.held new.held) × (new.failures ≡ old.failures)
+Greeted s old (Ok x) new = GreetsOn s (Appends old.held new.held) × (new.failures ≡ old.failures) × (new.is_flushed ≡ true)
 Greeted s old (Err (WriteFault taken)) new = GreetsOn s (AppendsFront old.held new.held) × (new.failures ≡ counted old.failures) × (taken ≡ 0)
 Greeted s old (Err Broken) new = IsClosed s old new
 Greeted s old (Err OutOfMemory) new = (s.live ≡ true) × (new ≡ old)
@@ -54,7 +65,8 @@ pub record AnswersOn (s : Seen) (old new : LinkData) (greeting : Greeting) (Writ
   pub written : Written (own ++ sends s greeting.vector)
 
 abbrev pub Answered : Seen → LinkData → Result (Unit {0}) MeetingError → LinkData → Type 0
-Answered s old (Ok x) new = (g : Greeting) × AnswersOn s old new g (Appends old.held new.held) × AreSent s g.vector × (new.failures ≡ old.failures)
+Answered s old (Ok x) new =
+    (g : Greeting) × AnswersOn s old new g (Appends old.held new.held) × AreSent s g.vector × (new.failures ≡ old.failures) × (new.is_flushed ≡ true)
 Answered s old (Err (WriteFault taken)) new =
     (g : Greeting) × AnswersOn s old new g (AppendsFront old.held new.held) × (new.failures ≡ counted old.failures) × (taken ≡ 0)
 Answered s old (Err Broken) new = IsClosed s old new
@@ -78,7 +90,8 @@ Unsettled s old e new after =
     ⊎ ((between : Option (List ℕ)) × (g : Greeting) × Hears s old.left between g × Unreceived s e between new.left old.failures new.failures after)
 
 abbrev pub Settled : Seen → LinkData → Result Taken MeetingError → LinkData → Seen → Type 0
-Settled s old (Ok t) new after = (g : Greeting) × SettlesOn s old new g t after (Appends old.held new.held) × AreSent after g.vector × (new.failures ≡ old.failures)
+Settled s old (Ok t) new after =
+    (g : Greeting) × SettlesOn s old new g t after (Appends old.held new.held) × AreSent after g.vector × (new.failures ≡ old.failures) × (new.is_flushed ≡ true)
 Settled s old (Err (WriteFault taken)) new after =
     (g : Greeting) × (t : Taken) × SettlesOn s old new g t after (AppendsFront old.held new.held) × (new.failures ≡ counted old.failures) × (taken ≡ t.fresh)
 Settled s old (Err Broken) new after = IsClosed s old new × (after ≡ s)

@@ -2,7 +2,7 @@
 
 ghost use Rattle.std.specs.Prelude.{◌≡◌, IfErr, IfOk};
 ghost use Rattle.std.specs.Io.KnownBytes.{Keeps};
-ghost use Rattle.td_meeting.specs.ForProofs as proofs;
+ghost use Rattle.td_meeting.specs.ForProofs.Parts as proofs;
 ghost use Rattle.td_meeting.specs.Reading.{Hears, Unheard};
 
 use crate::error::MeetingError;

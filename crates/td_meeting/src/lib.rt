@@ -11,5 +11,5 @@ pub mod steps;
 mod taking;
 
 pub use error::MeetingError;
-pub use meeting::{MeetingRefusal, Met, meet};
+pub use meeting::{MeetingRefusal, Met, judge, meet};
 pub use steps::{answer, finish, greet, settle};

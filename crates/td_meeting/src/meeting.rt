@@ -2,8 +2,8 @@
 
 ghost use Rattle.std.specs.Prelude.{◌≡◌, true, Ok, Err, MatchResult, OnOk};
 ghost use Rattle.td_story.specs.Seen.{IsSound};
-ghost use Rattle.td_meeting.specs.Carried.{AnswersIn, HearsIn, IsAnswer, Judges, ReceivesIn, SettlesIn};
-ghost use Rattle.td_meeting.specs.Meetings.{AreOpen, AreTwo, Meets};
+ghost use Rattle.td_meeting.specs.ForProofs.Carried.{AnswersIn, HearsIn, IsAnswer, ReceivesIn, SettlesIn};
+ghost use Rattle.td_meeting.specs.Meetings.{AreOpen, AreTwo, Judges, Meets};
 ghost use Rattle.td_meeting.specs.Writing.{Greets};
 ghost use Rattle.td_meeting.specs.declared.error.MeetingError.TheVariants.{OutOfMemory};
 
@@ -43,8 +43,8 @@ fn refusal(error: MeetingError) -> MeetingRefusal
     }
 }
 
-// Whether two sites may meet.
-fn judge<A: Replica, B: Replica>(first: &A, second: &B) -> Result<(), MeetingError>
+/// Whether two sites may meet: both are open, they started from one script, and have two numbers. It takes no memory.
+pub fn judge<A: Replica, B: Replica>(first: &A, second: &B) -> Result<(), MeetingError>
     ensures { Judges (A.seen first.now) (B.seen second.now) result }
 {
     if !first.is_open() || !second.is_open() {

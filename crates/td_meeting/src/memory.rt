@@ -1,6 +1,6 @@
 //! Bytes in memory, which one site writes and the other one reads.
 
-ghost use Rattle.std.specs.Prelude.{◌≡◌, Some, None, []};
+ghost use Rattle.std.specs.Prelude.{◌≡◌, true, Some, None, []};
 
 use std::alloc::Global;
 use td_devices::{Failed, Sink, Source};
@@ -59,6 +59,8 @@ impl Sink for Outgoing {
     ghost aside = { λ _. None };
 
     ghost faults = { λ o. o.failures };
+
+    ghost is_flushed = { λ _. true };
 
     fn write_some(&mut self, bytes: &[u8]) -> Result<usize, Failed> {
         match self.bytes.extend_from_slice(bytes) {

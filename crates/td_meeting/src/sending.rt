@@ -8,7 +8,7 @@ ghost use Rattle.td_devices.specs.Counted.{Counts};
 ghost use Rattle.td_devices.specs.Streams.{Writes};
 ghost use Rattle.td_stamps.specs.Vectors.{after_vector};
 ghost use Rattle.td_frames.specs.Spelling.{HasFrame, entry_frames, stream};
-ghost use Rattle.td_meeting.specs.ForProofs.{ArePlaces, Replied};
+ghost use Rattle.td_meeting.specs.ForProofs.Parts.{ArePlaces, Replied};
 ghost use Rattle.td_meeting.specs.Steps.{AreSent};
 ghost use Rattle.td_meeting.specs.Writing.{Greets, sends};
 
@@ -90,6 +90,7 @@ pub(crate) fn send<R: Replica, K: Sink>(
     ensures bytes { Writes (K.held sink.old) (K.held sink.new) result (sends (R.seen site.now) vector.now) }
     ensures has { OnOk result (AreSent (R.seen site.now) vector.now) }
     ensures count { Counts (K.faults sink.old) (K.faults sink.new) result }
+    ensures flushed { OnOk result (K.is_flushed sink.new ≡ true) }
     ensures aside { Keeps (K.aside sink.old) (K.aside sink.new) }
 {
     let Ok(held) = site.held() else {
@@ -108,6 +109,7 @@ pub(crate) fn send_greeting<R: Replica, K: Sink>(
     requires { ArePlaces (R.seen site.now).entries places.now }
     ensures bytes { (bytes : List ℕ) × Greets (R.seen site.now) bytes × Writes (K.held sink.old) (K.held sink.new) result bytes }
     ensures count { Counts (K.faults sink.old) (K.faults sink.new) result }
+    ensures flushed { OnOk result (K.is_flushed sink.new ≡ true) }
     ensures aside { Keeps (K.aside sink.old) (K.aside sink.new) }
 {
     put_own(site, places, sink)?;
@@ -126,6 +128,7 @@ fn send_reply<R: Replica, K: Sink>(
     ensures bytes { (own : List ℕ) × Greets (R.seen site.now) own × Writes (K.held sink.old) (K.held sink.new) result (own ++ sends (R.seen site.now) vector.now) }
     ensures has { OnOk result (AreSent (R.seen site.now) vector.now) }
     ensures count { Counts (K.faults sink.old) (K.faults sink.new) result }
+    ensures flushed { OnOk result (K.is_flushed sink.new ≡ true) }
     ensures aside { Keeps (K.aside sink.old) (K.aside sink.new) }
 {
     put_own(site, places, sink)?;
@@ -141,6 +144,7 @@ pub(crate) fn reply<R: Replica, K: Sink>(
 ) -> Result<(), MeetingError>
     requires { (R.seen site.now).live ≡ true }
     ensures told { Replied (R.seen site.now) vector.now (K.held sink.old) (K.held sink.new) (K.faults sink.old) (K.faults sink.new) result }
+    ensures flushed { OnOk result (K.is_flushed sink.new ≡ true) }
     ensures aside { Keeps (K.aside sink.old) (K.aside sink.new) }
 {
     let Ok(held) = site.held() else {

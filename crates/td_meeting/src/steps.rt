@@ -1,7 +1,7 @@
 //! The four steps of a meeting.
 
 ghost use Rattle.std.specs.Io.KnownBytes.{Keeps};
-ghost use Rattle.td_meeting.specs.Steps.{Answered, Finished, Greeted, Settled};
+ghost use Rattle.td_meeting.specs.Steps.{Answered, Finished, Greeted, Settled, link_of, side_of};
 
 use crate::error::MeetingError;
 use crate::hearing::hear;
@@ -13,8 +13,7 @@ use td_devices::{Channel, Failed, Sink, Source};
 
 /// The first step, of the first site: it writes its greeting, and hands it on. It costs a walk along what the site holds.
 pub fn greet<R: Replica, K: Sink>(alloc: Global, site: &R, sink: &mut K) -> Result<(), MeetingError>
-    ensures greeted { Greeted (R.seen site.now) (record { left = K.aside sink.old; held = K.held sink.old; failures = K.faults sink.old }) result
-        (record { left = K.aside sink.new; held = K.held sink.new; failures = K.faults sink.new }) }
+    ensures greeted { Greeted (R.seen site.now) (side_of K.Sink sink.old) result (side_of K.Sink sink.new) }
     ensures aside { Keeps (K.aside sink.old) (K.aside sink.new) }
 {
     let Ok(held) = site.held() else {
@@ -36,8 +35,7 @@ pub fn answer<R: Replica, C: Channel>(
     site: &R,
     link: &mut C,
 ) -> Result<(), MeetingError>
-    ensures { Answered (R.seen site.now) (record { left = C.left link.old; held = C.held link.old; failures = C.failures link.old }) result
-        (record { left = C.left link.new; held = C.held link.new; failures = C.failures link.new }) }
+    ensures { Answered (R.seen site.now) (link_of C.Source C.Sink link.old) result (link_of C.Source C.Sink link.new) }
 {
     if !site.is_open() {
         return Err(MeetingError::Broken);
@@ -57,8 +55,7 @@ pub fn settle<R: Replica, C: Channel>(
     link: &mut C,
     meter: &mut Meter,
 ) -> Result<Taken, MeetingError>
-    ensures { Settled (R.seen site.old) (record { left = C.left link.old; held = C.held link.old; failures = C.failures link.old }) result
-        (record { left = C.left link.new; held = C.held link.new; failures = C.failures link.new }) (R.seen site.new) }
+    ensures { Settled (R.seen site.old) (link_of C.Source C.Sink link.old) result (link_of C.Source C.Sink link.new) (R.seen site.new) }
 {
     if !site.is_open() {
         return Err(MeetingError::Broken);

@@ -4,7 +4,7 @@ ghost use Rattle.std.specs.Prelude.{◌≡◌, List, true, IfErr, IfOk};
 ghost use Rattle.std.specs.Io.KnownBytes.{Keeps};
 ghost use Rattle.td_story.specs.Calls.{TakesBatch};
 ghost use Rattle.td_stamps.specs.declared.entry.Entry.{Entry};
-ghost use Rattle.td_meeting.specs.ForProofs as proofs;
+ghost use Rattle.td_meeting.specs.ForProofs.Parts as proofs;
 ghost use Rattle.td_meeting.specs.Reading.{ReadsStream, Unreceived};
 
 use crate::error::MeetingError;

@@ -20,7 +20,8 @@ use Rattle.std.proofs.lemmas.Bool.{or_parts, and_from, cases_Bool, or_cases, or_
 use Rattle.td_stamps.specs.declared.entry.Entry.{Entry}
 use Rattle.td_stamps.specs.Entries.{same, clash, before, in_range}
 use Rattle.td_stamps.specs.Sets.{has, put, union, apart, is_set, NoClash}
-use Rattle.td_stamps.specs.Checks.{first_clash, last_seq, Joins}
+use Rattle.td_stamps.specs.Checks.{first_clash, last_seq}
+use Rattle.td_stamps.specs.ForProofs.{Joins}
 use Rattle.td_stamps.proofs.EntryLemmas.{same-is, same-refl, tied, before-trans, before-asym, before-irrefl}
 use Rattle.td_stamps.proofs.SetLemmas.{first_holds, rest_holds, first_fails, rest_fails, set-put, any-put, AddsUp, adds_up, joins}
 use Rattle.td_stamps.proofs.Places.{union-push}

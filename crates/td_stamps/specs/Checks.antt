@@ -1,5 +1,5 @@
 -- What the calls on held entries answer: whether a batch may be added, and the numbers of a site's next entry.
-use Rattle.std.specs.Prelude.{◌≡◌, ℕ, ◌+◌, ◌≤◌, true, ◌&&◌, nat_lt, nat_le, ◌==◌, List, [], ◌∷◌, ◌++◌, length, max, Option, Some, None, Result, Ok, Err, if◌then◌else◌}
+use Rattle.std.specs.Prelude.{◌≡◌, ℕ, suc, ◌+◌, true, ◌&&◌, nat_lt, nat_le, ◌==◌, List, [], ◌∷◌, ◌++◌, length, max, Option, Some, None, Result, Ok, Err, if◌then◌else◌}
 use Rattle.std.specs.List.{list_any, list_all}
 use Rattle.td_stamps.specs.declared.entry.Entry.{Entry}
 use Rattle.td_stamps.specs.declared.errors.CheckError.{CheckError}
@@ -8,8 +8,8 @@ use Rattle.td_stamps.specs.declared.errors.NextError.{NextError}
 use Rattle.td_stamps.specs.declared.errors.NextError.TheVariants.{ClockEnd}
 use Rattle.td_stamps.specs.declared.errors.PrepareError.{PrepareError}
 use Rattle.td_stamps.specs.declared.errors.PrepareError.TheVariants as prepare
-use Rattle.td_stamps.specs.Entries.{clash, in_range}
-use Rattle.td_stamps.specs.Sets.{Holding, Joining, has, union, is_set}
+use Rattle.td_stamps.specs.Entries.{same, clash, in_range}
+use Rattle.td_stamps.specs.Sets.{Holding, Joining, has, union}
 
 -- the first of a batch that clashes with one seen before it
 abbrev pub first_clash : List Entry → List Entry → Option Entry
@@ -20,6 +20,11 @@ first_clash seen (e ∷ es) = if list_any (clash e) seen then Some e else first_
 abbrev pub fresh_count : List Entry → List Entry → ℕ
 fresh_count seen [] = 0
 fresh_count seen (e ∷ es) = (if has seen e then 0 else 1) + fresh_count (seen ++ e ∷ []) es
+
+-- and which these are, in batch order
+abbrev pub fresh_of : List Entry → List Entry → List Entry
+fresh_of seen [] = []
+fresh_of seen (e ∷ es) = (if has seen e then [] else e ∷ []) ++ fresh_of (seen ++ e ∷ []) es
 
 -- a clash refuses, and else the rest decides
 abbrev pub clash_or : Option Entry → Result ℕ CheckError → Result ℕ CheckError
@@ -35,18 +40,16 @@ abbrev pub check_of : List Entry → ℕ → List Entry → Result ℕ CheckErro
 check_of held limit batch =
     if list_all in_range batch then clash_or (first_clash held batch) (room_for (length held) limit (fresh_count held batch)) else Err BadEntry
 
--- what joining a set and a batch that have no clash gives
-pub record Joins (held batch joined : List Entry) : Type 0 where
-  pub clear : first_clash held batch ≡ None
-  pub is : joined ≡ union held batch
-  pub set : is_set joined ≡ true
-  pub ranges : list_all in_range joined ≡ true
-  pub grows : length held ≤ length joined
-  pub few : length joined ≤ length held + length batch
+-- how many entries two lists begin with alike
+abbrev pub shared_front : List Entry → List Entry → ℕ
+shared_front [] ys = 0
+shared_front (x ∷ xs) [] = 0
+shared_front (x ∷ xs) (y ∷ ys) = if same x y then suc (shared_front xs ys) else 0
 
--- what `prepare` may answer: what `check` answers and the union, save that want of memory may stand for all but a bad entry
+-- what `prepare` may answer: what `check` answers, the union, and how far it is what is held, save that want of memory may stand for all
+-- but a bad entry
 abbrev pub Prepares : Holding → List Entry → Result Joining PrepareError → Type 0
-Prepares h batch (Ok p) = (check_of h.entries h.limit batch ≡ Ok p.fresh) × (p.entries ≡ union h.entries batch)
+Prepares h batch (Ok p) = (check_of h.entries h.limit batch ≡ Ok p.fresh) × (p.entries ≡ union h.entries batch) × (p.front ≡ shared_front h.entries p.entries)
 Prepares h batch (Err prepare.BadEntry) = check_of h.entries h.limit batch ≡ Err BadEntry
 Prepares h batch (Err (prepare.Clash site seq)) = check_of h.entries h.limit batch ≡ Err (Clash site seq)
 Prepares h batch (Err prepare.Full) = check_of h.entries h.limit batch ≡ Err Full

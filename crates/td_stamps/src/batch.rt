@@ -7,6 +7,7 @@ ghost use Rattle.td_stamps.specs.Checks.{first_clash, fresh_count};
 
 use crate::entry::Entry;
 
+/// Whether the parts of each are in their ranges.
 pub fn all_in_range(batch: &[Entry]) -> bool
     ensures { result ≡ list_all in_range batch.now }
 {

@@ -4,7 +4,8 @@ ghost use Rattle.std.specs.List.{list_all};
 ghost use Rattle.std.specs.List.Sorted.{IsPermutation, IsSortedBy};
 ghost use Rattle.td_stamps.specs.Entries.{before, in_range};
 ghost use Rattle.td_stamps.specs.Sets.{union, is_set};
-ghost use Rattle.td_stamps.specs.Checks.{first_clash, Joins};
+ghost use Rattle.td_stamps.specs.Checks.{first_clash};
+ghost use Rattle.td_stamps.specs.ForProofs.{Joins, tie, tied_front};
 
 use crate::entry::Entry;
 use std::alloc::{AllocError, Global};
@@ -56,6 +57,25 @@ pub fn first_clash_in(
     }
     let first = &batch[clear];
     Ok((first.site, first.seq))
+}
+
+/// How many stamps two lists begin with alike.
+pub fn tied_front(held: &[Entry], joined: &[Entry]) -> usize
+    ensures { result ≡ tied_front held.now joined.now }
+{
+    let both = held.len().min(joined.len());
+    for i in 0..both {
+        if !is_tied(&held[i], &joined[i]) {
+            return i;
+        }
+    }
+    both
+}
+
+fn is_tied(entry: &Entry, other: &Entry) -> bool
+    ensures { result ≡ tie entry.now other.now }
+{
+    entry.clock == other.clock && entry.site == other.site
 }
 
 fn push_copies(to: &mut Vec<Entry>, entries: &[Entry]) -> Result<(), AllocError>

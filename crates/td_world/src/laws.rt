@@ -1,6 +1,6 @@
 //! The laws of worlds.
 
-ghost use Rattle.td_world.specs.Laws.{IssuedIsHeld, SentIsHeld, WorldHasNoClash};
+ghost use Rattle.td_world.specs.Laws.{CallsAreEvents, IssuedIsHeld, NoCallClashes, SentIsHeld, WorldHasNoClash};
 
 use td_stamps::laws::next_comes_last;
 
@@ -21,4 +21,10 @@ pub fn sent_is_held()
 /// Where no site comes back with a part of what it held, each issued entry is held by the site that issued it.
 pub fn issued_is_held()
     ensures { IssuedIsHeld }
+{}
+
+/// Calls on many sites, as their contracts tell them, are events of a world; so no batch of what was sent is refused for a clash.
+pub fn calls_are_events()
+    ensures events { CallsAreEvents }
+    ensures clash { NoCallClashes }
 {}

@@ -42,14 +42,18 @@ impl<D: Write> Sink for Device<D, Single> {
 
     ghost faults = { λ d. d.failures };
 
+    ghost is_flushed = { λ d. d.is_flushed };
+
     fn write_some(&mut self, bytes: &[u8]) -> Result<usize, Failed> {
         let told = write_on(&mut self.inner, bytes);
+        self.is_flushed = false;
         self.failures = count_after(self.failures, &told);
         told
     }
 
     fn flush(&mut self) -> Result<(), Failed> {
         let told = flush_on(&mut self.inner);
+        self.is_flushed = told.is_ok();
         self.failures = count_after(self.failures, &told);
         told
     }
@@ -76,14 +80,18 @@ impl<L: Link> Sink for Device<L, Both> {
 
     ghost faults = { λ d. d.failures };
 
+    ghost is_flushed = { λ d. d.is_flushed };
+
     fn write_some(&mut self, bytes: &[u8]) -> Result<usize, Failed> {
         let told = write_side_on(&mut self.inner, bytes);
+        self.is_flushed = false;
         self.failures = count_after(self.failures, &told);
         told
     }
 
     fn flush(&mut self) -> Result<(), Failed> {
         let told = flush_side_on(&mut self.inner);
+        self.is_flushed = told.is_ok();
         self.failures = count_after(self.failures, &told);
         told
     }

@@ -2,7 +2,7 @@ use Rattle.std.proofs.Common.{◌≡◌, ◌-◌, ◌+◌, [], ◌∷◌, ◌++�
 use Rattle.std.proofs.KnownBytes.{Consumes-trans, Keeps-trans}
 use Rattle.std.proofs.Common.{Option}
 use Rattle.td_stamps.specs.declared.entry.Entry.{Entry}
-use Rattle.td_frames.specs.Reading.{Miss, bad, frame_at, entries_at, with_frame, last_frame}
+use Rattle.td_frames.specs.Reading.{Miss, end_at, frame_at, entries_at, with_frame, last_frame}
 use Rattle.td_frames.proofs.Loops.{goes_on, stops, closes, told_entries}
 use Rattle.td_frames.proofs.entries.read_entries.Goals as goal
 
@@ -42,24 +42,17 @@ loop-preserved g c =
       count = told.1 ∙ c.loop.invariant.count;
     }
 
-pub returns-in-Err-read_frame-clause-told : goal.returns-in-Err-read_frame-clause-told
-returns-in-Err-read_frame-clause-told g c =
+pub returns-in-Err-read_end-clause-told : goal.returns-in-Err-read_end-clause-told
+returns-in-Err-read_end-clause-told g c =
     let (done, taken, so_far) = c.loop.invariant.told in
-    let (bytes, more, told) = c.in-Err-read_frame.ensures.told in
+    let (bytes, more, told) = c.in-Err-read_end.ensures.told in
     let front = c.loop.entries.items in
-    let same = λ (m : Miss) (e : frame_at bytes ≡ Err m). closes c.args.most c.loop.counter front done bytes (Err m) c.loop-test.false (ap last_frame e) so_far in
-    (done ++ bytes, Consumes-trans _ _ _ _ _ taken more, rw (← c.loop.invariant.count) (told_entries c.in-Err-read_frame.e front (frame_at bytes) (entries_at c.args.most (done ++ bytes)) _ _ _ same told))
+    let i = c.loop.counter in
+    let same = λ (m : Miss) (e : end_at bytes ≡ Err m). closes c.args.most c.loop.counter front done bytes (Err m) c.loop-test.false (ap last_frame e) so_far in
+    (done ++ bytes, Consumes-trans _ _ _ _ _ taken more, rw (← c.loop.invariant.count) (told_entries c.in-Err-read_end.e front (end_at bytes) (entries_at c.args.most (done ++ bytes)) _ _ _ same told))
 
-pub returns-in-Ok-None-read_frame-clause-told : goal.returns-in-Ok-None-read_frame-clause-told
-returns-in-Ok-None-read_frame-clause-told g c =
+pub returns-in-Ok-read_end-clause-told : goal.returns-in-Ok-read_end-clause-told
+returns-in-Ok-read_end-clause-told g c =
     let (done, taken, so_far) = c.loop.invariant.told in
-    let (bytes, more, told) = c.in-Ok-None-read_frame.ensures.told in
-    let read : frame_at bytes ≡ Ok (None, []) = told.0 ∙ ap (λ (o : Option Entry). Ok (o, [])) c.in-Ok-None-read_frame.field-0-is in
-    (done ++ bytes, Consumes-trans _ _ _ _ _ taken more, (closes c.args.most c.loop.counter c.loop.entries.items done bytes (Ok []) c.loop-test.false (ap last_frame read) so_far, told.1 ∙ c.loop.invariant.count))
-
-pub returns-clause-told : goal.returns-clause-told
-returns-clause-told g c =
-    let (done, taken, so_far) = c.loop.invariant.told in
-    let (bytes, more, told) = c.in-Ok-Some-read_frame.ensures.told in
-    let read : frame_at bytes ≡ Ok (Some c.in-Ok-Some-read_frame.field-0-0, []) = told.0 ∙ ap (λ (o : Option Entry). Ok (o, [])) c.in-Ok-Some-read_frame.field-0-is in
-    (done ++ bytes, Consumes-trans _ _ _ _ _ taken more, (closes c.args.most c.loop.counter c.loop.entries.items done bytes (Err bad) c.loop-test.false (ap last_frame read) so_far, told.1 ∙ c.loop.invariant.count))
+    let (bytes, more, told) = c.in-Ok-read_end.ensures.told in
+    (done ++ bytes, Consumes-trans _ _ _ _ _ taken more, (closes c.args.most c.loop.counter c.loop.entries.items done bytes (Ok []) c.loop-test.false (ap last_frame told.0) so_far, told.1 ∙ c.loop.invariant.count))

@@ -1,5 +1,5 @@
 use Rattle.std.proofs.Common.{◌∙◌, ℕ, List, Ok, Err, subst}
-use Rattle.td_meeting.specs.Carried.{ReceivesIn}
+use Rattle.td_meeting.specs.ForProofs.Carried.{ReceivesIn}
 use Rattle.td_meeting.proofs.Exchanged.{meets_stopped, meets_whole, meets_halted, settles}
 use Rattle.td_meeting.proofs.meeting.exchange.Goals as goal
 

@@ -11,7 +11,7 @@ returns-in-Err-receive g c =
     let end = c.receive.new.source in
     let C = g.met.C.Channel in
     let live : s.live ≡ true = search rules in
-    unsettled s _ (g.C.Source.left heard) _ _ _ _ (g.C.Source.failures heard) _ c.in-Ok.greeting c.in-Err-receive.error _ live c.in-Ok.ensures.heard.0 c.in-Ok.ensures.heard.1
+    unsettled s _ (g.C.Source.left heard) _ _ _ _ (g.C.Source.failures heard) _ _ _ c.in-Ok.greeting c.in-Err-receive.error _ live c.in-Ok.ensures.heard.0 c.in-Ok.ensures.heard.1
     (keeps_as _ _ _ _ (C.same_held c.args.link.now) (C.same_held end) (Keeps-trans _ _ _ c.in-Ok.ensures.beside c.in-Err-receive.ensures.beside)) c.in-Err-receive.ensures.err
 
 pub returns-in-Ok-send : goal.returns-in-Ok-send
@@ -22,9 +22,9 @@ returns-in-Ok-send g c =
     let end = c.send.new.sink in
     let C = g.met.C.Channel in
     let live : s.live ≡ true = search rules in
-    settled s _ (g.C.Source.left heard) (g.C.Source.left took) _ _ (g.C.Sink.held took) _ _ (g.C.Source.failures heard) (g.C.Source.failures took) _ c.in-Ok.greeting c.in-Ok-receive.taken _ live c.in-Ok.ensures.heard.0 c.in-Ok.ensures.heard.1
+    settled s _ (g.C.Source.left heard) (g.C.Source.left took) _ _ (g.C.Sink.held took) _ _ (g.C.Source.failures heard) (g.C.Source.failures took) _ _ _ c.in-Ok.greeting c.in-Ok-receive.taken _ live c.in-Ok.ensures.heard.0 c.in-Ok.ensures.heard.1
     c.in-Ok-receive.ensures.ok (keeps_as _ _ _ _ (C.same_held c.args.link.now) (C.same_held took) (Keeps-trans _ _ _ c.in-Ok.ensures.beside c.in-Ok-receive.ensures.beside))
-    c.in-Ok-send.ensures.bytes c.in-Ok-send.ensures.has (sym (C.same_count end) ∙ c.in-Ok-send.ensures.count ∙ C.same_count took) (keeps_as _ _ _ _ (C.same_left took) (C.same_left end) c.in-Ok-send.ensures.aside)
+    c.in-Ok-send.ensures.bytes c.in-Ok-send.ensures.has (sym (C.same_count end) ∙ c.in-Ok-send.ensures.count ∙ C.same_count took) c.in-Ok-send.ensures.flushed (keeps_as _ _ _ _ (C.same_left took) (C.same_left end) c.in-Ok-send.ensures.aside)
 
 pub returns : goal.returns
 returns g c =
@@ -34,6 +34,6 @@ returns g c =
     let end = c.send.new.sink in
     let C = g.met.C.Channel in
     let live : s.live ≡ true = search rules in
-    settled_front s _ (g.C.Source.left heard) (g.C.Source.left took) _ _ (g.C.Sink.held took) _ _ (g.C.Source.failures heard) (g.C.Source.failures took) _ c.in-Ok.greeting c.in-Ok-receive.taken _ live c.in-Ok.ensures.heard.0 c.in-Ok.ensures.heard.1
+    settled_front s _ (g.C.Source.left heard) (g.C.Source.left took) _ _ (g.C.Sink.held took) _ _ (g.C.Source.failures heard) (g.C.Source.failures took) _ _ _ c.in-Ok.greeting c.in-Ok-receive.taken _ live c.in-Ok.ensures.heard.0 c.in-Ok.ensures.heard.1
     c.in-Ok-receive.ensures.ok (keeps_as _ _ _ _ (C.same_held c.args.link.now) (C.same_held took) (Keeps-trans _ _ _ c.in-Ok.ensures.beside c.in-Ok-receive.ensures.beside))
     c.in-Err-send.ensures.bytes (sym (C.same_count end) ∙ c.in-Err-send.ensures.count ∙ ap counted (C.same_count took)) (keeps_as _ _ _ _ (C.same_left took) (C.same_left end) c.in-Err-send.ensures.aside)

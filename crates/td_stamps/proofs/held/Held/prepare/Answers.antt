@@ -4,7 +4,9 @@ use Rattle.std.proofs.lemmas.Option.{MatchOption-at_some}
 use Rattle.td_stamps.specs.declared.entry.Entry.{Entry}
 use Rattle.td_stamps.specs.Entries.{in_range}
 use Rattle.td_stamps.specs.Sets.{Holding}
-use Rattle.td_stamps.specs.Checks.{Joins}
+use Rattle.td_stamps.specs.ForProofs.{Joins}
+use Rattle.td_stamps.specs.Checks.{shared_front}
+use Rattle.td_stamps.proofs.Fronts.{joined_front}
 use Rattle.td_stamps.proofs.SetLemmas.{check_full, check_fresh}
 use Rattle.td_stamps.proofs.held.Held.prepare.Goals as goal
 
@@ -35,7 +37,8 @@ returns-clause-answer c =
     let fresh = check_fresh held c.self.inside.limit batch joined c.self.invariant.0 ranges so (omega (arith, c.in-Some.entries.ok.0)) in
     let held_len : length c.self.inside.entries.items ≡ length c.args.self.now.entries = ap (λ (h : Holding). length h.entries) c.self.view_is in
     let count : length joined - length held ≡ c.len-2.result - c.len-3.result = omega (arith, c.in-Some.entries.ok.0) in
-    rw (← c.self.view_is) (fresh ∙ ap Ok count, so.is)
+    let front : c.tied_front-front.result ≡ shared_front held joined = rw (c.deref-2.ensures.value, c.deref-3.ensures.value) at c.tied_front-front.ensures ∙ joined_front held batch joined c.self.invariant.0 so in
+    rw (← c.self.view_is) (fresh ∙ ap Ok count, so.is, front)
 
 pub returns-clause-few : goal.returns-clause-few
 returns-clause-few c =

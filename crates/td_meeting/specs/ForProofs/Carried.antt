@@ -1,28 +1,19 @@
--- What private functions tell of bytes in memory, which a site wrote and the other one reads.
+-- What is told of bytes in memory, which a site wrote and the other one reads.
 use Rattle.std.specs.Prelude.{◌≡◌, ◌≢◌, ◌⊎◌, ℕ, List, [], ◌++◌, Result, Ok, Err}
 use Rattle.td_stamps.specs.Vectors.{VersionVector, IsVector}
 use Rattle.td_stamps.specs.declared.entry.Entry.{Entry}
 use Rattle.td_frames.specs.Reading.{entries_at, greeting_at}
 use Rattle.td_frames.specs.declared.greeting.Greeting.{Greeting}
 use Rattle.td_story.specs.Calls.{TakesBatch}
-use Rattle.td_story.specs.Seen.{Seen, IsSound}
+use Rattle.td_story.specs.Seen.{Seen}
 use Rattle.td_story.specs.declared.answer.Taken.{Taken}
 use Rattle.td_meeting.specs.declared.error.MeetingError.{MeetingError}
-use Rattle.td_meeting.specs.declared.error.MeetingError.TheVariants.{Broken, OutOfMemory, OtherScript, SameSite, Take}
+use Rattle.td_meeting.specs.declared.error.MeetingError.TheVariants.{OutOfMemory, OtherScript, SameSite, Take}
 use Rattle.td_meeting.specs.declared.meeting.MeetingRefusal.{MeetingRefusal}
-use Rattle.td_meeting.specs.Meetings.{AreOpen, AreTwo, IsOneClosed}
 use Rattle.td_meeting.specs.Reading.{most_entries}
 use Rattle.td_meeting.specs.Writing.{Greets, sends}
 use Rattle.td_meeting.specs.Steps.{AreSent}
-use Rattle.td_meeting.specs.ForProofs.{Untaken}
-
--- two sites may meet, or why not
-abbrev pub Judges : Seen → Seen → Result (Unit {0}) MeetingError → Type 0
-Judges s t (Ok x) = AreOpen s t × AreTwo s t × IsSound s × IsSound t
-Judges s t (Err Broken) = IsOneClosed s t
-Judges s t (Err OtherScript) = AreOpen s t × (s.script ≢ t.script)
-Judges s t (Err SameSite) = AreOpen s t × (s.script ≡ t.script) × (s.site ≡ t.site)
-Judges s t (Err e) = ⊥
+use Rattle.td_meeting.specs.ForProofs.Parts.{Untaken}
 
 -- ---- a greeting that is there whole
 
