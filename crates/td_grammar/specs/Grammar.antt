@@ -2,11 +2,10 @@
 -- tokens, the tokens from there on, to a later place. A clause is one form: its tokens, and its parts one behind the
 -- other. Where two spellings have one tree, each has a clause. Beside a form stands how it is written: words as they
 -- are, other tokens in quotes, `x, ..` for one or more x with commas between, [x] for x or nothing.
-use Rattle.std.specs.Prelude.{◌≡◌, ◌≤◌, ℕ, pos, length, Bool, true, false, List, [], ◌∷◌, Option, Some, None, if◌then◌else◌}
+use Rattle.std.specs.Prelude.{◌≡◌, ◌≤◌, ℕ, pos, length, map, Bool, true, false, List, [], ◌∷◌, Option, Some, None, if◌then◌else◌}
 use Rattle.td_tokens.specs.declared.token.Word.{Word}
 use Rattle.td_tokens.specs.declared.token.Word.TheVariants as w
-use Rattle.td_tokens.specs.Lex.{Text, Lexeme, word, name, int, text}
-use Rattle.td_tokens.specs.Lexer.{lexemes}
+use Rattle.td_tokens.specs.Lex.{Text, Lexeme, word, name, int, text, Spanned, IsReading}
 use Rattle.td_grammar.specs.declared.forms.Form.{Form}
 use Rattle.td_grammar.specs.declared.forms.Form.TheVariants as f
 use Rattle.td_grammar.specs.declared.forms.Naming.{Naming}
@@ -323,9 +322,13 @@ pub record IsExpr (ts : Tokens) (a : Expr) : Type 0 where
   pub reads : Reads f.Expr ts a []
   pub shallow : levels a ≤ most_levels
 
+-- tokens without their places in the text
+abbrev pub without_places : List Spanned → Tokens
+without_places spans = map (λ (t : Spanned). t.lexeme) spans
+
 -- the text is this expression, and not too long
 pub record IsQuery (bytes : Text) (a : Expr) : Type 0 where
-  pub tokens : Tokens
-  pub lexed : lexemes bytes ≡ Some tokens
-  pub tree : IsExpr tokens a
+  pub spans : List Spanned
+  pub lexed : IsReading bytes spans
+  pub tree : IsExpr (without_places spans) a
   pub short : length bytes ≤ query_bytes

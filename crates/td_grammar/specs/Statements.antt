@@ -2,8 +2,7 @@
 use Rattle.std.specs.Prelude.{◌≡◌, ◌≤◌, ℕ, max, length, List, [], ◌∷◌, Option, Some, None}
 use Rattle.td_tokens.specs.declared.token.Word.{Word}
 use Rattle.td_tokens.specs.declared.token.Word.TheVariants as w
-use Rattle.td_tokens.specs.Lex.{Text, word, name}
-use Rattle.td_tokens.specs.Lexer.{lexemes}
+use Rattle.td_tokens.specs.Lex.{Text, word, name, Spanned, IsReading}
 use Rattle.td_grammar.specs.declared.forms.Form.TheVariants as f
 use Rattle.td_grammar.specs.declared.forms.Naming.TheVariants as naming
 use Rattle.td_syntax.specs.declared.tree.TypeExpr.{TypeExpr}
@@ -19,7 +18,7 @@ use Rattle.td_syntax.specs.declared.script.Opening.TheVariants as opening
 use Rattle.td_syntax.specs.declared.script.Definition.{Definition}
 use Rattle.td_syntax.specs.declared.script.Definition.TheVariants as definition
 use Rattle.td_syntax.specs.Levels.{levels, named_levels}
-use Rattle.td_grammar.specs.Grammar.{Tokens, Reads, ReadsNamedList, ReadsAttributes, ReadsHeading, ReadsFields, IsList, most_levels}
+use Rattle.td_grammar.specs.Grammar.{Tokens, Reads, ReadsNamedList, ReadsAttributes, ReadsHeading, ReadsFields, IsList, most_levels, without_places}
 
 -- ---- statements
 
@@ -138,16 +137,16 @@ script_bytes = 65536
 
 -- the text is this statement: not too long, and none of its expressions too deep
 pub record IsStatement (bytes : Text) (s : Statement) : Type 0 where
-  pub tokens : Tokens
-  pub lexed : lexemes bytes ≡ Some tokens
-  pub reads : ReadsStatement tokens s
+  pub spans : List Spanned
+  pub lexed : IsReading bytes spans
+  pub reads : ReadsStatement (without_places spans) s
   pub shallow : statement_levels s ≤ most_levels
   pub short : length bytes ≤ statement_bytes
 
 -- the text is this script, likewise
 pub record IsScript (bytes : Text) (ds : List Definition) : Type 0 where
-  pub tokens : Tokens
-  pub lexed : lexemes bytes ≡ Some tokens
-  pub reads : ReadsScript tokens ds
+  pub spans : List Spanned
+  pub lexed : IsReading bytes spans
+  pub reads : ReadsScript (without_places spans) ds
   pub shallow : definitions_levels ds ≤ most_levels
   pub short : length bytes ≤ script_bytes
