@@ -105,13 +105,13 @@ postfix (word w.Unwrap ∷ ts) = 5
 postfix (word w.OpenBrace ∷ ts) = if target_at ts then 0 else 9
 postfix _ = 0
 
-abbrev pub number_of : Option Infix → ℕ → ℕ
-number_of None n = n
-number_of (Some p) n = p.0
+abbrev pub form_number : Option Infix → ℕ → ℕ
+form_number None n = n
+form_number (Some p) n = p.0
 
 -- the number of the form that goes on at a place, or 0
 unfoldable pub binds : Tokens → ℕ
-binds ts = number_of (infix_at ts) (postfix ts)
+binds ts = form_number (infix_at ts) (postfix ts)
 
 abbrev pub aggregate_word : Aggregate → Word
 aggregate_word aggregate.Sum = w.Sum

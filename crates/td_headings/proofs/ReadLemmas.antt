@@ -15,7 +15,7 @@ use Rattle.td_trees.specs.declared.expression.BaseUnder.{BaseUnder}
 use Rattle.td_trees.specs.declared.expression.Expression.{Expression}
 use Rattle.td_headings.specs.Catalogues.{CatalogueData}
 use Rattle.td_headings.specs.Expressions.{IsExpression, base_of, base_at, reads}
-use Rattle.td_headings.specs.Reached.{AreThose, IsReached, Reads, is_base}
+use Rattle.td_headings.specs.Reached.{AreThose, IsReached, ReadsRelvar, is_base}
 use Rattle.td_headings.specs.WellTyped.{AllTyped}
 use Rattle.td_headings.specs.declared.defined.Origin.{Origin}
 use Rattle.td_headings.specs.declared.defined.Origin.TheVariants as origin
@@ -73,7 +73,7 @@ module _ (c : CatalogueData) (w : AllTyped c) where
   places_are [] = refl
   places_are (n ∷ ns) = one n (filter_map (base_at c) ns) (filter stored ns) (places_are ns) (slice_get c.origins n) (slice_get c.schema.relvars n) refl refl
 
-  pub reads_those : (h : Header) (e : Expr) (x : Expression) → IsExpression c h e x → AreThose (Reads c.origins x.tree) (reads x)
+  pub reads_those : (h : Header) (e : Expr) (x : Expression) → IsExpression c h e x → AreThose (ReadsRelvar c.origins x.tree) (reads x)
   reads_those h e x is =
       let u = is.under in
       let same : reads x ≡ filter stored u.relvars = ap (map place_of) u.bases ∙ places_are u.relvars in

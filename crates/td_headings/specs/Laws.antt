@@ -7,7 +7,7 @@ use Rattle.td_trees.specs.declared.expression.Expression.{Expression}
 use Rattle.td_headings.specs.Catalogues.{CatalogueData}
 use Rattle.td_headings.specs.Definitions.{Defined, Defines}
 use Rattle.td_headings.specs.Expressions.{IsExpression, reads}
-use Rattle.td_headings.specs.Reached.{AreThose, Reads}
+use Rattle.td_headings.specs.Reached.{AreThose, ReadsRelvar}
 use Rattle.td_headings.specs.WellTyped.{AllTyped}
 use Rattle.td_headings.specs.ForProofs.After.{after}
 
@@ -21,4 +21,4 @@ DefinedIsTyped = (c : CatalogueData) → Defined c → AllTyped c
 
 -- what an expression reads is the base relvars that it names, virtual ones expanded, each once, in order of definition
 abbrev pub ReadsAreReached : Type 0
-ReadsAreReached = (c : CatalogueData) (h : Header) (e : Expr) (x : Expression) → Defined c → IsExpression c h e x → AreThose (Reads c.origins x.tree) (reads x)
+ReadsAreReached = (c : CatalogueData) (h : Header) (e : Expr) (x : Expression) → Defined c → IsExpression c h e x → AreThose (ReadsRelvar c.origins x.tree) (reads x)

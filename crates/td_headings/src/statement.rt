@@ -8,7 +8,7 @@ ghost use Rattle.td_values.specs.declared.TypeKind.TheVariants as type_kind;
 ghost use Rattle.td_headings.specs.ForProofs.Sources as sources;
 ghost use Rattle.td_headings.specs.Reached.{AreThose};
 ghost use Rattle.td_headings.specs.Statements as spec;
-ghost use Rattle.td_headings.specs.Statements.{AreAssignments, IsAssignment, IsRefused, IsStatement, IsTarget};
+ghost use Rattle.td_headings.specs.Statements.{AreAssignments, IsAssignment, TypesNoStatement, TypesStatement, IsTarget};
 ghost use Rattle.td_headings.specs.declared.statement.TypedAssignment as typed;
 
 use crate::catalogue::Catalogue;
@@ -153,8 +153,8 @@ pub fn type_statement(
     catalogue: &Catalogue,
     statement: &Statement,
 ) -> Result<TypedStatement, TypeError>
-    ensures typed { IfOk result (IsStatement catalogue.now statement.now) }
-    ensures refused { result ≡ Err type_error.IllTyped → IsRefused catalogue.now statement.now }
+    ensures typed { IfOk result (TypesStatement catalogue.now statement.now) }
+    ensures refused { result ≡ Err type_error.IllTyped → TypesNoStatement catalogue.now statement.now }
 {
     match assignments(alloc, catalogue, actions_of(statement)) {
         Ok(assignments) => Ok(TypedStatement::Assignment(assignments)),

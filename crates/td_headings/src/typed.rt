@@ -1,12 +1,12 @@
 //! Typed expressions.
 
 ghost use Rattle.std.specs.Prelude.{◌≡◌, Err, IfOk, MatchOption, None, Some, slice_get};
-ghost use Rattle.td_kinds.specs.Scopes.{relvars_of, within};
+ghost use Rattle.td_kinds.specs.Scopes.{relvars_of, within_tuple};
 ghost use Rattle.td_kinds.specs.declared.error.TypeError.TheVariants as type_error;
 ghost use Rattle.td_typing.specs.Types.{IsIllTyped};
 ghost use Rattle.td_headings.specs.Definitions.{names_of_relvars};
 ghost use Rattle.td_headings.specs.Expressions as spec;
-ghost use Rattle.td_headings.specs.Expressions.{IsExpression, IsTree, IsTyped, IsWhole, no_tuple};
+ghost use Rattle.td_headings.specs.Expressions.{IsExpression, IsTree, IsTyped, IsClosedExpression, no_tuple};
 
 use crate::catalogue::Catalogue;
 use crate::defined::{Origin, Test};
@@ -89,7 +89,7 @@ pub(crate) fn whole(
     kind: TypeKind,
 ) -> Result<TypedExpr, AllocError>
     requires { IsTree catalogue.now no_tuple tree kind }
-    ensures { IfOk result (IsWhole catalogue.now tree kind) }
+    ensures { IfOk result (IsClosedExpression catalogue.now tree kind) }
 {
     typed_expr(alloc, catalogue, Heading::new(alloc)?, tree, kind)
 }
@@ -103,7 +103,7 @@ pub fn type_within(
     expr: &Expr,
 ) -> Result<TypedExpr, TypeError>
     ensures typed { IfOk result (IsExpression catalogue.now attributes expr.now) }
-    ensures refused { result ≡ Err type_error.IllTyped → IsIllTyped catalogue.now.schema (within attributes (relvars_of catalogue.now.schema)) expr.now }
+    ensures refused { result ≡ Err type_error.IllTyped → IsIllTyped catalogue.now.schema (within_tuple attributes (relvars_of catalogue.now.schema)) expr.now }
 {
     let schema = catalogue.schema();
     let Typing { tree, kind } = type_in(

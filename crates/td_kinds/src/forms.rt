@@ -19,7 +19,7 @@ use td_values::{Heading, Name, TypeKind};
 
 /// The heading of a relation or of a tuple.
 pub fn heading_of(kind: &TypeKind) -> Option<&Heading>
-    ensures { option_copied result ≡ spec.heading_of kind.now }
+    ensures { option_copied result ≡ spec.kind_heading kind.now }
 {
     match kind {
         TypeKind::Tuple(heading) => Some(heading),
@@ -30,7 +30,7 @@ pub fn heading_of(kind: &TypeKind) -> Option<&Heading>
 
 /// The part of a relation or of a tuple at these names; another kind as it is.
 pub fn part_at(alloc: Global, names: &[Name], kind: &TypeKind) -> Result<TypeKind, AllocError>
-    ensures { IfOk result (λ k. k ≡ spec.part_at names.now kind.now) }
+    ensures { IfOk result (λ k. k ≡ spec.part_kind names.now kind.now) }
 {
     match kind {
         TypeKind::Tuple(heading) => Ok(TypeKind::Tuple(columns_in(alloc, names, heading)?)),

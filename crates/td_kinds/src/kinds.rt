@@ -124,7 +124,7 @@ fn may_stand_beside(heading: &Heading, field: &(Name, TdType)) -> bool
 
 /// Whether common attributes have one type.
 pub fn agree(first: &Heading, second: &Heading) -> bool
-    ensures { result ≡ spec.agree first.now second.now }
+    ensures { result ≡ spec.agree_on_types first.now second.now }
 {
     second
         .fields()

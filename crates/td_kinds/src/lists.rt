@@ -116,7 +116,7 @@ pub fn attributes_of(
 
 /// The renamings, each an old name with its new one.
 pub fn pairs_of(alloc: Global, renamings: &[Renaming]) -> Result<Items<(Name, Name)>, AllocError>
-    ensures { IfOk result (λ v. v ≡ map spec.pair_of renamings.now) }
+    ensures { IfOk result (λ v. v ≡ map spec.renaming_pair renamings.now) }
 {
     let mut pairs = Items::new(alloc);
     for renaming in renamings {

@@ -26,7 +26,7 @@ fn where_true(test: bool, kind: TypeKind) -> Result<TypeKind, TypeError>
 }
 
 fn is_pair(fields: &[(Name, TdType)]) -> bool
-    ensures { result ≡ spec.is_pair fields.now }
+    ensures { result ≡ spec.are_of_one_type fields.now }
 {
     match fields {
         [first, second] => same_type(&first.1, &second.1),

@@ -103,7 +103,7 @@ fn add_possrep(
 impl Schema {
     /// One in which nothing is defined.
     pub fn new(alloc: Global) -> Schema
-        ensures { result ≡ spec.nothing_defined }
+        ensures { result ≡ spec.empty_schema }
     {
         Schema {
             types: IndexSet::new(alloc),

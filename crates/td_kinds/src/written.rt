@@ -17,7 +17,7 @@ use td_values::{Heading, Name, TdType, TypeKind};
 
 /// The heading of these fields. Of two of one name the first counts.
 pub fn columns(alloc: Global, fields: &[Named<TypeKind>]) -> Result<Heading, AllocError>
-    ensures { IfOk result (λ h. h ≡ spec.columns fields.now) }
+    ensures { IfOk result (λ h. h ≡ spec.kind_columns fields.now) }
 {
     let mut heading = Heading::new(alloc)?;
     for field in fields {

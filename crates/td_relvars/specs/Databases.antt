@@ -12,7 +12,7 @@ use Rattle.td_headings.specs.Catalogues.{CatalogueData, catalogue_code}
 use Rattle.td_headings.specs.Definitions.{Defined}
 use Rattle.td_headings.specs.Reached.{is_base}
 use Rattle.td_meaning.specs.Mean.{Relvars}
-use Rattle.td_soundness.specs.Meanings.{IsRelation}
+use Rattle.td_soundness.specs.Meanings.{IsRelationOver}
 use Rattle.td_constraints.specs.Stored.{AreStored}
 
 -- for each relvar, in order of definition, its relation; for a virtual one nothing is stored
@@ -58,7 +58,7 @@ pub record Belongs (c : CatalogueData) (n : ℕ) (r : RowsData) : Type 0 where
   pub relvar : Named Header
   pub stored : is_base (slice_get c.origins n) ≡ true
   pub there : slice_get c.schema.relvars n ≡ Some relvar
-  pub relation : IsRelation c.schema relvar.value r
+  pub relation : IsRelationOver c.schema relvar.value r
 
 -- definitions made the catalogue, and each base relvar has a relation of its heading
 pub record IsDatabase (d : DatabaseData) : Type 0 where
