@@ -6,11 +6,10 @@ use std::test::Fail;
 use td_grammar::{read_expr, read_script, read_statement};
 use td_headings::{
     Catalogue, TypedExpr, constraint_expr, init_expr, reads, targets, type_expr, type_statement,
-    type_within,
 };
 use td_kinds::TypeError;
 use td_syntax::script::Definition;
-use td_values::{Heading, TdType, show_type};
+use td_values::{TdType, show_type};
 
 type Result<T> = std::result::Result<T, Fail>;
 
@@ -319,7 +318,10 @@ fn statements(rt: HostRuntime) -> Result<()> {
             ("UPDATE S WHERE STATUS = 1 ( X := 1 );", ILL),
             ("UPDATE S WHERE STATUS = 1 ( STATUS := 'x' );", ILL),
             // also where only the types inside a relation differ
-            ("UPDATE BOX ( CONTENTS := RELATION { A INTEGER } { } );", "4 "),
+            (
+                "UPDATE BOX ( CONTENTS := RELATION { A INTEGER } { } );",
+                "4 ",
+            ),
             ("UPDATE BOX ( CONTENTS := RELATION { A CHAR } { } );", ILL),
             (
                 "UPDATE BOX WHERE K = 'x' ( CONTENTS := RELATION { A CHAR } { } );",
@@ -405,7 +407,7 @@ fn type_shown(alloc: Global, expr: &TypedExpr) -> Result<String> {
 
 fn shown_over(alloc: Global, catalogue: &Catalogue, text: &str) -> Result<String> {
     let expr = read_expr(alloc, text)?;
-    let typed = type_within(alloc, catalogue, Heading::new(alloc)?, expr.get())?;
+    let typed = type_expr(alloc, catalogue, expr.get())?;
     type_shown(alloc, &typed)
 }
 

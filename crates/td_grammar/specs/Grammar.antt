@@ -376,7 +376,7 @@ mutual
         → ReadsPostfix a (word (unnest_word g) ∷ name x ∷ r) (e.Unnest g a x) r
     unnest_brackets : {a : Expr} {g : Nesting} {x : Text} {r : Tokens}
         → ReadsPostfix a
-            (word (unnest_word g) ∷ word w.OpenParenthesis ∷ name x ∷ word w.CloseParenthesis ∷ r) (e.Unnest g a x) r
+        (word (unnest_word g) ∷ word w.OpenParenthesis ∷ name x ∷ word w.CloseParenthesis ∷ r) (e.Unnest g a x) r
 
   -- expression, ..
   pub data ReadsList : Tokens → List Expr → Tokens → Type 0 where

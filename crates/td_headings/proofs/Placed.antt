@@ -10,7 +10,8 @@ use Rattle.td_kinds.specs.Kinds.{Name}
 use Rattle.td_kinds.specs.Results.{Fails, where_some, where_true}
 use Rattle.std.specs.Result.{OnOk}
 use Rattle.td_kinds.specs.declared.schema.Representation.{Representation}
-use Rattle.td_kinds.specs.Schemas.{SchemaData, relvar_named, relvar_added, may_add, type_added}
+use Rattle.td_kinds.specs.Schemas.{SchemaData, relvar_named}
+use Rattle.td_kinds.specs.ForProofs.Additions.{relvar_added, may_add, type_added}
 use Rattle.td_trees.specs.declared.tree.Typed.{Typed}
 use Rattle.td_headings.specs.Catalogues.{CatalogueData}
 use Rattle.td_headings.specs.Definitions.{with_relvar, with_type, key_tests}

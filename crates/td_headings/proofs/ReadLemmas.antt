@@ -16,7 +16,7 @@ use Rattle.td_trees.specs.declared.expression.Expression.{Expression}
 use Rattle.td_headings.specs.Catalogues.{CatalogueData}
 use Rattle.td_headings.specs.Expressions.{IsExpression, base_of, base_at, reads}
 use Rattle.td_headings.specs.Reached.{AreThose, IsReached, ReadsRelvar, is_base}
-use Rattle.td_headings.specs.WellTyped.{AllTyped}
+use Rattle.td_headings.specs.ForProofs.WellTyped.{AllTyped}
 use Rattle.td_headings.specs.declared.defined.Origin.{Origin}
 use Rattle.td_headings.specs.declared.defined.Origin.TheVariants as origin
 

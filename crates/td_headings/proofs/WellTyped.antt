@@ -12,7 +12,7 @@ use Rattle.td_kinds.specs.declared.schema.Representation.{Representation}
 use Rattle.td_kinds.specs.Kinds.{Name}
 use Rattle.td_kinds.specs.Scopes.{nothing, within_tuple, relvars_of}
 use Rattle.td_kinds.specs.Written.{kind_columns}
-use Rattle.td_typing.specs.Growth.{IsEarlier}
+use Rattle.td_typing.specs.ForProofs.Growth.{IsEarlier}
 use Rattle.td_typing.specs.Types.{Types}
 use Rattle.td_typing.proofs.Staying.{stays, within_stays, relvars_stay}
 use Rattle.td_trees.specs.declared.tree.Typed.{Typed}
@@ -21,7 +21,7 @@ use Rattle.td_headings.specs.Definitions.{names_of_relvars, represented, with_ty
 use Rattle.td_headings.specs.Expressions.{IsTree, no_tuple, constraint_of, constraint_at, init_of, init_at}
 use Rattle.td_headings.specs.ForProofs.After.{after}
 use Rattle.td_headings.specs.ForProofs.Changes.{Changes}
-use Rattle.td_headings.specs.WellTyped.{HasHeading, IsLimit, AllTyped}
+use Rattle.td_headings.specs.ForProofs.WellTyped.{HasHeading, IsLimit, AllTyped}
 use Rattle.td_headings.specs.declared.defined.Origin.{Origin}
 use Rattle.td_headings.specs.declared.defined.Origin.TheVariants as origin
 use Rattle.td_headings.specs.declared.defined.Test.{Test}

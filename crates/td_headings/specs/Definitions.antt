@@ -16,7 +16,7 @@ use Rattle.td_syntax.specs.declared.script.Definition.{Definition}
 use Rattle.td_syntax.specs.declared.script.Definition.TheVariants as definition
 use Rattle.td_kinds.specs.Kinds.{Name}
 use Rattle.td_kinds.specs.Lists.{attributes_of}
-use Rattle.td_kinds.specs.Schemas.{SchemaData, relvar_named, possrep_named, type_named, same_text, begins_with_the}
+use Rattle.td_kinds.specs.Schemas.{relvar_named, possrep_named, type_named, same_text, begins_with_the, schema_with_relvar, schema_with_type}
 use Rattle.td_kinds.specs.Scopes.{Scope, nothing, relvars_of, within_tuple}
 use Rattle.td_kinds.specs.Written.{components_written, heading_written, kind_columns}
 use Rattle.td_kinds.specs.declared.schema.Representation.{Representation}
@@ -43,7 +43,7 @@ abbrev pub represented : Name → Name → List (Named TypeKind) → Representat
 represented ty name ks = record { possrep = record { ty = ty; name = name }; components = ks }
 
 abbrev pub with_type : CatalogueData → Representation → Option Typed → CatalogueData
-with_type c r u = record { schema = record { possreps = c.schema.possreps ++ r ∷ []; relvars = c.schema.relvars }; limits = c.limits ++ u ∷ []; origins = c.origins; tests = c.tests }
+with_type c r u = record { schema = schema_with_type c.schema r; limits = c.limits ++ u ∷ []; origins = c.origins; tests = c.tests }
 
 -- ---- relvars
 
@@ -59,7 +59,7 @@ pub data AreKeys (h : Header) : List Attributes → List (List Name) → Type 0 
   next_key : {a : Attributes} {ns : List Name} {as' : List Attributes} {ks : List (List Name)} → attributes_of a h ≡ Some ns → AreKeys h as' ks → AreKeys h (a ∷ as') (ns ∷ ks)
 
 abbrev pub with_relvar : CatalogueData → Name → Header → Origin → List Test → CatalogueData
-with_relvar c n h o ts = record { schema = record { possreps = c.schema.possreps; relvars = c.schema.relvars ++ record { name = n; value = h } ∷ [] }; limits = c.limits; origins = c.origins ++ o ∷ []; tests = c.tests ++ ts }
+with_relvar c n h o ts = record { schema = schema_with_relvar c.schema n h; limits = c.limits; origins = c.origins ++ o ∷ []; tests = c.tests ++ ts }
 
 -- the tests of the keys of the relvar that is defined next
 abbrev pub key_tests : CatalogueData → List (List Name) → List Test

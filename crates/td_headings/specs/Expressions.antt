@@ -1,7 +1,6 @@
 -- A typed expression with all that evaluating it wants.
 use Rattle.std.specs.Prelude.{◌≡◌, ℕ, List, map, Option, Some, None, slice_get}
 use Rattle.std.specs.FinMap as by_name
-use Rattle.std.specs.Coded.{Coded}
 use Rattle.std.specs.List.{filter_map}
 use Rattle.td_values.specs.Headings.{Header}
 use Rattle.td_values.specs.declared.TypeKind.{TypeKind}
@@ -21,15 +20,10 @@ use Rattle.td_headings.specs.declared.defined.Origin.{Origin}
 use Rattle.td_headings.specs.declared.defined.Origin.TheVariants as origin
 use Rattle.td_headings.specs.declared.defined.Test.{Test}
 use Rattle.td_headings.specs.declared.defined.Test.TheVariants as test
-use Rattle.td_trees.specs.contracts.expression.Expression.{the_row}
 use Rattle.td_trees.specs.declared.expression.BaseUnder.{BaseUnder}
 use Rattle.td_trees.specs.declared.expression.Expression.{Expression}
 use Rattle.td_trees.specs.declared.expression.VirtualUnder.{VirtualUnder}
 use Rattle.td_trees.specs.declared.expression.Selector.{Selector}
-
--- by which a proof tells expressions apart
-abbrev pub expression_code : Coded Expression
-expression_code = the_row.coded
 
 -- the base relvar at a place, with its heading
 abbrev pub base_of : ℕ → Option Origin → Option (Named Header) → Option BaseUnder

@@ -8,7 +8,7 @@ use Rattle.td_headings.specs.Catalogues.{CatalogueData}
 use Rattle.td_headings.specs.Definitions.{Defined, Defines}
 use Rattle.td_headings.specs.Expressions.{IsExpression, reads}
 use Rattle.td_headings.specs.Reached.{AreThose, ReadsRelvar}
-use Rattle.td_headings.specs.WellTyped.{AllTyped}
+use Rattle.td_headings.specs.ForProofs.WellTyped.{AllTyped}
 use Rattle.td_headings.specs.ForProofs.After.{after}
 
 -- what a definition makes of what is defined is what it defines, and nothing else

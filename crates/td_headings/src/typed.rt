@@ -31,7 +31,8 @@ pub struct TypedExpr {
 
 impl Model for TypedExpr {
     ghost use Rattle.td_trees.specs.declared.expression.Expression.{Expression};
-    ghost use Rattle.td_headings.specs.Expressions.{IsTyped, expression_code};
+    ghost use Rattle.td_headings.specs.Expressions.{IsTyped};
+    ghost use Rattle.td_headings.specs.ForProofs.Codes.{expression_code};
 
     ghost Value = { Expression };
 
@@ -94,9 +95,8 @@ pub(crate) fn whole(
     typed_expr(alloc, catalogue, Heading::new(alloc)?, tree, kind)
 }
 
-/// The expression within a tuple of these attributes, with all that evaluating it wants. It costs its size and that of the
-/// expressions of the virtual relvars under it.
-pub fn type_within(
+// The expression within a tuple of these attributes, with all that evaluating it wants.
+fn type_within(
     alloc: Global,
     catalogue: &Catalogue,
     attributes: Heading,
@@ -119,6 +119,7 @@ pub fn type_within(
 /// The expression, in which no tuple is in scope, with all that evaluating it wants. It costs as much.
 pub fn type_expr(alloc: Global, catalogue: &Catalogue, expr: &Expr) -> Result<TypedExpr, TypeError>
     ensures typed { IfOk result (IsExpression catalogue.now no_tuple expr.now) }
+    // Where no tuple is in scope the names are those of the relvars.
     ensures refused { result ≡ Err type_error.IllTyped → IsIllTyped catalogue.now.schema (names_of_relvars catalogue.now) expr.now }
 {
     type_within(alloc, catalogue, Heading::new(alloc)?, expr)

@@ -15,7 +15,8 @@ use Rattle.td_syntax.specs.declared.tree.Named.{Named}
 use Rattle.td_kinds.specs.declared.schema.Representation.{Representation}
 use Rattle.td_kinds.specs.Kinds.{Name}
 use Rattle.td_kinds.specs.Results.{where_true}
-use Rattle.td_kinds.specs.Schemas.{SchemaData, first_with_place, first_from, same_text, relvar_named, relvar_added, may_add, possrep_named, type_named, possrep_names, type_names, is_named}
+use Rattle.td_kinds.specs.Schemas.{SchemaData, first_with_place, first_from, same_text, relvar_named, possrep_named, type_named, is_named}
+use Rattle.td_kinds.specs.ForProofs.Additions.{relvar_added, may_add, possrep_names, type_names}
 
 module _ {A B : Type 0} (test : B → Bool) (g : A → B) where
   places : (n : ℕ) (xs : List A) → option_map (λ r. r.0) (first_from n (λ x. test (g x)) xs) ≡ position_from test n (map g xs)

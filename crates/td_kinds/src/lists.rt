@@ -43,7 +43,7 @@ pub fn names<T>(alloc: Global, parts: &[Named<T>]) -> Result<Vec<Name>, AllocErr
 }
 
 /// The names of the attributes, in name order.
-pub fn attribute_names(alloc: Global, heading: &Heading) -> Result<Items<Name>, AllocError>
+pub(crate) fn attribute_names(alloc: Global, heading: &Heading) -> Result<Items<Name>, AllocError>
     ensures { IfOk result (λ v. v ≡ names_of heading.now) }
 {
     let mut found = Items::new(alloc);
@@ -150,7 +150,7 @@ fn names_after(
 }
 
 /// Whether the old names are there and distinct, and the names that result are distinct.
-pub fn may_rename(
+pub(crate) fn may_rename(
     alloc: Global,
     items: &[(Name, Name)],
     heading: &Heading,

@@ -8,7 +8,8 @@ use Rattle.td_syntax.specs.declared.tree.Named.{Named}
 use Rattle.td_kinds.specs.Schemas.{relvar_named}
 use Rattle.td_algebra.specs.declared.errors.Stop.{Stop}
 use Rattle.td_algebra.specs.declared.errors.Stop.TheVariants.{Untyped}
-use Rattle.td_headings.specs.Catalogues.{CatalogueData, catalogue_code}
+use Rattle.td_headings.specs.Catalogues.{CatalogueData}
+use Rattle.td_headings.specs.ForProofs.Codes.{catalogue_code}
 use Rattle.td_headings.specs.Definitions.{Defined}
 use Rattle.td_headings.specs.Reached.{is_base}
 use Rattle.td_meaning.specs.Mean.{Relvars}

@@ -29,7 +29,7 @@ use Rattle.td_kinds.specs.Schemas.{SchemaData, first_with_place, first_from, is_
 use Rattle.td_kinds.specs.Scopes.{Scope, within_tuple, with_name, with_names, relvars_of, as_relvar, or_outer}
 use Rattle.td_kinds.specs.Written.{all_named, distinct_columns, heading_written, written, written_step}
 use Rattle.td_kinds.proofs.Writings.{of_tuple, of_relation}
-use Rattle.td_typing.specs.Growth.{IsEarlier, KeepsNames}
+use Rattle.td_typing.specs.ForProofs.Growth.{IsEarlier, KeepsNames}
 use Rattle.td_typing.specs.Trees.{named}
 use Rattle.td_typing.specs.Types as types
 use Rattle.td_typing.specs.Types.{Types, TypesEach, TypesItems, TypesInTurn, TypesGroups, TypesSummaries}

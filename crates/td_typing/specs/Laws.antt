@@ -6,7 +6,7 @@ use Rattle.td_kinds.specs.Schemas.{SchemaData}
 use Rattle.td_kinds.specs.Scopes.{Scope}
 use Rattle.td_trees.specs.declared.tree.Typed.{Typed}
 use Rattle.td_typing.specs.Trees.{typing}
-use Rattle.td_typing.specs.Growth.{IsEarlier, KeepsNames}
+use Rattle.td_typing.specs.ForProofs.Growth.{IsEarlier, KeepsNames}
 use Rattle.td_typing.specs.Types.{Types}
 use Rattle.td_typing.specs.ForProofs.Infer.{infer}
 

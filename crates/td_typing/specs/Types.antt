@@ -1,5 +1,5 @@
--- The typing: what is defined, the names in scope, an expression, its typed tree and its kind of type, one rule for each
--- form. Where no rule applies, the expression is ill typed.
+-- The typing: what is defined, the names in scope, an expression, its typed tree and its kind of type, one rule for
+-- each form. Where no rule applies, the expression is ill typed.
 use Rattle.std.specs.Prelude.{◌≡◌, ℕ, ℤ, Bool, true, false, drop, List, [], ◌∷◌, ◌++◌, map, Some, None}
 use Rattle.std.specs.FinMap as by_name
 use Rattle.std.specs.List.{All}
@@ -48,7 +48,7 @@ mutual
   pub data Types (cat : SchemaData) : Scope → Expr → Typed → TypeKind → Type 0 where
     -- literals
     integer : {s : Scope} {n : ℤ} → Types cat s (e.Integer n) (t.Integer n) kind.Integer
-    text : {s : Scope} {x : Name} → Types cat s (e.Text x) (t.Text x) kind.Char
+    text : {s : Scope} {x : List ℕ} → Types cat s (e.Text x) (t.Text x) kind.Char
     truth : {s : Scope} {b : Bool} → Types cat s (e.Truth b) (t.Truth b) kind.Boolean
     -- no attributes, and one tuple or none
     table_dee : {s : Scope}
@@ -167,8 +167,8 @@ mutual
         → Types cat (with_names ks s) b u k
         → Types cat s (e.With xs b) (t.With us u) k
 
-  -- the groups of a relation of the heading, and the heading of the groups: one group of all, with no attributes; one for
-  -- each tuple of a relation with some of the attributes; one for each value of some of the attributes
+  -- the groups of a relation of the heading, and the heading of the groups: one group of all, with no attributes; one
+  -- for each tuple of a relation with some of the attributes; one for each value of some of the attributes
   pub data TypesGroups (cat : SchemaData) : Scope → Header → Groups Expr → TypedGroups Typed → Header → Type 0 where
     whole : {s : Scope} {h : Header} → TypesGroups cat s h groups.Whole typed_groups.Whole by_name.empty
     per : {s : Scope} {h k : Header} {a : Expr} {u : Typed}

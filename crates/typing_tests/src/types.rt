@@ -1,7 +1,7 @@
 //! The rules of typing, each by texts that keep it and by near misses that break it alone.
 
 ghost use Rattle.std.specs.Prelude.{◌≡◌, OnOk, Some};
-ghost use Rattle.td_kinds.specs.Schemas.{type_added};
+ghost use Rattle.td_kinds.specs.ForProofs.Additions.{type_added};
 ghost use Rattle.td_kinds.specs.declared.schema.Representation.{Representation};
 
 use sqlite_items::Items;

@@ -15,7 +15,8 @@ use Rattle.td_kinds.specs.Kinds.{Name, is_boolean, relation_heading, same_headin
 use Rattle.td_kinds.specs.Lists.{attributes_of}
 use Rattle.td_kinds.specs.declared.schema.Representation.{Representation}
 use Rattle.td_kinds.specs.Results.{where_some, where_true}
-use Rattle.td_kinds.specs.Schemas.{SchemaData, may_add, relvar_named}
+use Rattle.td_kinds.specs.Schemas.{SchemaData, relvar_named}
+use Rattle.td_kinds.specs.ForProofs.Additions.{may_add}
 use Rattle.td_kinds.specs.Scopes.{nothing, relvars_of, within_tuple}
 use Rattle.td_kinds.specs.Written.{components_written, heading_written, kind_columns}
 use Rattle.td_trees.specs.declared.tree.Typed.{Typed}

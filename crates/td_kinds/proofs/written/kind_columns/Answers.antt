@@ -4,7 +4,7 @@ use Rattle.td_values.specs.View.{ty_of}
 use Rattle.td_tuples.proofs.Filters.{mapped_more}
 use Rattle.td_tuples.proofs.Steps.{added}
 use Rattle.td_kinds.specs.Written.{kind_column}
-use Rattle.td_kinds.proofs.written.columns.Goals as goal
+use Rattle.td_kinds.proofs.written.kind_columns.Goals as goal
 
 pub loop-field-preserved : goal.loop-field-preserved
 loop-field-preserved c =
