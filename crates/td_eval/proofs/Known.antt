@@ -26,7 +26,7 @@ use Rattle.td_algebra.specs.declared.errors.Stop.{Stop}
 use Rattle.td_algebra.specs.declared.errors.Stop.TheVariants.{Untyped}
 use Rattle.td_headings.specs.Catalogues.{CatalogueData}
 use Rattle.td_headings.specs.Definitions.{Defined}
-use Rattle.td_headings.specs.Expressions.{IsTyped, IsTree, IsExpression, HasAllUnder, virtual_of, virtual_at, places_of, reads}
+use Rattle.td_headings.specs.Expressions.{IsTyped, IsTree, HasAllUnder, virtual_of, virtual_at, places_of, reads}
 use Rattle.td_headings.specs.Reached.{IsReached, is_base, named_relvars, relvars_within, AreThose, ReadsRelvar}
 use Rattle.td_headings.specs.declared.defined.Origin.{Origin}
 use Rattle.td_headings.specs.declared.defined.Origin.TheVariants as origin
@@ -201,11 +201,8 @@ module _ (c : CatalogueData) (defined : Defined c) (x : Expression) (tree : IsTr
       (λ js q b. known_same ms (sorted_tail nat_cmp m ms sorted) (λ k p. part k (further m ms k p)) js q b n h)
       (slice_get c.origins m) refl
 
-  abbrev expression_of : IsExpression c x.attributes tree.expr x
-  expression_of = record { types = tree.types; attributes = refl; under = u }
-
   pub those : AreThose (ReadsRelvar c.origins x.tree) (reads x)
-  those = reads_those c (all_typed c defined) x.attributes tree.expr x expression_of
+  those = reads_those c (all_typed c defined) x u
 
   begins : (r : Relvars) → Agrees all_places (bases_known r x.bases) r
   begins r = record {

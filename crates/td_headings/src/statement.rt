@@ -146,8 +146,8 @@ fn actions_of(statement: &Statement) -> &[Action]
     }
 }
 
-/// The statement with its targets and sources. It costs its size and, for each source, that of the expressions of the virtual
-/// relvars under it.
+/// The statement with its targets and sources. It costs the typing of its sources, which may be exponential in their
+/// size where they compare types, and for each source the size of the expressions of the virtual relvars under it.
 pub fn type_statement(
     alloc: Global,
     catalogue: &Catalogue,

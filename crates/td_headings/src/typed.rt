@@ -116,7 +116,8 @@ fn type_within(
     Ok(typed_expr(alloc, catalogue, attributes, tree, kind)?)
 }
 
-/// The expression, in which no tuple is in scope, with all that evaluating it wants. It costs as much.
+/// The expression, in which no tuple is in scope, with all that evaluating it wants. It costs its typing, which may be
+/// exponential in its size where it compares types, and the size of the expressions of the virtual relvars under it.
 pub fn type_expr(alloc: Global, catalogue: &Catalogue, expr: &Expr) -> Result<TypedExpr, TypeError>
     ensures typed { IfOk result (IsExpression catalogue.now no_tuple expr.now) }
     // Where no tuple is in scope the names are those of the relvars.
