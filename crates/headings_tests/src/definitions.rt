@@ -6,11 +6,10 @@ use std::test::Fail;
 use td_grammar::{read_expr, read_script, read_statement};
 use td_headings::{
     Catalogue, TypedExpr, constraint_expr, init_expr, reads, targets, type_expr, type_statement,
-    type_within,
 };
 use td_kinds::TypeError;
 use td_syntax::script::Definition;
-use td_values::{Heading, TdType, show_type};
+use td_values::{TdType, show_type};
 
 type Result<T> = std::result::Result<T, Fail>;
 
@@ -24,6 +23,7 @@ CONSTRAINT C1 IS_EMPTY ( SP NOT MATCHING S );
 CONSTRAINT C2 IS_EMPTY ( LS WHERE STATUS < 10 );
 VAR MOST BASE RELATION { N INTEGER } KEY { };
 CONSTRAINT C3 IS_EMPTY ( MOST WHERE N < COUNT ( LS ) );
+VAR BOX BASE RELATION { K CHAR, CONTENTS RELATION { A INTEGER } } KEY { K };
 ";
 
 fn define_all(
@@ -141,7 +141,7 @@ fn definitions(rt: HostRuntime) -> Result<()> {
         Text::Script,
         &[
             ("", "0 0 0"),
-            (SUPPLIERS, "0 4 6"),
+            (SUPPLIERS, "0 5 7"),
             // a type is used behind its definition
             (
                 "TYPE T POSSREP { X INTEGER }; VAR R BASE RELATION { A T } KEY { A };",
@@ -170,6 +170,10 @@ fn definitions(rt: HostRuntime) -> Result<()> {
                 ILL,
             ),
             ("VAR R BASE RELATION { } KEY { }; VAR R VIRTUAL ( R );", ILL),
+            (
+                "VAR R BASE RELATION { } KEY { }; TYPE R POSSREP { };",
+                "1 1 1",
+            ),
             ("CONSTRAINT C TRUE; CONSTRAINT C TRUE;", ILL),
             ("CONSTRAINT C TRUE; CONSTRAINT D TRUE;", "0 0 2"),
             (
@@ -178,10 +182,12 @@ fn definitions(rt: HostRuntime) -> Result<()> {
             ),
             ("TYPE THE_T POSSREP { X INTEGER };", ILL),
             ("TYPE THE_T POSSREP T { X INTEGER };", "1 0 0"),
+            ("TYPE T POSSREP the_T { X INTEGER };", "1 0 0"),
             ("TYPE T POSSREP { X INTEGER, X CHAR };", ILL),
             // a possrep's CONSTRAINT
             ("TYPE T POSSREP { X INTEGER CONSTRAINT X > 0 };", "1 0 0"),
             ("TYPE T POSSREP { X INTEGER CONSTRAINT X };", ILL),
+            ("TYPE T POSSREP { CONSTRAINT 1 };", ILL),
             (
                 "TYPE T POSSREP { X INTEGER CONSTRAINT T ( X ) = T ( X ) };",
                 ILL,
@@ -211,12 +217,21 @@ fn relvars(rt: HostRuntime) -> Result<()> {
                 "0 1 1",
             ),
             ("VAR R BASE INIT ( 1 ) KEY { };", ILL),
+            ("VAR R BASE INIT ( TUPLE { } ) KEY { };", ILL),
             (
                 "VAR R BASE RELATION { A INTEGER } INIT ( RELATION { TUPLE { A 1 } } ) KEY { A };",
                 "0 1 1",
             ),
             (
                 "VAR R BASE RELATION { A CHAR } INIT ( RELATION { TUPLE { A 1 } } ) KEY { A };",
+                ILL,
+            ),
+            (
+                "VAR R BASE RELATION { A INTEGER } INIT ( RELATION { TUPLE { A 1, B 2 } } ) KEY { };",
+                ILL,
+            ),
+            (
+                "VAR R BASE RELATION { A INTEGER, B INTEGER } INIT ( RELATION { TUPLE { A 1 } } ) KEY { };",
                 ILL,
             ),
             ("VAR R BASE RELATION { A INTEGER, A CHAR } KEY { };", ILL),
@@ -241,10 +256,16 @@ fn relvars(rt: HostRuntime) -> Result<()> {
                 "0 1 1",
             ),
             ("VAR R BASE RELATION { A INTEGER } KEY { ALL BUT B };", ILL),
+            (
+                "VAR R BASE RELATION { A INTEGER } KEY { ALL BUT A, A };",
+                ILL,
+            ),
             ("VAR V VIRTUAL ( TABLE_DEE );", "0 1 0"),
             ("VAR V VIRTUAL ( 1 );", ILL),
+            ("VAR V VIRTUAL ( TUPLE { } );", ILL),
             ("VAR V VIRTUAL ( V );", ILL),
             ("CONSTRAINT C 1;", ILL),
+            ("CONSTRAINT C TABLE_DEE;", ILL),
             ("CONSTRAINT C IS_EMPTY ( R );", ILL),
         ],
     )?;
@@ -273,6 +294,7 @@ fn statements(rt: HostRuntime) -> Result<()> {
             ("INSERT LS S;", ILL),
             ("DELETE LS;", ILL),
             ("UPDATE LS ( STATUS := 1 );", ILL),
+            ("LS := S;", ILL),
             ("NOSUCH := S;", ILL),
             ("S := SP;", ILL),
             ("S := 1;", ILL),
@@ -295,6 +317,16 @@ fn statements(rt: HostRuntime) -> Result<()> {
             ("UPDATE S ( STATUS := 1, STATUS := 2 );", ILL),
             ("UPDATE S WHERE STATUS = 1 ( X := 1 );", ILL),
             ("UPDATE S WHERE STATUS = 1 ( STATUS := 'x' );", ILL),
+            // also where only the types inside a relation differ
+            (
+                "UPDATE BOX ( CONTENTS := RELATION { A INTEGER } { } );",
+                "4 ",
+            ),
+            ("UPDATE BOX ( CONTENTS := RELATION { A CHAR } { } );", ILL),
+            (
+                "UPDATE BOX WHERE K = 'x' ( CONTENTS := RELATION { A CHAR } { } );",
+                ILL,
+            ),
         ],
     )?;
     assert!(rt; unlike.as_str() == "", "{unlike}");
@@ -375,7 +407,7 @@ fn type_shown(alloc: Global, expr: &TypedExpr) -> Result<String> {
 
 fn shown_over(alloc: Global, catalogue: &Catalogue, text: &str) -> Result<String> {
     let expr = read_expr(alloc, text)?;
-    let typed = type_within(alloc, catalogue, Heading::new(alloc)?, expr.get())?;
+    let typed = type_expr(alloc, catalogue, expr.get())?;
     type_shown(alloc, &typed)
 }
 

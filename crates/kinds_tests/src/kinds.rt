@@ -10,7 +10,7 @@ use std::alloc::Global;
 use std::test::Fail;
 use td_kinds::error::TypeError;
 use td_kinds::forms::{
-    from_kind, may_extend, nested_heading, part_at, renamed_kind, unnested_heading,
+    from_kind, may_extend, nested_heading, part_kind, renamed_kind, unnested_heading,
 };
 use td_kinds::kinds::same_kind;
 use td_kinds::lists::{attributes_of, pairs_of};
@@ -304,7 +304,7 @@ fn attribute_lists(rt: HostRuntime) -> Result<()> {
 fn part(alloc: Global) -> Result<String> {
     let kind = relation(alloc, &["A", "B", "C"])?;
     let names = names(alloc, &["C", "A"])?;
-    shown(alloc, Ok(part_at(alloc, names.as_slice(), &kind)?))
+    shown(alloc, Ok(part_kind(alloc, names.as_slice(), &kind)?))
 }
 
 #[test]

@@ -6,7 +6,7 @@ use Rattle.std.specs.List.{All, Contains, flat_map}
 use Rattle.std.specs.Option.{option_map}
 use Rattle.td_values.specs.Attributes.{attribute_of}
 use Rattle.td_values.specs.Data.{Ty, tuple_type, relation_type, Fields, fields_of, Datum, boolean, integer, char, user, tuple, relation, Attrs, no_attrs, attr, Tuples, tuples_of}
-use Rattle.td_values.specs.Headings.{Header, header_fields}
+use Rattle.td_values.specs.Headings.{Header, header_fields, field_list}
 use Rattle.td_values.specs.Order.{text_cmp}
 use Rattle.td_values.specs.Rows.{RowsData, AreRows}
 use Rattle.td_values.specs.Whole.{type_of, heading_of, NamesAscend, IsWholeTuple}
@@ -16,7 +16,7 @@ use Rattle.td_tuples.specs.Parts.{attributes, Fits, names_of, is_out, cut, cut_o
 use Rattle.td_tuples.specs.Unions.{beside, joined}
 use Rattle.td_tuples.proofs.Lists.{entries-from_entries, on_values, sorted_values}
 use Rattle.td_tuples.proofs.ByName.{heading-typed, ascend_is_sorted, fits_get, fits-where, fits-beside, part_by_columns}
-use Rattle.td_tuples.specs.Nestings.{field_list, columns_of_type, columns_inside, inner_columns, opened_columns, IsRelationValued, IsTupleValued}
+use Rattle.td_tuples.specs.Nestings.{columns_of_type, columns_inside, inner_columns, opened_columns, IsRelationValued, IsTupleValued}
 use Rattle.td_algebra.specs.Nested.{tuple_list, Ungrouped, Unwrapped}
 use Rattle.td_tuples.proofs.Inner.{columns_back, field_list_back}
 use Rattle.td_algebra.specs.ForProofs.Opened.{tuples_in, tuples_inside, tuples_at, opened, Opened}

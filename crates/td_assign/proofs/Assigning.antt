@@ -12,7 +12,7 @@ use Rattle.td_headings.specs.declared.statement.TypedAssignment.{TypedAssignment
 use Rattle.td_algebra.specs.Raising.{and_then}
 use Rattle.td_algebra.specs.declared.errors.Stop.{Stop}
 use Rattle.td_meaning.specs.Mean.{Relvars}
-use Rattle.td_soundness.specs.Meanings.{IsRelation}
+use Rattle.td_soundness.specs.Meanings.{IsRelationOver}
 use Rattle.td_story.specs.Raises.{Tells}
 use Rattle.td_story.specs.declared.failure.Failure.{Failure}
 use Rattle.td_story.specs.declared.failure.Failure.TheVariants as failure
@@ -45,10 +45,10 @@ module _ (c : CatalogueData) (x : TypedAssignment) (is : IsAssigned c x) where
     pub kind_is : x.source.kind ≡ kind.Relation v.value
     kind_is = is.1.kind_ ∙ ap (λ (w : Named Header). kind.Relation w.value) (some_same is.1.relvar v (sym there ∙ at))
 
-    pub belongs : (r : RowsData) → IsRelation c.schema v.value r → Belongs c x.target r
+    pub belongs : (r : RowsData) → IsRelationOver c.schema v.value r → Belongs c x.target r
     belongs r of = record { relvar = v; stored = ap is_base is.1.is_real; there = at; relation = of }
 
-    pub if_belongs : {E : Type 0} (m : Result RowsData E) → IfOk m (IsRelation c.schema v.value) → IfOk m (Belongs c x.target)
+    pub if_belongs : {E : Type 0} (m : Result RowsData E) → IfOk m (IsRelationOver c.schema v.value) → IfOk m (Belongs c x.target)
     if_belongs (Ok r) h = belongs r h
     if_belongs (Err e) h = tt
 

@@ -13,7 +13,7 @@ use Rattle.td_algebra.specs.declared.errors.Stop.{Stop}
 use Rattle.td_algebra.specs.declared.errors.Stop.TheVariants as stop
 use Rattle.td_headings.specs.Catalogues.{CatalogueData}
 use Rattle.td_headings.specs.Definitions.{Defined}
-use Rattle.td_headings.specs.Reached.{Reads}
+use Rattle.td_headings.specs.Reached.{ReadsRelvar}
 use Rattle.td_headings.specs.Statements.{AreAssignments, IsAssignment, IsTarget, actions_of, assignments_of, next_assignment, no_assignments, source_of}
 use Rattle.td_headings.specs.declared.defined.Test.{Test}
 use Rattle.td_headings.specs.declared.defined.Test.TheVariants as test
@@ -87,12 +87,12 @@ module _ (c : CatalogueData) (defined : Defined c) (r s : Relvars) where
   seen_alike : (g : Given) (m n : ℕ) → r n ≡ s n → seen g m r n ≡ seen g m s n
   seen_alike g m n same = ap (λ v. if m == n then or_old (g n) v else v) same
 
-  source_alike : (a : Action) (x : TypedAssignment) → IsAssignment c a x → ((n : ℕ) → Reads c.origins x.source.tree n → r n ≡ s n) → (g : Given) → source_means c r g x ≡ source_means c s g x
+  source_alike : (a : Action) (x : TypedAssignment) → IsAssignment c a x → ((n : ℕ) → ReadsRelvar c.origins x.source.tree n → r n ≡ s n) → (g : Given) → source_means c r g x ≡ source_means c s g x
   source_alike a x p same g =
       ap (λ m. and_then m rows_of)
       (trees_alike c defined x.source.tree x.source.kind (record { expr = source_of a; types = p.source.types }) (seen g x.target r) (seen g x.target s) (λ n h. seen_alike g x.target n (same n h)))
 
-  sources_alike : (as' : List Action) (xs : List TypedAssignment) → AreAssignments c as' xs → ((x : TypedAssignment) → Contains xs x → (n : ℕ) → Reads c.origins x.source.tree n → r n ≡ s n) → (g : Given) → sources c r g xs ≡ sources c s g xs
+  sources_alike : (as' : List Action) (xs : List TypedAssignment) → AreAssignments c as' xs → ((x : TypedAssignment) → Contains xs x → (n : ℕ) → ReadsRelvar c.origins x.source.tree n → r n ≡ s n) → (g : Given) → sources c r g xs ≡ sources c s g xs
   sources_alike [] [] no_assignments same g = refl
   sources_alike [] (x ∷ xs) p same g = elim p [ ]
   sources_alike (a ∷ as') [] p same g = elim p [ ]

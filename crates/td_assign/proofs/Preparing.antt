@@ -10,7 +10,7 @@ use Rattle.td_typing.proofs.KindLemmas.{some_same}
 use Rattle.td_algebra.specs.declared.errors.Stop.{Stop}
 use Rattle.td_headings.specs.Catalogues.{CatalogueData}
 use Rattle.td_headings.specs.Statements as typed
-use Rattle.td_headings.specs.Statements.{AreAssignments, IsRefused, assignments_of, next_assignment, no_assignments}
+use Rattle.td_headings.specs.Statements.{AreAssignments, TypesNoStatement, assignments_of, next_assignment, no_assignments}
 use Rattle.td_headings.specs.declared.defined.Test.{Test}
 use Rattle.td_headings.specs.declared.statement.TypedAssignment.{TypedAssignment}
 use Rattle.td_headings.specs.declared.statement.TypedStatement.{TypedStatement}
@@ -41,8 +41,8 @@ module _ (c : CatalogueData) (text : List ℕ) where
   pub without_reading : ((s : Statement) → ¬ grammar.IsStatement text s) → IsUnread c text
   without_reading none x p = none p.statement p.reads
 
-  pub without_typing : (s : Statement) → grammar.IsStatement text s → IsRefused c s → IsUnread c text
-  without_typing s reads never x p = never x (subst (λ t. typed.IsStatement c t x) (one_text text p.statement s p.reads reads) p.types)
+  pub without_typing : (s : Statement) → grammar.IsStatement text s → TypesNoStatement c s → IsUnread c text
+  without_typing s reads never x p = never x (subst (λ t. typed.TypesStatement c t x) (one_text text p.statement s p.reads reads) p.types)
 
 all_assigned : (c : CatalogueData) (as' : List Action) (xs : List TypedAssignment) → AreAssignments c as' xs → All (IsAssigned c) xs
 all_assigned c [] [] no_assignments = All-nil (IsAssigned c)

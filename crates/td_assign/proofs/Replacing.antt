@@ -10,7 +10,7 @@ use Rattle.td_syntax.specs.declared.tree.Named.{Named}
 use Rattle.td_typing.proofs.KindLemmas.{some_same}
 use Rattle.td_headings.specs.Catalogues.{CatalogueData}
 use Rattle.td_headings.specs.Reached.{is_base}
-use Rattle.td_soundness.specs.Meanings.{GivesRelation, IsRelation}
+use Rattle.td_soundness.specs.Meanings.{GivesRelation, IsRelationOver}
 use Rattle.td_story.specs.Trees.{AreBases}
 use Rattle.td_story.specs.Stored.{AreStored}
 use Rattle.td_constraints.proofs.Judged.{are_bases}
@@ -70,11 +70,11 @@ module _ (c : CatalogueData) where
     given_stored : AreStored c (stored_relvars (with_given g stored))
     given_stored n v base at = by (g n) refl
       where
-        by : (o : Option RowsData) → g n ≡ o → (r : RowsData) × (stored_relvars (with_given g stored) n ≡ Ok r) × IsRelation c.schema v.value r
+        by : (o : Option RowsData) → g n ≡ o → (r : RowsData) × (stored_relvars (with_given g stored) n ≡ Ok r) × IsRelationOver c.schema v.value r
         by None h = let k = is.stored n v base at in (k.0, ap at_place (given_none g stored n h) ∙ k.1, k.2)
         by (Some r) h =
             let b = each n r h in
-            (r, ap at_place (given_some g stored n r (within n base) h), subst (λ (w : Named Header). IsRelation c.schema w.value r) (some_same b.relvar v (sym b.there ∙ at)) b.relation)
+            (r, ap at_place (given_some g stored n r (within n base) h), subst (λ (w : Named Header). IsRelationOver c.schema w.value r) (some_same b.relvar v (sym b.there ∙ at)) b.relation)
 
     nothing_given_of_virtual : (n : ℕ) → is_base (slice_get c.origins n) ≡ false → option_flatten (slice_get (with_given g stored) n) ≡ None
     nothing_given_of_virtual n virtual = by (g n) refl

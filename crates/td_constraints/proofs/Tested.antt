@@ -3,10 +3,10 @@ use Rattle.std.proofs.Common.{◌≡◌, ℕ, zero, suc, true, List, [], ◌∷�
 use Rattle.td_values.specs.Headings.{Header}
 use Rattle.td_syntax.specs.declared.script.Definition.{Definition}
 use Rattle.td_syntax.specs.declared.tree.Named.{Named}
-use Rattle.td_kinds.specs.Kinds.{Text}
+use Rattle.td_kinds.specs.Kinds.{Name}
 use Rattle.td_typing.proofs.KindLemmas.{some_same}
 use Rattle.td_headings.specs.Catalogues.{CatalogueData}
-use Rattle.td_headings.specs.Definitions.{with_relvar, Defines, type_, base, virtual, constraint, Defined, nothing_yet, one_more}
+use Rattle.td_headings.specs.Definitions.{with_relvar, Defines, type_, base, virtual, constraint, Defined, nothing_yet, next_definition}
 use Rattle.td_headings.specs.Reached.{is_base}
 use Rattle.td_headings.specs.declared.defined.Origin.{Origin}
 use Rattle.td_headings.specs.declared.defined.Origin.TheVariants as origin
@@ -44,7 +44,7 @@ of_stays : (os ps : List Origin) (rs ss : List (Named Header)) (t : Test) → Of
 of_stays os ps rs ss (test.Key n key) h = (h.0, stays rs ss n h.0 h.1, base_stays os ps n h.2)
 of_stays os ps rs ss (test.Constraint x u) h = tt
 
-keys_of : (os : List Origin) (rs : List (Named Header)) (r : ℕ) (v : Named Header) → slice_get rs r ≡ Some v → is_base (slice_get os r) ≡ true → (ks : List (List Text)) (m : ℕ) (t : Test) → slice_get (map (test.Key r) ks) m ≡ Some t → OfRelvar os rs t
+keys_of : (os : List Origin) (rs : List (Named Header)) (r : ℕ) (v : Named Header) → slice_get rs r ≡ Some v → is_base (slice_get os r) ≡ true → (ks : List (List Name)) (m : ℕ) (t : Test) → slice_get (map (test.Key r) ks) m ≡ Some t → OfRelvar os rs t
 keys_of os rs r v at real [] m t h = cc
 keys_of os rs r v at real (k ∷ ks) zero t h = subst (OfRelvar os rs) (some_same (test.Key r k) t h) (v, at, real)
 keys_of os rs r v at real (k ∷ ks) (suc m) t h = keys_of os rs r v at real ks m t h
@@ -56,7 +56,7 @@ same_relvars : (c d : CatalogueData) (t : Test) → d.origins ≡ c.origins → 
 same_relvars c d (test.Key n key) e f h = (h.0, ap (λ rs. slice_get rs n) f ∙ h.1, ap (λ os. is_base (slice_get os n)) e ∙ h.2)
 same_relvars c d (test.Constraint x u) e f h = tt
 
-after_relvar : (c : CatalogueData) (n : Text) (h : Header) (o : Origin) (ts : List Test) → Each c → ((m : ℕ) (t : Test) → slice_get ts m ≡ Some t → OfRelvar (c.origins ++ o ∷ []) (c.schema.relvars ++ record { name = n; value = h } ∷ []) t) → Each (with_relvar c n h o ts)
+after_relvar : (c : CatalogueData) (n : Name) (h : Header) (o : Origin) (ts : List Test) → Each c → ((m : ℕ) (t : Test) → slice_get ts m ≡ Some t → OfRelvar (c.origins ++ o ∷ []) (c.schema.relvars ++ record { name = n; value = h } ∷ []) t) → Each (with_relvar c n h o ts)
 after_relvar c n h o ts before new m t p =
     let d = with_relvar c n h o ts in
     let r : Named Header = record { name = n; value = h } in
@@ -94,4 +94,4 @@ defines_each c x d defined before (constraint {n = y} {u} new is) n t p =
 
 pub has_relvar : (c : CatalogueData) → Defined c → Each c
 has_relvar c nothing_yet n t p = cc
-has_relvar c (one_more {c = old} {x} before is) n t p = defines_each old x c before (has_relvar old before) is n t p
+has_relvar c (next_definition {c = old} {x} before is) n t p = defines_each old x c before (has_relvar old before) is n t p

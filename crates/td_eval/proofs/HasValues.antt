@@ -13,8 +13,8 @@ use Rattle.td_syntax.specs.declared.tree.Named.{Named}
 use Rattle.td_trees.specs.declared.expression.VirtualUnder.{VirtualUnder}
 use Rattle.td_trees.specs.declared.tree.Typed.{Typed}
 use Rattle.td_kinds.specs.Schemas.{SchemaData, type_named}
-use Rattle.td_kinds.specs.Scopes.{nothing, relvars_of, within}
-use Rattle.td_kinds.specs.Written.{columns, names}
+use Rattle.td_kinds.specs.Scopes.{nothing, relvars_of, within_tuple}
+use Rattle.td_kinds.specs.Written.{kind_columns, names}
 use Rattle.td_kinds.specs.declared.schema.Representation.{Representation}
 use Rattle.td_algebra.specs.Raising.{and_then}
 use Rattle.td_algebra.specs.declared.errors.Stop.{Stop}
@@ -30,7 +30,7 @@ use Rattle.td_headings.proofs.WellTyped.{all_typed}
 use Rattle.td_meaning.specs.Mean as mean
 use Rattle.td_meaning.specs.Mean.{Meaning, Relvars, Selection, rows_in, truth_in}
 use Rattle.td_meaning.specs.Selections.{admits, components, no_relvars, none_selected, selected}
-use Rattle.td_soundness.specs.Meanings.{Gives, GivesRelation, HasHeading, IsError, Selects}
+use Rattle.td_soundness.specs.Meanings.{GivesValue, GivesRelation, IsTupleOver, IsError, Selects}
 use Rattle.td_soundness.specs.Values.{AreComponentsOf, AreValues}
 use Rattle.td_soundness.proofs.Errors.{overflow_is}
 use Rattle.td_soundness.proofs.Scoped.{within_are}
@@ -59,7 +59,7 @@ below_same : {A : Type 0} (b : ℕ) (other : A) (f : ℕ → A) (n : ℕ) → n 
 below_same b other f n lt = sym (ap (λ t. cond t (f n) other) (lt-ltb n b lt))
 
 -- ---- what a selector makes of components of its types
-made : (s : SchemaData) (n : ℕ) (r : Representation) (ds : List Datum) → type_named s r.possrep.ty ≡ Some (n, r) → AreComponentsOf r (items_of ds) → AreValues s (items_of ds) → (a : Result Bool Stop) → GivesTruth a → Gives s (kind.User r.possrep.ty) (and_then a (λ b. if b then Ok (user r.possrep (items_of ds)) else Err stop.Selector))
+made : (s : SchemaData) (n : ℕ) (r : Representation) (ds : List Datum) → type_named s r.possrep.ty ≡ Some (n, r) → AreComponentsOf r (items_of ds) → AreValues s (items_of ds) → (a : Result Bool Stop) → GivesTruth a → GivesValue s (kind.User r.possrep.ty) (and_then a (λ b. if b then Ok (user r.possrep (items_of ds)) else Err stop.Selector))
 made s n r ds is fit are (Ok true) h = (refl, ((n, r, is, refl, fit), are))
 made s n r ds is fit are (Ok false) h = selector_raised
 made s n r ds is fit are (Err e) h = h
@@ -73,7 +73,7 @@ module _ (c : CatalogueData) (defined : Defined c) where
 
   -- ---- selectors
   abbrev SelectsAt : ℕ → Type 0
-  SelectsAt n = (r : Representation) (ds : List Datum) → slice_get s.possreps n ≡ Some r → AreComponentsOf r (items_of ds) → AreValues s (items_of ds) → Gives s (kind.User r.possrep.ty) (choice n ds)
+  SelectsAt n = (r : Representation) (ds : List Datum) → slice_get s.possreps n ≡ Some r → AreComponentsOf r (items_of ds) → AreValues s (items_of ds) → GivesValue s (kind.User r.possrep.ty) (choice n ds)
 
   module _ (n : ℕ) (before : (m : ℕ) → m < n → SelectsAt m) where
     abbrev never : List Datum → Result Datum Stop
@@ -83,7 +83,7 @@ module _ (c : CatalogueData) (defined : Defined c) where
     earlier = below n never choice
 
     earlier_selects : Selects s earlier
-    earlier_selects m r ds is fit are = cond_both (ltb m n) (choice m) never (λ (f : List Datum → Result Datum Stop). Gives s (kind.User r.possrep.ty) (f ds)) (λ t. before m (ltb-true m n t) r ds is fit are) (λ t. overflow_is)
+    earlier_selects m r ds is fit are = cond_both (ltb m n) (choice m) never (λ (f : List Datum → Result Datum Stop). GivesValue s (kind.User r.possrep.ty) (f ds)) (λ t. before m (ltb-true m n t) r ds is fit are) (λ t. overflow_is)
 
     limit_gives : (r : Representation) (ds : List Datum) (u : Option Typed) → slice_get s.possreps n ≡ Some r → slice_get c.limits n ≡ Some u → AreComponentsOf r (items_of ds) → AreValues s (items_of ds) → GivesTruth (admits choice u (components (names r.components) ds))
     unfolding admits truth_in
@@ -92,8 +92,8 @@ module _ (c : CatalogueData) (defined : Defined c) where
         let known = components (names r.components) ds in
         let l = (all_typed c defined).limits n e r at is in
         let alike : mean.mean no_relvars choice e ≡ mean.mean no_relvars earlier e = agree no_relvars no_relvars choice earlier e ((λ m h. refl), (λ m h. below_same n never choice m (selects_earlier c defined n (Some e) at m h))) in
-        let given = gives s no_relvars earlier earlier_selects (within (columns r.components) nothing) known (components_meant s no_relvars r ds fit are) l.types in
-        truth_given s (mean.mean no_relvars choice e known) (subst (λ (m : Meaning). Gives s kind.Boolean (m known)) (sym alike) given)
+        let given = gives s no_relvars earlier earlier_selects (within_tuple (kind_columns r.components) nothing) known (components_meant s no_relvars r ds fit are) l.types in
+        truth_given s (mean.mean no_relvars choice e known) (subst (λ (m : Meaning). GivesValue s kind.Boolean (m known)) (sym alike) given)
 
     selects_here : SelectsAt n
     unfolding selected
@@ -102,7 +102,7 @@ module _ (c : CatalogueData) (defined : Defined c) where
         let each = (all_typed c defined).limit_each in
         let u = standing c.limits n (omega (arith, lt, each)) in
         let makes = each_makes c defined (places s.possreps) none_selected (ascending s.possreps) n (has_place s.possreps n lt) r u.0 is u.1 in
-        subst (λ (f : List Datum → Result Datum Stop). Gives s (kind.User r.possrep.ty) (f ds)) (sym makes)
+        subst (λ (f : List Datum → Result Datum Stop). GivesValue s (kind.User r.possrep.ty) (f ds)) (sym makes)
         (made s n r ds (types_named c defined n r is) fit are (admits choice u.0 (components (names r.components) ds)) (limit_gives r ds u.0 is u.1 fit are))
 
   selects_below : (b n : ℕ) → n < b → SelectsAt n
@@ -136,7 +136,7 @@ module _ (c : CatalogueData) (defined : Defined c) where
           let alike : mean.mean had choice e ≡ mean.mean before_it choice e = agree had before_it choice choice e ((λ m h. below_same n nowhere had m (less m h)), (λ m h. refl)) in
           let types = at_relvars c tree.expr e (kind.Relation v.value) tree.types in
           let given = gives s before_it choice all_select (relvars_of s) no_names (relvars_meant s before_it no_names before_has) types in
-          rows_given s v.value (mean.mean had choice e no_names) (subst (λ (m : Meaning). Gives s (kind.Relation v.value) (m no_names)) (sym alike) given)
+          rows_given s v.value (mean.mean had choice e no_names) (subst (λ (m : Meaning). GivesValue s (kind.Relation v.value) (m no_names)) (sym alike) given)
 
       has_at : (v : Named Header) → slice_get s.relvars n ≡ Some v → (o : Option Origin) → slice_get c.origins n ≡ o → GivesRelation s v.value (had n)
       has_at v at None is =
@@ -160,11 +160,11 @@ module _ (c : CatalogueData) (defined : Defined c) where
     relvars_have n v = has_below (suc n) n (omega arith) v
 
     -- ---- trees
-    pub trees_give : (h : Header) (u : Typed) (k : TypeKind) (t : Attrs) → IsTree c h u k → HasHeading s h t → Gives s k (tree_means c bases u t)
-    trees_give h u k t tree has = gives s had choice all_select (within h (relvars_of s)) (mean.within t no_names) (within_are s had h t (relvars_of s) no_names has (relvars_meant s had no_names relvars_have)) tree.types
+    pub trees_give : (h : Header) (u : Typed) (k : TypeKind) (t : Attrs) → IsTree c h u k → IsTupleOver s h t → GivesValue s k (tree_means c bases u t)
+    trees_give h u k t tree has = gives s had choice all_select (within_tuple h (relvars_of s)) (mean.within t no_names) (within_are s had h t (relvars_of s) no_names has (relvars_meant s had no_names relvars_have)) tree.types
 
 pub relvars_have_relations : (c : CatalogueData) (r : Relvars) (n : ℕ) (v : Named Header) → Defined c → AreBases c r → slice_get c.schema.relvars n ≡ Some v → GivesRelation c.schema v.value (all_relvars c r n)
 relvars_have_relations c r n v defined are is = relvars_have c defined r are n v is
 
-pub trees_have_values : (c : CatalogueData) (h : Header) (u : Typed) (k : TypeKind) (r : Relvars) (t : Attrs) → Defined c → IsTree c h u k → AreBases c r → HasHeading c.schema h t → Gives c.schema k (tree_means c r u t)
+pub trees_have_values : (c : CatalogueData) (h : Header) (u : Typed) (k : TypeKind) (r : Relvars) (t : Attrs) → Defined c → IsTree c h u k → AreBases c r → IsTupleOver c.schema h t → GivesValue c.schema k (tree_means c r u t)
 trees_have_values c h u k r t defined tree are has = trees_give c defined r are h u k t tree has

@@ -11,10 +11,10 @@ use Rattle.td_values.specs.Whole.{type_of}
 use Rattle.td_values.specs.declared.TypeKind.{TypeKind}
 use Rattle.td_values.specs.declared.TypeKind.TheVariants as kind
 use Rattle.td_syntax.specs.declared.tree.Named.{Named}
-use Rattle.td_kinds.specs.Kinds.{Text, kind_of}
+use Rattle.td_kinds.specs.Kinds.{Name, kind_of}
 use Rattle.td_kinds.specs.Schemas.{SchemaData, first_from, is_named, relvar_named, same_text}
-use Rattle.td_kinds.specs.Scopes.{as_relvar, nothing, or_outer, relvars_of, within}
-use Rattle.td_kinds.specs.Written.{column_of, columns, names}
+use Rattle.td_kinds.specs.Scopes.{as_relvar, nothing, or_outer, relvars_of, within_tuple}
+use Rattle.td_kinds.specs.Written.{kind_column, kind_columns, names}
 use Rattle.td_kinds.specs.declared.scope.Meant.{Meant}
 use Rattle.td_kinds.specs.declared.scope.Meant.TheVariants.{Local as local, Relvar as relvar}
 use Rattle.td_kinds.specs.declared.schema.Representation.{Representation}
@@ -26,7 +26,7 @@ use Rattle.td_meaning.specs.Mean.{Names, Relvars}
 use Rattle.td_meaning.specs.Selections.{components}
 use Rattle.td_operators.specs.Values.{rows_of, truth_of}
 use Rattle.td_operators.proofs.KindLemmas.{items_back}
-use Rattle.td_soundness.specs.Meanings.{AreMeant, Gives, GivesRelation, HasKind, IsMeant, IsRelation, OrError}
+use Rattle.td_soundness.specs.Meanings.{AreMeant, GivesValue, GivesRelation, HasKind, IsMeant, IsRelationOver, OrError}
 use Rattle.td_soundness.specs.Values.{AreComponentsOf, AreValues}
 use Rattle.td_soundness.proofs.Errors.{goes_on}
 use Rattle.td_soundness.proofs.Values as values
@@ -38,11 +38,11 @@ abbrev pub GivesTruth : Result Bool Stop → Type 0
 GivesTruth r = OrError (λ (b : Bool). Unit {0}) r
 
 module _ (s : SchemaData) where
-  pub truth_given : (m : Result Datum Stop) → Gives s kind.Boolean m → GivesTruth (and_then m truth_of)
+  pub truth_given : (m : Result Datum Stop) → GivesValue s kind.Boolean m → GivesTruth (and_then m truth_of)
   truth_given m g = goes_on (HasKind s kind.Boolean) (λ (b : Bool). Unit {0}) truth_of m g (values.truth_given s)
 
-  pub rows_given : (h : Header) (m : Result Datum Stop) → Gives s (kind.Relation h) m → GivesRelation s h (and_then m rows_of)
-  rows_given h m g = goes_on (HasKind s (kind.Relation h)) (IsRelation s h) rows_of m g (values.rows_given s h)
+  pub rows_given : (h : Header) (m : Result Datum Stop) → GivesValue s (kind.Relation h) m → GivesRelation s h (and_then m rows_of)
+  rows_given h m g = goes_on (HasKind s (kind.Relation h)) (IsRelationOver s h) rows_of m g (values.rows_given s h)
 
 -- ---- relvars
 abbrev FoundAt : {A : Type 0} → ℕ × A → ℕ → List A → Type 0
@@ -60,7 +60,7 @@ stands n test (x ∷ xs) r is = by (test x) is (stands (n + 1) test xs r)
     by false h rest = let f = rest h in (suc f.0, omega (arith, f.1), f.2)
 
 module _ (s : SchemaData) (r : Relvars) (known : Names) (each : (n : ℕ) (v : Named Header) → slice_get s.relvars n ≡ Some v → GivesRelation s v.value (r n)) where
-  named_meant : (x : Text) (m : Meant) (o : Option (ℕ × Named Header)) → relvar_named s x ≡ o → as_relvar o ≡ Some m → IsMeant s r m (known x)
+  named_meant : (x : Name) (m : Meant) (o : Option (ℕ × Named Header)) → relvar_named s x ≡ o → as_relvar o ≡ Some m → IsMeant s r m (known x)
   named_meant x m None named is = cc
   named_meant x m (Some v) named is =
       let f = stands 0 (is_named x) s.relvars v named in
@@ -75,7 +75,7 @@ module _ (s : SchemaData) where
   abbrev IsFound : TypeKind → Option Datum → Type 0
   IsFound k o = (d : Datum) × (o ≡ Some d) × HasKind s k d
 
-  found : (ks : List (Named TypeKind)) (ds : List Datum) (x : Text) (ty : Ty) → map type_of ds ≡ map ty_of (map (λ (c : Named TypeKind). c.value) ks) → AreValues s (items_of ds) → by_name.find text_cmp x (map column_of ks) ≡ Some ty → IsFound (kind_of ty) (components (names ks) ds x)
+  found : (ks : List (Named TypeKind)) (ds : List Datum) (x : Name) (ty : Ty) → map type_of ds ≡ map ty_of (map (λ (c : Named TypeKind). c.value) ks) → AreValues s (items_of ds) → by_name.find text_cmp x (map kind_column ks) ≡ Some ty → IsFound (kind_of ty) (components (names ks) ds x)
   found [] ds x ty types are is = cc
   found (k ∷ ks) [] x ty types are is = cc
   found (k ∷ ks) (d ∷ ds) x ty types are is = by (same_text x k.name) (text_equivalence.symm k.name x) is (found ks ds x ty other_types are.1)
@@ -89,7 +89,7 @@ module _ (s : SchemaData) where
       here : ty_of k.value ≡ ty → HasKind s (kind_of ty) d
       here same = subst (λ (t : Ty). HasKind s (kind_of t) d) same (first_type ∙ sym (ap ty_of (kind_back k.value)), are.0)
 
-      by : (b : Bool) → same_text k.name x ≡ b → (if b then Some (ty_of k.value) else by_name.find text_cmp x (map column_of ks)) ≡ Some ty → (by_name.find text_cmp x (map column_of ks) ≡ Some ty → IsFound (kind_of ty) (components (names ks) ds x)) → IsFound (kind_of ty) (if same_text k.name x then Some d else components (names ks) ds x)
+      by : (b : Bool) → same_text k.name x ≡ b → (if b then Some (ty_of k.value) else by_name.find text_cmp x (map kind_column ks)) ≡ Some ty → (by_name.find text_cmp x (map kind_column ks) ≡ Some ty → IsFound (kind_of ty) (components (names ks) ds x)) → IsFound (kind_of ty) (if same_text k.name x then Some d else components (names ks) ds x)
       by true e h rest = (d, ap (λ b. if b then Some d else components (names ks) ds x) e, here (some_same (ty_of k.value) ty h))
       by false e h rest =
           let f = rest h in
@@ -99,11 +99,11 @@ module _ (s : SchemaData) where
     typed : map type_of ds ≡ map ty_of (component_kinds r)
     typed = ap (map type_of) (sym (items_back ds)) ∙ fit
 
-    component_meant : (x : Text) (m : Meant) (o : Option Ty) → by_name.get (columns r.components) x ≡ o → or_outer o None ≡ Some m → IsMeant s q m (components (names r.components) ds x)
+    component_meant : (x : Name) (m : Meant) (o : Option Ty) → by_name.get (kind_columns r.components) x ≡ o → or_outer o None ≡ Some m → IsMeant s q m (components (names r.components) ds x)
     component_meant x m None get is = cc
     component_meant x m (Some ty) get is =
         subst (λ (n : Meant). IsMeant s q n (components (names r.components) ds x)) (some_same (local (kind_of ty)) m is)
-        (found r.components ds x ty typed are (sym (by_name.get-from_entries text_total (map column_of r.components) x) ∙ get))
+        (found r.components ds x ty typed are (sym (by_name.get-from_entries text_total (map kind_column r.components) x) ∙ get))
 
-    pub components_meant : AreMeant s q (within (columns r.components) nothing) (components (names r.components) ds)
-    components_meant x m is = component_meant x m (by_name.get (columns r.components) x) refl is
+    pub components_meant : AreMeant s q (within_tuple (kind_columns r.components) nothing) (components (names r.components) ds)
+    components_meant x m is = component_meant x m (by_name.get (kind_columns r.components) x) refl is

@@ -20,11 +20,11 @@ use Rattle.td_syntax.specs.declared.tree.Named.{Named}
 use Rattle.td_syntax.specs.declared.tree.Nesting.{Nesting}
 use Rattle.td_syntax.specs.declared.tree.Summary.{Summary}
 use Rattle.td_kinds.specs.declared.scope.Meant.TheVariants.{Local as local, Relvar as relvar}
-use Rattle.td_kinds.specs.Kinds.{Text}
-use Rattle.td_kinds.specs.Lists.{pair_of}
+use Rattle.td_kinds.specs.Kinds.{Name}
+use Rattle.td_kinds.specs.Lists.{renaming_pair}
 use Rattle.td_kinds.specs.Schemas.{SchemaData, first_from, has_possrep, is_named, possrep_named, relvar_named, same_text}
-use Rattle.td_kinds.specs.Scopes.{Scope, nothing, within, given, all_given, relvars_of, as_relvar, or_outer}
-use Rattle.td_kinds.specs.Written.{columns}
+use Rattle.td_kinds.specs.Scopes.{Scope, nothing, within_tuple, with_name, with_names, relvars_of, as_relvar, or_outer}
+use Rattle.td_kinds.specs.Written.{kind_columns}
 use Rattle.td_kinds.specs.declared.schema.Representation.{Representation}
 use Rattle.td_trees.specs.Mentions.{Mentions, mentioned, relvars_in, possreps_in}
 use Rattle.td_trees.specs.ForProofs.Mentioned.{list_mentioned, items_mentioned, named_mentioned, summary_mentioned, summaries_mentioned, groups_mentioned}
@@ -38,7 +38,7 @@ use Rattle.td_typing.specs.Trees.{trees, summary_of}
 use Rattle.td_typing.specs.Types as types
 use Rattle.td_typing.specs.Types.{Types, TypesEach, TypesItems, TypesInTurn, TypesGroups, TypesSummaries}
 use Rattle.td_headings.specs.Catalogues.{CatalogueData}
-use Rattle.td_headings.specs.Definitions.{Defines, type_, base, virtual, constraint, Defined, nothing_yet, one_more, names_of_relvars, TypesLimit, no_limit, limit}
+use Rattle.td_headings.specs.Definitions.{Defines, type_, base, virtual, constraint, Defined, nothing_yet, next_definition, names_of_relvars, TypesLimit, no_limit, limit}
 use Rattle.td_headings.specs.Expressions.{IsTree}
 use Rattle.td_headings.specs.Reached.{named_relvars, named_possreps, possreps_within}
 use Rattle.td_headings.specs.declared.defined.Origin.{Origin}
@@ -50,54 +50,54 @@ use Rattle.td_eval.proofs.Named.{relvars_append, possreps_append}
 of_integer : (n : ℤ) → mentioned (t.Integer n) ≡ []
 of_integer n = search (rules, the_lemmas)
 
-of_text : (x : Text) → mentioned (t.Text x) ≡ []
+of_text : (x : Name) → mentioned (t.Text x) ≡ []
 of_text x = search (rules, the_lemmas)
 
 of_truth : (b : Bool) → mentioned (t.Truth b) ≡ []
 of_truth b = search (rules, the_lemmas)
 
-of_local : (x : Text) → mentioned (t.Local x) ≡ []
+of_local : (x : Name) → mentioned (t.Local x) ≡ []
 of_local x = search (rules, the_lemmas)
 
 of_component : (n : ℕ) (a : Typed) → mentioned (t.Component n a) ≡ mentioned a
 of_component n a = search (rules, the_lemmas)
 
-of_from : (x : Text) (a : Typed) → mentioned (t.From x a) ≡ mentioned a
+of_from : (x : Name) (a : Typed) → mentioned (t.From x a) ≡ mentioned a
 of_from x a = search (rules, the_lemmas)
 
-of_project : (a : Typed) (xs : List Text) → mentioned (t.Project a xs) ≡ mentioned a
+of_project : (a : Typed) (xs : List Name) → mentioned (t.Project a xs) ≡ mentioned a
 of_project a xs = search (rules, the_lemmas)
 
-of_rename : (a : Typed) (xs : List (Text × Text)) → mentioned (t.Rename a xs) ≡ mentioned a
+of_rename : (a : Typed) (xs : List (Name × Name)) → mentioned (t.Rename a xs) ≡ mentioned a
 of_rename a xs = search (rules, the_lemmas)
 
-of_nest : (o : Nesting) (a : Typed) (xs : List Text) (c : Text) → mentioned (t.Nest o a xs c) ≡ mentioned a
+of_nest : (o : Nesting) (a : Typed) (xs : List Name) (c : Name) → mentioned (t.Nest o a xs c) ≡ mentioned a
 of_nest o a xs c = search (rules, the_lemmas)
 
-of_unnest : (o : Nesting) (a : Typed) (c : Text) → mentioned (t.Unnest o a c) ≡ mentioned a
+of_unnest : (o : Nesting) (a : Typed) (c : Name) → mentioned (t.Unnest o a c) ≡ mentioned a
 of_unnest o a c = search (rules, the_lemmas)
 
 -- ---- names that stand for relvars and possreps stand for those that are defined
 abbrev Below : ℕ → Scope → Type 0
-Below n s = (x : Text) (m : ℕ) (h : Header) → s x ≡ Some (relvar m h) → m < n
+Below n s = (x : Name) (m : ℕ) (h : Header) → s x ≡ Some (relvar m h) → m < n
 
-within_below : (n : ℕ) (h : Header) (s : Scope) → Below n s → Below n (within h s)
+within_below : (n : ℕ) (h : Header) (s : Scope) → Below n s → Below n (within_tuple h s)
 within_below n h s below x m k is = by (by_name.get h x) is
   where
     by : (o : Option Ty) → or_outer o (s x) ≡ Some (relvar m k) → m < n
     by None e = below x m k e
     by (Some ty) e = cc
 
-given_below : (n : ℕ) (y : Text) (j : TypeKind) (s : Scope) → Below n s → Below n (given y j s)
+given_below : (n : ℕ) (y : Name) (j : TypeKind) (s : Scope) → Below n s → Below n (with_name y j s)
 given_below n y j s below x m k is = by (same_text y x) is
   where
     by : (b : Bool) → (if b then Some (local j) else s x) ≡ Some (relvar m k) → m < n
     by true e = cc
     by false e = below x m k e
 
-all_given_below : (n : ℕ) (ns : List (Named TypeKind)) (s : Scope) → Below n s → Below n (all_given ns s)
+all_given_below : (n : ℕ) (ns : List (Named TypeKind)) (s : Scope) → Below n s → Below n (with_names ns s)
 all_given_below n [] s below = below
-all_given_below n (x ∷ xs) s below = all_given_below n xs (given x.name x.value s) (given_below n x.name x.value s below)
+all_given_below n (x ∷ xs) s below = all_given_below n xs (with_name x.name x.value s) (given_below n x.name x.value s below)
 
 abbrev place_in : {A : Type 0} → ℕ × A → Option (ℕ × A) → ℕ
 place_in d None = d.0
@@ -121,7 +121,7 @@ relvars_below cat x m h is = by (relvar_named cat x) refl is
 nothing_below : (n : ℕ) → Below n nothing
 nothing_below n x m h is = cc
 
-possrep_below : (cat : SchemaData) (x : Text) (n : ℕ) (r : Representation) → possrep_named cat x ≡ Some (n, r) → n < length cat.possreps
+possrep_below : (cat : SchemaData) (x : Name) (n : ℕ) (r : Representation) → possrep_named cat x ≡ Some (n, r) → n < length cat.possreps
 possrep_below cat x n r is = let lt = first_below 0 (has_possrep x) cat.possreps (n, r) is in omega (arith, lt)
 
 -- ---- so what is typed names relvars and possreps that are defined
@@ -178,16 +178,16 @@ module _ (cat : SchemaData) where
     inside s sees (types.binary {o} {u} {v} a b is) = seen _ _ (of_binary o u v) (both (mentioned u) (mentioned v) (inside s sees a) (inside s sees b))
     inside s sees (types.from {x} {u} a is) = seen _ _ (of_from x u) (inside s sees a)
     inside s sees (types.project {u} {ns} a has are) = seen _ _ (of_project u ns) (inside s sees a)
-    inside s sees (types.where_ {u} {v} {h} a b) = seen _ _ (of_where u v) (both (mentioned u) (mentioned v) (inside s sees a) (inside (within h s) (within_below _ h s sees) b))
-    inside s sees (types.rename {xs} {u} a is) = seen _ _ (of_rename u (map pair_of xs)) (inside s sees a)
+    inside s sees (types.where_ {u} {v} {h} a b) = seen _ _ (of_where u v) (both (mentioned u) (mentioned v) (inside s sees a) (inside (within_tuple h s) (within_below _ h s sees) b))
+    inside s sees (types.rename {xs} {u} a is) = seen _ _ (of_rename u (map renaming_pair xs)) (inside s sees a)
     inside s sees (types.nest {o} {c} {u} {ns} a are is) = seen _ _ (of_nest o u ns c) (inside s sees a)
     inside s sees (types.unnest {o} {c} {u} a is) = seen _ _ (of_unnest o u c) (inside s sees a)
-    inside s sees (types.aggregate {o} {u} {v} {h} a b may) = seen _ _ (of_aggregate u (summary_of o v)) (both (mentioned u) (summary_mentioned (summary_of o v)) (inside s sees a) (summary_inside o v (inside (within h s) (within_below _ h s sees) b)))
+    inside s sees (types.aggregate {o} {u} {v} {h} a b may) = seen _ _ (of_aggregate u (summary_of o v)) (both (mentioned u) (summary_mentioned (summary_of o v)) (inside s sees a) (summary_inside o v (inside (within_tuple h s) (within_below _ h s sees) b)))
     inside s sees (types.aggregate_lone {o} {u} {n} a is may) = seen _ _ (of_aggregate u (summary_of o (t.Local n))) (both (mentioned u) (summary_mentioned (summary_of o (t.Local n))) (inside s sees a) (summary_inside o (t.Local n) (seen _ _ (of_local n) none)))
     inside s sees (types.choice {u} {v} {w} a b d) = seen _ _ (of_choice u v w) (both (mentioned u) (mentioned v ++ mentioned w) (inside s sees a) (both (mentioned v) (mentioned w) (inside s sees b) (inside s sees d)))
-    inside s sees (types.extend {u} {is} {h} a may all) = seen _ _ (of_extend u is) (both (mentioned u) (items_mentioned is) (inside s sees a) (inside_items (within h s) (within_below _ h s sees) all))
-    inside s sees (types.summarize {u} {gs} {is} {h} a groups may all) = seen _ _ (of_summarize u gs is) (both (mentioned u) (groups_mentioned gs ++ summaries_mentioned is) (inside s sees a) (both (groups_mentioned gs) (summaries_mentioned is) (inside_groups s sees groups) (inside_summaries (within h s) (within_below _ h s sees) all)))
-    inside s sees (types.with_ {us} {ks} {u} all b) = seen _ _ (of_with us u) (both (named_mentioned us) (mentioned u) (inside_in_turn s sees all) (inside (all_given ks s) (all_given_below _ ks s sees) b))
+    inside s sees (types.extend {u} {is} {h} a may all) = seen _ _ (of_extend u is) (both (mentioned u) (items_mentioned is) (inside s sees a) (inside_items (within_tuple h s) (within_below _ h s sees) all))
+    inside s sees (types.summarize {u} {gs} {is} {h} a groups may all) = seen _ _ (of_summarize u gs is) (both (mentioned u) (groups_mentioned gs ++ summaries_mentioned is) (inside s sees a) (both (groups_mentioned gs) (summaries_mentioned is) (inside_groups s sees groups) (inside_summaries (within_tuple h s) (within_below _ h s sees) all)))
+    inside s sees (types.with_ {us} {ks} {u} all b) = seen _ _ (of_with us u) (both (named_mentioned us) (mentioned u) (inside_in_turn s sees all) (inside (with_names ks s) (all_given_below _ ks s sees) b))
 
     inside_groups : (s : Scope) {h k : Header} {g : Groups Expr} {gs : TypedGroups Typed} → Sees s → TypesGroups cat s h g gs k → Inside (groups_mentioned gs)
     inside_groups s sees types.whole = none
@@ -209,11 +209,11 @@ module _ (cat : SchemaData) where
 
     inside_in_turn : (s : Scope) {ks all : List (Named TypeKind)} {xs : List (Named Expr)} {us : List (Named Typed)} → Sees s → TypesInTurn cat s ks xs us all → Inside (named_mentioned us)
     inside_in_turn s sees types.last = none
-    inside_in_turn s sees (types.further {ks} {u} {us} a rest) = both (mentioned u) (named_mentioned us) (inside (all_given ks s) (all_given_below _ ks s sees) a) (inside_in_turn s sees rest)
+    inside_in_turn s sees (types.further {ks} {u} {us} a rest) = both (mentioned u) (named_mentioned us) (inside (with_names ks s) (all_given_below _ ks s sees) a) (inside_in_turn s sees rest)
 
 module _ (c : CatalogueData) (defined : Defined c) (h : Header) (u : Typed) (k : TypeKind) (tree : IsTree c h u k) where
   tree_inside : Inside c.schema (mentioned u)
-  tree_inside = inside c.schema (within h (relvars_of c.schema)) (within_below (length c.schema.relvars) h (relvars_of c.schema) (relvars_below c.schema)) tree.types
+  tree_inside = inside c.schema (within_tuple h (relvars_of c.schema)) (within_below (length c.schema.relvars) h (relvars_of c.schema) (relvars_below c.schema)) tree.types
 
   pub named_defined : (w : ℕ) → Contains (named_relvars u) w → w < length c.origins
   named_defined w named =
@@ -258,12 +258,12 @@ defines_earlier c x d defined before (virtual {u = v} new is) n u h w named =
 
 pub names_earlier : (c : CatalogueData) → Defined c → Earlier c
 names_earlier c nothing_yet n u h w named = cc
-names_earlier c (one_more {c = old} {x} before is) n u h w named = defines_earlier old x c before (names_earlier old before) is n u h w named
+names_earlier c (next_definition {c = old} {x} before is) n u h w named = defines_earlier old x c before (names_earlier old before) is n u h w named
 
 -- ---- and the CONSTRAINT of a possrep selects those before it
 limit_inside : (c : CatalogueData) (ks : List (Named TypeKind)) (a : Option Expr) (u : Option Typed) → TypesLimit c ks a u → (w : ℕ) → Contains (possreps_within u) w → w < length c.schema.possreps
 limit_inside c ks a u no_limit w h = absurd (omega (arith, h.1))
-limit_inside c ks a u (limit d) w h = (inside c.schema (within (columns ks) nothing) (within_below (length c.schema.relvars) (columns ks) nothing (nothing_below (length c.schema.relvars))) d).1 w h
+limit_inside c ks a u (limit d) w h = (inside c.schema (within_tuple (kind_columns ks) nothing) (within_below (length c.schema.relvars) (kind_columns ks) nothing (nothing_below (length c.schema.relvars))) d).1 w h
 
 abbrev SelectsEarlier : CatalogueData → Type 0
 SelectsEarlier c = (n : ℕ) (u : Option Typed) → slice_get c.limits n ≡ Some u → (w : ℕ) → Contains (possreps_within u) w → w < n
@@ -282,4 +282,4 @@ defines_selecting c x d defined before (virtual new is) n u h w named = before n
 
 pub selects_earlier : (c : CatalogueData) → Defined c → SelectsEarlier c
 selects_earlier c nothing_yet n u h w named = cc
-selects_earlier c (one_more {c = old} {x} before is) n u h w named = defines_selecting old x c before (selects_earlier old before) is n u h w named
+selects_earlier c (next_definition {c = old} {x} before is) n u h w named = defines_selecting old x c before (selects_earlier old before) is n u h w named

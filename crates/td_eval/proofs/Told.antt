@@ -15,7 +15,7 @@ use Rattle.td_headings.specs.Expressions.{IsTree, no_tuple}
 use Rattle.td_kinds.specs.Schemas.{SchemaData}
 use Rattle.td_meaning.specs.Mean.{Relvars}
 use Rattle.td_operators.specs.Values.{rows_of}
-use Rattle.td_soundness.specs.Meanings.{Gives, HasKind, IsError, IsRelation, OrError}
+use Rattle.td_soundness.specs.Meanings.{GivesValue, HasKind, IsError, IsRelationOver, OrError}
 use Rattle.td_soundness.proofs.Values.{rows_given}
 use Rattle.td_story.specs.Meanings.{means}
 use Rattle.td_story.specs.Trees.{AreBases, IsIn, tree_means}
@@ -30,18 +30,18 @@ module _ (c : CatalogueData) (x : Expression) (r : Relvars) (t : Attrs) (defined
   as_tree : means x r t ≡ tree_means c r x.tree no_attrs
   as_tree = means_its_tree c x r t defined (subst (λ h. IsTree c h x.tree x.kind) (sym is.attributes) is.tree) is.under ∙ ap (tree_means c r x.tree) none
 
-  gives : Gives c.schema x.kind (means x r t)
-  gives = subst (Gives c.schema x.kind) (sym as_tree) (trees_have_values c no_tuple x.tree x.kind r no_attrs defined is.tree are (none_fits, tt))
+  gives : GivesValue c.schema x.kind (means x r t)
+  gives = subst (GivesValue c.schema x.kind) (sym as_tree) (trees_have_values c no_tuple x.tree x.kind r no_attrs defined is.tree are (none_fits, tt))
 
   pub told : (m : Result Datum Stop) → means x r t ≡ m → tree_means c r x.tree no_attrs ≡ m
   told m e = sym as_tree ∙ e
 
   pub typed : (v : Datum) → means x r t ≡ Ok v → HasKind c.schema x.kind v
-  typed v e = subst (Gives c.schema x.kind) e gives
+  typed v e = subst (GivesValue c.schema x.kind) e gives
 
   pub raised : (e : Stop) → means x r t ≡ Err e → IsError e
-  raised e is = subst (Gives c.schema x.kind) is gives
+  raised e is = subst (GivesValue c.schema x.kind) is gives
 
 -- the relation that a value of a relation type has
-pub rows_typed : (s : SchemaData) (h : Header) (k : TypeKind) (v : Datum) (r : RowsData) → k ≡ kind.Relation h → HasKind s k v → rows_of v ≡ Ok r → IsRelation s h r
-rows_typed s h k v r is has e = subst (OrError (IsRelation s h)) e (rows_given s h v (subst (λ j. HasKind s j v) is has))
+pub rows_typed : (s : SchemaData) (h : Header) (k : TypeKind) (v : Datum) (r : RowsData) → k ≡ kind.Relation h → HasKind s k v → rows_of v ≡ Ok r → IsRelationOver s h r
+rows_typed s h k v r is has e = subst (OrError (IsRelationOver s h)) e (rows_given s h v (subst (λ j. HasKind s j v) is has))

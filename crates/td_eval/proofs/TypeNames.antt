@@ -6,7 +6,7 @@ use Rattle.td_syntax.specs.declared.script.Definition.{Definition}
 use Rattle.td_kinds.specs.Schemas.{first_from, has_type_name, type_named}
 use Rattle.td_kinds.specs.declared.schema.Representation.{Representation}
 use Rattle.td_headings.specs.Catalogues.{CatalogueData}
-use Rattle.td_headings.specs.Definitions.{Defines, type_, base, virtual, constraint, Defined, nothing_yet, one_more, represented}
+use Rattle.td_headings.specs.Definitions.{Defines, type_, base, virtual, constraint, Defined, nothing_yet, next_definition, represented}
 use Rattle.td_eval.proofs.Placed.{front_or_last}
 
 -- ---- the first that passes stays the first, and where none does the next is it
@@ -53,4 +53,4 @@ defines_named c x d named (constraint new is) = named
 
 pub types_named : (c : CatalogueData) → Defined c → (n : ℕ) (r : Representation) → slice_get c.schema.possreps n ≡ Some r → type_named c.schema r.possrep.ty ≡ Some (n, r)
 types_named c nothing_yet n r is = cc
-types_named c (one_more {c = old} {x} before defines) n r is = defines_named old x c (types_named old before) defines n r is
+types_named c (next_definition {c = old} {x} before defines) n r is = defines_named old x c (types_named old before) defines n r is

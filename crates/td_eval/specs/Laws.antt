@@ -13,7 +13,7 @@ use Rattle.td_headings.specs.Definitions.{Defined}
 use Rattle.td_headings.specs.Expressions.{HasAllUnder, IsTree, IsTyped, reads}
 use Rattle.td_meaning.specs.Mean.{Relvars, mean, rows_in}
 use Rattle.td_meaning.specs.Selections.{selection}
-use Rattle.td_soundness.specs.Meanings.{Gives, GivesRelation, HasHeading}
+use Rattle.td_soundness.specs.Meanings.{GivesValue, GivesRelation, IsTupleOver}
 use Rattle.td_story.specs.Meanings.{means, no_names, relvars_under}
 use Rattle.td_story.specs.Trees.{AreBases, all_relvars, tree_means}
 
@@ -35,7 +35,7 @@ MeansItsTree = (c : CatalogueData) (x : Expression) (r : Relvars) (t : Attrs) �
 
 -- and that is a value of its type, or one of the errors of the language
 abbrev pub TreesHaveValues : Type 0
-TreesHaveValues = (c : CatalogueData) (h : Header) (u : Typed) (k : TypeKind) (r : Relvars) (t : Attrs) → Defined c → IsTree c h u k → AreBases c r → HasHeading c.schema h t → Gives c.schema k (tree_means c r u t)
+TreesHaveValues = (c : CatalogueData) (h : Header) (u : Typed) (k : TypeKind) (r : Relvars) (t : Attrs) → Defined c → IsTree c h u k → AreBases c r → IsTupleOver c.schema h t → GivesValue c.schema k (tree_means c r u t)
 
 -- each relvar, virtual ones too, has a relation of its heading, or raises one of these errors
 abbrev pub RelvarsHaveRelations : Type 0

@@ -5,7 +5,7 @@ ghost use Rattle.td_values.specs.Data.{no_attrs};
 ghost use Rattle.td_values.specs.declared.TypeKind.TheVariants as type_kind;
 ghost use Rattle.td_algebra.specs.Raising.{and_then};
 ghost use Rattle.td_operators.specs.Values as spec;
-ghost use Rattle.td_soundness.specs.Meanings.{HasKind, IsError, IsRelation};
+ghost use Rattle.td_soundness.specs.Meanings.{HasKind, IsError, IsRelationOver};
 ghost use Rattle.td_story.specs.Raises.{Tells, stop_of};
 ghost use Rattle.td_story.specs.Trees.{AreBases, IsIn, tree_means};
 
@@ -77,7 +77,7 @@ pub fn relation<L: Lookup>(
     requires kind { expr.now.kind ≡ type_kind.Relation heading.now }
     requires bases { AreBases catalogue.now (L.relvars lookup.now) }
     ensures told { Tells result (and_then (tree_means catalogue.now (L.relvars lookup.now) expr.now.tree no_attrs) spec.rows_of) }
-    ensures typed { IfOk result (IsRelation catalogue.now.schema heading.now) }
+    ensures typed { IfOk result (IsRelationOver catalogue.now.schema heading.now) }
 {
     match value(alloc, catalogue, expr, lookup) {
         Ok(value) => Ok(relation_in(value)),

@@ -6,7 +6,7 @@ use Rattle.td_tokens.specs.declared.token.Kind.{Kind}
 use Rattle.td_tokens.specs.declared.token.Kind.TheVariants as k
 use Rattle.td_tokens.specs.Lex.{word, name, int, text}
 use Rattle.td_syntax.specs.declared.tree.BinaryOperator.TheVariants as binary
-use Rattle.td_grammar.specs.Grammar.{Tokens, Infix, infix_at, infix_after, infix_word, with_rest, not_matching, target_at, assign_at, binds, number_of}
+use Rattle.td_grammar.specs.Grammar.{Tokens, Infix, infix_at, infix_after, infix_word, with_rest, not_matching, target_at, assign_at, binds, form_number}
 use Rattle.td_grammar.specs.ForProofs.Reader.{look, at, at_name, same_word, tail, word_number}
 
 -- the number by the kind of the token
@@ -14,7 +14,7 @@ abbrev pub number_by : Option Kind → ℕ
 number_by (Some (k.Word v)) = word_number v
 number_by _ = 0
 
-binds_not : (ts : Tokens) → number_of (not_matching ts) 5 ≡ 5
+binds_not : (ts : Tokens) → form_number (not_matching ts) 5 ≡ 5
 binds_not (word w.Matching ∷ ts) = refl
 binds_not _ = refl
 

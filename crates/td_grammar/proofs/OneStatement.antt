@@ -1,5 +1,5 @@
 -- The laws of statements and scripts.
-use Rattle.std.proofs.Common.{◌≡◌, ◌≤◌, ◌+◌, ◌↔◌, ℕ, List, [], Some, length, nat_le, option_and_then, refl, ap, sym, ◌∙◌, arith}
+use Rattle.std.proofs.Common.{◌≡◌, ◌≤◌, ◌+◌, ◌↔◌, ℕ, List, [], Some, length, nat_le, option_and_then, refl, ap, sym, ◌∙◌, subst, arith}
 use Rattle.std.proofs.lemmas.Bool.{le-leb}
 use Rattle.td_tokens.specs.Lex.{Text}
 use Rattle.td_tokens.specs.Lexer.{lexemes}
@@ -8,11 +8,12 @@ use Rattle.td_syntax.specs.declared.tree.Expr.{Expr}
 use Rattle.td_syntax.specs.declared.script.Statement.{Statement}
 use Rattle.td_syntax.specs.declared.script.Definition.{Definition}
 use Rattle.td_syntax.specs.Levels.{levels}
-use Rattle.td_grammar.specs.Grammar.{Tokens, most_levels}
+use Rattle.td_grammar.specs.Grammar.{Tokens, most_levels, without_places}
 use Rattle.td_grammar.specs.Statements.{ReadsStatement, ReadsScript, IsStatement, IsScript, statement_levels, definitions_levels, statement_bytes, script_bytes}
 use Rattle.td_grammar.specs.ForProofs.Reader.{Outcome, reads, whole}
 use Rattle.td_grammar.specs.ForProofs.StatementReader as read
 use Rattle.td_grammar.specs.ForProofs.StatementReader.{statement_of_tokens, script_of_tokens, read_statement, read_script}
+use Rattle.td_grammar.proofs.Lexing.{reading_lexed, lexed_reading}
 use Rattle.td_grammar.proofs.OneTree.{text_read, ended}
 use Rattle.td_grammar.proofs.Sound.{parts, sound}
 use Rattle.td_grammar.proofs.StatementsComplete.{statement_read, script_read}
@@ -39,7 +40,7 @@ one_script ts ds es d k =
 statement_is_read : (bytes : Text) (s : Statement) → IsStatement bytes s → read_statement bytes ≡ Some s
 unfolding read_statement
 statement_is_read bytes s is =
-    rw (le-leb (length bytes) statement_bytes is.short) (ap (option_and_then statement_of_tokens) is.lexed ∙ ap (λ (o : Outcome Statement). whole o) (statement_read is.reads most_levels is.shallow))
+    rw (le-leb (length bytes) statement_bytes is.short) (ap (option_and_then statement_of_tokens) (reading_lexed bytes is.spans is.lexed) ∙ ap (λ (o : Outcome Statement). whole o) (statement_read is.reads most_levels is.shallow))
 
 shallow_reads : (n b : ℕ) (ts : Tokens) (p : Expr × Tokens) → reads n b f.Expr ts ≡ Some p → levels p.0 ≤ b
 shallow_reads n b ts p h = (sound n b f.Expr ts p h).1
@@ -50,10 +51,11 @@ read_is_statement bytes s h =
     let c = text_read (length bytes) statement_bytes (lexemes bytes) statement_of_tokens s (nat_le (length bytes) statement_bytes) refl h in
     let n = length c.1.0 in
     let whole_read = ended (read.statement_at (reads n) most_levels c.1.0) s c.1.2 in
+    let r = lexed_reading bytes c.1.0 c.1.1 in
     record {
-      tokens = c.1.0;
-      lexed = c.1.1;
-      reads = statement_sound (reads n) most_levels (λ m g us q k. (sound n m g us q k).0) c.1.0 s whole_read;
+      spans = r.0;
+      lexed = r.1;
+      reads = subst (λ ts. ReadsStatement ts s) (sym r.2) (statement_sound (reads n) most_levels (λ m g us q k. (sound n m g us q k).0) c.1.0 s whole_read);
       shallow = statement_shallow (reads n) most_levels (shallow_reads n most_levels) c.1.0 (s, []) whole_read;
       short = c.0;
     }
@@ -64,17 +66,18 @@ reader_decides_statements bytes s = (read_is_statement bytes s, statement_is_rea
 script_is_read : (bytes : Text) (ds : List Definition) → IsScript bytes ds → read_script bytes ≡ Some ds
 unfolding read_script
 script_is_read bytes ds is =
-    rw (le-leb (length bytes) script_bytes is.short) (ap (option_and_then script_of_tokens) is.lexed ∙ script_read is.tokens ds is.reads most_levels is.shallow)
+    rw (le-leb (length bytes) script_bytes is.short) (ap (option_and_then script_of_tokens) (reading_lexed bytes is.spans is.lexed) ∙ script_read (without_places is.spans) ds is.reads most_levels is.shallow)
 
 read_is_script : (bytes : Text) (ds : List Definition) → read_script bytes ≡ Some ds → IsScript bytes ds
 unfolding read_script
 read_is_script bytes ds h =
     let c = text_read (length bytes) script_bytes (lexemes bytes) script_of_tokens ds (nat_le (length bytes) script_bytes) refl h in
     let n = length c.1.0 in
+    let r = lexed_reading bytes c.1.0 c.1.1 in
     record {
-      tokens = c.1.0;
-      lexed = c.1.1;
-      reads = script_sound (reads n) most_levels (λ m g us q k. (sound n m g us q k).0) n c.1.0 ds c.1.2;
+      spans = r.0;
+      lexed = r.1;
+      reads = subst (λ ts. ReadsScript ts ds) (sym r.2) (script_sound (reads n) most_levels (λ m g us q k. (sound n m g us q k).0) n c.1.0 ds c.1.2);
       shallow = script_shallow (reads n) most_levels (shallow_reads n most_levels) n c.1.0 ds c.1.2;
       short = c.0;
     }

@@ -1,15 +1,16 @@
 -- The laws of expressions.
-use Rattle.std.proofs.Common.{◌≡◌, ◌≤◌, ◌+◌, ◌↔◌, ℕ, Bool, true, false, cond, [], ◌∷◌, Option, Some, None, length, refl, ap, sym, ◌∙◌, arith, nat_le, option_and_then}
+use Rattle.std.proofs.Common.{◌≡◌, ◌≤◌, ◌+◌, ◌↔◌, ℕ, Bool, true, false, cond, [], ◌∷◌, Option, Some, None, length, refl, ap, sym, ◌∙◌, subst, arith, nat_le, option_and_then}
 use Rattle.std.proofs.lemmas.Bool.{leb-true, le-leb}
 use Rattle.td_tokens.specs.Lex.{Text}
 use Rattle.td_tokens.specs.Lexer.{lexemes}
 use Rattle.td_grammar.specs.declared.forms.Form.TheVariants as f
 use Rattle.td_syntax.specs.declared.tree.Expr.{Expr}
 use Rattle.td_syntax.specs.Levels.{levels}
-use Rattle.td_grammar.specs.Grammar.{Tokens, Reads, IsExpr, IsQuery, most_levels, query_bytes}
+use Rattle.td_grammar.specs.Grammar.{Tokens, Reads, IsExpr, IsQuery, most_levels, query_bytes, without_places}
 use Rattle.td_grammar.specs.ForProofs.Reader.{Outcome, reads, whole, outer, expr_of_tokens, read_expr}
 use Rattle.td_grammar.proofs.Places.{none_some}
 use Rattle.td_grammar.proofs.Complete.{read_nested}
+use Rattle.td_grammar.proofs.Lexing.{reading_lexed, lexed_reading}
 use Rattle.td_grammar.proofs.Sound.{parts, sound}
 
 pub read_whole : (ts : Tokens) (a : Expr) (b : ℕ) → Reads f.Expr ts a [] → levels a ≤ b → reads (length ts) b f.Expr ts ≡ Some (a, [])
@@ -50,13 +51,14 @@ read_is_expr ts a h =
 
 query_is_read : (bytes : Text) (a : Expr) → IsQuery bytes a → read_expr bytes ≡ Some a
 unfolding read_expr
-query_is_read bytes a is = rw (le-leb (length bytes) query_bytes is.short) (ap (option_and_then expr_of_tokens) is.lexed ∙ expr_is_read is.tokens a is.tree)
+query_is_read bytes a is = rw (le-leb (length bytes) query_bytes is.short) (ap (option_and_then expr_of_tokens) (reading_lexed bytes is.spans is.lexed) ∙ expr_is_read (without_places is.spans) a is.tree)
 
 read_is_query : (bytes : Text) (a : Expr) → read_expr bytes ≡ Some a → IsQuery bytes a
 unfolding read_expr
 read_is_query bytes a h =
     let c = text_read (length bytes) query_bytes (lexemes bytes) expr_of_tokens a (nat_le (length bytes) query_bytes) refl h in
-    record { tokens = c.1.0; lexed = c.1.1; tree = read_is_expr c.1.0 a c.1.2; short = c.0 }
+    let r = lexed_reading bytes c.1.0 c.1.1 in
+    record { spans = r.0; lexed = r.1; tree = subst (λ ts. IsExpr ts a) (sym r.2) (read_is_expr c.1.0 a c.1.2); short = c.0 }
 
 pub reader_decides_queries : (bytes : Text) (a : Expr) → (read_expr bytes ≡ Some a) ↔ IsQuery bytes a
 reader_decides_queries bytes a = (read_is_query bytes a, query_is_read bytes a)

@@ -30,7 +30,7 @@ use Rattle.td_syntax.specs.declared.tree.Groups.TheVariants as groups
 use Rattle.td_syntax.specs.declared.tree.Expr.{Expr}
 use Rattle.td_syntax.specs.declared.tree.Expr.TheVariants as e
 use Rattle.td_syntax.specs.Levels.{levels}
-use Rattle.td_grammar.specs.Grammar.{Tokens, Infix, infix_at, target_at, postfix, number_of, binds, aggregate_word, nest_word, unnest_word}
+use Rattle.td_grammar.specs.Grammar.{Tokens, Infix, infix_at, target_at, postfix, form_number, binds, aggregate_word, nest_word, unnest_word}
 use Rattle.td_grammar.specs.Grammar.{IsList, last_item, next_item, IsName, a_name, IsRenaming, a_renaming, ReadsAttributes, no_names, names, but_none, but, ReadsType, boolean, integer_type, char, character, user, tuple_type, relation_type, ReadsHeading, no_fields, fields, ReadsFields, last_field, next_field}
 use Rattle.td_grammar.specs.Grammar.{Reads, with_, with_assigned, greedy, one_and, more_or, one_not, more_and, not_, one_comparison, one_relational, compared, one_additive, more_relational, postfixed, one_multiplicative, more_additive, one_prefixed, more_multiplicative, negated, closure, tuple_from, name_from, one_projection, one_primary, project}
 use Rattle.td_grammar.specs.Grammar.{integer, characters, is_true, is_false, dee, dum, a_variable, call_none, call, brackets, tuple_none, tuple, relation, headed_none, headed, is_empty, count, aggregate_all, aggregate_of, choice, extend, extend_assigned, summarize, summarize_per, summarize_by}
@@ -247,7 +247,7 @@ same_numbers m j h = grind arith
 
 infix_binds : (ts : Tokens) (p : Infix) → infix_at ts ≡ Some p → binds ts ≡ p.0
 unfolding binds
-infix_binds ts p h = ap (λ o. number_of o (postfix ts)) h
+infix_binds ts p h = ap (λ o. form_number o (postfix ts)) h
 
 -- an infix operator and its right operand
 record Operated (operand : Reader Expr) (a : Expr) (ts : Tokens) (p : Expr × Tokens) : Type 0 where

@@ -2,8 +2,7 @@
 use Rattle.std.specs.Prelude.{◌≡◌, ◌≤◌, ℕ, max, length, List, [], ◌∷◌, Option, Some, None}
 use Rattle.td_tokens.specs.declared.token.Word.{Word}
 use Rattle.td_tokens.specs.declared.token.Word.TheVariants as w
-use Rattle.td_tokens.specs.Lex.{Text, word, name}
-use Rattle.td_tokens.specs.Lexer.{lexemes}
+use Rattle.td_tokens.specs.Lex.{Text, word, name, Spanned, IsReading}
 use Rattle.td_grammar.specs.declared.forms.Form.TheVariants as f
 use Rattle.td_grammar.specs.declared.forms.Naming.TheVariants as naming
 use Rattle.td_syntax.specs.declared.tree.TypeExpr.{TypeExpr}
@@ -19,31 +18,50 @@ use Rattle.td_syntax.specs.declared.script.Opening.TheVariants as opening
 use Rattle.td_syntax.specs.declared.script.Definition.{Definition}
 use Rattle.td_syntax.specs.declared.script.Definition.TheVariants as definition
 use Rattle.td_syntax.specs.Levels.{levels, named_levels}
-use Rattle.td_grammar.specs.Grammar.{Tokens, Reads, ReadsNamedList, ReadsAttributes, ReadsHeading, ReadsFields, IsList, most_levels}
+use Rattle.td_grammar.specs.Grammar.{Tokens, Reads, ReadsNamedList, ReadsAttributes, ReadsHeading, ReadsFields, IsList, most_levels, without_places}
 
 -- ---- statements
 
 -- "(" Name ":=" expression, .. ")" and [":"] "{" Name ":=" expression, .. "}"
 pub data ReadsSets : Tokens → List (Named Expr) → Tokens → Type 0 where
-  sets : {ts r : Tokens} {xs : List (Named Expr)} → ReadsNamedList naming.Assigned ts xs (word w.CloseParenthesis ∷ r) → ReadsSets (word w.OpenParenthesis ∷ ts) xs r
-  sets_braces : {ts r : Tokens} {xs : List (Named Expr)} → ReadsNamedList naming.Assigned ts xs (word w.CloseBrace ∷ r) → ReadsSets (word w.OpenBrace ∷ ts) xs r
-  sets_colon : {ts r : Tokens} {xs : List (Named Expr)} → ReadsNamedList naming.Assigned ts xs (word w.CloseBrace ∷ r) → ReadsSets (word w.Colon ∷ word w.OpenBrace ∷ ts) xs r
+  sets : {ts r : Tokens} {xs : List (Named Expr)}
+      → ReadsNamedList naming.Assigned ts xs (word w.CloseParenthesis ∷ r)
+      → ReadsSets (word w.OpenParenthesis ∷ ts) xs r
+  sets_braces : {ts r : Tokens} {xs : List (Named Expr)}
+      → ReadsNamedList naming.Assigned ts xs (word w.CloseBrace ∷ r)
+      → ReadsSets (word w.OpenBrace ∷ ts) xs r
+  sets_colon : {ts r : Tokens} {xs : List (Named Expr)}
+      → ReadsNamedList naming.Assigned ts xs (word w.CloseBrace ∷ r)
+      → ReadsSets (word w.Colon ∷ word w.OpenBrace ∷ ts) xs r
 
 pub data ReadsAction : Tokens → Action → Tokens → Type 0 where
   -- Name ":=" expression
-  assign : {x : Text} {ts r : Tokens} {a : Expr} → Reads f.Expr ts a r → ReadsAction (name x ∷ word w.Assign ∷ ts) (action.Assign x a) r
+  assign : {x : Text} {ts r : Tokens} {a : Expr}
+      → Reads f.Expr ts a r
+      → ReadsAction (name x ∷ word w.Assign ∷ ts) (action.Assign x a) r
   -- INSERT Name expression
-  insert : {x : Text} {ts r : Tokens} {a : Expr} → Reads f.Expr ts a r → ReadsAction (word w.Insert ∷ name x ∷ ts) (action.Insert x a) r
+  insert : {x : Text} {ts r : Tokens} {a : Expr}
+      → Reads f.Expr ts a r
+      → ReadsAction (word w.Insert ∷ name x ∷ ts) (action.Insert x a) r
   -- DELETE Name [WHERE expression]
   delete_all : {x : Text} {r : Tokens} → ReadsAction (word w.Delete ∷ name x ∷ r) (action.Delete x None) r
-  delete_where : {x : Text} {ts r : Tokens} {a : Expr} → Reads f.Expr ts a r → ReadsAction (word w.Delete ∷ name x ∷ word w.Where ∷ ts) (action.Delete x (Some a)) r
+  delete_where : {x : Text} {ts r : Tokens} {a : Expr}
+      → Reads f.Expr ts a r
+      → ReadsAction (word w.Delete ∷ name x ∷ word w.Where ∷ ts) (action.Delete x (Some a)) r
   -- UPDATE Name [WHERE expression] sets
-  update_all : {x : Text} {ts r : Tokens} {xs : List (Named Expr)} → ReadsSets ts xs r → ReadsAction (word w.Update ∷ name x ∷ ts) (action.Update x None xs) r
-  update_where : {x : Text} {ts mid r : Tokens} {a : Expr} {xs : List (Named Expr)} → Reads f.Expr ts a mid → ReadsSets mid xs r → ReadsAction (word w.Update ∷ name x ∷ word w.Where ∷ ts) (action.Update x (Some a) xs) r
+  update_all : {x : Text} {ts r : Tokens} {xs : List (Named Expr)}
+      → ReadsSets ts xs r
+      → ReadsAction (word w.Update ∷ name x ∷ ts) (action.Update x None xs) r
+  update_where : {x : Text} {ts mid r : Tokens} {a : Expr} {xs : List (Named Expr)}
+      → Reads f.Expr ts a mid
+      → ReadsSets mid xs r
+      → ReadsAction (word w.Update ∷ name x ∷ word w.Where ∷ ts) (action.Update x (Some a) xs) r
 
 pub data ReadsStatement : Tokens → Statement → Type 0 where
   -- action, .. ";"
-  assignment : {ts : Tokens} {xs : List Action} → IsList ReadsAction ts xs (word w.Semicolon ∷ []) → ReadsStatement ts (statement.Assignment xs)
+  assignment : {ts : Tokens} {xs : List Action}
+      → IsList ReadsAction ts xs (word w.Semicolon ∷ [])
+      → ReadsStatement ts (statement.Assignment xs)
 
 -- ---- scripts
 
@@ -64,14 +82,24 @@ pub data ReadsLimit : Tokens → Option Expr → Tokens → Type 0 where
 
 -- RELATION heading [INIT "(" expression ")"], and INIT "(" expression ")"
 pub data ReadsOpening : Tokens → Opening → Tokens → Type 0 where
-  empty : {ts r : Tokens} {h : List (Named TypeExpr)} → ReadsHeading ts h r → ReadsOpening (word w.Relation ∷ ts) (opening.Empty h) r
-  headed_init : {ts mid r : Tokens} {h : List (Named TypeExpr)} {a : Expr} → ReadsHeading ts h (word w.Init ∷ word w.OpenParenthesis ∷ mid) → Reads f.Expr mid a (word w.CloseParenthesis ∷ r) → ReadsOpening (word w.Relation ∷ ts) (opening.Init (Some h) a) r
-  init : {ts r : Tokens} {a : Expr} → Reads f.Expr ts a (word w.CloseParenthesis ∷ r) → ReadsOpening (word w.Init ∷ word w.OpenParenthesis ∷ ts) (opening.Init None a) r
+  empty : {ts r : Tokens} {h : List (Named TypeExpr)}
+      → ReadsHeading ts h r
+      → ReadsOpening (word w.Relation ∷ ts) (opening.Empty h) r
+  headed_init : {ts mid r : Tokens} {h : List (Named TypeExpr)} {a : Expr}
+      → ReadsHeading ts h (word w.Init ∷ word w.OpenParenthesis ∷ mid)
+      → Reads f.Expr mid a (word w.CloseParenthesis ∷ r)
+      → ReadsOpening (word w.Relation ∷ ts) (opening.Init (Some h) a) r
+  init : {ts r : Tokens} {a : Expr}
+      → Reads f.Expr ts a (word w.CloseParenthesis ∷ r)
+      → ReadsOpening (word w.Init ∷ word w.OpenParenthesis ∷ ts) (opening.Init None a) r
 
 -- KEY attributes, once or more
 pub data ReadsKeys : Tokens → List Attributes → Tokens → Type 0 where
   last_key : {ts r : Tokens} {k : Attributes} → ReadsAttributes ts k r → ReadsKeys (word w.Key ∷ ts) (k ∷ []) r
-  next_key : {ts mid r : Tokens} {k : Attributes} {ks : List Attributes} → ReadsAttributes ts k mid → ReadsKeys mid ks r → ReadsKeys (word w.Key ∷ ts) (k ∷ ks) r
+  next_key : {ts mid r : Tokens} {k : Attributes} {ks : List Attributes}
+      → ReadsAttributes ts k mid
+      → ReadsKeys mid ks r
+      → ReadsKeys (word w.Key ∷ ts) (k ∷ ks) r
 
 -- BASE or REAL
 pub data IsBase : Word → Type 0 where
@@ -80,19 +108,33 @@ pub data IsBase : Word → Type 0 where
 
 pub data ReadsDefinition : Tokens → Definition → Tokens → Type 0 where
   -- TYPE Name POSSREP [Name] "{" [Name type, ..] [CONSTRAINT expression] "}" ";"
-  type_ : {x : Text} {y : Option Text} {ts mid next r : Tokens} {h : List (Named TypeExpr)} {c : Option Expr} → ReadsMaybeName ts y (word w.OpenBrace ∷ mid) → ReadsComponents mid h next → ReadsLimit next c (word w.CloseBrace ∷ word w.Semicolon ∷ r)
+  type_ : {x : Text} {y : Option Text} {ts mid next r : Tokens} {h : List (Named TypeExpr)} {c : Option Expr}
+      → ReadsMaybeName ts y (word w.OpenBrace ∷ mid)
+      → ReadsComponents mid h next
+      → ReadsLimit next c (word w.CloseBrace ∷ word w.Semicolon ∷ r)
       → ReadsDefinition (word w.Type ∷ name x ∷ word w.Possrep ∷ ts) (definition.Type x y h c) r
   -- VAR Name (BASE or REAL) opening keys ";"
-  base : {v : Word} {x : Text} {ts mid r : Tokens} {o : Opening} {ks : List Attributes} → IsBase v → ReadsOpening ts o mid → ReadsKeys mid ks (word w.Semicolon ∷ r) → ReadsDefinition (word w.Var ∷ name x ∷ word v ∷ ts) (definition.Base x o ks) r
+  base : {v : Word} {x : Text} {ts mid r : Tokens} {o : Opening} {ks : List Attributes}
+      → IsBase v
+      → ReadsOpening ts o mid
+      → ReadsKeys mid ks (word w.Semicolon ∷ r)
+      → ReadsDefinition (word w.Var ∷ name x ∷ word v ∷ ts) (definition.Base x o ks) r
   -- VAR Name VIRTUAL "(" expression ")" ";"
-  virtual : {x : Text} {ts r : Tokens} {a : Expr} → Reads f.Expr ts a (word w.CloseParenthesis ∷ word w.Semicolon ∷ r) → ReadsDefinition (word w.Var ∷ name x ∷ word w.Virtual ∷ word w.OpenParenthesis ∷ ts) (definition.Virtual x a) r
+  virtual : {x : Text} {ts r : Tokens} {a : Expr}
+      → Reads f.Expr ts a (word w.CloseParenthesis ∷ word w.Semicolon ∷ r)
+      → ReadsDefinition (word w.Var ∷ name x ∷ word w.Virtual ∷ word w.OpenParenthesis ∷ ts) (definition.Virtual x a) r
   -- CONSTRAINT Name expression ";"
-  constraint : {x : Text} {ts r : Tokens} {a : Expr} → Reads f.Expr ts a (word w.Semicolon ∷ r) → ReadsDefinition (word w.Constraint ∷ name x ∷ ts) (definition.Constraint x a) r
+  constraint : {x : Text} {ts r : Tokens} {a : Expr}
+      → Reads f.Expr ts a (word w.Semicolon ∷ r)
+      → ReadsDefinition (word w.Constraint ∷ name x ∷ ts) (definition.Constraint x a) r
 
 -- script: definitions, up to the end
 pub data ReadsScript : Tokens → List Definition → Type 0 where
   nothing : ReadsScript [] []
-  define : {ts mid : Tokens} {d : Definition} {ds : List Definition} → ReadsDefinition ts d mid → ReadsScript mid ds → ReadsScript ts (d ∷ ds)
+  define : {ts mid : Tokens} {d : Definition} {ds : List Definition}
+      → ReadsDefinition ts d mid
+      → ReadsScript mid ds
+      → ReadsScript ts (d ∷ ds)
 
 -- ---- levels
 
@@ -138,16 +180,16 @@ script_bytes = 65536
 
 -- the text is this statement: not too long, and none of its expressions too deep
 pub record IsStatement (bytes : Text) (s : Statement) : Type 0 where
-  pub tokens : Tokens
-  pub lexed : lexemes bytes ≡ Some tokens
-  pub reads : ReadsStatement tokens s
+  pub spans : List Spanned
+  pub lexed : IsReading bytes spans
+  pub reads : ReadsStatement (without_places spans) s
   pub shallow : statement_levels s ≤ most_levels
   pub short : length bytes ≤ statement_bytes
 
 -- the text is this script, likewise
 pub record IsScript (bytes : Text) (ds : List Definition) : Type 0 where
-  pub tokens : Tokens
-  pub lexed : lexemes bytes ≡ Some tokens
-  pub reads : ReadsScript tokens ds
+  pub spans : List Spanned
+  pub lexed : IsReading bytes spans
+  pub reads : ReadsScript (without_places spans) ds
   pub shallow : definitions_levels ds ≤ most_levels
   pub short : length bytes ≤ script_bytes

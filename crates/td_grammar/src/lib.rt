@@ -3,18 +3,18 @@
 
 mod binding;
 mod chains;
-pub mod cursor;
+mod cursor;
 mod definitions;
 pub mod error;
 pub mod forms;
-pub mod grammar;
+mod grammar;
 mod items;
 pub mod laws;
-pub mod lists;
+mod lists;
 mod primary;
 pub mod reader;
 mod statements;
-pub mod types;
+mod types;
 
 pub use error::ReadError;
 pub use reader::{read_expr, read_script, read_statement};

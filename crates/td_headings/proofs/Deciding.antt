@@ -13,12 +13,13 @@ use Rattle.td_syntax.specs.declared.script.Opening.{Opening}
 use Rattle.td_syntax.specs.declared.script.Opening.TheVariants as opening
 use Rattle.td_syntax.specs.declared.script.Definition.{Definition}
 use Rattle.td_syntax.specs.declared.script.Definition.TheVariants as definition
-use Rattle.td_kinds.specs.Kinds.{Text, is_boolean, relation_heading, same_heading}
+use Rattle.td_kinds.specs.Kinds.{Name, is_boolean, relation_heading, same_heading}
 use Rattle.td_kinds.specs.Lists.{attributes_of}
-use Rattle.td_kinds.specs.Results.{and_then, where_true}
-use Rattle.td_kinds.specs.Schemas.{SchemaData, may_add, relvar_named, type_named, possrep_named, begins_with_the}
-use Rattle.td_kinds.specs.Scopes.{Scope, nothing, within}
-use Rattle.td_kinds.specs.Written.{components_written, heading_written, columns}
+use Rattle.td_kinds.specs.Results.{where_some, where_true}
+use Rattle.td_kinds.specs.Schemas.{SchemaData, relvar_named, type_named, possrep_named, begins_with_the}
+use Rattle.td_kinds.specs.ForProofs.Additions.{may_add}
+use Rattle.td_kinds.specs.Scopes.{Scope, nothing, within_tuple}
+use Rattle.td_kinds.specs.Written.{components_written, heading_written, kind_columns}
 use Rattle.td_trees.specs.declared.tree.Typed.{Typed}
 use Rattle.td_trees.specs.declared.tree.Typing.{Typing}
 use Rattle.td_typing.specs.Trees.{typing}
@@ -36,10 +37,10 @@ use Rattle.td_headings.specs.declared.defined.Origin.TheVariants as origin
 some_same : {A : Type 0} (a b : A) → Some a ≡ Some b → a ≡ b
 some_same a b h = cc
 
-goes : {A B : Type 0} (o : Option A) (a : A) (f : A → Option B) → o ≡ Some a → and_then o f ≡ f a
-goes o a f h = ap (λ x. and_then x f) h
+goes : {A B : Type 0} (o : Option A) (a : A) (f : A → Option B) → o ≡ Some a → where_some o f ≡ f a
+goes o a f h = ap (λ x. where_some x f) h
 
-inverted : {A B : Type 0} (o : Option A) (f : A → Option B) (y : B) → and_then o f ≡ Some y → (a : A) × (o ≡ Some a) × (f a ≡ Some y)
+inverted : {A B : Type 0} (o : Option A) (f : A → Option B) (y : B) → where_some o f ≡ Some y → (a : A) × (o ≡ Some a) × (f a ≡ Some y)
 inverted None f y h = cc
 inverted (Some a) f y h = (a, refl, h)
 
@@ -79,20 +80,20 @@ unfolding value_of
 value_made u h = refl
 
 module _ (cat : SchemaData) (s : Scope) (a : Expr) where
-  truth_types : (u : Typed) → and_then (infer cat a s) truth_of ≡ Some u → Types cat s a u kind.Boolean
+  truth_types : (u : Typed) → where_some (infer cat a s) truth_of ≡ Some u → Types cat s a u kind.Boolean
   truth_types u h =
       let p = inverted (infer cat a s) truth_of u h in
       sound cat a s (typing u kind.Boolean) (p.1 ∙ ap Some (truth p.0 u p.2))
 
-  types_truth : (u : Typed) → Types cat s a u kind.Boolean → and_then (infer cat a s) truth_of ≡ Some u
+  types_truth : (u : Typed) → Types cat s a u kind.Boolean → where_some (infer cat a s) truth_of ≡ Some u
   types_truth u d = goes (infer cat a s) (typing u kind.Boolean) truth_of (complete cat d) ∙ truth_made u
 
-  value_types : (v : Value) → and_then (infer cat a s) value_of ≡ Some v → Types cat s a v.0 (kind.Relation v.1)
+  value_types : (v : Value) → where_some (infer cat a s) value_of ≡ Some v → Types cat s a v.0 (kind.Relation v.1)
   value_types v h =
       let p = inverted (infer cat a s) value_of v h in
       sound cat a s (typing v.0 (kind.Relation v.1)) (p.1 ∙ ap Some (value p.0 v p.2))
 
-  types_value : (u : Typed) (h : Header) → Types cat s a u (kind.Relation h) → and_then (infer cat a s) value_of ≡ Some (u, h)
+  types_value : (u : Typed) (h : Header) → Types cat s a u (kind.Relation h) → where_some (infer cat a s) value_of ≡ Some (u, h)
   types_value u h d = goes (infer cat a s) (typing u (kind.Relation h)) value_of (complete cat d) ∙ value_made u h
 
 -- ---- the parts of definitions
@@ -102,13 +103,13 @@ module _ (c : CatalogueData) where
   limit_is ks None u h = subst (TypesLimit c ks None) (some_same None u h) no_limit
   limit_is ks (Some a) u h =
       let p = inverted (limit_after c.schema ks a) (λ v. Some (Some v)) u h in
-      subst (TypesLimit c ks (Some a)) (some_same (Some p.0) u p.2) (limit (truth_types c.schema (within (columns ks) nothing) a p.0 p.1))
+      subst (TypesLimit c ks (Some a)) (some_same (Some p.0) u p.2) (limit (truth_types c.schema (within_tuple (kind_columns ks) nothing) a p.0 p.1))
 
   is_limit : (ks : List (Named TypeKind)) (a : Option Expr) (u : Option Typed) → TypesLimit c ks a u → limits_after c.schema ks a ≡ Some u
   unfolding limit_after
   is_limit ks None u no_limit = refl
   is_limit ks (Some a) None x = elim x [ ]
-  is_limit ks (Some a) (Some u) (limit d) = goes (limit_after c.schema ks a) u (λ v. Some (Some v)) (types_truth c.schema (within (columns ks) nothing) a u d)
+  is_limit ks (Some a) (Some u) (limit d) = goes (limit_after c.schema ks a) u (λ v. Some (Some v)) (types_truth c.schema (within_tuple (kind_columns ks) nothing) a u d)
 
   value_is : (a : Expr) (v : Value) → value_after c.schema a ≡ Some v → Types c.schema (names_of_relvars c) a v.0 (kind.Relation v.1)
   unfolding value_after
@@ -134,7 +135,7 @@ module _ (c : CatalogueData) where
       let q = inverted (value_after c.schema a) (λ v. Some (v.1, Some v.0)) p h in
       subst (λ (r : Header × Option Typed). TypesOpening c (opening.Init None a) r.0 r.1) (some_same (q.0.1, Some q.0.0) p q.2) (init (value_is a q.0 q.1))
   opening_is (opening.Init (Some fs) a) p h =
-      let q = inverted (heading_written c.schema fs) (λ g. and_then (value_after c.schema a) (beside g)) p h in
+      let q = inverted (heading_written c.schema fs) (λ g. where_some (value_after c.schema a) (beside g)) p h in
       let r = inverted (value_after c.schema a) (beside q.0) p q.2 in
       let t = tested (same_heading q.0 r.0.1) (r.0.1, Some r.0.0) p r.2 in
       let one : q.0 ≡ r.0.1 = (let e : kind.Relation q.0 ≡ kind.Relation r.0.1 = same (kind.Relation q.0) (kind.Relation r.0.1) t.0 in cc) in
@@ -148,21 +149,21 @@ module _ (c : CatalogueData) where
   is_opening (opening.Init (Some fs) a) h None x = elim x [ ]
   is_opening (opening.Init None a) h (Some u) (init d) = goes (value_after c.schema a) (u, h) (λ v. Some (v.1, Some v.0)) (is_value a u h d)
   is_opening (opening.Init (Some fs) a) h (Some u) (headed_init e d) =
-      goes (heading_written c.schema fs) h (λ g. and_then (value_after c.schema a) (beside g)) e
+      goes (heading_written c.schema fs) h (λ g. where_some (value_after c.schema a) (beside g)) e
       ∙ goes (value_after c.schema a) (u, h) (beside h) (is_value a u h d)
       ∙ passes (same_heading h h) (h, Some u) (same_itself (kind.Relation h))
 
-keys_are : (h : Header) (as' : List Attributes) (done ks : List (List Text)) → each (λ a. attributes_of a h) done as' ≡ Some ks → (rest : List (List Text)) × (ks ≡ done ++ rest) × AreKeys h as' rest
+keys_are : (h : Header) (as' : List Attributes) (done ks : List (List Name)) → each (λ a. attributes_of a h) done as' ≡ Some ks → (rest : List (List Name)) × (ks ≡ done ++ rest) × AreKeys h as' rest
 keys_are h [] done ks e = ([], sym (some_same done ks e) ∙ sym (append-nil done), no_keys)
 keys_are h (a ∷ as') done ks e =
     let p = inverted (attributes_of a h) (λ ns. each (λ b. attributes_of b h) (done ++ ns ∷ []) as') ks e in
     let r = keys_are h as' (done ++ p.0 ∷ []) ks p.2 in
     (p.0 ∷ r.0, r.1 ∙ append_assoc done (p.0 ∷ []) r.0, next_key p.1 r.2)
 
-all_keys : (h : Header) (as' : List Attributes) (ks : List (List Text)) → keys_after h as' ≡ Some ks → AreKeys h as' ks
+all_keys : (h : Header) (as' : List Attributes) (ks : List (List Name)) → keys_after h as' ≡ Some ks → AreKeys h as' ks
 all_keys h as' ks e = let r = keys_are h as' [] ks e in subst (AreKeys h as') (sym r.1) r.2
 
-are_keys : {h : Header} {as' : List Attributes} {ks : List (List Text)} → AreKeys h as' ks → (done : List (List Text)) → each (λ a. attributes_of a h) done as' ≡ Some (done ++ ks)
+are_keys : {h : Header} {as' : List Attributes} {ks : List (List Name)} → AreKeys h as' ks → (done : List (List Name)) → each (λ a. attributes_of a h) done as' ≡ Some (done ++ ks)
 are_keys no_keys done = ap Some (sym (append-nil done))
 are_keys {h} (next_key {a} {ns} {as'} {ks} e d) done =
     goes (attributes_of a h) ns (λ ms. each (λ b. attributes_of b h) (done ++ ms ∷ []) as') e
@@ -182,27 +183,27 @@ all_three false b d p q r = cc
 
 -- ---- definitions
 module _ (c d : CatalogueData) where
-  type_is : (n : Text) (m : Option Text) (xs : List (Named TypeExpr)) (a : Option Expr) → type_after c n (unwrap_or m n) xs a ≡ Some d → Defines c (definition.Type n m xs a) d
+  type_is : (n : Name) (m : Option Name) (xs : List (Named TypeExpr)) (a : Option Expr) → type_after c n (unwrap_or m n) xs a ≡ Some d → Defines c (definition.Type n m xs a) d
   unfolding type_after possrep_after
   type_is n m xs a h =
       let l = unwrap_or m n in
-      let p = inverted (components_written c.schema xs) (λ ks. and_then (limits_after c.schema ks a) (λ u. possrep_after c (represented n l ks) u)) d h in
+      let p = inverted (components_written c.schema xs) (λ ks. where_some (limits_after c.schema ks a) (λ u. possrep_after c (represented n l ks) u)) d h in
       let q = inverted (limits_after c.schema p.0 a) (λ u. possrep_after c (represented n l p.0) u) d p.2 in
       let t = tested (may_add c.schema (represented n l p.0)) (with_type c (represented n l p.0) q.0) d q.2 in
       let b = three (not (begins_with_the l)) (is_none (type_named c.schema n)) (is_none (possrep_named c.schema l)) t.0 in
       subst (Defines c (definition.Type n m xs a)) t.1
       (type_ (there_is_none (type_named c.schema n) b.1) (there_is_none (possrep_named c.schema l) b.2) (is_false (begins_with_the l) b.0) p.1 (limit_is c p.0 a q.0 q.1))
 
-  base_is : (n : Text) (o : Opening) (as' : List Attributes) → base_after c n o as' ≡ Some d → Defines c (definition.Base n o as') d
+  base_is : (n : Name) (o : Opening) (as' : List Attributes) → base_after c n o as' ≡ Some d → Defines c (definition.Base n o as') d
   unfolding base_after relvar_after
   base_is n o as' h =
-      let p = inverted (opening_after c.schema o) (λ p. and_then (keys_after p.0 as') (λ ks. relvar_after c n p.0 (origin.Base ks p.1) (key_tests c ks))) d h in
+      let p = inverted (opening_after c.schema o) (λ p. where_some (keys_after p.0 as') (λ ks. relvar_after c n p.0 (origin.Base ks p.1) (key_tests c ks))) d h in
       let q = inverted (keys_after p.0.0 as') (λ ks. relvar_after c n p.0.0 (origin.Base ks p.0.1) (key_tests c ks)) d p.2 in
       let t = tested (is_none (relvar_named c.schema n)) (with_relvar c n p.0.0 (origin.Base q.0 p.0.1) (key_tests c q.0)) d q.2 in
       subst (Defines c (definition.Base n o as')) t.1
       (base (there_is_none (relvar_named c.schema n) t.0) (opening_is c o p.0 p.1) (all_keys p.0.0 as' q.0 q.1))
 
-  virtual_is : (n : Text) (a : Expr) → virtual_after c n a ≡ Some d → Defines c (definition.Virtual n a) d
+  virtual_is : (n : Name) (a : Expr) → virtual_after c n a ≡ Some d → Defines c (definition.Virtual n a) d
   unfolding virtual_after relvar_after
   virtual_is n a h =
       let p = inverted (value_after c.schema a) (λ v. relvar_after c n v.1 (origin.Virtual v.0) []) d h in
@@ -210,7 +211,7 @@ module _ (c d : CatalogueData) where
       subst (Defines c (definition.Virtual n a)) t.1
       (virtual (there_is_none (relvar_named c.schema n) t.0) (value_is c a p.0 p.1))
 
-  constraint_is : (n : Text) (a : Expr) → constraint_after c n a ≡ Some d → Defines c (definition.Constraint n a) d
+  constraint_is : (n : Name) (a : Expr) → constraint_after c n a ≡ Some d → Defines c (definition.Constraint n a) d
   unfolding constraint_after
   constraint_is n a h =
       let p = inverted (condition_after c.schema a) (λ u. where_true (not (list_any (is_constraint n) c.tests)) (with_constraint c n u)) d h in
@@ -231,12 +232,12 @@ pub is_after : {c d : CatalogueData} {x : Definition} → Defines c x d → afte
 unfolding type_after possrep_after base_after virtual_after constraint_after relvar_after
 is_after {c} (type_ {n} {m} {xs} {a} {ks} {u} t p b e l) =
     let o = unwrap_or m n in
-    goes (components_written c.schema xs) ks (λ ls. and_then (limits_after c.schema ls a) (λ v. possrep_after c (represented n o ls) v)) e
+    goes (components_written c.schema xs) ks (λ ls. where_some (limits_after c.schema ls a) (λ v. possrep_after c (represented n o ls) v)) e
     ∙ goes (limits_after c.schema ks a) u (λ v. possrep_after c (represented n o ks) v) (is_limit c ks a u l)
     ∙ passes (may_add c.schema (represented n o ks)) (with_type c (represented n o ks) u)
     (all_three (not (begins_with_the o)) (is_none (type_named c.schema n)) (is_none (possrep_named c.schema o)) (ap not b) (none_is (type_named c.schema n) t) (none_is (possrep_named c.schema o) p))
 is_after {c} (base {n} {o} {as'} {h} {u} {ks} e t k) =
-    goes (opening_after c.schema o) (h, u) (λ p. and_then (keys_after p.0 as') (λ ls. relvar_after c n p.0 (origin.Base ls p.1) (key_tests c ls))) (is_opening c o h u t)
+    goes (opening_after c.schema o) (h, u) (λ p. where_some (keys_after p.0 as') (λ ls. relvar_after c n p.0 (origin.Base ls p.1) (key_tests c ls))) (is_opening c o h u t)
     ∙ goes (keys_after h as') ks (λ ls. relvar_after c n h (origin.Base ls u) (key_tests c ls)) (are_keys k [])
     ∙ passes (is_none (relvar_named c.schema n)) (with_relvar c n h (origin.Base ks u) (key_tests c ks)) (none_is (relvar_named c.schema n) e)
 is_after {c} (virtual {n} {a} {u} {h} e t) =

@@ -4,7 +4,7 @@ use Rattle.std.specs.FinMap as by_name
 use Rattle.td_values.specs.Order.{text_cmp}
 use Rattle.td_values.specs.declared.TypeKind.{TypeKind}
 use Rattle.td_syntax.specs.declared.tree.Expr.{Expr}
-use Rattle.td_kinds.specs.Scopes.{Scope, within, or_outer, relvars_of}
+use Rattle.td_kinds.specs.Scopes.{Scope, within_tuple, or_outer, relvars_of}
 use Rattle.td_typing.specs.Types.{Types}
 use Rattle.td_trees.specs.declared.expression.Expression.{Expression}
 use Rattle.td_trees.specs.declared.tree.Typed.{Typed}
@@ -13,14 +13,14 @@ use Rattle.td_headings.specs.Catalogues.{CatalogueData}
 use Rattle.td_headings.specs.Definitions.{Defined}
 use Rattle.td_headings.specs.Expressions.{HasAllUnder, IsTree, IsTyped, no_tuple}
 
-without : (s : Scope) → within no_tuple s ≡ s
+without : (s : Scope) → within_tuple no_tuple s ≡ s
 without s = λ i x. or_outer (by_name.get-empty text_cmp x i) (s x)
 
 module _ (c : CatalogueData) (a : Expr) (u : Typed) (k : TypeKind) where
-  pub in_no_tuple : Types c.schema (relvars_of c.schema) a u k → Types c.schema (within no_tuple (relvars_of c.schema)) a u k
+  pub in_no_tuple : Types c.schema (relvars_of c.schema) a u k → Types c.schema (within_tuple no_tuple (relvars_of c.schema)) a u k
   in_no_tuple d = subst (λ s. Types c.schema s a u k) (sym (without (relvars_of c.schema))) d
 
-  pub at_relvars : Types c.schema (within no_tuple (relvars_of c.schema)) a u k → Types c.schema (relvars_of c.schema) a u k
+  pub at_relvars : Types c.schema (within_tuple no_tuple (relvars_of c.schema)) a u k → Types c.schema (relvars_of c.schema) a u k
   at_relvars d = subst (λ s. Types c.schema s a u k) (without (relvars_of c.schema)) d
 
 -- a tree with all that is under it is an expression

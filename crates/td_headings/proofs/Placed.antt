@@ -6,11 +6,12 @@ use Rattle.td_syntax.specs.declared.script.Opening.{Opening}
 use Rattle.td_syntax.specs.declared.tree.Expr.{Expr}
 use Rattle.td_kinds.specs.declared.error.TypeError.{TypeError}
 use Rattle.td_kinds.specs.declared.error.TypeError.TheVariants.{IllTyped, OutOfMemory}
-use Rattle.td_kinds.specs.Kinds.{Text}
-use Rattle.td_kinds.specs.Results.{Fails, and_then, where_true}
+use Rattle.td_kinds.specs.Kinds.{Name}
+use Rattle.td_kinds.specs.Results.{Fails, where_some, where_true}
 use Rattle.std.specs.Result.{OnOk}
 use Rattle.td_kinds.specs.declared.schema.Representation.{Representation}
-use Rattle.td_kinds.specs.Schemas.{SchemaData, relvar_named, relvar_added, may_add, type_added}
+use Rattle.td_kinds.specs.Schemas.{SchemaData, relvar_named}
+use Rattle.td_kinds.specs.ForProofs.Additions.{relvar_added, may_add, type_added}
 use Rattle.td_trees.specs.declared.tree.Typed.{Typed}
 use Rattle.td_headings.specs.Catalogues.{CatalogueData}
 use Rattle.td_headings.specs.Definitions.{with_relvar, with_type, key_tests}
@@ -32,10 +33,10 @@ refused : {A : Type 0} (b : Bool) (a : A) → where_true b a ≡ None → b ≡ 
 refused true a h = cc
 refused false a h = refl
 
-goes : {A B : Type 0} (o : Option A) (a : A) (f : A → Option B) → o ≡ Some a → and_then o f ≡ f a
-goes o a f h = ap (λ x. and_then x f) h
+goes : {A B : Type 0} (o : Option A) (a : A) (f : A → Option B) → o ≡ Some a → where_some o f ≡ f a
+goes o a f h = ap (λ x. where_some x f) h
 
-module _ (s : SchemaData) (limits : List (Option Typed)) (origins : List Origin) (tests : List Test) (c : CatalogueData) (seen : record { schema = s; limits = limits; origins = origins; tests = tests } ≡ c) (n : Text) (h : Header) (o : Origin) (ts : List Test) where
+module _ (s : SchemaData) (limits : List (Option Typed)) (origins : List Origin) (tests : List Test) (c : CatalogueData) (seen : record { schema = s; limits = limits; origins = origins; tests = tests } ≡ c) (n : Name) (h : Header) (o : Origin) (ts : List Test) where
   abbrev more : SchemaData
   more = record { possreps = s.possreps; relvars = s.relvars ++ record { name = n; value = h } ∷ [] }
 
@@ -57,11 +58,11 @@ module _ (s : SchemaData) (limits : List (Option Typed)) (origins : List Origin)
   pub still_seen : (t : SchemaData) (os : List Origin) (us : List Test) → t ≡ s → os ≡ origins → us ≡ tests → record { schema = t; limits = limits; origins = os; tests = us } ≡ c
   still_seen t os us p q r = (λ i. record { schema = p i; limits = limits; origins = q i; tests = r i }) ∙ seen
 
-module _ (c : CatalogueData) (n m : Text) (is : m ≡ n) where
-  pub base_put : (o : Opening) (as' : List Attributes) (h : Header) (u : Option Typed) (ks : List (List Text)) (l : ℕ) (ts : List Test) → opening_after c.schema o ≡ Some (h, u) → keys_after h as' ≡ Some ks → ts ≡ map (test.Key l) ks → l ≡ length c.origins → base_after c n o as' ≡ relvar_after c m h (origin.Base ks u) ts
+module _ (c : CatalogueData) (n m : Name) (is : m ≡ n) where
+  pub base_put : (o : Opening) (as' : List Attributes) (h : Header) (u : Option Typed) (ks : List (List Name)) (l : ℕ) (ts : List Test) → opening_after c.schema o ≡ Some (h, u) → keys_after h as' ≡ Some ks → ts ≡ map (test.Key l) ks → l ≡ length c.origins → base_after c n o as' ≡ relvar_after c m h (origin.Base ks u) ts
   unfolding base_after
   base_put o as' h u ks l ts p q r e =
-      goes (opening_after c.schema o) (h, u) (λ v. and_then (keys_after v.0 as') (λ ls. relvar_after c n v.0 (origin.Base ls v.1) (key_tests c ls))) p
+      goes (opening_after c.schema o) (h, u) (λ v. where_some (keys_after v.0 as') (λ ls. relvar_after c n v.0 (origin.Base ls v.1) (key_tests c ls))) p
       ∙ goes (keys_after h as') ks (λ ls. relvar_after c n h (origin.Base ls u) (key_tests c ls)) q
       ∙ (λ i. relvar_after c (sym is i) h (origin.Base ks u) (sym (r ∙ ap (λ k. map (test.Key k) ks) e) i))
 

@@ -5,10 +5,10 @@ use Rattle.td_values.specs.declared.TypeKind.{TypeKind}
 use Rattle.td_values.specs.declared.TypeKind.TheVariants as kind
 use Rattle.td_syntax.specs.declared.tree.Named.{Named}
 use Rattle.td_syntax.specs.declared.script.Action.{Action}
-use Rattle.td_kinds.specs.Kinds.{Text, same_kind}
+use Rattle.td_kinds.specs.Kinds.{Name, same_kind}
 use Rattle.td_kinds.specs.declared.error.TypeError.{TypeError}
 use Rattle.td_kinds.specs.declared.error.TypeError.TheVariants.{IllTyped, OutOfMemory}
-use Rattle.td_kinds.specs.Results.{Fails, and_then, where_true}
+use Rattle.td_kinds.specs.Results.{Fails, where_some, where_true}
 use Rattle.td_kinds.specs.Schemas.{SchemaData, relvar_named}
 use Rattle.td_kinds.specs.Scopes.{relvars_of}
 use Rattle.td_typing.specs.Trees.{typing}
@@ -21,7 +21,7 @@ use Rattle.td_trees.specs.declared.expression.Expression.{Expression}
 use Rattle.td_trees.specs.declared.tree.Typed.{Typed}
 use Rattle.td_trees.specs.declared.tree.Typing.{Typing}
 use Rattle.td_headings.specs.Catalogues.{CatalogueData}
-use Rattle.td_headings.specs.Expressions.{IsTree, IsWhole, no_tuple}
+use Rattle.td_headings.specs.Expressions.{IsTree, IsClosedExpression, no_tuple}
 use Rattle.td_headings.specs.ForProofs.Sources.{real, assigned}
 use Rattle.td_headings.specs.Reached.{is_base}
 use Rattle.td_headings.specs.Statements.{target_of, source_of, IsAssignment, AreAssignments, no_assignments, next_assignment}
@@ -36,10 +36,10 @@ some_same a b h = cc
 some_none : {A : Type 0} (a : A) → Some a ≡ None → ⊥
 some_none a h = cc
 
-goes : {A B : Type 0} (o : Option A) (a : A) (f : A → Option B) → o ≡ Some a → and_then o f ≡ f a
-goes o a f h = ap (λ x. and_then x f) h
+goes : {A B : Type 0} (o : Option A) (a : A) (f : A → Option B) → o ≡ Some a → where_some o f ≡ f a
+goes o a f h = ap (λ x. where_some x f) h
 
-inverted : {A B : Type 0} (o : Option A) (f : A → Option B) (y : B) → and_then o f ≡ Some y → (a : A) × (o ≡ Some a) × (f a ≡ Some y)
+inverted : {A B : Type 0} (o : Option A) (f : A → Option B) (y : B) → where_some o f ≡ Some y → (a : A) × (o ≡ Some a) × (f a ≡ Some y)
 inverted None f y h = cc
 inverted (Some a) f y h = (a, refl, h)
 
@@ -50,7 +50,7 @@ tested false a y h = cc
 passes : {A : Type 0} (b : Bool) (a : A) → b ≡ true → where_true b a ≡ Some a
 passes b a h = ap (λ c. where_true c a) h
 
-base_is : (o : Option Origin) → is_base o ≡ true → (ks : List (List Text)) × (u : Option Typed) × (o ≡ Some (origin.Base ks u))
+base_is : (o : Option Origin) → is_base o ≡ true → (ks : List (List Name)) × (u : Option Typed) × (o ≡ Some (origin.Base ks u))
 base_is None h = cc
 base_is (Some (origin.Base ks u)) h = (ks, u, refl)
 base_is (Some (origin.Virtual u)) h = cc
@@ -63,14 +63,14 @@ other_error : {P : Type 0} → ◌≡◌ {A = Result TypedAssignment TypeError} 
 other_error h = cc
 
 module _ (c : CatalogueData) (a : Action) where
-  pub same_assigned : (s : SchemaData) (os : List Origin) (x : Text) → s ≡ c.schema → os ≡ c.origins → x ≡ target_of a → assigned s os x a ≡ assigned c.schema c.origins (target_of a) a
+  pub same_assigned : (s : SchemaData) (os : List Origin) (x : Name) → s ≡ c.schema → os ≡ c.origins → x ≡ target_of a → assigned s os x a ≡ assigned c.schema c.origins (target_of a) a
   same_assigned s os x p q r = λ i. assigned (p i) (q i) (r i) a
 
   -- what was found
   pub source_types : (p : ℕ × Typing) → assigned c.schema c.origins (target_of a) a ≡ Some p → Types c.schema (relvars_of c.schema) (source_of a) p.1.tree p.1.kind
   unfolding assigned
   source_types p h =
-      let r = inverted (real c.schema c.origins (target_of a)) (λ r. and_then (infer c.schema (source_of a) (relvars_of c.schema)) (λ t. where_true (same_kind (kind.Relation r.1) t.kind) (r.0, t))) p h in
+      let r = inverted (real c.schema c.origins (target_of a)) (λ r. where_some (infer c.schema (source_of a) (relvars_of c.schema)) (λ t. where_true (same_kind (kind.Relation r.1) t.kind) (r.0, t))) p h in
       let t = inverted (infer c.schema (source_of a) (relvars_of c.schema)) (λ t. where_true (same_kind (kind.Relation r.0.1) t.kind) (r.0.0, t)) p r.2 in
       let k = tested (same_kind (kind.Relation r.0.1) t.0.kind) (r.0.0, t.0) p t.2 in
       subst (λ (y : Typing). Types c.schema (relvars_of c.schema) (source_of a) y.tree y.kind) (ap (λ (z : ℕ × Typing). z.1) k.1) (sound c.schema (source_of a) (relvars_of c.schema) t.0 t.1)
@@ -78,10 +78,10 @@ module _ (c : CatalogueData) (a : Action) where
   pub source_tree : (p : ℕ × Typing) → assigned c.schema c.origins (target_of a) a ≡ Some p → IsTree c no_tuple p.1.tree p.1.kind
   source_tree p h = record { expr = source_of a; types = in_no_tuple c (source_of a) p.1.tree p.1.kind (source_types p h) }
 
-  pub found_one : (p : ℕ × Typing) (x : Expression) → assigned c.schema c.origins (target_of a) a ≡ Some p → IsWhole c p.1.tree p.1.kind x → IsAssignment c a (record { target = p.0; source = x })
+  pub found_one : (p : ℕ × Typing) (x : Expression) → assigned c.schema c.origins (target_of a) a ≡ Some p → IsClosedExpression c p.1.tree p.1.kind x → IsAssignment c a (record { target = p.0; source = x })
   unfolding assigned real
   found_one p x h w =
-      let r = inverted (real c.schema c.origins (target_of a)) (λ r. and_then (infer c.schema (source_of a) (relvars_of c.schema)) (λ t. where_true (same_kind (kind.Relation r.1) t.kind) (r.0, t))) p h in
+      let r = inverted (real c.schema c.origins (target_of a)) (λ r. where_some (infer c.schema (source_of a) (relvars_of c.schema)) (λ t. where_true (same_kind (kind.Relation r.1) t.kind) (r.0, t))) p h in
       let n = inverted (relvar_named c.schema (target_of a)) (λ (r : ℕ × Named Header). where_true (is_base (slice_get c.origins r.0)) (r.0, r.1.value)) r.0 r.1 in
       let b = tested (is_base (slice_get c.origins n.0.0)) (n.0.0, n.0.1.value) r.0 n.2 in
       let t = inverted (infer c.schema (source_of a) (relvars_of c.schema)) (λ t. where_true (same_kind (kind.Relation r.0.1) t.kind) (r.0.0, t)) p r.2 in
@@ -112,7 +112,7 @@ module _ (c : CatalogueData) (a : Action) where
   pub is_found : (x : TypedAssignment) → IsAssignment c a x → assigned c.schema c.origins (target_of a) a ≡ Some (x.target, typing x.source.tree x.source.kind)
   unfolding assigned
   is_found x i =
-      goes (real c.schema c.origins (target_of a)) (x.target, i.relvar.value) (λ r. and_then (infer c.schema (source_of a) (relvars_of c.schema)) (λ t. where_true (same_kind (kind.Relation r.1) t.kind) (r.0, t))) (is_real x i)
+      goes (real c.schema c.origins (target_of a)) (x.target, i.relvar.value) (λ r. where_some (infer c.schema (source_of a) (relvars_of c.schema)) (λ t. where_true (same_kind (kind.Relation r.1) t.kind) (r.0, t))) (is_real x i)
       ∙ goes (infer c.schema (source_of a) (relvars_of c.schema)) (typing x.source.tree x.source.kind) (λ t. where_true (same_kind (kind.Relation i.relvar.value) t.kind) (x.target, t)) (complete c.schema (at_relvars c (source_of a) x.source.tree x.source.kind i.source.types))
       ∙ passes (same_kind (kind.Relation i.relvar.value) x.source.kind) (x.target, typing x.source.tree x.source.kind) (ap (same_kind (kind.Relation i.relvar.value)) i.kind_ ∙ same_itself (kind.Relation i.relvar.value))
 

@@ -9,19 +9,19 @@ use Rattle.td_syntax.specs.declared.script.Definition.{Definition}
 use Rattle.td_syntax.specs.declared.script.Opening.{Opening}
 use Rattle.td_kinds.specs.declared.error.TypeError.{TypeError}
 use Rattle.td_kinds.specs.declared.schema.Representation.{Representation}
-use Rattle.td_kinds.specs.Kinds.{Text}
-use Rattle.td_kinds.specs.Scopes.{nothing, within, relvars_of}
-use Rattle.td_kinds.specs.Written.{columns}
-use Rattle.td_typing.specs.Growth.{IsFront}
+use Rattle.td_kinds.specs.Kinds.{Name}
+use Rattle.td_kinds.specs.Scopes.{nothing, within_tuple, relvars_of}
+use Rattle.td_kinds.specs.Written.{kind_columns}
+use Rattle.td_typing.specs.ForProofs.Growth.{IsEarlier}
 use Rattle.td_typing.specs.Types.{Types}
 use Rattle.td_typing.proofs.Staying.{stays, within_stays, relvars_stay}
 use Rattle.td_trees.specs.declared.tree.Typed.{Typed}
 use Rattle.td_headings.specs.Catalogues.{CatalogueData, nothing_defined}
-use Rattle.td_headings.specs.Definitions.{names_of_relvars, represented, with_type, with_relvar, with_constraint, key_tests, TypesLimit, no_limit, limit, TypesOpening, empty, init, headed_init, Defines, type_, base, virtual, constraint, Defined, nothing_yet, one_more}
+use Rattle.td_headings.specs.Definitions.{names_of_relvars, represented, with_type, with_relvar, with_constraint, key_tests, TypesLimit, no_limit, limit, TypesOpening, empty, init, headed_init, Defines, type_, base, virtual, constraint, Defined, nothing_yet, next_definition}
 use Rattle.td_headings.specs.Expressions.{IsTree, no_tuple, constraint_of, constraint_at, init_of, init_at}
 use Rattle.td_headings.specs.ForProofs.After.{after}
 use Rattle.td_headings.specs.ForProofs.Changes.{Changes}
-use Rattle.td_headings.specs.WellTyped.{HasHeading, IsLimit, AllTyped}
+use Rattle.td_headings.specs.ForProofs.WellTyped.{HasHeading, IsLimit, AllTyped}
 use Rattle.td_headings.specs.declared.defined.Origin.{Origin}
 use Rattle.td_headings.specs.declared.defined.Origin.TheVariants as origin
 use Rattle.td_headings.specs.declared.defined.Test.{Test}
@@ -58,7 +58,7 @@ one_longer (w ∷ xs) [] x y e = cc
 one_longer (w ∷ xs) (z ∷ ys) x y e = ap suc (one_longer xs ys x y (ap pred e))
 
 -- no key is a constraint
-keys_only : {P : Type 0} (r : ℕ) (ks : List (List Text)) (n : ℕ) (x : Text) (u : Typed) → slice_get (map (test.Key r) ks) n ≡ Some (test.Constraint x u) → P
+keys_only : {P : Type 0} (r : ℕ) (ks : List (List Name)) (n : ℕ) (x : Name) (u : Typed) → slice_get (map (test.Key r) ks) n ≡ Some (test.Constraint x u) → P
 keys_only r [] n x u h = cc
 keys_only r (k ∷ ks) zero x u h = cc
 keys_only r (k ∷ ks) (suc n) x u h = keys_only r ks n x u h
@@ -71,11 +71,11 @@ tree_in v (test.Key r ns) = v
 of_types : (c : CatalogueData) (a : Expr) (u : Typed) (k : TypeKind) → Types c.schema (names_of_relvars c) a u k → IsTree c no_tuple u k
 of_types c a u k d = record { expr = a; types = in_no_tuple c a u k d }
 
-module _ (c d : CatalogueData) (front : IsFront c.schema d.schema) where
+module _ (c d : CatalogueData) (front : IsEarlier c.schema d.schema) where
   tree_stays : (u : Typed) (k : TypeKind) → IsTree c no_tuple u k → IsTree d no_tuple u k
   tree_stays u k t = record {
     expr = t.expr;
-    types = stays c.schema d.schema front (within no_tuple (relvars_of c.schema)) (within no_tuple (relvars_of d.schema)) (within_stays no_tuple (relvars_of c.schema) (relvars_of d.schema) (relvars_stay c.schema d.schema front)) t.types;
+    types = stays c.schema d.schema front (within_tuple no_tuple (relvars_of c.schema)) (within_tuple no_tuple (relvars_of d.schema)) (within_stays no_tuple (relvars_of c.schema) (relvars_of d.schema) (relvars_stay c.schema d.schema front)) t.types;
   }
 
   heading_stays : (o : Origin) (h : Header) → HasHeading c o h → HasHeading d o h
@@ -86,20 +86,20 @@ module _ (c d : CatalogueData) (front : IsFront c.schema d.schema) where
   limit_stays : (r : Representation) (u : Typed) → IsLimit c r u → IsLimit d r u
   limit_stays r u l = record {
     expr = l.expr;
-    types = stays c.schema d.schema front (within (columns r.components) nothing) (within (columns r.components) nothing) (λ x m h. h) l.types;
+    types = stays c.schema d.schema front (within_tuple (kind_columns r.components) nothing) (within_tuple (kind_columns r.components) nothing) (λ x m h. h) l.types;
   }
 
-opened : (c : CatalogueData) (o : Opening) (h : Header) (u : Option Typed) (ks : List (List Text)) → TypesOpening c o h u → HasHeading c (origin.Base ks u) h
+opened : (c : CatalogueData) (o : Opening) (h : Header) (u : Option Typed) (ks : List (List Name)) → TypesOpening c o h u → HasHeading c (origin.Base ks u) h
 opened c o h u ks (empty is) = tt
 opened c o h u ks (init {a} {u = v} d) = of_types c a v (kind.Relation h) d
 opened c o h u ks (headed_init {a} {u = v} is d) = of_types c a v (kind.Relation h) d
 
 limited : (c : CatalogueData) (r : Representation) (a : Option Expr) (u : Option Typed) (v : Typed) → TypesLimit c r.components a u → u ≡ Some v → IsLimit c r v
 limited c r a u v no_limit h = cc
-limited c r a u v (limit {a = b} {u = w} d) h = record { expr = b; types = subst (λ z. Types c.schema (within (columns r.components) nothing) b z kind.Boolean) (some_same w v h) d }
+limited c r a u v (limit {a = b} {u = w} d) h = record { expr = b; types = subst (λ z. Types c.schema (within_tuple (kind_columns r.components) nothing) b z kind.Boolean) (some_same w v h) d }
 
 -- ---- what each definition adds
-itself : (c d : CatalogueData) → d.schema ≡ c.schema → IsFront c.schema d.schema
+itself : (c d : CatalogueData) → d.schema ≡ c.schema → IsEarlier c.schema d.schema
 itself c d e = record {
   possreps = [];
   relvars = [];
@@ -108,7 +108,7 @@ itself c d e = record {
 }
 
 module _ (c : CatalogueData) (w : AllTyped c) where
-  after_constraint : (n : Text) (a : Expr) (u : Typed) → Types c.schema (names_of_relvars c) a u kind.Boolean → AllTyped (with_constraint c n u)
+  after_constraint : (n : Name) (a : Expr) (u : Typed) → Types c.schema (names_of_relvars c) a u kind.Boolean → AllTyped (with_constraint c n u)
   after_constraint n a u d =
       let e = with_constraint c n u in
       let front = itself c e refl in
@@ -123,11 +123,11 @@ module _ (c : CatalogueData) (w : AllTyped c) where
             (λ j new. subst (λ z. IsTree e no_tuple z kind.Boolean) (ap (tree_in u) (one_there (test.Constraint n u) j (test.Constraint x v) new)) (tree_stays c e front u kind.Boolean (of_types c a u kind.Boolean d)));
       }
 
-  after_relvar : (n : Text) (h : Header) (o : Origin) (ts : List Test) → HasHeading c o h → ((m : ℕ) (x : Text) (u : Typed) → slice_get ts m ≡ Some (test.Constraint x u) → ⊥) → AllTyped (with_relvar c n h o ts)
+  after_relvar : (n : Name) (h : Header) (o : Origin) (ts : List Test) → HasHeading c o h → ((m : ℕ) (x : Name) (u : Typed) → slice_get ts m ≡ Some (test.Constraint x u) → ⊥) → AllTyped (with_relvar c n h o ts)
   after_relvar n h o ts has keys =
       let e = with_relvar c n h o ts in
       let r : Named Header = record { name = n; value = h } in
-      let front : IsFront c.schema e.schema = record { possreps = []; relvars = r ∷ []; later_possreps = sym (append-nil c.schema.possreps); later_relvars = refl } in
+      let front : IsEarlier c.schema e.schema = record { possreps = []; relvars = r ∷ []; later_possreps = sym (append-nil c.schema.possreps); later_relvars = refl } in
       record {
         origin_each = one_longer c.origins c.schema.relvars o r w.origin_each;
         limit_each = w.limit_each;
@@ -145,7 +145,7 @@ module _ (c : CatalogueData) (w : AllTyped c) where
   after_type : (r : Representation) (a : Option Expr) (u : Option Typed) → TypesLimit c r.components a u → AllTyped (with_type c r u)
   after_type r a u d =
       let e = with_type c r u in
-      let front : IsFront c.schema e.schema = record { possreps = r ∷ []; relvars = []; later_possreps = refl; later_relvars = sym (append-nil c.schema.relvars) } in
+      let front : IsEarlier c.schema e.schema = record { possreps = r ∷ []; relvars = []; later_possreps = refl; later_relvars = sym (append-nil c.schema.relvars) } in
       record {
         origin_each = w.origin_each;
         limit_each = one_longer c.limits c.schema.possreps u r w.limit_each;
@@ -174,11 +174,11 @@ nothing_typed = record {
 
 pub all_typed : (c : CatalogueData) → Defined c → AllTyped c
 all_typed c nothing_yet = nothing_typed
-all_typed c (one_more {c = old} {x} before is) = defines_typed old x c (all_typed old before) is
+all_typed c (next_definition {c = old} {x} before is) = defines_typed old x c (all_typed old before) is
 
 -- ---- what a call leaves
 pub still_defined : (c d : CatalogueData) (x : Definition) (r : Result (Unit {0}) TypeError) → Defined c → Changes c (after c x) r d → Defined d
-still_defined c d x (Ok u) before h = one_more before (after_is c d x h)
+still_defined c d x (Ok u) before h = next_definition before (after_is c d x h)
 still_defined c d x (Err e) before h = subst Defined (sym h.1) before
 
 -- ---- what a catalogue hands out

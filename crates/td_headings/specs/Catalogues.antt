@@ -1,11 +1,7 @@
 -- What a script has defined: the types and relvars that expressions name, and beside them what typing does not ask for.
-use Rattle.std.specs.Prelude.{ℕ, List, [], Option, refl}
-use Rattle.std.specs.Coded.{Coded, code_by, coded×, coded_list, coded_option}
-use Rattle.td_kinds.specs.Schemas.{SchemaData, schema_code}
-use Rattle.td_trees.specs.contracts.tree.Typed as typed
+use Rattle.std.specs.Prelude.{List, [], Option}
+use Rattle.td_kinds.specs.Schemas.{SchemaData, empty_schema}
 use Rattle.td_trees.specs.declared.tree.Typed.{Typed}
-use Rattle.td_headings.specs.contracts.defined.Origin as origin
-use Rattle.td_headings.specs.contracts.defined.Test as test
 use Rattle.td_headings.specs.declared.defined.Origin.{Origin}
 use Rattle.td_headings.specs.declared.defined.Test.{Test}
 
@@ -19,9 +15,4 @@ pub record CatalogueData : Type 0 where
   pub tests : List Test
 
 abbrev pub nothing_defined : CatalogueData
-nothing_defined = record { schema = record { possreps = []; relvars = [] }; limits = []; origins = []; tests = [] }
-
--- by which a proof tells them apart
-abbrev pub catalogue_code : Coded CatalogueData
-catalogue_code =
-    code_by (SchemaData × (List (Option Typed) × (List Origin × List Test))) (coded× schema_code (coded× (coded_list (coded_option typed.the_row.coded)) (coded× (coded_list origin.the_row.coded) (coded_list test.the_row.coded)))) (λ c. (c.schema, (c.limits, (c.origins, c.tests)))) (λ p. record { schema = p.0; limits = p.1.0; origins = p.1.1.0; tests = p.1.1.1 }) (λ _. refl)
+nothing_defined = record { schema = empty_schema; limits = []; origins = []; tests = [] }

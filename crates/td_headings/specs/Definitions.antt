@@ -14,11 +14,11 @@ use Rattle.td_syntax.specs.declared.script.Opening.{Opening}
 use Rattle.td_syntax.specs.declared.script.Opening.TheVariants as opening
 use Rattle.td_syntax.specs.declared.script.Definition.{Definition}
 use Rattle.td_syntax.specs.declared.script.Definition.TheVariants as definition
-use Rattle.td_kinds.specs.Kinds.{Text}
+use Rattle.td_kinds.specs.Kinds.{Name}
 use Rattle.td_kinds.specs.Lists.{attributes_of}
-use Rattle.td_kinds.specs.Schemas.{SchemaData, relvar_named, possrep_named, type_named, same_text, begins_with_the}
-use Rattle.td_kinds.specs.Scopes.{Scope, nothing, relvars_of, within}
-use Rattle.td_kinds.specs.Written.{components_written, heading_written, columns}
+use Rattle.td_kinds.specs.Schemas.{relvar_named, possrep_named, type_named, same_text, begins_with_the, schema_with_relvar, schema_with_type}
+use Rattle.td_kinds.specs.Scopes.{Scope, nothing, relvars_of, within_tuple}
+use Rattle.td_kinds.specs.Written.{components_written, heading_written, kind_columns}
 use Rattle.td_kinds.specs.declared.schema.Representation.{Representation}
 use Rattle.td_typing.specs.Types.{Types}
 use Rattle.td_trees.specs.declared.tree.Typed.{Typed}
@@ -37,13 +37,13 @@ names_of_relvars c = relvars_of c.schema
 -- A possrep's CONSTRAINT is BOOLEAN; it sees the components and no relvar.
 pub data TypesLimit (c : CatalogueData) (ks : List (Named TypeKind)) : Option Expr → Option Typed → Type 0 where
   no_limit : TypesLimit c ks None None
-  limit : {a : Expr} {u : Typed} → Types c.schema (within (columns ks) nothing) a u kind.Boolean → TypesLimit c ks (Some a) (Some u)
+  limit : {a : Expr} {u : Typed} → Types c.schema (within_tuple (kind_columns ks) nothing) a u kind.Boolean → TypesLimit c ks (Some a) (Some u)
 
-abbrev pub represented : Text → Text → List (Named TypeKind) → Representation
+abbrev pub represented : Name → Name → List (Named TypeKind) → Representation
 represented ty name ks = record { possrep = record { ty = ty; name = name }; components = ks }
 
 abbrev pub with_type : CatalogueData → Representation → Option Typed → CatalogueData
-with_type c r u = record { schema = record { possreps = c.schema.possreps ++ r ∷ []; relvars = c.schema.relvars }; limits = c.limits ++ u ∷ []; origins = c.origins; tests = c.tests }
+with_type c r u = record { schema = schema_with_type c.schema r; limits = c.limits ++ u ∷ []; origins = c.origins; tests = c.tests }
 
 -- ---- relvars
 
@@ -54,24 +54,24 @@ pub data TypesOpening (c : CatalogueData) : Opening → Header → Option Typed 
   headed_init : {fs : List (Named TypeExpr)} {a : Expr} {u : Typed} {h : Header} → heading_written c.schema fs ≡ Some h → Types c.schema (names_of_relvars c) a u (kind.Relation h) → TypesOpening c (opening.Init (Some fs) a) h (Some u)
 
 -- A key is an attribute list; one may contain or repeat another.
-pub data AreKeys (h : Header) : List Attributes → List (List Text) → Type 0 where
+pub data AreKeys (h : Header) : List Attributes → List (List Name) → Type 0 where
   no_keys : AreKeys h [] []
-  next_key : {a : Attributes} {ns : List Text} {as' : List Attributes} {ks : List (List Text)} → attributes_of a h ≡ Some ns → AreKeys h as' ks → AreKeys h (a ∷ as') (ns ∷ ks)
+  next_key : {a : Attributes} {ns : List Name} {as' : List Attributes} {ks : List (List Name)} → attributes_of a h ≡ Some ns → AreKeys h as' ks → AreKeys h (a ∷ as') (ns ∷ ks)
 
-abbrev pub with_relvar : CatalogueData → Text → Header → Origin → List Test → CatalogueData
-with_relvar c n h o ts = record { schema = record { possreps = c.schema.possreps; relvars = c.schema.relvars ++ record { name = n; value = h } ∷ [] }; limits = c.limits; origins = c.origins ++ o ∷ []; tests = c.tests ++ ts }
+abbrev pub with_relvar : CatalogueData → Name → Header → Origin → List Test → CatalogueData
+with_relvar c n h o ts = record { schema = schema_with_relvar c.schema n h; limits = c.limits; origins = c.origins ++ o ∷ []; tests = c.tests ++ ts }
 
 -- the tests of the keys of the relvar that is defined next
-abbrev pub key_tests : CatalogueData → List (List Text) → List Test
+abbrev pub key_tests : CatalogueData → List (List Name) → List Test
 key_tests c ks = map (test.Key (length c.origins)) ks
 
 -- ---- constraints
 
-abbrev pub is_constraint : Text → Test → Bool
+abbrev pub is_constraint : Name → Test → Bool
 is_constraint n (test.Constraint m u) = same_text m n
 is_constraint n (test.Key r ns) = false
 
-abbrev pub with_constraint : CatalogueData → Text → Typed → CatalogueData
+abbrev pub with_constraint : CatalogueData → Name → Typed → CatalogueData
 with_constraint c n u = record { schema = c.schema; limits = c.limits; origins = c.origins; tests = c.tests ++ test.Constraint n u ∷ [] }
 
 -- ---- definitions
@@ -79,21 +79,21 @@ with_constraint c n u = record { schema = c.schema; limits = c.limits; origins =
 -- c, with the definition, is c2
 pub data Defines (c : CatalogueData) : Definition → CatalogueData → Type 0 where
   -- A type without a possrep's name gives its own to it. A possrep's name does not begin with THE_.
-  type_ : {n : Text} {m : Option Text} {xs : List (Named TypeExpr)} {a : Option Expr} {ks : List (Named TypeKind)} {u : Option Typed}
+  type_ : {n : Name} {m : Option Name} {xs : List (Named TypeExpr)} {a : Option Expr} {ks : List (Named TypeKind)} {u : Option Typed}
       → type_named c.schema n ≡ None → possrep_named c.schema (unwrap_or m n) ≡ None → begins_with_the (unwrap_or m n) ≡ false
       → components_written c.schema xs ≡ Some ks → TypesLimit c ks a u
       → Defines c (definition.Type n m xs a) (with_type c (represented n (unwrap_or m n) ks) u)
-  base : {n : Text} {o : Opening} {as' : List Attributes} {h : Header} {u : Option Typed} {ks : List (List Text)}
+  base : {n : Name} {o : Opening} {as' : List Attributes} {h : Header} {u : Option Typed} {ks : List (List Name)}
       → relvar_named c.schema n ≡ None → TypesOpening c o h u → AreKeys h as' ks
       → Defines c (definition.Base n o as') (with_relvar c n h (origin.Base ks u) (key_tests c ks))
-  virtual : {n : Text} {a : Expr} {u : Typed} {h : Header}
+  virtual : {n : Name} {a : Expr} {u : Typed} {h : Header}
       → relvar_named c.schema n ≡ None → Types c.schema (names_of_relvars c) a u (kind.Relation h)
       → Defines c (definition.Virtual n a) (with_relvar c n h (origin.Virtual u) [])
-  constraint : {n : Text} {a : Expr} {u : Typed}
+  constraint : {n : Name} {a : Expr} {u : Typed}
       → list_any (is_constraint n) c.tests ≡ false → Types c.schema (names_of_relvars c) a u kind.Boolean
       → Defines c (definition.Constraint n a) (with_constraint c n u)
 
 -- what definitions make of nothing
 pub data Defined : CatalogueData → Type 0 where
   nothing_yet : Defined nothing_defined
-  one_more : {c d : CatalogueData} {x : Definition} → Defined c → Defines c x d → Defined d
+  next_definition : {c d : CatalogueData} {x : Definition} → Defined c → Defines c x d → Defined d

@@ -1,15 +1,14 @@
 -- A typed expression with all that evaluating it wants.
 use Rattle.std.specs.Prelude.{◌≡◌, ℕ, List, map, Option, Some, None, slice_get}
 use Rattle.std.specs.FinMap as by_name
-use Rattle.std.specs.Coded.{Coded}
 use Rattle.std.specs.List.{filter_map}
 use Rattle.td_values.specs.Headings.{Header}
 use Rattle.td_values.specs.declared.TypeKind.{TypeKind}
 use Rattle.td_values.specs.declared.TypeKind.TheVariants as kind
 use Rattle.td_syntax.specs.declared.tree.Expr.{Expr}
 use Rattle.td_syntax.specs.declared.tree.Named.{Named}
-use Rattle.td_kinds.specs.Kinds.{Text}
-use Rattle.td_kinds.specs.Scopes.{within, relvars_of}
+use Rattle.td_kinds.specs.Kinds.{Name}
+use Rattle.td_kinds.specs.Scopes.{within_tuple, relvars_of}
 use Rattle.td_kinds.specs.Written.{names}
 use Rattle.td_kinds.specs.declared.schema.Representation.{Representation}
 use Rattle.td_typing.specs.Types.{Types}
@@ -21,15 +20,10 @@ use Rattle.td_headings.specs.declared.defined.Origin.{Origin}
 use Rattle.td_headings.specs.declared.defined.Origin.TheVariants as origin
 use Rattle.td_headings.specs.declared.defined.Test.{Test}
 use Rattle.td_headings.specs.declared.defined.Test.TheVariants as test
-use Rattle.td_trees.specs.contracts.expression.Expression.{the_row}
 use Rattle.td_trees.specs.declared.expression.BaseUnder.{BaseUnder}
 use Rattle.td_trees.specs.declared.expression.Expression.{Expression}
 use Rattle.td_trees.specs.declared.expression.VirtualUnder.{VirtualUnder}
 use Rattle.td_trees.specs.declared.expression.Selector.{Selector}
-
--- by which a proof tells expressions apart
-abbrev pub expression_code : Coded Expression
-expression_code = the_row.coded
 
 -- the base relvar at a place, with its heading
 abbrev pub base_of : ℕ → Option Origin → Option (Named Header) → Option BaseUnder
@@ -68,11 +62,11 @@ pub record HasAllUnder (c : CatalogueData) (x : Expression) : Type 0 where
 -- the tree is that of some expression of this kind, within a tuple of the heading
 pub record IsTree (c : CatalogueData) (h : Header) (u : Typed) (k : TypeKind) : Type 0 where
   pub expr : Expr
-  pub types : Types c.schema (within h (relvars_of c.schema)) expr u k
+  pub types : Types c.schema (within_tuple h (relvars_of c.schema)) expr u k
 
 -- x is the expression e within a tuple of the heading, with all that is under it
 pub record IsExpression (c : CatalogueData) (h : Header) (e : Expr) (x : Expression) : Type 0 where
-  pub types : Types c.schema (within h (relvars_of c.schema)) e x.tree x.kind
+  pub types : Types c.schema (within_tuple h (relvars_of c.schema)) e x.tree x.kind
   pub attributes : x.attributes ≡ h
   pub under : HasAllUnder c x
 
@@ -81,7 +75,7 @@ abbrev pub no_tuple : Header
 no_tuple = by_name.empty
 
 -- x is the tree, in which no tuple is in scope, with all that is under it
-pub record IsWhole (c : CatalogueData) (u : Typed) (k : TypeKind) (x : Expression) : Type 0 where
+pub record IsClosedExpression (c : CatalogueData) (u : Typed) (k : TypeKind) (x : Expression) : Type 0 where
   pub tree : x.tree ≡ u
   pub kind_ : x.kind ≡ k
   pub attributes : x.attributes ≡ no_tuple
@@ -113,12 +107,12 @@ init_at c n = init_of (slice_get c.origins n) (slice_get c.schema.relvars n)
 -- x is that tree, a truth value, with all that is under it
 abbrev pub IsConstraint : CatalogueData → Option Typed → Expression → Type 0
 IsConstraint c None x = ⊥
-IsConstraint c (Some u) x = IsWhole c u kind.Boolean x
+IsConstraint c (Some u) x = IsClosedExpression c u kind.Boolean x
 
 -- x is that tree, of that heading, with all that is under it
 abbrev pub IsInit : CatalogueData → Option (Typed × Header) → Expression → Type 0
 IsInit c None x = ⊥
-IsInit c (Some v) x = IsWhole c v.0 (kind.Relation v.1) x
+IsInit c (Some v) x = IsClosedExpression c v.0 (kind.Relation v.1) x
 
 -- the places of the base relvars that an expression reads
 abbrev pub places_of : List BaseUnder → List ℕ

@@ -1,4 +1,6 @@
--- Words that only private clauses cite.
+-- Words that only private clauses and proofs use, and the laws that decide definitions and type what they leave.
 pub mod After
 pub mod Changes
+pub mod Codes
 pub mod Sources
+pub mod WellTyped

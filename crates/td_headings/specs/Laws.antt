@@ -1,14 +1,12 @@
 -- The laws of definitions.
 use Rattle.std.specs.Prelude.{◌≡◌, ◌↔◌, ℕ, Some}
-use Rattle.td_values.specs.Headings.{Header}
 use Rattle.td_syntax.specs.declared.script.Definition.{Definition}
-use Rattle.td_syntax.specs.declared.tree.Expr.{Expr}
 use Rattle.td_trees.specs.declared.expression.Expression.{Expression}
 use Rattle.td_headings.specs.Catalogues.{CatalogueData}
 use Rattle.td_headings.specs.Definitions.{Defined, Defines}
-use Rattle.td_headings.specs.Expressions.{IsExpression, reads}
-use Rattle.td_headings.specs.Reached.{AreThose, Reads}
-use Rattle.td_headings.specs.WellTyped.{AllTyped}
+use Rattle.td_headings.specs.Expressions.{HasAllUnder, reads}
+use Rattle.td_headings.specs.Reached.{AreThose, ReadsRelvar}
+use Rattle.td_headings.specs.ForProofs.WellTyped.{AllTyped}
 use Rattle.td_headings.specs.ForProofs.After.{after}
 
 -- what a definition makes of what is defined is what it defines, and nothing else
@@ -19,6 +17,7 @@ AfterDecides = (c d : CatalogueData) (x : Definition) → (after c x ≡ Some d)
 abbrev pub DefinedIsTyped : Type 0
 DefinedIsTyped = (c : CatalogueData) → Defined c → AllTyped c
 
--- what an expression reads is the base relvars that it names, virtual ones expanded, each once, in order of definition
+-- what an expression reads is the base relvars that it names, virtual ones expanded, each once, in order of definition:
+-- an expression of a text, a constraint and an opening value alike
 abbrev pub ReadsAreReached : Type 0
-ReadsAreReached = (c : CatalogueData) (h : Header) (e : Expr) (x : Expression) → Defined c → IsExpression c h e x → AreThose (Reads c.origins x.tree) (reads x)
+ReadsAreReached = (c : CatalogueData) (x : Expression) → Defined c → HasAllUnder c x → AreThose (ReadsRelvar c.origins x.tree) (reads x)

@@ -6,4 +6,3 @@ pub mod Laws
 pub mod Expressions
 pub mod Reached
 pub mod Statements
-pub mod WellTyped

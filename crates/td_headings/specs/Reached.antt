@@ -18,9 +18,9 @@ abbrev pub named_possreps : Typed → List ℕ
 named_possreps u = possreps_in (mentioned u)
 
 -- those in the expression of a virtual relvar
-abbrev pub relvars_under : Origin → List ℕ
-relvars_under (origin.Base ks u) = []
-relvars_under (origin.Virtual u) = named_relvars u
+abbrev pub relvars_within : Origin → List ℕ
+relvars_within (origin.Base ks u) = []
+relvars_within (origin.Virtual u) = named_relvars u
 
 abbrev pub possreps_under : Option Origin → List ℕ
 possreps_under (Some (origin.Virtual u)) = named_possreps u
@@ -33,7 +33,7 @@ possreps_within (Some u) = named_possreps u
 
 -- the relvar at this place is named in the expression, or in that of a virtual relvar which is reached
 abbrev pub IsReached : List Origin → Typed → ℕ → Type 0
-IsReached origins u n = ReachedFrom (map relvars_under origins) (named_relvars u) n
+IsReached origins u n = ReachedFrom (map relvars_within origins) (named_relvars u) n
 
 -- the relvar at this place is a base relvar
 abbrev pub is_base : Option Origin → Bool
@@ -41,8 +41,8 @@ is_base (Some (origin.Base ks u)) = true
 is_base _ = false
 
 -- the expression reads the base relvar at this place: it names it, or one of the virtual relvars that it reaches does
-abbrev pub Reads : List Origin → Typed → ℕ → Type 0
-Reads origins u n = IsReached origins u n × (is_base (slice_get origins n) ≡ true)
+abbrev pub ReadsRelvar : List Origin → Typed → ℕ → Type 0
+ReadsRelvar origins u n = IsReached origins u n × (is_base (slice_get origins n) ≡ true)
 
 -- the possrep at this place is selected in the expression, in one of the relvars that it reaches, or in the CONSTRAINT of a possrep
 -- that is selected

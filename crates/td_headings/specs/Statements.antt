@@ -13,7 +13,7 @@ use Rattle.td_syntax.specs.declared.script.Action.{Action}
 use Rattle.td_syntax.specs.declared.script.Action.TheVariants as action
 use Rattle.td_syntax.specs.declared.script.Statement.{Statement}
 use Rattle.td_syntax.specs.declared.script.Statement.TheVariants as statement
-use Rattle.td_kinds.specs.Kinds.{Text}
+use Rattle.td_kinds.specs.Kinds.{Name}
 use Rattle.td_kinds.specs.Schemas.{relvar_named}
 use Rattle.td_trees.specs.declared.tree.Typed.{Typed}
 use Rattle.td_headings.specs.Catalogues.{CatalogueData}
@@ -23,9 +23,10 @@ use Rattle.td_headings.specs.declared.statement.TypedAssignment.{TypedAssignment
 use Rattle.td_headings.specs.declared.statement.TypedStatement.{TypedStatement}
 use Rattle.td_headings.specs.declared.statement.TypedStatement.TheVariants as typed
 
--- INSERT is an assignment of a union; DELETE of the tuples for which the condition is false, and without one of none; UPDATE of
--- the tuples that are not selected united with the selected ones changed.
-abbrev pub target_of : Action → Text
+-- INSERT is an assignment of a union; DELETE of the tuples for which the condition is false, and without one of none;
+-- UPDATE of the tuples that are not selected united with the selected ones changed. So each but an assignment as written
+-- reads its target, a DELETE of all too, whose source is empty whatever the target holds.
+abbrev pub target_of : Action → Name
 target_of (action.Assign x a) = x
 target_of (action.Insert x a) = x
 target_of (action.Delete x c) = x
@@ -42,7 +43,7 @@ source_of (action.Update x (Some c) all) = e.Binary binary.Union (e.Where (e.Nam
 -- The target is a real relvar, and the source has its heading. So an item of an UPDATE names an attribute and has its type.
 pub record IsAssignment (c : CatalogueData) (a : Action) (x : TypedAssignment) : Type 0 where
   pub relvar : Named Header
-  pub keys : List (List Text)
+  pub keys : List (List Name)
   pub opening : Option Typed
   pub names : relvar_named c.schema (target_of a) ≡ Some (x.target, relvar)
   pub is_real : slice_get c.origins x.target ≡ Some (origin.Base keys opening)
@@ -60,12 +61,12 @@ abbrev pub assignments_of : TypedStatement → List TypedAssignment
 assignments_of (typed.Assignment xs) = xs
 
 -- x is the statement, typed
-abbrev pub IsStatement : CatalogueData → Statement → TypedStatement → Type 0
-IsStatement c s x = AreAssignments c (actions_of s) (assignments_of x)
+abbrev pub TypesStatement : CatalogueData → Statement → TypedStatement → Type 0
+TypesStatement c s x = AreAssignments c (actions_of s) (assignments_of x)
 
 -- no rule types it
-abbrev pub IsRefused : CatalogueData → Statement → Type 0
-IsRefused c s = (x : TypedStatement) → IsStatement c s x → ⊥
+abbrev pub TypesNoStatement : CatalogueData → Statement → Type 0
+TypesNoStatement c s = (x : TypedStatement) → TypesStatement c s x → ⊥
 
 -- the relvar at this place is assigned
 abbrev pub IsTarget : TypedStatement → ℕ → Type 0

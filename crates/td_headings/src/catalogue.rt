@@ -29,7 +29,8 @@ impl Drop for Catalogue {
 }
 
 impl Model for Catalogue {
-    ghost use Rattle.td_headings.specs.Catalogues.{CatalogueData, catalogue_code};
+    ghost use Rattle.td_headings.specs.Catalogues.{CatalogueData};
+    ghost use Rattle.td_headings.specs.ForProofs.Codes.{catalogue_code};
     ghost use Rattle.td_headings.specs.Definitions.{Defined};
 
     ghost Value = { CatalogueData };

@@ -2,7 +2,7 @@
 
 ghost use Rattle.std.specs.Prelude.{◌≡◌, ◌++◌, ◌∷◌, [], Err, IfOk, None, Some, OnErr, OnOk, map};
 ghost use Rattle.std.specs.List.{list_any};
-ghost use Rattle.td_kinds.specs.Schemas.{relvar_added, type_added};
+ghost use Rattle.td_kinds.specs.ForProofs.Additions.{relvar_added, type_added};
 ghost use Rattle.td_kinds.specs.declared.error.TypeError.TheVariants as type_error;
 ghost use Rattle.td_headings.specs.Catalogues as spec;
 ghost use Rattle.td_headings.specs.Definitions as definitions;
@@ -52,7 +52,8 @@ pub struct Definitions {
 }
 
 impl Model for Definitions {
-    ghost use Rattle.td_headings.specs.Catalogues.{CatalogueData, catalogue_code};
+    ghost use Rattle.td_headings.specs.Catalogues.{CatalogueData};
+    ghost use Rattle.td_headings.specs.ForProofs.Codes.{catalogue_code};
 
     ghost Value = { CatalogueData };
 

@@ -14,4 +14,4 @@ pub mod typed;
 pub use catalogue::Catalogue;
 pub use defined::{Origin, Test};
 pub use statement::{TypedAssignment, TypedStatement, targets, type_statement};
-pub use typed::{TypedExpr, constraint_expr, init_expr, reads, type_expr, type_within};
+pub use typed::{TypedExpr, constraint_expr, init_expr, reads, type_expr};

@@ -11,7 +11,7 @@ use td_kinds::kinds::{is_boolean, relation_heading, same_heading};
 use td_kinds::lists::attributes_of;
 use td_kinds::schema::Schema;
 use td_kinds::scope::Scope;
-use td_kinds::written::{columns, heading_written};
+use td_kinds::written::{heading_written, kind_columns};
 use td_syntax::script::Opening;
 use td_syntax::tree::{Attributes, Expr, Named};
 use td_trees::tree::{Typed, Typing};
@@ -51,7 +51,7 @@ fn limit(
 ) -> Result<Shared<Typed>, TypeError>
     ensures { Gives (spec.limit_after schema.now components.now expr.now) result }
 {
-    let heading = columns(alloc, components)?;
+    let heading = kind_columns(alloc, components)?;
     let typing = typing(
         alloc,
         schema,

@@ -8,7 +8,7 @@ ghost use Rattle.td_values.specs.declared.TypeKind.TheVariants as type_kind;
 ghost use Rattle.td_headings.specs.ForProofs.Sources as sources;
 ghost use Rattle.td_headings.specs.Reached.{AreThose};
 ghost use Rattle.td_headings.specs.Statements as spec;
-ghost use Rattle.td_headings.specs.Statements.{AreAssignments, IsAssignment, IsRefused, IsStatement, IsTarget};
+ghost use Rattle.td_headings.specs.Statements.{AreAssignments, IsAssignment, TypesNoStatement, TypesStatement, IsTarget};
 ghost use Rattle.td_headings.specs.declared.statement.TypedAssignment as typed;
 
 use crate::catalogue::Catalogue;
@@ -146,15 +146,15 @@ fn actions_of(statement: &Statement) -> &[Action]
     }
 }
 
-/// The statement with its targets and sources. It costs its size and, for each source, that of the expressions of the virtual
-/// relvars under it.
+/// The statement with its targets and sources. It costs the typing of its sources, which may be exponential in their
+/// size where they compare types, and for each source the size of the expressions of the virtual relvars under it.
 pub fn type_statement(
     alloc: Global,
     catalogue: &Catalogue,
     statement: &Statement,
 ) -> Result<TypedStatement, TypeError>
-    ensures typed { IfOk result (IsStatement catalogue.now statement.now) }
-    ensures refused { result ≡ Err type_error.IllTyped → IsRefused catalogue.now statement.now }
+    ensures typed { IfOk result (TypesStatement catalogue.now statement.now) }
+    ensures refused { result ≡ Err type_error.IllTyped → TypesNoStatement catalogue.now statement.now }
 {
     match assignments(alloc, catalogue, actions_of(statement)) {
         Ok(assignments) => Ok(TypedStatement::Assignment(assignments)),

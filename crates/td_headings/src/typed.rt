@@ -1,12 +1,12 @@
 //! Typed expressions.
 
 ghost use Rattle.std.specs.Prelude.{◌≡◌, Err, IfOk, MatchOption, None, Some, slice_get};
-ghost use Rattle.td_kinds.specs.Scopes.{relvars_of, within};
+ghost use Rattle.td_kinds.specs.Scopes.{relvars_of, within_tuple};
 ghost use Rattle.td_kinds.specs.declared.error.TypeError.TheVariants as type_error;
 ghost use Rattle.td_typing.specs.Types.{IsIllTyped};
 ghost use Rattle.td_headings.specs.Definitions.{names_of_relvars};
 ghost use Rattle.td_headings.specs.Expressions as spec;
-ghost use Rattle.td_headings.specs.Expressions.{IsExpression, IsTree, IsTyped, IsWhole, no_tuple};
+ghost use Rattle.td_headings.specs.Expressions.{IsExpression, IsTree, IsTyped, IsClosedExpression, no_tuple};
 
 use crate::catalogue::Catalogue;
 use crate::defined::{Origin, Test};
@@ -31,7 +31,8 @@ pub struct TypedExpr {
 
 impl Model for TypedExpr {
     ghost use Rattle.td_trees.specs.declared.expression.Expression.{Expression};
-    ghost use Rattle.td_headings.specs.Expressions.{IsTyped, expression_code};
+    ghost use Rattle.td_headings.specs.Expressions.{IsTyped};
+    ghost use Rattle.td_headings.specs.ForProofs.Codes.{expression_code};
 
     ghost Value = { Expression };
 
@@ -89,21 +90,20 @@ pub(crate) fn whole(
     kind: TypeKind,
 ) -> Result<TypedExpr, AllocError>
     requires { IsTree catalogue.now no_tuple tree kind }
-    ensures { IfOk result (IsWhole catalogue.now tree kind) }
+    ensures { IfOk result (IsClosedExpression catalogue.now tree kind) }
 {
     typed_expr(alloc, catalogue, Heading::new(alloc)?, tree, kind)
 }
 
-/// The expression within a tuple of these attributes, with all that evaluating it wants. It costs its size and that of the
-/// expressions of the virtual relvars under it.
-pub fn type_within(
+// The expression within a tuple of these attributes, with all that evaluating it wants.
+fn type_within(
     alloc: Global,
     catalogue: &Catalogue,
     attributes: Heading,
     expr: &Expr,
 ) -> Result<TypedExpr, TypeError>
     ensures typed { IfOk result (IsExpression catalogue.now attributes expr.now) }
-    ensures refused { result ≡ Err type_error.IllTyped → IsIllTyped catalogue.now.schema (within attributes (relvars_of catalogue.now.schema)) expr.now }
+    ensures refused { result ≡ Err type_error.IllTyped → IsIllTyped catalogue.now.schema (within_tuple attributes (relvars_of catalogue.now.schema)) expr.now }
 {
     let schema = catalogue.schema();
     let Typing { tree, kind } = type_in(
@@ -116,9 +116,11 @@ pub fn type_within(
     Ok(typed_expr(alloc, catalogue, attributes, tree, kind)?)
 }
 
-/// The expression, in which no tuple is in scope, with all that evaluating it wants. It costs as much.
+/// The expression, in which no tuple is in scope, with all that evaluating it wants. It costs its typing, which may be
+/// exponential in its size where it compares types, and the size of the expressions of the virtual relvars under it.
 pub fn type_expr(alloc: Global, catalogue: &Catalogue, expr: &Expr) -> Result<TypedExpr, TypeError>
     ensures typed { IfOk result (IsExpression catalogue.now no_tuple expr.now) }
+    // Where no tuple is in scope the names are those of the relvars.
     ensures refused { result ≡ Err type_error.IllTyped → IsIllTyped catalogue.now.schema (names_of_relvars catalogue.now) expr.now }
 {
     type_within(alloc, catalogue, Heading::new(alloc)?, expr)

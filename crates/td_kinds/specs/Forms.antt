@@ -11,31 +11,31 @@ use Rattle.td_syntax.specs.declared.tree.Nesting.{Nesting}
 use Rattle.td_syntax.specs.declared.tree.Nesting.TheVariants as nesting
 use Rattle.td_syntax.specs.declared.tree.Extension.{Extension}
 use Rattle.td_syntax.specs.declared.tree.Extension.TheVariants as extension
-use Rattle.td_kinds.specs.Kinds.{Text, kind_of, relation_heading, tuple_heading, is_new, are_new}
+use Rattle.td_kinds.specs.Kinds.{Name, kind_of, relation_heading, tuple_heading, is_new, are_new}
 use Rattle.td_kinds.specs.Lists.{are_distinct, may_rename}
-use Rattle.td_kinds.specs.Results.{where_true, and_then}
+use Rattle.td_kinds.specs.Results.{where_true, where_some}
 
 -- the heading of a relation or of a tuple
-abbrev pub heading_of : TypeKind → Option Header
-heading_of (kind.Tuple h) = Some h
-heading_of (kind.Relation h) = Some h
-heading_of _ = None
+abbrev pub kind_heading : TypeKind → Option Header
+kind_heading (kind.Tuple h) = Some h
+kind_heading (kind.Relation h) = Some h
+kind_heading _ = None
 
 -- the part of a relation or of a tuple at these names
-abbrev pub part_at : List Text → TypeKind → TypeKind
-part_at ns (kind.Tuple h) = kind.Tuple (columns_in ns h)
-part_at ns (kind.Relation h) = kind.Relation (columns_in ns h)
-part_at ns k = k
+abbrev pub part_kind : List Name → TypeKind → TypeKind
+part_kind ns (kind.Tuple h) = kind.Tuple (columns_in ns h)
+part_kind ns (kind.Relation h) = kind.Relation (columns_in ns h)
+part_kind ns k = k
 
-unfoldable pub renamed_kind : List (Text × Text) → TypeKind → Option TypeKind
-renamed_kind items k = and_then (relation_heading k) (λ h. where_true (may_rename items h) (kind.Relation (renamed_columns items h)))
+unfoldable pub renamed_kind : List (Name × Name) → TypeKind → Option TypeKind
+renamed_kind items k = where_some (relation_heading k) (λ h. where_true (may_rename items h) (kind.Relation (renamed_columns items h)))
 
-abbrev pub nested_columns : Nesting → List Text → Text → Header → Header
+abbrev pub nested_columns : Nesting → List Name → Name → Header → Header
 nested_columns nesting.Group ns c h = grouped_columns ns c h
 nested_columns nesting.Wrap ns c h = wrapped_columns ns c h
 
 -- the new name is not among the attributes that stay
-unfoldable pub nested_heading : Nesting → List Text → Text → Header → Option Header
+unfoldable pub nested_heading : Nesting → List Name → Name → Header → Option Header
 nested_heading o ns c h = where_true (is_new (columns_out ns h) c) (nested_columns o ns c h)
 
 -- the attributes inside a relation-valued attribute, for UNGROUP, and a tuple-valued one, for UNWRAP
@@ -43,18 +43,18 @@ abbrev pub inside : Nesting → TypeKind → Option Header
 inside nesting.Group k = relation_heading k
 inside nesting.Wrap k = tuple_heading k
 
-unfoldable pub attribute_kind : Text → Header → Option TypeKind
-attribute_kind c h = and_then (by_name.get h c) (λ ty. Some (kind_of ty))
+unfoldable pub attribute_kind : Name → Header → Option TypeKind
+attribute_kind c h = where_some (by_name.get h c) (λ ty. Some (kind_of ty))
 
 -- they are not among those that stay
-unfoldable pub unnested_heading : Nesting → Text → Header → Option Header
-unnested_heading o c h = and_then (attribute_kind c h) (λ k. and_then (inside o k) (λ g. where_true (are_new (by_name.keys g) (columns_out (c ∷ []) h)) (opened_columns c h)))
+unfoldable pub unnested_heading : Nesting → Name → Header → Option Header
+unnested_heading o c h = where_some (attribute_kind c h) (λ k. where_some (inside o k) (λ g. where_true (are_new (by_name.keys g) (columns_out (c ∷ []) h)) (opened_columns c h)))
 
 -- an attribute of a tuple
-unfoldable pub from_kind : Text → TypeKind → Option TypeKind
-from_kind c k = and_then (tuple_heading k) (attribute_kind c)
+unfoldable pub from_kind : Name → TypeKind → Option TypeKind
+from_kind c k = where_some (tuple_heading k) (attribute_kind c)
 
 -- new attributes have distinct names; those that are added are not there
-abbrev pub may_extend : Extension → List Text → Header → Bool
+abbrev pub may_extend : Extension → List Name → Header → Bool
 may_extend extension.Add ns h = are_distinct ns && are_new ns h
 may_extend extension.Assign ns h = are_distinct ns

@@ -11,8 +11,8 @@ use Rattle.td_values.specs.declared.TypeKind.{TypeKind}
 use Rattle.td_values.specs.declared.TypeKind.TheVariants as kind
 
 -- a name, as its bytes
-abbrev pub Text : Type 0
-Text = List ℕ
+abbrev pub Name : Type 0
+Name = List ℕ
 
 -- the kind of a type
 abbrev pub kind_of : Ty → TypeKind
@@ -56,19 +56,19 @@ tuple_heading (kind.Tuple h) = Some h
 tuple_heading _ = None
 
 -- the name of a user-defined type
-abbrev pub user_name : TypeKind → Option Text
+abbrev pub user_name : TypeKind → Option Name
 user_name (kind.User n) = Some n
 user_name _ = None
 
 -- no attribute of h has the name
-abbrev pub is_new : Header → Text → Bool
+abbrev pub is_new : Header → Name → Bool
 is_new h n = not (by_name.contains_key h n)
 
 -- every name is an attribute's, and none is
-abbrev pub are_there : List Text → Header → Bool
+abbrev pub are_there : List Name → Header → Bool
 are_there ns h = list_all (by_name.contains_key h) ns
 
-abbrev pub are_new : List Text → Header → Bool
+abbrev pub are_new : List Name → Header → Bool
 are_new ns h = list_all (is_new h) ns
 
 -- an attribute of the type may stand beside those of h: h has none of the name, or one of that type
@@ -76,19 +76,19 @@ abbrev pub may_be : Option Ty → Ty → Bool
 may_be None t = true
 may_be (Some s) t = same_type s t
 
-abbrev pub may_stand_beside : Header → Text × Ty → Bool
+abbrev pub may_stand_beside : Header → Name × Ty → Bool
 may_stand_beside h f = may_be (by_name.get h f.0) f.1
 
 -- common attributes have one type
-abbrev pub agree : Header → Header → Bool
-agree g h = list_all (may_stand_beside g) (by_name.entries h)
+abbrev pub agree_on_types : Header → Header → Bool
+agree_on_types g h = list_all (may_stand_beside g) (by_name.entries h)
 
 -- h has the attribute, with that type
 abbrev pub is_type : Option Ty → Ty → Bool
 is_type None t = false
 is_type (Some s) t = same_type s t
 
-abbrev pub has_attribute : Header → Text × Ty → Bool
+abbrev pub has_attribute : Header → Name × Ty → Bool
 has_attribute h f = is_type (by_name.get h f.0) f.1
 
 -- k is a subset of h

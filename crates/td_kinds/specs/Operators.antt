@@ -12,37 +12,37 @@ use Rattle.td_syntax.specs.declared.tree.BinaryOperator.{BinaryOperator}
 use Rattle.td_syntax.specs.declared.tree.BinaryOperator.TheVariants as binary
 use Rattle.td_syntax.specs.declared.tree.Aggregate.{Aggregate}
 use Rattle.td_syntax.specs.declared.tree.Aggregate.TheVariants as aggregate
-use Rattle.td_kinds.specs.Kinds.{Text, same_type, same_kind, same_heading, is_boolean, is_integer, is_char, relation_heading, tuple_heading, agree}
-use Rattle.td_kinds.specs.Results.{where_true, and_then}
+use Rattle.td_kinds.specs.Kinds.{Name, same_type, same_kind, same_heading, is_boolean, is_integer, is_char, relation_heading, tuple_heading, agree_on_types}
+use Rattle.td_kinds.specs.Results.{where_true, where_some}
 
 -- two attributes of one type
-abbrev pub is_pair : List (Text × Ty) → Bool
-is_pair (f ∷ g ∷ []) = same_type f.1 g.1
-is_pair _ = Bool.false
+abbrev pub are_of_one_type : List (Name × Ty) → Bool
+are_of_one_type (f ∷ g ∷ []) = same_type f.1 g.1
+are_of_one_type _ = Bool.false
 
 unfoldable pub closed_kind : TypeKind → Option TypeKind
-closed_kind k = and_then (relation_heading k) (λ h. where_true (is_pair (by_name.entries h)) (kind.Relation h))
+closed_kind k = where_some (relation_heading k) (λ h. where_true (are_of_one_type (by_name.entries h)) (kind.Relation h))
 
 abbrev pub unary_kind : UnaryOperator → TypeKind → Option TypeKind
 unary_kind unary.Not k = where_true (is_boolean k) kind.Boolean
 unary_kind unary.Negate k = where_true (is_integer k) kind.Integer
 unary_kind unary.Closure k = closed_kind k
-unary_kind unary.TupleFrom k = and_then (relation_heading k) (λ h. Some (kind.Tuple h))
-unary_kind unary.IsEmpty k = and_then (relation_heading k) (λ h. Some kind.Boolean)
-unary_kind unary.Count k = and_then (relation_heading k) (λ h. Some kind.Integer)
+unary_kind unary.TupleFrom k = where_some (relation_heading k) (λ h. Some (kind.Tuple h))
+unary_kind unary.IsEmpty k = where_some (relation_heading k) (λ h. Some kind.Boolean)
+unary_kind unary.Count k = where_some (relation_heading k) (λ h. Some kind.Integer)
 
 -- of two relations
 abbrev pub of_headings : TypeKind → TypeKind → (Header → Header → Option TypeKind) → Option TypeKind
-of_headings j k f = and_then (relation_heading j) (λ g. and_then (relation_heading k) (f g))
+of_headings j k f = where_some (relation_heading j) (λ g. where_some (relation_heading k) (f g))
 
 unfoldable pub joined_kind : TypeKind → TypeKind → Option TypeKind
-joined_kind j k = of_headings j k (λ g h. where_true (agree g h) (kind.Relation (joined g h)))
+joined_kind j k = of_headings j k (λ g h. where_true (agree_on_types g h) (kind.Relation (joined g h)))
 
 unfoldable pub composed_kind : TypeKind → TypeKind → Option TypeKind
-composed_kind j k = of_headings j k (λ g h. where_true (agree g h) (kind.Relation (composed_columns g h)))
+composed_kind j k = of_headings j k (λ g h. where_true (agree_on_types g h) (kind.Relation (composed_columns g h)))
 
 unfoldable pub matched_kind : TypeKind → TypeKind → Option TypeKind
-matched_kind j k = of_headings j k (λ g h. where_true (agree g h) (kind.Relation g))
+matched_kind j k = of_headings j k (λ g h. where_true (agree_on_types g h) (kind.Relation g))
 
 unfoldable pub united_kind : TypeKind → TypeKind → Option TypeKind
 united_kind j k = of_headings j k (λ g h. where_true (same_heading g h) (kind.Relation g))
@@ -56,7 +56,7 @@ ordered_kind j k = if (is_integer j && is_integer k) || (is_char j && is_char k)
 
 -- a tuple that has the relation's heading
 unfoldable pub member_kind : TypeKind → TypeKind → Option TypeKind
-member_kind j k = and_then (tuple_heading j) (λ g. and_then (relation_heading k) (λ h. where_true (same_heading g h) kind.Boolean))
+member_kind j k = where_some (tuple_heading j) (λ g. where_some (relation_heading k) (λ h. where_true (same_heading g h) kind.Boolean))
 
 unfoldable pub truth_kind : TypeKind → TypeKind → Option TypeKind
 truth_kind j k = where_true (is_boolean j && is_boolean k) kind.Boolean

@@ -19,6 +19,6 @@ where_true true a = Some a
 where_true false a = None
 
 -- what f makes of what there is
-abbrev pub and_then : {A B : Type 0} → Option A → (A → Option B) → Option B
-and_then None f = None
-and_then (Some a) f = f a
+abbrev pub where_some : {A B : Type 0} → Option A → (A → Option B) → Option B
+where_some None f = None
+where_some (Some a) f = f a

@@ -1,89 +1,65 @@
 -- What a script has defined, as far as an expression can name it: relvars, and types with their possreps, each in order of
 -- definition.
-use Rattle.std.specs.Prelude.{ℕ, ◌+◌, Bool, not, ◌&&◌, List, [], ◌∷◌, ◌++◌, map, Option, Some, None, is_none, if◌then◌else◌, nat_eq, codes, refl}
-use Rattle.std.specs.Coded.{Coded, code_by, coded×, coded_list, coded_ℕ}
+use Rattle.std.specs.Prelude.{ℕ, ◌+◌, Bool, List, [], ◌∷◌, ◌++◌, Option, Some, None, if◌then◌else◌, nat_eq, codes}
 use Rattle.std.specs.List.{starts_with}
 use Rattle.std.specs.Ordering.{eq_by_cmp}
-use Rattle.td_values.specs.Headings.{Header, header_code}
+use Rattle.td_values.specs.Headings.{Header}
 use Rattle.td_values.specs.Order.{text_cmp}
 use Rattle.td_values.specs.declared.TypeKind.{TypeKind}
 use Rattle.td_syntax.specs.declared.tree.Named.{Named}
-use Rattle.td_kinds.specs.contracts.schema.Representation.{the_row}
 use Rattle.td_kinds.specs.declared.schema.Representation.{Representation}
-use Rattle.td_kinds.specs.Kinds.{Text}
-use Rattle.td_kinds.specs.Results.{where_true}
+use Rattle.td_kinds.specs.Kinds.{Name}
 
 pub record SchemaData : Type 0 where
   pub possreps : List Representation
   pub relvars : List (Named Header)
 
--- by which a proof tells them apart
-abbrev pub relvar_code : Coded (Named Header)
-relvar_code =
-    code_by (Text × Header) (coded× (coded_list coded_ℕ) header_code) (λ x. (x.name, x.value)) (λ p. record { name = p.0; value = p.1 }) (λ _. refl)
-
-abbrev pub schema_code : Coded SchemaData
-schema_code =
-    code_by (List Representation × List (Named Header)) (coded× (coded_list the_row.coded) (coded_list relvar_code)) (λ s. (s.possreps, s.relvars)) (λ p. record { possreps = p.0; relvars = p.1 }) (λ _. refl)
-
-abbrev pub same_text : Text → Text → Bool
+abbrev pub same_text : Name → Name → Bool
 same_text = eq_by_cmp text_cmp
 
 -- the name begins with THE_
-abbrev pub begins_with_the : Text → Bool
+abbrev pub begins_with_the : Name → Bool
 begins_with_the x = starts_with nat_eq x (codes "THE_")
-
--- the names of the possreps, and those of their types
-abbrev pub possrep_names : List Representation → List Text
-possrep_names rs = map (λ r. r.possrep.name) rs
-
-abbrev pub type_names : List Representation → List Text
-type_names rs = map (λ r. r.possrep.ty) rs
 
 -- the first that passes the test, with its place, counted from n
 abbrev pub first_from : {A : Type 0} → ℕ → (A → Bool) → List A → Option (ℕ × A)
 first_from n test [] = None
 first_from n test (x ∷ xs) = if test x then Some (n, x) else first_from (n + 1) test xs
 
-abbrev pub first : {A : Type 0} → (A → Bool) → List A → Option (ℕ × A)
-first test xs = first_from 0 test xs
+abbrev pub first_with_place : {A : Type 0} → (A → Bool) → List A → Option (ℕ × A)
+first_with_place test xs = first_from 0 test xs
 
-abbrev pub is_named : {A : Type 0} → Text → Named A → Bool
+abbrev pub is_named : {A : Type 0} → Name → Named A → Bool
 is_named x a = same_text x a.name
 
-abbrev pub has_possrep : Text → Representation → Bool
+abbrev pub has_possrep : Name → Representation → Bool
 has_possrep x r = same_text x r.possrep.name
 
-abbrev pub has_type_name : Text → Representation → Bool
+abbrev pub has_type_name : Name → Representation → Bool
 has_type_name x r = same_text x r.possrep.ty
 
 -- the relvar of this name
-abbrev pub relvar_named : SchemaData → Text → Option (ℕ × Named Header)
-relvar_named cat x = first (is_named x) cat.relvars
+abbrev pub relvar_named : SchemaData → Name → Option (ℕ × Named Header)
+relvar_named cat x = first_with_place (is_named x) cat.relvars
 
 -- the possrep of this name, and that of the type of this name
-abbrev pub possrep_named : SchemaData → Text → Option (ℕ × Representation)
-possrep_named cat x = first (has_possrep x) cat.possreps
+abbrev pub possrep_named : SchemaData → Name → Option (ℕ × Representation)
+possrep_named cat x = first_with_place (has_possrep x) cat.possreps
 
-abbrev pub type_named : SchemaData → Text → Option (ℕ × Representation)
-type_named cat x = first (has_type_name x) cat.possreps
+abbrev pub type_named : SchemaData → Name → Option (ℕ × Representation)
+type_named cat x = first_with_place (has_type_name x) cat.possreps
 
 -- the component of this name, among those of a possrep
-abbrev pub component_named : List (Named TypeKind) → Text → Option (ℕ × Named TypeKind)
-component_named cs x = first (is_named x) cs
+abbrev pub component_named : List (Named TypeKind) → Name → Option (ℕ × Named TypeKind)
+component_named cs x = first_with_place (is_named x) cs
 
 -- where nothing is defined
-abbrev pub nothing_defined : SchemaData
-nothing_defined = record { possreps = []; relvars = [] }
+abbrev pub empty_schema : SchemaData
+empty_schema = record { possreps = []; relvars = [] }
 
--- with one more relvar, whose name is new
-abbrev pub relvar_added : SchemaData → Text → Header → Option SchemaData
-relvar_added cat n h = where_true (is_none (relvar_named cat n)) (record cat { relvars = cat.relvars ++ record { name = n; value = h } ∷ [] })
+-- with one more relvar, and with one more type
+abbrev pub schema_with_relvar : SchemaData → Name → Header → SchemaData
+schema_with_relvar cat n h = record cat { relvars = cat.relvars ++ record { name = n; value = h } ∷ [] }
 
--- the names of a type and of its possrep are new, and that of the possrep does not begin with THE_
-abbrev pub may_add : SchemaData → Representation → Bool
-may_add cat r = not (begins_with_the r.possrep.name) && (is_none (type_named cat r.possrep.ty) && is_none (possrep_named cat r.possrep.name))
-
--- with one more type
-abbrev pub type_added : SchemaData → Representation → Option SchemaData
-type_added cat r = where_true (may_add cat r) (record cat { possreps = cat.possreps ++ r ∷ [] })
+abbrev pub schema_with_type : SchemaData → Representation → SchemaData
+schema_with_type cat r = record cat { possreps = cat.possreps ++ r ∷ [] }

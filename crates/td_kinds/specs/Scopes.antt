@@ -10,11 +10,11 @@ use Rattle.td_kinds.specs.declared.scope.Meant.{Meant}
 pub use Rattle.td_kinds.specs.declared.scope.Meant.TheVariants.{Local as local, Relvar as relvar}
 use Rattle.td_kinds.specs.declared.scope.Scope as scoped
 use Rattle.td_kinds.specs.declared.scope.Scope.TheVariants.{Nothing, Relvars, Within', Given'}
-use Rattle.td_kinds.specs.Kinds.{Text, kind_of}
+use Rattle.td_kinds.specs.Kinds.{Name, kind_of}
 use Rattle.td_kinds.specs.Schemas.{SchemaData, relvar_named, same_text}
 
 abbrev pub Scope : Type 0
-Scope = Text → Option Meant
+Scope = Name → Option Meant
 
 abbrev pub nothing : Scope
 nothing x = None
@@ -31,20 +31,20 @@ or_outer (Some ty) outer = Some (local (kind_of ty))
 or_outer None outer = outer
 
 -- within a tuple of the heading
-abbrev pub within : Header → Scope → Scope
-within h outer x = or_outer (by_name.get h x) (outer x)
+abbrev pub within_tuple : Header → Scope → Scope
+within_tuple h outer x = or_outer (by_name.get h x) (outer x)
 
 -- with one more name of WITH, and with several: a later one hides an earlier one
-abbrev pub given : Text → TypeKind → Scope → Scope
-given n k outer x = if same_text n x then Some (local k) else outer x
+abbrev pub with_name : Name → TypeKind → Scope → Scope
+with_name n k outer x = if same_text n x then Some (local k) else outer x
 
-abbrev pub all_given : List (Named TypeKind) → Scope → Scope
-all_given [] outer = outer
-all_given (n ∷ ns) outer = all_given ns (given n.name n.value outer)
+abbrev pub with_names : List (Named TypeKind) → Scope → Scope
+with_names [] outer = outer
+with_names (n ∷ ns) outer = with_names ns (with_name n.name n.value outer)
 
 -- what a scope of the program is seen as
 abbrev pub visible : scoped.Scope → Scope
 visible Nothing = nothing
 visible (Relvars cat) = relvars_of cat.now
-visible (Within' h p outer) = within h.now (visible outer)
-visible (Given' ns p outer) = all_given ns.now (visible outer)
+visible (Within' h p outer) = within_tuple h.now (visible outer)
+visible (Given' ns p outer) = with_names ns.now (visible outer)

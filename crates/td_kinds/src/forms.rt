@@ -18,8 +18,8 @@ use td_tuples::{
 use td_values::{Heading, Name, TypeKind};
 
 /// The heading of a relation or of a tuple.
-pub fn heading_of(kind: &TypeKind) -> Option<&Heading>
-    ensures { option_copied result ≡ spec.heading_of kind.now }
+pub fn kind_heading(kind: &TypeKind) -> Option<&Heading>
+    ensures { option_copied result ≡ spec.kind_heading kind.now }
 {
     match kind {
         TypeKind::Tuple(heading) => Some(heading),
@@ -29,8 +29,8 @@ pub fn heading_of(kind: &TypeKind) -> Option<&Heading>
 }
 
 /// The part of a relation or of a tuple at these names; another kind as it is.
-pub fn part_at(alloc: Global, names: &[Name], kind: &TypeKind) -> Result<TypeKind, AllocError>
-    ensures { IfOk result (λ k. k ≡ spec.part_at names.now kind.now) }
+pub fn part_kind(alloc: Global, names: &[Name], kind: &TypeKind) -> Result<TypeKind, AllocError>
+    ensures { IfOk result (λ k. k ≡ spec.part_kind names.now kind.now) }
 {
     match kind {
         TypeKind::Tuple(heading) => Ok(TypeKind::Tuple(columns_in(alloc, names, heading)?)),
@@ -101,7 +101,7 @@ fn inside(nesting: Nesting, kind: &TypeKind) -> Option<&Heading>
 
 /// The kind of an attribute's type.
 #[tactic(auto, unfolding(crate::specs::Forms::attribute_kind))]
-pub fn attribute_kind<'a>(name: &Name, heading: &'a Heading) -> Option<&'a TypeKind>
+pub(crate) fn attribute_kind<'a>(name: &Name, heading: &'a Heading) -> Option<&'a TypeKind>
     ensures { option_copied result ≡ spec.attribute_kind name.now heading.now }
 {
     match heading.type_of(name) {

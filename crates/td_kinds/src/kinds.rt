@@ -7,7 +7,7 @@ ghost use Rattle.td_kinds.specs.Kinds as spec;
 use td_values::{Heading, Name, TdType, TypeKind, compare_headings, compare_types};
 
 /// Whether the types are one. It takes no memory.
-pub fn same_type(a: &TdType, b: &TdType) -> bool
+pub(crate) fn same_type(a: &TdType, b: &TdType) -> bool
     ensures { result ≡ spec.same_type a.now b.now }
 {
     compare_types(a, b).is_eq()
@@ -44,7 +44,7 @@ pub fn is_boolean(kind: &TypeKind) -> bool
     }
 }
 
-pub fn is_integer(kind: &TypeKind) -> bool
+pub(crate) fn is_integer(kind: &TypeKind) -> bool
     ensures { result ≡ spec.is_integer kind.now }
 {
     match kind {
@@ -53,7 +53,7 @@ pub fn is_integer(kind: &TypeKind) -> bool
     }
 }
 
-pub fn is_char(kind: &TypeKind) -> bool
+pub(crate) fn is_char(kind: &TypeKind) -> bool
     ensures { result ≡ spec.is_char kind.now }
 {
     match kind {
@@ -93,21 +93,21 @@ pub fn user_name(kind: &TypeKind) -> Option<&Name>
 }
 
 /// Whether no attribute has the name.
-pub fn is_new(heading: &Heading, name: &Name) -> bool
+pub(crate) fn is_new(heading: &Heading, name: &Name) -> bool
     ensures { result ≡ spec.is_new heading.now name.now }
 {
     heading.type_of(name).is_none()
 }
 
 /// Whether each name is an attribute's.
-pub fn are_there(names: &[Name], heading: &Heading) -> bool
+pub(crate) fn are_there(names: &[Name], heading: &Heading) -> bool
     ensures { result ≡ spec.are_there names.now heading.now }
 {
     names.iter().all(|name| !is_new(heading, name))
 }
 
 /// Whether no name is an attribute's.
-pub fn are_new(names: &[Name], heading: &Heading) -> bool
+pub(crate) fn are_new(names: &[Name], heading: &Heading) -> bool
     ensures { result ≡ spec.are_new names.now heading.now }
 {
     names.iter().all(|name| is_new(heading, name))
@@ -123,8 +123,8 @@ fn may_stand_beside(heading: &Heading, field: &(Name, TdType)) -> bool
 }
 
 /// Whether common attributes have one type.
-pub fn agree(first: &Heading, second: &Heading) -> bool
-    ensures { result ≡ spec.agree first.now second.now }
+pub(crate) fn agree_on_types(first: &Heading, second: &Heading) -> bool
+    ensures { result ≡ spec.agree_on_types first.now second.now }
 {
     second
         .fields()

@@ -43,7 +43,7 @@ pub fn names<T>(alloc: Global, parts: &[Named<T>]) -> Result<Vec<Name>, AllocErr
 }
 
 /// The names of the attributes, in name order.
-pub fn attribute_names(alloc: Global, heading: &Heading) -> Result<Items<Name>, AllocError>
+pub(crate) fn attribute_names(alloc: Global, heading: &Heading) -> Result<Items<Name>, AllocError>
     ensures { IfOk result (λ v. v ≡ names_of heading.now) }
 {
     let mut found = Items::new(alloc);
@@ -116,7 +116,7 @@ pub fn attributes_of(
 
 /// The renamings, each an old name with its new one.
 pub fn pairs_of(alloc: Global, renamings: &[Renaming]) -> Result<Items<(Name, Name)>, AllocError>
-    ensures { IfOk result (λ v. v ≡ map spec.pair_of renamings.now) }
+    ensures { IfOk result (λ v. v ≡ map spec.renaming_pair renamings.now) }
 {
     let mut pairs = Items::new(alloc);
     for renaming in renamings {
@@ -150,7 +150,7 @@ fn names_after(
 }
 
 /// Whether the old names are there and distinct, and the names that result are distinct.
-pub fn may_rename(
+pub(crate) fn may_rename(
     alloc: Global,
     items: &[(Name, Name)],
     heading: &Heading,

@@ -6,8 +6,8 @@ ghost use Rattle.td_kinds.specs.Results.{Gives, where_true};
 
 use crate::error::TypeError;
 use crate::kinds::{
-    agree, is_boolean, is_char, is_integer, relation_heading, same_heading, same_kind, same_type,
-    tuple_heading,
+    agree_on_types, is_boolean, is_char, is_integer, relation_heading, same_heading, same_kind,
+    same_type, tuple_heading,
 };
 use std::alloc::Global;
 use td_syntax::tree::{Aggregate, BinaryOperator, UnaryOperator};
@@ -25,8 +25,8 @@ fn where_true(test: bool, kind: TypeKind) -> Result<TypeKind, TypeError>
     }
 }
 
-fn is_pair(fields: &[(Name, TdType)]) -> bool
-    ensures { result ≡ spec.is_pair fields.now }
+fn are_of_one_type(fields: &[(Name, TdType)]) -> bool
+    ensures { result ≡ spec.are_of_one_type fields.now }
 {
     match fields {
         [first, second] => same_type(&first.1, &second.1),
@@ -41,7 +41,7 @@ fn closed_kind(kind: &TypeKind) -> Result<TypeKind, TypeError>
     let Some(heading) = relation_heading(kind) else {
         return Err(TypeError::IllTyped)
     };
-    if !is_pair(heading.fields()) {
+    if !are_of_one_type(heading.fields()) {
         return Err(TypeError::IllTyped);
     }
     Ok(TypeKind::Relation(heading.copy()?))
@@ -77,7 +77,7 @@ fn joined_kind(alloc: Global, a: &TypeKind, b: &TypeKind) -> Result<TypeKind, Ty
     let (Some(g), Some(h)) = (relation_heading(a), relation_heading(b)) else {
         return Err(TypeError::IllTyped);
     };
-    if !agree(g, h) {
+    if !agree_on_types(g, h) {
         return Err(TypeError::IllTyped);
     }
     Ok(TypeKind::Relation(joined(alloc, g, h)?))
@@ -90,7 +90,7 @@ fn composed_kind(alloc: Global, a: &TypeKind, b: &TypeKind) -> Result<TypeKind, 
     let (Some(g), Some(h)) = (relation_heading(a), relation_heading(b)) else {
         return Err(TypeError::IllTyped);
     };
-    if !agree(g, h) {
+    if !agree_on_types(g, h) {
         return Err(TypeError::IllTyped);
     }
     Ok(TypeKind::Relation(composed_columns(alloc, g, h)?))
@@ -103,7 +103,7 @@ fn matched_kind(a: &TypeKind, b: &TypeKind) -> Result<TypeKind, TypeError>
     let (Some(g), Some(h)) = (relation_heading(a), relation_heading(b)) else {
         return Err(TypeError::IllTyped);
     };
-    if !agree(g, h) {
+    if !agree_on_types(g, h) {
         return Err(TypeError::IllTyped);
     }
     Ok(TypeKind::Relation(g.copy()?))

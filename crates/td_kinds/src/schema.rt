@@ -6,6 +6,7 @@ ghost use Rattle.std.specs.Ordering.{eq_by_cmp};
 ghost use Rattle.indexmap.specs.IndexMap.{get as entry_of};
 ghost use Rattle.indexmap.specs.IndexSet.{contains};
 ghost use Rattle.td_values.specs.Order.{text_cmp};
+ghost use Rattle.td_kinds.specs.ForProofs.Additions as additions;
 ghost use Rattle.td_kinds.specs.Schemas as spec;
 ghost use Rattle.td_kinds.specs.declared.error.TypeError.TheVariants as type_error;
 
@@ -45,7 +46,9 @@ impl Drop for Schema {
 impl Model for Schema {
     ghost use Rattle.std.specs.Prelude.{◌≡◌, map};
     ghost use Rattle.std.specs.Map.{keys_of};
-    ghost use Rattle.td_kinds.specs.Schemas.{SchemaData, schema_code, possrep_names, type_names};
+    ghost use Rattle.td_kinds.specs.Schemas.{SchemaData};
+    ghost use Rattle.td_kinds.specs.ForProofs.Additions.{possrep_names, type_names};
+    ghost use Rattle.td_kinds.specs.ForProofs.Codes.{schema_code};
 
     ghost Value = { SchemaData };
 
@@ -103,7 +106,7 @@ fn add_possrep(
 impl Schema {
     /// One in which nothing is defined.
     pub fn new(alloc: Global) -> Schema
-        ensures { result ≡ spec.nothing_defined }
+        ensures { result ≡ spec.empty_schema }
     {
         Schema {
             types: IndexSet::new(alloc),
@@ -178,8 +181,8 @@ impl Schema {
 
     /// Adds a relvar behind the others. It is refused where there is one of its name.
     pub fn add_relvar(&mut self, name: Name, heading: Heading) -> Result<(), TypeError>
-        ensures ok { OnOk result (spec.relvar_added self.old name heading ≡ Some self.new) }
-        ensures ill_typed { result ≡ Err type_error.IllTyped → spec.relvar_added self.old name heading ≡ None }
+        ensures ok { OnOk result (additions.relvar_added self.old name heading ≡ Some self.new) }
+        ensures ill_typed { result ≡ Err type_error.IllTyped → additions.relvar_added self.old name heading ≡ None }
         ensures err { OnErr result (self.new ≡ self.old) }
     {
         if self.relvars.contains_key(&name) {
@@ -193,7 +196,7 @@ impl Schema {
     }
 
     fn may_add(&self, representation: &Representation) -> bool
-        ensures { result ≡ spec.may_add self.now representation.now }
+        ensures { result ≡ additions.may_add self.now representation.now }
     {
         !begins_with_the(representation.possrep.name())
             && (self.type_named(representation.possrep.ty()).is_none()
@@ -203,8 +206,8 @@ impl Schema {
     /// Adds a type behind the others. It is refused where there is a type of its name or a possrep of its possrep's name, or
     /// where that name begins with THE_.
     pub fn add_type(&mut self, representation: Representation) -> Result<(), TypeError>
-        ensures ok { OnOk result (spec.type_added self.old representation ≡ Some self.new) }
-        ensures ill_typed { result ≡ Err type_error.IllTyped → spec.type_added self.old representation ≡ None }
+        ensures ok { OnOk result (additions.type_added self.old representation ≡ Some self.new) }
+        ensures ill_typed { result ≡ Err type_error.IllTyped → additions.type_added self.old representation ≡ None }
         ensures err { OnErr result (self.new ≡ self.old) }
     {
         if !self.may_add(&representation) {

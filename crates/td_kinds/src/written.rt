@@ -16,8 +16,8 @@ use td_syntax::tree::{Named, TypeExpr};
 use td_values::{Heading, Name, TdType, TypeKind};
 
 /// The heading of these fields. Of two of one name the first counts.
-pub fn columns(alloc: Global, fields: &[Named<TypeKind>]) -> Result<Heading, AllocError>
-    ensures { IfOk result (λ h. h ≡ spec.columns fields.now) }
+pub fn kind_columns(alloc: Global, fields: &[Named<TypeKind>]) -> Result<Heading, AllocError>
+    ensures { IfOk result (λ h. h ≡ spec.kind_columns fields.now) }
 {
     let mut heading = Heading::new(alloc)?;
     for field in fields {
@@ -30,14 +30,17 @@ pub fn columns(alloc: Global, fields: &[Named<TypeKind>]) -> Result<Heading, All
 }
 
 /// The heading of these fields, whose names are distinct.
-pub fn distinct_columns(alloc: Global, fields: &[Named<TypeKind>]) -> Result<Heading, TypeError>
+pub(crate) fn distinct_columns(
+    alloc: Global,
+    fields: &[Named<TypeKind>],
+) -> Result<Heading, TypeError>
     ensures { Gives (spec.distinct_columns fields.now) result }
 {
     let names = names(alloc, fields)?;
     if !are_distinct(alloc, &names)? {
         return Err(TypeError::IllTyped);
     }
-    Ok(columns(alloc, fields)?)
+    Ok(kind_columns(alloc, fields)?)
 }
 
 // The kinds of these parts, each with its name.

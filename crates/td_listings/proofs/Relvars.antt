@@ -3,10 +3,10 @@ use Rattle.std.proofs.Common.{◌≡◌, ◌<◌, ℕ, zero, suc, ◌+◌, Bool,
 use Rattle.td_values.specs.Headings.{Header}
 use Rattle.td_values.specs.TextOrder.{text_equivalence}
 use Rattle.td_syntax.specs.declared.tree.Named.{Named}
-use Rattle.td_kinds.specs.Kinds.{Text}
-use Rattle.td_kinds.specs.Schemas.{first, first_from, is_named, relvar_named, same_text}
+use Rattle.td_kinds.specs.Kinds.{Name}
+use Rattle.td_kinds.specs.Schemas.{first_with_place, first_from, is_named, relvar_named, same_text}
 use Rattle.td_headings.specs.Catalogues.{CatalogueData}
-use Rattle.td_headings.specs.Definitions.{Defined, Defines, nothing_yet, one_more, type_, base, virtual, constraint}
+use Rattle.td_headings.specs.Definitions.{Defined, Defines, nothing_yet, next_definition, type_, base, virtual, constraint}
 use Rattle.td_syntax.specs.declared.script.Definition.{Definition}
 use Rattle.td_listings.specs.ForProofs.Asked.{IsRelvarAt}
 
@@ -51,13 +51,13 @@ last {A} m test (y ∷ xs) x h passes = by (test y) (λ e. last (m + 1) test xs 
 
 -- ---- each relvar is the first of its name
 abbrev AreFirst : List (Named Header) → Type 0
-AreFirst vs = (n : ℕ) (v : Named Header) → slice_get vs n ≡ Some v → first (is_named v.name) vs ≡ Some (n, v)
+AreFirst vs = (n : ℕ) (v : Named Header) → slice_get vs n ≡ Some v → first_with_place (is_named v.name) vs ≡ Some (n, v)
 
-one_first : (vs : List (Named Header)) (x : Text) (h : Header) → AreFirst vs → first (is_named x) vs ≡ None → AreFirst (vs ++ record { name = x; value = h } ∷ [])
+one_first : (vs : List (Named Header)) (x : Name) (h : Header) → AreFirst vs → first_with_place (is_named x) vs ≡ None → AreFirst (vs ++ record { name = x; value = h } ∷ [])
 one_first vs x h each new n v at = elim (at_end vs (record { name = x; value = h }) n v at) [
   | inl front ↦ kept 0 (is_named v.name) vs (record { name = x; value = h } ∷ []) (n, v) (each n v front)
   | inr end ↦
-      subst (λ (w : Named Header). first (is_named w.name) (vs ++ record { name = x; value = h } ∷ []) ≡ Some (n, w)) end.1
+      subst (λ (w : Named Header). first_with_place (is_named w.name) (vs ++ record { name = x; value = h } ∷ []) ≡ Some (n, w)) end.1
       (last 0 (is_named x) vs (record { name = x; value = h }) new (text_equivalence.refl x) ∙ ap (λ (k : ℕ). Some (k, record { name = x; value = h })) (let k : 0 + length vs ≡ n = omega (arith, end.0) in k))
 ]
 
@@ -69,7 +69,7 @@ after c d x each (constraint a b) = each
 
 are_first : (c : CatalogueData) → Defined c → AreFirst c.schema.relvars
 are_first c nothing_yet = λ n v h. cc
-are_first c (one_more {c = b} {x = x} before adds) = after b c x (are_first b before) adds
+are_first c (next_definition {c = b} {x = x} before adds) = after b c x (are_first b before) adds
 
 -- the relvar at a place, by its name
 pub at_place : (c : CatalogueData) (n : ℕ) (v : Named Header) → Defined c → slice_get c.schema.relvars n ≡ Some v → IsRelvarAt c v.name n

@@ -17,11 +17,11 @@ use Rattle.td_syntax.specs.declared.tree.TypeExpr.TheOpen.{TypeExpr-F}
 use Rattle.td_syntax.specs.declared.tree.TypeExpr.TheFolds.{fold-roll-TypeExpr}
 use Rattle.td_tuples.specs.Parts.{is_in}
 use Rattle.td_tuples.proofs.Lists.{keys_of}
-use Rattle.td_kinds.specs.Kinds.{Text, kind_of}
+use Rattle.td_kinds.specs.Kinds.{Name, kind_of}
 use Rattle.td_kinds.specs.Lists.{are_distinct}
-use Rattle.td_kinds.specs.Results.{where_true, and_then}
+use Rattle.td_kinds.specs.Results.{where_true, where_some}
 use Rattle.td_kinds.specs.Schemas.{SchemaData}
-use Rattle.td_kinds.specs.Written.{all_named, names, column_of, columns, distinct_columns, written, written_step, heading_written}
+use Rattle.td_kinds.specs.Written.{all_named, names, kind_column, kind_columns, distinct_columns, written, written_step, heading_written}
 use Rattle.td_kinds.proofs.Writings as writings
 use Rattle.td_soundness.specs.Values.{AreColumns}
 use Rattle.td_literals.specs.Literals.{IsDefined, AreDefined}
@@ -32,11 +32,11 @@ both_true : (a b : Bool) → a ≡ true → b ≡ true → (a && b) ≡ true
 both_true a b p q = λ i. p i && q i
 
 module _ {X : Type 0} where
-  none_is : (n : Text) (es : List (Text × X)) → T (below_all text_cmp n es) → is_in (keys_of es) n ≡ false
+  none_is : (n : Name) (es : List (Name × X)) → T (below_all text_cmp n es) → is_in (keys_of es) n ≡ false
   none_is n [] below = refl
   none_is n (e ∷ es) below = rw (less (text_cmp n e.0) (first (is_lt (text_cmp n e.0)) (below_all text_cmp n es) below)) (none_is n es (second (is_lt (text_cmp n e.0)) (below_all text_cmp n es) below))
 
-  pub sorted_distinct : (es : List (Text × X)) → T (by_name.is_sorted text_cmp es) → are_distinct (keys_of es) ≡ true
+  pub sorted_distinct : (es : List (Name × X)) → T (by_name.is_sorted text_cmp es) → are_distinct (keys_of es) ≡ true
   sorted_distinct [] s = refl
   sorted_distinct (e ∷ es) s = both_true _ _ (ap not (none_is e.0 es (first _ _ s))) (sorted_distinct es (second _ _ s))
 
@@ -44,7 +44,7 @@ module _ {X : Type 0} where
 pub fields_back : (fs : Fields) → AreColumns fs → header_fields (header_of fs) ≡ fs
 fields_back fs are = ap (λ gs. header_fields (header_of gs)) are.1 ∙ ap header_fields (header_back are.0) ∙ sym are.1
 
-fields_listed : (xs : List (Text × Ty)) → field_list (fields_of xs) ≡ xs
+fields_listed : (xs : List (Name × Ty)) → field_list (fields_of xs) ≡ xs
 fields_listed [] = refl
 fields_listed (x ∷ xs) = ap (λ ys. x ∷ ys) (fields_listed xs)
 
@@ -71,18 +71,18 @@ module _ (s : SchemaData) where
   ty_back (tuple_type fs) is = ap tuple_type (fields_back fs is.0)
   ty_back (relation_type fs) is = ap relation_type (fields_back fs is.0)
 
-  columns_listed : (fs : Fields) → AreDefined s fs → map column_of (field_kinds fs) ≡ field_list fs
+  columns_listed : (fs : Fields) → AreDefined s fs → map kind_column (field_kinds fs) ≡ field_list fs
   columns_listed no_fields are = refl
   columns_listed (field n ty fs) are = λ i. (n, ty_back ty are.1 i) ∷ columns_listed fs are.2 i
 
   columns_are : (fs : Fields) → AreColumns fs → AreDefined s fs → distinct_columns (field_kinds fs) ≡ Some (header_of fs)
   columns_are fs cs are =
-      ap (λ b. where_true b (columns (field_kinds fs))) (ap are_distinct (kinds_named fs) ∙ sorted_distinct (field_list fs) (fields_sorted fs cs))
+      ap (λ b. where_true b (kind_columns (field_kinds fs))) (ap are_distinct (kinds_named fs) ∙ sorted_distinct (field_list fs) (fields_sorted fs cs))
       ∙ ap (λ es. Some (by_name.from_entries {R = text_cmp} es)) (columns_listed fs are)
 
   heading_of_kinds : (fs : Fields) → AreColumns fs → AreDefined s fs → all_named (written s) (field_trees fs) ≡ Some (field_kinds fs) → heading_written s (field_trees fs) ≡ Some (header_of fs)
   unfolding heading_written
-  heading_of_kinds fs cs are e = ap (λ o. and_then o distinct_columns) e ∙ columns_are fs cs are
+  heading_of_kinds fs cs are e = ap (λ o. where_some o distinct_columns) e ∙ columns_are fs cs are
 
   mutual
     written_back : (ty : Ty) → IsDefined s ty → written s (type_tree ty) ≡ Some (kind_of ty)
@@ -93,13 +93,13 @@ module _ (s : SchemaData) where
         ap (written s) (sym (t.rolls-User n)) ∙ fold-roll-TypeExpr (Option TypeKind) (written_step s) (TypeExpr-F.User n)
         ∙ ap (λ b. where_true b (kind.User n)) is.1
     written_back (tuple_type fs) is =
-        writings.of_tuple s (field_trees fs) ∙ ap (λ o. and_then o (λ h. Some (kind.Tuple h))) (heading_of_kinds fs is.0 is.1 (all_written fs is.1))
+        writings.of_tuple s (field_trees fs) ∙ ap (λ o. where_some o (λ h. Some (kind.Tuple h))) (heading_of_kinds fs is.0 is.1 (all_written fs is.1))
     written_back (relation_type fs) is =
-        writings.of_relation s (field_trees fs) ∙ ap (λ o. and_then o (λ h. Some (kind.Relation h))) (heading_of_kinds fs is.0 is.1 (all_written fs is.1))
+        writings.of_relation s (field_trees fs) ∙ ap (λ o. where_some o (λ h. Some (kind.Relation h))) (heading_of_kinds fs is.0 is.1 (all_written fs is.1))
 
     all_written : (fs : Fields) → AreDefined s fs → all_named (written s) (field_trees fs) ≡ Some (field_kinds fs)
     all_written no_fields are = refl
-    all_written (field n ty fs) are = λ i. and_then (written_back ty are.1 i) (λ k. and_then (all_written fs are.2 i) (λ ks. Some (record { name = n; value = k } ∷ ks)))
+    all_written (field n ty fs) are = λ i. where_some (written_back ty are.1 i) (λ k. where_some (all_written fs are.2 i) (λ ks. Some (record { name = n; value = k } ∷ ks)))
 
   pub heading_back : (fs : Fields) → AreColumns fs → AreDefined s fs → heading_written s (field_trees fs) ≡ Some (header_of fs)
   heading_back fs cs are = heading_of_kinds fs cs are (all_written fs are)

@@ -38,7 +38,7 @@ use Rattle.td_algebra.specs.Nested.{tuple_list}
 use Rattle.td_algebra.specs.Raising.{and_then}
 use Rattle.td_algebra.specs.Summaries.{in_64_bits}
 use Rattle.td_kinds.specs.declared.schema.Representation.{Representation}
-use Rattle.td_kinds.specs.Kinds.{Text, kind_of, same_kind}
+use Rattle.td_kinds.specs.Kinds.{Name, kind_of, same_kind}
 use Rattle.td_kinds.specs.Lists.{are_distinct}
 use Rattle.td_kinds.specs.Operators.{number_kind}
 use Rattle.td_kinds.specs.Schemas.{SchemaData}
@@ -57,7 +57,7 @@ use Rattle.td_typing.proofs.KindLemmas.{some_same, same_itself, tuples_all}
 use Rattle.td_soundness.specs.Values.{AreColumns, AreComponentsOf, HasPossrep, IsValue, AreValues, AreAttributes, AreTuples}
 use Rattle.td_soundness.proofs.Tables.{fields_itself}
 use Rattle.td_soundness.proofs.Values.{canonical}
-use Rattle.td_literals.specs.Literals.{AreDefined, IsSelected, IsWritten, AreWritten, AreWrittenAttributes, AreWrittenTuples}
+use Rattle.td_literals.specs.Literals.{AreDefined, HasSelector, IsWritten, AreWritten, AreWrittenAttributes, AreWrittenTuples}
 use Rattle.td_literals.proofs.Headings.{fields_back, heading_back, sorted_distinct}
 use Rattle.td_literals.proofs.Trees.{least_tree, signed_tree, tree, item_trees, attr_trees, tuple_trees}
 
@@ -147,10 +147,10 @@ module _ (s : SchemaData) (relvars : Relvars) (selection : Selection) (scope : S
   )
 
   -- ---- user values
-  same_possrep : (p : PossrepData) (is : Items) (has : HasPossrep s p is) (own : IsSelected s selection p is) → has.1 ≡ own.possrep
+  same_possrep : (p : PossrepData) (is : Items) (has : HasPossrep s p is) (own : HasSelector s selection p is) → has.1 ≡ own.possrep
   same_possrep p is has own = ap (λ (x : ℕ × Representation). x.1) (some_same {A = ℕ × Representation} (has.0, has.1) (own.place, own.possrep) (sym has.2 ∙ own.by_type))
 
-  user_back : (p : PossrepData) (is : Items) → HasPossrep s p is → IsSelected s selection p is → AreBack (item_list is) (item_trees is) → IsBack (user p is) (tree (user p is))
+  user_back : (p : PossrepData) (is : Items) → HasPossrep s p is → HasSelector s selection p is → AreBack (item_list is) (item_trees is) → IsBack (user p is) (tree (user p is))
   unfolding mean_select
   user_back p is has own rest =
       let same = same_possrep p is has own in
@@ -164,13 +164,13 @@ module _ (s : SchemaData) (relvars : Relvars) (selection : Selection) (scope : S
       )
 
   -- ---- tuples
-  abbrev AreFieldsBack : List (Text × Datum) → List (Named Expr) → Type 0
+  abbrev AreFieldsBack : List (Name × Datum) → List (Named Expr) → Type 0
   AreFieldsBack fs xs = (is : List (Item Typed)) × TypesItems s scope xs is × (map column_of is ≡ on_values type_of fs) × (in_turn (named_at env) (items_meant m is) ≡ Ok fs)
 
   no_field_back : AreFieldsBack [] []
   no_field_back = ([], types.no_items, refl, refl)
 
-  next_field_back : (n : Text) (d : Datum) (a : Expr) (fs : List (Text × Datum)) (xs : List (Named Expr)) → IsValue s d → IsBack d a → AreFieldsBack fs xs → AreFieldsBack ((n, d) ∷ fs) (record { name = n; value = a } ∷ xs)
+  next_field_back : (n : Name) (d : Datum) (a : Expr) (fs : List (Name × Datum)) (xs : List (Named Expr)) → IsValue s d → IsBack d a → AreFieldsBack fs xs → AreFieldsBack ((n, d) ∷ fs) (record { name = n; value = a } ∷ xs)
   unfolding named_at
   next_field_back n d a fs xs value one rest = (
     item_of n (value_kind d) one.0 ∷ rest.0,

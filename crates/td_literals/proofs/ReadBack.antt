@@ -1,13 +1,10 @@
 -- A literal is a query, with its value's type, that means its value.
-use Rattle.std.proofs.Common.{◌≡◌, [], map, Some, refl, sym, ap, ◌∙◌, subst, arith, option_map}
+use Rattle.std.proofs.Common.{◌≡◌, [], refl, sym, ap, ◌∙◌, subst, arith}
 use Rattle.std.proofs.lemmas.List.{append-nil}
 use Rattle.td_values.specs.Data.{Datum}
 use Rattle.td_values.specs.Shown.{shown}
 use Rattle.td_values.specs.Whole.{type_of}
-use Rattle.td_tokens.specs.Lex.{Text, Spanned}
-use Rattle.td_tokens.specs.Lexer.{lexemes}
-use Rattle.td_tokens.proofs.OneReading.{one_reading}
-use Rattle.td_grammar.specs.Grammar.{Tokens, IsQuery}
+use Rattle.td_grammar.specs.Grammar.{IsExpr, IsQuery}
 use Rattle.td_kinds.specs.Kinds.{kind_of}
 use Rattle.td_kinds.specs.Schemas.{SchemaData}
 use Rattle.td_kinds.proofs.KindLemmas.{kind_back}
@@ -23,20 +20,17 @@ use Rattle.td_literals.proofs.Shallow.{AreShallow, deep, opens, shallow_spanned}
 use Rattle.td_literals.proofs.Tokens.{tokens}
 use Rattle.td_literals.proofs.Trees.{tree}
 
-lexed : (bs : Text) (r : Tokens) → Lexes bs r → AreShallow 0 r → lexemes bs ≡ Some r
-lexed bs r lexes shallow =
-    let d = lexes 0 in
-    let fits = shallow_spanned 0 d.0 (subst (AreShallow 0) (sym d.2) shallow) in
-    ap (option_map (map (λ (t : Spanned). t.lexeme))) ((one_reading.found bs d.0).1 (d.1, fits)) ∙ ap Some d.2
-
 is_query : (s : SchemaData) (selection : Selection) (d : Datum) → IsLiteral s selection d → IsQuery (shown d) (tree d)
 is_query s selection d is =
     let own : Lexes (shown d) (tokens d []) = subst (λ bs. Lexes bs (tokens d [])) (append-nil (shown d)) (stands s selection d is.written [] [] (record { no_run = refl; no_quote = refl }) at_end) in
     let few = is.shallow in
+    let read = own 0 in
+    let fits : AreShallow 0 (tokens d []) = opens d 0 [] (omega (arith, few)) (omega arith) in
+    let whole : IsExpr (tokens d []) (tree d) = record { reads = reads_whole d; shallow = omega (arith, few, deep d) } in
     record {
-      tokens = tokens d [];
-      lexed = lexed (shown d) (tokens d []) own (opens d 0 [] (omega (arith, few)) (omega arith));
-      tree = record { reads = reads_whole d; shallow = omega (arith, few, deep d) };
+      spans = read.0;
+      lexed = (read.1, shallow_spanned 0 read.0 (subst (AreShallow 0) (sym read.2) fits));
+      tree = subst (λ ts. IsExpr ts (tree d)) (sym read.2) whole;
       short = is.short;
     }
 

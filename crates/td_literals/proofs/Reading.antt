@@ -10,7 +10,7 @@ use Rattle.td_grammar.specs.Grammar as g
 use Rattle.td_grammar.specs.Grammar.{Tokens, binds, ReadsType, ReadsHeading, ReadsFields, Reads, ReadsList, ReadsNamed, ReadsNamedList}
 use Rattle.td_syntax.specs.declared.tree.Expr.{Expr}
 use Rattle.td_syntax.specs.declared.tree.Expr.TheVariants as e
-use Rattle.td_kinds.specs.Kinds.{Text}
+use Rattle.td_kinds.specs.Kinds.{Name}
 use Rattle.td_literals.proofs.Tokens.{type_tokens, field_parts, further, braced, truth_tokens, least_tokens, signed_tokens, tokens, item_parts, attr_parts, tuple_parts}
 use Rattle.td_literals.proofs.Trees.{type_tree, field_trees, least_tree, signed_tree, tree, item_trees, attr_trees, tuple_trees}
 
@@ -28,7 +28,7 @@ mutual
   reads_heading no_fields r = g.no_fields
   reads_heading (field n ty fs) r = g.fields (reads_fields n ty fs (λ s. reads_type ty s) (word w.CloseBrace ∷ r))
 
-  reads_fields : (n : Text) (ty : Ty) (fs : Fields) → ((s : Tokens) → ReadsType (type_tokens ty s) (type_tree ty) s) → (r : Tokens) → ReadsFields (name n ∷ type_tokens ty (further (field_parts fs) r)) (field_trees (field n ty fs)) r
+  reads_fields : (n : Name) (ty : Ty) (fs : Fields) → ((s : Tokens) → ReadsType (type_tokens ty s) (type_tree ty) s) → (r : Tokens) → ReadsFields (name n ∷ type_tokens ty (further (field_parts fs) r)) (field_trees (field n ty fs)) r
   reads_fields n ty no_fields first r = g.last_field (first r)
   reads_fields n ty (field m u fs) first r = g.next_field (first (further (field_parts (field m u fs)) r)) (reads_fields m u fs (λ s. reads_type u s) r)
 
@@ -105,7 +105,7 @@ mutual
   reads_tuple no_attrs r = g.tuple_none
   reads_tuple (attr n d x) r = g.tuple (reads_attrs n d x (λ s. reads d s) r)
 
-  reads_attrs : (n : Text) (d : Datum) (x : Attrs) → IsRead d → (r : Tokens) → ReadsNamedList naming.Beside (name n ∷ tokens d (further (attr_parts x) (word w.CloseBrace ∷ r))) (attr_trees (attr n d x)) (word w.CloseBrace ∷ r)
+  reads_attrs : (n : Name) (d : Datum) (x : Attrs) → IsRead d → (r : Tokens) → ReadsNamedList naming.Beside (name n ∷ tokens d (further (attr_parts x) (word w.CloseBrace ∷ r))) (attr_trees (attr n d x)) (word w.CloseBrace ∷ r)
   reads_attrs n d no_attrs first r = g.last_named (g.name_beside (whole (first (word w.CloseBrace ∷ r)) (at_brace r)))
   reads_attrs n d (attr m c x) first r =
       let rest = name m ∷ tokens c (further (attr_parts x) (word w.CloseBrace ∷ r)) in

@@ -11,18 +11,18 @@ use Rattle.td_tokens.specs.Laws.{IsWellFormed}
 use Rattle.td_tokens.specs.Lex.{name, text, most_open}
 use Rattle.td_grammar.specs.Grammar.{query_bytes}
 use Rattle.td_kinds.specs.declared.schema.Representation.{Representation}
-use Rattle.td_kinds.specs.Kinds.{Text}
+use Rattle.td_kinds.specs.Kinds.{Name}
 use Rattle.td_kinds.specs.Schemas.{SchemaData, begins_with_the, possrep_named, type_named}
 use Rattle.td_meaning.specs.Mean.{Selection}
 use Rattle.td_operators.specs.Values.{item_list}
 use Rattle.td_soundness.specs.Values.{AreColumns, IsValue}
 
 -- the shape of a name, and no keyword
-abbrev pub IsPlainName : Text → Type 0
+abbrev pub IsPlainName : Name → Type 0
 IsPlainName n = IsWellFormed (name n)
 
 -- UTF-8, without NUL, line feed and carriage return
-abbrev pub IsPlainText : Text → Type 0
+abbrev pub IsPlainText : Name → Type 0
 IsPlainText x = IsUtf8 x × IsWellFormed (text x)
 
 -- a type whose user types are defined, and whose names are names
@@ -40,7 +40,7 @@ abbrev mutual
   AreDefined s (field n t fs) = IsPlainName n × IsDefined s t × AreDefined s fs
 
 -- the possrep of this name is that of its type, and its selector makes the value of the components
-pub record IsSelected (s : SchemaData) (selection : Selection) (p : PossrepData) (is : Items) : Type 0 where
+pub record HasSelector (s : SchemaData) (selection : Selection) (p : PossrepData) (is : Items) : Type 0 where
   pub place : ℕ
   pub possrep : Representation
   pub by_name : possrep_named s p.name ≡ Some (place, possrep)
@@ -54,7 +54,7 @@ abbrev mutual
   IsWritten s selection (boolean b) = Unit {0}
   IsWritten s selection (integer n) = in_64_bits n ≡ true
   IsWritten s selection (char x) = IsPlainText x
-  IsWritten s selection (user p is) = IsPlainName p.name × IsSelected s selection p is × AreWritten s selection is
+  IsWritten s selection (user p is) = IsPlainName p.name × HasSelector s selection p is × AreWritten s selection is
   IsWritten s selection (tuple t) = AreWrittenAttributes s selection t
   IsWritten s selection (relation fs ts) = AreDefined s fs × AreWrittenTuples s selection ts
 

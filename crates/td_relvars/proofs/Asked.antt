@@ -8,9 +8,9 @@ use Rattle.td_values.specs.declared.TypeKind.{TypeKind}
 use Rattle.td_values.specs.declared.TypeKind.TheVariants as kind
 use Rattle.td_syntax.specs.declared.tree.Expr.TheVariants as e
 use Rattle.td_syntax.specs.declared.tree.Named.{Named}
-use Rattle.td_kinds.specs.Kinds.{Text}
+use Rattle.td_kinds.specs.Kinds.{Name}
 use Rattle.td_kinds.specs.Schemas.{first_from, is_named, relvar_named}
-use Rattle.td_kinds.specs.Scopes.{as_relvar, relvars_of, within}
+use Rattle.td_kinds.specs.Scopes.{as_relvar, relvars_of, within_tuple}
 use Rattle.td_trees.specs.declared.expression.Expression.{Expression}
 use Rattle.td_trees.specs.declared.tree.Typed.{Typed}
 use Rattle.td_trees.specs.declared.tree.Typed.TheVariants as t
@@ -54,18 +54,18 @@ first_there {A} m test (x ∷ xs) r h = by (test x) (first_there (m + 1) test xs
     by true later e = let same = some_same (m, x) r e in (0, sym (ap (λ (p : ℕ × A). p.0) same) ∙ (let z : m ≡ m + 0 = omega arith in z), ap (λ (p : ℕ × A). Some p.1) same)
     by false later e = let k = later e in (suc k.0, (let z : r.0 ≡ m + suc k.0 = omega (arith, k.1) in z), k.2)
 
-pub relvar_there : (c : CatalogueData) (x : Text) (n : ℕ) (v : Named Header) → relvar_named c.schema x ≡ Some (n, v) → slice_get c.schema.relvars n ≡ Some v
+pub relvar_there : (c : CatalogueData) (x : Name) (n : ℕ) (v : Named Header) → relvar_named c.schema x ≡ Some (n, v) → slice_get c.schema.relvars n ≡ Some v
 relvar_there c x n v h =
     let k = first_there 0 (is_named x) c.schema.relvars (n, v) h in
     let same : k.0 ≡ n = omega (arith, k.1) in
     subst (λ m. slice_get c.schema.relvars m ≡ Some v) same k.2
 
 -- ---- a name as an expression
-module _ (c : CatalogueData) (x : Text) (n : ℕ) (h : Header) (is : IsRelvar c x n h) where
+module _ (c : CatalogueData) (x : Name) (n : ℕ) (h : Header) (is : IsRelvar c x n h) where
   pub is_typed : {P : Type 0} → IsIllTyped c.schema (names_of_relvars c) (e.Name x) → P
   is_typed never = absurd (never (t.Relvar n) (kind.Relation h) (relvar_name (ap as_relvar is)))
 
-  named : (u : Typed) (k : TypeKind) → Types c.schema (within no_tuple (relvars_of c.schema)) (e.Name x) u k → typing u k ≡ typing (t.Relvar n) (kind.Relation h)
+  named : (u : Typed) (k : TypeKind) → Types c.schema (within_tuple no_tuple (relvars_of c.schema)) (e.Name x) u k → typing u k ≡ typing (t.Relvar n) (kind.Relation h)
   unfolding infer_name
   named u k d = some_same (typing u k) (typing (t.Relvar n) (kind.Relation h))
       (sym (complete c.schema (at_relvars c (e.Name x) u k d)) ∙ ap (λ (f : Inferred). f (relvars_of c.schema)) (of_name c.schema x) ∙ ap (λ o. meant_by x (as_relvar o)) is)
@@ -113,13 +113,13 @@ module _ (c : CatalogueData) (selected : Selection) (n : ℕ) (stored : is_base 
 pub base_stays : (c : CatalogueData) (r : Relvars) (n : ℕ) → is_base (slice_get c.origins n) ≡ true → all_relvars c r n ≡ r n
 base_stays c r n stored = stays c (selection_of c) n stored (places c.origins) r
 
-pub is_stored : (d : DatabaseData) (x : Text) (n : ℕ) (h : Header) → IsDatabase d → IsRelvar d.catalogue x n h → is_base (slice_get d.catalogue.origins n) ≡ true → IsStoredAt d n
+pub is_stored : (d : DatabaseData) (x : Name) (n : ℕ) (h : Header) → IsDatabase d → IsRelvar d.catalogue x n h → is_base (slice_get d.catalogue.origins n) ≡ true → IsStoredAt d n
 is_stored d x n h is at real =
     let v : Named Header = record { name = x; value = h } in
     let k = is.stored n v real (relvar_there d.catalogue x n v at) in
     record { is_real = real; relation = k.0; has = k.1 }
 
-pub tells : (d : DatabaseData) (x : Text) (n : ℕ) (h : Header) (a : Result Answer RelvarError) → IsRelvar d.catalogue x n h → TellsAt d n a → TellsRelvar d x a
+pub tells : (d : DatabaseData) (x : Name) (n : ℕ) (h : Header) (a : Result Answer RelvarError) → IsRelvar d.catalogue x n h → TellsAt d n a → TellsRelvar d x a
 tells d x n h (Ok a) at told = (n, record { name = x; value = h }, at, told)
 tells d x n h (Err Unknown) at told = absurd told
 tells d x n h (Err OutOfMemory) at told = tt

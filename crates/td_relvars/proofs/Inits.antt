@@ -14,13 +14,13 @@ use Rattle.td_algebra.specs.declared.errors.Stop.{Stop}
 use Rattle.td_algebra.specs.Raising.{and_then}
 use Rattle.td_headings.specs.Catalogues.{CatalogueData}
 use Rattle.td_headings.specs.Definitions.{Defined}
-use Rattle.td_headings.specs.Expressions.{IsTree, IsWhole, IsInit, no_tuple, init_at, init_of}
+use Rattle.td_headings.specs.Expressions.{IsTree, IsClosedExpression, IsInit, no_tuple, init_at, init_of}
 use Rattle.td_headings.specs.Reached.{is_base}
 use Rattle.td_headings.specs.declared.defined.Origin.{Origin}
 use Rattle.td_headings.specs.declared.defined.Origin.TheVariants as origin
 use Rattle.td_headings.proofs.WellTyped.{all_typed, init_tree}
 use Rattle.td_operators.specs.Values.{rows_of}
-use Rattle.td_soundness.specs.Meanings.{IsRelation}
+use Rattle.td_soundness.specs.Meanings.{IsRelationOver}
 use Rattle.td_story.specs.Raises.{Tells, stop_of}
 use Rattle.td_story.specs.Trees.{IsIn, places_from, tree_means}
 use Rattle.td_story.specs.declared.failure.Failure.{Failure}
@@ -50,7 +50,7 @@ of_relvar c n v h = by (slice_get c.origins n) (slice_get c.schema.relvars n) re
 pub record Init (c : CatalogueData) (n : ℕ) (x : Expression) : Type 0 where
   pub value : Typed × Header
   pub is : init_at c n ≡ Some value
-  pub whole : IsWhole c value.0 (kind.Relation value.1) x
+  pub whole : IsClosedExpression c value.0 (kind.Relation value.1) x
 
 pub init : (c : CatalogueData) (n : ℕ) (x : Expression) → IsInit c (init_at c n) x → Init c n x
 init c n x h = by (init_at c n) refl h
@@ -80,7 +80,7 @@ module _ (c : CatalogueData) (n : ℕ) (x : Expression) (i : Init c n x) where
     pub kind_is : x.kind ≡ kind.Relation v.value
     kind_is = i.whole.kind_ ∙ ap kind.Relation (sym heading_is)
 
-    pub belongs : (r : RowsData) → IsRelation c.schema v.value r → Belongs c n r
+    pub belongs : (r : RowsData) → IsRelationOver c.schema v.value r → Belongs c n r
     belongs r is = record { relvar = v; stored = relvar.stored; there = at; relation = is }
 
   pub tells_init : (stored : Stored) (a : Result RowsData Failure) → Tells a (and_then (tree_means c (stored_relvars stored) x.tree no_attrs) rows_of) → TellsInit c stored (init_at c n) a

@@ -20,7 +20,7 @@ use Rattle.td_headings.specs.Reached.{is_base}
 use Rattle.td_headings.specs.declared.defined.Origin.{Origin}
 use Rattle.td_headings.specs.declared.defined.Origin.TheVariants as origin
 use Rattle.td_headings.proofs.WellTyped.{all_typed}
-use Rattle.td_soundness.specs.Meanings.{HasHeading, IsRelation}
+use Rattle.td_soundness.specs.Meanings.{IsTupleOver, IsRelationOver}
 use Rattle.td_story.specs.Trees.{AreBases}
 use Rattle.td_story.specs.Stored.{AreStored}
 use Rattle.td_constraints.proofs.Judged.{are_bases}
@@ -61,11 +61,11 @@ module _ (c : CatalogueData) (stored : Stored) (is : IsDatabase (record { catalo
   pub place_within : n < length stored
   place_within = let lt = base_within c.origins n b.stored in let each = is.each in omega (arith, lt, each)
 
-  here : (v : Named Header) → slice_get c.schema.relvars n ≡ Some v → IsRelation c.schema v.value r
-  here v at = subst (λ (w : Named Header). IsRelation c.schema w.value r) (some_same b.relvar v (sym b.there ∙ at)) b.relation
+  here : (v : Named Header) → slice_get c.schema.relvars n ≡ Some v → IsRelationOver c.schema v.value r
+  here v at = subst (λ (w : Named Header). IsRelationOver c.schema w.value r) (some_same b.relvar v (sym b.there ∙ at)) b.relation
 
   abbrev HasOne : ℕ → Named Header → Type 0
-  HasOne m v = (q : RowsData) × (stored_relvars (put n r stored) m ≡ Ok q) × IsRelation c.schema v.value q
+  HasOne m v = (q : RowsData) × (stored_relvars (put n r stored) m ≡ Ok q) × IsRelationOver c.schema v.value q
 
   all_have : AreStored c (stored_relvars (put n r stored))
   all_have m v base at = ⊎_elim
@@ -86,10 +86,10 @@ no_tuples : ascending set.empty ≡ []
 unfolding IsStrictlySortedBy
 no_tuples = sym (tuples_are [] set.empty tt refl)
 
-empty_is : (s : SchemaData) (h : Header) → IsRelation s h (relation_of h set.empty)
+empty_is : (s : SchemaData) (h : Header) → IsRelationOver s h (relation_of h set.empty)
 empty_is s h = record {
   heading = refl;
-  tuples = subst (All (HasHeading s h)) (sym no_tuples) (λ k d lt. absurd (omega arith));
+  tuples = subst (All (IsTupleOver s h)) (sym no_tuples) (λ k d lt. absurd (omega arith));
 }
 
 empty_length : (os : List Origin) (rs : List (Named Header)) → length os ≡ length rs → length (all_empty os rs) ≡ length os

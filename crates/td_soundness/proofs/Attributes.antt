@@ -19,7 +19,7 @@ use Rattle.td_tuples.proofs.ByName.{fits-where, fits-beside, fits-with, fits-ren
 use Rattle.td_algebra.proofs.Lists.{in_append, in_map}
 use Rattle.td_kinds.specs.Schemas.{SchemaData}
 use Rattle.td_soundness.specs.Values.{IsValue, AreAttributes}
-use Rattle.td_soundness.specs.Meanings.{HasHeading}
+use Rattle.td_soundness.specs.Meanings.{IsTupleOver}
 use Rattle.td_soundness.proofs.Errors.{Each, with_first}
 
 -- ---- maps of entries: each value is one of theirs
@@ -78,22 +78,22 @@ module _ (s : SchemaData) where
   part p (attr n d t) a = kept (p n) n d (where_name p t) a.0 (part p t a.1)
 
   -- ---- tuples of headings
-  pub has_part : (p : List ℕ → Bool) (h : Header) (t : Attrs) → HasHeading s h t → HasHeading s (by_name.retain_keys h p) (where_name p t)
+  pub has_part : (p : List ℕ → Bool) (h : Header) (t : Attrs) → IsTupleOver s h t → IsTupleOver s (by_name.retain_keys h p) (where_name p t)
   has_part p h t has = (fits-where p h t has.0, part p t has.1)
 
-  pub has_beside : (h k : Header) (t u : Attrs) → HasHeading s h t → HasHeading s k u → HasHeading s (joined h k) (beside t u)
+  pub has_beside : (h k : Header) (t u : Attrs) → IsTupleOver s h t → IsTupleOver s k u → IsTupleOver s (joined h k) (beside t u)
   has_beside h k t u has have = (
     fits-beside h k t u has.0 have.0,
     gathered (attributes t ++ attributes u) (λ x m. elim (in_append (attributes t) (attributes u) x m) [ inl a ↦ listed t has.1 x a | inr b ↦ listed u have.1 x b ]),
   )
 
-  pub has_with : (n : List ℕ) (d : Datum) (h : Header) (t : Attrs) → IsValue s d → HasHeading s h t → HasHeading s (with_column n (type_of d) h) (with_attribute n d t)
+  pub has_with : (n : List ℕ) (d : Datum) (h : Header) (t : Attrs) → IsValue s d → IsTupleOver s h t → IsTupleOver s (with_column n (type_of d) h) (with_attribute n d t)
   has_with n d h t v has = (
     fits-with n d h t has.0,
     gathered ((n, d) ∷ attributes t) (with_first (λ (x : List ℕ × Datum). IsValue s x.1) (n, d) (attributes t) v (listed t has.1)),
   )
 
-  pub has_renamed : (items : List (List ℕ × List ℕ)) (h : Header) (t : Attrs) → HasHeading s h t → HasHeading s (renamed_columns items h) (renamed items t)
+  pub has_renamed : (items : List (List ℕ × List ℕ)) (h : Header) (t : Attrs) → IsTupleOver s h t → IsTupleOver s (renamed_columns items h) (renamed items t)
   has_renamed items h t has = (
     fits-renamed items h t has.0,
     gathered (map (with_new_name items) (attributes t)) (λ x m.
@@ -101,5 +101,5 @@ module _ (s : SchemaData) where
         subst (IsValue s) (sym (ap (λ (y : List ℕ × Datum). y.1) i.2)) (listed t has.1 i.0 i.1)),
   )
 
-  pub has_fields : (xs : List (List ℕ × Datum)) → AreListed xs → HasHeading s (by_name.from_entries (on_values type_of xs)) (tuple_of xs)
+  pub has_fields : (xs : List (List ℕ × Datum)) → AreListed xs → IsTupleOver s (by_name.from_entries (on_values type_of xs)) (tuple_of xs)
   has_fields xs each = (fits-tuple_of xs, gathered xs each)

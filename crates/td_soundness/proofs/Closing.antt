@@ -20,7 +20,7 @@ use Rattle.td_algebra.specs.ForProofs.Steps.{has_value, links, replaced, with_va
 use Rattle.td_algebra.specs.Functions.{with_through, with_through_end, tclose_of}
 use Rattle.td_algebra.proofs.Lists.{In, in_append, in_map, in_filter, in_flat_map}
 use Rattle.td_kinds.specs.Schemas.{SchemaData}
-use Rattle.td_soundness.specs.Meanings.{HasHeading, IsRelation}
+use Rattle.td_soundness.specs.Meanings.{IsTupleOver, IsRelationOver}
 use Rattle.td_soundness.proofs.Attributes.{value_at, has_with}
 use Rattle.td_soundness.proofs.Relations.{of_list}
 use Rattle.td_soundness.proofs.Values.{has_heading}
@@ -40,19 +40,19 @@ in_either false us w m = absurd m
 
 module _ (s : SchemaData) (h : Header) where
   -- ---- a tuple with another one's value
-  valued : (n : List ℕ) (t u : Attrs) → HasHeading s h t → HasHeading s h u → (o : Option Datum) → attribute_of n u ≡ o → HasHeading s h (with_value n t o)
+  valued : (n : List ℕ) (t u : Attrs) → IsTupleOver s h t → IsTupleOver s h u → (o : Option Datum) → attribute_of n u ≡ o → IsTupleOver s h (with_value n t o)
   valued n t u has have None is = has
   valued n t u has have (Some d) is =
-      subst (λ g. HasHeading s g (with_value n t (Some d))) (same_column n (type_of d) h (fits_get h u have.0 n ∙ ap (option_map type_of) is))
+      subst (λ g. IsTupleOver s g (with_value n t (Some d))) (same_column n (type_of d) h (fits_get h u have.0 n ∙ ap (option_map type_of) is))
       (has_with s n d h t (value_at s n u d have.1 is) has)
 
-  linked : (n : List ℕ) (z : Datum) (us : List Attrs) (t w : Attrs) → HasHeading s h t → ((u : Attrs) → In u us → HasHeading s h u) → In w (links n z us t) → HasHeading s h w
+  linked : (n : List ℕ) (z : Datum) (us : List Attrs) (t w : Attrs) → IsTupleOver s h t → ((u : Attrs) → In u us → IsTupleOver s h u) → In w (links n z us t) → IsTupleOver s h w
   linked n z us t w has have m =
       let i = in_map (replaced n t) us w (in_either (has_value n z t) (map (replaced n t) us) w m) in
-      subst (HasHeading s h) (sym i.2) (valued n t i.0 has (have i.0 i.1) (attribute_of n i.0) refl)
+      subst (IsTupleOver s h) (sym i.2) (valued n t i.0 has (have i.0 i.1) (attribute_of n i.0) refl)
 
   -- ---- a step, and all steps
-  through_is : (a b : List ℕ) (o : Option Datum) (r : RowsData) → IsRelation s h r → IsRelation s h (with_through a b o r)
+  through_is : (a b : List ℕ) (o : Option Datum) (r : RowsData) → IsRelationOver s h r → IsRelationOver s h (with_through a b o r)
   through_is a b None r is = is
   through_is a b (Some z) r is =
       let us = filter (has_value a z) r.tuples in
@@ -63,16 +63,16 @@ module _ (s : SchemaData) (h : Header) where
             linked b z us at.0 w (has_heading s h r is at.0 at.1) (λ u k. has_heading s h r is u (in_filter (has_value a z) r.tuples u k).0) at.2
       ])
 
-  end_is : (fs : List (List ℕ × Ty)) (r : RowsData) (t : Attrs) → IsRelation s h r → IsRelation s h (with_through_end fs r t)
+  end_is : (fs : List (List ℕ × Ty)) (r : RowsData) (t : Attrs) → IsRelationOver s h r → IsRelationOver s h (with_through_end fs r t)
   end_is [] r t is = is
   end_is (f ∷ []) r t is = is
   end_is (f ∷ g ∷ []) r t is = through_is f.0 g.0 (attribute_of g.0 t) r is
   end_is (f ∷ g ∷ k ∷ fs) r t is = is
 
-  ends_are : (fs : List (List ℕ × Ty)) (r : RowsData) (ts : List Attrs) → IsRelation s h r → IsRelation s h (fold (with_through_end fs) r ts)
+  ends_are : (fs : List (List ℕ × Ty)) (r : RowsData) (ts : List Attrs) → IsRelationOver s h r → IsRelationOver s h (fold (with_through_end fs) r ts)
   ends_are fs r [] is = is
   ends_are fs r (t ∷ ts) is = ends_are fs (with_through_end fs r t) ts (end_is fs r t is)
 
-  pub closure_is : (r : RowsData) → IsRelation s h r → IsRelation s h (tclose_of r)
+  pub closure_is : (r : RowsData) → IsRelationOver s h r → IsRelationOver s h (tclose_of r)
   unfolding tclose_of
   closure_is r is = ends_are (by_name.entries r.heading) r r.tuples is

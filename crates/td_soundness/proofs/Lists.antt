@@ -23,7 +23,7 @@ use Rattle.td_operators.specs.Values.{tuple_in}
 use Rattle.td_operators.proofs.KindLemmas.{items_back}
 use Rattle.td_typing.specs.Trees.{component_kinds}
 use Rattle.td_soundness.specs.Values.{AreValues}
-use Rattle.td_soundness.specs.Meanings.{OrError, Gives, HasKind, HasHeading, Selects}
+use Rattle.td_soundness.specs.Meanings.{OrError, GivesValue, HasKind, IsTupleOver, Selects}
 use Rattle.td_soundness.proofs.Errors.{Each, goes_on, turn_is}
 use Rattle.td_soundness.proofs.OneOperand.{as_relation}
 use Rattle.td_soundness.proofs.OverTuples.{TermsGive, IsOf, IsField, AreFields, more_fields, tuple_of_fields}
@@ -36,7 +36,7 @@ module _ (s : SchemaData) where
   abbrev pub HaveKinds : List TypeKind → List Datum → Type 0
   HaveKinds ks ds = AllZip (HasKind s) ks ds
 
-  pub next_given : (k : TypeKind) (ks : List TypeKind) (names : Names) (m : Meaning) (ms : List Meaning) → Gives s k (m names) → OrError (HaveKinds ks) (in_turn (at names) ms) → OrError (HaveKinds (k ∷ ks)) (in_turn (at names) (m ∷ ms))
+  pub next_given : (k : TypeKind) (ks : List TypeKind) (names : Names) (m : Meaning) (ms : List Meaning) → GivesValue s k (m names) → OrError (HaveKinds ks) (in_turn (at names) ms) → OrError (HaveKinds (k ∷ ks)) (in_turn (at names) (m ∷ ms))
   unfolding at
   next_given k ks names m ms give rest =
       goes_on (HasKind s k) (HaveKinds (k ∷ ks)) (λ d. and_then (in_turn (at names) ms) (λ ds. Ok (d ∷ ds))) (m names) give (λ d has.
@@ -55,7 +55,7 @@ module _ (s : SchemaData) where
   are_values (k ∷ ks) [] have = absurd have
   are_values (k ∷ ks) (d ∷ ds) have = (have.0.1, are_values ks ds have.1)
 
-  pub select_gives : (selection : Selection) (n : ℕ) (r : Representation) (ks : List TypeKind) (names : Names) (ms : List Meaning) → Selects s selection → slice_get s.possreps n ≡ Some r → ks ≡ component_kinds r → OrError (HaveKinds ks) (in_turn (at names) ms) → Gives s (kind.User r.possrep.ty) (mean_select selection n ms names)
+  pub select_gives : (selection : Selection) (n : ℕ) (r : Representation) (ks : List TypeKind) (names : Names) (ms : List Meaning) → Selects s selection → slice_get s.possreps n ≡ Some r → ks ≡ component_kinds r → OrError (HaveKinds ks) (in_turn (at names) ms) → GivesValue s (kind.User r.possrep.ty) (mean_select selection n ms names)
   unfolding mean_select
   select_gives selection n r ks names ms selects there e give =
       goes_on (HaveKinds ks) (HasKind s (kind.User r.possrep.ty)) (selection n) (in_turn (at names) ms) give (λ ds have.
@@ -73,20 +73,20 @@ module _ (s : SchemaData) where
   each_has k (j ∷ ks) (e ∷ ds) all have d (inl same) = subst (λ l. HasKind s l d) (all j (inl refl)) (subst (HasKind s j) (sym same) have.0)
   each_has k (j ∷ ks) (e ∷ ds) all have d (inr m) = each_has k ks ds (λ l i. all l (inr i)) have.1 d m
 
-  if_it_fits : (b : Bool) (h : Header) (t : Attrs) → b ≡ true → HasHeading s h t → OrError (HasHeading s h) (if b then Ok t else Err Untyped)
+  if_it_fits : (b : Bool) (h : Header) (t : Attrs) → b ≡ true → IsTupleOver s h t → OrError (IsTupleOver s h) (if b then Ok t else Err Untyped)
   if_it_fits true h t e has = has
   if_it_fits false h t e has = absurd (cc)
 
-  tuple_gives : (h : Header) (d : Datum) → HasKind s (kind.Tuple h) d → OrError (HasHeading s h) (tuple_over h d)
-  tuple_gives h d has = goes_on (HasHeading s h) (HasHeading s h) (if_fits h) (tuple_in d) (tuple_given s h d has) (λ t is.
+  tuple_gives : (h : Header) (d : Datum) → HasKind s (kind.Tuple h) d → OrError (IsTupleOver s h) (tuple_over h d)
+  tuple_gives h d has = goes_on (IsTupleOver s h) (IsTupleOver s h) (if_fits h) (tuple_in d) (tuple_given s h d has) (λ t is.
       if_it_fits (fits h t) h t (fields_itself (heading_of t) (header_fields h) is.0) is)
 
-  rows_give : (h : Header) (ds : List Datum) → Each (HasKind s (kind.Tuple h)) ds → Gives s (kind.Relation h) (relation_over h ds)
-  rows_give h ds each = goes_on (Each (HasHeading s h)) (HasKind s (kind.Relation h)) (λ ts. as_value (relation_from h ts)) (in_turn (tuple_over h) ds)
-      (turn_is (HasHeading s h) (tuple_over h) ds (λ d m. tuple_gives h d (each d m)))
+  rows_give : (h : Header) (ds : List Datum) → Each (HasKind s (kind.Tuple h)) ds → GivesValue s (kind.Relation h) (relation_over h ds)
+  rows_give h ds each = goes_on (Each (IsTupleOver s h)) (HasKind s (kind.Relation h)) (λ ts. as_value (relation_from h ts)) (in_turn (tuple_over h) ds)
+      (turn_is (IsTupleOver s h) (tuple_over h) ds (λ d m. tuple_gives h d (each d m)))
       (λ ts are. as_relation s h (relation_from h ts) (of_list s h h ts refl are))
 
-  pub relation_gives : (h : Header) (ks : List TypeKind) (names : Names) (ms : List Meaning) → AllOf (kind.Tuple h) ks → OrError (HaveKinds ks) (in_turn (at names) ms) → Gives s (kind.Relation h) (mean_relation h ms names)
+  pub relation_gives : (h : Header) (ks : List TypeKind) (names : Names) (ms : List Meaning) → AllOf (kind.Tuple h) ks → OrError (HaveKinds ks) (in_turn (at names) ms) → GivesValue s (kind.Relation h) (mean_relation h ms names)
   unfolding mean_relation
   relation_gives h ks names ms all give =
       goes_on (HaveKinds ks) (HasKind s (kind.Relation h)) (relation_over h) (in_turn (at names) ms) give (λ ds have. rows_give h ds (each_has (kind.Tuple h) ks ds all have))
@@ -101,7 +101,7 @@ module _ (s : SchemaData) where
       (λ f one.
       goes_on (AreFields s is) (AreFields s (i ∷ is)) (λ fs. Ok (f ∷ fs)) (in_turn (named_at names) (items_meant m is)) (fields_in_turn m names is give.1) (λ fs are. more_fields s i is f fs one are))
 
-  pub tuple_of_terms : (m : Means) (names : Names) (is : List (Item Typed)) → TermsGive s (λ u. m u names) is → Gives s (kind.Tuple (columns_of is)) (mean_tuple (items_meant m is) names)
+  pub tuple_of_terms : (m : Means) (names : Names) (is : List (Item Typed)) → TermsGive s (λ u. m u names) is → GivesValue s (kind.Tuple (columns_of is)) (mean_tuple (items_meant m is) names)
   unfolding mean_tuple
   tuple_of_terms m names is give =
       goes_on (AreFields s is) (HasKind s (kind.Tuple (columns_of is))) (λ fs. Ok (tuple (tuple_of fs))) (in_turn (named_at names) (items_meant m is)) (fields_in_turn m names is give)

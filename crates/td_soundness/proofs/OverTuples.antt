@@ -31,7 +31,7 @@ use Rattle.td_kinds.specs.Schemas.{SchemaData}
 use Rattle.td_typing.specs.Trees.{summary_of}
 use Rattle.td_typing.proofs.KindLemmas as kinds
 use Rattle.td_soundness.specs.Values.{IsValue}
-use Rattle.td_soundness.specs.Meanings.{OrError, Gives, HasKind, HasHeading, IsRelation, GivesRelation}
+use Rattle.td_soundness.specs.Meanings.{OrError, GivesValue, HasKind, IsTupleOver, IsRelationOver, GivesRelation}
 use Rattle.td_soundness.proofs.Errors.{Each, goes_on, with_first, all_are, lesser_is, empty_is}
 use Rattle.td_soundness.proofs.Attributes.{AreListed, has_beside, has_fields}
 use Rattle.td_soundness.proofs.OneOperand.{in_64_bits_gives}
@@ -55,10 +55,10 @@ abbrev pub column_at : List ℕ × Datum → List ℕ × Ty
 column_at f = (f.0, type_of f.1)
 
 module _ (s : SchemaData) where
-  pub restriction_is : (h : Header) (m : Attrs → Result Bool Stop) (r : RowsData) → IsRelation s h r → ((t : Attrs) → HasHeading s h t → OrError (Whatever {A = Bool}) (m t)) → GivesRelation s h (restricted m r)
+  pub restriction_is : (h : Header) (m : Attrs → Result Bool Stop) (r : RowsData) → IsRelationOver s h r → ((t : Attrs) → IsTupleOver s h t → OrError (Whatever {A = Bool}) (m t)) → GivesRelation s h (restricted m r)
   unfolding restricted
   restriction_is h m r is each =
-      goes_on (Each (Whatever {A = Bool})) (IsRelation s h) (λ bs. Ok (relation_from r.heading (select r.tuples bs))) (all_of m r.tuples)
+      goes_on (Each (Whatever {A = Bool})) (IsRelationOver s h) (λ bs. Ok (relation_from r.heading (select r.tuples bs))) (all_of m r.tuples)
       (all_are (Whatever {A = Bool}) m r.tuples (λ t i. each t (has_heading s h r is t i)))
       (λ bs any. of_list s h r.heading (select r.tuples bs) is.heading (λ t i. has_heading s h r is t (in_select r.tuples bs t i)))
 
@@ -81,8 +81,8 @@ module _ (s : SchemaData) where
     pub more_fields : (i : Item E) (is : List (Item E)) (f : List ℕ × Datum) (fs : List (List ℕ × Datum)) → IsField i f → AreFields is fs → AreFields (i ∷ is) (f ∷ fs)
     more_fields i is f fs one are = ((λ j. one.0 j ∷ are.0 j), with_first (λ (x : List ℕ × Datum). IsValue s x.1) f fs one.1 are.1)
 
-    pub tuple_of_fields : (is : List (Item E)) (fs : List (List ℕ × Datum)) → AreFields is fs → HasHeading s (columns_of is) (tuple_of fs)
-    tuple_of_fields is fs are = subst (λ cs. HasHeading s (by_name.from_entries {R = text_cmp} cs) (tuple_of fs)) are.0 (has_fields s fs are.1)
+    pub tuple_of_fields : (is : List (Item E)) (fs : List (List ℕ × Datum)) → AreFields is fs → IsTupleOver s (columns_of is) (tuple_of fs)
+    tuple_of_fields is fs are = subst (λ cs. IsTupleOver s (by_name.from_entries {R = text_cmp} cs) (tuple_of fs)) are.0 (has_fields s fs are.1)
 
     joined_fields : (i : Item E) (is : List (Item E)) (a : Result (List ℕ × Datum) Stop) (b : Result (List (List ℕ × Datum)) Stop) → OrError (IsField i) a → OrError (AreFields is) b → OrError (AreFields (i ∷ is)) (and_all (alone a) b)
     joined_fields i is (Ok f) (Ok fs) one are = more_fields i is f fs one are
@@ -102,16 +102,16 @@ module _ (s : SchemaData) where
       fields_give t [] give = (refl, λ x i. absurd i)
       fields_give t (i ∷ is) give = joined_fields i is (field_at m t i) (all_of (field_at m t) is) (field_gives t i give.0) (fields_give t is give.1)
 
-      extended_tuple : (is : List (Item E)) (h : Header) (t : Attrs) → HasHeading s h t → TermsGive (λ e. m e t) is → OrError (HasHeading s (extended_columns is h)) (extended_at m is t)
+      extended_tuple : (is : List (Item E)) (h : Header) (t : Attrs) → IsTupleOver s h t → TermsGive (λ e. m e t) is → OrError (IsTupleOver s (extended_columns is h)) (extended_at m is t)
       extended_tuple is h t has give =
-          goes_on (AreFields is) (HasHeading s (extended_columns is h)) (λ fs. Ok (beside (tuple_of fs) t)) (fields_at m is t) (fields_give t is give)
+          goes_on (AreFields is) (IsTupleOver s (extended_columns is h)) (λ fs. Ok (beside (tuple_of fs) t)) (fields_at m is t) (fields_give t is give)
           (λ fs are. has_beside s (columns_of is) h (tuple_of fs) t (tuple_of_fields is fs are) has)
 
-      pub extension_is : (is : List (Item E)) (h : Header) (r : RowsData) → IsRelation s h r → ((t : Attrs) → HasHeading s h t → TermsGive (λ e. m e t) is) → GivesRelation s (extended_columns is h) (extended m is r)
+      pub extension_is : (is : List (Item E)) (h : Header) (r : RowsData) → IsRelationOver s h r → ((t : Attrs) → IsTupleOver s h t → TermsGive (λ e. m e t) is) → GivesRelation s (extended_columns is h) (extended m is r)
       unfolding extended
       extension_is is h r rel each =
-          goes_on (Each (HasHeading s (extended_columns is h))) (IsRelation s (extended_columns is h)) (λ us. Ok (relation_from (extended_columns is r.heading) us)) (all_of (extended_at m is) r.tuples)
-          (all_are (HasHeading s (extended_columns is h)) (extended_at m is) r.tuples (λ t i. extended_tuple is h t (has_heading s h r rel t i) (each t (has_heading s h r rel t i))))
+          goes_on (Each (IsTupleOver s (extended_columns is h))) (IsRelationOver s (extended_columns is h)) (λ us. Ok (relation_from (extended_columns is r.heading) us)) (all_of (extended_at m is) r.tuples)
+          (all_are (IsTupleOver s (extended_columns is h)) (extended_at m is) r.tuples (λ t i. extended_tuple is h t (has_heading s h r rel t i) (each t (has_heading s h r rel t i))))
           (λ us are. of_list s (extended_columns is h) (extended_columns is r.heading) us (ap (extended_columns is) rel.heading) are)
 
   -- ---- summaries
@@ -124,20 +124,20 @@ module _ (s : SchemaData) where
     best_has d [] has each = has
     best_has d (e ∷ es) has each = best_has (better d e) es (keeps d e has (each e (inl refl))) (λ x m. each x (inr m))
 
-    most_gives : (ds : List Datum) → Each (HasKind s k) ds → Gives s k (most better ds)
+    most_gives : (ds : List Datum) → Each (HasKind s k) ds → GivesValue s k (most better ds)
     most_gives [] each = empty_is
     most_gives (d ∷ ds) each = best_has d ds (each d (inl refl)) (λ x m. each x (inr m))
 
   module _ {E : Type 0} (m : Meaning E) (v : E) (ts : List Attrs) where
-    over_values : (f : List Datum → Result Datum Stop) (k : TypeKind) → Each (λ t. Gives s k (m v t)) ts → ((ds : List Datum) → Each (HasKind s k) ds → Gives s k (f ds)) → Gives s k (and_then (all_of (m v) ts) f)
+    over_values : (f : List Datum → Result Datum Stop) (k : TypeKind) → Each (λ t. GivesValue s k (m v t)) ts → ((ds : List Datum) → Each (HasKind s k) ds → GivesValue s k (f ds)) → GivesValue s k (and_then (all_of (m v) ts) f)
     over_values f k each made = goes_on (Each (HasKind s k)) (HasKind s k) f (all_of (m v) ts) (all_are (HasKind s k) (m v) ts each) made
 
-    a_truth : (b : Bool) (k : TypeKind) → is_boolean k ≡ true → Gives s k (Ok (boolean b))
+    a_truth : (b : Bool) (k : TypeKind) → is_boolean k ≡ true → GivesValue s k (Ok (boolean b))
     a_truth b k may = subst (λ l. HasKind s l (boolean b)) (sym (kinds.boolean k may)) (refl, tt)
 
-    pub summary_gives : (o : Aggregate) (k : TypeKind) → suits o k ≡ true → Each (λ t. Gives s k (m v t)) ts → Gives s k (summary_over m ts (summary_of o v))
+    pub summary_gives : (o : Aggregate) (k : TypeKind) → suits o k ≡ true → Each (λ t. GivesValue s k (m v t)) ts → GivesValue s k (summary_over m ts (summary_of o v))
     summary_gives aggregate.Sum k may each = over_values (fold_of (summary.Sum v)) k each (λ ds are.
-        subst (λ l. Gives s l (sum_of ds)) (sym (integer_kind k may)) (in_64_bits_gives s (in_64_bits (whole_sum ds)) (whole_sum ds)))
+        subst (λ l. GivesValue s l (sum_of ds)) (sym (integer_kind k may)) (in_64_bits_gives s (in_64_bits (whole_sum ds)) (whole_sum ds)))
     summary_gives aggregate.Max k may each = over_values (fold_of (summary.Max v)) k each (most_gives k greater (λ d e p q. one_of (HasKind s k) (is_lt (order d e)) d e p q))
     summary_gives aggregate.Min k may each = over_values (fold_of (summary.Min v)) k each (most_gives k lesser_of (λ d e p q. one_of (HasKind s k) (is_lt (order e d)) d e p q))
     summary_gives aggregate.And k may each = over_values (fold_of (summary.And v)) k each (λ ds are. a_truth (list_all is_true ds) k may)
@@ -147,13 +147,13 @@ module _ (s : SchemaData) where
     -- over tuples of the heading each summary gives a value of its item's type
     abbrev pub SummariesGive : Header → Meaning E → List (Item (Summary E)) → Type 0
     SummariesGive h m [] = Unit {0}
-    SummariesGive h m (i ∷ is) = ((ts : List Attrs) → Each (HasHeading s h) ts → OrError (IsOf i.ty) (summary_over m ts i.term)) × SummariesGive h m is
+    SummariesGive h m (i ∷ is) = ((ts : List Attrs) → Each (IsTupleOver s h) ts → OrError (IsOf i.ty) (summary_over m ts i.term)) × SummariesGive h m is
 
-    over_group : (h : Header) (m : Meaning E) (is : List (Item (Summary E))) (ts : List Attrs) → Each (HasHeading s h) ts → SummariesGive h m is → TermsGive (λ x. summary_over m ts x) is
+    over_group : (h : Header) (m : Meaning E) (is : List (Item (Summary E))) (ts : List Attrs) → Each (IsTupleOver s h) ts → SummariesGive h m is → TermsGive (λ x. summary_over m ts x) is
     over_group h m [] ts each give = tt
     over_group h m (i ∷ is) ts each give = (give.0 ts each, over_group h m is ts each give.1)
 
-    pub summarization_is : (m : Meaning E) (is : List (Item (Summary E))) (h k : Header) (r per : RowsData) → IsRelation s h r → IsRelation s k per → SummariesGive h m is → GivesRelation s (extended_columns is k) (summarized m is r per)
+    pub summarization_is : (m : Meaning E) (is : List (Item (Summary E))) (h k : Header) (r per : RowsData) → IsRelationOver s h r → IsRelationOver s k per → SummariesGive h m is → GivesRelation s (extended_columns is k) (summarized m is r per)
     unfolding summarized
     summarization_is m is h k r per rel pers give = extension_is (over_groups m r per.heading) is k per pers (λ u has.
         over_group h m is (group_of r per.heading u)

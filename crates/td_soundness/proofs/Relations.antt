@@ -20,96 +20,96 @@ use Rattle.td_algebra.proofs.Lists.{in_all, in_map, in_filter, in_flat_map}
 use Rattle.td_algebra.proofs.Made.{has_in, in_has}
 use Rattle.td_kinds.specs.Schemas.{SchemaData}
 use Rattle.td_operators.specs.Operators.{table_dee}
-use Rattle.td_soundness.specs.Meanings.{HasHeading, IsRelation}
+use Rattle.td_soundness.specs.Meanings.{IsTupleOver, IsRelationOver}
 use Rattle.td_soundness.proofs.Errors.{Each}
 use Rattle.td_soundness.proofs.Attributes.{has_part, has_beside, has_renamed}
 use Rattle.td_soundness.proofs.Values.{has_heading}
 
 module _ (s : SchemaData) where
-  pub moved : (h k : Header) (r : RowsData) → h ≡ k → IsRelation s h r → IsRelation s k r
-  moved h k r e is = subst (λ g. IsRelation s g r) e is
+  pub moved : (h k : Header) (r : RowsData) → h ≡ k → IsRelationOver s h r → IsRelationOver s k r
+  moved h k r e is = subst (λ g. IsRelationOver s g r) e is
 
   -- ---- of lists of tuples, and of sets
-  pub of_list : (h k : Header) (ts : List Attrs) → k ≡ h → Each (HasHeading s h) ts → IsRelation s h (relation_from k ts)
+  pub of_list : (h k : Header) (ts : List Attrs) → k ≡ h → Each (IsTupleOver s h) ts → IsRelationOver s h (relation_from k ts)
   of_list h k ts e each = record {
     heading = e;
-    tuples = in_all (HasHeading s h) (relation_from k ts).tuples (λ t m. each t (listed k ts (relation_from k ts) (relation_of_is k (tuple_set ts)) t m));
+    tuples = in_all (IsTupleOver s h) (relation_from k ts).tuples (λ t m. each t (listed k ts (relation_from k ts) (relation_of_is k (tuple_set ts)) t m));
   }
 
-  pub of_image : (h k : Header) (f : Attrs → Attrs) (ts : List Attrs) → k ≡ h → Each (λ t. HasHeading s h (f t)) ts → IsRelation s h (relation_from k (map f ts))
-  of_image h k f ts e each = of_list h k (map f ts) e (λ u m. let i = in_map f ts u m in subst (HasHeading s h) (sym i.2) (each i.0 i.1))
+  pub of_image : (h k : Header) (f : Attrs → Attrs) (ts : List Attrs) → k ≡ h → Each (λ t. IsTupleOver s h (f t)) ts → IsRelationOver s h (relation_from k (map f ts))
+  of_image h k f ts e each = of_list h k (map f ts) e (λ u m. let i = in_map f ts u m in subst (IsTupleOver s h) (sym i.2) (each i.0 i.1))
 
-  of_members : (h k : Header) (P : Attrs → Type 0) (n : RowsData) → IsRelationOf k P n → k ≡ h → ((t : Attrs) → P t → HasHeading s h t) → IsRelation s h n
+  of_members : (h k : Header) (P : Attrs → Type 0) (n : RowsData) → IsRelationOf k P n → k ≡ h → ((t : Attrs) → P t → IsTupleOver s h t) → IsRelationOver s h n
   of_members h k P n made e each = record {
     heading = made.heading ∙ e;
-    tuples = in_all (HasHeading s h) n.tuples (λ t m. each t (made.only t (in_has n t m)));
+    tuples = in_all (IsTupleOver s h) n.tuples (λ t m. each t (made.only t (in_has n t m)));
   }
 
   none_fits : Fits by_name.empty no_attrs
   none_fits = sym (ap fields_of (entries-from_entries [] tt))
 
-  pub dee_is : IsRelation s by_name.empty table_dee
-  dee_is = of_list by_name.empty by_name.empty (no_attrs ∷ []) refl (λ t m. elim m [ inl e ↦ subst (HasHeading s by_name.empty) (sym e) (none_fits, tt) | inr none ↦ absurd none ])
+  pub dee_is : IsRelationOver s by_name.empty table_dee
+  dee_is = of_list by_name.empty by_name.empty (no_attrs ∷ []) refl (λ t m. elim m [ inl e ↦ subst (IsTupleOver s by_name.empty) (sym e) (none_fits, tt) | inr none ↦ absurd none ])
 
   -- ---- sets
-  module _ (h : Header) (q r : RowsData) (a : IsRelation s h q) where
-    member : (t : Attrs) → Has q t → HasHeading s h t
+  module _ (h : Header) (q r : RowsData) (a : IsRelationOver s h q) where
+    member : (t : Attrs) → Has q t → IsTupleOver s h t
     member t has = has_heading s h q a t (has_in q t has)
 
-    pub union_is : IsRelation s h r → IsRelation s h (union_of q r)
+    pub union_is : IsRelationOver s h r → IsRelationOver s h (union_of q r)
     unfolding union_of
     union_is b = of_members h q.heading (λ t. Has q t ⊎ Has r t) (union_of q r)
         (of_union q.heading q r (union_of q r) (relation_of_is q.heading (set.union (body q) (body r))))
         a.heading
         (λ t either. elim either [ inl x ↦ member t x | inr y ↦ has_heading s h r b t (has_in r t y) ])
 
-    pub intersection_is : IsRelation s h (intersect_of q r)
+    pub intersection_is : IsRelationOver s h (intersect_of q r)
     unfolding intersect_of
     intersection_is = of_members h q.heading (λ t. Has q t × Has r t) (intersect_of q r)
         (of_intersection q.heading q r (intersect_of q r) (relation_of_is q.heading (set.intersection (body q) (body r))))
         a.heading
         (λ t both. member t both.0)
 
-    pub difference_is : IsRelation s h (minus_of q r)
+    pub difference_is : IsRelationOver s h (minus_of q r)
     unfolding minus_of
     difference_is = of_members h q.heading (λ t. Has q t × ¬ Has r t) (minus_of q r)
         (of_difference q.heading q r (minus_of q r) (relation_of_is q.heading (set.difference (body q) (body r))))
         a.heading
         (λ t both. member t both.0)
 
-    pub matching_is : IsRelation s h (matching_of q r)
+    pub matching_is : IsRelationOver s h (matching_of q r)
     unfolding matching_of
     matching_is = of_list h q.heading (filter (is_matched q.heading r.heading r.tuples) q.tuples) a.heading (λ t m.
         let kept = in_filter (is_matched q.heading r.heading r.tuples) q.tuples t m in
         has_heading s h q a t kept.0)
 
-  pub not_matching_is : (h : Header) (q r : RowsData) → IsRelation s h q → IsRelation s h (not_matching_of q r)
+  pub not_matching_is : (h : Header) (q r : RowsData) → IsRelationOver s h q → IsRelationOver s h (not_matching_of q r)
   unfolding not_matching_of
   not_matching_is h q r a = difference_is h q (matching_of q r) a
 
   -- ---- parts
-  pub projection_is : (names : List (List ℕ)) (h : Header) (r : RowsData) → IsRelation s h r → IsRelation s (columns_in names h) (project_of names r)
+  pub projection_is : (names : List (List ℕ)) (h : Header) (r : RowsData) → IsRelationOver s h r → IsRelationOver s (columns_in names h) (project_of names r)
   unfolding project_of
   projection_is names h r is = of_image (columns_in names h) (columns_in names r.heading) (cut names) r.tuples (ap (columns_in names) is.heading) (λ t m. has_part s (is_in names) h t (has_heading s h r is t m))
 
-  pub renaming_is : (items : List (List ℕ × List ℕ)) (h : Header) (r : RowsData) → IsRelation s h r → IsRelation s (renamed_columns items h) (rename_of items r)
+  pub renaming_is : (items : List (List ℕ × List ℕ)) (h : Header) (r : RowsData) → IsRelationOver s h r → IsRelationOver s (renamed_columns items h) (rename_of items r)
   unfolding rename_of
   renaming_is items h r is = of_image (renamed_columns items h) (renamed_columns items r.heading) (renamed items) r.tuples (ap (renamed_columns items) is.heading) (λ t m. has_renamed s items h t (has_heading s h r is t m))
 
   -- ---- joins
-  module _ (g h : Header) (q r : RowsData) (a : IsRelation s g q) (b : IsRelation s h r) where
+  module _ (g h : Header) (q r : RowsData) (a : IsRelationOver s g q) (b : IsRelationOver s h r) where
     abbrev pairs_at : Attrs → List Attrs
     pairs_at t = map (beside t) (filter (agrees q.heading r.heading t) r.tuples)
 
-    pub join_is : IsRelation s (joined g h) (join_of q r)
+    pub join_is : IsRelationOver s (joined g h) (join_of q r)
     unfolding join_of
     join_is = of_list (joined g h) (joined q.heading r.heading) (flat_map pairs_at q.tuples) (λ i. joined (a.heading i) (b.heading i)) (λ w m.
         let at = in_flat_map pairs_at q.tuples w m in
         let pair = in_map (beside at.0) (filter (agrees q.heading r.heading at.0) r.tuples) w at.2 in
         let kept = in_filter (agrees q.heading r.heading at.0) r.tuples pair.0 pair.1 in
-        subst (HasHeading s (joined g h)) (sym pair.2) (has_beside s g h at.0 pair.0 (has_heading s g q a at.0 at.1) (has_heading s h r b pair.0 kept.0)))
+        subst (IsTupleOver s (joined g h)) (sym pair.2) (has_beside s g h at.0 pair.0 (has_heading s g q a at.0 at.1) (has_heading s h r b pair.0 kept.0)))
 
-    pub composition_is : IsRelation s (composed_columns g h) (compose_of q r)
+    pub composition_is : IsRelationOver s (composed_columns g h) (compose_of q r)
     unfolding compose_of
     composition_is =
         moved (columns_in (lone_names q.heading r.heading) (joined g h)) (composed_columns g h) (compose_of q r) (λ i. columns_in (lone_names (a.heading i) (b.heading i)) (joined g h))

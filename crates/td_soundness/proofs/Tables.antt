@@ -12,10 +12,10 @@ use Rattle.td_values.specs.declared.TypeKind.TheVariants as kind
 use Rattle.td_values.proofs.FieldLemmas.{fields_tie_themselves}
 use Rattle.td_values.proofs.TupleLemmas.{same_header}
 use Rattle.td_values.proofs.Walks.{is_tied}
-use Rattle.td_kinds.specs.Kinds.{kind_of, same_heading, same_kind, is_boolean, is_integer, is_char, relation_heading, tuple_heading, agree}
+use Rattle.td_kinds.specs.Kinds.{kind_of, same_heading, same_kind, is_boolean, is_integer, is_char, relation_heading, tuple_heading, agree_on_types}
 use Rattle.td_kinds.specs.Operators.{closed_kind, of_headings, joined_kind, composed_kind, matched_kind, united_kind, compared_kind, ordered_kind, member_kind, truth_kind, number_kind, text_kind, equal_kind}
 use Rattle.td_kinds.specs.Operators as operators
-use Rattle.td_kinds.specs.Results.{where_true, and_then}
+use Rattle.td_kinds.specs.Results.{where_true, where_some}
 use Rattle.td_tuples.specs.Unions.{joined, composed_columns}
 use Rattle.td_typing.proofs.KindLemmas as kinds
 
@@ -24,7 +24,7 @@ pub passed : {A : Type 0} (b : Bool) (a c : A) → where_true b a ≡ Some c →
 passed true a c e = (refl, kinds.some_same a c e)
 passed false a c e = cc
 
-pub inverted : {A B : Type 0} (o : Option A) (f : A → Option B) (y : B) → and_then o f ≡ Some y → (a : A) × (o ≡ Some a) × (f a ≡ Some y)
+pub inverted : {A B : Type 0} (o : Option A) (f : A → Option B) (y : B) → where_some o f ≡ Some y → (a : A) × (o ≡ Some a) × (f a ≡ Some y)
 inverted None f y e = cc
 inverted (Some a) f y e = (a, refl, e)
 
@@ -92,14 +92,14 @@ a_tuple_type (relation_type fs) h e = cc
 pub record IsOfPairs (j k : TypeKind) : Type 0 where
   pub heading : Header
   pub operand : j ≡ kind.Relation heading
-  pub pairs : operators.is_pair (by_name.entries heading) ≡ true
+  pub pairs : operators.are_of_one_type (by_name.entries heading) ≡ true
   pub result : kind.Relation heading ≡ k
 
 pub closes : (j k : TypeKind) → closed_kind j ≡ Some k → IsOfPairs j k
 unfolding closed_kind
 closes j k e =
-    let p = inverted (relation_heading j) (λ h. where_true (operators.is_pair (by_name.entries h)) (kind.Relation h)) k e in
-    let q = passed (operators.is_pair (by_name.entries p.0)) (kind.Relation p.0) k p.2 in
+    let p = inverted (relation_heading j) (λ h. where_true (operators.are_of_one_type (by_name.entries h)) (kind.Relation h)) k e in
+    let q = passed (operators.are_of_one_type (by_name.entries p.0)) (kind.Relation p.0) k p.2 in
     record { heading = p.0; operand = kinds.relation j p.0 p.1; pairs = q.0; result = q.1 }
 
 -- ---- two operands
@@ -154,22 +154,22 @@ module _ (i j k : TypeKind) where
 
   relations : (test : Header → Header → Bool) (made : Header → Header → TypeKind) → of_headings i j (λ g h. where_true (test g h) (made g h)) ≡ Some k → OfRelations i j k test made
   relations test made e =
-      let p = inverted (relation_heading i) (λ g. and_then (relation_heading j) (λ h. where_true (test g h) (made g h))) k e in
+      let p = inverted (relation_heading i) (λ g. where_some (relation_heading j) (λ h. where_true (test g h) (made g h))) k e in
       let q = inverted (relation_heading j) (λ h. where_true (test p.0 h) (made p.0 h)) k p.2 in
       let r = passed (test p.0 q.0) (made p.0 q.0) k q.2 in
       record { first = p.0; second = q.0; left = kinds.relation i p.0 p.1; right = kinds.relation j q.0 q.1; tested = r.0; result = r.1 }
 
-  pub joins : joined_kind i j ≡ Some k → OfRelations i j k agree (λ g h. kind.Relation (joined g h))
+  pub joins : joined_kind i j ≡ Some k → OfRelations i j k agree_on_types (λ g h. kind.Relation (joined g h))
   unfolding joined_kind
-  joins e = relations agree (λ g h. kind.Relation (joined g h)) e
+  joins e = relations agree_on_types (λ g h. kind.Relation (joined g h)) e
 
-  pub composes : composed_kind i j ≡ Some k → OfRelations i j k agree (λ g h. kind.Relation (composed_columns g h))
+  pub composes : composed_kind i j ≡ Some k → OfRelations i j k agree_on_types (λ g h. kind.Relation (composed_columns g h))
   unfolding composed_kind
-  composes e = relations agree (λ g h. kind.Relation (composed_columns g h)) e
+  composes e = relations agree_on_types (λ g h. kind.Relation (composed_columns g h)) e
 
-  pub matches : matched_kind i j ≡ Some k → OfRelations i j k agree (λ g h. kind.Relation g)
+  pub matches : matched_kind i j ≡ Some k → OfRelations i j k agree_on_types (λ g h. kind.Relation g)
   unfolding matched_kind
-  matches e = relations agree (λ g h. kind.Relation g) e
+  matches e = relations agree_on_types (λ g h. kind.Relation g) e
 
   pub unites : united_kind i j ≡ Some k → OfRelations i j k same_heading (λ g h. kind.Relation g)
   unfolding united_kind
@@ -182,7 +182,7 @@ module _ (i j k : TypeKind) where
   pub belongs : member_kind i j ≡ Some k → OfMember i j k
   unfolding member_kind
   belongs e =
-      let p = inverted (tuple_heading i) (λ g. and_then (relation_heading j) (λ h. where_true (same_heading g h) kind.Boolean)) k e in
+      let p = inverted (tuple_heading i) (λ g. where_some (relation_heading j) (λ h. where_true (same_heading g h) kind.Boolean)) k e in
       let q = inverted (relation_heading j) (λ h. where_true (same_heading p.0 h) kind.Boolean) k p.2 in
       let r = passed (same_heading p.0 q.0) kind.Boolean k q.2 in
       record { first = p.0; second = q.0; left = tuple_kind i p.0 p.1; right = kinds.relation j q.0 q.1; result = r.1 }

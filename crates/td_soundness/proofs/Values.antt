@@ -13,7 +13,7 @@ use Rattle.td_kinds.specs.Kinds.{kind_of}
 use Rattle.td_kinds.specs.Schemas.{SchemaData}
 use Rattle.td_operators.specs.Values.{truth_of, integer_of, text_of, tuple_in, rows_of}
 use Rattle.td_soundness.specs.Values.{AreColumns, IsValue, AreAttributes, AreTuples}
-use Rattle.td_soundness.specs.Meanings.{OrError, HasKind, HasHeading, IsRelation, GivesRelation}
+use Rattle.td_soundness.specs.Meanings.{OrError, HasKind, IsTupleOver, IsRelationOver, GivesRelation}
 use Rattle.td_soundness.proofs.Errors.{Each, with_first}
 use Rattle.td_soundness.proofs.Shapes as shapes
 
@@ -46,16 +46,16 @@ module _ (s : SchemaData) where
 
   -- ---- tuples
   -- a tuple, with its heading
-  pub a_tuple : (h : Header) (d : Datum) → HasKind s (kind.Tuple h) d → (t : Attrs) × (d ≡ tuple t) × HasHeading s h t
+  pub a_tuple : (h : Header) (d : Datum) → HasKind s (kind.Tuple h) d → (t : Attrs) × (d ≡ tuple t) × IsTupleOver s h t
   a_tuple h d has =
       let t = shapes.a_tuple d (header_fields h) has.0 in
       let value : IsValue s (tuple t.0) = subst (IsValue s) t.1 has.1 in
       (t.0, t.1, (t.2, value.1))
 
-  pub tuple_given : (h : Header) (d : Datum) → HasKind s (kind.Tuple h) d → OrError (HasHeading s h) (tuple_in d)
-  tuple_given h d has = let t = a_tuple h d has in subst (λ c. OrError (HasHeading s h) (tuple_in c)) (sym t.1) t.2
+  pub tuple_given : (h : Header) (d : Datum) → HasKind s (kind.Tuple h) d → OrError (IsTupleOver s h) (tuple_in d)
+  tuple_given h d has = let t = a_tuple h d has in subst (λ c. OrError (IsTupleOver s h) (tuple_in c)) (sym t.1) t.2
 
-  pub tuple_has : (h : Header) (t : Attrs) → HasHeading s h t → HasKind s (kind.Tuple h) (tuple t)
+  pub tuple_has : (h : Header) (t : Attrs) → IsTupleOver s h t → HasKind s (kind.Tuple h) (tuple t)
   tuple_has h t has = (ap tuple_type has.0, ((h, has.0), has.1))
 
   -- ---- relations
@@ -70,13 +70,13 @@ module _ (s : SchemaData) where
   tuples_built fs [] each = tt
   tuples_built fs (t ∷ ts) each = let one = each t (inl refl) in (one.0, one.1, tuples_built fs ts (λ u m. each u (inr m)))
 
-  pub tuples_given : (h : Header) (fs : Fields) (ts : Tuples) → fs ≡ header_fields h → AreTuples s fs ts → Each (HasHeading s h) (tuple_list ts)
+  pub tuples_given : (h : Header) (fs : Fields) (ts : Tuples) → fs ≡ header_fields h → AreTuples s fs ts → Each (IsTupleOver s h) (tuple_list ts)
   tuples_given h fs ts e are t m = let one = tuples_listed fs ts are t m in (one.0 ∙ e, one.1)
 
-  of_fields : (h : Header) (fs : Fields) (ts : Tuples) → fs ≡ header_fields h → AreTuples s fs ts → IsRelation s h (record { heading = header_of fs; tuples = tuple_list ts })
+  of_fields : (h : Header) (fs : Fields) (ts : Tuples) → fs ≡ header_fields h → AreTuples s fs ts → IsRelationOver s h (record { heading = header_of fs; tuples = tuple_list ts })
   of_fields h fs ts e are = record {
     heading = ap header_of e ∙ header_back h;
-    tuples = in_all (HasHeading s h) (tuple_list ts) (tuples_given h fs ts e are);
+    tuples = in_all (IsTupleOver s h) (tuple_list ts) (tuples_given h fs ts e are);
   }
 
   pub rows_given : (h : Header) (d : Datum) → HasKind s (kind.Relation h) d → GivesRelation s h (rows_of d)
@@ -85,10 +85,10 @@ module _ (s : SchemaData) where
       let value : IsValue s (relation r.0 r.1) = subst (IsValue s) r.2 has.1 in
       subst (λ c. GivesRelation s h (rows_of c)) (sym r.2) (of_fields h r.0 r.1 r.3 value.1)
 
-  pub has_heading : (h : Header) (r : RowsData) → IsRelation s h r → Each (HasHeading s h) r.tuples
-  has_heading h r is = all_in (HasHeading s h) r.tuples is.tuples
+  pub has_heading : (h : Header) (r : RowsData) → IsRelationOver s h r → Each (IsTupleOver s h) r.tuples
+  has_heading h r is = all_in (IsTupleOver s h) r.tuples is.tuples
 
-  pub relation_has : (h : Header) (r : RowsData) → IsRelation s h r → HasKind s (kind.Relation h) (relation_value r)
+  pub relation_has : (h : Header) (r : RowsData) → IsRelationOver s h r → HasKind s (kind.Relation h) (relation_value r)
   relation_has h r is = (
     ap (λ g. relation_type (header_fields g)) is.heading,
     (

@@ -9,7 +9,7 @@ use Rattle.td_values.specs.Whole.{type_of}
 use Rattle.td_values.specs.declared.TypeKind.{TypeKind}
 use Rattle.td_values.specs.declared.TypeKind.TheVariants as kind
 use Rattle.td_tuples.specs.Parts.{Fits}
-use Rattle.td_kinds.specs.Kinds.{Text}
+use Rattle.td_kinds.specs.Kinds.{Name}
 use Rattle.td_kinds.specs.Schemas.{SchemaData}
 use Rattle.td_kinds.specs.Scopes.{Scope}
 use Rattle.td_kinds.specs.declared.schema.Representation.{Representation}
@@ -34,21 +34,21 @@ abbrev pub HasKind : SchemaData → TypeKind → Datum → Type 0
 HasKind s k d = (type_of d ≡ ty_of k) × IsValue s d
 
 -- such a value, or an error
-abbrev pub Gives : SchemaData → TypeKind → Result Datum Stop → Type 0
-Gives s k r = OrError (HasKind s k) r
+abbrev pub GivesValue : SchemaData → TypeKind → Result Datum Stop → Type 0
+GivesValue s k r = OrError (HasKind s k) r
 
 -- a tuple of the heading
-abbrev pub HasHeading : SchemaData → Header → Attrs → Type 0
-HasHeading s h t = Fits h t × AreAttributes s t
+abbrev pub IsTupleOver : SchemaData → Header → Attrs → Type 0
+IsTupleOver s h t = Fits h t × AreAttributes s t
 
 -- a relation of the heading
-pub record IsRelation (s : SchemaData) (h : Header) (r : RowsData) : Type 0 where
+pub record IsRelationOver (s : SchemaData) (h : Header) (r : RowsData) : Type 0 where
   pub heading : r.heading ≡ h
-  pub tuples : All (HasHeading s h) r.tuples
+  pub tuples : All (IsTupleOver s h) r.tuples
 
 -- such a relation, or an error
 abbrev pub GivesRelation : SchemaData → Header → Result RowsData Stop → Type 0
-GivesRelation s h r = OrError (IsRelation s h) r
+GivesRelation s h r = OrError (IsRelationOver s h) r
 
 -- what a name stands for is what typing takes it for
 abbrev pub IsMeant : SchemaData → Relvars → Meant → Option Datum → Type 0
@@ -56,8 +56,8 @@ IsMeant s relvars (local k) o = (d : Datum) × (o ≡ Some d) × HasKind s k d
 IsMeant s relvars (relvar n h) o = GivesRelation s h (relvars n)
 
 abbrev pub AreMeant : SchemaData → Relvars → Scope → Names → Type 0
-AreMeant s relvars scope names = (x : Text) (m : Meant) → scope x ≡ Some m → IsMeant s relvars m (names x)
+AreMeant s relvars scope names = (x : Name) (m : Meant) → scope x ≡ Some m → IsMeant s relvars m (names x)
 
 -- each selector makes values of its type of components of its types
 abbrev pub Selects : SchemaData → Selection → Type 0
-Selects s selection = (n : ℕ) (r : Representation) (ds : List Datum) → slice_get s.possreps n ≡ Some r → AreComponentsOf r (items_of ds) → AreValues s (items_of ds) → Gives s (kind.User r.possrep.ty) (selection n ds)
+Selects s selection = (n : ℕ) (r : Representation) (ds : List Datum) → slice_get s.possreps n ≡ Some r → AreComponentsOf r (items_of ds) → AreValues s (items_of ds) → GivesValue s (kind.User r.possrep.ty) (selection n ds)

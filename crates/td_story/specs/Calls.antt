@@ -83,7 +83,7 @@ pub record IsIllTypedStatement (script text : List ℕ) : Type 0 where
   pub statement : Statement
   pub defines : IsScriptOf script catalogue
   pub reads : grammar.IsStatement text statement
-  pub refused : (x : TypedStatement) → typed.IsStatement catalogue statement x → ⊥
+  pub refused : (x : TypedStatement) → typed.TypesStatement catalogue statement x → ⊥
 
 -- it is told with its stamp and its outcome, which is the last of the story's
 pub record IssuesEntry (s : Seen) (text : List ℕ) (i : Issued) (after : Seen) : Type 0 where

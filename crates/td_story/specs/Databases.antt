@@ -8,11 +8,12 @@ use Rattle.td_syntax.specs.declared.tree.Named.{Named}
 use Rattle.td_kinds.specs.Schemas.{relvar_named}
 use Rattle.td_algebra.specs.declared.errors.Stop.{Stop}
 use Rattle.td_algebra.specs.declared.errors.Stop.TheVariants.{Untyped}
-use Rattle.td_headings.specs.Catalogues.{CatalogueData, catalogue_code}
+use Rattle.td_headings.specs.Catalogues.{CatalogueData}
+use Rattle.td_headings.specs.ForProofs.Codes.{catalogue_code}
 use Rattle.td_headings.specs.Definitions.{Defined}
 use Rattle.td_headings.specs.Reached.{is_base}
 use Rattle.td_meaning.specs.Mean.{Relvars}
-use Rattle.td_soundness.specs.Meanings.{IsRelation}
+use Rattle.td_soundness.specs.Meanings.{IsRelationOver}
 use Rattle.td_story.specs.Stored.{AreStored}
 use Rattle.td_story.specs.Tests.{AreLegal}
 
@@ -59,7 +60,7 @@ pub record Belongs (c : CatalogueData) (n : ℕ) (r : RowsData) : Type 0 where
   pub relvar : Named Header
   pub stored : is_base (slice_get c.origins n) ≡ true
   pub there : slice_get c.schema.relvars n ≡ Some relvar
-  pub relation : IsRelation c.schema relvar.value r
+  pub relation : IsRelationOver c.schema relvar.value r
 
 -- definitions made the catalogue, each base relvar has a relation of its heading, and of a virtual one nothing is stored
 pub record IsDatabase (d : DatabaseData) : Type 0 where

@@ -2,7 +2,7 @@
 use Rattle.std.specs.Prelude.{◌≡◌, ℕ, List}
 use Rattle.std.specs.List.{Contains}
 use Rattle.td_headings.specs.Catalogues.{CatalogueData}
-use Rattle.td_headings.specs.Reached.{Reads}
+use Rattle.td_headings.specs.Reached.{ReadsRelvar}
 use Rattle.td_headings.specs.Statements.{IsTarget, assignments_of}
 use Rattle.td_headings.specs.declared.defined.Test.{Test}
 use Rattle.td_headings.specs.declared.defined.Test.TheVariants as test
@@ -14,12 +14,12 @@ use Rattle.td_story.specs.Steps.{IsRead}
 -- a KEY reads its relvar, a CONSTRAINT the base relvars that its expression reads, virtual ones expanded
 abbrev pub TestReads : CatalogueData → Test → ℕ → Type 0
 TestReads c (test.Key m key) n = n ≡ m
-TestReads c (test.Constraint x u) n = Reads c.origins u n
+TestReads c (test.Constraint x u) n = ReadsRelvar c.origins u n
 
 -- the targets, what the sources read, and what each test reads that reads a target
 pub data InFootprint (c : CatalogueData) (x : TypedStatement) : ℕ → Type 0 where
   target : {n : ℕ} → IsTarget x n → InFootprint c x n
-  by_source : {n : ℕ} {a : TypedAssignment} → Contains (assignments_of x) a → Reads c.origins a.source.tree n → InFootprint c x n
+  by_source : {n : ℕ} {a : TypedAssignment} → Contains (assignments_of x) a → ReadsRelvar c.origins a.source.tree n → InFootprint c x n
   by_test : {m n : ℕ} {t : Test} → Contains c.tests t → TestReads c t m → IsTarget x m → TestReads c t n → InFootprint c x n
 
 -- of a text: that of its statement; an unread text has none

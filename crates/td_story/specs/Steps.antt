@@ -22,7 +22,7 @@ use Rattle.td_story.specs.declared.outcome.Outcome.TheVariants.{Done, Unread, Ra
 pub record IsRead (c : CatalogueData) (text : List ℕ) (x : TypedStatement) : Type 0 where
   pub statement : Statement
   pub reads : grammar.IsStatement text statement
-  pub types : typed.IsStatement c statement x
+  pub types : typed.TypesStatement c statement x
 
 abbrev pub IsUnread : CatalogueData → List ℕ → Type 0
 IsUnread c text = (x : TypedStatement) → IsRead c text x → ⊥

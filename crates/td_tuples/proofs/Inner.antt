@@ -2,8 +2,8 @@
 use Rattle.std.proofs.Common.{◌≡◌, ℕ, List, [], ◌∷◌, refl, sym, ap, ◌∙◌}
 use Rattle.std.specs.FinMap as by_name
 use Rattle.td_values.specs.Data.{Ty, tuple_type, relation_type, fields_of}
-use Rattle.td_values.specs.Headings.{Header, header_fields}
-use Rattle.td_tuples.specs.Nestings.{field_list, columns_of_type}
+use Rattle.td_values.specs.Headings.{Header, header_fields, field_list}
+use Rattle.td_tuples.specs.Nestings.{columns_of_type}
 use Rattle.td_tuples.proofs.Lists.{from_entries-entries}
 
 pub field_list_back : (es : List (List ℕ × Ty)) → field_list (fields_of es) ≡ es

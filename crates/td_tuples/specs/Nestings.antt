@@ -1,8 +1,8 @@
 -- Headings with tuple- and relation-valued columns: what grouping, wrapping and their inverses make of a heading.
 use Rattle.std.specs.Prelude.{◌≡◌, ℕ, List, [], ◌∷◌, Option, None, Some}
 use Rattle.std.specs.FinMap as by_name
-use Rattle.td_values.specs.Data.{Ty, tuple_type, relation_type, Fields, no_fields, field}
-use Rattle.td_values.specs.Headings.{Header, header_fields}
+use Rattle.td_values.specs.Data.{Ty, tuple_type, relation_type, Fields}
+use Rattle.td_values.specs.Headings.{Header, header_fields, header_of}
 use Rattle.td_tuples.specs.Parts.{columns_in, columns_out}
 use Rattle.td_tuples.specs.Unions.{joined, with_column}
 
@@ -14,14 +14,10 @@ grouped_columns names c h = with_column c (relation_type (header_fields (columns
 abbrev pub wrapped_columns : List (List ℕ) → List ℕ → Header → Header
 wrapped_columns names c h = with_column c (tuple_type (header_fields (columns_in names h))) (columns_out names h)
 
-abbrev pub field_list : Fields → List (List ℕ × Ty)
-field_list no_fields = []
-field_list (field n ty fs) = (n, ty) ∷ field_list fs
-
 -- the columns that a tuple or relation type is made from
 abbrev pub columns_of_type : Ty → Header
-columns_of_type (tuple_type fs) = by_name.from_entries (field_list fs)
-columns_of_type (relation_type fs) = by_name.from_entries (field_list fs)
+columns_of_type (tuple_type fs) = header_of fs
+columns_of_type (relation_type fs) = header_of fs
 columns_of_type ty = by_name.empty
 
 abbrev pub columns_inside : Option Ty → Header

@@ -18,13 +18,13 @@ use Rattle.td_trees.specs.declared.tree.TypedGroups.TheVariants as typed_groups
 use Rattle.td_trees.specs.declared.tree.Typed.{Typed}
 use Rattle.td_trees.specs.declared.tree.Typed.TheVariants as t
 use Rattle.td_trees.specs.declared.tree.Typing.{Typing}
-use Rattle.td_kinds.specs.Results.{where_true, and_then}
+use Rattle.td_kinds.specs.Results.{where_true, where_some}
 use Rattle.td_kinds.specs.Kinds.{kind_of, tuple_heading}
 use Rattle.td_kinds.specs.Schemas.{SchemaData}
-use Rattle.td_kinds.specs.Scopes.{Scope, within, all_given}
+use Rattle.td_kinds.specs.Scopes.{Scope, within_tuple, with_names}
 use Rattle.td_kinds.specs.Written.{names}
-use Rattle.td_kinds.specs.Lists.{attributes_of, pair_of}
-use Rattle.td_kinds.specs.Forms.{part_at}
+use Rattle.td_kinds.specs.Lists.{attributes_of, renaming_pair}
+use Rattle.td_kinds.specs.Forms.{part_kind}
 use Rattle.td_typing.specs.Trees.{typing, trees, kinds, named, item_of, summary_of}
 use Rattle.td_typing.specs.ForProofs.Infer as spec
 use Rattle.td_typing.specs.ForProofs.Infer.{Inferred, infer, each, operands, all_inferred, named_inferred, name_inferred, groups_inferred, summaries_inferred, grouping, introduced}
@@ -33,8 +33,8 @@ use Rattle.td_typing.specs.Types.{Types, TypesEach, TypesItems, TypesInTurn, Typ
 use Rattle.td_typing.proofs.Equations.{of_integer, of_text, of_truth, of_dee, of_dum, of_name, of_call, of_relation, of_unary, of_binary, of_from, of_project, of_where, of_rename, of_nest, of_unnest, of_aggregate, of_aggregate_lone, of_if, of_tuple, of_extend, of_summarize, of_with}
 use Rattle.td_typing.proofs.KindLemmas.{same_itself, fits, all_tuples}
 
-goes : {A B : Type 0} (o : Option A) (a : A) (f : A → Option B) → o ≡ Some a → and_then o f ≡ f a
-goes o a f h = ap (λ x. and_then x f) h
+goes : {A B : Type 0} (o : Option A) (a : A) (f : A → Option B) → o ≡ Some a → where_some o f ≡ f a
+goes o a f h = ap (λ x. where_some x f) h
 
 passes : {A : Type 0} (b : Bool) (a : A) → b ≡ true → where_true b a ≡ Some a
 passes b a h = ap (λ c. where_true c a) h
@@ -73,16 +73,16 @@ module _ (cat : SchemaData) where
         ∙ goes _ h (spec.relation_of (operands (trees ys) (kinds ys))) is ∙ passes _ (typing (t.Relation h (trees ys)) (kind.Relation h)) (all_tuples h ys same)
     complete (types.unary {s} {o} {a} {u} {j} {k} d h) = ap (λ (f : Inferred). f s) (of_unary cat o a) ∙ goes _ (typing u j) (spec.by_unary o) (complete d) ∙ goes _ k (λ k. Some (typing (t.Unary o u) k)) h
     complete (types.binary {s} {o} {a} {b} {u} {v} {i} {j} {k} d c h) =
-        ap (λ (f : Inferred). f s) (of_binary cat o a b) ∙ goes _ (typing u i) (λ x. and_then (infer cat b s) (spec.by_binary o x)) (complete d) ∙ goes _ (typing v j) (spec.by_binary o (typing u i)) (complete c)
+        ap (λ (f : Inferred). f s) (of_binary cat o a b) ∙ goes _ (typing u i) (λ x. where_some (infer cat b s) (spec.by_binary o x)) (complete d) ∙ goes _ (typing v j) (spec.by_binary o (typing u i)) (complete c)
         ∙ goes _ k (λ k. Some (typing (t.Binary o u v) k)) h
     complete (types.from {s} {x} {a} {u} {j} {k} d h) = ap (λ (f : Inferred). f s) (of_from cat x a) ∙ goes _ (typing u j) (spec.by_from x) (complete d) ∙ goes _ k (λ k. Some (typing (t.From x u) k)) h
     complete (types.project {s} {a} {xs} {u} {k} {h} {ns} d of is) =
         ap (λ (f : Inferred). f s) (of_project cat a xs) ∙ goes _ (typing u k) (spec.by_project xs) (complete d)
-        ∙ goes _ h (λ h. and_then (attributes_of xs h) (λ ns. Some (typing (t.Project u ns) (part_at ns k)))) of ∙ goes _ ns (λ ns. Some (typing (t.Project u ns) (part_at ns k))) is
+        ∙ goes _ h (λ h. where_some (attributes_of xs h) (λ ns. Some (typing (t.Project u ns) (part_kind ns k)))) of ∙ goes _ ns (λ ns. Some (typing (t.Project u ns) (part_kind ns k))) is
     complete (types.where_ {s} {a} {c} {u} {v} {h} d b) =
         ap (λ (f : Inferred). f s) (of_where cat a c) ∙ goes _ (typing u (kind.Relation h)) _ (complete d) ∙ goes _ (typing v kind.Boolean) _ (complete b)
     complete (types.rename {s} {a} {xs} {u} {j} {k} d h) =
-        ap (λ (f : Inferred). f s) (of_rename cat a xs) ∙ goes _ (typing u j) (spec.by_rename xs) (complete d) ∙ goes _ k (λ k. Some (typing (t.Rename u (map pair_of xs)) k)) h
+        ap (λ (f : Inferred). f s) (of_rename cat a xs) ∙ goes _ (typing u j) (spec.by_rename xs) (complete d) ∙ goes _ k (λ k. Some (typing (t.Rename u (map renaming_pair xs)) k)) h
     complete (types.nest {s} {o} {a} {xs} {c} {u} {h} {g} {ns} d is has) =
         ap (λ (f : Inferred). f s) (of_nest cat o a xs c) ∙ goes _ (typing u (kind.Relation h)) (spec.by_nest o xs c) (complete d)
         ∙ goes _ ns (λ ns. spec.nested o ns c h u) is ∙ goes _ g (λ g. Some (typing (t.Nest o u ns c) (kind.Relation g))) has
@@ -102,10 +102,10 @@ module _ (cat : SchemaData) where
         ∙ passes _ (typing (t.Extend u is) (kind.Relation (extended_columns is h))) may
     complete (types.summarize {s} {a} {g} {xs} {u} {gs} {is} {h} {k} d groups new all) =
         ap (λ (f : Inferred). f s) (of_summarize cat a g xs) ∙ goes _ (typing u (kind.Relation h)) _ (complete d)
-        ∙ goes _ (grouping gs k) (λ p. and_then (spec.infer_summaries (summaries_inferred cat xs) (within h s)) (spec.summarized (names xs) u p)) (complete_groups groups)
+        ∙ goes _ (grouping gs k) (λ p. where_some (spec.infer_summaries (summaries_inferred cat xs) (within_tuple h s)) (spec.summarized (names xs) u p)) (complete_groups groups)
         ∙ goes _ is (spec.summarized (names xs) u (grouping gs k)) (complete_summaries all []) ∙ passes _ (typing (t.Summarize u gs is) (kind.Relation (extended_columns is k))) new
     complete (types.with_ {s} {xs} {b} {us} {ks} {u} {k} all d) =
-        ap (λ (f : Inferred). f s) (of_with cat xs b) ∙ goes _ (introduced us ks) (λ p. and_then (infer cat b (all_given p.kinds s)) (spec.with_tree p.trees)) (complete_in_turn all [])
+        ap (λ (f : Inferred). f s) (of_with cat xs b) ∙ goes _ (introduced us ks) (λ p. where_some (infer cat b (with_names p.kinds s)) (spec.with_tree p.trees)) (complete_in_turn all [])
         ∙ goes _ (typing u k) (spec.with_tree us) (complete d)
 
     complete_groups : {s : Scope} {h k : Header} {g : Groups Expr} {gs : TypedGroups Typed} → TypesGroups cat s h g gs k → spec.infer_groups h (groups_inferred cat g) s ≡ Some (grouping gs k)
@@ -129,12 +129,12 @@ module _ (cat : SchemaData) where
     complete_summaries types.no_summaries done = ap Some (sym (append-nil done))
     complete_summaries (types.count {s} {n} {xs} {is} rest) done = complete_summaries rest (done ++ item_of n kind.Integer typed_summaries.Count ∷ []) ∙ ap Some (append_assoc done (item_of n kind.Integer typed_summaries.Count ∷ []) is)
     complete_summaries (types.of_terms {s} {n} {o} {a} {u} {k} {xs} {is} d may rest) done =
-        goes (and_then (infer cat a s) (spec.summed n o)) (item_of n k (summary_of o u)) (λ y. each (spec.infer_summary s) (done ++ y ∷ []) (summaries_inferred cat xs))
+        goes (where_some (infer cat a s) (spec.summed n o)) (item_of n k (summary_of o u)) (λ y. each (spec.infer_summary s) (done ++ y ∷ []) (summaries_inferred cat xs))
         (goes (infer cat a s) (typing u k) (spec.summed n o) (complete d) ∙ passes _ (item_of n k (summary_of o u)) may)
         ∙ complete_summaries rest (done ++ item_of n k (summary_of o u) ∷ []) ∙ ap Some (append_assoc done (item_of n k (summary_of o u) ∷ []) is)
 
     complete_in_turn : {s : Scope} {ks all : List (Named TypeKind)} {xs : List (Named Expr)} {us : List (Named Typed)} → TypesInTurn cat s ks xs us all → (done : List (Named Typed)) → spec.infer_in_turn done ks (named_inferred cat xs) s ≡ Some (introduced (done ++ us) all)
     complete_in_turn (types.last {ks}) done = ap (λ us. Some (introduced us ks)) (sym (append-nil done))
     complete_in_turn (types.further {s} {ks} {all} {n} {a} {u} {k} {xs} {us} d rest) done =
-        goes (infer cat a (all_given ks s)) (typing u k) (λ y. spec.infer_in_turn (done ++ named n y.tree ∷ []) (ks ++ named n y.kind ∷ []) (named_inferred cat xs) s) (complete d)
+        goes (infer cat a (with_names ks s)) (typing u k) (λ y. spec.infer_in_turn (done ++ named n y.tree ∷ []) (ks ++ named n y.kind ∷ []) (named_inferred cat xs) s) (complete d)
         ∙ complete_in_turn rest (done ++ named n u ∷ []) ∙ ap (λ us. Some (introduced us all)) (append_assoc done (named n u ∷ []) us)

@@ -21,7 +21,7 @@ use Rattle.td_syntax.specs.declared.tree.Expr.TheOpen.{Expr-F}
 use Rattle.td_syntax.specs.declared.tree.Expr.TheShapes.{former-Expr-Summarize-2-at-5}
 use Rattle.td_syntax.specs.declared.tree.Expr.TheFolds.{fold-roll-Expr}
 use Rattle.td_trees.specs.declared.tree.Typed.TheVariants as t
-use Rattle.td_kinds.specs.Kinds.{Text}
+use Rattle.td_kinds.specs.Kinds.{Name}
 use Rattle.td_kinds.specs.Schemas.{SchemaData}
 use Rattle.td_kinds.specs.Written.{names}
 use Rattle.td_typing.specs.Trees.{typing, named}
@@ -31,7 +31,7 @@ module _ (cat : SchemaData) where
   pub of_integer : (n : ℤ) → infer cat (e.Integer n) ≡ (λ s. Some (typing (t.Integer n) kind.Integer))
   of_integer n = ap (infer cat) (sym (e.rolls-Integer n)) ∙ fold-roll-Expr Inferred (infer_step cat) (Expr-F.Integer n)
 
-  pub of_text : (x : Text) → infer cat (e.Text x) ≡ (λ s. Some (typing (t.Text x) kind.Char))
+  pub of_text : (x : Name) → infer cat (e.Text x) ≡ (λ s. Some (typing (t.Text x) kind.Char))
   of_text x = ap (infer cat) (sym (e.rolls-Text x)) ∙ fold-roll-Expr Inferred (infer_step cat) (Expr-F.Text x)
 
   pub of_truth : (b : Bool) → infer cat (e.Truth b) ≡ (λ s. Some (typing (t.Truth b) kind.Boolean))
@@ -43,10 +43,10 @@ module _ (cat : SchemaData) where
   pub of_dum : infer cat e.TableDum ≡ (λ s. Some (typing (t.Relation by_name.empty []) (kind.Relation by_name.empty)))
   of_dum = ap (infer cat) (sym e.rolls-TableDum) ∙ fold-roll-Expr Inferred (infer_step cat) Expr-F.TableDum
 
-  pub of_name : (x : Text) → infer cat (e.Name x) ≡ infer_name x
+  pub of_name : (x : Name) → infer cat (e.Name x) ≡ infer_name x
   of_name x = ap (infer cat) (sym (e.rolls-Name x)) ∙ fold-roll-Expr Inferred (infer_step cat) (Expr-F.Name x)
 
-  pub of_call : (x : Text) (xs : List Expr) → infer cat (e.Call x xs) ≡ infer_call cat x (all_inferred cat xs)
+  pub of_call : (x : Name) (xs : List Expr) → infer cat (e.Call x xs) ≡ infer_call cat x (all_inferred cat xs)
   of_call x xs = ap (infer cat) (sym (e.rolls-Call x xs)) ∙ fold-roll-Expr Inferred (infer_step cat) (Expr-F.Call x xs)
 
   pub of_relation : (h : Option (List (Named TypeExpr))) (xs : List Expr) → infer cat (e.Relation h xs) ≡ infer_relation cat h (all_inferred cat xs)
@@ -58,7 +58,7 @@ module _ (cat : SchemaData) where
   pub of_binary : (o : BinaryOperator) (a b : Expr) → infer cat (e.Binary o a b) ≡ infer_binary o (infer cat a) (infer cat b)
   of_binary o a b = ap (infer cat) (sym (e.rolls-Binary o a b)) ∙ fold-roll-Expr Inferred (infer_step cat) (Expr-F.Binary o a b)
 
-  pub of_from : (x : Text) (a : Expr) → infer cat (e.From x a) ≡ infer_by (by_from x) (infer cat a)
+  pub of_from : (x : Name) (a : Expr) → infer cat (e.From x a) ≡ infer_by (by_from x) (infer cat a)
   of_from x a = ap (infer cat) (sym (e.rolls-From x a)) ∙ fold-roll-Expr Inferred (infer_step cat) (Expr-F.From x a)
 
   pub of_project : (a : Expr) (xs : Attributes) → infer cat (e.Project a xs) ≡ infer_by (by_project xs) (infer cat a)
@@ -70,10 +70,10 @@ module _ (cat : SchemaData) where
   pub of_rename : (a : Expr) (xs : List Renaming) → infer cat (e.Rename a xs) ≡ infer_by (by_rename xs) (infer cat a)
   of_rename a xs = ap (infer cat) (sym (e.rolls-Rename a xs)) ∙ fold-roll-Expr Inferred (infer_step cat) (Expr-F.Rename a xs)
 
-  pub of_nest : (o : Nesting) (a : Expr) (xs : Attributes) (c : Text) → infer cat (e.Nest o a xs c) ≡ infer_by (by_nest o xs c) (infer cat a)
+  pub of_nest : (o : Nesting) (a : Expr) (xs : Attributes) (c : Name) → infer cat (e.Nest o a xs c) ≡ infer_by (by_nest o xs c) (infer cat a)
   of_nest o a xs c = ap (infer cat) (sym (e.rolls-Nest o a xs c)) ∙ fold-roll-Expr Inferred (infer_step cat) (Expr-F.Nest o a xs c)
 
-  pub of_unnest : (o : Nesting) (a : Expr) (c : Text) → infer cat (e.Unnest o a c) ≡ infer_by (by_unnest o c) (infer cat a)
+  pub of_unnest : (o : Nesting) (a : Expr) (c : Name) → infer cat (e.Unnest o a c) ≡ infer_by (by_unnest o c) (infer cat a)
   of_unnest o a c = ap (infer cat) (sym (e.rolls-Unnest o a c)) ∙ fold-roll-Expr Inferred (infer_step cat) (Expr-F.Unnest o a c)
 
   pub of_aggregate_lone : (o : Aggregate) (a : Expr) → infer cat (e.Aggregate o a None) ≡ infer_by (by_lone o) (infer cat a)
@@ -105,7 +105,7 @@ module _ (cat : SchemaData) where
   abbrev mapped : Named (Summary Expr) → Named (Summary Inferred)
   mapped = former-Expr-Summarize-2-at-5.map Expr Inferred (infer cat)
 
-  one_mapped : (n : Text) (x : Summary Expr) → mapped (named n x) ≡ named n (summary_inferred cat x)
+  one_mapped : (n : Name) (x : Summary Expr) → mapped (named n x) ≡ named n (summary_inferred cat x)
   one_mapped n summary.Count = refl
   one_mapped n (summary.Of o a) = refl
 

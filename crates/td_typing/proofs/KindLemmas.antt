@@ -10,7 +10,7 @@ use Rattle.std.proofs.lemmas.List.Folds.{list_all-map}
 use Rattle.td_values.proofs.Walks.{equal_types_tie}
 use Rattle.td_syntax.specs.declared.tree.Named.{Named}
 use Rattle.td_trees.specs.declared.tree.Typing.{Typing}
-use Rattle.td_kinds.specs.Kinds.{Text, kind_of, same_kind, is_boolean, relation_heading, user_name}
+use Rattle.td_kinds.specs.Kinds.{Name, kind_of, same_kind, is_boolean, relation_heading, user_name}
 use Rattle.td_kinds.proofs.KindLemmas.{kind_back}
 use Rattle.td_typing.specs.Trees.{kinds}
 use Rattle.td_typing.specs.ForProofs.Infer.{fit}
@@ -50,7 +50,7 @@ relation (kind.User n) g h = cc
 relation (kind.Tuple k) g h = cc
 relation (kind.Relation k) g h = ap kind.Relation (some_same k g h)
 
-pub user : (k : TypeKind) (n : Text) → user_name k ≡ Some n → k ≡ kind.User n
+pub user : (k : TypeKind) (n : Name) → user_name k ≡ Some n → k ≡ kind.User n
 user kind.Boolean g h = cc
 user kind.Integer g h = cc
 user kind.Char g h = cc

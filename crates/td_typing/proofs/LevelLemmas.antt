@@ -10,7 +10,7 @@ use Rattle.td_syntax.specs.declared.tree.Expr.TheVariants as e
 use Rattle.td_syntax.specs.Levels.{levels, named_levels}
 use Rattle.td_syntax.specs.ForProofs.Parts.{list_levels, summary_levels, summaries_levels, groups_levels}
 use Rattle.td_syntax.proofs.Depths.{of_call, of_relation, of_tuple, of_extend, of_with, of_summarize}
-use Rattle.td_kinds.specs.Kinds.{Text}
+use Rattle.td_kinds.specs.Kinds.{Name}
 
 list_item : (xs : List Expr) (i : ℕ) (d : Expr) → i < length xs → levels (get_or xs i d) ≤ list_levels xs
 list_item [] i d h = omega (arith, h)
@@ -39,7 +39,7 @@ in_summaries xs i x h is = let e = ap (λ (y : Named (Summary Expr)). summary_le
 
 -- ---- a form with a list, as its parts are handed on
 
-pub call_falls : (a : Expr) (x : Text) (xs ys : List Expr) → a ≡ e.Call x xs → ys ≡ xs → 5 * list_levels ys + 3 < 5 * levels a
+pub call_falls : (a : Expr) (x : Name) (xs ys : List Expr) → a ≡ e.Call x xs → ys ≡ xs → 5 * list_levels ys + 3 < 5 * levels a
 call_falls a x xs ys is same = omega (arith, ap levels is, of_call x xs, ap list_levels same)
 
 pub relation_falls : (a : Expr) (h : Option (List (Named TypeExpr))) (xs ys : List Expr) → a ≡ e.Relation h xs → ys ≡ xs → 5 * list_levels ys + 2 < 5 * levels a

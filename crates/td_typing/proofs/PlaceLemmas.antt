@@ -9,8 +9,8 @@ use Rattle.td_values.specs.declared.TypeKind.{TypeKind}
 use Rattle.td_syntax.specs.declared.tree.Named.{Named}
 use Rattle.td_trees.specs.declared.tree.Typed.TheVariants as t
 use Rattle.td_trees.specs.declared.tree.Typing.{Typing}
-use Rattle.td_kinds.specs.Results.{and_then}
-use Rattle.td_kinds.specs.Kinds.{Text, kind_of}
+use Rattle.td_kinds.specs.Results.{where_some}
+use Rattle.td_kinds.specs.Kinds.{Name, kind_of}
 use Rattle.td_typing.specs.Trees.{typing}
 use Rattle.td_typing.specs.ForProofs.Infer.{fit, lone, lone_term}
 use Rattle.td_kinds.proofs.KindLemmas.{kind_back}
@@ -25,17 +25,17 @@ fit_ended (suc i) [] cs p q h = absurd (omega arith)
 fit_ended (suc i) (k ∷ ks) [] p q h = absurd (omega arith)
 fit_ended (suc i) (k ∷ ks) (c ∷ cs) p q h = eqb-suc-suc (length ks) (length cs) ∙ fit_ended i ks cs (omega arith) (omega arith) (λ a b. h (omega arith) (omega arith))
 
-lone_first : (xs : List (Text × Ty)) (a b : Text × Ty) → 1 ≤ length xs → length xs < 2 → lone xs ≡ Some ((get_or xs 0 a).0, (get_or xs 0 b).1)
+lone_first : (xs : List (Name × Ty)) (a b : Name × Ty) → 1 ≤ length xs → length xs < 2 → lone xs ≡ Some ((get_or xs 0 a).0, (get_or xs 0 b).1)
 lone_first [] a b p q = absurd (omega arith)
 lone_first (x ∷ []) a b p q = refl
 lone_first (x ∷ y ∷ xs) a b p q = absurd (omega arith)
 
 -- the one attribute, as it is read
-pub lone_is : (h : Header) (xs : List (Text × Ty)) (a b : Text × Ty) (n : Text) (k : TypeKind) (y : Typing) → xs ≡ by_name.entries h → 1 ≤ length xs → length xs < 2 → n ≡ (get_or xs 0 a).0 → ty_of k ≡ (get_or xs 0 b).1 → y ≡ typing (t.Local n) k → lone_term h ≡ Some y
+pub lone_is : (h : Header) (xs : List (Name × Ty)) (a b : Name × Ty) (n : Name) (k : TypeKind) (y : Typing) → xs ≡ by_name.entries h → 1 ≤ length xs → length xs < 2 → n ≡ (get_or xs 0 a).0 → ty_of k ≡ (get_or xs 0 b).1 → y ≡ typing (t.Local n) k → lone_term h ≡ Some y
 unfolding lone_term
 lone_is h xs a b n k y is p q name ty made =
-    ap (λ es. and_then (lone es) (λ f. Some (typing (t.Local f.0) (kind_of f.1)))) (sym is)
-    ∙ ap (λ o. and_then o (λ f. Some (typing (t.Local f.0) (kind_of f.1)))) (lone_first xs a b p q)
+    ap (λ es. where_some (lone es) (λ f. Some (typing (t.Local f.0) (kind_of f.1)))) (sym is)
+    ∙ ap (λ o. where_some o (λ f. Some (typing (t.Local f.0) (kind_of f.1)))) (lone_first xs a b p q)
     ∙ ap (λ m. Some (typing (t.Local m) (kind_of (get_or xs 0 b).1))) (sym name)
     ∙ ap (λ j. Some (typing (t.Local n) j)) (ap kind_of (sym ty) ∙ kind_back k)
     ∙ ap Some (sym made)

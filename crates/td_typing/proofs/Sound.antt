@@ -38,16 +38,16 @@ use Rattle.td_typing.specs.declared.parts.Grouping.{Grouping}
 use Rattle.td_typing.specs.declared.parts.Introduced.{Introduced}
 use Rattle.td_typing.specs.declared.parts.Operands.{Operands}
 use Rattle.td_kinds.specs.declared.schema.Representation.{Representation}
-use Rattle.td_kinds.specs.Results.{where_true, and_then}
-use Rattle.td_kinds.specs.Kinds.{Text, kind_of, same_kind, is_boolean, relation_heading, user_name, is_part}
+use Rattle.td_kinds.specs.Results.{where_true, where_some}
+use Rattle.td_kinds.specs.Kinds.{Name, kind_of, same_kind, is_boolean, relation_heading, user_name, is_part}
 use Rattle.td_kinds.specs.Schemas.{SchemaData, begins_with_the, possrep_named, type_named, component_named}
 use Rattle.td_kinds.specs.declared.scope.Meant.{Meant}
 use Rattle.td_kinds.specs.declared.scope.Meant.TheVariants.{Local as local, Relvar as relvar}
-use Rattle.td_kinds.specs.Scopes.{Scope, within, all_given}
+use Rattle.td_kinds.specs.Scopes.{Scope, within_tuple, with_names}
 use Rattle.td_kinds.specs.Written.{names}
-use Rattle.td_kinds.specs.Lists.{attributes_of, are_distinct, pair_of}
+use Rattle.td_kinds.specs.Lists.{attributes_of, are_distinct, renaming_pair}
 use Rattle.td_kinds.specs.Operators.{unary_kind, binary_kind, suits}
-use Rattle.td_kinds.specs.Forms.{heading_of, part_at, renamed_kind, nested_heading, unnested_heading, from_kind, may_extend}
+use Rattle.td_kinds.specs.Forms.{kind_heading, part_kind, renamed_kind, nested_heading, unnested_heading, from_kind, may_extend}
 use Rattle.td_typing.specs.Trees.{typing, trees, kinds, named, item_of, summary_of}
 use Rattle.td_typing.specs.ForProofs.Infer as spec
 use Rattle.td_typing.specs.ForProofs.Infer.{Inferred, infer, each, operands, all_inferred, named_inferred, name_inferred, groups_inferred, summary_inferred, summaries_inferred, grouping, introduced}
@@ -57,7 +57,7 @@ use Rattle.td_typing.proofs.Equations.{of_integer, of_text, of_truth, of_dee, of
 use Rattle.td_typing.proofs.KindLemmas.{some_same, same, boolean, relation, user, fitted, tuples_all}
 
 module _ {A B : Type 0} where
-  inverted : (o : Option A) (f : A → Option B) (y : B) → and_then o f ≡ Some y → (a : A) × (o ≡ Some a) × (f a ≡ Some y)
+  inverted : (o : Option A) (f : A → Option B) (y : B) → where_some o f ≡ Some y → (a : A) × (o ≡ Some a) × (f a ≡ Some y)
   inverted None f y h = cc
   inverted (Some a) f y h = (a, refl, h)
 
@@ -87,7 +87,7 @@ module _ (cat : SchemaData) where
   by_integer : (n : ℤ) → Sound (e.Integer n)
   by_integer n s x h = settled s (e.Integer n) _ x (some_same _ x (seen _ _ x s (of_integer cat n) h)) types.integer
 
-  by_text : (n : Text) → Sound (e.Text n)
+  by_text : (n : Name) → Sound (e.Text n)
   by_text n s x h = settled s (e.Text n) _ x (some_same _ x (seen _ _ x s (of_text cat n) h)) types.text
 
   by_truth : (b : Bool) → Sound (e.Truth b)
@@ -99,12 +99,12 @@ module _ (cat : SchemaData) where
   by_dum : Sound e.TableDum
   by_dum s x h = settled s e.TableDum _ x (some_same _ x (seen _ _ x s (of_dum cat) h)) types.table_dum
 
-  name_meant : (n : Text) (s : Scope) (x : Typing) (o : Option Meant) → s n ≡ o → spec.meant_by n o ≡ Some x → Types cat s (e.Name n) x.tree x.kind
+  name_meant : (n : Name) (s : Scope) (x : Typing) (o : Option Meant) → s n ≡ o → spec.meant_by n o ≡ Some x → Types cat s (e.Name n) x.tree x.kind
   name_meant n s x None is h = cc
   name_meant n s x (Some (local k)) is h = settled s (e.Name n) _ x (some_same _ x h) (types.local_name is)
   name_meant n s x (Some (relvar m k)) is h = settled s (e.Name n) _ x (some_same _ x h) (types.relvar_name is)
 
-  by_its_name : (n : Text) → Sound (e.Name n)
+  by_its_name : (n : Name) → Sound (e.Name n)
   unfolding spec.infer_name
   by_its_name n s x h = name_meant n s x (s n) refl (seen _ _ x s (of_name cat n) h)
 
@@ -117,7 +117,7 @@ module _ (cat : SchemaData) where
       let q = inverted (unary_kind o p.0.kind) (λ k. Some (typing (t.Unary o p.0.tree) k)) x p.2 in
       settled s (e.Unary o a) _ x (some_same _ x q.2) (types.unary (known s p.0 p.1) q.1)
 
-  by_from : (n : Text) (a : Expr) → Sound a → Sound (e.From n a)
+  by_from : (n : Name) (a : Expr) → Sound a → Sound (e.From n a)
   unfolding spec.infer_by spec.by_from
   by_from n a known s x h =
       let p = inverted (infer cat a s) (spec.by_from n) x (seen _ _ x s (of_from cat n a) h) in
@@ -128,31 +128,31 @@ module _ (cat : SchemaData) where
   unfolding spec.infer_by spec.by_project
   by_project a xs known s x h =
       let p = inverted (infer cat a s) (spec.by_project xs) x (seen _ _ x s (of_project cat a xs) h) in
-      let q = inverted (heading_of p.0.kind) (λ h. and_then (attributes_of xs h) (λ ns. Some (typing (t.Project p.0.tree ns) (part_at ns p.0.kind)))) x p.2 in
-      let r = inverted (attributes_of xs q.0) (λ ns. Some (typing (t.Project p.0.tree ns) (part_at ns p.0.kind))) x q.2 in
+      let q = inverted (kind_heading p.0.kind) (λ h. where_some (attributes_of xs h) (λ ns. Some (typing (t.Project p.0.tree ns) (part_kind ns p.0.kind)))) x p.2 in
+      let r = inverted (attributes_of xs q.0) (λ ns. Some (typing (t.Project p.0.tree ns) (part_kind ns p.0.kind))) x q.2 in
       settled s (e.Project a xs) _ x (some_same _ x r.2) (types.project (known s p.0 p.1) q.1 r.1)
 
   by_rename : (a : Expr) (xs : List Renaming) → Sound a → Sound (e.Rename a xs)
   unfolding spec.infer_by spec.by_rename
   by_rename a xs known s x h =
       let p = inverted (infer cat a s) (spec.by_rename xs) x (seen _ _ x s (of_rename cat a xs) h) in
-      let q = inverted (renamed_kind (map pair_of xs) p.0.kind) (λ k. Some (typing (t.Rename p.0.tree (map pair_of xs)) k)) x p.2 in
+      let q = inverted (renamed_kind (map renaming_pair xs) p.0.kind) (λ k. Some (typing (t.Rename p.0.tree (map renaming_pair xs)) k)) x p.2 in
       settled s (e.Rename a xs) _ x (some_same _ x q.2) (types.rename (known s p.0 p.1) q.1)
 
-  by_nest : (o : Nesting) (a : Expr) (xs : Attributes) (c : Text) → Sound a → Sound (e.Nest o a xs c)
+  by_nest : (o : Nesting) (a : Expr) (xs : Attributes) (c : Name) → Sound a → Sound (e.Nest o a xs c)
   unfolding spec.infer_by spec.by_nest spec.nested
   by_nest o a xs c known s x h =
       let p = inverted (infer cat a s) (spec.by_nest o xs c) x (seen _ _ x s (of_nest cat o a xs c) h) in
-      let q = inverted (relation_heading p.0.kind) (λ h. and_then (attributes_of xs h) (λ ns. spec.nested o ns c h p.0.tree)) x p.2 in
+      let q = inverted (relation_heading p.0.kind) (λ h. where_some (attributes_of xs h) (λ ns. spec.nested o ns c h p.0.tree)) x p.2 in
       let r = inverted (attributes_of xs q.0) (λ ns. spec.nested o ns c q.0 p.0.tree) x q.2 in
       let g = inverted (nested_heading o r.0 c q.0) (λ g. Some (typing (t.Nest o p.0.tree r.0 c) (kind.Relation g))) x r.2 in
       settled s (e.Nest o a xs c) _ x (some_same _ x g.2) (types.nest (at_kind s a p.0.tree p.0.kind (kind.Relation q.0) (relation p.0.kind q.0 q.1) (known s p.0 p.1)) r.1 g.1)
 
-  by_unnest : (o : Nesting) (a : Expr) (c : Text) → Sound a → Sound (e.Unnest o a c)
+  by_unnest : (o : Nesting) (a : Expr) (c : Name) → Sound a → Sound (e.Unnest o a c)
   unfolding spec.infer_by spec.by_unnest
   by_unnest o a c known s x h =
       let p = inverted (infer cat a s) (spec.by_unnest o c) x (seen _ _ x s (of_unnest cat o a c) h) in
-      let q = inverted (relation_heading p.0.kind) (λ h. and_then (unnested_heading o c h) (λ g. Some (typing (t.Unnest o p.0.tree c) (kind.Relation g)))) x p.2 in
+      let q = inverted (relation_heading p.0.kind) (λ h. where_some (unnested_heading o c h) (λ g. Some (typing (t.Unnest o p.0.tree c) (kind.Relation g)))) x p.2 in
       let g = inverted (unnested_heading o c q.0) (λ g. Some (typing (t.Unnest o p.0.tree c) (kind.Relation g))) x q.2 in
       settled s (e.Unnest o a c) _ x (some_same _ x g.2) (types.unnest (at_kind s a p.0.tree p.0.kind (kind.Relation q.0) (relation p.0.kind q.0 q.1) (known s p.0 p.1)) g.1)
 
@@ -160,7 +160,7 @@ module _ (cat : SchemaData) where
   unfolding spec.infer_by spec.by_lone spec.lone_term spec.aggregated
   by_lone o a known s x h =
       let p = inverted (infer cat a s) (spec.by_lone o) x (seen _ _ x s (of_aggregate_lone cat o a) h) in
-      let q = inverted (relation_heading p.0.kind) (λ h. and_then (spec.lone_term h) (spec.aggregated o p.0.tree)) x p.2 in
+      let q = inverted (relation_heading p.0.kind) (λ h. where_some (spec.lone_term h) (spec.aggregated o p.0.tree)) x p.2 in
       let y = inverted (spec.lone_term q.0) (spec.aggregated o p.0.tree) x q.2 in
       let f = inverted (spec.lone (by_name.entries q.0)) (λ f. Some (typing (t.Local f.0) (kind_of f.1))) y.0 y.1 in
       let is = some_same (typing (t.Local f.0.0) (kind_of f.0.1)) y.0 f.2 in
@@ -173,7 +173,7 @@ module _ (cat : SchemaData) where
   by_binary : (o : BinaryOperator) (a b : Expr) → Sound a → Sound b → Sound (e.Binary o a b)
   unfolding spec.infer_binary spec.by_binary
   by_binary o a b first second s x h =
-      let p = inverted (infer cat a s) (λ y. and_then (infer cat b s) (spec.by_binary o y)) x (seen _ _ x s (of_binary cat o a b) h) in
+      let p = inverted (infer cat a s) (λ y. where_some (infer cat b s) (spec.by_binary o y)) x (seen _ _ x s (of_binary cat o a b) h) in
       let q = inverted (infer cat b s) (spec.by_binary o p.0) x p.2 in
       let r = inverted (binary_kind o p.0.kind q.0.kind) (λ k. Some (typing (t.Binary o p.0.tree q.0.tree) k)) x q.2 in
       settled s (e.Binary o a b) _ x (some_same _ x r.2) (types.binary (first s p.0 p.1) (second s q.0 q.1) r.1)
@@ -181,31 +181,31 @@ module _ (cat : SchemaData) where
   by_where : (r c : Expr) → Sound r → Sound c → Sound (e.Where r c)
   unfolding spec.infer_where spec.restricted
   by_where r c first second s x h =
-      let p = inverted (infer cat r s) (λ y. and_then (relation_heading y.kind) (λ g. and_then (infer cat c (within g s)) (spec.restricted y))) x (seen _ _ x s (of_where cat r c) h) in
-      let q = inverted (relation_heading p.0.kind) (λ g. and_then (infer cat c (within g s)) (spec.restricted p.0)) x p.2 in
-      let z = inverted (infer cat c (within q.0 s)) (spec.restricted p.0) x q.2 in
+      let p = inverted (infer cat r s) (λ y. where_some (relation_heading y.kind) (λ g. where_some (infer cat c (within_tuple g s)) (spec.restricted y))) x (seen _ _ x s (of_where cat r c) h) in
+      let q = inverted (relation_heading p.0.kind) (λ g. where_some (infer cat c (within_tuple g s)) (spec.restricted p.0)) x p.2 in
+      let z = inverted (infer cat c (within_tuple q.0 s)) (spec.restricted p.0) x q.2 in
       let b = tested (is_boolean z.0.kind) (typing (t.Where p.0.tree z.0.tree) p.0.kind) x z.2 in
       let is = relation p.0.kind q.0 q.1 in
       settled s (e.Where r c) _ x (ap (typing (t.Where p.0.tree z.0.tree)) (sym is) ∙ b.1)
-      (types.where_ (at_kind s r p.0.tree p.0.kind (kind.Relation q.0) is (first s p.0 p.1)) (at_kind (within q.0 s) c z.0.tree z.0.kind kind.Boolean (boolean z.0.kind b.0) (second (within q.0 s) z.0 z.1)))
+      (types.where_ (at_kind s r p.0.tree p.0.kind (kind.Relation q.0) is (first s p.0 p.1)) (at_kind (within_tuple q.0 s) c z.0.tree z.0.kind kind.Boolean (boolean z.0.kind b.0) (second (within_tuple q.0 s) z.0 z.1)))
 
   by_aggregate : (o : Aggregate) (r a : Expr) → Sound r → Sound a → Sound (e.Aggregate o r (Some a))
   unfolding spec.infer_aggregate spec.aggregated
   by_aggregate o r a first second s x h =
-      let p = inverted (infer cat r s) (λ y. and_then (relation_heading y.kind) (λ g. and_then (infer cat a (within g s)) (spec.aggregated o y.tree))) x (seen _ _ x s (of_aggregate cat o r a) h) in
-      let q = inverted (relation_heading p.0.kind) (λ g. and_then (infer cat a (within g s)) (spec.aggregated o p.0.tree)) x p.2 in
-      let z = inverted (infer cat a (within q.0 s)) (spec.aggregated o p.0.tree) x q.2 in
+      let p = inverted (infer cat r s) (λ y. where_some (relation_heading y.kind) (λ g. where_some (infer cat a (within_tuple g s)) (spec.aggregated o y.tree))) x (seen _ _ x s (of_aggregate cat o r a) h) in
+      let q = inverted (relation_heading p.0.kind) (λ g. where_some (infer cat a (within_tuple g s)) (spec.aggregated o p.0.tree)) x p.2 in
+      let z = inverted (infer cat a (within_tuple q.0 s)) (spec.aggregated o p.0.tree) x q.2 in
       let may = tested (suits o z.0.kind) (typing (t.Aggregate p.0.tree (summary_of o z.0.tree)) z.0.kind) x z.2 in
       settled s (e.Aggregate o r (Some a)) (typing (t.Aggregate p.0.tree (summary_of o z.0.tree)) z.0.kind) x may.1
-      (types.aggregate (at_kind s r p.0.tree p.0.kind (kind.Relation q.0) (relation p.0.kind q.0 q.1) (first s p.0 p.1)) (second (within q.0 s) z.0 z.1) may.0)
+      (types.aggregate (at_kind s r p.0.tree p.0.kind (kind.Relation q.0) (relation p.0.kind q.0 q.1) (first s p.0 p.1)) (second (within_tuple q.0 s) z.0 z.1) may.0)
 
   by_if : (a b c : Expr) → Sound a → Sound b → Sound c → Sound (e.If a b c)
   unfolding spec.infer_if spec.chosen spec.truth_tree
   by_if a b c first second third s x h =
-      let p = inverted (infer cat a s) (λ y. and_then (spec.truth_tree y) (λ u. and_then (infer cat b s) (λ z. and_then (infer cat c s) (spec.chosen u z)))) x (seen _ _ x s (of_if cat a b c) h) in
-      let u = inverted (spec.truth_tree p.0) (λ u. and_then (infer cat b s) (λ z. and_then (infer cat c s) (spec.chosen u z))) x p.2 in
+      let p = inverted (infer cat a s) (λ y. where_some (spec.truth_tree y) (λ u. where_some (infer cat b s) (λ z. where_some (infer cat c s) (spec.chosen u z)))) x (seen _ _ x s (of_if cat a b c) h) in
+      let u = inverted (spec.truth_tree p.0) (λ u. where_some (infer cat b s) (λ z. where_some (infer cat c s) (spec.chosen u z))) x p.2 in
       let is = tested (is_boolean p.0.kind) p.0.tree u.0 u.1 in
-      let q = inverted (infer cat b s) (λ z. and_then (infer cat c s) (spec.chosen u.0 z)) x u.2 in
+      let q = inverted (infer cat b s) (λ z. where_some (infer cat c s) (spec.chosen u.0 z)) x u.2 in
       let r = inverted (infer cat c s) (spec.chosen u.0 q.0) x q.2 in
       let one = tested (same_kind q.0.kind r.0.kind) (typing (t.If u.0 q.0.tree r.0.tree) q.0.kind) x r.2 in
       let like = sym (same q.0.kind r.0.kind one.0) in
@@ -233,39 +233,39 @@ module _ (cat : SchemaData) where
   all_known : (s : Scope) (xs : List Known) (y : Operands) → spec.infer_each [] [] (all_inferred cat (bare xs)) s ≡ Some y → (zs : List Typing) × (y ≡ operands (trees zs) (kinds zs)) × TypesEach cat s (bare xs) zs
   all_known s xs y h = let k = each_known s xs [] [] y h in (k.0, ap (λ vs. operands vs y.kinds) (sym k.1) ∙ ap (operands (trees k.0)) (sym k.2), k.3)
 
-  selects : (n : Text) (xs : List Expr) (s : Scope) (ys : List Typing) (x : Typing) → begins_with_the n ≡ false → TypesEach cat s xs ys → spec.selected cat n (operands (trees ys) (kinds ys)) ≡ Some x → Types cat s (e.Call n xs) x.tree x.kind
+  selects : (n : Name) (xs : List Expr) (s : Scope) (ys : List Typing) (x : Typing) → begins_with_the n ≡ false → TypesEach cat s xs ys → spec.selected cat n (operands (trees ys) (kinds ys)) ≡ Some x → Types cat s (e.Call n xs) x.tree x.kind
   unfolding spec.selected
   selects n xs s ys x plain all h =
       let p = inverted (possrep_named cat n) (λ (r : ℕ × Representation). where_true (spec.fit (kinds ys) r.1.components) (typing (t.Select r.0 (trees ys)) (kind.User r.1.possrep.ty))) x h in
       let b = tested (spec.fit (kinds ys) p.0.1.components) (typing (t.Select p.0.0 (trees ys)) (kind.User p.0.1.possrep.ty)) x p.2 in
       settled s (e.Call n xs) _ x b.1 (types.selector plain p.1 all (fitted (kinds ys) p.0.1.components b.0))
 
-  by_selector : (n : Text) (xs : List Known) (s : Scope) (x : Typing) → begins_with_the n ≡ false → spec.infer_selector cat n (all_inferred cat (bare xs)) s ≡ Some x → Types cat s (e.Call n (bare xs)) x.tree x.kind
+  by_selector : (n : Name) (xs : List Known) (s : Scope) (x : Typing) → begins_with_the n ≡ false → spec.infer_selector cat n (all_inferred cat (bare xs)) s ≡ Some x → Types cat s (e.Call n (bare xs)) x.tree x.kind
   unfolding spec.infer_selector spec.infer_operands
   by_selector n xs s x plain h =
       let p = inverted (spec.infer_each [] [] (all_inferred cat (bare xs)) s) (spec.selected cat n) x h in
       let zs = all_known s xs p.0 p.1 in
       selects n (bare xs) s zs.0 x plain zs.2 (ap (spec.selected cat n) (sym zs.1) ∙ p.2)
 
-  takes_component : (n : Text) (a : Expr) (s : Scope) (y x : Typing) → begins_with_the n ≡ true → Types cat s a y.tree y.kind → spec.component_of cat (drop 4 n) y ≡ Some x → Types cat s (e.Call n (a ∷ [])) x.tree x.kind
+  takes_component : (n : Name) (a : Expr) (s : Scope) (y x : Typing) → begins_with_the n ≡ true → Types cat s a y.tree y.kind → spec.component_of cat (drop 4 n) y ≡ Some x → Types cat s (e.Call n (a ∷ [])) x.tree x.kind
   unfolding spec.component_of spec.component_of_type
   takes_component n a s y x the d h =
-      let m = inverted (user_name y.kind) (λ m. and_then (type_named cat m) (λ r. spec.component_of_type r.1.components (drop 4 n) y.tree)) x h in
+      let m = inverted (user_name y.kind) (λ m. where_some (type_named cat m) (λ r. spec.component_of_type r.1.components (drop 4 n) y.tree)) x h in
       let r = inverted (type_named cat m.0) (λ r. spec.component_of_type r.1.components (drop 4 n) y.tree) x m.2 in
       let f = inverted (component_named r.0.1.components (drop 4 n)) (λ f. Some (typing (t.Component f.0 y.tree) f.1.value)) x r.2 in
       settled s (e.Call n (a ∷ [])) (typing (t.Component f.0.0 y.tree) f.0.1.value) x (some_same (typing (t.Component f.0.0 y.tree) f.0.1.value) x f.2) (types.component the (at_kind s a y.tree y.kind (kind.User m.0) (user y.kind m.0 m.1) d) r.1 f.1)
 
-  by_component : (n : Text) (xs : List Known) (s : Scope) (x : Typing) → begins_with_the n ≡ true → spec.infer_component cat (drop 4 n) (all_inferred cat (bare xs)) s ≡ Some x → Types cat s (e.Call n (bare xs)) x.tree x.kind
+  by_component : (n : Name) (xs : List Known) (s : Scope) (x : Typing) → begins_with_the n ≡ true → spec.infer_component cat (drop 4 n) (all_inferred cat (bare xs)) s ≡ Some x → Types cat s (e.Call n (bare xs)) x.tree x.kind
   unfolding spec.infer_component spec.infer_by
   by_component n [] s x the h = cc
   by_component n (a ∷ []) s x the h = let p = inverted (infer cat a.0 s) (spec.component_of cat (drop 4 n)) x h in takes_component n a.0 s p.0 x the (a.1 s p.0 p.1) p.2
   by_component n (a ∷ b ∷ xs) s x the h = cc
 
-  calls : (n : Text) (xs : List Known) (s : Scope) (x : Typing) (b : Bool) → begins_with_the n ≡ b → spec.infer_called cat n b (all_inferred cat (bare xs)) s ≡ Some x → Types cat s (e.Call n (bare xs)) x.tree x.kind
+  calls : (n : Name) (xs : List Known) (s : Scope) (x : Typing) (b : Bool) → begins_with_the n ≡ b → spec.infer_called cat n b (all_inferred cat (bare xs)) s ≡ Some x → Types cat s (e.Call n (bare xs)) x.tree x.kind
   calls n xs s x true is h = by_component n xs s x is h
   calls n xs s x false is h = by_selector n xs s x is h
 
-  by_call : (n : Text) (xs : List Known) → Sound (e.Call n (bare xs))
+  by_call : (n : Name) (xs : List Known) → Sound (e.Call n (bare xs))
   unfolding spec.infer_call
   by_call n xs s x h = calls n xs s x (begins_with_the n) refl (seen _ _ x s (of_call cat n (bare xs)) h)
 
@@ -316,30 +316,30 @@ module _ (cat : SchemaData) where
   unfolding spec.infer_extend spec.infer_items spec.extended
   by_extend o r xs known s x h =
       let ns = names (map strip xs) in
-      let p = inverted (infer cat r s) (λ y. and_then (relation_heading y.kind) (λ g. and_then (spec.infer_items (named_inferred cat (map strip xs)) (within g s)) (spec.extended o ns y.tree g))) x (seen _ _ x s (of_extend cat o r (map strip xs)) h) in
-      let q = inverted (relation_heading p.0.kind) (λ g. and_then (spec.infer_items (named_inferred cat (map strip xs)) (within g s)) (spec.extended o ns p.0.tree g)) x p.2 in
-      let is = inverted (spec.infer_items (named_inferred cat (map strip xs)) (within q.0 s)) (spec.extended o ns p.0.tree q.0) x q.2 in
+      let p = inverted (infer cat r s) (λ y. where_some (relation_heading y.kind) (λ g. where_some (spec.infer_items (named_inferred cat (map strip xs)) (within_tuple g s)) (spec.extended o ns y.tree g))) x (seen _ _ x s (of_extend cat o r (map strip xs)) h) in
+      let q = inverted (relation_heading p.0.kind) (λ g. where_some (spec.infer_items (named_inferred cat (map strip xs)) (within_tuple g s)) (spec.extended o ns p.0.tree g)) x p.2 in
+      let is = inverted (spec.infer_items (named_inferred cat (map strip xs)) (within_tuple q.0 s)) (spec.extended o ns p.0.tree q.0) x q.2 in
       let may = tested (may_extend o ns q.0) (typing (t.Extend p.0.tree is.0) (kind.Relation (extended_columns is.0 q.0))) x is.2 in
       settled s (e.Extend o r (map strip xs)) (typing (t.Extend p.0.tree is.0) (kind.Relation (extended_columns is.0 q.0))) x may.1
-      (types.extend (at_kind s r p.0.tree p.0.kind (kind.Relation q.0) (relation p.0.kind q.0 q.1) (known s p.0 p.1)) may.0 (all_items (within q.0 s) xs is.0 is.1))
+      (types.extend (at_kind s r p.0.tree p.0.kind (kind.Relation q.0) (relation p.0.kind q.0 q.1) (known s p.0 p.1)) may.0 (all_items (within_tuple q.0 s) xs is.0 is.1))
 
   in_turn_known : (s : Scope) (xs : List (Named Known)) (done : List (Named Typed)) (ks : List (Named TypeKind)) (y : Introduced) → spec.infer_in_turn done ks (named_inferred cat (map strip xs)) s ≡ Some y → (us : List (Named Typed)) × (done ++ us ≡ y.trees) × TypesInTurn cat s ks (map strip xs) us y.kinds
   in_turn_known s [] done ks y h =
       let is = some_same (introduced done ks) y h in
       ([], append-nil done ∙ ap (λ z. z.trees) is, subst (λ z. TypesInTurn cat s ks [] [] z) (ap (λ z. z.kinds) is) types.last)
   in_turn_known s (x ∷ xs) done ks y h =
-      let q = inverted (infer cat x.value.0 (all_given ks s)) (λ a. spec.infer_in_turn (done ++ named x.name a.tree ∷ []) (ks ++ named x.name a.kind ∷ []) (named_inferred cat (map strip xs)) s) y h in
+      let q = inverted (infer cat x.value.0 (with_names ks s)) (λ a. spec.infer_in_turn (done ++ named x.name a.tree ∷ []) (ks ++ named x.name a.kind ∷ []) (named_inferred cat (map strip xs)) s) y h in
       let rest = in_turn_known s xs (done ++ named x.name q.0.tree ∷ []) (ks ++ named x.name q.0.kind ∷ []) y q.2 in
-      (named x.name q.0.tree ∷ rest.0, sym (append_assoc done (named x.name q.0.tree ∷ []) rest.0) ∙ rest.1, types.further (x.value.1 (all_given ks s) q.0 q.1) rest.2)
+      (named x.name q.0.tree ∷ rest.0, sym (append_assoc done (named x.name q.0.tree ∷ []) rest.0) ∙ rest.1, types.further (x.value.1 (with_names ks s) q.0 q.1) rest.2)
 
   by_with : (xs : List (Named Known)) (b : Expr) → Sound b → Sound (e.With (map strip xs) b)
   unfolding spec.infer_with spec.introduces spec.with_tree
   by_with xs b known s x h =
-      let p = inverted (spec.infer_in_turn [] [] (named_inferred cat (map strip xs)) s) (λ p. and_then (infer cat b (all_given p.kinds s)) (spec.with_tree p.trees)) x (seen _ _ x s (of_with cat (map strip xs) b) h) in
+      let p = inverted (spec.infer_in_turn [] [] (named_inferred cat (map strip xs)) s) (λ p. where_some (infer cat b (with_names p.kinds s)) (spec.with_tree p.trees)) x (seen _ _ x s (of_with cat (map strip xs) b) h) in
       let all = in_turn_known s xs [] [] p.0 p.1 in
-      let q = inverted (infer cat b (all_given p.0.kinds s)) (spec.with_tree p.0.trees) x p.2 in
+      let q = inverted (infer cat b (with_names p.0.kinds s)) (spec.with_tree p.0.trees) x p.2 in
       settled s (e.With (map strip xs) b) (typing (t.With p.0.trees q.0.tree) q.0.kind) x (some_same (typing (t.With p.0.trees q.0.tree) q.0.kind) x q.2)
-      (types.with_ (subst (λ us. TypesInTurn cat s [] (map strip xs) us p.0.kinds) all.1 all.2) (known (all_given p.0.kinds s) q.0 q.1))
+      (types.with_ (subst (λ us. TypesInTurn cat s [] (map strip xs) us p.0.kinds) all.1 all.2) (known (with_names p.0.kinds s) q.0 q.1))
 
   -- ---- summaries
 
@@ -368,7 +368,7 @@ module _ (cat : SchemaData) where
       let q = inverted (attributes_of xs h) (λ ns. Some (grouping (typed_groups.By ns) (columns_in ns h))) p j in
       subst (λ (z : Grouping). TypesGroups cat s h (groups.By xs) z.groups z.heading) (some_same (grouping (typed_groups.By q.0) (columns_in q.0 h)) p q.2) (types.by q.1)
 
-  summary_next : (s : Scope) (n : Text) (x : Summary Known) (f : Item (typed_summary.Summary Typed)) (xs : List (Named (Summary Expr))) (is : List (Item (typed_summary.Summary Typed))) → spec.infer_summary_at s n (summary_inferred cat (strip_summary x)) ≡ Some f → TypesSummaries cat s xs is → TypesSummaries cat s (named n (strip_summary x) ∷ xs) (f ∷ is)
+  summary_next : (s : Scope) (n : Name) (x : Summary Known) (f : Item (typed_summary.Summary Typed)) (xs : List (Named (Summary Expr))) (is : List (Item (typed_summary.Summary Typed))) → spec.infer_summary_at s n (summary_inferred cat (strip_summary x)) ≡ Some f → TypesSummaries cat s xs is → TypesSummaries cat s (named n (strip_summary x) ∷ xs) (f ∷ is)
   unfolding spec.summed
   summary_next s n summary.Count f xs is h rest = subst (λ g. TypesSummaries cat s (named n summary.Count ∷ xs) (g ∷ is)) (some_same (item_of n kind.Integer typed_summaries.Count) f h) (types.count rest)
   summary_next s n (summary.Of o a) f xs is h rest =
@@ -390,19 +390,19 @@ module _ (cat : SchemaData) where
       let gi = groups_inferred cat (strip_groups g) in
       let si = summaries_inferred cat (map strip_named xs) in
       let ns = names (map strip_named xs) in
-      let p = inverted (infer cat r s) (λ y. and_then (relation_heading y.kind) (λ k. and_then (spec.infer_groups k gi s) (λ q. and_then (spec.infer_summaries si (within k s)) (spec.summarized ns y.tree q)))) x (seen _ _ x s (of_summarize cat r (strip_groups g) (map strip_named xs)) h) in
-      let q = inverted (relation_heading p.0.kind) (λ k. and_then (spec.infer_groups k gi s) (λ q. and_then (spec.infer_summaries si (within k s)) (spec.summarized ns p.0.tree q))) x p.2 in
-      let gs = inverted (spec.infer_groups q.0 gi s) (λ z. and_then (spec.infer_summaries si (within q.0 s)) (spec.summarized ns p.0.tree z)) x q.2 in
-      let is = inverted (spec.infer_summaries si (within q.0 s)) (spec.summarized ns p.0.tree gs.0) x gs.2 in
-      let all = summaries_known (within q.0 s) xs [] is.0 is.1 in
+      let p = inverted (infer cat r s) (λ y. where_some (relation_heading y.kind) (λ k. where_some (spec.infer_groups k gi s) (λ q. where_some (spec.infer_summaries si (within_tuple k s)) (spec.summarized ns y.tree q)))) x (seen _ _ x s (of_summarize cat r (strip_groups g) (map strip_named xs)) h) in
+      let q = inverted (relation_heading p.0.kind) (λ k. where_some (spec.infer_groups k gi s) (λ q. where_some (spec.infer_summaries si (within_tuple k s)) (spec.summarized ns p.0.tree q))) x p.2 in
+      let gs = inverted (spec.infer_groups q.0 gi s) (λ z. where_some (spec.infer_summaries si (within_tuple q.0 s)) (spec.summarized ns p.0.tree z)) x q.2 in
+      let is = inverted (spec.infer_summaries si (within_tuple q.0 s)) (spec.summarized ns p.0.tree gs.0) x gs.2 in
+      let all = summaries_known (within_tuple q.0 s) xs [] is.0 is.1 in
       let new = tested (may_extend extension.Add ns gs.0.heading) (typing (t.Summarize p.0.tree gs.0.groups is.0) (kind.Relation (extended_columns is.0 gs.0.heading))) x is.2 in
       settled s (e.Summarize r (strip_groups g) (map strip_named xs)) (typing (t.Summarize p.0.tree gs.0.groups is.0) (kind.Relation (extended_columns is.0 gs.0.heading))) x new.1
-      (types.summarize (at_kind s r p.0.tree p.0.kind (kind.Relation q.0) (relation p.0.kind q.0 q.1) (known s p.0 p.1)) (groups_known s q.0 g gs.0 gs.1) new.0 (subst (λ js. TypesSummaries cat (within q.0 s) (map strip_named xs) js) all.1 all.2))
+      (types.summarize (at_kind s r p.0.tree p.0.kind (kind.Relation q.0) (relation p.0.kind q.0 q.1) (known s p.0 p.1)) (groups_known s q.0 g gs.0 gs.1) new.0 (subst (λ js. TypesSummaries cat (within_tuple q.0 s) (map strip_named xs) js) all.1 all.2))
 
   abbrev mapped : Named (Summary Known) → Named (Summary Expr)
   mapped = former-Expr-Summarize-2-at-5.map Known Expr (λ a. a.0)
 
-  one_mapped : (n : Text) (x : Summary Known) → mapped (named n x) ≡ named n (strip_summary x)
+  one_mapped : (n : Name) (x : Summary Known) → mapped (named n x) ≡ named n (strip_summary x)
   one_mapped n summary.Count = refl
   one_mapped n (summary.Of o a) = refl
 

@@ -6,7 +6,7 @@ use Rattle.td_kinds.specs.Schemas.{SchemaData}
 use Rattle.td_kinds.specs.Scopes.{Scope}
 use Rattle.td_trees.specs.declared.tree.Typed.{Typed}
 use Rattle.td_typing.specs.Trees.{typing}
-use Rattle.td_typing.specs.Growth.{IsFront, Keeps}
+use Rattle.td_typing.specs.ForProofs.Growth.{IsEarlier, KeepsNames}
 use Rattle.td_typing.specs.Types.{Types}
 use Rattle.td_typing.specs.ForProofs.Infer.{infer}
 
@@ -20,4 +20,4 @@ TypeIsUnique = (cat : SchemaData) (s : Scope) (a : Expr) (u v : Typed) (j k : Ty
 
 -- an expression keeps its tree and its kind where more is defined
 abbrev pub TypeStays : Type 0
-TypeStays = (early late : SchemaData) (s w : Scope) (a : Expr) (u : Typed) (k : TypeKind) → IsFront early late → Keeps s w → Types early s a u k → Types late w a u k
+TypeStays = (early late : SchemaData) (s w : Scope) (a : Expr) (u : Typed) (k : TypeKind) → IsEarlier early late → KeepsNames s w → Types early s a u k → Types late w a u k

@@ -1,6 +1,5 @@
 -- The definitions of the crate.
 pub mod Trees
 pub mod Types
-pub mod Growth
 pub mod ForProofs
 pub mod Laws

@@ -11,7 +11,7 @@ use Rattle.td_syntax.specs.declared.tree.Aggregate.TheVariants as aggregate
 use Rattle.td_trees.specs.declared.tree.Typed.{Typed}
 use Rattle.td_trees.specs.declared.tree.Typing.{Typing}
 use Rattle.td_kinds.specs.declared.schema.Representation.{Representation}
-use Rattle.td_kinds.specs.Kinds.{Text}
+use Rattle.td_kinds.specs.Kinds.{Name}
 
 -- a tree with its kind
 abbrev pub typing : Typed → TypeKind → Typing
@@ -24,11 +24,11 @@ abbrev pub kinds : List Typing → List TypeKind
 kinds ys = map (λ (y : Typing). y.kind) ys
 
 -- a part beside its name
-abbrev pub named : {A : Type 0} → Text → A → Named A
+abbrev pub named : {A : Type 0} → Name → A → Named A
 named n a = record { name = n; value = a }
 
 -- a new attribute of this name and kind of type, made of a term
-abbrev pub item_of : {A : Type 0} → Text → TypeKind → A → Item A
+abbrev pub item_of : {A : Type 0} → Name → TypeKind → A → Item A
 item_of n k u = record { name = n; ty = ty_of k; term = u }
 
 -- an aggregate of a term

@@ -34,7 +34,7 @@ fn fit(kinds: &[TypeKind], components: &[Named<TypeKind>]) -> bool
 
 /// The selector of the possrep of this name.
 #[tactic(auto, unfolding(crate::specs::ForProofs::Infer::selected))]
-pub fn selected(
+pub(crate) fn selected(
     alloc: Global,
     schema: &Schema,
     name: &Name,
@@ -95,7 +95,7 @@ fn component_of_type(
 
 /// THE_: the component of an operand of a user type. The name begins with THE_.
 #[tactic(auto, unfolding(crate::specs::ForProofs::Infer::component_of))]
-pub fn component_of(
+pub(crate) fn component_of(
     alloc: Global,
     schema: &Schema,
     name: &Name,

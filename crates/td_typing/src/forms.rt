@@ -10,7 +10,7 @@ ghost use Rattle.td_typing.specs.Trees as trees;
 use sqlite_items::{Boxed, Items};
 use std::alloc::{AllocError, Global};
 use td_kinds::forms::{
-    from_kind, heading_of, nested_heading, part_at, renamed_kind, unnested_heading,
+    from_kind, kind_heading, nested_heading, part_kind, renamed_kind, unnested_heading,
 };
 use td_kinds::kinds::{is_boolean, relation_heading, same_kind};
 use td_kinds::lists::{attributes_of, pairs_of};
@@ -93,7 +93,7 @@ pub fn by_binary(
 
 /// The attribute of a tuple.
 #[tactic(auto, unfolding(crate::specs::ForProofs::Infer::by_from))]
-pub fn by_from(alloc: Global, name: &Name, a: Typing) -> Result<Typing, TypeError>
+pub(crate) fn by_from(alloc: Global, name: &Name, a: Typing) -> Result<Typing, TypeError>
     ensures { Gives (spec.by_from name.now a) result }
 {
     let kind = from_kind(name, &a.kind)?;
@@ -102,19 +102,27 @@ pub fn by_from(alloc: Global, name: &Name, a: Typing) -> Result<Typing, TypeErro
 
 /// The part of a relation or of a tuple.
 #[tactic(auto, unfolding(crate::specs::ForProofs::Infer::by_project))]
-pub fn by_project(alloc: Global, attributes: &Attributes, a: Typing) -> Result<Typing, TypeError>
+pub(crate) fn by_project(
+    alloc: Global,
+    attributes: &Attributes,
+    a: Typing,
+) -> Result<Typing, TypeError>
     ensures { Gives (spec.by_project attributes.now a) result }
 {
-    let Some(heading) = heading_of(&a.kind) else {
+    let Some(heading) = kind_heading(&a.kind) else {
         return Err(TypeError::IllTyped);
     };
     let names = attributes_of(alloc, attributes, heading)?;
-    let kind = part_at(alloc, names.as_slice(), &a.kind)?;
+    let kind = part_kind(alloc, names.as_slice(), &a.kind)?;
     Ok(typed(alloc, Typed::Project(a.tree, names), kind)?)
 }
 
 #[tactic(auto, unfolding(crate::specs::ForProofs::Infer::by_rename))]
-pub fn by_rename(alloc: Global, renamings: &[Renaming], a: Typing) -> Result<Typing, TypeError>
+pub(crate) fn by_rename(
+    alloc: Global,
+    renamings: &[Renaming],
+    a: Typing,
+) -> Result<Typing, TypeError>
     ensures { Gives (spec.by_rename renamings.now a) result }
 {
     let items = pairs_of(alloc, renamings)?;
@@ -140,7 +148,7 @@ fn nested(
 
 /// GROUP and WRAP
 #[tactic(auto, unfolding(crate::specs::ForProofs::Infer::by_nest))]
-pub fn by_nest(
+pub(crate) fn by_nest(
     alloc: Global,
     nesting: Nesting,
     attributes: &Attributes,
@@ -159,7 +167,7 @@ pub fn by_nest(
 
 /// UNGROUP and UNWRAP
 #[tactic(auto, unfolding(crate::specs::ForProofs::Infer::by_unnest))]
-pub fn by_unnest(
+pub(crate) fn by_unnest(
     alloc: Global,
     nesting: Nesting,
     name: &Name,
@@ -188,7 +196,7 @@ pub(crate) fn summary_of(aggregate: Aggregate, term: Boxed<Typed>) -> Summary<Bo
 
 /// An aggregate of a term over a relation.
 #[tactic(auto, unfolding(crate::specs::ForProofs::Infer::aggregated))]
-pub fn aggregated(
+pub(crate) fn aggregated(
     alloc: Global,
     aggregate: Aggregate,
     relation: Boxed<Typed>,
@@ -216,7 +224,7 @@ fn lone_term(alloc: Global, heading: &Heading) -> Result<Typing, TypeError>
 
 /// An aggregate over a relation of one attribute, which is the term.
 #[tactic(auto, unfolding(crate::specs::ForProofs::Infer::by_lone))]
-pub fn by_lone(alloc: Global, aggregate: Aggregate, a: Typing) -> Result<Typing, TypeError>
+pub(crate) fn by_lone(alloc: Global, aggregate: Aggregate, a: Typing) -> Result<Typing, TypeError>
     ensures { Gives (spec.by_lone aggregate a) result }
 {
     let Some(heading) = relation_heading(&a.kind) else {
@@ -228,7 +236,7 @@ pub fn by_lone(alloc: Global, aggregate: Aggregate, a: Typing) -> Result<Typing,
 
 /// The tree of a condition.
 #[tactic(auto, unfolding(crate::specs::ForProofs::Infer::truth_tree))]
-pub fn truth_tree(a: Typing) -> Result<Boxed<Typed>, TypeError>
+pub(crate) fn truth_tree(a: Typing) -> Result<Boxed<Typed>, TypeError>
     ensures { Gives (spec.truth_tree a) result }
 {
     if !is_boolean(&a.kind) {
@@ -239,7 +247,7 @@ pub fn truth_tree(a: Typing) -> Result<Boxed<Typed>, TypeError>
 
 /// IF, with the tree of its condition.
 #[tactic(auto, unfolding(crate::specs::ForProofs::Infer::chosen))]
-pub fn chosen(
+pub(crate) fn chosen(
     alloc: Global,
     condition: Boxed<Typed>,
     a: Typing,

@@ -1,7 +1,7 @@
 //! Types of expressions: which tree and which kind of type an expression has over a schema, in a scope.
 #![tactic(auto)]
 
-pub mod calls;
+mod calls;
 pub mod forms;
 pub mod laws;
 pub mod lists;

@@ -25,7 +25,7 @@ use td_tuples::{Item, Summary, columns_in, columns_of, extended_columns};
 use td_values::{Heading, Name, TdType, TypeKind};
 
 /// The new attribute of this name.
-pub fn item_of(name: &Name, a: Typing) -> Result<Item<Boxed<Typed>>, AllocError>
+pub(crate) fn item_of(name: &Name, a: Typing) -> Result<Item<Boxed<Typed>>, AllocError>
     ensures { IfOk result (λ i. i ≡ trees.item_of name.now a.kind a.tree) }
 {
     Ok(Item {
@@ -37,7 +37,7 @@ pub fn item_of(name: &Name, a: Typing) -> Result<Item<Boxed<Typed>>, AllocError>
 
 /// TUPLE, whose items have these names.
 #[tactic(auto, unfolding(crate::specs::ForProofs::Infer::tuple_of))]
-pub fn tuple_of(
+pub(crate) fn tuple_of(
     alloc: Global,
     names: &[Name],
     items: Items<Item<Boxed<Typed>>>,
@@ -125,7 +125,7 @@ fn heading_meant(
 
 /// RELATION, with the heading that is written, if it is.
 #[tactic(auto, unfolding(crate::specs::ForProofs::Infer::gathered))]
-pub fn gathered(
+pub(crate) fn gathered(
     alloc: Global,
     schema: &Schema,
     written: &Option<Items<Named<TypeExpr>>>,
@@ -139,7 +139,7 @@ pub fn gathered(
 
 /// The groups of SUMMARIZE PER, of a relation of the heading.
 #[tactic(auto, unfolding(crate::specs::ForProofs::Infer::grouped_per))]
-pub fn grouped_per(heading: &Heading, a: Typing) -> Result<Grouping, TypeError>
+pub(crate) fn grouped_per(heading: &Heading, a: Typing) -> Result<Grouping, TypeError>
     ensures { Gives (spec.grouped_per heading.now a) result }
 {
     let Some(own) = relation_heading(&a.kind) else {
@@ -157,7 +157,7 @@ pub fn grouped_per(heading: &Heading, a: Typing) -> Result<Grouping, TypeError>
 
 /// The groups of SUMMARIZE BY, of a relation of the heading.
 #[tactic(auto, unfolding(crate::specs::ForProofs::Infer::grouped_by))]
-pub fn grouped_by(
+pub(crate) fn grouped_by(
     alloc: Global,
     heading: &Heading,
     attributes: &Attributes,
@@ -173,7 +173,7 @@ pub fn grouped_by(
 }
 
 /// The one group of SUMMARIZE without PER and BY.
-pub fn ungrouped(alloc: Global) -> Result<Grouping, AllocError>
+pub(crate) fn ungrouped(alloc: Global) -> Result<Grouping, AllocError>
     ensures { IfOk result (λ g. g ≡ spec.ungrouped) }
 {
     Ok(Grouping {
@@ -183,7 +183,7 @@ pub fn ungrouped(alloc: Global) -> Result<Grouping, AllocError>
 }
 
 /// COUNT, as a new attribute.
-pub fn counted(name: &Name) -> Result<Item<Summary<Boxed<Typed>>>, AllocError>
+pub(crate) fn counted(name: &Name) -> Result<Item<Summary<Boxed<Typed>>>, AllocError>
     ensures { IfOk result (λ i. i ≡ trees.item_of name.now type_kind.Integer summary.Count) }
 {
     Ok(Item {
@@ -197,7 +197,7 @@ pub fn counted(name: &Name) -> Result<Item<Summary<Boxed<Typed>>>, AllocError>
 
 /// An aggregate of terms, as a new attribute.
 #[tactic(auto, unfolding(crate::specs::ForProofs::Infer::summed))]
-pub fn summed(
+pub(crate) fn summed(
     name: &Name,
     aggregate: Aggregate,
     a: Typing,
@@ -216,7 +216,7 @@ pub fn summed(
 
 /// SUMMARIZE by items of these names.
 #[tactic(auto, unfolding(crate::specs::ForProofs::Infer::summarized))]
-pub fn summarized(
+pub(crate) fn summarized(
     alloc: Global,
     names: &[Name],
     relation: Boxed<Typed>,
@@ -235,7 +235,7 @@ pub fn summarized(
 
 /// WITH of these names.
 #[tactic(auto, unfolding(crate::specs::ForProofs::Infer::with_tree))]
-pub fn with_tree(
+pub(crate) fn with_tree(
     alloc: Global,
     names: Items<Named<Boxed<Typed>>>,
     body: Typing,

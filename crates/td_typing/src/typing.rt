@@ -482,8 +482,8 @@ fn with(
     with_tree(alloc, trees, body)
 }
 
-/// The tree and the kind of an expression in a scope; ill typed exactly where it has none. The recursion nests as deep as the
-/// expression has levels. Each part is typed once.
+/// The tree and the kind of an expression in a scope; ill typed exactly where it has none. The recursion nests as deep as
+/// the expression has levels. Each part is typed once, which costs what comparing its operands' types costs.
 #[cycle(typing)]
 pub fn typing(
     alloc: Global,
@@ -536,8 +536,10 @@ pub fn typing(
     }
 }
 
-/// The tree and the kind of an expression in a scope, by the rules of the language; ill typed only where they give it none. It
-/// costs each part once, and nests as deep as the expression has levels.
+/// The tree and the kind of an expression in a scope, by the rules of the language; ill typed only where they give it
+/// none. It nests as deep as the expression has levels, and types each part once. Where types must be one they are
+/// compared, which walks them as trees: a type shares its parts, and may be exponentially larger than its text
+/// (`WITH 1 AS X0, TUPLE { A X0, B X0 } AS X1, TUPLE { A X1, B X1 } AS X2, ..`).
 pub fn type_in(
     alloc: Global,
     schema: &Schema,

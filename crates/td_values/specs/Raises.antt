@@ -4,13 +4,13 @@ use Rattle.td_values.specs.declared.raises.Raise.{Raise}
 use Rattle.td_values.specs.declared.raises.Raise.TheVariants.{Overflow, Divide, Empty, Selector, Cardinality}
 
 -- an error's number
-abbrev pub number_of : Raise → ℕ
-number_of Overflow = 1
-number_of Divide = 2
-number_of Empty = 3
-number_of Selector = 4
-number_of Cardinality = 5
+abbrev pub raise_number : Raise → ℕ
+raise_number Overflow = 1
+raise_number Divide = 2
+raise_number Empty = 3
+raise_number Selector = 4
+raise_number Cardinality = 5
 
 -- the one of the lesser number
-abbrev pub lesser : Raise → Raise → Raise
-lesser e f = if nat_le (number_of e) (number_of f) then e else f
+abbrev pub lesser_raise : Raise → Raise → Raise
+lesser_raise e f = if nat_le (raise_number e) (raise_number f) then e else f

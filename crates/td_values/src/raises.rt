@@ -22,7 +22,7 @@ pub enum Raise {
 impl Raise {
     /// Its number, 1 to 5. Where several errors stand for tuples and items, the least number does.
     pub fn number(self) -> u8
-        ensures { result ≡ spec.number_of self }
+        ensures { result ≡ spec.raise_number self }
     {
         match self {
             Raise::Overflow => 1,
@@ -35,7 +35,7 @@ impl Raise {
 
     /// The one of the lesser number.
     pub fn lesser(self, other: Raise) -> Raise
-        ensures { result ≡ spec.lesser self other }
+        ensures { result ≡ spec.lesser_raise self other }
     {
         if self.number() <= other.number() {
             self

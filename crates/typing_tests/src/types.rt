@@ -1,7 +1,7 @@
 //! The rules of typing, each by texts that keep it and by near misses that break it alone.
 
 ghost use Rattle.std.specs.Prelude.{◌≡◌, OnOk, Some};
-ghost use Rattle.td_kinds.specs.Schemas.{type_added};
+ghost use Rattle.td_kinds.specs.ForProofs.Additions.{type_added};
 ghost use Rattle.td_kinds.specs.declared.schema.Representation.{Representation};
 
 use sqlite_items::Items;
@@ -64,10 +64,33 @@ fn add_type(alloc: Global, schema: &mut Schema, ty: &str, possrep: &str, x: &str
     })?)
 }
 
+// The type BAG of one component, a relation of integers.
+fn bag(alloc: Global, contents: Heading) -> Result<Representation> {
+    let name = Name::new(alloc, "BAG")?;
+    let possrep = Possrep::new(alloc, name.copy()?, name)?;
+    let name = Name::new(alloc, "CONTENTS")?;
+    let mut components = Items::new(alloc);
+    components.push(Named {
+        name,
+        value: TypeKind::Relation(contents),
+    })?;
+    Ok(Representation {
+        possrep,
+        components,
+    })
+}
+
+fn add_types(alloc: Global, schema: &mut Schema) -> Result<()> {
+    add_type(alloc, schema, "POINT", "PLACE", "X")?;
+    add_type(alloc, schema, "LABEL", "LABEL", "Y")?;
+    let contents = heading(alloc, schema, "RELATION { A INTEGER } { }")?;
+    schema.add_type(bag(alloc, contents)?)?;
+    Ok(())
+}
+
 fn schema(alloc: Global) -> Result<Schema> {
     let mut schema = Schema::new(alloc);
-    add_type(alloc, &mut schema, "POINT", "PLACE", "X")?;
-    add_type(alloc, &mut schema, "LABEL", "LABEL", "Y")?;
+    add_types(alloc, &mut schema)?;
     for (name, text) in [
         ("S", "RELATION { SNO CHAR, CITY CHAR, STATUS INTEGER } { }"),
         ("P", "RELATION { PNO CHAR, CITY CHAR, WEIGHT INTEGER } { }"),
@@ -150,6 +173,7 @@ fn operators(rt: HostRuntime) -> Result<()> {
             ("- 'x'", ILL),
             ("'a' || 'b'", "CHAR"),
             ("'a' || 1", ILL),
+            ("1 || 'a'", ILL),
             ("TRUE AND FALSE OR TRUE XOR NOT FALSE", "BOOLEAN"),
             ("TRUE AND 1", ILL),
             ("1 OR TRUE", ILL),
@@ -169,6 +193,7 @@ fn operators(rt: HostRuntime) -> Result<()> {
             ("TUPLE { A 1 } IN N", "BOOLEAN"),
             ("TUPLE { A 'x' } IN N", ILL),
             ("N IN N", ILL),
+            ("TUPLE { A 1 } IN TUPLE { A 1 }", ILL),
         ],
     )?;
     assert!(rt; unlike.as_str() == "", "{unlike}");
@@ -182,6 +207,8 @@ fn operators_on_relations(rt: HostRuntime) -> Result<()> {
         &[
             ("N JOIN W", "RELATION { A INTEGER, B BOOLEAN }"),
             ("A JOIN W", ILL),
+            ("L JOIN RELATION { X INTEGER, Y CHAR } { }", ILL),
+            ("G { R } JOIN RELATION { R RELATION { A CHAR } } { }", ILL),
             ("N JOIN 1", ILL),
             ("N COMPOSE W", "RELATION { B BOOLEAN }"),
             ("A COMPOSE W", ILL),
@@ -193,6 +220,9 @@ fn operators_on_relations(rt: HostRuntime) -> Result<()> {
             ("N UNION W", ILL),
             ("N INTERSECT W", ILL),
             ("N MINUS W", ILL),
+            ("N UNION RELATION { A CHAR } { }", ILL),
+            ("N INTERSECT RELATION { A CHAR } { }", ILL),
+            ("N MINUS RELATION { A CHAR } { }", ILL),
             ("TCLOSE L", "RELATION { X INTEGER, Y INTEGER }"),
             ("TCLOSE W", ILL),
             ("TCLOSE N", ILL),
@@ -203,6 +233,7 @@ fn operators_on_relations(rt: HostRuntime) -> Result<()> {
             ("A FROM N", ILL),
             ("IS_EMPTY ( N )", "BOOLEAN"),
             ("IS_EMPTY ( 1 )", ILL),
+            ("IS_EMPTY ( TUPLE { } )", ILL),
             ("COUNT ( N )", "INTEGER"),
             ("COUNT ( TUPLE { A 1 } )", ILL),
         ],
@@ -220,6 +251,9 @@ fn selectors_and_components(rt: HostRuntime) -> Result<()> {
             ("PLACE ( 1 )", ILL),
             ("PLACE ( 1, 'x', 2 )", ILL),
             ("PLACE ( 'x', 1 )", ILL),
+            ("BAG ( N )", "BAG"),
+            ("BAG ( A )", ILL),
+            ("BAG ( RELATION { A CHAR } { } )", ILL),
             // possreps, types and relvars have names of their own
             ("POINT ( 1, 'x' )", ILL),
             ("N ( 1, 'x' )", ILL),
@@ -250,6 +284,7 @@ fn tuples_and_relations(rt: HostRuntime) -> Result<()> {
             ),
             ("RELATION { TUPLE { A 1 }, TUPLE { A 'x' } }", ILL),
             ("RELATION { 1 }", ILL),
+            ("RELATION { N }", ILL),
             (
                 "RELATION { A POINT, B TUPLE { } } { }",
                 "RELATION { A POINT, B TUPLE { } }",
@@ -266,6 +301,11 @@ fn tuples_and_relations(rt: HostRuntime) -> Result<()> {
             ("IF TRUE THEN 1 ELSE 2 END IF", "INTEGER"),
             ("IF 1 THEN 1 ELSE 2 END IF", ILL),
             ("IF TRUE THEN 1 ELSE 'x' END IF", ILL),
+            ("IF TRUE THEN N ELSE L END IF", ILL),
+            (
+                "IF TRUE THEN PLACE ( 1, 'x' ) ELSE LABEL ( 1, 'x' ) END IF",
+                ILL,
+            ),
         ],
     )?;
     assert!(rt; unlike.as_str() == "", "{unlike}");
@@ -286,6 +326,7 @@ fn forms_with_names(rt: HostRuntime) -> Result<()> {
             ("S { WEIGHT }", ILL),
             ("S { ALL BUT WEIGHT }", ILL),
             ("S { CITY, CITY }", ILL),
+            ("S { ALL BUT CITY, CITY }", ILL),
             ("1 { A }", ILL),
             ("N WHERE TRUE", "RELATION { A INTEGER }"),
             ("N WHERE 1", ILL),
@@ -298,18 +339,26 @@ fn forms_with_names(rt: HostRuntime) -> Result<()> {
             ("L RENAME ( Z AS T )", ILL),
             ("L RENAME ( X AS Y )", ILL),
             ("L RENAME ( X AS Z, X AS T )", ILL),
+            ("N RENAME ( A AS A )", "RELATION { A INTEGER }"),
+            ("TUPLE { A 1 } RENAME ( A AS B )", ILL),
             (
                 "L GROUP { X } AS X",
                 "RELATION { X RELATION { X INTEGER }, Y INTEGER }",
             ),
             ("L GROUP { X } AS Y", ILL),
             ("L GROUP { Z } AS T", ILL),
+            ("L GROUP { X, X } AS T", ILL),
+            ("TUPLE { A 1 } GROUP { A } AS X", ILL),
             (
                 "L WRAP { ALL BUT X } AS T",
                 "RELATION { T TUPLE { Y INTEGER }, X INTEGER }",
             ),
             ("L WRAP { ALL BUT X } AS X", ILL),
             ("G { R } UNGROUP R", "RELATION { A INTEGER }"),
+            (
+                "( G { K, R } RENAME ( R AS A ) ) UNGROUP A",
+                "RELATION { A INTEGER, K CHAR }",
+            ),
             ("G UNGROUP Q", ILL),
             ("G UNGROUP K", ILL),
             ("H UNGROUP T", ILL),
@@ -317,6 +366,7 @@ fn forms_with_names(rt: HostRuntime) -> Result<()> {
             ("H UNWRAP V", ILL),
             ("H UNWRAP Z", ILL),
             ("G UNWRAP R", ILL),
+            ("( TUPLE FROM H ) UNWRAP T", ILL),
         ],
     )?;
     assert!(rt; unlike.as_str() == "", "{unlike}");
@@ -332,10 +382,15 @@ fn aggregates_and_extend(rt: HostRuntime) -> Result<()> {
             ("SUM ( S, CITY )", ILL),
             ("SUM ( S, WEIGHT )", ILL),
             ("SUM ( 1, 1 )", ILL),
+            ("SUM ( W, B )", ILL),
             ("MAX ( S, CITY )", "CHAR"),
             ("MIN ( S, STATUS )", "INTEGER"),
             ("MIN ( W, B )", ILL),
+            ("MAX ( W, B )", ILL),
+            ("MAX ( W, PLACE ( 1, 'x' ) )", ILL),
+            ("MAX ( W { B } )", ILL),
             ("AND ( W, B )", "BOOLEAN"),
+            ("AND ( W, A )", ILL),
             ("OR ( W, A )", ILL),
             ("SUM ( N )", "INTEGER"),
             ("SUM ( L )", ILL),
@@ -373,6 +428,7 @@ fn summaries(rt: HostRuntime) -> Result<()> {
                 ILL,
             ),
             ("SUMMARIZE S BY { WEIGHT } ADD ( COUNT AS C )", ILL),
+            ("SUMMARIZE S BY { CITY, CITY } ADD ( COUNT AS C )", ILL),
             (
                 "SUMMARIZE S PER P { CITY } : { M := MAX ( SNO ) }",
                 "RELATION { CITY CHAR, M CHAR }",
@@ -380,6 +436,21 @@ fn summaries(rt: HostRuntime) -> Result<()> {
             ("SUMMARIZE S PER P : { M := MAX ( SNO ) }", ILL),
             ("SUMMARIZE S PER P { CITY } : { M := MAX ( PNO ) }", ILL),
             ("SUMMARIZE S PER 1 : { M := MAX ( SNO ) }", ILL),
+            ("SUMMARIZE S PER P { CITY } ADD ( COUNT AS CITY )", ILL),
+            // the groups' heading is a part of the relation's, its types too, and may be all of it
+            (
+                "SUMMARIZE N PER N ADD ( COUNT AS C )",
+                "RELATION { A INTEGER, C INTEGER }",
+            ),
+            (
+                "SUMMARIZE N PER ( EXTEND TABLE_DEE ADD ( 'x' AS A ) ) ADD ( COUNT AS C )",
+                ILL,
+            ),
+            // in it the relation's attributes are not in scope: A is a relvar there
+            (
+                "SUMMARIZE N PER ( EXTEND TABLE_DEE ADD ( A AS A ) ) ADD ( COUNT AS C )",
+                ILL,
+            ),
             ("SUMMARIZE S ADD ( SUM ( CITY ) AS C )", ILL),
             (
                 "SUMMARIZE W ADD ( OR ( B ) AS C, MIN ( A ) AS D )",

@@ -11,13 +11,14 @@ use Rattle.td_syntax.specs.declared.script.Opening.{Opening}
 use Rattle.td_syntax.specs.declared.script.Opening.TheVariants as opening
 use Rattle.td_syntax.specs.declared.script.Definition.{Definition}
 use Rattle.td_syntax.specs.declared.script.Definition.TheVariants as definition
-use Rattle.td_kinds.specs.Kinds.{Text, is_boolean, relation_heading, same_heading}
+use Rattle.td_kinds.specs.Kinds.{Name, is_boolean, relation_heading, same_heading}
 use Rattle.td_kinds.specs.Lists.{attributes_of}
 use Rattle.td_kinds.specs.declared.schema.Representation.{Representation}
-use Rattle.td_kinds.specs.Results.{and_then, where_true}
-use Rattle.td_kinds.specs.Schemas.{SchemaData, may_add, relvar_named}
-use Rattle.td_kinds.specs.Scopes.{nothing, relvars_of, within}
-use Rattle.td_kinds.specs.Written.{components_written, heading_written, columns}
+use Rattle.td_kinds.specs.Results.{where_some, where_true}
+use Rattle.td_kinds.specs.Schemas.{SchemaData, relvar_named}
+use Rattle.td_kinds.specs.ForProofs.Additions.{may_add}
+use Rattle.td_kinds.specs.Scopes.{nothing, relvars_of, within_tuple}
+use Rattle.td_kinds.specs.Written.{components_written, heading_written, kind_columns}
 use Rattle.td_trees.specs.declared.tree.Typed.{Typed}
 use Rattle.td_trees.specs.declared.tree.Typing.{Typing}
 use Rattle.td_typing.specs.ForProofs.Infer.{each, infer}
@@ -36,54 +37,54 @@ truth_of t = where_true (is_boolean t.kind) t.tree
 
 -- the tree and the heading of a relation
 unfoldable pub value_of : Typing → Option Value
-value_of t = and_then (relation_heading t.kind) (λ h. Some (t.tree, h))
+value_of t = where_some (relation_heading t.kind) (λ h. Some (t.tree, h))
 
 unfoldable pub limit_after : SchemaData → List (Named TypeKind) → Expr → Option Typed
-limit_after s ks a = and_then (infer s a (within (columns ks) nothing)) truth_of
+limit_after s ks a = where_some (infer s a (within_tuple (kind_columns ks) nothing)) truth_of
 
 abbrev pub limits_after : SchemaData → List (Named TypeKind) → Option Expr → Option (Option Typed)
 limits_after s ks None = Some None
-limits_after s ks (Some a) = and_then (limit_after s ks a) (λ u. Some (Some u))
+limits_after s ks (Some a) = where_some (limit_after s ks a) (λ u. Some (Some u))
 
 unfoldable pub value_after : SchemaData → Expr → Option Value
-value_after s a = and_then (infer s a (relvars_of s)) value_of
+value_after s a = where_some (infer s a (relvars_of s)) value_of
 
 unfoldable pub condition_after : SchemaData → Expr → Option Typed
-condition_after s a = and_then (infer s a (relvars_of s)) truth_of
+condition_after s a = where_some (infer s a (relvars_of s)) truth_of
 
 -- the value that a heading is written beside has it
 abbrev pub beside : Header → Value → Option (Header × Option Typed)
 beside g v = where_true (same_heading g v.1) (v.1, Some v.0)
 
 abbrev pub opening_after : SchemaData → Opening → Option (Header × Option Typed)
-opening_after s (opening.Empty fs) = and_then (heading_written s fs) (λ h. Some (h, None))
-opening_after s (opening.Init None a) = and_then (value_after s a) (λ v. Some (v.1, Some v.0))
-opening_after s (opening.Init (Some fs) a) = and_then (heading_written s fs) (λ g. and_then (value_after s a) (beside g))
+opening_after s (opening.Empty fs) = where_some (heading_written s fs) (λ h. Some (h, None))
+opening_after s (opening.Init None a) = where_some (value_after s a) (λ v. Some (v.1, Some v.0))
+opening_after s (opening.Init (Some fs) a) = where_some (heading_written s fs) (λ g. where_some (value_after s a) (beside g))
 
-abbrev pub keys_after : Header → List Attributes → Option (List (List Text))
+abbrev pub keys_after : Header → List Attributes → Option (List (List Name))
 keys_after h as' = each (λ a. attributes_of a h) [] as'
 
 -- with a relvar whose name is new
-unfoldable pub relvar_after : CatalogueData → Text → Header → Origin → List Test → Option CatalogueData
+unfoldable pub relvar_after : CatalogueData → Name → Header → Origin → List Test → Option CatalogueData
 relvar_after c n h o ts = where_true (is_none (relvar_named c.schema n)) (with_relvar c n h o ts)
 
 -- with a type that may be added
 unfoldable pub possrep_after : CatalogueData → Representation → Option Typed → Option CatalogueData
 possrep_after c r u = where_true (may_add c.schema r) (with_type c r u)
 
-unfoldable pub type_after : CatalogueData → Text → Text → List (Named TypeExpr) → Option Expr → Option CatalogueData
+unfoldable pub type_after : CatalogueData → Name → Name → List (Named TypeExpr) → Option Expr → Option CatalogueData
 type_after c n m xs a =
-    and_then (components_written c.schema xs) (λ ks. and_then (limits_after c.schema ks a) (λ u. possrep_after c (represented n m ks) u))
+    where_some (components_written c.schema xs) (λ ks. where_some (limits_after c.schema ks a) (λ u. possrep_after c (represented n m ks) u))
 
-unfoldable pub base_after : CatalogueData → Text → Opening → List Attributes → Option CatalogueData
+unfoldable pub base_after : CatalogueData → Name → Opening → List Attributes → Option CatalogueData
 base_after c n o as' =
-    and_then (opening_after c.schema o) (λ p. and_then (keys_after p.0 as') (λ ks. relvar_after c n p.0 (origin.Base ks p.1) (key_tests c ks)))
+    where_some (opening_after c.schema o) (λ p. where_some (keys_after p.0 as') (λ ks. relvar_after c n p.0 (origin.Base ks p.1) (key_tests c ks)))
 
-unfoldable pub virtual_after : CatalogueData → Text → Expr → Option CatalogueData
-virtual_after c n a = and_then (value_after c.schema a) (λ v. relvar_after c n v.1 (origin.Virtual v.0) [])
+unfoldable pub virtual_after : CatalogueData → Name → Expr → Option CatalogueData
+virtual_after c n a = where_some (value_after c.schema a) (λ v. relvar_after c n v.1 (origin.Virtual v.0) [])
 
-unfoldable pub constraint_after : CatalogueData → Text → Expr → Option CatalogueData
-constraint_after c n a = and_then (condition_after c.schema a) (λ u. where_true (not (list_any (is_constraint n) c.tests)) (with_constraint c n u))
+unfoldable pub constraint_after : CatalogueData → Name → Expr → Option CatalogueData
+constraint_after c n a = where_some (condition_after c.schema a) (λ u. where_true (not (list_any (is_constraint n) c.tests)) (with_constraint c n u))
 
 abbrev pub after : CatalogueData → Definition → Option CatalogueData
 after c (definition.Type n m xs a) = type_after c n (unwrap_or m n) xs a

@@ -4,7 +4,7 @@ use Rattle.td_kinds.specs.Schemas.{SchemaData}
 use Rattle.td_algebra.specs.Raising.{and_then}
 use Rattle.td_headings.specs.Catalogues.{CatalogueData}
 use Rattle.td_operators.specs.Values.{rows_of}
-use Rattle.td_soundness.specs.Meanings.{IsRelation}
+use Rattle.td_soundness.specs.Meanings.{IsRelationOver}
 use Rattle.td_story.specs.Raises.{Tells}
 use Rattle.td_story.specs.Trees.{AreBases, tree_means}
 use Rattle.td_story.specs.Databases.{stored_relvars}
@@ -50,5 +50,5 @@ returns-clause-typed c =
     let h = c.in-Some.heading.now in
     let known = c.schema.ensures.schema ∙ ap (λ (z : CatalogueData). z.schema) k.same in
     let at = ap (λ (z : SchemaData). slice_get z.relvars x.target) (sym known) ∙ c.in-Some.ensures in
-    let is = subst (λ (z : CatalogueData). IfOk c.relation.result (IsRelation z.schema h)) k.same c.relation.ensures.typed in
+    let is = subst (λ (z : CatalogueData). IfOk c.relation.result (IsRelationOver z.schema h)) k.same c.relation.ensures.typed in
     if_belongs s x c.requires.assigned (record { name = c.in-Some.field-0-0.now; value = h }) at c.relation.result is

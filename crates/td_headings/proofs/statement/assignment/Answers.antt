@@ -1,6 +1,6 @@
 use Rattle.std.proofs.Common.{sym, subst, ◌∙◌}
 use Rattle.td_kinds.specs.Results.{Fails}
-use Rattle.td_headings.specs.Expressions.{IsTree, IsWhole, no_tuple}
+use Rattle.td_headings.specs.Expressions.{IsTree, IsClosedExpression, no_tuple}
 use Rattle.td_headings.proofs.StatementLemmas.{found_one, refused_by, same_assigned, source_tree}
 use Rattle.td_headings.proofs.statement.assignment.Goals as goal
 
@@ -24,4 +24,4 @@ returns-clause-typed c =
     let a = c.args.action.now in
     let x = c.in_ok-source.source in
     let is = same_assigned s a _ _ _ c.schema-schema.ensures.schema c.origins-origins.ensures c.target_of.ensures in
-    found_one s a c.in-Ok.found x (sym is ∙ c.in-Ok.ensures) (subst (λ u. IsWhole s u c.in-Ok.found.1.kind x) (c.in_ok-tree.ensures ∙ c.into_inner.ensures) c.in_ok-source.ensures)
+    found_one s a c.in-Ok.found x (sym is ∙ c.in-Ok.ensures) (subst (λ u. IsClosedExpression s u c.in-Ok.found.1.kind x) (c.in_ok-tree.ensures ∙ c.into_inner.ensures) c.in_ok-source.ensures)

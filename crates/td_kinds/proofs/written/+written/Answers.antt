@@ -1,6 +1,6 @@
 use Rattle.std.proofs.Common.{Some, ap, sym, ◌∙◌, subst}
 use Rattle.td_values.specs.declared.TypeKind.TheVariants as kind
-use Rattle.td_kinds.specs.Results.{Fails, and_then}
+use Rattle.td_kinds.specs.Results.{Fails, where_some}
 use Rattle.td_kinds.specs.Written.{written, heading_written}
 use Rattle.td_kinds.proofs.Writings.{of_tuple, of_relation, still_fails, from_first, all_after}
 use Rattle.td_kinds.proofs.written.+written.Goals as goal
@@ -9,7 +9,7 @@ pub written-returns-in-Ok : goal.written-returns-in-Ok
 written-returns-in-Ok t c =
     let cat = c.args.schema.now in
     ap (written cat) c.in-Tuple.is ∙ of_tuple cat c.in-Tuple.fields
-    ∙ ap (λ o. and_then o (λ h. Some (kind.Tuple h))) (ap (heading_written cat) (sym c.as_slice.ensures) ∙ c.in-Ok.ensures)
+    ∙ ap (λ o. where_some o (λ h. Some (kind.Tuple h))) (ap (heading_written cat) (sym c.as_slice.ensures) ∙ c.in-Ok.ensures)
 
 pub written-returns-in-Err : goal.written-returns-in-Err
 written-returns-in-Err t c =
@@ -22,7 +22,7 @@ pub written-returns-in-Ok-heading_written : goal.written-returns-in-Ok-heading_w
 written-returns-in-Ok-heading_written t c =
     let cat = c.args.schema.now in
     ap (written cat) c.in-Relation.is ∙ of_relation cat c.in-Relation.fields
-    ∙ ap (λ o. and_then o (λ h. Some (kind.Relation h))) (ap (heading_written cat) (sym c.as_slice-in-Relation.ensures) ∙ c.in-Ok-heading_written.ensures)
+    ∙ ap (λ o. where_some o (λ h. Some (kind.Relation h))) (ap (heading_written cat) (sym c.as_slice-in-Relation.ensures) ∙ c.in-Ok-heading_written.ensures)
 
 pub written-returns-in-Err-heading_written : goal.written-returns-in-Err-heading_written
 written-returns-in-Err-heading_written t c =

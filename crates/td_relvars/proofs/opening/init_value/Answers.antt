@@ -5,7 +5,7 @@ use Rattle.td_kinds.specs.Schemas.{SchemaData}
 use Rattle.td_algebra.specs.Raising.{and_then}
 use Rattle.td_headings.specs.Catalogues.{CatalogueData}
 use Rattle.td_operators.specs.Values.{rows_of}
-use Rattle.td_soundness.specs.Meanings.{IsRelation}
+use Rattle.td_soundness.specs.Meanings.{IsRelationOver}
 use Rattle.td_story.specs.Raises.{Tells}
 use Rattle.td_story.specs.Trees.{IsIn, tree_means}
 use Rattle.td_story.specs.Databases.{Belongs, stored_relvars}
@@ -29,7 +29,7 @@ make_base-requires c =
     let k = c.catalogue-catalogue.ensures in
     let known = c.schema.ensures.schema ∙ ap (λ (z : CatalogueData). z.schema) k.same in
     let at = ap (λ (z : SchemaData). slice_get z.relvars n) (sym known) ∙ c.in-Some.ensures in
-    let is = subst (λ (z : CatalogueData). IsRelation z.schema c.in-Some.heading.now c.in-Ok.relation) k.same c.in-Ok.ensures.typed in
+    let is = subst (λ (z : CatalogueData). IsRelationOver z.schema c.in-Some.heading.now c.in-Ok.relation) k.same c.in-Ok.ensures.typed in
     belongs s n x i (record { name = c.in-Some.field-0-0.now; value = c.in-Some.heading.now }) at c.in-Ok.relation is
 
 pub returns-in-Ok-clause-told : goal.returns-in-Ok-clause-told
@@ -49,7 +49,7 @@ returns-in-Ok-clause-belongs c =
     let k = c.catalogue-catalogue.ensures in
     let known = c.schema.ensures.schema ∙ ap (λ (z : CatalogueData). z.schema) k.same in
     let at = ap (λ (z : SchemaData). slice_get z.relvars n) (sym known) ∙ c.in-Some.ensures in
-    let is = subst (λ (z : CatalogueData). IsRelation z.schema c.in-Some.heading.now c.in-Ok.relation) k.same c.in-Ok.ensures.typed in
+    let is = subst (λ (z : CatalogueData). IsRelationOver z.schema c.in-Some.heading.now c.in-Ok.relation) k.same c.in-Ok.ensures.typed in
     subst (Belongs s n) (sym c.make_base.ensures) (belongs s n x i (record { name = c.in-Some.field-0-0.now; value = c.in-Some.heading.now }) at c.in-Ok.relation is)
 
 pub returns-in-Err-clause-told : goal.returns-in-Err-clause-told

@@ -4,9 +4,9 @@ use Rattle.td_values.specs.Headings.{Header}
 use Rattle.td_values.specs.declared.TypeKind.TheVariants as kind
 use Rattle.td_syntax.specs.declared.tree.Expr.{Expr}
 use Rattle.td_syntax.specs.declared.tree.Named.{Named}
-use Rattle.td_kinds.specs.Kinds.{Text}
-use Rattle.td_kinds.specs.Scopes.{nothing, within}
-use Rattle.td_kinds.specs.Written.{columns}
+use Rattle.td_kinds.specs.Kinds.{Name}
+use Rattle.td_kinds.specs.Scopes.{nothing, within_tuple}
+use Rattle.td_kinds.specs.Written.{kind_columns}
 use Rattle.td_kinds.specs.declared.schema.Representation.{Representation}
 use Rattle.td_typing.specs.Types.{Types}
 use Rattle.td_trees.specs.declared.tree.Typed.{Typed}
@@ -25,11 +25,11 @@ HasHeading c (origin.Virtual u) h = IsTree c no_tuple u (kind.Relation h)
 -- the CONSTRAINT of a possrep is a truth value over its components
 pub record IsLimit (c : CatalogueData) (r : Representation) (u : Typed) : Type 0 where
   pub expr : Expr
-  pub types : Types c.schema (within (columns r.components) nothing) expr u kind.Boolean
+  pub types : Types c.schema (within_tuple (kind_columns r.components) nothing) expr u kind.Boolean
 
 pub record AllTyped (c : CatalogueData) : Type 0 where
   pub origin_each : length c.origins ≡ length c.schema.relvars
   pub limit_each : length c.limits ≡ length c.schema.possreps
   pub relvars : (n : ℕ) (o : Origin) (r : Named Header) → slice_get c.origins n ≡ Some o → slice_get c.schema.relvars n ≡ Some r → HasHeading c o r.value
   pub limits : (n : ℕ) (u : Typed) (r : Representation) → slice_get c.limits n ≡ Some (Some u) → slice_get c.schema.possreps n ≡ Some r → IsLimit c r u
-  pub constraints : (n : ℕ) (x : Text) (u : Typed) → slice_get c.tests n ≡ Some (test.Constraint x u) → IsTree c no_tuple u kind.Boolean
+  pub constraints : (n : ℕ) (x : Name) (u : Typed) → slice_get c.tests n ≡ Some (test.Constraint x u) → IsTree c no_tuple u kind.Boolean
