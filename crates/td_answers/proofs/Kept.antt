@@ -35,8 +35,8 @@ issue_keeps s t (Err issue_error.Syntax) after told = same_script s after told.0
 issue_keeps s t (Err issue_error.IllTyped) after told = same_script s after told.0.1
 issue_keeps s t (Err issue_error.ClockEnd) after told = same_script s after told.0.1
 issue_keeps s t (Err issue_error.Full) after told = same_script s after told.0.1
-issue_keeps s t (Err issue_error.OutOfMemory) after told = same_script s after told.1
-issue_keeps s t (Err issue_error.JournalWrite) after told = told.0.script
+issue_keeps s t (Err issue_error.OutOfMemory) after told = same_script s after told.0.1
+issue_keeps s t (Err issue_error.JournalWrite) after told = ap (λ (u : Seen). u.script) told.3.1
 
 take_keeps : (s : Seen) (batch : List Entry) (r : Result Taken TakeError) (after : Seen) → Takes s batch r after → after.script ≡ s.script
 take_keeps s batch (Ok taken) after told = ap (λ (u : Seen). u.script) told.union
@@ -45,7 +45,7 @@ take_keeps s batch (Err take_error.BadEntry) after told = same_script s after to
 take_keeps s batch (Err (take_error.Clash site seq)) after told = same_script s after told.0.1
 take_keeps s batch (Err take_error.Full) after told = same_script s after told.0.1
 take_keeps s batch (Err take_error.OutOfMemory) after told = same_script s after told.0.1
-take_keeps s batch (Err take_error.JournalWrite) after told = told.0.script
+take_keeps s batch (Err take_error.JournalWrite) after told = ap (λ (u : Seen). u.script) told.3.1
 
 takes_keep : (s t : Seen) (r : Result Taken TakeError) (after : Seen) → TakesFrom s t r after → after.script ≡ s.script
 takes_keep s t r after told = take_keeps s told.batch r after told.takes

@@ -11,17 +11,20 @@ use crate::reply::Reply;
 use crate::writing::{blank_line, issued_line};
 use std::alloc::{AllocError, Global};
 use std::net::SocketAddr;
-use td_story::{Meter, Replica};
+use td_story::{MOST_BYTES, Meter, Replica};
 use td_headings::Catalogue;
 use td_listings::{ListError, listing_text, log_text, table_text, vector_text};
 use td_values::{Value, show};
 
-/// Issues a statement. The room for its line is taken first.
+/// Issues a statement. The room for its line is taken first, but for a text that is too long, which wants none.
 pub(crate) fn issue<R: Replica>(alloc: Global, site: &mut R, text: &str, meter: &mut Meter) -> Reply
     ensures { Says (λ words. TellsIssued text.now (R.seen site.old) words (R.seen site.new)) result }
 {
     if !site.is_open() {
         return Reply::Fixed("fault broken\n");
+    }
+    if text.len() > MOST_BYTES {
+        return Reply::Fixed("fault syntax\n");
     }
     let Some(line) = blank_line(alloc) else {
         return Reply::Fixed("fault memory\n");

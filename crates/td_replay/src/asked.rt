@@ -2,7 +2,7 @@
 
 ghost use Rattle.td_replay.specs.ForProofs.Asked.{Answers, TellsNamed};
 
-use td_story::{Answer, AskError, Failure, Asked, ValueError};
+use td_story::{Answer, AskError, Asked, Failure, MOST_BYTES, ValueError};
 use std::alloc::Global;
 use td_eval::value;
 use td_grammar::{ReadError, read_expr};
@@ -10,9 +10,6 @@ use td_headings::type_expr;
 use td_kinds::error::TypeError;
 use td_relvars::Database;
 use td_values::Name;
-
-// The most bytes that a query has. A longer one is refused before anything takes memory.
-const MOST_BYTES: usize = 8192;
 
 /// What the query means over the relvars.
 pub(crate) fn ask(alloc: Global, database: &Database, text: &str) -> Result<Asked, AskError>

@@ -9,7 +9,7 @@ ghost use Rattle.td_story.specs.declared.refusal.IssueError.TheVariants as issue
 ghost use Rattle.td_story.specs.declared.refusal.TakeError.TheVariants as take_error;
 ghost use Rattle.td_replay.specs.ForProofs.Told.{Numbers};
 
-use td_story::{Answer, AskError, Asked, IssueError, Issued, Meter, NotOpen, OpenError, Opens, Outcome, Replica, TakeError, Taken, TellError, ValueError};
+use td_story::{Answer, AskError, Asked, IssueError, Issued, MOST_BYTES, Meter, NotOpen, OpenError, Opens, Outcome, Replica, TakeError, Taken, TellError, ValueError};
 use crate::asked;
 use crate::judged::{judge, refusal};
 use crate::told::{Told, add_last, copies, tell_all};
@@ -20,9 +20,6 @@ use td_values::{Name, Text};
 
 /// The greatest limit of a site.
 pub const MOST_ENTRIES: usize = 100_000;
-
-// The most bytes that a statement's text has.
-const MOST_BYTES: usize = 8192;
 
 /// A site in memory. It keeps the database and the outcomes of its story, so to issue a statement runs that one alone; to take
 /// entries that are new runs all.

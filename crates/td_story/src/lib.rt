@@ -21,4 +21,4 @@ pub use failure::Failure;
 pub use meter::Meter;
 pub use outcome::Outcome;
 pub use refusal::{AskError, IssueError, NotOpen, OpenError, TakeError, TellError, ValueError};
-pub use replica::{Opens, Replica};
+pub use replica::{MOST_BYTES, Opens, Replica};

@@ -15,6 +15,9 @@ use std::alloc::Global;
 use td_stamps::{Entry, Held, Stamp};
 use td_values::Name;
 
+/// The most bytes that the text of a statement or a query has. A longer one is refused before anything takes memory.
+pub const MOST_BYTES: usize = 8192;
+
 /// A site that holds a set of entries and tells what running it once, in stamp order, from what its script opens gives.
 pub trait Replica {
     ghost seen: { Self → Seen };

@@ -1,4 +1,4 @@
-use Rattle.std.proofs.Common.{Err, refl, sym, ◌∙◌}
+use Rattle.std.proofs.Common.{Err, refl, sym, ◌∙◌, arith}
 use Rattle.td_story.specs.declared.refusal.IssueError.TheVariants as issue_error
 use Rattle.td_answers.proofs.telling.issue.Goals as goal
 
@@ -6,4 +6,12 @@ pub returns-then-not-is_open : goal.returns-then-not-is_open
 returns-then-not-is_open g c = record { answer = Err issue_error.Broken; issues = (sym c.is_open.ensures ∙ c.if-not-is_open.true, refl); line = refl }
 
 pub returns-in_default : goal.returns-in_default
-returns-in_default g c = record { answer = Err issue_error.OutOfMemory; issues = (sym c.is_open.ensures ∙ c.if-not-is_open.false, refl); line = refl }
+returns-in_default g c = record { answer = Err issue_error.OutOfMemory; issues = ((sym c.is_open.ensures ∙ c.if-not-is_open.false, refl), omega arith); line = refl }
+
+pub returns-then-len-gt-MOST_BYTES : goal.returns-then-len-gt-MOST_BYTES
+returns-then-len-gt-MOST_BYTES g c =
+    record {
+      answer = Err issue_error.Syntax;
+      issues = ((sym c.is_open.ensures ∙ c.if-not-is_open.false, refl), λ t is. let short = is.short in absurd (omega (arith, short)));
+      line = refl;
+    }
