@@ -1,5 +1,7 @@
 //! What statements make of a database, or why they have no effect.
 
+ghost use Rattle.td_story.specs.Databases.{IsLegal};
+
 use crate::contents::held;
 use crate::database::Result;
 use std::alloc::Global;
@@ -74,7 +76,10 @@ fn told(alloc: Global, catalogue: &Catalogue, ran: &Ran) -> Result<String> {
     Ok(text)
 }
 
-fn ran(alloc: Global, database: &mut Database, meter: &mut Meter, text: &str) -> Result<String> {
+fn ran(alloc: Global, database: &mut Database, meter: &mut Meter, text: &str) -> Result<String>
+    requires { IsLegal database.old }
+    ensures { IsLegal database.new }
+{
     let ran = run(alloc, &mut *database, text, meter)?;
     told(alloc, database.catalogue(), &ran)
 }
@@ -84,7 +89,10 @@ fn answered(
     database: &mut Database,
     meter: &mut Meter,
     step: Step,
-) -> Result<String> {
+) -> Result<String>
+    requires { IsLegal database.old }
+    ensures { IsLegal database.new }
+{
     match step {
         Step::Run(text) => ran(alloc, database, meter, text),
         Step::Held(name) => held(alloc, &*database, name),
@@ -97,8 +105,11 @@ fn unlike_at(
     database: &mut Database,
     meter: &mut Meter,
     steps: &[(Step, &str)],
-) -> Result<String> {
-    for (n, (step, expected)) in steps.iter().enumerate() {
+) -> Result<String>
+    requires { IsLegal database.old }
+{
+    for n in 0..steps.len() {
+        let (step, expected) = &steps[n];
         let found = answered(alloc, &mut *database, &mut *meter, *step)?;
         if found.as_str() != *expected {
             return Ok(format!(in alloc; "{n}: {found}")?);

@@ -1,5 +1,8 @@
 //! Statements on a database.
 
+ghost use Rattle.std.specs.Prelude.{IfOk};
+ghost use Rattle.td_story.specs.Databases.{IsLegal};
+
 use anyhow::{Result, bail};
 use std::time::{Duration, Instant};
 use td_story::{Meter, Outcome};
@@ -18,7 +21,9 @@ pub struct Times {
     pub count: usize,
 }
 
-fn opened(rt: &HostRuntime) -> Result<Database> {
+fn opened(rt: &HostRuntime) -> Result<Database>
+    ensures { IfOk result IsLegal }
+{
     match open_script(rt.alloc(), SCRIPT) {
         Ok(database) => Ok(database),
         Err(_) => bail!("the script is refused"),
@@ -30,7 +35,10 @@ fn insert(
     database: &mut Database,
     n: u32,
     meter: &mut Meter,
-) -> Result<Duration> {
+) -> Result<Duration>
+    requires { IsLegal database.old }
+    ensures { IsLegal database.new }
+{
     let text = format!(in rt.alloc(); "INSERT R RELATION {{ TUPLE {{ N {n}, V 'x' }} }};")?;
     let start = Instant::now(rt)?;
     let ran = run(rt.alloc(), database, text.as_str(), meter)?;
@@ -59,7 +67,9 @@ fn count_of(rt: &HostRuntime, database: &Database) -> Result<usize> {
     }
 }
 
-fn insert_into(rt: &HostRuntime, database: &mut Database, size: u32) -> Result<Times> {
+fn insert_into(rt: &HostRuntime, database: &mut Database, size: u32) -> Result<Times>
+    requires { IsLegal database.old }
+{
     let mut meter = Meter::new(rt);
     let mut statements = Duration::ZERO;
     let mut tests = Duration::ZERO;
