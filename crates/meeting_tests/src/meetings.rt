@@ -3,7 +3,7 @@
 use crate::bytes::SCRIPT;
 use crate::site::{Result, Start, Written, batch, vector};
 use std::alloc::Global;
-use td_story::{Meter, Replica};
+use td_story::{Meter, Opens, Replica};
 use td_meeting::meet;
 use td_replay::PlainSite;
 

@@ -4,7 +4,7 @@ use crate::bytes::SCRIPT;
 use crate::fakes::{Given, Narrow};
 use std::alloc::Global;
 use std::test::Fail;
-use td_story::{Meter, Replica, Taken};
+use td_story::{Meter, Opens, Replica, Taken};
 use td_devices::{Channel, Device, Pair};
 use td_meeting::{MeetingError, answer, finish, greet, settle};
 use td_replay::PlainSite;

@@ -1,24 +1,14 @@
 //! The workbench of Ketsarimo: sites of one script, in memory.
 #![tactic(auto)]
 
-mod command;
-mod opening;
-mod program;
-mod refusal;
-mod run;
-mod script;
-#[cfg(test)]
-mod tests;
-mod words;
-mod writing;
-
-use crate::command::program;
 use std::env;
 use std::io::BufReader;
 use std::process::ExitCode;
 use td_answers::NoLinks;
-use td_story::Meter;
 use td_devices::Device;
+use td_replay::PlainSite;
+use td_story::Meter;
+use td_workbench::program;
 
 fn main(rt: HostRuntime) -> ExitCode {
     let alloc = rt.alloc();
@@ -35,7 +25,7 @@ fn main(rt: HostRuntime) -> ExitCode {
     let mut sink = Device::new(rt.stdout());
     let mut faults = Device::new(rt.stderr());
     let mut meter = Meter::new(&rt);
-    let status = program(
+    let status = program::<PlainSite, _, _, _, _>(
         alloc,
         &words,
         &mut NoLinks,

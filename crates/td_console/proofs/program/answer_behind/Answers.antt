@@ -1,5 +1,0 @@
-use Rattle.td_console.proofs.Starting.{behind_ran}
-use Rattle.td_console.proofs.program.answer_behind.Goals as goal
-
-pub returns : goal.returns
-returns g c = behind_ran c.args.is_last c.args.opened.catalogue c.args.opened.sites.items c.deref_mut.result.now c.args.reads.now _ _ _ _ c.serve.result _ c.if-is_last.false c.deref_mut.ensures.value c.serve.ensures

@@ -1,0 +1,18 @@
+use Rattle.std.proofs.Common.{sym, ◌∙◌}
+use Rattle.td_workbench.proofs.Answering.{nothing_read, quit_read, last_read, failed_read}
+use Rattle.td_workbench.proofs.run.answer_read.Goals as goal
+
+pub returns-then-is_nothing-clause-ends : goal.returns-then-is_nothing-clause-ends
+returns-then-is_nothing-clause-ends g c = λ raw left tells. nothing_read _ _ raw _ left _ tells.1 (sym (c.is_nothing.ensures raw tells.0) ∙ c.if-is_nothing.true)
+
+pub returns-then-quits-clause-ends : goal.returns-then-quits-clause-ends
+returns-then-quits-clause-ends g c = λ raw left tells.
+    rw c.if-quits.true (quit_read _ _ raw _ left _ _ _ _ tells.1 (sym (c.is_nothing.ensures raw tells.0) ∙ c.if-is_nothing.false) (c.bytes_of.ensures raw tells.0) (rw c.if-quits.true at c.in-Ok.ensures.ends))
+
+pub returns-else-quits-clause-ends : goal.returns-else-quits-clause-ends
+returns-else-quits-clause-ends g c = λ raw left tells.
+    last_read _ _ raw _ left _ _ _ _ tells.1 (sym (c.is_nothing.ensures raw tells.0) ∙ c.if-is_nothing.false) (c.bytes_of.ensures raw tells.0) (rw c.if-quits.false at c.in-Ok.ensures.ends)
+
+pub returns-in-Err-clause-ends : goal.returns-in-Err-clause-ends
+returns-in-Err-clause-ends g c = λ raw left tells.
+    failed_read _ _ raw _ left _ _ _ _ c.in-Err.e tells.1 (sym (c.is_nothing.ensures raw tells.0) ∙ c.if-is_nothing.false) (c.bytes_of.ensures raw tells.0) c.in-Err.ensures.ends

@@ -1,0 +1,50 @@
+-- The exit status of the program, and what it puts where.
+use Rattle.std.specs.Prelude.{◌≡◌, ◌⊎◌, ℕ, Bool, true, false, List, Result, Ok, Err}
+use Rattle.td_listings.specs.Writings.{Written, WritesWhole, WritesFront}
+use Rattle.td_workbench.specs.Programs.{InRange, ProgramEnds}
+use Rattle.td_workbench.specs.Streams.{Input}
+use Rattle.td_workbench.specs.declared.opening.Options.{Options}
+use Rattle.td_workbench.specs.declared.run.Ended.{Ended}
+
+-- 0 where the script was accepted and its lines were run to their end
+abbrev pub status_of : Result Bool Ended → ℕ
+status_of (Ok true) = 0
+status_of (Ok false) = 1
+status_of (Err e) = 1
+
+-- what the standard streams came to: the input, the output and the output of faults
+pub record Standard : Type 0 where
+  pub input : Input
+  pub output : Written
+  pub faults : Written
+
+-- the words gave options, and the program was run by them
+pub record RunsBy (status : ℕ) (old new : Standard) : Type 0 where
+  pub options : Options
+  pub in_range : InRange options
+  pub result : Result Bool Ended
+  pub ends : ProgramEnds options old.input old.output result new.input new.output
+  pub status_is : status ≡ status_of result
+  pub no_faults : new.faults ≡ old.faults
+
+-- help or the version was written, or a front of it
+abbrev pub PutsHelp : List ℕ → ℕ → Written → Written → Type 0
+PutsHelp text status w after = ((status ≡ 0) × WritesWhole text w after) ⊎ ((status ≡ 1) × WritesFront text w after)
+
+-- why the words are refused was written, or a front of it
+abbrev pub PutsRefusal : List ℕ → ℕ → Written → Written → Type 0
+PutsRefusal text status w after = (status ≡ 2) × (WritesWhole text w after ⊎ WritesFront text w after)
+
+-- What is told in place of a run: help, to the output; why the words are refused, to the output of faults; or nothing, for want of memory.
+abbrev pub TellsWords : ℕ → Written → Written → Written → Written → Type 0
+TellsWords status w f after told =
+    ((text : List ℕ) × PutsHelp text status w after × (told ≡ f))
+    ⊎ (((text : List ℕ) × PutsRefusal text status f told × (after ≡ w))
+    ⊎ ((status ≡ 1) × (after ≡ w) × (told ≡ f)))
+
+-- the words gave no options, and nothing was read
+abbrev pub RunsNot : ℕ → Standard → Standard → Type 0
+RunsNot status old new = TellsWords status old.output old.faults new.output new.faults × (new.input ≡ old.input)
+
+abbrev pub Exits : ℕ → Standard → Standard → Type 0
+Exits status old new = RunsBy status old new ⊎ RunsNot status old new

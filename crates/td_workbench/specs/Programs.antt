@@ -1,0 +1,50 @@
+-- How the program ends: what it tells of its script, and the run over the lines behind it.
+use Rattle.std.specs.Prelude.{◌≡◌, ◌⊎◌, ◌≤◌, ℕ, Bool, true, false, List, Result, Ok, Err}
+use Rattle.std.specs.List.{AllByRecursion}
+use Rattle.td_headings.specs.Catalogues.{CatalogueData}
+use Rattle.td_listings.specs.Writings.{Written, WritesWhole, WritesFront}
+use Rattle.td_answers.specs.Sites.{Sites, AreOfScript}
+use Rattle.td_workbench.specs.Streams.{Input, Reads, ReadsNoMore, reads_left}
+use Rattle.td_workbench.specs.Runs.{Ends, IsCut}
+use Rattle.td_workbench.specs.Scripts.{IsAccepted, IsUnfinished, Says, TellsFault, TellsReady, ready}
+use Rattle.td_workbench.specs.declared.opening.Options.{Options}
+use Rattle.td_workbench.specs.declared.run.Ended.{Ended}
+use Rattle.td_workbench.specs.declared.run.Ended.TheVariants.{OutOfMemory, ReadFault, WriteFault}
+
+-- what the words of the program allow
+pub record InRange (options : Options) : Type 0 where
+  pub some_sites : 1 ≤ options.sites
+  pub few_sites : options.sites ≤ 16
+  pub some_first : 1 ≤ options.first
+  pub low_first : options.first ≤ 65520
+  pub some_limit : 1 ≤ options.limit
+  pub low_limit : options.limit ≤ 100000
+
+-- the sites were told to be ready, and then the lines behind the script were run
+pub record Answers (options : Options) (from : Input) (w : Written) (r : Result (Unit {0}) Ended) (left : Input) (after : Written) : Type 0 where
+  pub bytes : List ℕ
+  pub script : List ℕ
+  pub raws : List (List ℕ)
+  pub says : Says bytes script raws
+  pub old : Sites
+  pub accepted : IsAccepted options script old
+  pub catalogue : CatalogueData
+  pub of_script : AreOfScript catalogue old
+  pub told : Written
+  pub ready_told : WritesWhole (ready options.sites) w told
+  pub new : Sites
+  pub open : AllByRecursion (λ s. s.live ≡ true) new
+  pub ends : Ends catalogue old raws (reads_left bytes) bytes from told r new left after
+
+-- no site was ready: the reader failed within the script, or the writer as it was told what came of the script
+abbrev pub Stops : Options → Input → Written → Ended → Input → Written → Type 0
+Stops options from w ReadFault left after = (bytes : List ℕ) × ReadsNoMore (reads_left bytes) bytes from left × IsUnfinished bytes IsCut × (after ≡ w)
+Stops options from w WriteFault left after =
+    (bytes : List ℕ) × Reads bytes from left × (text : List ℕ) × (TellsFault bytes left.left text ⊎ TellsReady options bytes text) × WritesFront text w after
+Stops options from w OutOfMemory left after = ⊥
+
+-- true says that the script was accepted, and false that its fault was told
+abbrev pub ProgramEnds : Options → Input → Written → Result Bool Ended → Input → Written → Type 0
+ProgramEnds options from w (Ok true) left after = Answers options from w (Ok tt) left after
+ProgramEnds options from w (Ok false) left after = (bytes : List ℕ) × Reads bytes from left × (text : List ℕ) × TellsFault bytes left.left text × WritesWhole text w after
+ProgramEnds options from w (Err e) left after = Answers options from w (Err e) left after ⊎ Stops options from w e left after

@@ -1,0 +1,78 @@
+//! The program over its words and its streams.
+
+ghost use Rattle.std.specs.Prelude.{◌≡◌};
+ghost use Rattle.td_workbench.specs.Exits.{Exits, PutsHelp, PutsRefusal, TellsWords, status_of};
+
+use crate::program::run_program;
+use crate::run::Ended;
+use crate::words::read_options;
+use clap::Error;
+use clap::error::ErrorKind;
+use std::alloc::Global;
+use td_answers::Links;
+use td_story::{Meter, Opens};
+use td_devices::{Sink, Source, put};
+
+fn status(end: Result<bool, Ended>) -> u8
+    ensures { result ≡ status_of end }
+{
+    match end {
+        Ok(true) => 0,
+        Ok(false) | Err(_) => 1,
+    }
+}
+
+// Writes help or the version.
+fn put_help<K: Sink>(sink: &mut K, text: &[u8]) -> u8
+    ensures { PutsHelp text.now result (record { held = K.held sink.old; faults = K.faults sink.old }) (record { held = K.held sink.new; faults = K.faults sink.new }) }
+{
+    match put(sink, text) {
+        Ok(()) => 0,
+        Err(_) => 1,
+    }
+}
+
+// Writes why the words are refused.
+fn put_refusal<F: Sink>(faults: &mut F, text: &[u8]) -> u8
+    ensures { PutsRefusal text.now result (record { held = F.held faults.old; faults = F.faults faults.old }) (record { held = F.held faults.new; faults = F.faults faults.new }) }
+{
+    match put(faults, text) {
+        Ok(()) => 2,
+        Err(_) => 2,
+    }
+}
+
+// Tells what the words asked for in place of a run, or why they are refused.
+fn tell<K: Sink, F: Sink>(alloc: Global, error: &Error, sink: &mut K, faults: &mut F) -> u8
+    ensures { TellsWords result (record { held = K.held sink.old; faults = K.faults sink.old }) (record { held = F.held faults.old; faults = F.faults faults.old }) (record { held = K.held sink.new; faults = K.faults sink.new }) (record { held = F.held faults.new; faults = F.faults faults.new }) }
+{
+    if error.kind() == ErrorKind::OutOfMemory {
+        return 1;
+    }
+    let Ok(text) = error.to_string(alloc) else {
+        return 1;
+    };
+    if error.use_stderr() {
+        return put_refusal(faults, text.as_bytes());
+    }
+    put_help(sink, text.as_bytes())
+}
+
+/// Reads the words, the first of which names the program, and runs it by them. The answer is the exit status: 0 at `.quit`, at the end of the
+/// input and after help; 1 for a refused script, a stream that fails, and want of memory that ends the program; 2 for refused words.
+pub fn program<R: Opens + Drop, L: Links, S: Source, K: Sink, F: Sink>(
+    alloc: Global,
+    words: &[String],
+    links: &mut L,
+    meter: &mut Meter,
+    source: &mut S,
+    sink: &mut K,
+    faults: &mut F,
+) -> u8
+    ensures { Exits result (record { input = record { left = S.left source.old; failures = S.failures source.old }; output = record { held = K.held sink.old; faults = K.faults sink.old }; faults = record { held = F.held faults.old; faults = F.faults faults.old } }) (record { input = record { left = S.left source.new; failures = S.failures source.new }; output = record { held = K.held sink.new; faults = K.faults sink.new }; faults = record { held = F.held faults.new; faults = F.faults faults.new } }) }
+{
+    match read_options(alloc, words) {
+        Ok(options) => status(run_program::<R, _, _, _>(alloc, &options, links, meter, source, sink)),
+        Err(error) => tell(alloc, &error, sink, faults),
+    }
+}

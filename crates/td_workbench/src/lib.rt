@@ -1,0 +1,16 @@
+//! The workbench: a script, the sites that it opens, and the lines that are answered. It runs over any kind of site, reader and writer.
+#![tactic(auto)]
+
+pub mod command;
+pub mod opening;
+pub mod program;
+mod refusal;
+pub mod run;
+pub mod script;
+pub mod words;
+mod writing;
+
+pub use command::program;
+pub use opening::Options;
+pub use program::run_program;
+pub use run::{Ended, workbench};

@@ -1,0 +1,108 @@
+//! A script, and then the lines for its sites.
+
+ghost use Rattle.std.specs.Prelude.{◌≡◌, map, true};
+ghost use Rattle.std.specs.Io.KnownBytes.{IsAtEnd};
+ghost use Rattle.td_answers.specs.Sites.{AreOfScript};
+ghost use Rattle.td_workbench.specs.ForProofs.Opening.{BehindEnds, StartEnds};
+ghost use Rattle.td_workbench.specs.Programs.{InRange, ProgramEnds};
+
+use crate::opening::{Opened, Options, open};
+use crate::refusal::refuse;
+use crate::run::{Ended, serve};
+use crate::script::{Script, Unready, read_script};
+use crate::writing::put_fault;
+use std::alloc::Global;
+use td_answers::Links;
+use td_story::{Meter, Opens};
+use td_devices::{Sink, Source, put};
+
+// Answers the lines behind the script.
+fn answer_behind<R: Opens + Drop, L: Links, S: Source, K: Sink>(
+    alloc: Global,
+    mut opened: Opened<R>,
+    is_last: bool,
+    links: &mut L,
+    meter: &mut Meter,
+    source: &mut S,
+    sink: &mut K,
+    reads: &mut u64,
+) -> Result<(), Ended>
+    requires { AreOfScript opened.catalogue (map R.seen opened.sites.items) }
+    ensures { BehindEnds is_last opened.catalogue (map R.seen opened.sites.items) reads.old (record { left = S.left source.old; failures = S.failures source.old }) (record { held = K.held sink.old; faults = K.faults sink.old }) result (record { left = S.left source.new; failures = S.failures source.new }) (record { held = K.held sink.new; faults = K.faults sink.new }) }
+{
+    if is_last {
+        return Ok(());
+    }
+    serve(
+        alloc,
+        &opened.catalogue,
+        &mut opened.sites,
+        links,
+        meter,
+        source,
+        sink,
+        reads,
+    )
+}
+
+// Opens the sites of the script and answers the lines behind it.
+fn start<R: Opens + Drop, L: Links, S: Source, K: Sink>(
+    alloc: Global,
+    options: &Options,
+    script: &Script,
+    links: &mut L,
+    meter: &mut Meter,
+    source: &mut S,
+    sink: &mut K,
+    reads: &mut u64,
+) -> Result<bool, Ended>
+    requires { InRange options.now }
+    ensures { StartEnds options.now script.now reads.old (record { left = S.left source.old; failures = S.failures source.old }) (record { held = K.held sink.old; faults = K.faults sink.old }) result (record { left = S.left source.new; failures = S.failures source.new }) (record { held = K.held sink.new; faults = K.faults sink.new }) }
+{
+    let opened = match open::<R>(alloc, options, script) {
+        Ok(opened) => opened,
+        Err(e) => return refuse(alloc, e, sink),
+    };
+    match put(sink, opened.ready.as_bytes()) {
+        Ok(()) => {}
+        Err(_) => return Err(Ended::WriteFault),
+    }
+    match answer_behind(
+        alloc,
+        opened,
+        script.is_last,
+        links,
+        meter,
+        source,
+        sink,
+        reads,
+    ) {
+        Ok(()) => Ok(true),
+        Err(e) => Err(e),
+    }
+}
+
+/// Reads a script and answers the lines behind it. True says that the script was accepted, false that its fault was told. It costs
+/// the opening of each site. At most 65,536 bytes of the script are kept, and 16,384 of a line. An endless input is a read fault
+/// after 18,446,744,073,709,551,615 reads.
+pub fn run_program<R: Opens + Drop, L: Links, S: Source, K: Sink>(
+    alloc: Global,
+    options: &Options,
+    links: &mut L,
+    meter: &mut Meter,
+    source: &mut S,
+    sink: &mut K,
+) -> Result<bool, Ended>
+    requires { InRange options.now }
+    ensures { ProgramEnds options.now (record { left = S.left source.old; failures = S.failures source.old }) (record { held = K.held sink.old; faults = K.faults sink.old }) result (record { left = S.left source.new; failures = S.failures source.new }) (record { held = K.held sink.new; faults = K.faults sink.new }) }
+{
+    let mut reads = u64::MAX;
+    match read_script(alloc, source, &mut reads) {
+        Ok(script) => start::<R, _, _, _>(
+            alloc, options, &script, links, meter, source, sink, &mut reads,
+        ),
+        Err(Unready::ReadFault) => Err(Ended::ReadFault),
+        Err(Unready::End) => put_fault(sink, b"fault script end\n".as_slice()),
+        Err(Unready::OutOfMemory) => put_fault(sink, b"fault script memory\n".as_slice()),
+    }
+}

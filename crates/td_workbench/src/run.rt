@@ -1,0 +1,157 @@
+//! Lines answered by sites.
+
+ghost use Rattle.std.specs.Prelude.{◌≡◌, ◌==◌, ◌&&◌, length, List, ℕ, Option, map, option_map, Ok};
+ghost use Rattle.td_answers.specs.Sites.{AreOfScript, OneScript};
+ghost use Rattle.td_workbench.specs.ForProofs.Serving.{LineEnds, ReadEnds, Serves, ended_by};
+ghost use Rattle.td_workbench.specs.Runs.{WorkbenchEnds, said};
+ghost use Rattle.td_devices.specs.Lines.{IsKept, TellsLine};
+ghost use Rattle.td_lines.specs.Lines.{line_of};
+
+use crate::writing::put_text;
+use std::alloc::Global;
+use td_answers::{Links, Reply, answer, catalogue_for};
+use td_story::{Meter, Replica};
+use td_devices::{Failed, LineError, RawLine, Sink, Source, content, read_line};
+use td_headings::Catalogue;
+use td_lines::LINE_BYTES;
+use thiserror::Error;
+
+/// Why a run ended before its input did.
+#[derive(Clone, Copy, Debug, Drop, PartialEq, Eq, Error)]
+pub enum Ended {
+    #[error("out of memory")]
+    OutOfMemory,
+    #[error("the reader failed")]
+    ReadFault,
+    #[error("the writer failed")]
+    WriteFault,
+}
+
+// Stands for a line that was too long to be kept: it has none of the forms either.
+const NOT_KEPT: &[u8] = b"?";
+
+// What the line is, without its line end.
+fn bytes_of(line: &RawLine) -> &[u8]
+    ensures { (raw : List ℕ) → IsKept 16384 raw (option_map (λ v. v.items) line.now.bytes) → line_of result.now ≡ said raw }
+{
+    match &line.bytes {
+        Some(bytes) => content(bytes),
+        None => NOT_KEPT,
+    }
+}
+
+// Whether no line was left of the input.
+fn is_nothing(line: &RawLine) -> bool
+    ensures { (raw : List ℕ) → IsKept 16384 raw (option_map (λ v. v.items) line.now.bytes) → result ≡ (line.now.is_last && (length raw == 0)) }
+{
+    match &line.bytes {
+        Some(bytes) => line.is_last && bytes.is_empty(),
+        None => false,
+    }
+}
+
+// Answers a line, and says whether it was `.quit`.
+fn answer_line<R: Replica, L: Links, K: Sink>(
+    alloc: Global,
+    catalogue: &Catalogue,
+    sites: &mut [R],
+    links: &mut L,
+    meter: &mut Meter,
+    line: &[u8],
+    sink: &mut K,
+) -> Result<bool, Failed>
+    requires { AreOfScript catalogue.now (map R.seen sites.old) }
+    ensures ends { LineEnds catalogue.now (map R.seen sites.old) (line_of line.now) result (map R.seen sites.new) (record { held = K.held sink.old; faults = K.faults sink.old }) (record { held = K.held sink.new; faults = K.faults sink.new }) }
+    ensures kept { AreOfScript catalogue.now (map R.seen sites.new) }
+{
+    match answer(alloc, catalogue, sites, links, meter, line) {
+        Reply::Quit => Ok(true),
+        Reply::Text(text) => put_text(sink, text.as_bytes()),
+        Reply::Table(text) => put_text(sink, text.as_slice()),
+        Reply::Fixed(text) => put_text(sink, text.as_bytes()),
+    }
+}
+
+// Answers a line that was read, if there is one, and says whether the run is over.
+fn answer_read<R: Replica, L: Links, K: Sink>(
+    alloc: Global,
+    catalogue: &Catalogue,
+    sites: &mut [R],
+    links: &mut L,
+    meter: &mut Meter,
+    line: &RawLine,
+    sink: &mut K,
+) -> Result<bool, Failed>
+    requires { AreOfScript catalogue.now (map R.seen sites.old) }
+    ensures ends { (raw : List ℕ) (left : Option (List ℕ)) → TellsLine 16384 raw left (Ok line.now) → ReadEnds catalogue.now (map R.seen sites.old) raw line.now.is_last left result (map R.seen sites.new) (record { held = K.held sink.old; faults = K.faults sink.old }) (record { held = K.held sink.new; faults = K.faults sink.new }) }
+    ensures kept { AreOfScript catalogue.now (map R.seen sites.new) }
+{
+    if is_nothing(line) {
+        return Ok(true);
+    }
+    match answer_line(alloc, catalogue, sites, links, meter, bytes_of(line), sink) {
+        Ok(quits) => Ok(quits || line.is_last),
+        Err(e) => Err(e),
+    }
+}
+
+fn not_read(e: LineError) -> Ended
+    ensures { result ≡ ended_by e }
+{
+    match e {
+        LineError::OutOfMemory => Ended::OutOfMemory,
+        LineError::ReadFault | LineError::NoReadsLeft => Ended::ReadFault,
+    }
+}
+
+/// Answers line after line, up to `.quit` or the end of the input, by at most so many reads, from which those made are taken off.
+pub fn serve<R: Replica, L: Links, S: Source, K: Sink>(
+    alloc: Global,
+    catalogue: &Catalogue,
+    sites: &mut [R],
+    links: &mut L,
+    meter: &mut Meter,
+    source: &mut S,
+    sink: &mut K,
+    reads: &mut u64,
+) -> Result<(), Ended>
+    requires { AreOfScript catalogue.now (map R.seen sites.old) }
+    ensures { Serves catalogue.now (map R.seen sites.old) reads.old (record { left = S.left source.old; failures = S.failures source.old }) (record { held = K.held sink.old; faults = K.faults sink.old }) result (map R.seen sites.new) (record { left = S.left source.new; failures = S.failures source.new }) (record { held = K.held sink.new; faults = K.faults sink.new }) }
+{
+    while *reads > 0 {
+        let line = match read_line(alloc, source, reads, LINE_BYTES) {
+            Ok(line) => line,
+            Err(e) => return Err(not_read(e)),
+        };
+        match answer_read(alloc, catalogue, sites, links, meter, &line, sink) {
+            Ok(true) => return Ok(()),
+            Ok(false) => {}
+            Err(_) => return Err(Ended::WriteFault),
+        }
+    }
+    Err(Ended::ReadFault)
+}
+
+/// Answers line after line, up to `.quit` or the end of the input; each answer is written and flushed before the next line is
+/// read. It costs the reading and typing of the sites' script at first. A line of more than 16,384 bytes is not kept. An endless
+/// input is a read fault after 18,446,744,073,709,551,615 reads.
+pub fn workbench<R: Replica, L: Links, S: Source, K: Sink>(
+    alloc: Global,
+    sites: &mut [R],
+    links: &mut L,
+    meter: &mut Meter,
+    source: &mut S,
+    sink: &mut K,
+) -> Result<(), Ended>
+    requires { OneScript (map R.seen sites.old) }
+    ensures { WorkbenchEnds (map R.seen sites.old) (record { left = S.left source.old; failures = S.failures source.old }) (record { held = K.held sink.old; faults = K.faults sink.old }) result (map R.seen sites.new) (record { left = S.left source.new; failures = S.failures source.new }) (record { held = K.held sink.new; faults = K.faults sink.new }) }
+{
+    let catalogue = match catalogue_for(alloc, sites) {
+        Ok(catalogue) => catalogue,
+        Err(_) => return Err(Ended::OutOfMemory),
+    };
+    let mut reads = u64::MAX;
+    serve(
+        alloc, &catalogue, sites, links, meter, source, sink, &mut reads,
+    )
+}

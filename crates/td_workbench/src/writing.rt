@@ -1,0 +1,27 @@
+//! Texts written whole.
+
+ghost use Rattle.td_workbench.specs.ForProofs.Opening.{PutsFault};
+ghost use Rattle.td_workbench.specs.ForProofs.Serving.{Puts};
+
+use crate::run::Ended;
+use td_devices::{Failed, Sink, put};
+
+/// Writes a text and flushes. The answer says that the run goes on.
+pub fn put_text<K: Sink>(sink: &mut K, text: &[u8]) -> Result<bool, Failed>
+    ensures { Puts text.now result (record { held = K.held sink.old; faults = K.faults sink.old }) (record { held = K.held sink.new; faults = K.faults sink.new }) }
+{
+    match put(sink, text) {
+        Ok(()) => Ok(false),
+        Err(e) => Err(e),
+    }
+}
+
+/// Writes what is told of a script that opens no sites, and flushes.
+pub fn put_fault<K: Sink>(sink: &mut K, text: &[u8]) -> Result<bool, Ended>
+    ensures { PutsFault text.now result (record { held = K.held sink.old; faults = K.faults sink.old }) (record { held = K.held sink.new; faults = K.faults sink.new }) }
+{
+    match put(sink, text) {
+        Ok(()) => Ok(false),
+        Err(_) => Err(Ended::WriteFault),
+    }
+}
