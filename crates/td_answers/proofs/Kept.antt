@@ -65,8 +65,8 @@ meets_not_keeps : (s t : Seen) (e : MeetingError) (took : ℕ) (after other : Se
 meets_not_keeps s t meeting_error.Broken took after other told = stay_keeps s t took after other told.1
 meets_not_keeps s t meeting_error.OtherScript took after other told = stay_keeps s t took after other told.2
 meets_not_keeps s t meeting_error.SameSite took after other told = stay_keeps s t took after other told.3
-meets_not_keeps s t meeting_error.OutOfMemory took after other (both, inl told) = stay_keeps s t took after other told
-meets_not_keeps s t meeting_error.OutOfMemory took after other (both, inr (x, first, same, count)) = record { first = takes_keep s t (Ok x) after first; second = same_script t other same }
+meets_not_keeps s t meeting_error.OutOfMemory took after other (both, two, inl told) = stay_keeps s t took after other told
+meets_not_keeps s t meeting_error.OutOfMemory took after other (both, two, inr (x, first, same, count)) = record { first = takes_keep s t (Ok x) after first; second = same_script t other same }
 meets_not_keeps s t (meeting_error.Take take_error.Broken) took after other told = absurd told
 meets_not_keeps s t (meeting_error.Take take_error.OutOfMemory) took after other told = absurd told
 meets_not_keeps s t (meeting_error.Take take_error.BadEntry) took after other told = stop_keeps s t take_error.BadEntry took after other told.1

@@ -1,7 +1,8 @@
 -- What writing a text of a site does to a writer. The text is made whole before any of it is written; at a write fault a front of it was
 -- written, and a failure is counted.
-use Rattle.std.specs.Prelude.{◌≡◌, ℕ, true, false, List, Option, Result, Ok, Err}
+use Rattle.std.specs.Prelude.{◌≡◌, ℕ, Bool, true, false, List, Option, Result, Ok, Err}
 use Rattle.std.specs.Io.KnownBytes.{Appends}
+use Rattle.td_devices.specs.declared.streams.Sink as sink
 use Rattle.td_devices.specs.Counted.{counted}
 use Rattle.td_devices.specs.Streams.{AppendsFront}
 use Rattle.td_headings.specs.Catalogues.{CatalogueData}
@@ -15,13 +16,19 @@ use Rattle.td_listings.specs.declared.error.ListingError.{ListingError}
 use Rattle.td_listings.specs.declared.error.ListingError.TheVariants as listing_error
 use Rattle.td_listings.specs.declared.error.TableError.TheVariants as table_error
 
--- the bytes that were written, where they are known, and the failures that were counted
+-- the bytes that were written, where they are known, the failures that were counted, and whether all has been handed on
 pub record Written : Type 0 where
   pub held : Option (List ℕ)
   pub faults : ℕ
+  pub is_flushed : Bool
 
+-- what a writer is seen as
+abbrev pub written_of : {K : Type 0} → sink.Ghosts K → K → Written
+written_of writes k = record { held = writes.held k; faults = writes.faults k; is_flushed = writes.is_flushed k }
+
+-- the text was written and handed on
 abbrev pub WritesWhole : List ℕ → Written → Written → Type 0
-WritesWhole text w after = Appends w.held after.held text × (after.faults ≡ w.faults)
+WritesWhole text w after = Appends w.held after.held text × (after.faults ≡ w.faults) × (after.is_flushed ≡ true)
 
 abbrev pub WritesFront : List ℕ → Written → Written → Type 0
 WritesFront text w after = AppendsFront w.held after.held text × (after.faults ≡ counted w.faults)

@@ -9,10 +9,10 @@ use Rattle.td_devices.specs.declared.lines.LineError.{LineError}
 use Rattle.td_devices.specs.declared.lines.LineError.TheVariants as line_error
 use Rattle.td_devices.specs.declared.streams.Failed.{Failed}
 use Rattle.td_lines.specs.Lines.{Line, is_quit}
-use Rattle.td_listings.specs.Writings.{Written, WritesWhole}
+use Rattle.td_listings.specs.Writings.{Written}
 use Rattle.td_answers.specs.Sites.{Sites}
 use Rattle.td_answers.specs.Answers.{Answered}
-use Rattle.td_workbench.specs.Streams.{Input, Reads}
+use Rattle.td_workbench.specs.Streams.{Input, Reads, WritesAll}
 use Rattle.td_workbench.specs.Runs.{said, GoesOn, Quits, RunsOut}
 use Rattle.td_workbench.specs.ForProofs.Serving.{LineEnds, ReadEnds, Serves, ended_by}
 use Rattle.td_workbench.specs.declared.run.Ended.TheVariants.{ReadFault, WriteFault}
@@ -36,7 +36,7 @@ pub quit_read : (c : CatalogueData) (old : Sites) (raw : List ℕ) (is_last : Bo
 quit_read c old raw is_last left new w after line read some says (quits, same, unwritten) =
     let (lines, out) = one_line is_last raw left read some in
     let ended : Quits c old (raw_lines raw) left [] old = record { before = []; last = raw; lines = lines; read_out = out; quits = sym says ∙ quits; served = served_none c old } in
-    ([], inl (subst (λ (s : Sites). Quits c old (raw_lines raw) left [] s) (sym same) ended), subst (λ (v : Written). WritesWhole [] w v) (sym unwritten) (writes_nothing w))
+    ([], inl (subst (λ (s : Sites). Quits c old (raw_lines raw) left [] s) (sym same) ended), subst (λ (v : Written). WritesAll [] w v) (sym unwritten) (writes_nothing w))
 
 pub last_read : (c : CatalogueData) (old : Sites) (raw : List ℕ) (is_last : Bool) (left : Option (List ℕ)) (new : Sites) (w after : Written) (line : Line) → IsRead is_last raw left → (is_last && (length raw == 0)) ≡ false → line ≡ said raw
     → LineEnds c old line (Ok false) new w after → ReadEnds c old raw is_last left (Ok is_last) new w after

@@ -4,10 +4,10 @@ use Rattle.std.proofs.KnownBytes.{Appends-nil, Appends-trans, Consumes-nil, Cons
 use Rattle.td_headings.specs.Catalogues.{CatalogueData}
 use Rattle.td_devices.specs.Counted.{counted}
 use Rattle.td_devices.specs.Lines.{raw_lines, IsWholeLine}
-use Rattle.td_listings.specs.Writings.{Written, WritesWhole}
+use Rattle.td_listings.specs.Writings.{Written}
 use Rattle.td_answers.specs.Sites.{Sites}
 use Rattle.td_answers.specs.Answers.{Answered}
-use Rattle.td_workbench.specs.Streams.{Input, Reads, ReadsNoMore}
+use Rattle.td_workbench.specs.Streams.{Input, Reads, ReadsNoMore, WritesAll}
 use Rattle.td_workbench.specs.Runs.{said, GoesOn, Printed, Served, Quits, RunsOut, BreaksOff, Reaches, Ends}
 use Rattle.td_workbench.specs.ForProofs.Serving.{Serves}
 use Rattle.td_workbench.specs.declared.run.Ended.{Ended}
@@ -16,11 +16,11 @@ use Rattle.td_workbench.proofs.Lines.{joined, joined_none, joined_last, raw_whol
 
 -- ---- streams
 
-pub writes_nothing : (w : Written) → WritesWhole [] w w
-writes_nothing w = (Appends-nil w.held, refl)
+pub writes_nothing : (w : Written) → WritesAll [] w w
+writes_nothing w = (Appends-nil w.held, refl, λ flushed. flushed)
 
-pub whole_trans : (w half after : Written) (t u : List ℕ) → WritesWhole t w half → WritesWhole u half after → WritesWhole (t ++ u) w after
-whole_trans w half after t u first second = (Appends-trans w.held half.held after.held t u first.0 second.0, second.1 ∙ first.1)
+pub whole_trans : (w half after : Written) (t u : List ℕ) → WritesAll t w half → WritesAll u half after → WritesAll (t ++ u) w after
+whole_trans w half after t u first second = (Appends-trans w.held half.held after.held t u first.0 second.0, second.1 ∙ first.1, λ flushed. second.2 (first.2 flushed))
 
 pub reads_nothing : (from : Input) → Reads [] from from
 reads_nothing from = (Consumes-nil from.left, refl)
@@ -105,7 +105,7 @@ module _ (c : CatalogueData) (old : Sites) (ls : List (List ℕ)) (t : List ℕ)
   }
 
   pub ends_behind : (ks : List (List ℕ)) (spare : ℕ) (bs more : List ℕ) (from at left : Input) (w half after : Written) (r : Result (Unit {0}) Ended) (new : Sites)
-      → Reads bs from at → WritesWhole t w half → Ends c mid ks spare more at half r new left after → Ends c old (ls ++ ks) spare (bs ++ more) from w r new left after
+      → Reads bs from at → WritesAll t w half → Ends c mid ks spare more at half r new left after → Ends c old (ls ++ ks) spare (bs ++ more) from w r new left after
   ends_behind ks spare bs more from at left w half after (Ok x) new read wrote (took, u, why, puts) = (
     reads_trans from at left bs more read took,
     t ++ u,
@@ -135,7 +135,7 @@ pub record Done (c : CatalogueData) (old : Sites) (reads now : ℕ) (from at : I
   pub text : List ℕ
   pub served : Served c old lines text mid
   pub read : Reads (joined lines) from at
-  pub wrote : WritesWhole text w half
+  pub wrote : WritesAll text w half
   pub spent : now + length (joined lines) ≡ reads
 
 pub done_none : (c : CatalogueData) (old : Sites) (reads : ℕ) (from : Input) (w : Written) → Done c old reads reads from from w w old
@@ -149,7 +149,7 @@ done_none c old reads from w = record {
 }
 
 pub done_more : (c : CatalogueData) (old : Sites) (reads now then : ℕ) (from at left : Input) (w half after : Written) (mid new : Sites) (raw t : List ℕ)
-    → Done c old reads now from at w half mid → Reads raw at left → now - then ≡ length raw + 0 → then ≤ now → Served c mid (raw ∷ []) t new → WritesWhole t half after
+    → Done c old reads now from at w half mid → Reads raw at left → now - then ≡ length raw + 0 → then ≤ now → Served c mid (raw ∷ []) t new → WritesAll t half after
     → Done c old reads then from left w after new
 done_more c old reads now then from at left w half after mid new raw t d took count fewer served wrote = record {
   lines = d.lines ++ raw ∷ [];

@@ -8,14 +8,14 @@ use Rattle.std.specs.Global.{Global}
 use Rattle.std.specs.declared.alloc.AllocError.{AllocError}
 use Rattle.td_devices.specs.Lines.{raw_lines}
 use Rattle.td_headings.specs.Catalogues.{CatalogueData}
-use Rattle.td_listings.specs.Writings.{Written, WritesWhole, WritesFront}
+use Rattle.td_listings.specs.Writings.{Written, WritesFront}
 use Rattle.td_story.specs.Scripts.{Opens}
 use Rattle.td_story.specs.declared.error.ScriptError.{ScriptError}
 use Rattle.td_story.specs.declared.error.ScriptError.TheVariants.{Syntax, IllTyped, OpeningRaised, OpeningBroken, OutOfMemory}
 use Rattle.td_story.specs.NewSites.{opened}
 use Rattle.td_story.specs.Seen.{Seen}
 use Rattle.td_answers.specs.Sites.{Sites, AreOfScript}
-use Rattle.td_workbench.specs.Streams.{Input, Reads, reads_left, most_reads}
+use Rattle.td_workbench.specs.Streams.{Input, Reads, reads_left, most_reads, WritesAll}
 use Rattle.td_workbench.specs.Runs.{Ends, RunsOut}
 use Rattle.td_workbench.specs.Scripts.{IsAccepted, IsRefused, Says, TellsFault, new_sites, ready, script_fault}
 use Rattle.td_workbench.specs.Programs.{Answers, ProgramEnds}
@@ -124,7 +124,7 @@ module _ (options : Options) (now : ℕ) (from mid : Input) (kept : Option (List
   ready_untold sites text w after accepted is front = inr (has.bytes, has.read, text, inr (has.text, sites, says_alone, accepted, is), front)
 
 pub answers_behind : (options : Options) (now : ℕ) (from mid left : Input) (kept : Option (List ℕ)) (is_last : Bool) (w told after : Written) (c : CatalogueData) (old : Sites) (r : Result (Unit {0}) Ended)
-    → (has : HasScript most_reads now from mid kept is_last) → IsAccepted options has.text old → AreOfScript c old → WritesWhole (ready options.sites) w told → BehindEnds is_last c old now mid told r left after → Answers options from w r left after
+    → (has : HasScript most_reads now from mid kept is_last) → IsAccepted options has.text old → AreOfScript c old → WritesAll (ready options.sites) w told → BehindEnds is_last c old now mid told r left after → Answers options from w r left after
 answers_behind options now from mid left kept true w told after c old r has accepted of wrote (is, unread, unwritten) =
     let over : RunsOut c old [] mid.left [] old = record { at_end = has.at_end refl; go_on = tt; printed = (refl, refl) } in
     let ends : Ends c old [] (reads_left has.bytes) has.bytes from told (Ok tt) old mid told = (has.read, [], inr over, writes_nothing told) in

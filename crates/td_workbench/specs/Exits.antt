@@ -1,8 +1,8 @@
 -- The exit status of the program, and what it puts where.
 use Rattle.std.specs.Prelude.{◌≡◌, ◌⊎◌, ℕ, Bool, true, false, List, Result, Ok, Err}
-use Rattle.td_listings.specs.Writings.{Written, WritesWhole, WritesFront}
+use Rattle.td_listings.specs.Writings.{Written, WritesFront}
 use Rattle.td_workbench.specs.Programs.{InRange, ProgramEnds}
-use Rattle.td_workbench.specs.Streams.{Input}
+use Rattle.td_workbench.specs.Streams.{Input, WritesAll}
 use Rattle.td_workbench.specs.declared.opening.Options.{Options}
 use Rattle.td_workbench.specs.declared.run.Ended.{Ended}
 
@@ -29,11 +29,11 @@ pub record RunsBy (status : ℕ) (old new : Standard) : Type 0 where
 
 -- help or the version was written, or a front of it
 abbrev pub PutsHelp : List ℕ → ℕ → Written → Written → Type 0
-PutsHelp text status w after = ((status ≡ 0) × WritesWhole text w after) ⊎ ((status ≡ 1) × WritesFront text w after)
+PutsHelp text status w after = ((status ≡ 0) × WritesAll text w after) ⊎ ((status ≡ 1) × WritesFront text w after)
 
 -- why the words are refused was written, or a front of it
 abbrev pub PutsRefusal : List ℕ → ℕ → Written → Written → Type 0
-PutsRefusal text status w after = (status ≡ 2) × (WritesWhole text w after ⊎ WritesFront text w after)
+PutsRefusal text status w after = (status ≡ 2) × (WritesAll text w after ⊎ WritesFront text w after)
 
 -- What is told in place of a run: help, to the output; why the words are refused, to the output of faults; or nothing, for want of memory.
 abbrev pub TellsWords : ℕ → Written → Written → Written → Written → Type 0

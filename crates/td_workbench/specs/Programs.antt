@@ -2,9 +2,9 @@
 use Rattle.std.specs.Prelude.{◌≡◌, ◌⊎◌, ◌≤◌, ℕ, Bool, true, false, List, Result, Ok, Err}
 use Rattle.std.specs.List.{AllByRecursion}
 use Rattle.td_headings.specs.Catalogues.{CatalogueData}
-use Rattle.td_listings.specs.Writings.{Written, WritesWhole, WritesFront}
+use Rattle.td_listings.specs.Writings.{Written, WritesFront}
 use Rattle.td_answers.specs.Sites.{Sites, AreOfScript}
-use Rattle.td_workbench.specs.Streams.{Input, Reads, ReadsNoMore, reads_left}
+use Rattle.td_workbench.specs.Streams.{Input, Reads, ReadsNoMore, reads_left, WritesAll}
 use Rattle.td_workbench.specs.Runs.{Ends, IsCut}
 use Rattle.td_workbench.specs.Scripts.{IsAccepted, IsUnfinished, Says, TellsFault, TellsReady, ready}
 use Rattle.td_workbench.specs.declared.opening.Options.{Options}
@@ -31,7 +31,7 @@ pub record Answers (options : Options) (from : Input) (w : Written) (r : Result 
   pub catalogue : CatalogueData
   pub of_script : AreOfScript catalogue old
   pub told : Written
-  pub ready_told : WritesWhole (ready options.sites) w told
+  pub ready_told : WritesAll (ready options.sites) w told
   pub new : Sites
   pub open : AllByRecursion (λ s. s.live ≡ true) new
   pub ends : Ends catalogue old raws (reads_left bytes) bytes from told r new left after
@@ -46,5 +46,5 @@ Stops options from w OutOfMemory left after = ⊥
 -- true says that the script was accepted, and false that its fault was told
 abbrev pub ProgramEnds : Options → Input → Written → Result Bool Ended → Input → Written → Type 0
 ProgramEnds options from w (Ok true) left after = Answers options from w (Ok tt) left after
-ProgramEnds options from w (Ok false) left after = (bytes : List ℕ) × Reads bytes from left × (text : List ℕ) × TellsFault bytes left.left text × WritesWhole text w after
+ProgramEnds options from w (Ok false) left after = (bytes : List ℕ) × Reads bytes from left × (text : List ℕ) × TellsFault bytes left.left text × WritesAll text w after
 ProgramEnds options from w (Err e) left after = Answers options from w (Err e) left after ⊎ Stops options from w e left after

@@ -5,10 +5,10 @@ use Rattle.std.specs.Io.KnownBytes.{IsAtEnd}
 use Rattle.td_headings.specs.Catalogues.{CatalogueData}
 use Rattle.td_devices.specs.Lines.{raw_lines, content, is_one_line, IsWholeLine, IsOfOneLine}
 use Rattle.td_lines.specs.Lines.{Line, quit, is_quit, line_of}
-use Rattle.td_listings.specs.Writings.{Written, WritesWhole, WritesFront}
+use Rattle.td_listings.specs.Writings.{Written, WritesFront}
 use Rattle.td_answers.specs.Sites.{Sites, AreOfScript}
 use Rattle.td_answers.specs.Answers.{Answered}
-use Rattle.td_workbench.specs.Streams.{Input, Reads, ReadsNoMore, reads_left}
+use Rattle.td_workbench.specs.Streams.{Input, Reads, ReadsNoMore, reads_left, WritesAll}
 use Rattle.td_workbench.specs.declared.run.Ended.{Ended}
 use Rattle.td_workbench.specs.declared.run.Ended.TheVariants.{OutOfMemory, ReadFault, WriteFault}
 
@@ -81,13 +81,13 @@ IsCut part = is_one_line part ≡ true
 -- which was not kept; a write fault leaves the last answer written in part.
 abbrev pub Ends : CatalogueData → Sites → List (List ℕ) → ℕ → List ℕ → Input → Written → Result (Unit {0}) Ended → Sites → Input → Written → Type 0
 Ends c old raws spare bytes from w (Ok u) new left after =
-    Reads bytes from left × (text : List ℕ) × (Quits c old raws left.left text new ⊎ RunsOut c old raws left.left text new) × WritesWhole text w after
+    Reads bytes from left × (text : List ℕ) × (Quits c old raws left.left text new ⊎ RunsOut c old raws left.left text new) × WritesAll text w after
 Ends c old raws spare bytes from w (Err ReadFault) new left after =
-    ReadsNoMore spare bytes from left × (text : List ℕ) × BreaksOff c old raws IsCut text new × WritesWhole text w after
+    ReadsNoMore spare bytes from left × (text : List ℕ) × BreaksOff c old raws IsCut text new × WritesAll text w after
 Ends c old raws spare bytes from w (Err OutOfMemory) new left after =
-    Reads bytes from left × (text : List ℕ) × BreaksOff c old raws IsOfOneLine text new × WritesWhole text w after
+    Reads bytes from left × (text : List ℕ) × BreaksOff c old raws IsOfOneLine text new × WritesAll text w after
 Ends c old raws spare bytes from w (Err WriteFault) new left after =
-    Reads bytes from left × (text : List ℕ) × (answer : List ℕ) × (half : Written) × Reaches c old raws left.left text answer new × WritesWhole text w half × WritesFront answer half after
+    Reads bytes from left × (text : List ℕ) × (answer : List ℕ) × (half : Written) × Reaches c old raws left.left text answer new × WritesAll text w half × WritesFront answer half after
 
 -- How the workbench ended. By the catalogue of its sites' script, over the lines that the bytes say; or there was no memory for that
 -- catalogue, and nothing was begun.

@@ -1,12 +1,18 @@
--- What a run has read of its input, and why it reads no more.
-use Rattle.std.specs.Prelude.{◌≡◌, ◌⊎◌, ℕ, ◌-◌, ◌^◌, List, Option, length}
-use Rattle.std.specs.Io.KnownBytes.{Consumes}
+-- What a run has read of its input, and why it reads no more; what it has written.
+use Rattle.std.specs.Prelude.{◌≡◌, ◌⊎◌, ℕ, ◌-◌, ◌^◌, true, List, Option, length}
+use Rattle.std.specs.Io.KnownBytes.{Appends, Consumes}
+use Rattle.td_devices.specs.declared.streams.Source as source
 use Rattle.td_devices.specs.Counted.{counted}
+use Rattle.td_listings.specs.Writings.{Written}
 
 -- the bytes that are left to be read, where they are known, and the failures that were counted
 pub record Input : Type 0 where
   pub left : Option (List ℕ)
   pub failures : ℕ
+
+-- what a reader is seen as
+abbrev pub input_of : {S : Type 0} → source.Ghosts S → S → Input
+input_of reads s = record { left = reads.left s; failures = reads.failures s }
 
 -- the bytes were read, and no failure was counted
 abbrev pub Reads : List ℕ → Input → Input → Type 0
@@ -24,3 +30,8 @@ reads_left bytes = most_reads - length bytes
 abbrev pub ReadsNoMore : ℕ → List ℕ → Input → Input → Type 0
 ReadsNoMore spare bytes from after =
     Consumes from.left after.left bytes × ((after.failures ≡ counted from.failures) ⊎ ((after.failures ≡ from.failures) × (spare ≡ 0)))
+
+-- All of the text was written, and where what was written before had been handed on, so has this: each answer is flushed before the next
+-- line is read.
+abbrev pub WritesAll : List ℕ → Written → Written → Type 0
+WritesAll text w after = Appends w.held after.held text × (after.faults ≡ w.faults) × (w.is_flushed ≡ true → after.is_flushed ≡ true)

@@ -1,5 +1,7 @@
 //! The program over its words and its streams.
 
+ghost use Rattle.td_listings.specs.Writings.{written_of};
+ghost use Rattle.td_workbench.specs.Streams.{input_of};
 ghost use Rattle.std.specs.Prelude.{◌≡◌};
 ghost use Rattle.td_workbench.specs.Exits.{Exits, PutsHelp, PutsRefusal, TellsWords, status_of};
 
@@ -24,7 +26,7 @@ fn status(end: Result<bool, Ended>) -> u8
 
 // Writes help or the version.
 fn put_help<K: Sink>(sink: &mut K, text: &[u8]) -> u8
-    ensures { PutsHelp text.now result (record { held = K.held sink.old; faults = K.faults sink.old }) (record { held = K.held sink.new; faults = K.faults sink.new }) }
+    ensures { PutsHelp text.now result (written_of K.Sink sink.old) (written_of K.Sink sink.new) }
 {
     match put(sink, text) {
         Ok(()) => 0,
@@ -34,7 +36,7 @@ fn put_help<K: Sink>(sink: &mut K, text: &[u8]) -> u8
 
 // Writes why the words are refused.
 fn put_refusal<F: Sink>(faults: &mut F, text: &[u8]) -> u8
-    ensures { PutsRefusal text.now result (record { held = F.held faults.old; faults = F.faults faults.old }) (record { held = F.held faults.new; faults = F.faults faults.new }) }
+    ensures { PutsRefusal text.now result (written_of F.Sink faults.old) (written_of F.Sink faults.new) }
 {
     match put(faults, text) {
         Ok(()) => 2,
@@ -44,7 +46,7 @@ fn put_refusal<F: Sink>(faults: &mut F, text: &[u8]) -> u8
 
 // Tells what the words asked for in place of a run, or why they are refused.
 fn tell<K: Sink, F: Sink>(alloc: Global, error: &Error, sink: &mut K, faults: &mut F) -> u8
-    ensures { TellsWords result (record { held = K.held sink.old; faults = K.faults sink.old }) (record { held = F.held faults.old; faults = F.faults faults.old }) (record { held = K.held sink.new; faults = K.faults sink.new }) (record { held = F.held faults.new; faults = F.faults faults.new }) }
+    ensures { TellsWords result (written_of K.Sink sink.old) (written_of F.Sink faults.old) (written_of K.Sink sink.new) (written_of F.Sink faults.new) }
 {
     if error.kind() == ErrorKind::OutOfMemory {
         return 1;
@@ -69,7 +71,7 @@ pub fn program<R: Opens + Drop, L: Links, S: Source, K: Sink, F: Sink>(
     sink: &mut K,
     faults: &mut F,
 ) -> u8
-    ensures { Exits result (record { input = record { left = S.left source.old; failures = S.failures source.old }; output = record { held = K.held sink.old; faults = K.faults sink.old }; faults = record { held = F.held faults.old; faults = F.faults faults.old } }) (record { input = record { left = S.left source.new; failures = S.failures source.new }; output = record { held = K.held sink.new; faults = K.faults sink.new }; faults = record { held = F.held faults.new; faults = F.faults faults.new } }) }
+    ensures { Exits result (record { input = input_of S.Source source.old; output = written_of K.Sink sink.old; faults = written_of F.Sink faults.old }) (record { input = input_of S.Source source.new; output = written_of K.Sink sink.new; faults = written_of F.Sink faults.new }) }
 {
     match read_options(alloc, words) {
         Ok(options) => status(run_program::<R, _, _, _>(alloc, &options, links, meter, source, sink)),

@@ -1,5 +1,6 @@
 //! The script, read up to the line that ends it.
 
+ghost use Rattle.td_workbench.specs.Streams.{input_of};
 ghost use Rattle.std.specs.Prelude.{◌≡◌, ◌≤◌, ◌++◌, List, ℕ, IfOk, option_map};
 ghost use Rattle.td_workbench.specs.ForProofs.Reading.{IsKeptScript, ScriptRead, unready_by};
 ghost use Rattle.td_workbench.specs.Scripts as spec;
@@ -72,7 +73,7 @@ pub fn read_script<S: Source>(
     source: &mut S,
     reads: &mut u64,
 ) -> Result<Script, Unready>
-    ensures { ScriptRead reads.old reads.new (record { left = S.left source.old; failures = S.failures source.old }) (record { left = S.left source.new; failures = S.failures source.new }) result }
+    ensures { ScriptRead reads.old reads.new (input_of S.Source source.old) (input_of S.Source source.new) result }
 {
     let mut script = Some(Vec::new(alloc));
     while *reads > 0 {

@@ -3,14 +3,14 @@ use Rattle.std.specs.Prelude.{◌≡◌, ◌⊎◌, ℕ, Bool, true, false, List
 use Rattle.std.specs.List.{AllByRecursion}
 use Rattle.std.specs.Global.{Global}
 use Rattle.std.specs.declared.alloc.AllocError.{AllocError}
-use Rattle.td_listings.specs.Writings.{Written, WritesWhole, WritesFront}
+use Rattle.td_listings.specs.Writings.{Written, WritesFront}
 use Rattle.td_story.specs.declared.error.ScriptError.{ScriptError}
 use Rattle.td_story.specs.declared.error.ScriptError.TheVariants.{Syntax, IllTyped, OpeningRaised, OpeningBroken, OutOfMemory}
 use Rattle.td_headings.specs.Catalogues.{CatalogueData}
 use Rattle.td_story.specs.Databases.{DatabaseData}
 use Rattle.td_story.specs.Scripts.{Opens}
 use Rattle.td_answers.specs.Sites.{Sites}
-use Rattle.td_workbench.specs.Streams.{Input, most_reads}
+use Rattle.td_workbench.specs.Streams.{Input, most_reads, WritesAll}
 use Rattle.td_workbench.specs.Programs.{ProgramEnds}
 use Rattle.td_workbench.specs.ForProofs.Reading.{HasScript}
 use Rattle.td_workbench.specs.declared.script.Script.{Script}
@@ -31,7 +31,7 @@ MayTell OutOfMemory told = told ≡ OutOfMemory
 -- a fault was told, or a front of it
 abbrev pub PutsFault : List ℕ → Result Bool Ended → Written → Written → Type 0
 PutsFault text (Ok true) w after = ⊥
-PutsFault text (Ok false) w after = WritesWhole text w after
+PutsFault text (Ok false) w after = WritesAll text w after
 PutsFault text (Err ended.WriteFault) w after = WritesFront text w after
 PutsFault text (Err ended.ReadFault) w after = ⊥
 PutsFault text (Err ended.OutOfMemory) w after = ⊥

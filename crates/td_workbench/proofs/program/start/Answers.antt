@@ -15,9 +15,9 @@ returns-in-Err-put g c = λ from has.
 pub returns-in-Ok-answer_behind : goal.returns-in-Ok-answer_behind
 returns-in-Ok-answer_behind g c = λ from has.
     let (accepted, of, told) = c.in-Ok.ensures.judged has.text has.is_kept in
-    answers_behind c.args.options.now c.args.reads.now from _ _ _ c.args.script.now.is_last _ _ _ _ _ _ has accepted of (subst (λ (t : List ℕ). Appends (g.K.Sink.held c.args.sink.now) (g.K.Sink.held c.put.new.sink) t) (c.as_bytes.ensures.value ∙ told) c.in-Ok-put.ensures.bytes, c.in-Ok-put.ensures.count) c.in-Ok-answer_behind.ensures
+    answers_behind c.args.options.now c.args.reads.now from _ _ _ c.args.script.now.is_last _ _ _ _ _ _ has accepted of (subst (λ (t : List ℕ). Appends (g.K.Sink.held c.args.sink.now) (g.K.Sink.held c.put.new.sink) t) (c.as_bytes.ensures.value ∙ told) c.in-Ok-put.ensures.bytes, c.in-Ok-put.ensures.count, λ _. c.in-Ok-put.ensures.flushed) c.in-Ok-answer_behind.ensures
 
 pub returns-in-Err-answer_behind : goal.returns-in-Err-answer_behind
 returns-in-Err-answer_behind g c = λ from has.
     let (accepted, of, told) = c.in-Ok.ensures.judged has.text has.is_kept in
-    inl (answers_behind c.args.options.now c.args.reads.now from _ _ _ c.args.script.now.is_last _ _ _ _ _ _ has accepted of (subst (λ (t : List ℕ). Appends (g.K.Sink.held c.args.sink.now) (g.K.Sink.held c.put.new.sink) t) (c.as_bytes.ensures.value ∙ told) c.in-Ok-put.ensures.bytes, c.in-Ok-put.ensures.count) c.in-Err-answer_behind.ensures)
+    inl (answers_behind c.args.options.now c.args.reads.now from _ _ _ c.args.script.now.is_last _ _ _ _ _ _ has accepted of (subst (λ (t : List ℕ). Appends (g.K.Sink.held c.args.sink.now) (g.K.Sink.held c.put.new.sink) t) (c.as_bytes.ensures.value ∙ told) c.in-Ok-put.ensures.bytes, c.in-Ok-put.ensures.count, λ _. c.in-Ok-put.ensures.flushed) c.in-Err-answer_behind.ensures)
