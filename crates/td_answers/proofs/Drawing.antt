@@ -5,12 +5,13 @@ use Rattle.std.proofs.lemmas.Bool.{cases_Bool, ne_eqb}
 use Rattle.std.proofs.lemmas.Bool.Decides.{nat_tests}
 use Rattle.std.proofs.lemmas.List.{get_or-drop, get_or-take, map-set}
 use Rattle.td_story.specs.Seen.{Seen}
-use Rattle.td_meeting.specs.Meetings.{Meets, MeetsNot}
+use Rattle.td_meeting.specs.Meetings.{Judges, Meets, MeetsNot}
 use Rattle.td_meeting.specs.declared.error.MeetingError.{MeetingError}
+use Rattle.td_meeting.specs.declared.error.MeetingError.TheVariants as meeting_error
 use Rattle.td_meeting.specs.declared.meeting.Met.{Met}
 use Rattle.td_meeting.specs.declared.meeting.MeetingRefusal.{MeetingRefusal}
 use Rattle.td_answers.specs.Answers.{MeetAnswered, meet_answer}
-use Rattle.td_answers.specs.ForProofs.Drawn.{MeetsAt, TellsMetAt}
+use Rattle.td_answers.specs.ForProofs.Drawn.{IsUnmet, MeetsAt, TellsMetAt}
 use Rattle.td_answers.specs.ForProofs.Said.{place_in}
 use Rattle.td_answers.specs.Sites.{Placed, Sites, site_of, sites_of, two_of}
 use Rattle.td_answers.proofs.Placing.{seen_read, set_there, site_there, some_seen}
@@ -110,3 +111,22 @@ meets_in n m ss a b text new at_n at_m two told =
     let (t, is_m, there_m) = placed m ss b at_m in
     let both : sites_of n m ss ≡ Some ((a, s), (b, t)) = ap (λ (o : Option Placed). two_of o (site_of m ss)) is_n ∙ ap (λ (o : Option Placed). two_of (Some (a, s)) o) is_m ∙ two_apart a b s t two in
     subst (λ (o : Option (Placed × Placed)). MeetAnswered n m ss o text new) (sym both) (told s t there_n there_m)
+
+-- two sites that may not meet stay as they were
+pub unmet : (s t : Seen) (e : MeetingError) → Judges s t (Err e) → IsUnmet e
+unmet s t meeting_error.Broken h = tt
+unmet s t meeting_error.OtherScript h = tt
+unmet s t meeting_error.SameSite h = tt
+unmet s t meeting_error.OutOfMemory h = absurd h
+unmet s t (meeting_error.Frame x n) h = absurd h
+unmet s t (meeting_error.WriteFault n) h = absurd h
+unmet s t (meeting_error.Take x) h = absurd h
+
+pub judged_not : (s t : Seen) (e : MeetingError) → Judges s t (Err e) → MeetsNot s t e 0 s t
+judged_not s t meeting_error.Broken h = (h, (refl, refl, refl))
+judged_not s t meeting_error.OtherScript h = (h.0, h.1, (refl, refl, refl))
+judged_not s t meeting_error.SameSite h = (h.0, h.1, h.2, (refl, refl, refl))
+judged_not s t meeting_error.OutOfMemory h = absurd h
+judged_not s t (meeting_error.Frame x n) h = absurd h
+judged_not s t (meeting_error.WriteFault n) h = absurd h
+judged_not s t (meeting_error.Take x) h = absurd h

@@ -1,9 +1,8 @@
 //! Meetings of two sites.
 
-ghost use Rattle.std.specs.Prelude.{◌≡◌, ◌≢◌, ◌<◌, MatchBool, length, map};
+ghost use Rattle.std.specs.Prelude.{◌≡◌, ◌≢◌, ◌<◌, length, map};
 ghost use Rattle.td_answers.specs.Faults as spec;
-ghost use Rattle.td_meeting.specs.Meetings.{AreOpen, IsOneClosed};
-ghost use Rattle.td_answers.specs.ForProofs.Drawn.{MeetsAt, TellsMetAt};
+ghost use Rattle.td_answers.specs.ForProofs.Drawn.{IsUnmet, MeetsAt, TellsMetAt};
 ghost use Rattle.td_answers.specs.ForProofs.Said.{IsBlank, Says};
 
 use crate::reply::Reply;
@@ -11,12 +10,19 @@ use crate::writing::{blank_line, clash_line, counted_line, met_line};
 use std::alloc::Global;
 use td_story::{Meter, Replica, TakeError};
 use td_frames::FrameError;
-use td_meeting::{MeetingError, MeetingRefusal, Met, meet};
+use td_meeting::{MeetingError, MeetingRefusal, Met, judge, meet};
 
-fn are_open<R: Replica>(first: &R, second: &R) -> bool
-    ensures { MatchBool result (AreOpen (R.seen first.now) (R.seen second.now)) (IsOneClosed (R.seen first.now) (R.seen second.now)) }
+// Why two sites may not meet, which is found without memory.
+fn unmet_fault(error: MeetingError) -> &'static str
+    requires { IsUnmet error }
+    ensures { result.now ≡ spec.meeting_fault error }
 {
-    first.is_open() && second.is_open()
+    match error {
+        MeetingError::Broken => "fault broken\n",
+        MeetingError::OtherScript => "fault script\n",
+        MeetingError::SameSite => "fault same site\n",
+        _ => unreachable!(),
+    }
 }
 
 // A meeting of the sites at two places.
@@ -98,8 +104,9 @@ pub(crate) fn meet_at<R: Replica>(
     requires two { first ≢ second }
     ensures { Says (λ words. TellsMetAt numbers (map R.seen sites.old) first second words (map R.seen sites.new)) result }
 {
-    if !are_open(&sites[first], &sites[second]) {
-        return Reply::Fixed("fault broken\n");
+    match judge(&sites[first], &sites[second]) {
+        Ok(()) => {}
+        Err(error) => return Reply::Fixed(unmet_fault(error)),
     }
     let Some(line) = blank_line(alloc) else {
         return Reply::Fixed("fault memory\n");
