@@ -153,7 +153,7 @@ fn reply_to<R: Replica>(
     }
 }
 
-/// Answers a line, which comes without its line end. It costs what the calls that it makes cost, and a search among the sites.
+/// Answers a line, which comes without its line end. No link is asked for yet. It costs what the calls that it makes cost, and a search among the sites.
 pub fn answer<R: Replica, L: Links>(
     alloc: Global,
     catalogue: &Catalogue,
@@ -165,6 +165,7 @@ pub fn answer<R: Replica, L: Links>(
     requires { AreOfScript catalogue.now (map R.seen sites.old) }
     ensures replies { Replies catalogue.now (map R.seen sites.old) (line_of line.now) result (map R.seen sites.new) }
     ensures kept { AreOfScript catalogue.now (map R.seen sites.new) }
+    ensures unasked { _links.new ≡ _links.old }
 {
     reply_to(alloc, catalogue, sites, meter, line)
 }

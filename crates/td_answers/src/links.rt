@@ -16,7 +16,7 @@ pub enum LinkError {
 
 /// Opens links to other sites. The workbench does not ask for one yet: it answers each line that wants a link as if none could be opened.
 pub trait Links {
-    type Link: Link;
+    type Link: Link + Drop;
 
     /// Waits at the address, and takes one connection.
     fn serve(&mut self, alloc: Global, address: SocketAddr) -> Result<Self::Link, LinkError>;
