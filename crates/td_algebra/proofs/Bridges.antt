@@ -32,7 +32,7 @@ use Rattle.td_tuples.specs.Nestings.{IsRelationValued, IsTupleValued, grouped_co
 use Rattle.td_algebra.specs.Nested.{relation_value, InGroup, Grouped, Wrapped, Ungrouped, Unwrapped}
 use Rattle.td_algebra.specs.ForProofs.Opened.{Opened, tuples_at}
 use Rattle.td_algebra.specs.Operators.{United, Common, Remaining, Projected, Renamed, Joined, Matching, NotMatching, Composed}
-use Rattle.td_algebra.specs.Raising.{Answers, Unless, all_of, and_then}
+use Rattle.td_algebra.specs.Raising.{Answers, Unless, UnlessRaised, all_of, and_then}
 use Rattle.td_algebra.specs.Restricting.{Restricted, RaisedIn, select}
 use Rattle.td_algebra.specs.Stops.{number_of}
 use Rattle.td_algebra.specs.Summaries.{over_groups}
@@ -49,18 +49,28 @@ use Rattle.td_algebra.proofs.Selections.{restricts, walk_fails}
 
 -- ---- sets
 
-module _ (r s n : RowsData) where
-  pub unites_to : IsRelationOf r.heading (United r s) n → n ≡ union_of r s
+module _ (r s : RowsData) where
+  pub union_is : IsRelationOf r.heading (United r s) (union_of r s)
   unfolding union_of
-  unites_to is = one_relation r.heading (United r s) n (union_of r s) is (of_union r.heading r s (union_of r s) (relation_of_is r.heading (set.union (body r) (body s))))
+  union_is = of_union r.heading r s (union_of r s) (relation_of_is r.heading (set.union (body r) (body s)))
 
-  pub intersects_to : IsRelationOf r.heading (Common r s) n → n ≡ intersect_of r s
+  pub intersect_is : IsRelationOf r.heading (Common r s) (intersect_of r s)
   unfolding intersect_of
-  intersects_to is = one_relation r.heading (Common r s) n (intersect_of r s) is (of_intersection r.heading r s (intersect_of r s) (relation_of_is r.heading (set.intersection (body r) (body s))))
+  intersect_is = of_intersection r.heading r s (intersect_of r s) (relation_of_is r.heading (set.intersection (body r) (body s)))
 
-  pub subtracts_to : IsRelationOf r.heading (Remaining r s) n → n ≡ minus_of r s
+  pub minus_is : IsRelationOf r.heading (Remaining r s) (minus_of r s)
   unfolding minus_of
-  subtracts_to is = one_relation r.heading (Remaining r s) n (minus_of r s) is (of_difference r.heading r s (minus_of r s) (relation_of_is r.heading (set.difference (body r) (body s))))
+  minus_is = of_difference r.heading r s (minus_of r s) (relation_of_is r.heading (set.difference (body r) (body s)))
+
+  module _ (n : RowsData) where
+    pub unites_to : IsRelationOf r.heading (United r s) n → n ≡ union_of r s
+    unites_to is = one_relation r.heading (United r s) n (union_of r s) is union_is
+
+    pub intersects_to : IsRelationOf r.heading (Common r s) n → n ≡ intersect_of r s
+    intersects_to is = one_relation r.heading (Common r s) n (intersect_of r s) is intersect_is
+
+    pub subtracts_to : IsRelationOf r.heading (Remaining r s) n → n ≡ minus_of r s
+    subtracts_to is = one_relation r.heading (Remaining r s) n (minus_of r s) is minus_is
 
 -- ---- a function of each tuple
 
@@ -70,13 +80,19 @@ image_is r h f = image_made r f f (λ t has. refl) r.tuples (map f r.tuples) ref
 listed_is : (h : Header) (P : Attrs → Type 0) (xs : List Attrs) → ((t : Attrs) → In t xs → P t) → ((t : Attrs) → P t → In t xs) → IsRelationOf h P (relation_from h xs)
 listed_is h P xs only all = made h h P xs (relation_from h xs) (relation_of_is h (tuple_set xs)) refl only all
 
-pub projects_to : (names : List (List ℕ)) (r n : RowsData) → IsRelationOf (columns_in names r.heading) (Projected names r) n → n ≡ project_of names r
+pub project_is : (names : List (List ℕ)) (r : RowsData) → IsRelationOf (columns_in names r.heading) (Projected names r) (project_of names r)
 unfolding project_of
-projects_to names r n is = one_relation (columns_in names r.heading) (Projected names r) n (project_of names r) is (image_is r (columns_in names r.heading) (cut names))
+project_is names r = image_is r (columns_in names r.heading) (cut names)
+
+pub projects_to : (names : List (List ℕ)) (r n : RowsData) → IsRelationOf (columns_in names r.heading) (Projected names r) n → n ≡ project_of names r
+projects_to names r n is = one_relation (columns_in names r.heading) (Projected names r) n (project_of names r) is (project_is names r)
+
+pub rename_is : (items : List (List ℕ × List ℕ)) (r : RowsData) → IsRelationOf (renamed_columns items r.heading) (Renamed items r) (rename_of items r)
+unfolding rename_of
+rename_is items r = image_is r (renamed_columns items r.heading) (renamed items)
 
 pub renames_to : (items : List (List ℕ × List ℕ)) (r n : RowsData) → IsRelationOf (renamed_columns items r.heading) (Renamed items r) n → n ≡ rename_of items r
-unfolding rename_of
-renames_to items r n is = one_relation (renamed_columns items r.heading) (Renamed items r) n (rename_of items r) is (image_is r (renamed_columns items r.heading) (renamed items))
+renames_to items r n is = one_relation (renamed_columns items r.heading) (Renamed items r) n (rename_of items r) is (rename_is items r)
 
 -- ---- joins
 
@@ -110,21 +126,21 @@ module _ (r s : RowsData) (a : AreRows r.heading r.tuples) (b : AreRows s.headin
       flat_map_in pairs_at r.tuples w t (has_in r t j.1)
       (map_in (beside t) (filter (agrees r.heading s.heading t) s.tuples) w u (filter_in (agrees r.heading s.heading t) s.tuples u (has_in s u j.2) same) (sym (beside-cut r.heading s.heading w j.0)))
 
-  join_is : IsRelationOf (joined r.heading s.heading) (Joined r s) (join_of r s)
+  pub join_is : IsRelationOf (joined r.heading s.heading) (Joined r s) (join_of r s)
   unfolding join_of
   join_is = listed_is (joined r.heading s.heading) (Joined r s) (flat_map pairs_at r.tuples) pairs_in in_pairs
 
-  matching_is : IsRelationOf r.heading (Matching r s) (matching_of r s)
+  pub matching_is : IsRelationOf r.heading (Matching r s) (matching_of r s)
   unfolding matching_of
   matching_is =
       let xs = filter (is_matched r.heading s.heading s.tuples) r.tuples in
       matching_made r s a b xs refl r.heading refl (matching_of r s) (relation_of_is r.heading (tuple_set xs))
 
-  not_matching_is : IsRelationOf r.heading (NotMatching r s) (not_matching_of r s)
+  pub not_matching_is : IsRelationOf r.heading (NotMatching r s) (not_matching_of r s)
   unfolding not_matching_of minus_of
   not_matching_is = without r.heading (Matching r s) r (matching_of r s) (not_matching_of r s) matching_is (relation_of_is r.heading (set.difference (body r) (body (matching_of r s))))
 
-  compose_is : IsRelationOf (composed_columns r.heading s.heading) (Composed r s) (compose_of r s)
+  pub compose_is : IsRelationOf (composed_columns r.heading s.heading) (Composed r s) (compose_of r s)
   unfolding compose_of project_of
   compose_is =
       let names = lone_names r.heading s.heading in
@@ -160,7 +176,7 @@ module _ (names : List (List ℕ)) (c : List ℕ) (r : RowsData) where
   abbrev with_its_group : Attrs → Attrs
   with_its_group t = with_attribute c (relation_value (group_at names r (cut_off names t))) (cut_off names t)
 
-  grouping_is : IsRelationOf (grouped_columns names c r.heading) (Grouped names c r) (grouping_of names c r)
+  pub grouping_is : IsRelationOf (grouped_columns names c r.heading) (Grouped names c r) (grouping_of names c r)
   unfolding grouping_of
   grouping_is = by_predicate (grouped_columns names c r.heading) (λ u. (t : Attrs) × (Has r t) × (u ≡ with_its_group t)) (Grouped names c r) (grouping_of names c r)
       (image_is r (grouped_columns names c r.heading) with_its_group)
@@ -169,14 +185,16 @@ module _ (names : List (List ℕ)) (c : List ℕ) (r : RowsData) where
         λ g. (g.0, g.1, same_group names c r (cut_off names g.0) u (with_its_group g.0) g.2 (group_at names r (cut_off names g.0), group_is (cut_off names g.0), refl)),
       ))
 
+  pub wrap_is : IsRelationOf (wrapped_columns names c r.heading) (Wrapped names c r) (wrap_of names c r)
+  unfolding wrap_of
+  wrap_is = image_is r (wrapped_columns names c r.heading) (λ t. with_attribute c (tuple (cut names t)) (cut_off names t))
+
   module _ (n : RowsData) where
     pub groups_to : IsRelationOf (grouped_columns names c r.heading) (Grouped names c r) n → n ≡ grouping_of names c r
     groups_to is = one_relation (grouped_columns names c r.heading) (Grouped names c r) n (grouping_of names c r) is grouping_is
 
     pub wraps_to : IsRelationOf (wrapped_columns names c r.heading) (Wrapped names c r) n → n ≡ wrap_of names c r
-    unfolding wrap_of
-    wraps_to is = one_relation (wrapped_columns names c r.heading) (Wrapped names c r) n (wrap_of names c r) is
-        (image_is r (wrapped_columns names c r.heading) (λ t. with_attribute c (tuple (cut names t)) (cut_off names t)))
+    wraps_to is = one_relation (wrapped_columns names c r.heading) (Wrapped names c r) n (wrap_of names c r) is wrap_is
 
 module _ (c : List ℕ) (r : RowsData) where
   abbrev opened_at : Attrs → List Attrs
@@ -191,14 +209,21 @@ module _ (c : List ℕ) (r : RowsData) where
       (at.0, in_has r at.0 at.1, w.0, in_contains (tuples_at c at.0) w.0 w.1, w.2))
       (λ u p. flat_map_in opened_at r.tuples u p.0 (has_in r p.0 p.1) (map_in (beside (cut_off (c ∷ []) p.0)) (tuples_at c p.0) u p.2 (contains_in (tuples_at c p.0) p.2 p.3) p.4))
 
-  module _ (rows : AreRows r.heading r.tuples) (n : RowsData) where
-    pub ungroups_to : IsRelationValued c r.heading → IsRelationOf (opened_columns c r.heading) (Ungrouped c r) n → n ≡ ungroup_of c r
+  module _ (rows : AreRows r.heading r.tuples) where
+    pub ungroup_is : IsRelationValued c r.heading → IsRelationOf (opened_columns c r.heading) (Ungrouped c r) (ungroup_of c r)
     unfolding ungroup_of
-    ungroups_to valued is = one_relation (opened_columns c r.heading) (Ungrouped c r) n (ungroup_of c r) is (ungrouped c r rows (opened_columns c r.heading) (open_of c r) valued open_is)
+    ungroup_is valued = ungrouped c r rows (opened_columns c r.heading) (open_of c r) valued open_is
 
-    pub unwraps_to : IsTupleValued c r.heading → IsRelationOf (opened_columns c r.heading) (Unwrapped c r) n → n ≡ unwrap_of c r
+    pub unwrap_is : IsTupleValued c r.heading → IsRelationOf (opened_columns c r.heading) (Unwrapped c r) (unwrap_of c r)
     unfolding unwrap_of
-    unwraps_to valued is = one_relation (opened_columns c r.heading) (Unwrapped c r) n (unwrap_of c r) is (unwrapped c r rows (opened_columns c r.heading) (open_of c r) valued open_is)
+    unwrap_is valued = unwrapped c r rows (opened_columns c r.heading) (open_of c r) valued open_is
+
+    module _ (n : RowsData) where
+      pub ungroups_to : IsRelationValued c r.heading → IsRelationOf (opened_columns c r.heading) (Ungrouped c r) n → n ≡ ungroup_of c r
+      ungroups_to valued is = one_relation (opened_columns c r.heading) (Ungrouped c r) n (ungroup_of c r) is (ungroup_is valued)
+
+      pub unwraps_to : IsTupleValued c r.heading → IsRelationOf (opened_columns c r.heading) (Unwrapped c r) n → n ≡ unwrap_of c r
+      unwraps_to valued is = one_relation (opened_columns c r.heading) (Unwrapped c r) n (unwrap_of c r) is (unwrap_is valued)
 
 -- ---- the transitive closure
 
@@ -231,7 +256,7 @@ module _ (r : RowsData) (b : IsBinary r.heading) (rows : AreRows r.heading r.tup
       subst (λ ms. IsClosedOver r ms (fold (with_through_end fields) (with_through_end fields o t) rest)) (append_assoc done (t ∷ []) rest)
       (further (done ++ t ∷ []) rest (with_through_end fields o t) next.1 next.0 (λ u m. has u (inr m)))
 
-  closure_is : IsRelationOf r.heading (Closed r) (tclose_of r)
+  pub closure_is : IsRelationOf r.heading (Closed r) (tclose_of r)
   unfolding tclose_of
   closure_is =
       let all = further [] r.tuples r rows (begun r b rows r refl) (λ t m. in_has r t m) in
@@ -265,6 +290,10 @@ abbrev told : {A : Type 0} → Result A Stop → Result A Fault
 told (Ok a) = Ok a
 told (Err e) = Err (Raised e)
 
+untold : (R : Stop → Type 0) {B : Type 0} (P : B → Type 0) (w : Result B Stop) → Unless R P (told w) → UnlessRaised R P w
+untold R P (Ok b) u = u
+untold R P (Err e) u = u
+
 -- two answers that are right are one
 module _ (R : Stop → Type 0) (h : Header) (P : Attrs → Type 0) where
   answers : (w : Result RowsData Stop) (a : Result RowsData Fault) → Unless R (IsRelationOf h P) (told w) → Unless R (IsRelationOf h P) a → Answers a w
@@ -280,6 +309,10 @@ module _ (m : Attrs → Result Bool Stop) (r : RowsData) where
   by_walk (Ok bs) is = restricts m r bs (relation_from r.heading (select r.tuples bs)) is (relation_of_is r.heading (tuple_set (select r.tuples bs)))
   by_walk (Err e) is = walk_fails m r (λ (xs : List Bool). xs) (IsRelationOf r.heading (Restricted m r)) (Raised e) is
 
+  pub restricted_is : UnlessRaised (RaisedIn m r) (IsRelationOf r.heading (Restricted m r)) (restricted m r)
+  unfolding restricted
+  restricted_is = untold (RaisedIn m r) (IsRelationOf r.heading (Restricted m r)) (restricted m r) (by_walk (all_of m r.tuples) refl)
+
   pub restricts_to : (a : Result RowsData Fault) → Unless (RaisedIn m r) (IsRelationOf r.heading (Restricted m r)) a → Answers a (restricted m r)
   unfolding restricted
   restricts_to a u = answers (RaisedIn m r) r.heading (Restricted m r) (restricted m r) a (by_walk (all_of m r.tuples) refl) u
@@ -289,6 +322,10 @@ module _ {E : Type 0} (m : Meaning E) (items : List (Item E)) (r : RowsData) whe
   by_items (Ok us) is = extends m items r (extended_columns items r.heading) us (relation_from (extended_columns items r.heading) us) is (relation_of_is (extended_columns items r.heading) (tuple_set us))
   by_items (Err e) is = extension_fails m items r (λ (xs : List Attrs). xs) (IsRelationOf (extended_columns items r.heading) (Extended m items r)) (Raised e) is
 
+  pub extended_is : UnlessRaised (RaisedBy m items r) (IsRelationOf (extended_columns items r.heading) (Extended m items r)) (extended m items r)
+  unfolding extended
+  extended_is = untold (RaisedBy m items r) (IsRelationOf (extended_columns items r.heading) (Extended m items r)) (extended m items r) (by_items (all_of (extended_at m items) r.tuples) refl)
+
   pub extends_to : (a : Result RowsData Fault) → Unless (RaisedBy m items r) (IsRelationOf (extended_columns items r.heading) (Extended m items r)) a → Answers a (extended m items r)
   unfolding extended
   extends_to a u = answers (RaisedBy m items r) (extended_columns items r.heading) (Extended m items r) (extended m items r) a (by_items (all_of (extended_at m items) r.tuples) refl) u
@@ -297,3 +334,8 @@ pub summarizes_to : {E : Type 0} (m : Meaning E) (items : List (Item (Summary E)
     → Unless (RaisedBy (over_groups m r per.heading) items per) (IsRelationOf (extended_columns items per.heading) (Extended (over_groups m r per.heading) items per)) a → Answers a (summarized m items r per)
 unfolding summarized
 summarizes_to m items r per a u = extends_to (over_groups m r per.heading) items per a u
+
+pub summarized_is : {E : Type 0} (m : Meaning E) (items : List (Item (Summary E))) (r per : RowsData)
+    → UnlessRaised (RaisedBy (over_groups m r per.heading) items per) (IsRelationOf (extended_columns items per.heading) (Extended (over_groups m r per.heading) items per)) (summarized m items r per)
+unfolding summarized
+summarized_is m items r per = extended_is (over_groups m r per.heading) items per

@@ -8,7 +8,8 @@ use Rattle.td_algebra.specs.declared.errors.Fault.{Fault}
 use Rattle.td_algebra.specs.declared.errors.Fault.TheVariants.{Raised, OutOfMemory}
 use Rattle.td_algebra.specs.declared.errors.Stop.{Stop}
 use Rattle.td_algebra.specs.Stops.{number_of, lesser}
-use Rattle.td_algebra.specs.Raising.{Answers, AnswersBy, and_all, alone, all_of, meaning_of}
+use Rattle.td_algebra.specs.Raising.{Answers, AnswersBy, and_all, alone, all_of}
+use Rattle.td_algebra.specs.ForProofs.Gathered.{meaning_of}
 
 first : (e f : Stop) → nat_le (number_of e) (number_of f) ≡ true → lesser e f ≡ e
 first e f h = rw h refl

@@ -4,3 +4,4 @@ pub mod Steps
 pub mod Opened
 pub mod Links
 pub mod Ends
+pub mod Gathered

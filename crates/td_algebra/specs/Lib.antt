@@ -9,3 +9,4 @@ pub mod Extending
 pub mod Summaries
 pub mod ForProofs
 pub mod Functions
+pub mod FunctionLaws

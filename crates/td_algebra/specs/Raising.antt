@@ -1,7 +1,6 @@
 -- Functions on tuples: their answers, and the least of the errors that they raise.
-use Rattle.std.specs.Prelude.{◌≡◌, ◌≤◌, List, [], ◌∷◌, ◌++◌, Option, None, Some, Result, Ok, Err}
+use Rattle.std.specs.Prelude.{◌≡◌, ◌≤◌, List, [], ◌∷◌, ◌++◌, Result, Ok, Err}
 use Rattle.td_algebra.specs.declared.errors.Stop.{Stop}
-use Rattle.td_algebra.specs.declared.errors.Stop.TheVariants.{Overflow}
 use Rattle.td_algebra.specs.Stops.{number_of, lesser}
 use Rattle.td_algebra.specs.declared.errors.Fault.{Fault}
 use Rattle.td_algebra.specs.declared.errors.Fault.TheVariants.{Raised, OutOfMemory}
@@ -21,6 +20,11 @@ Unless Raises P (Ok b) = ((e : Stop) → Raises e → ⊥) × P b
 Unless Raises P (Err (Raised e)) = Raises e × ((f : Stop) → Raises f → number_of e ≤ number_of f)
 Unless Raises P (Err OutOfMemory) = Unit {0}
 
+-- the same of an answer for which no memory is taken
+abbrev pub UnlessRaised : {B : Type 0} → (Stop → Type 0) → (B → Type 0) → Result B Stop → Type 0
+UnlessRaised Raises P (Ok b) = ((e : Stop) → Raises e → ⊥) × P b
+UnlessRaised Raises P (Err e) = Raises e × ((f : Stop) → Raises f → number_of e ≤ number_of f)
+
 -- the answers of both, or the least error among theirs
 abbrev pub and_all : {A : Type 0} → Result (List A) Stop → Result (List A) Stop → Result (List A) Stop
 and_all (Ok xs) (Ok ys) = Ok (xs ++ ys)
@@ -37,18 +41,7 @@ abbrev pub all_of : {X A : Type 0} → (X → Result A Stop) → List X → Resu
 all_of m [] = Ok []
 all_of m (x ∷ xs) = and_all (alone (m x)) (all_of m xs)
 
--- what was gathered
-abbrev pub so_far : {A : Type 0} → List A → Option Stop → Result (List A) Stop
-so_far xs None = Ok xs
-so_far xs (Some e) = Err e
-
 -- goes on with the value, or keeps the error
 abbrev pub and_then : {A B : Type 0} → Result A Stop → (A → Result B Stop) → Result B Stop
 and_then (Ok a) f = f a
 and_then (Err e) f = Err e
-
--- what an answer means, where memory was not wanted
-abbrev pub meaning_of : {A : Type 0} → Result A Fault → Result A Stop
-meaning_of (Ok a) = Ok a
-meaning_of (Err (Raised e)) = Err e
-meaning_of (Err OutOfMemory) = Err Overflow

@@ -5,7 +5,8 @@ ghost use Rattle.std.specs.List.{All};
 ghost use Rattle.td_values.specs.Data.{Attrs};
 ghost use Rattle.td_algebra.specs.declared.errors.Stop.{Stop};
 ghost use Rattle.td_algebra.specs.declared.errors.Fault.{Fault};
-ghost use Rattle.td_algebra.specs.Raising.{Answers, AnswersBy, so_far, and_all, alone, all_of};
+ghost use Rattle.td_algebra.specs.Raising.{Answers, AnswersBy, and_all, alone, all_of};
+ghost use Rattle.td_algebra.specs.ForProofs.Gathered.{so_far};
 
 use crate::errors::{Fault, Stop};
 use std::alloc::Global;

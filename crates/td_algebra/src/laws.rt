@@ -1,5 +1,6 @@
-//! The laws of the transitive closure, and of the greatest and the least value.
+//! The laws of the operators as functions, of the transitive closure, and of the greatest and the least value.
 ghost use Rattle.td_algebra.specs.Closures.{TcloseIsLeast};
+ghost use Rattle.td_algebra.specs.FunctionLaws.{ComposeOfIs, ExtendedIs, GroupingOfIs, IntersectOfIs, JoinOfIs, MatchingOfIs, MinusOfIs, NotMatchingOfIs, ProjectOfIs, RenameOfIs, RestrictedIs, SummarizedIs, TcloseOfIs, UngroupOfIs, UnionOfIs, UnwrapOfIs, WrapOfIs};
 ghost use Rattle.td_algebra.specs.Summaries.{MaxIsGreatest, MinIsLeast};
 
 /// The transitive closure is the least transitive relation that contains the relation.
@@ -15,4 +16,29 @@ pub fn max_is_greatest()
 /// MIN is one of the values, and none of them is less.
 pub fn min_is_least()
     ensures { MinIsLeast }
+{}
+
+/// The functions in which the evaluation of expressions is written: each gives the one relation that its operator describes.
+pub fn functions_are_operators()
+    ensures union { UnionOfIs }
+    ensures intersect { IntersectOfIs }
+    ensures minus { MinusOfIs }
+    ensures project { ProjectOfIs }
+    ensures rename { RenameOfIs }
+    ensures join { JoinOfIs }
+    ensures matching { MatchingOfIs }
+    ensures not_matching { NotMatchingOfIs }
+    ensures compose { ComposeOfIs }
+    ensures grouping { GroupingOfIs }
+    ensures wrap { WrapOfIs }
+    ensures ungroup { UngroupOfIs }
+    ensures unwrap { UnwrapOfIs }
+    ensures tclose { TcloseOfIs }
+    ensures restrict { RestrictedIs }
+{}
+
+/// The same of those that take terms, of any kind: unless one raises, and then the least that is raised.
+pub fn functions_by_terms_are_operators<E>()
+    ensures extended { ExtendedIs E }
+    ensures summarized { SummarizedIs E }
 {}

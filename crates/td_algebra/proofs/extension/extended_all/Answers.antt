@@ -1,7 +1,8 @@
 use Rattle.std.proofs.Common.{◌∙◌, sym, subst, arith}
 use Rattle.std.specs.List.{All}
 use Rattle.td_tuples.specs.Parts.{Fits}
-use Rattle.td_algebra.specs.Raising.{AnswersBy, all_of, so_far, meaning_of}
+use Rattle.td_algebra.specs.Raising.{AnswersBy, all_of}
+use Rattle.td_algebra.specs.ForProofs.Gathered.{so_far, meaning_of}
 use Rattle.td_tuples.specs.Items.{extended_columns}
 use Rattle.td_algebra.specs.Extending.{Means, extended_at}
 use Rattle.td_algebra.proofs.Walks.{all_more_at, all_done, at_item, says_meaning, each_more, finished}

@@ -2,7 +2,8 @@ use Rattle.std.proofs.Common.{◌≡◌, drop, IfOk}
 use Rattle.std.specs.List.{All}
 use Rattle.td_values.specs.Headings.{Header}
 use Rattle.td_tuples.specs.Parts.{Fits}
-use Rattle.td_algebra.specs.Raising.{so_far, and_all, all_of}
+use Rattle.td_algebra.specs.Raising.{and_all, all_of}
+use Rattle.td_algebra.specs.ForProofs.Gathered.{so_far}
 use Rattle.td_tuples.specs.Items.{extended_columns}
 use Rattle.td_algebra.specs.Extending.{Meaning, Means, extended_at}
 use Rattle.td_algebra.proofs.extension.extended_all.Given as goal

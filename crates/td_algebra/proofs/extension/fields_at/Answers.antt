@@ -2,7 +2,8 @@ use Rattle.std.proofs.Common.{◌≡◌, List, ℕ, take, map, IfOk, sym, ◌∙
 use Rattle.std.proofs.lemmas.List.{take_all}
 use Rattle.td_values.specs.Data.{Datum}
 use Rattle.td_values.specs.Whole.{type_of}
-use Rattle.td_algebra.specs.Raising.{AnswersBy, so_far, meaning_of}
+use Rattle.td_algebra.specs.Raising.{AnswersBy}
+use Rattle.td_algebra.specs.ForProofs.Gathered.{so_far, meaning_of}
 use Rattle.td_tuples.specs.Items.{column_of}
 use Rattle.td_algebra.specs.Extending.{Means, field_at, fields_at}
 use Rattle.td_tuples.proofs.Filters.{mapped_more}

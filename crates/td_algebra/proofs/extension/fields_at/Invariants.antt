@@ -1,7 +1,8 @@
 use Rattle.std.proofs.Common.{◌≡◌, drop, take, map, IfOk}
 use Rattle.std.specs.List.{All}
 use Rattle.td_values.specs.Whole.{type_of}
-use Rattle.td_algebra.specs.Raising.{so_far, and_all, all_of}
+use Rattle.td_algebra.specs.Raising.{and_all, all_of}
+use Rattle.td_algebra.specs.ForProofs.Gathered.{so_far}
 use Rattle.td_tuples.specs.Items.{column_of}
 use Rattle.td_algebra.specs.Extending.{Meaning, Means, field_at, fields_at}
 use Rattle.td_algebra.proofs.extension.fields_at.Given as goal

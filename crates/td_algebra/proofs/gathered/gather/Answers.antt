@@ -1,5 +1,6 @@
 use Rattle.std.proofs.Common.{get_or, sym, ◌∙◌, subst, arith}
-use Rattle.td_algebra.specs.Raising.{AnswersBy, so_far, all_of}
+use Rattle.td_algebra.specs.Raising.{AnswersBy, all_of}
+use Rattle.td_algebra.specs.ForProofs.Gathered.{so_far}
 use Rattle.td_algebra.proofs.Walks.{all_more, all_done}
 use Rattle.td_algebra.proofs.gathered.gather.Goals as goal
 

@@ -3,7 +3,8 @@ use Rattle.std.specs.Fn.{FnReturnsAt}
 use Rattle.std.specs.List.{All}
 use Rattle.td_algebra.specs.declared.errors.Stop.{Stop}
 use Rattle.td_values.specs.Data.{Attrs}
-use Rattle.td_algebra.specs.Raising.{Answers, so_far, and_all, all_of}
+use Rattle.td_algebra.specs.Raising.{Answers, and_all, all_of}
+use Rattle.td_algebra.specs.ForProofs.Gathered.{so_far}
 use Rattle.td_algebra.proofs.gathered.gather.Given as goal
 
 abbrev pub invariant-loop-tuple : goal.invariant-loop-tuple

@@ -1,5 +1,6 @@
 use Rattle.std.proofs.Common.{◌∙◌, sym, subst, arith}
-use Rattle.td_algebra.specs.Raising.{AnswersBy, all_of, so_far}
+use Rattle.td_algebra.specs.Raising.{AnswersBy, all_of}
+use Rattle.td_algebra.specs.ForProofs.Gathered.{so_far}
 use Rattle.td_algebra.specs.Extending.{Means}
 use Rattle.td_algebra.proofs.Walks.{all_more_at, all_done, at_item}
 use Rattle.td_algebra.proofs.summaries.values_at.Goals as goal

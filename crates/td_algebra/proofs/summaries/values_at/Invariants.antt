@@ -1,6 +1,7 @@
 use Rattle.std.proofs.Common.{◌≡◌, drop}
 use Rattle.std.specs.List.{All}
-use Rattle.td_algebra.specs.Raising.{so_far, and_all, all_of}
+use Rattle.td_algebra.specs.Raising.{and_all, all_of}
+use Rattle.td_algebra.specs.ForProofs.Gathered.{so_far}
 use Rattle.td_algebra.specs.Extending.{Meaning, Means}
 use Rattle.td_algebra.proofs.summaries.values_at.Given as goal
 
