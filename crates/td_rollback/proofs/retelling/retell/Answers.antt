@@ -1,0 +1,32 @@
+use Rattle.std.proofs.Common.{ap, sym}
+use Rattle.td_stamps.proofs.Stories as stories
+use Rattle.td_rollback.proofs.Counting.{at_most_all}
+use Rattle.td_rollback.proofs.retelling.retell.Goals as goal
+
+pub save_end-requires-clause-each : goal.save_end-requires-clause-each
+save_end-requires-clause-each g c = let m = g.M.Machine in stories.as_many m.steps (m.origin c.args.machine.now) c.args.machine.now c.args.old.now c.args.log.now c.requires.story
+
+pub replay_from-requires-clause-each : goal.replay_from-requires-clause-each
+replay_from-requires-clause-each g c = let m = g.M.Machine in stories.as_many m.steps (m.origin c.args.machine.now) c.args.machine.now c.args.old.now c.args.log.now c.requires.story
+
+pub returns-in-Ok-clause-few : goal.returns-in-Ok-clause-few
+returns-in-Ok-clause-few g c =
+    let m = g.M.Machine in
+    let o = m.origin c.args.machine.now in
+    at_most_all (m.footprint o) (m.targets o) c.args.old.now c.args.new.now (m.count c.replay_from.new.meter) (m.count c.args.meter.now) c.requires.more c.replay_from.ensures.counted
+
+pub returns-in-Err-clause-few : goal.returns-in-Err-clause-few
+returns-in-Err-clause-few g c =
+    let m = g.M.Machine in
+    let o = m.origin c.args.machine.now in
+    at_most_all (m.footprint o) (m.targets o) c.args.old.now c.args.new.now (m.count c.replay_from.new.meter) (m.count c.args.meter.now) c.requires.more c.replay_from.ensures.counted
+
+pub returns-in-Err-clause-kept : goal.returns-in-Err-clause-kept
+returns-in-Err-clause-kept g c =
+    let saved = c.in_ok-part.ensures in
+    c.put_back.ensures c.args.machine.now saved.0 saved.1 (sym c.replay_from.ensures.origin) (λ n never. c.replay_from.ensures.elsewhere n (λ h. never (saved.2 n h)))
+
+pub returns-in-Err-clause-origin : goal.returns-in-Err-clause-origin
+returns-in-Err-clause-origin g c =
+    let saved = c.in_ok-part.ensures in
+    ap g.M.Machine.origin (c.put_back.ensures c.args.machine.now saved.0 saved.1 (sym c.replay_from.ensures.origin) (λ n never. c.replay_from.ensures.elsewhere n (λ h. never (saved.2 n h))))

@@ -1,0 +1,3 @@
+-- Words that only proofs use.
+pub mod Ways
+pub mod Standing

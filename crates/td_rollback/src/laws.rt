@@ -1,0 +1,26 @@
+//! The laws of replay.
+
+ghost use Rattle.td_rollback.specs.Laws.{RecordsName, ReplayIsStory, RunsAreCounted, RunsAreFew, RunsAreOne, RunsAreThere};
+ghost use Rattle.td_rollback.specs.Going.{SoundFrom};
+
+use crate::machine::Machine;
+
+/// There is one number of entries that are run for new entries, at most that of all, and it cannot be that there is none. Where lists
+/// name the places it is counted by a walk along them.
+pub fn runs_are_one<M: Machine>()
+    ensures one { (o : M) → RunsAreOne (M.footprint o) (M.targets o) }
+    ensures few { (o : M) → RunsAreFew (M.footprint o) (M.targets o) }
+    ensures there { (o : M) → RunsAreThere (M.footprint o) (M.targets o) }
+    ensures counted { (o : M) → RunsAreCounted (M.footprint o) (M.targets o) }
+{}
+
+/// The records of a story name the footprint and the targets of each of its entries.
+pub fn records_name<M: Machine>()
+    ensures footprint { (o : M) → RecordsName (SoundFrom M.sound M.origin o) M.steps (M.footprint o) M.footprint_in }
+    ensures targets { (o : M) → RecordsName (SoundFrom M.sound M.origin o) M.steps (M.targets o) M.targets_in }
+{}
+
+/// A replay that runs only what new entries touch is the story of all entries.
+pub fn replay_is_story<M: Machine>()
+    ensures { (o : M) → ReplayIsStory (SoundFrom M.sound M.origin o) M.steps M.alike (M.footprint o) (M.targets o) }
+{}

@@ -1,0 +1,138 @@
+//! Entries replayed from a state.
+
+ghost use Rattle.std.specs.Prelude.{◌≡◌, ◌≤◌, ◌+◌, ◌++◌, ◌∷◌, ◌↔◌, ◌⊎◌, [], ℕ, IfOk, OnOk, length};
+ghost use Rattle.std.specs.List.{Contains};
+ghost use Rattle.td_stamps.specs.Entries.{stamp_of};
+ghost use Rattle.td_stamps.specs.Story.{Story};
+ghost use Rattle.td_stamps.specs.declared.entry.Entry.{Entry as EntryData};
+ghost use Rattle.td_stamps.specs.declared.entry.Stamp.{Stamp as StampData};
+ghost use Rattle.td_rollback.specs.Going.{AreAlikeBut};
+ghost use Rattle.td_rollback.specs.Touched.{AreMore, Runs};
+ghost use Rattle.td_rollback.specs.Turns.{settled};
+ghost use Rattle.td_rollback.specs.ForProofs.Standing.{Ran};
+
+use crate::machine::Machine;
+use crate::names::{add, meets};
+use crate::turns::Turn;
+use std::alloc::{AllocError, Global};
+use td_stamps::{Entry, Stamp};
+
+// Runs the entry, and names its targets.
+fn run_anew<M: Machine>(
+    alloc: Global,
+    machine: &mut M,
+    names: &mut Vec<usize>,
+    entry: &Entry,
+    meter: &mut M::Meter,
+) -> Result<(Stamp, M::Record), AllocError>
+    requires { M.sound machine.old }
+    ensures stamp { IfOk result (λ p. p.0 ≡ stamp_of entry.now) }
+    ensures step { IfOk result (λ p. M.steps machine.old entry.now p.1 machine.new) }
+    ensures names { OnOk result ((n : ℕ) → Contains names.new.items n ↔ (M.targets (M.origin machine.old) entry.now n ⊎ Contains names.old.items n)) }
+    ensures elsewhere { (n : ℕ) → (M.targets (M.origin machine.old) entry.now n → ⊥) → M.alike machine.old machine.new n }
+    ensures origin { M.origin machine.new ≡ M.origin machine.old }
+    ensures counted { M.count meter.new ≤ M.count meter.old + 1 }
+{
+    let ran = machine.run(alloc, entry, meter)?;
+    add(names, M::targets_of(&ran))?;
+    Ok((entry.stamp(), ran))
+}
+
+// Runs an old entry again.
+fn run_again<M: Machine>(
+    alloc: Global,
+    machine: &mut M,
+    names: &mut Vec<usize>,
+    turns: &mut Vec<Turn<M::Record>>,
+    entry: &Entry,
+    meter: &mut M::Meter,
+) -> Result<(), AllocError>
+    requires { M.sound machine.old }
+    ensures turn { OnOk result ((p : StampData × M.Record) × Ran M.steps machine.old entry.now p machine.new × (turns.new.items ≡ turns.old.items ++ Turn.Again p ∷ [])) }
+    ensures names { OnOk result ((n : ℕ) → Contains names.new.items n ↔ (M.targets (M.origin machine.old) entry.now n ⊎ Contains names.old.items n)) }
+    ensures elsewhere { (n : ℕ) → (M.targets (M.origin machine.old) entry.now n → ⊥) → M.alike machine.old machine.new n }
+    ensures origin { M.origin machine.new ≡ M.origin machine.old }
+    ensures counted { M.count meter.new ≤ M.count meter.old + 1 }
+{
+    let again = run_anew(alloc, machine, names, entry, meter)?;
+    turns.push(Turn::Again(again))?;
+    Ok(())
+}
+
+// Runs an entry that is not old.
+fn run_fresh<M: Machine>(
+    alloc: Global,
+    machine: &mut M,
+    names: &mut Vec<usize>,
+    turns: &mut Vec<Turn<M::Record>>,
+    entry: &Entry,
+    meter: &mut M::Meter,
+) -> Result<(), AllocError>
+    requires { M.sound machine.old }
+    ensures turn { OnOk result ((p : StampData × M.Record) × Ran M.steps machine.old entry.now p machine.new × (turns.new.items ≡ turns.old.items ++ Turn.Fresh p ∷ [])) }
+    ensures names { OnOk result ((n : ℕ) → Contains names.new.items n ↔ (M.targets (M.origin machine.old) entry.now n ⊎ Contains names.old.items n)) }
+    ensures elsewhere { (n : ℕ) → (M.targets (M.origin machine.old) entry.now n → ⊥) → M.alike machine.old machine.new n }
+    ensures origin { M.origin machine.new ≡ M.origin machine.old }
+    ensures counted { M.count meter.new ≤ M.count meter.old + 1 }
+{
+    let first = run_anew(alloc, machine, names, entry, meter)?;
+    turns.push(Turn::Fresh(first))?;
+    Ok(())
+}
+
+// Makes the change of an old entry again.
+fn keep<M: Machine>(
+    alloc: Global,
+    machine: &mut M,
+    turns: &mut Vec<Turn<M::Record>>,
+    ran: &M::Record,
+) -> Result<(), AllocError>
+    requires { M.sound machine.old × ((t : M) × (e : EntryData) × M.steps machine.old e ran.now t) }
+    ensures turn { OnOk result (turns.new.items ≡ turns.old.items ++ Turn.Kept ∷ []) }
+    ensures after { (t : M) → (e : EntryData) → M.steps machine.old e ran.now t → OnOk result (machine.new ≡ t) }
+    ensures elsewhere { (n : ℕ) → (Contains (M.targets_in ran.now) n → ⊥) → M.alike machine.old machine.new n }
+    ensures origin { M.origin machine.new ≡ M.origin machine.old }
+{
+    machine.redo(alloc, ran)?;
+    turns.push(Turn::Kept)?;
+    Ok(())
+}
+
+// Replays from the state before the old entries, which have these records, until all entries ran. An old entry that none of those
+// that ran touches is not run: its change is made again.
+pub(crate) fn replay_end<M: Machine>(
+    alloc: Global,
+    machine: &mut M,
+    old: &[Entry],
+    log: &[(Stamp, M::Record)],
+    new: &[Entry],
+    meter: &mut M::Meter,
+) -> Result<Vec<Turn<M::Record>>, AllocError>
+    requires sound { M.sound machine.old }
+    requires story { (last : M) × Story M.steps machine.old old.now log.now last }
+    requires each { length log.now ≡ length old.now }
+    requires more { AreMore old.now new.now }
+    ensures story { IfOk result (λ turns. Story M.steps machine.old new.now (settled log.now turns.items) machine.new) }
+    ensures many { IfOk result (λ turns. length turns.items ≡ length new.now) }
+    ensures counted { (n : ℕ) → Runs (M.footprint (M.origin machine.old)) (M.targets (M.origin machine.old)) [] old.now new.now n → M.count meter.new ≤ M.count meter.old + n }
+    ensures elsewhere { AreAlikeBut M.alike (M.targets (M.origin machine.old)) new.now machine.old machine.new }
+    ensures origin { M.origin machine.new ≡ M.origin machine.old }
+{
+    let mut turns = Vec::new(alloc);
+    let mut names = Vec::new(alloc);
+    let mut at = 0;
+    for entry in new {
+        if at < old.len() && entry.is_same(&old[at]) {
+            let ran = &log[at].1;
+            at += 1;
+            if meets(&names, M::footprint_of(ran)) {
+                run_again(alloc, machine, &mut names, &mut turns, entry, meter)?;
+            } else {
+                keep(alloc, machine, &mut turns, ran)?;
+            }
+        } else {
+            run_fresh(alloc, machine, &mut names, &mut turns, entry, meter)?;
+        }
+    }
+    Ok(turns)
+}
