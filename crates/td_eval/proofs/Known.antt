@@ -27,7 +27,7 @@ use Rattle.td_algebra.specs.declared.errors.Stop.TheVariants.{Untyped}
 use Rattle.td_headings.specs.Catalogues.{CatalogueData}
 use Rattle.td_headings.specs.Definitions.{Defined}
 use Rattle.td_headings.specs.Expressions.{IsTyped, IsTree, HasAllUnder, virtual_of, virtual_at, places_of, reads}
-use Rattle.td_headings.specs.Reached.{IsReached, is_base, named_relvars, relvars_within, AreThose, ReadsRelvar}
+use Rattle.td_headings.specs.Reached.{IsReached, is_base, named_relvars, relvars_of_origin, AreThose, ReadsRelvar}
 use Rattle.td_headings.specs.declared.defined.Origin.{Origin}
 use Rattle.td_headings.specs.declared.defined.Origin.TheVariants as origin
 use Rattle.td_headings.proofs.ReadLemmas.{reads_those}
@@ -102,15 +102,15 @@ same_known r s (b ∷ bs) same =
     λ i. here i ∷ rest i
 
 -- ---- links
-under_at : (os : List Origin) (m : ℕ) (u : Typed) → slice_get os m ≡ Some (origin.Virtual u) → (w : ℕ) → Contains (named_relvars u) w → LeadsOn (map relvars_within os) m w
+under_at : (os : List Origin) (m : ℕ) (u : Typed) → slice_get os m ≡ Some (origin.Virtual u) → (w : ℕ) → Contains (named_relvars u) w → LeadsOn (map relvars_of_origin os) m w
 under_at os m u is w h =
     let lt = slice_get_within os m (origin.Virtual u) is in
-    let at = get_or-map relvars_within os m (origin.Virtual u) [] lt ∙ ap relvars_within (get_or_from_slice_get os m (origin.Virtual u) (origin.Virtual u) is) in
+    let at = get_or-map relvars_of_origin os m (origin.Virtual u) [] lt ∙ ap relvars_of_origin (get_or_from_slice_get os m (origin.Virtual u) (origin.Virtual u) is) in
     subst (λ l. Contains l w) (sym at) h
 
 reached_within : (os : List Origin) (u : Typed) (n : ℕ) → IsReached os u n → n < length os
-reached_within os u n (start h lt) = omega (arith, lt, length-map os relvars_within)
-reached_within os u n (onward r on lt) = omega (arith, lt, length-map os relvars_within)
+reached_within os u n (start h lt) = omega (arith, lt, length-map os relvars_of_origin)
+reached_within os u n (onward r on lt) = omega (arith, lt, length-map os relvars_of_origin)
 
 module _ (c : CatalogueData) (defined : Defined c) (x : Expression) (tree : IsTree c x.attributes x.tree x.kind) (u : HasAllUnder c x) where
   abbrev all_places : List ℕ
@@ -134,13 +134,13 @@ module _ (c : CatalogueData) (defined : Defined c) (x : Expression) (tree : IsTr
   pub tree_names : (w : ℕ) → Contains (named_relvars x.tree) w → Contains all_places w
   tree_names w h =
       let lt = named_defined c defined x.attributes x.tree x.kind tree w h in
-      (u.reached.members w).1 (start h (omega (arith, lt, length-map c.origins relvars_within)))
+      (u.reached.members w).1 (start h (omega (arith, lt, length-map c.origins relvars_of_origin)))
 
   pub virtual_names : (m : ℕ) (v : Typed) → Contains all_places m → slice_get c.origins m ≡ Some (origin.Virtual v) → (w : ℕ) → Contains (named_relvars v) w → Contains all_places w
   virtual_names m v there is w h =
       let lt = names_earlier c defined m v is w h in
       let within_ = inside m there in
-      (u.reached.members w).1 (onward ((u.reached.members m).0 there) (under_at c.origins m v is w h) (omega (arith, lt, within_, length-map c.origins relvars_within)))
+      (u.reached.members w).1 (onward ((u.reached.members m).0 there) (under_at c.origins m v is w h) (omega (arith, lt, within_, length-map c.origins relvars_of_origin)))
 
   module _ (m : ℕ) (ms : List ℕ) (ks : List Known) (r : Relvars) (sorted : IsStrictlySortedBy nat_cmp (m ∷ ms)) (a : Agrees (m ∷ ms) ks r) where
     skipped : stored m ≡ true → Agrees ms ks r

@@ -18,9 +18,9 @@ abbrev pub named_possreps : Typed → List ℕ
 named_possreps u = possreps_in (mentioned u)
 
 -- those in the expression of a virtual relvar
-abbrev pub relvars_within : Origin → List ℕ
-relvars_within (origin.Base ks u) = []
-relvars_within (origin.Virtual u) = named_relvars u
+abbrev pub relvars_of_origin : Origin → List ℕ
+relvars_of_origin (origin.Base ks u) = []
+relvars_of_origin (origin.Virtual u) = named_relvars u
 
 abbrev pub possreps_under : Option Origin → List ℕ
 possreps_under (Some (origin.Virtual u)) = named_possreps u
@@ -33,7 +33,7 @@ possreps_within (Some u) = named_possreps u
 
 -- the relvar at this place is named in the expression, or in that of a virtual relvar which is reached
 abbrev pub IsReached : List Origin → Typed → ℕ → Type 0
-IsReached origins u n = ReachedFrom (map relvars_within origins) (named_relvars u) n
+IsReached origins u n = ReachedFrom (map relvars_of_origin origins) (named_relvars u) n
 
 -- the relvar at this place is a base relvar
 abbrev pub is_base : Option Origin → Bool

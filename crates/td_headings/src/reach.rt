@@ -39,9 +39,9 @@ struct Relvars<'a> {
 
 impl Leads for Relvars<'_> {
     ghost use Rattle.std.specs.Prelude.{map};
-    ghost use Rattle.td_headings.specs.Reached.{relvars_within};
+    ghost use Rattle.td_headings.specs.Reached.{relvars_of_origin};
 
-    ghost links = { λ r. map relvars_within r.origins.now };
+    ghost links = { λ r. map relvars_of_origin r.origins.now };
 
     fn places(&self) -> usize {
         self.origins.len()
