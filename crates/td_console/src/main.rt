@@ -2,7 +2,7 @@
 #![tactic(auto)]
 
 use std::env;
-use std::io::BufReader;
+use std::io::{BufReader, ErrorKind};
 use std::process::ExitCode;
 use td_answers::NoLinks;
 use td_devices::Device;
@@ -10,10 +10,18 @@ use td_replay::PlainSite;
 use td_story::Meter;
 use td_workbench::program;
 
+// A word that is no UTF-8 is refused as the command line library refuses words.
+fn refused(rt: &HostRuntime) -> ExitCode {
+    let _told = eprintln!(rt; "error: a word of the command line is not UTF-8");
+    ExitCode::from(2)
+}
+
 fn main(rt: HostRuntime) -> ExitCode {
     let alloc = rt.alloc();
-    let Ok(words) = env::args(&rt) else {
-        return ExitCode::FAILURE;
+    let words = match env::args(&rt) {
+        Ok(words) => words,
+        Err(error) if error.kind() == ErrorKind::InvalidData => return refused(&rt),
+        Err(_) => return ExitCode::FAILURE,
     };
     let Ok(words) = words.collect::<Vec<String>>(alloc) else {
         return ExitCode::FAILURE;
