@@ -2,9 +2,9 @@
 
 use crate::database::Result;
 use std::alloc::{AllocError, Global};
-use td_story::{Answer, RelvarError};
 use td_relations::Relation;
 use td_relvars::Database;
+use td_story::{Answer, RelvarError};
 use td_values::{Kind, Name, Value, show};
 
 fn shown(alloc: Global, relation: Relation) -> Result<String> {

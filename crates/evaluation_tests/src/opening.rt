@@ -3,13 +3,16 @@
 use crate::contents::held;
 use crate::database::Result;
 use std::alloc::{AllocError, Global};
-use td_story::{BrokenTest, ScriptError, catalogue_of};
 use td_relvars::{Database, open_script};
+use td_story::{BrokenTest, ScriptError, catalogue_of};
 
 fn broken(alloc: Global, test: &BrokenTest) -> Result<String> {
     match test {
         BrokenTest::Key(relvar) => Ok(format!(in alloc; "broken key {}", relvar.as_str())?),
-        BrokenTest::Constraint(name) => Ok(format!(in alloc; "broken constraint {}", name.as_str())?),
+        BrokenTest::Constraint(name) => Ok(format!(in alloc;
+            "broken constraint {}",
+            name.as_str()
+        )?),
     }
 }
 

@@ -6,11 +6,11 @@ use crate::contents::held;
 use crate::database::Result;
 use std::alloc::Global;
 use std::fmt::Write;
-use td_story::{Meter, Outcome};
 use td_assign::{Ran, run};
 use td_headings::Catalogue;
 use td_relations::{Delta, Relation};
 use td_relvars::{Database, open_script};
+use td_story::{Meter, Outcome};
 use td_values::{Name, show_tuple_into};
 
 /// What a step does: runs a statement, or asks what a relvar has.
@@ -84,12 +84,7 @@ fn ran(alloc: Global, database: &mut Database, meter: &mut Meter, text: &str) ->
     told(alloc, database.catalogue(), &ran)
 }
 
-fn answered(
-    alloc: Global,
-    database: &mut Database,
-    meter: &mut Meter,
-    step: Step,
-) -> Result<String>
+fn answered(alloc: Global, database: &mut Database, meter: &mut Meter, step: Step) -> Result<String>
     requires { IsLegal database.old }
     ensures { IsLegal database.new }
 {

@@ -5,10 +5,10 @@ ghost use Rattle.td_story.specs.Databases.{IsLegal};
 
 use anyhow::{Result, bail};
 use std::time::{Duration, Instant};
-use td_story::{Meter, Outcome};
 use td_assign::run;
 use td_constraints::first_failure;
 use td_relvars::{Database, open_script};
+use td_story::{Meter, Outcome};
 use td_values::Name;
 
 const SCRIPT: &str = "VAR R BASE RELATION { N INTEGER, V CHAR } KEY { N };
@@ -30,12 +30,7 @@ fn opened(rt: &HostRuntime) -> Result<Database>
     }
 }
 
-fn insert(
-    rt: &HostRuntime,
-    database: &mut Database,
-    n: u32,
-    meter: &mut Meter,
-) -> Result<Duration>
+fn insert(rt: &HostRuntime, database: &mut Database, n: u32, meter: &mut Meter) -> Result<Duration>
     requires { IsLegal database.old }
     ensures { IsLegal database.new }
 {

@@ -4,8 +4,8 @@ use crate::bytes::ANSWER;
 use crate::fakes::{Given, Narrow};
 use crate::site::{Result, Start, Step, told};
 use std::alloc::Global;
-use td_story::Meter;
 use td_devices::Pair;
+use td_story::Meter;
 
 // What a new site says that settles on these bytes, and how many bytes it writes.
 fn settled(alloc: Global, meter: &mut Meter, bytes: &[u8], fails: bool) -> Result<(String, usize)> {

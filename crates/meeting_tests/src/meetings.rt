@@ -3,10 +3,10 @@
 use crate::bytes::SCRIPT;
 use crate::site::{Result, Start, Written, batch, vector};
 use std::alloc::Global;
-use td_story::{Meter, Opens, Replica};
 use td_meeting::meet;
 use td_replay::PlainSite;
 use td_stamps::Entry;
+use td_story::{Meter, Opens, Replica};
 use td_values::Text;
 
 /// The same definitions, but for a space.

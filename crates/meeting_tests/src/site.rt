@@ -4,11 +4,11 @@ use crate::bytes::SCRIPT;
 use crate::fakes::{Given, Narrow};
 use std::alloc::Global;
 use std::test::Fail;
-use td_story::{Meter, Opens, Replica, Taken};
 use td_devices::{Channel, Device, Pair};
 use td_meeting::{MeetingError, answer, finish, greet, settle};
 use td_replay::PlainSite;
 use td_stamps::Entry;
+use td_story::{Meter, Opens, Replica, Taken};
 use td_values::Text;
 
 pub type Result<T> = std::result::Result<T, Fail>;

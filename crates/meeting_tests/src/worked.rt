@@ -7,8 +7,8 @@ use crate::bytes::{
 use crate::fakes::{Given, Narrow};
 use crate::site::{Result, Start, Step, Written, told};
 use std::alloc::Global;
-use td_story::Meter;
 use td_devices::Pair;
+use td_story::Meter;
 
 /// A step of a site: the bytes that it is given, what it says, what it writes in the room that it has, and how often it flushes.
 #[derive(Clone, Copy)]

@@ -2,9 +2,11 @@
 
 use std::alloc::Global;
 use std::test::Fail;
-use td_story::{Answer, AskError, IssueError, Issued, Outcome, Asked, TakeError, Taken, TellError, ValueError};
 use td_relations::Relation;
 use td_stamps::{Stamp, Vector};
+use td_story::{
+    Answer, AskError, Asked, IssueError, Issued, Outcome, TakeError, Taken, TellError, ValueError,
+};
 use td_values::{Kind, Value, show};
 
 pub type Result<T> = std::result::Result<T, Fail>;

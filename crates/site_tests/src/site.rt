@@ -4,9 +4,9 @@ ghost use Rattle.std.specs.Prelude.{◌≡◌, IfOk};
 
 use crate::answers::{Result, counted, issued, listed, replied, taken, told};
 use std::alloc::Global;
-use td_story::{Meter, OpenError, Opens, Replica};
 use td_replay::PlainSite;
 use td_stamps::Entry;
+use td_story::{Meter, OpenError, Opens, Replica};
 use td_values::{Name, Text};
 
 /// Site, sequence number, clock and text of an entry.

@@ -1,4 +1,5 @@
--- Each of the functions in which the evaluation of expressions is written gives the one relation that its operator describes.
+-- The functions in which the evaluation of expressions is written: each gives the one relation that its operator
+-- describes.
 use Rattle.std.specs.Prelude.{ℕ, Bool, List, Result}
 use Rattle.td_values.specs.Data.{Attrs}
 use Rattle.td_values.specs.Rows.{RowsData, AreRows}

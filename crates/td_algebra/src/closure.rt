@@ -237,9 +237,9 @@ pub fn is_binary(heading: &Heading) -> bool
     fields.len() == 2 && compare_types(&fields[0].1, &fields[1].1).is_eq()
 }
 
-/// The least transitive relation that contains the relation. For n pairs of v values it costs of the order of n log n comparisons, from
-/// each value a mark for each other one, v times v in all, and a look at each pair that it leads to, and for a closure of m pairs m
-/// tuples, which are made in order.
+/// The least transitive relation that contains the relation. For n pairs of v values it costs of the order of n log n
+/// comparisons, from each value a mark for each other one, v times v in all, and a look at each pair that it leads to,
+/// and for a closure of m pairs m tuples, which are made in order.
 pub fn tclose(alloc: Global, r: &Relation) -> Result<Relation, AllocError>
     requires { IsBinary r.now.heading }
     ensures { IfOk result (IsRelationOf r.now.heading (Closed r.now)) }

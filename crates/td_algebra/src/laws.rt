@@ -18,7 +18,8 @@ pub fn min_is_least()
     ensures { MinIsLeast }
 {}
 
-/// The functions in which the evaluation of expressions is written: each gives the one relation that its operator describes.
+/// The functions in which the evaluation of expressions is written: each gives the one relation that its operator
+/// describes.
 pub fn functions_are_operators()
     ensures union { UnionOfIs }
     ensures intersect { IntersectOfIs }

@@ -13,10 +13,10 @@ use crate::places::{place_of, site_in};
 use crate::reply::Reply;
 use crate::telling;
 use std::alloc::{AllocError, Global};
-use td_story::{Meter, Replica};
 use td_headings::Catalogue;
 use td_lines::{Command, command_of};
 use td_listings::script_catalogue;
+use td_story::{Meter, Replica};
 
 /// The catalogue of the sites' script; without sites an empty one. It costs the reading and typing of the script.
 pub fn catalogue_for<R: Replica>(alloc: Global, sites: &[R]) -> Result<Catalogue, AllocError>

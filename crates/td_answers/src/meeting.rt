@@ -8,9 +8,9 @@ ghost use Rattle.td_answers.specs.ForProofs.Said.{IsBlank, Says};
 use crate::reply::Reply;
 use crate::writing::{blank_line, clash_line, counted_line, met_line};
 use std::alloc::Global;
-use td_story::{Meter, Replica, TakeError};
 use td_frames::FrameError;
 use td_meeting::{MeetingError, MeetingRefusal, Met, judge, meet};
+use td_story::{Meter, Replica, TakeError};
 
 // Why two sites may not meet, which is found without memory.
 fn unmet_fault(error: MeetingError) -> &'static str

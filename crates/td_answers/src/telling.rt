@@ -11,9 +11,9 @@ use crate::reply::Reply;
 use crate::writing::{blank_line, issued_line};
 use std::alloc::{AllocError, Global};
 use std::net::SocketAddr;
-use td_story::{MOST_BYTES, Meter, Replica};
 use td_headings::Catalogue;
 use td_listings::{ListError, listing_text, log_text, table_text, vector_text};
+use td_story::{MOST_BYTES, Meter, Replica};
 use td_values::{Value, show};
 
 /// Issues a statement. The room for its line is taken first, but for a text that is too long, which wants none.

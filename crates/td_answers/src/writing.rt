@@ -9,9 +9,9 @@ ghost use Rattle.td_story.specs.declared.outcome.Outcome.TheVariants as became;
 
 use itoa::Buffer;
 use std::alloc::Global;
-use td_story::{Issued, Outcome};
 use td_meeting::Met;
 use td_stamps::Stamp;
+use td_story::{Issued, Outcome};
 use td_values::{Name, Raise};
 
 // The longest line is that of a statement that is refused: 20 digits and 20 of its stamp, and a name of 64 bytes.

@@ -17,7 +17,6 @@ ghost use Rattle.td_story.specs.Steps.{IsRead, IsUnread, Steps};
 
 use crate::changes::Change;
 use crate::deltas::differences;
-use td_story::{BrokenTest, Failure, Meter, Outcome, TestFailure};
 use crate::ran::Ran;
 use crate::seen::Replaced;
 use crate::sources::changes;
@@ -28,6 +27,7 @@ use td_headings::{Catalogue, TypedAssignment, TypedStatement, type_statement};
 use td_kinds::error::TypeError;
 use td_relations::Delta;
 use td_relvars::Database;
+use td_story::{BrokenTest, Failure, Meter, Outcome, TestFailure};
 
 // The statement that the text is, typed, if it is one.
 fn read(

@@ -11,10 +11,10 @@ ghost use Rattle.td_story.specs.Sources.{source_means, sources};
 use crate::changes::{Change, give};
 use crate::seen::Seen;
 use std::alloc::Global;
-use td_story::Failure;
 use td_headings::TypedAssignment;
 use td_relations::Relation;
 use td_relvars::Database;
+use td_story::Failure;
 
 // The relation that the source has.
 fn source(

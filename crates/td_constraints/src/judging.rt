@@ -10,12 +10,12 @@ ghost use Rattle.td_story.specs.Stored.{AreStored};
 ghost use Rattle.td_story.specs.Tests as spec;
 ghost use Rattle.td_story.specs.Tests.{failing, judgement, or_behind};
 
-use td_story::{BrokenTest, Failure, TestFailure};
 use std::alloc::{AllocError, Global};
 use td_algebra::{Fault, tell_apart};
 use td_eval::{Lookup, truth};
 use td_headings::{Catalogue, Test, constraint_expr};
 use td_relations::Relation;
+use td_story::{BrokenTest, Failure, TestFailure};
 use td_values::{Name, Raise};
 
 // Whether no two tuples agree on the key's attributes.

@@ -1,7 +1,8 @@
 -- A device, and how it counts its failures.
 use Rattle.std.specs.Prelude.{◌≡◌, ℕ, Bool, ◌+◌, ◌-◌, ◌^◌, min, Result, MatchResult}
 
--- a device is seen as what it wraps, how many failures it has counted, and whether all that was written has been handed on
+-- a device is seen as what it wraps, how many failures it has counted, and whether all that was written has been
+-- handed on
 pub record DeviceData (D : Type 0) : Type 0 where
   pub inner : D
   pub failures : ℕ

@@ -8,7 +8,8 @@ pub record Input : Type 0 where
   pub left : Option (List ℕ)
   pub failures : ℕ
 
--- of a sink: the bytes that were written, where they are known, the failures that were counted, and whether all that was written has been handed on
+-- of a sink: the bytes that were written, where they are known, the failures that were counted, and whether all of
+-- these bytes have been handed on
 pub record Output : Type 0 where
   pub held : Option (List ℕ)
   pub faults : ℕ

@@ -32,8 +32,8 @@ fn read_end<S: Source>(source: &mut S) -> Result<(), FrameError>
     Ok(())
 }
 
-/// Reads the frames of at most so many entries, and the end. A frame of one entry more is refused at its letter. What was read whole
-/// before an error is there too.
+/// Reads the frames of at most so many entries, and the end. A frame of one entry more is refused at its letter. What
+/// was read whole before an error is there too.
 pub fn read_entries<S: Source>(
     alloc: Global,
     source: &mut S,

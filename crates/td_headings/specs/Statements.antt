@@ -24,8 +24,8 @@ use Rattle.td_headings.specs.declared.statement.TypedStatement.{TypedStatement}
 use Rattle.td_headings.specs.declared.statement.TypedStatement.TheVariants as typed
 
 -- INSERT is an assignment of a union; DELETE of the tuples for which the condition is false, and without one of none;
--- UPDATE of the tuples that are not selected united with the selected ones changed. So each but an assignment as written
--- reads its target, a DELETE of all too, whose source is empty whatever the target holds.
+-- UPDATE of the tuples that are not selected united with the selected ones changed. So each but an assignment as
+-- written reads its target, a DELETE of all too, whose source is empty whatever the target holds.
 abbrev pub target_of : Action → Name
 target_of (action.Assign x a) = x
 target_of (action.Insert x a) = x

@@ -135,8 +135,8 @@ pub(crate) fn selectors_at(
     Ok(selectors)
 }
 
-/// The expression of this tree, with all that is under it. It costs the size of the tree, which was typed before, and that of
-/// the expressions of the virtual relvars under it.
+/// The expression of this tree, with all that is under it. It costs the size of the tree, which was typed before, and
+/// that of the expressions of the virtual relvars under it.
 pub(crate) fn with_all_under(
     alloc: Global,
     catalogue: &Catalogue,

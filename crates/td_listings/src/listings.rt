@@ -13,12 +13,11 @@ ghost use Rattle.td_listings.specs.Texts as spec;
 use crate::error::ListError;
 use crate::words::{show_number, show_raise, show_reason, show_stamp};
 use std::alloc::{AllocError, Global};
-use td_story::{Answer, Outcome, Replica, TellError, ValueError};
 use td_headings::Catalogue;
 use td_relations::Relation;
-use td_story::laws::script_opens_one;
-use td_story::laws::story_is_one;
 use td_stamps::Stamp;
+use td_story::laws::{script_opens_one, story_is_one};
+use td_story::{Answer, Outcome, Replica, TellError, ValueError};
 use td_values::{Name, Raise, Tuple, show_tuple_into};
 
 fn show_line(out: &mut String, tuple: &Tuple) -> Result<(), AllocError>

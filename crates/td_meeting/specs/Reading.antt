@@ -87,8 +87,8 @@ pub record Refuses (s : Seen) (e : TakeError) (left after : Option (List ℕ)) (
   pub is_taken : IsTaken ending after old new
   pub takes : Takes s entries (Err e) t
 
--- why an open site doesn't take a stream, and what it is then; memory may be wanted for a part of it, and for taking what was read
--- before a reader failed
+-- why an open site doesn't take a stream, and what it is then; memory may be wanted for a part of it, and for taking
+-- what was read before a reader failed
 abbrev pub Unreceived : Seen → MeetingError → Option (List ℕ) → Option (List ℕ) → ℕ → ℕ → Seen → Type 0
 Unreceived s (Frame e taken) left after old new t = MissesEntries s e taken left after old new t
 Unreceived s (Take take_error.Broken) left after old new t = ⊥

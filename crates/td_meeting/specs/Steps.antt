@@ -20,8 +20,8 @@ use Rattle.td_meeting.specs.Writing.{Greets, sends}
 use Rattle.td_meeting.specs.declared.error.MeetingError.{MeetingError}
 use Rattle.td_meeting.specs.declared.error.MeetingError.TheVariants.{Broken, OutOfMemory, WriteFault}
 
--- what is known of a link: the bytes that it has left, those that were written to it, how many failures it counted, and whether all that was
--- written has been handed on
+-- what is known of a link: the bytes that it has left, those that were written to it, how many failures it counted,
+-- and whether all that was written has been handed on
 pub record LinkData : Type 0 where
   pub left : Option (List ℕ)
   pub held : Option (List ℕ)

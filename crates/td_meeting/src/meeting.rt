@@ -14,9 +14,9 @@ use crate::sending::{reply, send};
 use crate::steps::greet;
 use crate::taking::receive;
 use std::alloc::Global;
-use td_story::{Meter, Replica, Taken};
 use td_devices::Failed;
 use td_frames::Greeting;
+use td_story::{Meter, Replica, Taken};
 use thiserror::Error;
 
 /// How many entries were fresh to each site of a meeting.

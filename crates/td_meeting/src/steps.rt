@@ -8,8 +8,8 @@ use crate::hearing::hear;
 use crate::sending::{places_of, reply, send, send_greeting};
 use crate::taking::receive;
 use std::alloc::Global;
-use td_story::{Meter, Replica, Taken};
 use td_devices::{Channel, Failed, Sink, Source};
+use td_story::{Meter, Replica, Taken};
 
 /// The first step, of the first site: it writes its greeting, and hands it on. It costs a walk along what the site holds.
 pub fn greet<R: Replica, K: Sink>(alloc: Global, site: &R, sink: &mut K) -> Result<(), MeetingError>

@@ -5,13 +5,13 @@ ghost use Rattle.td_headings.specs.Reached as reached;
 ghost use Rattle.td_story.specs.Answers.{TellsRelvar};
 ghost use Rattle.td_relvars.specs.ForProofs.Asked.{IsNameOf, IsRelvar, IsStoredAt, TellsAt};
 
-use td_story::{Answer, Failure, RelvarError};
 use crate::database::Database;
 use sqlite_items::Boxed;
 use std::alloc::{AllocError, Global};
 use td_eval::relation;
 use td_headings::{Catalogue, Origin, TypedExpr, type_expr};
 use td_kinds::error::TypeError;
+use td_story::{Answer, Failure, RelvarError};
 use td_syntax::tree::Expr;
 use td_values::{Heading, Name};
 

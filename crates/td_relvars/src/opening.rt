@@ -9,11 +9,11 @@ ghost use Rattle.td_story.specs.Scripts.{Opens};
 
 use crate::base::Base;
 use crate::database::Database;
-use td_story::{CatalogueError, Failure, ScriptError, TestFailure, catalogue_of};
 use std::alloc::Global;
 use td_constraints::first_failure;
 use td_eval::relation;
 use td_headings::{Catalogue, TypedExpr, init_expr};
+use td_story::{CatalogueError, Failure, ScriptError, TestFailure, catalogue_of};
 
 // What the INIT of the relvar at the place gives it.
 fn init_value(

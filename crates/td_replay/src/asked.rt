@@ -2,13 +2,13 @@
 
 ghost use Rattle.td_replay.specs.ForProofs.Asked.{Answers, TellsNamed};
 
-use td_story::{Answer, AskError, Asked, Failure, MOST_BYTES, ValueError};
 use std::alloc::Global;
 use td_eval::value;
 use td_grammar::{ReadError, read_expr};
 use td_headings::type_expr;
 use td_kinds::error::TypeError;
 use td_relvars::Database;
+use td_story::{Answer, AskError, Asked, Failure, MOST_BYTES, ValueError};
 use td_values::Name;
 
 /// What the query means over the relvars.

@@ -4,11 +4,11 @@ ghost use Rattle.std.specs.Prelude.{◌≤◌, length};
 ghost use Rattle.td_story.specs.Steps.{IsUnread};
 ghost use Rattle.td_replay.specs.ForProofs.Judged.{IsRefusal, Judges};
 
-use td_story::IssueError;
 use std::alloc::Global;
 use td_grammar::{ReadError, read_statement};
 use td_headings::{Catalogue, type_statement};
 use td_kinds::error::TypeError;
+use td_story::IssueError;
 
 /// Why the text is no statement of the catalogue, if it is none.
 pub(crate) fn judge(alloc: Global, catalogue: &Catalogue, text: &str) -> Result<(), IssueError>

@@ -9,13 +9,16 @@ ghost use Rattle.td_story.specs.declared.refusal.IssueError.TheVariants as issue
 ghost use Rattle.td_story.specs.declared.refusal.TakeError.TheVariants as take_error;
 ghost use Rattle.td_replay.specs.ForProofs.Told.{Numbers};
 
-use td_story::{Answer, AskError, Asked, IssueError, Issued, MOST_BYTES, Meter, NotOpen, OpenError, Opens, Outcome, Replica, TakeError, Taken, TellError, ValueError};
 use crate::asked;
 use crate::judged::{judge, refusal};
 use crate::told::{Told, add_last, copies, tell_all};
 use std::alloc::Global;
 use std::marker::Model;
 use td_stamps::{Entry, Held, NextError, PrepareError, Stamp};
+use td_story::{
+    Answer, AskError, Asked, IssueError, Issued, MOST_BYTES, Meter, NotOpen, OpenError, Opens,
+    Outcome, Replica, TakeError, Taken, TellError, ValueError,
+};
 use td_values::{Name, Text};
 
 /// The greatest limit of a site.
@@ -119,12 +122,7 @@ impl Replica for PlainSite {
 
     ghost failed = { λ _ _. ⊥ };
 
-    fn issue(
-        &mut self,
-        alloc: Global,
-        text: &str,
-        meter: &mut Meter,
-    ) -> Result<Issued, IssueError>
+    fn issue(&mut self, alloc: Global, text: &str, meter: &mut Meter) -> Result<Issued, IssueError>
         ensures issues { Issues (always_open self.old) text.now result (always_open self.new) }
         ensures journal { result ≡ Err issue_error.JournalWrite → ⊥ }
         ensures meter { meter.new.count ≤ meter.old.count + 1 }

@@ -10,10 +10,10 @@ ghost use Rattle.td_replay.specs.ForProofs.Told.{HoldsNext, IsAccepted, RunsSome
 ghost use Rattle.td_story.specs.Stories.{IsStory};
 
 use std::alloc::{AllocError, Global};
-use td_story::{Meter, Outcome, ScriptError};
 use td_assign::{Ran, run};
 use td_relvars::{Database, open_script};
 use td_stamps::{Entry, Held, Stamp};
+use td_story::{Meter, Outcome, ScriptError};
 
 /// The database after some entries, and the outcome of each with its stamp.
 #[derive(Drop)]

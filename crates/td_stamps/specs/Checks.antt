@@ -46,8 +46,8 @@ shared_front [] ys = 0
 shared_front (x ∷ xs) [] = 0
 shared_front (x ∷ xs) (y ∷ ys) = if same x y then suc (shared_front xs ys) else 0
 
--- what `prepare` may answer: what `check` answers, the union, and how far it is what is held, save that want of memory may stand for all
--- but a bad entry
+-- what `prepare` may answer: what `check` answers, the union, and how far it is what is held, save that want of memory
+-- may stand for all but a bad entry
 abbrev pub Prepares : Holding → List Entry → Result Joining PrepareError → Type 0
 Prepares h batch (Ok p) = (check_of h.entries h.limit batch ≡ Ok p.fresh) × (p.entries ≡ union h.entries batch) × (p.front ≡ shared_front h.entries p.entries)
 Prepares h batch (Err prepare.BadEntry) = check_of h.entries h.limit batch ≡ Err BadEntry

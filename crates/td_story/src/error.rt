@@ -3,8 +3,8 @@
 ghost use Rattle.std.specs.Prelude.{◌≡◌};
 ghost use Rattle.td_story.specs.declared.error.RelvarError.TheVariants as relvar_error;
 
-use std::alloc::AllocError;
 use crate::broken::BrokenTest;
+use std::alloc::AllocError;
 use td_values::Raise;
 use thiserror::Error;
 

@@ -7,7 +7,7 @@ ghost use Rattle.td_story.specs.Seen.{IsSound, Seen, holding};
 ghost use Rattle.td_story.specs.declared.refusal.IssueError.TheVariants as issue_error;
 ghost use Rattle.td_story.specs.declared.refusal.TakeError.TheVariants as take_error;
 
-use crate::answer::{Answer, Issued, Asked, Taken};
+use crate::answer::{Answer, Asked, Issued, Taken};
 use crate::meter::Meter;
 use crate::outcome::Outcome;
 use crate::refusal::{AskError, IssueError, NotOpen, OpenError, TakeError, TellError, ValueError};

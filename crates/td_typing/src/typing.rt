@@ -482,8 +482,8 @@ fn with(
     with_tree(alloc, trees, body)
 }
 
-/// The tree and the kind of an expression in a scope; ill typed exactly where it has none. The recursion nests as deep as
-/// the expression has levels. Each part is typed once, which costs what comparing its operands' types costs.
+/// The tree and the kind of an expression in a scope; ill typed exactly where it has none. The recursion nests as deep
+/// as the expression has levels. Each part is typed once, which costs what comparing its operands' types costs.
 #[cycle(typing)]
 pub fn typing(
     alloc: Global,

@@ -1,5 +1,6 @@
 -- Words that only proofs use: no meaning of a public clause turns on them.
---     Code, Measures, Sizes, Falls      values as trees of numbers, and how large they are: what a type that holds itself needs
+--     Code, Measures, Sizes, Falls      values as trees of numbers, and how large they are: what a type that holds
+--     itself needs
 --     Compose, Total      that the orders are total, and that only equal values tie
 --     Places      what a search among entries answers to its caller within the crate
 pub mod Code

@@ -129,9 +129,9 @@ answers_behind options now from mid left kept true w told after c old r has acce
     let over : RunsOut c old [] mid.left [] old = record { at_end = has.at_end refl; go_on = tt; printed = (refl, refl) } in
     let ends : Ends c old [] (reads_left has.bytes) has.bytes from told (Ok tt) old mid told = (has.read, [], inr over, writes_nothing told) in
     let says : Says has.bytes has.text [] = subst (λ (bs : List ℕ). Says bs has.text []) (append-nil has.bytes) (has.leads [] (λ last. refl)) in
-    let answers : Answers options from w (Ok tt) mid told = record { bytes = has.bytes; script = has.text; raws = []; says = says; old = old; accepted = accepted; catalogue = c; of_script = of; told = told; ready_told = wrote; new = old; open = subst (λ (ss : Sites). AllByRecursion (λ s. s.live ≡ true) ss) (sym accepted.sites_are) (all_new_open has.text options.limit options.first options.sites); ends = ends } in
+    let answers : Answers options from w (Ok tt) mid told = record { bytes = has.bytes; script = has.text; raws = []; says = says; old = old; accepted = accepted; catalogue = c; of_script = of; told = told; ready_told = wrote; new = old; all_open = subst (λ (ss : Sites). AllByRecursion (λ s. s.live ≡ true) ss) (sym accepted.sites_are) (all_new_open has.text options.limit options.first options.sites); ends = ends } in
     subst (λ (x : Result (Unit {0}) Ended). Answers options from w x left after) (sym is) (subst (λ (x : Input). Answers options from w (Ok tt) x after) (sym unread) (subst (λ (x : Written). Answers options from w (Ok tt) mid x) (sym unwritten) answers))
-answers_behind options now from mid left kept false w told after c old r has accepted of wrote (new, open, serves) =
+answers_behind options now from mid left kept false w told after c old r has accepted of wrote (new, all_open, serves) =
     let more : List ℕ = serves.bytes in
     record {
       bytes = has.bytes ++ more;
@@ -145,7 +145,7 @@ answers_behind options now from mid left kept false w told after c old r has acc
       told = told;
       ready_told = wrote;
       new = new;
-      open = open;
+      all_open = all_open;
       ends = ends_spare c old (raw_lines more) (now - length more) (reads_left (has.bytes ++ more)) (has.bytes ++ more) from left told after r new
           (λ none. omega (arith, length-append has.bytes more, has.spent refl, none))
           (ends_behind c old [] [] old (served_none c old) (raw_lines more) (now - length more) has.bytes more from mid left told told after r new has.read (writes_nothing told) serves.ends);

@@ -33,7 +33,7 @@ pub record Answers (options : Options) (from : Input) (w : Written) (r : Result 
   pub told : Written
   pub ready_told : WritesAll (ready options.sites) w told
   pub new : Sites
-  pub open : AllByRecursion (λ s. s.live ≡ true) new
+  pub all_open : AllByRecursion (λ s. s.live ≡ true) new
   pub ends : Ends catalogue old raws (reads_left bytes) bytes from told r new left after
 
 -- no site was ready: the reader failed within the script, or the writer as it was told what came of the script

@@ -12,8 +12,8 @@ use clap::Error;
 use clap::error::ErrorKind;
 use std::alloc::Global;
 use td_answers::Links;
-use td_story::{Meter, Opens};
 use td_devices::{Sink, Source, put};
+use td_story::{Meter, Opens};
 
 fn status(end: Result<bool, Ended>) -> u8
     ensures { result ≡ status_of end }
@@ -74,7 +74,9 @@ pub fn program<R: Opens + Drop, L: Links, S: Source, K: Sink, F: Sink>(
     ensures { Exits result (record { input = input_of S.Source source.old; output = written_of K.Sink sink.old; faults = written_of F.Sink faults.old }) (record { input = input_of S.Source source.new; output = written_of K.Sink sink.new; faults = written_of F.Sink faults.new }) }
 {
     match read_options(alloc, words) {
-        Ok(options) => status(run_program::<R, _, _, _>(alloc, &options, links, meter, source, sink)),
+        Ok(options) => status(run_program::<R, _, _, _>(
+            alloc, &options, links, meter, source, sink,
+        )),
         Err(error) => tell(alloc, &error, sink, faults),
     }
 }

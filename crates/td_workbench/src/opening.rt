@@ -38,7 +38,12 @@ pub struct Opened<R: Drop> {
     pub ready: String,
 }
 
-fn open_site<R: Opens + Drop>(alloc: Global, script: &str, site: u16, limit: usize) -> Result<R, ScriptError>
+fn open_site<R: Opens + Drop>(
+    alloc: Global,
+    script: &str,
+    site: u16,
+    limit: usize,
+) -> Result<R, ScriptError>
     requires site { 1 ≤ site }
     requires limit { is_limit limit ≡ true }
     ensures { MatchResult result (λ s. OpensSite script.now site limit (Ok (R.seen s))) (λ e. scripts.Opens script.now (Err e)) }
@@ -52,7 +57,11 @@ fn open_site<R: Opens + Drop>(alloc: Global, script: &str, site: u16, limit: usi
 }
 
 // One site after the other.
-fn open_sites<R: Opens + Drop>(alloc: Global, options: &Options, script: &str) -> Result<Vec<R>, ScriptError>
+fn open_sites<R: Opens + Drop>(
+    alloc: Global,
+    options: &Options,
+    script: &str,
+) -> Result<Vec<R>, ScriptError>
     requires { InRange options.now }
     ensures { MatchResult result (λ v. OpensAll options.now script.now (map R.seen v.items)) (λ e. scripts.Opens script.now (Err e)) }
 {
@@ -80,7 +89,11 @@ fn ready_text(alloc: Global, sites: u16) -> Result<String, AllocError>
     Ok(out)
 }
 
-fn open_text<R: Opens + Drop>(alloc: Global, options: &Options, script: &str) -> Result<Opened<R>, ScriptError>
+fn open_text<R: Opens + Drop>(
+    alloc: Global,
+    options: &Options,
+    script: &str,
+) -> Result<Opened<R>, ScriptError>
     requires { InRange options.now }
     ensures { MatchResult result (λ o. OpensAll options.now script.now (map R.seen o.sites.items) × AreOfScript o.catalogue (map R.seen o.sites.items) × (string_bytes o.ready ≡ ready options.now.sites)) (λ e. scripts.Opens script.now (Err e)) }
 {
@@ -103,7 +116,11 @@ fn open_text<R: Opens + Drop>(alloc: Global, options: &Options, script: &str) ->
 }
 
 /// Opens the sites of a script. It costs what opening one site costs, for each, and reading and typing the script once more.
-pub fn open<R: Opens + Drop>(alloc: Global, options: &Options, script: &Script) -> Result<Opened<R>, ScriptError>
+pub fn open<R: Opens + Drop>(
+    alloc: Global,
+    options: &Options,
+    script: &Script,
+) -> Result<Opened<R>, ScriptError>
     requires { InRange options.now }
     ensures judged { (text : List ℕ) → IsKeptScript text (option_map (λ v. v.items) script.now.bytes)
         → MatchResult result (λ o. IsAccepted options.now text (map R.seen o.sites.items) × AreOfScript o.catalogue (map R.seen o.sites.items) × (string_bytes o.ready ≡ ready options.now.sites)) (λ e. IsRefused text e) }

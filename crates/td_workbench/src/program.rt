@@ -15,8 +15,8 @@ use crate::script::{Script, Unready, read_script};
 use crate::writing::put_fault;
 use std::alloc::Global;
 use td_answers::Links;
-use td_story::{Meter, Opens};
 use td_devices::{Sink, Source, put};
+use td_story::{Meter, Opens};
 
 // Answers the lines behind the script.
 fn answer_behind<R: Opens + Drop, L: Links, S: Source, K: Sink>(

@@ -9,9 +9,9 @@ ghost use Rattle.td_story.specs.declared.error.ScriptError.TheVariants as open_e
 use crate::run::Ended;
 use crate::writing::put_fault;
 use std::alloc::{AllocError, Global};
-use td_story::{BrokenTest, ScriptError};
 use td_devices::Sink;
 use td_listings::show_raise;
+use td_story::{BrokenTest, ScriptError};
 use td_values::{Name, Raise};
 
 fn raised_text(alloc: Global, raise: Raise) -> Result<String, AllocError>

@@ -12,10 +12,10 @@ ghost use Rattle.td_lines.specs.Lines.{line_of};
 use crate::writing::put_text;
 use std::alloc::Global;
 use td_answers::{Links, Reply, answer, catalogue_for};
-use td_story::{Meter, Replica};
 use td_devices::{Failed, LineError, RawLine, Sink, Source, content, read_line};
 use td_headings::Catalogue;
 use td_lines::LINE_BYTES;
+use td_story::{Meter, Replica};
 use thiserror::Error;
 
 /// Why a run ended before its input did.

@@ -1,4 +1,5 @@
--- Calls on many sites, as their contracts tell them of the sets that the sites hold. Each list of calls is one of events.
+-- Calls on many sites, as their contracts tell them of the sets that the sites hold. Each list of calls is one of
+-- events.
 use Rattle.std.specs.Prelude.{◌≡◌, ℕ, ◌≤◌, true, List, [], ◌∷◌, ◌++◌, length, Ok}
 use Rattle.td_stamps.specs.declared.entry.Entry.{Entry}
 use Rattle.td_stamps.specs.Sets.{has, union, is_set}
@@ -38,7 +39,8 @@ AllSent w es = (e : Entry) → has es e ≡ true → has w.sent e ≡ true
 abbrev pub KeepsSent : Sets → ℕ → List Entry → Type 0
 KeepsSent w site es = (e : Entry) → e.site ≡ site → has w.sent e ≡ true → has es e ≡ true
 
--- what one call makes of the sets: an entry with the next numbers of the set comes last in it, a batch of what was sent is joined to it
+-- what one call makes of the sets: an entry with the next numbers of a set comes last in it, and a batch of what was
+-- sent is joined to it
 abbrev pub Does : Sets → Call → Sets → Type 0
 Does w (issues site text) v =
     (n : ℕ × ℕ) × (next_of site (w.held site) ≡ Ok n) × (length text ≤ 8192) × (v ≡ with_one w site (w.held site ++ entry_of site n text ∷ []))

@@ -23,7 +23,8 @@ pub fn issued_is_held()
     ensures { IssuedIsHeld }
 {}
 
-/// Calls on many sites, as their contracts tell them, are events of a world; so no batch of what was sent is refused for a clash.
+/// Calls on many sites, as their contracts tell them, are events of a world; so no batch of what was sent is refused
+/// for a clash.
 pub fn calls_are_events()
     ensures events { CallsAreEvents }
     ensures clash { NoCallClashes }

@@ -1,13 +1,11 @@
 //! How a run over memory is made.
 
-use td_workbench::Options;
-use td_replay::PlainSite;
-use td_workbench::run_program;
-use td_workbench::Ended;
 use std::alloc::{AllocError, Global};
 use td_answers::NoLinks;
-use td_story::Meter;
 use td_devices::Device;
+use td_replay::PlainSite;
+use td_story::Meter;
+use td_workbench::{Ended, Options, run_program};
 
 /// A relvar of suppliers.
 pub const SUPPLIERS: &str =

@@ -2,13 +2,13 @@
 
 ghost use Rattle.std.specs.Prelude.{◌≡◌, IfOk};
 
-use td_workbench::workbench;
 use std::alloc::{AllocError, Global};
 use std::test::Fail;
 use td_answers::NoLinks;
-use td_story::{Meter, Opens};
 use td_devices::Device;
 use td_replay::PlainSite;
+use td_story::{Meter, Opens};
+use td_workbench::workbench;
 
 const SCRIPT: &str = "VAR S BASE RELATION { SNO CHAR, STATUS INTEGER, CITY CHAR } KEY { SNO };";
 

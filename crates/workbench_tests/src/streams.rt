@@ -2,12 +2,11 @@
 
 use crate::fakes::{Full, SlowReader, SlowWriter};
 use crate::runs::{Ran, TWO, TWO_SITES_MEET, TWO_SITES_MET};
-use td_replay::PlainSite;
-use td_workbench::run_program;
-use td_workbench::Ended;
 use td_answers::NoLinks;
-use td_story::Meter;
 use td_devices::Device;
+use td_replay::PlainSite;
+use td_story::Meter;
+use td_workbench::{Ended, run_program};
 
 /// Where `.begin`, and each line behind it up to `.quit`, ends in what two sites that meet read, and its answer in what they write.
 const ENDS: &[(usize, usize)] = &[

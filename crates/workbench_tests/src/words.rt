@@ -1,13 +1,13 @@
 //! Words of the command line, and exit statuses.
 
 use crate::fakes::{Full, SlowReader, SlowWriter};
-use td_replay::PlainSite;
-use td_workbench::program;
 use std::alloc::{AllocError, Global};
 use std::test::Fail;
 use td_answers::NoLinks;
-use td_story::Meter;
 use td_devices::Device;
+use td_replay::PlainSite;
+use td_story::Meter;
+use td_workbench::program;
 
 /// What a call of the program ended with: its status, and what it wrote to its output and to its faults.
 #[derive(Drop)]

@@ -28,21 +28,28 @@ fn taken(n: usize, bytes: &[u8]) -> Result<usize, Failed>
     Ok(n)
 }
 
+// Makes a call again as long as it is interrupted, and tells what it gave.
+macro_rules! persist {
+    ($call:expr, $given:ident => $told:expr) => {{
+        for _ in 0..MOST_INTERRUPTIONS {
+            match $call {
+                Ok($given) => return $told,
+                Err(e) => {
+                    if !is_interruption(&e) {
+                        return Err(Failed);
+                    }
+                }
+            }
+        }
+        Err(Failed)
+    }};
+}
+
 pub(super) fn read_on<R: Read>(inner: &mut R, buf: &mut [u8]) -> Result<usize, Failed>
     ensures bound { ReadsAtMost result buf.new }
     ensures bytes { ReadConsumes (R.remaining inner.old) (R.remaining inner.new) result buf.new }
 {
-    for _ in 0..MOST_INTERRUPTIONS {
-        match inner.read(buf) {
-            Ok(n) => return Ok(n),
-            Err(e) => {
-                if !is_interruption(&e) {
-                    return Err(Failed);
-                }
-            }
-        }
-    }
-    Err(Failed)
+    persist!(inner.read(buf), n => Ok(n))
 }
 
 pub(super) fn write_on<W: Write>(inner: &mut W, bytes: &[u8]) -> Result<usize, Failed>
@@ -50,33 +57,13 @@ pub(super) fn write_on<W: Write>(inner: &mut W, bytes: &[u8]) -> Result<usize, F
     ensures some { IfOk result (λ n. 0 < length bytes.now → 0 < n) }
     ensures bytes { WriteAppends (W.contents inner.old) (W.contents inner.new) result bytes.now }
 {
-    for _ in 0..MOST_INTERRUPTIONS {
-        match inner.write(bytes) {
-            Ok(n) => return taken(n, bytes),
-            Err(e) => {
-                if !is_interruption(&e) {
-                    return Err(Failed);
-                }
-            }
-        }
-    }
-    Err(Failed)
+    persist!(inner.write(bytes), n => taken(n, bytes))
 }
 
 pub(super) fn flush_on<W: Write>(inner: &mut W) -> Result<(), Failed>
     ensures { Keeps (W.contents inner.old) (W.contents inner.new) }
 {
-    for _ in 0..MOST_INTERRUPTIONS {
-        match inner.flush() {
-            Ok(()) => return Ok(()),
-            Err(e) => {
-                if !is_interruption(&e) {
-                    return Err(Failed);
-                }
-            }
-        }
-    }
-    Err(Failed)
+    persist!(inner.flush(), done => Ok(done))
 }
 
 pub(super) fn read_side_on<L: Link>(inner: &mut L, buf: &mut [u8]) -> Result<usize, Failed>
@@ -84,17 +71,7 @@ pub(super) fn read_side_on<L: Link>(inner: &mut L, buf: &mut [u8]) -> Result<usi
     ensures bytes { ReadConsumes (L.remaining inner.old) (L.remaining inner.new) result buf.new }
     ensures contents { Keeps (L.contents inner.old) (L.contents inner.new) }
 {
-    for _ in 0..MOST_INTERRUPTIONS {
-        match inner.read_side(buf) {
-            Ok(n) => return Ok(n),
-            Err(e) => {
-                if !is_interruption(&e) {
-                    return Err(Failed);
-                }
-            }
-        }
-    }
-    Err(Failed)
+    persist!(inner.read_side(buf), n => Ok(n))
 }
 
 pub(super) fn write_side_on<L: Link>(inner: &mut L, bytes: &[u8]) -> Result<usize, Failed>
@@ -103,32 +80,12 @@ pub(super) fn write_side_on<L: Link>(inner: &mut L, bytes: &[u8]) -> Result<usiz
     ensures bytes { WriteAppends (L.contents inner.old) (L.contents inner.new) result bytes.now }
     ensures remaining { Keeps (L.remaining inner.old) (L.remaining inner.new) }
 {
-    for _ in 0..MOST_INTERRUPTIONS {
-        match inner.write_side(bytes) {
-            Ok(n) => return taken(n, bytes),
-            Err(e) => {
-                if !is_interruption(&e) {
-                    return Err(Failed);
-                }
-            }
-        }
-    }
-    Err(Failed)
+    persist!(inner.write_side(bytes), n => taken(n, bytes))
 }
 
 pub(super) fn flush_side_on<L: Link>(inner: &mut L) -> Result<(), Failed>
     ensures contents { Keeps (L.contents inner.old) (L.contents inner.new) }
     ensures remaining { Keeps (L.remaining inner.old) (L.remaining inner.new) }
 {
-    for _ in 0..MOST_INTERRUPTIONS {
-        match inner.flush_side() {
-            Ok(()) => return Ok(()),
-            Err(e) => {
-                if !is_interruption(&e) {
-                    return Err(Failed);
-                }
-            }
-        }
-    }
-    Err(Failed)
+    persist!(inner.flush_side(), done => Ok(done))
 }

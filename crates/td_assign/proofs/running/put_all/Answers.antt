@@ -54,8 +54,8 @@ returns c =
     let l = c.loop-change in
     let none : into_iter_items l.change-iterator ≡ [] = nil_from_length _ (sym l.change-iterator.rest.ok.0 ∙ c.in-None.ensures.steps.0) in
     let stored =
-        sym (given_nothing l.database.stored)
-        ∙ sym (ap (λ cs. with_given (given_to cs) l.database.stored) none)
-        ∙ l.invariant.left
+    sym (given_nothing l.database.stored)
+    ∙ sym (ap (λ cs. with_given (given_to cs) l.database.stored) none)
+    ∙ l.invariant.left
     in
     λ i. record { catalogue = l.invariant.same i; stored = stored i }
