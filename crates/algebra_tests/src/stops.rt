@@ -1,5 +1,5 @@
-//! Each stop through each operator that asks a function of tuples, by the rule that the least number stands and that only
-//! tuples that are asked count.
+//! Each stop through each operator that asks a function of tuples, by the rule that the least number stands and that
+//! only tuples that are asked count.
 use crate::samples::{Result, Term, aggregated, extended, item, relation, restricted, summarized};
 use std::alloc::Global;
 use td_algebra::{Item, Summary};

@@ -122,7 +122,8 @@ fn restricted_pairs(alloc: Global, rows: Rows<'_>) -> Result<String> {
     restricted(alloc, pairs(alloc, rows)?, Term::LeastShare(1))
 }
 
-/// Relations with tuples that raise Divide, where B is 0, or Overflow, where it is -1; and which of the two is the least.
+/// Relations with tuples that raise Divide, where B is 0, or Overflow, where it is -1; and which of the two is the
+/// least.
 const RAISING: [Rows<'static>; 3] = [
     &[&[1, 0], &[2, 7], &[3, -1]],
     &[&[1, -1], &[2, 7], &[3, 0]],

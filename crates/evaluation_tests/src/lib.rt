@@ -1,4 +1,5 @@
-//! What queries answer over the relvars of a script, and what statements make of them, expected from the language's rules.
+//! What queries answer over the relvars of a script, and what statements make of them, expected from the language's
+//! rules.
 //!
 //! These tests stand apart from the crates that they call, since a crate is proved once more for the tests in it.
 #![tactic(auto)]

@@ -210,7 +210,8 @@ fn tests_are_made_after_all_targets(rt: HostRuntime) -> Result<()> {
                 ),
                 "breaks constraint C1",
             ),
-            // a source sees a virtual relvar over its own target with what that was given, and over another target as it was
+            // a source sees a virtual relvar over its own target with what that was given, and over another target as
+            // it was
             (
                 Step::Run(
                     "INSERT S RELATION { TUPLE { SNO 'S2', STATUS 30, CITY 'London' } }, DELETE S WHERE COUNT ( LS ) = 2 AND SNO = 'S1', MOST := EXTEND TABLE_DEE ADD ( COUNT ( LS ) AS N );",

@@ -1,8 +1,9 @@
-//! Times single INSERTs into one relvar with a key and a constraint, as many as each word of the command line says; without words
-//! 100 and 1,000.
+//! Times single INSERTs into one relvar with a key and a constraint, as many as each word of the command line says;
+//! without words 100 and 1,000.
 //!
-//! Standard error has a line for each number: how long all statements took, and how long their tests take alone, over what each one
-//! left, in nanoseconds. Standard output has how many tuples there are then. `benches/inserts` prints the ratios.
+//! Standard error has a line for each number: how long all statements took, and how long their tests take alone, over
+//! what each one left, in nanoseconds. Standard output has how many tuples there are then. `benches/inserts` prints the
+//! ratios.
 #![tactic(auto)]
 
 mod inserting;

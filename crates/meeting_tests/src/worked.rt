@@ -10,7 +10,8 @@ use std::alloc::Global;
 use td_devices::Pair;
 use td_story::Meter;
 
-/// A step of a site: the bytes that it is given, what it says, what it writes in the room that it has, and how often it flushes.
+/// A step of a site: the bytes that it is given, what it says, what it writes in the room that it has, and how often it
+/// flushes.
 #[derive(Clone, Copy)]
 struct Case<'a> {
     start: Start<'a>,

@@ -1,9 +1,10 @@
-//! Times queries over relvars of 1,000 and of 10,000 tuples: a restriction, a join on a key, a summary by one attribute; and the
-//! closure of a chain of 300 pairs. With words on the command line, the queries that each of them names, and for `closure` also the
-//! one of a chain of 1,000 pairs.
+//! Times queries over relvars of 1,000 and of 10,000 tuples: a restriction, a join on a key, a summary by one
+//! attribute; and the closure of a chain of 300 pairs. With words on the command line, the queries that each of them
+//! names, and for `closure` also the one of a chain of 1,000 pairs.
 //!
-//! The least time of some turns goes to standard error, a line for each query and size, in nanoseconds. Standard output has how many
-//! tuples each gives, which is the same at each run. `benches/queries` compares the times with those of Rust and of SQLite.
+//! The least time of some turns goes to standard error, a line for each query and size, in nanoseconds. Standard output
+//! has how many tuples each gives, which is the same at each run. `benches/queries` compares the times with those of
+//! Rust and of SQLite.
 #![tactic(auto)]
 
 mod stored;

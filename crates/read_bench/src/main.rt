@@ -1,8 +1,8 @@
-//! Times how long the longest script takes to be read, and one of an eighth of its length; and how long the longest statement
-//! takes to be read and to be typed.
+//! Times how long the longest script takes to be read, and one of an eighth of its length; and how long the longest
+//! statement takes to be read and to be typed.
 //!
-//! The least time of some turns goes to standard error, with the ratio of the two: that of the scripts is 8 where the time is in
-//! step with the length. Standard output has how many bytes each has, which is the same at each run.
+//! The least time of some turns goes to standard error, with the ratio of the two: that of the scripts is 8 where the
+//! time is in step with the length. Standard output has how many bytes each has, which is the same at each run.
 #![tactic(auto)]
 
 ghost use Rattle.std.specs.Prelude.{◌≡◌, ◌*◌, IfOk, string_len};

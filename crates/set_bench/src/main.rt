@@ -116,8 +116,8 @@ fn measure_sets(
     Ok(())
 }
 
-// As many suppliers and shipments, one for each number, which share half of their numbers; and the sums of suppliers for
-// each of these numbers.
+// As many suppliers and shipments, one for each number, which share half of their numbers; and the sums of suppliers
+// for each of these numbers.
 fn measure_joins(
     rt: &HostRuntime,
     suppliers: &Table<'_>,

@@ -57,7 +57,8 @@ fn the_bytes_of_a_meeting(rt: HostRuntime) -> Result<(), Fail> {
     Ok(())
 }
 
-// A greeting, as it is read: its site, how long its script is, how many sites its version vector has, and the number of site 2.
+// A greeting, as it is read: its site, how long its script is, how many sites its version vector has, and the number of
+// site 2.
 fn greeted(alloc: Global, bytes: &[u8]) -> Result<(u16, usize, usize, u32), FrameError> {
     let greeting = read_greeting(alloc, &mut Device::new(bytes))?;
     let Greeting {

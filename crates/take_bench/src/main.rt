@@ -1,8 +1,8 @@
 //! Times how long a site's set of entries takes a batch, outside any rerun: `prepare` and `commit`.
 //!
 //! For 1,000 and for 10,000 entries, half of them held and half of them in the batch, with one clock
-//! for each two, the least of some times goes to standard error, with the ratio of the two. Standard output has how many
-//! entries are held then, which is the same at each run.
+//! for each two, the least of some times goes to standard error, with the ratio of the two. Standard output has how
+//! many entries are held then, which is the same at each run.
 #![tactic(auto)]
 
 ghost use Rattle.std.specs.Prelude.{◌≡◌, IfOk, length};

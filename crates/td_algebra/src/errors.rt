@@ -5,8 +5,8 @@ ghost use Rattle.td_algebra.specs.Stops as spec;
 use std::alloc::AllocError;
 use thiserror::Error;
 
-/// Why a function of tuples has no value: it has no meaning there, as where a value is of a wrong type, or it raises one of
-/// the language's errors.
+/// Why a function of tuples has no value: it has no meaning there, as where a value is of a wrong type, or it raises
+/// one of the language's errors.
 #[derive(Clone, Copy, Debug, Drop, Error, PartialEq, Eq)]
 pub enum Stop {
     #[error("untyped")]

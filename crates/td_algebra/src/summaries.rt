@@ -205,8 +205,8 @@ pub(crate) fn over_group<E, F: Fn(&E, &Tuple) -> Result<Value, Fault>>(
     }
 }
 
-/// The summary over all tuples of the relation: of the term's values, in ascending order of the tuples, or the least of the
-/// errors that the function raises, or else what the summary raises. The term is asked of each tuple once.
+/// The summary over all tuples of the relation: of the term's values, in ascending order of the tuples, or the least of
+/// the errors that the function raises, or else what the summary raises. The term is asked of each tuple once.
 pub fn aggregate<E, F: Fn(&E, &Tuple) -> Result<Value, Fault>>(
     alloc: Global,
     relation: &Relation,

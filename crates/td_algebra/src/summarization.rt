@@ -33,8 +33,8 @@ fn over_run<E, F: Fn(&E, &Tuple) -> Result<Value, Fault>>(
     over_group(alloc, index.run(tuple), summary, f)
 }
 
-/// Each tuple of the second relation with the summaries over its group, which are the tuples of the first that agree with
-/// it on the second one's names. For n and m tuples it costs of the order of (n + m) log n comparisons, and each
+/// Each tuple of the second relation with the summaries over its group, which are the tuples of the first that agree
+/// with it on the second one's names. For n and m tuples it costs of the order of (n + m) log n comparisons, and each
 /// term once on each tuple of a group.
 pub fn summarize<E, F: Fn(&E, &Tuple) -> Result<Value, Fault>>(
     alloc: Global,

@@ -1,6 +1,7 @@
--- What each line is answered, and what it leaves: said of what the sites are seen as, and of the catalogue of their script alone. Of the
--- faults of a line the first that stands is told: its form, its sites, its address or relvar, and then what the call is refused for.
--- Want of memory may be told in place of what a call on an open site has not reached yet.
+-- What each line is answered, and what it leaves: said of what the sites are seen as, and of the catalogue of their
+-- script alone. Of the faults of a line the first that stands is told: its form, its sites, its address or relvar, and
+-- then what the call is refused for. Want of memory may be told in place of what a call on an open site has not reached
+-- yet.
 use Rattle.std.specs.Prelude.{◌≡◌, ℕ, true, false, List, [], ◌++◌, codes, decimal, Option, Some, None, Result, Ok, Err, slice_set}
 use Rattle.std.specs.Net.Grammar.{IsSocketText, Parses}
 use Rattle.std.specs.declared.net.parser.AddrParseError.{AddrParseError}

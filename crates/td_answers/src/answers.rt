@@ -153,7 +153,8 @@ fn reply_to<R: Replica>(
     }
 }
 
-/// Answers a line, which comes without its line end. No link is asked for yet. It costs what the calls that it makes cost, and a search among the sites.
+/// Answers a line, which comes without its line end. No link is asked for yet. It costs what the calls that it makes
+/// cost, and a search among the sites.
 pub fn answer<R: Replica, L: Links>(
     alloc: Global,
     catalogue: &Catalogue,

@@ -14,7 +14,8 @@ pub enum LinkError {
     OutOfMemory,
 }
 
-/// Opens links to other sites. The workbench does not ask for one yet: it answers each line that wants a link as if none could be opened.
+/// Opens links to other sites. The workbench does not ask for one yet: it answers each line that wants a link as if
+/// none could be opened.
 pub trait Links {
     type Link: Link + Drop;
 

@@ -44,7 +44,8 @@ fn difference(
     }
 }
 
-/// The change of each relvar that the changes make different, by its place. It costs a walk along each target's old and new tuples.
+/// The change of each relvar that the changes make different, by its place. It costs a walk along each target's old and
+/// new tuples.
 pub(crate) fn differences(
     alloc: Global,
     database: &Database,

@@ -60,8 +60,8 @@ fn refusal(failure: TestFailure) -> Outcome
     }
 }
 
-/// What a statement makes of a database that it has not changed yet: changes with the differences that they make, or the outcome
-/// that it has without effect.
+/// What a statement makes of a database that it has not changed yet: changes with the differences that they make, or
+/// the outcome that it has without effect.
 #[derive(Drop)]
 pub(crate) enum Prepared {
     Changes(Vec<Change>, Vec<(usize, Delta)>),
@@ -140,8 +140,9 @@ fn unchanged(alloc: Global, outcome: Outcome) -> Ran
     }
 }
 
-/// Runs the statement over relvars of which every test is true: its text is read and typed once, each source is evaluated once, the
-/// differences are made and then every test, and the relvars change where all are true. A refusal for want of memory leaves the database; the meter has counted then.
+/// Runs the statement over relvars of which every test is true: its text is read and typed once, each source is
+/// evaluated once, the differences are made and then every test, and the relvars change where all are true. A refusal
+/// for want of memory leaves the database; the meter has counted then.
 #[tactic(auto, using(crate::proofs::Preparing::no_differences))]
 pub fn run(
     alloc: Global,

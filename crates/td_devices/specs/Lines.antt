@@ -43,13 +43,14 @@ IsWholeLine raw = (front : List ℕ) × (is_one_line front ≡ true) × (raw ≡
 abbrev pub IsOfOneLine : List ℕ → Type 0
 IsOfOneLine bytes = (is_one_line bytes ≡ true) ⊎ IsWholeLine bytes
 
--- what is kept of a line, of which so many bytes are allowed without its line end: all of it, or nothing of a longer one
+-- what is kept of a line, of which so many bytes are allowed without its line end: all of it, or nothing of a longer
+-- one
 abbrev pub IsKept : ℕ → List ℕ → Option (List ℕ) → Type 0
 IsKept most raw (Some bytes) = (bytes ≡ raw) × (length (content raw) ≤ most)
 IsKept most raw None = most < length (content raw)
 
--- What a reader of a line told, who read these bytes: a whole line, or what the input's end left of one, which may be nothing. Where it
--- read none, no whole line is lost, but for want of memory.
+-- What a reader of a line told, who read these bytes: a whole line, or what the input's end left of one, which may be
+-- nothing. Where it read none, no whole line is lost, but for want of memory.
 abbrev pub TellsLine : ℕ → List ℕ → Option (List ℕ) → Result RawLine LineError → Type 0
 TellsLine most raw left (Ok line) =
     IsKept most raw (option_map (λ v. v.items) line.bytes) × MatchBool line.is_last ((is_one_line raw ≡ true) × IsAtEnd left) (IsWholeLine raw)
@@ -66,7 +67,8 @@ byteless_reads (Err e) = 0
 abbrev pub LineRead : ℕ → Option (List ℕ) → Option (List ℕ) → ℕ → Result RawLine LineError → Type 0
 LineRead most old new reads r = (raw : List ℕ) × Consumes old new raw × TellsLine most raw new r × (reads ≡ length raw + byteless_reads r)
 
--- the cause of an error, by the reads that are left and the failures counted before and after: a read fault is a counted failure
+-- the cause of an error, by the reads that are left and the failures counted before and after: a read fault is a
+-- counted failure
 abbrev pub HasCause : ℕ → ℕ → ℕ → Result RawLine LineError → Type 0
 HasCause left old new (Ok line) = new ≡ old
 HasCause left old new (Err OutOfMemory) = new ≡ old

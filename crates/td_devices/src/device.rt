@@ -14,8 +14,8 @@ pub struct Single;
 pub struct Both;
 
 /// Wraps a reader or a writer, or a link, which is both. Its bytes are those of what it wraps. It goes on after an
-/// interruption; each other error, each thousandth interruption in a row, and each write of bytes that takes none of them is
-/// a failure and counted, and nothing else is. The count stays at the greatest number of 64 bits.
+/// interruption; each other error, each thousandth interruption in a row, and each write of bytes that takes none of
+/// them is a failure and counted, and nothing else is. The count stays at the greatest number of 64 bits.
 #[derive(Drop)]
 pub struct Device<D, K = Single> {
     inner: D,

@@ -57,7 +57,8 @@ fn within(line: Option<Vec<u8>>, most: usize) -> Option<Vec<u8>>
     Some(bytes)
 }
 
-/// Reads a line, a byte a read, by at most `reads` reads, from which those made are taken off. A line that has more than
+/// Reads a line, a byte a read, by at most `reads` reads, from which those made are taken off. A line that has more
+/// than
 /// `most` bytes without its line end is read to its end and not kept: at most `most + 2` bytes are held.
 pub fn read_line<S: Source>(
     alloc: Global,

@@ -64,7 +64,8 @@ pub fn write_all<K: Sink>(sink: &mut K, bytes: &[u8]) -> Result<(), Failed>
     Ok(())
 }
 
-/// Writes all of the bytes, and then flushes. At `Err` a front of them was written; where the flush failed, all of them.
+/// Writes all of the bytes, and then flushes. At `Err` a front of them was written; where the flush failed, all of
+/// them.
 pub fn put<K: Sink>(sink: &mut K, bytes: &[u8]) -> Result<(), Failed>
     ensures bytes { Writes (K.held sink.old) (K.held sink.new) result bytes.now }
     ensures flushed { OnOk result (K.is_flushed sink.new ≡ true) }

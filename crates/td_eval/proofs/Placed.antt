@@ -1,5 +1,5 @@
--- The relvars and possreps that typed expressions name are defined, those in the expression of a virtual relvar before it, and so
--- are those in the CONSTRAINT of a possrep.
+-- The relvars and possreps that typed expressions name are defined, those in the expression of a virtual relvar before
+-- it, and so are those in the CONSTRAINT of a possrep.
 use Rattle.std.proofs.Common.{◌≡◌, ℕ, ℤ, zero, suc, ◌<◌, ◌+◌, ◌++◌, Bool, true, false, List, [], ◌∷◌, map, length, Option, Some, None, if◌then◌else◌, ⊎_elim, refl, ap, sym, subst, arith, rules}
 use Rattle.std.specs.Prelude.{slice_get}
 use Rattle.std.specs.FinMap as by_name

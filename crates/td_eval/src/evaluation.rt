@@ -103,8 +103,8 @@ fn add_virtuals(
     Ok(())
 }
 
-/// The value of the expression within the tuple, or the error that it raises. Each base relvar that it reads is looked up once, and
-/// each virtual relvar under it is evaluated once.
+/// The value of the expression within the tuple, or the error that it raises. Each base relvar that it reads is looked
+/// up once, and each virtual relvar under it is evaluated once.
 pub fn eval<L: Lookup>(
     alloc: Global,
     expr: &TypedExpr,

@@ -21,7 +21,8 @@ pub fn means_its_tree()
     ensures { MeansItsTree }
 {}
 
-/// Over base relvars that have their headings, each relvar has a relation of its heading, or raises an error of the language.
+/// Over base relvars that have their headings, each relvar has a relation of its heading, or raises an error of the
+/// language.
 pub fn relvars_have_relations()
     ensures { RelvarsHaveRelations }
 {}

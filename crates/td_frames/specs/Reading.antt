@@ -12,7 +12,8 @@ use Rattle.td_frames.specs.declared.error.FrameError.{FrameError}
 use Rattle.td_frames.specs.declared.error.FrameError.TheVariants.{OutOfMemory, ReadFault, Cut, Magic, Version, BadFrame}
 use Rattle.td_frames.specs.declared.greeting.Greeting.{Greeting}
 
--- what misses: the bytes end before the field is whole; they are no greeting, or one of another version; or the field has no such value
+-- what misses: the bytes end before the field is whole; they are no greeting, or one of another version; or the field
+-- has no such value
 pub data Miss : Type 0 where
   short : Miss
   magic : Miss

@@ -57,8 +57,8 @@ fn put_script<K: Sink>(sink: &mut K, script: &str) -> Result<(), Failed>
     write_all(sink, script.as_bytes())
 }
 
-/// Writes the greeting of a site: its number, its script, and the sites of its version vector, ascending, each with its number. It takes
-/// no memory, and flushes nothing.
+/// Writes the greeting of a site: its number, its script, and the sites of its version vector, ascending, each with its
+/// number. It takes no memory, and flushes nothing.
 pub fn put_greeting<K: Sink>(
     sink: &mut K,
     site: u16,

@@ -19,7 +19,8 @@ const MOST_SCRIPT: u32 = 65_536;
 /// The greatest sequence number.
 const LAST_NUMBER: u32 = 1_000_000_000;
 
-/// What a site tells another one first: its number, the script that it started from, and the version vector of what it holds.
+/// What a site tells another one first: its number, the script that it started from, and the version vector of what it
+/// holds.
 #[derive(Drop)]
 pub struct Greeting {
     pub site: u16,

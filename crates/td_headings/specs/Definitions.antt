@@ -1,5 +1,5 @@
--- Which definitions are well typed after others, and what they add. Types, possreps, relvars and constraints are four name
--- spaces; in each a name is defined once, and a definition names only earlier ones.
+-- Which definitions are well typed after others, and what they add. Types, possreps, relvars and constraints are four
+-- name spaces; in each a name is defined once, and a definition names only earlier ones.
 use Rattle.std.specs.Prelude.{◌≡◌, Bool, true, false, not, length, List, [], ◌∷◌, ◌++◌, map, Option, Some, None, unwrap_or}
 use Rattle.std.specs.List.{list_any}
 use Rattle.std.specs.Option.{is_some}

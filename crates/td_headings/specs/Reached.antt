@@ -1,5 +1,6 @@
--- What evaluating an expression comes to: the relvars that it names, with those under its virtual relvars; and the possreps that
--- are selected in it and in these virtual relvars, with those in the CONSTRAINTs of possreps that are selected.
+-- What evaluating an expression comes to: the relvars that it names, with those under its virtual relvars; and the
+-- possreps that are selected in it and in these virtual relvars, with those in the CONSTRAINTs of possreps that are
+-- selected.
 use Rattle.std.specs.Prelude.{◌≡◌, ◌↔◌, ◌++◌, ℕ, Bool, true, false, List, [], map, Option, None, Some, slice_get}
 use Rattle.std.specs.List.{Contains, flat_map}
 use Rattle.std.specs.List.Sorted.{IsStrictlySortedBy}
@@ -44,8 +45,8 @@ is_base _ = false
 abbrev pub ReadsRelvar : List Origin → Typed → ℕ → Type 0
 ReadsRelvar origins u n = IsReached origins u n × (is_base (slice_get origins n) ≡ true)
 
--- the possrep at this place is selected in the expression, in one of the relvars that it reaches, or in the CONSTRAINT of a possrep
--- that is selected
+-- the possrep at this place is selected in the expression, in one of the relvars that it reaches, or in the CONSTRAINT
+-- of a possrep that is selected
 abbrev pub IsSelected : List Origin → List (Option Typed) → Typed → List ℕ → ℕ → Type 0
 IsSelected origins limits u relvars n = ReachedFrom (map possreps_within limits) (named_possreps u ++ flat_map (λ m. possreps_under (slice_get origins m)) relvars) n
 

@@ -40,7 +40,8 @@ source_of (action.Delete x (Some c)) = e.Where (e.Name x) (e.Unary unary.Not c)
 source_of (action.Update x None all) = e.Extend extension.Assign (e.Name x) all
 source_of (action.Update x (Some c) all) = e.Binary binary.Union (e.Where (e.Name x) (e.Unary unary.Not c)) (e.Extend extension.Assign (e.Where (e.Name x) c) all)
 
--- The target is a real relvar, and the source has its heading. So an item of an UPDATE names an attribute and has its type.
+-- The target is a real relvar, and the source has its heading. So an item of an UPDATE names an attribute and has its
+-- type.
 pub record IsAssignment (c : CatalogueData) (a : Action) (x : TypedAssignment) : Type 0 where
   pub relvar : Named Header
   pub keys : List (List Name)

@@ -15,8 +15,8 @@ use td_syntax::script::Definition;
 use td_trees::tree::Typed;
 use td_tuples::Shared;
 
-/// What a script has defined: types, relvars, and what must be true after each statement. Each definition is well typed after
-/// those before it.
+/// What a script has defined: types, relvars, and what must be true after each statement. Each definition is well typed
+/// after those before it.
 pub struct Catalogue {
     definitions: Definitions,
 }

@@ -100,8 +100,8 @@ fn ascending<L: Leads>(alloc: Global, links: &L, starts: &[usize]) -> Result<Vec
     Ok(in_order(places))
 }
 
-/// The places of the relvars that evaluating the expression comes to, ascending. It costs the sizes of the expression and of
-/// those of the virtual relvars among them.
+/// The places of the relvars that evaluating the expression comes to, ascending. It costs the sizes of the expression
+/// and of those of the virtual relvars among them.
 pub(crate) fn relvars_reached(
     alloc: Global,
     origins: &[Origin],

@@ -155,8 +155,8 @@ fn found(alloc: Global, schema: &Schema, action: &Action) -> Result<Typing, Type
     }
 }
 
-/// The source of an action, as one expression over its target. The condition of an UPDATE stands in it twice, and is typed
-/// twice.
+/// The source of an action, as one expression over its target. The condition of an UPDATE stands in it twice, and is
+/// typed twice.
 pub(crate) fn source(alloc: Global, schema: &Schema, action: &Action) -> Result<Typing, TypeError>
     ensures { Gives (infer schema.now (source_of action.now) (relvars_of schema.now)) result }
 {

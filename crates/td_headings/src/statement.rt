@@ -26,8 +26,8 @@ use td_trees::tree::Typing;
 use td_tuples::Shared;
 use td_values::{Heading, Name, TypeKind};
 
-/// An assignment, whose source is one expression over its target: a DELETE is the tuples for which the condition is false, an
-/// UPDATE those united with the others changed.
+/// An assignment, whose source is one expression over its target: a DELETE is the tuples for which the condition is
+/// false, an UPDATE those united with the others changed.
 #[derive(Drop)]
 pub struct TypedAssignment {
     /// The place of the base relvar that is assigned.

@@ -1,4 +1,5 @@
--- The types that forms with names give: a part, RENAME, GROUP and WRAP and their inverses, an attribute of a tuple, new attributes.
+-- The types that forms with names give: a part, RENAME, GROUP and WRAP and their inverses, an attribute of a tuple, new
+-- attributes.
 use Rattle.std.specs.Prelude.{Bool, ◌&&◌, List, [], ◌∷◌, Option, Some, None}
 use Rattle.std.specs.FinMap as by_name
 use Rattle.td_values.specs.Headings.{Header}

@@ -1,5 +1,5 @@
--- What a script has defined, as far as an expression can name it: relvars, and types with their possreps, each in order of
--- definition.
+-- What a script has defined, as far as an expression can name it: relvars, and types with their possreps, each in order
+-- of definition.
 use Rattle.std.specs.Prelude.{ℕ, ◌+◌, Bool, List, [], ◌∷◌, ◌++◌, Option, Some, None, if◌then◌else◌, nat_eq, codes}
 use Rattle.std.specs.List.{starts_with}
 use Rattle.std.specs.Ordering.{eq_by_cmp}

@@ -1,5 +1,5 @@
-//! The types that forms with names give: a part, RENAME, GROUP and WRAP and their inverses, an attribute of a tuple, new
-//! attributes.
+//! The types that forms with names give: a part, RENAME, GROUP and WRAP and their inverses, an attribute of a tuple,
+//! new attributes.
 
 ghost use Rattle.std.specs.Prelude.{◌≡◌, IfOk};
 ghost use Rattle.std.specs.Option.{option_copied};

@@ -25,7 +25,8 @@ pub struct Representation {
     pub components: Items<Named<TypeKind>>,
 }
 
-/// The relvars, and the types with their possreps, each in order of definition. They are found by a hash of their names.
+/// The relvars, and the types with their possreps, each in order of definition. They are found by a hash of their
+/// names.
 pub struct Schema {
     types: IndexSet<Name>,
     possreps: IndexMap<Name, Representation>,
@@ -203,8 +204,8 @@ impl Schema {
                 && self.possrep(representation.possrep.name()).is_none())
     }
 
-    /// Adds a type behind the others. It is refused where there is a type of its name or a possrep of its possrep's name, or
-    /// where that name begins with THE_.
+    /// Adds a type behind the others. It is refused where there is a type of its name or a possrep of its possrep's
+    /// name, or where that name begins with THE_.
     pub fn add_type(&mut self, representation: Representation) -> Result<(), TypeError>
         ensures ok { OnOk result (additions.type_added self.old representation ≡ Some self.new) }
         ensures ill_typed { result ≡ Err type_error.IllTyped → additions.type_added self.old representation ≡ None }

@@ -55,8 +55,8 @@ fn relvar_meant(schema: &Schema, name: &Name) -> Result<Option<Meant>, AllocErro
 }
 
 impl Scope<'_> {
-    /// What the name means: the innermost names are looked at first. It takes as many look-ups as scopes are around, and as
-    /// many steps as WITH has names.
+    /// What the name means: the innermost names are looked at first. It takes as many look-ups as scopes are around,
+    /// and as many steps as WITH has names.
     pub fn find(&self, name: &Name) -> Result<Option<Meant>, AllocError>
         ensures { IfOk result (λ m. m ≡ visible self.now name.now) }
     {

@@ -84,7 +84,8 @@ fn user_written(schema: &Schema, name: &Name) -> Result<TypeKind, TypeError>
     }
 }
 
-/// The kind of the type as it is written. A type's name is that of a type which is defined, and a heading's names are distinct.
+/// The kind of the type as it is written. A type's name is that of a type which is defined, and a heading's names are
+/// distinct.
 #[cycle(written)]
 pub fn written(alloc: Global, schema: &Schema, ty: &TypeExpr) -> Result<TypeKind, TypeError>
     ensures { Gives (spec.written schema.now ty.now) result }

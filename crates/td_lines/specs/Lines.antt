@@ -47,7 +47,8 @@ after front bs = if bytes_eq (take (length front) bs) front then Some (drop (len
 abbrev pub parted : ℕ → List ℕ → Option (List ℕ × List ℕ)
 parted c bs = if nat_lt (position_or_len (λ b. b == c) bs) (length bs) then Some (before_first (λ b. b == c) bs, after_first (λ b. b == c) bs) else None
 
--- ---- the forms of lines: an empty line, n: text, n? text, and those that begin with a dot, whose words have one space between and none after
+-- ---- the forms of lines: an empty line, n: text, n? text, and those that begin with a dot, whose words have one space
+-- between and none after
 
 -- without one space in front, where there is one
 abbrev pub text_of : List ℕ → List ℕ

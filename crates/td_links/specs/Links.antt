@@ -6,8 +6,8 @@ use Rattle.std.specs.List.{Contains}
 abbrev pub LeadsOn : List (List ℕ) → ℕ → ℕ → Type 0
 LeadsOn links v w = Contains (slice_index_or links v []) w
 
--- A place is reached from these where it is one of them, or where a place that is reached leads to it. What lies beyond the
--- links is no place.
+-- A place is reached from these where it is one of them, or where a place that is reached leads to it. What lies beyond
+-- the links is no place.
 pub data ReachedFrom (links : List (List ℕ)) (starts : List ℕ) : ℕ → Type 0 where
   start : {w : ℕ} → Contains starts w → w < length links → ReachedFrom links starts w
   onward : {v w : ℕ} → ReachedFrom links starts v → LeadsOn links v w → w < length links → ReachedFrom links starts w

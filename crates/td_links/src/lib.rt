@@ -116,8 +116,8 @@ fn look<L: Leads>(links: &L, place: usize, next: &mut Vec<usize>) -> Result<(), 
     links.add_next(place, next)
 }
 
-/// These places and those that are reached from them, each once. Each place costs a mark, and one that is reached a look at
-/// where it leads.
+/// These places and those that are reached from them, each once. Each place costs a mark, and one that is reached a
+/// look at where it leads.
 pub fn reached<L: Leads>(
     alloc: Global,
     links: &L,

@@ -1,5 +1,5 @@
--- What the calls answer. Of the causes of refusal the first in the order of each call's errors is answered, or want of memory in place of
--- one that was not reached yet.
+-- What the calls answer. Of the causes of refusal the first in the order of each call's errors is answered, or want of
+-- memory in place of one that was not reached yet.
 use Rattle.std.specs.Prelude.{◌≡◌, ◌≢◌, ℕ, true, false, List, None, Some, Result, Ok, Err}
 use Rattle.std.specs.FinMap as by_name
 use Rattle.td_values.specs.Headings.{Header}

@@ -1,5 +1,6 @@
--- The table of a relvar, as comma-separated values: a record of the attribute names in name order, then one for each tuple, ascending, as
--- the default writer of csv writes records. A text stands as it is, every other kind of value as it is shown.
+-- The table of a relvar, as comma-separated values: a record of the attribute names in name order, then one for each
+-- tuple, ascending, as the default writer of csv writes records. A text stands as it is, every other kind of value as
+-- it is shown.
 use Rattle.std.specs.Prelude.{ℕ, List, [], ◌∷◌, ◌++◌, map}
 use Rattle.std.specs.FinMap as by_name
 use Rattle.std.specs.List.{flat_map}

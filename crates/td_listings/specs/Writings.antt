@@ -1,5 +1,5 @@
--- What writing a text of a site does to a writer. The text is made whole before any of it is written; at a write fault a front of it was
--- written, and a failure is counted.
+-- What writing a text of a site does to a writer. The text is made whole before any of it is written; at a write fault
+-- a front of it was written, and a failure is counted.
 use Rattle.std.specs.Prelude.{◌≡◌, ℕ, Bool, true, false, List, Option, Result, Ok, Err}
 use Rattle.std.specs.Io.KnownBytes.{Appends}
 use Rattle.td_devices.specs.declared.streams.Sink as sink

@@ -170,8 +170,8 @@ fn listed<R: Replica>(
     Ok(out)
 }
 
-/// The listing of a site: each relvar with its tuples, the refused entries, and how many are held. It costs the evaluation of each
-/// virtual relvar, and is linear in what it tells.
+/// The listing of a site: each relvar with its tuples, the refused entries, and how many are held. It costs the
+/// evaluation of each virtual relvar, and is linear in what it tells.
 pub fn listing_text<R: Replica>(
     alloc: Global,
     catalogue: &Catalogue,

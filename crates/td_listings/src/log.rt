@@ -72,8 +72,8 @@ fn log_lines(
     Ok(out)
 }
 
-/// The log of a site: a line for each entry that it holds, in stamp order. It costs what `outcomes` does, and is linear in what it
-/// tells.
+/// The log of a site: a line for each entry that it holds, in stamp order. It costs what `outcomes` does, and is linear
+/// in what it tells.
 pub fn log_text<R: Replica>(alloc: Global, replica: &R) -> Result<String, ListError>
     ensures { MatchResult result (λ text. Logs (R.seen replica.now) (Ok (string_bytes text))) (λ e. Logs (R.seen replica.now) (Err e)) }
 {

@@ -47,7 +47,8 @@ fn rendered(alloc: Global, answer: &Answer) -> Result<Vec<u8>, TableError>
     }
 }
 
-/// The table of the relvar of this name. It costs a search among the relvars, the evaluation of a virtual one, and is linear in what it tells.
+/// The table of the relvar of this name. It costs a search among the relvars, the evaluation of a virtual one, and is
+/// linear in what it tells.
 pub fn table_text<R: Replica>(
     alloc: Global,
     catalogue: &Catalogue,

@@ -1,4 +1,5 @@
--- The measures of the recursion: an item of a list is no deeper than the list, and a list less deep than the form it is in.
+-- The measures of the recursion: an item of a list is no deeper than the list, and a list less deep than the form it is
+-- in.
 use Rattle.std.proofs.Common.{◌≡◌, ◌≤◌, ◌<◌, ◌+◌, ◌*◌, ℕ, zero, suc, max, List, [], ◌∷◌, length, get_or, ap, ◌∙◌, arith}
 use Rattle.td_values.specs.Headings.{Header}
 use Rattle.td_syntax.specs.declared.tree.Named.{Named}

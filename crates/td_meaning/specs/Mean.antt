@@ -1,5 +1,5 @@
--- What a typed expression means: a value, or the error that it raises, given what the relvars have, what selectors make, and
--- what the names in scope stand for.
+-- What a typed expression means: a value, or the error that it raises, given what the relvars have, what selectors
+-- make, and what the names in scope stand for.
 use Rattle.std.specs.Prelude.{ℕ, Bool, true, false, if◌then◌else◌, List, [], ◌∷◌, Option, None, Some, Result, Ok}
 use Rattle.std.specs.Ordering.{eq_by_cmp}
 use Rattle.td_values.specs.Attributes.{attribute_of}

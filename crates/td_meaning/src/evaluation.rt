@@ -660,8 +660,9 @@ fn summarization(
     Ok(relation_value(found))
 }
 
-/// The value of an expression, or the least error that its rules let stand. What typing rules out is answered by `Untyped`.
-/// The recursion nests as deep as the expression has levels, and those of the CONSTRAINTs of selectors under it.
+/// The value of an expression, or the least error that its rules let stand. What typing rules out is answered by
+/// `Untyped`. The recursion nests as deep as the expression has levels, and those of the CONSTRAINTs of selectors under
+/// it.
 #[cycle(evaluation)]
 pub fn eval(alloc: Global, env: &Environment, tree: &Typed, scope: &Scope) -> Result<Value, Fault>
     ensures { Answers result (mean_in env.now tree.now (visible scope.now)) }

@@ -105,8 +105,8 @@ fn component<'a>(names: &[Name], values: &'a [Value], name: &Name) -> Option<&'a
 }
 
 impl Scope<'_> {
-    /// What the name stands for: the innermost names are looked at first. It takes as many look-ups as scopes are around, and
-    /// as many steps as WITH has names and a possrep components.
+    /// What the name stands for: the innermost names are looked at first. It takes as many look-ups as scopes are
+    /// around, and as many steps as WITH has names and a possrep components.
     pub(crate) fn find(&self, name: &Name) -> Option<Meant<'_>>
         ensures { MatchOption result (visible self.now name.now ≡ None) (λ m. visible self.now name.now ≡ Some (meant_value m)) }
     {

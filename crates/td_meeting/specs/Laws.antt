@@ -17,8 +17,8 @@ MeetingLeavesUnion =
 abbrev pub link : Option (List ℕ) → List ℕ → ℕ → Bool → LinkData
 link left held failures is_flushed = record { left = left; held = Some held; failures = failures; is_flushed = is_flushed }
 
--- Two sites meet by the four steps, with no other call between them: what each step wrote came to the other site, by any links, and
--- each step ended well.
+-- Two sites meet by the four steps, with no other call between them: what each step wrote came to the other site, by
+-- any links, and each step ended well.
 pub record MeetBySteps (s t : Seen) (gains gives : Taken) (after other : Seen) : Type 0 where
   pub greeting : List ℕ
   pub answer : List ℕ

@@ -1,4 +1,5 @@
--- Meetings of two sites in memory: the first takes what it lacks of the second's entries, and then the second what it lacks of the first's.
+-- Meetings of two sites in memory: the first takes what it lacks of the second's entries, and then the second what it
+-- lacks of the first's.
 use Rattle.std.specs.Prelude.{◌≡◌, ◌≢◌, ◌⊎◌, ℕ, true, false, List, Result, Ok, Err}
 use Rattle.td_stamps.specs.Vectors.{VersionVector, IsVector, after_vector}
 use Rattle.td_stamps.specs.declared.entry.Entry.{Entry}

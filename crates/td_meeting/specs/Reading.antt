@@ -1,5 +1,5 @@
--- What a site reads of another one, and what it takes of it. A link is told of by the bytes that it has left and by the failures that it
--- counted, before and after.
+-- What a site reads of another one, and what it takes of it. A link is told of by the bytes that it has left and by the
+-- failures that it counted, before and after.
 use Rattle.std.specs.Prelude.{◌≡◌, ◌≢◌, ◌⊎◌, ℕ, List, [], ◌++◌, Option, Result, Ok, Err}
 use Rattle.std.specs.Io.KnownBytes.{Consumes, IsAtEnd}
 use Rattle.td_devices.specs.Counted.{counted}
@@ -59,7 +59,8 @@ pub record ReadsEntries (left after : Option (List ℕ)) (es : List Entry) (endi
 abbrev pub ReadsStream : Option (List ℕ) → Option (List ℕ) → List Entry → Type 0
 ReadsStream left after es = ReadsEntries left after es (Ok [])
 
--- what is taken where a stream isn't whole: its whole entries where the bytes are too few, and nothing where a field has no such value
+-- what is taken where a stream isn't whole: its whole entries where the bytes are too few, and nothing where a field
+-- has no such value
 abbrev pub TakesFront : Seen → List Entry → FrameError → ℕ → Seen → Type 0
 TakesFront s es frame_error.ReadFault taken t = (x : Taken) × TakesBatch s es x t × (taken ≡ x.fresh)
 TakesFront s es frame_error.Cut taken t = (x : Taken) × TakesBatch s es x t × (taken ≡ x.fresh)

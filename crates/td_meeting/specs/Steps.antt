@@ -1,6 +1,7 @@
--- The four steps of a meeting of a first and a second site. `greet`: the first writes its greeting. `answer`: the second reads it, and writes
--- its own greeting and what it holds after the first's version vector. `settle`: the first reads all of that, takes the entries as one batch,
--- and writes what it then holds after the second's version vector. `finish`: the second reads and takes this.
+-- The four steps of a meeting of a first and a second site. `greet`: the first writes its greeting. `answer`: the
+-- second reads it, and writes its own greeting and what it holds after the first's version vector. `settle`: the first
+-- reads all of that, takes the entries as one batch, and writes what it then holds after the second's version vector.
+-- `finish`: the second reads and takes this.
 use Rattle.std.specs.Prelude.{◌≡◌, ◌⊎◌, ℕ, Bool, true, false, List, ◌++◌, Option, Result, Ok, Err}
 use Rattle.std.specs.List.{AllByRecursion}
 use Rattle.std.specs.Io.KnownBytes.{Keeps, Appends}

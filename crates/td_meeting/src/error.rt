@@ -11,8 +11,8 @@ pub enum MeetingError {
     Broken,
     #[error("out of memory")]
     OutOfMemory,
-    /// What the other site sent cannot be read. Where it is cut or the reader failed, the whole entries before are taken, and
-    /// this many of them were fresh.
+    /// What the other site sent cannot be read. Where it is cut or the reader failed, the whole entries before are
+    /// taken, and this many of them were fresh.
     #[error("{error}; fresh entries taken before: {taken}")]
     Frame { error: FrameError, taken: usize },
     #[error("the other site started from another script")]

@@ -1,4 +1,5 @@
-//! Meetings of two sites: four steps over any readers and writers, in which each site tells the other what it holds, and takes what it lacks.
+//! Meetings of two sites: four steps over any readers and writers, in which each site tells the other what it holds,
+//! and takes what it lacks.
 #![tactic(auto)]
 
 pub mod error;

@@ -171,8 +171,8 @@ fn exchange<A: Replica, B: Replica>(
     }
 }
 
-/// A meeting of two sites in memory, by the four steps. It takes room for the bytes of each; between two sites of one script with two
-/// numbers no frame is refused.
+/// A meeting of two sites in memory, by the four steps. It takes room for the bytes of each; between two sites of one
+/// script with two numbers no frame is refused.
 pub fn meet<A: Replica, B: Replica>(
     alloc: Global,
     first: &mut A,

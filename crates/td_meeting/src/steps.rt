@@ -11,7 +11,8 @@ use std::alloc::Global;
 use td_devices::{Channel, Failed, Sink, Source};
 use td_story::{Meter, Replica, Taken};
 
-/// The first step, of the first site: it writes its greeting, and hands it on. It costs a walk along what the site holds.
+/// The first step, of the first site: it writes its greeting, and hands it on. It costs a walk along what the site
+/// holds.
 pub fn greet<R: Replica, K: Sink>(alloc: Global, site: &R, sink: &mut K) -> Result<(), MeetingError>
     ensures greeted { Greeted (R.seen site.now) (side_of K.Sink sink.old) result (side_of K.Sink sink.new) }
     ensures aside { Keeps (K.aside sink.old) (K.aside sink.new) }
@@ -28,8 +29,9 @@ pub fn greet<R: Replica, K: Sink>(alloc: Global, site: &R, sink: &mut K) -> Resu
     }
 }
 
-/// The second step, of the second site: it reads the first one's greeting, writes its own and what it holds after the version vector
-/// that it read, and hands both on. It takes room for what it reads and for its own version vector, before it writes.
+/// The second step, of the second site: it reads the first one's greeting, writes its own and what it holds after the
+/// version vector that it read, and hands both on. It takes room for what it reads and for its own version vector,
+/// before it writes.
 pub fn answer<R: Replica, C: Channel>(
     alloc: Global,
     site: &R,
@@ -47,8 +49,8 @@ pub fn answer<R: Replica, C: Channel>(
     reply(alloc, site, &greeting.vector, link)
 }
 
-/// The third step, of the first site: it reads the second one's greeting and entries, takes these as one batch, writes what it then holds
-/// after the version vector that it read, and hands it on. All room is taken before the batch is.
+/// The third step, of the first site: it reads the second one's greeting and entries, takes these as one batch, writes
+/// what it then holds after the version vector that it read, and hands it on. All room is taken before the batch is.
 pub fn settle<R: Replica, C: Channel>(
     alloc: Global,
     site: &mut R,

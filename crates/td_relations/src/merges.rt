@@ -93,7 +93,8 @@ fn merged(alloc: Global, xs: &[Tuple], ys: &[Tuple], kept: Kept) -> Result<Vec<T
     Ok(out)
 }
 
-// The tuples that the first of two ascending lists of one heading has alone, ascending, and those that the second has alone.
+// The tuples that the first of two ascending lists of one heading has alone, ascending, and those that the second has
+// alone.
 fn alone(alloc: Global, xs: &[Tuple], ys: &[Tuple]) -> Result<(Vec<Tuple>, Vec<Tuple>), AllocError>
     requires alike { All (λ t. All (λ u. heading_of t ≡ heading_of u) ys.now) xs.now }
     requires xs_ascend { IsStrictlySortedBy attrs_order xs.now }
@@ -137,8 +138,8 @@ fn with_tuples(relation: &Relation, tuples: Vec<Tuple>) -> Result<Relation, Allo
     })
 }
 
-// The tuples that the first relation has alone, and those that the second has alone, shared. It costs as `union`, and takes memory
-// for what it answers.
+// The tuples that the first relation has alone, and those that the second has alone, shared. It costs as `union`, and
+// takes memory for what it answers.
 pub(crate) fn apart(
     alloc: Global,
     a: &Relation,
@@ -206,8 +207,8 @@ fn has_all(relation: &Relation, tuples: &[Tuple]) -> bool
     tuples.iter().all(|tuple| relation.contains(tuple))
 }
 
-/// Whether each tuple of the first relation is in the second. It takes no memory. For lists of n and m tuples it costs of
-/// the order of n log m comparisons.
+/// Whether each tuple of the first relation is in the second. It takes no memory. For lists of n and m tuples it costs
+/// of the order of n log m comparisons.
 pub fn is_subset(a: &Relation, b: &Relation) -> bool
     ensures { IsTrue result ↔ (set.is_subset (body a.now) (body b.now) ≡ true) }
 {

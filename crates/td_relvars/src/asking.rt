@@ -71,8 +71,8 @@ fn evaluated(
 }
 
 impl Database {
-    /// What the relvar of this name has, or the error that evaluating it raises. Of a base relvar it is a copy, whose tuples are
-    /// shared; a virtual one is evaluated.
+    /// What the relvar of this name has, or the error that evaluating it raises. Of a base relvar it is a copy, whose
+    /// tuples are shared; a virtual one is evaluated.
     pub fn value_of(&self, alloc: Global, name: &Name) -> Result<Answer, RelvarError>
         ensures { TellsRelvar self.now name.now result }
     {

@@ -84,8 +84,8 @@ fn judged(alloc: Global, database: Database) -> Result<Database, ScriptError>
     }
 }
 
-/// The database that the script opens: its types and relvars, each with what it holds at first, where every test is true. It
-/// costs the reading and typing of the text, the evaluation of each INIT, and the tests.
+/// The database that the script opens: its types and relvars, each with what it holds at first, where every test is
+/// true. It costs the reading and typing of the text, the evaluation of each INIT, and the tests.
 pub fn open_script(alloc: Global, text: &str) -> Result<Database, ScriptError>
     ensures opens { Opens text.now result }
     ensures legal { IfOk result IsLegal }

@@ -24,8 +24,8 @@ use td_values::{Name, Text};
 /// The greatest limit of a site.
 pub const MOST_ENTRIES: usize = 100_000;
 
-/// A site in memory. It keeps the database and the outcomes of its story, so to issue a statement runs that one alone; to take
-/// entries that are new runs all.
+/// A site in memory. It keeps the database and the outcomes of its story, so to issue a statement runs that one alone;
+/// to take entries that are new runs all.
 pub struct PlainSite {
     script: Text,
     site: u16,

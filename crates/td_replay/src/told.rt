@@ -57,7 +57,8 @@ impl Told {
         Ok(())
     }
 
-    // Runs one entry more and answers its outcome. One that is unread is not kept; it and want of memory leave all as it was.
+    // Runs one entry more and answers its outcome. One that is unread is not kept; it and want of memory leave all as
+    // it was.
     fn tell_next(
         &mut self,
         alloc: Global,
@@ -115,8 +116,8 @@ pub(crate) fn tell_all(
     Ok(told)
 }
 
-/// Adds an entry that comes after all that is held, runs it, and answers its outcome. One that is unread is not kept; it and want of
-/// memory leave all as it was.
+/// Adds an entry that comes after all that is held, runs it, and answers its outcome. One that is unread is not kept;
+/// it and want of memory leave all as it was.
 pub(crate) fn add_last(
     alloc: Global,
     held: &mut Held,

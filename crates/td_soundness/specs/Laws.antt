@@ -8,6 +8,7 @@ use Rattle.td_typing.specs.Types.{Types}
 use Rattle.td_meaning.specs.Mean.{Names, Relvars, Selection, mean}
 use Rattle.td_soundness.specs.Meanings.{AreMeant, GivesValue, Selects}
 
--- where relvars, selectors and names are as typing takes them, a typed expression means a value of its type or one of the errors
+-- where relvars, selectors and names are as typing takes them, a typed expression means a value of its type or one of
+-- the errors
 abbrev pub TypedHasMeaning : Type 0
 TypedHasMeaning = (s : SchemaData) (relvars : Relvars) (selection : Selection) (scope : Scope) (names : Names) (e : Expr) (u : Typed) (k : TypeKind) → Types s scope e u k → AreMeant s relvars scope names → Selects s selection → GivesValue s k (mean relvars selection u names)

@@ -1,5 +1,5 @@
--- The values of what is defined: a user value has the possrep of its type, with components of that possrep's types; a tuple has a
--- heading, and the tuples of a relation have its.
+-- The values of what is defined: a user value has the possrep of its type, with components of that possrep's types; a
+-- tuple has a heading, and the tuples of a relation have its.
 use Rattle.std.specs.Prelude.{◌≡◌, ℕ, map, Some}
 use Rattle.td_values.specs.Data.{Fields, PossrepData, Datum, boolean, integer, char, user, tuple, relation, Items, no_items, item, Attrs, no_attrs, attr, Tuples, no_tuples, next_tuple}
 use Rattle.td_values.specs.Headings.{Header, header_fields}

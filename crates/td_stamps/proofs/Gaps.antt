@@ -1,4 +1,5 @@
--- A set's version vector, kept by a walk in stamp order: there a site's sequence numbers ascend, so nothing later fills a gap.
+-- A set's version vector, kept by a walk in stamp order: there a site's sequence numbers ascend, so nothing later fills
+-- a gap.
 use Rattle.std.proofs.Common.{◌≡◌, ◌≢◌, ℕ, suc, ◌+◌, ◌-◌, ◌<◌, ◌≤◌, Bool, true, false, ◌&&◌, ◌||◌, cond, eqb, leb, List, [], ◌∷◌, ◌++◌, length, get_or, take, drop, Option, Some, None, unwrap_or, refl, sym, ap, subst, ◌∙◌, inl, inr, arith}
 use mathlib.Core.Bool.{false≢true}
 use Rattle.std.specs.Cmp.{nat_cmp_total}

@@ -1,4 +1,5 @@
--- A sorted list of entries, walked once: its repeats are neighbours, and its clashes are found by the greatest number so far of each site.
+-- A sorted list of entries, walked once: its repeats are neighbours, and its clashes are found by the greatest number
+-- so far of each site.
 use Rattle.std.proofs.Common.{◌≡◌, ◌+◌, ◌≢◌, ℕ, suc, ◌-◌, ◌<◌, ◌≤◌, Bool, true, false, ◌&&◌, ◌||◌, cond, if◌then◌else◌, eqb, ltb, leb, List, [], ◌∷◌, ◌++◌, length, get_or, max, Option, Some, None, unwrap_or, Vec, Global, refl, sym, ap, subst, ◌∙◌, inl, inr, arith, take, drop}
 use mathlib.Core.Bool.{false≢true}
 use Rattle.std.specs.List.{list_any, list_all, slice_get}

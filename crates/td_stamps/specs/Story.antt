@@ -1,5 +1,5 @@
--- The story of a list of entries: each runs once, in order, on the state that the one before it left. It is told for any state and any
--- step, which ties the state before an entry, the entry, its outcome and the state after it.
+-- The story of a list of entries: each runs once, in order, on the state that the one before it left. It is told for
+-- any state and any step, which ties the state before an entry, the entry, its outcome and the state after it.
 use Rattle.std.specs.Prelude.{List, [], ◌∷◌}
 use Rattle.td_stamps.specs.declared.entry.Entry.{Entry}
 use Rattle.td_stamps.specs.declared.entry.Stamp.{Stamp}

@@ -1,5 +1,5 @@
--- Version vectors (of the tentative writes of Terry et al. 1995, Bayou): up to which sequence number a set has each site's
--- entries without a gap, and what another set has beyond that.
+-- Version vectors (of the tentative writes of Terry et al. 1995, Bayou): up to which sequence number a set has each
+-- site's entries without a gap, and what another set has beyond that.
 use Rattle.std.specs.Prelude.{◌≡◌, ◌≢◌, ℕ, ◌≤◌, Bool, true, ◌&&◌, ◌==◌, nat_lt, nat_le, List, Some, unwrap_or}
 use Rattle.std.specs.Coded.{Coded, coded_ℕ}
 use Rattle.std.specs.FinMap as map

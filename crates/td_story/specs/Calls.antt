@@ -1,6 +1,6 @@
--- What the calls on a site answer, and what they leave. Of the causes of refusal that stand, the first in the order of each call's
--- errors is answered, or want of memory in place of one that was not reached yet: a text over its limit and an entry out of its ranges are
--- found without memory.
+-- What the calls on a site answer, and what they leave. Of the causes of refusal that stand, the first in the order of
+-- each call's errors is answered, or want of memory in place of one that was not reached yet: a text over its limit and
+-- an entry out of its ranges are found without memory.
 use Rattle.std.specs.Prelude.{◌≡◌, ◌≤◌, ◌<◌, ◌+◌, ℕ, nat_lt, true, false, List, [], ◌∷◌, ◌++◌, length, Result, Ok, Err, if◌then◌else◌}
 use Rattle.std.specs.List.{list_all}
 use Rattle.td_values.specs.Data.{Datum, no_attrs}

@@ -62,7 +62,8 @@ pub record Belongs (c : CatalogueData) (n : ℕ) (r : RowsData) : Type 0 where
   pub there : slice_get c.schema.relvars n ≡ Some relvar
   pub relation : IsRelationOver c.schema relvar.value r
 
--- definitions made the catalogue, each base relvar has a relation of its heading, and of a virtual one nothing is stored
+-- definitions made the catalogue, each base relvar has a relation of its heading, and of a virtual one nothing is
+-- stored
 pub record IsDatabase (d : DatabaseData) : Type 0 where
   pub defined : Defined d.catalogue
   pub each : length d.stored ≡ length d.catalogue.origins

@@ -1,5 +1,5 @@
--- What a typed expression means, given what the base relvars have and the tuple that it sees: a value, or the error that it
--- raises.
+-- What a typed expression means, given what the base relvars have and the tuple that it sees: a value, or the error
+-- that it raises.
 use Rattle.std.specs.Prelude.{◌==◌, if◌then◌else◌, List, None, Result}
 use Rattle.std.specs.List.{fold}
 use Rattle.td_values.specs.Data.{Datum, Attrs}

@@ -1,4 +1,5 @@
--- The opening relvars: in order of definition each has the value of its INIT over those before it; one without an INIT is empty.
+-- The opening relvars: in order of definition each has the value of its INIT over those before it; one without an INIT
+-- is empty.
 use Rattle.std.specs.Prelude.{ℕ, List, [], ◌∷◌, Option, None, Some, Result, Ok}
 use Rattle.std.specs.FinSet as set
 use Rattle.td_values.specs.Data.{no_attrs}
@@ -30,7 +31,8 @@ all_empty os vs = []
 abbrev pub relation_in : CatalogueData → Stored → Typed → Result RowsData Stop
 relation_in c stored u = and_then (tree_means c (stored_relvars stored) u no_attrs) rows_of
 
--- with the value of the INIT, if there is one. It names only relvars before its own, and doesn't see that those behind are empty
+-- with the value of the INIT, if there is one. It names only relvars before its own, and doesn't see that those behind
+-- are empty
 abbrev pub with_init : CatalogueData → Stored → ℕ → Option (Typed × Header) → Result Stored Stop
 with_init c stored n None = Ok stored
 with_init c stored n (Some v) = and_then (relation_in c stored v.0) (λ r. Ok (put n r stored))

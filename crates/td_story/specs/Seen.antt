@@ -1,5 +1,5 @@
--- What a site is seen as: the script that it started from, its number, the most entries that it may hold, those that it holds, in
--- stamp order, and whether it is open.
+-- What a site is seen as: the script that it started from, its number, the most entries that it may hold, those that it
+-- holds, in stamp order, and whether it is open.
 use Rattle.std.specs.Prelude.{◌≡◌, ◌≤◌, ℕ, nat_le, Bool, true, ◌&&◌, List, length}
 use Rattle.std.specs.List.{list_all}
 use Rattle.td_stamps.specs.Entries.{in_range}

@@ -46,8 +46,9 @@ TellsTest c t None (BreaksConstraint n) = title c t ≡ broken.Constraint n
 TellsTest c t (Some e) (Raised r) = e ≡ stop_of r
 TellsTest c t o outcome = ⊥
 
--- A text that has no reading or no typing is unread. Else its sources are evaluated; where one raises, that error stands. Else, with
--- all targets replaced, the first test that is false or raises decides. Only where none does, the database changes.
+-- A text that has no reading or no typing is unread. Else its sources are evaluated; where one raises, that error
+-- stands. Else, with all targets replaced, the first test that is false or raises decides. Only where none does, the
+-- database changes.
 pub data Steps (d : DatabaseData) (text : List ℕ) : Outcome → DatabaseData → Type 0 where
   unread :
       IsUnread d.catalogue text

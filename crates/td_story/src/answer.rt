@@ -13,8 +13,8 @@ pub enum Answer {
     Raised(Raise),
 }
 
-/// A statement that was issued: its stamp, and what became of it. The outcome is tentative: an entry that comes later and stands
-/// before it may change it, at each site alike.
+/// A statement that was issued: its stamp, and what became of it. The outcome is tentative: an entry that comes later
+/// and stands before it may change it, at each site alike.
 #[derive(Drop)]
 pub struct Issued {
     pub stamp: Stamp,

@@ -1,7 +1,8 @@
 //! The laws of scripts, steps, stories and sites.
 ghost use Rattle.td_story.specs.Laws.{OpeningIsOne, OpensOrWants, ScriptIsOne, SitesAgree, StepIsLegal, StepIsUnique, StoryIsLegal, StoryIsOne};
 
-/// A text is the script of one catalogue, and opens in one way: whoever opens it again has the same database, or wants memory.
+/// A text is the script of one catalogue, and opens in one way: whoever opens it again has the same database, or wants
+/// memory.
 pub fn script_opens_one()
     ensures script { ScriptIsOne }
     ensures opening { OpeningIsOne }

@@ -1,5 +1,5 @@
-//! The words of a story: what scripts open, what statements and sites answer, what every kind of site is, and the laws of these.
-//! Evaluation, databases and kinds of sites stand on it, and so does whatever shows sites or has them meet.
+//! The words of a story: what scripts open, what statements and sites answer, what every kind of site is, and the laws
+//! of these. Evaluation, databases and kinds of sites stand on it, and so does whatever shows sites or has them meet.
 #![tactic(auto)]
 
 pub mod answer;

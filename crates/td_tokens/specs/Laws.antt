@@ -23,7 +23,8 @@ TokensAreSlices = (bs : Text) (ts : List Spanned) → IsReading bs ts → AreSpa
 abbrev pub is_in_text : ℕ → Bool
 is_in_text b = not (b == 0 || b == 10 || b == 13)
 
--- a name has a name's shape and is no keyword, an integer is in range, and a text has no NUL, line feed or carriage return
+-- a name has a name's shape and is no keyword, an integer is in range, and a text has no NUL, line feed or carriage
+-- return
 abbrev pub IsWellFormed : Lexeme → Type 0
 IsWellFormed (word v) = Unit {0}
 IsWellFormed (name n) = (is_name n ≡ true) × (keyword_of n ≡ None)

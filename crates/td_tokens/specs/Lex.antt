@@ -1,6 +1,6 @@
--- The tokens of a text, as a relation: what may stand at the front of a text, one clause for each form, and what follows.
--- A text is its bytes in UTF-8. A run is taken as far as it goes, and only then judged: what is too long or too large
--- has no reading, and is never cut in two.
+-- The tokens of a text, as a relation: what may stand at the front of a text, one clause for each form, and what
+-- follows. A text is its bytes in UTF-8. A run is taken as far as it goes, and only then judged: what is too long or
+-- too large has no reading, and is never cut in two.
 use Rattle.std.specs.Prelude.{◌≡◌, ◌≤◌, ℕ, suc, ◌+◌, ◌-◌, ◌*◌, Bool, true, false, not, ◌||◌, ◌==◌, nat_eq, List, [], ◌∷◌, length, slice_index, take, drop, fold, codes, Option, Some, None, take_while, find, option_map}
 use Rattle.std.specs.Char.{is_ascii_digit}
 use Rattle.std.specs.List.{list_all, starts_with}

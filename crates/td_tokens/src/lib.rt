@@ -1,8 +1,8 @@
 //! The tokens of a text: names, keywords, integers, text literals and symbols.
 //!
 //! White space is a space, a tab, a line feed, a carriage return, and a comment from `/*` to the next `*/`. Tokens are
-//! read longest first, and each keeps its place in the text. Keywords are read in letters of either case, and names keep
-//! theirs. A text that breaks a rule has no tokens at all: a name over 64 bytes, an integer over
+//! read longest first, and each keeps its place in the text. Keywords are read in letters of either case, and names
+//! keep theirs. A text that breaks a rule has no tokens at all: a name over 64 bytes, an integer over
 //! 9223372036854775807 or with a letter right behind it, a text literal or a comment without its end, more than 64
 //! brackets open at once, or any other character.
 #![tactic(auto)]

@@ -19,8 +19,8 @@ pub struct VirtualUnder {
     pub tree: Shared<Typed>,
 }
 
-/// A possrep that is selected under an expression, by its place: its names, those of its components, and its CONSTRAINT if it
-/// has one.
+/// A possrep that is selected under an expression, by its place: its names, those of its components, and its CONSTRAINT
+/// if it has one.
 #[derive(Drop)]
 pub struct Selector {
     pub place: usize,

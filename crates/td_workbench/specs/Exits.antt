@@ -35,7 +35,8 @@ PutsHelp text status w after = ((status ≡ 0) × WritesAll text w after) ⊎ ((
 abbrev pub PutsRefusal : List ℕ → ℕ → Written → Written → Type 0
 PutsRefusal text status w after = (status ≡ 2) × (WritesAll text w after ⊎ WritesFront text w after)
 
--- What is told in place of a run: help, to the output; why the words are refused, to the output of faults; or nothing, for want of memory.
+-- What is told in place of a run: help, to the output; why the words are refused, to the output of faults; or nothing,
+-- for want of memory.
 abbrev pub TellsWords : ℕ → Written → Written → Written → Written → Type 0
 TellsWords status w f after told =
     ((text : List ℕ) × PutsHelp text status w after × (told ≡ f))

@@ -1,4 +1,5 @@
--- What is printed for lines, and how a run over them ends. Lines are functions of the bytes read, and stand here with their line ends.
+-- What is printed for lines, and how a run over them ends. Lines are functions of the bytes read, and stand here with
+-- their line ends.
 use Rattle.std.specs.Prelude.{◌≡◌, ◌⊎◌, ℕ, true, false, List, [], ◌∷◌, ◌++◌, Option, Result, Ok, Err}
 use Rattle.std.specs.List.{AllByRecursion}
 use Rattle.std.specs.Io.KnownBytes.{IsAtEnd}
@@ -76,9 +77,10 @@ pub record Reaches (c : CatalogueData) (old : Sites) (raws : List (List ℕ)) (l
 abbrev pub IsCut : List ℕ → Type 0
 IsCut part = is_one_line part ≡ true
 
--- How a run ended over these bytes, which say these lines and leave so many reads. Ok comes at `.quit`, behind which nothing was read, or at
--- the end of the input. A read fault comes after the answers of all whole lines, and want of memory after those of all lines but the last,
--- which was not kept; a write fault leaves the last answer written in part.
+-- How a run ended over these bytes, which say these lines and leave so many reads. Ok comes at `.quit`, behind which
+-- nothing was read, or at the end of the input. A read fault comes after the answers of all whole lines, and want of
+-- memory after those of all lines but the last, which was not kept; a write fault leaves the last answer written in
+-- part.
 abbrev pub Ends : CatalogueData → Sites → List (List ℕ) → ℕ → List ℕ → Input → Written → Result (Unit {0}) Ended → Sites → Input → Written → Type 0
 Ends c old raws spare bytes from w (Ok u) new left after =
     Reads bytes from left × (text : List ℕ) × (Quits c old raws left.left text new ⊎ RunsOut c old raws left.left text new) × WritesAll text w after
@@ -89,8 +91,8 @@ Ends c old raws spare bytes from w (Err OutOfMemory) new left after =
 Ends c old raws spare bytes from w (Err WriteFault) new left after =
     Reads bytes from left × (text : List ℕ) × (answer : List ℕ) × (half : Written) × Reaches c old raws left.left text answer new × WritesAll text w half × WritesFront answer half after
 
--- How the workbench ended. By the catalogue of its sites' script, over the lines that the bytes say; or there was no memory for that
--- catalogue, and nothing was begun.
+-- How the workbench ended. By the catalogue of its sites' script, over the lines that the bytes say; or there was no
+-- memory for that catalogue, and nothing was begun.
 pub record Runs (old : Sites) (from : Input) (w : Written) (r : Result (Unit {0}) Ended) (new : Sites) (left : Input) (after : Written) : Type 0 where
   pub catalogue : CatalogueData
   pub bytes : List ℕ

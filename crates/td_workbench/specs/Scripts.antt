@@ -1,4 +1,5 @@
--- Scripts: the lines in front of the first `.begin`, the sites that they open, and what is told of a script that opens none.
+-- Scripts: the lines in front of the first `.begin`, the sites that they open, and what is told of a script that opens
+-- none.
 use Rattle.std.specs.Prelude.{◌≡◌, ◌⊎◌, ◌≤◌, ℕ, zero, suc, Bool, true, false, if◌then◌else◌, List, [], ◌∷◌, ◌++◌, length, codes, decimal, Option, Some, None, option_map, Ok, Err}
 use Rattle.std.specs.List.{AllByRecursion}
 use Rattle.std.specs.Str.{bytes_eq, is_utf8}

@@ -31,7 +31,7 @@ abbrev pub ReadsNoMore : ℕ → List ℕ → Input → Input → Type 0
 ReadsNoMore spare bytes from after =
     Consumes from.left after.left bytes × ((after.failures ≡ counted from.failures) ⊎ ((after.failures ≡ from.failures) × (spare ≡ 0)))
 
--- All of the text was written, and where what was written before had been handed on, so has this: each answer is flushed before the next
--- line is read.
+-- All of the text was written, and where what was written before had been handed on, so has this: each answer is
+-- flushed before the next line is read.
 abbrev pub WritesAll : List ℕ → Written → Written → Type 0
 WritesAll text w after = Appends w.held after.held text × (after.faults ≡ w.faults) × (w.is_flushed ≡ true → after.is_flushed ≡ true)

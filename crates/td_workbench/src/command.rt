@@ -60,8 +60,9 @@ fn tell<K: Sink, F: Sink>(alloc: Global, error: &Error, sink: &mut K, faults: &m
     put_help(sink, text.as_bytes())
 }
 
-/// Reads the words, the first of which names the program, and runs it by them. The answer is the exit status: 0 at `.quit`, at the end of the
-/// input and after help; 1 for a refused script, a stream that fails, and want of memory that ends the program; 2 for refused words.
+/// Reads the words, the first of which names the program, and runs it by them. The answer is the exit status: 0 at
+/// `.quit`, at the end of the input and after help; 1 for a refused script, a stream that fails, and want of memory
+/// that ends the program; 2 for refused words.
 pub fn program<R: Opens + Drop, L: Links, S: Source, K: Sink, F: Sink>(
     alloc: Global,
     words: &[String],

@@ -1,4 +1,5 @@
-//! The workbench: a script, the sites that it opens, and the lines that are answered. It runs over any kind of site, reader and writer.
+//! The workbench: a script, the sites that it opens, and the lines that are answered. It runs over any kind of site,
+//! reader and writer.
 #![tactic(auto)]
 
 pub mod command;

@@ -115,7 +115,8 @@ fn open_text<R: Opens + Drop>(
     }
 }
 
-/// Opens the sites of a script. It costs what opening one site costs, for each, and reading and typing the script once more.
+/// Opens the sites of a script. It costs what opening one site costs, for each, and reading and typing the script once
+/// more.
 pub fn open<R: Opens + Drop>(
     alloc: Global,
     options: &Options,

@@ -84,9 +84,9 @@ fn start<R: Opens + Drop, L: Links, S: Source, K: Sink>(
     }
 }
 
-/// Reads a script and answers the lines behind it. True says that the script was accepted, false that its fault was told. It costs
-/// the opening of each site. At most 65,536 bytes of the script are kept, and 16,384 of a line. An endless input is a read fault
-/// after 18,446,744,073,709,551,615 reads.
+/// Reads a script and answers the lines behind it. True says that the script was accepted, false that its fault was
+/// told. It costs the opening of each site. At most 65,536 bytes of the script are kept, and 16,384 of a line. An
+/// endless input is a read fault after 18,446,744,073,709,551,615 reads.
 pub fn run_program<R: Opens + Drop, L: Links, S: Source, K: Sink>(
     alloc: Global,
     options: &Options,

@@ -106,7 +106,8 @@ fn not_read(e: LineError) -> Ended
     }
 }
 
-/// Answers line after line, up to `.quit` or the end of the input, by at most so many reads, from which those made are taken off.
+/// Answers line after line, up to `.quit` or the end of the input, by at most so many reads, from which those made are
+/// taken off.
 pub fn serve<R: Replica, L: Links, S: Source, K: Sink>(
     alloc: Global,
     catalogue: &Catalogue,
@@ -134,9 +135,9 @@ pub fn serve<R: Replica, L: Links, S: Source, K: Sink>(
     Err(Ended::ReadFault)
 }
 
-/// Answers line after line, up to `.quit` or the end of the input; each answer is written and flushed before the next line is
-/// read. It costs the reading and typing of the sites' script at first. A line of more than 16,384 bytes is not kept. An endless
-/// input is a read fault after 18,446,744,073,709,551,615 reads.
+/// Answers line after line, up to `.quit` or the end of the input; each answer is written and flushed before the next
+/// line is read. It costs the reading and typing of the sites' script at first. A line of more than 16,384 bytes is not
+/// kept. An endless input is a read fault after 18,446,744,073,709,551,615 reads.
 pub fn workbench<R: Replica, L: Links, S: Source, K: Sink>(
     alloc: Global,
     sites: &mut [R],

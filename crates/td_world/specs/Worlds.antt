@@ -1,5 +1,5 @@
--- Worlds of many sites that meet only now and then (the tentative writes of Terry et al. 1995, Bayou). A list of entries stands here for
--- the set of them, whatever its order and repeats.
+-- Worlds of many sites that meet only now and then (the tentative writes of Terry et al. 1995, Bayou). A list of
+-- entries stands here for the set of them, whatever its order and repeats.
 use Rattle.std.specs.Prelude.{◌≡◌, ◌⊎◌, ℕ, ◌≤◌, true, ◌==◌, if◌then◌else◌, List, [], ◌∷◌, length, Ok}
 use Rattle.td_stamps.specs.declared.entry.Entry.{Entry}
 use Rattle.td_stamps.specs.Sets.{has}
@@ -14,7 +14,8 @@ pub record World : Type 0 where
 abbrev pub nothing : World
 nothing = record { held = λ site. []; issued = []; sent = [] }
 
--- a site issues a text, an entry that a site holds is sent, an entry comes to a site, a site comes back with these entries
+-- a site issues a text, an entry that a site holds is sent, an entry comes to a site, a site comes back with these
+-- entries
 pub data Event : Type 0 where
   issue : ℕ → List ℕ → Event
   send : ℕ → Entry → Event
@@ -37,8 +38,8 @@ with_set w site es = record { held = with_held w.held site es; issued = w.issued
 abbrev pub entry_of : ℕ → ℕ × ℕ → List ℕ → Entry
 entry_of site n text = record { site = site; seq = n.0; clock = n.1; text = text }
 
--- A site issues any text, of at most 8,192 bytes, with its next numbers, as long as these are in their ranges. What was sent comes to any
--- site, late, again, or never. A site that comes back has lost no entry of its own that was sent.
+-- A site issues any text, of at most 8,192 bytes, with its next numbers, as long as these are in their ranges. What was
+-- sent comes to any site, late, again, or never. A site that comes back has lost no entry of its own that was sent.
 abbrev pub Happens : World → Event → World → Type 0
 Happens w (issue site text) v = (n : ℕ × ℕ) × (next_of site (w.held site) ≡ Ok n) × (length text ≤ 8192) × (v ≡ with_issued w site (entry_of site n text))
 Happens w (send site e) v = (has (w.held site) e ≡ true) × (v ≡ with_sent w e)

@@ -8,7 +8,8 @@ use td_replay::PlainSite;
 use td_story::Meter;
 use td_workbench::{Ended, run_program};
 
-/// Where `.begin`, and each line behind it up to `.quit`, ends in what two sites that meet read, and its answer in what they write.
+/// Where `.begin`, and each line behind it up to `.quit`, ends in what two sites that meet read, and its answer in what
+/// they write.
 const ENDS: &[(usize, usize)] = &[
     (80, 8),
     (151, 17),

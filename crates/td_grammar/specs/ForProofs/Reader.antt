@@ -1,4 +1,5 @@
--- How the grammar is read: a function that computes the reading at a place. Private clauses cite it, and the laws say that it decides the grammar.
+-- How the grammar is read: a function that computes the reading at a place. Private clauses cite it, and the laws say
+-- that it decides the grammar.
 use Rattle.std.specs.Prelude.{ℕ, zero, suc, ℤ, pos, ◌==◌, ◌&&◌, ◌||◌, nat_le, Bool, true, false, if◌then◌else◌, List, [], ◌∷◌, ◌++◌, Option, Some, None, length, option_and_then}
 use denote.Enum.Bare.{sameb}
 use Rattle.td_tokens.specs.contracts.token.Word.{the_type}

@@ -53,7 +53,8 @@ abbrev pub TellsMade : Result (String Global) AllocError → Result Bool Ended �
 TellsMade (Ok text) r w after = PutsFault (string_bytes text) r w after
 TellsMade (Err e) r w after = PutsFault (script_fault OutOfMemory) r w after
 
--- what the program ends in, whatever was read before: bytes that say the script, which was kept, by all reads but so many
+-- what the program ends in, whatever was read before: bytes that say the script, which was kept, by all reads but so
+-- many
 abbrev pub StartEnds : Options → Script → ℕ → Input → Written → Result Bool Ended → Input → Written → Type 0
 StartEnds options script reads mid w r left after =
     (from : Input) → HasScript most_reads reads from mid (option_map (λ v. v.items) script.bytes) script.is_last → ProgramEnds options from w r left after
