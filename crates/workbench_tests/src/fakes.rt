@@ -1,7 +1,13 @@
 //! Readers and writers that behave as they are told.
 
+use std::alloc::Global;
 use std::io;
 use std::io::{ErrorKind, Read, Write};
+
+/// The first bytes of a text.
+pub fn front(text: &str, bytes: usize) -> &[u8] {
+    text.as_bytes().get(..bytes).unwrap_or(text.as_bytes())
+}
 
 /// Gives a byte a read, is interrupted every other time, and ends or fails behind its bytes.
 #[derive(Drop)]
@@ -40,6 +46,19 @@ pub struct SlowWriter {
     pub then: Full,
     pub flushes: usize,
     pub most_flushes: usize,
+}
+
+impl SlowWriter {
+    /// A writer with room for so many bytes, of which so many flushes are let through.
+    pub fn new(alloc: Global, room: usize, then: Full, most_flushes: usize) -> SlowWriter {
+        SlowWriter {
+            taken: Vec::new(alloc),
+            room,
+            then,
+            flushes: 0,
+            most_flushes,
+        }
+    }
 }
 
 impl Write for SlowWriter {

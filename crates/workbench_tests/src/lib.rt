@@ -16,4 +16,6 @@ mod sites;
 #[cfg(test)]
 mod streams;
 #[cfg(test)]
+mod texts;
+#[cfg(test)]
 mod words;

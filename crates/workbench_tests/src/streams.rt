@@ -1,6 +1,6 @@
 //! Readers and writers that are interrupted or fail.
 
-use crate::fakes::{Full, SlowReader, SlowWriter};
+use crate::fakes::{Full, SlowReader, SlowWriter, front};
 use crate::runs::{Ran, TWO, TWO_SITES_MEET, TWO_SITES_MET};
 use td_answers::NoLinks;
 use td_devices::Device;
@@ -28,11 +28,6 @@ fn answered(read: usize) -> usize {
         .map(|it| it.1)
         .last()
         .unwrap_or(0)
-}
-
-// The first bytes of a text.
-fn front(text: &str, bytes: usize) -> &[u8] {
-    text.as_bytes().get(..bytes).unwrap_or(text.as_bytes())
 }
 
 // The run of the first bytes of two sites that meet, a byte a read, behind which the reader fails or ends.
@@ -89,20 +84,9 @@ fn write_into(rt: &HostRuntime, writer: &mut SlowWriter) -> Result<bool, Ended> 
     )
 }
 
-// A writer with room for so many bytes, of which so many flushes are let through.
-fn writer(rt: &HostRuntime, room: usize, then: Full, most_flushes: usize) -> SlowWriter {
-    SlowWriter {
-        taken: Vec::new(rt.alloc()),
-        room,
-        then,
-        flushes: 0,
-        most_flushes,
-    }
-}
-
 // Whether the run into this room ends by a write fault, with the room taken.
 fn is_filled(rt: &HostRuntime, room: usize, then: Full) -> bool {
-    let mut writer = writer(rt, room, then, 100);
+    let mut writer = SlowWriter::new(rt.alloc(), room, then, 100);
     let end = write_into(rt, &mut writer);
     end == Err(Ended::WriteFault) && writer.taken.as_slice() == front(TWO_SITES_MET, room)
 }
@@ -117,7 +101,7 @@ fn writers_that_fail_at_each_byte(rt: HostRuntime) {
 
 // How the run ends where so many flushes are let through, with the flushes and bytes that came through.
 fn flushed(rt: &HostRuntime, most: usize) -> (Result<bool, Ended>, usize, usize) {
-    let mut writer = writer(rt, 1_000, Full::Fails, most);
+    let mut writer = SlowWriter::new(rt.alloc(), 1_000, Full::Fails, most);
     let end = write_into(rt, &mut writer);
     (end, writer.flushes, writer.taken.len())
 }
