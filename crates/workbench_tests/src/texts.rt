@@ -1,7 +1,7 @@
 //! Texts of a site that are written to a writer of one's own: whole and flushed once, or a front of them.
 
 use crate::fakes::{Full, SlowWriter, front};
-use std::alloc::Global;
+use std::alloc::{AllocError, Global};
 use std::test::Fail;
 use td_devices::Device;
 use td_listings::{ExportError, ListingError, export, listing};
@@ -24,11 +24,15 @@ London,S1,20
 Paris,S2,10
 ";
 
-// The site 1 of the script, with the statement.
-fn site(rt: &HostRuntime) -> Result<PlainSite, Fail> {
+// The site 1 of the script, with the statement. Nothing but memory can be wanting.
+fn site(rt: &HostRuntime) -> Result<PlainSite, AllocError> {
     let mut meter = Meter::new(rt);
-    let mut site = PlainSite::open_script(rt.alloc(), SCRIPT, 1, 10)?;
-    site.issue(rt.alloc(), STATEMENT, &mut meter)?;
+    let Ok(mut site) = PlainSite::open_script(rt.alloc(), SCRIPT, 1, 10) else {
+        return Err(AllocError);
+    };
+    if site.issue(rt.alloc(), STATEMENT, &mut meter).is_err() {
+        return Err(AllocError);
+    }
     Ok(site)
 }
 
