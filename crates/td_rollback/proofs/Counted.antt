@@ -1,16 +1,15 @@
 -- The number of entries that are run, where lists name the places.
-use Rattle.std.proofs.Common.{◌≡◌, ◌↔◌, ◌==◌, eqb-true, eq-eqb, ◌||◌, ◌⊎◌, inl, inr, ⊎_elim, ℕ, ◌+◌, Bool, true, false, if◌then◌else◌, List, [], ◌∷◌, ◌++◌, refl, ap, sym, subst, ◌∙◌}
+use Rattle.std.proofs.Common.{◌≡◌, ◌↔◌, ◌==◌, eqb-true, eq-eqb, ⊎_elim, ℕ, ◌+◌, Bool, true, false, if◌then◌else◌, List, [], ◌∷◌, ◌++◌, refl, sym, subst, ◌∙◌}
 use mathlib.Core.Bool.{true≢false, false≢true}
 use Rattle.std.specs.List.{Contains, list_any}
 use Rattle.std.proofs.lemmas.Bool.{or_cases, or_left, or_right}
 use Rattle.std.proofs.lemmas.List.Elements.{Contains-append_left, Contains-append_right, Contains-append_cases}
 use Rattle.td_stamps.specs.declared.entry.Entry.{Entry}
 use Rattle.td_stamps.specs.Entries.{same}
-use Rattle.td_stamps.specs.Sets.{has}
 use Rattle.td_stamps.proofs.EntryLemmas.{same-is}
 use Rattle.td_rollback.specs.Counts.{meets, runs_of}
 use Rattle.td_rollback.specs.Laws.{Name, RunsAreCounted}
-use Rattle.td_rollback.specs.Touched.{AreMore, IsTargetOf, IsTouched, Runs, none_left, fresh, touched, untouched}
+use Rattle.td_rollback.specs.Touched.{AreMore, IsTargetOf, Runs, none_left, fresh, touched, untouched}
 use Rattle.td_rollback.proofs.Members.{has_cases, has_first, has_later, has_none, number_cases, number_first, number_later, number_none}
 use Rattle.td_rollback.proofs.More as more
 

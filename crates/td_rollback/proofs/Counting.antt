@@ -1,9 +1,8 @@
 -- New entries have one number of entries that are run.
-use Rattle.std.proofs.Common.{◌≡◌, ◌≤◌, ◌⊎◌, ⊎_elim, ℕ, ◌+◌, Bool, true, false, List, [], ◌∷◌, length, refl, ap, arith}
+use Rattle.std.proofs.Common.{◌≡◌, ◌≤◌, ⊎_elim, ℕ, ◌+◌, Bool, true, false, List, [], ◌∷◌, length, refl, ap, arith}
 use Rattle.std.proofs.lemmas.Bool.{cases_lt}
 use Rattle.td_stamps.specs.declared.entry.Entry.{Entry}
 use Rattle.td_stamps.specs.Entries.{same}
-use Rattle.td_stamps.specs.Sets.{has}
 use Rattle.td_rollback.specs.Laws.{RunsAreFew, RunsAreOne, RunsAreThere}
 use Rattle.td_rollback.specs.Touched.{AreMore, IsTouched, Runs, none_left, fresh, touched, untouched}
 use Rattle.td_rollback.proofs.More as more

@@ -1,16 +1,15 @@
 -- The end of a story, taken off; and what two sets of entries begin with alike.
-use Rattle.std.proofs.Common.{◌≡◌, ◌↔◌, ◌≤◌, ◌<◌, ◌+◌, ◌⊎◌, ⊎_elim, IfOk, Result, Ok, Err, ℕ, zero, suc, List, [], ◌∷◌, ◌++◌, drop, take, get_or, length, length-append, true, false, refl, ap, sym, subst, ◌∙◌, arith}
+use Rattle.std.proofs.Common.{◌≡◌, ◌↔◌, ◌≤◌, ◌<◌, ◌+◌, IfOk, Result, Ok, Err, ℕ, zero, suc, List, [], ◌∷◌, ◌++◌, drop, take, get_or, length, length-append, true, refl, ap, sym, subst, ◌∙◌, arith}
 use Rattle.std.specs.List.{Contains}
 use Rattle.std.proofs.lemmas.List.{drop_more, take_more}
 use Rattle.td_stamps.specs.declared.entry.Entry.{Entry}
 use Rattle.td_stamps.specs.declared.entry.Stamp.{Stamp}
 use Rattle.td_stamps.specs.Entries.{same, stamp_of}
-use Rattle.td_stamps.specs.Sets.{has}
 use Rattle.td_stamps.specs.Story.{Story, nothing_ran, next_ran}
 use Rattle.td_stamps.proofs.EntryLemmas.{same-refl}
 use Rattle.td_stamps.proofs.Stories as stories
 use Rattle.td_rollback.specs.Going.{AreAlikeBut}
-use Rattle.td_rollback.specs.Touched.{AreMore, IsTargetOf, IsTouched, Runs, none_left, fresh, touched, untouched}
+use Rattle.td_rollback.specs.Touched.{AreMore, Runs, fresh, touched, untouched}
 use Rattle.td_rollback.specs.ForProofs.Ways.{Way}
 use Rattle.td_rollback.proofs.Members.{has_behind, has_none}
 use Rattle.td_rollback.proofs.More.{not_fresh}

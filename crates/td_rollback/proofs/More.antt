@@ -1,13 +1,15 @@
 -- Old entries among new ones: the first new one is the first old one, or it is fresh.
-use Rattle.std.proofs.Common.{◌≡◌, ℕ, zero, suc, ◌||◌, inl, inr, ⊎_elim, true, false, List, [], ◌∷◌, drop, take, refl, ap, sym, subst, ◌∙◌}
+use Rattle.std.proofs.Common.{◌≡◌, ℕ, zero, suc, ◌||◌, ⊎_elim, true, false, List, [], ◌∷◌, drop, take, refl, ap, sym, subst, ◌∙◌}
 use mathlib.Core.Bool.{true≢false, false≢true}
 use Rattle.std.specs.List.{list_all}
-use Rattle.std.proofs.lemmas.Bool.{or_cases}
+use Rattle.std.specs.Prelude.{IsOk}
+use Rattle.std.proofs.lemmas.Bool.{or_left}
 use Rattle.td_stamps.specs.declared.entry.Entry.{Entry}
 use Rattle.td_stamps.specs.Entries.{before, same}
 use Rattle.td_stamps.specs.Sets.{apart, has, is_set}
 use Rattle.td_stamps.proofs.EntryLemmas.{same-is, same-refl}
-use Rattle.td_stamps.proofs.SetLemmas.{absent_below, first_holds, not_same, rest_holds}
+use Rattle.td_stamps.proofs.SetLemmas.{absent_below, adds_up, first_holds, fits, not_same, rest_holds}
+use Rattle.td_rollback.specs.Laws.{UnionIsMore}
 use Rattle.td_rollback.specs.Touched.{AreMore}
 use Rattle.td_rollback.proofs.Members.{has_cases, has_first, has_later}
 
@@ -75,3 +77,10 @@ more_behind (suc k) (e ∷ es) (f ∷ fs) alike more =
     let first : e ≡ f = cc in
     let rest : take k es ≡ take k fs = cc in
     more_behind k es fs rest (old_on f es fs (subst (λ (z : Entry). AreMore (z ∷ es) (f ∷ fs)) first more))
+
+-- with a batch that is not refused
+pub union_is_more : UnionIsMore
+union_is_more held batch limit n set h =
+    let clear = (fits held limit batch (subst (λ r. IsOk r) (sym h) refl)).clear in
+    let up = adds_up held held batch (λ p. refl) set clear in
+    record { old_set = set; new_set = up.set; among = λ e is. up.members (same e) ∙ or_left (has held e) (has batch e) is }

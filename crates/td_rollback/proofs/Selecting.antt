@@ -1,12 +1,11 @@
 -- A replay is the story of all entries.
-use Rattle.std.proofs.Common.{◌≡◌, ℕ, List, [], ◌∷◌, true, refl, sym, subst}
+use Rattle.std.proofs.Common.{◌≡◌, ℕ, List, ◌∷◌, true, sym, subst}
 use Rattle.td_stamps.specs.declared.entry.Entry.{Entry}
-use Rattle.td_stamps.specs.declared.entry.Stamp.{Stamp}
 use Rattle.td_stamps.specs.Sets.{has}
-use Rattle.td_stamps.specs.Story.{Story, nothing_ran, next_ran}
+use Rattle.td_stamps.specs.Story.{nothing_ran, next_ran}
 use Rattle.td_rollback.specs.Going.{AreAlikeBut}
 use Rattle.td_rollback.specs.Laws.{ReplayIsStory}
-use Rattle.td_rollback.specs.Replays.{Replays, ended, ran_fresh, ran_again, kept}
+use Rattle.td_rollback.specs.Replays.{ended, ran_fresh, ran_again, kept}
 use Rattle.td_rollback.specs.Touched.{IsTargetOf, IsTouched}
 use Rattle.td_rollback.specs.ForProofs.Ways.{Way}
 use Rattle.td_rollback.proofs.Members.{has_first, has_later}

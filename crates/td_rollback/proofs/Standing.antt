@@ -10,7 +10,7 @@ use Rattle.td_stamps.proofs.EntryLemmas.{same-refl}
 use Rattle.td_stamps.proofs.Stories as stories
 use Rattle.td_rollback.specs.Touched.{AreMore, IsTargetOf, IsTouched, Runs, fresh, touched, untouched}
 use Rattle.td_rollback.specs.Turns.{settled}
-use Rattle.td_rollback.specs.ForProofs.Standing.{Begun, Left, Stands, passed}
+use Rattle.td_rollback.specs.ForProofs.Standing.{Begun, Stands, passed}
 use Rattle.td_rollback.specs.ForProofs.Ways.{Way}
 use Rattle.td_rollback.specs.declared.turns.Turn.{Turn}
 use Rattle.td_rollback.specs.declared.turns.Turn.TheVariants.{Kept, Again, Fresh}

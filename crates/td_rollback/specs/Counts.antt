@@ -1,4 +1,5 @@
--- The count of entries that are run, as a function of lists of places: what `Runs` says where footprints and targets are such lists.
+-- The count of entries that are run, as a function of lists of places: what `Runs` says where footprints and targets
+-- are such lists.
 use Rattle.std.specs.Prelude.{ℕ, ◌+◌, Bool, ◌==◌, if◌then◌else◌, List, [], ◌∷◌, ◌++◌}
 use Rattle.std.specs.List.{list_any}
 use Rattle.td_stamps.specs.declared.entry.Entry.{Entry}
@@ -9,8 +10,8 @@ use Rattle.td_stamps.specs.Entries.{same}
 abbrev pub meets : List ℕ → List ℕ → Bool
 meets names places = list_any (λ n. list_any (λ m. m == n) names) places
 
--- The walk along old and new entries, with the names of all targets so far: an entry that is not old is run and adds its targets, and so
--- does an old one whose footprint meets the names.
+-- The walk along old and new entries, with the names of all targets so far: an entry that is not old is run and adds
+-- its targets, and so does an old one whose footprint meets the names.
 abbrev pub runs_of : (Entry → List ℕ) → (Entry → List ℕ) → List ℕ → List Entry → List Entry → ℕ
 runs_of footprint targets names old [] = 0
 runs_of footprint targets names [] (e ∷ new) = runs_of footprint targets (targets e ++ names) [] new + 1

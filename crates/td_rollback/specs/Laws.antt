@@ -1,9 +1,10 @@
 -- The laws of the crate.
-use Rattle.std.specs.Prelude.{◌≡◌, ◌≤◌, ◌↔◌, ℕ, true, List, [], length}
+use Rattle.std.specs.Prelude.{◌≡◌, ◌≤◌, ◌↔◌, ℕ, true, List, [], length, Ok}
 use Rattle.std.specs.List.{Contains}
 use Rattle.td_stamps.specs.declared.entry.Entry.{Entry}
 use Rattle.td_stamps.specs.declared.entry.Stamp.{Stamp}
-use Rattle.td_stamps.specs.Sets.{has}
+use Rattle.td_stamps.specs.Checks.{check_of}
+use Rattle.td_stamps.specs.Sets.{has, is_set, union}
 use Rattle.td_stamps.specs.Story.{Story}
 use Rattle.td_rollback.specs.Counts.{recorded, runs_of}
 use Rattle.td_rollback.specs.Going.{AreAlikeBut}
@@ -26,7 +27,8 @@ RunsAreFew Footprint Target = (ran es fs : List Entry) (n : ℕ) → Runs Footpr
 abbrev pub RunsAreThere : (Entry → ℕ → Type 0) → (Entry → ℕ → Type 0) → Type 0
 RunsAreThere Footprint Target = (ran old new : List Entry) → AreMore old new → ((n : ℕ) → Runs Footprint Target ran old new n → ⊥) → ⊥
 
--- where lists name the footprints of the old entries and the targets of the new ones, the number is that of the walk along the lists
+-- where lists name the footprints of the old entries and the targets of the new ones, the number is that of the walk
+-- along the lists
 abbrev pub RunsAreCounted : (Entry → ℕ → Type 0) → (Entry → ℕ → Type 0) → Type 0
 RunsAreCounted Footprint Target =
     (old new : List Entry) (footprint targets : Entry → List ℕ) → AreMore old new → Name Footprint footprint old → Name Target targets new → Runs Footprint Target [] old new (runs_of footprint targets [] old new)
@@ -36,8 +38,13 @@ abbrev pub RecordsName : {S R : Type 0} → (S → Type 0) → (S → Entry → 
 RecordsName {S = S} {R = R} Sound Step Places names_in =
     (s t : S) (es : List Entry) (log : List (Stamp × R)) → Sound s → Story Step s es log t → Name Places (recorded names_in es log) es
 
--- A replay from a state that is alike to the one before the old entries, but for targets of those that ran, is the story of all entries.
+-- A replay from a state that is alike to the one before the old entries, but for targets of those that ran, is the
+-- story of all entries.
 abbrev pub ReplayIsStory : {S R : Type 0} → (S → Type 0) → (S → Entry → R → S → Type 0) → (S → S → ℕ → Type 0) → (Entry → ℕ → Type 0) → (Entry → ℕ → Type 0) → Type 0
 ReplayIsStory {S = S} {R = R} Sound Step Alike Footprint Target =
     (ran : List Entry) (s u end last : S) (es fs : List Entry) (old all : List (Stamp × R)) → Sound s → Sound u → AreAlikeBut Alike Target ran s u
     → Story Step s es old last → Replays Step Footprint Target ran u es old fs all end → Story Step u fs all end
+
+-- a set and what it is with a batch that is not refused are old and new entries
+abbrev pub UnionIsMore : Type 0
+UnionIsMore = (held batch : List Entry) (limit fresh : ℕ) → is_set held ≡ true → check_of held limit batch ≡ Ok fresh → AreMore held (union held batch)

@@ -1,5 +1,5 @@
--- Which of the old entries new ones touch, and how many entries are run for that. The step of an entry depends on some places, its
--- footprint, and may change some places, its targets.
+-- Which of the old entries new ones touch, and how many entries are run for that. The step of an entry depends on some
+-- places, its footprint, and may change some places, its targets.
 use Rattle.std.specs.Prelude.{◌≡◌, ℕ, ◌+◌, true, false, List, [], ◌∷◌}
 use Rattle.td_stamps.specs.declared.entry.Entry.{Entry}
 use Rattle.td_stamps.specs.Entries.{same}

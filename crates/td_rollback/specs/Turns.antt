@@ -4,8 +4,8 @@ use Rattle.td_stamps.specs.declared.entry.Stamp.{Stamp}
 use Rattle.td_rollback.specs.declared.turns.Turn.{Turn}
 use Rattle.td_rollback.specs.declared.turns.Turn.TheVariants.{Kept, Again, Fresh}
 
--- the records after turns, over the old ones in order: one that is kept stays, one of an entry that ran again gives way, a fresh one
--- comes between
+-- the records after turns, over the old ones in order: one that is kept stays, one of an entry that ran again gives
+-- way, a fresh one comes between
 abbrev pub settled : {R : Type 0} → List (Stamp × R) → List (Turn R) → List (Stamp × R)
 settled old [] = []
 settled old (Fresh p ∷ ts) = p ∷ settled old ts

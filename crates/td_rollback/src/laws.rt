@@ -1,12 +1,12 @@
 //! The laws of replay.
 
-ghost use Rattle.td_rollback.specs.Laws.{RecordsName, ReplayIsStory, RunsAreCounted, RunsAreFew, RunsAreOne, RunsAreThere};
+ghost use Rattle.td_rollback.specs.Laws.{RecordsName, ReplayIsStory, RunsAreCounted, RunsAreFew, RunsAreOne, RunsAreThere, UnionIsMore};
 ghost use Rattle.td_rollback.specs.Going.{SoundFrom};
 
 use crate::machine::Machine;
 
-/// There is one number of entries that are run for new entries, at most that of all, and it cannot be that there is none. Where lists
-/// name the places it is counted by a walk along them.
+/// There is one number of entries that are run for new entries, at most that of all, and it cannot be that there is
+/// none. Where lists name the places it is counted by a walk along them.
 pub fn runs_are_one<M: Machine>()
     ensures one { (o : M) → RunsAreOne (M.footprint o) (M.targets o) }
     ensures few { (o : M) → RunsAreFew (M.footprint o) (M.targets o) }
@@ -23,4 +23,9 @@ pub fn records_name<M: Machine>()
 /// A replay that runs only what new entries touch is the story of all entries.
 pub fn replay_is_story<M: Machine>()
     ensures { (o : M) → ReplayIsStory (SoundFrom M.sound M.origin o) M.steps M.alike (M.footprint o) (M.targets o) }
+{}
+
+/// What is held, and that with a batch which is not refused, are old and new entries.
+pub fn union_is_more()
+    ensures { UnionIsMore }
 {}

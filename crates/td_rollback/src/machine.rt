@@ -8,8 +8,9 @@ ghost use Rattle.td_rollback.specs.Going.{GoByRecords, SoundFrom};
 use std::alloc::{AllocError, Global};
 use td_stamps::Entry;
 
-/// What runs entries. A run leaves a record, by which it can be taken back, and by which its change can be made again without a run.
-/// Places are numbers: what an entry depends on is its footprint, and what it may change are its targets.
+/// What runs entries. A run leaves a record, by which it can be taken back, and by which its change can be made again
+/// without a run. Places are numbers: what an entry depends on is its footprint, and what it may change are its
+/// targets.
 pub trait Machine {
     /// What is kept of a run.
     type Record: Drop;
@@ -62,22 +63,24 @@ pub trait Machine {
         ensures origin { origin self.new ≡ origin self.old }
         ensures counted { count meter.new ≤ count meter.old + 1 };
 
-    /// Takes back the run that led here. Where memory is wanting each of its targets may have changed, and nothing else.
+    /// Takes back the run that led here. Where memory is wanting each of its targets may have changed, and nothing
+    /// else.
     fn undo(&mut self, alloc: Global, ran: &Self::Record) -> Result<(), AllocError>
         requires { (s : Self) × (e : EntryData) × sound s × steps s e ran.now self.old }
         ensures before { (s : Self) → (e : EntryData) → sound s → steps s e ran.now self.old → OnOk result (self.new ≡ s) }
         ensures elsewhere { (n : ℕ) → (Contains (targets_in ran.now) n → ⊥) → alike self.old self.new n }
         ensures origin { origin self.new ≡ origin self.old };
 
-    /// Makes the change of a run that would have this record here. Where memory is wanting each of its targets may have changed, and
-    /// nothing else.
+    /// Makes the change of a run that would have this record here. Where memory is wanting each of its targets may have
+    /// changed, and nothing else.
     fn redo(&mut self, alloc: Global, ran: &Self::Record) -> Result<(), AllocError>
         requires { sound self.old × ((t : Self) × (e : EntryData) × steps self.old e ran.now t) }
         ensures after { (t : Self) → (e : EntryData) → steps self.old e ran.now t → OnOk result (self.new ≡ t) }
         ensures elsewhere { (n : ℕ) → (Contains (targets_in ran.now) n → ⊥) → alike self.old self.new n }
         ensures origin { origin self.new ≡ origin self.old };
 
-    /// Places among which are all that the entry may change. It may name more, where to find out which would cost more than their copy.
+    /// Places among which are all that the entry may change. It may name more, where to find out which would cost more
+    /// than their copy.
     fn may_change(&self, alloc: Global, entry: &Entry) -> Result<Vec<usize>, AllocError>
         ensures { IfOk result (λ v. (n : ℕ) → targets (origin self.now) entry.now n → Contains v.items n) };
 
@@ -85,7 +88,8 @@ pub trait Machine {
     fn save(&self, alloc: Global, places: &[usize]) -> Result<Self::Part, AllocError>
         ensures { IfOk result (λ p. saved p places.now self.now) };
 
-    /// Makes the state that a copy is of, where the two are alike at all places that were not copied. It takes no memory.
+    /// Makes the state that a copy is of, where the two are alike at all places that were not copied. It takes no
+    /// memory.
     fn put_back(&mut self, part: Self::Part)
         ensures { (s : Self) → (ns : List ℕ) → saved part ns s → origin s ≡ origin self.old → ((n : ℕ) → (Contains ns n → ⊥) → alike s self.old n) → self.new ≡ s };
 

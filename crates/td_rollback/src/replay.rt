@@ -98,8 +98,8 @@ fn keep<M: Machine>(
     Ok(())
 }
 
-// Replays from the state before the old entries, which have these records, until all entries ran. An old entry that none of those
-// that ran touches is not run: its change is made again.
+// Replays from the state before the old entries, which have these records, until all entries ran. An old entry that
+// none of those that ran touches is not run: its change is made again.
 pub(crate) fn replay_end<M: Machine>(
     alloc: Global,
     machine: &mut M,

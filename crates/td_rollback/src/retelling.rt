@@ -15,8 +15,8 @@ use crate::undoing::{common_of, undo_end};
 use std::alloc::{AllocError, Global};
 use td_stamps::{Entry, Stamp};
 
-// Places among which are all that the entries behind the first ones may change: those of old entries by their records, and of the
-// others by the machine.
+// Places among which are all that the entries behind the first ones may change: those of old entries by their records,
+// and of the others by the machine.
 fn places_of<M: Machine>(
     alloc: Global,
     machine: &M,
@@ -102,14 +102,15 @@ pub struct Retold<R> {
     pub turns: Vec<Turn<R>>,
 }
 
-/// Leads the machine to the end of the story of the new entries, from the end of that of the old ones, whose records are handed in and
-/// not changed: `settle` makes the new records of what this answers. It takes old entries back from the end to the first one that a
-/// new one stands before, makes the change of each again that is not touched, and runs all others.
+/// Leads the machine to the end of the story of the new entries, from the end of that of the old ones, whose records
+/// are handed in and not changed: `settle` makes the new records of what this answers. It takes old entries back from
+/// the end to the first one that a new one stands before, makes the change of each again that is not touched, and runs
+/// all others.
 ///
 /// Where memory is wanting the machine is as it was, and each run that was made is counted.
 ///
-/// Besides what the machine's calls cost it walks along the entries that both begin with, and compares each entry behind them once; an
-/// old one costs a look at each of its places among the places named, of which each is kept once.
+/// Besides what the machine's calls cost it walks along the entries that both begin with, and twice along those
+/// behind them; an old one costs a look at each of its places among the places named, of which each is kept once.
 pub fn retell<M: Machine>(
     alloc: Global,
     machine: &mut M,
@@ -122,6 +123,7 @@ pub fn retell<M: Machine>(
     requires story { Story M.steps (M.origin machine.old) old.now log.now machine.old }
     requires more { AreMore old.now new.now }
     ensures story { IfOk result (λ r. Story M.steps (M.origin machine.old) new.now (retold log.now r.kept r.turns.items) machine.new) }
+    ensures front { IfOk result (λ r. r.kept ≤ length log.now) }
     ensures many { IfOk result (λ r. r.kept + length r.turns.items ≡ length new.now) }
     ensures kept { OnErr result (machine.new ≡ machine.old) }
     ensures counted { (n : ℕ) → Runs (M.footprint (M.origin machine.old)) (M.targets (M.origin machine.old)) [] old.now new.now n → M.count meter.new ≤ M.count meter.old + n }

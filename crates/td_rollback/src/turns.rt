@@ -43,8 +43,8 @@ fn settle_end<R: Drop>(
     all
 }
 
-/// The records after a replay, behind those in the list that is handed in, which has room for them. Each record is moved; it takes no
-/// memory and cannot fail.
+/// The records after a replay, behind those in the list that is handed in, which has room for them. Each record is
+/// moved; it takes no memory and cannot fail.
 pub fn settle<R: Drop>(
     old: Vec<(Stamp, R)>,
     kept: usize,

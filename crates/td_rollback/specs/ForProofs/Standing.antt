@@ -39,8 +39,8 @@ pub record Left (R : Type 0) : Type 0 where
   pub before : List Entry
   pub new : List Entry
 
--- After these turns the state is u: it is alike, but for targets of those that ran, to the state that was there before the old entries
--- that are left, and no more ran than the count allows.
+-- After these turns the state is u: it is alike, but for targets of those that ran, to the state that was there before
+-- the old entries that are left, and no more ran than the count allows.
 pub record Stands {S R : Type 0} (w : Way S R) (b : Begun S R) (l : Left R) (names : List ℕ) (turns : List (Turn R)) (u : S) (count : ℕ) : Type 0 where
   pub ran : List Entry
   pub was : S

@@ -8,8 +8,8 @@ returns-then-not-is_open g c = record { answer = Err issue_error.Broken; issues 
 pub returns-in_default : goal.returns-in_default
 returns-in_default g c = record { answer = Err issue_error.OutOfMemory; issues = ((sym c.is_open.ensures ∙ c.if-not-is_open.false, refl), omega arith); line = refl }
 
-pub returns-then-len-gt-MOST_BYTES : goal.returns-then-len-gt-MOST_BYTES
-returns-then-len-gt-MOST_BYTES g c =
+pub returns-then-text-gt-MOST_BYTES : goal.returns-then-text-gt-MOST_BYTES
+returns-then-text-gt-MOST_BYTES g c =
     record {
       answer = Err issue_error.Syntax;
       issues = ((sym c.is_open.ensures ∙ c.if-not-is_open.false, refl), λ t is. let short = is.short in absurd (omega (arith, short)));

@@ -1,4 +1,4 @@
-use Rattle.std.proofs.Common.{◌≡◌, ◌↔◌, ◌⊎◌, ◌+◌, ◌∷◌, [], ◌++◌, ◌==◌, ℕ, List, true, take, length, slice_index_or, ap, sym, subst, ◌∙◌, refl, arith}
+use Rattle.std.proofs.Common.{◌≡◌, ◌↔◌, ◌⊎◌, ◌+◌, ◌==◌, ℕ, List, true, take, slice_index_or, ap, sym, subst, ◌∙◌, refl, arith}
 use Rattle.std.specs.List.{Contains, list_any}
 use Rattle.std.proofs.lemmas.List.{take_all}
 use Rattle.td_rollback.proofs.Counted.{named}

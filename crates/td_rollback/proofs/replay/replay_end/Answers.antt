@@ -1,10 +1,9 @@
-use Rattle.std.proofs.Common.{◌≡◌, ◌↔◌, ◌≤◌, ◌+◌, ◌++◌, ◌∷◌, ◌⊎◌, [], ℕ, List, length, drop, take, get_or, length-append, refl, ap, sym, subst, ◌∙◌, true, false, arith}
+use Rattle.std.proofs.Common.{◌≡◌, ◌↔◌, ◌⊎◌, ℕ, List, length, drop, get_or, length-append, refl, ap, sym, subst, ◌∙◌, false, arith}
 use mathlib.Core.Bool.{true≢false}
 use Rattle.std.specs.List.{Contains}
 use Rattle.td_stamps.specs.Sets.{has}
-use Rattle.td_rollback.specs.Touched.{Runs}
 use Rattle.td_rollback.specs.ForProofs.Standing.{Begun}
-use Rattle.td_rollback.specs.ForProofs.Ways.{Way, way_of}
+use Rattle.td_rollback.specs.ForProofs.Ways.{way_of}
 use Rattle.td_rollback.proofs.Coming as coming
 use Rattle.td_rollback.proofs.Coming.{Coming, Old}
 use Rattle.td_rollback.proofs.Standing as standing

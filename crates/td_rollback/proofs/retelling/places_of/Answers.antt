@@ -1,9 +1,8 @@
-use Rattle.std.proofs.Common.{◌≡◌, ◌↔◌, ◌⊎◌, ⊎_elim, inl, inr, ◌<◌, ◌+◌, ℕ, List, drop, take, get_or, length, arith, ap, subst, sym, ◌∙◌}
+use Rattle.std.proofs.Common.{◌≡◌, ◌<◌, ℕ, List, drop, get_or, length, arith, subst, sym, ◌∙◌}
 use Rattle.std.specs.List.{Contains}
 use Rattle.td_stamps.specs.declared.entry.Entry.{Entry as EntryData}
 use Rattle.td_stamps.proofs.EntryLemmas.{same-is}
-use Rattle.td_rollback.specs.Touched.{IsTargetOf}
-use Rattle.td_rollback.specs.ForProofs.Ways.{Way, way_of}
+use Rattle.td_rollback.specs.ForProofs.Ways.{way_of}
 use Rattle.td_rollback.proofs.Ends as ends
 use Rattle.td_rollback.proofs.Members.{targets_more}
 use Rattle.td_rollback.proofs.retelling.places_of.Goals.{then-at-old+then-is_same+in_ok-add, else-at-old+in_ok-more+in_ok-add-2}

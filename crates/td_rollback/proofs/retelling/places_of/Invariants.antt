@@ -1,4 +1,4 @@
-use Rattle.std.proofs.Common.{◌≡◌, ◌≤◌, ℕ, drop, length, take}
+use Rattle.std.proofs.Common.{ℕ, drop, take}
 use Rattle.std.specs.List.{Contains}
 use Rattle.td_rollback.specs.Touched.{IsTargetOf}
 use Rattle.td_rollback.proofs.retelling.places_of.Given as goal

@@ -1,4 +1,4 @@
-use Rattle.std.proofs.Common.{◌≡◌, ◌++◌, ℕ, List, [], drop, take, sym, subst}
+use Rattle.std.proofs.Common.{List, [], drop, take, sym, subst}
 use Rattle.td_stamps.specs.declared.entry.Entry.{Entry as EntryData}
 use Rattle.td_stamps.specs.declared.entry.Stamp.{Stamp}
 use Rattle.td_stamps.specs.Story.{Story}
@@ -6,7 +6,6 @@ use Rattle.td_stamps.proofs.Stories as stories
 use Rattle.td_rollback.specs.Going.{AreAlikeBut, SoundFrom}
 use Rattle.td_rollback.specs.Touched.{AreMore, Runs}
 use Rattle.td_rollback.specs.Turns.{settled}
-use Rattle.td_rollback.specs.ForProofs.Ways.{Way, way_of}
 use Rattle.td_rollback.proofs.Ends as ends
 use Rattle.td_rollback.proofs.More.{more_behind}
 use Rattle.td_rollback.proofs.retelling.replay_from.Goals as goal

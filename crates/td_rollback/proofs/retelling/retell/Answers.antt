@@ -1,4 +1,4 @@
-use Rattle.std.proofs.Common.{ap, sym}
+use Rattle.std.proofs.Common.{ap, sym, arith}
 use Rattle.td_stamps.proofs.Stories as stories
 use Rattle.td_rollback.proofs.Counting.{at_most_all}
 use Rattle.td_rollback.proofs.retelling.retell.Goals as goal
@@ -30,3 +30,10 @@ pub returns-in-Err-clause-origin : goal.returns-in-Err-clause-origin
 returns-in-Err-clause-origin g c =
     let saved = c.in_ok-part.ensures in
     ap g.M.Machine.origin (c.put_back.ensures c.args.machine.now saved.0 saved.1 (sym c.replay_from.ensures.origin) (λ n never. c.replay_from.ensures.elsewhere n (λ h. never (saved.2 n h))))
+
+pub returns-in-Ok-clause-front : goal.returns-in-Ok-clause-front
+returns-in-Ok-clause-front g c =
+    let m = g.M.Machine in
+    let each = stories.as_many m.steps (m.origin c.args.machine.now) c.args.machine.now c.args.old.now c.args.log.now c.requires.story in
+    let within = c.common_of-kept.ensures.in_old in
+    omega (arith, each, within)

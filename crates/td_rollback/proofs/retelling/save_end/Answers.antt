@@ -1,6 +1,5 @@
 use Rattle.std.proofs.Common.{ℕ, List, sym, subst}
 use Rattle.std.specs.List.{Contains}
-use Rattle.td_rollback.specs.Touched.{IsTargetOf}
 use Rattle.td_rollback.proofs.Ends.{if_more}
 use Rattle.td_rollback.proofs.retelling.save_end.Goals as goal
 
