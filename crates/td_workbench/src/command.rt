@@ -5,7 +5,7 @@ ghost use Rattle.td_workbench.specs.Streams.{input_of};
 ghost use Rattle.std.specs.Prelude.{◌≡◌};
 ghost use Rattle.td_workbench.specs.Exits.{Exits, PutsHelp, PutsRefusal, TellsWords, status_of};
 
-use crate::program::run_program;
+use crate::programs::run_program;
 use crate::run::Ended;
 use crate::words::read_options;
 use clap::Error;

@@ -4,7 +4,7 @@
 
 pub mod command;
 pub mod opening;
-pub mod program;
+pub mod programs;
 mod refusal;
 pub mod run;
 pub mod script;
@@ -13,5 +13,5 @@ mod writing;
 
 pub use command::program;
 pub use opening::Options;
-pub use program::run_program;
+pub use programs::run_program;
 pub use run::{Ended, workbench};

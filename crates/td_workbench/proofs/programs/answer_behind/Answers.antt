@@ -1,5 +1,5 @@
 use Rattle.td_workbench.proofs.Starting.{behind_ran}
-use Rattle.td_workbench.proofs.program.answer_behind.Goals as goal
+use Rattle.td_workbench.proofs.programs.answer_behind.Goals as goal
 
 pub returns : goal.returns
 returns g c =

@@ -1,7 +1,7 @@
 use Rattle.std.proofs.Common.{ℕ, List, inl, ◌∙◌, subst}
 use Rattle.std.specs.Io.KnownBytes.{Appends}
 use Rattle.td_workbench.proofs.Starting.{refused_told, ready_untold, answers_behind}
-use Rattle.td_workbench.proofs.program.start.Goals as goal
+use Rattle.td_workbench.proofs.programs.start.Goals as goal
 
 pub returns-in-Err : goal.returns-in-Err
 returns-in-Err g c = λ from has.

@@ -1,6 +1,6 @@
 use Rattle.std.proofs.Common.{inl, inr}
 use Rattle.td_workbench.proofs.Starting.{fault_told}
-use Rattle.td_workbench.proofs.program.run_program.Goals as goal
+use Rattle.td_workbench.proofs.programs.run_program.Goals as goal
 
 pub returns-in-Err-End : goal.returns-in-Err-End
 returns-in-Err-End g c =
