@@ -8,7 +8,7 @@ use Rattle.td_stamps.specs.declared.entry.Entry.{Entry}
 use Rattle.td_stamps.specs.Entries.{same}
 use Rattle.td_stamps.proofs.EntryLemmas.{same-is}
 use Rattle.td_rollback.specs.Counts.{meets, runs_of}
-use Rattle.td_rollback.specs.Laws.{Name, RunsAreCounted}
+use Rattle.td_rollback.specs.Laws.{ListsPlaces, RunsAreCounted}
 use Rattle.td_rollback.specs.Touched.{AreMore, IsTargetOf, Runs, none_left, fresh, touched, untouched}
 use Rattle.td_rollback.proofs.Members.{has_cases, has_first, has_later, has_none, number_cases, number_first, number_later, number_none}
 use Rattle.td_rollback.proofs.More as more
@@ -49,7 +49,7 @@ module _ (F T : Entry → ℕ → Type 0) (footprint targets : Entry → List �
         (has_cases e h.0 ran h.1),
   )
 
-  rest_named : {P : Entry → ℕ → Type 0} (names : Entry → List ℕ) (e : Entry) (es : List Entry) → Name P names (e ∷ es) → Name P names es
+  rest_named : {P : Entry → ℕ → Type 0} (names : Entry → List ℕ) (e : Entry) (es : List Entry) → ListsPlaces P names (e ∷ es) → ListsPlaces P names es
   rest_named names e es all f h = all f (has_later e f es h)
 
   module _ (ran : List Entry) (names : List ℕ) (so_far : Named ran names) (es fs : List Entry) (e y : Entry) (is : same e y ≡ true) (are : (n : ℕ) → Contains (footprint e) n ↔ F e n) where
@@ -61,7 +61,7 @@ module _ (F T : Entry → ℕ → Type 0) (footprint targets : Entry → List �
   by_first true ran es fs e y m n is one other = one is
   by_first false ran es fs e y m n is one other = other is
 
-  pub counted : (ran : List Entry) (names : List ℕ) (old new : List Entry) → Named ran names → AreMore old new → Name F footprint old → Name T targets new → Runs F T ran old new (runs_of footprint targets names old new)
+  pub counted : (ran : List Entry) (names : List ℕ) (old new : List Entry) → Named ran names → AreMore old new → ListsPlaces F footprint old → ListsPlaces T targets new → Runs F T ran old new (runs_of footprint targets names old new)
   counted ran names [] [] so_far among feet all = none_left
   counted ran names (y ∷ es) [] so_far among feet all = more.none_left y es among
   counted ran names [] (e ∷ fs) so_far among feet all =

@@ -11,11 +11,11 @@ use Rattle.td_rollback.specs.Going.{AreAlikeBut}
 use Rattle.td_rollback.specs.Replays.{Replays}
 use Rattle.td_rollback.specs.Touched.{AreMore, Runs}
 
--- the lists name the places, for each of these entries
-abbrev pub Name : (Entry → ℕ → Type 0) → (Entry → List ℕ) → List Entry → Type 0
-Name Places names es = (e : Entry) → has es e ≡ true → (n : ℕ) → Contains (names e) n ↔ Places e n
+-- for each of these entries its list has the places, and no others
+abbrev pub ListsPlaces : (Entry → ℕ → Type 0) → (Entry → List ℕ) → List Entry → Type 0
+ListsPlaces Places names es = (e : Entry) → has es e ≡ true → (n : ℕ) → Contains (names e) n ↔ Places e n
 
--- no two numbers of entries are run
+-- there is no second number of entries that are run
 abbrev pub RunsAreOne : (Entry → ℕ → Type 0) → (Entry → ℕ → Type 0) → Type 0
 RunsAreOne Footprint Target = (ran es fs : List Entry) (m n : ℕ) → Runs Footprint Target ran es fs m → Runs Footprint Target ran es fs n → m ≡ n
 
@@ -31,12 +31,12 @@ RunsAreThere Footprint Target = (ran old new : List Entry) → AreMore old new �
 -- along the lists
 abbrev pub RunsAreCounted : (Entry → ℕ → Type 0) → (Entry → ℕ → Type 0) → Type 0
 RunsAreCounted Footprint Target =
-    (old new : List Entry) (footprint targets : Entry → List ℕ) → AreMore old new → Name Footprint footprint old → Name Target targets new → Runs Footprint Target [] old new (runs_of footprint targets [] old new)
+    (old new : List Entry) (footprint targets : Entry → List ℕ) → AreMore old new → ListsPlaces Footprint footprint old → ListsPlaces Target targets new → Runs Footprint Target [] old new (runs_of footprint targets [] old new)
 
 -- the records of a story name the footprints and the targets of its entries
 abbrev pub RecordsName : {S R : Type 0} → (S → Type 0) → (S → Entry → R → S → Type 0) → (Entry → ℕ → Type 0) → (R → List ℕ) → Type 0
 RecordsName {S = S} {R = R} Sound Step Places names_in =
-    (s t : S) (es : List Entry) (log : List (Stamp × R)) → Sound s → Story Step s es log t → Name Places (recorded names_in es log) es
+    (s t : S) (es : List Entry) (log : List (Stamp × R)) → Sound s → Story Step s es log t → ListsPlaces Places (recorded names_in es log) es
 
 -- A replay from a state that is alike to the one before the old entries, but for targets of those that ran, is the
 -- story of all entries.
