@@ -1,4 +1,4 @@
-use Rattle.std.proofs.Common.{map, sym, ap, ◌∙◌, subst}
+use Rattle.std.proofs.Common.{map, sym, ap, ◌≡◌, ◌∙◌, subst}
 use Rattle.std.specs.List.{AllByRecursion}
 use Rattle.td_answers.specs.Sites.{Sites}
 use Rattle.td_workbench.proofs.Starting.{one_script}
