@@ -1,4 +1,4 @@
-use Rattle.std.proofs.Common.{sym, ◌∙◌}
+use Rattle.std.proofs.Common.{true, sym, ◌∙◌}
 use Rattle.td_workbench.proofs.Answering.{nothing_read, quit_read, last_read, failed_read}
 use Rattle.td_workbench.proofs.run.answer_read.Goals as goal
 
@@ -15,4 +15,5 @@ returns-else-quits-clause-ends g c = λ raw left tells.
 
 pub returns-in-Err-clause-ends : goal.returns-in-Err-clause-ends
 returns-in-Err-clause-ends g c = λ raw left tells.
-    failed_read _ _ raw _ left _ _ _ _ c.in-Err.e tells.1 (sym (c.is_nothing.ensures raw tells.0) ∙ c.if-is_nothing.false) (c.bytes_of.ensures raw tells.0) c.in-Err.ensures.ends
+    -- what a front of an answer says of the writer is the same whether it is flushed
+    failed_read _ _ raw _ left _ (record { held = _; faults = _; is_flushed = true }) (record { held = _; faults = _; is_flushed = true }) _ c.in-Err.e tells.1 (sym (c.is_nothing.ensures raw tells.0) ∙ c.if-is_nothing.false) (c.bytes_of.ensures raw tells.0) c.in-Err.ensures.ends
