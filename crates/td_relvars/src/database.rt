@@ -1,6 +1,6 @@
 //! Databases.
 
-ghost use Rattle.std.specs.Prelude.{◌≡◌, IfOk, slice_get};
+ghost use Rattle.std.specs.Prelude.{◌≡◌, ◌<◌, IfOk, length, slice_get, slice_set};
 ghost use Rattle.std.specs.Option.{option_copied};
 ghost use Rattle.std.specs.FinSet as set;
 ghost use Rattle.td_relations.specs.Sets.{relation_of};
@@ -11,7 +11,6 @@ ghost use Rattle.td_relvars.specs.ForProofs.Empty.{empty_in};
 ghost use Rattle.td_story.specs.Openings as opening;
 
 use crate::base::Base;
-use sqlite_items::Items;
 use std::alloc::{AllocError, Global};
 use std::marker::Model;
 use td_algebra::{Fault, Stop};
@@ -23,7 +22,7 @@ use td_values::{Heading, Name};
 /// What a script has defined, and what each base relvar has.
 pub struct Database {
     catalogue: Catalogue,
-    stored: Items<Option<Base>>,
+    stored: Vec<Option<Base>>,
 }
 
 // By hand, since a derived one is proved anew at each place where a database is dropped: this one is a call there.
@@ -43,9 +42,9 @@ impl Model for Database {
 
     ghost coded = { database_code };
 
-    ghost view = { λ d. record { catalogue = d.catalogue; stored = d.stored } };
+    ghost view = { λ d. record { catalogue = d.catalogue; stored = d.stored.items } };
 
-    ghost invariant = { λ d. IsDatabase (record { catalogue = d.catalogue; stored = d.stored }) };
+    ghost invariant = { λ d. IsDatabase (record { catalogue = d.catalogue; stored = d.stored.items }) };
 }
 
 impl Lookup for Database {
@@ -79,15 +78,23 @@ fn empty_at(alloc: Global, catalogue: &Catalogue, place: usize) -> Result<Option
     }
 }
 
-fn all_empty(alloc: Global, catalogue: &Catalogue) -> Result<Items<Option<Base>>, AllocError>
-    ensures empty { IfOk result (λ s. s ≡ opening.all_empty catalogue.now.origins catalogue.now.schema.relvars) }
+fn all_empty(alloc: Global, catalogue: &Catalogue) -> Result<Vec<Option<Base>>, AllocError>
+    ensures empty { IfOk result (λ s. s.items ≡ opening.all_empty catalogue.now.origins catalogue.now.schema.relvars) }
     ensures defined { Defined catalogue.now }
 {
-    let mut stored = Items::new(alloc);
+    let mut stored = Vec::new(alloc);
     for place in 0..catalogue.schema().relvar_count() {
         stored.push(empty_at(alloc, catalogue, place)?)?;
     }
     Ok(stored)
+}
+
+// Generic, so that what was there is let go by one call.
+fn set_at<T: Drop>(items: &mut Vec<T>, place: usize, item: T)
+    requires { place < length items.old.items }
+    ensures { items.new.items ≡ slice_set items.old.items place item }
+{
+    items[place] = item;
 }
 
 impl Database {
@@ -142,6 +149,6 @@ impl Database {
         ensures catalogue { self.new.catalogue ≡ self.old.catalogue }
         ensures stored { self.new.stored ≡ put relvar base self.old.stored }
     {
-        self.stored.set(relvar, Some(base));
+        set_at(&mut self.stored, relvar, Some(base));
     }
 }
