@@ -3,3 +3,5 @@ pub mod Stores
 pub mod Inits
 pub mod Asked
 pub mod Told
+pub mod Places
+pub mod Kept

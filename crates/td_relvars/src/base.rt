@@ -1,12 +1,14 @@
 //! What base relvars have.
 
-ghost use Rattle.std.specs.Prelude.{◌≡◌, IfOk};
+ghost use Rattle.std.specs.Prelude.{◌≡◌, IfOk, OnErr, OnOk};
 ghost use Rattle.std.specs.FinSet as set;
 ghost use Rattle.td_relations.specs.Sets.{body};
+ghost use Rattle.td_relations.specs.Deltas.{inverse_of};
+ghost use Rattle.td_relvars.specs.Changed.{changed};
 
 use std::alloc::{AllocError, Global};
 use std::marker::Model;
-use td_relations::Relation;
+use td_relations::{Delta, Relation};
 use td_values::Tuple;
 
 /// What a base relvar has.
@@ -58,5 +60,25 @@ impl Base {
         ensures { IfOk result (λ r. r ≡ self.now) }
     {
         self.relation.copy(alloc)
+    }
+
+    /// Makes the change.
+    pub(crate) fn change(&mut self, alloc: Global, delta: &Delta) -> Result<(), AllocError>
+        requires { delta.now.inserted.heading ≡ self.old.heading }
+        ensures ok { OnOk result (self.new ≡ changed self.old delta.now) }
+        ensures err { OnErr result (self.new ≡ self.old) }
+    {
+        delta.apply(alloc, &mut self.relation)
+    }
+
+    /// Makes the inverse.
+    pub(crate) fn change_back(&mut self, alloc: Global, delta: &Delta) -> Result<(), AllocError>
+        requires { delta.now.deleted.heading ≡ self.old.heading }
+        ensures ok { OnOk result (self.new ≡ changed self.old (inverse_of delta.now)) }
+        ensures err { OnErr result (self.new ≡ self.old) }
+    {
+        // It shows that both headings are one, and does nothing when it runs.
+        let _heading = delta.heading();
+        delta.undo(alloc, &mut self.relation)
     }
 }

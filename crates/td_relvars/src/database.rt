@@ -1,12 +1,16 @@
 //! Databases.
 
-ghost use Rattle.std.specs.Prelude.{◌≡◌, ◌<◌, IfOk, length, slice_get, slice_set};
+ghost use Rattle.std.specs.Prelude.{◌≡◌, ◌<◌, IfOk, Ok, OnErr, OnOk, length, slice_get, slice_set};
 ghost use Rattle.std.specs.Option.{option_copied};
 ghost use Rattle.std.specs.FinSet as set;
+ghost use Rattle.td_values.specs.Rows.{RowsData};
 ghost use Rattle.td_relations.specs.Sets.{relation_of};
+ghost use Rattle.td_relations.specs.Deltas.{inverse_of};
 ghost use Rattle.td_headings.specs.Definitions.{Defined};
 ghost use Rattle.td_story.specs.Databases as spec;
-ghost use Rattle.td_story.specs.Databases.{Belongs, IsDatabase, put};
+ghost use Rattle.td_story.specs.Databases.{Belongs, IsDatabase, put, stored_relvars};
+ghost use Rattle.td_relvars.specs.Changed as changes;
+ghost use Rattle.td_relvars.specs.Changed.{CanChange};
 ghost use Rattle.td_relvars.specs.ForProofs.Empty.{empty_in};
 ghost use Rattle.td_story.specs.Openings as opening;
 
@@ -16,7 +20,7 @@ use std::marker::Model;
 use td_algebra::{Fault, Stop};
 use td_eval::Lookup;
 use td_headings::{Catalogue, Origin};
-use td_relations::Relation;
+use td_relations::{Delta, Relation};
 use td_values::{Heading, Name};
 
 /// What a script has defined, and what each base relvar has.
@@ -97,6 +101,40 @@ fn set_at<T: Drop>(items: &mut Vec<T>, place: usize, item: T)
     items[place] = item;
 }
 
+// Makes the change in what is stored at the place.
+fn change_at(
+    alloc: Global,
+    stored: &mut Vec<Option<Base>>,
+    relvar: usize,
+    delta: &Delta,
+) -> Result<(), AllocError>
+    requires { (r : RowsData) × (stored_relvars stored.old.items relvar ≡ Ok r) × (delta.now.inserted.heading ≡ r.heading) }
+    ensures ok { OnOk result (stored.new.items ≡ changes.change relvar delta.now stored.old.items) }
+    ensures err { OnErr result (stored.new.items ≡ stored.old.items) }
+{
+    match &mut stored[relvar] {
+        Some(base) => base.change(alloc, delta),
+        None => unreachable!(),
+    }
+}
+
+// Makes its inverse.
+fn change_back_at(
+    alloc: Global,
+    stored: &mut Vec<Option<Base>>,
+    relvar: usize,
+    delta: &Delta,
+) -> Result<(), AllocError>
+    requires { (r : RowsData) × (stored_relvars stored.old.items relvar ≡ Ok r) × (delta.now.deleted.heading ≡ r.heading) }
+    ensures ok { OnOk result (stored.new.items ≡ changes.change relvar (inverse_of delta.now) stored.old.items) }
+    ensures err { OnErr result (stored.new.items ≡ stored.old.items) }
+{
+    match &mut stored[relvar] {
+        Some(base) => base.change_back(alloc, delta),
+        None => unreachable!(),
+    }
+}
+
 impl Database {
     /// One whose base relvars are empty.
     pub(crate) fn empty(alloc: Global, catalogue: Catalogue) -> Result<Database, AllocError>
@@ -150,5 +188,27 @@ impl Database {
         ensures stored { self.new.stored ≡ put relvar base self.old.stored }
     {
         set_at(&mut self.stored, relvar, Some(base));
+    }
+    /// Makes the change in the base relvar at the place, where its relation stands. It costs as `Delta::apply`.
+    pub fn change(&mut self, alloc: Global, relvar: usize, delta: &Delta) -> Result<(), AllocError>
+        requires { CanChange self.old relvar delta.now }
+        ensures ok { OnOk result (self.new ≡ record self.old { stored = changes.change relvar delta.now self.old.stored }) }
+        ensures err { OnErr result (self.new ≡ self.old) }
+    {
+        change_at(alloc, &mut self.stored, relvar, delta)
+    }
+
+    /// Makes its inverse.
+    pub fn change_back(
+        &mut self,
+        alloc: Global,
+        relvar: usize,
+        delta: &Delta,
+    ) -> Result<(), AllocError>
+        requires { CanChange self.old relvar (inverse_of delta.now) }
+        ensures ok { OnOk result (self.new ≡ record self.old { stored = changes.change relvar (inverse_of delta.now) self.old.stored }) }
+        ensures err { OnErr result (self.new ≡ self.old) }
+    {
+        change_back_at(alloc, &mut self.stored, relvar, delta)
     }
 }
