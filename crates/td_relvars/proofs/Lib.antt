@@ -5,3 +5,4 @@ pub mod Asked
 pub mod Told
 pub mod Places
 pub mod Kept
+pub mod Copies

@@ -39,17 +39,17 @@ put_set n r [] = refl
 put_set zero r (x ∷ xs) = refl
 put_set (suc n) r (x ∷ xs) = ap (λ ys. x ∷ ys) (put_set n r xs)
 
-put_length : (n : ℕ) (r : RowsData) (xs : Stored) → length (put n r xs) ≡ length xs
+pub put_length : (n : ℕ) (r : RowsData) (xs : Stored) → length (put n r xs) ≡ length xs
 put_length n r [] = refl
 put_length zero r (x ∷ xs) = refl
 put_length (suc n) r (x ∷ xs) = ap suc (put_length n r xs)
 
-put_there : (n : ℕ) (r : RowsData) (xs : Stored) → n < length xs → slice_get (put n r xs) n ≡ Some (Some r)
+pub put_there : (n : ℕ) (r : RowsData) (xs : Stored) → n < length xs → slice_get (put n r xs) n ≡ Some (Some r)
 put_there n r [] lt = absurd (omega arith)
 put_there zero r (x ∷ xs) lt = refl
 put_there (suc n) r (x ∷ xs) lt = put_there n r xs (omega arith)
 
-put_other : (n m : ℕ) (r : RowsData) (xs : Stored) → (n ≡ m → ⊥) → slice_get (put n r xs) m ≡ slice_get xs m
+pub put_other : (n m : ℕ) (r : RowsData) (xs : Stored) → (n ≡ m → ⊥) → slice_get (put n r xs) m ≡ slice_get xs m
 put_other n m r [] apart = refl
 put_other zero zero r (x ∷ xs) apart = absurd (apart refl)
 put_other zero (suc m) r (x ∷ xs) apart = refl

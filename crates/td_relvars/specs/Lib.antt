@@ -1,3 +1,5 @@
 -- The definitions of the crate.
 pub mod Changed
+pub mod Parts
+pub mod Laws
 pub mod ForProofs

@@ -62,6 +62,12 @@ impl Base {
         self.relation.copy(alloc)
     }
 
+    pub(crate) fn copy(&self, alloc: Global) -> Result<Base, AllocError>
+        ensures { IfOk result (λ b. b ≡ self.now) }
+    {
+        Ok(Base::of(self.relation.copy(alloc)?))
+    }
+
     /// Makes the change.
     pub(crate) fn change(&mut self, alloc: Global, delta: &Delta) -> Result<(), AllocError>
         requires { delta.now.inserted.heading ≡ self.old.heading }

@@ -4,8 +4,11 @@
 mod asking;
 pub mod base;
 pub mod database;
+pub mod laws;
 mod opening;
+pub mod parts;
 
 pub use base::Base;
 pub use database::Database;
 pub use opening::open_script;
+pub use parts::Part;
