@@ -6,3 +6,6 @@ pub mod Assigning
 pub mod Preparing
 pub mod TreeReads
 pub mod Footprint
+pub mod Listed
+pub mod Remaking
+pub mod Leading

@@ -8,7 +8,9 @@ pub mod ran;
 mod running;
 mod seen;
 mod sources;
+mod undoing;
 
 pub use changes::Change;
 pub use ran::Ran;
 pub use running::run;
+pub use undoing::{redo, undo};

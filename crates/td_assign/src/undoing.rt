@@ -1,0 +1,43 @@
+//! What a statement changed, taken back and made again.
+
+ghost use Rattle.std.specs.Prelude.{◌≡◌, OnErr, OnOk};
+ghost use Rattle.td_relvars.specs.Changed.{redone, undone};
+ghost use Rattle.td_assign.specs.Redoing.{AreOnce, CanRedo, CanUndo, IsBetween};
+
+use std::alloc::{AllocError, Global};
+use td_relations::Delta;
+use td_relvars::Database;
+
+/// Makes each change where its relvar stands. It costs as `Delta::apply` of each, however large the relvars are.
+pub fn redo(
+    alloc: Global,
+    database: &mut Database,
+    delta: &[(usize, Delta)],
+) -> Result<(), AllocError>
+    requires once { AreOnce delta.now }
+    requires fits { CanRedo database.old delta.now }
+    ensures ok { OnOk result (database.new ≡ record database.old { stored = redone delta.now database.old.stored }) }
+    ensures err { OnErr result (IsBetween database.old (redone delta.now database.old.stored) database.new) }
+{
+    for (relvar, change) in delta {
+        database.change(alloc, *relvar, change)?;
+    }
+    Ok(())
+}
+
+/// Takes each change back where its relvar stands. It costs as `redo`.
+pub fn undo(
+    alloc: Global,
+    database: &mut Database,
+    delta: &[(usize, Delta)],
+) -> Result<(), AllocError>
+    requires once { AreOnce delta.now }
+    requires fits { CanUndo database.old delta.now }
+    ensures ok { OnOk result (database.new ≡ record database.old { stored = undone delta.now database.old.stored }) }
+    ensures err { OnErr result (IsBetween database.old (undone delta.now database.old.stored) database.new) }
+{
+    for (relvar, made) in delta {
+        database.change_back(alloc, *relvar, made)?;
+    }
+    Ok(())
+}
