@@ -16,7 +16,7 @@ use Rattle.td_relvars.proofs.Kept.{belongs}
 use Rattle.td_relvars.proofs.Places.{change_length, change_other, change_there, ok_same, one_store}
 use Rattle.td_assign.specs.Laws.{DifferencesGoBothWays, GoAlike, OnlyListedChange, RedoneLeadsOn, UndoneLeadsBack}
 use Rattle.td_assign.specs.Redoing.{AreOnce, CanRedo}
-use Rattle.td_assign.proofs.Listed.{Changes, first_apart, first_there, from_inverses, inverses_once, inverses_unlisted, named, others_stay, rest_once, rest_there, there_cases, to_inverses}
+use Rattle.td_assign.proofs.Listed.{Changes, first_apart, first_there, from_inverses, inverses_once, inverses_unlisted, named, others_stay, rest_once, rest_there, to_inverses, unlisted_first}
 
 -- what the list says of two states: each change it has leads from what the one has to what the other has, and is of
 -- the one's heading; the rest is the same
@@ -27,7 +27,9 @@ pub record Leads (old new : Relvars) (ds : Changes) : Type 0 where
       → (r : RowsData) × (old p.0 ≡ Ok r) × (p.1.inserted.heading ≡ r.heading) × (new p.0 ≡ Ok (changed r p.1))
   pub all : (n : ℕ) → ((d : DeltaData) → Contains ds (n, d) → ⊥) → new n ≡ old n
 
-led : (old new : Stored) (ds : Changes) → length old ≡ length new → Leads (stored_relvars old) (stored_relvars new) ds → redone ds old ≡ new
+led :
+    (old new : Stored) (ds : Changes) → length old ≡ length new → Leads (stored_relvars old) (stored_relvars new) ds
+    → redone ds old ≡ new
 led old new [] e l = one_store old new e (λ n. sym (l.all n (λ d h. absurd (omega (arith, h.1)))))
 led old new (p ∷ ds) e l =
     let mid = change p.0 p.1 old in
@@ -35,10 +37,12 @@ led old new (p ∷ ds) e l =
     let here : stored_relvars mid p.0 ≡ stored_relvars new p.0 = change_there p.0 p.1 old now.0 now.1 ∙ sym now.3 in
     led mid new ds (change_length p.0 p.1 old ∙ e) (record {
       once = rest_once p ds l.once;
-      only = λ q h. let k = l.only q (rest_there p q ds h) in (k.0, change_other p.0 q.0 p.1 old (first_apart p q ds l.once h) ∙ k.1, k.2, k.3);
+      only = λ q h.
+          let k = l.only q (rest_there p q ds h) in
+          (k.0, change_other p.0 q.0 p.1 old (first_apart p q ds l.once h) ∙ k.1, k.2, k.3);
       all = λ n never. ⊎_elim
           (λ same. subst (λ m. stored_relvars new m ≡ stored_relvars mid m) same (sym here))
-          (λ apart. l.all n (λ d h. there_cases p (n, d) ds h (λ is. apart (ap (λ (z : ℕ × DeltaData). z.0) is)) (never d)) ∙ sym (change_other p.0 n p.1 old apart))
+          (λ apart. l.all n (unlisted_first p ds n apart never) ∙ sym (change_other p.0 n p.1 old apart))
           (cases_eq p.0 n);
     })
 
@@ -48,10 +52,12 @@ module _ (old new : Relvars) (ds : Changes) (a : AreDifferences old new ds) wher
     once = a.once;
     only = λ p h.
         let q = a.only p h in
-        let is : changed q.before p.1 ≡ q.after =
-        leads_to q.before q.after (changed q.before p.1) p.1.deleted p.1.inserted q.one_heading q.is_rows.ascending q.before.heading q.before.heading q.difference.deleted q.difference.inserted
-        (relation_of_is q.before.heading (applied (body q.before) p.1)) in
-        (q.before, q.was, q.difference.inserted.heading, q.is ∙ ap Ok (sym is));
+        let r = q.before in
+        let d = q.difference in
+        let is : changed r p.1 ≡ q.after =
+        leads_to r q.after (changed r p.1) p.1.deleted p.1.inserted q.one_heading q.is_rows.ascending
+        r.heading r.heading d.deleted d.inserted (relation_of_is r.heading (applied (body r) p.1)) in
+        (r, q.was, d.inserted.heading, q.is ∙ ap Ok (sym is));
     all = a.all;
   }
 
@@ -60,14 +66,18 @@ module _ (old new : Relvars) (ds : Changes) (a : AreDifferences old new ds) wher
     once = inverses_once ds a.once;
     only = λ p h.
         let q = a.only (p.0, inverse_of p.1) (from_inverses ds p h) in
-        let is : changed q.after p.1 ≡ q.before =
-        leads_to q.after q.before (changed q.after p.1) p.1.deleted p.1.inserted (sym q.one_heading) q.was_rows.ascending q.before.heading q.before.heading q.difference.inserted q.difference.deleted
-        (relation_of_is q.after.heading (applied (body q.after) p.1)) in
-        (q.after, q.is, q.difference.deleted.heading ∙ q.one_heading, q.was ∙ ap Ok (sym is));
+        let r = q.after in
+        let d = q.difference in
+        let is : changed r p.1 ≡ q.before =
+        leads_to r q.before (changed r p.1) p.1.deleted p.1.inserted (sym q.one_heading) q.was_rows.ascending
+        q.before.heading q.before.heading d.inserted d.deleted (relation_of_is r.heading (applied (body r) p.1)) in
+        (r, q.is, d.deleted.heading ∙ q.one_heading, q.was ∙ ap Ok (sym is));
     all = λ n never. sym (a.all n (λ d h. never (inverse_of d) (to_inverses ds (n, d) h)));
   }
 
-one_length : (old new : DatabaseData) → IsDatabase old → IsDatabase new → new.catalogue ≡ old.catalogue → length old.stored ≡ length new.stored
+one_length :
+    (old new : DatabaseData) → IsDatabase old → IsDatabase new → new.catalogue ≡ old.catalogue
+    → length old.stored ≡ length new.stored
 one_length old new a b same = a.each ∙ ap (λ (c : CatalogueData). length c.origins) (sym same) ∙ sym b.each
 
 -- what changes lead to belongs to the database that they lead to
@@ -80,17 +90,24 @@ can_redo old new ds is same l = λ p h.
       before = k.0;
       has = k.1;
       heading = k.2;
-      belongs = subst (λ (c : CatalogueData). Belongs c p.0 (changed k.0 p.1)) same (belongs new is p.0 (changed k.0 p.1) k.3);
+      belongs =
+          let own = belongs new is p.0 (changed k.0 p.1) k.3 in
+          subst (λ (c : CatalogueData). Belongs c p.0 (changed k.0 p.1)) same own;
     }
 
 pub only_listed_change : OnlyListedChange
-only_listed_change ds stored n never = (others_stay ds stored n never, others_stay (inverses ds) stored n (inverses_unlisted ds n never))
+only_listed_change ds stored n never =
+    (others_stay ds stored n never, others_stay (inverses ds) stored n (inverses_unlisted ds n never))
 
 pub redone_leads_on : RedoneLeadsOn
-redone_leads_on old new ds a b same diff = led old.stored new.stored ds (one_length old new a b same) (leads_on (stored_relvars old.stored) (stored_relvars new.stored) ds diff)
+redone_leads_on old new ds a b same diff =
+    let on = leads_on (stored_relvars old.stored) (stored_relvars new.stored) ds diff in
+    led old.stored new.stored ds (one_length old new a b same) on
 
 pub undone_leads_back : UndoneLeadsBack
-undone_leads_back old new ds a b same diff = led new.stored old.stored (inverses ds) (sym (one_length old new a b same)) (leads_back (stored_relvars old.stored) (stored_relvars new.stored) ds diff)
+undone_leads_back old new ds a b same diff =
+    let back = leads_back (stored_relvars old.stored) (stored_relvars new.stored) ds diff in
+    led new.stored old.stored (inverses ds) (sym (one_length old new a b same)) back
 
 pub go_alike : GoAlike
 go_alike old new other last ds a b n same =

@@ -34,6 +34,11 @@ pub first_apart : (p q : ℕ × DeltaData) (ds : Changes) → AreOnce (p ∷ ds)
 first_apart p q ds once h =
     subst (λ (z : ℕ × DeltaData). p.0 ≡ z.0 → ⊥) h.2 (once 0 (suc h.0) q (omega arith) (omega (arith, h.1)))
 
+pub unlisted_first :
+    (p : ℕ × DeltaData) (ds : Changes) (n : ℕ) → (p.0 ≡ n → ⊥) → Unlisted ds n → Unlisted (p ∷ ds) n
+unlisted_first p ds n apart never =
+    λ d h. there_cases p (n, d) ds h (λ is. apart (ap (λ (z : ℕ × DeltaData). z.0) is)) (never d)
+
 -- the list names the place, or it does not
 pub named : (ds : Changes) (n : ℕ) → ((d : DeltaData) × Contains ds (n, d)) ⊎ Unlisted ds n
 named [] n = inr (λ d h. absurd (omega (arith, h.1)))
@@ -42,7 +47,7 @@ named (p ∷ ds) n =
     (λ same. inl (p.1, subst (λ (m : ℕ). Contains (p ∷ ds) (m, p.1)) same (first_there p ds)))
     (λ apart. ⊎_elim
     (λ k. inl (k.0, rest_there p (n, k.0) ds k.1))
-    (λ never. inr (λ d h. there_cases p (n, d) ds h (λ is. apart (ap (λ (z : ℕ × DeltaData). z.0) is)) (never d)))
+    (λ never. inr (unlisted_first p ds n apart never))
     (named ds n))
     (cases_eq p.0 n)
 
@@ -53,7 +58,8 @@ pub others_stay :
 others_stay [] stored n never = refl
 others_stay (p ∷ ds) stored n never =
     others_stay ds (change p.0 p.1 stored) n (λ d h. never d (rest_there p (n, d) ds h))
-    ∙ change_other p.0 n p.1 stored (λ same. never p.1 (subst (λ (m : ℕ). Contains (p ∷ ds) (m, p.1)) same (first_there p ds)))
+    ∙ change_other p.0 n p.1 stored
+    (λ same. never p.1 (subst (λ (m : ℕ). Contains (p ∷ ds) (m, p.1)) same (first_there p ds)))
 
 -- ---- the inverses of changes
 pub from_inverses : (ds : Changes) (p : ℕ × DeltaData) → Contains (inverses ds) p → Contains ds (p.0, inverse_of p.1)
@@ -67,7 +73,8 @@ pub to_inverses : (ds : Changes) (p : ℕ × DeltaData) → Contains ds p → Co
 to_inverses [] p h = absurd (omega (arith, h.1))
 to_inverses (x ∷ ds) p h =
     there_cases x p ds h
-    (λ is. subst (λ (z : ℕ × DeltaData). Contains (inverses (x ∷ ds)) (z.0, inverse_of z.1)) is (first_there (x.0, inverse_of x.1) (inverses ds)))
+    (λ is. subst (λ (z : ℕ × DeltaData). Contains (inverses (x ∷ ds)) (z.0, inverse_of z.1)) is
+    (first_there (x.0, inverse_of x.1) (inverses ds)))
     (λ k. rest_there (x.0, inverse_of x.1) (p.0, inverse_of p.1) (inverses ds) (to_inverses ds p k))
 
 inverse_at : (ds : Changes) (i : ℕ) (d : ℕ × DeltaData) → (get_or (inverses ds) i d).0 ≡ (get_or ds i d).0

@@ -47,7 +47,8 @@ UndoneLeadsBack =
 -- one list of differences leads relvars that have the same to relvars that have the same
 abbrev pub GoAlike : Type 0
 GoAlike =
-    (old new other last : Relvars) (ds : List (ℕ × DeltaData)) → AreDifferences old new ds → AreDifferences other last ds
+    (old new other last : Relvars) (ds : List (ℕ × DeltaData))
+    → AreDifferences old new ds → AreDifferences other last ds
     → (n : ℕ) → old n ≡ other n → new n ≡ last n
 
 -- what these differences lead to can be taken back, and then made again

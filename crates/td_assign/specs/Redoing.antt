@@ -18,8 +18,10 @@ abbrev pub CanUndo : DatabaseData → List (ℕ × DeltaData) → Type 0
 CanUndo d ds = CanRedo d (inverses ds)
 
 -- each relvar has what it had before, or what it is to have after
+abbrev pub HasEither : Stored → Stored → Stored → ℕ → Type 0
+HasEither before after stored n =
+    (stored_relvars stored n ≡ stored_relvars before n) ⊎ (stored_relvars stored n ≡ stored_relvars after n)
+
 pub record IsBetween (before : DatabaseData) (after : Stored) (d : DatabaseData) : Type 0 where
   pub catalogue : d.catalogue ≡ before.catalogue
-  pub each :
-      (n : ℕ)
-      → (stored_relvars d.stored n ≡ stored_relvars before.stored n) ⊎ (stored_relvars d.stored n ≡ stored_relvars after n)
+  pub each : (n : ℕ) → HasEither before.stored after d.stored n

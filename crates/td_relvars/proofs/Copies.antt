@@ -18,9 +18,12 @@ use Rattle.td_relvars.proofs.Stores.{looked_up, not_stored, put_length, put_othe
 abbrev Own : CatalogueData → ℕ × RowsData → Type 0
 Own c p = Belongs c p.0 p.1
 
-one_belongs : (d : DatabaseData) (n : ℕ) (ps : List (ℕ × RowsData)) → IsDatabase d → All (Own d.catalogue) ps → (o : Option RowsData) → stored_at d n ≡ o → All (Own d.catalogue) (cons_option (copy_of n o) ps)
+one_belongs :
+    (d : DatabaseData) (n : ℕ) (ps : List (ℕ × RowsData)) → IsDatabase d → All (Own d.catalogue) ps
+    → (o : Option RowsData) → stored_at d n ≡ o → All (Own d.catalogue) (cons_option (copy_of n o) ps)
 one_belongs d n ps is rest None e = rest
-one_belongs d n ps is rest (Some r) e = All-cons (Own d.catalogue) (n, r) ps (belongs d is n r (looked_up (slice_get d.stored n) r e)) rest
+one_belongs d n ps is rest (Some r) e =
+    All-cons (Own d.catalogue) (n, r) ps (belongs d is n r (looked_up (slice_get d.stored n) r e)) rest
 
 pub part_belongs : PartBelongs
 part_belongs d [] is = All-nil (Own d.catalogue)
@@ -50,18 +53,24 @@ there_cases n m ns apart never (zero, lt, is) = apart is
 there_cases n m ns apart never (suc k, lt, is) = never (k, omega (arith, lt), is)
 
 -- one place less
-module _ (s t : Stored) (n : ℕ) (ns : List ℕ) (each : length s ≡ length t) (none : NothingElse s t) (same : SameElsewhere s t (n ∷ ns)) where
+module _
+    (s t : Stored) (n : ℕ) (ns : List ℕ)
+    (each : length s ≡ length t) (none : NothingElse s t) (same : SameElsewhere s t (n ∷ ns)) where
   passed : option_flatten (slice_get s n) ≡ None → SameElsewhere s t ns
   passed e m never = ⊎_elim
-      (λ here. subst (λ k. stored_relvars s k ≡ stored_relvars t k) here (nothing (slice_get s n) e ∙ sym (nothing (slice_get t n) (none n e))))
+      (λ here. subst (λ k. stored_relvars s k ≡ stored_relvars t k) here
+      (nothing (slice_get s n) e ∙ sym (nothing (slice_get t n) (none n e))))
       (λ apart. same m (there_cases n m ns apart never))
       (cases_eq n m)
 
   module _ (r : RowsData) (e : option_flatten (slice_get s n) ≡ Some r) where
+    there : slice_get (put n r t) n ≡ Some (Some r)
+    there = let lt = some_within s n r e in put_there n r t (omega (arith, lt, each))
+
     put_same : SameElsewhere s (put n r t) ns
     put_same m never = ⊎_elim
         (λ here. subst (λ k. stored_relvars s k ≡ stored_relvars (put n r t) k) here
-        (looked_up (slice_get s n) r e ∙ sym (ap at_place (put_there n r t (let lt = some_within s n r e in omega (arith, lt, each))))))
+        (looked_up (slice_get s n) r e ∙ sym (ap at_place there)))
         (λ apart. same m (there_cases n m ns apart never) ∙ sym (ap at_place (put_other n m r t apart)))
         (cases_eq n m)
 
@@ -74,21 +83,29 @@ module _ (s t : Stored) (n : ℕ) (ns : List ℕ) (each : length s ≡ length t)
 abbrev Restored : Stored → Stored → List ℕ → Type 0
 Restored s t ns = length s ≡ length t → NothingElse s t → SameElsewhere s t ns → put_part (part_of s ns) t ≡ s
 
-one_more : (s t : Stored) (n : ℕ) (ns : List ℕ) → length s ≡ length t → NothingElse s t → SameElsewhere s t (n ∷ ns) → ((u : Stored) → Restored s u ns) → (o : Option RowsData) → option_flatten (slice_get s n) ≡ o → put_part (cons_option (copy_of n o) (part_of s ns)) t ≡ s
+one_more :
+    (s t : Stored) (n : ℕ) (ns : List ℕ) → length s ≡ length t → NothingElse s t → SameElsewhere s t (n ∷ ns)
+    → ((u : Stored) → Restored s u ns) → (o : Option RowsData) → option_flatten (slice_get s n) ≡ o
+    → put_part (cons_option (copy_of n o) (part_of s ns)) t ≡ s
 one_more s t n ns each none same rest None e = rest t each none (passed s t n ns each none same e)
-one_more s t n ns each none same rest (Some r) e = rest (put n r t) (each ∙ sym (put_length n r t)) (put_none s t n ns each none same r e) (put_same s t n ns each none same r e)
+one_more s t n ns each none same rest (Some r) e =
+    let length_is = each ∙ sym (put_length n r t) in
+    rest (put n r t) length_is (put_none s t n ns each none same r e) (put_same s t n ns each none same r e)
 
 -- stores of one length that have something at the same places
 pub restored : (s t : Stored) (ns : List ℕ) → Restored s t ns
 restored s t [] each none same = sym (one_store s t each (λ n. same n (λ h. absurd (omega (arith, h.1)))))
-restored s t (n ∷ ns) each none same = one_more s t n ns each none same (λ u. restored s u ns) (option_flatten (slice_get s n)) refl
+restored s t (n ∷ ns) each none same =
+    one_more s t n ns each none same (λ u. restored s u ns) (option_flatten (slice_get s n)) refl
 
 -- databases of one catalogue have something at the same places
-none_both : (s t : DatabaseData) → IsDatabase s → IsDatabase t → s.catalogue ≡ t.catalogue → NothingElse s.stored t.stored
+none_both :
+    (s t : DatabaseData) → IsDatabase s → IsDatabase t → s.catalogue ≡ t.catalogue → NothingElse s.stored t.stored
 none_both s t a b one n e = by (is_base (slice_get s.catalogue.origins n)) refl
   where
     by : (k : Bool) → is_base (slice_get s.catalogue.origins n) ≡ k → stored_at t n ≡ None
-    by false virtual = b.nothing_else n (ap (λ (c : CatalogueData). is_base (slice_get c.origins n)) (sym one) ∙ virtual)
+    by false virtual =
+        b.nothing_else n (ap (λ (c : CatalogueData). is_base (slice_get c.origins n)) (sym one) ∙ virtual)
     by true base = let has = base_has s a n base in not_stored (slice_get s.stored n) has.0 has.1 e
 
 pub put_back_restores : PutBackRestores

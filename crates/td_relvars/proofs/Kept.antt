@@ -20,7 +20,10 @@ within_there (x ∷ xs) zero lt e = cc
 within_there (x ∷ xs) (suc n) lt e = within_there xs n (omega arith) e
 
 module _ (d : DatabaseData) (is : IsDatabase d) (n : ℕ) where
-  named : (o : Option (Named Header)) → slice_get d.catalogue.schema.relvars n ≡ o → is_base (slice_get d.catalogue.origins n) ≡ true → (v : Named Header) × (slice_get d.catalogue.schema.relvars n ≡ Some v)
+  named :
+      (o : Option (Named Header)) → slice_get d.catalogue.schema.relvars n ≡ o
+      → is_base (slice_get d.catalogue.origins n) ≡ true
+      → (v : Named Header) × (slice_get d.catalogue.schema.relvars n ≡ Some v)
   named (Some v) at base = (v, at)
   named None at base =
       let lt = base_within d.catalogue.origins n base in
@@ -50,11 +53,20 @@ module _ (d : DatabaseData) (is : IsDatabase d) (n : ℕ) where
           }
 
 -- ---- with a change
-module _ (c : CatalogueData) (stored : Stored) (n : ℕ) (d : DeltaData) (is : IsDatabase (record { catalogue = c; stored = stored })) (can : CanChange (record { catalogue = c; stored = stored }) n d) where
-  changed_is : IsDatabase (record { catalogue = c; stored = change n d stored })
-  changed_is = subst (λ xs. IsDatabase (record { catalogue = c; stored = xs })) (sym (change_put n d stored can.before can.has)) (put_is c stored is n (changed can.before d) can.belongs)
+abbrev IsOf : CatalogueData → Stored → Type 0
+IsOf c stored = IsDatabase (record { catalogue = c; stored = stored })
+
+module _
+    (c : CatalogueData) (stored : Stored) (n : ℕ) (d : DeltaData)
+    (is : IsOf c stored) (can : CanChange (record { catalogue = c; stored = stored }) n d) where
+  changed_is : IsOf c (change n d stored)
+  changed_is =
+      let put_it = put_is c stored is n (changed can.before d) can.belongs in
+      subst (IsOf c) (sym (change_put n d stored can.before can.has)) put_it
 
   -- and where memory was wanting for it
-  pub change_is : {E : Type 0} (a : Result (Unit {0}) E) (new : Stored) → OnOk a (new ≡ change n d stored) → OnErr a (new ≡ stored) → IsDatabase (record { catalogue = c; stored = new })
-  change_is (Ok u) new done kept = subst (λ xs. IsDatabase (record { catalogue = c; stored = xs })) (sym done) changed_is
-  change_is (Err e) new done kept = subst (λ xs. IsDatabase (record { catalogue = c; stored = xs })) (sym kept) is
+  pub change_is :
+      {E : Type 0} (a : Result (Unit {0}) E) (new : Stored) → OnOk a (new ≡ change n d stored) → OnErr a (new ≡ stored)
+      → IsOf c new
+  change_is (Ok u) new done kept = subst (IsOf c) (sym done) changed_is
+  change_is (Err e) new done kept = subst (IsOf c) (sym kept) is

@@ -19,6 +19,10 @@ change n d [] = []
 change zero d (x ∷ xs) = changed_at x d ∷ xs
 change (suc n) d (x ∷ xs) = x ∷ change n d xs
 
+-- the database with it
+abbrev pub with_change : ℕ → DeltaData → DatabaseData → DatabaseData
+with_change n d old = record old { stored = change n d old.stored }
+
 -- with each change made
 abbrev pub redone : List (ℕ × DeltaData) → Stored → Stored
 redone [] stored = stored

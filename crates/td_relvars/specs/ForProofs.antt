@@ -2,3 +2,4 @@
 pub mod Empty
 pub mod Asked
 pub mod Opened
+pub mod Standing

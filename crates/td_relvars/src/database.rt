@@ -1,16 +1,16 @@
 //! Databases.
 
-ghost use Rattle.std.specs.Prelude.{◌≡◌, ◌<◌, IfOk, Ok, OnErr, OnOk, length, slice_get, slice_set};
+ghost use Rattle.std.specs.Prelude.{◌≡◌, ◌<◌, IfOk, OnErr, OnOk, length, slice_get, slice_set};
 ghost use Rattle.std.specs.Option.{option_copied};
 ghost use Rattle.std.specs.FinSet as set;
-ghost use Rattle.td_values.specs.Rows.{RowsData};
 ghost use Rattle.td_relations.specs.Sets.{relation_of};
 ghost use Rattle.td_relations.specs.Deltas.{inverse_of};
 ghost use Rattle.td_headings.specs.Definitions.{Defined};
 ghost use Rattle.td_story.specs.Databases as spec;
-ghost use Rattle.td_story.specs.Databases.{Belongs, IsDatabase, put, stored_relvars};
+ghost use Rattle.td_story.specs.Databases.{Belongs, IsDatabase, put};
 ghost use Rattle.td_relvars.specs.Changed as changes;
-ghost use Rattle.td_relvars.specs.Changed.{CanChange};
+ghost use Rattle.td_relvars.specs.Changed.{CanChange, with_change};
+ghost use Rattle.td_relvars.specs.ForProofs.Standing.{HasOf};
 ghost use Rattle.td_relvars.specs.ForProofs.Empty.{empty_in};
 ghost use Rattle.td_story.specs.Openings as opening;
 
@@ -108,7 +108,7 @@ fn change_at(
     relvar: usize,
     delta: &Delta,
 ) -> Result<(), AllocError>
-    requires { (r : RowsData) × (stored_relvars stored.old.items relvar ≡ Ok r) × (delta.now.inserted.heading ≡ r.heading) }
+    requires { HasOf stored.old.items relvar delta.now.inserted.heading }
     ensures ok { OnOk result (stored.new.items ≡ changes.change relvar delta.now stored.old.items) }
     ensures err { OnErr result (stored.new.items ≡ stored.old.items) }
 {
@@ -125,7 +125,7 @@ fn change_back_at(
     relvar: usize,
     delta: &Delta,
 ) -> Result<(), AllocError>
-    requires { (r : RowsData) × (stored_relvars stored.old.items relvar ≡ Ok r) × (delta.now.deleted.heading ≡ r.heading) }
+    requires { HasOf stored.old.items relvar delta.now.deleted.heading }
     ensures ok { OnOk result (stored.new.items ≡ changes.change relvar (inverse_of delta.now) stored.old.items) }
     ensures err { OnErr result (stored.new.items ≡ stored.old.items) }
 {
@@ -192,7 +192,7 @@ impl Database {
     /// Makes the change in the base relvar at the place, where its relation stands. It costs as `Delta::apply`.
     pub fn change(&mut self, alloc: Global, relvar: usize, delta: &Delta) -> Result<(), AllocError>
         requires { CanChange self.old relvar delta.now }
-        ensures ok { OnOk result (self.new ≡ record self.old { stored = changes.change relvar delta.now self.old.stored }) }
+        ensures ok { OnOk result (self.new ≡ with_change relvar delta.now self.old) }
         ensures err { OnErr result (self.new ≡ self.old) }
     {
         change_at(alloc, &mut self.stored, relvar, delta)
@@ -206,7 +206,7 @@ impl Database {
         delta: &Delta,
     ) -> Result<(), AllocError>
         requires { CanChange self.old relvar (inverse_of delta.now) }
-        ensures ok { OnOk result (self.new ≡ record self.old { stored = changes.change relvar (inverse_of delta.now) self.old.stored }) }
+        ensures ok { OnOk result (self.new ≡ with_change relvar (inverse_of delta.now) self.old) }
         ensures err { OnErr result (self.new ≡ self.old) }
     {
         change_back_at(alloc, &mut self.stored, relvar, delta)

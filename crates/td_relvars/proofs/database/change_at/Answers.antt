@@ -5,5 +5,7 @@ pub returns-clause-ok : goal.returns-clause-ok
 returns-clause-ok c =
     let n = c.args.relvar in
     let xs = c.args.stored.now.items in
-    let has = stands n xs c.index_mut.result.now c.in-Some.base c.requires.0 c.index_mut.ensures.value c.in-Some.is c.requires.1 in
-    set_changed c.change.result n xs c.in-Some.base c.change.new.self c.args.delta.now has c.change.ensures.ok
+    let q = c.in-Some.base in
+    let k = c.requires in
+    let has = stands n xs c.index_mut.result.now q k.relation c.index_mut.ensures.value c.in-Some.is k.has in
+    set_changed c.change.result n xs q c.change.new.self c.args.delta.now has c.change.ensures.ok

@@ -15,7 +15,11 @@ loop-relvar-init c =
     let d = c.args.self.now in
     let seen : c.part.inside.bases.items ≡ into_iter_items c.into_iter-relvar-iterator.result = search rules in
     let whole : c.args.part ≡ into_iter_items c.into_iter-relvar-iterator.result = sym c.part.view_is ∙ seen in
-    record { same = refl; left = ap (λ ps. put_part ps d.stored) (sym whole); each = subst (All (Own d.catalogue)) whole c.requires }
+    record {
+      same = refl;
+      left = ap (λ ps. put_part ps d.stored) (sym whole);
+      each = subst (All (Own d.catalogue)) whole c.requires;
+    }
 
 pub set-requires : goal.set-requires
 set-requires c =
@@ -33,6 +37,8 @@ loop-relvar-preserved c =
     let before = c.loop-relvar.self.stored in
     record {
       same = c.set.ensures.catalogue ∙ c.loop-relvar.invariant.same;
-      left = ap (put_part rest) c.set.ensures.stored ∙ sym (ap (λ ps. put_part ps before) c.in-Some.ensures.steps.0) ∙ c.loop-relvar.invariant.left;
+      left =
+          ap (put_part rest) c.set.ensures.stored ∙ sym (ap (λ ps. put_part ps before) c.in-Some.ensures.steps.0)
+          ∙ c.loop-relvar.invariant.left;
       each = All-tail (Own k) p rest (subst (All (Own k)) c.in-Some.ensures.steps.0 c.loop-relvar.invariant.each);
     }
