@@ -1,10 +1,10 @@
 -- What writing a text of a site does to a writer. The text is made whole before any of it is written; at a write fault
 -- a front of it was written, and a failure is counted.
-use Rattle.std.specs.Prelude.{◌≡◌, ℕ, Bool, true, false, List, Option, Result, Ok, Err}
+use Rattle.std.specs.Prelude.{◌≡◌, ℕ, true, false, List, Result, Ok, Err}
 use Rattle.std.specs.Io.KnownBytes.{Appends}
-use Rattle.td_devices.specs.declared.streams.Sink as sink
 use Rattle.td_devices.specs.Counted.{counted}
 use Rattle.td_devices.specs.Streams.{AppendsFront}
+use Rattle.td_devices.specs.Views.{Output}
 use Rattle.td_headings.specs.Catalogues.{CatalogueData}
 use Rattle.td_story.specs.Scripts.{IsScriptOf}
 use Rattle.td_story.specs.Seen.{Seen}
@@ -16,31 +16,21 @@ use Rattle.td_listings.specs.declared.error.ListingError.{ListingError}
 use Rattle.td_listings.specs.declared.error.ListingError.TheVariants as listing_error
 use Rattle.td_listings.specs.declared.error.TableError.TheVariants as table_error
 
--- the bytes that were written, where they are known, the failures that were counted, and whether all has been handed on
-pub record Written : Type 0 where
-  pub held : Option (List ℕ)
-  pub faults : ℕ
-  pub is_flushed : Bool
-
--- what a writer is seen as
-abbrev pub written_of : {K : Type 0} → sink.Ghosts K → K → Written
-written_of writes k = record { held = writes.held k; faults = writes.faults k; is_flushed = writes.is_flushed k }
-
 -- the text was written and handed on
-abbrev pub WritesWhole : List ℕ → Written → Written → Type 0
+abbrev pub WritesWhole : List ℕ → Output → Output → Type 0
 WritesWhole text w after = Appends w.held after.held text × (after.faults ≡ w.faults) × (after.is_flushed ≡ true)
 
-abbrev pub WritesFront : List ℕ → Written → Written → Type 0
+abbrev pub WritesFront : List ℕ → Output → Output → Type 0
 WritesFront text w after = AppendsFront w.held after.held text × (after.faults ≡ counted w.faults)
 
-abbrev pub WritesListing : Seen → Written → Written → Result (Unit {0}) ListingError → Type 0
+abbrev pub WritesListing : Seen → Output → Output → Result (Unit {0}) ListingError → Type 0
 WritesListing s w after (Ok u) = (s.live ≡ true) × (text : List ℕ) × IsListing s text × WritesWhole text w after
 WritesListing s w after (Err listing_error.Broken) = (s.live ≡ false) × (after ≡ w)
 WritesListing s w after (Err listing_error.OutOfMemory) = (s.live ≡ true) × (after ≡ w)
 WritesListing s w after (Err listing_error.WriteFault) = (s.live ≡ true) × (text : List ℕ) × IsListing s text × WritesFront text w after
 
 -- of the site's script
-abbrev pub Exports : CatalogueData → Seen → List ℕ → Written → Written → Result (Unit {0}) ExportError → Type 0
+abbrev pub Exports : CatalogueData → Seen → List ℕ → Output → Output → Result (Unit {0}) ExportError → Type 0
 Exports c s x w after (Ok u) = (text : List ℕ) × Tabulates c s x (Ok text) × WritesWhole text w after
 Exports c s x w after (Err export_error.Unknown) = Tabulates c s x (Err table_error.Unknown) × (after ≡ w)
 Exports c s x w after (Err export_error.NoAttributes) = Tabulates c s x (Err table_error.NoAttributes) × (after ≡ w)
@@ -50,5 +40,5 @@ Exports c s x w after (Err export_error.OutOfMemory) = after ≡ w
 Exports c s x w after (Err export_error.WriteFault) = (text : List ℕ) × Tabulates c s x (Ok text) × WritesFront text w after
 
 -- of the catalogue of the site's script
-abbrev pub WritesTable : Seen → List ℕ → Written → Written → Result (Unit {0}) ExportError → Type 0
+abbrev pub WritesTable : Seen → List ℕ → Output → Output → Result (Unit {0}) ExportError → Type 0
 WritesTable s x w after r = (c : CatalogueData) × IsScriptOf s.script c × Exports c s x w after r

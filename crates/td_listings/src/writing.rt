@@ -2,10 +2,11 @@
 
 ghost use Rattle.std.specs.Prelude.{◌≡◌, Ok, Err, IfOk, MatchResult, string_bytes};
 ghost use Rattle.std.specs.Io.KnownBytes.{Keeps};
+ghost use Rattle.td_devices.specs.Views.{output_of};
 ghost use Rattle.td_story.specs.Scripts.{IsScriptOf};
 ghost use Rattle.td_listings.specs.Calls.{Lists};
 ghost use Rattle.td_listings.specs.ForProofs.Scripted.{IsOfScript};
-ghost use Rattle.td_listings.specs.Writings.{WritesListing, WritesTable, written_of};
+ghost use Rattle.td_listings.specs.Writings.{WritesListing, WritesTable};
 
 use crate::error::{ExportError, ListError, ListingError, TableError};
 use crate::listings::listing_text;
@@ -50,7 +51,7 @@ pub fn listing<R: Replica, K: Sink>(
     replica: &R,
     sink: &mut K,
 ) -> Result<(), ListingError>
-    ensures writes { WritesListing (R.seen replica.now) (written_of K.Sink sink.old) (written_of K.Sink sink.new) result }
+    ensures writes { WritesListing (R.seen replica.now) (output_of K.Sink sink.old) (output_of K.Sink sink.new) result }
     ensures aside { Keeps (K.aside sink.old) (K.aside sink.new) }
 {
     let text = match listed(alloc, replica) {
@@ -82,7 +83,7 @@ pub fn export<R: Replica, K: Sink>(
     name: &str,
     sink: &mut K,
 ) -> Result<(), ExportError>
-    ensures writes { WritesTable (R.seen replica.now) name.now (written_of K.Sink sink.old) (written_of K.Sink sink.new) result }
+    ensures writes { WritesTable (R.seen replica.now) name.now (output_of K.Sink sink.old) (output_of K.Sink sink.new) result }
     ensures aside { Keeps (K.aside sink.old) (K.aside sink.new) }
 {
     // It shows that the script was accepted, and does nothing when it runs.

@@ -4,10 +4,10 @@ use Rattle.std.proofs.KnownBytes.{Appends-nil, Appends-trans, Consumes-nil, Cons
 use Rattle.td_headings.specs.Catalogues.{CatalogueData}
 use Rattle.td_devices.specs.Counted.{counted}
 use Rattle.td_devices.specs.Lines.{raw_lines, IsWholeLine}
-use Rattle.td_listings.specs.Writings.{Written}
+use Rattle.td_devices.specs.Views.{Input, Output}
 use Rattle.td_answers.specs.Sites.{Sites}
 use Rattle.td_answers.specs.Answers.{Answered}
-use Rattle.td_workbench.specs.Streams.{Input, Reads, ReadsNoMore, WritesAll}
+use Rattle.td_workbench.specs.Streams.{Reads, ReadsNoMore, WritesAll}
 use Rattle.td_workbench.specs.Runs.{said, GoesOn, Printed, Served, Quits, RunsOut, BreaksOff, Reaches, Ends}
 use Rattle.td_workbench.specs.ForProofs.Serving.{Serves}
 use Rattle.td_workbench.specs.declared.run.Ended.{Ended}
@@ -16,10 +16,10 @@ use Rattle.td_workbench.proofs.Lines.{joined, joined_none, joined_last, raw_whol
 
 -- ---- streams
 
-pub writes_nothing : (w : Written) → WritesAll [] w w
+pub writes_nothing : (w : Output) → WritesAll [] w w
 writes_nothing w = (Appends-nil w.held, refl, λ flushed. flushed)
 
-pub whole_trans : (w half after : Written) (t u : List ℕ) → WritesAll t w half → WritesAll u half after → WritesAll (t ++ u) w after
+pub whole_trans : (w half after : Output) (t u : List ℕ) → WritesAll t w half → WritesAll u half after → WritesAll (t ++ u) w after
 whole_trans w half after t u first second = (Appends-trans w.held half.held after.held t u first.0 second.0, second.1 ∙ first.1, λ flushed. second.2 (first.2 flushed))
 
 pub reads_nothing : (from : Input) → Reads [] from from
@@ -104,7 +104,7 @@ module _ (c : CatalogueData) (old : Sites) (ls : List (List ℕ)) (t : List ℕ)
     answered = q.answered;
   }
 
-  pub ends_behind : (ks : List (List ℕ)) (spare : ℕ) (bs more : List ℕ) (from at left : Input) (w half after : Written) (r : Result (Unit {0}) Ended) (new : Sites)
+  pub ends_behind : (ks : List (List ℕ)) (spare : ℕ) (bs more : List ℕ) (from at left : Input) (w half after : Output) (r : Result (Unit {0}) Ended) (new : Sites)
       → Reads bs from at → WritesAll t w half → Ends c mid ks spare more at half r new left after → Ends c old (ls ++ ks) spare (bs ++ more) from w r new left after
   ends_behind ks spare bs more from at left w half after (Ok x) new read wrote (took, u, why, puts) = (
     reads_trans from at left bs more read took,
@@ -120,7 +120,7 @@ module _ (c : CatalogueData) (old : Sites) (ls : List (List ℕ)) (t : List ℕ)
       (reads_trans from at left bs more read took, t ++ u, answer, then, reaches_behind ks left.left u answer new why, whole_trans w half then t u wrote puts, front)
 
 -- the reads that are left are told only where there are none
-pub ends_spare : (c : CatalogueData) (old : Sites) (ks : List (List ℕ)) (spare other : ℕ) (bs : List ℕ) (from left : Input) (w after : Written) (r : Result (Unit {0}) Ended) (new : Sites)
+pub ends_spare : (c : CatalogueData) (old : Sites) (ks : List (List ℕ)) (spare other : ℕ) (bs : List ℕ) (from left : Input) (w after : Output) (r : Result (Unit {0}) Ended) (new : Sites)
     → (spare ≡ 0 → other ≡ 0) → Ends c old ks spare bs from w r new left after → Ends c old ks other bs from w r new left after
 ends_spare c old ks spare other bs from left w after (Ok x) new fewer ends = ends
 ends_spare c old ks spare other bs from left w after (Err ReadFault) new fewer (took, text, why, wrote) = (no_more_spare spare other bs from left fewer took, text, why, wrote)
@@ -130,7 +130,7 @@ ends_spare c old ks spare other bs from left w after (Err WriteFault) new fewer 
 -- ---- the loop over lines
 
 -- what was done so far, by the reads that were made
-pub record Done (c : CatalogueData) (old : Sites) (reads now : ℕ) (from at : Input) (w half : Written) (mid : Sites) : Type 0 where
+pub record Done (c : CatalogueData) (old : Sites) (reads now : ℕ) (from at : Input) (w half : Output) (mid : Sites) : Type 0 where
   pub lines : List (List ℕ)
   pub text : List ℕ
   pub served : Served c old lines text mid
@@ -138,7 +138,7 @@ pub record Done (c : CatalogueData) (old : Sites) (reads now : ℕ) (from at : I
   pub wrote : WritesAll text w half
   pub spent : now + length (joined lines) ≡ reads
 
-pub done_none : (c : CatalogueData) (old : Sites) (reads : ℕ) (from : Input) (w : Written) → Done c old reads reads from from w w old
+pub done_none : (c : CatalogueData) (old : Sites) (reads : ℕ) (from : Input) (w : Output) → Done c old reads reads from from w w old
 done_none c old reads from w = record {
   lines = [];
   text = [];
@@ -148,7 +148,7 @@ done_none c old reads from w = record {
   spent = subst (λ (bs : List ℕ). reads + length bs ≡ reads) (sym joined_none) (omega arith);
 }
 
-pub done_more : (c : CatalogueData) (old : Sites) (reads now then : ℕ) (from at left : Input) (w half after : Written) (mid new : Sites) (raw t : List ℕ)
+pub done_more : (c : CatalogueData) (old : Sites) (reads now then : ℕ) (from at left : Input) (w half after : Output) (mid new : Sites) (raw t : List ℕ)
     → Done c old reads now from at w half mid → Reads raw at left → now - then ≡ length raw + 0 → then ≤ now → Served c mid (raw ∷ []) t new → WritesAll t half after
     → Done c old reads then from left w after new
 done_more c old reads now then from at left w half after mid new raw t d took count fewer served wrote = record {
@@ -160,7 +160,7 @@ done_more c old reads now then from at left w half after mid new raw t d took co
   spent = subst (λ (bs : List ℕ). then + length bs ≡ reads) (sym (joined_last d.lines raw)) (omega (arith, length-append (joined d.lines) raw, d.spent, count, fewer));
 }
 
-pub serves_behind : (c : CatalogueData) (old : Sites) (reads now : ℕ) (from at left : Input) (w half after : Written) (mid new : Sites) (r : Result (Unit {0}) Ended)
+pub serves_behind : (c : CatalogueData) (old : Sites) (reads now : ℕ) (from at left : Input) (w half after : Output) (mid new : Sites) (r : Result (Unit {0}) Ended)
     → Done c old reads now from at w half mid → Serves c mid now at half r new left after → Serves c old reads from w r new left after
 serves_behind c old reads now from at left w half after mid new r d s =
     let more : List ℕ = s.bytes in

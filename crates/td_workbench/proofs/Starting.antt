@@ -7,15 +7,16 @@ use Rattle.std.specs.Str.{is_utf8, IsUtf8}
 use Rattle.std.specs.Global.{Global}
 use Rattle.std.specs.declared.alloc.AllocError.{AllocError}
 use Rattle.td_devices.specs.Lines.{raw_lines}
+use Rattle.td_devices.specs.Views.{Input, Output}
 use Rattle.td_headings.specs.Catalogues.{CatalogueData}
-use Rattle.td_listings.specs.Writings.{Written, WritesFront}
+use Rattle.td_listings.specs.Writings.{WritesFront}
 use Rattle.td_story.specs.Scripts.{Opens}
 use Rattle.td_story.specs.declared.error.ScriptError.{ScriptError}
 use Rattle.td_story.specs.declared.error.ScriptError.TheVariants.{Syntax, IllTyped, OpeningRaised, OpeningBroken, OutOfMemory}
 use Rattle.td_story.specs.NewSites.{opened}
 use Rattle.td_story.specs.Seen.{Seen}
 use Rattle.td_answers.specs.Sites.{Sites, AreOfScript}
-use Rattle.td_workbench.specs.Streams.{Input, Reads, reads_left, most_reads, WritesAll}
+use Rattle.td_workbench.specs.Streams.{Reads, reads_left, most_reads, WritesAll}
 use Rattle.td_workbench.specs.Runs.{Ends, RunsOut}
 use Rattle.td_workbench.specs.Scripts.{IsAccepted, IsRefused, Says, TellsFault, new_sites, ready, script_fault}
 use Rattle.td_workbench.specs.Programs.{Answers, ProgramEnds}
@@ -51,7 +52,7 @@ all_open seen stays [] = tt
 all_open seen stays (s ∷ rs) = (stays s, all_open seen stays rs)
 
 -- the lines behind the script were run
-pub behind_ran : {R : Type 0} (seen : R → Seen) (stays : (s : R) → (seen s).live ≡ true) (is_last : Bool) (c : CatalogueData) (old ss new : List R) (reads : ℕ) (from left : Input) (w after : Written) (r : Result (Unit {0}) Ended)
+pub behind_ran : {R : Type 0} (seen : R → Seen) (stays : (s : R) → (seen s).live ≡ true) (is_last : Bool) (c : CatalogueData) (old ss new : List R) (reads : ℕ) (from left : Input) (w after : Output) (r : Result (Unit {0}) Ended)
     → is_last ≡ false → ss ≡ old → Serves c (map seen ss) reads from w r (map seen new) left after → BehindEnds is_last c (map seen old) reads from w r left after
 behind_ran seen stays true c old ss new reads from left w after r other same serves = absurd (true≢false other)
 behind_ran seen stays false c old ss new reads from left w after r other same serves =
@@ -89,12 +90,12 @@ no_text bytes text same other = subst (λ (t : List ℕ). is_utf8 t ≡ false) s
 -- ---- what is told of a script
 
 -- the text was made, or there was no memory for it
-pub told_made : (e : ScriptError) (t : Result (String Global) AllocError) (r : Result Bool Ended) (w after : Written) → IfOk t (λ text. string_bytes text ≡ script_fault e) → TellsMade t r w after
+pub told_made : (e : ScriptError) (t : Result (String Global) AllocError) (r : Result Bool Ended) (w after : Output) → IfOk t (λ text. string_bytes text ≡ script_fault e) → TellsMade t r w after
     → (told : ScriptError) × ((told ≡ e) ⊎ (told ≡ OutOfMemory)) × PutsFault (script_fault told) r w after
 told_made e (Ok text) r w after is puts = (e, inl refl, subst (λ (t : List ℕ). PutsFault t r w after) is puts)
 told_made e (Err x) r w after is puts = (OutOfMemory, inr refl, puts)
 
-pub fault_told : (options : Options) (bytes text : List ℕ) (from left : Input) (w after : Written) (r : Result Bool Ended) → Reads bytes from left → TellsFault bytes left.left text → PutsFault text r w after → ProgramEnds options from w r left after
+pub fault_told : (options : Options) (bytes text : List ℕ) (from left : Input) (w after : Output) (r : Result Bool Ended) → Reads bytes from left → TellsFault bytes left.left text → PutsFault text r w after → ProgramEnds options from w r left after
 fault_told options bytes text from left w after (Ok true) read tells puts = absurd puts
 fault_told options bytes text from left w after (Ok false) read tells puts = (bytes, read, text, tells, puts)
 fault_told options bytes text from left w after (Err ended.WriteFault) read tells puts = inr (bytes, read, text, inl tells, puts)
@@ -116,21 +117,21 @@ module _ (options : Options) (now : ℕ) (from mid : Input) (kept : Option (List
   says_alone : Says has.bytes has.text []
   says_alone = subst (λ (bs : List ℕ). Says bs has.text []) (append-nil has.bytes) (has.leads [] (λ last. refl))
 
-  pub refused_told : (e : ScriptError) (r : Result Bool Ended) (w after : Written) → IsRefused has.text e → TellsRefusal e r w after → ProgramEnds options from w r mid after
+  pub refused_told : (e : ScriptError) (r : Result Bool Ended) (w after : Output) → IsRefused has.text e → TellsRefusal e r w after → ProgramEnds options from w r mid after
   refused_told e r w after is (told, may, puts) =
       fault_told options has.bytes (script_fault told) from mid w after r has.read (inr (inl (has.text, told, says_alone, may_refuse has.text e told is may, refl))) puts
 
-  pub ready_untold : (sites : Sites) (text : List ℕ) (w after : Written) → IsAccepted options has.text sites → text ≡ ready options.sites → WritesFront text w after → ProgramEnds options from w (Err ended.WriteFault) mid after
+  pub ready_untold : (sites : Sites) (text : List ℕ) (w after : Output) → IsAccepted options has.text sites → text ≡ ready options.sites → WritesFront text w after → ProgramEnds options from w (Err ended.WriteFault) mid after
   ready_untold sites text w after accepted is front = inr (has.bytes, has.read, text, inr (has.text, sites, says_alone, accepted, is), front)
 
-pub answers_behind : (options : Options) (now : ℕ) (from mid left : Input) (kept : Option (List ℕ)) (is_last : Bool) (w told after : Written) (c : CatalogueData) (old : Sites) (r : Result (Unit {0}) Ended)
+pub answers_behind : (options : Options) (now : ℕ) (from mid left : Input) (kept : Option (List ℕ)) (is_last : Bool) (w told after : Output) (c : CatalogueData) (old : Sites) (r : Result (Unit {0}) Ended)
     → (has : HasScript most_reads now from mid kept is_last) → IsAccepted options has.text old → AreOfScript c old → WritesAll (ready options.sites) w told → BehindEnds is_last c old now mid told r left after → Answers options from w r left after
 answers_behind options now from mid left kept true w told after c old r has accepted of wrote (is, unread, unwritten) =
     let over : RunsOut c old [] mid.left [] old = record { at_end = has.at_end refl; go_on = tt; printed = (refl, refl) } in
     let ends : Ends c old [] (reads_left has.bytes) has.bytes from told (Ok tt) old mid told = (has.read, [], inr over, writes_nothing told) in
     let says : Says has.bytes has.text [] = subst (λ (bs : List ℕ). Says bs has.text []) (append-nil has.bytes) (has.leads [] (λ last. refl)) in
     let answers : Answers options from w (Ok tt) mid told = record { bytes = has.bytes; script = has.text; raws = []; says = says; old = old; accepted = accepted; catalogue = c; of_script = of; told = told; ready_told = wrote; new = old; all_open = subst (λ (ss : Sites). AllByRecursion (λ s. s.live ≡ true) ss) (sym accepted.sites_are) (all_new_open has.text options.limit options.first options.sites); ends = ends } in
-    subst (λ (x : Result (Unit {0}) Ended). Answers options from w x left after) (sym is) (subst (λ (x : Input). Answers options from w (Ok tt) x after) (sym unread) (subst (λ (x : Written). Answers options from w (Ok tt) mid x) (sym unwritten) answers))
+    subst (λ (x : Result (Unit {0}) Ended). Answers options from w x left after) (sym is) (subst (λ (x : Input). Answers options from w (Ok tt) x after) (sym unread) (subst (λ (x : Output). Answers options from w (Ok tt) mid x) (sym unwritten) answers))
 answers_behind options now from mid left kept false w told after c old r has accepted of wrote (new, all_open, serves) =
     let more : List ℕ = serves.bytes in
     record {

@@ -1,8 +1,9 @@
 -- The exit status of the program, and what it puts where.
 use Rattle.std.specs.Prelude.{◌≡◌, ◌⊎◌, ℕ, Bool, true, false, List, Result, Ok, Err}
-use Rattle.td_listings.specs.Writings.{Written, WritesFront}
+use Rattle.td_devices.specs.Views.{Input, Output}
+use Rattle.td_listings.specs.Writings.{WritesFront}
 use Rattle.td_workbench.specs.Programs.{InRange, ProgramEnds}
-use Rattle.td_workbench.specs.Streams.{Input, WritesAll}
+use Rattle.td_workbench.specs.Streams.{WritesAll}
 use Rattle.td_workbench.specs.declared.opening.Options.{Options}
 use Rattle.td_workbench.specs.declared.run.Ended.{Ended}
 
@@ -15,8 +16,8 @@ status_of (Err e) = 1
 -- what the standard streams came to: the input, the output and the output of faults
 pub record Standard : Type 0 where
   pub input : Input
-  pub output : Written
-  pub faults : Written
+  pub output : Output
+  pub faults : Output
 
 -- the words gave options, and the program was run by them
 pub record RunsBy (status : ℕ) (old new : Standard) : Type 0 where
@@ -28,16 +29,16 @@ pub record RunsBy (status : ℕ) (old new : Standard) : Type 0 where
   pub no_faults : new.faults ≡ old.faults
 
 -- help or the version was written, or a front of it
-abbrev pub PutsHelp : List ℕ → ℕ → Written → Written → Type 0
+abbrev pub PutsHelp : List ℕ → ℕ → Output → Output → Type 0
 PutsHelp text status w after = ((status ≡ 0) × WritesAll text w after) ⊎ ((status ≡ 1) × WritesFront text w after)
 
 -- why the words are refused was written, or a front of it
-abbrev pub PutsRefusal : List ℕ → ℕ → Written → Written → Type 0
+abbrev pub PutsRefusal : List ℕ → ℕ → Output → Output → Type 0
 PutsRefusal text status w after = (status ≡ 2) × (WritesAll text w after ⊎ WritesFront text w after)
 
 -- What is told in place of a run: help, to the output; why the words are refused, to the output of faults; or nothing,
 -- for want of memory.
-abbrev pub TellsWords : ℕ → Written → Written → Written → Written → Type 0
+abbrev pub TellsWords : ℕ → Output → Output → Output → Output → Type 0
 TellsWords status w f after told =
     ((text : List ℕ) × PutsHelp text status w after × (told ≡ f))
     ⊎ (((text : List ℕ) × PutsRefusal text status f told × (after ≡ w))

@@ -1,10 +1,11 @@
 -- How the program ends: what it tells of its script, and the run over the lines behind it.
 use Rattle.std.specs.Prelude.{◌≡◌, ◌⊎◌, ◌≤◌, ℕ, Bool, true, false, List, Result, Ok, Err}
 use Rattle.std.specs.List.{AllByRecursion}
+use Rattle.td_devices.specs.Views.{Input, Output}
 use Rattle.td_headings.specs.Catalogues.{CatalogueData}
-use Rattle.td_listings.specs.Writings.{Written, WritesFront}
+use Rattle.td_listings.specs.Writings.{WritesFront}
 use Rattle.td_answers.specs.Sites.{Sites, AreOfScript}
-use Rattle.td_workbench.specs.Streams.{Input, Reads, ReadsNoMore, reads_left, WritesAll}
+use Rattle.td_workbench.specs.Streams.{Reads, ReadsNoMore, reads_left, WritesAll}
 use Rattle.td_workbench.specs.Runs.{Ends, IsCut}
 use Rattle.td_workbench.specs.Scripts.{IsAccepted, IsUnfinished, Says, TellsFault, TellsReady, ready}
 use Rattle.td_workbench.specs.declared.opening.Options.{Options}
@@ -21,7 +22,7 @@ pub record InRange (options : Options) : Type 0 where
   pub low_limit : options.limit ≤ 100000
 
 -- the sites were told to be ready, and then the lines behind the script were run
-pub record Answers (options : Options) (from : Input) (w : Written) (r : Result (Unit {0}) Ended) (left : Input) (after : Written) : Type 0 where
+pub record Answers (options : Options) (from : Input) (w : Output) (r : Result (Unit {0}) Ended) (left : Input) (after : Output) : Type 0 where
   pub bytes : List ℕ
   pub script : List ℕ
   pub raws : List (List ℕ)
@@ -30,21 +31,21 @@ pub record Answers (options : Options) (from : Input) (w : Written) (r : Result 
   pub accepted : IsAccepted options script old
   pub catalogue : CatalogueData
   pub of_script : AreOfScript catalogue old
-  pub told : Written
+  pub told : Output
   pub ready_told : WritesAll (ready options.sites) w told
   pub new : Sites
   pub all_open : AllByRecursion (λ s. s.live ≡ true) new
   pub ends : Ends catalogue old raws (reads_left bytes) bytes from told r new left after
 
 -- no site was ready: the reader failed within the script, or the writer as it was told what came of the script
-abbrev pub Stops : Options → Input → Written → Ended → Input → Written → Type 0
+abbrev pub Stops : Options → Input → Output → Ended → Input → Output → Type 0
 Stops options from w ReadFault left after = (bytes : List ℕ) × ReadsNoMore (reads_left bytes) bytes from left × IsUnfinished bytes IsCut × (after ≡ w)
 Stops options from w WriteFault left after =
     (bytes : List ℕ) × Reads bytes from left × (text : List ℕ) × (TellsFault bytes left.left text ⊎ TellsReady options bytes text) × WritesFront text w after
 Stops options from w OutOfMemory left after = ⊥
 
 -- true says that the script was accepted, and false that its fault was told
-abbrev pub ProgramEnds : Options → Input → Written → Result Bool Ended → Input → Written → Type 0
+abbrev pub ProgramEnds : Options → Input → Output → Result Bool Ended → Input → Output → Type 0
 ProgramEnds options from w (Ok true) left after = Answers options from w (Ok tt) left after
 ProgramEnds options from w (Ok false) left after = (bytes : List ℕ) × Reads bytes from left × (text : List ℕ) × TellsFault bytes left.left text × WritesAll text w after
 ProgramEnds options from w (Err e) left after = Answers options from w (Err e) left after ⊎ Stops options from w e left after

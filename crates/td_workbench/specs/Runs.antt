@@ -6,10 +6,11 @@ use Rattle.std.specs.Io.KnownBytes.{IsAtEnd}
 use Rattle.td_headings.specs.Catalogues.{CatalogueData}
 use Rattle.td_devices.specs.Lines.{raw_lines, content, is_one_line, IsWholeLine, IsOfOneLine}
 use Rattle.td_lines.specs.Lines.{Line, quit, is_quit, line_of}
-use Rattle.td_listings.specs.Writings.{Written, WritesFront}
+use Rattle.td_devices.specs.Views.{Input, Output}
+use Rattle.td_listings.specs.Writings.{WritesFront}
 use Rattle.td_answers.specs.Sites.{Sites, AreOfScript}
 use Rattle.td_answers.specs.Answers.{Answered}
-use Rattle.td_workbench.specs.Streams.{Input, Reads, ReadsNoMore, reads_left, WritesAll}
+use Rattle.td_workbench.specs.Streams.{Reads, ReadsNoMore, reads_left, WritesAll}
 use Rattle.td_workbench.specs.declared.run.Ended.{Ended}
 use Rattle.td_workbench.specs.declared.run.Ended.TheVariants.{OutOfMemory, ReadFault, WriteFault}
 
@@ -81,7 +82,7 @@ IsCut part = is_one_line part ≡ true
 -- nothing was read, or at the end of the input. A read fault comes after the answers of all whole lines, and want of
 -- memory after those of all lines but the last, which was not kept; a write fault leaves the last answer written in
 -- part.
-abbrev pub Ends : CatalogueData → Sites → List (List ℕ) → ℕ → List ℕ → Input → Written → Result (Unit {0}) Ended → Sites → Input → Written → Type 0
+abbrev pub Ends : CatalogueData → Sites → List (List ℕ) → ℕ → List ℕ → Input → Output → Result (Unit {0}) Ended → Sites → Input → Output → Type 0
 Ends c old raws spare bytes from w (Ok u) new left after =
     Reads bytes from left × (text : List ℕ) × (Quits c old raws left.left text new ⊎ RunsOut c old raws left.left text new) × WritesAll text w after
 Ends c old raws spare bytes from w (Err ReadFault) new left after =
@@ -89,18 +90,18 @@ Ends c old raws spare bytes from w (Err ReadFault) new left after =
 Ends c old raws spare bytes from w (Err OutOfMemory) new left after =
     Reads bytes from left × (text : List ℕ) × BreaksOff c old raws IsOfOneLine text new × WritesAll text w after
 Ends c old raws spare bytes from w (Err WriteFault) new left after =
-    Reads bytes from left × (text : List ℕ) × (answer : List ℕ) × (half : Written) × Reaches c old raws left.left text answer new × WritesAll text w half × WritesFront answer half after
+    Reads bytes from left × (text : List ℕ) × (answer : List ℕ) × (half : Output) × Reaches c old raws left.left text answer new × WritesAll text w half × WritesFront answer half after
 
 -- How the workbench ended. By the catalogue of its sites' script, over the lines that the bytes say; or there was no
 -- memory for that catalogue, and nothing was begun.
-pub record Runs (old : Sites) (from : Input) (w : Written) (r : Result (Unit {0}) Ended) (new : Sites) (left : Input) (after : Written) : Type 0 where
+pub record Runs (old : Sites) (from : Input) (w : Output) (r : Result (Unit {0}) Ended) (new : Sites) (left : Input) (after : Output) : Type 0 where
   pub catalogue : CatalogueData
   pub bytes : List ℕ
   pub of_script : AreOfScript catalogue old
   pub ends : Ends catalogue old (raw_lines bytes) (reads_left bytes) bytes from w r new left after
 
-abbrev pub CannotBegin : Sites → Input → Written → Result (Unit {0}) Ended → Sites → Input → Written → Type 0
+abbrev pub CannotBegin : Sites → Input → Output → Result (Unit {0}) Ended → Sites → Input → Output → Type 0
 CannotBegin old from w r new left after = (r ≡ Err OutOfMemory) × (new ≡ old) × (left ≡ from) × (after ≡ w)
 
-abbrev pub WorkbenchEnds : Sites → Input → Written → Result (Unit {0}) Ended → Sites → Input → Written → Type 0
+abbrev pub WorkbenchEnds : Sites → Input → Output → Result (Unit {0}) Ended → Sites → Input → Output → Type 0
 WorkbenchEnds old from w r new left after = Runs old from w r new left after ⊎ CannotBegin old from w r new left after

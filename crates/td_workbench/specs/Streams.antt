@@ -1,18 +1,8 @@
 -- What a run has read of its input, and why it reads no more; what it has written.
-use Rattle.std.specs.Prelude.{◌≡◌, ◌⊎◌, ℕ, ◌-◌, ◌^◌, true, List, Option, length}
+use Rattle.std.specs.Prelude.{◌≡◌, ◌⊎◌, ℕ, ◌-◌, ◌^◌, true, List, length}
 use Rattle.std.specs.Io.KnownBytes.{Appends, Consumes}
-use Rattle.td_devices.specs.declared.streams.Source as source
 use Rattle.td_devices.specs.Counted.{counted}
-use Rattle.td_listings.specs.Writings.{Written}
-
--- the bytes that are left to be read, where they are known, and the failures that were counted
-pub record Input : Type 0 where
-  pub left : Option (List ℕ)
-  pub failures : ℕ
-
--- what a reader is seen as
-abbrev pub input_of : {S : Type 0} → source.Ghosts S → S → Input
-input_of reads s = record { left = reads.left s; failures = reads.failures s }
+use Rattle.td_devices.specs.Views.{Input, Output}
 
 -- the bytes were read, and no failure was counted
 abbrev pub Reads : List ℕ → Input → Input → Type 0
@@ -33,5 +23,5 @@ ReadsNoMore spare bytes from after =
 
 -- All of the text was written, and where what was written before had been handed on, so has this: each answer is
 -- flushed before the next line is read.
-abbrev pub WritesAll : List ℕ → Written → Written → Type 0
+abbrev pub WritesAll : List ℕ → Output → Output → Type 0
 WritesAll text w after = Appends w.held after.held text × (after.faults ≡ w.faults) × (w.is_flushed ≡ true → after.is_flushed ≡ true)

@@ -1,8 +1,7 @@
 //! The program over its words and its streams.
 
-ghost use Rattle.td_listings.specs.Writings.{written_of};
-ghost use Rattle.td_workbench.specs.Streams.{input_of};
 ghost use Rattle.std.specs.Prelude.{◌≡◌};
+ghost use Rattle.td_devices.specs.Views.{input_of, output_of};
 ghost use Rattle.td_workbench.specs.Exits.{Exits, PutsHelp, PutsRefusal, TellsWords, status_of};
 
 use crate::programs::run_program;
@@ -26,7 +25,7 @@ fn status(end: Result<bool, Ended>) -> u8
 
 // Writes help or the version.
 fn put_help<K: Sink>(sink: &mut K, text: &[u8]) -> u8
-    ensures { PutsHelp text.now result (written_of K.Sink sink.old) (written_of K.Sink sink.new) }
+    ensures { PutsHelp text.now result (output_of K.Sink sink.old) (output_of K.Sink sink.new) }
 {
     match put(sink, text) {
         Ok(()) => 0,
@@ -36,7 +35,7 @@ fn put_help<K: Sink>(sink: &mut K, text: &[u8]) -> u8
 
 // Writes why the words are refused.
 fn put_refusal<F: Sink>(faults: &mut F, text: &[u8]) -> u8
-    ensures { PutsRefusal text.now result (written_of F.Sink faults.old) (written_of F.Sink faults.new) }
+    ensures { PutsRefusal text.now result (output_of F.Sink faults.old) (output_of F.Sink faults.new) }
 {
     match put(faults, text) {
         Ok(()) => 2,
@@ -46,7 +45,7 @@ fn put_refusal<F: Sink>(faults: &mut F, text: &[u8]) -> u8
 
 // Tells what the words asked for in place of a run, or why they are refused.
 fn tell<K: Sink, F: Sink>(alloc: Global, error: &Error, sink: &mut K, faults: &mut F) -> u8
-    ensures { TellsWords result (written_of K.Sink sink.old) (written_of F.Sink faults.old) (written_of K.Sink sink.new) (written_of F.Sink faults.new) }
+    ensures { TellsWords result (output_of K.Sink sink.old) (output_of F.Sink faults.old) (output_of K.Sink sink.new) (output_of F.Sink faults.new) }
 {
     if error.kind() == ErrorKind::OutOfMemory {
         return 1;
@@ -72,7 +71,7 @@ pub fn program<R: Opens + Drop, L: Links, S: Source, K: Sink, F: Sink>(
     sink: &mut K,
     faults: &mut F,
 ) -> u8
-    ensures { Exits result (record { input = input_of S.Source source.old; output = written_of K.Sink sink.old; faults = written_of F.Sink faults.old }) (record { input = input_of S.Source source.new; output = written_of K.Sink sink.new; faults = written_of F.Sink faults.new }) }
+    ensures { Exits result (record { input = input_of S.Source source.old; output = output_of K.Sink sink.old; faults = output_of F.Sink faults.old }) (record { input = input_of S.Source source.new; output = output_of K.Sink sink.new; faults = output_of F.Sink faults.new }) }
 {
     match read_options(alloc, words) {
         Ok(options) => status(run_program::<R, _, _, _>(

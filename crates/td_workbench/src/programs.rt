@@ -1,9 +1,8 @@
 //! A script, and then the lines for its sites.
 
-ghost use Rattle.td_listings.specs.Writings.{written_of};
-ghost use Rattle.td_workbench.specs.Streams.{input_of};
 ghost use Rattle.std.specs.Prelude.{◌≡◌, map, true};
 ghost use Rattle.std.specs.Io.KnownBytes.{IsAtEnd};
+ghost use Rattle.td_devices.specs.Views.{input_of, output_of};
 ghost use Rattle.td_answers.specs.Sites.{AreOfScript};
 ghost use Rattle.td_workbench.specs.ForProofs.Opening.{BehindEnds, StartEnds};
 ghost use Rattle.td_workbench.specs.Programs.{InRange, ProgramEnds};
@@ -30,7 +29,7 @@ fn answer_behind<R: Opens + Drop, L: Links, S: Source, K: Sink>(
     reads: &mut u64,
 ) -> Result<(), Ended>
     requires { AreOfScript opened.catalogue (map R.seen opened.sites.items) }
-    ensures { BehindEnds is_last opened.catalogue (map R.seen opened.sites.items) reads.old (input_of S.Source source.old) (written_of K.Sink sink.old) result (input_of S.Source source.new) (written_of K.Sink sink.new) }
+    ensures { BehindEnds is_last opened.catalogue (map R.seen opened.sites.items) reads.old (input_of S.Source source.old) (output_of K.Sink sink.old) result (input_of S.Source source.new) (output_of K.Sink sink.new) }
 {
     if is_last {
         return Ok(());
@@ -59,7 +58,7 @@ fn start<R: Opens + Drop, L: Links, S: Source, K: Sink>(
     reads: &mut u64,
 ) -> Result<bool, Ended>
     requires { InRange options.now }
-    ensures { StartEnds options.now script.now reads.old (input_of S.Source source.old) (written_of K.Sink sink.old) result (input_of S.Source source.new) (written_of K.Sink sink.new) }
+    ensures { StartEnds options.now script.now reads.old (input_of S.Source source.old) (output_of K.Sink sink.old) result (input_of S.Source source.new) (output_of K.Sink sink.new) }
 {
     let opened = match open::<R>(alloc, options, script) {
         Ok(opened) => opened,
@@ -96,7 +95,7 @@ pub fn run_program<R: Opens + Drop, L: Links, S: Source, K: Sink>(
     sink: &mut K,
 ) -> Result<bool, Ended>
     requires { InRange options.now }
-    ensures { ProgramEnds options.now (input_of S.Source source.old) (written_of K.Sink sink.old) result (input_of S.Source source.new) (written_of K.Sink sink.new) }
+    ensures { ProgramEnds options.now (input_of S.Source source.old) (output_of K.Sink sink.old) result (input_of S.Source source.new) (output_of K.Sink sink.new) }
 {
     let mut reads = u64::MAX;
     match read_script(alloc, source, &mut reads) {

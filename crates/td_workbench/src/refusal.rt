@@ -1,7 +1,7 @@
 //! What is told of a script that opens no sites.
 
-ghost use Rattle.td_listings.specs.Writings.{written_of};
 ghost use Rattle.std.specs.Prelude.{◌≡◌, ◌++◌, codes, IfOk, string_bytes};
+ghost use Rattle.td_devices.specs.Views.{output_of};
 ghost use Rattle.td_workbench.specs.ForProofs.Opening.{TellsMade, TellsRefusal};
 ghost use Rattle.td_workbench.specs.Scripts.{script_fault};
 ghost use Rattle.td_story.specs.declared.error.ScriptError.TheVariants as open_error;
@@ -45,7 +45,7 @@ fn broken_text(alloc: Global, broken: &BrokenTest) -> Result<String, AllocError>
 
 // Writes the text, or that there was no memory for it.
 fn put_made<K: Sink>(sink: &mut K, text: Result<String, AllocError>) -> Result<bool, Ended>
-    ensures { TellsMade text result (written_of K.Sink sink.old) (written_of K.Sink sink.new) }
+    ensures { TellsMade text result (output_of K.Sink sink.old) (output_of K.Sink sink.new) }
 {
     match text {
         Ok(text) => put_fault(sink, text.as_bytes()),
@@ -55,7 +55,7 @@ fn put_made<K: Sink>(sink: &mut K, text: Result<String, AllocError>) -> Result<b
 
 /// Writes why a script is refused.
 pub fn refuse<K: Sink>(alloc: Global, e: ScriptError, sink: &mut K) -> Result<bool, Ended>
-    ensures { TellsRefusal e result (written_of K.Sink sink.old) (written_of K.Sink sink.new) }
+    ensures { TellsRefusal e result (output_of K.Sink sink.old) (output_of K.Sink sink.new) }
 {
     match e {
         ScriptError::Syntax => put_fault(sink, b"fault script syntax\n".as_slice()),

@@ -1,10 +1,10 @@
 //! The script, read up to the line that ends it.
 
-ghost use Rattle.td_workbench.specs.Streams.{input_of};
 ghost use Rattle.std.specs.Prelude.{◌≡◌, ◌≤◌, ◌++◌, List, ℕ, IfOk, option_map};
 ghost use Rattle.td_workbench.specs.ForProofs.Reading.{IsKeptScript, ScriptRead, unready_by};
 ghost use Rattle.td_workbench.specs.Scripts as spec;
 ghost use Rattle.td_devices.specs.Lines.{IsKept};
+ghost use Rattle.td_devices.specs.Views.{input_of};
 
 use std::alloc::{AllocError, Global};
 use td_devices::{LineError, RawLine, Source, content, read_line};
@@ -22,7 +22,7 @@ pub struct Script {
 }
 
 /// Why no script was read.
-#[derive(Clone, Copy, Debug, PartialEq, Eq)]
+#[derive(Clone, Copy, PartialEq, Eq)]
 pub enum Unready {
     /// The input has no line `.begin`.
     End,

@@ -1,6 +1,6 @@
 //! Texts written whole.
 
-ghost use Rattle.td_listings.specs.Writings.{written_of};
+ghost use Rattle.td_devices.specs.Views.{output_of};
 ghost use Rattle.td_workbench.specs.ForProofs.Opening.{PutsFault};
 ghost use Rattle.td_workbench.specs.ForProofs.Serving.{Puts};
 
@@ -9,7 +9,7 @@ use td_devices::{Failed, Sink, put};
 
 /// Writes a text and flushes. The answer says that the run goes on.
 pub fn put_text<K: Sink>(sink: &mut K, text: &[u8]) -> Result<bool, Failed>
-    ensures { Puts text.now result (written_of K.Sink sink.old) (written_of K.Sink sink.new) }
+    ensures { Puts text.now result (output_of K.Sink sink.old) (output_of K.Sink sink.new) }
 {
     match put(sink, text) {
         Ok(()) => Ok(false),
@@ -19,7 +19,7 @@ pub fn put_text<K: Sink>(sink: &mut K, text: &[u8]) -> Result<bool, Failed>
 
 /// Writes what is told of a script that opens no sites, and flushes.
 pub fn put_fault<K: Sink>(sink: &mut K, text: &[u8]) -> Result<bool, Ended>
-    ensures { PutsFault text.now result (written_of K.Sink sink.old) (written_of K.Sink sink.new) }
+    ensures { PutsFault text.now result (output_of K.Sink sink.old) (output_of K.Sink sink.new) }
 {
     match put(sink, text) {
         Ok(()) => Ok(false),

@@ -3,14 +3,15 @@ use Rattle.std.specs.Prelude.{◌≡◌, ◌⊎◌, ℕ, Bool, true, false, List
 use Rattle.std.specs.List.{AllByRecursion}
 use Rattle.std.specs.Global.{Global}
 use Rattle.std.specs.declared.alloc.AllocError.{AllocError}
-use Rattle.td_listings.specs.Writings.{Written, WritesFront}
+use Rattle.td_devices.specs.Views.{Input, Output}
+use Rattle.td_listings.specs.Writings.{WritesFront}
 use Rattle.td_story.specs.declared.error.ScriptError.{ScriptError}
 use Rattle.td_story.specs.declared.error.ScriptError.TheVariants.{Syntax, IllTyped, OpeningRaised, OpeningBroken, OutOfMemory}
 use Rattle.td_headings.specs.Catalogues.{CatalogueData}
 use Rattle.td_story.specs.Databases.{DatabaseData}
 use Rattle.td_story.specs.Scripts.{Opens}
 use Rattle.td_answers.specs.Sites.{Sites}
-use Rattle.td_workbench.specs.Streams.{Input, most_reads, WritesAll}
+use Rattle.td_workbench.specs.Streams.{most_reads, WritesAll}
 use Rattle.td_workbench.specs.Programs.{ProgramEnds}
 use Rattle.td_workbench.specs.ForProofs.Reading.{HasScript}
 use Rattle.td_workbench.specs.declared.script.Script.{Script}
@@ -29,14 +30,14 @@ MayTell IllTyped told = told ≡ IllTyped
 MayTell OutOfMemory told = told ≡ OutOfMemory
 
 -- a fault was told, or a front of it
-abbrev pub PutsFault : List ℕ → Result Bool Ended → Written → Written → Type 0
+abbrev pub PutsFault : List ℕ → Result Bool Ended → Output → Output → Type 0
 PutsFault text (Ok true) w after = ⊥
 PutsFault text (Ok false) w after = WritesAll text w after
 PutsFault text (Err ended.WriteFault) w after = WritesFront text w after
 PutsFault text (Err ended.ReadFault) w after = ⊥
 PutsFault text (Err ended.OutOfMemory) w after = ⊥
 
-abbrev pub TellsRefusal : ScriptError → Result Bool Ended → Written → Written → Type 0
+abbrev pub TellsRefusal : ScriptError → Result Bool Ended → Output → Output → Type 0
 TellsRefusal e r w after = (told : ScriptError) × MayTell e told × PutsFault (script_fault told) r w after
 
 -- the script opens, and these are its sites
@@ -44,17 +45,17 @@ abbrev pub OpensAll : Options → List ℕ → Sites → Type 0
 OpensAll options script sites = (d : DatabaseData) × Opens script (Ok d) × (sites ≡ new_sites script options.limit options.first options.sites)
 
 -- the lines behind the script, which are none where its `.begin` ended the input
-abbrev pub BehindEnds : Bool → CatalogueData → Sites → ℕ → Input → Written → Result (Unit {0}) Ended → Input → Written → Type 0
+abbrev pub BehindEnds : Bool → CatalogueData → Sites → ℕ → Input → Output → Result (Unit {0}) Ended → Input → Output → Type 0
 BehindEnds true c old reads from w r left after = (r ≡ Ok tt) × (left ≡ from) × (after ≡ w)
 BehindEnds false c old reads from w r left after = (new : Sites) × AllByRecursion (λ s. s.live ≡ true) new × Serves c old reads from w r new left after
 
 -- a text that was made, or that there was no memory for it
-abbrev pub TellsMade : Result (String Global) AllocError → Result Bool Ended → Written → Written → Type 0
+abbrev pub TellsMade : Result (String Global) AllocError → Result Bool Ended → Output → Output → Type 0
 TellsMade (Ok text) r w after = PutsFault (string_bytes text) r w after
 TellsMade (Err e) r w after = PutsFault (script_fault OutOfMemory) r w after
 
 -- what the program ends in, whatever was read before: bytes that say the script, which was kept, by all reads but so
 -- many
-abbrev pub StartEnds : Options → Script → ℕ → Input → Written → Result Bool Ended → Input → Written → Type 0
+abbrev pub StartEnds : Options → Script → ℕ → Input → Output → Result Bool Ended → Input → Output → Type 0
 StartEnds options script reads mid w r left after =
     (from : Input) → HasScript most_reads reads from mid (option_map (λ v. v.items) script.bytes) script.is_last → ProgramEnds options from w r left after

@@ -4,9 +4,10 @@ use Rattle.std.specs.Io.KnownBytes.{IsAtEnd}
 use Rattle.td_devices.specs.Lines.{raw_lines, IsOfOneLine}
 use Rattle.td_devices.specs.declared.lines.LineError.{LineError}
 use Rattle.td_devices.specs.declared.lines.LineError.TheVariants as line_error
+use Rattle.td_devices.specs.Views.{Input}
 use Rattle.td_workbench.specs.Runs.{IsCut}
 use Rattle.td_workbench.specs.Scripts.{IsUnfinished, Says, script_then, script_bytes}
-use Rattle.td_workbench.specs.Streams.{Input, Reads, ReadsNoMore}
+use Rattle.td_workbench.specs.Streams.{Reads, ReadsNoMore}
 use Rattle.td_workbench.specs.declared.script.Script.{Script}
 use Rattle.td_workbench.specs.declared.script.Unready.{Unready}
 use Rattle.td_workbench.specs.declared.script.Unready.TheVariants.{End, OutOfMemory, ReadFault}

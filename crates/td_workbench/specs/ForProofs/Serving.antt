@@ -6,33 +6,34 @@ use Rattle.td_devices.specs.declared.lines.LineError.{LineError}
 use Rattle.td_devices.specs.declared.lines.LineError.TheVariants as line_error
 use Rattle.td_devices.specs.declared.streams.Failed.{Failed}
 use Rattle.td_lines.specs.Lines.{Line, quit, is_quit}
-use Rattle.td_listings.specs.Writings.{Written, WritesFront}
+use Rattle.td_devices.specs.Views.{Input, Output}
+use Rattle.td_listings.specs.Writings.{WritesFront}
 use Rattle.td_answers.specs.Sites.{Sites}
 use Rattle.td_answers.specs.Answers.{Answered}
-use Rattle.td_workbench.specs.Streams.{Input, WritesAll}
+use Rattle.td_workbench.specs.Streams.{WritesAll}
 use Rattle.td_workbench.specs.Runs.{said, GoesOn, Quits, RunsOut, Reaches, Ends}
 use Rattle.td_workbench.specs.declared.run.Ended.{Ended}
 use Rattle.td_workbench.specs.declared.run.Ended.TheVariants as ended
 
 -- the text was written, and the run goes on; or a front of it was
-abbrev pub Puts : List ℕ → Result Bool Failed → Written → Written → Type 0
+abbrev pub Puts : List ℕ → Result Bool Failed → Output → Output → Type 0
 Puts text (Ok quits) w after = (quits ≡ false) × WritesAll text w after
 Puts text (Err e) w after = WritesFront text w after
 
 -- true says that the line is `.quit`
-abbrev pub LineEnds : CatalogueData → Sites → Line → Result Bool Failed → Sites → Written → Written → Type 0
+abbrev pub LineEnds : CatalogueData → Sites → Line → Result Bool Failed → Sites → Output → Output → Type 0
 LineEnds c old line (Ok true) new w after = (line ≡ quit) × (new ≡ old) × (after ≡ w)
 LineEnds c old line (Ok false) new w after = (text : List ℕ) × (is_quit line ≡ false) × Answered c old line text new × WritesAll text w after
 LineEnds c old line (Err e) new w after = (text : List ℕ) × (is_quit line ≡ false) × Answered c old line text new × WritesFront text w after
 
 -- true says that the run is over
-abbrev pub ReadEnds : CatalogueData → Sites → List ℕ → Bool → Option (List ℕ) → Result Bool Failed → Sites → Written → Written → Type 0
+abbrev pub ReadEnds : CatalogueData → Sites → List ℕ → Bool → Option (List ℕ) → Result Bool Failed → Sites → Output → Output → Type 0
 ReadEnds c old raw is_last left (Ok true) new w after = (text : List ℕ) × (Quits c old (raw_lines raw) left text new ⊎ RunsOut c old (raw_lines raw) left text new) × WritesAll text w after
 ReadEnds c old raw is_last left (Ok false) new w after = (text : List ℕ) × (is_last ≡ false) × IsWholeLine raw × GoesOn raw × Answered c old (said raw) text new × WritesAll text w after
 ReadEnds c old raw is_last left (Err e) new w after = (answer : List ℕ) × Reaches c old (raw_lines raw) left [] answer new × WritesFront answer w after
 
 -- a run over lines, by so many reads
-pub record Serves (c : CatalogueData) (old : Sites) (reads : ℕ) (from : Input) (w : Written) (r : Result (Unit {0}) Ended) (new : Sites) (left : Input) (after : Written) : Type 0 where
+pub record Serves (c : CatalogueData) (old : Sites) (reads : ℕ) (from : Input) (w : Output) (r : Result (Unit {0}) Ended) (new : Sites) (left : Input) (after : Output) : Type 0 where
   pub bytes : List ℕ
   pub ends : Ends c old (raw_lines bytes) (reads - length bytes) bytes from w r new left after
 
