@@ -1,0 +1,18 @@
+/* What relvars have at first. */
+VAR R BASE INIT ( RELATION { TUPLE { A 2 }, TUPLE { A 0 } } ) KEY { A };
+VAR Q BASE INIT ( EXTEND R ADD ( A + 1 AS B ) ) KEY { A };
+VAR E BASE RELATION { A INTEGER } KEY { };
+VAR V VIRTUAL ( Q WHERE B > 1 );
+VAR W VIRTUAL ( EXTEND Q ADD ( 1 / A AS C ) );
+VAR HEADED BASE RELATION { A CHAR } INIT ( RELATION { TUPLE { A 'x' } } ) KEY { A };
+VAR PLAIN BASE INIT ( HEADED ) KEY { A };
+.begin
+1? Q
+1? E
+1? V
+1? W
+.csv 1 NOSUCH
+1? NOSUCH
+1? HEADED
+1? PLAIN
+.quit

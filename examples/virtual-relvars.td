@@ -1,0 +1,18 @@
+/* A virtual relvar means its expression, and what that raises is raised where it is needed. */
+VAR R BASE INIT ( RELATION { TUPLE { A 1, B 5 }, TUPLE { A 2, B 0 }, TUPLE { A 3, B 2 } } ) KEY { A };
+VAR LATER VIRTUAL ( R WHERE A > 1 );
+VAR SHARES VIRTUAL ( EXTEND R ADD ( 10 / B AS C ) );
+VAR FEW VIRTUAL ( SHARES WHERE C < 5 );
+.begin
+1? COUNT ( LATER )
+1? LATER { A }
+
+1? COUNT ( SHARES ) /* what is raised is raised where the relvar is needed */
+1? COUNT ( FEW )
+1? IF COUNT ( LATER ) = 2 THEN 1 ELSE COUNT ( FEW ) END IF
+1? IF COUNT ( LATER ) = 3 THEN 1 ELSE COUNT ( FEW ) END IF
+1? COUNT ( LATER ) = 3 AND IS_EMPTY ( SHARES )
+1? IS_EMPTY ( RELATION { A INTEGER } { } WHERE A < COUNT ( SHARES ) )
+
+1? MAX ( R, A + COUNT ( LATER ) ) /* a virtual relvar that is named at each tuple */
+.quit
