@@ -1,4 +1,4 @@
-//! What the tests make: the relvars of a script, and the answers of queries as texts.
+//! Catalogues, and queries over relvars that are kept by hand.
 
 ghost use Rattle.std.specs.Prelude.{slice_get};
 ghost use Rattle.std.specs.Option.{ok_or};
@@ -8,17 +8,18 @@ use std::alloc::{AllocError, Global};
 use std::test::Fail;
 use td_algebra::{Fault, Stop};
 use td_eval::{Lookup, eval};
-use td_grammar::{read_expr, read_script};
-use td_headings::{Catalogue, TypedExpr, init_expr, type_expr};
+use td_grammar::read_expr;
+use td_headings::{Catalogue, TypedExpr, type_expr};
 use td_relations::Relation;
+use td_story::{CatalogueError, catalogue_of};
 use td_tuples::tuple_of;
 use td_values::{Heading, Kind, Value, show};
 
 pub type Result<T> = std::result::Result<T, Fail>;
 
-/// A relation for each relvar, by its place. Nothing is kept for a virtual one.
+/// A relation for each relvar, by its place.
 #[derive(Drop)]
-pub struct Stored {
+struct Stored {
     relations: Vec<Relation>,
 }
 
@@ -38,43 +39,6 @@ fn value(alloc: Global, expr: &TypedExpr, stored: &Stored) -> std::result::Resul
     eval(alloc, expr, stored, &tuple)
 }
 
-// What the relvar at the place holds at first.
-fn opened(alloc: Global, catalogue: &Catalogue, stored: &Stored, place: usize) -> Result<Relation> {
-    if let Some(expr) = init_expr(alloc, catalogue, place)? {
-        if let Ok(value) = value(alloc, &expr, stored) {
-            if let Kind::Relation(rows) = value.kind {
-                return Ok(Relation::of(rows));
-            }
-        }
-    }
-    match catalogue.schema().relvar_at(place) {
-        Some((_, heading)) => Ok(Relation::empty(alloc, heading.copy()?)),
-        None => Ok(Relation::empty(alloc, Heading::new(alloc)?)),
-    }
-}
-
-// What the script defines.
-fn defined(alloc: Global, script: &str) -> Result<Catalogue> {
-    let definitions = read_script(alloc, script)?;
-    let mut catalogue = Catalogue::new(alloc);
-    for definition in definitions.as_slice() {
-        catalogue.define(alloc, definition)?;
-    }
-    Ok(catalogue)
-}
-
-// What its relvars hold at first.
-fn held_at_first(alloc: Global, catalogue: &Catalogue) -> Result<Stored> {
-    let mut stored = Stored {
-        relations: Vec::new(alloc),
-    };
-    for place in 0..catalogue.schema().relvar_count() {
-        let relation = opened(alloc, catalogue, &stored, place)?;
-        stored.relations.push(relation)?;
-    }
-    Ok(stored)
-}
-
 // The shown value of the query, or the name of its error.
 fn shown(alloc: Global, catalogue: &Catalogue, stored: &Stored, query: &str) -> Result<String> {
     let expr = read_expr(alloc, query)?;
@@ -86,15 +50,48 @@ fn shown(alloc: Global, catalogue: &Catalogue, stored: &Stored, query: &str) -> 
     }
 }
 
-// The first query whose answer is not as it stands there, with the answer.
-fn unlike_over(
-    alloc: Global,
-    catalogue: &Catalogue,
-    stored: &Stored,
-    table: &[(&str, &str)],
-) -> Result<String> {
+// What the relation has that is written so.
+fn written(alloc: Global, catalogue: &Catalogue, text: &str) -> Result<Relation> {
+    let nothing = Stored {
+        relations: Vec::new(alloc),
+    };
+    let expr = read_expr(alloc, text)?;
+    let expr = type_expr(alloc, catalogue, expr.get())?;
+    match value(alloc, &expr, &nothing) {
+        Ok(
+            Value {
+                kind: Kind::Relation(rows),
+            },
+        ) => Ok(Relation::of(rows)),
+        _ => Ok(Relation::empty(alloc, Heading::new(alloc)?)),
+    }
+}
+
+// R at the first place, which the INIT of the script is not asked for, and nothing at the others.
+fn with_first(alloc: Global, catalogue: &Catalogue) -> Result<Stored> {
+    let relation = written(
+        alloc,
+        catalogue,
+        "RELATION { TUPLE { A 3 }, TUPLE { A 4 } }",
+    )?;
+    let mut relations = Vec::new(alloc);
+    relations.push(relation)?;
+    Ok(Stored { relations })
+}
+
+// (its key is not judged by who asks for a catalogue)
+const SCRIPT: &str = "
+VAR R BASE INIT ( RELATION { TUPLE { A 1 }, TUPLE { A 2 } } ) KEY { };
+VAR V VIRTUAL ( R WHERE A > 3 );
+VAR Q BASE RELATION { A INTEGER } KEY { A };
+";
+
+// The first query that has another answer than stands there, with the answer.
+fn unlike(alloc: Global, table: &[(&str, &str)]) -> Result<String> {
+    let catalogue = catalogue_of(alloc, SCRIPT)?;
+    let stored = with_first(alloc, &catalogue)?;
     for (query, expected) in table {
-        let found = shown(alloc, catalogue, stored, query)?;
+        let found = shown(alloc, &catalogue, &stored, query)?;
         if found.as_str() != *expected {
             return Ok(format!(in alloc; "{query}: {found}")?);
         }
@@ -102,9 +99,35 @@ fn unlike_over(
     Ok(String::new(alloc))
 }
 
-/// The same over what the relvars of the script hold at first.
-pub fn unlike(alloc: Global, script: &str, table: &[(&str, &str)]) -> Result<String> {
-    let catalogue = defined(alloc, script)?;
-    let stored = held_at_first(alloc, &catalogue)?;
-    unlike_over(alloc, &catalogue, &stored, table)
+#[test]
+fn queries(rt: HostRuntime) -> Result<()> {
+    let unlike = unlike(
+        rt.alloc(),
+        &[
+            (
+                "R",
+                "RELATION { A INTEGER } { TUPLE { A 3 }, TUPLE { A 4 } }",
+            ),
+            ("V", "RELATION { A INTEGER } { TUPLE { A 4 } }"),
+            ("R WHERE 1 / ( A - 4 ) = 1", "divide"),
+            ("Q", "untyped"),
+        ],
+    )?;
+    assert!(rt; unlike.as_str() == "", "{unlike}");
+    Ok(())
+}
+
+fn refusal(alloc: Global, script: &str) -> Option<CatalogueError> {
+    match catalogue_of(alloc, script) {
+        Ok(_) => None,
+        Err(error) => Some(error),
+    }
+}
+
+#[test]
+fn scripts_without_a_catalogue(rt: HostRuntime) {
+    let syntax = refusal(rt.alloc(), "VAR R BASE RELATION { A INTEGER };");
+    assert!(rt; matches!(syntax, Some(CatalogueError::Syntax)));
+    let ill_typed = refusal(rt.alloc(), "VAR R VIRTUAL ( NOSUCH );");
+    assert!(rt; matches!(ill_typed, Some(CatalogueError::IllTyped)));
 }
