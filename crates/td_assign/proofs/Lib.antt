@@ -9,3 +9,4 @@ pub mod Footprint
 pub mod Listed
 pub mod Remaking
 pub mod Leading
+pub mod Naming

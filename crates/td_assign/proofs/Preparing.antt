@@ -108,10 +108,9 @@ module _ (d : DatabaseData) (text : List ℕ) (x : TypedStatement) (p : IsRead d
   refuses (outcome.Raised e) (by_source given) = raised p given
   refuses o (by_test cs given j) = refused p given j.2 j.3
 
-  pub prepared : {E : Type 0} (m : Result Prepared E) → IfOk m (AreAssignedTo d (assignments_of x)) → IfOk m (IsPrepared d text)
-  prepared (Ok (Changes v ds)) h = (done p h.0 h.1.passes, h.1)
-  prepared (Ok (Refused o)) h = refuses o h
-  prepared (Err e) h = tt
+  pub prepared : (m : Prepared) → AreAssignedTo d (assignments_of x) m → IsPrepared d text m
+  prepared (Changes v ds) h = (done p h.0 h.1.passes, h.1)
+  prepared (Refused o) h = refuses o h
 
 pub no_differences : (r : Relvars) → AreDifferences r r []
 no_differences r = record {

@@ -2,3 +2,4 @@
 pub mod Lists
 pub mod Given
 pub mod Prepared
+pub mod Names

@@ -4,6 +4,7 @@
 pub mod changes;
 mod deltas;
 pub mod laws;
+pub mod names;
 pub mod ran;
 mod running;
 mod seen;

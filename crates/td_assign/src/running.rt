@@ -3,13 +3,15 @@
 ghost use Rattle.std.specs.Prelude.{◌≡◌, [], IfOk, MatchOption, OnErr, Option, Some};
 ghost use Rattle.td_story.specs.Reports.{IsReport};
 ghost use Rattle.td_headings.specs.Catalogues.{CatalogueData};
-ghost use Rattle.td_headings.specs.Statements as typed;
+ghost use Rattle.td_headings.specs.Reached.{AreThose};
 ghost use Rattle.td_headings.specs.declared.defined.Test.{Test};
 ghost use Rattle.td_algebra.specs.declared.errors.Stop.{Stop};
 ghost use Rattle.td_story.specs.Databases.{IsLegal, stored_relvars};
 ghost use Rattle.td_story.specs.Counts.{one_more};
 ghost use Rattle.td_story.specs.Differences.{AreDifferences};
+ghost use Rattle.td_story.specs.Footprints.{IsInFootprint, IsTargetOfText};
 ghost use Rattle.td_assign.specs.ForProofs.Given.{AreAssigned, AreChanges};
+ghost use Rattle.td_assign.specs.ForProofs.Names.{AreNames};
 ghost use Rattle.td_assign.specs.ForProofs.Prepared.{AreAssignedTo, IsJudged, IsPrepared};
 ghost use Rattle.td_assign.specs.ForProofs.Lists.{given_to};
 ghost use Rattle.td_story.specs.Steps as spec;
@@ -17,6 +19,7 @@ ghost use Rattle.td_story.specs.Steps.{IsRead, IsUnread, Steps};
 
 use crate::changes::Change;
 use crate::deltas::differences;
+use crate::names::{Names, assignments_of, names_of, no_names};
 use crate::ran::Ran;
 use crate::seen::Replaced;
 use crate::sources::changes;
@@ -101,21 +104,19 @@ fn assigned(
     }
 }
 
-fn assignments_of(statement: &TypedStatement) -> &[TypedAssignment]
-    ensures { result.now ≡ typed.assignments_of statement.now }
+// What the text makes of the database, and the relvars that it names.
+fn prepare(alloc: Global, database: &Database, text: &str) -> Result<(Prepared, Names), AllocError>
+    ensures prepared { IfOk result (λ p. IsPrepared database.now text.now p.0) }
+    ensures names { IfOk result (λ p. AreNames database.now.catalogue text.now p.1) }
 {
-    match statement {
-        TypedStatement::Assignment(assignments) => assignments.as_slice(),
-    }
-}
-
-// What the text makes of the database.
-fn prepare(alloc: Global, database: &Database, text: &str) -> Result<Prepared, AllocError>
-    ensures { IfOk result (IsPrepared database.now text.now) }
-{
-    match read(alloc, database.catalogue(), text)? {
-        Some(statement) => assigned(alloc, database, assignments_of(&statement)),
-        None => Ok(Prepared::Refused(Outcome::Unread)),
+    let catalogue = database.catalogue();
+    match read(alloc, catalogue, text)? {
+        Some(statement) => {
+            let names = names_of(alloc, catalogue, &statement)?;
+            let prepared = assigned(alloc, database, assignments_of(&statement))?;
+            Ok((prepared, names))
+        }
+        None => Ok((Prepared::Refused(Outcome::Unread), no_names(alloc))),
     }
 }
 
@@ -130,19 +131,25 @@ fn put_all(database: &mut Database, changes: Vec<Change>)
     }
 }
 
-fn unchanged(alloc: Global, outcome: Outcome) -> Ran
+fn unchanged(alloc: Global, outcome: Outcome, names: Names) -> Ran
     ensures outcome { result.outcome ≡ outcome }
     ensures delta { result.delta.items ≡ [] }
+    ensures targets { result.targets ≡ names.targets }
+    ensures footprint { result.footprint ≡ names.footprint }
 {
+    let Names { targets, footprint } = names;
     Ran {
         outcome,
         delta: Vec::new(alloc),
+        targets,
+        footprint,
     }
 }
 
 /// Runs the statement over relvars of which every test is true: its text is read and typed once, each source is
-/// evaluated once, the differences are made and then every test, and the relvars change where all are true. A refusal
-/// for want of memory leaves the database; the meter has counted then.
+/// evaluated once, the differences are made and then every test, and the relvars change where all are true. Which
+/// relvars it names is found out before, by the typed statement. A refusal for want of memory leaves the database; the
+/// meter has counted then.
 #[tactic(auto, using(crate::proofs::Preparing::no_differences))]
 pub fn run(
     alloc: Global,
@@ -155,17 +162,23 @@ pub fn run(
     ensures delta { IfOk result (λ r. AreDifferences (stored_relvars database.old.stored) (stored_relvars database.new.stored) r.delta.items) }
     ensures kept { OnErr result (database.new ≡ database.old) }
     ensures legal { IsLegal database.new }
+    ensures targets { IfOk result (λ r. AreThose (IsTargetOfText database.old.catalogue text.now) r.targets.items) }
+    ensures footprint { IfOk result (λ r. AreThose (IsInFootprint database.old.catalogue text.now) r.footprint.items) }
     ensures counted { meter.new.count ≡ one_more meter.old.count }
 {
     meter.tick();
-    match prepare(alloc, database, text)? {
+    let (prepared, names) = prepare(alloc, database, text)?;
+    match prepared {
         Prepared::Changes(changes, delta) => {
             put_all(database, changes);
+            let Names { targets, footprint } = names;
             Ok(Ran {
                 outcome: Outcome::Done,
                 delta,
+                targets,
+                footprint,
             })
         }
-        Prepared::Refused(outcome) => Ok(unchanged(alloc, outcome)),
+        Prepared::Refused(outcome) => Ok(unchanged(alloc, outcome, names)),
     }
 }

@@ -52,7 +52,7 @@ impl Told {
         ensures legal { OnOk result (IsLegal self.new.database) }
         ensures ran { OnOk result (RunsSome self.old.database self.old.outcomes.items entry.now self.new.database self.new.outcomes.items) }
     {
-        let Ran { outcome, delta: _ } = run(alloc, &mut self.database, entry.text.as_str(), meter)?;
+        let Ran { outcome, .. } = run(alloc, &mut self.database, entry.text.as_str(), meter)?;
         self.outcomes.push((entry.stamp(), outcome))?;
         Ok(())
     }
@@ -70,7 +70,7 @@ impl Told {
         ensures told { TellsNext self.old.database self.old.outcomes.items entry.now result self.new.database self.new.outcomes.items }
     {
         self.outcomes.reserve(1)?;
-        let Ran { outcome, delta: _ } = run(alloc, &mut self.database, entry.text.as_str(), meter)?;
+        let Ran { outcome, .. } = run(alloc, &mut self.database, entry.text.as_str(), meter)?;
         if is_unread(&outcome) {
             return Ok(None);
         }

@@ -9,5 +9,5 @@ pub returns-in-Changes-clause-legal : goal.returns-in-Changes-clause-legal
 returns-in-Changes-clause-legal c =
     let d = c.args.database.now in
     let cs = c.in-Changes.changes.items in
-    let prepared = rw c.in-Changes.is at c.in_ok-changes.ensures in
+    let prepared = rw c.in-Changes.is at c.in_ok-prepared.ensures.prepared in
     subst IsLegal (sym c.put_all.ensures) (all_pass d.catalogue (stored_relvars (with_given (given_to cs) d.stored)) d.catalogue.tests prepared.1.passes)

@@ -1,0 +1,185 @@
+-- The places that a statement names, gathered.
+use Rattle.std.proofs.Common.{◌≡◌, ◌↔◌, ⊎_elim, ℕ, ◌+◌, ◌<◌, List, [], ◌∷◌, ◌++◌, map, length, get_or, slice_get, take, IfOk, MatchOption, Option, None, Some, Result, Ok, Err, Vec, refl, ap, sym, ◌∙◌, subst, arith}
+use Rattle.std.specs.List.{Contains, flat_map}
+use Rattle.std.specs.List.Sorted.{IsStrictlySortedBy}
+use Rattle.std.specs.Ordering.{nat_cmp}
+use Rattle.std.proofs.lemmas.List.{take_more}
+use Rattle.std.proofs.lemmas.List.Elements.{Contains-append_cases, Contains-append_left, Contains-append_right, Contains-push, Contains-push_cases}
+use Rattle.td_values.specs.declared.TypeKind.TheVariants as kind
+use Rattle.td_syntax.specs.declared.script.Action.{Action}
+use Rattle.td_syntax.specs.declared.script.Statement.{Statement}
+use Rattle.td_kinds.specs.Kinds.{Name}
+use Rattle.td_trees.specs.declared.expression.Expression.{Expression}
+use Rattle.td_trees.specs.declared.tree.Typed.{Typed}
+use Rattle.td_typing.specs.Trees.{typing}
+use Rattle.td_typing.proofs.Complete.{complete}
+use Rattle.td_typing.proofs.KindLemmas.{some_same}
+use Rattle.td_headings.specs.Catalogues.{CatalogueData}
+use Rattle.td_headings.specs.Definitions.{Defined}
+use Rattle.td_headings.specs.Expressions.{HasAllUnder, IsClosedExpression, IsConstraint, constraint_at, constraint_of, reads}
+use Rattle.td_headings.specs.Reached.{AreThose, ReadsRelvar}
+use Rattle.td_headings.specs.Statements.{AreAssignments, IsAssignment, IsTarget, TypesStatement, actions_of, assignments_of, next_assignment, no_assignments}
+use Rattle.td_headings.specs.declared.defined.Test.{Test}
+use Rattle.td_headings.specs.declared.defined.Test.TheVariants as test
+use Rattle.td_headings.specs.declared.statement.TypedAssignment.{TypedAssignment}
+use Rattle.td_headings.specs.declared.statement.TypedStatement.{TypedStatement}
+use Rattle.td_headings.proofs.ReadLemmas.{reads_those}
+use Rattle.td_headings.proofs.WellTyped.{all_typed}
+use Rattle.td_story.proofs.Unique.{one_text}
+use Rattle.td_story.specs.Footprints.{InFootprint, IsInFootprint, IsTargetOfText, TestReads, by_source, by_test, target}
+use Rattle.td_story.specs.Steps.{IsRead, IsUnread}
+use Rattle.td_assign.specs.ForProofs.Names.{AreNames, Gathers, ReadsWith}
+use Rattle.td_assign.specs.declared.names.Names.{Names}
+
+-- ---- lists
+nowhere : {A P : Type 0} (y : A) → Contains [] y → P
+nowhere y h = absurd (omega (arith, h.1))
+
+first : {A : Type 0} (x : A) (xs : List A) → Contains (x ∷ xs) x
+first x xs = (0, omega arith, refl)
+
+further : {A : Type 0} (x : A) (xs : List A) (y : A) → Contains xs y → Contains (x ∷ xs) y
+further x xs y h = Contains-append_right (x ∷ []) xs y h
+
+either : {A P : Type 0} (x : A) (xs : List A) (y : A) → Contains (x ∷ xs) y → (x ≡ y → P) → (Contains xs y → P) → P
+either x xs y h here later = ⊎_elim (λ one. ⊎_elim (λ none. nowhere y none) here (Contains-push_cases [] x y one)) later (Contains-append_cases (x ∷ []) xs y h)
+
+those_alike : (P Q : ℕ → Type 0) (places : List ℕ) → ((n : ℕ) → P n ↔ Q n) → AreThose P places → AreThose Q places
+those_alike P Q places same a = record { members = λ n. (λ h. (same n).0 ((a.members n).0 h), λ q. (a.members n).1 ((same n).1 q)); ascending = a.ascending }
+
+nothing_ascends : IsStrictlySortedBy nat_cmp []
+unfolding IsStrictlySortedBy
+nothing_ascends = tt
+
+none_of : (P : ℕ → Type 0) → ((n : ℕ) → P n → ⊥) → AreThose P []
+none_of P never = record { members = λ n. (λ h. nowhere n h, λ p. absurd (never n p)); ascending = nothing_ascends }
+
+-- ---- gathering
+module _ {A : Type 0} (P : A → ℕ → Type 0) where
+  gathers_more : (xs : List A) (x : A) (places more : List ℕ) → Gathers P xs places → ((n : ℕ) → Contains more n ↔ P x n) → Gathers P (xs ++ x ∷ []) (places ++ more)
+  gathers_more xs x places more all is n = (
+    λ h. ⊎_elim
+        (λ old. let q = (all n).0 old in (q.0, Contains-append_left xs (x ∷ []) q.0 q.1, q.2))
+        (λ new. (x, Contains-push xs x, (is n).0 new))
+        (Contains-append_cases places more n h),
+    λ q. ⊎_elim
+        (λ old. Contains-append_left places more n ((all n).1 (q.0, old, q.2)))
+        (λ e. Contains-append_right places more n ((is n).1 (subst (λ (y : A). P y n) (sym e) q.2)))
+        (Contains-push_cases xs x q.0 q.1),
+  )
+
+  pub gathers_next : (xs : List A) (i : ℕ) (d : A) (places more : List ℕ) → i < length xs → Gathers P (take i xs) places → ((n : ℕ) → Contains more n ↔ P (get_or xs i d) n) → Gathers P (take (i + 1) xs) (places ++ more)
+  gathers_next xs i d places more lt all is =
+      subst (λ (ys : List A). Gathers P ys (places ++ more)) (sym (take_more xs i d lt)) (gathers_more (take i xs) (get_or xs i d) places more all is)
+
+module _ {A : Type 0} (f : A → List ℕ) where
+  in_flat : (xs : List A) (n : ℕ) → Contains (flat_map f xs) n ↔ ((x : A) × Contains xs x × Contains (f x) n)
+  in_flat [] n = (λ h. nowhere n h, λ q. nowhere q.0 q.1)
+  in_flat (x ∷ xs) n =
+      let rest = in_flat xs n in (
+        λ h. ⊎_elim
+            (λ here. (x, first x xs, here))
+            (λ later. let q = rest.0 later in (q.0, further x xs q.0 q.1, q.2))
+            (Contains-append_cases (f x) (flat_map f xs) n h),
+        λ q. either x xs q.0 q.1
+            (λ e. Contains-append_left (f x) (flat_map f xs) n (subst (λ (y : A). Contains (f y) n) (sym e) q.2))
+            (λ later. Contains-append_right (f x) (flat_map f xs) n (rest.1 (q.0, later, q.2))),
+      )
+
+-- ---- what a call on an expression tells
+pub places_read : {E Z : Type 0} (P : ℕ → Type 0) (ns : List ℕ) (m : Result (Vec ℕ Z) E) → IfOk m (λ v. v.items ≡ ns) → ((n : ℕ) → Contains ns n ↔ P n) → IfOk m (λ v. (n : ℕ) → Contains v.items n ↔ P n)
+places_read P ns (Ok v) h are = subst (λ (l : List ℕ). (n : ℕ) → Contains l n ↔ P n) (sym h) are
+places_read P ns (Err e) h are = tt
+
+pub constraint_reads : (c : CatalogueData) → Defined c → (place : ℕ) (t : Test) (name : Name) (u : Typed) → slice_get c.tests place ≡ Some t → t ≡ test.Constraint name u → (o : Option Expression) (e : Expression) → o ≡ Some e → MatchOption o (constraint_at c place ≡ None) (IsConstraint c (constraint_at c place)) → (n : ℕ) → Contains (reads e) n ↔ TestReads c t n
+constraint_reads c defined place t name u stands is o e some h n =
+    let tree : constraint_at c place ≡ Some u = ap constraint_of (stands ∙ ap Some is) in
+    let closed : IsClosedExpression c u kind.Boolean e = subst (λ k. IsConstraint c k e) tree (subst (λ q. MatchOption q (constraint_at c place ≡ None) (IsConstraint c (constraint_at c place))) some h) in
+    subst (λ (w : Test). Contains (reads e) n ↔ TestReads c w n) (sym is)
+    (subst (λ (v : Typed). Contains (reads e) n ↔ ReadsRelvar c.origins v n) closed.tree ((reads_those c (all_typed c defined) e closed.under).members n))
+
+-- ---- what a typed statement names
+under : (c : CatalogueData) (as' : List Action) (xs : List TypedAssignment) → AreAssignments c as' xs → (x : TypedAssignment) → Contains xs x → HasAllUnder c x.source
+under c [] [] no_assignments x h = nowhere x h
+under c (a ∷ as') (y ∷ xs) (next_assignment p ps) x h = either y xs x h (λ e. subst (λ (z : TypedAssignment). HasAllUnder c z.source) e p.source.under) (under c as' xs ps x)
+under c [] (y ∷ xs) p x h = elim p [ ]
+under c (a ∷ as') [] p x h = elim p [ ]
+
+module _ (c : CatalogueData) (x : TypedStatement) (typed : (s : Statement) × TypesStatement c s x) (defined : Defined c) (ts needed : List ℕ) (are_targets : AreThose (IsTarget x) ts) (gathers : Gathers (ReadsWith c ts) c.tests needed) where
+  abbrev read : List ℕ
+  read = flat_map (λ (y : TypedAssignment). reads y.source) (assignments_of x)
+
+  source_reads : (y : TypedAssignment) → Contains (assignments_of x) y → (n : ℕ) → Contains (reads y.source) n ↔ ReadsRelvar c.origins y.source.tree n
+  source_reads y there = (reads_those c (all_typed c defined) y.source (under c (actions_of typed.0) (assignments_of x) typed.1 y there)).members
+
+  named : (n : ℕ) → Contains ((ts ++ needed) ++ read) n → InFootprint c x n
+  named n h = ⊎_elim
+      (λ front. ⊎_elim
+      (λ is. target ((are_targets.members n).0 is))
+      (λ need. let q = (gathers n).0 need in by_test q.1 q.2.1 ((are_targets.members q.2.0).0 q.2.2) q.2.3)
+      (Contains-append_cases ts needed n front))
+      (λ of. let q = (in_flat (λ (y : TypedAssignment). reads y.source) (assignments_of x) n).0 of in by_source q.1 ((source_reads q.0 q.1 n).0 q.2))
+      (Contains-append_cases (ts ++ needed) read n h)
+
+  is_named : (n : ℕ) → InFootprint c x n → Contains ((ts ++ needed) ++ read) n
+  is_named n (target h) = Contains-append_left (ts ++ needed) read n (Contains-append_left ts needed n ((are_targets.members n).1 h))
+  is_named n (by_source {a = a} there r) = Contains-append_right (ts ++ needed) read n ((in_flat (λ (y : TypedAssignment). reads y.source) (assignments_of x) n).1 (a, there, (source_reads a there n).1 r))
+  is_named n (by_test {m = m} {t = t} there q h r) = Contains-append_left (ts ++ needed) read n (Contains-append_right ts needed n ((gathers n).1 (t, there, (m, q, (are_targets.members m).1 h, r))))
+
+  pub footprint_those : (places all : List ℕ) → all ≡ (ts ++ needed) ++ read → AreThose (Contains all) places → AreThose (InFootprint c x) places
+  footprint_those places all is a = those_alike (Contains all) (InFootprint c x) places (λ n. (λ h. named n (subst (λ (l : List ℕ). Contains l n) is h), λ f. subst (λ (l : List ℕ). Contains l n) (sym is) (is_named n f))) a
+
+-- ---- a text names what its statement does
+module _ (c : CatalogueData) where
+  one_target : (a : Action) (x y : TypedAssignment) → IsAssignment c a x → IsAssignment c a y → x.target ≡ y.target
+  one_target a x y p q = ap (λ z. z.0) (some_same (x.target, p.relvar) (y.target, q.relvar) (sym p.names ∙ q.names))
+
+  one_tree : (a : Action) (x y : TypedAssignment) → IsAssignment c a x → IsAssignment c a y → x.source.tree ≡ y.source.tree
+  one_tree a x y p q = ap (λ z. z.tree) (some_same (typing x.source.tree x.source.kind) (typing y.source.tree y.source.kind) (sym (complete c.schema p.source.types) ∙ complete c.schema q.source.types))
+
+  same_targets : (as' : List Action) (xs ys : List TypedAssignment) → AreAssignments c as' xs → AreAssignments c as' ys → map (λ (x : TypedAssignment). x.target) xs ≡ map (λ (x : TypedAssignment). x.target) ys
+  same_targets [] [] [] no_assignments no_assignments = refl
+  same_targets [] [] (y ∷ ys) p q = elim q [ ]
+  same_targets [] (x ∷ xs) ys p q = elim p [ ]
+  same_targets (a ∷ as') [] ys p q = elim p [ ]
+  same_targets (a ∷ as') (x ∷ xs) [] p q = elim q [ ]
+  same_targets (a ∷ as') (x ∷ xs) (y ∷ ys) (next_assignment p ps) (next_assignment q qs) = λ i. one_target a x y p q i ∷ same_targets as' xs ys ps qs i
+
+  same_tree : (as' : List Action) (xs ys : List TypedAssignment) → AreAssignments c as' xs → AreAssignments c as' ys → (z : TypedAssignment) → Contains xs z → (w : TypedAssignment) × Contains ys w × (z.source.tree ≡ w.source.tree)
+  same_tree [] [] ys p q z h = nowhere z h
+  same_tree [] (x ∷ xs) ys p q z h = elim p [ ]
+  same_tree (a ∷ as') [] ys p q z h = elim p [ ]
+  same_tree (a ∷ as') (x ∷ xs) [] p q z h = elim q [ ]
+  same_tree (a ∷ as') (x ∷ xs) (y ∷ ys) (next_assignment p ps) (next_assignment q qs) z h =
+      either x xs z h
+      (λ e. (y, first y ys, subst (λ (v : TypedAssignment). v.source.tree ≡ y.source.tree) e (one_tree a x y p q)))
+      (λ later. let k = same_tree as' xs ys ps qs z later in (k.0, further y ys k.0 k.1, k.2))
+
+  module _ (text : List ℕ) where
+    moved : (x y : TypedStatement) (p : IsRead c text x) (q : IsRead c text y) → AreAssignments c (actions_of p.statement) (assignments_of y)
+    moved x y p q = subst (λ s. AreAssignments c (actions_of s) (assignments_of y)) (one_text text q.statement p.statement q.reads p.reads) q.types
+
+    one_targets : (x y : TypedStatement) (p : IsRead c text x) (q : IsRead c text y) → map (λ (z : TypedAssignment). z.target) (assignments_of x) ≡ map (λ (z : TypedAssignment). z.target) (assignments_of y)
+    one_targets x y p q = same_targets (actions_of p.statement) (assignments_of x) (assignments_of y) p.types (moved x y p q)
+
+    target_moves : (x y : TypedStatement) (p : IsRead c text x) (q : IsRead c text y) (n : ℕ) → IsTarget x n → IsTarget y n
+    target_moves x y p q n h = subst (λ (ts : List ℕ). Contains ts n) (one_targets x y p q) h
+
+    place_moves : (x y : TypedStatement) (p : IsRead c text x) (q : IsRead c text y) (n : ℕ) → InFootprint c x n → InFootprint c y n
+    place_moves x y p q n (target h) = target (target_moves x y p q n h)
+    place_moves x y p q n (by_source {a = a} there r) =
+        let k = same_tree (actions_of p.statement) (assignments_of x) (assignments_of y) p.types (moved x y p q) a there in
+        by_source k.1 (subst (λ u. ReadsRelvar c.origins u n) k.2 r)
+    place_moves x y p q n (by_test {m = m} there k h r) = by_test there k (target_moves x y p q m h) r
+
+    pub names_read : (x : TypedStatement) → IsRead c text x → (v : Names) → AreThose (IsTarget x) v.targets.items → AreThose (InFootprint c x) v.footprint.items → AreNames c text v
+    names_read x p v ts ns = record {
+      targets = those_alike (IsTarget x) (IsTargetOfText c text) v.targets.items (λ n. (λ h. record { statement = x; reads = p; target = h }, λ t. target_moves t.statement x t.reads p n t.target)) ts;
+      footprint = those_alike (InFootprint c x) (IsInFootprint c text) v.footprint.items (λ n. (λ h. record { statement = x; reads = p; within = h }, λ t. place_moves t.statement x t.reads p n t.within)) ns;
+    }
+
+    pub names_unread : IsUnread c text → (v : Names) → v.targets.items ≡ [] → v.footprint.items ≡ [] → AreNames c text v
+    names_unread unread v ts ns = record {
+      targets = subst (AreThose (IsTargetOfText c text)) (sym ts) (none_of (IsTargetOfText c text) (λ n t. unread t.statement t.reads));
+      footprint = subst (AreThose (IsInFootprint c text)) (sym ns) (none_of (IsInFootprint c text) (λ n t. unread t.statement t.reads));
+    }

@@ -1,0 +1,171 @@
+//! The relvars of a statement: those that it assigns, and those on which it hangs.
+
+ghost use Rattle.std.specs.Prelude.{◌≡◌, ◌↔◌, ℕ, [], IfOk, IsTrue, Some, slice_get};
+ghost use Rattle.std.specs.List.{Contains, flat_map};
+ghost use Rattle.td_syntax.specs.declared.script.Statement.{Statement};
+ghost use Rattle.td_headings.specs.Definitions.{Defined};
+ghost use Rattle.td_headings.specs.Expressions as expressions;
+ghost use Rattle.td_headings.specs.Reached.{AreThose};
+ghost use Rattle.td_headings.specs.Statements as typed;
+ghost use Rattle.td_headings.specs.Statements.{IsTarget, TypesStatement};
+ghost use Rattle.td_headings.specs.declared.statement.TypedAssignment as declared;
+ghost use Rattle.td_story.specs.Footprints.{InFootprint, TestReads};
+ghost use Rattle.td_assign.specs.ForProofs.Names.{Gathers, ReadsWith};
+
+use std::alloc::{AllocError, Global};
+use td_headings::{
+    Catalogue, Test, TypedAssignment, TypedStatement, constraint_expr, reads, targets,
+};
+
+/// The relvars of a statement, by their places in order of definition, each once.
+#[derive(Drop)]
+pub(crate) struct Names {
+    pub targets: Vec<usize>,
+    pub footprint: Vec<usize>,
+}
+
+// These places, ascending, each once.
+fn in_order(places: Vec<usize>) -> Vec<usize>
+    ensures { AreThose (Contains places.items) result.items }
+{
+    let mut places = places;
+    places.sort_unstable();
+    places.dedup();
+    places
+}
+
+fn meets(targets: &[usize], places: &[usize]) -> bool
+    ensures { IsTrue result ↔ ((n : ℕ) × Contains places.now n × Contains targets.now n) }
+{
+    places.iter().any(|place| targets.contains(place))
+}
+
+pub(crate) fn assignments_of(statement: &TypedStatement) -> &[TypedAssignment]
+    ensures { result.now ≡ typed.assignments_of statement.now }
+{
+    match statement {
+        TypedStatement::Assignment(assignments) => assignments.as_slice(),
+    }
+}
+
+// What the sources read.
+fn sources_read(alloc: Global, assignments: &[TypedAssignment]) -> Result<Vec<usize>, AllocError>
+    ensures { IfOk result (λ v. v.items ≡ flat_map (λ (x : declared.TypedAssignment). expressions.reads x.source) assignments.now) }
+{
+    let mut places = Vec::new(alloc);
+    for assignment in assignments {
+        let mut more = reads(alloc, &assignment.source)?;
+        places.append(&mut more)?;
+    }
+    Ok(places)
+}
+
+fn only(alloc: Global, place: usize) -> Result<Vec<usize>, AllocError>
+    ensures { IfOk result (λ v. (n : ℕ) → Contains v.items n ↔ (n ≡ place)) }
+{
+    let mut places = Vec::new(alloc);
+    places.push(place)?;
+    Ok(places)
+}
+
+// What the test, which stands at this place, reads.
+fn test_reads(
+    alloc: Global,
+    catalogue: &Catalogue,
+    place: usize,
+    test: &Test,
+) -> Result<Vec<usize>, AllocError>
+    requires defined { Defined catalogue.now }
+    requires test { slice_get catalogue.now.tests place ≡ Some test.now }
+    ensures { IfOk result (λ v. (n : ℕ) → Contains v.items n ↔ TestReads catalogue.now test.now n) }
+{
+    match test {
+        Test::Key(relvar, _) => only(alloc, *relvar),
+        Test::Constraint(_, _) => match constraint_expr(alloc, catalogue, place)? {
+            Some(expr) => reads(alloc, &expr),
+            None => unreachable!(),
+        },
+    }
+}
+
+// The same, where it reads a target, and else nothing.
+fn test_needs(
+    alloc: Global,
+    catalogue: &Catalogue,
+    targets: &[usize],
+    place: usize,
+    test: &Test,
+) -> Result<Vec<usize>, AllocError>
+    requires defined { Defined catalogue.now }
+    requires test { slice_get catalogue.now.tests place ≡ Some test.now }
+    ensures { IfOk result (λ v. (n : ℕ) → Contains v.items n ↔ ReadsWith catalogue.now targets.now test.now n) }
+{
+    let places = test_reads(alloc, catalogue, place, test)?;
+    if meets(targets, &places) {
+        Ok(places)
+    } else {
+        Ok(Vec::new(alloc))
+    }
+}
+
+// What each test reads that reads a target.
+fn tests_need(
+    alloc: Global,
+    catalogue: &Catalogue,
+    targets: &[usize],
+) -> Result<Vec<usize>, AllocError>
+    ensures defined { Defined catalogue.now }
+    ensures places { IfOk result (λ v. Gathers (ReadsWith catalogue.now targets.now) catalogue.now.tests v.items) }
+{
+    let tests = catalogue.tests();
+    let mut places = Vec::new(alloc);
+    for place in 0..tests.len() {
+        let mut more = test_needs(alloc, catalogue, targets, place, &tests[place])?;
+        places.append(&mut more)?;
+    }
+    Ok(places)
+}
+
+/// The places of the base relvars on which the statement hangs, in order of definition, each once. It costs the sizes
+/// of all constraints, with those of the expressions of the virtual relvars under them.
+pub fn footprint(
+    alloc: Global,
+    catalogue: &Catalogue,
+    statement: &TypedStatement,
+) -> Result<Vec<usize>, AllocError>
+    requires { (s : Statement) × TypesStatement catalogue.now s statement.now }
+    ensures { IfOk result (λ v. AreThose (InFootprint catalogue.now statement.now) v.items) }
+{
+    let mut places = targets(alloc, statement)?;
+    let mut needed = tests_need(alloc, catalogue, &places)?;
+    let mut read = sources_read(alloc, assignments_of(statement))?;
+    places.append(&mut needed)?;
+    places.append(&mut read)?;
+    Ok(in_order(places))
+}
+
+/// The relvars of a typed statement.
+pub(crate) fn names_of(
+    alloc: Global,
+    catalogue: &Catalogue,
+    statement: &TypedStatement,
+) -> Result<Names, AllocError>
+    requires { (s : Statement) × TypesStatement catalogue.now s statement.now }
+    ensures targets { IfOk result (λ x. AreThose (IsTarget statement.now) x.targets.items) }
+    ensures footprint { IfOk result (λ x. AreThose (InFootprint catalogue.now statement.now) x.footprint.items) }
+{
+    let footprint = footprint(alloc, catalogue, statement)?;
+    let targets = targets(alloc, statement)?;
+    Ok(Names { targets, footprint })
+}
+
+/// Those of a text that is no statement.
+pub(crate) fn no_names(alloc: Global) -> Names
+    ensures targets { result.targets.items ≡ [] }
+    ensures footprint { result.footprint.items ≡ [] }
+{
+    Names {
+        targets: Vec::new(alloc),
+        footprint: Vec::new(alloc),
+    }
+}
