@@ -123,7 +123,7 @@ given_alike g (x ∷ s) (y ∷ t) (suc m) e h = given_alike (λ n. g (suc n)) s 
 
 -- ---- only targets change
 module _ (P : ℕ → Type 0) where
-  abbrev AreOf : Given → Type 0
+  abbrev pub AreOf : Given → Type 0
   AreOf g = (n : ℕ) (r : RowsData) → g n ≡ Some r → P n
 
   gives_of : (n : ℕ) (r : RowsData) (g : Given) → P n → AreOf g → AreOf (gives n r g)
@@ -133,7 +133,7 @@ module _ (P : ℕ → Type 0) where
       by true e same = subst P (eqb-true n m e) p
       by false e same = h m q same
 
-  sources_of : (c : CatalogueData) (r : Relvars) (xs : List TypedAssignment) → ((n : ℕ) → Contains (map (λ (x : TypedAssignment). x.target) xs) n → P n) → (g h : Given) → AreOf g → sources c r g xs ≡ Ok h → AreOf h
+  pub sources_of : (c : CatalogueData) (r : Relvars) (xs : List TypedAssignment) → ((n : ℕ) → Contains (map (λ (x : TypedAssignment). x.target) xs) n → P n) → (g h : Given) → AreOf g → sources c r g xs ≡ Ok h → AreOf h
   sources_of c r [] each g h are is = subst AreOf (same is) are
     where
       same : ◌≡◌ {A = Result Given Stop} (Ok g) (Ok h) → g ≡ h
@@ -146,7 +146,7 @@ module _ (P : ℕ → Type 0) where
       by (Err f) e rest = cc
 
   -- a relvar is a target, or has afterwards what it had
-  of_or_stays : (g : Given) → AreOf g → (n : ℕ) → P n ⊎ ((s : Stored) → stored_relvars (with_given g s) n ≡ stored_relvars s n)
+  pub of_or_stays : (g : Given) → AreOf g → (n : ℕ) → P n ⊎ ((s : Stored) → stored_relvars (with_given g s) n ≡ stored_relvars s n)
   of_or_stays g h n = by (g n) refl
     where
       by : (o : Option RowsData) → g n ≡ o → P n ⊎ ((s : Stored) → stored_relvars (with_given g s) n ≡ stored_relvars s n)

@@ -10,3 +10,4 @@ pub mod Listed
 pub mod Remaking
 pub mod Leading
 pub mod Naming
+pub mod Stepping

@@ -91,6 +91,13 @@ module _ (c : CatalogueData) where
       nothing_else = nothing_given_of_virtual;
     }
 
+    pub bases_seen : (t : ℕ) → AreBases c (seen g t (stored_relvars stored))
+    bases_seen t n v base at = by (t == n)
+      where
+        by : (b : Bool) → GivesRelation c.schema v.value (if b then or_old (g n) (stored_relvars stored n) else stored_relvars stored n)
+        by true = are_bases c (replaced g (stored_relvars stored)) (subst (AreStored c) (sym given_replaced) given_stored) n v base at
+        by false = are_bases c (stored_relvars stored) is.stored n v base at
+
   module _ (cs : List Change) (are : AreChanges c cs) (stored : Stored) (is : IsOf stored) where
     pub is_after : IsOf (with_given (given_to cs) stored)
     is_after = given_is (given_to cs) (given_belongs cs are.each) stored is
@@ -102,11 +109,7 @@ module _ (c : CatalogueData) where
     replaced_stored = subst (AreStored c) (sym all_replaced) is_after.stored
 
     pub seen_bases : (t : ℕ) → AreBases c (seen (given_to cs) t (stored_relvars stored))
-    seen_bases t n v base at = by (t == n)
-      where
-        by : (b : Bool) → GivesRelation c.schema v.value (if b then or_old (given_to cs n) (stored_relvars stored n) else stored_relvars stored n)
-        by true = are_bases c (replaced (given_to cs) (stored_relvars stored)) replaced_stored n v base at
-        by false = are_bases c (stored_relvars stored) is.stored n v base at
+    seen_bases = bases_seen (given_to cs) (given_belongs cs are.each) stored is
 
 -- ---- one target after the other
 pub given_nothing : (xs : Stored) → with_given nothing_given xs ≡ xs

@@ -5,7 +5,7 @@ use Rattle.td_relations.specs.Deltas.{DeltaData}
 use Rattle.td_meaning.specs.Mean.{Relvars}
 use Rattle.td_story.specs.Databases.{DatabaseData, IsDatabase, IsLegal, Stored, stored_relvars}
 use Rattle.td_story.specs.Differences.{AreDifferences}
-use Rattle.td_story.specs.Footprints.{AgreeOnFootprint}
+use Rattle.td_story.specs.Footprints.{AgreeOnFootprint, IsTargetOfText}
 use Rattle.td_story.specs.Steps.{Steps}
 use Rattle.td_story.specs.declared.outcome.Outcome.{Outcome}
 use Rattle.td_relvars.specs.Changed.{redone, undone}
@@ -22,6 +22,17 @@ abbrev pub StepByFootprint : Type 0
 StepByFootprint =
     (d e f : DatabaseData) (text : List ℕ) (o : Outcome) → IsDatabase d → IsDatabase e → IsLegal d → IsLegal e
     → AgreeOnFootprint d e text → Steps d text o f → StepsAlike d f e text o
+
+-- a statement changes its targets alone
+abbrev pub ChangesTargets : Type 0
+ChangesTargets =
+    (d e : DatabaseData) (text : List ℕ) (o : Outcome) (n : ℕ) → Steps d text o e → (IsTargetOfText d.catalogue text n → ⊥)
+    → stored_relvars e.stored n ≡ stored_relvars d.stored n
+
+-- a statement leaves a database, of the same catalogue
+abbrev pub StepKeepsDatabase : Type 0
+StepKeepsDatabase =
+    (d e : DatabaseData) (text : List ℕ) (o : Outcome) → IsDatabase d → Steps d text o e → IsDatabase e × (e.catalogue ≡ d.catalogue)
 
 -- a relvar that is not listed stays, whether changes are made or taken back
 abbrev pub OnlyListedChange : Type 0

@@ -1,9 +1,19 @@
-//! The laws of footprints, and of what is taken back and made again.
-ghost use Rattle.td_assign.specs.Laws.{DifferencesGoBothWays, GoAlike, OnlyListedChange, RedoneLeadsOn, StepByFootprint, UndoneLeadsBack};
+//! The laws of statements, and of what they changed, taken back and made again.
+ghost use Rattle.td_assign.specs.Laws.{ChangesTargets, DifferencesGoBothWays, GoAlike, OnlyListedChange, RedoneLeadsOn, StepByFootprint, StepKeepsDatabase, UndoneLeadsBack};
 
 /// Legal databases that agree on the footprint of a text give it one outcome and the same differences.
 pub fn step_by_footprint()
     ensures { StepByFootprint }
+{}
+
+/// A statement changes its targets alone.
+pub fn changes_targets()
+    ensures { ChangesTargets }
+{}
+
+/// A statement leaves a database, of the same catalogue.
+pub fn step_keeps_database()
+    ensures { StepKeepsDatabase }
 {}
 
 /// A relvar that is not listed stays, whether changes are made or taken back.
