@@ -91,7 +91,8 @@ pub trait Machine {
     /// Makes the state that a copy is of, where the two are alike at all places that were not copied. It takes no
     /// memory.
     fn put_back(&mut self, part: Self::Part)
-        ensures { (s : Self) → (ns : List ℕ) → saved part ns s → origin s ≡ origin self.old → ((n : ℕ) → (Contains ns n → ⊥) → alike s self.old n) → self.new ≡ s };
+        requires { (s : Self) × (ns : List ℕ) × sound s × saved part ns s × (origin s ≡ origin self.old) }
+        ensures { (s : Self) → (ns : List ℕ) → sound s → saved part ns s → origin s ≡ origin self.old → ((n : ℕ) → (Contains ns n → ⊥) → alike s self.old n) → self.new ≡ s };
 
     fn footprint_of(ran: &Self::Record) -> &[usize]
         ensures { result.now ≡ footprint_in ran.now };

@@ -1,5 +1,6 @@
 use Rattle.std.proofs.Common.{ap, sym, arith}
 use Rattle.td_stamps.proofs.Stories as stories
+use Rattle.td_rollback.specs.Going.{SoundFrom}
 use Rattle.td_rollback.proofs.Counting.{at_most_all}
 use Rattle.td_rollback.proofs.retelling.retell.Goals as goal
 
@@ -23,13 +24,25 @@ returns-in-Err-clause-few g c =
 
 pub returns-in-Err-clause-kept : goal.returns-in-Err-clause-kept
 returns-in-Err-clause-kept g c =
+    let m = g.M.Machine in
+    let o = m.origin c.args.machine.now in
+    let sound : SoundFrom m.sound m.origin o c.args.machine.now =
+        stories.kept m.steps (SoundFrom m.sound m.origin o) (λ s t e r step h. (g.met.M.Machine.goes o).stay_sound s t e r h step) o c.args.machine.now c.args.old.now c.args.log.now c.requires.story
+        (c.requires.sound, g.met.M.Machine.rooted c.args.machine.now)
+    in
     let saved = c.in_ok-part.ensures in
-    c.put_back.ensures c.args.machine.now saved.0 saved.1 (sym c.replay_from.ensures.origin) (λ n never. c.replay_from.ensures.elsewhere n (λ h. never (saved.2 n h)))
+    c.put_back.ensures c.args.machine.now saved.0 sound.0 saved.1 (sym c.replay_from.ensures.origin) (λ n never. c.replay_from.ensures.elsewhere n (λ h. never (saved.2 n h)))
 
 pub returns-in-Err-clause-origin : goal.returns-in-Err-clause-origin
 returns-in-Err-clause-origin g c =
+    let m = g.M.Machine in
+    let o = m.origin c.args.machine.now in
+    let sound : SoundFrom m.sound m.origin o c.args.machine.now =
+        stories.kept m.steps (SoundFrom m.sound m.origin o) (λ s t e r step h. (g.met.M.Machine.goes o).stay_sound s t e r h step) o c.args.machine.now c.args.old.now c.args.log.now c.requires.story
+        (c.requires.sound, g.met.M.Machine.rooted c.args.machine.now)
+    in
     let saved = c.in_ok-part.ensures in
-    ap g.M.Machine.origin (c.put_back.ensures c.args.machine.now saved.0 saved.1 (sym c.replay_from.ensures.origin) (λ n never. c.replay_from.ensures.elsewhere n (λ h. never (saved.2 n h))))
+    ap g.M.Machine.origin (c.put_back.ensures c.args.machine.now saved.0 sound.0 saved.1 (sym c.replay_from.ensures.origin) (λ n never. c.replay_from.ensures.elsewhere n (λ h. never (saved.2 n h))))
 
 pub returns-in-Ok-clause-front : goal.returns-in-Ok-clause-front
 returns-in-Ok-clause-front g c =
@@ -37,3 +50,14 @@ returns-in-Ok-clause-front g c =
     let each = stories.as_many m.steps (m.origin c.args.machine.now) c.args.machine.now c.args.old.now c.args.log.now c.requires.story in
     let within = c.common_of-kept.ensures.in_old in
     omega (arith, each, within)
+
+pub put_back-requires : goal.put_back-requires
+put_back-requires g c =
+    let m = g.M.Machine in
+    let o = m.origin c.args.machine.now in
+    let sound : SoundFrom m.sound m.origin o c.args.machine.now =
+        stories.kept m.steps (SoundFrom m.sound m.origin o) (λ s t e r step h. (g.met.M.Machine.goes o).stay_sound s t e r h step) o c.args.machine.now c.args.old.now c.args.log.now c.requires.story
+        (c.requires.sound, g.met.M.Machine.rooted c.args.machine.now)
+    in
+    let saved = c.in_ok-part.ensures in
+    (c.args.machine.now, saved.0, sound.0, saved.1, sym c.replay_from.ensures.origin)
