@@ -189,6 +189,7 @@ impl Database {
     {
         set_at(&mut self.stored, relvar, Some(base));
     }
+
     /// Makes the change in the base relvar at the place, where its relation stands. It costs as `Delta::apply`.
     pub fn change(&mut self, alloc: Global, relvar: usize, delta: &Delta) -> Result<(), AllocError>
         requires { CanChange self.old relvar delta.now }
@@ -198,7 +199,7 @@ impl Database {
         change_at(alloc, &mut self.stored, relvar, delta)
     }
 
-    /// Makes its inverse.
+    /// Makes its inverse there. It costs as `Delta::undo`.
     pub fn change_back(
         &mut self,
         alloc: Global,
