@@ -4,6 +4,10 @@
 #![tactic(auto)]
 
 #[cfg(test)]
+mod changes;
+#[cfg(test)]
+mod contents;
+#[cfg(test)]
 mod database;
 #[cfg(test)]
 mod statements;
