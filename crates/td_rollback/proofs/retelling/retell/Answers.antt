@@ -27,8 +27,8 @@ returns-in-Err-clause-kept g c =
     let m = g.M.Machine in
     let o = m.origin c.args.machine.now in
     let sound : SoundFrom m.sound m.origin o c.args.machine.now =
-        stories.kept m.steps (SoundFrom m.sound m.origin o) (λ s t e r step h. (g.met.M.Machine.goes o).stay_sound s t e r h step) o c.args.machine.now c.args.old.now c.args.log.now c.requires.story
-        (c.requires.sound, g.met.M.Machine.rooted c.args.machine.now)
+    stories.kept m.steps (SoundFrom m.sound m.origin o) (λ s t e r step h. (g.met.M.Machine.goes o).stay_sound s t e r h step) o c.args.machine.now c.args.old.now c.args.log.now c.requires.story
+    (c.requires.sound, g.met.M.Machine.rooted c.args.machine.now)
     in
     let saved = c.in_ok-part.ensures in
     c.put_back.ensures c.args.machine.now saved.0 sound.0 saved.1 (sym c.replay_from.ensures.origin) (λ n never. c.replay_from.ensures.elsewhere n (λ h. never (saved.2 n h)))
@@ -38,8 +38,8 @@ returns-in-Err-clause-origin g c =
     let m = g.M.Machine in
     let o = m.origin c.args.machine.now in
     let sound : SoundFrom m.sound m.origin o c.args.machine.now =
-        stories.kept m.steps (SoundFrom m.sound m.origin o) (λ s t e r step h. (g.met.M.Machine.goes o).stay_sound s t e r h step) o c.args.machine.now c.args.old.now c.args.log.now c.requires.story
-        (c.requires.sound, g.met.M.Machine.rooted c.args.machine.now)
+    stories.kept m.steps (SoundFrom m.sound m.origin o) (λ s t e r step h. (g.met.M.Machine.goes o).stay_sound s t e r h step) o c.args.machine.now c.args.old.now c.args.log.now c.requires.story
+    (c.requires.sound, g.met.M.Machine.rooted c.args.machine.now)
     in
     let saved = c.in_ok-part.ensures in
     ap g.M.Machine.origin (c.put_back.ensures c.args.machine.now saved.0 sound.0 saved.1 (sym c.replay_from.ensures.origin) (λ n never. c.replay_from.ensures.elsewhere n (λ h. never (saved.2 n h))))
@@ -56,8 +56,8 @@ put_back-requires g c =
     let m = g.M.Machine in
     let o = m.origin c.args.machine.now in
     let sound : SoundFrom m.sound m.origin o c.args.machine.now =
-        stories.kept m.steps (SoundFrom m.sound m.origin o) (λ s t e r step h. (g.met.M.Machine.goes o).stay_sound s t e r h step) o c.args.machine.now c.args.old.now c.args.log.now c.requires.story
-        (c.requires.sound, g.met.M.Machine.rooted c.args.machine.now)
+    stories.kept m.steps (SoundFrom m.sound m.origin o) (λ s t e r step h. (g.met.M.Machine.goes o).stay_sound s t e r h step) o c.args.machine.now c.args.old.now c.args.log.now c.requires.story
+    (c.requires.sound, g.met.M.Machine.rooted c.args.machine.now)
     in
     let saved = c.in_ok-part.ensures in
     (c.args.machine.now, saved.0, sound.0, saved.1, sym c.replay_from.ensures.origin)
