@@ -26,7 +26,7 @@ use crate::sources::changes;
 use std::alloc::{AllocError, Global};
 use td_constraints::first_failure;
 use td_grammar::{ReadError, read_statement};
-use td_headings::{Catalogue, TypedAssignment, TypedStatement, type_statement};
+use td_headings::{Catalogue, TypedAssignment, TypedStatement, targets, type_statement};
 use td_kinds::error::TypeError;
 use td_relations::Delta;
 use td_relvars::Database;
@@ -143,6 +143,21 @@ fn unchanged(alloc: Global, outcome: Outcome, names: Names) -> Ran
         delta: Vec::new(alloc),
         targets,
         footprint,
+    }
+}
+
+/// The base relvars that the statement assigns, by their places, ascending, each once; of an unread text none. It reads
+/// and types the text, and evaluates nothing.
+pub fn targets_of(
+    alloc: Global,
+    catalogue: &Catalogue,
+    text: &str,
+) -> Result<Vec<usize>, AllocError>
+    ensures { IfOk result (λ v. AreThose (IsTargetOfText catalogue.now text.now) v.items) }
+{
+    match read(alloc, catalogue, text)? {
+        Some(statement) => targets(alloc, &statement),
+        None => Ok(Vec::new(alloc)),
     }
 }
 
