@@ -1,5 +1,6 @@
 -- The proofs of the crate.
 pub mod Telling
+pub mod Making
 pub mod Issuing
 pub mod Taking
 pub mod Asking

@@ -1,4 +1,5 @@
 -- Words that only proofs and private functions use.
+pub mod Going
 pub mod Told
 pub mod Judged
 pub mod Asked

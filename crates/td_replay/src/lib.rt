@@ -2,6 +2,7 @@
 #![tactic(auto)]
 
 mod asked;
+mod engine;
 mod judged;
 mod plain;
 mod told;

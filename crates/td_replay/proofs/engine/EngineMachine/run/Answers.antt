@@ -1,0 +1,15 @@
+use Rattle.std.proofs.Common.{◌≡◌, subst}
+use Rattle.std.specs.Prelude.{IfOk, OnErr}
+use Rattle.td_story.specs.Databases.{DatabaseData}
+use Rattle.td_story.specs.Steps.{Steps}
+use Rattle.td_replay.proofs.Making.{origin_ran}
+use Rattle.td_replay.proofs.engine.EngineMachine.run.Goals as goal
+
+pub returns-clause-origin : goal.returns-clause-origin
+returns-clause-origin c =
+    let d = c.args.self.now in
+    let new = c.run.new.database in
+    let text = c.as_str.result.now in
+    origin_ran d new text c.run.result c.requires
+    (subst (λ (z : DatabaseData). IfOk c.run.result (λ r. Steps z text r.outcome new)) c.self.view_is c.run.ensures.step)
+    (subst (λ (z : DatabaseData). OnErr c.run.result (new ≡ z)) c.self.view_is c.run.ensures.kept)

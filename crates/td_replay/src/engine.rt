@@ -1,0 +1,102 @@
+//! The database of one script, as a machine that runs entries, takes them back and makes their changes again.
+
+ghost use Rattle.std.specs.Prelude.{◌≡◌, refl};
+ghost use Rattle.td_replay.specs.Noted.{AreAlike, AreTargetsOf, IsFootprintOf, IsSound, Notes, opened_by};
+ghost use Rattle.td_relvars.specs.Parts.{part_of};
+ghost use Rattle.td_replay.specs.ForProofs.Going.{go};
+
+use std::alloc::{AllocError, Global};
+use std::marker::Model;
+use td_assign::{Ran, redo, run, targets_of, undo};
+use td_relvars::{Database, Part};
+use td_rollback::Machine;
+use td_stamps::Entry;
+use td_story::Meter;
+
+/// The database of one script.
+pub(crate) struct Engine {
+    pub database: Database,
+}
+
+// By hand, since a derived one is proved anew at each place where an engine is dropped: this one is a call there.
+impl Drop for Engine {
+    fn drop(self) {
+        let Engine { database: _ } = self;
+    }
+}
+
+impl Model for Engine {
+    ghost use Rattle.td_story.specs.Databases.{DatabaseData, database_code};
+
+    ghost Value = { DatabaseData };
+
+    ghost coded = { database_code };
+
+    ghost view = { λ e. e.database };
+}
+
+impl Machine for Engine {
+    type Record = Ran;
+
+    type Part = Part;
+
+    type Meter = Meter;
+
+    ghost sound = { IsSound };
+
+    ghost steps = { Notes };
+
+    ghost alike = { AreAlike };
+
+    ghost origin = { λ d. opened_by d.catalogue };
+
+    ghost footprint = { IsFootprintOf };
+
+    ghost targets = { AreTargetsOf };
+
+    ghost footprint_in = { λ r. r.footprint.items };
+
+    ghost targets_in = { λ r. r.targets.items };
+
+    ghost saved = { λ p ns d. p ≡ part_of d.stored ns };
+
+    ghost count = { λ m. m.count };
+
+    fn run(&mut self, alloc: Global, entry: &Entry, meter: &mut Meter) -> Result<Ran, AllocError> {
+        run(alloc, &mut self.database, entry.text.as_str(), meter)
+    }
+
+    fn undo(&mut self, alloc: Global, ran: &Ran) -> Result<(), AllocError> {
+        undo(alloc, &mut self.database, &ran.delta)
+    }
+
+    fn redo(&mut self, alloc: Global, ran: &Ran) -> Result<(), AllocError> {
+        redo(alloc, &mut self.database, &ran.delta)
+    }
+
+    fn may_change(&self, alloc: Global, entry: &Entry) -> Result<Vec<usize>, AllocError> {
+        targets_of(alloc, self.database.catalogue(), entry.text.as_str())
+    }
+
+    fn save(&self, alloc: Global, places: &[usize]) -> Result<Part, AllocError> {
+        self.database.copy_of(alloc, places)
+    }
+
+    fn put_back(&mut self, part: Part) {
+        // It shows that a database is there, and does nothing when it runs.
+        let _catalogue = self.database.catalogue();
+        self.database.put_back(part);
+    }
+
+    fn footprint_of(ran: &Ran) -> &[usize] {
+        ran.footprint.as_slice()
+    }
+
+    fn targets_of(ran: &Ran) -> &[usize] {
+        ran.targets.as_slice()
+    }
+
+    ghost rooted = { λ _. refl };
+
+    ghost goes = { go };
+}
