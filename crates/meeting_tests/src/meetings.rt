@@ -4,7 +4,7 @@ use crate::bytes::SCRIPT;
 use crate::site::{Result, Start, Written, batch, vector};
 use std::alloc::Global;
 use td_meeting::meet;
-use td_replay::PlainSite;
+use td_replay::{PlainSite, Site};
 use td_stamps::Entry;
 use td_story::{Meter, Opens, Replica};
 use td_values::Text;
@@ -79,7 +79,7 @@ fn with_second<A: Replica>(
 
 fn met(alloc: Global, meter: &mut Meter, case: &Case) -> Result<String> {
     let Start { site, limit, .. } = case.first;
-    match PlainSite::open_script(alloc, SCRIPT, site, limit) {
+    match Site::open_script(alloc, SCRIPT, site, limit) {
         Ok(mut first) => with_second(alloc, meter, &mut first, case),
         Err(_) => Ok(String::from_str(alloc, "the first site is not opened")?),
     }
@@ -225,7 +225,7 @@ fn with_long_second<A: Replica>(
 }
 
 fn met_of_long(alloc: Global, meter: &mut Meter, script: &str, count: u32) -> Result<String> {
-    match PlainSite::open_script(alloc, script, 1, 100) {
+    match Site::open_script(alloc, script, 1, 100) {
         Ok(mut first) => with_long_second(alloc, meter, &mut first, script, count),
         Err(_) => Ok(String::from_str(alloc, "the first site is not opened")?),
     }

@@ -6,7 +6,7 @@ use std::alloc::Global;
 use std::test::Fail;
 use td_devices::{Channel, Device, Pair};
 use td_meeting::{MeetingError, answer, finish, greet, settle};
-use td_replay::PlainSite;
+use td_replay::Site;
 use td_stamps::Entry;
 use td_story::{Meter, Opens, Replica, Taken};
 use td_values::Text;
@@ -114,7 +114,7 @@ pub fn told(
     step: Step,
     link: Pair<Given, &mut Narrow>,
 ) -> Result<String> {
-    match PlainSite::open_script(alloc, SCRIPT, start.site, start.limit) {
+    match Site::open_script(alloc, SCRIPT, start.site, start.limit) {
         Ok(mut site) => told_by(alloc, &mut site, meter, start.held, step, link),
         Err(_) => Ok(String::from_str(alloc, "the site is not opened")?),
     }

@@ -6,6 +6,8 @@
 #[cfg(test)]
 mod answers;
 #[cfg(test)]
+mod counts;
+#[cfg(test)]
 mod site;
 #[cfg(test)]
 mod worked;

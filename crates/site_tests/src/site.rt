@@ -4,7 +4,7 @@ ghost use Rattle.std.specs.Prelude.{◌≡◌, IfOk};
 
 use crate::answers::{Result, counted, issued, listed, replied, taken, told};
 use std::alloc::Global;
-use td_replay::PlainSite;
+use td_replay::{PlainSite, Site};
 use td_stamps::Entry;
 use td_story::{Meter, OpenError, Opens, Replica};
 use td_values::{Name, Text};
@@ -35,7 +35,7 @@ fn entry(alloc: Global, site: u16, seq: u32, clock: u64, text: &str) -> Result<E
     })
 }
 
-fn batch(alloc: Global, written: &[Written]) -> Result<Vec<Entry>> {
+pub fn batch(alloc: Global, written: &[Written]) -> Result<Vec<Entry>> {
     let mut batch = Vec::new(alloc);
     for (site, seq, clock, text) in written {
         batch.push(entry(alloc, *site, *seq, *clock, text)?)?;
@@ -97,18 +97,32 @@ fn unlike_at<R: Replica>(
     Ok(String::new(alloc))
 }
 
-/// Of a site of this script, number and limit, the first call that is not answered as it stands there, with its answer.
-pub fn unlike(
+fn unlike_of<R: Opens + Drop>(
     alloc: Global,
     meter: &mut Meter,
     opening: (&str, u16, usize),
     calls: &[(Call, &str)],
 ) -> Result<String> {
     let (script, number, limit) = opening;
-    match PlainSite::open_script(alloc, script, number, limit) {
+    match R::open_script(alloc, script, number, limit) {
         Ok(mut site) => unlike_at(alloc, &mut site, meter, calls),
         Err(error) => refused(alloc, error),
     }
+}
+
+/// Of a site of this script, number and limit, the first call that is not answered as it stands there, with its answer:
+/// first of one that rolls back and replays, and then of a plain one.
+pub fn unlike(
+    alloc: Global,
+    meter: &mut Meter,
+    opening: (&str, u16, usize),
+    calls: &[(Call, &str)],
+) -> Result<String> {
+    let found = unlike_of::<Site>(alloc, meter, opening, calls)?;
+    if !found.is_empty() {
+        return Ok(found);
+    }
+    unlike_of::<PlainSite>(alloc, meter, opening, calls)
 }
 
 fn refused(alloc: Global, error: OpenError) -> Result<String> {

@@ -6,7 +6,7 @@ use std::io::{BufReader, ErrorKind};
 use std::process::ExitCode;
 use td_answers::NoLinks;
 use td_devices::Device;
-use td_replay::PlainSite;
+use td_replay::Site;
 use td_story::Meter;
 use td_workbench::program;
 
@@ -33,7 +33,7 @@ fn main(rt: HostRuntime) -> ExitCode {
     let mut sink = Device::new(rt.stdout());
     let mut faults = Device::new(rt.stderr());
     let mut meter = Meter::new(&rt);
-    let status = program::<PlainSite, _, _, _, _>(
+    let status = program::<Site, _, _, _, _>(
         alloc,
         &words,
         &mut NoLinks,

@@ -8,14 +8,17 @@ use Rattle.td_typing.specs.Types.{IsIllTyped}
 use Rattle.td_syntax.specs.declared.tree.Expr.{Expr}
 use Rattle.td_trees.specs.declared.expression.Expression.{Expression}
 use Rattle.td_story.specs.Databases.{DatabaseData}
-use Rattle.td_story.specs.Calls.{Asks}
-use Rattle.td_replay.specs.ForProofs.Asked.{Answers}
+use Rattle.td_story.specs.Calls.{Asks, TellsValue}
+use Rattle.td_replay.specs.ForProofs.Asked.{Answers, TellsNamed}
 use Rattle.td_replay.specs.ForProofs.Told.{Outcomes}
 use Rattle.td_story.specs.Seen.{Seen}
 use Rattle.td_story.specs.Stories.{IsStory}
+use Rattle.td_story.specs.declared.answer.Answer.{Answer}
 use Rattle.td_story.specs.declared.answer.Asked.{Asked}
 use Rattle.td_story.specs.declared.refusal.AskError.{AskError}
 use Rattle.td_story.specs.declared.refusal.AskError.TheVariants as ask_error
+use Rattle.td_story.specs.declared.refusal.ValueError.{ValueError}
+use Rattle.td_story.specs.declared.refusal.ValueError.TheVariants as value_error
 use Rattle.td_replay.proofs.Telling.{story_catalogue}
 
 pub never_typed : (c : CatalogueData) (a : Expr) → IsIllTyped c.schema (names_of_relvars c) a → (x : Expression) → IsExpression c no_tuple a x → ⊥
@@ -28,3 +31,9 @@ module _ (s : Seen) (os : Outcomes) (d : DatabaseData) (live : s.live ≡ true) 
   asks text (Err ask_error.Syntax) h = (live, h)
   asks text (Err ask_error.IllTyped) h = (live, record { catalogue = d.catalogue; query = h.query; defines = story_catalogue s.script s.entries os d st; reads = h.reads; refused = h.refused })
   asks text (Err ask_error.OutOfMemory) h = (live, h)
+
+  pub tells : (x : List ℕ) (r : Result Answer ValueError) → TellsNamed d x r → TellsValue s x r
+  tells x (Ok a) h = (live, d, (os, st), h)
+  tells x (Err value_error.Broken) h = absurd h
+  tells x (Err value_error.Unknown) h = (live, d, (os, st), h)
+  tells x (Err value_error.OutOfMemory) h = live

@@ -4,7 +4,6 @@ use Rattle.std.specs.Prelude.{nat_lt, IsOk}
 use Rattle.std.proofs.lemmas.Bool.{ltb-true}
 use Rattle.td_headings.specs.declared.statement.TypedStatement.{TypedStatement}
 use Rattle.td_stamps.specs.declared.entry.Entry.{Entry}
-use Rattle.td_stamps.specs.declared.entry.Stamp.{Stamp}
 use Rattle.td_stamps.specs.declared.errors.NextError.{NextError}
 use Rattle.td_stamps.specs.Checks.{check_of, next_of}
 use Rattle.td_stamps.specs.Entries.{stamp_of}
@@ -14,13 +13,13 @@ use Rattle.td_story.specs.Databases.{DatabaseData}
 use Rattle.td_story.specs.Steps.{IsRead}
 use Rattle.td_story.specs.Calls.{entry_of, numbered, Issues, IssuesEntry}
 use Rattle.td_replay.specs.ForProofs.Judged.{IsRefusal}
-use Rattle.td_replay.specs.ForProofs.Told.{Numbers, Outcomes, RunsNext}
+use Rattle.td_replay.specs.ForProofs.Told.{IsLogged, Log, Numbers, Outcomes, TellsOutcome, outcomes_of}
 use Rattle.td_story.specs.Seen.{Seen, with_entries}
 use Rattle.td_story.specs.Stories.{IsStory}
 use Rattle.td_story.specs.declared.answer.Issued.{Issued}
 use Rattle.td_story.specs.declared.refusal.IssueError.{IssueError}
 use Rattle.td_story.specs.declared.refusal.IssueError.TheVariants as issue_error
-use Rattle.td_replay.proofs.Telling.{one_more, story_catalogue}
+use Rattle.td_replay.proofs.Telling.{logged_more, logged_story, outcomes_more, story_catalogue}
 
 -- what is known where a text has a next entry
 pub record IsNext (s : Seen) (text : List ℕ) (e : Entry) : Type 0 where
@@ -54,24 +53,25 @@ module _ (s : Seen) (text : List ℕ) (e : Entry) (site : 1 ≤ s.site) (short :
   next_is_last = let known = next_is_known s text e next in union_last s.site s.entries e known.site known.numbers
 
 -- ---- what issuing answers
-pub issues_entry : (s after : Seen) (text : List ℕ) (e : Entry) (i : Issued) (os told : Outcomes) (d end : DatabaseData) (x : TypedStatement) → s.live ≡ true → IsStory s.script s.entries os d → entry_of s text ≡ Ok e → RunsNext d os e i.outcome end told
-    → IsRead d.catalogue e.text x → i.stamp ≡ stamp_of e → after ≡ with_entries s (s.entries ++ e ∷ []) → IssuesEntry s text i after
-issues_entry s after text e i os told d end x live st next runs read stamp is =
+pub issues_entry : (s after : Seen) (text : List ℕ) (e : Entry) (i : Issued) (log longer : Log) (d end : DatabaseData) → s.live ≡ true → IsLogged s.script s.entries log d → entry_of s text ≡ Ok e → TellsOutcome d log e i.outcome end longer
+    → i.stamp ≡ stamp_of e → after ≡ with_entries s (s.entries ++ e ∷ []) → IssuesEntry s text i after
+issues_entry s after text e i log longer d end live l next tells stamp is =
     let known = next_is_known s text e next in
-    let longer = one_more s.script s.entries os told d end e i.outcome st runs in
-    let all : told ≡ os ++ (i.stamp, i.outcome) ∷ [] = runs.outcomes ∙ ap (λ (m : Stamp). os ++ (m, i.outcome) ∷ []) (sym stamp) in
-    let now = subst (λ ps. IsStory s.script (s.entries ++ e ∷ []) ps end) all longer in
+    let before = logged_story s.script s.entries log d l in
+    let now = logged_story s.script (s.entries ++ e ∷ []) longer end (logged_more s.script s.entries log d l longer end e tells.ran tells.runs) in
+    let all = outcomes_more log longer e tells.ran i.outcome i.stamp tells.runs.log_is tells.told stamp in
+    let are : IsStory s.script (s.entries ++ e ∷ []) (outcomes_of log ++ (i.stamp, i.outcome) ∷ []) end = subst (λ (ps : Outcomes). IsStory s.script (s.entries ++ e ∷ []) ps end) all now in
     record {
       entry = e;
       live = live;
-      statement = record { catalogue = d.catalogue; statement = x; defines = story_catalogue s.script s.entries os d st; read = subst (λ t. IsRead d.catalogue t x) known.text_is read };
+      statement = record { catalogue = d.catalogue; statement = tells.statement; defines = story_catalogue s.script s.entries (outcomes_of log) d before; read = subst (λ t. IsRead d.catalogue t tells.statement) known.text_is tells.read };
       next = next;
       stamp = stamp;
       last = is;
       union = ap (λ (z : Seen). z.entries) is ∙ sym (union_last s.site s.entries e known.site known.numbers);
-      before = os;
-      were = (d, st);
-      are = subst (λ (z : Seen). (f : DatabaseData) × IsStory z.script z.entries (os ++ (i.stamp, i.outcome) ∷ []) f) (sym is) (end, now);
+      before = outcomes_of log;
+      were = (d, before);
+      are = subst (λ (z : Seen). (f : DatabaseData) × IsStory z.script z.entries (outcomes_of log ++ (i.stamp, i.outcome) ∷ []) f) (sym is) (end, are);
     }
 
 pub issues_refusal : (s after : Seen) (text : List ℕ) (os : Outcomes) (d : DatabaseData) (error : IssueError) → s.live ≡ true → IsStory s.script s.entries os d → after ≡ s → IsRefusal d.catalogue text error → Issues s text (Err error) after

@@ -4,3 +4,4 @@ pub mod Making
 pub mod Issuing
 pub mod Taking
 pub mod Asking
+pub mod Counting

@@ -1,20 +1,25 @@
 -- Stories, entry by entry.
 use Rattle.std.proofs.Common.{◌≡◌, ℕ, ◌+◌, ◌<◌, List, [], ◌∷◌, ◌++◌, length, get_or, take, Option, None, Some, refl, sym, ap, subst, ◌∙◌}
-use Rattle.std.proofs.lemmas.List.{take_more}
+use Rattle.std.proofs.lemmas.List.{map-append, take_more}
 use Rattle.td_algebra.specs.declared.errors.Stop.{Stop}
+use Rattle.td_assign.specs.declared.ran.Ran.{Ran}
 use Rattle.td_headings.specs.Catalogues.{CatalogueData}
 use Rattle.td_headings.specs.declared.defined.Test.{Test}
 use Rattle.td_headings.specs.declared.statement.TypedStatement.{TypedStatement}
 use Rattle.td_stamps.specs.declared.entry.Entry.{Entry}
-use Rattle.td_stamps.specs.Story.{Story, nothing_ran}
+use Rattle.td_stamps.specs.declared.entry.Stamp.{Stamp}
+use Rattle.td_stamps.specs.Entries.{stamp_of}
+use Rattle.td_stamps.specs.Story.{Story, nothing_ran, next_ran}
 use Rattle.td_stamps.proofs.Stories as stories
 use Rattle.td_story.specs.Databases.{DatabaseData}
 use Rattle.td_story.specs.Scripts.{IsScriptOf, OpensOn}
 use Rattle.td_story.specs.Steps.{IsRead, IsUnread, Steps, TellsTest, unread, raised, refused, done}
 use Rattle.td_story.specs.declared.outcome.Outcome.{Outcome}
 use Rattle.td_story.specs.declared.outcome.Outcome.TheVariants as outcome
-use Rattle.td_replay.specs.ForProofs.Told.{Outcomes, RunsNext, RunsSome}
 use Rattle.td_story.specs.Stories.{IsStory, StepsEntry}
+use Rattle.td_replay.specs.Noted.{IsSound, Notes, opened_by, or_none}
+use Rattle.td_replay.specs.ForProofs.Going.{stays_sound}
+use Rattle.td_replay.specs.ForProofs.Told.{IsLogged, Log, Outcomes, RunsNext, RunsSome, outcomes_of}
 
 -- ---- a step
 pub same_catalogue : (d e : DatabaseData) (text : List ℕ) (o : Outcome) → Steps d text o e → e.catalogue ≡ d.catalogue
@@ -49,23 +54,58 @@ read_is d e text o (refused {x = x} p h i j) other = (x, p)
 read_is d e text o (done {x = x} p h i) other = (x, p)
 
 -- ---- a story
-pub begun : (script : List ℕ) (d : DatabaseData) → OpensOn script None d → IsStory script [] [] d
-begun script d h = record { opening = d; opens = h; runs = nothing_ran }
-
-pub one_more : (script : List ℕ) (es : List Entry) (os told : Outcomes) (d after : DatabaseData) (e : Entry) (o : Outcome) → IsStory script es os d → RunsNext d os e o after told → IsStory script (es ++ e ∷ []) told after
-one_more script es os told d after e o st next = record {
-  opening = st.opening;
-  opens = st.opens;
-  runs = subst (λ ps. Story StepsEntry st.opening (es ++ e ∷ []) ps after) (sym next.outcomes) (stories.one_more StepsEntry st.opening d after es os e o st.runs next.step);
-}
-
 pub story_catalogue : (script : List ℕ) (es : List Entry) (os : Outcomes) (d : DatabaseData) → IsStory script es os d → IsScriptOf script d.catalogue
 story_catalogue script es os d st =
     let P : DatabaseData → Type 0 = λ e. IsScriptOf script e.catalogue in
     stories.kept StepsEntry P (λ s t e o step is. subst (IsScriptOf script) (sym (same_catalogue s t e.text o step)) is) st.opening d es os st.runs st.opens.script
 
+-- ---- with what is kept of each step
+outcomes_alone : (s t : DatabaseData) (es : List Entry) (log : Log) → Story Notes s es log t → Story StepsEntry s es (outcomes_of log) t
+outcomes_alone s t es log nothing_ran = nothing_ran
+outcomes_alone s t es log (next_ran {t = v} {es = fs} {os = ps} notes rest) = next_ran notes.step (outcomes_alone v t fs ps rest)
+
+pub one_opened : (script : List ℕ) (d : DatabaseData) → OpensOn script None d → opened_by d.catalogue ≡ d
+one_opened script d h = let stored = ap or_none h.opens in λ i. record { catalogue = d.catalogue; stored = stored i }
+
+module _ (script : List ℕ) (es : List Entry) (log : Log) (d : DatabaseData) (l : IsLogged script es log d) where
+  pub logged_story : IsStory script es (outcomes_of log) d
+  logged_story = record { opening = opened_by d.catalogue; opens = l.opens; runs = outcomes_alone (opened_by d.catalogue) d es log l.runs }
+
+  pub logged_sound : IsSound d
+  logged_sound = stories.kept Notes IsSound (λ s t e r notes good. stays_sound s t e r good notes) (opened_by d.catalogue) d es log l.runs l.sound
+
+  -- a story of the same script, with other entries
+  pub told_on : (fs : List Entry) (all : Log) (u : DatabaseData) → opened_by u.catalogue ≡ opened_by d.catalogue → Story Notes (opened_by d.catalogue) fs all u → IsLogged script fs all u
+  told_on fs all u same runs = record {
+    opens = subst (OpensOn script None) (sym same) l.opens;
+    sound = subst IsSound (sym same) l.sound;
+    runs = subst (λ (o : DatabaseData). Story Notes o fs all u) (sym same) runs;
+  }
+
+  -- one entry more
+  pub logged_more : (longer : Log) (after : DatabaseData) (e : Entry) (r : Ran) → RunsNext d log e r after longer → IsLogged script (es ++ e ∷ []) longer after
+  logged_more longer after e r next =
+      told_on (es ++ e ∷ []) longer after (ap opened_by (same_catalogue d after e.text r.outcome next.notes.step))
+      (subst (λ (ps : Log). Story Notes (opened_by d.catalogue) (es ++ e ∷ []) ps after) (sym next.log_is) (stories.one_more Notes (opened_by d.catalogue) d after es log e r l.runs next.notes))
+
+pub begun : (script : List ℕ) (d : DatabaseData) → IsSound d → OpensOn script None d → IsLogged script [] [] d
+begun script d good h =
+    let same = one_opened script d h in
+    record {
+      opens = subst (OpensOn script None) (sym same) h;
+      sound = subst IsSound (sym same) good;
+      runs = subst (λ (o : DatabaseData). Story Notes o [] [] d) (sym same) nothing_ran;
+    }
+
+-- the outcomes, with that of one entry more
+pub outcomes_more : (log longer : Log) (e : Entry) (r : Ran) (o : Outcome) (m : Stamp) → longer ≡ log ++ (stamp_of e, r) ∷ [] → o ≡ r.outcome → m ≡ stamp_of e → outcomes_of longer ≡ outcomes_of log ++ (m, o) ∷ []
+outcomes_more log longer e r o m is told stamp =
+    ap outcomes_of is ∙ map-append _ log ((stamp_of e, r) ∷ [])
+    ∙ ap (λ (p : Outcome). outcomes_of log ++ (stamp_of e, p) ∷ []) (sym told)
+    ∙ ap (λ (k : Stamp). outcomes_of log ++ (k, o) ∷ []) (sym stamp)
+
 -- the next of a walk over the entries
-pub walked : (script : List ℕ) (es : List Entry) (i : ℕ) (e : Entry) (os told : Outcomes) (d after : DatabaseData) → i < length es → e ≡ get_or es i e → IsStory script (take i es) os d → RunsSome d os e after told → IsStory script (take (i + 1) es) told after
-walked script es i e os told d after within at st next =
-    let longer : take i es ++ e ∷ [] ≡ take (i + 1) es = ap (λ (x : Entry). take i es ++ x ∷ []) at ∙ sym (take_more es i e within) in
-    subst (λ fs. IsStory script fs told after) longer (one_more script (take i es) os told d after e next.0 st next.1)
+pub walked : (script : List ℕ) (es : List Entry) (i : ℕ) (e : Entry) (log longer : Log) (d after : DatabaseData) → i < length es → e ≡ get_or es i e → IsLogged script (take i es) log d → RunsSome d log e after longer → IsLogged script (take (i + 1) es) longer after
+walked script es i e log longer d after within at l next =
+    let more : take i es ++ e ∷ [] ≡ take (i + 1) es = ap (λ (x : Entry). take i es ++ x ∷ []) at ∙ sym (take_more es i e within) in
+    subst (λ fs. IsLogged script fs longer after) more (logged_more script (take i es) log d l longer after e next.0 next.1)

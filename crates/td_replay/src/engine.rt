@@ -3,6 +3,7 @@
 ghost use Rattle.std.specs.Prelude.{◌≡◌, refl};
 ghost use Rattle.td_replay.specs.Noted.{AreAlike, AreTargetsOf, IsFootprintOf, IsSound, Notes, opened_by};
 ghost use Rattle.td_relvars.specs.Parts.{part_of};
+ghost use Rattle.td_story.specs.Databases.{IsDatabase};
 ghost use Rattle.td_replay.specs.ForProofs.Going.{go};
 
 use std::alloc::{AllocError, Global};
@@ -15,7 +16,7 @@ use td_story::Meter;
 
 /// The database of one script.
 pub(crate) struct Engine {
-    pub database: Database,
+    database: Database,
 }
 
 // By hand, since a derived one is proved anew at each place where an engine is dropped: this one is a call there.
@@ -33,6 +34,25 @@ impl Model for Engine {
     ghost coded = { database_code };
 
     ghost view = { λ e. e.database };
+}
+
+impl Engine {
+    /// One that begins with this database.
+    pub fn of(database: Database) -> Engine
+        ensures same { result ≡ database }
+        ensures database { IsDatabase result }
+    {
+        // It shows that a database is there, and does nothing when it runs.
+        let _catalogue = database.catalogue();
+        Engine { database }
+    }
+
+    /// The database.
+    pub fn database(&self) -> &Database
+        ensures same { result.now ≡ self.now }
+    {
+        &self.database
+    }
 }
 
 impl Machine for Engine {

@@ -4,8 +4,12 @@
 mod asked;
 mod engine;
 mod judged;
+pub mod laws;
 mod plain;
+mod site;
+mod state;
 mod told;
 
-pub use plain::{MOST_ENTRIES, PlainSite};
-pub use td_story::laws;
+pub use plain::PlainSite;
+pub use site::Site;
+pub use state::MOST_ENTRIES;

@@ -1,25 +1,44 @@
 //! What running entries in turn gives.
 
-ghost use Rattle.std.specs.Prelude.{◌≡◌, ◌≤◌, ◌+◌, ◌↔◌, ◌++◌, ◌∷◌, [], IfOk, IsOk, IsTrue, None, OnErr, OnOk, length};
+ghost use Rattle.std.specs.Prelude.{◌≡◌, ◌≤◌, ◌+◌, ◌↔◌, ◌++◌, ◌∷◌, [], ℕ, List, IfOk, IsOk, IsTrue, None, OnErr, OnOk, length};
 ghost use Rattle.td_story.specs.Databases.{IsLegal};
 ghost use Rattle.td_story.specs.Scripts.{OpensOn};
 ghost use Rattle.td_stamps.specs.Checks.{check_of};
 ghost use Rattle.td_stamps.specs.Sets.{union};
 ghost use Rattle.td_story.specs.declared.outcome.Outcome.TheVariants as became;
-ghost use Rattle.td_replay.specs.ForProofs.Told.{HoldsNext, IsAccepted, RunsSome, TellsNext};
-ghost use Rattle.td_story.specs.Stories.{IsStory};
+ghost use Rattle.td_rollback.specs.Touched.{AreMore};
+ghost use Rattle.td_replay.specs.Counted.{RunsOver};
+ghost use Rattle.td_replay.specs.Noted.{IsSound, opened_by};
+ghost use Rattle.td_replay.specs.declared.told.Way.TheVariants as by;
+ghost use Rattle.td_replay.specs.ForProofs.Told.{HoldsNext, IsAccepted, IsLogged, RunsSome, TellsNext, outcomes_of};
 
+use crate::engine::Engine;
 use std::alloc::{AllocError, Global};
-use td_assign::{Ran, run};
+use std::mem::replace;
+use td_assign::Ran;
 use td_relvars::{Database, open_script};
+use td_rollback::{Machine, retell, settle};
 use td_stamps::{Entry, Held, Stamp};
 use td_story::{Meter, Outcome, ScriptError};
 
-/// The database after some entries, and the outcome of each with its stamp.
-#[derive(Drop)]
+/// How more entries are told: all of them anew, or by rollback and replay.
+#[derive(Clone, Copy)]
+pub(crate) enum Way {
+    Anew,
+    Replay,
+}
+
+/// The database after some entries, and what is kept of the run of each, with its stamp.
 pub(crate) struct Told {
-    pub database: Database,
-    pub outcomes: Vec<(Stamp, Outcome)>,
+    pub engine: Engine,
+    pub log: Vec<(Stamp, Ran)>,
+}
+
+// By hand, since a derived one is proved anew at each place where one is dropped: this one is a call there.
+impl Drop for Told {
+    fn drop(self) {
+        let Told { engine: _, log: _ } = self;
+    }
 }
 
 fn is_unread(outcome: &Outcome) -> bool
@@ -40,6 +59,17 @@ fn copy_of(outcome: &Outcome) -> Result<Outcome, AllocError>
 }
 
 impl Told {
+    /// That of no entries, over what a script opens.
+    pub fn begun(alloc: Global, database: Database) -> Told
+        requires { IsLegal database }
+        ensures { (script : List ℕ) → OpensOn script None database → IsLogged script [] result.log.items result.engine }
+    {
+        Told {
+            engine: Engine::of(database),
+            log: Vec::new(alloc),
+        }
+    }
+
     // Runs one entry more.
     fn run_next(
         &mut self,
@@ -47,13 +77,12 @@ impl Told {
         entry: &Entry,
         meter: &mut Meter,
     ) -> Result<(), AllocError>
-        requires { IsLegal self.old.database }
+        requires { IsSound self.old.engine }
         ensures counted { meter.new.count ≤ meter.old.count + 1 }
-        ensures legal { OnOk result (IsLegal self.new.database) }
-        ensures ran { OnOk result (RunsSome self.old.database self.old.outcomes.items entry.now self.new.database self.new.outcomes.items) }
+        ensures ran { OnOk result (RunsSome self.old.engine self.old.log.items entry.now self.new.engine self.new.log.items) }
     {
-        let Ran { outcome, .. } = run(alloc, &mut self.database, entry.text.as_str(), meter)?;
-        self.outcomes.push((entry.stamp(), outcome))?;
+        let ran = self.engine.run(alloc, entry, meter)?;
+        self.log.push((entry.stamp(), ran))?;
         Ok(())
     }
 
@@ -65,18 +94,65 @@ impl Told {
         entry: &Entry,
         meter: &mut Meter,
     ) -> Result<Option<Outcome>, AllocError>
-        requires { IsLegal self.old.database }
+        requires { IsSound self.old.engine }
         ensures counted { meter.new.count ≤ meter.old.count + 1 }
-        ensures told { TellsNext self.old.database self.old.outcomes.items entry.now result self.new.database self.new.outcomes.items }
+        ensures told { TellsNext self.old.engine self.old.log.items entry.now result self.new.engine self.new.log.items }
     {
-        self.outcomes.reserve(1)?;
-        let Ran { outcome, .. } = run(alloc, &mut self.database, entry.text.as_str(), meter)?;
-        if is_unread(&outcome) {
+        self.log.reserve(1)?;
+        let ran = self.engine.run(alloc, entry, meter)?;
+        if is_unread(&ran.outcome) {
             return Ok(None);
         }
-        let told = copy_of(&outcome)?;
-        self.outcomes.push((entry.stamp(), outcome)).unwrap();
+        let told = copy_of(&ran.outcome)?;
+        self.log.push((entry.stamp(), ran)).unwrap();
         Ok(Some(told))
+    }
+
+    // Tells more entries than were told, of which it runs those that are new or touched. Want of memory leaves all as
+    // it was.
+    fn replay(
+        &mut self,
+        alloc: Global,
+        old: &[Entry],
+        new: &[Entry],
+        meter: &mut Meter,
+    ) -> Result<(), AllocError>
+        requires logged { (script : List ℕ) × IsLogged script old.now self.old.log.items self.old.engine }
+        requires more { AreMore old.now new.now }
+        ensures logged { (script : List ℕ) → IsLogged script old.now self.old.log.items self.old.engine → OnOk result (IsLogged script new.now self.new.log.items self.new.engine) }
+        ensures kept { OnErr result ((self.new.engine ≡ self.old.engine) × (self.new.log.items ≡ self.old.log.items)) }
+        ensures few { meter.new.count ≤ meter.old.count + length new.now }
+        ensures counted { (n : ℕ) → RunsOver (opened_by self.old.engine.catalogue) old.now new.now n → meter.new.count ≤ meter.old.count + n }
+    {
+        let room = Vec::with_capacity(alloc, new.len())?;
+        let retold = retell(alloc, &mut self.engine, old, &self.log, new, meter)?;
+        let log = replace(&mut self.log, Vec::new(alloc));
+        self.log = settle(log, retold.kept, retold.turns, room);
+        Ok(())
+    }
+
+    /// Tells more entries than were told, in this way. Want of memory leaves all as it was.
+    pub fn tell_more(
+        &mut self,
+        alloc: Global,
+        way: Way,
+        script: &str,
+        old: &[Entry],
+        new: &[Entry],
+        meter: &mut Meter,
+    ) -> Result<(), AllocError>
+        requires logged { IsLogged script.now old.now self.old.log.items self.old.engine }
+        requires more { AreMore old.now new.now }
+        ensures logged { OnOk result (IsLogged script.now new.now self.new.log.items self.new.engine) }
+        ensures kept { OnErr result ((self.new.engine ≡ self.old.engine) × (self.new.log.items ≡ self.old.log.items)) }
+        ensures few { meter.new.count ≤ meter.old.count + length new.now }
+        ensures counted { way ≡ by.Replay → (n : ℕ) → RunsOver (opened_by self.old.engine.catalogue) old.now new.now n → meter.new.count ≤ meter.old.count + n }
+    {
+        match way {
+            Way::Anew => *self = tell_all(alloc, script, new, meter)?,
+            Way::Replay => self.replay(alloc, old, new, meter)?,
+        }
+        Ok(())
     }
 }
 
@@ -104,12 +180,9 @@ pub(crate) fn tell_all(
 ) -> Result<Told, AllocError>
     requires { IsAccepted script.now }
     ensures counted { meter.new.count ≤ meter.old.count + length entries.now }
-    ensures told { IfOk result (λ t. IsStory script.now entries.now t.outcomes.items t.database) }
+    ensures told { IfOk result (λ t. IsLogged script.now entries.now t.log.items t.engine) }
 {
-    let mut told = Told {
-        database: opening(alloc, script)?,
-        outcomes: Vec::new(alloc),
-    };
+    let mut told = Told::begun(alloc, opening(alloc, script)?);
     for entry in entries {
         told.run_next(alloc, entry, meter)?;
     }
@@ -127,9 +200,9 @@ pub(crate) fn add_last(
 ) -> Result<Option<Outcome>, AllocError>
     requires fits { IsOk (check_of held.old.entries held.old.limit (entry ∷ [])) }
     requires last { union held.old.entries (entry ∷ []) ≡ held.old.entries ++ entry ∷ [] }
-    requires legal { IsLegal told.old.database }
+    requires sound { IsSound told.old.engine }
     ensures counted { meter.new.count ≤ meter.old.count + 1 }
-    ensures ran { TellsNext told.old.database told.old.outcomes.items entry result told.new.database told.new.outcomes.items }
+    ensures ran { TellsNext told.old.engine told.old.log.items entry result told.new.engine told.new.log.items }
     ensures holds { HoldsNext held.old entry result held.new }
 {
     let batch = [entry];
@@ -149,15 +222,15 @@ pub(crate) fn add_last(
 }
 
 /// Copies of the outcomes, with their stamps.
-pub(crate) fn copies(
+pub(crate) fn outcomes(
     alloc: Global,
-    outcomes: &[(Stamp, Outcome)],
+    log: &[(Stamp, Ran)],
 ) -> Result<Vec<(Stamp, Outcome)>, AllocError>
-    ensures { IfOk result (λ copies. copies.items ≡ outcomes.now) }
+    ensures { IfOk result (λ outcomes. outcomes.items ≡ outcomes_of log.now) }
 {
-    let mut copies = Vec::with_capacity(alloc, outcomes.len())?;
-    for told in outcomes {
-        copies.push((told.0, told.1.copy()?))?;
+    let mut outcomes = Vec::with_capacity(alloc, log.len())?;
+    for (stamp, ran) in log {
+        outcomes.push((*stamp, ran.outcome.copy()?))?;
     }
-    Ok(copies)
+    Ok(outcomes)
 }

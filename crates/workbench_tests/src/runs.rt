@@ -3,8 +3,8 @@
 use std::alloc::{AllocError, Global};
 use td_answers::NoLinks;
 use td_devices::Device;
-use td_replay::PlainSite;
-use td_story::Meter;
+use td_replay::{PlainSite, Site};
+use td_story::{Meter, Opens};
 use td_workbench::{Ended, Options, run_program};
 
 /// A relvar of suppliers.
@@ -82,12 +82,12 @@ impl Ran {
     }
 }
 
-pub fn run(rt: &HostRuntime, input: &[u8]) -> Ran {
+fn run_over<R: Opens + Drop>(rt: &HostRuntime, input: &[u8]) -> Ran {
     let mut meter = Meter::new(rt);
     let mut output = Vec::new(rt.alloc());
     let mut source = Device::new(input);
     let mut sink = Device::new(&mut output);
-    let end = run_program::<PlainSite, _, _, _>(
+    let end = run_program::<R, _, _, _>(
         rt.alloc(),
         &TWO,
         &mut NoLinks,
@@ -98,10 +98,19 @@ pub fn run(rt: &HostRuntime, input: &[u8]) -> Ran {
     Ran { end, output }
 }
 
-// What the run of this script and these lines writes, or how else it ended.
+/// A run over sites that roll back and replay.
+pub fn run(rt: &HostRuntime, input: &[u8]) -> Ran {
+    run_over::<Site>(rt, input)
+}
+
+// What the run of this script and these lines writes, or how else it ended, over both kinds of sites.
 pub fn written(rt: &HostRuntime, script: &str, lines: &str) -> Result<String, AllocError> {
     let input = joined(rt.alloc(), script, lines)?;
     let found = run(rt, input.as_bytes());
+    let plain = run_over::<PlainSite>(rt, input.as_bytes());
+    if plain.end != found.end || plain.output.as_slice() != found.output.as_slice() {
+        return format!(in rt.alloc(); "plain sites wrote: {}", plain.text());
+    }
     match found.end {
         Ok(true) => String::from_str(rt.alloc(), found.text()),
         Ok(false) => format!(in rt.alloc(); "refused: {}", found.text()),

@@ -6,17 +6,17 @@ use std::alloc::{AllocError, Global};
 use std::test::Fail;
 use td_answers::NoLinks;
 use td_devices::Device;
-use td_replay::PlainSite;
+use td_replay::Site;
 use td_story::{Meter, Opens};
 use td_workbench::workbench;
 
 const SCRIPT: &str = "VAR S BASE RELATION { SNO CHAR, STATUS INTEGER, CITY CHAR } KEY { SNO };";
 
 // The script opens, so nothing but memory can be wanting.
-fn site(alloc: Global, script: &str, number: u16, limit: usize) -> Result<PlainSite, AllocError>
+fn site(alloc: Global, script: &str, number: u16, limit: usize) -> Result<Site, AllocError>
     ensures { IfOk result (λ s. s.script ≡ script.now) }
 {
-    match PlainSite::open_script(alloc, script, number, limit) {
+    match Site::open_script(alloc, script, number, limit) {
         Ok(site) => Ok(site),
         Err(_) => Err(AllocError),
     }
@@ -72,7 +72,7 @@ held 1
 #[test]
 fn no_sites_at_all(rt: HostRuntime) -> Result<(), Fail> {
     let mut meter = Meter::new(&rt);
-    let mut sites: [PlainSite; 0] = [];
+    let mut sites: [Site; 0] = [];
     let mut source = Device::new(&b".listing 1\n\n1? 1\n.quit\n"[..]);
     let mut output = Vec::new(rt.alloc());
     let mut sink = Device::new(&mut output);

@@ -4,7 +4,7 @@ use crate::fakes::{Full, SlowReader, SlowWriter, front};
 use crate::runs::{Ran, TWO, TWO_SITES_MEET, TWO_SITES_MET};
 use td_answers::NoLinks;
 use td_devices::Device;
-use td_replay::PlainSite;
+use td_replay::Site;
 use td_story::Meter;
 use td_workbench::{Ended, run_program};
 
@@ -40,7 +40,7 @@ fn read_to(rt: &HostRuntime, bytes: usize, fails: bool) -> Ran {
     });
     let mut output = Vec::new(rt.alloc());
     let mut sink = Device::new(&mut output);
-    let end = run_program::<PlainSite, _, _, _>(
+    let end = run_program::<Site, _, _, _>(
         rt.alloc(),
         &TWO,
         &mut NoLinks,
@@ -74,7 +74,7 @@ fn write_into(rt: &HostRuntime, writer: &mut SlowWriter) -> Result<bool, Ended> 
     let mut meter = Meter::new(rt);
     let mut source = Device::new(TWO_SITES_MEET.as_bytes());
     let mut sink = Device::new(writer);
-    run_program::<PlainSite, _, _, _>(
+    run_program::<Site, _, _, _>(
         rt.alloc(),
         &TWO,
         &mut NoLinks,

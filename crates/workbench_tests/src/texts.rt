@@ -5,7 +5,7 @@ use std::alloc::{AllocError, Global};
 use std::test::Fail;
 use td_devices::Device;
 use td_listings::{ExportError, ListingError, export, listing};
-use td_replay::PlainSite;
+use td_replay::Site;
 use td_story::{Meter, Opens, Replica};
 
 const SCRIPT: &str = "VAR S BASE RELATION { SNO CHAR, STATUS INTEGER, CITY CHAR } KEY { SNO };";
@@ -25,9 +25,9 @@ Paris,S2,10
 ";
 
 // The site 1 of the script, with the statement. Nothing but memory can be wanting.
-fn site(rt: &HostRuntime) -> Result<PlainSite, AllocError> {
+fn site(rt: &HostRuntime) -> Result<Site, AllocError> {
     let mut meter = Meter::new(rt);
-    let Ok(mut site) = PlainSite::open_script(rt.alloc(), SCRIPT, 1, 10) else {
+    let Ok(mut site) = Site::open_script(rt.alloc(), SCRIPT, 1, 10) else {
         return Err(AllocError);
     };
     if site.issue(rt.alloc(), STATEMENT, &mut meter).is_err() {
@@ -37,14 +37,14 @@ fn site(rt: &HostRuntime) -> Result<PlainSite, AllocError> {
 }
 
 // How the listing of the site ends in this writer.
-fn lists(alloc: Global, site: &PlainSite, writer: &mut SlowWriter) -> Result<(), ListingError> {
+fn lists(alloc: Global, site: &Site, writer: &mut SlowWriter) -> Result<(), ListingError> {
     listing(alloc, site, &mut Device::new(writer))
 }
 
 // How the table of a relvar of the site ends in this writer.
 fn exports(
     alloc: Global,
-    site: &PlainSite,
+    site: &Site,
     name: &str,
     writer: &mut SlowWriter,
 ) -> Result<(), ExportError> {

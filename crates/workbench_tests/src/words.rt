@@ -5,7 +5,7 @@ use std::alloc::{AllocError, Global};
 use std::test::Fail;
 use td_answers::NoLinks;
 use td_devices::Device;
-use td_replay::PlainSite;
+use td_replay::Site;
 use td_story::Meter;
 use td_workbench::program;
 
@@ -30,7 +30,7 @@ fn called(rt: &HostRuntime, line: &str, input: &str) -> Result<Exit, AllocError>
     let mut meter = Meter::new(rt);
     let mut output = Vec::new(rt.alloc());
     let mut faults = Vec::new(rt.alloc());
-    let status = program::<PlainSite, _, _, _, _>(
+    let status = program::<Site, _, _, _, _>(
         rt.alloc(),
         &words,
         &mut NoLinks,
@@ -153,7 +153,7 @@ fn broken(rt: &HostRuntime) -> Result<(u8, u8), AllocError> {
         fails: true,
         is_interrupted: false,
     });
-    let unread = program::<PlainSite, _, _, _, _>(
+    let unread = program::<Site, _, _, _, _>(
         rt.alloc(),
         &words,
         &mut NoLinks,
@@ -169,7 +169,7 @@ fn broken(rt: &HostRuntime) -> Result<(u8, u8), AllocError> {
         flushes: 0,
         most_flushes: 100,
     });
-    let unwritten = program::<PlainSite, _, _, _, _>(
+    let unwritten = program::<Site, _, _, _, _>(
         rt.alloc(),
         &words,
         &mut NoLinks,

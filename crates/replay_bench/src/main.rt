@@ -1,0 +1,70 @@
+//! Times how a site takes a late statement, one that touches nothing that it holds and one that touches all of it,
+//! beside a plain site, which runs all anew; and what issuing costs at both kinds.
+//!
+//! A site holds as many statements as each word of the command line says; without words 100 and 400. Standard error has
+//! a line for each number: nanoseconds of a plain site that takes the late statement, of a site that takes one that
+//! touches nothing and one that touches all, and of so many issued statements at a site and at a plain one. Standard
+//! output has how many statements the three takes ran. `benches/replay` prints the ratios.
+#![tactic(auto)]
+
+mod replaying;
+
+use anyhow::Result;
+use replaying::{Took, time_of_issues, time_of_late};
+use std::env;
+use td_replay::{PlainSite, Site};
+use td_story::Meter;
+
+const SIZES: [u32; 2] = [100, 400];
+
+/// One that touches nothing, since no statement before it assigns or reads what it assigns.
+const UNTOUCHING: &str = "INSERT NOTE RELATION { TUPLE { N 1, TEXT 'late' } };";
+
+/// One that assigns what each statement assigns.
+const TOUCHING: &str = "INSERT S RELATION { TUPLE { SNO 'S0', STATUS 1, CITY 'Bergen' } };";
+
+fn tell(rt: &HostRuntime, size: u32) -> Result<()> {
+    let mut meter = Meter::new(rt);
+    let anew = time_of_late::<PlainSite>(rt, size, TOUCHING, &mut meter)?;
+    let untouched = time_of_late::<Site>(rt, size, UNTOUCHING, &mut meter)?;
+    let touched = time_of_late::<Site>(rt, size, TOUCHING, &mut meter)?;
+    let issues = time_of_issues::<Site>(rt, size, &mut meter)?;
+    let plain = time_of_issues::<PlainSite>(rt, size, &mut meter)?;
+    tell_runs(rt, size, anew, untouched, touched)?;
+    eprintln!(rt;
+        "replay {size} {} {} {} {} {}",
+        anew.time.as_nanos(),
+        untouched.time.as_nanos(),
+        touched.time.as_nanos(),
+        issues.as_nanos(),
+        plain.as_nanos()
+    )?;
+    Ok(())
+}
+
+fn tell_runs(
+    rt: &HostRuntime,
+    size: u32,
+    anew: Took,
+    untouched: Took,
+    touched: Took,
+) -> Result<()> {
+    println!(rt;
+        "replay {size}: {} anew, {} where nothing is touched, {} where all is",
+        anew.runs, untouched.runs, touched.runs
+    )?;
+    Ok(())
+}
+
+fn main(rt: HostRuntime) -> Result<()> {
+    let words = env::args(&rt)?;
+    if words.len() < 2 {
+        for size in SIZES {
+            tell(&rt, size)?;
+        }
+    }
+    for word in words.skip(1) {
+        tell(&rt, word.as_str().parse::<u32>()?)?;
+    }
+    Ok(())
+}

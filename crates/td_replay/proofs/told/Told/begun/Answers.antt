@@ -1,0 +1,14 @@
+use Rattle.std.proofs.Common.{[], None, sym, subst}
+use Rattle.td_story.specs.Databases.{IsLegal}
+use Rattle.td_story.specs.Scripts.{OpensOn}
+use Rattle.td_replay.specs.ForProofs.Told.{IsLogged, Log}
+use Rattle.td_replay.proofs.Telling.{begun}
+use Rattle.td_replay.proofs.told.Told.begun.Goals as goal
+
+pub returns : goal.returns
+returns c = λ script opens.
+    let d = c.of.result in
+    let same = c.of.ensures.same in
+    let legal = subst IsLegal (sym same) c.requires in
+    subst (λ (log : Log). IsLogged script [] log d) (sym c.new.ensures.items)
+    (begun script d (c.of.ensures.database, legal) (subst (OpensOn script None) (sym same) opens))

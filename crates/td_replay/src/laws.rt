@@ -1,0 +1,13 @@
+//! The laws of sites: those of stories, and of what a replay runs.
+
+ghost use Rattle.td_replay.specs.Counted.{RunsInAreOne, RunsInAreThere};
+
+pub use td_story::laws::{
+    script_opens_one, sites_agree, step_is_legal, step_is_unique, story_is_legal, story_is_one,
+};
+
+/// There is one number of entries that a site runs where it takes a batch, and it cannot be that there is none.
+pub fn runs_are_one()
+    ensures one { RunsInAreOne }
+    ensures there { RunsInAreThere }
+{}

@@ -1,0 +1,257 @@
+//! What a site keeps, and what both kinds of sites do.
+
+ghost use Rattle.std.specs.Prelude.{◌≡◌, ◌≤◌, ◌+◌, ℕ, Err, IfOk, IsOk, MatchResult, Ok, OnErr, OnOk, length, true};
+ghost use Rattle.td_stamps.specs.Sets.{union};
+ghost use Rattle.td_story.specs.Calls.{Asks, Issues, Takes, TellsOutcomes, TellsValue, entry_of};
+ghost use Rattle.td_story.specs.NewSites.{OpensSite};
+ghost use Rattle.td_story.specs.Seen.{IsSound, always_open, holding};
+ghost use Rattle.td_story.specs.declared.refusal.IssueError.TheVariants as issue_error;
+ghost use Rattle.td_story.specs.declared.refusal.TakeError.TheVariants as take_error;
+ghost use Rattle.td_replay.specs.Counted.{RunsIn};
+ghost use Rattle.td_replay.specs.declared.told.Way.TheVariants as by;
+ghost use Rattle.td_replay.specs.ForProofs.Told.{Numbers};
+
+use crate::asked;
+use crate::judged::{judge, refusal};
+use crate::told::{Told, Way, add_last, outcomes};
+use std::alloc::Global;
+use std::marker::Model;
+use td_stamps::{Entry, Held, NextError, PrepareError, Stamp};
+use td_story::{
+    Answer, AskError, Asked, IssueError, Issued, MOST_BYTES, Meter, OpenError, Outcome, TakeError,
+    Taken, TellError, ValueError,
+};
+use td_values::{Name, Text};
+
+/// The greatest limit of a site.
+pub const MOST_ENTRIES: usize = 100_000;
+
+/// What a site keeps: what it started from, the entries that it holds, and what came of each.
+pub(crate) struct State {
+    script: Text,
+    site: u16,
+    held: Held,
+    told: Told,
+}
+
+// By hand, since a derived one is proved anew at each place where one is dropped: this one is a call there.
+impl Drop for State {
+    fn drop(self) {
+        let State {
+            script: _,
+            site: _,
+            held: _,
+            told: _,
+        } = self;
+    }
+}
+
+impl Model for State {
+    ghost use Rattle.std.specs.Prelude.{◌≡◌, ◌≤◌, true};
+    ghost use Rattle.td_story.specs.Seen.{Contents, is_limit};
+    ghost use Rattle.td_replay.specs.ForProofs.Told.{IsLogged};
+
+    ghost Value = { Contents };
+
+    ghost view = { λ s. record { script = s.script; site = s.site; limit = s.held.limit; entries = s.held.entries } };
+
+    ghost invariant = { λ s. (1 ≤ s.site) × (is_limit s.held.limit ≡ true) × IsLogged s.script s.held.entries s.told.log.items s.told.engine };
+}
+
+impl State {
+    /// One that holds nothing.
+    pub fn open_script(
+        alloc: Global,
+        script: &str,
+        site: u16,
+        limit: usize,
+    ) -> Result<State, OpenError>
+        ensures { MatchResult result (λ s. OpensSite script.now site limit (Ok (always_open s))) (λ e. OpensSite script.now site limit (Err e)) }
+    {
+        if site == 0 {
+            return Err(OpenError::BadSite);
+        }
+        if limit == 0 || limit > MOST_ENTRIES {
+            return Err(OpenError::BadLimit);
+        }
+        let database = match td_relvars::open_script(alloc, script) {
+            Ok(database) => database,
+            Err(error) => return Err(OpenError::Script(error)),
+        };
+        let script = match Text::from_str(alloc, script) {
+            Ok(script) => script,
+            Err(_) => return Err(OpenError::Script(td_story::ScriptError::OutOfMemory)),
+        };
+        Ok(State {
+            script,
+            site,
+            held: Held::new(alloc, limit),
+            told: Told::begun(alloc, database),
+        })
+    }
+
+    // The next entry, with this text.
+    fn next_entry(&self, alloc: Global, text: &str) -> Result<Entry, IssueError>
+        ensures { Numbers (always_open self.now) text.now result }
+    {
+        let (seq, clock) = match self.held.next(self.site) {
+            Ok(numbers) => numbers,
+            Err(NextError::ClockEnd) => return Err(IssueError::ClockEnd),
+        };
+        if self.held.len() >= self.held.limit() {
+            return Err(IssueError::Full);
+        }
+        match Text::from_str(alloc, text) {
+            Ok(text) => Ok(Entry {
+                site: self.site,
+                seq,
+                clock,
+                text,
+            }),
+            Err(_) => Err(IssueError::OutOfMemory),
+        }
+    }
+
+    // Adds the next entry, with this text, where it is read.
+    fn issue_entry(
+        &mut self,
+        alloc: Global,
+        entry: Entry,
+        text: &str,
+        meter: &mut Meter,
+    ) -> Result<Issued, IssueError>
+        requires next { entry_of (always_open self.old) text.now ≡ Ok entry }
+        requires short { length text.now ≤ 8192 }
+        ensures issues { Issues (always_open self.old) text.now result (always_open self.new) }
+        ensures journal { result ≡ Err issue_error.JournalWrite → ⊥ }
+        ensures meter { meter.new.count ≤ meter.old.count + 1 }
+    {
+        let stamp = entry.stamp();
+        let outcome = match add_last(alloc, &mut self.held, &mut self.told, entry, meter) {
+            Ok(Some(outcome)) => outcome,
+            Ok(None) => return Err(refusal(alloc, self.told.engine.database().catalogue(), text)),
+            Err(_) => return Err(IssueError::OutOfMemory),
+        };
+        Ok(Issued { stamp, outcome })
+    }
+
+    // Why a text is refused that has no next entry: what is wrong with it stands before that.
+    fn first_refusal(&self, alloc: Global, text: &str, error: IssueError) -> IssueError
+        requires numbers { Numbers (always_open self.now) text.now (Err error) }
+        requires short { length text.now ≤ 8192 }
+        ensures issues { Issues (always_open self.now) text.now (Err result) (always_open self.now) }
+        ensures journal { result ≡ issue_error.JournalWrite → ⊥ }
+    {
+        match judge(alloc, self.told.engine.database().catalogue(), text) {
+            Ok(()) => error,
+            Err(refusal) => refusal,
+        }
+    }
+
+    pub fn issue(
+        &mut self,
+        alloc: Global,
+        text: &str,
+        meter: &mut Meter,
+    ) -> Result<Issued, IssueError>
+        ensures issues { Issues (always_open self.old) text.now result (always_open self.new) }
+        ensures journal { result ≡ Err issue_error.JournalWrite → ⊥ }
+        ensures meter { meter.new.count ≤ meter.old.count + 1 }
+    {
+        // It shows that the site is open, and does nothing when it runs.
+        let _site = &self.site;
+        if text.len() > MOST_BYTES {
+            return Err(IssueError::Syntax);
+        }
+        let entry = match self.next_entry(alloc, text) {
+            Ok(entry) => entry,
+            Err(error) => return Err(self.first_refusal(alloc, text, error)),
+        };
+        self.issue_entry(alloc, entry, text, meter)
+    }
+
+    /// All that may fail comes before what is held changes.
+    pub fn take(
+        &mut self,
+        alloc: Global,
+        batch: &[Entry],
+        way: Way,
+        meter: &mut Meter,
+    ) -> Result<Taken, TakeError>
+        ensures takes { Takes (always_open self.old) batch.now result (always_open self.new) }
+        ensures journal { result ≡ Err take_error.JournalWrite → ⊥ }
+        ensures few { meter.new.count ≤ meter.old.count + length (union self.old.entries batch.now) }
+        ensures counted { way ≡ by.Replay → (n : ℕ) → RunsIn (always_open self.old) batch.now n → meter.new.count ≤ meter.old.count + n }
+    {
+        let prepared = match self.held.prepare(alloc, batch) {
+            Ok(prepared) => prepared,
+            Err(PrepareError::BadEntry) => return Err(TakeError::BadEntry),
+            Err(PrepareError::Clash { site, seq }) => return Err(TakeError::Clash { site, seq }),
+            Err(PrepareError::Full) => return Err(TakeError::Full),
+            Err(PrepareError::OutOfMemory) => return Err(TakeError::OutOfMemory),
+        };
+        let entries = self.held.entries();
+        let fresh = prepared.fresh();
+        if fresh == 0 {
+            return Ok(Taken {
+                fresh: 0,
+                known: batch.len(),
+            });
+        }
+        let script = self.script.as_str();
+        let more = prepared.entries();
+        if let Err(_) = self
+            .told
+            .tell_more(alloc, way, script, entries, more, meter)
+        {
+            return Err(TakeError::OutOfMemory);
+        }
+        self.held.commit(prepared);
+        Ok(Taken {
+            fresh,
+            known: batch.len() - fresh,
+        })
+    }
+
+    pub fn ask(&self, alloc: Global, text: &str) -> Result<Asked, AskError>
+        ensures { Asks (always_open self.now) text.now result }
+    {
+        asked::ask(alloc, self.told.engine.database(), text)
+    }
+
+    pub fn value_of(&self, alloc: Global, name: &Name) -> Result<Answer, ValueError>
+        ensures { TellsValue (always_open self.now) name.now result }
+    {
+        asked::value_of(alloc, self.told.engine.database(), name)
+    }
+
+    pub fn outcomes(&self, alloc: Global) -> Result<Vec<(Stamp, Outcome)>, TellError>
+        ensures { MatchResult result (λ v. TellsOutcomes (always_open self.now) (Ok v.items)) (λ e. TellsOutcomes (always_open self.now) (Err e)) }
+    {
+        match outcomes(alloc, &self.told.log) {
+            Ok(outcomes) => Ok(outcomes),
+            Err(_) => Err(TellError::OutOfMemory),
+        }
+    }
+
+    pub fn held(&self) -> &Held
+        ensures { result.now ≡ holding (always_open self.now) }
+    {
+        &self.held
+    }
+
+    pub fn site(&self) -> u16
+        ensures number { result ≡ self.now.site }
+        ensures sound { IsSound (always_open self.now) }
+    {
+        // They show that a set within its limit is held, and do nothing when they run.
+        let _entries = self.held.entries();
+        self.site
+    }
+
+    pub fn script(&self) -> &str
+        ensures { result.now ≡ self.now.script }
+    {
+        self.script.as_str()
+    }
+}
