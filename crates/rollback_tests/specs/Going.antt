@@ -1,9 +1,10 @@
 -- What is asked of a machine's steps.
-use Rattle.std.proofs.Common.{◌≡◌, ◌↔◌, ◌==◌, eqb-true, ℕ, Bool, true, false, if◌then◌else◌, List, [], ◌∷◌, refl, ap, sym, subst, ◌∙◌, arith}
+use Rattle.std.proofs.Common.{◌≡◌, ◌↔◌, ◌==◌, eqb-true, ℕ, suc, Bool, true, false, if◌then◌else◌, List, [], ◌∷◌, refl, ap, sym, subst, ◌∙◌, arith}
 use Rattle.std.specs.List.{Contains}
 use Rattle.td_rollback.specs.Going.{GoByRecords, SoundFrom}
+use Rattle.td_rollback.specs.Parts.{Mixes}
 use Rattle.rollback_tests.specs.declared.cells.Did.{Did}
-use Rattle.rollback_tests.specs.Steps.{IsFootprint, IsTarget, Pair, Step, cell, changed, did, footprint_by, targets_by, zeros}
+use Rattle.rollback_tests.specs.Steps.{IsFootprint, IsTarget, Pair, Step, cell, changed, did, footprint_by, mix, targets_by, zeros}
 
 one : (m n : ℕ) (ms : List ℕ) → n ≡ m → Contains (m ∷ ms) n
 one m n ms is = (0, omega arith, sym is)
@@ -43,8 +44,40 @@ named places b s c r is n =
     let same : r.is_first ≡ b = ap (λ (d : Did). d.is_first) is ∙ is_first b s c in
     (λ h. subst (λ (x : Bool). Contains (places x) n) same h, λ h. subst (λ (x : Bool). Contains (places x) n) (sym same) h)
 
+hang_on_targets : (b : Bool) (n : ℕ) → Contains (targets_by b) n → Contains (footprint_by b) n
+hang_on_targets true n h = h
+hang_on_targets false n h = let lt = h.1 in (suc h.0, omega (arith, lt), h.2)
+
+-- ---- cells are mixed one by one
+taken_in : (b : Bool) (x y : ℕ) → b ≡ true → (if b then x else y) ≡ x
+taken_in true x y h = refl
+taken_in false x y h = cc
+
+left_out : (b : Bool) (x y : ℕ) → b ≡ false → (if b then x else y) ≡ y
+left_out true x y h = cc
+left_out false x y h = refl
+
+within : (part : ℕ → Bool) (s t : Pair) (n : ℕ) (p q : Bool) → n == 0 ≡ p → n == 1 ≡ q → part n ≡ true → by_tests p q (mix part s t) ≡ by_tests p q s
+within part s t n true q is_p is_q is = taken_in (part 0) s.0 t.0 (subst (λ (m : ℕ). part m ≡ true) (eqb-true n 0 is_p) is)
+within part s t n false true is_p is_q is = taken_in (part 1) s.1 t.1 (subst (λ (m : ℕ). part m ≡ true) (eqb-true n 1 is_q) is)
+within part s t n false false is_p is_q is = refl
+
+without : (part : ℕ → Bool) (s t : Pair) (n : ℕ) (p q : Bool) → n == 0 ≡ p → n == 1 ≡ q → part n ≡ false → by_tests p q (mix part s t) ≡ by_tests p q t
+without part s t n true q is_p is_q is = left_out (part 0) s.0 t.0 (subst (λ (m : ℕ). part m ≡ false) (eqb-true n 0 is_p) is)
+without part s t n false true is_p is_q is = left_out (part 1) s.1 t.1 (subst (λ (m : ℕ). part m ≡ false) (eqb-true n 1 is_q) is)
+without part s t n false false is_p is_q is = refl
+
+pub mixes : {o : Pair} (part : ℕ → Bool) → Mixes {S = Pair} (SoundFrom {S = Pair} (λ _. Unit {0}) (λ _. zeros) o) (λ s t n. cell s n ≡ cell t n) part (mix part)
+mixes part = record {
+  stay_sound = λ s t good fine. good;
+  inside = λ s t n good fine is. within part s t n (n == 0) (n == 1) refl refl is;
+  outside = λ s t n good fine is. without part s t n (n == 0) (n == 1) refl refl is;
+  one = λ s t good fine same. let first : s.0 ≡ t.0 = same 0 in let second : s.1 ≡ t.1 = same 1 in λ i. (first i, second i);
+}
+
 pub go : (o : Pair) → GoByRecords {S = Pair} {R = Did} (SoundFrom {S = Pair} (λ _. Unit {0}) (λ _. zeros) o) Step (λ s t n. cell s n ≡ cell t n) IsFootprint IsTarget (λ r. footprint_by r.is_first) (λ r. targets_by r.is_first)
 go o = record {
+  hang_on_targets = λ e n h. hang_on_targets (e.seq == 1) n h;
   stay_sound = λ s t e r good step. good;
   change_targets = λ s t e r n good step never. other_stays (e.seq == 1) s (did (e.seq == 1) s e.clock).after n (n == 0) (n == 1) refl refl never ∙ sym (ap (λ (z : Pair). cell z n) step.1);
   by_footprint = λ s t u e r good fine same step. (changed (e.seq == 1) u (did (e.seq == 1) u e.clock).after, (step.0 ∙ same_did (e.seq == 1) s u e.clock same, refl));

@@ -14,6 +14,10 @@ zeros = (0, 0)
 abbrev pub cell : Pair → ℕ → ℕ
 cell s n = if n == 0 then s.0 else (if n == 1 then s.1 else 0)
 
+-- cells of the part from the one, and the others from the other
+abbrev pub mix : (ℕ → Bool) → Pair → Pair → Pair
+mix part s t = (if part 0 then s.0 else t.0, if part 1 then s.1 else t.1)
+
 -- one of the cells has another value
 abbrev pub changed : Bool → Pair → ℕ → Pair
 changed true s v = (v, s.1)

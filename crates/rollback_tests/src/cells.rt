@@ -1,9 +1,9 @@
 //! Two cells, as a machine: an entry with sequence number 1 puts its clock into the first, every other one copies the
 //! first into the second.
 
-ghost use Rattle.std.specs.Prelude.{◌≡◌, ℕ, Bool, OnErr, OnOk, refl};
-ghost use Rattle.rollback_tests.specs.Steps.{IsFootprint, IsTarget, Step, cell, changed, footprint_by, targets_by, zeros};
-ghost use Rattle.rollback_tests.specs.Going.{go};
+ghost use Rattle.std.specs.Prelude.{◌≡◌, ℕ, Bool, OnErr, OnOk};
+ghost use Rattle.rollback_tests.specs.Steps.{IsFootprint, IsTarget, Step, cell, changed, footprint_by, mix, targets_by, zeros};
+ghost use Rattle.rollback_tests.specs.Going.{go, mixes};
 
 use std::alloc::{AllocError, Global};
 use std::marker::Model;
@@ -106,6 +106,10 @@ impl Machine for Cells {
 
     ghost count = { λ m. m };
 
+    ghost mix = { mix };
+
+    ghost closed = { λ _ _. Unit {0} };
+
     fn run(&mut self, _alloc: Global, entry: &Entry, meter: &mut u64) -> Result<Did, AllocError> {
         *meter = meter.saturating_add(1);
         if self.changes == 0 {
@@ -139,10 +143,17 @@ impl Machine for Cells {
         self.change(ran.is_first, ran.after)
     }
 
-    fn may_change(&self, alloc: Global, entry: &Entry) -> Result<Vec<usize>, AllocError> {
+    fn places_of(&self, alloc: Global, entry: &Entry) -> Result<Vec<usize>, AllocError> {
         let mut places = Vec::new(alloc);
-        places.push(if entry.seq == 1 { 0 } else { 1 })?;
+        places.push(0)?;
+        if entry.seq != 1 {
+            places.push(1)?;
+        }
         Ok(places)
+    }
+
+    fn tie_places(&self, _alloc: Global, _labels: &mut Vec<usize>) -> Result<(), AllocError> {
+        Ok(())
     }
 
     fn save(&self, _alloc: Global, _places: &[usize]) -> Result<(u64, u64), AllocError> {
@@ -162,7 +173,7 @@ impl Machine for Cells {
         if ran.is_first { &[0] } else { &[1] }
     }
 
-    ghost rooted = { λ _. refl };
+    ghost mixes = { λ _ part _. mixes part };
 
     ghost goes = { go };
 }

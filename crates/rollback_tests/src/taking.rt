@@ -8,8 +8,7 @@ ghost use Rattle.rollback_tests.specs.Steps.{IsFootprint, IsTarget, Step, zeros}
 
 use crate::cells::{Cells, Did};
 use std::alloc::Global;
-use std::mem::replace;
-use td_rollback::{retell, settle};
+use td_rollback::retell;
 use td_stamps::{Entry, Held, PrepareError, Stamp};
 
 /// Before any batch.
@@ -35,10 +34,7 @@ pub fn take(
     ensures counted { (n : ℕ) → Runs IsFootprint IsTarget [] held.old.entries (union held.old.entries batch.now) n → meter.new ≤ meter.old + n }
 {
     let prepared = held.prepare(alloc, batch)?;
-    let room = Vec::with_capacity(alloc, prepared.entries().len())?;
-    let told = retell(alloc, cells, held.entries(), log, prepared.entries(), meter)?;
-    let old = replace(log, Vec::new(alloc));
-    *log = settle(old, told.kept, told.turns, room);
+    retell(alloc, cells, held.entries(), log, prepared.entries(), meter)?;
     held.commit(prepared);
     Ok(())
 }

@@ -1,5 +1,5 @@
 -- A typed assignment: its target is a base relvar, and its source is an expression of that heading.
-use Rattle.std.proofs.Common.{◌≡◌, ℕ, ◌+◌, ◌<◌, List, [], length, drop, get_or, None, Some, IfOk, Result, Ok, Err, slice_get, sym, ap, ◌∙◌}
+use Rattle.std.proofs.Common.{◌≡◌, ℕ, ◌+◌, ◌<◌, List, length, drop, get_or, None, Some, IfOk, Result, Ok, Err, slice_get, sym, ap, ◌∙◌}
 use Rattle.td_values.specs.Headings.{Header}
 use Rattle.td_values.specs.Rows.{RowsData}
 use Rattle.td_values.specs.declared.TypeKind.TheVariants as kind

@@ -100,7 +100,7 @@ module _ (c : CatalogueData) (defined : Defined c) (r s : Relvars) where
       let here = source_alike a x p (same x (first x xs)) g in
       λ i. and_then (here i) (λ v. sources_alike as' xs ps (λ y h. same y (further x xs y h)) (gives x.target v g) i)
 
-  judged_alike : (t : Test) → Contains c.tests t → ((n : ℕ) → TestReads c t n → r n ≡ s n) → judgement c r t ≡ judgement c s t
+  pub judged_alike : (t : Test) → Contains c.tests t → ((n : ℕ) → TestReads c t n → r n ≡ s n) → judgement c r t ≡ judgement c s t
   judged_alike (test.Key m key) there same = ap (λ o. and_then o (λ (v : RowsData). Ok (is_key key v.tuples))) (same m refl)
   judged_alike (test.Constraint x u) there same =
       ap (λ o. and_then o truth_of) (trees_alike c defined u kind.Boolean ((all_typed c defined).constraints there.0 x u (placed c.tests (test.Constraint x u) there)) r s same)

@@ -172,16 +172,19 @@ module _ (c : CatalogueData) where
         by_source k.1 (subst (λ u. ReadsRelvar c.origins u n) k.2 r)
     place_moves x y p q n (by_test {m = m} there k h r) = by_test there k (target_moves x y p q m h) r
 
-    pub targets_read : (x : TypedStatement) → IsRead c text x → (places : List ℕ) → AreThose (IsTarget x) places → AreThose (IsTargetOfText c text) places
+    targets_read : (x : TypedStatement) → IsRead c text x → (places : List ℕ) → AreThose (IsTarget x) places → AreThose (IsTargetOfText c text) places
     targets_read x p places ts =
         those_alike (IsTarget x) (IsTargetOfText c text) places (λ n. (λ h. record { statement = x; reads = p; target = h }, λ t. target_moves t.statement x t.reads p n t.target)) ts
 
-    pub targets_told : {E Z : Type 0} (x : TypedStatement) → IsRead c text x → (m : Result (Vec ℕ Z) E) → IfOk m (λ v. AreThose (IsTarget x) v.items) → IfOk m (λ v. AreThose (IsTargetOfText c text) v.items)
-    targets_told x p (Ok v) ts = targets_read x p v.items ts
-    targets_told x p (Err e) ts = tt
-
-    pub targets_unread : IsUnread c text → (places : List ℕ) → places ≡ [] → AreThose (IsTargetOfText c text) places
+    targets_unread : IsUnread c text → (places : List ℕ) → places ≡ [] → AreThose (IsTargetOfText c text) places
     targets_unread unread places none = subst (AreThose (IsTargetOfText c text)) (sym none) (none_of (IsTargetOfText c text) (λ n t. unread t.statement t.reads))
+
+    pub footprint_told : {E Z : Type 0} (x : TypedStatement) → IsRead c text x → (m : Result (Vec ℕ Z) E) → IfOk m (λ v. AreThose (InFootprint c x) v.items) → IfOk m (λ v. AreThose (IsInFootprint c text) v.items)
+    footprint_told x p (Ok v) ns = those_alike (InFootprint c x) (IsInFootprint c text) v.items (λ n. (λ h. record { statement = x; reads = p; within = h }, λ t. place_moves t.statement x t.reads p n t.within)) ns
+    footprint_told x p (Err e) ns = tt
+
+    pub footprint_unread : IsUnread c text → (places : List ℕ) → places ≡ [] → AreThose (IsInFootprint c text) places
+    footprint_unread unread places none = subst (AreThose (IsInFootprint c text)) (sym none) (none_of (IsInFootprint c text) (λ n t. unread t.statement t.reads))
 
     pub names_read : (x : TypedStatement) → IsRead c text x → (v : Names) → AreThose (IsTarget x) v.targets.items → AreThose (InFootprint c x) v.footprint.items → AreNames c text v
     names_read x p v ts ns = record {
@@ -192,5 +195,5 @@ module _ (c : CatalogueData) where
     pub names_unread : IsUnread c text → (v : Names) → v.targets.items ≡ [] → v.footprint.items ≡ [] → AreNames c text v
     names_unread unread v ts ns = record {
       targets = targets_unread unread v.targets.items ts;
-      footprint = subst (AreThose (IsInFootprint c text)) (sym ns) (none_of (IsInFootprint c text) (λ n t. unread t.statement t.reads));
+      footprint = footprint_unread unread v.footprint.items ns;
     }

@@ -1,8 +1,8 @@
 -- The relvars with all targets replaced are those of a database.
-use Rattle.std.proofs.Common.{◌≡◌, ⊎_elim, ℕ, zero, suc, pred, ◌<◌, ◌==◌, Bool, true, false, if◌then◌else◌, eqb-true, eq-eqb, ne_eqb, true≢false, List, [], ◌∷◌, length, slice_get, Option, None, Some, Ok, refl, ap, sym, ◌∙◌, subst, arith}
+use Rattle.std.proofs.Common.{◌≡◌, ℕ, zero, suc, pred, ◌<◌, ◌==◌, Bool, true, false, if◌then◌else◌, eqb-true, eq-eqb, ne_eqb, true≢false, List, [], ◌∷◌, length, slice_get, Option, None, Some, Ok, refl, ap, sym, ◌∙◌, subst, arith}
 use Rattle.std.specs.List.{All}
 use Rattle.std.specs.Option.{option_flatten}
-use Rattle.std.proofs.lemmas.Bool.{cases_eq, eqb-false}
+use Rattle.std.proofs.lemmas.Bool.{eqb-false}
 use Rattle.std.proofs.lemmas.List.Elements.{All-head, All-tail}
 use Rattle.td_values.specs.Headings.{Header}
 use Rattle.td_values.specs.Rows.{RowsData}
@@ -15,9 +15,9 @@ use Rattle.td_story.specs.Trees.{AreBases}
 use Rattle.td_story.specs.Stored.{AreStored}
 use Rattle.td_constraints.proofs.Judged.{are_bases}
 use Rattle.td_story.specs.Databases.{Belongs, IsDatabase, Stored, at_place, put, stored_relvars}
-use Rattle.td_relvars.proofs.Stores.{base_within, put_is}
+use Rattle.td_relvars.proofs.Stores.{base_within}
 use Rattle.td_story.specs.Given.{Given, nothing_given, or_old, or_stored, replaced, seen, with_given}
-use Rattle.td_assign.specs.ForProofs.Given.{AreChanges, AreDistinct, IsChange}
+use Rattle.td_assign.specs.ForProofs.Given.{AreChanges, IsChange}
 use Rattle.td_assign.specs.ForProofs.Lists.{given_to}
 use Rattle.td_assign.specs.declared.changes.Change.{Change}
 

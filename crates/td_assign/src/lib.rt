@@ -13,5 +13,5 @@ mod undoing;
 
 pub use changes::Change;
 pub use ran::Ran;
-pub use running::{run, targets_of};
+pub use running::{footprint_of, run};
 pub use undoing::{redo, undo};

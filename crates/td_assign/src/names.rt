@@ -68,8 +68,9 @@ fn only(alloc: Global, place: usize) -> Result<Vec<usize>, AllocError>
     Ok(places)
 }
 
-// What the test, which stands at this place, reads.
-fn test_reads(
+/// What the test, which stands at this place, reads. It costs the size of a constraint, with those of the expressions of
+/// the virtual relvars under it.
+pub fn test_reads(
     alloc: Global,
     catalogue: &Catalogue,
     place: usize,

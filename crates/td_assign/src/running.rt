@@ -19,14 +19,14 @@ ghost use Rattle.td_story.specs.Steps.{IsRead, IsUnread, Steps};
 
 use crate::changes::Change;
 use crate::deltas::differences;
-use crate::names::{Names, assignments_of, names_of, no_names};
+use crate::names::{Names, assignments_of, footprint, names_of, no_names};
 use crate::ran::Ran;
 use crate::seen::Replaced;
 use crate::sources::changes;
 use std::alloc::{AllocError, Global};
 use td_constraints::first_failure;
 use td_grammar::{ReadError, read_statement};
-use td_headings::{Catalogue, TypedAssignment, TypedStatement, targets, type_statement};
+use td_headings::{Catalogue, TypedAssignment, TypedStatement, type_statement};
 use td_kinds::error::TypeError;
 use td_relations::Delta;
 use td_relvars::Database;
@@ -146,17 +146,17 @@ fn unchanged(alloc: Global, outcome: Outcome, names: Names) -> Ran
     }
 }
 
-/// The base relvars that the statement assigns, by their places, ascending, each once; of an unread text none. It reads
-/// and types the text, and evaluates nothing.
-pub fn targets_of(
+/// The base relvars on which the statement hangs, by their places, ascending, each once; of an unread text none. It
+/// reads and types the text, and evaluates nothing.
+pub fn footprint_of(
     alloc: Global,
     catalogue: &Catalogue,
     text: &str,
 ) -> Result<Vec<usize>, AllocError>
-    ensures { IfOk result (λ v. AreThose (IsTargetOfText catalogue.now text.now) v.items) }
+    ensures { IfOk result (λ v. AreThose (IsInFootprint catalogue.now text.now) v.items) }
 {
     match read(alloc, catalogue, text)? {
-        Some(statement) => targets(alloc, &statement),
+        Some(statement) => footprint(alloc, catalogue, &statement),
         None => Ok(Vec::new(alloc)),
     }
 }

@@ -17,7 +17,7 @@ use Rattle.td_relvars.specs.Parts.{part_of, put_part}
 use Rattle.td_relvars.proofs.Copies.{part_belongs, put_back_restores}
 use Rattle.td_stamps.specs.declared.entry.Entry.{Entry}
 use Rattle.td_story.specs.Databases.{Belongs, DatabaseData, IsDatabase, Stored, stored_relvars}
-use Rattle.td_story.specs.Footprints.{IsTargetOfText}
+use Rattle.td_story.specs.Footprints.{IsInFootprint}
 use Rattle.td_story.specs.Steps.{Steps}
 use Rattle.td_values.specs.Rows.{RowsData}
 use Rattle.td_replay.specs.Noted.{AreAlike, IsSound, Notes, opened_by}
@@ -99,8 +99,8 @@ is_put_back s d u ns part there put good is same alike =
     put ∙ ap (λ (q : List (ℕ × RowsData)). record d { stored = put_part q d.stored }) is
     ∙ put_back_restores s d ns good.0 there (ap (λ (z : DatabaseData). z.catalogue) same) (λ n never. (alike n never).1)
 
--- ---- what an entry may change
-pub named_all : {E Z : Type 0} (c k : CatalogueData) (text t : List ℕ) (m : Result (Vec ℕ Z) E) → k ≡ c → text ≡ t → IfOk m (λ v. AreThose (IsTargetOfText k text) v.items) → IfOk m (λ v. (n : ℕ) → IsTargetOfText c t n → Contains v.items n)
+-- ---- what an entry hangs on
+pub named_all : {E Z : Type 0} (c k : CatalogueData) (text t : List ℕ) (m : Result (Vec ℕ Z) E) → k ≡ c → text ≡ t → IfOk m (λ v. AreThose (IsInFootprint k text) v.items) → IfOk m (λ v. (n : ℕ) → IsInFootprint c t n → Contains v.items n)
 named_all c k text t (Ok v) same is h = λ n target.
-    (h.members n).1 (subst (λ (x : List ℕ). IsTargetOfText k x n) (sym is) (subst (λ (z : CatalogueData). IsTargetOfText z t n) (sym same) target))
+    (h.members n).1 (subst (λ (x : List ℕ). IsInFootprint k x n) (sym is) (subst (λ (z : CatalogueData). IsInFootprint z t n) (sym same) target))
 named_all c k text t (Err e) same is h = tt

@@ -1,16 +1,20 @@
 //! The database of one script, as a machine that runs entries, takes them back and makes their changes again.
 
-ghost use Rattle.std.specs.Prelude.{◌≡◌, refl};
-ghost use Rattle.td_replay.specs.Noted.{AreAlike, AreTargetsOf, IsFootprintOf, IsSound, Notes, opened_by};
+ghost use Rattle.std.specs.Prelude.{◌≡◌, ℕ, Option, OnOk};
+ghost use Rattle.td_rollback.specs.Labels.{IsCoarser, is_in};
+ghost use Rattle.td_replay.specs.Noted.{AreAlike, AreClosed, AreTargetsOf, IsClosed, IsFootprintOf, IsSound, Notes, mix, opened_by};
 ghost use Rattle.td_relvars.specs.Parts.{part_of};
 ghost use Rattle.td_story.specs.Databases.{IsDatabase};
 ghost use Rattle.td_replay.specs.ForProofs.Going.{go};
+ghost use Rattle.td_replay.specs.ForProofs.Mixing.{mixes};
 
 use std::alloc::{AllocError, Global};
 use std::marker::Model;
-use td_assign::{Ran, redo, run, targets_of, undo};
+use td_assign::names::test_reads;
+use td_assign::{Ran, footprint_of, redo, run, undo};
+use td_headings::Catalogue;
 use td_relvars::{Database, Part};
-use td_rollback::Machine;
+use td_rollback::{Machine, tie};
 use td_stamps::Entry;
 use td_story::Meter;
 
@@ -55,6 +59,23 @@ impl Engine {
     }
 }
 
+// Ties what each test reads.
+fn tie_tests(
+    alloc: Global,
+    catalogue: &Catalogue,
+    labels: &mut Vec<usize>,
+) -> Result<(), AllocError>
+    ensures closed { OnOk result ((label : Option ℕ) → AreClosed catalogue.now (is_in labels.new.items label)) }
+    ensures coarser { IsCoarser labels.old.items labels.new.items }
+{
+    let tests = catalogue.tests();
+    for place in 0..tests.len() {
+        let places = test_reads(alloc, catalogue, place, &tests[place])?;
+        tie(alloc, labels, &places)?;
+    }
+    Ok(())
+}
+
 impl Machine for Engine {
     type Record = Ran;
 
@@ -82,6 +103,10 @@ impl Machine for Engine {
 
     ghost count = { λ m. m.count };
 
+    ghost mix = { mix };
+
+    ghost closed = { IsClosed };
+
     fn run(&mut self, alloc: Global, entry: &Entry, meter: &mut Meter) -> Result<Ran, AllocError> {
         run(alloc, &mut self.database, entry.text.as_str(), meter)
     }
@@ -94,8 +119,12 @@ impl Machine for Engine {
         redo(alloc, &mut self.database, &ran.delta)
     }
 
-    fn may_change(&self, alloc: Global, entry: &Entry) -> Result<Vec<usize>, AllocError> {
-        targets_of(alloc, self.database.catalogue(), entry.text.as_str())
+    fn places_of(&self, alloc: Global, entry: &Entry) -> Result<Vec<usize>, AllocError> {
+        footprint_of(alloc, self.database.catalogue(), entry.text.as_str())
+    }
+
+    fn tie_places(&self, alloc: Global, labels: &mut Vec<usize>) -> Result<(), AllocError> {
+        tie_tests(alloc, self.database.catalogue(), labels)
     }
 
     fn save(&self, alloc: Global, places: &[usize]) -> Result<Part, AllocError> {
@@ -116,7 +145,7 @@ impl Machine for Engine {
         ran.targets.as_slice()
     }
 
-    ghost rooted = { λ _. refl };
+    ghost mixes = { mixes };
 
     ghost goes = { go };
 }

@@ -14,10 +14,9 @@ ghost use Rattle.td_replay.specs.ForProofs.Told.{HoldsNext, IsAccepted, IsLogged
 
 use crate::engine::Engine;
 use std::alloc::{AllocError, Global};
-use std::mem::replace;
 use td_assign::Ran;
 use td_relvars::{Database, open_script};
-use td_rollback::{Machine, retell, settle};
+use td_rollback::{Machine, retell};
 use td_stamps::{Entry, Held, Stamp};
 use td_story::{Meter, Outcome, ScriptError};
 
@@ -108,7 +107,7 @@ impl Told {
         Ok(Some(told))
     }
 
-    // Tells more entries than were told, of which it runs those that are new or touched. Want of memory leaves all as
+    // Tells more entries than were told, of which it runs those that are fresh or touched. Want of memory leaves all as
     // it was.
     fn replay(
         &mut self,
@@ -124,11 +123,7 @@ impl Told {
         ensures few { meter.new.count ≤ meter.old.count + length new.now }
         ensures counted { (n : ℕ) → RunsOver (opened_by self.old.engine.catalogue) old.now new.now n → meter.new.count ≤ meter.old.count + n }
     {
-        let room = Vec::with_capacity(alloc, new.len())?;
-        let retold = retell(alloc, &mut self.engine, old, &self.log, new, meter)?;
-        let log = replace(&mut self.log, Vec::new(alloc));
-        self.log = settle(log, retold.kept, retold.turns, room);
-        Ok(())
+        retell(alloc, &mut self.engine, old, &mut self.log, new, meter)
     }
 
     /// Tells more entries than were told, in this way. Want of memory leaves all as it was.

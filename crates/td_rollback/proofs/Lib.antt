@@ -9,3 +9,6 @@ pub mod Settling
 pub mod Standing
 pub mod Coming
 pub mod Ends
+pub mod Parting
+pub mod Tying
+pub mod Flagging

@@ -1,7 +1,9 @@
 //! The laws of replay.
 
 ghost use Rattle.td_rollback.specs.Laws.{RecordsName, ReplayIsStory, RunsAreCounted, RunsAreFew, RunsAreOne, RunsAreThere, UnionIsMore};
+ghost use Rattle.std.specs.Prelude.{ℕ, Bool};
 ghost use Rattle.td_rollback.specs.Going.{SoundFrom};
+ghost use Rattle.td_rollback.specs.Parts.{MarkedAlone, Mixes, UnmarkedAlone, WovenIsStory};
 
 use crate::machine::Machine;
 
@@ -28,4 +30,12 @@ pub fn replay_is_story<M: Machine>()
 /// What is held, and that with a batch which is not refused, are old and new entries.
 pub fn union_is_more()
     ensures { UnionIsMore }
+{}
+
+/// Entries that keep to a part of the places have a story of their own, whatever the others change, and so have the
+/// others; and the two are the story of all.
+pub fn parts_are_apart<M: Machine>()
+    ensures marked { (o : M) (part : ℕ → Bool) (mix : M → M → M) → Mixes (SoundFrom M.sound M.origin o) M.alike part mix → MarkedAlone (SoundFrom M.sound M.origin o) M.steps (M.footprint o) part mix }
+    ensures unmarked { (o : M) (part : ℕ → Bool) (mix : M → M → M) → Mixes (SoundFrom M.sound M.origin o) M.alike part mix → UnmarkedAlone (SoundFrom M.sound M.origin o) M.steps (M.footprint o) part mix }
+    ensures woven { (o : M) (part : ℕ → Bool) (mix : M → M → M) → Mixes (SoundFrom M.sound M.origin o) M.alike part mix → WovenIsStory (SoundFrom M.sound M.origin o) M.steps (M.footprint o) part mix }
 {}

@@ -1,9 +1,11 @@
 //! Machines that run entries, take them back, and make their changes again.
 
-ghost use Rattle.std.specs.Prelude.{◌≡◌, ◌≤◌, ◌+◌, ℕ, List, IfOk, OnOk, OnErr};
+ghost use Rattle.std.specs.Prelude.{◌≡◌, ◌≤◌, ◌+◌, ℕ, Bool, List, Option, IfOk, OnOk, OnErr};
 ghost use Rattle.std.specs.List.{Contains};
 ghost use Rattle.td_stamps.specs.declared.entry.Entry.{Entry as EntryData};
 ghost use Rattle.td_rollback.specs.Going.{GoByRecords, SoundFrom};
+ghost use Rattle.td_rollback.specs.Labels.{IsCoarser, is_in};
+ghost use Rattle.td_rollback.specs.Parts.{Mixes};
 
 use std::alloc::{AllocError, Global};
 use td_stamps::Entry;
@@ -30,10 +32,10 @@ pub trait Machine {
     /// The two states have the same at the place.
     ghost alike: { Self → Self → ℕ → Type 0 };
 
-    /// The state that all began with, which no step changes.
+    /// What stories of one kind began with: no step changes it.
     ghost origin: { Self → Self };
 
-    /// The places that the entry depends on, in a story that began with the state.
+    /// The places that the entry depends on, in a story of that origin.
     ghost footprint: { Self → EntryData → ℕ → Type 0 };
 
     /// The places that it may change.
@@ -49,6 +51,12 @@ pub trait Machine {
 
     /// How many runs the meter has counted.
     ghost count: { Self.Meter → ℕ };
+
+    /// The state that has the places of a part from the first state, and all others from the second one.
+    ghost mix: { (ℕ → Bool) → Self → Self → Self };
+
+    /// What is asked of states in stories of that origin ties no place of the part to one that is not in it.
+    ghost closed: { Self → (ℕ → Bool) → Type 0 };
 
     /// Runs the entry. Where memory is wanting nothing has changed, but the run may have been counted.
     fn run(
@@ -79,10 +87,14 @@ pub trait Machine {
         ensures elsewhere { (n : ℕ) → (Contains (targets_in ran.now) n → ⊥) → alike self.old self.new n }
         ensures origin { origin self.new ≡ origin self.old };
 
-    /// Places among which are all that the entry may change. It may name more, where to find out which would cost more
-    /// than their copy.
-    fn may_change(&self, alloc: Global, entry: &Entry) -> Result<Vec<usize>, AllocError>
-        ensures { IfOk result (λ v. (n : ℕ) → targets (origin self.now) entry.now n → Contains v.items n) };
+    /// Places among which are all that the entry depends on, and so all that it may change.
+    fn places_of(&self, alloc: Global, entry: &Entry) -> Result<Vec<usize>, AllocError>
+        ensures { IfOk result (λ v. (n : ℕ) → footprint (origin self.now) entry.now n → Contains v.items n) };
+
+    /// Ties the places that what is asked of states ties.
+    fn tie_places(&self, alloc: Global, labels: &mut Vec<usize>) -> Result<(), AllocError>
+        ensures closed { OnOk result ((label : Option ℕ) → closed (origin self.now) (is_in labels.new.items label)) }
+        ensures coarser { IsCoarser labels.old.items labels.new.items };
 
     /// A copy of what these places have, and maybe of more.
     fn save(&self, alloc: Global, places: &[usize]) -> Result<Self::Part, AllocError>
@@ -100,8 +112,8 @@ pub trait Machine {
     fn targets_of(ran: &Self::Record) -> &[usize]
         ensures { result.now ≡ targets_in ran.now };
 
-    /// What a story began with began with itself.
-    ghost rooted: { (s : Self) → origin (origin s) ≡ origin s };
+    /// States are mixed place by place, and stay sound.
+    ghost mixes: { (o : Self) (part : ℕ → Bool) → closed o part → Mixes (SoundFrom sound origin o) alike part (mix part) };
 
     /// Steps go by their records, in each story.
     ghost goes: { (o : Self) → GoByRecords (SoundFrom sound origin o) steps alike (footprint o) (targets o) footprint_in targets_in };

@@ -1,18 +1,24 @@
 //! A story told again with more entries.
 
-ghost use Rattle.std.specs.Prelude.{◌≡◌, ◌≤◌, ◌+◌, ◌++◌, [], ℕ, List, IfOk, OnErr, length, drop, take};
+ghost use Rattle.std.specs.Prelude.{◌≡◌, ◌≤◌, ◌+◌, ◌++◌, [], ℕ, List, IfOk, OnErr, OnOk, length, drop, take};
 ghost use Rattle.std.specs.List.{Contains};
-ghost use Rattle.td_stamps.specs.Story.{Story};
-ghost use Rattle.td_rollback.specs.Going.{AreAlikeBut};
+ghost use Rattle.td_stamps.specs.declared.entry.Entry.{Entry as EntryData};
+ghost use Rattle.td_stamps.specs.declared.entry.Stamp.{Stamp as StampData};
+ghost use Rattle.td_rollback.specs.Going.{AreAlikeBut, Begins};
+ghost use Rattle.td_rollback.specs.Parts.{marked, unmarked, woven};
 ghost use Rattle.td_rollback.specs.Touched.{AreMore, IsTargetOf, Runs};
 ghost use Rattle.td_rollback.specs.Turns.{retold, settled};
+ghost use Rattle.td_rollback.specs.ForProofs.Marked.{AreParted};
 
+use crate::labels::part_of;
 use crate::machine::Machine;
+use crate::marks::{chosen, flags_of, marks_of, split, weave, with_flagged};
 use crate::names::add;
 use crate::replay::replay_end;
-use crate::turns::Turn;
+use crate::turns::{Turn, settle};
 use crate::undoing::{common_of, undo_end};
 use std::alloc::{AllocError, Global};
+use std::mem::replace;
 use td_stamps::{Entry, Stamp};
 
 // Places among which are all that the entries behind the first ones may change: those of old entries by their records,
@@ -25,8 +31,7 @@ fn places_of<M: Machine>(
     new: &[Entry],
     kept: usize,
 ) -> Result<Vec<usize>, AllocError>
-    requires sound { M.sound (M.origin machine.now) }
-    requires story { Story M.steps (M.origin machine.now) old.now log.now machine.now }
+    requires story { (o : M) × Begins M.sound M.origin M.steps o old.now log.now machine.now }
     requires each { length log.now ≡ length old.now }
     requires kept { kept ≤ length new.now }
     ensures { IfOk result (λ v. (n : ℕ) → IsTargetOf (M.targets (M.origin machine.now)) (drop kept new.now) n → Contains v.items n) }
@@ -39,7 +44,7 @@ fn places_of<M: Machine>(
             add(&mut places, M::targets_of(&log[at].1))?;
             at += 1;
         } else {
-            let more = machine.may_change(alloc, entry)?;
+            let more = machine.places_of(alloc, entry)?;
             add(&mut places, &more)?;
         }
     }
@@ -55,8 +60,7 @@ fn save_end<M: Machine>(
     new: &[Entry],
     kept: usize,
 ) -> Result<M::Part, AllocError>
-    requires sound { M.sound (M.origin machine.now) }
-    requires story { Story M.steps (M.origin machine.now) old.now log.now machine.now }
+    requires story { (o : M) × Begins M.sound M.origin M.steps o old.now log.now machine.now }
     requires each { length log.now ≡ length old.now }
     requires kept { kept ≤ length new.now }
     ensures { IfOk result (λ p. (ns : List ℕ) × M.saved p ns machine.now × ((n : ℕ) → IsTargetOf (M.targets (M.origin machine.now)) (drop kept new.now) n → Contains ns n)) }
@@ -75,14 +79,13 @@ fn replay_from<M: Machine>(
     kept: usize,
     meter: &mut M::Meter,
 ) -> Result<Vec<Turn<M::Record>>, AllocError>
-    requires sound { M.sound (M.origin machine.old) }
-    requires story { Story M.steps (M.origin machine.old) old.now log.now machine.old }
+    requires story { (o : M) × Begins M.sound M.origin M.steps o old.now log.now machine.old }
     requires each { length log.now ≡ length old.now }
     requires more { AreMore old.now new.now }
     requires alike { take kept old.now ≡ take kept new.now }
     requires in_old { kept ≤ length old.now }
     requires in_new { kept ≤ length new.now }
-    ensures story { IfOk result (λ turns. Story M.steps (M.origin machine.old) new.now (take kept log.now ++ settled (drop kept log.now) turns.items) machine.new) }
+    ensures story { (o : M) → Begins M.sound M.origin M.steps o old.now log.now machine.old → IfOk result (λ turns. Begins M.sound M.origin M.steps o new.now (take kept log.now ++ settled (drop kept log.now) turns.items) machine.new) }
     ensures many { IfOk result (λ turns. kept + length turns.items ≡ length new.now) }
     ensures counted { (n : ℕ) → Runs (M.footprint (M.origin machine.old)) (M.targets (M.origin machine.old)) [] old.now new.now n → M.count meter.new ≤ M.count meter.old + n }
     ensures elsewhere { AreAlikeBut M.alike (M.targets (M.origin machine.old)) (drop kept new.now) machine.old machine.new }
@@ -95,23 +98,17 @@ fn replay_from<M: Machine>(
     replay_end(alloc, machine, old_end, log_end, new_end, meter)
 }
 
-/// What becomes of the records of a story that is told again: so many of the first stay, and the others take turns.
+// What becomes of the records of a story that is told again: so many of the first stay, and the others take turns.
 #[derive(Drop)]
-pub struct Retold<R> {
-    pub kept: usize,
-    pub turns: Vec<Turn<R>>,
+struct Retold<R> {
+    kept: usize,
+    turns: Vec<Turn<R>>,
 }
 
-/// Leads the machine to the end of the story of the new entries, from the end of that of the old ones, whose records
-/// are handed in and not changed: `settle` makes the new records of what this answers. It takes old entries back from
-/// the end to the first one that a new one stands before, makes the change of each again that is not touched, and runs
-/// all others.
-///
-/// Where memory is wanting the machine is as it was, and each run that was made is counted.
-///
-/// Besides what the machine's calls cost it walks along the entries that both begin with, and twice along those
-/// behind them; an old one costs a look at each of its places among the places named, of which each is kept once.
-pub fn retell<M: Machine>(
+// Leads the machine to the end of the story of the new entries, from the end of that of the old ones. It takes back all
+// old entries from the end to the first one that a new one stands before, makes the change of each again that is not
+// touched, and runs all others. Where memory is wanting the machine is as it was.
+fn retell_all<M: Machine>(
     alloc: Global,
     machine: &mut M,
     old: &[Entry],
@@ -119,10 +116,9 @@ pub fn retell<M: Machine>(
     new: &[Entry],
     meter: &mut M::Meter,
 ) -> Result<Retold<M::Record>, AllocError>
-    requires sound { M.sound (M.origin machine.old) }
-    requires story { Story M.steps (M.origin machine.old) old.now log.now machine.old }
+    requires story { (o : M) × Begins M.sound M.origin M.steps o old.now log.now machine.old }
     requires more { AreMore old.now new.now }
-    ensures story { IfOk result (λ r. Story M.steps (M.origin machine.old) new.now (retold log.now r.kept r.turns.items) machine.new) }
+    ensures story { (o : M) → Begins M.sound M.origin M.steps o old.now log.now machine.old → IfOk result (λ r. Begins M.sound M.origin M.steps o new.now (retold log.now r.kept r.turns.items) machine.new) }
     ensures front { IfOk result (λ r. r.kept ≤ length log.now) }
     ensures many { IfOk result (λ r. r.kept + length r.turns.items ≡ length new.now) }
     ensures kept { OnErr result (machine.new ≡ machine.old) }
@@ -139,4 +135,159 @@ pub fn retell<M: Machine>(
             Err(error)
         }
     }
+}
+
+/// Entries, and which of them are marked.
+#[derive(Drop)]
+struct Marked {
+    marks: Vec<bool>,
+    entries: Vec<Entry>,
+}
+
+// All places that the entries depend on.
+fn all_places<M: Machine>(
+    alloc: Global,
+    machine: &M,
+    entries: &[Entry],
+) -> Result<Vec<usize>, AllocError>
+    ensures { IfOk result (λ v. (n : ℕ) → IsTargetOf (M.footprint (M.origin machine.now)) entries.now n → Contains v.items n) }
+{
+    let mut places = Vec::new(alloc);
+    for entry in entries {
+        let more = machine.places_of(alloc, entry)?;
+        add(&mut places, &more)?;
+    }
+    Ok(places)
+}
+
+// The marks, with the entries that are marked.
+fn marked_of(alloc: Global, entries: &[Entry], marks: Vec<bool>) -> Result<Marked, AllocError>
+    ensures marks { IfOk result (λ m. m.marks.items ≡ marks.items) }
+    ensures entries { IfOk result (λ m. m.entries.items ≡ marked marks.items entries.now) }
+{
+    let entries = chosen(alloc, entries, Vec::from_slice(alloc, &marks)?)?;
+    Ok(Marked { marks, entries })
+}
+
+// Marks the old entries and all that is to be told: those that keep to the part of the places of what is fresh. Answers
+// copies of those that are marked.
+fn mark_all<M: Machine>(
+    alloc: Global,
+    machine: &M,
+    old: &[Entry],
+    log: &[(Stamp, M::Record)],
+    new: &[Entry],
+) -> Result<(Marked, Marked), AllocError>
+    requires story { (o : M) × Begins M.sound M.origin M.steps o old.now log.now machine.now }
+    requires more { AreMore old.now new.now }
+    ensures parted { IfOk result (λ p. AreParted (M.closed (M.origin machine.now)) (M.footprint (M.origin machine.now)) old.now new.now p.0.marks.items p.1.marks.items) }
+    ensures old { IfOk result (λ p. p.0.entries.items ≡ marked p.0.marks.items old.now) }
+    ensures new { IfOk result (λ p. p.1.entries.items ≡ marked p.1.marks.items new.now) }
+{
+    let flags = flags_of(alloc, old, new)?;
+    let fresh = chosen(alloc, new, Vec::from_slice(alloc, &flags)?)?;
+    let places = all_places(alloc, machine, &fresh)?;
+    let part = part_of(alloc, machine, &places, log)?;
+    let marks = marks_of::<M>(alloc, &part, log)?;
+    let all = with_flagged(alloc, flags, Vec::from_slice(alloc, &marks)?)?;
+    Ok((marked_of(alloc, old, marks)?, marked_of(alloc, new, all)?))
+}
+
+// Tells again what is marked, and leaves all else as it is: whatever may fail comes before the log changes.
+fn retell_marked<M: Machine>(
+    alloc: Global,
+    machine: &mut M,
+    log: &mut Vec<(Stamp, M::Record)>,
+    told: Marked,
+    all: Marked,
+    meter: &mut M::Meter,
+) -> Result<(), AllocError>
+    requires story { (o : M) × Begins M.sound M.origin M.steps o told.entries.items (marked told.marks.items log.old.items) machine.old }
+    requires more { AreMore told.entries.items all.entries.items }
+    requires each { length told.marks.items ≡ length log.old.items }
+    ensures story { OnOk result ((records : List (StampData × M.Record)) × (log.new.items ≡ woven all.marks.items records (unmarked told.marks.items log.old.items)) × ((o : M) → Begins M.sound M.origin M.steps o told.entries.items (marked told.marks.items log.old.items) machine.old → Begins M.sound M.origin M.steps o all.entries.items records machine.new)) }
+    ensures kept { OnErr result ((machine.new ≡ machine.old) × (log.new.items ≡ log.old.items)) }
+    ensures counted { (n : ℕ) → Runs (M.footprint (M.origin machine.old)) (M.targets (M.origin machine.old)) [] told.entries.items all.entries.items n → M.count meter.new ≤ M.count meter.old + n }
+    ensures few { M.count meter.new ≤ M.count meter.old + length all.entries.items }
+    ensures origin { M.origin machine.new ≡ M.origin machine.old }
+{
+    let within = Vec::with_capacity(alloc, log.len())?;
+    let without = Vec::with_capacity(alloc, log.len())?;
+    let room = Vec::with_capacity(alloc, all.entries.len())?;
+    let told_room = Vec::with_capacity(alloc, told.marks.len())?;
+    let all_room = Vec::with_capacity(alloc, all.marks.len())?;
+    let marks = Vec::from_slice(alloc, &told.marks)?;
+    let records = replace(log, Vec::new(alloc));
+    let (within, without) = split(records, marks, within, without);
+    match retell_all(alloc, machine, &told.entries, &within, &all.entries, meter) {
+        Ok(Retold { kept, turns }) => {
+            let within = settle(within, kept, turns, room);
+            *log = weave(all.marks, within, without, all_room);
+            Ok(())
+        }
+        Err(error) => {
+            *log = weave(told.marks, within, without, told_room);
+            Err(error)
+        }
+    }
+}
+
+// Tells entries behind those that are the same again.
+fn retell_end<M: Machine>(
+    alloc: Global,
+    machine: &mut M,
+    old: &[Entry],
+    log: &mut Vec<(Stamp, M::Record)>,
+    new: &[Entry],
+    meter: &mut M::Meter,
+) -> Result<(), AllocError>
+    requires story { (o : M) × Begins M.sound M.origin M.steps o old.now log.old.items machine.old }
+    requires more { AreMore old.now new.now }
+    ensures story { (o : M) → Begins M.sound M.origin M.steps o old.now log.old.items machine.old → OnOk result (Begins M.sound M.origin M.steps o new.now log.new.items machine.new) }
+    ensures kept { OnErr result ((machine.new ≡ machine.old) × (log.new.items ≡ log.old.items)) }
+    ensures counted { (n : ℕ) → Runs (M.footprint (M.origin machine.old)) (M.targets (M.origin machine.old)) [] old.now new.now n → M.count meter.new ≤ M.count meter.old + n }
+    ensures few { M.count meter.new ≤ M.count meter.old + length new.now }
+    ensures origin { M.origin machine.new ≡ M.origin machine.old }
+{
+    let (told, all) = mark_all(alloc, &*machine, old, log, new)?;
+    retell_marked(alloc, machine, log, told, all, meter)
+}
+
+/// Leads the machine to the end of the story of the new entries, from the end of that of the old ones, with a record of
+/// each in the log, whatever sound state of the machine's origin they began from.
+///
+/// What the fresh entries depend on is a part of the places, with all that is tied to one of these: by what is asked of
+/// states, or by an old entry behind the first fresh one that depends on both. It takes back the old entries behind
+/// the first fresh one that keep to that part, from the end; makes the change of each again that is not touched, and
+/// runs all others. No other entry is taken back or made again: its record stays.
+///
+/// Where memory is wanting all is as it was, and each run that was made is counted.
+///
+/// Besides what the machine's calls cost it walks a few times along the entries behind the first fresh one, and moves
+/// their records; an entry that keeps to the part costs a look at each of its places among the places named, of which
+/// each is kept once.
+pub fn retell<M: Machine>(
+    alloc: Global,
+    machine: &mut M,
+    old: &[Entry],
+    log: &mut Vec<(Stamp, M::Record)>,
+    new: &[Entry],
+    meter: &mut M::Meter,
+) -> Result<(), AllocError>
+    requires story { (o : M) × Begins M.sound M.origin M.steps o old.now log.old.items machine.old }
+    requires more { AreMore old.now new.now }
+    ensures story { (o : M) → Begins M.sound M.origin M.steps o old.now log.old.items machine.old → OnOk result (Begins M.sound M.origin M.steps o new.now log.new.items machine.new) }
+    ensures kept { OnErr result ((machine.new ≡ machine.old) × (log.new.items ≡ log.old.items)) }
+    ensures counted { (n : ℕ) → Runs (M.footprint (M.origin machine.old)) (M.targets (M.origin machine.old)) [] old.now new.now n → M.count meter.new ≤ M.count meter.old + n }
+    ensures few { M.count meter.new ≤ M.count meter.old + length new.now }
+    ensures origin { M.origin machine.new ≡ M.origin machine.old }
+{
+    let kept = common_of(old, new);
+    log.reserve(new.len())?;
+    let mut end = log.split_off(kept)?;
+    let (_, old_end) = old.split_at(kept);
+    let (_, new_end) = new.split_at(kept);
+    let told = retell_end(alloc, machine, old_end, &mut end, new_end, meter);
+    log.append(&mut end).unwrap();
+    told
 }

@@ -9,7 +9,7 @@ use td_stamps::Stamp;
 
 /// What becomes of an entry: the record that it had is kept, or it ran again and has this one, or it is fresh.
 #[derive(Drop)]
-pub enum Turn<R> {
+pub(crate) enum Turn<R> {
     Kept,
     Again((Stamp, R)),
     Fresh((Stamp, R)),
@@ -45,7 +45,7 @@ fn settle_end<R: Drop>(
 
 /// The records after a replay, behind those in the list that is handed in, which has room for them. Each record is
 /// moved; it takes no memory and cannot fail.
-pub fn settle<R: Drop>(
+pub(crate) fn settle<R: Drop>(
     old: Vec<(Stamp, R)>,
     kept: usize,
     turns: Vec<Turn<R>>,

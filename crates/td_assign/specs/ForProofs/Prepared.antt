@@ -1,12 +1,11 @@
 -- What preparing a statement gives, before anything is changed.
-use Rattle.std.specs.Prelude.{◌≡◌, ℕ, List, [], None, Some, Option, Result, Ok, Err}
+use Rattle.std.specs.Prelude.{◌≡◌, ℕ, List, None, Some, Option, Result, Ok, Err}
 use Rattle.td_values.specs.declared.raises.Raise.{Raise}
 use Rattle.td_algebra.specs.declared.errors.Stop.{Stop}
 use Rattle.td_relations.specs.Deltas.{DeltaData}
 use Rattle.td_headings.specs.declared.defined.Test.{Test}
 use Rattle.td_headings.specs.declared.statement.TypedAssignment.{TypedAssignment}
 use Rattle.td_story.specs.Raises.{stop_of}
-use Rattle.td_story.specs.Tests.{failing}
 use Rattle.td_story.specs.Databases.{DatabaseData, stored_relvars}
 use Rattle.td_story.specs.Given.{Given, nothing_given, with_given}
 use Rattle.td_story.specs.Differences.{AreDifferences}

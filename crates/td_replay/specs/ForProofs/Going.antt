@@ -10,7 +10,7 @@ use Rattle.td_headings.specs.Reached.{AreThose}
 use Rattle.td_rollback.specs.Going.{GoByRecords, SoundFrom}
 use Rattle.td_stamps.specs.declared.entry.Entry.{Entry}
 use Rattle.td_story.specs.Databases.{DatabaseData, stored_relvars}
-use Rattle.td_story.specs.Footprints.{IsInFootprint, IsTargetOfText}
+use Rattle.td_story.specs.Footprints.{IsInFootprint, IsTargetOfText, target}
 use Rattle.td_story.proofs.Legal.{step_is_legal}
 use Rattle.td_replay.specs.Noted.{AreAlike, AreTargetsOf, IsFootprintOf, IsSound, Notes, opened_by}
 
@@ -69,8 +69,12 @@ name_targets : (o s t : DatabaseData) (e : Entry) (r : Ran) → Sound o s → No
 name_targets o s t e r good step n =
     subst (λ (c : CatalogueData). Contains r.targets.items n ↔ IsTargetOfText c e.text n) (one_catalogue s o good.1) (step.targets.members n)
 
+hang_on_targets : (o : DatabaseData) (e : Entry) (n : ℕ) → AreTargetsOf o e n → IsFootprintOf o e n
+hang_on_targets o e n h = record { statement = h.statement; reads = h.reads; within = target h.target }
+
 pub go : (o : DatabaseData) → GoByRecords {S = DatabaseData} {R = Ran} (SoundFrom IsSound origin_of o) Notes AreAlike (IsFootprintOf o) (AreTargetsOf o) (λ r. r.footprint.items) (λ r. r.targets.items)
 go o = record {
+  hang_on_targets = hang_on_targets o;
   stay_sound = stay_sound o;
   change_targets = change_targets o;
   by_footprint = by_footprint o;

@@ -1,4 +1,4 @@
-use Rattle.std.proofs.Common.{List, [], drop, take, sym, subst}
+use Rattle.std.proofs.Common.{List, [], drop, take, sym, subst, ◌∙◌}
 use Rattle.td_stamps.specs.declared.entry.Entry.{Entry as EntryData}
 use Rattle.td_stamps.specs.declared.entry.Stamp.{Stamp}
 use Rattle.td_stamps.specs.Story.{Story}
@@ -18,8 +18,10 @@ returns-in_err-undo_end-clause-elsewhere g c =
 pub replay_end-requires-clause-sound : goal.replay_end-requires-clause-sound
 replay_end-requires-clause-sound g c =
     let m = g.M.Machine in
-    let o = m.origin c.args.machine.now in
-    let both : SoundFrom m.sound m.origin o c.undo_end.new.machine = stories.kept m.steps (SoundFrom m.sound m.origin o) (λ s t e r step h. (g.met.M.Machine.goes o).stay_sound s t e r h step) o c.undo_end.new.machine (take c.args.kept c.args.old.now) (take c.args.kept c.args.log.now) c.in_ok-undo_end.ensures.front (c.requires.sound, g.met.M.Machine.rooted c.args.machine.now) in
+    let first = c.requires.story.0 in
+    let front = c.in_ok-undo_end.ensures.front first c.requires.story.1 in
+    let goes = g.met.M.Machine.goes (m.origin c.undo_end.new.machine) in
+    let both = stories.kept m.steps (SoundFrom m.sound m.origin (m.origin c.undo_end.new.machine)) (λ s t e r step h. goes.stay_sound s t e r h step) first c.undo_end.new.machine (take c.args.kept c.args.old.now) (take c.args.kept c.args.log.now) front.story (front.sound, front.origin_is) in
     both.0
 
 pub replay_end-requires-clause-more : goal.replay_end-requires-clause-more
@@ -29,13 +31,16 @@ replay_end-requires-clause-more g c =
     (more_behind c.args.kept c.args.old.now c.args.new.now c.requires.alike c.requires.more))
 
 pub returns-clause-story : goal.returns-clause-story
-returns-clause-story g c =
+returns-clause-story g c = λ o begun.
     let m = g.M.Machine in
+    let front = c.in_ok-undo_end.ensures.front o begun in
     ends.if_more c.replay_end.result _ _
-    (λ turns h. ends.with_front m.steps (m.origin c.args.machine.now) c.undo_end.new.machine c.replay_end.new.machine c.args.old.now c.args.new.now c.args.kept (take c.args.kept c.args.log.now) (settled (drop c.args.kept c.args.log.now) turns.items)
-    c.requires.alike c.in_ok-undo_end.ensures.front
+    (λ turns h.
+    let told = ends.with_front m.steps o c.undo_end.new.machine c.replay_end.new.machine c.args.old.now c.args.new.now c.args.kept (take c.args.kept c.args.log.now) (settled (drop c.args.kept c.args.log.now) turns.items)
+    c.requires.alike front.story
     (subst (λ (qs : List (Stamp × g.row.M-Record.Denot)). Story m.steps c.undo_end.new.machine (drop c.args.kept c.args.new.now) (settled qs turns.items) c.replay_end.new.machine) c.split_at-2.ensures.back
-    (subst (λ (fs : List EntryData). Story m.steps c.undo_end.new.machine fs (settled c.split_at-2.result.1.now turns.items) c.replay_end.new.machine) c.split_at-3.ensures.back h)))
+    (subst (λ (fs : List EntryData). Story m.steps c.undo_end.new.machine fs (settled c.split_at-2.result.1.now turns.items) c.replay_end.new.machine) c.split_at-3.ensures.back h)) in
+    record { sound = begun.sound; origin_is = front.origin_is ∙ sym c.replay_end.ensures.origin; story = told })
     c.replay_end.ensures.story
 
 pub returns-clause-counted : goal.returns-clause-counted

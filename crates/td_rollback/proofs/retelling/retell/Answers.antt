@@ -1,63 +1,111 @@
-use Rattle.std.proofs.Common.{ap, sym, arith}
+use Rattle.std.proofs.Common.{◌≡◌, ◌++◌, [], List, drop, take, length, length-drop, ap, sym, subst, ◌∙◌, arith}
+use Rattle.td_stamps.specs.declared.entry.Entry.{Entry}
+use Rattle.td_stamps.specs.declared.entry.Stamp.{Stamp}
+use Rattle.td_stamps.specs.Story.{Story}
 use Rattle.td_stamps.proofs.Stories as stories
-use Rattle.td_rollback.specs.Going.{SoundFrom}
-use Rattle.td_rollback.proofs.Counting.{at_most_all}
+use Rattle.td_rollback.specs.Going.{Begins, SoundFrom}
+use Rattle.td_rollback.specs.Touched.{AreMore, Runs}
+use Rattle.td_rollback.proofs.Ends as ends
+use Rattle.td_rollback.proofs.More.{more_behind}
+use Rattle.td_rollback.proofs.Parting as parting
 use Rattle.td_rollback.proofs.retelling.retell.Goals as goal
 
-pub save_end-requires-clause-each : goal.save_end-requires-clause-each
-save_end-requires-clause-each g c = let m = g.M.Machine in stories.as_many m.steps (m.origin c.args.machine.now) c.args.machine.now c.args.old.now c.args.log.now c.requires.story
+pub split_off-requires : goal.split_off-requires
+split_off-requires g c =
+    let m = g.M.Machine in
+    let each = stories.as_many m.steps c.requires.story.0 c.args.machine.now c.args.old.now c.args.log.now.items c.requires.story.1.story in
+    let le = c.common_of-kept.ensures.in_old in
+    let same = ap length c.in_ok-reserve.ensures.items in
+    omega (arith, each, le, same)
 
-pub replay_from-requires-clause-each : goal.replay_from-requires-clause-each
-replay_from-requires-clause-each g c = let m = g.M.Machine in stories.as_many m.steps (m.origin c.args.machine.now) c.args.machine.now c.args.old.now c.args.log.now c.requires.story
-
-pub returns-in-Ok-clause-few : goal.returns-in-Ok-clause-few
-returns-in-Ok-clause-few g c =
+pub retell_end-told-requires-clause-story : goal.retell_end-told-requires-clause-story
+retell_end-told-requires-clause-story g c =
     let m = g.M.Machine in
     let o = m.origin c.args.machine.now in
-    at_most_all (m.footprint o) (m.targets o) c.args.old.now c.args.new.now (m.count c.replay_from.new.meter) (m.count c.args.meter.now) c.requires.more c.replay_from.ensures.counted
+    let kept = c.common_of-kept.result in
+    let log = c.args.log.now.items in
+    let b = c.requires.story.1 in
+    let two = parting.cut m.steps c.requires.story.0 c.args.machine.now c.args.old.now log b.story kept in
+    let sound : SoundFrom m.sound m.origin o two.0 = stories.kept m.steps (SoundFrom m.sound m.origin o) (λ s t e r step h. (g.met.M.Machine.goes o).stay_sound s t e r h step) c.requires.story.0 two.0 (take kept c.args.old.now) (take kept log) two.1 (b.sound, b.origin_is) in
+    let end_is : c.in_ok-end.end.items ≡ drop kept log = c.in_ok-end.ensures.tail ∙ ap (drop kept) c.in_ok-reserve.ensures.items in (
+      two.0,
+      record {
+        sound = sound.0;
+        origin_is = sound.1;
+        story = subst (λ (ps : List (Stamp × g.row.M-Record.Denot)). Story m.steps two.0 c.split_at.result.1.now ps c.args.machine.now) (sym end_is)
+            (subst (λ (es : List Entry). Story m.steps two.0 es (drop kept log) c.args.machine.now) (sym c.split_at.ensures.back) two.2);
+      },
+    )
 
-pub returns-in-Err-clause-few : goal.returns-in-Err-clause-few
-returns-in-Err-clause-few g c =
+pub retell_end-told-requires-clause-more : goal.retell_end-told-requires-clause-more
+retell_end-told-requires-clause-more g c =
+    subst (λ (fs : List Entry). AreMore c.split_at.result.1.now fs) (sym c.split_at-2.ensures.back)
+    (subst (λ (es : List Entry). AreMore es (drop c.common_of-kept.result c.args.new.now)) (sym c.split_at.ensures.back)
+    (more_behind c.common_of-kept.result c.args.old.now c.args.new.now c.common_of-kept.ensures.alike c.requires.more))
+
+pub returns-clause-story : goal.returns-clause-story
+returns-clause-story g c = λ first b.
     let m = g.M.Machine in
     let o = m.origin c.args.machine.now in
-    at_most_all (m.footprint o) (m.targets o) c.args.old.now c.args.new.now (m.count c.replay_from.new.meter) (m.count c.args.meter.now) c.requires.more c.replay_from.ensures.counted
+    let kept = c.common_of-kept.result in
+    let log = c.args.log.now.items in
+    let end = c.retell_end-told.new.machine in
+    let two = parting.cut m.steps first c.args.machine.now c.args.old.now log b.story kept in
+    let sound : SoundFrom m.sound m.origin o two.0 = stories.kept m.steps (SoundFrom m.sound m.origin o) (λ s t e r step h. (g.met.M.Machine.goes o).stay_sound s t e r h step) first two.0 (take kept c.args.old.now) (take kept log) two.1 (b.sound, b.origin_is) in
+    let end_is : c.in_ok-end.end.items ≡ drop kept log = c.in_ok-end.ensures.tail ∙ ap (drop kept) c.in_ok-reserve.ensures.items in
+    let from : Begins m.sound m.origin m.steps two.0 c.split_at.result.1.now c.in_ok-end.end.items c.args.machine.now = record {
+      sound = sound.0;
+      origin_is = sound.1;
+      story = subst (λ (ps : List (Stamp × g.row.M-Record.Denot)). Story m.steps two.0 c.split_at.result.1.now ps c.args.machine.now) (sym end_is)
+          (subst (λ (es : List Entry). Story m.steps two.0 es (drop kept log) c.args.machine.now) (sym c.split_at.ensures.back) two.2);
+    } in
+    let front_is : c.split_off.new.self.items ≡ take kept log = c.in_ok-end.ensures.items ∙ ap (take kept) c.in_ok-reserve.ensures.items in
+    let appended = c.append.ensures.items in
+    let all : c.append.new.self.items ≡ c.split_off.new.self.items ++ c.retell_end-told.new.log.items = rw c.unwrap.ensures at appended in
+    let log_is : c.append.new.self.items ≡ take kept log ++ c.retell_end-told.new.log.items = all ∙ ap (λ (ps : List (Stamp × g.row.M-Record.Denot)). ps ++ c.retell_end-told.new.log.items) front_is in
+    parting.on_ok c.retell_end-told.result (λ to.
+    let behind = subst (λ (fs : List Entry). Story m.steps two.0 fs c.retell_end-told.new.log.items end) c.split_at-2.ensures.back to.story in
+    let told = ends.with_front m.steps first two.0 end c.args.old.now c.args.new.now kept (take kept log) c.retell_end-told.new.log.items c.common_of-kept.ensures.alike two.1 behind in
+    record {
+      sound = b.sound;
+      origin_is = b.origin_is ∙ sym c.retell_end-told.ensures.origin;
+      story = subst (λ (ps : List (Stamp × g.row.M-Record.Denot)). Story m.steps first c.args.new.now ps end) (sym log_is) told;
+    })
+    (c.retell_end-told.ensures.story two.0 from)
 
-pub returns-in-Err-clause-kept : goal.returns-in-Err-clause-kept
-returns-in-Err-clause-kept g c =
+pub returns-clause-counted : goal.returns-clause-counted
+returns-clause-counted g c = λ n runs.
     let m = g.M.Machine in
     let o = m.origin c.args.machine.now in
-    let sound : SoundFrom m.sound m.origin o c.args.machine.now =
-    stories.kept m.steps (SoundFrom m.sound m.origin o) (λ s t e r step h. (g.met.M.Machine.goes o).stay_sound s t e r h step) o c.args.machine.now c.args.old.now c.args.log.now c.requires.story
-    (c.requires.sound, g.met.M.Machine.rooted c.args.machine.now)
-    in
-    let saved = c.in_ok-part.ensures in
-    c.put_back.ensures c.args.machine.now saved.0 sound.0 saved.1 (sym c.replay_from.ensures.origin) (λ n never. c.replay_from.ensures.elsewhere n (λ h. never (saved.2 n h)))
+    let kept = c.common_of-kept.result in
+    c.retell_end-told.ensures.counted n
+    (subst (λ (fs : List Entry). Runs (m.footprint o) (m.targets o) [] c.split_at.result.1.now fs n) (sym c.split_at-2.ensures.back)
+    (subst (λ (es : List Entry). Runs (m.footprint o) (m.targets o) [] es (drop kept c.args.new.now) n) (sym c.split_at.ensures.back)
+    (ends.runs_behind (m.footprint o) (m.targets o) kept c.args.old.now c.args.new.now n c.common_of-kept.ensures.alike runs)))
 
-pub returns-in-Err-clause-origin : goal.returns-in-Err-clause-origin
-returns-in-Err-clause-origin g c =
+pub unwrap-requires : goal.unwrap-requires
+unwrap-requires g c =
     let m = g.M.Machine in
     let o = m.origin c.args.machine.now in
-    let sound : SoundFrom m.sound m.origin o c.args.machine.now =
-    stories.kept m.steps (SoundFrom m.sound m.origin o) (λ s t e r step h. (g.met.M.Machine.goes o).stay_sound s t e r h step) o c.args.machine.now c.args.old.now c.args.log.now c.requires.story
-    (c.requires.sound, g.met.M.Machine.rooted c.args.machine.now)
-    in
-    let saved = c.in_ok-part.ensures in
-    ap g.M.Machine.origin (c.put_back.ensures c.args.machine.now saved.0 sound.0 saved.1 (sym c.replay_from.ensures.origin) (λ n never. c.replay_from.ensures.elsewhere n (λ h. never (saved.2 n h))))
-
-pub returns-in-Ok-clause-front : goal.returns-in-Ok-clause-front
-returns-in-Ok-clause-front g c =
-    let m = g.M.Machine in
-    let each = stories.as_many m.steps (m.origin c.args.machine.now) c.args.machine.now c.args.old.now c.args.log.now c.requires.story in
-    let within = c.common_of-kept.ensures.in_old in
-    omega (arith, each, within)
-
-pub put_back-requires : goal.put_back-requires
-put_back-requires g c =
-    let m = g.M.Machine in
-    let o = m.origin c.args.machine.now in
-    let sound : SoundFrom m.sound m.origin o c.args.machine.now =
-    stories.kept m.steps (SoundFrom m.sound m.origin o) (λ s t e r step h. (g.met.M.Machine.goes o).stay_sound s t e r h step) o c.args.machine.now c.args.old.now c.args.log.now c.requires.story
-    (c.requires.sound, g.met.M.Machine.rooted c.args.machine.now)
-    in
-    let saved = c.in_ok-part.ensures in
-    (c.args.machine.now, saved.0, sound.0, saved.1, sym c.replay_from.ensures.origin)
+    let kept = c.common_of-kept.result in
+    let log = c.args.log.now.items in
+    let b = c.requires.story.1 in
+    let two = parting.cut m.steps c.requires.story.0 c.args.machine.now c.args.old.now log b.story kept in
+    let sound : SoundFrom m.sound m.origin o two.0 = stories.kept m.steps (SoundFrom m.sound m.origin o) (λ s t e r step h. (g.met.M.Machine.goes o).stay_sound s t e r h step) c.requires.story.0 two.0 (take kept c.args.old.now) (take kept log) two.1 (b.sound, b.origin_is) in
+    let end_is : c.in_ok-end.end.items ≡ drop kept log = c.in_ok-end.ensures.tail ∙ ap (drop kept) c.in_ok-reserve.ensures.items in
+    let from : Begins m.sound m.origin m.steps two.0 c.split_at.result.1.now c.in_ok-end.end.items c.args.machine.now = record {
+      sound = sound.0;
+      origin_is = sound.1;
+      story = subst (λ (ps : List (Stamp × g.row.M-Record.Denot)). Story m.steps two.0 c.split_at.result.1.now ps c.args.machine.now) (sym end_is)
+          (subst (λ (es : List Entry). Story m.steps two.0 es (drop kept log) c.args.machine.now) (sym c.split_at.ensures.back) two.2);
+    } in
+    let told = parting.on_ok c.retell_end-told.result (λ to. stories.as_many m.steps two.0 c.retell_end-told.new.machine c.split_at-2.result.1.now c.retell_end-told.new.log.items to.story) (c.retell_end-told.ensures.story two.0 from) in
+    let stays = parting.on_err c.retell_end-told.result (λ same. ap length same.1) c.retell_end-told.ensures.kept in
+    let few = parting.in_room c.retell_end-told.result (length c.retell_end-told.new.log.items) (length c.split_at-2.result.1.now) (length c.in_ok-end.end.items) told stays in
+    let room = c.in_ok-reserve.ensures.ok in
+    let capacity = c.in_ok-end.ensures.capacity in
+    let front = c.in_ok-end.ensures.len in
+    let tail = c.in_ok-end.ensures.tail_len in
+    let all = ap length c.in_ok-reserve.ensures.items in
+    let behind = ap length c.split_at-2.ensures.back ∙ length-drop kept c.args.new.now in
+    c.append.ensures.succeeds (omega (arith, few, room, capacity, front, tail, all, behind))

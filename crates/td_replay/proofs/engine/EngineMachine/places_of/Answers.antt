@@ -1,10 +1,10 @@
 use Rattle.std.proofs.Common.{◌≡◌, subst}
 use Rattle.td_story.specs.Databases.{DatabaseData}
 use Rattle.td_replay.proofs.Making.{named_all}
-use Rattle.td_replay.proofs.engine.EngineMachine.may_change.Goals as goal
+use Rattle.td_replay.proofs.engine.EngineMachine.places_of.Goals as goal
 
 pub returns : goal.returns
 returns c =
-    named_all c.args.self.now.catalogue c.catalogue.result.now c.as_str.result.now c.args.entry.now.text c.targets_of.result
+    named_all c.args.self.now.catalogue c.catalogue.result.now c.as_str.result.now c.args.entry.now.text c.footprint_of.result
     (subst (λ (z : DatabaseData). c.catalogue.result.now ≡ z.catalogue) c.self.view_is c.catalogue.ensures.same)
-    c.as_str.ensures c.targets_of.ensures
+    c.as_str.ensures c.footprint_of.ensures

@@ -1,0 +1,28 @@
+-- Marks on old and new entries.
+use Rattle.std.specs.Prelude.{◌≡◌, ℕ, Bool, true, false, List, [], ◌∷◌}
+use Rattle.td_stamps.specs.declared.entry.Entry.{Entry}
+use Rattle.td_stamps.specs.Sets.{has}
+use Rattle.td_rollback.specs.Parts.{AreMarked}
+
+-- of the new entries those are flagged that are not old
+pub data AreFlagged : List Entry → List Bool → List Entry → Type 0 where
+  no_more : AreFlagged [] [] []
+  new_one : {flags : List Bool} {es fs : List Entry} {e : Entry} → has es e ≡ false → AreFlagged es flags fs → AreFlagged es (true ∷ flags) (e ∷ fs)
+  old_one : {flags : List Bool} {es fs : List Entry} {e : Entry} → AreFlagged es flags fs → AreFlagged (e ∷ es) (false ∷ flags) (e ∷ fs)
+
+-- the marks of all, by those of the old ones: what is flagged is marked
+abbrev pub with_flagged : List Bool → List Bool → List Bool
+with_flagged [] marks = []
+with_flagged (true ∷ flags) marks = true ∷ with_flagged flags marks
+with_flagged (false ∷ flags) [] = with_flagged flags []
+with_flagged (false ∷ flags) (b ∷ marks) = b ∷ with_flagged flags marks
+
+-- a part, and marks for the old entries and for all, which say who keeps to it
+pub record AreParted (Closed : (ℕ → Bool) → Type 0) (Footprint : Entry → ℕ → Type 0) (es fs : List Entry) (bs cs : List Bool) : Type 0 where
+  pub part : ℕ → Bool
+  pub flags : List Bool
+  pub closed : Closed part
+  pub flagged : AreFlagged es flags fs
+  pub marks_are : cs ≡ with_flagged flags bs
+  pub old : AreMarked Footprint part bs es
+  pub new : AreMarked Footprint part cs fs
