@@ -22,10 +22,11 @@ use td_values::Name;
 
 /// A site in memory. It keeps the database, and of the run of each entry its outcome, its changes and what it hangs on.
 ///
-/// To issue a statement runs that one alone. To take entries takes those held back that come behind the first new one,
-/// from the end; runs the new ones, and of the others those whose footprint meets the targets of one that ran; and makes
-/// the changes of the rest again. Beside these runs it costs a walk over all entries that it then holds, and the changes
-/// of those behind the first new one. A refused call leaves all as it was.
+/// To issue a statement runs that one alone. To take entries takes back those held behind the first fresh one that hang
+/// together with a fresh one, by the relvars on which they hang and by tests over these; runs the fresh ones, and of
+/// the others those whose footprint meets the targets of one that ran; and makes the changes of the rest again. Entries
+/// that hang together with no fresh one are left as they are. Beside these runs it costs walks over all entries that it
+/// then holds, and the changes of those that are taken back. A refused call leaves all as it was.
 #[derive(Drop)]
 pub struct Site {
     state: State,
