@@ -232,7 +232,7 @@ fn retell_marked<M: Machine>(
     }
 }
 
-// Tells entries behind those that are the same again.
+// As `retell`, of entries that do not begin alike.
 fn retell_end<M: Machine>(
     alloc: Global,
     machine: &mut M,
