@@ -1,5 +1,5 @@
 //! Names of relvars, attributes and types.
-ghost use Rattle.std.specs.Prelude.{◌≡◌, ◌↔◌, IfOk, IsTrue, IsErrOf, false, refl};
+ghost use Rattle.std.specs.Prelude.{◌≡◌, ◌↔◌, IfOk, IsTrue, IsErrOf, false, refl, string_bytes};
 ghost use Rattle.std.specs.List.{list_all};
 ghost use Rattle.std.specs.Hash as fed;
 ghost use Rattle.std.specs.Ordering.{eq_by_cmp, as_partial_cmp};
@@ -8,11 +8,11 @@ ghost use Rattle.td_values.specs.Order.{text_cmp};
 ghost use Rattle.td_values.specs.TextOrder.{text_total, text_equivalence, text_partial_equivalence, text_partial_order, text_hashed};
 ghost use Rattle.td_values.specs.declared.names.NameError.TheVariants.{BadName, OutOfMemory};
 
-use crate::texts::Text;
 use std::alloc::{AllocError, Global};
 use std::cmp::Ordering;
 use std::hash::{Hash, Hasher};
 use std::marker::Model;
+use std::rc::Rc;
 use thiserror::Error;
 
 /// Why there is no name.
@@ -35,18 +35,18 @@ impl From<AllocError> for NameError {
 /// A name, which contracts see as its bytes. A copy takes one count.
 #[derive(Drop)]
 pub struct Name {
-    text: Text,
+    text: Rc<String>,
 }
 
 impl Model for Name {
-    ghost use Rattle.std.specs.Prelude.{List, ℕ, IsTrue};
+    ghost use Rattle.std.specs.Prelude.{List, ℕ, IsTrue, string_bytes};
     ghost use Rattle.td_values.specs.Names.{is_name};
 
     ghost Value = { List ℕ };
 
-    ghost view = { λ a. a.text };
+    ghost view = { λ a. string_bytes a.text.value };
 
-    ghost invariant = { λ a. IsTrue (is_name a.text) };
+    ghost invariant = { λ a. IsTrue (is_name (string_bytes a.text.value)) };
 }
 
 fn goes_on(b: u8) -> bool
@@ -74,6 +74,13 @@ pub fn is_name(text: &str) -> bool
     }
 }
 
+fn shared(alloc: Global, text: &str) -> Result<Rc<String>, AllocError>
+    ensures { IfOk result (λ t. string_bytes t.value ≡ text.now) }
+{
+    let owned = String::from_str(alloc, text)?;
+    Ok(Rc::new(alloc, owned)?)
+}
+
 impl Name {
     /// The name with this text. A text that is no name is refused before any memory is asked for.
     pub fn new(alloc: Global, text: &str) -> Result<Name, NameError>
@@ -83,8 +90,9 @@ impl Name {
         if !is_name(text) {
             return Err(NameError::BadName);
         }
-        let text = Text::from_str(alloc, text)?;
-        Ok(Name { text })
+        Ok(Name {
+            text: shared(alloc, text)?,
+        })
     }
 
     /// The characters.
@@ -100,7 +108,7 @@ impl Name {
         ensures { IfOk result (λ n. n ≡ self.now) }
     {
         Ok(Name {
-            text: self.text.copy()?,
+            text: self.text.clone()?,
         })
     }
 
@@ -108,7 +116,7 @@ impl Name {
     pub fn compare(&self, other: &Name) -> Ordering
         ensures { result ≡ text_cmp self.now other.now }
     {
-        self.text.compare(&other.text)
+        self.text.as_str().cmp(other.text.as_str())
     }
 }
 

@@ -1,28 +1,59 @@
-//! Texts that their copies share.
-ghost use Rattle.std.specs.Prelude.{◌≡◌, IfOk, string_bytes, refl};
+//! Texts: short ones stand in the value itself, and longer ones are shared by their copies.
+ghost use Rattle.std.specs.Prelude.{◌≡◌, ◌≤◌, ◌↔◌, IfOk, IfSome, IsSome, length, string_bytes, refl};
 ghost use Rattle.std.specs.Hash as fed;
 ghost use Rattle.std.specs.Ordering.{eq_by_cmp, as_partial_cmp};
 ghost use Rattle.td_values.specs.Order.{text_cmp};
 ghost use Rattle.td_values.specs.TextOrder.{text_total, text_equivalence, text_partial_equivalence, text_partial_order, text_hashed};
+ghost use Rattle.td_values.specs.Texts.{kept_bytes};
 
+use arrayvec::ArrayString;
 use std::alloc::{AllocError, Global};
 use std::cmp::Ordering;
 use std::hash::{Hash, Hasher};
 use std::marker::Model;
 use std::rc::Rc;
 
-/// A text, which contracts see as its UTF-8 bytes. A copy takes one count, however long the text is.
+// As many bytes as leave a text no larger than the inside of a relation.
+const SHORT: usize = 16;
+
+#[derive(Drop)]
+enum Kept {
+    Short(ArrayString<SHORT>),
+    Long(Rc<String>),
+}
+
+/// A text, which contracts see as its UTF-8 bytes. A copy takes the bytes of a short one and one count of a longer
+/// one, however long it is.
 #[derive(Drop)]
 pub struct Text {
-    text: Rc<String>,
+    kept: Kept,
 }
 
 impl Model for Text {
-    ghost use Rattle.std.specs.Prelude.{List, ℕ, string_bytes};
+    ghost use Rattle.std.specs.Prelude.{List, ℕ};
+    ghost use Rattle.td_values.specs.Texts.{kept_bytes};
 
     ghost Value = { List ℕ };
 
-    ghost view = { λ a. string_bytes a.text.value };
+    ghost view = { λ a. kept_bytes a.kept };
+}
+
+fn short(text: &str) -> Option<Kept>
+    ensures variant { IsSome result ↔ (length text.now ≤ 16) }
+    ensures bytes { IfSome result (λ k. kept_bytes k ≡ text.now) }
+{
+    match ArrayString::from(text) {
+        Ok(bytes) => Some(Kept::Short(bytes)),
+        Err(_) => None,
+    }
+}
+
+fn long(alloc: Global, text: String) -> Result<Text, AllocError>
+    ensures { IfOk result (λ t. t ≡ string_bytes text) }
+{
+    Ok(Text {
+        kept: Kept::Long(Rc::new(alloc, text)?),
+    })
 }
 
 impl Text {
@@ -30,40 +61,51 @@ impl Text {
     pub fn new(alloc: Global, text: String) -> Result<Text, AllocError>
         ensures { IfOk result (λ t. t ≡ string_bytes text) }
     {
-        Ok(Text {
-            text: Rc::new(alloc, text)?,
-        })
+        match short(text.as_str()) {
+            Some(kept) => Ok(Text { kept }),
+            None => long(alloc, text),
+        }
     }
 
     /// A text of its own with these characters.
     pub fn from_str(alloc: Global, text: &str) -> Result<Text, AllocError>
         ensures { IfOk result (λ t. t ≡ text.now) }
     {
-        let owned = String::from_str(alloc, text)?;
-        Text::new(alloc, owned)
+        match short(text) {
+            Some(kept) => Ok(Text { kept }),
+            None => long(alloc, String::from_str(alloc, text)?),
+        }
     }
 
     /// The characters.
     pub fn as_str(&self) -> &str
         ensures { result.now ≡ self.now }
     {
-        self.text.as_str()
+        match &self.kept {
+            Kept::Short(text) => text.as_str(),
+            Kept::Long(text) => text.as_str(),
+        }
     }
 
-    /// The same text, shared.
+    /// The same text, shared where it is long.
     pub fn copy(&self) -> Result<Text, AllocError>
         ensures { IfOk result (λ t. t ≡ self.now) }
     {
-        Ok(Text {
-            text: self.text.clone()?,
-        })
+        match &self.kept {
+            Kept::Short(text) => Ok(Text {
+                kept: Kept::Short(*text),
+            }),
+            Kept::Long(text) => Ok(Text {
+                kept: Kept::Long(text.clone()?),
+            }),
+        }
     }
 
     /// The order of texts by their characters' code points, which is that of their bytes.
     pub fn compare(&self, other: &Text) -> Ordering
         ensures { result ≡ text_cmp self.now other.now }
     {
-        self.text.as_str().cmp(other.text.as_str())
+        self.as_str().cmp(other.as_str())
     }
 }
 

@@ -286,11 +286,46 @@ fn supplier_value(alloc: Global, number: &str, status: i64) -> Result<Value> {
     })
 }
 
+// Whether each of these texts comes before the next one.
+fn are_ascending(alloc: Global, texts: &[&str]) -> Result<bool> {
+    for i in 1..texts.len() {
+        if !ascend(text(alloc, texts[i - 1])?, text(alloc, texts[i])?) {
+            return Ok(false);
+        }
+    }
+    Ok(true)
+}
+
+// Whether a text is the same however it is made.
+fn is_one_text(alloc: Global, s: &str) -> Result<bool> {
+    let text = Text::new(alloc, String::from_str(alloc, s)?)?;
+    let copy = Text::from_str(alloc, s)?.copy()?;
+    Ok(text == copy && text.as_str() == s && copy.as_str() == s)
+}
+
+// Up to sixteen bytes stand in the value: texts around that, and with a character that ends there or goes on behind.
 #[test]
 fn texts_are_in_code_point_order(rt: HostRuntime) -> Result<()> {
     let alloc = rt.alloc();
-    assert!(rt; ascend(text(alloc, "Z")?, text(alloc, "é")?));
-    assert!(rt; ascend(text(alloc, "\u{ffff}")?, text(alloc, "\u{10000}")?));
+    let texts = [
+        "",
+        "Z",
+        "aaaaaaaaaaaaaaa",
+        "aaaaaaaaaaaaaaaa",
+        "aaaaaaaaaaaaaaaaa",
+        "aaaaaaaaaaaaaaaé",
+        "aaaaaaaaaaaaaaé",
+        "aaaaaaaaaaaaaaéa",
+        "aaaaaaaaaaaaa\u{10000}",
+        "aaaaaaaaaaaa\u{10000}",
+        "é",
+        "\u{ffff}",
+        "\u{10000}",
+    ];
+    assert!(rt; are_ascending(alloc, &texts)?);
+    for s in texts {
+        assert!(rt; is_one_text(alloc, s)?);
+    }
     Ok(())
 }
 
