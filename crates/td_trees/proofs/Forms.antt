@@ -1,9 +1,8 @@
 -- What each form mentions.
-use Rattle.std.proofs.Common.{◌≡◌, ℕ, ℤ, Bool, List, [], ◌∷◌, ◌++◌, map, refl, ap, sym, ◌∙◌, append_assoc, rules}
+use Rattle.std.proofs.Common.{◌≡◌, ℕ, List, [], ◌∷◌, ◌++◌, map, refl, ap, sym, ◌∙◌, append_assoc, rules}
 use Rattle.td_values.specs.Data.{Ty}
 use Rattle.td_values.specs.Headings.{Header}
 use Rattle.td_syntax.specs.declared.tree.Named.{Named}
-use Rattle.td_syntax.specs.declared.tree.Nesting.{Nesting}
 use Rattle.td_syntax.specs.declared.tree.UnaryOperator.{UnaryOperator}
 use Rattle.td_syntax.specs.declared.tree.BinaryOperator.{BinaryOperator}
 use Rattle.td_tuples.specs.declared.items.Item.{Item}

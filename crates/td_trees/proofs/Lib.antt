@@ -1,2 +1,4 @@
 -- The proofs of the crate.
 pub mod Forms
+pub mod Operators
+pub mod Ties

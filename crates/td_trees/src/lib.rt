@@ -3,8 +3,10 @@
 
 pub mod expression;
 pub mod mentions;
+pub mod order;
 pub mod tree;
 
 pub use expression::{BaseUnder, Expression, Selector, VirtualUnder};
 pub use mentions::{Mention, add_mentions, possreps_in, relvars_in};
+pub use order::compare;
 pub use tree::{Typed, TypedGroups, Typing};
