@@ -17,9 +17,8 @@ fn turning(alloc: Global, old: &Relation, new: &Relation) -> Result<Option<Delta
     requires { old.now.heading ≡ new.now.heading }
     ensures { IfOk result (λ o. MatchOption o (old.now ≡ new.now) (Turns old.now new.now)) }
 {
-    // They show that the tuples ascend, and do nothing when they run.
-    let _old = old.tuples();
-    let _new = new.tuples();
+    old.rows_fit();
+    new.rows_fit();
     let delta = Delta::difference(alloc, old, new)?;
     if delta.is_empty() {
         Ok(None)

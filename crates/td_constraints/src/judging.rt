@@ -22,8 +22,7 @@ use td_values::{Name, Raise};
 fn is_key(alloc: Global, relation: &Relation, key: &[Name]) -> Result<bool, AllocError>
     ensures { IfOk result (λ b. b ≡ spec.is_key key.now relation.now.tuples) }
 {
-    // It shows that the tuples ascend, and does nothing when it runs.
-    let _tuples = relation.tuples();
+    relation.rows_fit();
     tell_apart(alloc, relation, key)
 }
 

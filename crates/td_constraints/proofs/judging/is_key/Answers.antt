@@ -3,4 +3,4 @@ use Rattle.td_constraints.proofs.Keys.{tested}
 use Rattle.td_constraints.proofs.judging.is_key.Goals as goal
 
 pub returns : goal.returns
-returns c = IfOk-weaker c.tell_apart.result _ _ (λ b says. tested c.args.key.now c.args.relation.now b c.tuples-tuples.ensures.rows.ascending says) c.tell_apart.ensures
+returns c = IfOk-weaker c.tell_apart.result _ _ (λ b says. tested c.args.key.now c.args.relation.now b c.rows_fit.ensures.ascending says) c.tell_apart.ensures
