@@ -39,7 +39,7 @@ pub trait Links {
 }
 
 /// Opens no link.
-#[derive(Clone, Copy, Debug, Drop, PartialEq, Eq)]
+#[derive(Clone, Copy, Drop, PartialEq, Eq)]
 pub struct NoLinks;
 
 impl Links for NoLinks {

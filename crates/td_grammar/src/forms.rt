@@ -1,7 +1,7 @@
 //! The forms that the grammar tells apart.
 
 /// The forms of an expression, from the one that binds least.
-#[derive(Clone, Copy, Debug, PartialEq, Eq)]
+#[derive(Clone, Copy, PartialEq, Eq)]
 pub enum Form {
     Expr,
     Or,
@@ -17,7 +17,7 @@ pub enum Form {
 }
 
 /// Where the name of an expression stands in a list.
-#[derive(Clone, Copy, Debug, PartialEq, Eq)]
+#[derive(Clone, Copy, PartialEq, Eq)]
 pub enum Naming {
     /// `expression AS Name`
     After,

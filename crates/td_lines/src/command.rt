@@ -11,7 +11,7 @@ ghost use Rattle.td_lines.specs.Commands.{beside, both, meant};
 pub const LINE_BYTES: usize = 16_384;
 
 /// What a line says. A number too large for a site stands as 65,536.
-#[derive(Clone, Copy, Debug, PartialEq, Eq)]
+#[derive(Clone, Copy, PartialEq, Eq)]
 pub enum Command<'a> {
     /// The empty line.
     Nothing,

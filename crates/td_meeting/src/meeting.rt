@@ -20,7 +20,7 @@ use td_story::{Meter, Replica, Taken};
 use thiserror::Error;
 
 /// How many entries were fresh to each site of a meeting.
-#[derive(Clone, Copy, Debug, PartialEq, Eq)]
+#[derive(Clone, Copy, PartialEq, Eq)]
 pub struct Met {
     pub first: usize,
     pub second: usize,

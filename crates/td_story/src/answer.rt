@@ -22,7 +22,7 @@ pub struct Issued {
 }
 
 /// How many entries of a batch were new, each counted once, and how many others it had.
-#[derive(Clone, Copy, Debug, PartialEq, Eq)]
+#[derive(Clone, Copy, PartialEq, Eq)]
 pub struct Taken {
     pub fresh: usize,
     pub known: usize,

@@ -36,7 +36,7 @@ pub struct Renaming {
     pub to: Name,
 }
 
-#[derive(Clone, Copy, Debug, PartialEq, Eq)]
+#[derive(Clone, Copy, PartialEq, Eq)]
 pub enum UnaryOperator {
     Not,
     Negate,
@@ -48,7 +48,7 @@ pub enum UnaryOperator {
     Count,
 }
 
-#[derive(Clone, Copy, Debug, PartialEq, Eq)]
+#[derive(Clone, Copy, PartialEq, Eq)]
 pub enum BinaryOperator {
     Or,
     Xor,
@@ -78,7 +78,7 @@ pub enum BinaryOperator {
 }
 
 /// An operator over the tuples of a relation.
-#[derive(Clone, Copy, Debug, PartialEq, Eq)]
+#[derive(Clone, Copy, PartialEq, Eq)]
 pub enum Aggregate {
     Sum,
     Max,
@@ -88,14 +88,14 @@ pub enum Aggregate {
 }
 
 /// Whether tuples become a relation or a tuple.
-#[derive(Clone, Copy, Debug, PartialEq, Eq)]
+#[derive(Clone, Copy, PartialEq, Eq)]
 pub enum Nesting {
     Group,
     Wrap,
 }
 
 /// Whether EXTEND adds attributes alone, or may replace some.
-#[derive(Clone, Copy, Debug, PartialEq, Eq)]
+#[derive(Clone, Copy, PartialEq, Eq)]
 pub enum Extension {
     Add,
     Assign,

@@ -7,7 +7,7 @@ ghost use Rattle.td_tokens.specs.View.{lexeme_of};
 use std::alloc::{AllocError, Global};
 
 /// A keyword or a symbol.
-#[derive(Clone, Copy, Debug, PartialEq, Eq)]
+#[derive(Clone, Copy, PartialEq, Eq)]
 pub enum Word {
     Add,
     All,
@@ -92,7 +92,7 @@ pub enum Word {
 }
 
 /// What a token is, with the value of an integer.
-#[derive(Clone, Copy, Debug, PartialEq, Eq)]
+#[derive(Clone, Copy, PartialEq, Eq)]
 pub enum Kind {
     Word(Word),
     Name,
@@ -101,7 +101,7 @@ pub enum Kind {
 }
 
 /// A token and the part of the source that it takes: the bytes from `start` up to `end`, in UTF-8.
-#[derive(Clone, Copy, Debug)]
+#[derive(Clone, Copy)]
 pub struct Token<'a> {
     pub kind: Kind,
     pub text: &'a str,

@@ -11,7 +11,7 @@ use td_syntax::tree::Named;
 use td_tuples::{Item, Summary};
 
 /// A relvar or a possrep, by its place in order of definition.
-#[derive(Clone, Copy, Debug, Drop, PartialEq, Eq)]
+#[derive(Clone, Copy, Drop, PartialEq, Eq)]
 pub enum Mention {
     Relvar(usize),
     Possrep(usize),

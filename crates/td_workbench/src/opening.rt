@@ -19,7 +19,7 @@ use td_listings::show_number;
 use td_story::{OpenError, Opens, ScriptError};
 
 /// What the words of the program give.
-#[derive(Clone, Copy, Debug, PartialEq, Eq)]
+#[derive(Clone, Copy, PartialEq, Eq)]
 pub struct Options {
     /// How many sites there are: 1 to 16.
     pub sites: u16,
