@@ -35,8 +35,7 @@ fn back_and_on(
 ) -> Result<String>
     requires { IsLegal database.old }
 {
-    // It shows that definitions made the catalogue, and does nothing when it runs.
-    let _catalogue = database.catalogue();
+    database.relvars_fit();
     let ran = run(alloc, &mut *database, text, meter)?;
     let after = held(alloc, &*database, "S")?;
     undo(alloc, &mut *database, &ran.delta)?;
@@ -57,7 +56,7 @@ fn put_back_behind(
 ) -> Result<String>
     requires { IsLegal database.old }
 {
-    let _catalogue = database.catalogue();
+    database.relvars_fit();
     let part = database.copy_of(alloc, relvars)?;
     let _ran = run(alloc, &mut *database, text, meter)?;
     database.put_back(part);

@@ -45,8 +45,7 @@ pub fn value<L: Lookup>(
     ensures told { Tells result (tree_means catalogue.now (L.relvars lookup.now) expr.now.tree no_attrs) }
     ensures typed { IfOk result (HasKind catalogue.now.schema expr.now.kind) }
 {
-    // It shows that definitions made the catalogue, and does nothing when it runs.
-    let _schema = catalogue.schema();
+    catalogue.was_defined();
     let no_tuple = Tuple::of(alloc, Vec::new(alloc))?;
     match eval(alloc, expr, lookup, &no_tuple) {
         Ok(value) => Ok(value),

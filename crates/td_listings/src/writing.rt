@@ -4,6 +4,7 @@ ghost use Rattle.std.specs.Prelude.{◌≡◌, Ok, Err, IfOk, MatchResult, strin
 ghost use Rattle.std.specs.Io.KnownBytes.{Keeps};
 ghost use Rattle.td_devices.specs.Views.{output_of};
 ghost use Rattle.td_story.specs.Scripts.{IsScriptOf};
+ghost use Rattle.td_story.specs.Seen.{IsSound};
 ghost use Rattle.td_listings.specs.Calls.{Lists};
 ghost use Rattle.td_listings.specs.ForProofs.Scripted.{IsOfScript};
 ghost use Rattle.td_listings.specs.Writings.{WritesListing, WritesTable};
@@ -17,12 +18,19 @@ use td_headings::Catalogue;
 use td_story::laws::script_opens_one;
 use td_story::{CatalogueError, Replica, catalogue_of};
 
+// A replica's story is sound. It costs nothing.
+fn sound<R: Replica>(replica: &R)
+    ensures { IsSound (R.seen replica.now) }
+{
+    let _site = replica.site();
+}
+
 /// The catalogue of a site's script. It costs the reading and typing of the script.
 pub fn script_catalogue<R: Replica>(alloc: Global, replica: &R) -> Result<Catalogue, AllocError>
     ensures { IfOk result (IsScriptOf (R.seen replica.now).script) }
 {
     script_opens_one();
-    let _site = replica.site();
+    sound(replica);
     match catalogue_of(alloc, replica.script()) {
         Ok(catalogue) => Ok(catalogue),
         Err(CatalogueError::OutOfMemory) => Err(AllocError),
@@ -86,8 +94,7 @@ pub fn export<R: Replica, K: Sink>(
     ensures writes { WritesTable (R.seen replica.now) name.now (output_of K.Sink sink.old) (output_of K.Sink sink.new) result }
     ensures aside { Keeps (K.aside sink.old) (K.aside sink.new) }
 {
-    // It shows that the script was accepted, and does nothing when it runs.
-    let _site = replica.site();
+    sound(replica);
     let text = match tabulated(alloc, replica, name) {
         Ok(text) => text,
         Err(TableError::Unknown) => return Err(ExportError::Unknown),

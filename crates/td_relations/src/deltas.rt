@@ -64,6 +64,13 @@ impl Delta {
         self.inserted.heading()
     }
 
+    /// Both sets have one heading, as those of every change: a call tells the prover so, and costs nothing.
+    pub fn headings_agree(&self)
+        ensures { self.now.inserted.heading ≡ self.now.deleted.heading }
+    {
+        let _deleted = &self.deleted;
+    }
+
     /// The tuples that are put in.
     pub fn inserted(&self) -> &Relation
         ensures { result.now ≡ self.now.inserted }

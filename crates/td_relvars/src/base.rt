@@ -83,8 +83,7 @@ impl Base {
         ensures ok { OnOk result (self.new ≡ changed self.old (inverse_of delta.now)) }
         ensures err { OnErr result (self.new ≡ self.old) }
     {
-        // It shows that both headings are one, and does nothing when it runs.
-        let _heading = delta.heading();
+        delta.headings_agree();
         delta.undo(alloc, &mut self.relation)
     }
 }

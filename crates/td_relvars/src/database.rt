@@ -153,6 +153,14 @@ impl Database {
         &self.catalogue
     }
 
+    /// Definitions made its catalogue, and each base relvar has a relation of its heading, as in every database: a call
+    /// tells the prover so, and costs nothing.
+    pub fn relvars_fit(&self)
+        ensures { IsDatabase self.now }
+    {
+        let _catalogue = &self.catalogue;
+    }
+
     /// What the relvar at the place has, if something is stored there.
     pub fn base_at(&self, place: usize) -> Option<&Base>
         ensures { option_copied result ≡ spec.stored_at self.now place }

@@ -46,8 +46,7 @@ impl Engine {
         ensures same { result ≡ database }
         ensures database { IsDatabase result }
     {
-        // It shows that a database is there, and does nothing when it runs.
-        let _catalogue = database.catalogue();
+        database.relvars_fit();
         Engine { database }
     }
 
@@ -132,8 +131,7 @@ impl Machine for Engine {
     }
 
     fn put_back(&mut self, part: Part) {
-        // It shows that a database is there, and does nothing when it runs.
-        let _catalogue = self.database.catalogue();
+        self.database.relvars_fit();
         self.database.put_back(part);
     }
 

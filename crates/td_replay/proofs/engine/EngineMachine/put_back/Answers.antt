@@ -15,6 +15,6 @@ put_back-requires c =
 
 pub returns : goal.returns
 returns c = λ s ns good is same alike.
-    is_put_back s c.self.inside.database c.put_back.new.self ns c.args.part c.catalogue-catalogue.ensures.database c.put_back.ensures good is
+    is_put_back s c.self.inside.database c.put_back.new.self ns c.args.part c.relvars_fit.ensures c.put_back.ensures good is
     (subst (λ (z : DatabaseData). origin_of s ≡ origin_of z) (sym c.self.view_is) same)
     (subst (λ (z : DatabaseData). (n : ℕ) → (Contains ns n → ⊥) → AreAlike s z n) (sym c.self.view_is) alike)
