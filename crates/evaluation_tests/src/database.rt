@@ -26,10 +26,10 @@ struct Stored {
 impl Lookup for Stored {
     ghost relvars = { λ s n. ok_or (slice_get s.relations.items n) Untyped };
 
-    fn value(&self, alloc: Global, relvar: usize) -> std::result::Result<Relation, Fault> {
+    fn lent(&self, relvar: usize) -> std::result::Result<&Relation, Stop> {
         match self.relations.get(relvar) {
-            Some(relation) => Ok(relation.copy(alloc)?),
-            None => Err(Fault::Raised(Stop::Untyped)),
+            Some(relation) => Ok(relation),
+            None => Err(Stop::Untyped),
         }
     }
 }

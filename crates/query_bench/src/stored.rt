@@ -6,7 +6,7 @@ ghost use Rattle.td_algebra.specs.declared.errors.Stop.TheVariants.{Untyped};
 
 use anyhow::{Result, bail};
 use std::alloc::Global;
-use td_algebra::{Fault, Stop};
+use td_algebra::Stop;
 use td_eval::{Lookup, eval};
 use td_grammar::{read_expr, read_script};
 use td_headings::{Catalogue, TypedExpr, init_expr, type_expr};
@@ -23,10 +23,10 @@ pub struct Stored {
 impl Lookup for Stored {
     ghost relvars = { λ s n. ok_or (slice_get s.relations.items n) Untyped };
 
-    fn value(&self, alloc: Global, relvar: usize) -> std::result::Result<Relation, Fault> {
+    fn lent(&self, relvar: usize) -> std::result::Result<&Relation, Stop> {
         match self.relations.get(relvar) {
-            Some(relation) => Ok(relation.copy(alloc)?),
-            None => Err(Fault::Raised(Stop::Untyped)),
+            Some(relation) => Ok(relation),
+            None => Err(Stop::Untyped),
         }
     }
 }

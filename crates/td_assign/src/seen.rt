@@ -5,8 +5,7 @@ ghost use Rattle.td_story.specs.Given as spec;
 ghost use Rattle.td_story.specs.Databases.{stored_relvars};
 
 use crate::changes::{Change, given_to};
-use std::alloc::Global;
-use td_algebra::Fault;
+use td_algebra::Stop;
 use td_eval::Lookup;
 use td_relations::Relation;
 use td_relvars::Database;
@@ -22,13 +21,13 @@ pub(crate) struct Seen<'a> {
 impl Lookup for Seen<'_> {
     ghost relvars = { λ s. spec.seen (lists.given_to s.changes.now) s.target (stored_relvars s.database.now.stored) };
 
-    fn value(&self, alloc: Global, relvar: usize) -> Result<Relation, Fault> {
+    fn lent(&self, relvar: usize) -> Result<&Relation, Stop> {
         if self.target == relvar {
             if let Some(relation) = given_to(self.changes, relvar) {
-                return Ok(relation.copy(alloc)?);
+                return Ok(relation);
             }
         }
-        self.database.value(alloc, relvar)
+        self.database.lent(relvar)
     }
 }
 
@@ -42,10 +41,10 @@ pub(crate) struct Replaced<'a> {
 impl Lookup for Replaced<'_> {
     ghost relvars = { λ s. spec.replaced (lists.given_to s.changes.now) (stored_relvars s.database.now.stored) };
 
-    fn value(&self, alloc: Global, relvar: usize) -> Result<Relation, Fault> {
+    fn lent(&self, relvar: usize) -> Result<&Relation, Stop> {
         match given_to(self.changes, relvar) {
-            Some(relation) => Ok(relation.copy(alloc)?),
-            None => self.database.value(alloc, relvar),
+            Some(relation) => Ok(relation),
+            None => self.database.lent(relvar),
         }
     }
 }

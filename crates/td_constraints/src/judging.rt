@@ -11,7 +11,7 @@ ghost use Rattle.td_story.specs.Tests as spec;
 ghost use Rattle.td_story.specs.Tests.{failing, judgement, or_behind};
 
 use std::alloc::{AllocError, Global};
-use td_algebra::{Fault, tell_apart};
+use td_algebra::tell_apart;
 use td_eval::{Lookup, truth};
 use td_headings::{Catalogue, Test, constraint_expr};
 use td_relations::Relation;
@@ -27,14 +27,13 @@ fn is_key(alloc: Global, relation: &Relation, key: &[Name]) -> Result<bool, Allo
 }
 
 // What a relvar has, of which it is known to be a relation.
-fn stored<L: Lookup>(alloc: Global, lookup: &L, relvar: usize) -> Result<Relation, AllocError>
+fn stored<L: Lookup>(lookup: &L, relvar: usize) -> &Relation
     requires { HasRelation (L.relvars lookup.now relvar) }
-    ensures { IfOk result (λ r. L.relvars lookup.now relvar ≡ Ok r) }
+    ensures { L.relvars lookup.now relvar ≡ Ok result.now }
 {
-    match lookup.value(alloc, relvar) {
-        Ok(relation) => Ok(relation),
-        Err(Fault::Raised(_)) => unreachable!(),
-        Err(Fault::OutOfMemory) => Err(AllocError),
+    match lookup.lent(relvar) {
+        Ok(relation) => relation,
+        Err(_) => unreachable!(),
     }
 }
 
@@ -48,8 +47,7 @@ fn judge_key<L: Lookup>(
     requires { HasRelation (L.relvars lookup.now relvar) }
     ensures { IfOk result (λ b. and_then (L.relvars lookup.now relvar) (λ r. Ok (spec.is_key key.now r.tuples)) ≡ Ok b) }
 {
-    let relation = stored(alloc, lookup, relvar)?;
-    is_key(alloc, &relation, key)
+    is_key(alloc, stored(lookup, relvar), key)
 }
 
 // Whether the test at this place is true, or the error that it raises.

@@ -14,43 +14,50 @@ use std::alloc::{AllocError, Global};
 use td_algebra::{Fault, Stop};
 use td_headings::TypedExpr;
 use td_meaning::{Environment, Known, Scope};
+use td_operators::Lease;
 use td_relations::Relation;
 use td_trees::expression::{BaseUnder, Selector, VirtualUnder};
 use td_trees::tree::Typed;
 use td_values::{Kind, Tuple, Value};
 
 // The answer, with the error that it may be.
-fn kept(answer: Result<Relation, Fault>) -> Result<Result<Relation, Stop>, AllocError>
+fn kept<'a>(answer: Result<Relation, Fault>) -> Result<Result<Lease<'a>, Stop>, AllocError>
     ensures { Keeps answer result }
 {
     match answer {
-        Ok(relation) => Ok(Ok(relation)),
+        Ok(relation) => Ok(Ok(Lease::own(relation))),
         Err(Fault::Raised(stop)) => Ok(Err(stop)),
         Err(Fault::OutOfMemory) => Err(AllocError),
     }
 }
 
-fn known_base<L: Lookup>(alloc: Global, lookup: &L, base: &BaseUnder) -> Result<Known, AllocError>
-    ensures { IfOk result (λ k. k ≡ base_known (L.relvars lookup.now) base.now) }
+fn known_base<'a, L: Lookup>(lookup: &'a L, base: &BaseUnder) -> Known<'a>
+    ensures { result ≡ base_known (L.relvars lookup.now) base.now }
 {
-    let value = kept(lookup.value(alloc, base.place))?;
-    Ok(Known {
-        place: base.place,
-        value,
-    })
+    let place = base.place;
+    match lookup.lent(place) {
+        Ok(relation) => Known {
+            place,
+            value: Ok(Lease::lent(relation)),
+        },
+        Err(stop) => Known {
+            place,
+            value: Err(stop),
+        },
+    }
 }
 
-// Each base relvar is looked up once.
-fn known_bases<L: Lookup>(
+// Each base relvar is looked up once, and lent.
+fn known_bases<'a, L: Lookup>(
     alloc: Global,
-    lookup: &L,
+    lookup: &'a L,
     bases: &[BaseUnder],
-) -> Result<Vec<Known>, AllocError>
+) -> Result<Vec<Known<'a>>, AllocError>
     ensures { IfOk result (λ v. v.items ≡ bases_known (L.relvars lookup.now) bases.now) }
 {
     let mut known = Vec::with_capacity(alloc, bases.len())?;
     for base in bases {
-        known.push(known_base(alloc, lookup, base)?)?;
+        known.push(known_base(lookup, base))?;
     }
     Ok(known)
 }
@@ -71,12 +78,12 @@ fn rows(alloc: Global, env: &Environment, tree: &Typed) -> Result<Relation, Faul
     relation_of(td_meaning::eval(alloc, env, tree, &Scope::Nothing)?)
 }
 
-fn known_virtual(
+fn known_virtual<'a>(
     alloc: Global,
-    relvars: &[Known],
+    relvars: &[Known<'_>],
     selectors: &[Selector],
     under: &VirtualUnder,
-) -> Result<Known, AllocError>
+) -> Result<Known<'a>, AllocError>
     ensures { IfOk result (λ k. k ≡ virtual_known (selection selectors.now) relvars.now under.now) }
 {
     let env = Environment { relvars, selectors };
@@ -88,9 +95,9 @@ fn known_virtual(
 }
 
 // Each virtual relvar is evaluated once, over those before it. What it raises is kept: it may not be needed.
-fn add_virtuals(
+fn add_virtuals<'a>(
     alloc: Global,
-    known: &mut Vec<Known>,
+    known: &mut Vec<Known<'a>>,
     selectors: &[Selector],
     virtuals: &[VirtualUnder],
 ) -> Result<(), AllocError>
@@ -104,7 +111,7 @@ fn add_virtuals(
 }
 
 /// The value of the expression within the tuple, or the error that it raises. Each base relvar that it reads is looked
-/// up once, and each virtual relvar under it is evaluated once.
+/// up once and lent, which takes no memory for its tuples, and each virtual relvar under it is evaluated once.
 pub fn eval<L: Lookup>(
     alloc: Global,
     expr: &TypedExpr,

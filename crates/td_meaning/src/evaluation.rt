@@ -4,7 +4,7 @@ ghost use Rattle.std.specs.Prelude.{◌≡◌, ◌++◌, ◌∷◌, [], OnOk};
 ghost use Rattle.td_algebra.specs.Functions as functions;
 ghost use Rattle.td_algebra.specs.Raising.{Answers, AnswersBy};
 ghost use Rattle.td_algebra.specs.Summaries.{summary_over};
-ghost use Rattle.td_operators.specs.ForProofs.Lent.{lease_rows, operand_value};
+ghost use Rattle.td_operators.specs.ForProofs.Lent.{operand_value};
 ghost use Rattle.td_meaning.specs.ForProofs.Over as over;
 ghost use Rattle.td_meaning.specs.ForProofs.Over.{list_meant, items_meant, all_meant, groups_meant, terms};
 ghost use Rattle.td_meaning.specs.Mean as spec;
@@ -93,7 +93,7 @@ fn rows<'a>(
     a: &Typed,
     scope: &'a Scope<'_>,
 ) -> Result<Lease<'a>, Fault>
-    ensures { AnswersBy lease_rows result (spec.rows_in (mean_in env.now a.now) (visible scope.now)) }
+    ensures { Answers result (spec.rows_in (mean_in env.now a.now) (visible scope.now)) }
 {
     rows_of(operand(alloc, &*env, a, &*scope)?)
 }
@@ -610,12 +610,12 @@ fn groups<'a>(
     ts: &Relation,
     scope: &'a Scope<'_>,
 ) -> Result<Lease<'a>, Fault>
-    ensures { AnswersBy lease_rows result (spec.groups_at (groups_meant (mean_in env.now) groups.now) (visible scope.now) ts.now) }
+    ensures { Answers result (spec.groups_at (groups_meant (mean_in env.now) groups.now) (visible scope.now) ts.now) }
 {
     match groups {
-        TypedGroups::Whole => Ok(Lease::Own(table_dee(alloc)?)),
+        TypedGroups::Whole => Ok(Lease::own(table_dee(alloc)?)),
         TypedGroups::Per(a) => rows(alloc, &*env, a.get(), &*scope),
-        TypedGroups::By(names) => Ok(Lease::Own(project_of(alloc, ts, names.as_slice())?)),
+        TypedGroups::By(names) => Ok(Lease::own(project_of(alloc, ts, names.as_slice())?)),
     }
 }
 

@@ -3,9 +3,10 @@
 ghost use Rattle.std.specs.Prelude.{◌≡◌};
 ghost use Rattle.td_algebra.specs.Raising.{Answers, AnswersBy};
 ghost use Rattle.td_operators.specs.ForProofs.Kinds.{HasShape};
-ghost use Rattle.td_operators.specs.ForProofs.Lent.{lease_rows, operand_value};
+ghost use Rattle.td_operators.specs.ForProofs.Lent.{operand_value};
 ghost use Rattle.td_operators.specs.Values as spec;
 
+use std::marker::Model;
 use td_algebra::{Fault, Stop};
 use td_relations::Relation;
 use td_values::{Kind, Text, Tuple, Value};
@@ -17,11 +18,33 @@ pub enum Operand<'a> {
     Lent(&'a Relation),
 }
 
-/// The relation of an operand.
+/// A relation that is read: an owned or a lent one.
+pub struct Lease<'a> {
+    relation: Leased<'a>,
+}
+
 #[derive(Drop)]
-pub enum Lease<'a> {
+enum Leased<'a> {
     Own(Relation),
     Lent(&'a Relation),
+}
+
+impl<'a> Model for Lease<'a> {
+    ghost use Rattle.td_values.specs.Rows.{RowsData, rows_code};
+    ghost use Rattle.td_operators.specs.ForProofs.Lent.{leased_rows};
+
+    ghost Value = { RowsData };
+
+    ghost coded = { rows_code };
+
+    ghost view = { λ l. leased_rows l.relation };
+}
+
+// By hand, since a derived one is proved anew at each place where a lease is dropped: this one is a call there.
+impl<'a> Drop for Lease<'a> {
+    fn drop(self) {
+        let Lease { relation: _ } = self;
+    }
 }
 
 /// What an operand is, where that decides what is done with it.
@@ -33,14 +56,30 @@ pub enum Shape<'a> {
     Other,
 }
 
-impl Lease<'_> {
+impl<'a> Lease<'a> {
+    pub fn own(relation: Relation) -> Lease<'a>
+        ensures { result ≡ relation }
+    {
+        Lease {
+            relation: Leased::Own(relation),
+        }
+    }
+
+    pub fn lent(relation: &'a Relation) -> Lease<'a>
+        ensures { result ≡ relation.now }
+    {
+        Lease {
+            relation: Leased::Lent(relation),
+        }
+    }
+
     /// The relation, lent.
     pub fn get(&self) -> &Relation
-        ensures { result.now ≡ lease_rows self.now }
+        ensures { result.now ≡ self.now }
     {
-        match self {
-            Lease::Own(relation) => relation,
-            Lease::Lent(relation) => relation,
+        match &self.relation {
+            Leased::Own(relation) => relation,
+            Leased::Lent(relation) => relation,
         }
     }
 }
@@ -120,20 +159,20 @@ pub(crate) fn shape_of<'a>(operand: &'a Operand) -> Shape<'a>
 }
 
 fn own_rows<'a>(value: Value) -> Result<Lease<'a>, Fault>
-    ensures { AnswersBy lease_rows result (spec.rows_of value) }
+    ensures { Answers result (spec.rows_of value) }
 {
     match value.kind {
-        Kind::Relation(rows) => Ok(Lease::Own(Relation::of(rows))),
+        Kind::Relation(rows) => Ok(Lease::own(Relation::of(rows))),
         _ => Err(Fault::Raised(Stop::Untyped)),
     }
 }
 
 /// The relation of the operand. It takes no memory.
 pub fn rows_of<'a>(operand: Operand<'a>) -> Result<Lease<'a>, Fault>
-    ensures { AnswersBy lease_rows result (spec.rows_of (operand_value operand.entry)) }
+    ensures { Answers result (spec.rows_of (operand_value operand.entry)) }
 {
     match operand {
         Operand::Made(value) => own_rows(value),
-        Operand::Lent(relation) => Ok(Lease::Lent(relation)),
+        Operand::Lent(relation) => Ok(Lease::lent(relation)),
     }
 }

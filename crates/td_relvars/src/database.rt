@@ -17,7 +17,7 @@ ghost use Rattle.td_story.specs.Openings as opening;
 use crate::base::Base;
 use std::alloc::{AllocError, Global};
 use std::marker::Model;
-use td_algebra::{Fault, Stop};
+use td_algebra::Stop;
 use td_eval::Lookup;
 use td_headings::{Catalogue, Origin};
 use td_relations::{Delta, Relation};
@@ -56,10 +56,10 @@ impl Lookup for Database {
 
     ghost relvars = { λ d. stored_relvars d.stored };
 
-    fn value(&self, alloc: Global, relvar: usize) -> Result<Relation, Fault> {
+    fn lent(&self, relvar: usize) -> Result<&Relation, Stop> {
         match self.base_at(relvar) {
-            Some(base) => Ok(base.copy_relation(alloc)?),
-            None => Err(Fault::Raised(Stop::Untyped)),
+            Some(base) => Ok(base.relation()),
+            None => Err(Stop::Untyped),
         }
     }
 }

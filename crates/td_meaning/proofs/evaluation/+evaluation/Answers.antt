@@ -6,7 +6,7 @@ use Rattle.td_algebra.specs.Functions.{extended, summarized}
 use Rattle.td_algebra.specs.Raising.{Answers, AnswersBy, and_then}
 use Rattle.td_algebra.proofs.Bridges.{restricts_to, extends_to, summarizes_to}
 use Rattle.td_meaning.specs.declared.scope.Held.{Held}
-use Rattle.td_operators.specs.ForProofs.Lent.{lease_rows, operand_value}
+use Rattle.td_operators.specs.ForProofs.Lent.{operand_value}
 use Rattle.td_meaning.specs.ForProofs.Over.{terms, list_meant, items_meant, all_meant, groups_meant, over_aggregate, over_extend, over_summarize}
 use Rattle.td_operators.specs.ForProofs.Turns.{turn}
 use Rattle.td_meaning.specs.Mean.{at, named_at, introduced, truth_at, truth_in, rows_in, groups_at, mean, mean_by, mean_binary, mean_where, mean_if, mean_with}
@@ -169,7 +169,7 @@ unfolding over_extend
 extension-returns t c =
     let m = mean_in c.args.env.now in
     let names = visible c.args.scope.now in
-    made_over (rows_in (m c.args.r.now) names) (extended (terms m names) c.args.items.now) (lease_rows c.in_ok-ts.ts) c.get.result.now c.in_ok-ts.ensures c.get.ensures
+    made_over (rows_in (m c.args.r.now) names) (extended (terms m names) c.args.items.now) c.in_ok-ts.ts c.get.result.now c.in_ok-ts.ensures c.get.ensures
     c.in_ok-extended.field-0 c.relation_value.result c.in_ok-extended.ensures c.relation_value.ensures
 
 pub extension-returns-in_err-extended : goal.extension-returns-in_err-extended
@@ -179,7 +179,7 @@ extension-returns-in_err-extended t c =
     let names = visible c.args.scope.now in
     let f = extended (terms m names) c.args.items.now in
     let h = fails {A = RowsData} (λ (d : Datum). d) c.in_err-extended.field-0.0 (f c.get.result.now) (over_extend m c.args.r.now c.args.items.now names)
-    (λ e stop. stops_over (rows_in (m c.args.r.now) names) f (lease_rows c.in_ok-ts.ts) c.get.result.now c.in_ok-ts.ensures c.get.ensures e stop)
+    (λ e stop. stops_over (rows_in (m c.args.r.now) names) f c.in_ok-ts.ts c.get.result.now c.in_ok-ts.ensures c.get.ensures e stop)
     c.in_err-extended.ensures in
     search (rules, h)
 
@@ -189,7 +189,7 @@ summarization-returns t c =
     let m = mean_in c.args.env.now in
     let names = visible c.args.scope.now in
     over_both (rows_in (m c.args.r.now) names) (groups_at (groups_meant m c.args.by.now) names) (summarized (terms m names) c.args.items.now)
-    (lease_rows c.in_ok-ts.ts) (lease_rows c.in_ok-us.us) c.get.result.now c.get-2.result.now c.get-3.result.now
+    c.in_ok-ts.ts c.in_ok-us.us c.get.result.now c.get-2.result.now c.get-3.result.now
     c.in_ok-ts.ensures c.get.ensures c.get-2.ensures c.in_ok-us.ensures c.get-3.ensures
     ∙ ap (λ w. and_then w as_value) c.in_ok-found.ensures ∙ ap Ok (sym c.relation_value.ensures)
 
@@ -201,7 +201,7 @@ summarization-returns-in_err-found t c =
     let f = summarized (terms m names) c.args.items.now in
     let h = fails {A = RowsData} (λ (d : Datum). d) c.in_err-found.field-0.0 (f c.get-2.result.now c.get-3.result.now) (over_summarize m c.args.r.now c.args.by.now c.args.items.now names)
     (λ e stop. over_both (rows_in (m c.args.r.now) names) (groups_at (groups_meant m c.args.by.now) names) f
-    (lease_rows c.in_ok-ts.ts) (lease_rows c.in_ok-us.us) c.get.result.now c.get-2.result.now c.get-3.result.now
+    c.in_ok-ts.ts c.in_ok-us.us c.get.result.now c.get-2.result.now c.get-3.result.now
     c.in_ok-ts.ensures c.get.ensures c.get-2.ensures c.in_ok-us.ensures c.get-3.ensures
     ∙ ap (λ w. and_then w as_value) stop)
     c.in_err-found.ensures in
