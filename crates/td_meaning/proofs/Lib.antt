@@ -5,3 +5,6 @@ pub mod Forms
 pub mod Walks
 pub mod Selecting
 pub mod Scopes
+pub mod Fewer
+pub mod Rightness
+pub mod Deepest

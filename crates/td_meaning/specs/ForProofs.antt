@@ -4,3 +4,5 @@ pub mod Over
 pub mod Standing
 pub mod Latest
 pub mod Found
+pub mod Right
+pub mod Terms

@@ -2,4 +2,5 @@
 pub mod Mean
 pub mod Selections
 pub mod Seen
+pub mod Laws
 pub mod ForProofs

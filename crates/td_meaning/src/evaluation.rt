@@ -1,21 +1,26 @@
 //! Evaluation.
 
-ghost use Rattle.std.specs.Prelude.{◌≡◌, ◌++◌, ◌∷◌, [], OnOk};
+ghost use Rattle.std.specs.Prelude.{◌≡◌, ◌≤◌, ◌++◌, ◌∷◌, [], IfOk, IfSome, OnOk};
 ghost use Rattle.td_algebra.specs.Functions as functions;
 ghost use Rattle.td_algebra.specs.Raising.{Answers, AnswersBy};
 ghost use Rattle.td_algebra.specs.Summaries.{summary_over};
 ghost use Rattle.td_operators.specs.ForProofs.Lent.{operand_value};
 ghost use Rattle.td_meaning.specs.ForProofs.Over as over;
 ghost use Rattle.td_meaning.specs.ForProofs.Over.{list_meant, items_meant, all_meant, groups_meant, terms};
+ghost use Rattle.td_meaning.specs.ForProofs.Right.{AreRight, deepest_in, known_value};
+ghost use Rattle.td_meaning.specs.ForProofs.Terms.{terms_levels};
 ghost use Rattle.td_meaning.specs.Mean as spec;
 ghost use Rattle.td_meaning.specs.Mean.{Names, truth_at};
 ghost use Rattle.td_operators.specs.Operators as operators;
 ghost use Rattle.td_meaning.specs.Seen.{all_given, held_value, mean_in, relvars_at, visible};
 ghost use Rattle.td_meaning.specs.Selections as selections;
 
+use crate::closed::{Terms, closed_parts};
 use crate::environment::{Environment, relvar_at};
+use crate::parts::{Part, copied, operand_known, put, value_known};
 use crate::scope::{Held, Scope, hold, operand_meant, value_meant};
 use crate::selections::{selector_at, user_value};
+use crate::surroundings::Surroundings;
 use sqlite_items::{Boxed, Items};
 use std::alloc::{AllocError, Global};
 use td_algebra::{Fault, Stop, aggregate, extend, restrict, summarize};
@@ -44,10 +49,10 @@ fn local(alloc: Global, name: &Name, scope: &Scope) -> Result<Value, Fault>
 }
 
 #[tactic(auto, unfolding(crate::specs::Mean::mean_relvar))]
-fn relvar(alloc: Global, env: &Environment, place: usize) -> Result<Value, Fault>
-    ensures { (names : Names) → Answers result (spec.mean_relvar (relvars_at env.now.relvars.now) place names) }
+fn relvar(alloc: Global, env: &Surroundings, place: usize) -> Result<Value, Fault>
+    ensures { (names : Names) → Answers result (spec.mean_relvar (relvars_at env.now.env.now.relvars.now) place names) }
 {
-    let relation = relvar_at(env.relvars, place)?;
+    let relation = relvar_at(env.env.relvars, place)?;
     Ok(relation_value(relation.copy(alloc)?))
 }
 
@@ -62,26 +67,29 @@ fn local_operand<'a>(alloc: Global, name: &Name, scope: &'a Scope<'_>) -> Result
 }
 
 #[tactic(auto, unfolding(crate::specs::Mean::mean_relvar))]
-fn relvar_operand<'a>(env: &'a Environment<'_>, place: usize) -> Result<Operand<'a>, Fault>
-    ensures { (names : Names) → AnswersBy operand_value result (spec.mean_relvar (relvars_at env.now.relvars.now) place names) }
+fn relvar_operand<'a>(env: &'a Surroundings<'_>, place: usize) -> Result<Operand<'a>, Fault>
+    ensures { (names : Names) → AnswersBy operand_value result (spec.mean_relvar (relvars_at env.now.env.now.relvars.now) place names) }
 {
-    Ok(Operand::Lent(relvar_at(env.relvars, place)?))
+    Ok(Operand::Lent(relvar_at(env.env.relvars, place)?))
 }
 
 /// The value of an operand. A relvar and a relation that a name of WITH stands for are lent.
 #[cycle(evaluation)]
 fn operand<'a>(
     alloc: Global,
-    env: &'a Environment<'_>,
+    env: &'a Surroundings<'_>,
     tree: &Typed,
     scope: &'a Scope<'_>,
 ) -> Result<Operand<'a>, Fault>
-    ensures { AnswersBy operand_value result (mean_in env.now tree.now (visible scope.now)) }
+    ensures { AnswersBy operand_value result (mean_in env.now.env.now tree.now (visible scope.now)) }
 {
     match tree {
         Typed::Relvar(place) => relvar_operand(env, *place),
         Typed::Local(name) => local_operand(alloc, name, scope),
-        _ => Ok(Operand::Made(eval(alloc, env, tree, scope)?)),
+        _ => match env.known(tree) {
+            Some(value) => operand_known(alloc, value),
+            None => Ok(Operand::Made(by_form(alloc, &*env, tree, &*scope)?)),
+        },
     }
 }
 
@@ -89,21 +97,21 @@ fn operand<'a>(
 #[tactic(auto, unfolding(crate::specs::Mean::rows_in))]
 fn rows<'a>(
     alloc: Global,
-    env: &'a Environment<'_>,
+    env: &'a Surroundings<'_>,
     a: &Typed,
     scope: &'a Scope<'_>,
 ) -> Result<Lease<'a>, Fault>
-    ensures { Answers result (spec.rows_in (mean_in env.now a.now) (visible scope.now)) }
+    ensures { Answers result (spec.rows_in (mean_in env.now.env.now a.now) (visible scope.now)) }
 {
     rows_of(operand(alloc, &*env, a, &*scope)?)
 }
 
 #[cycle(evaluation)]
 #[tactic(auto, unfolding(crate::specs::Mean::truth_in))]
-fn truth(alloc: Global, env: &Environment, a: &Typed, scope: &Scope) -> Result<bool, Fault>
-    ensures { Answers result (spec.truth_in (mean_in env.now a.now) (visible scope.now)) }
+fn truth(alloc: Global, env: &Surroundings, a: &Typed, scope: &Scope) -> Result<bool, Fault>
+    ensures { Answers result (spec.truth_in (mean_in env.now.env.now a.now) (visible scope.now)) }
 {
-    truth_of(eval(alloc, env, a, scope)?)
+    truth_of(evaluate(alloc, env, a, scope)?)
 }
 
 // ---- operators
@@ -112,12 +120,12 @@ fn truth(alloc: Global, env: &Environment, a: &Typed, scope: &Scope) -> Result<b
 #[tactic(auto, unfolding(crate::specs::Mean::mean_by))]
 fn unary(
     alloc: Global,
-    env: &Environment,
+    env: &Surroundings,
     operator: UnaryOperator,
     a: &Typed,
     scope: &Scope,
 ) -> Result<Value, Fault>
-    ensures { Answers result (spec.mean_by (operators.operate_on operator) (mean_in env.now a.now) (visible scope.now)) }
+    ensures { Answers result (spec.mean_by (operators.operate_on operator) (mean_in env.now.env.now a.now) (visible scope.now)) }
 {
     operate_on(alloc, operator, operand(alloc, &*env, a, &*scope)?)
 }
@@ -126,12 +134,12 @@ fn unary(
 #[tactic(auto, unfolding(crate::specs::Mean::mean_by))]
 fn component(
     alloc: Global,
-    env: &Environment,
+    env: &Surroundings,
     at: usize,
     a: &Typed,
     scope: &Scope,
 ) -> Result<Value, Fault>
-    ensures { Answers result (spec.mean_by (operators.component_at at) (mean_in env.now a.now) (visible scope.now)) }
+    ensures { Answers result (spec.mean_by (operators.component_at at) (mean_in env.now.env.now a.now) (visible scope.now)) }
 {
     let a = operand(alloc, &*env, a, &*scope)?;
     component_at(alloc, at, &a)
@@ -141,12 +149,12 @@ fn component(
 #[tactic(auto, unfolding(crate::specs::Mean::mean_by))]
 fn attribute(
     alloc: Global,
-    env: &Environment,
+    env: &Surroundings,
     name: &Name,
     a: &Typed,
     scope: &Scope,
 ) -> Result<Value, Fault>
-    ensures { Answers result (spec.mean_by (operators.attribute_at name.now) (mean_in env.now a.now) (visible scope.now)) }
+    ensures { Answers result (spec.mean_by (operators.attribute_at name.now) (mean_in env.now.env.now a.now) (visible scope.now)) }
 {
     let a = operand(alloc, &*env, a, &*scope)?;
     attribute_at(alloc, name, &a)
@@ -156,12 +164,12 @@ fn attribute(
 #[tactic(auto, unfolding(crate::specs::Mean::mean_by))]
 fn projection(
     alloc: Global,
-    env: &Environment,
+    env: &Surroundings,
     a: &Typed,
     names: &[Name],
     scope: &Scope,
 ) -> Result<Value, Fault>
-    ensures { Answers result (spec.mean_by (operators.part_at names.now) (mean_in env.now a.now) (visible scope.now)) }
+    ensures { Answers result (spec.mean_by (operators.part_at names.now) (mean_in env.now.env.now a.now) (visible scope.now)) }
 {
     part_at(alloc, names, operand(alloc, &*env, a, &*scope)?)
 }
@@ -170,12 +178,12 @@ fn projection(
 #[tactic(auto, unfolding(crate::specs::Mean::mean_by))]
 fn renaming(
     alloc: Global,
-    env: &Environment,
+    env: &Surroundings,
     a: &Typed,
     items: &[(Name, Name)],
     scope: &Scope,
 ) -> Result<Value, Fault>
-    ensures { Answers result (spec.mean_by (operators.with_new_names items.now) (mean_in env.now a.now) (visible scope.now)) }
+    ensures { Answers result (spec.mean_by (operators.with_new_names items.now) (mean_in env.now.env.now a.now) (visible scope.now)) }
 {
     with_new_names(alloc, items, operand(alloc, &*env, a, &*scope)?)
 }
@@ -184,14 +192,14 @@ fn renaming(
 #[tactic(auto, unfolding(crate::specs::Mean::mean_by))]
 fn nesting(
     alloc: Global,
-    env: &Environment,
+    env: &Surroundings,
     nesting: Nesting,
     a: &Typed,
     names: &[Name],
     name: &Name,
     scope: &Scope,
 ) -> Result<Value, Fault>
-    ensures { Answers result (spec.mean_by (operators.nested nesting names.now name.now) (mean_in env.now a.now) (visible scope.now)) }
+    ensures { Answers result (spec.mean_by (operators.nested nesting names.now name.now) (mean_in env.now.env.now a.now) (visible scope.now)) }
 {
     nested(
         alloc,
@@ -206,13 +214,13 @@ fn nesting(
 #[tactic(auto, unfolding(crate::specs::Mean::mean_by))]
 fn unnesting(
     alloc: Global,
-    env: &Environment,
+    env: &Surroundings,
     nesting: Nesting,
     a: &Typed,
     name: &Name,
     scope: &Scope,
 ) -> Result<Value, Fault>
-    ensures { Answers result (spec.mean_by (operators.unnested nesting name.now) (mean_in env.now a.now) (visible scope.now)) }
+    ensures { Answers result (spec.mean_by (operators.unnested nesting name.now) (mean_in env.now.env.now a.now) (visible scope.now)) }
 {
     unnested(alloc, nesting, name, operand(alloc, &*env, a, &*scope)?)
 }
@@ -221,12 +229,12 @@ fn unnesting(
 #[tactic(auto, unfolding(crate::specs::Mean::mean_and))]
 fn both(
     alloc: Global,
-    env: &Environment,
+    env: &Surroundings,
     a: &Typed,
     b: &Typed,
     scope: &Scope,
 ) -> Result<Value, Fault>
-    ensures { Answers result (spec.mean_and (mean_in env.now a.now) (mean_in env.now b.now) (visible scope.now)) }
+    ensures { Answers result (spec.mean_and (mean_in env.now.env.now a.now) (mean_in env.now.env.now b.now) (visible scope.now)) }
 {
     if truth(alloc, env, a, scope)? {
         let second = truth(alloc, env, b, scope)?;
@@ -240,12 +248,12 @@ fn both(
 #[tactic(auto, unfolding(crate::specs::Mean::mean_or))]
 fn either(
     alloc: Global,
-    env: &Environment,
+    env: &Surroundings,
     a: &Typed,
     b: &Typed,
     scope: &Scope,
 ) -> Result<Value, Fault>
-    ensures { Answers result (spec.mean_or (mean_in env.now a.now) (mean_in env.now b.now) (visible scope.now)) }
+    ensures { Answers result (spec.mean_or (mean_in env.now.env.now a.now) (mean_in env.now.env.now b.now) (visible scope.now)) }
 {
     if truth(alloc, env, a, scope)? {
         Ok(truth_value(true))
@@ -259,13 +267,13 @@ fn either(
 #[tactic(auto, unfolding(crate::specs::Mean::mean_both))]
 fn two(
     alloc: Global,
-    env: &Environment,
+    env: &Surroundings,
     operator: BinaryOperator,
     a: &Typed,
     b: &Typed,
     scope: &Scope,
 ) -> Result<Value, Fault>
-    ensures { Answers result (spec.mean_both operator (mean_in env.now a.now) (mean_in env.now b.now) (visible scope.now)) }
+    ensures { Answers result (spec.mean_both operator (mean_in env.now.env.now a.now) (mean_in env.now.env.now b.now) (visible scope.now)) }
 {
     let u = operand(alloc, &*env, a, &*scope)?;
     let v = operand(alloc, &*env, b, &*scope)?;
@@ -275,13 +283,13 @@ fn two(
 #[cycle(evaluation)]
 fn binary(
     alloc: Global,
-    env: &Environment,
+    env: &Surroundings,
     operator: BinaryOperator,
     a: &Typed,
     b: &Typed,
     scope: &Scope,
 ) -> Result<Value, Fault>
-    ensures { Answers result (spec.mean_binary operator (mean_in env.now a.now) (mean_in env.now b.now) (visible scope.now)) }
+    ensures { Answers result (spec.mean_binary operator (mean_in env.now.env.now a.now) (mean_in env.now.env.now b.now) (visible scope.now)) }
 {
     match operator {
         BinaryOperator::And => both(alloc, env, a, b, scope),
@@ -294,18 +302,18 @@ fn binary(
 #[tactic(auto, unfolding(crate::specs::Mean::mean_if))]
 fn choice(
     alloc: Global,
-    env: &Environment,
+    env: &Surroundings,
     c: &Typed,
     a: &Typed,
     b: &Typed,
     scope: &Scope,
 ) -> Result<Value, Fault>
-    ensures { Answers result (spec.mean_if (mean_in env.now c.now) (mean_in env.now a.now) (mean_in env.now b.now) (visible scope.now)) }
+    ensures { Answers result (spec.mean_if (mean_in env.now.env.now c.now) (mean_in env.now.env.now a.now) (mean_in env.now.env.now b.now) (visible scope.now)) }
 {
     if truth(alloc, env, c, scope)? {
-        eval(alloc, env, a, scope)
+        evaluate(alloc, env, a, scope)
     } else {
-        eval(alloc, env, b, scope)
+        evaluate(alloc, env, b, scope)
     }
 }
 
@@ -322,15 +330,15 @@ fn add_value(found: &mut Vec<Value>, value: Value) -> Result<(), AllocError>
 #[tactic(auto, unfolding(crate::specs::Mean::at))]
 fn values(
     alloc: Global,
-    env: &Environment,
+    env: &Surroundings,
     trees: &[Boxed<Typed>],
     scope: &Scope,
 ) -> Result<Vec<Value>, Fault>
-    ensures { AnswersBy (λ v. v.items) result (operators.in_turn (spec.at (visible scope.now)) (list_meant (mean_in env.now) trees.now)) }
+    ensures { AnswersBy (λ v. v.items) result (operators.in_turn (spec.at (visible scope.now)) (list_meant (mean_in env.now.env.now) trees.now)) }
 {
     let mut found = Vec::new(alloc);
     for tree in trees {
-        let value = eval(alloc, env, tree.get(), scope)?;
+        let value = evaluate(alloc, env, tree.get(), scope)?;
         add_value(&mut found, value)?;
     }
     Ok(found)
@@ -340,12 +348,12 @@ fn values(
 #[tactic(auto, unfolding(crate::specs::Mean::mean_relation))]
 fn relation(
     alloc: Global,
-    env: &Environment,
+    env: &Surroundings,
     heading: &Heading,
     trees: &[Boxed<Typed>],
     scope: &Scope,
 ) -> Result<Value, Fault>
-    ensures { Answers result (spec.mean_relation heading.now (list_meant (mean_in env.now) trees.now) (visible scope.now)) }
+    ensures { Answers result (spec.mean_relation heading.now (list_meant (mean_in env.now.env.now) trees.now) (visible scope.now)) }
 {
     let found = values(alloc, env, trees, scope)?;
     relation_over(alloc, heading, &found)
@@ -368,7 +376,7 @@ fn admits(
                 relvars: &[],
                 selectors: earlier,
             };
-            truth(alloc, &env, tree.get(), scope)
+            truth(alloc, &Surroundings::of(&env), tree.get(), scope)
         }
     }
 }
@@ -395,15 +403,15 @@ fn selected(
 #[tactic(auto, unfolding(crate::specs::Mean::mean_select))]
 fn selection(
     alloc: Global,
-    env: &Environment,
+    env: &Surroundings,
     place: usize,
     trees: &[Boxed<Typed>],
     scope: &Scope,
 ) -> Result<Value, Fault>
-    ensures { Answers result (spec.mean_select (selections.selection env.now.selectors.now) place (list_meant (mean_in env.now) trees.now) (visible scope.now)) }
+    ensures { Answers result (spec.mean_select (selections.selection env.now.env.now.selectors.now) place (list_meant (mean_in env.now.env.now) trees.now) (visible scope.now)) }
 {
     let found = values(alloc, env, trees, scope)?;
-    match selector_at(env.selectors, place) {
+    match selector_at(env.env.selectors, place) {
         Some((earlier, selector)) => selected(alloc, earlier, selector, found),
         None => Err(Fault::Raised(Stop::Untyped)),
     }
@@ -421,15 +429,15 @@ fn add_field(found: &mut Vec<(Name, Value)>, name: &Name, value: Value) -> Resul
 #[tactic(auto, unfolding(crate::specs::Mean::named_at))]
 fn fields(
     alloc: Global,
-    env: &Environment,
+    env: &Surroundings,
     items: &[Item<Boxed<Typed>>],
     scope: &Scope,
 ) -> Result<Vec<(Name, Value)>, Fault>
-    ensures { AnswersBy (λ v. v.items) result (operators.in_turn (spec.named_at (visible scope.now)) (items_meant (mean_in env.now) items.now)) }
+    ensures { AnswersBy (λ v. v.items) result (operators.in_turn (spec.named_at (visible scope.now)) (items_meant (mean_in env.now.env.now) items.now)) }
 {
     let mut found = Vec::new(alloc);
     for item in items {
-        let value = eval(alloc, env, item.term.get(), scope)?;
+        let value = evaluate(alloc, env, item.term.get(), scope)?;
         add_field(&mut found, &item.name, value)?;
     }
     Ok(found)
@@ -439,11 +447,11 @@ fn fields(
 #[tactic(auto, unfolding(crate::specs::Mean::mean_tuple))]
 fn tuple(
     alloc: Global,
-    env: &Environment,
+    env: &Surroundings,
     items: &[Item<Boxed<Typed>>],
     scope: &Scope,
 ) -> Result<Value, Fault>
-    ensures { Answers result (spec.mean_tuple (items_meant (mean_in env.now) items.now) (visible scope.now)) }
+    ensures { Answers result (spec.mean_tuple (items_meant (mean_in env.now.env.now) items.now) (visible scope.now)) }
 {
     let found = fields(alloc, env, items, scope)?;
     Ok(tuple_value(tuple_of(alloc, found)?))
@@ -462,16 +470,16 @@ fn add_held(found: &mut Items<Named<Held>>, name: &Name, value: Value) -> Result
 #[tactic(auto, unfolding(crate::specs::Mean::introduced))]
 fn introduced(
     alloc: Global,
-    env: &Environment,
+    env: &Surroundings,
     xs: &[Named<Boxed<Typed>>],
     scope: &Scope,
 ) -> Result<Items<Named<Held>>, Fault>
-    ensures { AnswersBy (λ v. all_given v (visible scope.now)) result (spec.introduced (all_meant (mean_in env.now) xs.now) (visible scope.now)) }
+    ensures { AnswersBy (λ v. all_given v (visible scope.now)) result (spec.introduced (all_meant (mean_in env.now.env.now) xs.now) (visible scope.now)) }
 {
     let mut found = Items::new(alloc);
     for x in xs {
         let within = Scope::Given(found.as_slice(), &*scope);
-        let value = eval(alloc, env, x.value.get(), &within)?;
+        let value = evaluate(alloc, env, x.value.get(), &within)?;
         add_held(&mut found, &x.name, value)?;
     }
     Ok(found)
@@ -481,15 +489,130 @@ fn introduced(
 #[tactic(auto, unfolding(crate::specs::Mean::mean_with))]
 fn with(
     alloc: Global,
-    env: &Environment,
+    env: &Surroundings,
     xs: &[Named<Boxed<Typed>>],
     body: &Typed,
     scope: &Scope,
 ) -> Result<Value, Fault>
-    ensures { Answers result (spec.mean_with (all_meant (mean_in env.now) xs.now) (mean_in env.now body.now) (visible scope.now)) }
+    ensures { Answers result (spec.mean_with (all_meant (mean_in env.now.env.now) xs.now) (mean_in env.now.env.now body.now) (visible scope.now)) }
 {
     let found = introduced(alloc, env, xs, scope)?;
-    eval(alloc, env, body, &Scope::Given(found.as_slice(), &*scope))
+    evaluate(alloc, env, body, &Scope::Given(found.as_slice(), &*scope))
+}
+
+// ---- what is evaluated once, and not at each tuple
+
+// What the expression means wherever it stands, if it names nothing that is around it.
+#[cycle(evaluation)]
+fn closed_value(
+    alloc: Global,
+    env: &Surroundings,
+    tree: &Typed,
+) -> Result<Option<Result<Held, Stop>>, AllocError>
+    ensures { IfOk result (λ v. IfSome v (λ w. (names : Names) → mean_in env.now.env.now tree.now names ≡ known_value w)) }
+{
+    match evaluate(alloc, env, tree, &Scope::Nothing) {
+        Ok(value) => Ok(Some(Ok(hold(value)))),
+        Err(Fault::Raised(stop)) => match stop {
+            Stop::Untyped => Ok(None),
+            _ => Ok(Some(Err(stop))),
+        },
+        Err(Fault::OutOfMemory) => Err(AllocError),
+    }
+}
+
+fn parts_beside<'a>(
+    alloc: Global,
+    env: &Environment<'_>,
+    parts: &[Part<'_>],
+    terms: Terms<'a>,
+) -> Result<Vec<&'a Typed>, AllocError>
+    requires { AreRight env.now parts.now }
+    ensures { IfOk result (λ v. deepest_in v.items ≤ terms_levels terms.entry) }
+{
+    let around = Surroundings {
+        env: &*env,
+        parts: &*parts,
+    };
+    closed_parts(alloc, &around, terms)
+}
+
+#[cycle(evaluation)]
+fn keep<'a>(
+    alloc: Global,
+    env: &Environment<'_>,
+    parts: &mut Vec<Part<'a>>,
+    tree: &'a Typed,
+) -> Result<(), AllocError>
+    requires { AreRight env.now parts.old.items }
+    ensures { OnOk result (AreRight env.now parts.new.items) }
+{
+    let around = Surroundings {
+        env: &*env,
+        parts: parts.as_slice(),
+    };
+    match closed_value(alloc, &around, tree)? {
+        Some(value) => put(alloc, parts, tree, value),
+        None => Ok(()),
+    }
+}
+
+#[cycle(evaluation)]
+fn keep_all<'a>(
+    alloc: Global,
+    env: &Environment<'_>,
+    parts: &mut Vec<Part<'a>>,
+    trees: &[&'a Typed],
+) -> Result<(), AllocError>
+    requires { AreRight env.now parts.old.items }
+    ensures { OnOk result (AreRight env.now parts.new.items) }
+{
+    for tree in trees {
+        keep(alloc, env, parts, *tree)?;
+    }
+    Ok(())
+}
+
+// Adds the parts of the terms that name nothing around them. Where the heading of a relation is not to be seen before
+// it is evaluated, what stands within its attributes comes one round later; the last round adds nothing.
+#[cycle(evaluation)]
+fn add_parts<'a>(
+    alloc: Global,
+    env: &Environment<'_>,
+    parts: &mut Vec<Part<'a>>,
+    terms: Terms<'a>,
+) -> Result<(), AllocError>
+    requires { AreRight env.now parts.old.items }
+    ensures { OnOk result (AreRight env.now parts.new.items) }
+{
+    for _ in 0..usize::MAX {
+        let before = parts.len();
+        let found = parts_beside(alloc, env, parts.as_slice(), terms)?;
+        keep_all(alloc, env, parts, found.as_slice())?;
+        if parts.len() == before {
+            break;
+        }
+    }
+    Ok(())
+}
+
+// What is known at each of the tuples, or nothing beside what is known already: over one tuple nothing is evaluated
+// twice.
+#[cycle(evaluation)]
+fn prepared<'a>(
+    alloc: Global,
+    env: &'a Surroundings<'_>,
+    terms: Terms<'a>,
+    tuples: usize,
+) -> Result<Option<Vec<Part<'a>>>, AllocError>
+    ensures { IfOk result (λ v. IfSome v (λ v. AreRight env.now.env.now v.items)) }
+{
+    if tuples < 2 || closed_parts(alloc, env, terms)?.is_empty() {
+        return Ok(None);
+    }
+    let mut parts = copied(alloc, env.parts)?;
+    add_parts(alloc, env.env, &mut parts, terms)?;
+    Ok(Some(parts))
 }
 
 // ---- over tuples
@@ -498,119 +621,185 @@ fn with(
 #[tactic(auto, unfolding(crate::specs::Mean::truth_at))]
 fn restricted(
     alloc: Global,
-    env: &Environment,
+    env: &Surroundings,
     ts: &Relation,
     c: &Typed,
     scope: &Scope,
 ) -> Result<Relation, Fault>
-    ensures { Answers result (functions.restricted (truth_at (mean_in env.now c.now) (visible scope.now)) ts.now) }
+    ensures { Answers result (functions.restricted (truth_at (mean_in env.now.env.now c.now) (visible scope.now)) ts.now) }
 {
     restrict(
         alloc,
         ts,
         |t: &Tuple| -> Result<bool, Fault>
-            ensures { Answers result (truth_at (mean_in env.entry.now c.entry.now) (visible scope.entry.now) t.now) }
+            ensures { Answers result (truth_at (mean_in env.entry.now.env.now c.entry.now) (visible scope.entry.now) t.now) }
         { truth(alloc, env, c, &Scope::Within(t, &*scope)) },
     )
+}
+
+#[cycle(evaluation)]
+fn restricted_by(
+    alloc: Global,
+    env: &Surroundings,
+    ts: &Relation,
+    c: &Typed,
+    scope: &Scope,
+) -> Result<Relation, Fault>
+    ensures { Answers result (functions.restricted (truth_at (mean_in env.now.env.now c.now) (visible scope.now)) ts.now) }
+{
+    match prepared(alloc, &*env, Terms::Condition(&*c), ts.len())? {
+        Some(parts) => {
+            let around = Surroundings {
+                env: &*env.env,
+                parts: parts.as_slice(),
+            };
+            restricted(alloc, &around, ts, c, scope)
+        }
+        None => restricted(alloc, env, ts, c, scope),
+    }
 }
 
 #[cycle(evaluation)]
 #[tactic(auto, unfolding(crate::specs::Mean::mean_where))]
 fn restriction(
     alloc: Global,
-    env: &Environment,
+    env: &Surroundings,
     r: &Typed,
     c: &Typed,
     scope: &Scope,
 ) -> Result<Value, Fault>
-    ensures { Answers result (spec.mean_where (mean_in env.now r.now) (mean_in env.now c.now) (visible scope.now)) }
+    ensures { Answers result (spec.mean_where (mean_in env.now.env.now r.now) (mean_in env.now.env.now c.now) (visible scope.now)) }
 {
     let ts = rows(alloc, &*env, r, &*scope)?;
-    Ok(relation_value(restricted(alloc, env, ts.get(), c, scope)?))
+    Ok(relation_value(restricted_by(alloc, env, ts.get(), c, scope)?))
 }
 
 #[cycle(evaluation)]
 #[tactic(auto, unfolding(crate::specs::ForProofs::Over::terms))]
 fn aggregated(
     alloc: Global,
-    env: &Environment,
+    env: &Surroundings,
     ts: &Relation,
     summary: &Summary<Boxed<Typed>>,
     scope: &Scope,
 ) -> Result<Value, Fault>
-    ensures { Answers result (summary_over (terms (mean_in env.now) (visible scope.now)) ts.now.tuples summary.now) }
+    ensures { Answers result (summary_over (terms (mean_in env.now.env.now) (visible scope.now)) ts.now.tuples summary.now) }
 {
     aggregate(
         alloc,
         ts,
         summary,
         &|e: &Boxed<Typed>, t: &Tuple| -> Result<Value, Fault>
-            ensures { Answers result (terms (mean_in env.entry.now) (visible scope.entry.now) e.now t.now) }
-        { eval(alloc, env, e.get(), &Scope::Within(t, &*scope)) },
+            ensures { Answers result (terms (mean_in env.entry.now.env.now) (visible scope.entry.now) e.now t.now) }
+        { evaluate(alloc, env, e.get(), &Scope::Within(t, &*scope)) },
     )
+}
+
+#[cycle(evaluation)]
+fn aggregated_by(
+    alloc: Global,
+    env: &Surroundings,
+    ts: &Relation,
+    summary: &Summary<Boxed<Typed>>,
+    scope: &Scope,
+) -> Result<Value, Fault>
+    ensures { Answers result (summary_over (terms (mean_in env.now.env.now) (visible scope.now)) ts.now.tuples summary.now) }
+{
+    match prepared(alloc, &*env, Terms::Summary(&*summary), ts.len())? {
+        Some(parts) => {
+            let around = Surroundings {
+                env: &*env.env,
+                parts: parts.as_slice(),
+            };
+            aggregated(alloc, &around, ts, summary, scope)
+        }
+        None => aggregated(alloc, env, ts, summary, scope),
+    }
 }
 
 #[cycle(evaluation)]
 #[tactic(auto, unfolding(crate::specs::ForProofs::Over::over_aggregate))]
 fn aggregation(
     alloc: Global,
-    env: &Environment,
+    env: &Surroundings,
     r: &Typed,
     summary: &Summary<Boxed<Typed>>,
     scope: &Scope,
 ) -> Result<Value, Fault>
-    ensures { Answers result (over.over_aggregate (mean_in env.now) r.now summary.now (visible scope.now)) }
+    ensures { Answers result (over.over_aggregate (mean_in env.now.env.now) r.now summary.now (visible scope.now)) }
 {
     let ts = rows(alloc, &*env, r, &*scope)?;
-    aggregated(alloc, env, ts.get(), summary, scope)
+    aggregated_by(alloc, env, ts.get(), summary, scope)
 }
 
 #[cycle(evaluation)]
 #[tactic(auto, unfolding(crate::specs::ForProofs::Over::terms))]
 fn extended(
     alloc: Global,
-    env: &Environment,
+    env: &Surroundings,
     ts: &Relation,
     items: &[Item<Boxed<Typed>>],
     scope: &Scope,
 ) -> Result<Relation, Fault>
-    ensures { Answers result (functions.extended (terms (mean_in env.now) (visible scope.now)) items.now ts.now) }
+    ensures { Answers result (functions.extended (terms (mean_in env.now.env.now) (visible scope.now)) items.now ts.now) }
 {
     extend(
         alloc,
         ts,
         items,
         &|e: &Boxed<Typed>, t: &Tuple| -> Result<Value, Fault>
-            ensures { Answers result (terms (mean_in env.entry.now) (visible scope.entry.now) e.now t.now) }
-        { eval(alloc, env, e.get(), &Scope::Within(t, &*scope)) },
+            ensures { Answers result (terms (mean_in env.entry.now.env.now) (visible scope.entry.now) e.now t.now) }
+        { evaluate(alloc, env, e.get(), &Scope::Within(t, &*scope)) },
     )
+}
+
+#[cycle(evaluation)]
+fn extended_by(
+    alloc: Global,
+    env: &Surroundings,
+    ts: &Relation,
+    items: &[Item<Boxed<Typed>>],
+    scope: &Scope,
+) -> Result<Relation, Fault>
+    ensures { Answers result (functions.extended (terms (mean_in env.now.env.now) (visible scope.now)) items.now ts.now) }
+{
+    match prepared(alloc, &*env, Terms::Items(&*items), ts.len())? {
+        Some(parts) => {
+            let around = Surroundings {
+                env: &*env.env,
+                parts: parts.as_slice(),
+            };
+            extended(alloc, &around, ts, items, scope)
+        }
+        None => extended(alloc, env, ts, items, scope),
+    }
 }
 
 #[cycle(evaluation)]
 #[tactic(auto, unfolding(crate::specs::ForProofs::Over::over_extend))]
 fn extension(
     alloc: Global,
-    env: &Environment,
+    env: &Surroundings,
     r: &Typed,
     items: &[Item<Boxed<Typed>>],
     scope: &Scope,
 ) -> Result<Value, Fault>
-    ensures { Answers result (over.over_extend (mean_in env.now) r.now items.now (visible scope.now)) }
+    ensures { Answers result (over.over_extend (mean_in env.now.env.now) r.now items.now (visible scope.now)) }
 {
     let ts = rows(alloc, &*env, r, &*scope)?;
-    Ok(relation_value(extended(alloc, env, ts.get(), items, scope)?))
+    Ok(relation_value(extended_by(alloc, env, ts.get(), items, scope)?))
 }
 
 #[cycle(evaluation)]
 #[tactic(auto, unfolding(crate::specs::Mean::groups_at))]
 fn groups<'a>(
     alloc: Global,
-    env: &'a Environment<'_>,
+    env: &'a Surroundings<'_>,
     groups: &TypedGroups<Boxed<Typed>>,
     ts: &Relation,
     scope: &'a Scope<'_>,
 ) -> Result<Lease<'a>, Fault>
-    ensures { Answers result (spec.groups_at (groups_meant (mean_in env.now) groups.now) (visible scope.now) ts.now) }
+    ensures { Answers result (spec.groups_at (groups_meant (mean_in env.now.env.now) groups.now) (visible scope.now) ts.now) }
 {
     match groups {
         TypedGroups::Whole => Ok(Lease::own(table_dee(alloc)?)),
@@ -623,13 +812,13 @@ fn groups<'a>(
 #[tactic(auto, unfolding(crate::specs::ForProofs::Over::terms))]
 fn summarized(
     alloc: Global,
-    env: &Environment,
+    env: &Surroundings,
     ts: &Relation,
     us: &Relation,
     items: &[Item<Summary<Boxed<Typed>>>],
     scope: &Scope,
 ) -> Result<Relation, Fault>
-    ensures { Answers result (functions.summarized (terms (mean_in env.now) (visible scope.now)) items.now ts.now us.now) }
+    ensures { Answers result (functions.summarized (terms (mean_in env.now.env.now) (visible scope.now)) items.now ts.now us.now) }
 {
     summarize(
         alloc,
@@ -637,35 +826,56 @@ fn summarized(
         us,
         items,
         &|e: &Boxed<Typed>, t: &Tuple| -> Result<Value, Fault>
-            ensures { Answers result (terms (mean_in env.entry.now) (visible scope.entry.now) e.now t.now) }
-        { eval(alloc, env, e.get(), &Scope::Within(t, &*scope)) },
+            ensures { Answers result (terms (mean_in env.entry.now.env.now) (visible scope.entry.now) e.now t.now) }
+        { evaluate(alloc, env, e.get(), &Scope::Within(t, &*scope)) },
     )
+}
+
+#[cycle(evaluation)]
+fn summarized_by(
+    alloc: Global,
+    env: &Surroundings,
+    ts: &Relation,
+    us: &Relation,
+    items: &[Item<Summary<Boxed<Typed>>>],
+    scope: &Scope,
+) -> Result<Relation, Fault>
+    ensures { Answers result (functions.summarized (terms (mean_in env.now.env.now) (visible scope.now)) items.now ts.now us.now) }
+{
+    match prepared(alloc, &*env, Terms::Summaries(&*items), ts.len())? {
+        Some(parts) => {
+            let around = Surroundings {
+                env: &*env.env,
+                parts: parts.as_slice(),
+            };
+            summarized(alloc, &around, ts, us, items, scope)
+        }
+        None => summarized(alloc, env, ts, us, items, scope),
+    }
 }
 
 #[cycle(evaluation)]
 #[tactic(auto, unfolding(crate::specs::ForProofs::Over::over_summarize))]
 fn summarization(
     alloc: Global,
-    env: &Environment,
+    env: &Surroundings,
     r: &Typed,
     by: &TypedGroups<Boxed<Typed>>,
     items: &[Item<Summary<Boxed<Typed>>>],
     scope: &Scope,
 ) -> Result<Value, Fault>
-    ensures { Answers result (over.over_summarize (mean_in env.now) r.now by.now items.now (visible scope.now)) }
+    ensures { Answers result (over.over_summarize (mean_in env.now.env.now) r.now by.now items.now (visible scope.now)) }
 {
     let ts = rows(alloc, &*env, r, &*scope)?;
     let us = groups(alloc, &*env, by, ts.get(), &*scope)?;
-    let found = summarized(alloc, env, ts.get(), us.get(), items, scope)?;
+    let found = summarized_by(alloc, env, ts.get(), us.get(), items, scope)?;
     Ok(relation_value(found))
 }
 
-/// The value of an expression, or the least error that its rules let stand. What typing rules out is answered by
-/// `Untyped`. The recursion nests as deep as the expression has levels, and those of the CONSTRAINTs of selectors under
-/// it.
+/// The value of an expression, by its form.
 #[cycle(evaluation)]
-pub fn eval(alloc: Global, env: &Environment, tree: &Typed, scope: &Scope) -> Result<Value, Fault>
-    ensures { Answers result (mean_in env.now tree.now (visible scope.now)) }
+fn by_form(alloc: Global, env: &Surroundings, tree: &Typed, scope: &Scope) -> Result<Value, Fault>
+    ensures { Answers result (mean_in env.now.env.now tree.now (visible scope.now)) }
 {
     match tree {
         Typed::Integer(n) => Ok(integer_value(*n)),
@@ -707,4 +917,24 @@ pub fn eval(alloc: Global, env: &Environment, tree: &Typed, scope: &Scope) -> Re
         }
         Typed::With(xs, body) => with(alloc, env, xs.as_slice(), body.get(), scope),
     }
+}
+
+/// The value of an expression, found or made.
+#[cycle(evaluation)]
+fn evaluate(alloc: Global, env: &Surroundings, tree: &Typed, scope: &Scope) -> Result<Value, Fault>
+    ensures { Answers result (mean_in env.now.env.now tree.now (visible scope.now)) }
+{
+    match env.known(tree) {
+        Some(value) => value_known(alloc, value),
+        None => by_form(alloc, env, tree, scope),
+    }
+}
+
+/// The value of an expression, or the least error that its rules let stand. What typing rules out is answered by
+/// `Untyped`. The recursion nests as deep as the expression has levels, and those of the CONSTRAINTs of selectors under
+/// it.
+pub fn eval(alloc: Global, env: &Environment, tree: &Typed, scope: &Scope) -> Result<Value, Fault>
+    ensures { Answers result (mean_in env.now tree.now (visible scope.now)) }
+{
+    evaluate(alloc, &Surroundings::of(env), tree, scope)
 }

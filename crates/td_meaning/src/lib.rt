@@ -1,10 +1,14 @@
 //! What typed expressions mean: their values, or the errors that they raise.
 #![tactic(auto)]
 
+mod closed;
 pub mod environment;
 mod evaluation;
+pub mod laws;
+mod parts;
 pub mod scope;
 mod selections;
+mod surroundings;
 
 pub use environment::{Environment, Known};
 pub use evaluation::eval;

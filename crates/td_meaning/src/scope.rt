@@ -70,7 +70,7 @@ pub(crate) fn value_meant(alloc: Global, meant: Meant<'_>) -> Result<Value, Allo
     }
 }
 
-fn lent(held: &Held) -> Meant<'_>
+pub(crate) fn lent(held: &Held) -> Meant<'_>
     ensures { meant_value result ≡ held_value held.now }
 {
     match held {

@@ -1,5 +1,5 @@
 -- The forms with terms, over the expressions themselves and not over their meanings.
-use Rattle.std.specs.Prelude.{List, map, Result, Ok}
+use Rattle.std.specs.Prelude.{List, map, Result}
 use Rattle.td_values.specs.Data.{Datum, Attrs}
 use Rattle.td_syntax.specs.declared.tree.Named.{Named}
 use Rattle.td_tuples.specs.declared.items.Item.{Item}

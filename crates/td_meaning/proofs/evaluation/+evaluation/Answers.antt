@@ -11,7 +11,10 @@ use Rattle.td_meaning.specs.ForProofs.Over.{terms, list_meant, items_meant, all_
 use Rattle.td_operators.specs.ForProofs.Turns.{turn}
 use Rattle.td_meaning.specs.Mean.{at, named_at, introduced, truth_at, truth_in, rows_in, groups_at, mean, mean_by, mean_binary, mean_where, mean_if, mean_with}
 use Rattle.td_operators.specs.Operators.{as_value, in_turn, operate_on, attribute_at, part_at, with_new_names, nested, unnested}
-use Rattle.td_meaning.specs.Seen.{all_given, mean_in, relvars_at, visible}
+use Rattle.td_meaning.specs.ForProofs.Right.{AreRight}
+use Rattle.td_meaning.proofs.Deepest.{in_deepest}
+use Rattle.td_meaning.proofs.Rightness.{error_means, right_in_slice, told_error, value_means}
+use Rattle.td_meaning.specs.Seen.{held_value, all_given, mean_in, relvars_at, visible}
 use Rattle.td_meaning.specs.Selections.{admits, no_relvars, selection}
 use Rattle.td_meaning.proofs.Falls.{in_list, in_items, in_named, term_within, summary_within, of_term, select_falls, relation_falls, tuple_falls, extend_falls, with_falls, summarize_falls}
 use Rattle.td_meaning.proofs.Forms.{of_relvar, of_unary, of_binary, of_from, of_project, of_where, of_rename, of_nest, of_unnest, of_aggregate, of_if, of_extend, of_summarize, of_with}
@@ -23,7 +26,7 @@ use Rattle.td_meaning.proofs.evaluation.+evaluation.Goals as goal
 
 pub restricted-returns : goal.restricted-returns
 restricted-returns t c =
-    let m = truth_at (mean_in c.args.env.now c.args.c.now) (visible c.args.scope.now) in
+    let m = truth_at (mean_in c.args.env.now.env.now c.args.c.now) (visible c.args.scope.now) in
     restricts_to m c.args.ts.now c.restrict.result (c.restrict.ensures m (λ k d lt r h. subst (λ x. Answers r (m x)) h.shows h.says.met))
 
 pub extended-extend-requires : goal.extended-extend-requires
@@ -32,7 +35,7 @@ extended-extend-requires t c = λ k d lt i x among p q is_term is_tuple.
 
 pub extended-returns : goal.extended-returns
 extended-returns t c =
-    let m = terms (mean_in c.args.env.now) (visible c.args.scope.now) in
+    let m = terms (mean_in c.args.env.now.env.now) (visible c.args.scope.now) in
     extends_to m c.args.items.now c.args.ts.now c.extend.result (c.extend.ensures m (λ k d lt i x among p q a is_term is_tuple gave.
     subst (λ e. Answers a (m e (get_or c.args.ts.now.tuples k d))) is_term (subst (λ u. Answers a (m p.now u)) is_tuple gave)))
 
@@ -42,50 +45,50 @@ summarized-summarize-requires t c = λ k d lt i x among. of_term _ (get_or c.arg
 
 pub summarized-returns : goal.summarized-returns
 summarized-returns t c =
-    let m = terms (mean_in c.args.env.now) (visible c.args.scope.now) in
+    let m = terms (mean_in c.args.env.now.env.now) (visible c.args.scope.now) in
     summarizes_to m c.args.items.now c.args.ts.now c.args.us.now c.summarize.result (c.summarize.ensures m (λ k d lt i x among. of_term _ (get_or c.args.items.now i x).term (λ e le p q a is_term is_tuple gave.
     subst (λ e. Answers a (m e (get_or c.args.ts.now.tuples k d))) is_term (subst (λ u. Answers a (m p.now u)) is_tuple gave))))
 
 -- ---- measures
 
-pub values-eval-requires : goal.values-eval-requires
-values-eval-requires t c = (omega (arith, c.decreases, in_list c.args.trees.now c.loop-tree.tree-index c.tree-item.result _ c.loop-tree-test.true c.tree-item.is c.get.ensures), tt)
+pub values-evaluate-requires : goal.values-evaluate-requires
+values-evaluate-requires t c = (omega (arith, c.decreases, in_list c.args.trees.now c.loop-tree.tree-index c.tree-item.result _ c.loop-tree-test.true c.tree-item.is c.get.ensures), tt)
 
-pub fields-eval-requires : goal.fields-eval-requires
-fields-eval-requires t c = (omega (arith, c.decreases, in_items c.args.items.now c.loop-item.item-index c.item-item.result _ c.loop-item-test.true c.item-item.is c.get.ensures), tt)
+pub fields-evaluate-requires : goal.fields-evaluate-requires
+fields-evaluate-requires t c = (omega (arith, c.decreases, in_items c.args.items.now c.loop-item.item-index c.item-item.result _ c.loop-item-test.true c.item-item.is c.get.ensures), tt)
 
-pub introduced-eval-requires : goal.introduced-eval-requires
-introduced-eval-requires t c = (omega (arith, c.decreases, in_named c.args.xs.now c.loop-x.x-index c.x-item.result _ c.loop-x-test.true c.x-item.is c.get.ensures), tt)
+pub introduced-evaluate-requires : goal.introduced-evaluate-requires
+introduced-evaluate-requires t c = (omega (arith, c.decreases, in_named c.args.xs.now c.loop-x.x-index c.x-item.result _ c.loop-x-test.true c.x-item.is c.get.ensures), tt)
 
-pub eval-selection-requires : goal.eval-selection-requires
-eval-selection-requires t c = (omega (arith, c.decreases, select_falls c.args.tree.now c.in-Select.place c.in-Select.trees _ c.in-Select.is c.as_slice.ensures), tt)
+pub by_form-selection-requires : goal.by_form-selection-requires
+by_form-selection-requires t c = (omega (arith, c.decreases, select_falls c.args.tree.now c.in-Select.place c.in-Select.trees _ c.in-Select.is c.as_slice.ensures), tt)
 
-pub eval-tuple-requires : goal.eval-tuple-requires
-eval-tuple-requires t c = (omega (arith, c.decreases, tuple_falls c.args.tree.now c.in-Tuple.items _ c.in-Tuple.is c.as_slice-in-Tuple.ensures), tt)
+pub by_form-tuple-requires : goal.by_form-tuple-requires
+by_form-tuple-requires t c = (omega (arith, c.decreases, tuple_falls c.args.tree.now c.in-Tuple.items _ c.in-Tuple.is c.as_slice-in-Tuple.ensures), tt)
 
-pub eval-relation-requires : goal.eval-relation-requires
-eval-relation-requires t c = (omega (arith, c.decreases, relation_falls c.args.tree.now c.in-Relation.heading c.in-Relation.trees _ c.in-Relation.is c.as_slice-in-Relation.ensures), tt)
+pub by_form-relation-requires : goal.by_form-relation-requires
+by_form-relation-requires t c = (omega (arith, c.decreases, relation_falls c.args.tree.now c.in-Relation.heading c.in-Relation.trees _ c.in-Relation.is c.as_slice-in-Relation.ensures), tt)
 
-pub eval-extension-requires : goal.eval-extension-requires
-eval-extension-requires t c = (omega (arith, c.decreases, extend_falls c.args.tree.now c.in-Extend.r _ c.in-Extend.items _ c.in-Extend.is c.get-in-Extend.ensures c.as_slice-in-Extend.ensures), tt)
+pub by_form-extension-requires : goal.by_form-extension-requires
+by_form-extension-requires t c = (omega (arith, c.decreases, extend_falls c.args.tree.now c.in-Extend.r _ c.in-Extend.items _ c.in-Extend.is c.get-in-Extend.ensures c.as_slice-in-Extend.ensures), tt)
 
-pub eval-summarization-requires : goal.eval-summarization-requires
-eval-summarization-requires t c = (omega (arith, c.decreases, summarize_falls c.args.tree.now c.in-Summarize.r _ c.in-Summarize.by c.in-Summarize.items _ c.in-Summarize.is c.get-in-Summarize.ensures c.as_slice-in-Summarize.ensures), tt)
+pub by_form-summarization-requires : goal.by_form-summarization-requires
+by_form-summarization-requires t c = (omega (arith, c.decreases, summarize_falls c.args.tree.now c.in-Summarize.r _ c.in-Summarize.by c.in-Summarize.items _ c.in-Summarize.is c.get-in-Summarize.ensures c.as_slice-in-Summarize.ensures), tt)
 
-pub eval-with-requires : goal.eval-with-requires
-eval-with-requires t c = (omega (arith, c.decreases, with_falls c.args.tree.now c.in-With.body _ c.in-With.xs _ c.in-With.is c.get-in-With.ensures c.as_slice-in-With.ensures), tt)
+pub by_form-with-requires : goal.by_form-with-requires
+by_form-with-requires t c = (omega (arith, c.decreases, with_falls c.args.tree.now c.in-With.body _ c.in-With.xs _ c.in-With.is c.get-in-With.ensures c.as_slice-in-With.ensures), tt)
 
 -- ---- lists
 
 pub values-loop-tree-init : goal.values-loop-tree-init
 values-loop-tree-init t c =
     let f = at (visible c.args.scope.now) in
-    let ms = list_meant (mean_in c.args.env.now) c.args.trees.now in
+    let ms = list_meant (mean_in c.args.env.now.env.now) c.args.trees.now in
     turn_begins f ms ∙ ap (λ xs. turn f xs ms) (sym c.new-found.ensures.items)
 
 pub values-loop-tree-preserved : goal.values-loop-tree-preserved
 values-loop-tree-preserved t c =
-    let m = mean_in c.args.env.now in
+    let m = mean_in c.args.env.now.env.now in
     let names = visible c.args.scope.now in
     let xs = c.args.trees.now in
     let i = c.loop-tree.tree-index in
@@ -95,7 +98,7 @@ values-loop-tree-preserved t c =
 
 pub values-returns-in_err-value : goal.values-returns-in_err-value
 values-returns-in_err-value t c =
-    let m = mean_in c.args.env.now in
+    let m = mean_in c.args.env.now.env.now in
     let names = visible c.args.scope.now in
     let xs = c.args.trees.now in
     let h = fails {A = Datum} (λ (v : Vec Datum Global). v.items) c.in_err-value.field-0.0 (m c.get.result.now names) (in_turn (at names) (list_meant m xs))
@@ -106,12 +109,12 @@ values-returns-in_err-value t c =
 pub fields-loop-item-init : goal.fields-loop-item-init
 fields-loop-item-init t c =
     let f = named_at (visible c.args.scope.now) in
-    let ms = items_meant (mean_in c.args.env.now) c.args.items.now in
+    let ms = items_meant (mean_in c.args.env.now.env.now) c.args.items.now in
     turn_begins f ms ∙ ap (λ xs. turn f xs ms) (sym c.new-found.ensures.items)
 
 pub fields-loop-item-preserved : goal.fields-loop-item-preserved
 fields-loop-item-preserved t c =
-    let m = mean_in c.args.env.now in
+    let m = mean_in c.args.env.now.env.now in
     let names = visible c.args.scope.now in
     let xs = c.args.items.now in
     let i = c.loop-item.item-index in
@@ -121,7 +124,7 @@ fields-loop-item-preserved t c =
 
 pub fields-returns-in_err-value : goal.fields-returns-in_err-value
 fields-returns-in_err-value t c =
-    let m = mean_in c.args.env.now in
+    let m = mean_in c.args.env.now.env.now in
     let names = visible c.args.scope.now in
     let xs = c.args.items.now in
     let h = fails {A = Datum} (λ (v : Vec (List ℕ × Datum) Global). v.items) c.in_err-value.field-0.0 (m c.get.result.now names) (in_turn (named_at names) (items_meant m xs))
@@ -131,7 +134,7 @@ fields-returns-in_err-value t c =
 
 pub introduced-loop-x-preserved : goal.introduced-loop-x-preserved
 introduced-loop-x-preserved t c =
-    let m = mean_in c.args.env.now in
+    let m = mean_in c.args.env.now.env.now in
     let outer = visible c.args.scope.now in
     let xs = c.args.xs.now in
     let i = c.loop-x.x-index in
@@ -144,7 +147,7 @@ introduced-loop-x-preserved t c =
 
 pub introduced-returns-in_err-value : goal.introduced-returns-in_err-value
 introduced-returns-in_err-value t c =
-    let m = mean_in c.args.env.now in
+    let m = mean_in c.args.env.now.env.now in
     let outer = visible c.args.scope.now in
     let xs = c.args.xs.now in
     let a = c.get.result.now in
@@ -160,33 +163,34 @@ admits-returns-in-Some t c =
     let names = visible c.args.scope.now in
     let earlier = selection c.args.earlier.now in
     subst (λ l. Answers c.truth.result (admits earlier l names)) (sym c.in-Some.is)
-    (subst (λ e. Answers c.truth.result (truth_in (mean no_relvars earlier e) names)) c.get.ensures c.truth.ensures)
+    (subst (λ e. Answers c.truth.result (truth_in (mean no_relvars earlier e) names)) c.get.ensures
+    (subst (λ v. Answers c.truth.result (truth_in (mean_in v c.get.result.now) names)) c.of.ensures c.truth.ensures))
 
 -- ---- over tuples
 
 pub extension-returns : goal.extension-returns
 unfolding over_extend
 extension-returns t c =
-    let m = mean_in c.args.env.now in
+    let m = mean_in c.args.env.now.env.now in
     let names = visible c.args.scope.now in
     made_over (rows_in (m c.args.r.now) names) (extended (terms m names) c.args.items.now) c.in_ok-ts.ts c.get.result.now c.in_ok-ts.ensures c.get.ensures
-    c.in_ok-extended.field-0 c.relation_value.result c.in_ok-extended.ensures c.relation_value.ensures
+    c.in_ok-extended_by.field-0 c.relation_value.result c.in_ok-extended_by.ensures c.relation_value.ensures
 
-pub extension-returns-in_err-extended : goal.extension-returns-in_err-extended
+pub extension-returns-in_err-extended_by : goal.extension-returns-in_err-extended_by
 unfolding over_extend
-extension-returns-in_err-extended t c =
-    let m = mean_in c.args.env.now in
+extension-returns-in_err-extended_by t c =
+    let m = mean_in c.args.env.now.env.now in
     let names = visible c.args.scope.now in
     let f = extended (terms m names) c.args.items.now in
-    let h = fails {A = RowsData} (λ (d : Datum). d) c.in_err-extended.field-0.0 (f c.get.result.now) (over_extend m c.args.r.now c.args.items.now names)
+    let h = fails {A = RowsData} (λ (d : Datum). d) c.in_err-extended_by.field-0.0 (f c.get.result.now) (over_extend m c.args.r.now c.args.items.now names)
     (λ e stop. stops_over (rows_in (m c.args.r.now) names) f c.in_ok-ts.ts c.get.result.now c.in_ok-ts.ensures c.get.ensures e stop)
-    c.in_err-extended.ensures in
+    c.in_err-extended_by.ensures in
     search (rules, h)
 
 pub summarization-returns : goal.summarization-returns
 unfolding over_summarize
 summarization-returns t c =
-    let m = mean_in c.args.env.now in
+    let m = mean_in c.args.env.now.env.now in
     let names = visible c.args.scope.now in
     over_both (rows_in (m c.args.r.now) names) (groups_at (groups_meant m c.args.by.now) names) (summarized (terms m names) c.args.items.now)
     c.in_ok-ts.ts c.in_ok-us.us c.get.result.now c.get-2.result.now c.get-3.result.now
@@ -196,7 +200,7 @@ summarization-returns t c =
 pub summarization-returns-in_err-found : goal.summarization-returns-in_err-found
 unfolding over_summarize
 summarization-returns-in_err-found t c =
-    let m = mean_in c.args.env.now in
+    let m = mean_in c.args.env.now.env.now in
     let names = visible c.args.scope.now in
     let f = summarized (terms m names) c.args.items.now in
     let h = fails {A = RowsData} (λ (d : Datum). d) c.in_err-found.field-0.0 (f c.get-2.result.now c.get-3.result.now) (over_summarize m c.args.r.now c.args.by.now c.args.items.now names)
@@ -209,92 +213,131 @@ summarization-returns-in_err-found t c =
 
 -- ---- forms
 
-pub eval-returns-in-Relvar : goal.eval-returns-in-Relvar
-eval-returns-in-Relvar t c =
+pub by_form-returns-in-Relvar : goal.by_form-returns-in-Relvar
+by_form-returns-in-Relvar t c =
     let names = visible c.args.scope.now in
-    let is = ap (mean_in c.args.env.now) c.in-Relvar.is ∙ of_relvar (relvars_at c.args.env.now.relvars.now) (selection c.args.env.now.selectors.now) c.in-Relvar.place in
+    let is = ap (mean_in c.args.env.now.env.now) c.in-Relvar.is ∙ of_relvar (relvars_at c.args.env.now.env.now.relvars.now) (selection c.args.env.now.env.now.selectors.now) c.in-Relvar.place in
     subst (λ f. Answers c.relvar.result (f names)) (sym is) (c.relvar.ensures names)
 
 pub operand-returns-in-Relvar : goal.operand-returns-in-Relvar
 operand-returns-in-Relvar t c =
     let names = visible c.args.scope.now in
-    let is = ap (mean_in c.args.env.now) c.in-Relvar.is ∙ of_relvar (relvars_at c.args.env.now.relvars.now) (selection c.args.env.now.selectors.now) c.in-Relvar.place in
+    let is = ap (mean_in c.args.env.now.env.now) c.in-Relvar.is ∙ of_relvar (relvars_at c.args.env.now.env.now.relvars.now) (selection c.args.env.now.env.now.selectors.now) c.in-Relvar.place in
     subst (λ f. AnswersBy operand_value c.relvar_operand.result (f names)) (sym is) (c.relvar_operand.ensures names)
 
-pub eval-returns-in-Unary : goal.eval-returns-in-Unary
-eval-returns-in-Unary t c =
-    let m = mean_in c.args.env.now in
-    let is = ap m c.in-Unary.is ∙ of_unary (relvars_at c.args.env.now.relvars.now) (selection c.args.env.now.selectors.now) c.in-Unary.operator c.in-Unary.a ∙ ap (λ a. mean_by (operate_on c.in-Unary.operator) (m a)) (sym c.get-in-Unary.ensures) in
+pub by_form-returns-in-Unary : goal.by_form-returns-in-Unary
+by_form-returns-in-Unary t c =
+    let m = mean_in c.args.env.now.env.now in
+    let is = ap m c.in-Unary.is ∙ of_unary (relvars_at c.args.env.now.env.now.relvars.now) (selection c.args.env.now.env.now.selectors.now) c.in-Unary.operator c.in-Unary.a ∙ ap (λ a. mean_by (operate_on c.in-Unary.operator) (m a)) (sym c.get-in-Unary.ensures) in
     subst (λ f. Answers c.unary.result (f (visible c.args.scope.now))) (sym is) c.unary.ensures
 
-pub eval-returns-in-Binary : goal.eval-returns-in-Binary
-eval-returns-in-Binary t c =
-    let m = mean_in c.args.env.now in
-    let is = ap m c.in-Binary.is ∙ of_binary (relvars_at c.args.env.now.relvars.now) (selection c.args.env.now.selectors.now) c.in-Binary.operator c.in-Binary.a c.in-Binary.b ∙ (λ i. mean_binary c.in-Binary.operator (m (sym c.get-in-Binary.ensures i)) (m (sym c.get-in-Binary-2.ensures i))) in
+pub by_form-returns-in-Binary : goal.by_form-returns-in-Binary
+by_form-returns-in-Binary t c =
+    let m = mean_in c.args.env.now.env.now in
+    let is = ap m c.in-Binary.is ∙ of_binary (relvars_at c.args.env.now.env.now.relvars.now) (selection c.args.env.now.env.now.selectors.now) c.in-Binary.operator c.in-Binary.a c.in-Binary.b ∙ (λ i. mean_binary c.in-Binary.operator (m (sym c.get-in-Binary.ensures i)) (m (sym c.get-in-Binary-2.ensures i))) in
     subst (λ f. Answers c.binary.result (f (visible c.args.scope.now))) (sym is) c.binary.ensures
 
-pub eval-returns-in-From : goal.eval-returns-in-From
-eval-returns-in-From t c =
-    let m = mean_in c.args.env.now in
-    let is = ap m c.in-From.is ∙ of_from (relvars_at c.args.env.now.relvars.now) (selection c.args.env.now.selectors.now) c.in-From.name c.in-From.a ∙ ap (λ a. mean_by (attribute_at c.in-From.name) (m a)) (sym c.get-in-From.ensures) in
+pub by_form-returns-in-From : goal.by_form-returns-in-From
+by_form-returns-in-From t c =
+    let m = mean_in c.args.env.now.env.now in
+    let is = ap m c.in-From.is ∙ of_from (relvars_at c.args.env.now.env.now.relvars.now) (selection c.args.env.now.env.now.selectors.now) c.in-From.name c.in-From.a ∙ ap (λ a. mean_by (attribute_at c.in-From.name) (m a)) (sym c.get-in-From.ensures) in
     subst (λ f. Answers c.attribute.result (f (visible c.args.scope.now))) (sym is) c.attribute.ensures
 
-pub eval-returns-in-Project : goal.eval-returns-in-Project
-eval-returns-in-Project t c =
-    let m = mean_in c.args.env.now in
-    let is = ap m c.in-Project.is ∙ of_project (relvars_at c.args.env.now.relvars.now) (selection c.args.env.now.selectors.now) c.in-Project.a c.in-Project.names ∙ (λ i. mean_by (part_at (sym c.as_slice-in-Project.ensures i)) (m (sym c.get-in-Project.ensures i))) in
+pub by_form-returns-in-Project : goal.by_form-returns-in-Project
+by_form-returns-in-Project t c =
+    let m = mean_in c.args.env.now.env.now in
+    let is = ap m c.in-Project.is ∙ of_project (relvars_at c.args.env.now.env.now.relvars.now) (selection c.args.env.now.env.now.selectors.now) c.in-Project.a c.in-Project.names ∙ (λ i. mean_by (part_at (sym c.as_slice-in-Project.ensures i)) (m (sym c.get-in-Project.ensures i))) in
     subst (λ f. Answers c.projection.result (f (visible c.args.scope.now))) (sym is) c.projection.ensures
 
-pub eval-returns-in-Where : goal.eval-returns-in-Where
-eval-returns-in-Where t c =
-    let m = mean_in c.args.env.now in
-    let is = ap m c.in-Where.is ∙ of_where (relvars_at c.args.env.now.relvars.now) (selection c.args.env.now.selectors.now) c.in-Where.r c.in-Where.c ∙ (λ i. mean_where (m (sym c.get-in-Where.ensures i)) (m (sym c.get-in-Where-2.ensures i))) in
+pub by_form-returns-in-Where : goal.by_form-returns-in-Where
+by_form-returns-in-Where t c =
+    let m = mean_in c.args.env.now.env.now in
+    let is = ap m c.in-Where.is ∙ of_where (relvars_at c.args.env.now.env.now.relvars.now) (selection c.args.env.now.env.now.selectors.now) c.in-Where.r c.in-Where.c ∙ (λ i. mean_where (m (sym c.get-in-Where.ensures i)) (m (sym c.get-in-Where-2.ensures i))) in
     subst (λ f. Answers c.restriction.result (f (visible c.args.scope.now))) (sym is) c.restriction.ensures
 
-pub eval-returns-in-Rename : goal.eval-returns-in-Rename
-eval-returns-in-Rename t c =
-    let m = mean_in c.args.env.now in
-    let is = ap m c.in-Rename.is ∙ of_rename (relvars_at c.args.env.now.relvars.now) (selection c.args.env.now.selectors.now) c.in-Rename.a c.in-Rename.items ∙ (λ i. mean_by (with_new_names (sym c.as_slice-in-Rename.ensures i)) (m (sym c.get-in-Rename.ensures i))) in
+pub by_form-returns-in-Rename : goal.by_form-returns-in-Rename
+by_form-returns-in-Rename t c =
+    let m = mean_in c.args.env.now.env.now in
+    let is = ap m c.in-Rename.is ∙ of_rename (relvars_at c.args.env.now.env.now.relvars.now) (selection c.args.env.now.env.now.selectors.now) c.in-Rename.a c.in-Rename.items ∙ (λ i. mean_by (with_new_names (sym c.as_slice-in-Rename.ensures i)) (m (sym c.get-in-Rename.ensures i))) in
     subst (λ f. Answers c.renaming.result (f (visible c.args.scope.now))) (sym is) c.renaming.ensures
 
-pub eval-returns-in-Nest : goal.eval-returns-in-Nest
-eval-returns-in-Nest t c =
-    let m = mean_in c.args.env.now in
-    let is = ap m c.in-Nest.is ∙ of_nest (relvars_at c.args.env.now.relvars.now) (selection c.args.env.now.selectors.now) c.in-Nest.operator c.in-Nest.a c.in-Nest.names c.in-Nest.name ∙ (λ i. mean_by (nested c.in-Nest.operator (sym c.as_slice-in-Nest.ensures i) c.in-Nest.name) (m (sym c.get-in-Nest.ensures i))) in
+pub by_form-returns-in-Nest : goal.by_form-returns-in-Nest
+by_form-returns-in-Nest t c =
+    let m = mean_in c.args.env.now.env.now in
+    let is = ap m c.in-Nest.is ∙ of_nest (relvars_at c.args.env.now.env.now.relvars.now) (selection c.args.env.now.env.now.selectors.now) c.in-Nest.operator c.in-Nest.a c.in-Nest.names c.in-Nest.name ∙ (λ i. mean_by (nested c.in-Nest.operator (sym c.as_slice-in-Nest.ensures i) c.in-Nest.name) (m (sym c.get-in-Nest.ensures i))) in
     subst (λ f. Answers c.nesting.result (f (visible c.args.scope.now))) (sym is) c.nesting.ensures
 
-pub eval-returns-in-Unnest : goal.eval-returns-in-Unnest
-eval-returns-in-Unnest t c =
-    let m = mean_in c.args.env.now in
-    let is = ap m c.in-Unnest.is ∙ of_unnest (relvars_at c.args.env.now.relvars.now) (selection c.args.env.now.selectors.now) c.in-Unnest.operator c.in-Unnest.a c.in-Unnest.name ∙ ap (λ a. mean_by (unnested c.in-Unnest.operator c.in-Unnest.name) (m a)) (sym c.get-in-Unnest.ensures) in
+pub by_form-returns-in-Unnest : goal.by_form-returns-in-Unnest
+by_form-returns-in-Unnest t c =
+    let m = mean_in c.args.env.now.env.now in
+    let is = ap m c.in-Unnest.is ∙ of_unnest (relvars_at c.args.env.now.env.now.relvars.now) (selection c.args.env.now.env.now.selectors.now) c.in-Unnest.operator c.in-Unnest.a c.in-Unnest.name ∙ ap (λ a. mean_by (unnested c.in-Unnest.operator c.in-Unnest.name) (m a)) (sym c.get-in-Unnest.ensures) in
     subst (λ f. Answers c.unnesting.result (f (visible c.args.scope.now))) (sym is) c.unnesting.ensures
 
-pub eval-returns-in-Aggregate : goal.eval-returns-in-Aggregate
-eval-returns-in-Aggregate t c =
-    let m = mean_in c.args.env.now in
-    let is = ap m c.in-Aggregate.is ∙ of_aggregate (relvars_at c.args.env.now.relvars.now) (selection c.args.env.now.selectors.now) c.in-Aggregate.r c.in-Aggregate.summary ∙ ap (λ r. over_aggregate m r c.in-Aggregate.summary) (sym c.get-in-Aggregate.ensures) in
+pub by_form-returns-in-Aggregate : goal.by_form-returns-in-Aggregate
+by_form-returns-in-Aggregate t c =
+    let m = mean_in c.args.env.now.env.now in
+    let is = ap m c.in-Aggregate.is ∙ of_aggregate (relvars_at c.args.env.now.env.now.relvars.now) (selection c.args.env.now.env.now.selectors.now) c.in-Aggregate.r c.in-Aggregate.summary ∙ ap (λ r. over_aggregate m r c.in-Aggregate.summary) (sym c.get-in-Aggregate.ensures) in
     subst (λ f. Answers c.aggregation.result (f (visible c.args.scope.now))) (sym is) c.aggregation.ensures
 
-pub eval-returns-in-If : goal.eval-returns-in-If
-eval-returns-in-If t c =
-    let m = mean_in c.args.env.now in
-    let is = ap m c.in-If.is ∙ of_if (relvars_at c.args.env.now.relvars.now) (selection c.args.env.now.selectors.now) c.in-If.c c.in-If.a c.in-If.b ∙ (λ i. mean_if (m (sym c.get-in-If.ensures i)) (m (sym c.get-in-If-2.ensures i)) (m (sym c.get-in-If-3.ensures i))) in
+pub by_form-returns-in-If : goal.by_form-returns-in-If
+by_form-returns-in-If t c =
+    let m = mean_in c.args.env.now.env.now in
+    let is = ap m c.in-If.is ∙ of_if (relvars_at c.args.env.now.env.now.relvars.now) (selection c.args.env.now.env.now.selectors.now) c.in-If.c c.in-If.a c.in-If.b ∙ (λ i. mean_if (m (sym c.get-in-If.ensures i)) (m (sym c.get-in-If-2.ensures i)) (m (sym c.get-in-If-3.ensures i))) in
     subst (λ f. Answers c.choice.result (f (visible c.args.scope.now))) (sym is) c.choice.ensures
 
-pub eval-returns-in-Extend : goal.eval-returns-in-Extend
-eval-returns-in-Extend t c =
-    let m = mean_in c.args.env.now in
-    let is = ap m c.in-Extend.is ∙ of_extend (relvars_at c.args.env.now.relvars.now) (selection c.args.env.now.selectors.now) c.in-Extend.r c.in-Extend.items ∙ (λ i. over_extend m (sym c.get-in-Extend.ensures i) (sym c.as_slice-in-Extend.ensures i)) in
+pub by_form-returns-in-Extend : goal.by_form-returns-in-Extend
+by_form-returns-in-Extend t c =
+    let m = mean_in c.args.env.now.env.now in
+    let is = ap m c.in-Extend.is ∙ of_extend (relvars_at c.args.env.now.env.now.relvars.now) (selection c.args.env.now.env.now.selectors.now) c.in-Extend.r c.in-Extend.items ∙ (λ i. over_extend m (sym c.get-in-Extend.ensures i) (sym c.as_slice-in-Extend.ensures i)) in
     subst (λ f. Answers c.extension.result (f (visible c.args.scope.now))) (sym is) c.extension.ensures
 
-pub eval-returns-in-Summarize : goal.eval-returns-in-Summarize
-eval-returns-in-Summarize t c =
-    let m = mean_in c.args.env.now in
-    let is = ap m c.in-Summarize.is ∙ of_summarize (relvars_at c.args.env.now.relvars.now) (selection c.args.env.now.selectors.now) c.in-Summarize.r c.in-Summarize.by c.in-Summarize.items ∙ (λ i. over_summarize m (sym c.get-in-Summarize.ensures i) c.in-Summarize.by (sym c.as_slice-in-Summarize.ensures i)) in
+pub by_form-returns-in-Summarize : goal.by_form-returns-in-Summarize
+by_form-returns-in-Summarize t c =
+    let m = mean_in c.args.env.now.env.now in
+    let is = ap m c.in-Summarize.is ∙ of_summarize (relvars_at c.args.env.now.env.now.relvars.now) (selection c.args.env.now.env.now.selectors.now) c.in-Summarize.r c.in-Summarize.by c.in-Summarize.items ∙ (λ i. over_summarize m (sym c.get-in-Summarize.ensures i) c.in-Summarize.by (sym c.as_slice-in-Summarize.ensures i)) in
     subst (λ f. Answers c.summarization.result (f (visible c.args.scope.now))) (sym is) c.summarization.ensures
 
-pub eval-returns-in-With : goal.eval-returns-in-With
-eval-returns-in-With t c =
-    let m = mean_in c.args.env.now in
-    let is = ap m c.in-With.is ∙ of_with (relvars_at c.args.env.now.relvars.now) (selection c.args.env.now.selectors.now) c.in-With.xs c.in-With.body ∙ (λ i. mean_with (all_meant m (sym c.as_slice-in-With.ensures i)) (m (sym c.get-in-With.ensures i))) in
+pub by_form-returns-in-With : goal.by_form-returns-in-With
+by_form-returns-in-With t c =
+    let m = mean_in c.args.env.now.env.now in
+    let is = ap m c.in-With.is ∙ of_with (relvars_at c.args.env.now.env.now.relvars.now) (selection c.args.env.now.env.now.selectors.now) c.in-With.xs c.in-With.body ∙ (λ i. mean_with (all_meant m (sym c.as_slice-in-With.ensures i)) (m (sym c.get-in-With.ensures i))) in
     subst (λ f. Answers c.with.result (f (visible c.args.scope.now))) (sym is) c.with.ensures
+
+-- ---- what is known
+
+pub restricted_by-invariant_of-around : goal.restricted_by-invariant_of-around
+restricted_by-invariant_of-around t c = record { right = right_in_slice c.args.env.now.env.now c.in_ok-parts.field-0 c.in-Some.parts c.as_slice.result.now c.in_ok-parts.ensures c.in-Some.is c.as_slice.ensures.value }
+
+pub aggregated_by-invariant_of-around : goal.aggregated_by-invariant_of-around
+aggregated_by-invariant_of-around t c = record { right = right_in_slice c.args.env.now.env.now c.in_ok-parts.field-0 c.in-Some.parts c.as_slice.result.now c.in_ok-parts.ensures c.in-Some.is c.as_slice.ensures.value }
+
+pub extended_by-invariant_of-around : goal.extended_by-invariant_of-around
+extended_by-invariant_of-around t c = record { right = right_in_slice c.args.env.now.env.now c.in_ok-parts.field-0 c.in-Some.parts c.as_slice.result.now c.in_ok-parts.ensures c.in-Some.is c.as_slice.ensures.value }
+
+pub summarized_by-invariant_of-around : goal.summarized_by-invariant_of-around
+summarized_by-invariant_of-around t c = record { right = right_in_slice c.args.env.now.env.now c.in_ok-parts.field-0 c.in-Some.parts c.as_slice.result.now c.in_ok-parts.ensures c.in-Some.is c.as_slice.ensures.value }
+
+pub closed_value-returns-in-Ok : goal.closed_value-returns-in-Ok
+closed_value-returns-in-Ok t c = value_means c.args.env.now.env.now c.args.tree.now (held_value c.hold.result) (c.in-Ok.ensures ∙ ap Ok (sym c.hold.ensures))
+
+pub closed_value-returns-in_default : goal.closed_value-returns-in_default
+closed_value-returns-in_default t c = error_means c.args.env.now.env.now c.args.tree.now c.in-Err-Raised.stop
+    (told_error c.in-Err-Raised.field-0 c.in-Err-Raised.stop _ (search (rules, c.in-Err-Raised.field-0-is)) c.in-Err-Raised.ensures) c.in_default.not-Untyped
+
+pub evaluate-returns-in-Some : goal.evaluate-returns-in-Some
+evaluate-returns-in-Some t c = subst (λ m. Answers c.value_known.result m) (sym (c.in-Some.ensures (visible c.args.scope.now))) c.value_known.ensures
+
+pub operand-returns-in-Some : goal.operand-returns-in-Some
+operand-returns-in-Some t c = subst (λ m. AnswersBy operand_value c.operand_known.result m) (sym (c.in-Some.ensures (visible c.args.scope.now))) c.operand_known.ensures
+
+pub keep-invariant_of-around : goal.keep-invariant_of-around
+keep-invariant_of-around t c = record { right = subst (AreRight c.args.env.now) (sym c.as_slice.ensures.value) c.requires }
+
+pub keep_all-keep-requires : goal.keep_all-keep-requires
+keep_all-keep-requires t c = (omega (arith, c.decreases, in_deepest c.args.trees.now c.loop-tree.tree-index c.tree-item.result c.loop-tree-test.true c.tree-item.is), c.loop-tree.invariant)
+
+pub prepared-add_parts-requires : goal.prepared-add_parts-requires
+prepared-add_parts-requires t c = (omega (arith, c.decreases), subst (AreRight c.args.env.now.env.now) (sym c.in_ok-parts.ensures) c.args.env.now.right)
+
+pub add_parts-parts_beside-requires : goal.add_parts-parts_beside-requires
+add_parts-parts_beside-requires t c = subst (AreRight c.args.env.now) (sym c.as_slice.ensures.value) c.loop.invariant

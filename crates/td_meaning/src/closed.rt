@@ -1,0 +1,367 @@
+//! Which parts of terms name nothing around them.
+
+ghost use Rattle.std.specs.Prelude.{◌≤◌, max, IfOk, OnOk};
+ghost use Rattle.td_meaning.specs.ForProofs.Levels.{groups_levels, item_levels, levels, list_levels, named_levels, summaries_levels, summary_levels};
+ghost use Rattle.td_meaning.specs.ForProofs.Right.{deepest_in};
+ghost use Rattle.td_meaning.specs.ForProofs.Terms.{terms_levels};
+
+use crate::environment::relvar_at;
+use crate::parts::heading_known;
+use crate::surroundings::Surroundings;
+use sqlite_items::Boxed;
+use std::alloc::{AllocError, Global};
+use td_syntax::tree::{BinaryOperator, Named};
+use td_trees::tree::{Typed, TypedGroups};
+use td_tuples::{Item, Summary};
+use td_values::{Heading, Name};
+
+/// Names that are bound within a term, the innermost first; each scope has its place, counted from the outside.
+#[derive(Clone, Copy)]
+enum Bound<'a> {
+    Nothing,
+    /// The attributes of the tuples of a relation.
+    Attributes(&'a Heading, usize, &'a Bound<'a>),
+    /// Those of a relation whose heading is not known.
+    Unknown(usize, &'a Bound<'a>),
+    /// Names of WITH.
+    Given(&'a [Named<Boxed<Typed>>], usize, &'a Bound<'a>),
+}
+
+/// How far out an expression names something, and whether it takes more than a look to evaluate it.
+#[derive(Clone, Copy)]
+struct Reach {
+    /// The place of the outermost scope that it names something of: 0 where that is around the whole term.
+    outermost: usize,
+    is_dear: bool,
+}
+
+impl Reach {
+    const NOTHING: Reach = Reach {
+        outermost: usize::MAX,
+        is_dear: false,
+    };
+
+    const DEAR: Reach = Reach {
+        outermost: usize::MAX,
+        is_dear: true,
+    };
+
+    fn and(self, other: Reach) -> Reach {
+        Reach {
+            outermost: self.outermost.min(other.outermost),
+            is_dear: self.is_dear || other.is_dear,
+        }
+    }
+}
+
+fn has_name(names: &[Named<Boxed<Typed>>], name: &Name) -> bool {
+    names.iter().any(|named| named.name == *name)
+}
+
+impl Bound<'_> {
+    fn place(&self) -> usize {
+        match self {
+            Bound::Nothing => 0,
+            Bound::Attributes(_, place, _) | Bound::Unknown(place, _) | Bound::Given(_, place, _) =>
+                *place,
+        }
+    }
+
+    /// The place of the innermost scope that has the name, and 0 where none of these has it.
+    fn place_of(&self, name: &Name) -> usize {
+        match self {
+            Bound::Nothing => 0,
+            Bound::Attributes(heading, place, outer) => {
+                if heading.type_of(name).is_some() {
+                    *place
+                } else {
+                    outer.place_of(name)
+                }
+            }
+            Bound::Unknown(_, outer) => outer.place_of(name),
+            Bound::Given(names, place, outer) => {
+                if has_name(names, name) {
+                    *place
+                } else {
+                    outer.place_of(name)
+                }
+            }
+        }
+    }
+}
+
+// The heading of the relation that the expression means, where it is there to be seen.
+fn heading_of<'a>(env: &'a Surroundings<'_>, tree: &Typed) -> Option<&'a Heading> {
+    match tree {
+        Typed::Relvar(place) => match relvar_at(env.env.relvars, *place) {
+            Ok(relation) => Some(relation.heading()),
+            Err(_) => None,
+        },
+        Typed::Where(r, _) => heading_of(env, r.get()),
+        _ => match env.known(tree) {
+            Some(value) => heading_known(value),
+            None => None,
+        },
+    }
+}
+
+// What is bound at the tuples of the relation that the expression means.
+fn within<'a>(env: &'a Surroundings<'_>, r: &Typed, outer: &'a Bound<'a>) -> Bound<'a> {
+    let place = outer.place().saturating_add(1);
+    match heading_of(env, r) {
+        Some(heading) => Bound::Attributes(heading, place, outer),
+        None => Bound::Unknown(place, outer),
+    }
+}
+
+#[cycle(survey)]
+fn of_list<'t>(
+    env: &Surroundings<'_>,
+    found: &mut Vec<&'t Typed>,
+    trees: &'t [Boxed<Typed>],
+    bound: &Bound<'_>,
+) -> Result<Reach, AllocError>
+    ensures { OnOk result (deepest_in found.new.items ≤ max (deepest_in found.old.items) (list_levels trees.now)) }
+{
+    let mut reach = Reach::NOTHING;
+    for tree in trees {
+        let next = survey(env, found, tree.get(), bound)?;
+        reach = reach.and(next);
+    }
+    Ok(reach)
+}
+
+#[cycle(survey)]
+fn of_items<'t>(
+    env: &Surroundings<'_>,
+    found: &mut Vec<&'t Typed>,
+    items: &'t [Item<Boxed<Typed>>],
+    bound: &Bound<'_>,
+) -> Result<Reach, AllocError>
+    ensures { OnOk result (deepest_in found.new.items ≤ max (deepest_in found.old.items) (item_levels items.now)) }
+{
+    let mut reach = Reach::NOTHING;
+    for item in items {
+        let next = survey(env, found, item.term.get(), bound)?;
+        reach = reach.and(next);
+    }
+    Ok(reach)
+}
+
+#[cycle(survey)]
+fn of_summary<'t>(
+    env: &Surroundings<'_>,
+    found: &mut Vec<&'t Typed>,
+    summary: &'t Summary<Boxed<Typed>>,
+    bound: &Bound<'_>,
+) -> Result<Reach, AllocError>
+    ensures { OnOk result (deepest_in found.new.items ≤ max (deepest_in found.old.items) (summary_levels summary.now)) }
+{
+    match summary {
+        Summary::Count => Ok(Reach::NOTHING),
+        Summary::Sum(term)
+        | Summary::Max(term)
+        | Summary::Min(term)
+        | Summary::And(term)
+        | Summary::Or(term) => survey(env, found, term.get(), bound),
+    }
+}
+
+#[cycle(survey)]
+fn of_summaries<'t>(
+    env: &Surroundings<'_>,
+    found: &mut Vec<&'t Typed>,
+    items: &'t [Item<Summary<Boxed<Typed>>>],
+    bound: &Bound<'_>,
+) -> Result<Reach, AllocError>
+    ensures { OnOk result (deepest_in found.new.items ≤ max (deepest_in found.old.items) (summaries_levels items.now)) }
+{
+    let mut reach = Reach::NOTHING;
+    for item in items {
+        let next = match &item.term {
+            Summary::Count => Reach::NOTHING,
+            Summary::Sum(term)
+            | Summary::Max(term)
+            | Summary::Min(term)
+            | Summary::And(term)
+            | Summary::Or(term) => survey(env, found, term.get(), bound)?,
+        };
+        reach = reach.and(next);
+    }
+    Ok(reach)
+}
+
+// Each expression sees the names before it.
+#[cycle(survey)]
+fn of_names<'t>(
+    env: &Surroundings<'_>,
+    found: &mut Vec<&'t Typed>,
+    xs: &'t [Named<Boxed<Typed>>],
+    bound: &Bound<'_>,
+) -> Result<Reach, AllocError>
+    ensures { OnOk result (deepest_in found.new.items ≤ max (deepest_in found.old.items) (named_levels xs.now)) }
+{
+    let place = bound.place().saturating_add(1);
+    let mut reach = Reach::NOTHING;
+    for i in 0..xs.len() {
+        let within = Bound::Given(&xs[..i], place, &*bound);
+        let next = survey(env, found, xs[i].value.get(), &within)?;
+        reach = reach.and(next);
+    }
+    Ok(reach)
+}
+
+// Of the forms that bind names.
+#[cycle(survey)]
+fn of_terms<'t>(
+    env: &Surroundings<'_>,
+    found: &mut Vec<&'t Typed>,
+    tree: &'t Typed,
+    bound: &Bound<'_>,
+) -> Result<Reach, AllocError>
+    ensures { OnOk result (deepest_in found.new.items ≤ max (deepest_in found.old.items) (levels tree.now)) }
+{
+    match tree {
+        Typed::Where(r, c) => {
+            let first = survey(env, found, r.get(), bound)?;
+            let inner = within(&*env, r.get(), &*bound);
+            let second = survey(env, found, c.get(), &inner)?;
+            Ok(first.and(second))
+        }
+        Typed::Aggregate(r, summary) => {
+            let first = survey(env, found, r.get(), bound)?;
+            let inner = within(&*env, r.get(), &*bound);
+            let second = of_summary(env, found, summary, &inner)?;
+            Ok(first.and(second))
+        }
+        Typed::Extend(r, items) => {
+            let first = survey(env, found, r.get(), bound)?;
+            let inner = within(&*env, r.get(), &*bound);
+            let second = of_items(env, found, items.as_slice(), &inner)?;
+            Ok(first.and(second))
+        }
+        Typed::Summarize(r, groups, items) => {
+            let first = survey(env, found, r.get(), bound)?;
+            let second = of_groups(env, found, groups, bound)?;
+            let inner = within(&*env, r.get(), &*bound);
+            let third = of_summaries(env, found, items.as_slice(), &inner)?;
+            Ok(first.and(second).and(third))
+        }
+        Typed::With(xs, body) => {
+            let first = of_names(env, found, xs.as_slice(), bound)?;
+            let inner = Bound::Given(xs.as_slice(), bound.place().saturating_add(1), &*bound);
+            let second = survey(env, found, body.get(), &inner)?;
+            Ok(first.and(second))
+        }
+        _ => Ok(Reach::NOTHING),
+    }
+}
+
+#[cycle(survey)]
+fn of_groups<'t>(
+    env: &Surroundings<'_>,
+    found: &mut Vec<&'t Typed>,
+    groups: &'t TypedGroups<Boxed<Typed>>,
+    bound: &Bound<'_>,
+) -> Result<Reach, AllocError>
+    ensures { OnOk result (deepest_in found.new.items ≤ max (deepest_in found.old.items) (groups_levels groups.now)) }
+{
+    match groups {
+        TypedGroups::Per(tree) => survey(env, found, tree.get(), bound),
+        TypedGroups::Whole | TypedGroups::By(_) => Ok(Reach::NOTHING),
+    }
+}
+
+#[cycle(survey)]
+fn of_parts<'t>(
+    env: &Surroundings<'_>,
+    found: &mut Vec<&'t Typed>,
+    tree: &'t Typed,
+    bound: &Bound<'_>,
+) -> Result<Reach, AllocError>
+    ensures { OnOk result (deepest_in found.new.items ≤ max (deepest_in found.old.items) (levels tree.now)) }
+{
+    match tree {
+        Typed::Integer(_) | Typed::Text(_) | Typed::Truth(_) => Ok(Reach::NOTHING),
+        Typed::Local(name) => Ok(Reach {
+            outermost: bound.place_of(name),
+            is_dear: false,
+        }),
+        Typed::Relvar(_) => Ok(Reach::DEAR),
+        Typed::Select(_, trees) => {
+            Ok(of_list(env, found, trees.as_slice(), bound)?.and(Reach::DEAR))
+        }
+        Typed::Relation(_, trees) => {
+            Ok(of_list(env, found, trees.as_slice(), bound)?.and(Reach::DEAR))
+        }
+        Typed::Tuple(items) => of_items(env, found, items.as_slice(), bound),
+        Typed::Component(_, a)
+        | Typed::Unary(_, a)
+        | Typed::From(_, a)
+        | Typed::Project(a, _)
+        | Typed::Rename(a, _)
+        | Typed::Nest(_, a, _, _)
+        | Typed::Unnest(_, a, _) => survey(env, found, a.get(), bound),
+        Typed::Binary(_, a, b) => {
+            let first = survey(env, found, a.get(), bound)?;
+            let second = survey(env, found, b.get(), bound)?;
+            Ok(first.and(second))
+        }
+        Typed::If(c, a, b) => {
+            let first = survey(env, found, c.get(), bound)?;
+            let second = survey(env, found, a.get(), bound)?;
+            let third = survey(env, found, b.get(), bound)?;
+            Ok(first.and(second).and(third))
+        }
+        _ => of_terms(env, found, tree, bound),
+    }
+}
+
+// Adds the greatest parts of the expression that name nothing around it and are worth keeping.
+#[cycle(survey)]
+fn survey<'t>(
+    env: &Surroundings<'_>,
+    found: &mut Vec<&'t Typed>,
+    tree: &'t Typed,
+    bound: &Bound<'_>,
+) -> Result<Reach, AllocError>
+    ensures { OnOk result (deepest_in found.new.items ≤ max (deepest_in found.old.items) (levels tree.now)) }
+{
+    let mark = found.len();
+    let reach = of_parts(env, found, tree, bound)?;
+    if reach.is_dear && bound.place() < reach.outermost {
+        found.truncate(mark);
+        if !matches!(tree, Typed::Relvar(_)) && env.known(tree).is_none() {
+            found.push(tree)?;
+        }
+    }
+    Ok(reach)
+}
+
+/// The terms of a form, which are evaluated at each of some tuples.
+#[derive(Clone, Copy)]
+pub(crate) enum Terms<'t> {
+    Condition(&'t Typed),
+    Summary(&'t Summary<Boxed<Typed>>),
+    Items(&'t [Item<Boxed<Typed>>]),
+    Summaries(&'t [Item<Summary<Boxed<Typed>>>]),
+}
+
+/// The greatest parts of these terms that name nothing around them, but those that a look answers.
+pub(crate) fn closed_parts<'t>(
+    alloc: Global,
+    env: &Surroundings<'_>,
+    terms: Terms<'t>,
+) -> Result<Vec<&'t Typed>, AllocError>
+    ensures { IfOk result (λ v. deepest_in v.items ≤ terms_levels terms.entry) }
+{
+    let mut found = Vec::new(alloc);
+    let bound = Bound::Nothing;
+    match terms {
+        Terms::Condition(tree) => survey(env, &mut found, tree, &bound)?,
+        Terms::Summary(summary) => of_summary(env, &mut found, summary, &bound)?,
+        Terms::Items(items) => of_items(env, &mut found, items, &bound)?,
+        Terms::Summaries(items) => of_summaries(env, &mut found, items, &bound)?,
+    };
+    Ok(found)
+}

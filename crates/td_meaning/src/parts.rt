@@ -1,0 +1,101 @@
+//! Expressions whose values are known.
+
+ghost use Rattle.std.specs.Prelude.{◌≡◌, IfOk, IfSome, OnOk};
+ghost use Rattle.td_algebra.specs.Raising.{Answers, AnswersBy};
+ghost use Rattle.td_operators.specs.ForProofs.Lent.{operand_value};
+ghost use Rattle.td_meaning.specs.ForProofs.Right.{AreRight, IsRight, known_value};
+ghost use Rattle.td_meaning.specs.Mean.{Names};
+ghost use Rattle.td_meaning.specs.Seen.{mean_in};
+ghost use Rattle.td_meaning.specs.declared.environment.Environment.{Environment};
+
+use crate::scope::{Held, lent, operand_meant, value_meant};
+use std::alloc::{AllocError, Global};
+use td_algebra::{Fault, Stop};
+use td_operators::Operand;
+use td_trees::compare;
+use td_trees::tree::Typed;
+use td_tuples::Shared;
+use td_values::{Heading, Value};
+
+/// An expression that names nothing around it, and its value or the error that it raises.
+#[derive(Drop)]
+pub(crate) struct Part<'a> {
+    pub tree: &'a Typed,
+    pub value: Shared<Result<Held, Stop>>,
+}
+
+/// The value, of which a relation is lent, or the error.
+pub(crate) fn operand_known(alloc: Global, value: &Result<Held, Stop>) -> Result<Operand<'_>, Fault>
+    ensures { AnswersBy operand_value result (known_value value.now) }
+{
+    match value {
+        Ok(held) => Ok(operand_meant(alloc, lent(held))?),
+        Err(stop) => Err(Fault::Raised(*stop)),
+    }
+}
+
+/// The value, copied, or the error.
+pub(crate) fn value_known(alloc: Global, value: &Result<Held, Stop>) -> Result<Value, Fault>
+    ensures { Answers result (known_value value.now) }
+{
+    match value {
+        Ok(held) => Ok(value_meant(alloc, lent(held))?),
+        Err(stop) => Err(Fault::Raised(*stop)),
+    }
+}
+
+/// The heading of the value, if it is a relation.
+pub(crate) fn heading_known(value: &Result<Held, Stop>) -> Option<&Heading> {
+    match value {
+        Ok(Held::Rows(relation)) => Some(relation.heading()),
+        _ => None,
+    }
+}
+
+/// What is known of the expression, among parts in the order of their expressions.
+pub(crate) fn find<'a>(parts: &'a [Part<'a>], tree: &Typed) -> Option<&'a Result<Held, Stop>>
+    ensures { (env : Environment) → AreRight env parts.now → IfSome result (λ v. (names : Names) → mean_in env tree.now names ≡ known_value v.now) }
+{
+    match parts.binary_search_by(|part| compare(part.tree, tree)) {
+        Ok(at) if compare(parts[at].tree, tree).is_eq() => Some(parts[at].value.get()),
+        _ => None,
+    }
+}
+
+/// Puts a part where its expression belongs.
+pub(crate) fn put<'a>(
+    alloc: Global,
+    parts: &mut Vec<Part<'a>>,
+    tree: &'a Typed,
+    value: Result<Held, Stop>,
+) -> Result<(), AllocError>
+    ensures { (env : Environment) → AreRight env parts.old.items → ((names : Names) → mean_in env tree.now names ≡ known_value value) → OnOk result (AreRight env parts.new.items) }
+{
+    let at = match parts.binary_search_by(|part| compare(part.tree, tree)) {
+        Ok(at) | Err(at) => at,
+    };
+    let value = Shared::new(alloc, value)?;
+    parts.insert(at, Part { tree, value })?;
+    Ok(())
+}
+
+fn copy<'a>(part: &'a Part<'_>) -> Result<Part<'a>, AllocError>
+    ensures { IfOk result (λ p. p ≡ part.now) }
+{
+    let value = part.value.copy()?;
+    Ok(Part {
+        tree: &*part.tree,
+        value,
+    })
+}
+
+/// The same parts, shared.
+pub(crate) fn copied<'a>(alloc: Global, parts: &'a [Part<'_>]) -> Result<Vec<Part<'a>>, AllocError>
+    ensures { IfOk result (λ v. v.items ≡ parts.now) }
+{
+    let mut copies = Vec::with_capacity(alloc, parts.len())?;
+    for part in parts {
+        copies.push(copy(part)?)?;
+    }
+    Ok(copies)
+}

@@ -1,0 +1,43 @@
+//! What is around an expression that is evaluated.
+
+ghost use Rattle.std.specs.Prelude.{◌≡◌, IfSome};
+ghost use Rattle.td_meaning.specs.ForProofs.Right.{AreRight, AreRight-prop, known_value};
+ghost use Rattle.td_meaning.specs.Mean.{Names};
+ghost use Rattle.td_meaning.specs.Seen.{mean_in};
+
+use crate::environment::Environment;
+use crate::parts::{Part, find};
+use crate::scope::Held;
+use td_algebra::Stop;
+use td_trees::tree::Typed;
+
+/// Relvars and selectors, and parts of expressions whose values over them are known, in the order of these.
+#[derive(Clone, Copy)]
+pub(crate) struct Surroundings<'a> {
+    pub env: &'a Environment<'a>,
+    pub parts: &'a [Part<'a>],
+    ghost right: { AreRight env.now parts.now } by { AreRight-prop env.now parts.now },
+}
+
+impl<'a> Surroundings<'a> {
+    /// Where nothing is known.
+    pub(crate) fn of(env: &'a Environment<'a>) -> Surroundings<'a>
+        ensures { result.env.now ≡ env.now }
+    {
+        Surroundings { env, parts: &[] }
+    }
+
+    /// What is known of the expression. What takes no evaluation is not sought.
+    pub(crate) fn known(&self, tree: &Typed) -> Option<&'a Result<Held, Stop>>
+        ensures { IfSome result (λ v. (names : Names) → mean_in self.now.env.now tree.now names ≡ known_value v.now) }
+    {
+        match tree {
+            Typed::Integer(_)
+            | Typed::Text(_)
+            | Typed::Truth(_)
+            | Typed::Local(_)
+            | Typed::Relvar(_) => None,
+            _ => find(self.parts, tree),
+        }
+    }
+}
