@@ -57,6 +57,7 @@ pub enum Shape<'a> {
 }
 
 impl<'a> Lease<'a> {
+    /// A relation that was made to be read.
     pub fn own(relation: Relation) -> Lease<'a>
         ensures { result ≡ relation }
     {
@@ -65,6 +66,7 @@ impl<'a> Lease<'a> {
         }
     }
 
+    /// A relation that stands elsewhere.
     pub fn lent(relation: &'a Relation) -> Lease<'a>
         ensures { result ≡ relation.now }
     {
