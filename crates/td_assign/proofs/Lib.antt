@@ -4,10 +4,10 @@ pub mod Replacing
 pub mod Differing
 pub mod Assigning
 pub mod Preparing
-pub mod TreeReads
 pub mod Footprint
 pub mod Listed
 pub mod Remaking
 pub mod Leading
 pub mod Naming
 pub mod Stepping
+pub mod Growing

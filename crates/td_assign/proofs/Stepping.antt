@@ -64,6 +64,13 @@ module _ (d : DatabaseData) (is : IsDatabase d) where
         relation = subst (GivesRelation c.schema p.relvar.value) means rows;
       }
 
+  -- where nothing is given yet
+  pub alone_belongs : (a : Action) (x : TypedAssignment) → IsAssignment d.catalogue a x → (r : RowsData) → source_means d.catalogue (stored_relvars d.stored) nothing_given x ≡ Ok r → Belongs d.catalogue x.target r
+  alone_belongs a x p r means = source_belongs a x p nothing_given (λ n q is. nothing n q is) r means
+    where
+      nothing : Belonging nothing_given
+      nothing n q is = cc
+
   gives_belongs : (m : ℕ) (r : RowsData) (g : Given) → Belongs d.catalogue m r → Belonging g → Belonging (gives m r g)
   gives_belongs m r g belongs each n q h = by (m == n) refl h
     where

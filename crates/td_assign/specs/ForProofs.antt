@@ -3,3 +3,4 @@ pub mod Lists
 pub mod Given
 pub mod Prepared
 pub mod Names
+pub mod Growth

@@ -11,6 +11,7 @@ ghost use Rattle.td_story.specs.Counts.{one_more};
 ghost use Rattle.td_story.specs.Differences.{AreDifferences};
 ghost use Rattle.td_story.specs.Footprints.{IsInFootprint, IsTargetOfText};
 ghost use Rattle.td_assign.specs.ForProofs.Given.{AreAssigned, AreChanges};
+ghost use Rattle.td_assign.specs.ForProofs.Growth.{IsGrown, IsOneGrowth, IsTried, MayGrow};
 ghost use Rattle.td_assign.specs.ForProofs.Names.{AreNames};
 ghost use Rattle.td_assign.specs.ForProofs.Prepared.{AreAssignedTo, IsJudged, IsPrepared};
 ghost use Rattle.td_assign.specs.ForProofs.Lists.{given_to};
@@ -22,9 +23,9 @@ use crate::deltas::differences;
 use crate::names::{Names, assignments_of, footprint, names_of, no_names};
 use crate::ran::Ran;
 use crate::seen::Replaced;
-use crate::sources::changes;
+use crate::sources::{changes, growth};
 use std::alloc::{AllocError, Global};
-use td_constraints::first_failure;
+use td_constraints::first_failure_after;
 use td_grammar::{ReadError, read_statement};
 use td_headings::{Catalogue, TypedAssignment, TypedStatement, type_statement};
 use td_kinds::error::TypeError;
@@ -63,17 +64,19 @@ fn refusal(failure: TestFailure) -> Outcome
     }
 }
 
-/// What a statement makes of a database that it has not changed yet: changes with the differences that they make, or
-/// the outcome that it has without effect.
+/// What a statement makes of a database that it has not changed yet: changes with the differences that they make, tuples
+/// that a relvar gets, which no test has judged yet, or the outcome that it has without effect.
 #[derive(Drop)]
 pub(crate) enum Prepared {
     Changes(Vec<Change>, Vec<(usize, Delta)>),
+    Growth(usize, Delta),
     Refused(Outcome),
 }
 
 // With these changes made, the tests decide.
 fn judged(alloc: Global, database: &Database, changes: Vec<Change>) -> Result<Prepared, AllocError>
-    requires { AreChanges database.now.catalogue changes.items }
+    requires changes { AreChanges database.now.catalogue changes.items }
+    requires legal { IsLegal database.now }
     ensures { IfOk result (IsJudged database.now changes.items) }
 {
     let catalogue = database.catalogue();
@@ -82,19 +85,20 @@ fn judged(alloc: Global, database: &Database, changes: Vec<Change>) -> Result<Pr
         database,
         changes: &changes,
     };
-    match first_failure(alloc, catalogue, &replaced)? {
+    match first_failure_after(alloc, catalogue, &replaced, &delta)? {
         Some(failure) => Ok(Prepared::Refused(refusal(failure))),
         None => Ok(Prepared::Changes(changes, delta)),
     }
 }
 
-// What the assignments make of the database.
-fn assigned(
+// What the assignments make of the database, each source evaluated whole.
+fn evaluated(
     alloc: Global,
     database: &Database,
     assignments: &[TypedAssignment],
 ) -> Result<Prepared, AllocError>
-    requires { AreAssigned database.now.catalogue assignments.now }
+    requires assigned { AreAssigned database.now.catalogue assignments.now }
+    requires legal { IsLegal database.now }
     ensures { IfOk result (AreAssignedTo database.now assignments.now) }
 {
     match changes(alloc, database, assignments) {
@@ -104,8 +108,27 @@ fn assigned(
     }
 }
 
+// What the assignments make of the database.
+fn assigned(
+    alloc: Global,
+    database: &Database,
+    assignments: &[TypedAssignment],
+) -> Result<Prepared, AllocError>
+    requires assigned { AreAssigned database.now.catalogue assignments.now }
+    requires legal { IsLegal database.now }
+    ensures { IfOk result (AreAssignedTo database.now assignments.now) }
+{
+    match growth(alloc, database, assignments) {
+        Ok(Some((target, delta))) => Ok(Prepared::Growth(target, delta)),
+        Ok(None) => evaluated(alloc, database, assignments),
+        Err(Failure::Raised(raise)) => Ok(Prepared::Refused(Outcome::Raised(raise))),
+        Err(Failure::OutOfMemory) => Err(AllocError),
+    }
+}
+
 // What the text makes of the database, and the relvars that it names.
 fn prepare(alloc: Global, database: &Database, text: &str) -> Result<(Prepared, Names), AllocError>
+    requires { IsLegal database.now }
     ensures prepared { IfOk result (λ p. IsPrepared database.now text.now p.0) }
     ensures names { IfOk result (λ p. AreNames database.now.catalogue text.now p.1) }
 {
@@ -131,16 +154,58 @@ fn put_all(database: &mut Database, changes: Vec<Change>)
     }
 }
 
-fn unchanged(alloc: Global, outcome: Outcome, names: Names) -> Ran
+// Makes the one change, and takes it back where a test fails or memory is wanting for them.
+fn tried(
+    alloc: Global,
+    database: &mut Database,
+    changes: &[(usize, Delta)],
+) -> Result<Option<TestFailure>, AllocError>
+    requires legal { IsLegal database.old }
+    requires one { IsOneGrowth database.old changes.now }
+    ensures { IsTried database.old changes.now result database.new }
+{
+    let (relvar, delta) = &changes[0];
+    database.change(alloc, *relvar, delta)?;
+    let failure = first_failure_after(alloc, database.catalogue(), &*database, changes);
+    if !matches!(failure, Ok(None)) {
+        database.take_back(*relvar, delta);
+    }
+    failure
+}
+
+// Puts the tuples in, and the tests decide whether they stay.
+fn grow(
+    alloc: Global,
+    database: &mut Database,
+    relvar: usize,
+    delta: Delta,
+) -> Result<(Outcome, Vec<(usize, Delta)>), AllocError>
+    requires legal { IsLegal database.old }
+    requires grows { MayGrow database.old relvar delta }
+    ensures grown { IfOk result (λ r. IsGrown database.old relvar delta r.0 r.1.items database.new) }
+    ensures kept { OnErr result (database.new ≡ database.old) }
+{
+    let mut changes = Vec::new(alloc);
+    if delta.is_empty() {
+        return Ok((Outcome::Done, changes));
+    }
+    changes.push((relvar, delta))?;
+    match tried(alloc, database, &changes)? {
+        Some(failure) => Ok((refusal(failure), Vec::new(alloc))),
+        None => Ok((Outcome::Done, changes)),
+    }
+}
+
+fn ran(outcome: Outcome, delta: Vec<(usize, Delta)>, names: Names) -> Ran
     ensures outcome { result.outcome ≡ outcome }
-    ensures delta { result.delta.items ≡ [] }
+    ensures delta { result.delta ≡ delta }
     ensures targets { result.targets ≡ names.targets }
     ensures footprint { result.footprint ≡ names.footprint }
 {
     let Names { targets, footprint } = names;
     Ran {
         outcome,
-        delta: Vec::new(alloc),
+        delta,
         targets,
         footprint,
     }
@@ -162,9 +227,11 @@ pub fn footprint_of(
 }
 
 /// Runs the statement over relvars of which every test is true: its text is read and typed once, each source is
-/// evaluated once, the differences are made and then every test, and the relvars change where all are true. Which
-/// relvars it names is found out before, by the typed statement. A refusal for want of memory leaves the database; the
-/// meter has counted then.
+/// evaluated once, the differences are made and then the tests that read a relvar which differs, and the relvars change
+/// where all are true. Where one assignment alone adds tuples to its target, these are put in where it stands, and taken
+/// out again where a test fails: so it costs those tuples, a search for each, and the tests. Which relvars it names is
+/// found out before, by the typed statement. A refusal for want of memory leaves the database; the meter has counted
+/// then.
 #[tactic(auto, using(crate::proofs::Preparing::no_differences))]
 pub fn run(
     alloc: Global,
@@ -186,14 +253,12 @@ pub fn run(
     match prepared {
         Prepared::Changes(changes, delta) => {
             put_all(database, changes);
-            let Names { targets, footprint } = names;
-            Ok(Ran {
-                outcome: Outcome::Done,
-                delta,
-                targets,
-                footprint,
-            })
+            Ok(ran(Outcome::Done, delta, names))
         }
-        Prepared::Refused(outcome) => Ok(unchanged(alloc, outcome, names)),
+        Prepared::Growth(relvar, delta) => {
+            let (outcome, delta) = grow(alloc, database, relvar, delta)?;
+            Ok(ran(outcome, delta, names))
+        }
+        Prepared::Refused(outcome) => Ok(ran(outcome, Vec::new(alloc), names)),
     }
 }

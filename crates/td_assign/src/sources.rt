@@ -1,18 +1,19 @@
 //! The sources of a multiple assignment.
 
-ghost use Rattle.std.specs.Prelude.{IfOk, OnOk};
+ghost use Rattle.std.specs.Prelude.{◌≡◌, IfOk, OnOk};
 ghost use Rattle.td_story.specs.Raises.{Tells};
 ghost use Rattle.td_story.specs.Databases.{Belongs, stored_relvars};
 ghost use Rattle.td_assign.specs.ForProofs.Given.{AreAssigned, AreChanges, GivesMore, IsAssigned, TellsChanges};
+ghost use Rattle.td_assign.specs.ForProofs.Growth.{Adds, IsGrowth, TellsAddition, TellsGrowth};
 ghost use Rattle.td_assign.specs.ForProofs.Lists.{given_to};
 ghost use Rattle.td_story.specs.Given.{nothing_given};
 ghost use Rattle.td_story.specs.Sources.{source_means, sources};
 
 use crate::changes::{Change, give};
 use crate::seen::Seen;
-use std::alloc::Global;
+use std::alloc::{AllocError, Global};
 use td_headings::TypedAssignment;
-use td_relations::Relation;
+use td_relations::{Delta, Relation, minus};
 use td_relvars::Database;
 use td_story::Failure;
 
@@ -77,4 +78,64 @@ pub(crate) fn changes(
         }
     }
     Ok(changes)
+}
+
+// What the source adds to its target, if it is the target united with more.
+fn addition(
+    alloc: Global,
+    database: &Database,
+    assignment: &TypedAssignment,
+) -> Result<Option<Relation>, Failure>
+    requires { IsAssigned database.now.catalogue assignment.now }
+    ensures { TellsAddition database.now assignment.now result }
+{
+    let catalogue = database.catalogue();
+    td_eval::added(alloc, catalogue, &assignment.source, database, assignment.target)
+}
+
+// The change that puts in what the target lacks of these tuples.
+fn growth_by(
+    alloc: Global,
+    database: &Database,
+    target: usize,
+    more: &Relation,
+) -> Result<Delta, AllocError>
+    requires { Adds database.now target more.now }
+    ensures { IfOk result (IsGrowth database.now target more.now) }
+{
+    match database.base_at(target) {
+        Some(base) => {
+            let before = base.relation();
+            let inserted = minus(alloc, more, before)?;
+            before.rows_fit();
+            inserted.rows_fit();
+            let deleted = Relation::empty(alloc, more.heading().copy()?);
+            Ok(Delta::of(inserted, deleted))
+        }
+        None => unreachable!(),
+    }
+}
+
+/// The target of an assignment that stands alone and whose source is the target united with more, and the change that
+/// puts in what the target lacks of that. It costs the evaluation of what is united with the target, and a search for
+/// each of its tuples.
+pub(crate) fn growth(
+    alloc: Global,
+    database: &Database,
+    assignments: &[TypedAssignment],
+) -> Result<Option<(usize, Delta)>, Failure>
+    requires { AreAssigned database.now.catalogue assignments.now }
+    ensures { TellsGrowth database.now assignments.now result }
+{
+    let [assignment] = assignments else {
+        return Ok(None);
+    };
+    match addition(alloc, database, assignment) {
+        Ok(Some(more)) => {
+            let delta = growth_by(alloc, database, assignment.target, &more)?;
+            Ok(Some((assignment.target, delta)))
+        }
+        Ok(None) => Ok(None),
+        Err(failure) => Err(failure),
+    }
 }

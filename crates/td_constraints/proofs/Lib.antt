@@ -4,3 +4,5 @@ pub mod Tested
 pub mod Judged
 pub mod Apart
 pub mod Legal
+pub mod TreeReads
+pub mod After

@@ -1,3 +1,4 @@
 -- The definitions of the crate.
+pub mod Changes
 pub mod Laws
 pub mod ForProofs

@@ -1,9 +1,17 @@
 //! The tests of a script, judged over relvars that are looked up.
 
-ghost use Rattle.std.specs.Prelude.{◌≡◌, IfOk, None, Ok, Some, option_map};
+ghost use Rattle.std.specs.Prelude.{◌≡◌, ◌↔◌, ℕ, IfOk, false, IsTrue, MatchOption, None, Ok, Some, option_map};
+ghost use Rattle.std.specs.List.{Contains};
+ghost use Rattle.td_values.specs.Data.{no_attrs};
+ghost use Rattle.td_values.specs.declared.TypeKind.TheVariants as type_kind;
 ghost use Rattle.td_algebra.specs.Raising.{and_then};
+ghost use Rattle.td_operators.specs.Values.{truth_of};
 ghost use Rattle.td_headings.specs.Definitions.{Defined};
+ghost use Rattle.td_headings.specs.Expressions as expressions;
 ghost use Rattle.td_story.specs.Raises.{Tells, stop_of};
+ghost use Rattle.td_story.specs.Trees.{AreBases, IsIn, tree_means};
+ghost use Rattle.td_constraints.specs.Changes.{PassedBefore};
+ghost use Rattle.td_constraints.specs.ForProofs.Changed.{ConstraintBefore, TellApartFrom, IsChanged, KeyBefore, KeyOf, TellsChange};
 ghost use Rattle.td_constraints.specs.ForProofs.Tested.{HasRelation, HasRelvar, StandsAt};
 ghost use Rattle.td_story.specs.Reports.{IsReport, title};
 ghost use Rattle.td_story.specs.Stored.{AreStored};
@@ -13,8 +21,8 @@ ghost use Rattle.td_story.specs.Tests.{failing, judgement, or_behind};
 use std::alloc::{AllocError, Global};
 use td_algebra::tell_apart;
 use td_eval::{Lookup, truth};
-use td_headings::{Catalogue, Test, constraint_expr};
-use td_relations::Relation;
+use td_headings::{Catalogue, Test, TypedExpr, constraint_expr, reads};
+use td_relations::{Delta, Relation};
 use td_story::{BrokenTest, Failure, TestFailure};
 use td_values::{Name, Raise};
 
@@ -37,17 +45,113 @@ fn stored<L: Lookup>(lookup: &L, relvar: usize) -> &Relation
     }
 }
 
+// How the relvar was changed, if it was.
+fn change_of(changes: &[(usize, Delta)], relvar: usize) -> Option<&Delta>
+    ensures { TellsChange changes.now relvar result }
+{
+    for (place, delta) in changes {
+        if *place == relvar {
+            return Some(delta);
+        }
+    }
+    None
+}
+
+fn is_changed(changes: &[(usize, Delta)], relvar: usize) -> bool
+    ensures { IsTrue result ↔ IsChanged changes.now relvar }
+{
+    changes.iter().any(|change| change.0 == relvar)
+}
+
+fn is_any_changed(changes: &[(usize, Delta)], relvars: &[usize]) -> bool
+    ensures { IsTrue result ↔ ((n : ℕ) × Contains relvars.now n × IsChanged changes.now n) }
+{
+    relvars.iter().any(|relvar| is_changed(changes, *relvar))
+}
+
+// STUB
+fn tell_apart_from(alloc: Global, inserted: &Relation, after: &Relation, names: &[Name]) -> Result<bool, AllocError>
+    requires { inserted.now.heading ≡ after.now.heading }
+    ensures { IfOk result (λ b. IsTrue b ↔ TellApartFrom names.now inserted.now after.now) }
+{
+    Err(AllocError)
+}
+
+// Whether no two tuples agree on the key's attributes, where none did before the changes: so the tuples that were put
+// in are held against all, and the others against none.
+fn is_key_after(
+    alloc: Global,
+    changes: &[(usize, Delta)],
+    relvar: usize,
+    relation: &Relation,
+    key: &[Name],
+) -> Result<bool, AllocError>
+    requires { KeyOf changes.now relvar key.now relation.now }
+    ensures { IfOk result (λ b. b ≡ spec.is_key key.now relation.now.tuples) }
+{
+    match change_of(changes, relvar) {
+        Some(delta) => tell_apart_from(alloc, delta.inserted(), relation, key),
+        None => Ok(true),
+    }
+}
+
 // Whether no two tuples of the relvar agree on the key's attributes.
 fn judge_key<L: Lookup>(
     alloc: Global,
     lookup: &L,
+    changes: Option<&[(usize, Delta)]>,
     relvar: usize,
     key: &[Name],
 ) -> Result<bool, AllocError>
-    requires { HasRelation (L.relvars lookup.now relvar) }
+    requires relation { HasRelation (L.relvars lookup.now relvar) }
+    requires before { MatchOption changes (Unit {0}) (λ cs. KeyBefore (L.relvars lookup.now) cs.now relvar key.now) }
     ensures { IfOk result (λ b. and_then (L.relvars lookup.now relvar) (λ r. Ok (spec.is_key key.now r.tuples)) ≡ Ok b) }
 {
-    is_key(alloc, stored(lookup, relvar), key)
+    let relation = stored(lookup, relvar);
+    match changes {
+        Some(changes) => is_key_after(alloc, changes, relvar, relation, key),
+        None => is_key(alloc, relation, key),
+    }
+}
+
+// Whether the expression reads a relvar that was changed, as far as changes are known.
+fn may_differ(
+    alloc: Global,
+    changes: Option<&[(usize, Delta)]>,
+    expr: &TypedExpr,
+) -> Result<bool, AllocError>
+    ensures { IfOk result (λ b. b ≡ false → MatchOption changes ⊥ (λ cs. (n : ℕ) → Contains (expressions.reads expr.now) n → IsChanged cs.now n → ⊥)) }
+{
+    match changes {
+        Some(changes) => {
+            let relvars = reads(alloc, expr)?;
+            Ok(is_any_changed(changes, &relvars))
+        }
+        None => Ok(true),
+    }
+}
+
+// Whether the constraint is true, or the error that it raises. It was true before the changes, so it is where it reads
+// nothing that was changed.
+fn judge_constraint<L: Lookup>(
+    alloc: Global,
+    catalogue: &Catalogue,
+    lookup: &L,
+    changes: Option<&[(usize, Delta)]>,
+    expr: &TypedExpr,
+) -> Result<bool, Failure>
+    requires expr { IsIn catalogue.now expr.now }
+    requires kind { expr.now.kind ≡ type_kind.Boolean }
+    requires bases { AreBases catalogue.now (L.relvars lookup.now) }
+    requires before { MatchOption changes (Unit {0}) (λ cs. ConstraintBefore catalogue.now (L.relvars lookup.now) cs.now expr.now) }
+    ensures { Tells result (and_then (tree_means catalogue.now (L.relvars lookup.now) expr.now.tree no_attrs) truth_of) }
+{
+    if may_differ(alloc, changes, expr)? {
+        truth(alloc, catalogue, expr, lookup)
+    } else {
+        catalogue.was_defined();
+        Ok(true)
+    }
 }
 
 // Whether the test at this place is true, or the error that it raises.
@@ -55,21 +159,25 @@ fn judge<L: Lookup>(
     alloc: Global,
     catalogue: &Catalogue,
     lookup: &L,
+    changes: Option<&[(usize, Delta)]>,
     place: usize,
     test: &Test,
 ) -> Result<bool, Failure>
     requires defined { Defined catalogue.now }
     requires stored { AreStored catalogue.now (L.relvars lookup.now) }
+    requires before { MatchOption changes (Unit {0}) (λ cs. PassedBefore catalogue.now (L.relvars lookup.now) cs.now) }
     requires test { StandsAt catalogue.now place test.now }
     ensures { Tells result (judgement catalogue.now (L.relvars lookup.now) test.now) }
 {
     match test {
-        Test::Key(relvar, key) => match judge_key(alloc, lookup, *relvar, key.as_slice()) {
-            Ok(holds) => Ok(holds),
-            Err(_) => Err(Failure::OutOfMemory),
-        },
+        Test::Key(relvar, key) => {
+            match judge_key(alloc, lookup, changes, *relvar, key.as_slice()) {
+                Ok(holds) => Ok(holds),
+                Err(_) => Err(Failure::OutOfMemory),
+            }
+        }
         Test::Constraint(_, _) => match constraint_expr(alloc, catalogue, place) {
-            Ok(Some(expr)) => truth(alloc, catalogue, &expr, lookup),
+            Ok(Some(expr)) => judge_constraint(alloc, catalogue, lookup, changes, &expr),
             Ok(None) => unreachable!(),
             Err(_) => Err(Failure::OutOfMemory),
         },
@@ -107,20 +215,49 @@ fn failure_at<L: Lookup>(
     alloc: Global,
     catalogue: &Catalogue,
     lookup: &L,
+    changes: Option<&[(usize, Delta)]>,
     place: usize,
     test: &Test,
 ) -> Result<Option<TestFailure>, AllocError>
     requires defined { Defined catalogue.now }
     requires stored { AreStored catalogue.now (L.relvars lookup.now) }
+    requires before { MatchOption changes (Unit {0}) (λ cs. PassedBefore catalogue.now (L.relvars lookup.now) cs.now) }
     requires test { StandsAt catalogue.now place test.now }
     ensures { IfOk result (IsReport catalogue.now (or_behind test.now (judgement catalogue.now (L.relvars lookup.now) test.now) None)) }
 {
-    match judge(alloc, catalogue, lookup, place, test) {
+    match judge(alloc, catalogue, lookup, changes, place, test) {
         Ok(true) => Ok(None),
         Ok(false) => report(catalogue, test, None),
         Err(Failure::Raised(error)) => report(catalogue, test, Some(error)),
         Err(Failure::OutOfMemory) => Err(AllocError),
     }
+}
+
+// The first test, in the order of the script, that is false or raises.
+fn first_of_all<L: Lookup>(
+    alloc: Global,
+    catalogue: &Catalogue,
+    lookup: &L,
+    changes: Option<&[(usize, Delta)]>,
+) -> Result<Option<TestFailure>, AllocError>
+    requires stored { AreStored catalogue.now (L.relvars lookup.now) }
+    requires before { MatchOption changes (Unit {0}) (λ cs. PassedBefore catalogue.now (L.relvars lookup.now) cs.now) }
+    ensures { IfOk result (IsReport catalogue.now (failing catalogue.now (L.relvars lookup.now) catalogue.now.tests)) }
+{
+    let tests = catalogue.tests();
+    for place in 0..tests.len() {
+        if let Some(failure) = failure_at(
+            alloc,
+            catalogue,
+            lookup,
+            changes,
+            place,
+            &tests[place],
+        )? {
+            return Ok(Some(failure));
+        }
+    }
+    Ok(None)
 }
 
 /// The first test, in the order of the script, that is false or raises. A key of n tuples costs what `tell_apart` of
@@ -133,11 +270,21 @@ pub fn first_failure<L: Lookup>(
     requires { AreStored catalogue.now (L.relvars lookup.now) }
     ensures { IfOk result (IsReport catalogue.now (failing catalogue.now (L.relvars lookup.now) catalogue.now.tests)) }
 {
-    let tests = catalogue.tests();
-    for place in 0..tests.len() {
-        if let Some(failure) = failure_at(alloc, catalogue, lookup, place, &tests[place])? {
-            return Ok(Some(failure));
-        }
-    }
-    Ok(None)
+    first_of_all(alloc, catalogue, lookup, None)
+}
+
+/// The same, after these changes of relvars of which every test was true: it makes only the tests that read a relvar
+/// which was changed. A key costs what `tell_apart_from` of td_algebra does, for the tuples that were put in; a
+/// constraint costs its evaluation.
+pub fn first_failure_after<L: Lookup>(
+    alloc: Global,
+    catalogue: &Catalogue,
+    lookup: &L,
+    changes: &[(usize, Delta)],
+) -> Result<Option<TestFailure>, AllocError>
+    requires stored { AreStored catalogue.now (L.relvars lookup.now) }
+    requires before { PassedBefore catalogue.now (L.relvars lookup.now) changes.now }
+    ensures { IfOk result (IsReport catalogue.now (failing catalogue.now (L.relvars lookup.now) catalogue.now.tests)) }
+{
+    first_of_all(alloc, catalogue, lookup, Some(changes))
 }

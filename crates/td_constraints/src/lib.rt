@@ -4,4 +4,4 @@
 mod judging;
 pub mod laws;
 
-pub use judging::first_failure;
+pub use judging::{first_failure, first_failure_after};

@@ -210,10 +210,13 @@ module _ (c : CatalogueData) (defined : Defined c) (x : Expression) (tree : IsTr
     same = λ n h f. base_found r x.bases n ((those.members n).1 ((u.reached.members n).0 h, f h));
   }
 
-  pub known_means : (r : Relvars) → mean (relvars_at (all_known x r)) selected x.tree ≡ mean (with_virtuals selected x.virtuals r) selected x.tree
-  known_means r = named_agree (relvars_at (all_known x r)) (with_virtuals selected x.virtuals r) selected x.tree (λ w h.
+  pub known_relvar : (r : Relvars) (w : ℕ) → Contains all_places w → relvars_at (all_known x r) w ≡ with_virtuals selected x.virtuals r w
+  known_relvar r w h =
       subst (λ vs. relvars_at (virtuals_known selected vs (bases_known r x.bases)) w ≡ with_virtuals selected vs r w) (sym u.virtuals)
-      (known_same all_places u.reached.ascending (λ n p. p) (bases_known r x.bases) r (begins r) w (tree_names w h)))
+      (known_same all_places u.reached.ascending (λ n p. p) (bases_known r x.bases) r (begins r) w h)
+
+  pub known_means : (r : Relvars) → mean (relvars_at (all_known x r)) selected x.tree ≡ mean (with_virtuals selected x.virtuals r) selected x.tree
+  known_means r = named_agree (relvars_at (all_known x r)) (with_virtuals selected x.virtuals r) selected x.tree (λ w h. known_relvar r w (tree_names w h))
 
 pub as_known : (x : Expression) → IsTyped x → (r : Relvars) → mean (relvars_at (all_known x r)) (selection x.selectors) x.tree ≡ mean (with_virtuals (selection x.selectors) x.virtuals r) (selection x.selectors) x.tree
 as_known x typed r = known_means typed.catalogue typed.defined x typed.tree typed.under r
@@ -231,14 +234,25 @@ next_virtual s [] i v ks lt is = absurd (omega (arith, lt))
 next_virtual s (w ∷ vs) zero v ks lt is = ap (λ u. virtuals_known s vs (one_more s ks u)) (sym is)
 next_virtual s (w ∷ vs) (suc i) v ks lt is = next_virtual s vs i v ks (omega (arith, lt)) is
 
-module _ (x y : Expression) (typed : IsTyped x) (same : y ≡ x) (r : Relvars) (t : Attrs) (ss : List Selector) (bs : List BaseUnder) (vs : List VirtualUnder) (ks js ds : List Known) (u : Typed) where
-  pub evaluated : (w : Result Datum Fault) → ss ≡ y.selectors → bs ≡ y.bases → ks ≡ bases_known r bs → vs ≡ y.virtuals → js ≡ virtuals_known (selection ss) vs ks → ds ≡ js → u ≡ y.tree → Answers w (mean (relvars_at ds) (selection ss) u (within t no_names)) → Answers w (means x r t)
-  evaluated w s_is b_is k_is v_is j_is d_is u_is h =
-      let ss_is : ss ≡ x.selectors = s_is ∙ ap (λ (e : Expression). e.selectors) same in
-      let bs_is : bs ≡ x.bases = b_is ∙ ap (λ (e : Expression). e.bases) same in
+module _ (x y : Expression) (same : y ≡ x) (r : Relvars) (ss : List Selector) (bs : List BaseUnder) (vs : List VirtualUnder) (ks js ds : List Known) (s_is : ss ≡ y.selectors) (b_is : bs ≡ y.bases) (k_is : ks ≡ bases_known r bs) (v_is : vs ≡ y.virtuals) (j_is : js ≡ virtuals_known (selection ss) vs ks) (d_is : ds ≡ js) where
+  selectors_are : ss ≡ x.selectors
+  selectors_are = s_is ∙ ap (λ (e : Expression). e.selectors) same
+
+  all_are : ds ≡ all_known x r
+  all_are =
       let vs_is : vs ≡ x.virtuals = v_is ∙ ap (λ (e : Expression). e.virtuals) same in
-      let tree_is : u ≡ x.tree = u_is ∙ ap (λ (e : Expression). e.tree) same in
-      let ks_is : ks ≡ bases_known r x.bases = k_is ∙ ap (bases_known r) bs_is in
-      let all : ds ≡ all_known x r = d_is ∙ j_is ∙ (λ i. virtuals_known (selection (ss_is i)) (vs_is i) (ks_is i)) in
-      let known : mean (relvars_at ds) (selection ss) u ≡ mean (relvars_at (all_known x r)) (selection x.selectors) x.tree = (λ i. mean (relvars_at (all i)) (selection (ss_is i)) (tree_is i)) in
-      subst (Answers w) (ap (λ (m : Meaning). m (within t no_names)) (known ∙ as_known x typed r)) h
+      let ks_is : ks ≡ bases_known r x.bases = k_is ∙ ap (bases_known r) (b_is ∙ ap (λ (e : Expression). e.bases) same) in
+      d_is ∙ j_is ∙ (λ i. virtuals_known (selection (selectors_are i)) (vs_is i) (ks_is i))
+
+  -- a part of the tree
+  pub part_known : (v : Typed) → mean (relvars_at ds) (selection ss) v ≡ mean (relvars_at (all_known x r)) (selection x.selectors) v
+  part_known v = λ i. mean (relvars_at (all_are i)) (selection (selectors_are i)) v
+
+  pub part_evaluated : (w : Result RowsData Fault) (v : Typed) → Answers w (rows_in (mean (relvars_at ds) (selection ss) v) no_names) → Answers w (rows_in (mean (relvars_at (all_known x r)) (selection x.selectors) v) no_names)
+  part_evaluated w v h = subst (λ (m : Meaning). Answers w (rows_in m no_names)) (part_known v) h
+
+pub evaluated : (x y : Expression) (typed : IsTyped x) (same : y ≡ x) (r : Relvars) (t : Attrs) (ss : List Selector) (bs : List BaseUnder) (vs : List VirtualUnder) (ks js ds : List Known) (u : Typed) (w : Result Datum Fault) → ss ≡ y.selectors → bs ≡ y.bases → ks ≡ bases_known r bs → vs ≡ y.virtuals → js ≡ virtuals_known (selection ss) vs ks → ds ≡ js → u ≡ y.tree → Answers w (mean (relvars_at ds) (selection ss) u (within t no_names)) → Answers w (means x r t)
+evaluated x y typed same r t ss bs vs ks js ds u w s_is b_is k_is v_is j_is d_is u_is h =
+    let tree_is : u ≡ x.tree = u_is ∙ ap (λ (e : Expression). e.tree) same in
+    let known = part_known x y same r ss bs vs ks js ds s_is b_is k_is v_is j_is d_is u ∙ ap (mean (relvars_at (all_known x r)) (selection x.selectors)) tree_is in
+    subst (Answers w) (ap (λ (m : Meaning). m (within t no_names)) (known ∙ as_known x typed r)) h

@@ -9,3 +9,4 @@ pub mod OfTypes
 pub mod TypeNames
 pub mod HasValues
 pub mod Told
+pub mod United

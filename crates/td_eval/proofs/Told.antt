@@ -22,7 +22,7 @@ use Rattle.td_story.specs.Trees.{AreBases, IsIn, tree_means}
 use Rattle.td_eval.proofs.AllThere.{means_its_tree}
 use Rattle.td_eval.proofs.HasValues.{trees_have_values}
 
-none_fits : Fits no_tuple no_attrs
+pub none_fits : Fits no_tuple no_attrs
 none_fits = sym (ap fields_of (entries-from_entries [] tt))
 
 -- ---- what evaluation answers

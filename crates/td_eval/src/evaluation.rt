@@ -48,7 +48,7 @@ fn known_base<'a, L: Lookup>(lookup: &'a L, base: &BaseUnder) -> Known<'a>
 }
 
 // Each base relvar is looked up once, and lent.
-fn known_bases<'a, L: Lookup>(
+pub(crate) fn known_bases<'a, L: Lookup>(
     alloc: Global,
     lookup: &'a L,
     bases: &[BaseUnder],
@@ -72,7 +72,7 @@ fn relation_of(value: Value) -> Result<Relation, Fault>
 }
 
 #[tactic(auto, unfolding(td_meaning::specs::Mean::rows_in))]
-fn rows(alloc: Global, env: &Environment, tree: &Typed) -> Result<Relation, Fault>
+pub(crate) fn rows(alloc: Global, env: &Environment, tree: &Typed) -> Result<Relation, Fault>
     ensures { Answers result (rows_in (mean_in env.now tree.now) no_names) }
 {
     relation_of(td_meaning::eval(alloc, env, tree, &Scope::Nothing)?)
@@ -95,7 +95,7 @@ fn known_virtual<'a>(
 }
 
 // Each virtual relvar is evaluated once, over those before it. What it raises is kept: it may not be needed.
-fn add_virtuals<'a>(
+pub(crate) fn add_virtuals<'a>(
     alloc: Global,
     known: &mut Vec<Known<'a>>,
     selectors: &[Selector],

@@ -1,11 +1,13 @@
 //! Evaluation of typed expressions: their values, or the errors that they raise.
 #![tactic(auto)]
 
+mod addition;
 mod evaluation;
 pub mod laws;
 pub mod lookup;
 pub mod valued;
 
+pub use addition::added;
 pub use evaluation::eval;
 pub use lookup::Lookup;
 pub use valued::{relation, truth, value};

@@ -19,7 +19,7 @@ use td_story::Failure;
 use td_values::{Heading, Kind, Raise, Tuple, Value};
 
 // The error of the language that stopped evaluation.
-fn raise_of(stop: Stop) -> Raise
+pub(crate) fn raise_of(stop: Stop) -> Raise
     requires { IsError stop }
     ensures { stop_of result ≡ stop }
 {

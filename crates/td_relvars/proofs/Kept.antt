@@ -59,7 +59,7 @@ IsOf c stored = IsDatabase (record { catalogue = c; stored = stored })
 module _
     (c : CatalogueData) (stored : Stored) (n : ℕ) (d : DeltaData)
     (is : IsOf c stored) (can : CanChange (record { catalogue = c; stored = stored }) n d) where
-  changed_is : IsOf c (change n d stored)
+  pub changed_is : IsOf c (change n d stored)
   changed_is =
       let put_it = put_is c stored is n (changed can.before d) can.belongs in
       subst (IsOf c) (sym (change_put n d stored can.before can.has)) put_it

@@ -2,7 +2,7 @@
 
 ghost use Rattle.std.specs.Prelude.{◌≡◌, IfOk, OnErr, OnOk};
 ghost use Rattle.std.specs.FinSet as set;
-ghost use Rattle.td_relations.specs.Sets.{body};
+ghost use Rattle.td_relations.specs.Sets.{IsRelation, body, tuple_set};
 ghost use Rattle.td_relations.specs.Deltas.{inverse_of};
 ghost use Rattle.td_relvars.specs.Changed.{changed};
 
@@ -10,6 +10,16 @@ use std::alloc::{AllocError, Global};
 use std::marker::Model;
 use td_relations::{Delta, Relation};
 use td_values::Tuple;
+
+// Takes these tuples out.
+fn take_out(relation: &mut Relation, tuples: &[Tuple])
+    ensures { IsRelation relation.old.heading (set.difference (body relation.old) (tuple_set tuples.now)) relation.new }
+{
+    relation.rows_fit();
+    for tuple in tuples {
+        relation.remove(tuple);
+    }
+}
 
 /// What a base relvar has.
 #[derive(Drop)]
@@ -85,5 +95,13 @@ impl Base {
     {
         delta.headings_agree();
         delta.undo(alloc, &mut self.relation)
+    }
+
+    /// Makes the inverse of a change that took nothing out. It takes no memory.
+    pub(crate) fn take_back(&mut self, delta: &Delta)
+        requires { body delta.now.deleted ≡ set.empty }
+        ensures { self.new ≡ changed self.old (inverse_of delta.now) }
+    {
+        take_out(&mut self.relation, delta.inserted().tuples());
     }
 }

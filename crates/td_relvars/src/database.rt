@@ -3,7 +3,7 @@
 ghost use Rattle.std.specs.Prelude.{◌≡◌, ◌<◌, IfOk, OnErr, OnOk, length, slice_get, slice_set};
 ghost use Rattle.std.specs.Option.{option_copied};
 ghost use Rattle.std.specs.FinSet as set;
-ghost use Rattle.td_relations.specs.Sets.{relation_of};
+ghost use Rattle.td_relations.specs.Sets.{body, relation_of};
 ghost use Rattle.td_relations.specs.Deltas.{inverse_of};
 ghost use Rattle.td_headings.specs.Definitions.{Defined};
 ghost use Rattle.td_story.specs.Databases as spec;
@@ -135,6 +135,18 @@ fn change_back_at(
     }
 }
 
+// The same of a change that took nothing out.
+fn take_back_at(stored: &mut Vec<Option<Base>>, relvar: usize, delta: &Delta)
+    requires there { HasOf stored.old.items relvar delta.now.deleted.heading }
+    requires growth { body delta.now.deleted ≡ set.empty }
+    ensures { stored.new.items ≡ changes.change relvar (inverse_of delta.now) stored.old.items }
+{
+    match &mut stored[relvar] {
+        Some(base) => base.take_back(delta),
+        None => unreachable!(),
+    }
+}
+
 impl Database {
     /// One whose base relvars are empty.
     pub(crate) fn empty(alloc: Global, catalogue: Catalogue) -> Result<Database, AllocError>
@@ -219,5 +231,15 @@ impl Database {
         ensures err { OnErr result (self.new ≡ self.old) }
     {
         change_back_at(alloc, &mut self.stored, relvar, delta)
+    }
+
+    /// Makes the inverse of a change that took nothing out. It takes no memory, and costs a search and a shift for each
+    /// tuple that was put in.
+    pub fn take_back(&mut self, relvar: usize, delta: &Delta)
+        requires change { CanChange self.old relvar (inverse_of delta.now) }
+        requires growth { body delta.now.deleted ≡ set.empty }
+        ensures { self.new ≡ with_change relvar (inverse_of delta.now) self.old }
+    {
+        take_back_at(&mut self.stored, relvar, delta);
     }
 }

@@ -12,8 +12,9 @@ use Rattle.td_headings.specs.declared.statement.TypedAssignment.{TypedAssignment
 use Rattle.td_story.specs.Raises.{stop_of}
 use Rattle.td_story.specs.declared.failure.Failure.{Failure}
 use Rattle.td_story.specs.declared.failure.Failure.TheVariants.{Raised, OutOfMemory}
-use Rattle.td_story.specs.Databases.{Belongs}
-use Rattle.td_story.specs.Given.{Given}
+use Rattle.td_story.specs.Databases.{Belongs, DatabaseData, stored_relvars}
+use Rattle.td_story.specs.Given.{Given, nothing_given}
+use Rattle.td_story.specs.Sources.{sources}
 use Rattle.td_assign.specs.ForProofs.Lists.{given, given_to}
 use Rattle.td_assign.specs.declared.changes.Change.{Change}
 
@@ -23,6 +24,10 @@ IsAssigned c x = (a : Action) × IsAssignment c a x
 
 abbrev pub AreAssigned : CatalogueData → List TypedAssignment → Type 0
 AreAssigned c xs = All (IsAssigned c) xs
+
+-- what the assignments give to their targets
+abbrev pub assigned_by : DatabaseData → List TypedAssignment → Result Given Stop
+assigned_by d xs = sources d.catalogue (stored_relvars d.stored) nothing_given xs
 
 -- it is of this target
 abbrev pub is_target : ℕ → Change → Bool

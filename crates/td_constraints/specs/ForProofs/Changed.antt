@@ -1,0 +1,50 @@
+-- What is known of one test of relvars that were changed.
+use Rattle.std.specs.Prelude.{◌≡◌, ℕ, true, List, MatchOption, Option, Ok}
+use Rattle.std.specs.List.{Contains}
+use Rattle.std.specs.Borrow.{Bor}
+use Rattle.td_values.specs.Data.{Attrs, no_attrs}
+use Rattle.td_values.specs.Rows.{RowsData}
+use Rattle.td_relations.specs.Deltas.{DeltaData, IsDifference}
+use Rattle.td_relations.specs.Sets.{Has}
+use Rattle.td_tuples.specs.Parts.{cut}
+use Rattle.td_trees.specs.declared.expression.Expression.{Expression}
+use Rattle.td_algebra.specs.Raising.{and_then}
+use Rattle.td_operators.specs.Values.{truth_of}
+use Rattle.td_headings.specs.Catalogues.{CatalogueData}
+use Rattle.td_meaning.specs.Mean.{Relvars}
+use Rattle.td_story.specs.Differences.{AreDifferences, Differs}
+use Rattle.td_story.specs.Tests.{is_key}
+use Rattle.td_story.specs.Trees.{tree_means}
+
+abbrev pub Changes : Type 0
+Changes = List (ℕ × DeltaData)
+
+-- the relvar is among those that were changed
+abbrev pub IsChanged : Changes → ℕ → Type 0
+IsChanged changes n = (d : DeltaData) × Contains changes (n, d)
+
+-- its change, or none where it was not changed
+abbrev pub TellsChange : Changes → ℕ → Option (Bor DeltaData) → Type 0
+TellsChange changes n o = MatchOption o (IsChanged changes n → ⊥) (λ d. Contains changes (n, d.now))
+
+-- the test of the key was true of the relvar before
+pub record KeyBefore (now : Relvars) (changes : Changes) (n : ℕ) (key : List (List ℕ)) : Type 0 where
+  pub before : Relvars
+  pub held : and_then (before n) (λ r. Ok (is_key key r.tuples)) ≡ Ok true
+  pub differences : AreDifferences before now changes
+
+-- the same, told of the relation that the relvar has now
+pub record KeyOf (changes : Changes) (n : ℕ) (key : List (List ℕ)) (r : RowsData) : Type 0 where
+  pub now : Relvars
+  pub is : now n ≡ Ok r
+  pub known : KeyBefore now changes n key
+
+-- the constraint was true before
+pub record ConstraintBefore (c : CatalogueData) (now : Relvars) (changes : Changes) (x : Expression) : Type 0 where
+  pub before : Relvars
+  pub held : and_then (tree_means c before x.tree no_attrs) truth_of ≡ Ok true
+  pub differences : AreDifferences before now changes
+
+-- STUB
+abbrev pub TellApartFrom : List (List ℕ) → RowsData → RowsData → Type 0
+TellApartFrom names i r = (t u : Attrs) → Has i t → Has r u → cut names t ≡ cut names u → t ≡ u

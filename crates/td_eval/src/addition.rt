@@ -1,0 +1,100 @@
+//! What an expression adds to a relvar.
+
+ghost use Rattle.std.specs.Prelude.{◌≡◌, true, IsTrue, MatchOption, Ok, slice_get};
+ghost use Rattle.td_values.specs.Data.{no_attrs};
+ghost use Rattle.td_values.specs.Rows.{RowsData};
+ghost use Rattle.td_algebra.specs.Raising.{Answers, and_then};
+ghost use Rattle.td_headings.specs.Reached.{is_base};
+ghost use Rattle.td_meaning.specs.Mean.{mean, rows_in};
+ghost use Rattle.td_meaning.specs.Seen.{relvars_at};
+ghost use Rattle.td_meaning.specs.Selections.{selection};
+ghost use Rattle.td_operators.specs.Values as spec;
+ghost use Rattle.td_syntax.specs.declared.tree.BinaryOperator.TheVariants as binary;
+ghost use Rattle.td_trees.specs.declared.tree.Typed.TheVariants as typed;
+ghost use Rattle.td_story.specs.Meanings.{no_names};
+ghost use Rattle.td_story.specs.Trees.{AreBases, IsIn, tree_means};
+ghost use Rattle.td_eval.specs.Added.{TellsAdded};
+ghost use Rattle.td_eval.specs.ForProofs.Environments.{all_known};
+
+use crate::evaluation::{add_virtuals, known_bases, rows};
+use crate::lookup::Lookup;
+use crate::valued::raise_of;
+use std::alloc::Global;
+use td_algebra::Fault;
+use td_headings::{Catalogue, TypedExpr};
+use td_meaning::Environment;
+use td_relations::Relation;
+use td_story::Failure;
+use td_syntax::tree::BinaryOperator;
+use td_trees::tree::Typed;
+
+fn is_relvar(tree: &Typed, relvar: usize) -> bool
+    ensures { IsTrue result → tree.now ≡ typed.Relvar relvar }
+{
+    match tree {
+        Typed::Relvar(place) => *place == relvar,
+        _ => false,
+    }
+}
+
+// The expression that the relvar is united with, if the tree is such a union.
+fn united_with(tree: &Typed, relvar: usize) -> Option<&Typed>
+    ensures { MatchOption result (Unit {0}) (λ more. tree.now ≡ typed.Binary binary.Union (typed.Relvar relvar) more.now) }
+{
+    match tree {
+        Typed::Binary(BinaryOperator::Union, first, more) => {
+            if is_relvar(first.get(), relvar) {
+                Some(more.get())
+            } else {
+                None
+            }
+        }
+        _ => None,
+    }
+}
+
+// The relation that this part of the expression has.
+fn rows_of_part<L: Lookup>(
+    alloc: Global,
+    expr: &TypedExpr,
+    lookup: &L,
+    part: &Typed,
+) -> Result<Relation, Fault>
+    ensures { Answers result (rows_in (mean (relvars_at (all_known expr.now (L.relvars lookup.now))) (selection expr.now.selectors) part.now) no_names) }
+{
+    let expression = expr.get();
+    let selectors = expression.selectors.as_slice();
+    let mut known = known_bases(alloc, lookup, expression.bases.as_slice())?;
+    add_virtuals(alloc, &mut known, selectors, expression.virtuals.as_slice())?;
+    let env = Environment {
+        relvars: &known,
+        selectors,
+    };
+    rows(alloc, &env, part)
+}
+
+/// What an expression of the catalogue adds to the base relvar at the place, where it is that relvar united with more:
+/// the relation that is more, which alone is evaluated. None where the expression has another form.
+pub fn added<L: Lookup>(
+    alloc: Global,
+    catalogue: &Catalogue,
+    expr: &TypedExpr,
+    lookup: &L,
+    relvar: usize,
+) -> Result<Option<Relation>, Failure>
+    requires expr { IsIn catalogue.now expr.now }
+    requires bases { AreBases catalogue.now (L.relvars lookup.now) }
+    requires base { is_base (slice_get catalogue.now.origins relvar) ≡ true }
+    requires relation { (r : RowsData) × (L.relvars lookup.now relvar ≡ Ok r) }
+    ensures { TellsAdded (L.relvars lookup.now relvar) (and_then (tree_means catalogue.now (L.relvars lookup.now) expr.now.tree no_attrs) spec.rows_of) result }
+{
+    catalogue.was_defined();
+    let Some(part) = united_with(expr.get().tree.get(), relvar) else {
+        return Ok(None);
+    };
+    match rows_of_part(alloc, expr, lookup, part) {
+        Ok(more) => Ok(Some(more)),
+        Err(Fault::Raised(stop)) => Err(Failure::Raised(raise_of(stop))),
+        Err(Fault::OutOfMemory) => Err(Failure::OutOfMemory),
+    }
+}
