@@ -37,7 +37,7 @@ placed : (c : CatalogueData) (n : ℕ) (x : Name) (u : Typed) → StandsAt c n (
 placed c n x u at = ap constraint_of at
 
 module _ (c : CatalogueData) (n : ℕ) (x : Name) (u : Typed) (e : Expression) (at : StandsAt c n (test.Constraint x u)) (is : IsConstraint c (constraint_at c n) e) where
-  whole : IsClosedExpression c u kind.Boolean e
+  pub whole : IsClosedExpression c u kind.Boolean e
   whole = subst (λ o. IsConstraint c o e) (placed c n x u at) is
 
   pub within : Defined c → IsIn c e

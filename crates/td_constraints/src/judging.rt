@@ -1,17 +1,17 @@
 //! The tests of a script, judged over relvars that are looked up.
 
-ghost use Rattle.std.specs.Prelude.{◌≡◌, ◌↔◌, ℕ, IfOk, false, IsTrue, MatchOption, None, Ok, Some, option_map};
-ghost use Rattle.std.specs.List.{Contains};
+ghost use Rattle.std.specs.Prelude.{◌≡◌, ◌↔◌, IfOk, false, IsTrue, MatchOption, None, Ok, Some, option_map};
+ghost use Rattle.std.specs.List.{list_any};
 ghost use Rattle.td_values.specs.Data.{no_attrs};
 ghost use Rattle.td_values.specs.declared.TypeKind.TheVariants as type_kind;
 ghost use Rattle.td_algebra.specs.Raising.{and_then};
 ghost use Rattle.td_operators.specs.Values.{truth_of};
 ghost use Rattle.td_headings.specs.Definitions.{Defined};
-ghost use Rattle.td_headings.specs.Expressions as expressions;
 ghost use Rattle.td_story.specs.Raises.{Tells, stop_of};
 ghost use Rattle.td_story.specs.Trees.{AreBases, IsIn, tree_means};
 ghost use Rattle.td_constraints.specs.Changes.{PassedBefore};
-ghost use Rattle.td_constraints.specs.ForProofs.Changed.{ConstraintBefore, TellApartFrom, IsChanged, KeyBefore, KeyOf, TellsChange};
+ghost use Rattle.td_constraints.specs.ForProofs.Changed.{ConstraintBefore, IsUntouched, KeyBefore, KeyOf, TellApartFrom, change_to};
+ghost use Rattle.td_constraints.specs.ForProofs.Changed as spec_of;
 ghost use Rattle.td_constraints.specs.ForProofs.Tested.{HasRelation, HasRelvar, StandsAt};
 ghost use Rattle.td_story.specs.Reports.{IsReport, title};
 ghost use Rattle.td_story.specs.Stored.{AreStored};
@@ -47,30 +47,35 @@ fn stored<L: Lookup>(lookup: &L, relvar: usize) -> &Relation
 
 // How the relvar was changed, if it was.
 fn change_of(changes: &[(usize, Delta)], relvar: usize) -> Option<&Delta>
-    ensures { TellsChange changes.now relvar result }
+    ensures { MatchOption result (change_to changes.now relvar ≡ None) (λ d. change_to changes.now relvar ≡ Some d.now) }
 {
-    for (place, delta) in changes {
-        if *place == relvar {
-            return Some(delta);
+    for change in changes {
+        if change.0 == relvar {
+            return Some(&change.1);
         }
     }
     None
 }
 
 fn is_changed(changes: &[(usize, Delta)], relvar: usize) -> bool
-    ensures { IsTrue result ↔ IsChanged changes.now relvar }
+    ensures { result ≡ spec_of.is_changed changes.now relvar }
 {
     changes.iter().any(|change| change.0 == relvar)
 }
 
 fn is_any_changed(changes: &[(usize, Delta)], relvars: &[usize]) -> bool
-    ensures { IsTrue result ↔ ((n : ℕ) × Contains relvars.now n × IsChanged changes.now n) }
+    ensures { result ≡ list_any (spec_of.is_changed changes.now) relvars.now }
 {
     relvars.iter().any(|relvar| is_changed(changes, *relvar))
 }
 
 // STUB
-fn tell_apart_from(alloc: Global, inserted: &Relation, after: &Relation, names: &[Name]) -> Result<bool, AllocError>
+fn tell_apart_from(
+    alloc: Global,
+    inserted: &Relation,
+    after: &Relation,
+    names: &[Name],
+) -> Result<bool, AllocError>
     requires { inserted.now.heading ≡ after.now.heading }
     ensures { IfOk result (λ b. IsTrue b ↔ TellApartFrom names.now inserted.now after.now) }
 {
@@ -120,7 +125,7 @@ fn may_differ(
     changes: Option<&[(usize, Delta)]>,
     expr: &TypedExpr,
 ) -> Result<bool, AllocError>
-    ensures { IfOk result (λ b. b ≡ false → MatchOption changes ⊥ (λ cs. (n : ℕ) → Contains (expressions.reads expr.now) n → IsChanged cs.now n → ⊥)) }
+    ensures { IfOk result (λ b. b ≡ false → MatchOption changes.entry ⊥ (λ cs. IsUntouched cs.now expr.now)) }
 {
     match changes {
         Some(changes) => {

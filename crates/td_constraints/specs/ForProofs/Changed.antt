@@ -1,7 +1,6 @@
 -- What is known of one test of relvars that were changed.
-use Rattle.std.specs.Prelude.{◌≡◌, ℕ, true, List, MatchOption, Option, Ok}
-use Rattle.std.specs.List.{Contains}
-use Rattle.std.specs.Borrow.{Bor}
+use Rattle.std.specs.Prelude.{◌≡◌, ◌==◌, ℕ, Bool, true, if◌then◌else◌, List, [], ◌∷◌, Option, None, Some, Ok}
+use Rattle.std.specs.List.{Contains, list_any}
 use Rattle.td_values.specs.Data.{Attrs, no_attrs}
 use Rattle.td_values.specs.Rows.{RowsData}
 use Rattle.td_relations.specs.Deltas.{DeltaData, IsDifference}
@@ -11,6 +10,7 @@ use Rattle.td_trees.specs.declared.expression.Expression.{Expression}
 use Rattle.td_algebra.specs.Raising.{and_then}
 use Rattle.td_operators.specs.Values.{truth_of}
 use Rattle.td_headings.specs.Catalogues.{CatalogueData}
+use Rattle.td_headings.specs.Expressions.{reads}
 use Rattle.td_meaning.specs.Mean.{Relvars}
 use Rattle.td_story.specs.Differences.{AreDifferences, Differs}
 use Rattle.td_story.specs.Tests.{is_key}
@@ -23,9 +23,17 @@ Changes = List (ℕ × DeltaData)
 abbrev pub IsChanged : Changes → ℕ → Type 0
 IsChanged changes n = (d : DeltaData) × Contains changes (n, d)
 
--- its change, or none where it was not changed
-abbrev pub TellsChange : Changes → ℕ → Option (Bor DeltaData) → Type 0
-TellsChange changes n o = MatchOption o (IsChanged changes n → ⊥) (λ d. Contains changes (n, d.now))
+abbrev pub is_changed : Changes → ℕ → Bool
+is_changed changes n = list_any (λ (p : ℕ × DeltaData). p.0 == n) changes
+
+-- its change, if it was changed
+abbrev pub change_to : Changes → ℕ → Option DeltaData
+change_to [] n = None
+change_to (p ∷ ps) n = if p.0 == n then Some p.1 else change_to ps n
+
+-- the expression reads nothing that was changed
+abbrev pub IsUntouched : Changes → Expression → Type 0
+IsUntouched changes x = (n : ℕ) → Contains (reads x) n → IsChanged changes n → ⊥
 
 -- the test of the key was true of the relvar before
 pub record KeyBefore (now : Relvars) (changes : Changes) (n : ℕ) (key : List (List ℕ)) : Type 0 where
