@@ -1,12 +1,13 @@
 -- A relvar that gets tuples: the change that puts them in, what it leaves, and the way back.
-use Rattle.std.proofs.Common.{◌≡◌, ℕ, zero, suc, ◌==◌, Bool, true, false, not, ◌&&◌, ◌||◌, if◌then◌else◌, List, [], ◌∷◌, Option, None, Some, Result, Ok, Err, refl, ap, sym, ◌∙◌, subst, arith, true≢false}
+use Rattle.std.proofs.Common.{◌≡◌, ◌<◌, ◌≤◌, length, ℕ, zero, suc, ◌==◌, ◌↔◌, Bool, true, false, IsTrue, not, ◌&&◌, ◌||◌, if◌then◌else◌, List, [], ◌∷◌, Option, None, Some, slice_get, get_or, Result, Ok, Err, refl, ap, sym, ◌∙◌, subst, arith, true≢false}
 use Rattle.std.specs.List.{Contains}
 use Rattle.std.specs.FinSet as set
+use Rattle.td_values.specs.Data.{Attrs, no_attrs}
 use Rattle.td_values.specs.Order.{attrs_order}
 use Rattle.td_values.specs.Proving.Total.{attrs_order_total, attrs_tied}
 use Rattle.td_values.specs.Rows.{AreRows, RowsData}
 use Rattle.td_relations.specs.Deltas.{DeltaData, IsDifference, applied, inverse_of}
-use Rattle.td_relations.specs.Sets.{IsRelation, TupleSet, body, relation_of, tuple_set}
+use Rattle.td_relations.specs.Sets.{Has, IsRelation, TupleSet, body, relation_of, tuple_set}
 use Rattle.td_relations.proofs.Changes.{rows_of_change}
 use Rattle.td_relations.proofs.Edits.{difference_nothing, union_nothing}
 use Rattle.td_relations.proofs.Members.{ascending_ascends, relation_is, relation_of_is}
@@ -14,16 +15,22 @@ use Rattle.td_algebra.specs.Functions.{union_of}
 use Rattle.td_algebra.specs.Raising.{and_then}
 use Rattle.td_algebra.specs.declared.errors.Stop.{Stop}
 use Rattle.td_headings.specs.Catalogues.{CatalogueData}
+use Rattle.td_headings.specs.Reached.{is_base}
 use Rattle.td_headings.specs.Statements.{assignments_of}
 use Rattle.td_headings.specs.declared.defined.Test.{Test}
 use Rattle.td_headings.specs.declared.statement.TypedAssignment.{TypedAssignment}
 use Rattle.td_headings.specs.declared.statement.TypedStatement.{TypedStatement}
 use Rattle.td_meaning.specs.Mean.{Relvars}
+use Rattle.td_operators.specs.Values.{rows_of}
 use Rattle.td_story.specs.Databases.{Belongs, DatabaseData, IsDatabase, IsLegal, Stored, put, stored_relvars}
 use Rattle.td_story.specs.Differences.{AreDifferences, Differs}
 use Rattle.td_story.specs.Given.{Given, gives, nothing_given, or_old, seen, with_given}
-use Rattle.td_story.specs.Steps.{IsRead, Steps, done, refused}
+use Rattle.td_story.specs.Reports.{IsReport}
+use Rattle.td_story.specs.Steps.{IsRead, Steps, TellsTest, done, refused}
+use Rattle.td_story.specs.declared.broken.TestFailure.{TestFailure}
 use Rattle.td_story.specs.Tests.{failing}
+use Rattle.td_story.specs.Trees.{tree_means}
+use Rattle.td_eval.specs.Added.{TellsAdded}
 use Rattle.td_story.proofs.Legal.{all_pass}
 use Rattle.td_story.specs.declared.failure.Failure.{Failure}
 use Rattle.td_story.specs.declared.failure.Failure.TheVariants as failure
@@ -33,12 +40,13 @@ use Rattle.td_relvars.specs.Changed.{CanChange, change, changed, with_change}
 use Rattle.td_relvars.proofs.Kept.{changed_is}
 use Rattle.td_relvars.proofs.Places.{change_other, change_put, change_there}
 use Rattle.td_constraints.specs.Changes.{PassedBefore}
+use Rattle.td_constraints.proofs.Legal.{legal as all_legal}
 use Rattle.td_assign.specs.Laws.{GoesBothWays}
 use Rattle.td_assign.specs.ForProofs.Given.{IsAssigned, Stands, assigned_by}
-use Rattle.td_assign.specs.ForProofs.Growth.{Adds, Gives, IsGrown, IsGrowth, MayGrow, goes, means_alone, stays}
+use Rattle.td_assign.specs.ForProofs.Growth.{Adds, Gives, IsGrown, IsGrowth, IsOneGrowth, IsTried, MayGrow, TellsAddition, failing_grown, goes, means_alone, stays}
 use Rattle.td_assign.proofs.Leading.{differences_go_both_ways}
 use Rattle.td_assign.proofs.Listed.{first_there, there_cases}
-use Rattle.td_assign.proofs.Preparing.{no_differences}
+use Rattle.td_assign.proofs.Preparing.{no_differences, passes, reported}
 use Rattle.td_assign.proofs.Replacing.{given_nothing, put_first}
 use Rattle.td_assign.proofs.Stepping.{alone_belongs}
 
@@ -143,7 +151,7 @@ module _ (d : DatabaseData) (n : ℕ) (s : RowsData) (x : DeltaData) (g : IsGrow
   differences some = record {
     once = λ i j e before within. absurd (omega (arith, before, within));
     only = λ p there. subst (λ (q : ℕ × DeltaData). Differs (stored_relvars d.stored) (stored_relvars (change n x d.stored)) q.0 q.1) (the_one p there) (one_differs some);
-    all = λ m never. change_other n m x d.stored (λ e. never x (subst (λ k. Contains ((n, x) ∷ []) (k, x)) e (first_there (n, x) [])));
+    all = λ m never. change_other n m x d.stored (λ e. never x (subst (λ (k : ℕ). Contains {X = ℕ × DeltaData} ((n, x) ∷ []) (k, x)) e (first_there (n, x) [])));
   }
     where
       the_one : (p : ℕ × DeltaData) → Contains ((n, x) ∷ []) p → (n, x) ≡ p
@@ -233,3 +241,133 @@ gives_alone d a s x is assigned adds means g =
 pub raises_alone : (d : DatabaseData) (a : TypedAssignment) (f : Failure) → Stands f (means_alone d a) → Stands f (assigned_by d (a ∷ []))
 raises_alone d a (failure.Raised e) h = ap (λ o. and_then o (λ r. Ok (gives a.target r nothing_given))) h
 raises_alone d a failure.OutOfMemory h = tt
+
+-- ---- what evaluation tells of the source
+module _ (d : DatabaseData) (a : TypedAssignment) where
+  alone : means_alone d a ≡ and_then (tree_means d.catalogue (stored_relvars d.stored) a.source.tree no_attrs) rows_of
+  alone = ap (λ (r : Relvars). and_then (tree_means d.catalogue r a.source.tree no_attrs) rows_of) (seen_nothing a.target (stored_relvars d.stored))
+
+  pub told_addition : (m : Result (Option RowsData) Failure) → TellsAdded (stored_relvars d.stored a.target) (and_then (tree_means d.catalogue (stored_relvars d.stored) a.source.tree no_attrs) rows_of) m → TellsAddition d a m
+  told_addition (Ok None) h = tt
+  told_addition (Ok (Some s)) h = (record { before = h.0; has = h.1; heading = h.3 }, alone ∙ h.2)
+  told_addition (Err (failure.Raised e)) h = alone ∙ h
+  told_addition (Err failure.OutOfMemory) h = tt
+
+  pub is_real : IsAssigned d.catalogue a → is_base (slice_get d.catalogue.origins a.target) ≡ true
+  is_real assigned = ap is_base assigned.1.is_real
+
+-- ---- the change that puts in what is lacking
+pub apart_from_none : (i n : RowsData) → body n ≡ set.empty → (t : Attrs) → Has i t → ¬ (Has n t)
+apart_from_none i n none t has there = true≢false (sym (sym (ap (λ w. set.contains w t) none) ∙ there) ∙ set.contains-empty attrs_order t)
+
+module _ (d : DatabaseData) (n : ℕ) (s before : RowsData) (adds : Adds d n s) (has : stored_relvars d.stored n ≡ Ok before) where
+  pub of_target : s.heading ≡ before.heading
+  of_target = adds.heading ∙ ap (λ (r : RowsData). r.heading) (ok_same adds.before before (sym adds.has ∙ has))
+
+  pub growth_is : (i e : RowsData) (x : DeltaData) → AreRows before.heading before.tuples → AreRows i.heading i.tuples → IsRelation s.heading (set.difference (body s) (body before)) i → IsRelation s.heading set.empty e → x ≡ record { inserted = i; deleted = e } → IsGrowth d n s x
+  growth_is i e x rows new_rows inserted deleted is = subst (IsGrowth d n s) (sym is) (record {
+    before = before;
+    has = has;
+    rows = rows;
+    new_rows = new_rows;
+    inserted = subst (λ h. IsRelation h (set.difference (body s) (body before)) i) of_target inserted;
+    deleted = subst (λ h. IsRelation h set.empty e) of_target deleted;
+  })
+
+-- ---- a list of one change
+module _ (d : DatabaseData) (changes : List (ℕ × DeltaData)) (is : IsDatabase d) (one : IsOneGrowth d changes) (p : ℕ × DeltaData) (at : p ≡ get_or changes 0 p) where
+  first : p ≡ (one.relvar, one.delta)
+  first = at ∙ ap (λ (l : List (ℕ × DeltaData)). get_or l 0 p) one.one
+
+  pub can_first : CanChange d p.0 p.1
+  can_first = subst (λ (q : ℕ × DeltaData). CanChange d q.0 q.1) (sym first) (can d one.relvar one.delta is one.grows)
+
+  pub none_deleted : body p.1.deleted ≡ set.empty
+  none_deleted = ap (λ (q : ℕ × DeltaData). body q.1.deleted) first ∙ one.grows.growth.deleted.members
+
+  module _ (e : DatabaseData) (made : e ≡ with_change p.0 p.1 d) where
+    here : e ≡ with_change one.relvar one.delta d
+    here = made ∙ ap (λ (q : ℕ × DeltaData). with_change q.0 q.1 d) first
+
+    pub first_passed : (k : CatalogueData) → k ≡ e.catalogue → IsLegal d → PassedBefore k (stored_relvars e.stored) changes
+    first_passed k same legal =
+        subst (λ (z : CatalogueData). PassedBefore z (stored_relvars e.stored) changes) (sym same)
+        (subst (λ (q : DatabaseData). PassedBefore q.catalogue (stored_relvars q.stored) changes) (sym here)
+        (subst (λ l. PassedBefore d.catalogue (stored_relvars (change one.relvar one.delta d.stored)) l) (sym one.one) (passed d one.relvar one.delta is one.grows one.some legal)))
+
+    pub first_back : CanChange e p.0 (inverse_of p.1)
+    first_back =
+        subst (λ (q : DatabaseData). CanChange q p.0 (inverse_of p.1)) (sym here)
+        (subst (λ (q : ℕ × DeltaData). CanChange (with_change one.relvar one.delta d) q.0 (inverse_of q.1)) (sym first) (can_back d one.relvar one.delta is one.grows one.some))
+
+    pub is_back : (f : DatabaseData) → f ≡ with_change p.0 (inverse_of p.1) e → f ≡ d
+    is_back f taken =
+        taken
+        ∙ (λ i. with_change (first i).0 (inverse_of (first i).1) (here i))
+        ∙ back d one.relvar one.delta is one.grows one.some
+
+    told_of : (k : CatalogueData) (o : Option TestFailure) → k ≡ e.catalogue → IsReport k (failing k (stored_relvars e.stored) k.tests) o → IsReport d.catalogue (failing_grown d one.relvar one.delta) o
+    told_of k o same h =
+        subst (λ (q : DatabaseData). IsReport q.catalogue (failing q.catalogue (stored_relvars q.stored) q.catalogue.tests) o) here
+        (subst (λ (z : CatalogueData). IsReport z (failing z (stored_relvars e.stored) z.tests) o) same h)
+
+    pub tried_stays : (E : Type 0) (k : CatalogueData) (o : Option TestFailure) → k ≡ e.catalogue → o ≡ None → IsReport k (failing k (stored_relvars e.stored) k.tests) o → IsTried {E = E} d changes (Ok None) e
+    tried_stays E k o same none h = (
+      one.relvar,
+      one.delta,
+      one.one,
+      passes d.catalogue (failing_grown d one.relvar one.delta) (subst (IsReport d.catalogue (failing_grown d one.relvar one.delta)) none (told_of k o same h)),
+      here,
+    )
+
+    pub tried_goes : (E : Type 0) (k : CatalogueData) (o : Option TestFailure) (failed : TestFailure) (f : DatabaseData) → k ≡ e.catalogue → o ≡ Some failed → f ≡ with_change p.0 (inverse_of p.1) e → IsReport k (failing k (stored_relvars e.stored) k.tests) o → IsTried {E = E} d changes (Ok (Some failed)) f
+    tried_goes E k o failed f same some taken h = (
+      one.relvar,
+      one.delta,
+      one.one,
+      subst (IsReport d.catalogue (failing_grown d one.relvar one.delta)) some (told_of k o same h),
+      is_back f taken,
+    )
+
+-- ---- what becomes of the statement
+pub some_new : (i x : RowsData) (b : Bool) → IsTrue b ↔ ((body i ≡ set.empty) × (body x ≡ set.empty)) → b ≡ false → body x ≡ set.empty → body i ≡ set.empty → ⊥
+some_new i x b says is_false none h = true≢false (sym (says.1 (h, none)) ∙ is_false)
+
+module _ (d : DatabaseData) (n : ℕ) (x : DeltaData) (is : IsDatabase d) (m : MayGrow d n x) (ds : List (ℕ × DeltaData)) where
+  pub nothing_grown : body x.inserted ≡ set.empty → IsLegal d → ds ≡ [] → IsGrown d n x Done ds d
+  nothing_grown none legal nothing =
+      let stored : change n x d.stored ≡ d.stored = ap (λ (q : DatabaseData). q.stored) (unchanged d n x is m none) in
+      subst (IsGrown d n x Done ds) (unchanged d n x is m none)
+      (stays
+      (ap (λ s. failing d.catalogue (stored_relvars s) d.catalogue.tests) stored ∙ (all_legal d.catalogue (stored_relvars d.stored)).1 legal)
+      (subst (AreDifferences (stored_relvars d.stored) (stored_relvars (change n x d.stored))) (sym nothing)
+      (subst (λ s. AreDifferences (stored_relvars d.stored) (stored_relvars s) []) (sym stored) (no_differences (stored_relvars d.stored)))))
+
+  module _ (E : Type 0) (changes : List (ℕ × DeltaData)) (one : changes ≡ (n, x) ∷ []) (o : Option TestFailure) (e : DatabaseData) (tried : IsTried {E = E} d changes (Ok o) e) where
+    the_change : (k : ℕ) (y : DeltaData) → changes ≡ (k, y) ∷ [] → ◌≡◌ {A = ℕ × DeltaData} (k, y) (n, x)
+    the_change k y other =
+        let p : ℕ × DeltaData = (k, y) in
+        let q : ℕ × DeltaData = (n, x) in
+        let same : p ∷ [] ≡ q ∷ [] = sym other ∙ one in
+        ap (λ (l : List (ℕ × DeltaData)). get_or l 0 q) same
+
+    pub grown_stays : o ≡ None → (body x.inserted ≡ set.empty → ⊥) → ds ≡ (n, x) ∷ [] → IsGrown d n x Done ds e
+    grown_stays none some listed =
+        let t = subst (λ q. IsTried {E = E} d changes (Ok q) e) none tried in
+        let same = the_change t.0 t.1 t.2 in
+        subst (IsGrown d n x Done ds) (sym (t.4 ∙ ap (λ (q : ℕ × DeltaData). with_change q.0 q.1 d) same))
+        (stays
+        (sym (ap (λ (q : ℕ × DeltaData). failing_grown d q.0 q.1) same) ∙ t.3)
+        (subst (AreDifferences (stored_relvars d.stored) (stored_relvars (change n x d.stored))) (sym listed) (differences d n m.more x m.growth some)))
+
+    pub grown_goes : (f : TestFailure) (out : Outcome) → o ≡ Some f → ds ≡ [] → ((c : CatalogueData) (t : Test) (s : Option Stop) → IsReport c (Some (t, s)) (Some f) → TellsTest c t s out) → IsGrown d n x out ds e
+    grown_goes f out some nothing tells =
+        let t = subst (λ q. IsTried {E = E} d changes (Ok q) e) some tried in
+        let same = the_change t.0 t.1 t.2 in
+        let told = reported d.catalogue (failing_grown d n x) f (subst (λ (q : ℕ × DeltaData). IsReport d.catalogue (failing_grown d q.0 q.1) (Some f)) same t.3) in
+        subst (λ q. IsGrown d n x out ds q) (sym t.4) (subst (λ l. IsGrown d n x out l d) (sym nothing) (goes told.2 (tells d.catalogue told.0 told.1 told.3)))
+
+pub one_alone : {A : Type 0} (xs : List A) (x : A) → 1 ≤ length xs → length xs < 2 → x ≡ get_or xs 0 x → xs ≡ x ∷ []
+one_alone [] x least most at = absurd (omega arith)
+one_alone (y ∷ []) x least most at = ap (λ z. z ∷ []) (sym at)
+one_alone (y ∷ z ∷ xs) x least most at = absurd (omega arith)

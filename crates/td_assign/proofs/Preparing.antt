@@ -21,8 +21,10 @@ use Rattle.td_story.specs.declared.broken.BrokenTest.{BrokenTest}
 use Rattle.td_story.specs.declared.broken.BrokenTest.TheVariants as broken
 use Rattle.td_story.specs.declared.broken.TestFailure.{TestFailure}
 use Rattle.td_story.specs.Tests.{failing}
-use Rattle.td_story.specs.Databases.{DatabaseData, IsDatabase, stored_relvars}
-use Rattle.td_story.specs.Given.{replaced}
+use Rattle.td_story.specs.Databases.{DatabaseData, IsDatabase, IsLegal, stored_relvars}
+use Rattle.td_story.specs.Given.{replaced, with_given}
+use Rattle.td_relations.specs.Deltas.{DeltaData}
+use Rattle.td_constraints.specs.Changes.{PassedBefore}
 use Rattle.td_assign.specs.ForProofs.Lists.{given_to}
 use Rattle.td_story.specs.Differences.{AreDifferences}
 use Rattle.td_assign.specs.ForProofs.Given.{AreAssigned, AreChanges, IsAssigned, assigned_by}
@@ -81,6 +83,16 @@ module _ (d : DatabaseData) (cs : List Change) where
       subst (λ r. IsReport d.catalogue (failing d.catalogue r d.catalogue.tests) o) (all_replaced d.catalogue cs are d.stored is)
       (subst (λ (zs : List Change). IsReport d.catalogue (failing d.catalogue (replaced (given_to zs) (stored_relvars d.stored)) d.catalogue.tests) o) seen
       (subst (λ (z : CatalogueData). IsReport z (failing z (replaced (given_to ys) (stored_relvars d.stored)) z.tests) o) same h))
+
+  pub passed_before : (ys : List Change) (k : CatalogueData) (ds zs : List (ℕ × DeltaData)) → IsDatabase d → AreChanges d.catalogue cs → IsLegal d → k ≡ d.catalogue → ys ≡ cs → zs ≡ ds → AreDifferences (stored_relvars d.stored) (stored_relvars (with_given (given_to cs) d.stored)) ds → PassedBefore k (replaced (given_to ys) (stored_relvars d.stored)) zs
+  passed_before ys k ds zs is are legal same seen listed h =
+      subst (λ (z : CatalogueData). PassedBefore z (replaced (given_to ys) (stored_relvars d.stored)) zs) (sym same) (record {
+        before = stored_relvars d.stored;
+        legal = legal;
+        differences =
+            subst (AreDifferences (stored_relvars d.stored) (replaced (given_to ys) (stored_relvars d.stored))) (sym listed)
+            (subst (λ r. AreDifferences (stored_relvars d.stored) r ds) (sym (ap (λ (us : List Change). replaced (given_to us) (stored_relvars d.stored)) seen ∙ all_replaced d.catalogue cs are d.stored is)) h);
+      })
 
   pub refused_by : (o : Option TestFailure) (f : TestFailure) (out : Outcome) → o ≡ Some f → IsReport d.catalogue (failing_after d cs) o → ((c : CatalogueData) (t : Test) (e : Option Stop) → IsReport c (Some (t, e)) (Some f) → TellsTest c t e out) → IsJudged d cs (Refused out)
   refused_by o f out is h tells =

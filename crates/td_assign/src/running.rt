@@ -164,13 +164,20 @@ fn tried(
     requires one { IsOneGrowth database.old changes.now }
     ensures { IsTried database.old changes.now result database.new }
 {
-    let (relvar, delta) = &changes[0];
-    database.change(alloc, *relvar, delta)?;
-    let failure = first_failure_after(alloc, database.catalogue(), &*database, changes);
-    if !matches!(failure, Ok(None)) {
-        database.take_back(*relvar, delta);
+    database.relvars_fit();
+    let change = &changes[0];
+    database.change(alloc, change.0, &change.1)?;
+    match first_failure_after(alloc, database.catalogue(), &*database, changes) {
+        Ok(None) => Ok(None),
+        Ok(Some(failure)) => {
+            database.take_back(change.0, &change.1);
+            Ok(Some(failure))
+        }
+        Err(error) => {
+            database.take_back(change.0, &change.1);
+            Err(error)
+        }
     }
-    failure
 }
 
 // Puts the tuples in, and the tests decide whether they stay.
@@ -185,6 +192,7 @@ fn grow(
     ensures grown { IfOk result (λ r. IsGrown database.old relvar delta r.0 r.1.items database.new) }
     ensures kept { OnErr result (database.new ≡ database.old) }
 {
+    database.relvars_fit();
     let mut changes = Vec::new(alloc);
     if delta.is_empty() {
         return Ok((Outcome::Done, changes));
@@ -249,6 +257,7 @@ pub fn run(
     ensures counted { meter.new.count ≡ one_more meter.old.count }
 {
     meter.tick();
+    database.relvars_fit();
     let (prepared, names) = prepare(alloc, database, text)?;
     match prepared {
         Prepared::Changes(changes, delta) => {

@@ -90,7 +90,13 @@ fn addition(
     ensures { TellsAddition database.now assignment.now result }
 {
     let catalogue = database.catalogue();
-    td_eval::added(alloc, catalogue, &assignment.source, database, assignment.target)
+    td_eval::added(
+        alloc,
+        catalogue,
+        &assignment.source,
+        database,
+        assignment.target,
+    )
 }
 
 // The change that puts in what the target lacks of these tuples.
@@ -130,6 +136,7 @@ pub(crate) fn growth(
     let [assignment] = assignments else {
         return Ok(None);
     };
+    database.relvars_fit();
     match addition(alloc, database, assignment) {
         Ok(Some(more)) => {
             let delta = growth_by(alloc, database, assignment.target, &more)?;

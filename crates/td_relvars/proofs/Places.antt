@@ -1,9 +1,11 @@
 -- What is stored, place by place, where one relvar changes.
 use Rattle.std.proofs.Common.{◌≡◌, ℕ, zero, suc, pred, [], ◌∷◌, get_or, length, Option, None, Some, Result, Ok, Err, OnOk, refl, ap, sym, ◌∙◌}
 use Rattle.std.specs.Prelude.{slice_set}
+use Rattle.std.specs.FinSet as set
 use Rattle.td_values.specs.Rows.{RowsData}
-use Rattle.td_relations.specs.Deltas.{DeltaData, IsApplied, applied}
-use Rattle.td_relations.specs.Sets.{body}
+use Rattle.td_relations.specs.Deltas.{DeltaData, IsApplied, applied, inverse_of}
+use Rattle.td_relations.specs.Sets.{IsRelation, TupleSet, body}
+use Rattle.td_relations.proofs.Edits.{union_nothing}
 use Rattle.td_relations.proofs.Members.{relation_is}
 use Rattle.td_algebra.specs.declared.errors.Stop.{Stop}
 use Rattle.td_story.specs.Databases.{Stored, at_place, put, stored_relvars}
@@ -84,6 +86,15 @@ pub is_changed :
     → OnOk a (new ≡ changed s d)
 is_changed (Ok u) r s new d same is = relation_is r.heading (applied (body r) d) new is ∙ ap (λ q. changed q d) same
 is_changed (Err e) r s new d same is = tt
+
+-- a change that took nothing out is taken back by taking out what it put in
+pub is_taken_back :
+    (r s new : RowsData) (x : DeltaData) → r ≡ s → body x.deleted ≡ set.empty
+    → IsRelation r.heading (set.difference (body r) (body x.inserted)) new → new ≡ changed s (inverse_of x)
+is_taken_back r s new x same none is =
+    let left : TupleSet = set.difference (body r) (body x.inserted) in
+    let all : left ≡ set.union left (body x.deleted) = union_nothing left ∙ ap (set.union left) (sym none) in
+    is_changed {E = Unit {0}} (Ok tt) r s new (inverse_of x) same (record { heading = is.heading; members = is.members ∙ all; ascending = is.ascending })
 
 pub set_changed :
     {E : Type 0} (a : Result (Unit {0}) E) (n : ℕ) (xs : Stored) (r new : RowsData) (d : DeltaData)

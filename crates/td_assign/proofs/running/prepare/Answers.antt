@@ -15,8 +15,8 @@ names_of-requires c =
     let is = read_is k k c.args.text.now c.in_ok-statement.field-0 refl c.in_ok-statement.ensures c.in-Some.statement c.in-Some.is in
     (is.statement, is.types)
 
-pub assigned-requires : goal.assigned-requires
-assigned-requires c =
+pub assigned-requires-clause-assigned : goal.assigned-requires-clause-assigned
+assigned-requires-clause-assigned c =
     let k = c.args.database.now.catalogue in
     let text = c.args.text.now in
     let x = c.in-Some.statement in

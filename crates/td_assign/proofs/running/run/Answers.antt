@@ -1,8 +1,12 @@
-use Rattle.std.proofs.Common.{sym, subst}
+use Rattle.std.proofs.Common.{ap, sym, subst}
 use Rattle.td_story.proofs.Legal.{all_pass}
 use Rattle.td_story.specs.Databases.{IsLegal, stored_relvars}
 use Rattle.td_story.specs.Given.{with_given}
 use Rattle.td_assign.specs.ForProofs.Lists.{given_to}
+use Rattle.td_story.specs.Differences.{AreDifferences}
+use Rattle.td_story.specs.Steps.{Steps}
+use Rattle.td_story.specs.declared.outcome.Outcome.{Outcome}
+use Rattle.td_assign.proofs.Growing.{grown_differences, grown_legal, grown_step}
 use Rattle.td_assign.proofs.running.run.Goals as goal
 
 pub returns-in-Changes-clause-legal : goal.returns-in-Changes-clause-legal
@@ -11,3 +15,27 @@ returns-in-Changes-clause-legal c =
     let cs = c.in-Changes.changes.items in
     let prepared = rw c.in-Changes.is at c.in_ok-prepared.ensures.prepared in
     subst IsLegal (sym c.put_all.ensures) (all_pass d.catalogue (stored_relvars (with_given (given_to cs) d.stored)) d.catalogue.tests prepared.1.passes)
+
+pub returns-in_ok-outcome-in-Growth-clause-step : goal.returns-in_ok-outcome-in-Growth-clause-step
+returns-in_ok-outcome-in-Growth-clause-step c =
+    let d = c.args.database.now in
+    let text = c.args.text.now in
+    let told = rw c.in-Growth.is at c.in_ok-prepared.ensures.prepared in
+    let o = c.in_ok-outcome-in-Growth.outcome in
+    subst (λ (out : Outcome). Steps d text out c.grow.new.database) (sym c.ran-in-Growth.ensures.outcome)
+    (grown_step d text told.0 told.1 c.in-Growth.relvar c.in-Growth.delta c.relvars_fit.ensures told.2 o c.in_ok-outcome-in-Growth.delta.items c.grow.new.database c.in_ok-outcome-in-Growth.ensures.grown)
+
+pub returns-in_ok-outcome-in-Growth-clause-delta : goal.returns-in_ok-outcome-in-Growth-clause-delta
+returns-in_ok-outcome-in-Growth-clause-delta c =
+    let d = c.args.database.now in
+    let text = c.args.text.now in
+    let told = rw c.in-Growth.is at c.in_ok-prepared.ensures.prepared in
+    subst (AreDifferences (stored_relvars d.stored) (stored_relvars c.grow.new.database.stored)) (sym (ap (λ v. v.items) c.ran-in-Growth.ensures.delta))
+    (grown_differences d text told.0 told.1 c.in-Growth.relvar c.in-Growth.delta c.relvars_fit.ensures told.2 c.in_ok-outcome-in-Growth.outcome c.in_ok-outcome-in-Growth.delta.items c.grow.new.database c.in_ok-outcome-in-Growth.ensures.grown)
+
+pub returns-in_ok-outcome-in-Growth-clause-legal : goal.returns-in_ok-outcome-in-Growth-clause-legal
+returns-in_ok-outcome-in-Growth-clause-legal c =
+    let d = c.args.database.now in
+    let text = c.args.text.now in
+    let told = rw c.in-Growth.is at c.in_ok-prepared.ensures.prepared in
+    grown_legal d text told.0 told.1 c.in-Growth.relvar c.in-Growth.delta c.relvars_fit.ensures told.2 c.in_ok-outcome-in-Growth.outcome c.in_ok-outcome-in-Growth.delta.items c.grow.new.database c.requires c.in_ok-outcome-in-Growth.ensures.grown

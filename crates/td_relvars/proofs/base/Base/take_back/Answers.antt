@@ -1,10 +1,12 @@
-use Rattle.std.proofs.Common.{ap, sym, ◌∙◌, subst}
+use Rattle.std.proofs.Common.{ap, ◌∙◌, subst}
 use Rattle.std.specs.FinSet as set
 use Rattle.td_values.specs.Rows.{RowsData}
-use Rattle.td_relations.specs.Deltas.{inverse_of}
-use Rattle.td_relvars.specs.Changed.{changed}
+use Rattle.td_relations.specs.Sets.{IsRelation, body, tuple_set}
 use Rattle.td_relvars.proofs.Places.{is_taken_back}
 use Rattle.td_relvars.proofs.base.Base.take_back.Goals as goal
 
 pub returns : goal.returns
-returns c = ?
+returns c =
+    let r = c.self.inside.relation in
+    let x = c.args.delta.now in
+    is_taken_back r c.args.self.now c.take_out.new.relation x c.self.view_is c.requires (subst (λ ts. IsRelation r.heading (set.difference (body r) (tuple_set ts)) c.take_out.new.relation) (c.tuples.ensures.all ∙ ap (λ (q : RowsData). q.tuples) c.inserted.ensures) c.take_out.ensures)

@@ -1,0 +1,22 @@
+use Rattle.std.proofs.Common.{[], ◌∷◌, List, sym, subst, arith}
+use Rattle.std.proofs.lemmas.List.Elements.{All-get_or}
+use Rattle.td_headings.specs.declared.statement.TypedAssignment.{TypedAssignment}
+use Rattle.td_assign.specs.ForProofs.Given.{IsAssigned, Stands, assigned_by}
+use Rattle.td_assign.specs.ForProofs.Growth.{Gives}
+use Rattle.td_assign.proofs.Growing.{gives_alone, one_alone, raises_alone}
+use Rattle.td_assign.proofs.sources.growth.Goals as goal
+
+pub returns-in_ok-delta-in-Ok-Some : goal.returns-in_ok-delta-in-Ok-Some
+returns-in_ok-delta-in-Ok-Some c =
+    let d = c.args.database.now in
+    let a = c.assignment-item.result in
+    let assigned = subst (IsAssigned d.catalogue) (sym c.assignment-item.is) (All-get_or (IsAssigned d.catalogue) c.args.assignments.now 0 a c.in-len1.len_at_least c.requires) in
+    let told = rw c.in-Ok-Some.field-0-is at c.in-Ok-Some.ensures in
+    subst (λ xs. Gives d xs a.target c.in_ok-delta-in-Ok-Some.delta) (sym (one_alone c.args.assignments.now a c.in-len1.len_at_least c.in-len1.len_below c.assignment-item.is))
+    (gives_alone d a c.in-Ok-Some.more c.in_ok-delta-in-Ok-Some.delta c.relvars_fit.ensures assigned told.0 told.1 c.in_ok-delta-in-Ok-Some.ensures)
+
+pub returns-in-Err : goal.returns-in-Err
+returns-in-Err c =
+    let d = c.args.database.now in
+    let a = c.assignment-item.result in
+    subst (λ xs. Stands c.in-Err.failure (assigned_by d xs)) (sym (one_alone c.args.assignments.now a c.in-len1.len_at_least c.in-len1.len_below c.assignment-item.is)) (raises_alone d a c.in-Err.failure c.in-Err.ensures)
