@@ -1,17 +1,21 @@
 -- Merges of ascending lists of tuples, and of relations.
 use Rattle.std.proofs.Common.{◌≡◌, ◌↔◌, IsTrue, ◌⊎◌, inl, inr, Bool, true, false, not, ◌&&◌, ◌||◌, List, refl, sym, ap, ◌∙◌, subst, true≢false}
 use Rattle.std.specs.FinSet as set
-use Rattle.std.specs.List.{list_all}
+use Rattle.std.specs.List.{filter, list_all}
+use Rattle.std.specs.Ordering.{eq_by_cmp}
 use Rattle.std.specs.List.Sorted.{IsStrictlySortedBy}
+use Rattle.std.proofs.lemmas.List.Kept.{IsStrictlySortedBy-filter}
+use Rattle.std.proofs.lemmas.Map.Views.{any-filter_same}
 use Rattle.std.proofs.lemmas.List.Sums.{AllPass-from_list_all, list_all-from_AllPass}
 use Rattle.td_values.specs.Data.{Attrs}
 use Rattle.td_values.specs.Headings.{Header}
 use Rattle.td_values.specs.Order.{attrs_order}
 use Rattle.td_values.specs.Proving.Total.{attrs_order_total, attrs_tied}
+use Rattle.td_values.proofs.Walks.{is_tied}
 use Rattle.td_relations.specs.declared.merges.Kept.{Kept}
 use Rattle.td_values.specs.Rows.{RowsData, AreRows}
-use Rattle.td_relations.specs.Sets.{TupleSet, body, Has, IsRelation, IsRelationOf}
-use Rattle.td_relations.specs.Merges.{is_kept, IsMerge, second_alone}
+use Rattle.td_relations.specs.Sets.{TupleSet, tuple_set, body, Has, IsRelation, IsRelationOf}
+use Rattle.td_relations.specs.Merges.{first_alone, is_kept, IsMerge, second_alone}
 use Rattle.td_relations.proofs.Fits.{Fits}
 use Rattle.td_relations.proofs.Members.{holds_of_member, holds_of_all}
 use Rattle.td_relations.proofs.Predicates.{by_predicate, set_of}
@@ -34,6 +38,26 @@ walk_is_merge k xs ys zs up t e = record {
       ∙ (λ i. is_kept k (sym (set.contains-from_list attrs_order_total xs q) i) (sym (set.contains-from_list attrs_order_total ys q) i));
 }
 
+-- a list without what another one has is what it has alone
+pub lacking_is_merge : (xs ys zs : List Attrs) → IsStrictlySortedBy attrs_order xs → zs ≡ filter (λ t. not (set.contains (tuple_set ys) t)) xs → IsMerge first_alone xs ys zs
+lacking_is_merge xs ys zs up e =
+    let p : Attrs → Bool = λ t. not (set.contains (tuple_set ys) t) in
+    record {
+      ascending = subst (IsStrictlySortedBy attrs_order) (sym e) (IsStrictlySortedBy-filter attrs_order p xs up);
+      members = λ q.
+          ap (λ ws. set.contains {R = attrs_order} (set.from_list ws) q) e
+          ∙ set.contains-from_list attrs_order_total (filter p xs) q
+          ∙ any-filter_same (eq_by_cmp attrs_order q) p (p q) (λ k same. ap p (sym (attrs_tied q k (is_tied _ same)))) xs
+          ∙ ap (λ b. p q && b) (sym (set.contains-from_list attrs_order_total xs q))
+          ∙ alone_test (set.contains (tuple_set xs) q) (set.contains (tuple_set ys) q);
+    }
+  where
+    alone_test : (b c : Bool) → (not c && b) ≡ is_kept first_alone b c
+    alone_test true true = refl
+    alone_test true false = refl
+    alone_test false true = refl
+    alone_test false false = refl
+
 -- what is kept is in one of the lists
 in_either : (k : Kept) (p q : Bool) → is_kept k p q ≡ true → (p ≡ true) ⊎ (q ≡ true)
 in_either k true q e = inl refl
@@ -51,7 +75,7 @@ rows_of_merge k h xs ys zs is a b = record {
 by_test : (h : Header) (s : TupleSet) (p : Attrs → Bool) (r : RowsData) → ((t : Attrs) → set.contains s t ≡ p t) → IsRelationOf h (λ t. p t ≡ true) r → IsRelation h s r
 by_test h s p r same is = set_of h s r (by_predicate h (λ t. p t ≡ true) (λ t. set.contains s t ≡ true) r is (λ t. (λ e. same t ∙ e, λ e. sym (same t) ∙ e)))
 
-abbrev KeptOf : Kept → RowsData → RowsData → Header → RowsData → Type 0
+abbrev pub KeptOf : Kept → RowsData → RowsData → Header → RowsData → Type 0
 KeptOf k a b h r = IsRelationOf h (λ t. is_kept k (set.contains (body a) t) (set.contains (body b) t) ≡ true) r
 
 in_any : (p q : Bool) → (p || q) ≡ is_kept (record { first = true; both = true; second = true }) p q

@@ -1,7 +1,8 @@
-//! Union, intersection and difference of relations, each by one walk along both lists of tuples.
-ghost use Rattle.std.specs.Prelude.{◌≡◌, ◌↔◌, true, ◌++◌, ◌∷◌, [], IsTrue, IfOk, OnOk, if◌then◌else◌};
+//! Union, intersection and difference of relations, each by one walk along both lists of tuples, or by a search for
+//! each tuple of a list that is short beside the other.
+ghost use Rattle.std.specs.Prelude.{◌≡◌, ◌↔◌, true, not, ◌++◌, ◌∷◌, [], IsTrue, IfOk, OnOk, if◌then◌else◌};
 ghost use Rattle.std.specs.FinSet as set;
-ghost use Rattle.std.specs.List.{All, list_all};
+ghost use Rattle.std.specs.List.{All, filter, list_all};
 ghost use Rattle.std.specs.List.Sorted.{IsStrictlySortedBy};
 ghost use Rattle.td_values.specs.Order.{attrs_order};
 ghost use Rattle.td_values.specs.Whole.{heading_of};
@@ -13,6 +14,9 @@ use crate::Relation;
 use std::alloc::{AllocError, Global};
 use std::cmp::Ordering;
 use td_values::{Tuple, compare_alike};
+
+/// A search for each tuple of a list costs less than a walk along both where it has at most this part of the other.
+const FEW: usize = 16;
 
 // Which tuples a walk along two lists keeps: those of the first alone, of both, of the second alone.
 #[derive(Clone, Copy)]
@@ -161,6 +165,30 @@ fn combined(alloc: Global, a: &Relation, b: &Relation, kept: Kept) -> Result<Rel
     with_tuples(a, tuples)
 }
 
+// The tuples of the first relation that the second lacks, by a search for each.
+fn lacking(alloc: Global, a: &Relation, b: &Relation) -> Result<Vec<Tuple>, AllocError>
+    ensures { IfOk result (λ v. v.items ≡ filter (λ t. not (set.contains (body b.now) t)) a.now.tuples) }
+{
+    let mut kept = Vec::new(alloc);
+    for tuple in a.tuples() {
+        if !b.contains(tuple) {
+            kept.push(tuple.copy()?)?;
+        }
+    }
+    Ok(kept)
+}
+
+// The relation of these tuples.
+fn beyond(alloc: Global, a: &Relation, b: &Relation) -> Result<Relation, AllocError>
+    requires { a.now.heading ≡ b.now.heading }
+    ensures { IfOk result (IsRelationOf a.now.heading (λ t. is_kept first_alone (set.contains (body a.now) t) (set.contains (body b.now) t) ≡ true)) }
+{
+    a.rows_fit();
+    b.rows_fit();
+    let tuples = lacking(alloc, a, b)?;
+    with_tuples(a, tuples)
+}
+
 /// The tuples of either relation, shared. For lists of n and m tuples it costs n + m.
 pub fn union(alloc: Global, a: &Relation, b: &Relation) -> Result<Relation, AllocError>
     requires { a.now.heading ≡ b.now.heading }
@@ -187,11 +215,15 @@ pub fn intersect(alloc: Global, a: &Relation, b: &Relation) -> Result<Relation, 
     combined(alloc, a, b, kept)
 }
 
-/// The tuples of the first relation that the second lacks, shared. It costs as `union`.
+/// The tuples of the first relation that the second lacks, shared. It costs as `union`, or, where the first list is
+/// short beside the second, a search for each of its tuples.
 pub fn minus(alloc: Global, a: &Relation, b: &Relation) -> Result<Relation, AllocError>
     requires { a.now.heading ≡ b.now.heading }
     ensures { IfOk result (IsRelation a.now.heading (set.difference (body a.now) (body b.now))) }
 {
+    if a.len() <= b.len() / FEW {
+        return beyond(alloc, a, b);
+    }
     let kept = Kept {
         first: true,
         both: false,
