@@ -3,7 +3,8 @@ use crate::samples::{Result, add, names, shown};
 use std::alloc::Global;
 use td_algebra::{
     compose, group, intersect, is_binary, is_relation_valued, is_tuple_valued, join, matching,
-    minus, not_matching, project, rename, tclose, tell_apart, ungroup, union, unwrap, wrap,
+    minus, not_matching, project, rename, tclose, tell_apart, tell_apart_from, ungroup, union,
+    unwrap, wrap,
 };
 use td_relations::Relation;
 use td_values::{
@@ -229,6 +230,26 @@ fn parts_tell_tuples_apart(rt: HostRuntime) -> Result<()> {
     assert!(rt; are_apart(rt.alloc(), &["PNO"])?);
     assert!(rt; !are_apart(rt.alloc(), &["SNO"])?);
     assert!(rt; !are_apart(rt.alloc(), &[])?);
+    Ok(())
+}
+
+// Whether this shipment is told from the others by its part at these names.
+fn is_apart(alloc: Global, row: &[&str], by: &[&str]) -> Result<bool> {
+    let new = table(alloc, &["SNO", "PNO"], &[row])?;
+    let by = names(alloc, by)?;
+    let all = shipments(alloc)?;
+    if !new.same_heading(&all) {
+        return Ok(false);
+    }
+    Ok(tell_apart_from(alloc, &new, &all, &by)?)
+}
+
+#[test]
+fn new_tuples_are_told_from_others(rt: HostRuntime) -> Result<()> {
+    assert!(rt; is_apart(rt.alloc(), &["S1", "P1"], &["PNO"])?);
+    assert!(rt; !is_apart(rt.alloc(), &["S2", "P1"], &["PNO"])?);
+    assert!(rt; !is_apart(rt.alloc(), &["S1", "P1"], &["SNO"])?);
+    assert!(rt; is_apart(rt.alloc(), &["S2", "P1"], &["SNO"])?);
     Ok(())
 }
 

@@ -22,3 +22,4 @@ pub mod Ending
 pub mod Extremes
 pub mod PlacedParts
 pub mod Apart
+pub mod Told
