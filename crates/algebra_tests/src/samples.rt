@@ -33,7 +33,8 @@ pub enum Term {
     Stops(usize),
 }
 
-fn number(tuple: &Tuple, place: usize) -> i64 {
+/// The number at a place of the tuple, of which the places are in name order; 0 where there is none.
+pub fn number(tuple: &Tuple, place: usize) -> i64 {
     match tuple.attributes().get(place) {
         Some((_, value)) => match &value.kind {
             Kind::Integer(n) => *n,

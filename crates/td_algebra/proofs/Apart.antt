@@ -29,7 +29,7 @@ use Rattle.td_algebra.proofs.PlacedParts.{itself, same_key}
 use Rattle.td_algebra.proofs.Runs.{same_at}
 
 -- ---- how often a tuple is in a list
-abbrev one_of : Attrs → Attrs → ℕ
+abbrev pub one_of : Attrs → Attrs → ℕ
 one_of t u = cond (eq_by_cmp attrs_order t u) 1 0
 
 neither : (a b : Bool) → (a || b) ≡ false → (a ≡ false) × (b ≡ false)

@@ -23,3 +23,5 @@ pub mod Extremes
 pub mod PlacedParts
 pub mod Apart
 pub mod Told
+pub mod ByKey
+pub mod KeyLaws
