@@ -69,6 +69,7 @@ enum Operand {
     OneAndTwo,
     TwoAndThree,
     Letters,
+    Lettered,
     Nested,
     NestedOne,
     User,
@@ -83,6 +84,7 @@ fn made(alloc: Global, operand: Operand) -> Result<Relation> {
         Operand::OneAndTwo => table(alloc, &["A"], &[&["1"], &["2"]]),
         Operand::TwoAndThree => table(alloc, &["A"], &[&["2"], &["3"]]),
         Operand::Letters => table(alloc, &["B"], &[&["x"], &["y"]]),
+        Operand::Lettered => table(alloc, &["A", "B"], &[&["2", "x"], &["2", "y"], &["3", "x"]]),
         Operand::Nested => nested(alloc, &[("1", &[&["x"], &["y"]]), ("2", &[&["x"]])]),
         Operand::NestedOne => nested(alloc, &[("1", &[&["y"], &["x"]])]),
         Operand::User => user_values(alloc),
@@ -338,8 +340,9 @@ fn joins(rt: HostRuntime) -> Result<()> {
     Ok(())
 }
 
-/// Suppliers that ship, those that do not, and their cities with the parts; all match dee, and none dum.
-const MATCHES: [Case; 6] = [
+/// Suppliers that ship, those that do not, and their cities with the parts; all match dee, and none dum. The last four
+/// have fewer tuples than what they match.
+const MATCHES: [Case; 10] = [
     Case {
         pair: Pair::Matching,
         first: Operand::Suppliers,
@@ -376,11 +379,35 @@ const MATCHES: [Case; 6] = [
         second: Operand::Dee,
         want: SUPPLIERS,
     },
+    Case {
+        pair: Pair::Matching,
+        first: Operand::OneAndTwo,
+        second: Operand::Lettered,
+        want: "RELATION { A CHAR } { TUPLE { A '2' } }",
+    },
+    Case {
+        pair: Pair::NotMatching,
+        first: Operand::OneAndTwo,
+        second: Operand::Lettered,
+        want: "RELATION { A CHAR } { TUPLE { A '1' } }",
+    },
+    Case {
+        pair: Pair::Matching,
+        first: Operand::Dee,
+        second: Operand::Lettered,
+        want: DEE,
+    },
+    Case {
+        pair: Pair::NotMatching,
+        first: Operand::Dee,
+        second: Operand::Lettered,
+        want: DUM,
+    },
 ];
 
 #[test]
 fn matches(rt: HostRuntime) -> Result<()> {
-    for i in 0..6usize {
+    for i in 0..10usize {
         assert!(rt; answer(rt.alloc(), MATCHES[i])?.as_str() == MATCHES[i].want);
     }
     Ok(())

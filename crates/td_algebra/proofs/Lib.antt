@@ -25,3 +25,5 @@ pub mod Apart
 pub mod Told
 pub mod ByKey
 pub mod KeyLaws
+pub mod Marks
+pub mod Matchings
