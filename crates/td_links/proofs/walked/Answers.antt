@@ -1,14 +1,14 @@
-use Rattle.std.proofs.Common.{◌≡◌, ◌<◌, ◌≤◌, [], length, vec_len, get_or, sym, ap, ◌∙◌, subst, arith}
-use Rattle.std.specs.List.{All}
+use Rattle.std.proofs.Common.{◌≡◌, ◌<◌, ◌≤◌, [], length, false, vec_len, get_or, sym, ap, ◌∙◌, subst, arith}
 use Rattle.std.proofs.lemmas.Grind.{get_or_default_zero}
+use Rattle.std.proofs.lemmas.List.{length-replicate}
 use Rattle.td_links.specs.ForProofs.{IsMarked, Visits}
 use Rattle.td_links.proofs.Walks.{unmarked, few, begun, gone_on, reaches}
-use Rattle.td_links.proofs.reached.Goals as goal
+use Rattle.td_links.proofs.walked.Goals as goal
 
 pub visit_all-requires : goal.visit_all-requires
 visit_all-requires g c =
-    let marks = c.in_ok-marks.marks.items in
-    record { marked = subst (IsMarked marks) (sym c.new-places.ensures.items) (unmarked marks c.places.result (c.in_ok-marks.ensures.items_if_clones_equal (λ y e. e))) }
+    let marks = c.args.marks.now.items in
+    record { marked = subst (IsMarked marks) (sym c.new-places.ensures.items) (unmarked marks (length (g.L.Leads.links c.args.links.now)) c.requires) }
 
 pub loop-at-init : goal.loop-at-init
 loop-at-init g c =
@@ -16,10 +16,11 @@ loop-at-init g c =
     let seen = c.in_ok-visit_all.ensures in
     let marks = c.visit_all.new.marks in
     let places = c.visit_all.new.places.items in
-    let many = c.in_ok-marks.ensures.len ∙ c.places.ensures in
+    let many : length c.args.marks.now.items ≡ length links = ap length c.requires ∙ length-replicate (length links) false in
+    let counted : vec_len c.args.marks.now ≡ length links = omega (arith, c.args.marks.now.ok, many) in
     begun links c.args.starts.now marks.items places seen.marked
-    (omega (arith, marks.ok, seen.len, c.in_ok-marks.ensures.len, c.places.ensures))
-    (subst (λ n. Visits n [] c.args.starts.now places) many (subst (λ old. Visits (vec_len c.in_ok-marks.marks) old c.args.starts.now places) c.new-places.ensures.items seen.visits))
+    (omega (arith, marks.ok, seen.len, counted))
+    (subst (λ n. Visits n [] c.args.starts.now places) counted (subst (λ old. Visits (vec_len c.args.marks.now) old c.args.starts.now places) c.new-places.ensures.items seen.visits))
 
 pub loop-at-preserved : goal.loop-at-preserved
 loop-at-preserved g c =
@@ -43,8 +44,14 @@ loop-at-smaller g c =
     let fewer = few c.loop-at.marks.items old inv.marked in
     omega (arith, within, fewer, inv.many)
 
-pub returns : goal.returns
-returns g c = λ w.
+pub returns-clause-reached : goal.returns-clause-reached
+returns-clause-reached g c = λ w.
     let old = c.loop-at.places.items in
     let ended : length old ≤ c.loop-at.at = omega (arith, c.loop-at.places.ok, c.loop-at-test.false, c.len.ensures) in
     reaches (g.L.Leads.links c.args.links.now) c.args.starts.now c.loop-at.at c.loop-at.marks.items old c.loop-at.invariant ended w
+
+pub returns-clause-marked : goal.returns-clause-marked
+returns-clause-marked g c = c.loop-at.invariant.marked
+
+pub returns-clause-many : goal.returns-clause-many
+returns-clause-many g c = c.loop-at.invariant.many ∙ sym (ap length c.requires ∙ length-replicate (length (g.L.Leads.links c.args.links.now)) false)
