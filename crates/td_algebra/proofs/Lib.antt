@@ -27,3 +27,4 @@ pub mod ByKey
 pub mod KeyLaws
 pub mod Marks
 pub mod Matchings
+pub mod GroupParts

@@ -39,7 +39,7 @@ pub use parts::{project, rename};
 pub use restriction::restrict;
 pub use sets::{intersect, minus, union};
 pub use summaries::aggregate;
-pub use summarization::summarize;
+pub use summarization::{summarize, summarize_by};
 pub use td_tuples::{Item, Summary, is_relation_valued, is_tuple_valued};
 pub use uniqueness::tell_apart;
 pub use wraps::wrap;
