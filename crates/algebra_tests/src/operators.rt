@@ -287,7 +287,7 @@ fn names_are_replaced_at_once(rt: HostRuntime) -> Result<()> {
 
 /// With some attributes in common, all and none; with dum and dee; of relations in attributes, and of values without
 /// components.
-const JOINS: [Case; 7] = [
+const JOINS: [Case; 8] = [
     Case {
         pair: Pair::Join,
         first: Operand::Suppliers,
@@ -326,6 +326,12 @@ const JOINS: [Case; 7] = [
     },
     Case {
         pair: Pair::Join,
+        first: Operand::OneAndTwo,
+        second: Operand::Lettered,
+        want: "RELATION { A CHAR, B CHAR } { TUPLE { A '2', B 'x' }, TUPLE { A '2', B 'y' } }",
+    },
+    Case {
+        pair: Pair::Join,
         first: Operand::User,
         second: Operand::User,
         want: "RELATION { A T } { TUPLE { A P ( ) } }",
@@ -334,7 +340,7 @@ const JOINS: [Case; 7] = [
 
 #[test]
 fn joins(rt: HostRuntime) -> Result<()> {
-    for i in 0..7usize {
+    for i in 0..8usize {
         assert!(rt; answer(rt.alloc(), JOINS[i])?.as_str() == JOINS[i].want);
     }
     Ok(())
