@@ -6,6 +6,8 @@
 #[cfg(test)]
 mod chains;
 #[cfg(test)]
+mod key_indexes;
+#[cfg(test)]
 mod operators;
 #[cfg(test)]
 mod samples;

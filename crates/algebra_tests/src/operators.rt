@@ -3,7 +3,8 @@ use crate::samples::{Result, add, names, shown};
 use std::alloc::Global;
 use td_algebra::{
     compose, group, intersect, is_binary, is_relation_valued, is_tuple_valued, join, matching,
-    minus, not_matching, project, rename, tclose, tell_apart, ungroup, union, unwrap, wrap,
+    minus, not_matching, project, rename, tclose, tell_apart, tell_apart_from, ungroup, union,
+    unwrap, wrap,
 };
 use td_relations::Relation;
 use td_values::{
@@ -68,6 +69,7 @@ enum Operand {
     OneAndTwo,
     TwoAndThree,
     Letters,
+    Lettered,
     Nested,
     NestedOne,
     User,
@@ -82,6 +84,7 @@ fn made(alloc: Global, operand: Operand) -> Result<Relation> {
         Operand::OneAndTwo => table(alloc, &["A"], &[&["1"], &["2"]]),
         Operand::TwoAndThree => table(alloc, &["A"], &[&["2"], &["3"]]),
         Operand::Letters => table(alloc, &["B"], &[&["x"], &["y"]]),
+        Operand::Lettered => table(alloc, &["A", "B"], &[&["2", "x"], &["2", "y"], &["3", "x"]]),
         Operand::Nested => nested(alloc, &[("1", &[&["x"], &["y"]]), ("2", &[&["x"]])]),
         Operand::NestedOne => nested(alloc, &[("1", &[&["y"], &["x"]])]),
         Operand::User => user_values(alloc),
@@ -232,6 +235,26 @@ fn parts_tell_tuples_apart(rt: HostRuntime) -> Result<()> {
     Ok(())
 }
 
+// Whether this shipment is told from the others by its part at these names.
+fn is_apart(alloc: Global, row: &[&str], by: &[&str]) -> Result<bool> {
+    let new = table(alloc, &["SNO", "PNO"], &[row])?;
+    let by = names(alloc, by)?;
+    let all = shipments(alloc)?;
+    if !new.same_heading(&all) {
+        return Ok(false);
+    }
+    Ok(tell_apart_from(alloc, &new, &all, &by)?)
+}
+
+#[test]
+fn new_tuples_are_told_from_others(rt: HostRuntime) -> Result<()> {
+    assert!(rt; is_apart(rt.alloc(), &["S1", "P1"], &["PNO"])?);
+    assert!(rt; !is_apart(rt.alloc(), &["S2", "P1"], &["PNO"])?);
+    assert!(rt; !is_apart(rt.alloc(), &["S1", "P1"], &["SNO"])?);
+    assert!(rt; is_apart(rt.alloc(), &["S2", "P1"], &["SNO"])?);
+    Ok(())
+}
+
 // A becomes B, and B becomes A.
 fn exchange(alloc: Global) -> Result<Vec<(Name, Name)>> {
     let mut items = Vec::new(alloc);
@@ -264,7 +287,7 @@ fn names_are_replaced_at_once(rt: HostRuntime) -> Result<()> {
 
 /// With some attributes in common, all and none; with dum and dee; of relations in attributes, and of values without
 /// components.
-const JOINS: [Case; 7] = [
+const JOINS: [Case; 8] = [
     Case {
         pair: Pair::Join,
         first: Operand::Suppliers,
@@ -303,6 +326,12 @@ const JOINS: [Case; 7] = [
     },
     Case {
         pair: Pair::Join,
+        first: Operand::OneAndTwo,
+        second: Operand::Lettered,
+        want: "RELATION { A CHAR, B CHAR } { TUPLE { A '2', B 'x' }, TUPLE { A '2', B 'y' } }",
+    },
+    Case {
+        pair: Pair::Join,
         first: Operand::User,
         second: Operand::User,
         want: "RELATION { A T } { TUPLE { A P ( ) } }",
@@ -311,14 +340,15 @@ const JOINS: [Case; 7] = [
 
 #[test]
 fn joins(rt: HostRuntime) -> Result<()> {
-    for i in 0..7usize {
+    for i in 0..8usize {
         assert!(rt; answer(rt.alloc(), JOINS[i])?.as_str() == JOINS[i].want);
     }
     Ok(())
 }
 
-/// Suppliers that ship, those that do not, and their cities with the parts; all match dee, and none dum.
-const MATCHES: [Case; 6] = [
+/// Suppliers that ship, those that do not, and their cities with the parts; all match dee, and none dum. The last four
+/// have fewer tuples than what they match.
+const MATCHES: [Case; 10] = [
     Case {
         pair: Pair::Matching,
         first: Operand::Suppliers,
@@ -355,11 +385,35 @@ const MATCHES: [Case; 6] = [
         second: Operand::Dee,
         want: SUPPLIERS,
     },
+    Case {
+        pair: Pair::Matching,
+        first: Operand::OneAndTwo,
+        second: Operand::Lettered,
+        want: "RELATION { A CHAR } { TUPLE { A '2' } }",
+    },
+    Case {
+        pair: Pair::NotMatching,
+        first: Operand::OneAndTwo,
+        second: Operand::Lettered,
+        want: "RELATION { A CHAR } { TUPLE { A '1' } }",
+    },
+    Case {
+        pair: Pair::Matching,
+        first: Operand::Dee,
+        second: Operand::Lettered,
+        want: DEE,
+    },
+    Case {
+        pair: Pair::NotMatching,
+        first: Operand::Dee,
+        second: Operand::Lettered,
+        want: DUM,
+    },
 ];
 
 #[test]
 fn matches(rt: HostRuntime) -> Result<()> {
-    for i in 0..6usize {
+    for i in 0..10usize {
         assert!(rt; answer(rt.alloc(), MATCHES[i])?.as_str() == MATCHES[i].want);
     }
     Ok(())

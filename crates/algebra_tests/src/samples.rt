@@ -1,7 +1,9 @@
 //! What the tests make: relations of integers, terms on their tuples, and answers as texts.
 use std::alloc::Global;
 use std::test::Fail;
-use td_algebra::{Fault, Item, Stop, Summary, aggregate, extend, restrict, summarize};
+use td_algebra::{
+    Fault, Item, Stop, Summary, aggregate, extend, restrict, summarize, summarize_by,
+};
 use td_relations::Relation;
 use td_values::{Heading, Kind, Name, TdType, Tuple, TupleBuilder, TypeKind, Value, fits, show};
 
@@ -33,7 +35,8 @@ pub enum Term {
     Stops(usize),
 }
 
-fn number(tuple: &Tuple, place: usize) -> i64 {
+/// The number at a place of the tuple, of which the places are in name order; 0 where there is none.
+pub fn number(tuple: &Tuple, place: usize) -> i64 {
     match tuple.attributes().get(place) {
         Some((_, value)) => match &value.kind {
             Kind::Integer(n) => *n,
@@ -186,6 +189,17 @@ pub fn summarized(
     items: Vec<Item<Summary<Term>>>,
 ) -> Result<String> {
     told(alloc, summarize(alloc, &relation, &per, &items, &value))
+}
+
+/// The relation's parts at these names with these summaries.
+pub fn summarized_by(
+    alloc: Global,
+    relation: Relation,
+    by: &[&str],
+    items: Vec<Item<Summary<Term>>>,
+) -> Result<String> {
+    let by = names(alloc, by)?;
+    told(alloc, summarize_by(alloc, &relation, &by, &items, &value))
 }
 
 /// The summary of the relation.

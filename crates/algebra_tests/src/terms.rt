@@ -1,5 +1,7 @@
 //! Worked examples of the operators that ask a function of tuples; answers and errors come from their definitions.
-use crate::samples::{Result, Term, extended, item, relation, restricted, summarized};
+use crate::samples::{
+    Result, Term, extended, item, relation, restricted, summarized, summarized_by,
+};
 use std::alloc::Global;
 use td_algebra::{Item, Summary};
 use td_relations::Relation;
@@ -86,6 +88,24 @@ fn empty_groups_are_summarized(rt: HostRuntime) -> Result<()> {
     assert!(rt; sums.as_str() == want);
     let greatest = summed(rt.alloc(), rows, Summary::Max(QUANTITY))?;
     assert!(rt; greatest.as_str() == "empty");
+    Ok(())
+}
+
+// For each value of the attributes how many shipments have it, and the sum of the quantities.
+fn summed_by(alloc: Global, by: &[&str]) -> Result<String> {
+    let items = with_count(alloc, Summary::Sum(QUANTITY))?;
+    let rows: Rows<'_> = &[&[1, 200, 1], &[2, 300, 1], &[1, 400, 2]];
+    summarized_by(alloc, shipments(alloc, rows)?, by, items)
+}
+
+#[test]
+fn parts_are_summarized(rt: HostRuntime) -> Result<()> {
+    let alloc = rt.alloc();
+    let want =
+        "RELATION { N INTEGER, SNO INTEGER, T INTEGER } { TUPLE { N 1, SNO 2, T 400 }, TUPLE { N 2, SNO 1, T 500 } }";
+    assert!(rt; summed_by(alloc, &["SNO"])?.as_str() == want);
+    let all = "RELATION { N INTEGER, T INTEGER } { TUPLE { N 3, T 900 } }";
+    assert!(rt; summed_by(alloc, &[])?.as_str() == all);
     Ok(())
 }
 

@@ -29,7 +29,7 @@ use Rattle.td_algebra.proofs.PlacedParts.{itself, same_key}
 use Rattle.td_algebra.proofs.Runs.{same_at}
 
 -- ---- how often a tuple is in a list
-abbrev one_of : Attrs → Attrs → ℕ
+abbrev pub one_of : Attrs → Attrs → ℕ
 one_of t u = cond (eq_by_cmp attrs_order t u) 1 0
 
 neither : (a b : Bool) → (a || b) ≡ false → (a ≡ false) × (b ≡ false)
@@ -142,7 +142,7 @@ module _ (r : RowsData) (ns : List (List ℕ)) (x : TupleIndex) (index : IsIndex
             by_sum zero (suc m) g h = absurd (q (omega (arith, h)) a f e)
 
 -- ---- as the relation's own names say it
-by_columns : (names : List (List ℕ)) (r : RowsData) (rows : AreRows r.heading r.tuples) (h : Header) → h ≡ columns_in names r.heading → (t : Attrs) → Has r t → cut (names_of h) t ≡ cut names t
+pub by_columns : (names : List (List ℕ)) (r : RowsData) (rows : AreRows r.heading r.tuples) (h : Header) → h ≡ columns_in names r.heading → (t : Attrs) → Has r t → cut (names_of h) t ≡ cut names t
 by_columns names r rows h e t has = ap (λ w. cut (names_of w) t) e ∙ part_by_columns (is_in names) r.heading t (has_fits r rows t has)
 
 pub tells : (names : List (List ℕ)) (r : RowsData) (h : Header) (x : TupleIndex) (b : Bool) → h ≡ columns_in names r.heading → IsIndex r (names_of h) r (names_of h) x → IsSortedByKey (values_at x.places.items) attrs_order x.tuples.items → IsTrue b ↔ Repeat x.places.items x.tuples.items → IsTrue (not b) ↔ TellApart names r

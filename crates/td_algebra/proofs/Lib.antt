@@ -22,3 +22,9 @@ pub mod Ending
 pub mod Extremes
 pub mod PlacedParts
 pub mod Apart
+pub mod Told
+pub mod ByKey
+pub mod KeyLaws
+pub mod Marks
+pub mod Matchings
+pub mod GroupParts

@@ -2,6 +2,7 @@ pub mod Stops
 pub mod Operators
 pub mod Nested
 pub mod Keys
+pub mod KeyIndexes
 pub mod Closures
 pub mod Raising
 pub mod Restricting

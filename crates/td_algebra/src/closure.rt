@@ -1,5 +1,5 @@
 //! The transitive closure: a walk from each value along the pairs.
-ghost use Rattle.std.specs.Prelude.{◌≡◌, ◌↔◌, ◌++◌, ◌<◌, ℕ, Some, true, length, slice_get, IsTrue, IfOk, IfSome, OnOk};
+ghost use Rattle.std.specs.Prelude.{◌≡◌, ◌↔◌, ◌++◌, ◌<◌, ℕ, Some, true, false, length, replicate, slice_get, IsTrue, IfOk, IfSome, OnOk};
 ghost use Rattle.std.specs.FinSet as set;
 ghost use Rattle.std.specs.List.{All, Contains, flat_map};
 ghost use Rattle.std.specs.List.Sorted.{IsStrictlySortedBy};
@@ -13,7 +13,7 @@ ghost use Rattle.td_values.specs.Data.{Datum, attr, no_attrs};
 ghost use Rattle.td_values.specs.Order.{attrs_order, text_cmp};
 
 use std::alloc::{AllocError, Global};
-use td_links::{Leads, Links, reached};
+use td_links::{Leads, Links, reached_by, unmarked};
 use td_relations::Relation;
 use td_values::{Heading, Name, Tuple, Value, compare_types, copy};
 
@@ -198,14 +198,21 @@ fn add_pairs(
     Ok(())
 }
 
-// The places that are reached from this one, by a step or more.
-fn beyond(alloc: Global, links: &Links, place: usize) -> Result<Vec<usize>, AllocError>
-    requires { StayWithin (length links.now) links.now }
-    ensures { IfOk result (λ v. (w : ℕ) → Contains v.items w ↔ Reaches links.now place w) }
+// The places that are reached from this one, by a step or more, by marks that are lent.
+fn beyond(
+    alloc: Global,
+    links: &Links,
+    place: usize,
+    marks: &mut Vec<bool>,
+) -> Result<Vec<usize>, AllocError>
+    requires within { StayWithin (length links.now) links.now }
+    requires unmarked { marks.old.items ≡ replicate (length links.now) false }
+    ensures reached { IfOk result (λ v. (w : ℕ) → Contains v.items w ↔ Reaches links.now place w) }
+    ensures unmarked { OnOk result (marks.new.items ≡ marks.old.items) }
 {
     let mut next = Vec::new(alloc);
     links.add_next(place, &mut next)?;
-    reached(alloc, links, &next)
+    reached_by(alloc, links, &next, marks)
 }
 
 // The pairs of each end with those that it reaches.
@@ -222,8 +229,9 @@ fn pairs_of(
     ensures { IfOk result (λ v. ArePairs first.now second.now ends.now links.now (length ends.now) v.items) }
 {
     let mut pairs = Vec::new(alloc);
+    let mut marks = unmarked(alloc, links)?;
     for from in 0..ends.len() {
-        let places = beyond(alloc, links, from)?;
+        let places = beyond(alloc, links, from, &mut marks)?;
         add_pairs(alloc, &mut pairs, first, second, ends, from, &places)?;
     }
     Ok(pairs)
@@ -237,9 +245,9 @@ pub fn is_binary(heading: &Heading) -> bool
     fields.len() == 2 && compare_types(&fields[0].1, &fields[1].1).is_eq()
 }
 
-/// The least transitive relation that contains the relation. For n pairs of v values it costs of the order of n log n
-/// comparisons, from each value a mark for each other one, v times v in all, and a look at each pair that it leads to,
-/// and for a closure of m pairs m tuples, which are made in order.
+/// The least transitive relation that contains the relation. For n pairs it costs of the order of n log n comparisons,
+/// for each value a look at each pair of what it leads to, and for a closure of m pairs m tuples, which are sorted. The
+/// walks from the values share one list of marks.
 pub fn tclose(alloc: Global, r: &Relation) -> Result<Relation, AllocError>
     requires { IsBinary r.now.heading }
     ensures { IfOk result (IsRelationOf r.now.heading (Closed r.now)) }

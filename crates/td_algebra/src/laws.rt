@@ -1,11 +1,25 @@
 //! The laws of the operators as functions, of the transitive closure, and of the greatest and the least value.
 ghost use Rattle.td_algebra.specs.Closures.{TcloseIsLeast};
 ghost use Rattle.td_algebra.specs.FunctionLaws.{ComposeOfIs, ExtendedIs, GroupingOfIs, IntersectOfIs, JoinOfIs, MatchingOfIs, MinusOfIs, NotMatchingOfIs, ProjectOfIs, RenameOfIs, RestrictedIs, SummarizedIs, TcloseOfIs, UngroupOfIs, UnionOfIs, UnwrapOfIs, WrapOfIs};
+ghost use Rattle.td_algebra.specs.Keys.{KeyAfter, KeyIndexInserted, KeyIndexRemoved, KeyIndexTellsApart};
 ghost use Rattle.td_algebra.specs.Summaries.{MaxIsGreatest, MinIsLeast};
 
 /// The transitive closure is the least transitive relation that contains the relation.
 pub fn tclose_is_least()
     ensures { TcloseIsLeast }
+{}
+
+/// Names that told the tuples apart before a change do so after it where they tell those that it inserted from all
+/// others.
+pub fn key_after()
+    ensures { KeyAfter }
+{}
+
+/// What an index by a key says of the relation whose tuples it has, and what keeps it an index.
+pub fn key_index_follows()
+    ensures tells_apart { KeyIndexTellsApart }
+    ensures inserted { KeyIndexInserted }
+    ensures removed { KeyIndexRemoved }
 {}
 
 /// MAX is one of the values, and none of them is greater.

@@ -23,7 +23,12 @@ fn put(kept: &mut Vec<Tuple>, keep: bool, tuple: &Tuple) -> Result<(), AllocErro
     Ok(())
 }
 
-fn selected(alloc: Global, tuples: &[Tuple], keep: &[bool]) -> Result<Vec<Tuple>, AllocError>
+// The tuples at whose places it says so.
+pub(crate) fn selected(
+    alloc: Global,
+    tuples: &[Tuple],
+    keep: &[bool],
+) -> Result<Vec<Tuple>, AllocError>
     ensures { IfOk result (λ v. v.items ≡ select tuples.now keep.now) }
 {
     let mut kept = Vec::new(alloc);

@@ -1,10 +1,13 @@
-//! Summaries of one relation per the tuples of another.
+//! Summaries of one relation per the tuples of another, or per its own parts.
 ghost use Rattle.std.specs.Prelude.{◌≡◌, Result, IfOk};
 ghost use Rattle.std.specs.List.{All};
 ghost use Rattle.td_values.specs.Data.{Ty};
 ghost use Rattle.td_values.specs.Whole.{type_of};
 ghost use Rattle.td_relations.specs.Sets.{IsRelationOf};
-ghost use Rattle.td_algebra.specs.ForProofs.Index.{found};
+ghost use Rattle.td_algebra.specs.ForProofs.Index.{AreParts, IsByParts, IsIndex, found};
+ghost use Rattle.td_algebra.specs.Functions.{project_of};
+ghost use Rattle.td_tuples.specs.Parts.{names_of};
+ghost use Rattle.td_values.specs.Rows.{RowsData};
 ghost use Rattle.td_algebra.specs.Raising.{Answers, Unless};
 ghost use Rattle.td_tuples.specs.Items.{extended_columns};
 ghost use Rattle.td_algebra.specs.Extending.{Meaning, TakesBoth, Means, Extended, RaisedBy};
@@ -14,10 +17,10 @@ use crate::errors::Fault;
 use crate::extension::extend;
 use crate::index::TupleIndex;
 use crate::summaries::over_group;
-use std::alloc::Global;
+use std::alloc::{AllocError, Global};
 use td_relations::Relation;
-use td_tuples::{Item, Summary};
-use td_values::{Tuple, Value};
+use td_tuples::{Item, Summary, columns_in, cut};
+use td_values::{Heading, Name, Tuple, Value};
 
 // The summary over the tuples that the index has for this one.
 fn over_run<E, F: Fn(&E, &Tuple) -> Result<Value, Fault>>(
@@ -31,6 +34,30 @@ fn over_run<E, F: Fn(&E, &Tuple) -> Result<Value, Fault>>(
     ensures { (m : Meaning E) → All (MeansTerm (F.post f.now) m summary.now) index.now.tuples.items → Answers result (summary_over m (found index.now tuple.now) summary.now) }
 {
     over_group(alloc, index.run(tuple), summary, f)
+}
+
+// Each tuple of the relation with the summaries over what the index has for it, whatever relation's tuples those are.
+fn over_index<E, F: Fn(&E, &Tuple) -> Result<Value, Fault>>(
+    alloc: Global,
+    groups: &TupleIndex,
+    per: &Relation,
+    items: &[Item<Summary<E>>],
+    f: &F,
+) -> Result<Relation, Fault>
+    requires { All (λ t. All (λ i. TakesTerm (F.pre f.now) i.term t) items.now) groups.now.tuples.items }
+    ensures { (r : RowsData) → IsIndex r (names_of per.now.heading) per.now (names_of per.now.heading) groups.now → (m : Meaning E) → All (λ t. All (λ i. MeansTerm (F.post f.now) m i.term t) items.now) groups.now.tuples.items →
+        Unless (RaisedBy (over_groups m r per.now.heading) items.now per.now)
+        (IsRelationOf (extended_columns items.now per.now.heading) (Extended (over_groups m r per.now.heading) items.now per.now)) result }
+{
+    extend(
+        alloc,
+        per,
+        items,
+        &|summary: &Summary<E>, tuple: &Tuple| -> Result<Value, Fault>
+            requires { All (TakesTerm (F.pre f.now) summary.now) groups.now.tuples.items }
+            ensures { (m : Meaning E) → All (MeansTerm (F.post f.entry.now) m summary.now) groups.entry.now.tuples.items → Answers result (summary_over m (found groups.entry.now tuple.now) summary.now) }
+        { over_run(alloc, groups, tuple, summary, f) },
+    )
 }
 
 /// Each tuple of the second relation with the summaries over its group, which are the tuples of the first that agree
@@ -49,14 +76,60 @@ pub fn summarize<E, F: Fn(&E, &Tuple) -> Result<Value, Fault>>(
         (IsRelationOf (extended_columns items.now per.now.heading) (Extended (over_groups m relation.now per.now.heading) items.now per.now)) result }
 {
     let index = TupleIndex::new(alloc, relation, per.heading(), per, per.heading())?;
-    let groups: &TupleIndex = &index;
-    extend(
-        alloc,
-        per,
-        items,
-        &|summary: &Summary<E>, tuple: &Tuple| -> Result<Value, Fault>
-            requires { All (TakesTerm (F.pre f.now) summary.now) groups.now.tuples.items }
-            ensures { (m : Meaning E) → All (MeansTerm (F.post f.entry.now) m summary.now) groups.entry.now.tuples.items → Answers result (summary_over m (found groups.entry.now tuple.now) summary.now) }
-        { over_run(alloc, groups, tuple, summary, f) },
-    )
+    over_index(alloc, &index, per, items, f)
+}
+
+// The part at the heading's names of the first tuple of each run.
+fn parts_of_runs(
+    alloc: Global,
+    index: &TupleIndex,
+    heading: &Heading,
+) -> Result<Vec<Tuple>, AllocError>
+    requires { IsByParts (names_of heading.now) index.now }
+    ensures { IfOk result (λ v. AreParts (names_of heading.now) index.now.tuples.items index.now.tuples.items v.items) }
+{
+    let mut out = Vec::new(alloc);
+    for at in 0..index.tuples.len() {
+        if !index.repeats(at) {
+            out.push(cut(alloc, heading, &index.tuples[at])?)?;
+        }
+    }
+    Ok(out)
+}
+
+// The tuples' parts at these names, each once, and the relation's tuples by them: the runs of one sort.
+fn runs(
+    alloc: Global,
+    relation: &Relation,
+    names: &[Name],
+) -> Result<(TupleIndex, Relation), AllocError>
+    ensures parts { IfOk result (λ v. v.1 ≡ project_of names.now relation.now) }
+    ensures index { IfOk result (λ v. IsIndex relation.now (names_of v.1.heading) v.1 (names_of v.1.heading) v.0) }
+{
+    let columns = columns_in(alloc, names, relation.heading())?;
+    let index = TupleIndex::new(alloc, relation, &columns, relation, &columns)?;
+    let parts = parts_of_runs(alloc, &index, &columns)?;
+    let per = Relation::from_tuples(columns, parts);
+    let index = index.sought_by(alloc, &per)?;
+    Ok((index, per))
+}
+
+/// Each part of the relation's tuples at these names with the summaries over the tuples that have it: as `summarize`
+/// per the projection on the names. It sorts the tuples once, by their values at places, and makes a part for each
+/// group: for n tuples and g groups it costs of the order of n log n comparisons, and each term once on each tuple.
+pub fn summarize_by<E, F: Fn(&E, &Tuple) -> Result<Value, Fault>>(
+    alloc: Global,
+    relation: &Relation,
+    names: &[Name],
+    items: &[Item<Summary<E>>],
+    f: &F,
+) -> Result<Relation, Fault>
+    requires { All (λ t. All (λ i. TakesTerm (F.pre f.now) i.term t) items.now) relation.now.tuples }
+    ensures { (m : Meaning E) → All (λ t. All (λ i. MeansTerm (F.post f.now) m i.term t) items.now) relation.now.tuples →
+        let per = project_of names.now relation.now in
+        Unless (RaisedBy (over_groups m relation.now per.heading) items.now per)
+        (IsRelationOf (extended_columns items.now per.heading) (Extended (over_groups m relation.now per.heading) items.now per)) result }
+{
+    let (index, per) = runs(alloc, relation, names)?;
+    over_index(alloc, &index, &per, items, f)
 }

@@ -53,6 +53,12 @@ read_false [] w b lt is off = absurd (omega arith)
 pub few : (marks : List Bool) (places : List ℕ) → IsMarked marks places → length places ≤ length marks
 few marks places m = let c = m.counted in omega (arith, c)
 
+-- where none is set
+pub none_left : (marks : List Bool) → ((v : ℕ) → get_or marks v false ≡ true → ⊥) → marks ≡ replicate (length marks) false
+none_left [] none = refl
+none_left (true ∷ marks) none = absurd (none 0 refl)
+none_left (false ∷ marks) none = ap (λ bs. false ∷ bs) (none_left marks (λ v e. none (suc v) e))
+
 -- ---- visits
 pub visits_none : (n : ℕ) (old : List ℕ) → Visits n old [] old
 visits_none n old = record { rest = []; behind = sym (append-nil old); only = λ w h. absurd (omega (arith, h.1)); all = λ w h lt. absurd (omega (arith, h.1)) }

@@ -1,7 +1,7 @@
 //! Links between places, and the places that a walk along them reaches.
 #![tactic(auto)]
 
-ghost use Rattle.std.specs.Prelude.{◌≡◌, ◌↔◌, ◌<◌, ◌++◌, ℕ, List, [], ◌∷◌, length, slice_index_or, replicate, vec_len, IfOk, OnOk};
+ghost use Rattle.std.specs.Prelude.{◌≡◌, ◌↔◌, ◌<◌, ◌++◌, ℕ, List, [], ◌∷◌, false, length, slice_index_or, replicate, vec_len, IfOk, OnOk};
 ghost use Rattle.std.specs.List.{Contains};
 ghost use Rattle.td_links.specs.ForProofs.{IsMarked, Visits};
 ghost use Rattle.td_links.specs.Links.{ReachedFrom, with_link};
@@ -116,6 +116,68 @@ fn look<L: Leads>(links: &L, place: usize, next: &mut Vec<usize>) -> Result<(), 
     links.add_next(place, next)
 }
 
+// The walk: what it comes to is marked.
+fn walked<L: Leads>(
+    alloc: Global,
+    links: &L,
+    starts: &[usize],
+    marks: &mut Vec<bool>,
+) -> Result<Vec<usize>, AllocError>
+    requires { marks.old.items ≡ replicate (length (L.links links.now)) false }
+    ensures reached { IfOk result (λ v. (w : ℕ) → Contains v.items w ↔ ReachedFrom (L.links links.now) starts.now w) }
+    ensures marked { IfOk result (λ v. IsMarked marks.new.items v.items) }
+    ensures many { length marks.new.items ≡ length marks.old.items }
+{
+    let mut places = Vec::new(alloc);
+    visit_all(&mut places, marks, starts)?;
+    let mut next = Vec::new(alloc);
+    let mut at = 0;
+    while at < places.len() {
+        look(links, places[at], &mut next)?;
+        visit_all(&mut places, marks, &next)?;
+        at += 1;
+    }
+    Ok(places)
+}
+
+// Takes the marks of these places away.
+fn unmark(marks: &mut Vec<bool>, places: &[usize])
+    requires { IsMarked marks.old.items places.now }
+    ensures { marks.new.items ≡ replicate (length marks.old.items) false }
+{
+    for place in places {
+        if *place < marks.as_slice().len() {
+            marks[*place] = false;
+        }
+    }
+}
+
+/// A mark for each place, none of them set, to be lent to walks.
+pub fn unmarked<L: Leads>(alloc: Global, links: &L) -> Result<Vec<bool>, AllocError>
+    ensures { IfOk result (λ v. v.items ≡ replicate (length (L.links links.now)) false) }
+{
+    let marks = vec![in alloc; false; links.places()]?;
+    Ok(marks)
+}
+
+/// These places and those that are reached from them, each once, by marks that are lent and are as they were
+/// afterwards. A place that is reached costs a look at where it leads, and one that is not costs nothing. Where memory
+/// was wanted some marks may be set.
+pub fn reached_by<L: Leads>(
+    alloc: Global,
+    links: &L,
+    starts: &[usize],
+    marks: &mut Vec<bool>,
+) -> Result<Vec<usize>, AllocError>
+    requires { marks.old.items ≡ replicate (length (L.links links.now)) false }
+    ensures reached { IfOk result (λ v. (w : ℕ) → Contains v.items w ↔ ReachedFrom (L.links links.now) starts.now w) }
+    ensures marks { OnOk result (marks.new.items ≡ marks.old.items) }
+{
+    let places = walked(alloc, links, starts, marks)?;
+    unmark(marks, &places);
+    Ok(places)
+}
+
 /// These places and those that are reached from them, each once. Each place costs a mark, and one that is reached a
 /// look at where it leads.
 pub fn reached<L: Leads>(
@@ -125,15 +187,7 @@ pub fn reached<L: Leads>(
 ) -> Result<Vec<usize>, AllocError>
     ensures { IfOk result (λ v. (w : ℕ) → Contains v.items w ↔ ReachedFrom (L.links links.now) starts.now w) }
 {
-    let mut places = Vec::new(alloc);
-    let mut marks = vec![in alloc; false; links.places()]?;
-    visit_all(&mut places, &mut marks, starts)?;
-    let mut next = Vec::new(alloc);
-    let mut at = 0;
-    while at < places.len() {
-        look(links, places[at], &mut next)?;
-        visit_all(&mut places, &mut marks, &next)?;
-        at += 1;
-    }
+    let mut marks = unmarked(alloc, links)?;
+    let places = reached_by(alloc, links, starts, &mut marks)?;
     Ok(places)
 }

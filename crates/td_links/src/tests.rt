@@ -1,6 +1,6 @@
 //! What no contract says: that there are answers.
 
-use crate::{Leads, Links, reached};
+use crate::{Leads, Links, reached, reached_by, unmarked};
 use std::alloc::{AllocError, Global};
 use std::test::Fail;
 
@@ -20,5 +20,23 @@ fn is_walked(alloc: Global) -> Result<bool, AllocError> {
 fn a_walk_ends_where_it_has_been(rt: HostRuntime) -> Result<(), Fail> {
     let alloc = rt.alloc();
     assert!(rt; is_walked(alloc)?);
+    Ok(())
+}
+
+// Whether two walks by the same marks come to the same places.
+fn is_walked_again(alloc: Global) -> Result<bool, AllocError> {
+    let mut links = Links::new(alloc, 3)?;
+    links.add(0, 1)?;
+    links.add(1, 0)?;
+    let mut marks = unmarked(alloc, &links)?;
+    let first = reached_by(alloc, &links, &[1], &mut marks)?;
+    let second = reached_by(alloc, &links, &[1], &mut marks)?;
+    Ok(first.as_slice() == [1, 0].as_slice() && second.as_slice() == [1, 0].as_slice())
+}
+
+#[test]
+fn marks_are_lent(rt: HostRuntime) -> Result<(), Fail> {
+    let alloc = rt.alloc();
+    assert!(rt; is_walked_again(alloc)?);
     Ok(())
 }

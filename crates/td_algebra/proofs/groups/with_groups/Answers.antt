@@ -1,14 +1,14 @@
-use Rattle.std.proofs.Common.{◌≡◌, ◌++◌, ◌∷◌, [], ◌+◌, ◌-◌, ◌<◌, ◌≤◌, ℕ, List, length, get_or, take, map, sym, ap, ◌∙◌, subst, arith, rules}
+use Rattle.std.proofs.Common.{◌≡◌, ◌++◌, ◌∷◌, [], ◌+◌, ◌-◌, ◌<◌, length, get_or, take, map, sym, ap, ◌∙◌, subst, arith, rules}
 use Rattle.std.specs.List.{All, filter}
-use Rattle.std.proofs.lemmas.List.{get_or-take, length-take-le}
 use Rattle.std.proofs.lemmas.List.Elements.{All-filter, All-get_or}
 use Rattle.td_values.specs.Data.{Attrs, no_attrs}
 use Rattle.td_tuples.specs.Parts.{Fits, cut, names_of}
 use Rattle.td_tuples.proofs.Filters.{taken}
 use Rattle.td_algebra.specs.ForProofs.Index.{AreGroups, HoldsTuples, found, has_part}
 use Rattle.td_algebra.specs.ForProofs.Places.{has_values, values_at}
+use Rattle.td_algebra.proofs.GroupParts.{taken_at}
 use Rattle.td_algebra.proofs.Grouping.{groups_more, groups_again}
-use Rattle.td_algebra.proofs.Lists.{In, item_in}
+use Rattle.td_algebra.proofs.Lists.{item_in}
 use Rattle.td_algebra.proofs.Runs.{same_at}
 use Rattle.td_algebra.proofs.Walks.{at_item}
 use Rattle.td_algebra.proofs.groups.with_groups.Goals as goal
@@ -19,12 +19,6 @@ with_group-requires c =
     let x = c.args.index.now in
     let P : Attrs → Type 0 = λ t. Fits c.args.inner.now (cut (names_of c.args.inner.now) t) in
     subst (All P) (sym c.run-run.ensures) (All-filter (has_values x.places.items (values_at x.others.items c.index-tuple.result.now)) P x.tuples.items c.requires.fit)
-
-taken_at : (xs : List Attrs) (n i : ℕ) (d : Attrs) → i < n → n ≤ length xs → In (get_or xs i d) (take n xs)
-taken_at xs n i d lt le =
-    let x = get_or xs i d in
-    let n_long = length-take-le n xs le in
-    item_in (take n xs) i x (omega (arith, n_long, lt)) (same_at xs i d x (omega (arith, lt, le)) ∙ sym (get_or-take n xs i x lt))
 
 pub loop-at-preserved : goal.loop-at-preserved
 loop-at-preserved c =
