@@ -14,7 +14,8 @@ use Rattle.td_typing.proofs.KindLemmas.{some_same}
 use Rattle.td_trees.specs.declared.expression.Expression.{Expression}
 use Rattle.td_trees.specs.declared.tree.Typed.{Typed}
 use Rattle.td_algebra.proofs.Lists.{In, any_in, contains_in, in_contains}
-use Rattle.td_algebra.specs.Keys.{TellApart}
+use Rattle.td_algebra.proofs.Told.{key_after}
+use Rattle.td_algebra.specs.Keys.{TellApart, TellApartFrom}
 use Rattle.td_algebra.specs.Raising.{and_then}
 use Rattle.td_algebra.specs.declared.errors.Stop.{Stop}
 use Rattle.td_operators.specs.Values.{truth_of}
@@ -30,7 +31,7 @@ use Rattle.td_story.specs.Tests.{is_key}
 use Rattle.td_story.specs.Trees.{IsIn, tree_means}
 use Rattle.td_constraints.specs.Changes.{PassedBefore}
 use Rattle.td_constraints.specs.ForProofs.Tested.{StandsAt}
-use Rattle.td_constraints.specs.ForProofs.Changed.{Changes, ConstraintBefore, IsChanged, IsUntouched, KeyBefore, KeyOf, TellApartFrom, change_to, is_changed}
+use Rattle.td_constraints.specs.ForProofs.Changed.{Changes, ConstraintBefore, IsChanged, IsUntouched, KeyBefore, KeyOf, change_to, is_changed}
 use Rattle.td_constraints.proofs.Apart.{keys_apart}
 use Rattle.td_constraints.proofs.Keys.{tested}
 use Rattle.td_constraints.proofs.TreeReads.{trees_alike}
@@ -44,26 +45,6 @@ still_true c x now changes defined is b never =
     ∙ b.held
 
 -- ---- keys
--- a key that told the old tuples apart tells all apart where it tells the new ones from all
-module _ (key : List (List ℕ)) (old new : RowsData) (d : DeltaData) (is : IsDifference old new d) where
-  either : {P : Type 0} (t : Attrs) → Has new t → (Has d.inserted t → P) → (Has old t → P) → P
-  either {P} t has fresh stood = by (set.contains (body old) t) refl
-    where
-      by : (b : Bool) → set.contains (body old) t ≡ b → P
-      by true e = stood e
-      by false e = fresh ((of_difference old.heading new old d.inserted is.inserted).all t (has, λ h. true≢false (sym h ∙ e)))
-
-  new_of : (t : Attrs) → Has d.inserted t → Has new t
-  new_of t h = ((of_difference old.heading new old d.inserted is.inserted).only t h).0
-
-  pub key_after : TellApart key old → TellApartFrom key d.inserted new ↔ TellApart key new
-  key_after apart = (
-    λ fresh t u p q e.
-        either t p (λ i. fresh t u i q e) (λ a.
-        either u q (λ j. sym (fresh u t j p (sym e))) (λ b. apart t u a b e)),
-    λ all t u i q e. all t u (new_of t i) q e,
-  )
-
 ok_same : {A : Type 0} (a b : A) → ◌≡◌ {A = Result A Stop} (Ok a) (Ok b) → a ≡ b
 ok_same a b h = cc
 
@@ -81,8 +62,8 @@ module _ (key : List (List ℕ)) (changes : Changes) (n : ℕ) (r : RowsData) (k
       let same : w.after ≡ r = ok_same w.after r (sym w.is ∙ k.is) in
       let held : is_key key w.before.tuples ≡ true = ok_same (is_key key w.before.tuples) true (sym (ap Test w.was) ∙ k.known.held) in
       let apart : TellApart key w.before = (keys_apart key w.before w.was_rows.ascending).0 held in
-      let told = key_after key w.before w.after d w.difference apart in
-      let here : IsTrue b ↔ TellApart key w.after = (λ h. told.0 (subst (TellApartFrom key d.inserted) (sym same) (says.0 h)), λ h. says.1 (subst (TellApartFrom key d.inserted) same (told.1 h))) in
+      let told = key_after key w.before w.after d apart w.difference in
+      let here : IsTrue b ↔ TellApart key w.after = (λ h. told.1 (subst (TellApartFrom key d.inserted) (sym same) (says.0 h)), λ h. says.1 (subst (TellApartFrom key d.inserted) same (told.0 h))) in
       subst (λ (q : RowsData). b ≡ is_key key q.tuples) same (tested key w.after b w.is_rows.ascending here)
 
   pub heading_told : (d : DeltaData) → Contains changes (n, d) → d.inserted.heading ≡ r.heading

@@ -10,7 +10,7 @@ ghost use Rattle.td_headings.specs.Definitions.{Defined};
 ghost use Rattle.td_story.specs.Raises.{Tells, stop_of};
 ghost use Rattle.td_story.specs.Trees.{AreBases, IsIn, tree_means};
 ghost use Rattle.td_constraints.specs.Changes.{PassedBefore};
-ghost use Rattle.td_constraints.specs.ForProofs.Changed.{ConstraintBefore, IsUntouched, KeyBefore, KeyOf, TellApartFrom, change_to};
+ghost use Rattle.td_constraints.specs.ForProofs.Changed.{ConstraintBefore, IsUntouched, KeyBefore, KeyOf, change_to};
 ghost use Rattle.td_constraints.specs.ForProofs.Changed as spec_of;
 ghost use Rattle.td_constraints.specs.ForProofs.Tested.{HasRelation, HasRelvar, StandsAt};
 ghost use Rattle.td_story.specs.Reports.{IsReport, title};
@@ -19,7 +19,7 @@ ghost use Rattle.td_story.specs.Tests as spec;
 ghost use Rattle.td_story.specs.Tests.{failing, judgement, or_behind};
 
 use std::alloc::{AllocError, Global};
-use td_algebra::tell_apart;
+use td_algebra::{tell_apart, tell_apart_from};
 use td_eval::{Lookup, truth};
 use td_headings::{Catalogue, Test, TypedExpr, constraint_expr, reads};
 use td_relations::{Delta, Relation};
@@ -67,19 +67,6 @@ fn is_any_changed(changes: &[(usize, Delta)], relvars: &[usize]) -> bool
     ensures { result ≡ list_any (spec_of.is_changed changes.now) relvars.now }
 {
     relvars.iter().any(|relvar| is_changed(changes, *relvar))
-}
-
-// STUB
-fn tell_apart_from(
-    alloc: Global,
-    inserted: &Relation,
-    after: &Relation,
-    names: &[Name],
-) -> Result<bool, AllocError>
-    requires { inserted.now.heading ≡ after.now.heading }
-    ensures { IfOk result (λ b. IsTrue b ↔ TellApartFrom names.now inserted.now after.now) }
-{
-    Err(AllocError)
 }
 
 // Whether no two tuples agree on the key's attributes, where none did before the changes: so the tuples that were put

@@ -1,11 +1,9 @@
 -- What is known of one test of relvars that were changed.
 use Rattle.std.specs.Prelude.{◌≡◌, ◌==◌, ℕ, Bool, true, if◌then◌else◌, List, [], ◌∷◌, Option, None, Some, Ok}
 use Rattle.std.specs.List.{Contains, list_any}
-use Rattle.td_values.specs.Data.{Attrs, no_attrs}
+use Rattle.td_values.specs.Data.{no_attrs}
 use Rattle.td_values.specs.Rows.{RowsData}
 use Rattle.td_relations.specs.Deltas.{DeltaData, IsDifference}
-use Rattle.td_relations.specs.Sets.{Has}
-use Rattle.td_tuples.specs.Parts.{cut}
 use Rattle.td_trees.specs.declared.expression.Expression.{Expression}
 use Rattle.td_algebra.specs.Raising.{and_then}
 use Rattle.td_operators.specs.Values.{truth_of}
@@ -52,7 +50,3 @@ pub record ConstraintBefore (c : CatalogueData) (now : Relvars) (changes : Chang
   pub before : Relvars
   pub held : and_then (tree_means c before x.tree no_attrs) truth_of ≡ Ok true
   pub differences : AreDifferences before now changes
-
--- STUB
-abbrev pub TellApartFrom : List (List ℕ) → RowsData → RowsData → Type 0
-TellApartFrom names i r = (t u : Attrs) → Has i t → Has r u → cut names t ≡ cut names u → t ≡ u

@@ -1,7 +1,7 @@
 use Rattle.std.proofs.Common.{◌↔◌, IsTrue, ap, sym, ◌∙◌, subst}
 use Rattle.std.proofs.lemmas.Result.{IfOk-weaker}
 use Rattle.td_values.specs.Rows.{RowsData}
-use Rattle.td_constraints.specs.ForProofs.Changed.{TellApartFrom}
+use Rattle.td_algebra.specs.Keys.{TellApartFrom}
 use Rattle.td_constraints.proofs.After.{heading_changed, key_changed, key_unchanged}
 use Rattle.td_constraints.proofs.judging.is_key_after.Goals as goal
 
