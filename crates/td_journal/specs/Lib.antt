@@ -1,0 +1,6 @@
+-- The definitions of the crate.
+pub mod Spelling
+pub mod Written
+pub mod Reading
+pub mod Laws
+pub mod ForProofs

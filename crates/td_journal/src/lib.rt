@@ -1,0 +1,11 @@
+//! The journal of a site: what it accepts is written there, so that the site comes back with it.
+#![tactic(auto)]
+
+pub mod error;
+mod frames;
+pub mod journal;
+pub mod laws;
+pub mod reading;
+
+pub use error::{JournalError, WriteFault};
+pub use journal::{Journal, NotBegun};
