@@ -1,4 +1,6 @@
 -- What the proofs of the crate share.
 pub mod Fields
+pub mod Framed
 pub mod Cut
 pub mod Checked
+pub mod ComesBack

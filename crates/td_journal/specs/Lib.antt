@@ -3,4 +3,5 @@ pub mod Spelling
 pub mod Written
 pub mod Reading
 pub mod Laws
+pub mod Reopening
 pub mod ForProofs

@@ -3,11 +3,11 @@
 ghost use Rattle.std.specs.Prelude.{◌≡◌, ◌≤◌, ◌∷◌, ◌++◌, true, codes, length, OnOk};
 ghost use Rattle.std.specs.Int.{w16, w32, to_be_bytes};
 ghost use Rattle.std.specs.Io.KnownBytes.{Keeps};
-ghost use Rattle.std.specs.List.{list_all};
+ghost use Rattle.std.specs.List.{AllByRecursion, list_all};
 ghost use Rattle.td_devices.specs.Counted.{Counts};
 ghost use Rattle.td_devices.specs.Streams.{Writes};
 ghost use Rattle.td_stamps.specs.Entries.{in_range};
-ghost use Rattle.td_frames.specs.Spelling.{entry_frames};
+ghost use Rattle.td_frames.specs.Spelling.{HasFrame, entry_frames};
 ghost use Rattle.td_journal.specs.Spelling.{header, journal};
 
 use td_devices::{Failed, Sink, write_all};
@@ -38,6 +38,7 @@ pub(crate) fn put_header<K: Sink>(sink: &mut K, site: u16, script: &str) -> Resu
 fn put_entries<K: Sink>(sink: &mut K, entries: &[Entry]) -> Result<(), Failed>
     requires { list_all in_range entries.now ≡ true }
     ensures bytes { Writes (K.held sink.old) (K.held sink.new) result (entry_frames entries.now) }
+    ensures has { OnOk result (AllByRecursion HasFrame entries.now) }
     ensures count { Counts (K.faults sink.old) (K.faults sink.new) result }
     ensures aside { Keeps (K.aside sink.old) (K.aside sink.new) }
 {
@@ -51,6 +52,7 @@ fn put_entries<K: Sink>(sink: &mut K, entries: &[Entry]) -> Result<(), Failed>
 pub(crate) fn send_entries<K: Sink>(sink: &mut K, entries: &[Entry]) -> Result<(), Failed>
     requires { list_all in_range entries.now ≡ true }
     ensures bytes { Writes (K.held sink.old) (K.held sink.new) result (entry_frames entries.now) }
+    ensures has { OnOk result (AllByRecursion HasFrame entries.now) }
     ensures flushed { OnOk result (K.is_flushed sink.new ≡ true) }
     ensures count { Counts (K.faults sink.old) (K.faults sink.new) result }
     ensures aside { Keeps (K.aside sink.old) (K.aside sink.new) }
@@ -69,6 +71,7 @@ pub(crate) fn send_journal<K: Sink>(
     requires script { length script.now ≤ 65536 }
     requires ranges { list_all in_range entries.now ≡ true }
     ensures bytes { Writes (K.held sink.old) (K.held sink.new) result (journal site script.now entries.now) }
+    ensures has { OnOk result (AllByRecursion HasFrame entries.now) }
     ensures flushed { OnOk result (K.is_flushed sink.new ≡ true) }
     ensures count { Counts (K.faults sink.old) (K.faults sink.new) result }
     ensures aside { Keeps (K.aside sink.old) (K.aside sink.new) }

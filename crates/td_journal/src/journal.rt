@@ -1,10 +1,10 @@
 //! A journal that is written.
 
-ghost use Rattle.std.specs.Prelude.{◌≡◌, ◌≤◌, true, length, MatchResult};
-ghost use Rattle.std.specs.List.{list_all};
+ghost use Rattle.std.specs.Prelude.{◌≡◌, ◌≤◌, true, length, MatchResult, OnOk};
+ghost use Rattle.std.specs.List.{AllByRecursion, list_all};
 ghost use Rattle.td_devices.specs.Views.{output_of};
 ghost use Rattle.td_stamps.specs.Entries.{in_range};
-ghost use Rattle.td_frames.specs.Spelling.{entry_frame, entry_frames};
+ghost use Rattle.td_frames.specs.Spelling.{HasFrame, entry_frame, entry_frames};
 ghost use Rattle.td_journal.specs.Spelling.{header};
 ghost use Rattle.td_journal.specs.Written.{HandsOn, WritesAll, WritesFront};
 
@@ -42,7 +42,8 @@ impl<W: Sink> Journal<W> {
     /// Writes the frame of an entry behind those before it. It takes no memory, and flushes nothing.
     pub fn append(&mut self, entry: &Entry) -> Result<(), WriteFault>
         requires { length entry.now.text ≤ 8192 }
-        ensures { MatchResult result (λ _. WritesAll (output_of W.Sink self.old.writer) (output_of W.Sink self.new.writer) (entry_frame entry.now))
+        ensures has { HasFrame entry.now }
+        ensures written { MatchResult result (λ _. WritesAll (output_of W.Sink self.old.writer) (output_of W.Sink self.new.writer) (entry_frame entry.now))
             (λ _. WritesFront (output_of W.Sink self.old.writer) (output_of W.Sink self.new.writer) (entry_frame entry.now)) }
     {
         match put_entry(&mut self.writer, entry) {
@@ -54,7 +55,8 @@ impl<W: Sink> Journal<W> {
     /// Writes the frames of entries, and hands them on.
     pub(crate) fn accept(&mut self, entries: &[Entry]) -> Result<(), WriteFault>
         requires { list_all in_range entries.now ≡ true }
-        ensures { MatchResult result (λ _. HandsOn (output_of W.Sink self.old.writer) (output_of W.Sink self.new.writer) (entry_frames entries.now))
+        ensures has { OnOk result (AllByRecursion HasFrame entries.now) }
+        ensures written { MatchResult result (λ _. HandsOn (output_of W.Sink self.old.writer) (output_of W.Sink self.new.writer) (entry_frames entries.now))
             (λ _. WritesFront (output_of W.Sink self.old.writer) (output_of W.Sink self.new.writer) (entry_frames entries.now)) }
     {
         match send_entries(&mut self.writer, entries) {

@@ -6,6 +6,8 @@ mod frames;
 pub mod journal;
 pub mod laws;
 pub mod reading;
+pub mod reopening;
 
 pub use error::{JournalError, WriteFault};
 pub use journal::{Journal, NotBegun};
+pub use reopening::{ReopenError, Reopened, reopen};

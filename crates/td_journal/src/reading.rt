@@ -1,9 +1,12 @@
 //! The header and the frames of a journal, read.
 
-ghost use Rattle.std.specs.Prelude.{◌≡◌, ◌≤◌, ◌&&◌, ◌==◌, ℕ, List, Err, MatchResult, Ok, cond, length};
+ghost use Rattle.std.specs.Prelude.{◌≡◌, ◌≤◌, ◌&&◌, ◌==◌, ℕ, List, Err, MatchResult, Ok, cond, length, true};
 ghost use Rattle.std.specs.Io.KnownBytes.{Keeps, Consumes};
+ghost use Rattle.std.specs.List.{list_all};
+ghost use Rattle.td_stamps.specs.Entries.{in_range};
 ghost use Rattle.td_journal.specs.ForProofs.{FramesRead, HeaderRead};
 ghost use Rattle.td_journal.specs.Reading.{field_at, frames_at, header_at};
+ghost use Rattle.td_journal.specs.Spelling.{journal};
 ghost use Rattle.td_journal.specs.declared.reading.Unread.TheVariants.{Refused};
 
 use crate::error::JournalError;
@@ -115,4 +118,18 @@ pub(crate) fn read_frames<S: Source>(alloc: Global, source: &mut S) -> Result<Ve
         Err(_) => Err(Unread::Refused(JournalError::BadFrame)),
         Ok(()) => Err(Unread::Refused(JournalError::BadFrame)),
     }
+}
+
+/// How many bytes the journal of these entries has, whatever the site.
+pub(crate) fn bytes_of(script: &str, entries: &[Entry]) -> u64
+    requires script { length script.now ≤ 65536 }
+    requires few { length entries.now ≤ 100000 }
+    requires ranges { list_all in_range entries.now ≡ true }
+    ensures { (site : ℕ) → result ≡ length (journal site script.now entries.now) }
+{
+    let mut bytes = 11 + script.len() as u64;
+    for entry in entries {
+        bytes += 17 + entry.text.as_str().len() as u64;
+    }
+    bytes
 }

@@ -1,13 +1,14 @@
 use Rattle.std.proofs.Common.{rules, ◌+◌, List, ◌++◌, get_or, take, drop, sym, ap, subst}
 use Rattle.std.proofs.lemmas.Result.{err_from_is_err_and}
 use Rattle.std.proofs.lemmas.List.{take_all}
-use Rattle.std.specs.List.{flat_map}
+use Rattle.std.specs.List.{AllByRecursion, flat_map}
 use Rattle.std.specs.Io.KnownBytes.{Appends}
 use Rattle.std.proofs.KnownBytes.{Appends-trans, Keeps-trans}
 use Rattle.td_devices.specs.Streams.{AppendsFront}
 use Rattle.td_stamps.specs.declared.entry.Entry.{Entry}
-use Rattle.td_frames.specs.Spelling.{entry_frame}
+use Rattle.td_frames.specs.Spelling.{HasFrame, entry_frame}
 use Rattle.td_frames.proofs.Writing.{front_longer, front_after, more_of, all_of}
+use Rattle.td_journal.proofs.Framed.{framed_more}
 use Rattle.td_journal.proofs.frames.put_entries.Goals as goal
 
 pub returns-in_err-put_entry-clause-bytes : goal.returns-in_err-put_entry-clause-bytes
@@ -28,6 +29,7 @@ loop-entry-preserved g c =
     record {
       bytes = subst (Appends _ _) (sym (more_of entry_frame xs i e c.loop-entry-test.true))
           (Appends-trans _ _ _ _ _ l.invariant.bytes (subst (Appends _ _) (ap entry_frame c.entry-item.is) c.in_ok-put_entry.ensures.bytes));
+      has = framed_more xs i e c.loop-entry-test.true l.invariant.has (subst (λ (x : Entry). HasFrame x) c.entry-item.is c.in_ok-put_entry.ensures.has);
       aside = Keeps-trans _ _ _ l.invariant.aside c.in_ok-put_entry.ensures.aside;
       count = search rules;
     }
@@ -36,3 +38,6 @@ pub returns-clause-bytes : goal.returns-clause-bytes
 returns-clause-bytes g c =
     let all = take_all c.loop-entry.entry-index c.args.entries.now c.loop-entry-test.false in
     subst (λ (xs : List Entry). Appends (g.K.Sink.held c.args.sink.now) (g.K.Sink.held c.loop-entry.sink) (flat_map entry_frame xs)) all c.loop-entry.invariant.bytes
+
+pub returns-clause-has : goal.returns-clause-has
+returns-clause-has g c = subst (AllByRecursion HasFrame) (take_all c.loop-entry.entry-index c.args.entries.now c.loop-entry-test.false) c.loop-entry.invariant.has
