@@ -1,12 +1,11 @@
 -- What an accepted batch is known by.
-use Rattle.std.proofs.Common.{◌≡◌, ℕ, ◌<◌, Bool, true, false, cond, List, [], ◌∷◌, length, Option, None, Some, Result, Ok, Err, refl, sym, ap, ◌∙◌, arith, leb, ◌+◌}
+use Rattle.std.proofs.Common.{◌≡◌, ℕ, Bool, true, false, cond, List, length, Option, None, Some, Result, Ok, Err, refl, leb, ◌+◌}
 use Rattle.std.specs.List.{list_all}
 use Rattle.td_stamps.specs.Entries.{in_range}
-use Rattle.td_stamps.specs.Checks.{check_of, clash_or, first_clash, fresh_count, fresh_of}
+use Rattle.td_stamps.specs.Checks.{check_of, clash_or, first_clash, fresh_count}
 use Rattle.td_stamps.specs.declared.entry.Entry.{Entry}
 use Rattle.td_stamps.specs.declared.errors.CheckError.{CheckError}
 use Rattle.td_stamps.specs.declared.errors.CheckError.TheVariants.{BadEntry, Full}
-use Rattle.td_stamps.proofs.Fresh.{fresh_are_counted}
 
 pub record Passes (held batch : List Entry) (n : ℕ) : Type 0 where
   pub ranges : list_all in_range batch ≡ true

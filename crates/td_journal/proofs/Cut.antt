@@ -1,5 +1,5 @@
 -- A journal that is cut is read as what is left of it.
-use Rattle.std.proofs.Common.{◌≡◌, ℕ, zero, suc, ◌+◌, ◌-◌, ◌<◌, ◌≤◌, Bool, true, false, cond, eqb, ltb, ◌⊎◌, inl, inr, List, [], ◌∷◌, ◌++◌, length, take, codes, None, Some, Option, Result, Ok, Err, refl, sym, ap, subst, ◌∙◌, append_assoc, append-nil, arith, length-append, length-take-le, take_all}
+use Rattle.std.proofs.Common.{◌≡◌, ℕ, zero, suc, ◌+◌, ◌-◌, ◌<◌, ◌≤◌, ◌⊎◌, inl, inr, List, [], ◌∷◌, ◌++◌, length, take, codes, None, Some, Ok, Err, refl, sym, ap, subst, ◌∙◌, append_assoc, append-nil, arith, length-append, length-take-le, take_all}
 use Rattle.std.specs.List.{AllByRecursion}
 use Rattle.std.specs.Int.{w16, w32, to_be_bytes}
 use Rattle.std.proofs.lemmas.Bool.{cases_lt, le-ltb, lt-ltb, eq-eqb}
@@ -9,9 +9,9 @@ use Rattle.std.proofs.lemmas.Nat.{from_be_bytes-to_be_bytes_2, from_be_bytes-to_
 use Rattle.td_stamps.specs.declared.entry.Entry.{Entry}
 use Rattle.td_frames.specs.declared.fields.Head.{Head}
 use Rattle.td_frames.specs.Spelling.{HasFrame, head_of, entry_frame, entry_frames}
-use Rattle.td_frames.specs.Reading.{Entries, Miss, short, entries_at, entry_at, fields, frame_at, last_frame, some_entry, text_at, with_frame}
+use Rattle.td_frames.specs.Reading.{Entries, short, entries_at, entry_at, fields, frame_at, some_entry, text_at, with_frame}
 use Rattle.td_frames.proofs.Again.{frame_again}
-use Rattle.td_frames.proofs.Steps.{entry_short, entry_then, letter_entry, text_short}
+use Rattle.td_frames.proofs.Steps.{entry_short, entry_then, text_short}
 use Rattle.td_journal.specs.declared.error.JournalError.{JournalError}
 use Rattle.td_journal.specs.Spelling.{header, journal}
 use Rattle.td_journal.specs.Reading.{Header, behind_header, field_at, fields_at, frames_at, header_at, header_fields, journal_at, most_entries, then_at, until_end, with_whole}

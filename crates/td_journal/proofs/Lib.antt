@@ -3,4 +3,6 @@ pub mod Fields
 pub mod Framed
 pub mod Cut
 pub mod Checked
+pub mod Kept
+pub mod Grown
 pub mod ComesBack

@@ -3,5 +3,7 @@ pub mod Spelling
 pub mod Written
 pub mod Reading
 pub mod Laws
+pub mod Keeping
+pub mod Keepers
 pub mod Reopening
 pub mod ForProofs

@@ -1,6 +1,6 @@
 -- What reopening a site answers: from the bytes of its journal alone, which are read to their end or to the first field
 -- that misses. A reader is told of by the bytes that it has left and by the failures that it counted, before and after.
-use Rattle.std.specs.Prelude.{◌≡◌, ℕ, List, [], IsOk, Some, Result, Ok, Err}
+use Rattle.std.specs.Prelude.{◌≡◌, ℕ, List, [], IsOk, Some, Ok, Err}
 use Rattle.std.specs.Io.KnownBytes.{Consumes, IsAtEnd}
 use Rattle.td_devices.specs.Counted.{counted}
 use Rattle.td_devices.specs.Views.{Input}

@@ -4,10 +4,12 @@
 pub mod error;
 mod frames;
 pub mod journal;
+pub mod keeper;
 pub mod laws;
 pub mod reading;
 pub mod reopening;
 
 pub use error::{JournalError, WriteFault};
 pub use journal::{Journal, NotBegun};
+pub use keeper::{Keeper, NotStarted, StartError};
 pub use reopening::{ReopenError, Reopened, reopen};

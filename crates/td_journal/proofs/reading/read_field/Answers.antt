@@ -1,10 +1,7 @@
-use Rattle.std.proofs.Common.{rules, ◌≡◌, [], ◌∷◌, ◌++◌, cond, true, false, Ok, Err, refl, sym, subst, ◌∙◌, Bool, Result, append-nil}
+use Rattle.std.proofs.Common.{[], ◌∷◌, ◌++◌, refl, sym, subst, ◌∙◌, append-nil}
 use Rattle.std.specs.Io.KnownBytes.{Consumes}
 use Rattle.std.proofs.KnownBytes.{Consumes-trans, Keeps-trans}
 use Rattle.std.proofs.lemmas.List.{drop_all}
-use Rattle.td_journal.specs.ForProofs.{HeaderRead}
-use Rattle.td_journal.specs.Reading.{field_at}
-use Rattle.td_journal.specs.declared.reading.Unread.{Unread}
 use Rattle.td_journal.proofs.Fields.{agrees_on, field_as, field_cut, field_whole}
 use Rattle.td_journal.proofs.reading.read_field.Goals as goal
 

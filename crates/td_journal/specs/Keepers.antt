@@ -1,0 +1,48 @@
+-- The journal of a keeper: as long as it is open, the header, and a frame for each entry that it holds, in the order in
+-- which it accepted them.
+use Rattle.std.specs.Prelude.{◌≡◌, ℕ, true, List, [], length, take, Some, Result, Ok}
+use Rattle.std.specs.List.{AllByRecursion}
+use Rattle.td_devices.specs.Views.{Output}
+use Rattle.td_stamps.specs.Sets.{union}
+use Rattle.td_stamps.specs.declared.entry.Entry.{Entry}
+use Rattle.td_frames.specs.Spelling.{HasFrame}
+use Rattle.td_story.specs.Calls.{Issues, Takes}
+use Rattle.td_story.specs.Seen.{Seen, IsSound}
+use Rattle.td_story.specs.declared.answer.Issued.{Issued}
+use Rattle.td_story.specs.declared.answer.Taken.{Taken}
+use Rattle.td_story.specs.declared.refusal.IssueError.{IssueError}
+use Rattle.td_story.specs.declared.refusal.TakeError.{TakeError}
+use Rattle.td_journal.specs.Keeping.{JournalsBatch, JournalsIssue, Starts}
+use Rattle.td_journal.specs.Laws.{left_of}
+use Rattle.td_journal.specs.Reading.{journal_at}
+use Rattle.td_journal.specs.Spelling.{journal}
+
+-- these bytes are the journal of what the site holds
+pub record IsJournal (s : Seen) (bytes : List ℕ) : Type 0 where
+  pub entries : List Entry
+  pub spelled : bytes ≡ journal s.site s.script entries
+  pub has : AllByRecursion HasFrame entries
+  pub holds : union [] entries ≡ s.entries
+  pub once : length entries ≡ length s.entries
+
+-- what a writer that held nothing holds is the journal of the site that was started
+abbrev pub StartsJournal : Type 0
+StartsJournal = (s : Seen) (old new : Output) → IsSound s → old.held ≡ Some [] → Starts s old new → (bytes : List ℕ) × (new.held ≡ Some bytes) × IsJournal s bytes
+
+-- and it is the keeper's journal after each call that leaves it open, whatever that answered
+abbrev pub IssueKeepsJournal : Type 0
+IssueKeepsJournal =
+    (s after : Seen) (text bytes : List ℕ) (r : Result Issued IssueError) (old new : Output) → old.held ≡ Some bytes → IsJournal s bytes → Issues s text r after
+    → JournalsIssue s r after old new → s.live ≡ true → after.live ≡ true → (more : List ℕ) × (new.held ≡ Some more) × IsJournal after more
+
+abbrev pub TakeKeepsJournal : Type 0
+TakeKeepsJournal =
+    (s after : Seen) (batch : List Entry) (bytes : List ℕ) (r : Result Taken TakeError) (old new : Output) → IsSound s → old.held ≡ Some bytes → IsJournal s bytes → Takes s batch r after
+    → JournalsBatch s batch r old new → s.live ≡ true → after.live ≡ true → (more : List ℕ) × (new.held ≡ Some more) × IsJournal after more
+
+-- read whole it says what the site holds, and cut after whatever byte the front of it that stands whole
+abbrev pub JournalSaysAll : Type 0
+JournalSaysAll =
+    (s : Seen) (bytes : List ℕ) → IsSound s → IsJournal s bytes
+    → (es : List Entry) × (union [] es ≡ s.entries) × (journal_at s.site s.script bytes ≡ Ok (es, length bytes))
+    × ((k : ℕ) → journal_at s.site s.script (take k bytes) ≡ Ok (left_of s.site s.script es k))
