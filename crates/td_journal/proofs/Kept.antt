@@ -16,8 +16,9 @@ use Rattle.td_story.specs.declared.answer.Issued.{Issued}
 use Rattle.td_story.specs.declared.answer.Taken.{Taken}
 use Rattle.td_story.specs.declared.refusal.IssueError.{IssueError}
 use Rattle.td_story.specs.declared.refusal.IssueError.TheVariants as issue_error
+use Rattle.td_story.specs.declared.refusal.TakeError.{TakeError}
 use Rattle.td_story.specs.declared.refusal.TakeError.TheVariants as take_error
-use Rattle.td_journal.specs.Keeping.{Accepts, JournalsIssue, kept}
+use Rattle.td_journal.specs.Keeping.{Accepts, JournalsBatch, JournalsIssue, kept}
 use Rattle.td_journal.specs.Written.{HandsOn}
 use Rattle.td_journal.proofs.Checked.{passes}
 
@@ -69,6 +70,14 @@ fresh_in_range s after batch t items takes is =
 pub some_accepted : (es : List Entry) (old new : Output) → (es ≡ [] → ⊥) → HandsOn old new (entry_frames es) → AllByRecursion HasFrame es → Accepts es old new
 some_accepted [] old new some h has = absurd (some refl)
 some_accepted (e ∷ es) old new some h has = (h, has)
+
+pub take_refused : (s : Seen) (batch : List Entry) (e : TakeError) (is_open : Bool) (o : Output) → JournalsBatch (kept is_open s) batch (Err e) o o
+take_refused s batch take_error.Broken is_open o = refl
+take_refused s batch take_error.BadEntry is_open o = refl
+take_refused s batch (take_error.Clash site seq) is_open o = refl
+take_refused s batch take_error.Full is_open o = refl
+take_refused s batch take_error.OutOfMemory is_open o = refl
+take_refused s batch take_error.JournalWrite is_open o = nothing_written o (entry_frames (fresh_of s.entries batch))
 
 some_counted : (es : List Entry) → (es ≡ [] → ⊥) → 0 < length es
 some_counted [] some = absurd (some refl)

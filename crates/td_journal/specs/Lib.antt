@@ -1,4 +1,5 @@
 -- The definitions of the crate.
+pub mod Views
 pub mod Spelling
 pub mod Written
 pub mod Reading

@@ -14,6 +14,7 @@ ghost use Rattle.td_story.specs.declared.refusal.TakeError.TheVariants as take_e
 use crate::frames::send_journal;
 use crate::journal::Journal;
 use std::alloc::Global;
+use std::marker::Model;
 use td_devices::{Failed, Sink};
 use td_stamps::{Entry, Held, Stamp, all_in_range};
 use td_story::{
@@ -49,10 +50,18 @@ pub struct Keeper<R, W> {
     is_open: bool,
 }
 
+impl<R, W> Model for Keeper<R, W> {
+    ghost use Rattle.td_journal.specs.Views.{KeeperData};
+
+    ghost Value = { KeeperData R W };
+
+    ghost view = { λ k. record { replica = k.replica; writer = k.journal; is_open = k.is_open } };
+}
+
 impl<R: Replica, W: Sink> Keeper<R, W> {
     /// Begins the journal of a site: writes its header and what the site holds, and hands it on. It takes no memory.
     pub fn start(replica: R, mut writer: W) -> Result<Keeper<R, W>, NotStarted<R, W>>
-        ensures written { MatchResult result (λ k. Starts (R.seen replica) (output_of W.Sink writer) (output_of W.Sink k.journal.writer))
+        ensures written { MatchResult result (λ k. Starts (R.seen replica) (output_of W.Sink writer) (output_of W.Sink k.writer))
             (λ e. StartsNot (R.seen replica) e.error (output_of W.Sink writer) (output_of W.Sink e.writer)) }
         ensures same { MatchResult result (λ k. (k.replica ≡ replica) × (k.is_open ≡ true)) (λ e. e.replica ≡ replica) }
     {
@@ -80,7 +89,7 @@ impl<R: Replica, W: Sink> Keeper<R, W> {
 
     /// Goes on with a journal: the writer holds that of this site, whole, and writes behind it. It writes nothing itself.
     pub fn resume(replica: R, writer: W) -> Keeper<R, W>
-        ensures { result ≡ record { replica = replica; journal = record { writer = writer }; is_open = true } }
+        ensures { result ≡ record { replica = replica; writer = writer; is_open = true } }
     {
         Keeper {
             replica,
@@ -106,12 +115,12 @@ fn last_of(entries: &[Entry]) -> &[Entry]
 impl<R: Replica, W: Sink> Replica for Keeper<R, W> {
     ghost seen = { λ k. kept k.is_open (R.seen k.replica) };
 
-    ghost failed = { λ old new. (W.faults new.journal.writer ≡ counted (W.faults old.journal.writer)) ⊎ R.failed old.replica new.replica };
+    ghost failed = { λ old new. (W.faults new.writer ≡ counted (W.faults old.writer)) ⊎ R.failed old.replica new.replica };
 
     fn issue(&mut self, alloc: Global, text: &str, meter: &mut Meter) -> Result<Issued, IssueError>
         ensures issues { Issues (kept self.old.is_open (R.seen self.old.replica)) text.now result (kept self.new.is_open (R.seen self.new.replica)) }
-        ensures journal { result ≡ Err issue_error.JournalWrite → (W.faults self.new.journal.writer ≡ counted (W.faults self.old.journal.writer)) ⊎ R.failed self.old.replica self.new.replica }
-        ensures written { JournalsIssue (kept self.old.is_open (R.seen self.old.replica)) result (kept self.new.is_open (R.seen self.new.replica)) (output_of W.Sink self.old.journal.writer) (output_of W.Sink self.new.journal.writer) }
+        ensures journal { result ≡ Err issue_error.JournalWrite → (W.faults self.new.writer ≡ counted (W.faults self.old.writer)) ⊎ R.failed self.old.replica self.new.replica }
+        ensures written { JournalsIssue (kept self.old.is_open (R.seen self.old.replica)) result (kept self.new.is_open (R.seen self.new.replica)) (output_of W.Sink self.old.writer) (output_of W.Sink self.new.writer) }
     {
         if !self.is_open {
             return Err(IssueError::Broken);
@@ -139,8 +148,8 @@ impl<R: Replica, W: Sink> Replica for Keeper<R, W> {
         meter: &mut Meter,
     ) -> Result<Taken, TakeError>
         ensures takes { Takes (kept self.old.is_open (R.seen self.old.replica)) batch.now result (kept self.new.is_open (R.seen self.new.replica)) }
-        ensures journal { result ≡ Err take_error.JournalWrite → (W.faults self.new.journal.writer ≡ counted (W.faults self.old.journal.writer)) ⊎ R.failed self.old.replica self.new.replica }
-        ensures written { JournalsBatch (kept self.old.is_open (R.seen self.old.replica)) batch.now result (output_of W.Sink self.old.journal.writer) (output_of W.Sink self.new.journal.writer) }
+        ensures journal { result ≡ Err take_error.JournalWrite → (W.faults self.new.writer ≡ counted (W.faults self.old.writer)) ⊎ R.failed self.old.replica self.new.replica }
+        ensures written { JournalsBatch (kept self.old.is_open (R.seen self.old.replica)) batch.now result (output_of W.Sink self.old.writer) (output_of W.Sink self.new.writer) }
     {
         if !self.is_open {
             return Err(TakeError::Broken);

@@ -11,8 +11,8 @@ returns-in-Ok-None-clause-told g c =
     let (last, end) = rw c.in-Ok-None.field-0-is at c.in-Ok-None.ensures.byte in
     let f = c.args.field.now in
     let all = subst (Consumes (g.S.Source.left c.args.source.now) (g.S.Source.left c.read_byte.new.source)) (append-nil done) (Consumes-trans _ _ _ _ _ taken last) in
-    let told = field_cut f c.args.error done c.loop-byte.byte-index 0 c.loop-byte.same _ _ _ c.loop-byte-test.true so_far end (c.in-Ok-None.ensures.count ∙ c.loop-byte.invariant.count) in
-    (done, all, field_as f f c.args.error done _ c.judged.result _ _ _ refl (sym c.judged.ensures) told)
+    let told = field_cut f c.args.error done c.loop-byte.byte-index 0 c.loop-byte.same (g.S.Source.left c.read_byte.new.source) (g.S.Source.failures c.args.source.now) (g.S.Source.failures c.read_byte.new.source) c.loop-byte-test.true so_far end (c.in-Ok-None.ensures.count ∙ c.loop-byte.invariant.count) in
+    (done, all, field_as f f c.args.error done _ c.judged.result (g.S.Source.left c.read_byte.new.source) (g.S.Source.failures c.args.source.now) (g.S.Source.failures c.read_byte.new.source) refl (sym c.judged.ensures) told)
 
 pub loop-byte-preserved : goal.loop-byte-preserved
 loop-byte-preserved g c =
