@@ -17,7 +17,7 @@ use Rattle.td_journal.specs.Spelling.{header, journal}
 use Rattle.td_journal.specs.Reading.{Header, behind_header, field_at, fields_at, frames_at, header_at, header_fields, journal_at, most_entries, then_at, until_end, with_whole}
 use Rattle.td_journal.specs.Laws.{CutJournalIsRead, JournalIsReadAgain, left_of, whole}
 
-take_beyond : {A : Type 0} (xs ys : List A) (k : ℕ) → length xs ≤ k → take k (xs ++ ys) ≡ xs ++ take (k - length xs) ys
+pub take_beyond : {A : Type 0} (xs ys : List A) (k : ℕ) → length xs ≤ k → take k (xs ++ ys) ≡ xs ++ take (k - length xs) ys
 take_beyond [] ys k le = ap (λ (n : ℕ). take n ys) (omega arith)
 take_beyond (x ∷ xs) ys zero le = absurd (omega (arith, le))
 take_beyond (x ∷ xs) ys (suc n) le =
@@ -96,10 +96,10 @@ unfolding frame_at
 frame_is_cut e zero fits lt = refl
 frame_is_cut e (suc n) fits lt = ap some_entry (entry_is_cut e n fits (omega (arith, lt)))
 
-frames_first : (e : Entry) (es : List Entry) → entry_frames (e ∷ es) ≡ entry_frame e ++ entry_frames es
+pub frames_first : (e : Entry) (es : List Entry) → entry_frames (e ∷ es) ≡ entry_frame e ++ entry_frames es
 frames_first e es = flat_map-cons entry_frame e es
 
-nothing_left : (k : ℕ) → take k (entry_frames []) ≡ []
+pub nothing_left : (k : ℕ) → take k (entry_frames []) ≡ []
 nothing_left zero = refl
 nothing_left (suc k) = refl
 

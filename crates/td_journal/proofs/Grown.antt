@@ -30,7 +30,7 @@ grown : (old new : Option (List ℕ)) (xs bytes : List ℕ) → old ≡ Some xs 
 grown old None xs bytes is h = absurd (subst (λ (o : Option (List ℕ)). Appends o None bytes) is h)
 grown old (Some ys) xs bytes is h = ap Some (subst (λ (o : Option (List ℕ)). Appends o (Some ys) bytes) is h)
 
-union_beside : (ys xs zs : List Entry) → union xs (ys ++ zs) ≡ union (union xs ys) zs
+pub union_beside : (ys xs zs : List Entry) → union xs (ys ++ zs) ≡ union (union xs ys) zs
 union_beside [] xs zs = refl
 union_beside (y ∷ ys) xs zs = union_beside ys (put y xs) zs
 

@@ -6,3 +6,4 @@ pub mod Checked
 pub mod Kept
 pub mod Grown
 pub mod ComesBack
+pub mod GoesOn

@@ -1,8 +1,8 @@
 -- The journal of a keeper: as long as it is open, the header, and a frame for each entry that it holds, in the order in
 -- which it accepted them.
-use Rattle.std.specs.Prelude.{◌≡◌, ℕ, true, List, [], length, take, Some, Result, Ok}
+use Rattle.std.specs.Prelude.{◌≡◌, ◌≤◌, ℕ, true, List, [], length, take, Some, Result, Ok}
 use Rattle.std.specs.List.{AllByRecursion}
-use Rattle.td_devices.specs.Views.{Output}
+use Rattle.td_devices.specs.Views.{Input, Output}
 use Rattle.td_stamps.specs.Sets.{union}
 use Rattle.td_stamps.specs.declared.entry.Entry.{Entry}
 use Rattle.td_frames.specs.Spelling.{HasFrame}
@@ -15,7 +15,8 @@ use Rattle.td_story.specs.declared.refusal.TakeError.{TakeError}
 use Rattle.td_journal.specs.Keeping.{JournalsBatch, JournalsIssue, Starts}
 use Rattle.td_journal.specs.Laws.{left_of}
 use Rattle.td_journal.specs.Reading.{journal_at}
-use Rattle.td_journal.specs.Spelling.{journal}
+use Rattle.td_journal.specs.Reopening.{ReopensSite}
+use Rattle.td_journal.specs.Spelling.{header, journal}
 
 -- these bytes are the journal of what the site holds
 pub record IsJournal (s : Seen) (bytes : List ℕ) : Type 0 where
@@ -46,3 +47,9 @@ JournalSaysAll =
     (s : Seen) (bytes : List ℕ) → IsSound s → IsJournal s bytes
     → (es : List Entry) × (union [] es ≡ s.entries) × (journal_at s.site s.script bytes ≡ Ok (es, length bytes))
     × ((k : ℕ) → journal_at s.site s.script (take k bytes) ≡ Ok (left_of s.site s.script es k))
+
+-- a site that was reopened from a front of a journal has what stands whole there for its journal: so it may go on with it
+abbrev pub ReopenedHasJournal : Type 0
+ReopenedHasJournal =
+    (s after : Seen) (bytes front : List ℕ) (k limit whole : ℕ) (old new : Input) → IsSound s → IsJournal s bytes → length (header s.site s.script) ≤ k → front ≡ take k bytes
+    → old.left ≡ Some front → ReopensSite s.script s.site limit old new after whole → IsJournal after (take whole front)

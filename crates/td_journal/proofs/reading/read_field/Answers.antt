@@ -1,7 +1,8 @@
-use Rattle.std.proofs.Common.{[], ◌∷◌, ◌++◌, refl, sym, subst, ◌∙◌, append-nil}
+use Rattle.std.proofs.Common.{[], ◌∷◌, ◌++◌, false, cond, Ok, Err, refl, sym, subst, ◌∙◌, append-nil}
 use Rattle.std.specs.Io.KnownBytes.{Consumes}
 use Rattle.std.proofs.KnownBytes.{Consumes-trans, Keeps-trans}
 use Rattle.std.proofs.lemmas.List.{drop_all}
+use Rattle.td_journal.specs.declared.reading.Unread.TheVariants.{Refused}
 use Rattle.td_journal.proofs.Fields.{agrees_on, field_as, field_cut, field_whole}
 use Rattle.td_journal.proofs.reading.read_field.Goals as goal
 
@@ -12,7 +13,7 @@ returns-in-Ok-None-clause-told g c =
     let f = c.args.field.now in
     let all = subst (Consumes (g.S.Source.left c.args.source.now) (g.S.Source.left c.read_byte.new.source)) (append-nil done) (Consumes-trans _ _ _ _ _ taken last) in
     let told = field_cut f c.args.error done c.loop-byte.byte-index 0 c.loop-byte.same (g.S.Source.left c.read_byte.new.source) (g.S.Source.failures c.args.source.now) (g.S.Source.failures c.read_byte.new.source) c.loop-byte-test.true so_far end (c.in-Ok-None.ensures.count ∙ c.loop-byte.invariant.count) in
-    (done, all, field_as f f c.args.error done _ c.judged.result (g.S.Source.left c.read_byte.new.source) (g.S.Source.failures c.args.source.now) (g.S.Source.failures c.read_byte.new.source) refl (sym c.judged.ensures) told)
+    (done, all, field_as f f c.args.error done (cond c.loop-byte.same (Ok false) (Err (Refused c.args.error))) c.judged.result (g.S.Source.left c.read_byte.new.source) (g.S.Source.failures c.args.source.now) (g.S.Source.failures c.read_byte.new.source) refl (sym c.judged.ensures) told)
 
 pub loop-byte-preserved : goal.loop-byte-preserved
 loop-byte-preserved g c =
