@@ -40,7 +40,7 @@ of_nothing es set =
     same_members (union [] es) es (union_is_set [] es refl free) set (λ e. union_has_both [] es refl free e)
 
 -- with more entries, which the site then holds
-grows : (s after : Seen) (fresh : List Entry) (bytes : List ℕ) → IsJournal s bytes → AllByRecursion HasFrame fresh → after ≡ with_entries s (union s.entries fresh)
+pub grows : (s after : Seen) (fresh : List Entry) (bytes : List ℕ) → IsJournal s bytes → AllByRecursion HasFrame fresh → after ≡ with_entries s (union s.entries fresh)
     → length (union s.entries fresh) ≡ length fresh + length s.entries → IsJournal after (bytes ++ entry_frames fresh)
 grows s after fresh bytes j has is count =
     let all = j.entries ++ fresh in
@@ -73,7 +73,7 @@ starts_journal s old new sound held (live, written, has) = (
 
 -- ---- issue
 
-last_same : (xs : List Entry) (a b : Entry) → xs ++ a ∷ [] ≡ xs ++ b ∷ [] → a ≡ b
+pub last_same : (xs : List Entry) (a b : Entry) → xs ++ a ∷ [] ≡ xs ++ b ∷ [] → a ≡ b
 last_same [] a b e = ap (λ (l : List Entry). get_or l 0 a) e
 last_same (x ∷ xs) a b e = last_same xs a b (ap (λ (l : List Entry). drop 1 l) e)
 

@@ -1,5 +1,6 @@
 -- What a keeper tells, put together from what its site and its journal tell.
 use Rattle.std.proofs.Common.{◌≡◌, ◌<◌, ℕ, Bool, true, false, List, [], ◌∷◌, ◌++◌, length, None, Ok, Err, refl, sym, ap, subst, ◌∙◌, arith}
+use Rattle.std.specs.Prelude.{◌^◌, IsUtf8}
 use Rattle.std.specs.List.{AllByRecursion, list_all}
 use Rattle.std.proofs.KnownBytes.{Appends-nil}
 use Rattle.td_devices.specs.Streams.{AppendsFront}
@@ -21,6 +22,7 @@ use Rattle.td_story.specs.declared.refusal.TakeError.TheVariants as take_error
 use Rattle.td_journal.specs.Keeping.{Accepts, JournalsBatch, JournalsIssue, kept}
 use Rattle.td_journal.specs.Written.{HandsOn}
 use Rattle.td_journal.proofs.Checked.{passes}
+use Rattle.td_journal.proofs.Framed.{fresh_framed, next_framed}
 
 pub sound_kept : (s : Seen) (is_open : Bool) → IsSound s → IsSound (kept is_open s)
 sound_kept s is_open is =
@@ -35,14 +37,16 @@ issue_fails s after text i h = (h.statement, h.entry, h.next, (h.live, ap (kept 
 nothing_written : (o : Output) (bytes : List ℕ) → AppendsFront o.held o.held bytes
 nothing_written o bytes = ([], bytes, refl, Appends-nil o.held)
 
-pub issue_refused : (s after : Seen) (text : List ℕ) (e : IssueError) (is_open : Bool) (o : Output) → Issues s text (Err e) after → JournalsIssue (kept is_open s) (Err e) (kept is_open after) o o
-issue_refused s after text issue_error.Broken is_open o h = refl
-issue_refused s after text issue_error.Syntax is_open o h = refl
-issue_refused s after text issue_error.IllTyped is_open o h = refl
-issue_refused s after text issue_error.ClockEnd is_open o h = refl
-issue_refused s after text issue_error.Full is_open o h = refl
-issue_refused s after text issue_error.OutOfMemory is_open o h = refl
-issue_refused s after text issue_error.JournalWrite is_open o (statement, e, next, closes) = (e, ap (λ (t : Seen). t.entries) closes.1, nothing_written o (entry_frames (e ∷ [])))
+pub issue_refused : (s after : Seen) (text : List ℕ) (e : IssueError) (is_open : Bool) (o : Output) → s.site < 2 ^ 16 → IsUtf8 text → Issues s text (Err e) after
+    → JournalsIssue (kept is_open s) (Err e) (kept is_open after) o o
+issue_refused s after text issue_error.Broken is_open o fits utf8 h = refl
+issue_refused s after text issue_error.Syntax is_open o fits utf8 h = refl
+issue_refused s after text issue_error.IllTyped is_open o fits utf8 h = refl
+issue_refused s after text issue_error.ClockEnd is_open o fits utf8 h = refl
+issue_refused s after text issue_error.Full is_open o fits utf8 h = refl
+issue_refused s after text issue_error.OutOfMemory is_open o fits utf8 h = refl
+issue_refused s after text issue_error.JournalWrite is_open o fits utf8 (statement, e, next, closes) =
+    (e, ap (λ (t : Seen). t.entries) closes.1, (nothing_written o (entry_frames (e ∷ [])), (next_framed s text e fits utf8 statement.read.reads.short next, tt)))
 
 -- the frame of what is then held last was written
 pub issue_written : (s after : Seen) (text : List ℕ) (i : Issued) (is_open : Bool) (old new : Output) (last : List Entry) → IssuesEntry s text i after
@@ -52,6 +56,14 @@ issue_written s after text i is_open old new last h found written has =
     let is : after.entries ≡ s.entries ++ h.entry ∷ [] = ap (λ (t : Seen). t.entries) h.last in
     let one = found h.entry is in
     (h.entry, is, (subst (λ (es : List Entry). HandsOn old new (entry_frames es)) one written, subst (AllByRecursion HasFrame) one has))
+
+-- a front of that frame was
+pub issue_leaves : (s after : Seen) (text : List ℕ) (i : Issued) (is_open : Bool) (old new : Output) (last : List Entry) → s.site < 2 ^ 16 → IsUtf8 text → IssuesEntry s text i after
+    → ((e : Entry) → after.entries ≡ s.entries ++ e ∷ [] → last ≡ e ∷ []) → AppendsFront old.held new.held (entry_frames last)
+    → JournalsIssue (kept is_open s) (Err issue_error.JournalWrite) (kept false after) old new
+issue_leaves s after text i is_open old new last fits utf8 h found front =
+    let is : after.entries ≡ s.entries ++ h.entry ∷ [] = ap (λ (t : Seen). t.entries) h.last in
+    (h.entry, is, (subst (λ (es : List Entry). AppendsFront old.held new.held (entry_frames es)) (found h.entry is) front, (next_framed s text h.entry fits utf8 h.statement.read.reads.short h.next, tt)))
 
 -- ---- take
 
@@ -71,13 +83,13 @@ pub some_accepted : (es : List Entry) (old new : Output) → (es ≡ [] → ⊥)
 some_accepted [] old new some h has = absurd (some refl)
 some_accepted (e ∷ es) old new some h has = (h, has)
 
-pub take_refused : (s : Seen) (batch : List Entry) (e : TakeError) (is_open : Bool) (o : Output) → JournalsBatch (kept is_open s) batch (Err e) o o
-take_refused s batch take_error.Broken is_open o = refl
-take_refused s batch take_error.BadEntry is_open o = refl
-take_refused s batch (take_error.Clash site seq) is_open o = refl
-take_refused s batch take_error.Full is_open o = refl
-take_refused s batch take_error.OutOfMemory is_open o = refl
-take_refused s batch take_error.JournalWrite is_open o = nothing_written o (entry_frames (fresh_of s.entries batch))
+pub take_refused : (s : Seen) (batch : List Entry) (e : TakeError) (is_open : Bool) (o : Output) → AllByRecursion HasFrame batch → JournalsBatch (kept is_open s) batch (Err e) o o
+take_refused s batch take_error.Broken is_open o has = refl
+take_refused s batch take_error.BadEntry is_open o has = refl
+take_refused s batch (take_error.Clash site seq) is_open o has = refl
+take_refused s batch take_error.Full is_open o has = refl
+take_refused s batch take_error.OutOfMemory is_open o has = refl
+take_refused s batch take_error.JournalWrite is_open o has = (nothing_written o (entry_frames (fresh_of s.entries batch)), fresh_framed s.entries batch has)
 
 some_counted : (es : List Entry) → (es ≡ [] → ⊥) → 0 < length es
 some_counted [] some = absurd (some refl)

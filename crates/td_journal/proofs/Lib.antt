@@ -7,3 +7,4 @@ pub mod Kept
 pub mod Grown
 pub mod ComesBack
 pub mod GoesOn
+pub mod Failed

@@ -1,6 +1,6 @@
 -- The journal of a keeper: as long as it is open, the header, and a frame for each entry that it holds, in the order in
 -- which it accepted them.
-use Rattle.std.specs.Prelude.{◌≡◌, ◌≤◌, ℕ, true, List, [], length, take, Some, Result, Ok}
+use Rattle.std.specs.Prelude.{◌≡◌, ◌≤◌, ℕ, true, List, [], length, take, Some, Result, Ok, Err}
 use Rattle.std.specs.List.{AllByRecursion}
 use Rattle.td_devices.specs.Views.{Input, Output}
 use Rattle.td_stamps.specs.Sets.{union}
@@ -11,7 +11,9 @@ use Rattle.td_story.specs.Seen.{Seen, IsSound}
 use Rattle.td_story.specs.declared.answer.Issued.{Issued}
 use Rattle.td_story.specs.declared.answer.Taken.{Taken}
 use Rattle.td_story.specs.declared.refusal.IssueError.{IssueError}
+use Rattle.td_story.specs.declared.refusal.IssueError.TheVariants as issue_error
 use Rattle.td_story.specs.declared.refusal.TakeError.{TakeError}
+use Rattle.td_story.specs.declared.refusal.TakeError.TheVariants as take_error
 use Rattle.td_journal.specs.Keeping.{JournalsBatch, JournalsIssue, Starts}
 use Rattle.td_journal.specs.Laws.{left_of}
 use Rattle.td_journal.specs.Reading.{journal_at}
@@ -40,6 +42,21 @@ abbrev pub TakeKeepsJournal : Type 0
 TakeKeepsJournal =
     (s after : Seen) (batch : List Entry) (bytes : List ℕ) (r : Result Taken TakeError) (old new : Output) → IsSound s → old.held ≡ Some bytes → IsJournal s bytes → Takes s batch r after
     → JournalsBatch s batch r old new → s.live ≡ true → after.live ≡ true → (more : List ℕ) × (new.held ≡ Some more) × IsJournal after more
+
+-- Where the journal failed the writer holds a front of the journal of what the site within holds then, with all that
+-- stood there before.
+abbrev pub LeavesFront : List ℕ → Seen → Output → Type 0
+LeavesFront bytes after new = (all : List ℕ) × IsJournal after all × (k : ℕ) × (length bytes ≤ k) × (new.held ≡ Some (take k all))
+
+abbrev pub FailedIssueLeavesFront : Type 0
+FailedIssueLeavesFront =
+    (s after : Seen) (text bytes : List ℕ) (old new : Output) → old.held ≡ Some bytes → IsJournal s bytes → Issues s text (Err issue_error.JournalWrite) after
+    → JournalsIssue s (Err issue_error.JournalWrite) after old new → LeavesFront bytes after new
+
+abbrev pub FailedTakeLeavesFront : Type 0
+FailedTakeLeavesFront =
+    (s after : Seen) (batch : List Entry) (bytes : List ℕ) (old new : Output) → IsSound s → old.held ≡ Some bytes → IsJournal s bytes
+    → Takes s batch (Err take_error.JournalWrite) after → JournalsBatch s batch (Err take_error.JournalWrite) old new → LeavesFront bytes after new
 
 -- read whole it says what the site holds, and cut after whatever byte the front of it that stands whole
 abbrev pub JournalSaysAll : Type 0

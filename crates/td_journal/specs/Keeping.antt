@@ -28,6 +28,10 @@ abbrev pub Accepts : List Entry → Output → Output → Type 0
 Accepts [] old new = new ≡ old
 Accepts (e ∷ es) old new = HandsOn old new (entry_frames (e ∷ es)) × AllByRecursion HasFrame (e ∷ es)
 
+-- a front of these frames, behind which the journal failed
+abbrev pub Leaves : List Entry → Output → Output → Type 0
+Leaves es old new = AppendsFront old.held new.held (entry_frames es) × AllByRecursion HasFrame es
+
 -- ---- start: the journal of all that is held, in stamp order
 
 abbrev pub Starts : Seen → Output → Output → Type 0
@@ -41,12 +45,12 @@ StartsNot s WriteFault old new = (s.live ≡ true) × WritesFront old new (journ
 
 abbrev pub JournalsIssue : Seen → Result Issued IssueError → Seen → Output → Output → Type 0
 JournalsIssue s (Ok i) after old new = (e : Entry) × (after.entries ≡ s.entries ++ e ∷ []) × Accepts (e ∷ []) old new
-JournalsIssue s (Err issue_error.JournalWrite) after old new = (e : Entry) × (after.entries ≡ s.entries ++ e ∷ []) × AppendsFront old.held new.held (entry_frames (e ∷ []))
+JournalsIssue s (Err issue_error.JournalWrite) after old new = (e : Entry) × (after.entries ≡ s.entries ++ e ∷ []) × Leaves (e ∷ []) old new
 JournalsIssue s (Err e) after old new = new ≡ old
 
 -- ---- take: the fresh entries of the batch, a repeat at its first place
 
 abbrev pub JournalsBatch : Seen → List Entry → Result Taken TakeError → Output → Output → Type 0
 JournalsBatch s batch (Ok t) old new = Accepts (fresh_of s.entries batch) old new
-JournalsBatch s batch (Err take_error.JournalWrite) old new = AppendsFront old.held new.held (entry_frames (fresh_of s.entries batch))
+JournalsBatch s batch (Err take_error.JournalWrite) old new = Leaves (fresh_of s.entries batch) old new
 JournalsBatch s batch (Err e) old new = new ≡ old

@@ -1,6 +1,6 @@
 //! The header of a journal and the frames of entries, written.
 
-ghost use Rattle.std.specs.Prelude.{◌≡◌, ◌≤◌, ◌∷◌, ◌++◌, true, codes, length, OnOk};
+ghost use Rattle.std.specs.Prelude.{◌≡◌, ◌≤◌, ◌∷◌, ◌++◌, true, IsTrue, codes, length, OnOk};
 ghost use Rattle.std.specs.Int.{w16, w32, to_be_bytes};
 ghost use Rattle.std.specs.Io.KnownBytes.{Keeps};
 ghost use Rattle.std.specs.List.{AllByRecursion, list_all};
@@ -22,6 +22,31 @@ fn head_bytes(site: u16, length: u32) -> [u8; 11]
     [
         b'J', b'T', b'D', b'B', 1, s[0], s[1], n[0], n[1], n[2], n[3],
     ]
+}
+
+fn is_framed(entry: &Entry) -> bool
+    ensures range { result ≡ in_range entry.now }
+    ensures framed { IsTrue result → HasFrame entry.now }
+{
+    // What is read is within the ranges of its types.
+    let _site = entry.site;
+    let _seq = entry.seq;
+    let _clock = entry.clock;
+    let _bytes = entry.text.as_str().len();
+    entry.is_in_range()
+}
+
+/// Whether the parts of each are in their ranges: then each has a frame.
+pub(crate) fn all_framed(entries: &[Entry]) -> bool
+    ensures ranges { result ≡ list_all in_range entries.now }
+    ensures framed { IsTrue result → AllByRecursion HasFrame entries.now }
+{
+    for entry in entries {
+        if !is_framed(entry) {
+            return false;
+        }
+    }
+    true
 }
 
 /// Writes the header of a journal.

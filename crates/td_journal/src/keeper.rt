@@ -1,6 +1,6 @@
 //! A site that writes what it accepts to a journal.
 
-ghost use Rattle.std.specs.Prelude.{◌≡◌, ◌⊎◌, ◌∷◌, ◌++◌, [], List, Err, MatchResult, true};
+ghost use Rattle.std.specs.Prelude.{◌≡◌, ◌<◌, ◌^◌, ◌⊎◌, ◌∷◌, ◌++◌, [], List, Err, MatchResult, true};
 ghost use Rattle.std.specs.List.{list_all};
 ghost use Rattle.td_devices.specs.Counted.{counted};
 ghost use Rattle.td_devices.specs.Views.{output_of};
@@ -11,12 +11,12 @@ ghost use Rattle.td_story.specs.Calls.{Issues, Takes};
 ghost use Rattle.td_story.specs.declared.refusal.IssueError.TheVariants as issue_error;
 ghost use Rattle.td_story.specs.declared.refusal.TakeError.TheVariants as take_error;
 
-use crate::frames::send_journal;
+use crate::frames::{all_framed, send_journal};
 use crate::journal::Journal;
 use std::alloc::Global;
 use std::marker::Model;
 use td_devices::{Failed, Sink};
-use td_stamps::{Entry, Held, Stamp, all_in_range};
+use td_stamps::{Entry, Held, Stamp};
 use td_story::{
     Answer, AskError, Asked, IssueError, Issued, Meter, NotOpen, Outcome, Replica, TakeError,
     Taken, TellError, ValueError,
@@ -99,6 +99,13 @@ impl<R: Replica, W: Sink> Keeper<R, W> {
     }
 }
 
+fn number_of<R: Replica>(replica: &R) -> u16
+    ensures number { result ≡ (R.seen replica.now).site }
+    ensures fits { (R.seen replica.now).site < 2 ^ 16 }
+{
+    replica.site()
+}
+
 // The last one alone.
 fn last_of(entries: &[Entry]) -> &[Entry]
     requires { list_all in_range entries.now ≡ true }
@@ -125,6 +132,7 @@ impl<R: Replica, W: Sink> Replica for Keeper<R, W> {
         if !self.is_open {
             return Err(IssueError::Broken);
         }
+        let _site = number_of(&self.replica);
         let issued = match self.replica.issue(alloc, text, meter) {
             Ok(issued) => issued,
             Err(error) => return Err(error),
@@ -157,7 +165,7 @@ impl<R: Replica, W: Sink> Replica for Keeper<R, W> {
         let Ok(held) = self.replica.held() else {
             return Err(TakeError::Broken);
         };
-        if !all_in_range(batch) {
+        if !all_framed(batch) {
             return Err(TakeError::BadEntry);
         }
         let Ok(fresh) = held.fresh(alloc, batch) else {
