@@ -87,9 +87,22 @@ fn a_keeper_writes_before_it_answers(rt: HostRuntime) -> Result<()> {
         let mut writer = Narrow::new(rt.alloc(), room);
         let told = kept(rt.alloc(), &mut meter, &mut writer)?;
         assert!(rt; told.as_str() == expected(room), "{room}: {told}");
-        assert!(rt; writer.taken.as_slice() == &JOURNAL[..room], "{room}: other bytes");
-        let flushes = if room < 55 { 0 } else if room < 107 { 1 } else { 2 };
-        assert!(rt; writer.flushes == flushes, "{room}: {} flushes", writer.flushes);
+        assert!(rt;
+            writer.taken.as_slice() == &JOURNAL[..room],
+            "{room}: other bytes"
+        );
+        let flushes = if room < 55 {
+            0
+        } else if room < 107 {
+            1
+        } else {
+            2
+        };
+        assert!(rt;
+            writer.flushes == flushes,
+            "{room}: {} flushes",
+            writer.flushes
+        );
     }
     Ok(())
 }
@@ -111,7 +124,11 @@ fn issued_by(alloc: Global, meter: &mut Meter, writer: &mut Narrow) -> Result<&'
     };
     match keeper.issue(alloc, "DELETE R;", meter) {
         Ok(_) => Ok("issued"),
-        Err(_) => Ok(if keeper.is_open() { "refused" } else { "failed" }),
+        Err(_) => Ok(if keeper.is_open() {
+            "refused"
+        } else {
+            "failed"
+        }),
     }
 }
 

@@ -1,6 +1,5 @@
 -- Where its journal failed, a keeper leaves a front of the journal of what its site holds then.
-use Rattle.std.proofs.Common.{◌≡◌, ◌≤◌, ◌+◌, ℕ, false, List, [], ◌∷◌, ◌++◌, length, take, None, Option, Some, Err, Ok, refl, sym, ap, subst, ◌∙◌, append_assoc, arith, length-append, take_at}
-use Rattle.std.specs.List.{AllByRecursion}
+use Rattle.std.proofs.Common.{◌≡◌, ◌≤◌, ◌+◌, ℕ, false, List, [], ◌∷◌, ◌++◌, length, take, None, Option, Some, refl, sym, ap, subst, ◌∙◌, append_assoc, arith, length-append, take_at}
 use Rattle.std.specs.Io.KnownBytes.{Appends}
 use Rattle.td_devices.specs.Streams.{AppendsFront}
 use Rattle.td_devices.specs.Views.{Output}
@@ -10,8 +9,8 @@ use Rattle.td_stamps.specs.declared.entry.Entry.{Entry}
 use Rattle.td_stamps.proofs.Fresh.{fresh_are_counted, fresh_suffice}
 use Rattle.td_stamps.proofs.Merges.{clash_is_found, fresh_is_growth}
 use Rattle.td_stamps.proofs.Next.{next_comes_last}
-use Rattle.td_frames.specs.Spelling.{HasFrame, entry_frames}
-use Rattle.td_story.specs.Seen.{Seen, IsSound, with_entries}
+use Rattle.td_frames.specs.Spelling.{entry_frames}
+use Rattle.td_story.specs.Seen.{Seen, with_entries}
 use Rattle.td_journal.specs.Keepers.{FailedIssueLeavesFront, FailedTakeLeavesFront, IsJournal, LeavesFront}
 use Rattle.td_journal.specs.Keeping.{Leaves, kept}
 use Rattle.td_journal.proofs.Checked.{passes}

@@ -1,16 +1,16 @@
 -- Entries that have frames.
-use Rattle.std.proofs.Common.{◌≡◌, ◌<◌, ◌≤◌, ◌+◌, ◌^◌, ℕ, Bool, true, false, ◌&&◌, cond, if◌then◌else◌, ltb, List, [], ◌∷◌, ◌++◌, length, get_or, take, None, Some, Result, Ok, Err, refl, sym, ap, subst, ◌∙◌, arith}
+use Rattle.std.proofs.Common.{◌≡◌, ◌<◌, ◌≤◌, ◌+◌, ◌^◌, ℕ, Bool, true, false, ◌&&◌, if◌then◌else◌, ltb, List, [], ◌∷◌, ◌++◌, length, get_or, take, Result, Ok, Err, refl, sym, ap, subst, arith}
 use Rattle.std.specs.List.{AllByRecursion}
 use Rattle.std.proofs.lemmas.List.{take_more}
 use Rattle.td_stamps.specs.declared.entry.Entry.{Entry}
 use Rattle.std.specs.Prelude.{IsUtf8}
-use Rattle.std.proofs.lemmas.Bool.{and_parts, ltb-true}
+use Rattle.std.proofs.lemmas.Bool.{ltb-true}
 use Rattle.td_stamps.specs.Checks.{fresh_of, last_clock, last_seq, next_of}
 use Rattle.td_stamps.specs.Sets.{has}
 use Rattle.td_stamps.specs.declared.errors.NextError.{NextError}
 use Rattle.td_stamps.specs.declared.errors.NextError.TheVariants.{ClockEnd}
 use Rattle.td_frames.specs.Spelling.{HasFrame}
-use Rattle.td_story.specs.Calls.{entry_of, if_room, numbered}
+use Rattle.td_story.specs.Calls.{entry_of, numbered}
 use Rattle.td_story.specs.Seen.{Seen}
 use Rattle.td_story.specs.declared.refusal.IssueError.{IssueError}
 use Rattle.td_story.specs.declared.refusal.IssueError.TheVariants as issue_error

@@ -3,18 +3,16 @@ use Rattle.std.proofs.Common.{◌≡◌, ℕ, ◌+◌, ◌-◌, ◌<◌, ◌≤�
 use Rattle.std.specs.List.{AllByRecursion}
 use Rattle.std.specs.Io.KnownBytes.{Consumes, IsAtEnd}
 use Rattle.std.proofs.lemmas.Bool.{cases_lt, le-ltb, leb-true, lt-ltb, and_parts}
-use Rattle.td_devices.specs.Views.{Input}
 use Rattle.td_stamps.specs.Entries.{before}
 use Rattle.td_stamps.specs.Sets.{put, union}
 use Rattle.td_stamps.specs.declared.entry.Entry.{Entry}
 use Rattle.td_frames.specs.Spelling.{HasFrame, entry_frame, entry_frames}
 use Rattle.td_story.specs.NewSites.{opened}
-use Rattle.td_story.specs.Seen.{Seen, IsSound, with_entries}
+use Rattle.td_story.specs.Seen.{Seen, with_entries}
 use Rattle.td_journal.specs.declared.error.JournalError.{JournalError}
 use Rattle.td_journal.specs.Keepers.{IsJournal, ReopenedHasJournal}
 use Rattle.td_journal.specs.Laws.{left_of, whole}
 use Rattle.td_journal.specs.Reading.{journal_at}
-use Rattle.td_journal.specs.Reopening.{ReopensSite}
 use Rattle.td_journal.specs.Spelling.{header, journal}
 use Rattle.td_journal.proofs.Cut.{cut_is_read, frames_first, nothing_left, take_beyond}
 use Rattle.td_journal.proofs.Grown.{union_beside}

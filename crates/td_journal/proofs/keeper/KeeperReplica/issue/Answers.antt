@@ -1,11 +1,10 @@
-use Rattle.std.proofs.Common.{Err, Ok, false, ap, sym, subst, ◌∙◌}
+use Rattle.std.proofs.Common.{rules, ◌≡◌, Err, Ok, false, ap, sym, subst, ◌∙◌}
 use Rattle.td_devices.specs.Views.{output_of}
 use Rattle.td_stamps.specs.Sets.{Holding}
 use Rattle.td_story.specs.declared.refusal.IssueError.TheVariants as issue_error
 use Rattle.td_journal.specs.Keeping.{JournalsIssue, kept}
 use Rattle.td_journal.specs.Views.{KeeperData}
 use Rattle.td_journal.proofs.Kept.{issue_leaves, issue_refused, issue_written}
-use Rattle.td_journal.proofs.keeper.KeeperReplica.issue.Goals.{in-BreaksKey-1, in-BreaksConstraint-1, in-Done-1}
 use Rattle.td_journal.proofs.keeper.KeeperReplica.issue.Goals as goal
 
 pub returns-in-Err-clause-written : goal.returns-in-Err-clause-written
@@ -41,8 +40,5 @@ returns-in-Err-accept-clause-written g c =
     (λ e is. c.last_of.ensures.last s.entries e (held ∙ is)) c.in-Err-accept.ensures.written.0) in
     let k = c.args.self.now in
     let at_end = λ (m : KeeperData _ _). JournalsIssue (kept k.is_open (g.R.Replica.seen k.replica)) (Err issue_error.JournalWrite) (kept m.is_open (g.R.Replica.seen m.replica)) (output_of g.W.Sink k.writer) (output_of g.W.Sink m.writer) in
-    elim c.match-issued.branch [
-      | in-BreaksKey-1 w ↦ subst at_end (sym w.self-is) told
-      | in-BreaksConstraint-1 w ↦ subst at_end (sym w.self-is) told
-      | in-Done-1 w ↦ subst at_end (sym w.self-is) told
-    ]
+    let self_is : c.match-issued.self ≡ record { replica = c.issue.new.self; writer = c.accept.new.self; is_open = false } = search rules in
+    subst at_end (sym self_is) told
