@@ -29,8 +29,8 @@ fn reason(alloc: Global, error: &ReopenError) -> Result<String> {
     }
 }
 
-/// What is told of site 2 that is reopened from these bytes, with room for so many entries; in the end the reader fails,
-/// or gives no more.
+/// What is told of site 2 that is reopened from these bytes, with room for so many entries; in the end the reader
+/// fails, or gives no more.
 pub fn reopened(
     alloc: Global,
     meter: &mut Meter,

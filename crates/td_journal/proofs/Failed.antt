@@ -12,7 +12,8 @@ use Rattle.td_stamps.proofs.Next.{next_comes_last}
 use Rattle.td_frames.specs.Spelling.{entry_frames}
 use Rattle.td_story.specs.Seen.{Seen, with_entries}
 use Rattle.td_journal.specs.Keepers.{FailedIssueLeavesFront, FailedTakeLeavesFront, IsJournal, LeavesFront}
-use Rattle.td_journal.specs.Keeping.{Leaves, kept}
+use Rattle.td_journal.specs.Keeping.{Leaves}
+use Rattle.td_journal.specs.Views.{kept}
 use Rattle.td_journal.proofs.Checked.{passes}
 use Rattle.td_journal.proofs.Framed.{is_next}
 use Rattle.td_journal.proofs.Grown.{grows, last_same}

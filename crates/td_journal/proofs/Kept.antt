@@ -19,7 +19,8 @@ use Rattle.td_story.specs.declared.refusal.IssueError.{IssueError}
 use Rattle.td_story.specs.declared.refusal.IssueError.TheVariants as issue_error
 use Rattle.td_story.specs.declared.refusal.TakeError.{TakeError}
 use Rattle.td_story.specs.declared.refusal.TakeError.TheVariants as take_error
-use Rattle.td_journal.specs.Keeping.{Accepts, JournalsBatch, JournalsIssue, kept}
+use Rattle.td_journal.specs.Keeping.{Accepts, JournalsBatch, JournalsIssue}
+use Rattle.td_journal.specs.Views.{kept}
 use Rattle.td_journal.specs.Written.{HandsOn}
 use Rattle.td_journal.proofs.Checked.{passes}
 use Rattle.td_journal.proofs.Framed.{fresh_framed, next_framed}

@@ -9,8 +9,8 @@ use Rattle.td_journal.specs.declared.error.JournalError.{JournalError}
 use Rattle.td_journal.specs.declared.reading.Unread.{Unread}
 use Rattle.td_journal.specs.declared.reading.Unread.TheVariants.{ReadFault, OutOfMemory, Refused}
 
--- what a reader of a header tells of the bytes that it took: whether the header, or a field of it, stood whole there; or
--- that the bytes ended inside it; or why it is refused
+-- what a reader of a header tells of the bytes that it took: whether the header, or a field of it, stood whole there;
+-- or that the bytes ended inside it; or why it is refused
 abbrev pub HeaderRead : (List ℕ → Header) → List ℕ → Result Bool Unread → Option (List ℕ) → ℕ → ℕ → Type 0
 HeaderRead at bytes (Ok true) left old new = ((more : List ℕ) → at (bytes ++ more) ≡ Ok (Some more)) × (new ≡ old)
 HeaderRead at bytes (Ok false) left old new = (at bytes ≡ Ok None) × IsAtEnd left × (new ≡ old)

@@ -65,7 +65,8 @@ JournalSaysAll =
     → (es : List Entry) × (union [] es ≡ s.entries) × (journal_at s.site s.script bytes ≡ Ok (es, length bytes))
     × ((k : ℕ) → journal_at s.site s.script (take k bytes) ≡ Ok (left_of s.site s.script es k))
 
--- a site that was reopened from a front of a journal has what stands whole there for its journal: so it may go on with it
+-- a site that was reopened from a front of a journal has what stands whole there for its journal: so it may go on with
+-- it
 abbrev pub ReopenedHasJournal : Type 0
 ReopenedHasJournal =
     (s after : Seen) (bytes front : List ℕ) (k limit whole : ℕ) (old new : Input) → IsSound s → IsJournal s bytes → length (header s.site s.script) ≤ k → front ≡ take k bytes

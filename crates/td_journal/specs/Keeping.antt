@@ -1,6 +1,6 @@
--- What a keeper does to its journal: it writes the frame of each fresh entry, in the order in which they came, and hands
--- them on; a call that brings nothing fresh leaves the writer as it was.
-use Rattle.std.specs.Prelude.{◌≡◌, Bool, true, false, ◌&&◌, List, [], ◌∷◌, ◌++◌, Result, Ok, Err}
+-- What a keeper does to its journal: it writes the frame of each fresh entry, in the order in which they came, and
+-- hands them on; a call that brings nothing fresh leaves the writer as it was.
+use Rattle.std.specs.Prelude.{◌≡◌, true, false, List, [], ◌∷◌, ◌++◌, Result, Ok, Err}
 use Rattle.std.specs.List.{AllByRecursion}
 use Rattle.td_devices.specs.Streams.{AppendsFront}
 use Rattle.td_devices.specs.Views.{Output}
@@ -18,10 +18,6 @@ use Rattle.td_journal.specs.Spelling.{journal}
 use Rattle.td_journal.specs.Written.{HandsOn, WritesFront}
 use Rattle.td_journal.specs.declared.keeper.StartError.{StartError}
 use Rattle.td_journal.specs.declared.keeper.StartError.TheVariants.{Broken, WriteFault}
-
--- a keeper over a site is open while both are
-abbrev pub kept : Bool → Seen → Seen
-kept is_open s = record { script = s.script; site = s.site; limit = s.limit; entries = s.entries; live = is_open && s.live }
 
 -- the frames of these entries, handed on; where there is none, the writer isn't touched
 abbrev pub Accepts : List Entry → Output → Output → Type 0

@@ -1,6 +1,6 @@
--- The reading of a journal, as a function of its bytes: first its header, which is known beforehand, field by field; then
--- the entries whose frames stand whole. Bytes that end inside the header are to be a front of it, and say that nothing
--- was accepted; a frame that they end in is dropped.
+-- The reading of a journal, as a function of its bytes: first its header, which is known beforehand, field by field;
+-- then the entries whose frames stand whole. Bytes that end inside the header are to be a front of it, and say that
+-- nothing was accepted; a frame that they end in is dropped.
 use Rattle.std.specs.Prelude.{ℕ, List, [], ◌∷◌, length, codes, Option, None, Some, Result, Ok, Err, ◌==◌, if◌then◌else◌}
 use Rattle.std.specs.Int.{w16, w32, to_be_bytes}
 use Rattle.td_stamps.specs.declared.entry.Entry.{Entry}

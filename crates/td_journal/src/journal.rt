@@ -37,7 +37,8 @@ impl<W: Sink> Journal<W> {
     /// The journal of a site that has accepted nothing: writes its header. It takes no memory, and flushes nothing.
     pub fn begin(mut writer: W, site: u16, script: &str) -> Result<Journal<W>, NotBegun<W>>
         requires { length script.now ≤ 65536 }
-        ensures { MatchResult result (λ j. WritesAll (output_of W.Sink writer) (output_of W.Sink j) (header site script.now))
+        ensures { MatchResult result
+            (λ j. WritesAll (output_of W.Sink writer) (output_of W.Sink j) (header site script.now))
             (λ e. WritesFront (output_of W.Sink writer) (output_of W.Sink e.writer) (header site script.now)) }
     {
         match put_header(&mut writer, site, script) {
@@ -50,7 +51,8 @@ impl<W: Sink> Journal<W> {
     pub fn append(&mut self, entry: &Entry) -> Result<(), WriteFault>
         requires { length entry.now.text ≤ 8192 }
         ensures has { HasFrame entry.now }
-        ensures written { MatchResult result (λ _. WritesAll (output_of W.Sink self.old) (output_of W.Sink self.new) (entry_frame entry.now))
+        ensures written { MatchResult result
+            (λ _. WritesAll (output_of W.Sink self.old) (output_of W.Sink self.new) (entry_frame entry.now))
             (λ _. WritesFront (output_of W.Sink self.old) (output_of W.Sink self.new) (entry_frame entry.now)) }
     {
         match put_entry(&mut self.writer, entry) {
@@ -63,7 +65,8 @@ impl<W: Sink> Journal<W> {
     pub(crate) fn accept(&mut self, entries: &[Entry]) -> Result<(), WriteFault>
         requires { list_all in_range entries.now ≡ true }
         ensures has { OnOk result (AllByRecursion HasFrame entries.now) }
-        ensures written { MatchResult result (λ _. HandsOn (output_of W.Sink self.old) (output_of W.Sink self.new) (entry_frames entries.now))
+        ensures written { MatchResult result
+            (λ _. HandsOn (output_of W.Sink self.old) (output_of W.Sink self.new) (entry_frames entries.now))
             (λ _. WritesFront (output_of W.Sink self.old) (output_of W.Sink self.new) (entry_frames entries.now)) }
     {
         match send_entries(&mut self.writer, entries) {

@@ -1,12 +1,12 @@
 //! A site that writes what it accepts to a journal.
 
-ghost use Rattle.std.specs.Prelude.{◌≡◌, ◌<◌, ◌^◌, ◌⊎◌, ◌∷◌, ◌++◌, [], List, Err, MatchResult, true};
+ghost use Rattle.std.specs.Prelude.{◌≡◌, ◌<◌, ◌^◌, ◌∷◌, ◌++◌, [], List, Err, MatchResult, true};
 ghost use Rattle.std.specs.List.{list_all};
-ghost use Rattle.td_devices.specs.Counted.{counted};
 ghost use Rattle.td_devices.specs.Views.{output_of};
 ghost use Rattle.td_stamps.specs.Entries.{in_range};
 ghost use Rattle.td_stamps.specs.declared.entry.Entry.{Entry};
-ghost use Rattle.td_journal.specs.Keeping.{JournalsBatch, JournalsIssue, Starts, StartsNot, kept};
+ghost use Rattle.td_journal.specs.Keeping.{JournalsBatch, JournalsIssue, Starts, StartsNot};
+ghost use Rattle.td_journal.specs.Views.{Fails, seen_of};
 ghost use Rattle.td_story.specs.Calls.{Issues, Takes};
 ghost use Rattle.td_story.specs.declared.refusal.IssueError.TheVariants as issue_error;
 ghost use Rattle.td_story.specs.declared.refusal.TakeError.TheVariants as take_error;
@@ -61,7 +61,8 @@ impl<R, W> Model for Keeper<R, W> {
 impl<R: Replica, W: Sink> Keeper<R, W> {
     /// Begins the journal of a site: writes its header and what the site holds, and hands it on. It takes no memory.
     pub fn start(replica: R, mut writer: W) -> Result<Keeper<R, W>, NotStarted<R, W>>
-        ensures written { MatchResult result (λ k. Starts (R.seen replica) (output_of W.Sink writer) (output_of W.Sink k.writer))
+        ensures written { MatchResult result
+            (λ k. Starts (R.seen replica) (output_of W.Sink writer) (output_of W.Sink k.writer))
             (λ e. StartsNot (R.seen replica) e.error (output_of W.Sink writer) (output_of W.Sink e.writer)) }
         ensures same { MatchResult result (λ k. (k.replica ≡ replica) × (k.is_open ≡ true)) (λ e. e.replica ≡ replica) }
     {
@@ -87,7 +88,8 @@ impl<R: Replica, W: Sink> Keeper<R, W> {
         }
     }
 
-    /// Goes on with a journal: the writer holds that of this site, whole, and writes behind it. It writes nothing itself.
+    /// Goes on with a journal: the writer holds that of this site, whole, and writes behind it. This itself writes
+    /// nothing.
     pub fn resume(replica: R, writer: W) -> Keeper<R, W>
         ensures { result ≡ record { replica = replica; writer = writer; is_open = true } }
     {
@@ -120,14 +122,15 @@ fn last_of(entries: &[Entry]) -> &[Entry]
 }
 
 impl<R: Replica, W: Sink> Replica for Keeper<R, W> {
-    ghost seen = { λ k. kept k.is_open (R.seen k.replica) };
+    ghost seen = { λ k. seen_of R.Replica k };
 
-    ghost failed = { λ old new. (W.faults new.writer ≡ counted (W.faults old.writer)) ⊎ R.failed old.replica new.replica };
+    ghost failed = { λ old new. Fails R.Replica W.Sink old new };
 
     fn issue(&mut self, alloc: Global, text: &str, meter: &mut Meter) -> Result<Issued, IssueError>
-        ensures issues { Issues (kept self.old.is_open (R.seen self.old.replica)) text.now result (kept self.new.is_open (R.seen self.new.replica)) }
-        ensures journal { result ≡ Err issue_error.JournalWrite → (W.faults self.new.writer ≡ counted (W.faults self.old.writer)) ⊎ R.failed self.old.replica self.new.replica }
-        ensures written { JournalsIssue (kept self.old.is_open (R.seen self.old.replica)) result (kept self.new.is_open (R.seen self.new.replica)) (output_of W.Sink self.old.writer) (output_of W.Sink self.new.writer) }
+        ensures issues { Issues (seen_of R.Replica self.old) text.now result (seen_of R.Replica self.new) }
+        ensures journal { result ≡ Err issue_error.JournalWrite → Fails R.Replica W.Sink self.old self.new }
+        ensures written { JournalsIssue (seen_of R.Replica self.old) result (seen_of R.Replica self.new)
+            (output_of W.Sink self.old.writer) (output_of W.Sink self.new.writer) }
     {
         if !self.is_open {
             return Err(IssueError::Broken);
@@ -155,9 +158,10 @@ impl<R: Replica, W: Sink> Replica for Keeper<R, W> {
         batch: &[Entry],
         meter: &mut Meter,
     ) -> Result<Taken, TakeError>
-        ensures takes { Takes (kept self.old.is_open (R.seen self.old.replica)) batch.now result (kept self.new.is_open (R.seen self.new.replica)) }
-        ensures journal { result ≡ Err take_error.JournalWrite → (W.faults self.new.writer ≡ counted (W.faults self.old.writer)) ⊎ R.failed self.old.replica self.new.replica }
-        ensures written { JournalsBatch (kept self.old.is_open (R.seen self.old.replica)) batch.now result (output_of W.Sink self.old.writer) (output_of W.Sink self.new.writer) }
+        ensures takes { Takes (seen_of R.Replica self.old) batch.now result (seen_of R.Replica self.new) }
+        ensures journal { result ≡ Err take_error.JournalWrite → Fails R.Replica W.Sink self.old self.new }
+        ensures written { JournalsBatch (seen_of R.Replica self.old) batch.now result
+            (output_of W.Sink self.old.writer) (output_of W.Sink self.new.writer) }
     {
         if !self.is_open {
             return Err(TakeError::Broken);

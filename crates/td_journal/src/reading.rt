@@ -46,7 +46,8 @@ fn judged(same: bool, is_whole: bool, error: JournalError) -> Result<bool, Unrea
 // Reads a field to its end or to the end of the input, and then judges it: whether it is whole, or why it is refused.
 fn read_field<S: Source>(source: &mut S, field: &[u8], error: JournalError) -> Result<bool, Unread>
     ensures told { (bytes : List ℕ) × Consumes (S.left source.old) (S.left source.new) bytes
-        × HeaderRead (field_at field.now error) bytes result (S.left source.new) (S.failures source.old) (S.failures source.new) }
+        × HeaderRead (field_at field.now error) bytes result
+        (S.left source.new) (S.failures source.old) (S.failures source.new) }
     ensures beside { Keeps (S.beside source.old) (S.beside source.new) }
 {
     let mut same = true;
@@ -68,7 +69,8 @@ pub(crate) fn read_header<S: Source>(
 ) -> Result<bool, Unread>
     requires { length script.now ≤ 65536 }
     ensures told { (bytes : List ℕ) × Consumes (S.left source.old) (S.left source.new) bytes
-        × HeaderRead (header_at site script.now) bytes result (S.left source.new) (S.failures source.old) (S.failures source.new) }
+        × HeaderRead (header_at site script.now) bytes result
+        (S.left source.new) (S.failures source.old) (S.failures source.new) }
     ensures beside { Keeps (S.beside source.old) (S.beside source.new) }
 {
     match read_field(source, b"JTDB".as_slice(), JournalError::Magic) {

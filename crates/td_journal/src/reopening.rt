@@ -64,7 +64,9 @@ fn refill<R: Opens + Drop, S: Source>(
     requires short { length script.now ≤ 65536 }
     requires script { (R.seen replica).script ≡ script.now }
     requires none { (R.seen replica).entries ≡ [] }
-    ensures told { MatchResult result (λ r. Refills (R.seen replica) (input_of S.Source source.old) (input_of S.Source source.new) (R.seen r.replica) r.whole)
+    ensures told { MatchResult result
+        (λ r. Refills (R.seen replica) (input_of S.Source source.old) (input_of S.Source source.new)
+        (R.seen r.replica) r.whole)
         (λ e. RefillsNot (R.seen replica) (input_of S.Source source.old) (input_of S.Source source.new) e) }
     ensures beside { Keeps (S.beside source.old) (S.beside source.new) }
 {
@@ -90,7 +92,9 @@ pub fn reopen<R: Opens + Drop, S: Source>(
     limit: usize,
     meter: &mut Meter,
 ) -> Result<Reopened<R>, ReopenError>
-    ensures reopened { MatchResult result (λ r. ReopensSite script.now site limit (input_of S.Source source.old) (input_of S.Source source.new) (R.seen r.replica) r.whole)
+    ensures reopened { MatchResult result
+        (λ r. ReopensSite script.now site limit (input_of S.Source source.old) (input_of S.Source source.new)
+        (R.seen r.replica) r.whole)
         (λ e. ReopensNot script.now site limit (input_of S.Source source.old) (input_of S.Source source.new) e) }
     ensures beside { Keeps (S.beside source.old) (S.beside source.new) }
 {

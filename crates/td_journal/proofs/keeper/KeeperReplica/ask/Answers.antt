@@ -1,7 +1,6 @@
 use Rattle.std.proofs.Common.{rules, ◌≡◌, true, Bool, sym, subst}
 use Rattle.td_story.specs.Calls.{Asks}
-use Rattle.td_journal.specs.Keeping.{kept}
-use Rattle.td_journal.specs.Views.{KeeperData}
+use Rattle.td_journal.specs.Views.{KeeperData, kept}
 use Rattle.td_journal.proofs.keeper.KeeperReplica.ask.Goals as goal
 
 pub returns : goal.returns

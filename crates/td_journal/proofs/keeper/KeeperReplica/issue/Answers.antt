@@ -2,8 +2,8 @@ use Rattle.std.proofs.Common.{rules, ◌≡◌, Err, Ok, false, ap, sym, subst, 
 use Rattle.td_devices.specs.Views.{output_of}
 use Rattle.td_stamps.specs.Sets.{Holding}
 use Rattle.td_story.specs.declared.refusal.IssueError.TheVariants as issue_error
-use Rattle.td_journal.specs.Keeping.{JournalsIssue, kept}
-use Rattle.td_journal.specs.Views.{KeeperData}
+use Rattle.td_journal.specs.Keeping.{JournalsIssue}
+use Rattle.td_journal.specs.Views.{KeeperData, kept}
 use Rattle.td_journal.proofs.Kept.{issue_leaves, issue_refused, issue_written}
 use Rattle.td_journal.proofs.keeper.KeeperReplica.issue.Goals as goal
 

@@ -8,8 +8,8 @@ use Rattle.td_stamps.specs.declared.entry.Entry.{Entry}
 use Rattle.td_frames.specs.Spelling.{HasFrame, entry_frames}
 use Rattle.td_story.specs.Calls.{Takes}
 use Rattle.td_story.specs.declared.refusal.TakeError.TheVariants as take_error
-use Rattle.td_journal.specs.Keeping.{Accepts, JournalsBatch, Leaves, kept}
-use Rattle.td_journal.specs.Views.{KeeperData}
+use Rattle.td_journal.specs.Keeping.{Accepts, JournalsBatch, Leaves}
+use Rattle.td_journal.specs.Views.{KeeperData, kept}
 use Rattle.td_journal.specs.Written.{HandsOn}
 use Rattle.td_journal.proofs.Framed.{fresh_framed}
 use Rattle.td_journal.proofs.Kept.{fresh_in_range, fresh_is, some_accepted, take_fails, take_refused}
