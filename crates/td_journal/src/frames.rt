@@ -24,11 +24,12 @@ fn head_bytes(site: u16, length: u32) -> [u8; 11]
     ]
 }
 
+// Whether its parts are in their ranges: then it has a frame.
 fn is_framed(entry: &Entry) -> bool
     ensures range { result ≡ in_range entry.now }
     ensures framed { IsTrue result → HasFrame entry.now }
 {
-    // What is read is within the ranges of its types.
+    // Only of parts that are read it is known that their types' bits suffice.
     let _site = entry.site;
     let _seq = entry.seq;
     let _clock = entry.clock;

@@ -101,6 +101,7 @@ impl<R: Replica, W: Sink> Keeper<R, W> {
     }
 }
 
+// The site's number, for which 16 bits suffice.
 fn number_of<R: Replica>(replica: &R) -> u16
     ensures number { result ≡ (R.seen replica.now).site }
     ensures fits { (R.seen replica.now).site < 2 ^ 16 }
@@ -135,6 +136,7 @@ impl<R: Replica, W: Sink> Replica for Keeper<R, W> {
         if !self.is_open {
             return Err(IssueError::Broken);
         }
+        // By its number, the entry that it issues has a frame.
         let _site = number_of(&self.replica);
         let issued = match self.replica.issue(alloc, text, meter) {
             Ok(issued) => issued,

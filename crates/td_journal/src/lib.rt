@@ -6,7 +6,7 @@ mod frames;
 pub mod journal;
 pub mod keeper;
 pub mod laws;
-pub mod reading;
+mod reading;
 pub mod reopening;
 
 pub use error::{JournalError, WriteFault};

@@ -20,7 +20,7 @@ const MOST_ENTRIES: u32 = 100_000;
 
 /// Why a journal is not read.
 #[derive(Clone, Copy, Drop)]
-pub enum Unread {
+pub(crate) enum Unread {
     ReadFault,
     OutOfMemory,
     Refused(JournalError),
