@@ -1,0 +1,107 @@
+-- Fields of a header, byte by byte and one after the other; and the frames behind it.
+use Rattle.std.proofs.Common.{◌≡◌, ℕ, zero, suc, add-one, ◌+◌, ◌<◌, ◌≤◌, Bool, true, false, ◌&&◌, cond, eqb, List, [], ◌∷◌, ◌++◌, length, drop, drop-cons, get_or, Option, None, Some, Result, Ok, Err, refl, sym, ap, subst, ◌∙◌, append_assoc, append-nil, arith}
+use Rattle.std.specs.Io.KnownBytes.{IsAtEnd}
+use Rattle.td_devices.specs.Counted.{counted}
+use Rattle.td_stamps.specs.declared.entry.Entry.{Entry}
+use Rattle.td_frames.specs.Reading.{Entries, Miss, short, magic, version, bad, end_at, entries_at, frame_at, last_frame, with_frame}
+use Rattle.td_journal.specs.Reading.{Header, field_at, fields_at, frames_at, most_entries, then_at, until_end}
+use Rattle.td_journal.specs.ForProofs.{HeaderRead}
+use Rattle.td_journal.specs.declared.error.JournalError.{JournalError}
+use Rattle.td_journal.specs.declared.reading.Unread.{Unread}
+use Rattle.td_journal.specs.declared.reading.Unread.TheVariants.{ReadFault, OutOfMemory, Refused}
+
+-- ---- one field, of which so many bytes were read, and were the same or not
+
+abbrev pub Agrees : List ℕ → JournalError → List ℕ → ℕ → Bool → Type 0
+Agrees field error done i same = (more : List ℕ) → field_at field error (done ++ more) ≡ cond same (field_at (drop i field) error more) (Err error)
+
+at_byte : (same : Bool) (rest xs : List ℕ) (x b : ℕ) (more : List ℕ) (error : JournalError) → rest ≡ x ∷ xs
+    → cond same (field_at rest error (b ∷ more)) (Err error) ≡ cond (same && eqb b x) (field_at xs error more) (Err error)
+at_byte true rest xs x b more error is = ap (λ (r : List ℕ). field_at r error (b ∷ more)) is
+at_byte false rest xs x b more error is = refl
+
+left_at : (field : List ℕ) (i d : ℕ) → i < length field → drop i field ≡ get_or field i d ∷ drop (i + 1) field
+left_at field i d lt = drop-cons field i d lt ∙ ap (λ (n : ℕ). get_or field i d ∷ drop n field) (sym (add-one i))
+
+pub agrees_on : (field : List ℕ) (error : JournalError) (done : List ℕ) (i b d x : ℕ) (same after : Bool) → i < length field → x ≡ get_or field i d → after ≡ (same && eqb b x)
+    → Agrees field error done i same → Agrees field error (done ++ b ∷ []) (i + 1) after
+agrees_on field error done i b d x same after lt here is so_far more =
+    ap (field_at field error) (append_assoc done (b ∷ []) more) ∙ so_far (b ∷ more) ∙ at_byte same (drop i field) (drop (i + 1) field) (get_or field i d) b more error (left_at field i d lt)
+    ∙ ap (λ (t : Bool). cond t (field_at (drop (i + 1) field) error more) (Err error)) (sym (is ∙ ap (λ y. same && eqb b y) here))
+
+nothing_more : (field : List ℕ) (error : JournalError) (done : List ℕ) (i : ℕ) (same : Bool) → Agrees field error done i same → field_at field error done ≡ cond same (field_at (drop i field) error []) (Err error)
+nothing_more field error done i same so_far = ap (field_at field error) (sym (append-nil done)) ∙ so_far []
+
+pub field_whole : (field : List ℕ) (error : JournalError) (done : List ℕ) (i : ℕ) (same : Bool) (left : Option (List ℕ)) (old new : ℕ) → drop i field ≡ []
+    → Agrees field error done i same → new ≡ old → HeaderRead (field_at field error) done (cond same (Ok true) (Err (Refused error))) left old new
+field_whole field error done i true left old new none so_far count = ((λ more. so_far more ∙ ap (λ (r : List ℕ). field_at r error more) none), count)
+field_whole field error done i false left old new none so_far count = (nothing_more field error done i false so_far, count)
+
+pub field_cut : (field : List ℕ) (error : JournalError) (done : List ℕ) (i d : ℕ) (same : Bool) (left : Option (List ℕ)) (old new : ℕ) → i < length field
+    → Agrees field error done i same → IsAtEnd left → new ≡ old → HeaderRead (field_at field error) done (cond same (Ok false) (Err (Refused error))) left old new
+field_cut field error done i d true left old new lt so_far end count = (nothing_more field error done i true so_far ∙ ap (λ (r : List ℕ). field_at r error []) (left_at field i d lt), end, count)
+field_cut field error done i d false left old new lt so_far end count = (nothing_more field error done i false so_far, count)
+
+-- ---- one field after the other
+
+pub header_then : (first next : List ℕ → Header) (b c : List ℕ) (r : Result Bool Unread) (left : Option (List ℕ)) (old mid new : ℕ)
+    → ((more : List ℕ) → first (b ++ more) ≡ Ok (Some more)) → mid ≡ old → HeaderRead next c r left mid new → HeaderRead (λ bytes. then_at (first bytes) next) (b ++ c) r left old new
+header_then first next b c (Ok true) left old mid new whole same h =
+    ((λ more. ap (λ (bytes : List ℕ). then_at (first bytes) next) (append_assoc b c more) ∙ ap (λ (r : Header). then_at r next) (whole (c ++ more)) ∙ h.0 more), h.1 ∙ same)
+header_then first next b c (Ok false) left old mid new whole same h = (ap (λ (r : Header). then_at r next) (whole c) ∙ h.0, h.1, h.2 ∙ same)
+header_then first next b c (Err ReadFault) left old mid new whole same h = h ∙ ap counted same
+header_then first next b c (Err OutOfMemory) left old mid new whole same h = h
+header_then first next b c (Err (Refused e)) left old mid new whole same h = (ap (λ (r : Header). then_at r next) (whole c) ∙ h.0, h.1 ∙ same)
+
+pub header_cut : (first next : List ℕ → Header) (b : List ℕ) (left : Option (List ℕ)) (old new : ℕ) → HeaderRead first b (Ok false) left old new
+    → HeaderRead (λ bytes. then_at (first bytes) next) b (Ok false) left old new
+header_cut first next b left old new h = (ap (λ (r : Header). then_at r next) h.0, h.1, h.2)
+
+pub header_refused : (first next : List ℕ → Header) (b : List ℕ) (e : Unread) (left : Option (List ℕ)) (old new : ℕ) → HeaderRead first b (Err e) left old new
+    → HeaderRead (λ bytes. then_at (first bytes) next) b (Err e) left old new
+header_refused first next b ReadFault left old new h = h
+header_refused first next b OutOfMemory left old new h = h
+header_refused first next b (Refused e) left old new h = (ap (λ (r : Header). then_at r next) h.0, h.1)
+
+-- what is told of a field, of the field that it is and as what it is told
+pub field_as : (f g : List ℕ) (error : JournalError) (b : List ℕ) (r t : Result Bool Unread) (left : Option (List ℕ)) (old new : ℕ) → f ≡ g → r ≡ t → HeaderRead (field_at f error) b r left old new
+    → HeaderRead (field_at g error) b t left old new
+field_as f g error b r t left old new field is h =
+    subst (λ (x : Result Bool Unread). HeaderRead (field_at g error) b x left old new) is (subst (λ (x : List ℕ). HeaderRead (field_at x error) b r left old new) field h)
+
+-- the last field of all
+pub last_field : (f : List ℕ) (error : JournalError) (b : List ℕ) (r : Result Bool Unread) (left : Option (List ℕ)) (old new : ℕ) → HeaderRead (field_at f error) b r left old new
+    → HeaderRead (fields_at ((f, error) ∷ [])) b r left old new
+last_field f error b (Ok true) left old new h = ((λ more. ap (λ (r : Header). then_at r (fields_at [])) (h.0 more)), h.1)
+last_field f error b (Ok false) left old new h = header_cut (field_at f error) (fields_at []) b left old new h
+last_field f error b (Err e) left old new h = header_refused (field_at f error) (fields_at []) b e left old new h
+
+-- one more in front
+pub field_first : (f : List ℕ) (error : JournalError) (fs : List (List ℕ × JournalError)) (b c : List ℕ) (r : Result Bool Unread) (left between : Option (List ℕ)) (old mid new : ℕ)
+    → HeaderRead (field_at f error) b (Ok true) between old mid → HeaderRead (fields_at fs) c r left mid new → HeaderRead (fields_at ((f, error) ∷ fs)) (b ++ c) r left old new
+field_first f error fs b c r left between old mid new first rest = header_then (field_at f error) (fields_at fs) b c r left old mid new first.0 first.1 rest
+
+-- no more entries are read than are allowed
+none_ends : (r : Result (Unit {0} × List ℕ) Miss) → length (last_frame r).0 ≤ 0
+none_ends (Ok x) = omega arith
+none_ends (Err m) = omega arith
+
+one_more : (n : ℕ) (others : List ℕ → Entries) → ((rest : List ℕ) → length (others rest).0 ≤ n) → (r : Result (Option Entry × List ℕ) Miss) → length (with_frame others r).0 ≤ suc n
+one_more n others few (Ok (None, rest)) = omega arith
+one_more n others few (Ok (Some e, rest)) = omega (arith, few rest)
+one_more n others few (Err m) = omega arith
+
+few_read : (n : ℕ) (bytes : List ℕ) → length (entries_at n bytes).0 ≤ n
+unfolding entries_at
+few_read zero bytes = none_ends (end_at bytes)
+few_read (suc n) bytes = one_more n (entries_at n) (few_read n) (frame_at bytes)
+
+of_said : (r : Entries) (es : List Entry) → length r.0 ≤ 100000 → until_end r ≡ Ok es → length es ≤ 100000
+of_said (xs, Err short) es few e = let same : xs ≡ es = cc in subst (λ (l : List Entry). length l ≤ 100000) same few
+of_said (xs, Err magic) es few e = absurd cc
+of_said (xs, Err version) es few e = absurd cc
+of_said (xs, Err bad) es few e = absurd cc
+of_said (xs, Ok rest) es few e = absurd cc
+
+pub few_said : (bytes : List ℕ) (es : List Entry) → frames_at bytes ≡ Ok es → length es ≤ 100000
+few_said bytes es e = of_said (entries_at most_entries bytes) es (few_read most_entries bytes) e

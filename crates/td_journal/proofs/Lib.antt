@@ -1,0 +1,10 @@
+-- What the proofs of the crate share.
+pub mod Fields
+pub mod Framed
+pub mod Cut
+pub mod Checked
+pub mod Kept
+pub mod Grown
+pub mod ComesBack
+pub mod GoesOn
+pub mod Failed

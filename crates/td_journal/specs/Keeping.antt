@@ -1,0 +1,52 @@
+-- What a keeper does to its journal: it writes the frame of each fresh entry, in the order in which they came, and
+-- hands them on; a call that brings nothing fresh leaves the writer as it was.
+use Rattle.std.specs.Prelude.{◌≡◌, true, false, List, [], ◌∷◌, ◌++◌, Result, Ok, Err}
+use Rattle.std.specs.List.{AllByRecursion}
+use Rattle.td_devices.specs.Streams.{AppendsFront}
+use Rattle.td_devices.specs.Views.{Output}
+use Rattle.td_stamps.specs.Checks.{fresh_of}
+use Rattle.td_stamps.specs.declared.entry.Entry.{Entry}
+use Rattle.td_frames.specs.Spelling.{HasFrame, entry_frames}
+use Rattle.td_story.specs.Seen.{Seen}
+use Rattle.td_story.specs.declared.answer.Issued.{Issued}
+use Rattle.td_story.specs.declared.answer.Taken.{Taken}
+use Rattle.td_story.specs.declared.refusal.IssueError.{IssueError}
+use Rattle.td_story.specs.declared.refusal.IssueError.TheVariants as issue_error
+use Rattle.td_story.specs.declared.refusal.TakeError.{TakeError}
+use Rattle.td_story.specs.declared.refusal.TakeError.TheVariants as take_error
+use Rattle.td_journal.specs.Spelling.{journal}
+use Rattle.td_journal.specs.Written.{HandsOn, WritesFront}
+use Rattle.td_journal.specs.declared.keeper.StartError.{StartError}
+use Rattle.td_journal.specs.declared.keeper.StartError.TheVariants.{Broken, WriteFault}
+
+-- the frames of these entries, handed on; where there is none, the writer isn't touched
+abbrev pub Accepts : List Entry → Output → Output → Type 0
+Accepts [] old new = new ≡ old
+Accepts (e ∷ es) old new = HandsOn old new (entry_frames (e ∷ es)) × AllByRecursion HasFrame (e ∷ es)
+
+-- a front of these frames, behind which the journal failed
+abbrev pub Leaves : List Entry → Output → Output → Type 0
+Leaves es old new = AppendsFront old.held new.held (entry_frames es) × AllByRecursion HasFrame es
+
+-- ---- start: the journal of all that is held, in stamp order
+
+abbrev pub Starts : Seen → Output → Output → Type 0
+Starts s old new = (s.live ≡ true) × HandsOn old new (journal s.site s.script s.entries) × AllByRecursion HasFrame s.entries
+
+abbrev pub StartsNot : Seen → StartError → Output → Output → Type 0
+StartsNot s Broken old new = (s.live ≡ false) × (new ≡ old)
+StartsNot s WriteFault old new = (s.live ≡ true) × WritesFront old new (journal s.site s.script s.entries)
+
+-- ---- issue: the entry that the site then has more
+
+abbrev pub JournalsIssue : Seen → Result Issued IssueError → Seen → Output → Output → Type 0
+JournalsIssue s (Ok i) after old new = (e : Entry) × (after.entries ≡ s.entries ++ e ∷ []) × Accepts (e ∷ []) old new
+JournalsIssue s (Err issue_error.JournalWrite) after old new = (e : Entry) × (after.entries ≡ s.entries ++ e ∷ []) × Leaves (e ∷ []) old new
+JournalsIssue s (Err e) after old new = new ≡ old
+
+-- ---- take: the fresh entries of the batch, a repeat at its first place
+
+abbrev pub JournalsBatch : Seen → List Entry → Result Taken TakeError → Output → Output → Type 0
+JournalsBatch s batch (Ok t) old new = Accepts (fresh_of s.entries batch) old new
+JournalsBatch s batch (Err take_error.JournalWrite) old new = Leaves (fresh_of s.entries batch) old new
+JournalsBatch s batch (Err e) old new = new ≡ old

@@ -1,0 +1,137 @@
+//! The header and the frames of a journal, read.
+
+ghost use Rattle.std.specs.Prelude.{◌≡◌, ◌≤◌, ◌&&◌, ◌==◌, ℕ, List, Err, MatchResult, Ok, cond, length, true};
+ghost use Rattle.std.specs.Io.KnownBytes.{Keeps, Consumes};
+ghost use Rattle.std.specs.List.{list_all};
+ghost use Rattle.td_stamps.specs.Entries.{in_range};
+ghost use Rattle.td_journal.specs.ForProofs.{FramesRead, HeaderRead};
+ghost use Rattle.td_journal.specs.Reading.{field_at, frames_at, header_at};
+ghost use Rattle.td_journal.specs.Spelling.{journal};
+ghost use Rattle.td_journal.specs.declared.reading.Unread.TheVariants.{Refused};
+
+use crate::error::JournalError;
+use std::alloc::Global;
+use td_devices::{Source, read_byte};
+use td_frames::{FrameError, read_entries};
+use td_stamps::Entry;
+
+/// The most entries of a journal.
+const MOST_ENTRIES: u32 = 100_000;
+
+/// Why a journal is not read.
+#[derive(Clone, Copy, Drop)]
+pub(crate) enum Unread {
+    ReadFault,
+    OutOfMemory,
+    Refused(JournalError),
+}
+
+// Whether a field still has the bytes that it is to have, after one byte more.
+fn still(same: bool, read: u8, byte: u8) -> bool
+    ensures { result ≡ (same && (read == byte)) }
+{
+    same && read == byte
+}
+
+fn judged(same: bool, is_whole: bool, error: JournalError) -> Result<bool, Unread>
+    ensures { result ≡ cond same (Ok is_whole) (Err (Refused error)) }
+{
+    if same {
+        Ok(is_whole)
+    } else {
+        Err(Unread::Refused(error))
+    }
+}
+
+// Reads a field to its end or to the end of the input, and then judges it: whether it is whole, or why it is refused.
+fn read_field<S: Source>(source: &mut S, field: &[u8], error: JournalError) -> Result<bool, Unread>
+    ensures told { (bytes : List ℕ) × Consumes (S.left source.old) (S.left source.new) bytes
+        × HeaderRead (field_at field.now error) bytes result
+        (S.left source.new) (S.failures source.old) (S.failures source.new) }
+    ensures beside { Keeps (S.beside source.old) (S.beside source.new) }
+{
+    let mut same = true;
+    for byte in field {
+        match read_byte(source) {
+            Ok(Some(read)) => same = still(same, read, *byte),
+            Ok(None) => return judged(same, false, error),
+            Err(_) => return Err(Unread::ReadFault),
+        }
+    }
+    judged(same, true, error)
+}
+
+/// Reads a header that is known beforehand: whether it is whole, or the input ends inside it.
+pub(crate) fn read_header<S: Source>(
+    source: &mut S,
+    site: u16,
+    script: &str,
+) -> Result<bool, Unread>
+    requires { length script.now ≤ 65536 }
+    ensures told { (bytes : List ℕ) × Consumes (S.left source.old) (S.left source.new) bytes
+        × HeaderRead (header_at site script.now) bytes result
+        (S.left source.new) (S.failures source.old) (S.failures source.new) }
+    ensures beside { Keeps (S.beside source.old) (S.beside source.new) }
+{
+    match read_field(source, b"JTDB".as_slice(), JournalError::Magic) {
+        Ok(true) => {}
+        Ok(false) => return Ok(false),
+        Err(error) => return Err(error),
+    }
+    match read_field(source, [1u8].as_slice(), JournalError::Version) {
+        Ok(true) => {}
+        Ok(false) => return Ok(false),
+        Err(error) => return Err(error),
+    }
+    match read_field(
+        source,
+        site.to_be_bytes().as_slice(),
+        JournalError::OtherSite,
+    ) {
+        Ok(true) => {}
+        Ok(false) => return Ok(false),
+        Err(error) => return Err(error),
+    }
+    let length = script.len() as u32;
+    match read_field(
+        source,
+        length.to_be_bytes().as_slice(),
+        JournalError::OtherScript,
+    ) {
+        Ok(true) => {}
+        Ok(false) => return Ok(false),
+        Err(error) => return Err(error),
+    }
+    read_field(source, script.as_bytes(), JournalError::OtherScript)
+}
+
+/// Reads the frames behind a header, to the end of the input. It takes room for the entries.
+pub(crate) fn read_frames<S: Source>(alloc: Global, source: &mut S) -> Result<Vec<Entry>, Unread>
+    ensures told { (bytes : List ℕ) × Consumes (S.left source.old) (S.left source.new) bytes
+        × MatchResult result (λ v. FramesRead (frames_at bytes) (Ok v.items) (S.left source.new) (S.failures source.old) (S.failures source.new))
+        (λ e. FramesRead (frames_at bytes) (Err e) (S.left source.new) (S.failures source.old) (S.failures source.new)) }
+    ensures beside { Keeps (S.beside source.old) (S.beside source.new) }
+{
+    let (entries, ending) = read_entries(alloc, source, MOST_ENTRIES);
+    match ending {
+        Err(FrameError::Cut) => Ok(entries),
+        Err(FrameError::ReadFault) => Err(Unread::ReadFault),
+        Err(FrameError::OutOfMemory) => Err(Unread::OutOfMemory),
+        Err(_) => Err(Unread::Refused(JournalError::BadFrame)),
+        Ok(()) => Err(Unread::Refused(JournalError::BadFrame)),
+    }
+}
+
+/// How many bytes the journal of these entries has, whatever the site.
+pub(crate) fn bytes_of(script: &str, entries: &[Entry]) -> u64
+    requires script { length script.now ≤ 65536 }
+    requires few { length entries.now ≤ 100000 }
+    requires ranges { list_all in_range entries.now ≡ true }
+    ensures { (site : ℕ) → result ≡ length (journal site script.now entries.now) }
+{
+    let mut bytes = 11 + script.len() as u64;
+    for entry in entries {
+        bytes += 17 + entry.text.as_str().len() as u64;
+    }
+    bytes
+}

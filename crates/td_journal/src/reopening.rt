@@ -1,0 +1,110 @@
+//! A site that comes back from its journal.
+
+ghost use Rattle.std.specs.Prelude.{◌≡◌, ◌≤◌, [], MatchResult, length};
+ghost use Rattle.std.specs.Io.KnownBytes.{Keeps};
+ghost use Rattle.td_devices.specs.Views.{input_of};
+ghost use Rattle.td_journal.specs.ForProofs.Refilled.{Refills, RefillsNot};
+ghost use Rattle.td_journal.specs.ForProofs.Refilled as proofs;
+ghost use Rattle.td_journal.specs.Reopening.{ReopensNot, ReopensSite};
+
+use crate::error::JournalError;
+use crate::reading::{Unread, bytes_of, read_frames, read_header};
+use std::alloc::Global;
+use td_devices::Source;
+use td_story::{Meter, OpenError, Opens, Replica, TakeError};
+
+/// Why a site is not reopened.
+#[derive(Drop)]
+pub enum ReopenError {
+    /// It would not be opened anew.
+    Open(OpenError),
+    OutOfMemory,
+    ReadFault,
+    /// The bytes are not its journal.
+    Refused(JournalError),
+    /// It cannot take what the journal says.
+    Take(TakeError),
+}
+
+/// A site as its journal says it, and how many bytes of the journal stand whole: its header and frames, or none where
+/// the header is cut.
+#[derive(Drop)]
+pub struct Reopened<R> {
+    pub replica: R,
+    pub whole: u64,
+}
+
+fn unread(error: Unread) -> ReopenError
+    ensures { result ≡ proofs.unread error }
+{
+    match error {
+        Unread::ReadFault => ReopenError::ReadFault,
+        Unread::OutOfMemory => ReopenError::OutOfMemory,
+        Unread::Refused(error) => ReopenError::Refused(error),
+    }
+}
+
+fn untaken(error: TakeError) -> ReopenError
+    ensures { result ≡ proofs.untaken error }
+{
+    match error {
+        TakeError::OutOfMemory => ReopenError::OutOfMemory,
+        error => ReopenError::Take(error),
+    }
+}
+
+// Reads the frames behind a header, and has a new site take what they say.
+fn refill<R: Opens + Drop, S: Source>(
+    alloc: Global,
+    mut replica: R,
+    source: &mut S,
+    script: &str,
+    meter: &mut Meter,
+) -> Result<Reopened<R>, ReopenError>
+    requires short { length script.now ≤ 65536 }
+    requires script { (R.seen replica).script ≡ script.now }
+    requires none { (R.seen replica).entries ≡ [] }
+    ensures told { MatchResult result
+        (λ r. Refills (R.seen replica) (input_of S.Source source.old) (input_of S.Source source.new)
+        (R.seen r.replica) r.whole)
+        (λ e. RefillsNot (R.seen replica) (input_of S.Source source.old) (input_of S.Source source.new) e) }
+    ensures beside { Keeps (S.beside source.old) (S.beside source.new) }
+{
+    let entries = match read_frames(alloc, source) {
+        Ok(entries) => entries,
+        Err(error) => return Err(unread(error)),
+    };
+    match replica.take(alloc, entries.as_slice(), meter) {
+        Ok(_) => {}
+        Err(error) => return Err(untaken(error)),
+    }
+    let whole = bytes_of(script, entries.as_slice());
+    Ok(Reopened { replica, whole })
+}
+
+/// Opens the site of this number and script, with room for so many entries, from its journal: it has all that stands
+/// whole there. It takes room for the entries, and runs each once.
+pub fn reopen<R: Opens + Drop, S: Source>(
+    alloc: Global,
+    source: &mut S,
+    script: &str,
+    site: u16,
+    limit: usize,
+    meter: &mut Meter,
+) -> Result<Reopened<R>, ReopenError>
+    ensures reopened { MatchResult result
+        (λ r. ReopensSite script.now site limit (input_of S.Source source.old) (input_of S.Source source.new)
+        (R.seen r.replica) r.whole)
+        (λ e. ReopensNot script.now site limit (input_of S.Source source.old) (input_of S.Source source.new) e) }
+    ensures beside { Keeps (S.beside source.old) (S.beside source.new) }
+{
+    let replica: R = match R::open_script(alloc, script, site, limit) {
+        Ok(replica) => replica,
+        Err(error) => return Err(ReopenError::Open(error)),
+    };
+    match read_header(source, site, script) {
+        Ok(true) => refill(alloc, replica, source, script, meter),
+        Ok(false) => Ok(Reopened { replica, whole: 0 }),
+        Err(error) => Err(unread(error)),
+    }
+}
