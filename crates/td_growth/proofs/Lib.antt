@@ -1,0 +1,10 @@
+-- The proofs of the crate.
+pub mod Answers
+pub mod Walks
+pub mod Operators
+pub mod Values
+pub mod Named
+pub mod Reading
+pub mod Spreading
+pub mod Constraints
+pub mod Narrowing

@@ -1,0 +1,134 @@
+-- A base relvar got more tuples.
+use Rattle.std.proofs.Common.{◌≡◌, ◌||◌, ◌⊎◌, ⊎_elim, ℕ, Bool, true, false, List, Option, Some, None, if◌then◌else◌, Result, Ok, Err, refl, ap, sym, ◌∙◌, subst, eq-eqb, ne_eqb, inl, inr, arith}
+use Rattle.std.specs.Prelude.{slice_get}
+use Rattle.std.specs.FinSet as set
+use Rattle.std.specs.List.{Contains}
+use Rattle.std.proofs.lemmas.Bool.{cases_eq}
+use Rattle.std.proofs.lemmas.List.{length-map}
+use Rattle.std.proofs.lemmas.Option.{slice_get_within}
+use Rattle.td_links.specs.Links.{start}
+use Rattle.td_values.specs.Data.{Attrs, no_attrs}
+use Rattle.td_values.specs.Headings.{Header}
+use Rattle.td_values.specs.Rows.{RowsData}
+use Rattle.td_values.specs.Proving.Total.{attrs_order_total}
+use Rattle.td_kinds.specs.Schemas.{SchemaData}
+use Rattle.td_relations.specs.Sets.{Has, body}
+use Rattle.td_trees.specs.declared.tree.Typed.{Typed}
+use Rattle.td_trees.specs.declared.tree.Typed.TheVariants as tree
+use Rattle.td_algebra.specs.declared.errors.Stop.{Stop}
+use Rattle.td_algebra.proofs.Lists.{all_in, in_all}
+use Rattle.td_algebra.proofs.Made.{has_in, in_has}
+use Rattle.td_headings.specs.Catalogues.{CatalogueData}
+use Rattle.td_headings.specs.Reached.{is_base, relvars_of_origin}
+use Rattle.td_headings.specs.declared.defined.Origin.{Origin}
+use Rattle.td_headings.specs.declared.defined.Test.TheVariants as test
+use Rattle.td_meaning.specs.Mean.{Relvars, truth_in, within}
+use Rattle.td_soundness.specs.Meanings.{IsRelationOver, IsTupleOver}
+use Rattle.td_story.specs.Meanings.{no_names}
+use Rattle.td_story.specs.Stored.{AreStored}
+use Rattle.td_story.specs.Tests.{judgement}
+use Rattle.td_story.specs.Trees.{all_relvars, places, selection_of}
+use Rattle.td_growth.specs.Growth.{Grows, IsUnread, IsWatched, narrowed}
+use Rattle.td_growth.specs.Laws.{NarrowedIsStored, WatchedByInserts}
+use Rattle.td_growth.proofs.Answers.{Grown}
+use Rattle.td_growth.proofs.Reading.{named_itself}
+use Rattle.td_growth.proofs.Spreading.{Alike, all_alike, not_base}
+use Rattle.td_growth.proofs.Walks.{IsGrown}
+use Rattle.td_growth.proofs.Constraints.{watched}
+
+stays_as_it_is : (x : Result RowsData Stop) → Grown IsGrown x x x
+stays_as_it_is (Ok a) = record { old_heading = refl; new_heading = refl; either = λ t h. inl h; old = λ t h. h; new = λ t h. h }
+stays_as_it_is (Err e) = tt
+
+ok_same : (a b : RowsData) → ◌≡◌ {A = Result RowsData Stop} (Ok a) (Ok b) → a ≡ b
+ok_same a b e = cc
+
+or_true : (b : Bool) → (b || true) ≡ true
+or_true true = refl
+or_true false = refl
+
+in_range : {A : Type 0} (o : Option Origin) → is_base o ≡ true → ((x : Origin) → o ≡ Some x → A) → A
+in_range None e some = cc
+in_range (Some x) e some = some x refl
+
+module _ (old now : Relvars) (n : ℕ) (i : RowsData) (g : Grows old now n i) where
+  its_tuples : narrowed n i now n ≡ Ok i
+  its_tuples = ap (λ b. if b then Ok i else now n) (eq-eqb n n refl)
+
+  others_stay : (m : ℕ) → (m ≡ n → ⊥) → narrowed n i now m ≡ now m
+  others_stay m apart = ap (λ b. if b then Ok i else now m) (ne_eqb m n apart)
+
+  has_either : (t : Attrs) → set.contains (body g.after) t ≡ (set.contains (body g.before) t || set.contains (body i) t)
+  has_either t = ap (λ s. set.contains s t) g.united ∙ set.contains-union attrs_order_total (body g.before) (body i) t
+
+  its_growth : IsGrown g.before g.after i
+  its_growth = record {
+    old_heading = g.old_heading;
+    new_heading = g.new_heading;
+    either = λ t h. by (set.contains (body g.before) t) (set.contains (body i) t) (sym (has_either t) ∙ h);
+    old = λ t h. has_either t ∙ ap (λ b. b || set.contains (body i) t) h;
+    new = λ t h. has_either t ∙ ap (λ b. set.contains (body g.before) t || b) h ∙ or_true (set.contains (body g.before) t);
+  }
+    where
+      by : (x y : Bool) → (x || y) ≡ true → ◌⊎◌ (x ≡ true) (y ≡ true)
+      by true y e = inl refl
+      by false y e = inr e
+
+  its_relvar : Grown IsGrown (old n) (now n) (narrowed n i now n)
+  its_relvar =
+      subst (λ x. Grown IsGrown x (now n) (narrowed n i now n)) (sym g.was)
+      (subst (λ y. Grown IsGrown (Ok g.before) y (narrowed n i now n)) (sym g.is)
+      (subst (λ z. Grown IsGrown (Ok g.before) (Ok g.after) z) (sym its_tuples) its_growth))
+
+  others_grown : (m : ℕ) → (m ≡ n → ⊥) → Grown IsGrown (old m) (now m) (narrowed n i now m)
+  others_grown m apart =
+      subst (λ x. Grown IsGrown x (now m) (narrowed n i now m)) (g.others m apart)
+      (subst (λ z. Grown IsGrown (now m) (now m) z) (sym (others_stay m apart)) (stays_as_it_is (now m)))
+
+  module _ (c : CatalogueData) (base : is_base (slice_get c.origins n) ≡ true) where
+    it_is_read : IsUnread c n (tree.Relvar n) → ⊥
+    it_is_read unread = in_range (slice_get c.origins n) base (λ o is.
+        let lt = slice_get_within c.origins n o is in
+        unread (start (subst (λ l. Contains l n) (sym (named_itself n)) (0, omega arith, refl)) (omega (arith, lt, length-map c.origins relvars_of_origin)), base))
+
+    apart_from_it : (m : ℕ) → IsUnread c n (tree.Relvar m) → m ≡ n → ⊥
+    apart_from_it m unread same = it_is_read (subst (λ k. IsUnread c n (tree.Relvar k)) same unread)
+
+    begun : Alike c n (selection_of c) old now (narrowed n i now)
+    begun = record {
+      old = λ m unread. sym (g.others m (apart_from_it m unread));
+      new = λ m unread. others_stay m (apart_from_it m unread);
+      itself_grown = its_relvar;
+      virtual_grown = λ m u is h. others_grown m (not_base c n (selection_of c) base m u is);
+    }
+
+    all_begun : Alike c n (selection_of c) (all_relvars c old) (all_relvars c now) (all_relvars c (narrowed n i now))
+    all_begun = all_alike c n (selection_of c) base (places c.origins) old now (narrowed n i now) begun
+
+    tested : (x : List ℕ) (u : Typed) → IsWatched c n u → judgement c old (test.Constraint x u) ≡ Ok true → judgement c now (test.Constraint x u) ≡ judgement c (narrowed n i now) (test.Constraint x u)
+    unfolding truth_in
+    tested x u h e = watched c n (selection_of c) (all_relvars c old) (all_relvars c now) (all_relvars c (narrowed n i now)) all_begun (within no_attrs no_names) u h e
+
+  -- ---- the new tuples are of the heading
+  module _ (s : SchemaData) (h : Header) where
+    its_rows : (r : RowsData) → now n ≡ Ok r → IsRelationOver s h r → IsRelationOver s h i
+    its_rows r is rows =
+        let same = ok_same r g.after (sym is ∙ g.is) in
+        record {
+          heading = g.new_heading ∙ sym (ap (λ (q : RowsData). q.heading) same) ∙ rows.heading;
+          tuples = in_all (IsTupleOver s h) i.tuples (λ t m. all_in (IsTupleOver s h) r.tuples rows.tuples t (has_in r t (subst (λ (q : RowsData). Has q t) (sym same) (its_growth.new t (in_has i t m)))));
+        }
+
+  still_stored : (c : CatalogueData) → AreStored c now → AreStored c (narrowed n i now)
+  still_stored c stored m v base is =
+      let there = stored m v base is in
+      ⊎_elim
+      (λ same. (i, ap (λ b. if b then Ok i else now m) (eq-eqb m n same), its_rows c.schema v.value there.0 (ap now (sym same) ∙ there.1) there.2))
+      (λ apart. (there.0, others_stay m apart ∙ there.1, there.2))
+      (cases_eq m n)
+
+pub watched_by_inserts : WatchedByInserts
+watched_by_inserts c old now n i x u base g h e = tested old now n i g c base x u h e
+
+pub narrowed_is_stored : NarrowedIsStored
+narrowed_is_stored c old now n i stored g = still_stored old now n i g c stored

@@ -1,0 +1,22 @@
+-- The laws of growth.
+use Rattle.std.specs.Prelude.{◌≡◌, ℕ, true, List, Ok, slice_get}
+use Rattle.td_values.specs.Rows.{RowsData}
+use Rattle.td_trees.specs.declared.tree.Typed.{Typed}
+use Rattle.td_headings.specs.Catalogues.{CatalogueData}
+use Rattle.td_headings.specs.Reached.{is_base}
+use Rattle.td_headings.specs.declared.defined.Test.TheVariants as test
+use Rattle.td_meaning.specs.Mean.{Relvars}
+use Rattle.td_story.specs.Stored.{AreStored}
+use Rattle.td_story.specs.Tests.{judgement}
+use Rattle.td_growth.specs.Growth.{Grows, IsWatched, narrowed}
+
+-- a watched constraint that was true is now what it is over the new tuples alone: true, false, or an error
+abbrev pub WatchedByInserts : Type 0
+WatchedByInserts =
+    (c : CatalogueData) (old now : Relvars) (n : ℕ) (i : RowsData) (x : List ℕ) (u : Typed)
+    → is_base (slice_get c.origins n) ≡ true → Grows old now n i → IsWatched c n u
+    → judgement c old (test.Constraint x u) ≡ Ok true → judgement c now (test.Constraint x u) ≡ judgement c (narrowed n i now) (test.Constraint x u)
+
+-- where the relvars have their headings they have them with the new tuples alone, too
+abbrev pub NarrowedIsStored : Type 0
+NarrowedIsStored = (c : CatalogueData) (old now : Relvars) (n : ℕ) (i : RowsData) → AreStored c now → Grows old now n i → AreStored c (narrowed n i now)
