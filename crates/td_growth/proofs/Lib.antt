@@ -7,4 +7,5 @@ pub mod Named
 pub mod Reading
 pub mod Spreading
 pub mod Constraints
+pub mod Deciding
 pub mod Narrowing

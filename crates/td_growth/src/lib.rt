@@ -2,3 +2,6 @@
 #![tactic(auto)]
 
 pub mod laws;
+mod watching;
+
+pub use watching::is_watched;
