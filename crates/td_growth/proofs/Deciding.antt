@@ -18,8 +18,8 @@ use Rattle.td_trees.proofs.Forms as forms
 use Rattle.td_algebra.proofs.Lists.{In, all_in, contains_in}
 use Rattle.td_headings.specs.Catalogues.{CatalogueData}
 use Rattle.td_headings.specs.declared.defined.Origin.TheVariants as origin
-use Rattle.td_growth.specs.Growth.{IsUnread, IsWatched, Spreads, empty, unread, both, goes_by_left, goes_by_right, virtual, where_, project, rename, extend, wrap, open_, left, right, union}
-use Rattle.td_growth.specs.ForProofs.Deciding.{IsGrowth, if_unread, is_and, is_union, of_both, of_nest, of_unary, spreads_if}
+use Rattle.td_growth.specs.Growth.{IsUnread, IsWatched, Spreads, empty, within, around, unread, both, goes_by_left, goes_by_right, virtual, where_, project, rename, extend, wrap, open_, left, right, union}
+use Rattle.td_growth.specs.ForProofs.Deciding.{IsGrowth, if_unread, is_and, is_at_least, is_at_most, is_union, of_both, of_comparison, of_nest, of_unary, spreads_if}
 use Rattle.td_growth.specs.declared.watching.Growth.{Growth}
 use Rattle.td_growth.specs.declared.watching.Growth.TheVariants as growth
 use Rattle.td_growth.proofs.Named.{relvars_append}
@@ -105,6 +105,23 @@ module _ (c : CatalogueData) (n : ℕ) where
   unary_is o x growth.Spreads h k = cc
   unary_is o x growth.Other h k = cc
 
+  within_is : (o : BinaryOperator) (x y : Typed) → is_at_most o ≡ true → Spreads c n x → IsUnread c n y → IsWatched c n (tree.Binary o x y)
+  within_is binary.AtMost x y is h k = within y h k
+  within_is o x y is h k = cc
+
+  around_is : (o : BinaryOperator) (x y : Typed) → is_at_least o ≡ true → IsUnread c n x → Spreads c n y → IsWatched c n (tree.Binary o x y)
+  around_is binary.AtLeast x y is h k = around x h k
+  around_is o x y is h k = cc
+
+  comparison_is : (o : BinaryOperator) (x y : Typed) (g h : Growth) → IsGrowth c n x g → IsGrowth c n y h → of_comparison o g h ≡ true → IsWatched c n (tree.Binary o x y)
+  comparison_is o x y growth.Unread growth.Unread p q is = unread (tree.Binary o x y) (two_unread (tree.Binary o x y) x y (forms.of_binary o x y) p q)
+  comparison_is o x y growth.Unread growth.Spreads p q is = around_is o x y is p q
+  comparison_is o x y growth.Spreads growth.Unread p q is = within_is o x y is p q
+  comparison_is o x y growth.Spreads growth.Spreads p q is = cc
+  comparison_is o x y growth.Unread growth.Other p q is = cc
+  comparison_is o x y growth.Spreads growth.Other p q is = cc
+  comparison_is o x y growth.Other h p q is = cc
+
   both_are : (o : BinaryOperator) (x y : Typed) → is_and o ≡ true → IsWatched c n x → IsWatched c n y → IsWatched c n (tree.Binary o x y)
   both_are binary.And x y is h k = both h k
   both_are o x y is h k = cc
@@ -152,6 +169,9 @@ module _ (c : CatalogueData) (n : ℕ) where
 
     pub watched_both : (o : BinaryOperator) (x y p q : Typed) → u ≡ tree.Binary o x y → is_and o ≡ true → p ≡ x → q ≡ y → IsWatched c n p → IsWatched c n q → IsWatched c n u
     watched_both o x y p q is e d f h k = subst (IsWatched c n) (sym is) (both_are o x y e (subst (IsWatched c n) d h) (subst (IsWatched c n) f k))
+
+    pub watched_comparison : (o : BinaryOperator) (x y p q : Typed) (g h : Growth) (b : Bool) → u ≡ tree.Binary o x y → p ≡ x → q ≡ y → IsGrowth c n p g → IsGrowth c n q h → b ≡ of_comparison o g h → b ≡ true → IsWatched c n u
+    watched_comparison o x y p q g h b is d e j k same t = subst (IsWatched c n) (sym is) (comparison_is o x y g h (subst (λ w. IsGrowth c n w g) d j) (subst (λ w. IsGrowth c n w h) e k) (sym same ∙ t))
 
     pub watched_any : {E : Type 0} (w : Result Bool E) → IfOk w (λ b. b ≡ true → IsUnread c n u) → IfOk w (λ b. b ≡ true → IsWatched c n u)
     watched_any (Ok b) h = λ t. unread u (h t)

@@ -71,5 +71,7 @@ pub data Spreads (c : CatalogueData) (n : ℕ) : Typed → Type 0 where
 -- u is true of more tuples where it was true before and is true of the new ones
 pub data IsWatched (c : CatalogueData) (n : ℕ) : Typed → Type 0 where
   empty : {r : Typed} → Spreads c n r → IsWatched c n (tree.Unary unary.IsEmpty r)
+  within : {r : Typed} (s : Typed) → Spreads c n r → IsUnread c n s → IsWatched c n (tree.Binary binary.AtMost r s)
+  around : {s : Typed} (r : Typed) → IsUnread c n r → Spreads c n s → IsWatched c n (tree.Binary binary.AtLeast r s)
   unread : (u : Typed) → IsUnread c n u → IsWatched c n u
   both : {u v : Typed} → IsWatched c n u → IsWatched c n v → IsWatched c n (tree.Binary binary.And u v)

@@ -248,6 +248,43 @@ fn is_and(operator: BinaryOperator) -> bool
     }
 }
 
+fn is_at_most(operator: BinaryOperator) -> bool
+    ensures { result ≡ spec.is_at_most operator }
+{
+    match operator {
+        BinaryOperator::AtMost => true,
+        _ => false,
+    }
+}
+
+fn is_at_least(operator: BinaryOperator) -> bool
+    ensures { result ≡ spec.is_at_least operator }
+{
+    match operator {
+        BinaryOperator::AtLeast => true,
+        _ => false,
+    }
+}
+
+// Of an operator of two operands that is no AND: it is watched where nothing reads the relvar, and where it tells
+// whether a relation that spreads is within one that stays.
+fn of_comparison(operator: BinaryOperator, left: Growth, right: Growth) -> bool
+    ensures { result ≡ spec.of_comparison operator left right }
+{
+    match left {
+        Growth::Unread => match right {
+            Growth::Unread => true,
+            Growth::Spreads => is_at_least(operator),
+            Growth::Other => false,
+        },
+        Growth::Spreads => match right {
+            Growth::Unread => is_at_most(operator),
+            Growth::Spreads | Growth::Other => false,
+        },
+        Growth::Other => false,
+    }
+}
+
 // Whether the constraint is watched. It costs its size.
 fn watched(
     alloc: Global,
@@ -265,12 +302,15 @@ fn watched(
             Ok(of_unary(*operator, made))
         }
         Typed::Binary(operator, a, b) => {
-            if !is_and(*operator) {
-                return is_unread(alloc, catalogue, known, relvar, tree);
+            if is_and(*operator) {
+                let left = watched(alloc, catalogue, known, relvar, a.get())?;
+                let right = watched(alloc, catalogue, known, relvar, b.get())?;
+                Ok(left && right)
+            } else {
+                let left = tree_growth(alloc, catalogue, known, relvar, a.get())?;
+                let right = tree_growth(alloc, catalogue, known, relvar, b.get())?;
+                Ok(of_comparison(*operator, left, right))
             }
-            let left = watched(alloc, catalogue, known, relvar, a.get())?;
-            let right = watched(alloc, catalogue, known, relvar, b.get())?;
-            Ok(left && right)
         }
         _ => is_unread(alloc, catalogue, known, relvar, tree),
     }

@@ -61,3 +61,20 @@ abbrev pub of_unary : UnaryOperator → Growth → Bool
 of_unary o growth.Unread = true
 of_unary o growth.Spreads = is_emptiness o
 of_unary o growth.Other = false
+
+abbrev pub is_at_most : BinaryOperator → Bool
+is_at_most binary.AtMost = true
+is_at_most o = false
+
+abbrev pub is_at_least : BinaryOperator → Bool
+is_at_least binary.AtLeast = true
+is_at_least o = false
+
+abbrev pub of_comparison : BinaryOperator → Growth → Growth → Bool
+of_comparison o growth.Unread growth.Unread = true
+of_comparison o growth.Unread growth.Spreads = is_at_least o
+of_comparison o growth.Spreads growth.Unread = is_at_most o
+of_comparison o growth.Spreads growth.Spreads = false
+of_comparison o growth.Unread growth.Other = false
+of_comparison o growth.Spreads growth.Other = false
+of_comparison o growth.Other h = false
