@@ -1,4 +1,4 @@
--- Answers before and after relations got more tuples, and over these alone.
+-- Answers before and after a relation gained tuples, and over these alone.
 use Rattle.std.proofs.Common.{Result, Ok, Err, ◌≡◌}
 use Rattle.td_algebra.specs.Raising.{and_then}
 use Rattle.td_algebra.specs.declared.errors.Stop.{Stop}

@@ -39,7 +39,7 @@ none_in : (ts : List Attrs) → is_nothing ts ≡ true → (t : Attrs) → In t 
 none_in [] e t h = h
 none_in (u ∷ ts) e t h = let no : length (u ∷ ts) ≡ 0 = eqb-true (length (u ∷ ts)) 0 e in absurd (omega (arith, no))
 
--- where there was nothing, there is nothing where nothing is new
+-- where there was nothing, there is nothing if nothing was gained
 still_nothing : (a w b : RowsData) → IsGrown a w b → is_nothing a.tuples ≡ true → is_nothing w.tuples ≡ is_nothing b.tuples
 still_nothing a w b g none =
     alike_nothing w.tuples b.tuples

@@ -1,5 +1,5 @@
--- A base relvar got more tuples.
-use Rattle.std.proofs.Common.{◌≡◌, ◌||◌, ◌⊎◌, ⊎_elim, ℕ, Bool, true, false, List, Option, Some, None, if◌then◌else◌, Result, Ok, Err, refl, ap, sym, ◌∙◌, subst, eq-eqb, ne_eqb, inl, inr, arith}
+-- A base relvar gained tuples.
+use Rattle.std.proofs.Common.{◌≡◌, ◌⊎◌, ⊎_elim, ℕ, Bool, true, false, List, Option, Some, None, if◌then◌else◌, Result, Ok, Err, refl, ap, sym, ◌∙◌, subst, true≢false, eq-eqb, ne_eqb, inl, inr, arith}
 use Rattle.std.specs.Prelude.{slice_get}
 use Rattle.std.specs.FinSet as set
 use Rattle.std.specs.List.{Contains}
@@ -10,9 +10,9 @@ use Rattle.td_links.specs.Links.{start}
 use Rattle.td_values.specs.Data.{Attrs, no_attrs}
 use Rattle.td_values.specs.Headings.{Header}
 use Rattle.td_values.specs.Rows.{RowsData}
-use Rattle.td_values.specs.Proving.Total.{attrs_order_total}
 use Rattle.td_kinds.specs.Schemas.{SchemaData}
 use Rattle.td_relations.specs.Sets.{Has, body}
+use Rattle.td_relations.proofs.Predicates.{of_difference}
 use Rattle.td_trees.specs.declared.tree.Typed.{Typed}
 use Rattle.td_trees.specs.declared.tree.Typed.TheVariants as tree
 use Rattle.td_algebra.specs.declared.errors.Stop.{Stop}
@@ -28,8 +28,8 @@ use Rattle.td_story.specs.Meanings.{no_names}
 use Rattle.td_story.specs.Stored.{AreStored}
 use Rattle.td_story.specs.Tests.{judgement}
 use Rattle.td_story.specs.Trees.{all_relvars, places, selection_of}
-use Rattle.td_growth.specs.Growth.{Grows, IsUnread, IsWatched, narrowed}
-use Rattle.td_growth.specs.Laws.{NarrowedIsStored, WatchedByInserts}
+use Rattle.td_growth.specs.Growth.{Gains, Grows, IsUnread, IsWatched, narrowed}
+use Rattle.td_growth.specs.Laws.{DifferencesAreGains, LossesKeepWatched, NarrowedIsStored, WatchedByInserts}
 use Rattle.td_growth.proofs.Answers.{Grown}
 use Rattle.td_growth.proofs.Reading.{named_itself}
 use Rattle.td_growth.proofs.Spreading.{Alike, all_alike, not_base}
@@ -37,42 +37,25 @@ use Rattle.td_growth.proofs.Walks.{IsGrown}
 use Rattle.td_growth.proofs.Constraints.{watched}
 
 stays_as_it_is : (x : Result RowsData Stop) → Grown IsGrown x x x
-stays_as_it_is (Ok a) = record { old_heading = refl; new_heading = refl; either = λ t h. inl h; old = λ t h. h; new = λ t h. h }
+stays_as_it_is (Ok a) = record { old_heading = refl; new_heading = refl; either = λ t h. inl h; new = λ t h. h }
 stays_as_it_is (Err e) = tt
 
 ok_same : (a b : RowsData) → ◌≡◌ {A = Result RowsData Stop} (Ok a) (Ok b) → a ≡ b
 ok_same a b e = cc
 
-or_true : (b : Bool) → (b || true) ≡ true
-or_true true = refl
-or_true false = refl
-
 in_range : {A : Type 0} (o : Option Origin) → is_base o ≡ true → ((x : Origin) → o ≡ Some x → A) → A
 in_range None e some = cc
 in_range (Some x) e some = some x refl
 
-module _ (old now : Relvars) (n : ℕ) (i : RowsData) (g : Grows old now n i) where
+module _ (old now : Relvars) (n : ℕ) (i : RowsData) (g : Gains old now n i) where
   its_tuples : narrowed n i now n ≡ Ok i
   its_tuples = ap (λ b. if b then Ok i else now n) (eq-eqb n n refl)
 
   others_stay : (m : ℕ) → (m ≡ n → ⊥) → narrowed n i now m ≡ now m
   others_stay m apart = ap (λ b. if b then Ok i else now m) (ne_eqb m n apart)
 
-  has_either : (t : Attrs) → set.contains (body g.after) t ≡ (set.contains (body g.before) t || set.contains (body i) t)
-  has_either t = ap (λ s. set.contains s t) g.united ∙ set.contains-union attrs_order_total (body g.before) (body i) t
-
   its_growth : IsGrown g.before g.after i
-  its_growth = record {
-    old_heading = g.old_heading;
-    new_heading = g.new_heading;
-    either = λ t h. by (set.contains (body g.before) t) (set.contains (body i) t) (sym (has_either t) ∙ h);
-    old = λ t h. has_either t ∙ ap (λ b. b || set.contains (body i) t) h;
-    new = λ t h. has_either t ∙ ap (λ b. set.contains (body g.before) t || b) h ∙ or_true (set.contains (body g.before) t);
-  }
-    where
-      by : (x y : Bool) → (x || y) ≡ true → ◌⊎◌ (x ≡ true) (y ≡ true)
-      by true y e = inl refl
-      by false y e = inr e
+  its_growth = record { old_heading = g.old_heading; new_heading = g.new_heading; either = g.either; new = g.new }
 
   its_relvar : Grown IsGrown (old n) (now n) (narrowed n i now n)
   its_relvar =
@@ -132,3 +115,52 @@ watched_by_inserts c old now n i x u base g h e = tested old now n i g c base x 
 
 pub narrowed_is_stored : NarrowedIsStored
 narrowed_is_stored c old now n i stored g = still_stored old now n i g c stored
+
+-- ---- what is left is all that was gained of what was there
+module _ (old now : Relvars) (n : ℕ) (g : Grows now old n) where
+  what_is_left : Gains old old n g.before
+  what_is_left = record {
+    before = g.after;
+    after = g.after;
+    was = g.is;
+    is = g.is;
+    old_heading = refl;
+    new_heading = g.one_heading;
+    either = λ t h. inl h;
+    new = g.kept;
+    others = λ m apart. refl;
+  }
+
+  narrowed_is_now : narrowed n g.before old ≡ now
+  narrowed_is_now = λ i m. at m i
+    where
+      at : (m : ℕ) → narrowed n g.before old m ≡ now m
+      at m =
+          ⊎_elim
+          (λ same. ap (λ b. if b then Ok g.before else old m) (eq-eqb m n same) ∙ sym g.was ∙ ap now (sym same))
+          (λ apart. ap (λ b. if b then Ok g.before else old m) (ne_eqb m n apart) ∙ g.others m apart)
+          (cases_eq m n)
+
+pub losses_keep_watched : LossesKeepWatched
+losses_keep_watched c old now n x u base g h e =
+    sym (watched_by_inserts c old old n g.before x u base (what_is_left old now n g) h e ∙ ap (λ r. judgement c r (test.Constraint x u)) (narrowed_is_now old now n g)) ∙ e
+
+-- ---- differences
+pub differences_are_gains : DifferencesAreGains
+differences_are_gains old now n d h others =
+    let is = of_difference h.before.heading h.after h.before d.inserted h.difference.inserted in
+    record {
+      before = h.before;
+      after = h.after;
+      was = h.was;
+      is = h.is;
+      old_heading = h.one_heading;
+      new_heading = is.heading ∙ h.one_heading;
+      either = λ t has. by t has (set.contains (body h.before) t) refl;
+      new = λ t has. (is.only t has).0;
+      others = others;
+    }
+  where
+    by : (t : Attrs) → Has h.after t → (b : Bool) → set.contains (body h.before) t ≡ b → ◌⊎◌ (Has h.before t) (Has d.inserted t)
+    by t has true e = inl e
+    by t has false e = inr ((of_difference h.before.heading h.after h.before d.inserted h.difference.inserted).all t (has, λ there. true≢false (sym there ∙ e)))

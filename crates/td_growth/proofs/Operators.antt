@@ -263,7 +263,7 @@ module _ (a w b : RowsData) (g : IsGrown a w b) (s : RowsData) where
           (subst (λ zs. IsGrown (project_of names (join_of s a)) (project_of names (join_of s w)) (project_of zs (join_of s b))) (sym f)
           (projected (join_of s a) (join_of s w) (join_of s b) (joining_it a w b g s) names))
 
--- ---- two that got more tuples
+-- ---- two that gained tuples
 module _ (a w b c v d : RowsData) (g : IsGrown a w b) (h : IsGrown c v d) where
   pub united : IsGrown (union_of a c) (union_of w v) (union_of b d)
   united =
@@ -278,6 +278,5 @@ module _ (a w b c v d : RowsData) (g : IsGrown a w b) (h : IsGrown c v d) where
             (λ m. ⊎_elim (λ x. inl (p.all t (inl x))) (λ x. inr (r.all t (inl x))) (g.either t m))
             (λ m. ⊎_elim (λ x. inl (p.all t (inr x))) (λ x. inr (r.all t (inr x))) (h.either t m))
             (q.only t has);
-        old = λ t has. ⊎_elim (λ x. q.all t (inl (g.old t x))) (λ x. q.all t (inr (h.old t x))) (p.only t has);
         new = λ t has. ⊎_elim (λ x. q.all t (inl (g.new t x))) (λ x. q.all t (inr (h.new t x))) (r.only t has);
       }

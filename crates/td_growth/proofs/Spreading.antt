@@ -1,4 +1,4 @@
--- What spreads, over relvars of which one got more tuples.
+-- What spreads, over relvars of which one gained tuples.
 use Rattle.std.proofs.Common.{◌≡◌, ⊎_elim, inl, inr, ℕ, true, List, [], ◌∷◌, Option, Some, None, if◌then◌else◌, Result, refl, ap, sym, ◌∙◌, subst, true≢false, eq-eqb, ne_eqb}
 use Rattle.std.specs.Prelude.{slice_get}
 use Rattle.std.specs.List.{filter_map, cons_option}
@@ -113,8 +113,8 @@ right_both binary.Or is f m = cc
 right_both o is f m = refl
 
 module _ (c : CatalogueData) (n : ℕ) (p : Selection) where
-  -- relvars before and after n got more tuples, and with these alone: what does not read n has the same in all, and what
-  -- spreads has what it had and what comes of these
+  -- relvars before and after n gained tuples, and with these alone: what does not read n has the same in all, and what
+  -- spreads gained what comes of these
   pub record Alike (r s t : Relvars) : Type 0 where
     pub old : (m : ℕ) → IsUnread c n (tree.Relvar m) → r m ≡ s m
     pub new : (m : ℕ) → IsUnread c n (tree.Relvar m) → t m ≡ s m

@@ -1,4 +1,4 @@
--- Values that are relations, of which one got more tuples.
+-- Values that are relations, of which the second gained the tuples of the third.
 use Rattle.std.proofs.Common.{◌≡◌, Bool, true, false, if◌then◌else◌, List, ℕ, Result, Ok, Err, refl, sym, ap, subst}
 use Rattle.std.specs.FinMap as by_name
 use Rattle.td_values.specs.Data.{Datum, boolean, integer, char, user, tuple, relation}
@@ -139,7 +139,7 @@ right_operand o is v d e g h = by (rows_of v)
         d e g h
     by (Err k) = tt
 
--- both operands got more tuples
+-- both operands gained tuples
 abbrev AreBoth : BinaryOperator → Type 0
 AreBoth o = (a w b k l m : RowsData) → IsGrown a w b → IsGrown k l m → Grown IsGrown (related o a k) (related o w l) (related o b m)
 

@@ -1,4 +1,4 @@
--- What is made tuple by tuple of a relation that got more tuples.
+-- What is made tuple by tuple of a relation that gained tuples.
 use Rattle.std.proofs.Common.{◌≡◌, ◌⊎◌, inl, inr, ⊎_elim, ℕ, zero, suc, Result, Ok, Err, refl, sym, ap, ◌∙◌, subst, arith}
 use Rattle.td_values.specs.Data.{Attrs}
 use Rattle.td_values.specs.Headings.{Header}
@@ -10,12 +10,11 @@ use Rattle.td_algebra.specs.declared.errors.Stop.{Stop}
 use Rattle.td_algebra.specs.declared.errors.Stop.TheVariants.{Untyped, Overflow, Divide, Empty, Selector, Cardinality}
 use Rattle.td_growth.proofs.Answers.{Grown}
 
--- a relation w of the heading of a and b that has the tuples of both
+-- w gained the tuples of b: it has them, and no others that a has not; it may lack some of a
 pub record IsGrown (a w b : RowsData) : Type 0 where
   pub old_heading : a.heading ≡ w.heading
   pub new_heading : b.heading ≡ w.heading
   pub either : (t : Attrs) → Has w t → Has a t ⊎ Has b t
-  pub old : (t : Attrs) → Has a t → Has w t
   pub new : (t : Attrs) → Has b t → Has w t
 
 -- ---- errors by their numbers
@@ -63,7 +62,6 @@ module _ (k : Header → Header) (Q : Header → Attrs → Attrs → Type 0) whe
           (λ there. inl (p.all u (made_from a g.old_heading s.0 u there s.2)))
           (λ there. inr (r.all u (made_from b g.new_heading s.0 u there s.2)))
           (g.either s.0 s.1);
-      old = λ u has. q.all u (made_there a g.old_heading g.old u (p.only u has));
       new = λ u has. q.all u (made_there b g.new_heading g.new u (r.only u has));
     }
 

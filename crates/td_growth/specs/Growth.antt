@@ -1,7 +1,7 @@
--- A base relvar gets more tuples, and nothing else changes: which constraints may be judged over these tuples alone.
-use Rattle.std.specs.Prelude.{◌≡◌, ◌==◌, if◌then◌else◌, ℕ, Bool, true, false, List, Some, Ok, slice_get}
-use Rattle.std.specs.FinSet as set
+-- A base relvar gains tuples, and nothing else changes: which constraints may be judged over these tuples alone.
+use Rattle.std.specs.Prelude.{◌≡◌, ◌⊎◌, ◌==◌, if◌then◌else◌, ℕ, Bool, true, false, List, Some, Ok, slice_get}
 use Rattle.std.specs.List.{All}
+use Rattle.td_values.specs.Data.{Attrs}
 use Rattle.td_values.specs.Rows.{RowsData}
 use Rattle.td_syntax.specs.declared.tree.BinaryOperator.{BinaryOperator}
 use Rattle.td_syntax.specs.declared.tree.BinaryOperator.TheVariants as binary
@@ -9,7 +9,7 @@ use Rattle.td_syntax.specs.declared.tree.Nesting.{Nesting}
 use Rattle.td_syntax.specs.declared.tree.Nesting.TheVariants as nesting
 use Rattle.td_syntax.specs.declared.tree.UnaryOperator.TheVariants as unary
 use Rattle.td_tuples.specs.declared.items.Item.{Item}
-use Rattle.td_relations.specs.Sets.{body}
+use Rattle.td_relations.specs.Sets.{Has}
 use Rattle.td_trees.specs.declared.tree.Typed.{Typed}
 use Rattle.td_trees.specs.declared.tree.Typed.TheVariants as tree
 use Rattle.td_headings.specs.Catalogues.{CatalogueData}
@@ -17,15 +17,27 @@ use Rattle.td_headings.specs.Reached.{ReadsRelvar}
 use Rattle.td_headings.specs.declared.defined.Origin.TheVariants as origin
 use Rattle.td_meaning.specs.Mean.{Relvars}
 
--- from old to now the relvar at n got the tuples of i, and nothing else changed
-pub record Grows (old now : Relvars) (n : ℕ) (i : RowsData) : Type 0 where
+-- from old to now the relvar at n gained the tuples of i: it has them, and no others that it had not; it may have lost
+-- some, and nothing else changed
+pub record Gains (old now : Relvars) (n : ℕ) (i : RowsData) : Type 0 where
   pub before : RowsData
   pub after : RowsData
   pub was : old n ≡ Ok before
   pub is : now n ≡ Ok after
   pub old_heading : before.heading ≡ after.heading
   pub new_heading : i.heading ≡ after.heading
-  pub united : body after ≡ set.union (body before) (body i)
+  pub either : (t : Attrs) → Has after t → Has before t ⊎ Has i t
+  pub new : (t : Attrs) → Has i t → Has after t
+  pub others : (m : ℕ) → (m ≡ n → ⊥) → now m ≡ old m
+
+-- from old to now the relvar at n lost no tuple, and nothing else changed
+pub record Grows (old now : Relvars) (n : ℕ) : Type 0 where
+  pub before : RowsData
+  pub after : RowsData
+  pub was : old n ≡ Ok before
+  pub is : now n ≡ Ok after
+  pub one_heading : before.heading ≡ after.heading
+  pub kept : (t : Attrs) → Has before t → Has after t
   pub others : (m : ℕ) → (m ≡ n → ⊥) → now m ≡ old m
 
 -- the relvars, but of the one at n these tuples alone
@@ -53,8 +65,8 @@ goes_by_right binary.Intersect = true
 goes_by_right binary.Matching = true
 goes_by_right o = false
 
--- u is made tuple by tuple of the relvar at n, and nothing else in it reads n: of more tuples it makes what it made
--- before and what it makes of the new ones
+-- u is made tuple by tuple of the relvar at n, and nothing else in it reads n: what it gains is what it makes of what n
+-- gains
 pub data Spreads (c : CatalogueData) (n : ℕ) : Typed → Type 0 where
   itself : Spreads c n (tree.Relvar n)
   virtual : {u : Typed} (m : ℕ) → slice_get c.origins m ≡ Some (origin.Virtual u) → Spreads c n u → Spreads c n (tree.Relvar m)
@@ -68,7 +80,7 @@ pub data Spreads (c : CatalogueData) (n : ℕ) : Typed → Type 0 where
   right : {s : Typed} (o : BinaryOperator) (r : Typed) → goes_by_right o ≡ true → IsUnread c n r → Spreads c n s → Spreads c n (tree.Binary o r s)
   union : {r s : Typed} → Spreads c n r → Spreads c n s → Spreads c n (tree.Binary binary.Union r s)
 
--- u is true of more tuples where it was true before and is true of the new ones
+-- where u was true, it is true if it is true of what n gained
 pub data IsWatched (c : CatalogueData) (n : ℕ) : Typed → Type 0 where
   empty : {r : Typed} → Spreads c n r → IsWatched c n (tree.Unary unary.IsEmpty r)
   within : {r : Typed} (s : Typed) → Spreads c n r → IsUnread c n s → IsWatched c n (tree.Binary binary.AtMost r s)

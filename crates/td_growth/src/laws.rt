@@ -1,12 +1,22 @@
-//! The laws of growth.
-ghost use Rattle.td_growth.specs.Laws.{NarrowedIsStored, WatchedByInserts};
+//! The laws of gains.
+ghost use Rattle.td_growth.specs.Laws.{DifferencesAreGains, LossesKeepWatched, NarrowedIsStored, WatchedByInserts};
 
-/// A watched constraint that was true before a base relvar got more tuples is now what it is over these alone.
+/// A watched constraint that was true before a base relvar gained tuples is now what it is over these alone.
 pub fn watched_by_inserts()
     ensures { WatchedByInserts }
 {}
 
-/// Over the new tuples alone the relvars have their headings.
+/// Where the relvar lost tuples and gained none it stays true.
+pub fn losses_keep_watched()
+    ensures { LossesKeepWatched }
+{}
+
+/// A relvar that differs gained what is inserted.
+pub fn differences_are_gains()
+    ensures { DifferencesAreGains }
+{}
+
+/// Over what it gained alone the relvars have their headings.
 pub fn narrowed_is_stored()
     ensures { NarrowedIsStored }
 {}

@@ -1,4 +1,4 @@
-//! When a base relvar gets more tuples: which constraints may be judged over these alone.
+//! When a base relvar gains tuples: which constraints may be judged over these alone.
 #![tactic(auto)]
 
 pub mod laws;

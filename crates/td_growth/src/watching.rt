@@ -18,7 +18,7 @@ use td_trees::tree::Typed;
 use td_trees::{add_mentions, relvars_in};
 use td_tuples::Item;
 
-/// What an expression is where a relvar gets more tuples: what it was, that with what it makes of them, or anything.
+/// What an expression gains where a relvar gains tuples: nothing, what it makes of these, or anything.
 #[derive(Clone, Copy, Drop)]
 pub(crate) enum Growth {
     Unread,
@@ -364,7 +364,7 @@ fn virtual_growths(
     Ok(known)
 }
 
-/// Whether the constraint is watched: where it was true before the relvar got more tuples, it is now what it is over
+/// Whether the constraint is watched: where it was true before the relvar gained tuples, it is now what it is over
 /// these alone. It costs the sizes of the expression and of those of the virtual relvars under it, and the number of
 /// relvars.
 pub fn is_watched(
