@@ -21,7 +21,7 @@ use Rattle.td_operators.specs.Values as operands
 use Rattle.td_operators.specs.Values.{rows_of, truth_of}
 use Rattle.td_growth.specs.Growth.{IsWatched, empty, within, around, unread, both}
 use Rattle.td_growth.proofs.Answers.{Grown}
-use Rattle.td_growth.proofs.Spreading.{Alike, new_same, old_same, spread}
+use Rattle.td_growth.proofs.Spreading.{AreGrownAlike, new_is, old_is, spread}
 use Rattle.td_growth.proofs.Values.{AreGrown, GrownValue}
 use Rattle.td_growth.proofs.Walks.{IsGrown}
 
@@ -176,7 +176,7 @@ module _ (f g : Meaning) (names : Names) where
   and_same h k d e = λ i. truth_then (and_of (d i) (e i))
 
 -- ---- constraints
-module _ (c : CatalogueData) (n : ℕ) (p : Selection) (r s t : Relvars) (a : Alike c n p r s t) (names : Names) where
+module _ (c : CatalogueData) (n : ℕ) (p : Selection) (r s t : Relvars) (a : AreGrownAlike c n p r s t) (names : Names) where
   abbrev truth : Relvars → Typed → Result Bool Stop
   truth q u = truth_in (mean q p u) names
 
@@ -187,13 +187,13 @@ module _ (c : CatalogueData) (n : ℕ) (p : Selection) (r s t : Relvars) (a : Al
       ∙ sym (ap (λ m. truth_in m names) (forms.of_unary t p unary.IsEmpty x))
   watched u (within {r = x} y h never) e =
       ap (λ m. truth_in m names) (forms.of_binary s p binary.AtMost x y)
-      ∙ within_watched (mean r p x) (mean s p x) (mean t p x) (mean s p y) names (spread c n p r s t a x h names) (sym (ap (λ m. truth_in m names) (forms.of_binary r p binary.AtMost x y ∙ ap (mean_both binary.AtMost (mean r p x)) (old_same c n p r s t a y never))) ∙ e)
-      ∙ sym (ap (λ m. truth_in m names) (forms.of_binary t p binary.AtMost x y ∙ ap (mean_both binary.AtMost (mean t p x)) (new_same c n p r s t a y never)))
+      ∙ within_watched (mean r p x) (mean s p x) (mean t p x) (mean s p y) names (spread c n p r s t a x h names) (sym (ap (λ m. truth_in m names) (forms.of_binary r p binary.AtMost x y ∙ ap (mean_both binary.AtMost (mean r p x)) (old_is c n p r s t a y never))) ∙ e)
+      ∙ sym (ap (λ m. truth_in m names) (forms.of_binary t p binary.AtMost x y ∙ ap (mean_both binary.AtMost (mean t p x)) (new_is c n p r s t a y never)))
   watched u (around {s = y} x never h) e =
       ap (λ m. truth_in m names) (forms.of_binary s p binary.AtLeast x y)
-      ∙ around_watched (mean r p y) (mean s p y) (mean t p y) (mean s p x) names (spread c n p r s t a y h names) (sym (ap (λ m. truth_in m names) (forms.of_binary r p binary.AtLeast x y ∙ ap (λ m. mean_both binary.AtLeast m (mean r p y)) (old_same c n p r s t a x never))) ∙ e)
-      ∙ sym (ap (λ m. truth_in m names) (forms.of_binary t p binary.AtLeast x y ∙ ap (λ m. mean_both binary.AtLeast m (mean t p y)) (new_same c n p r s t a x never)))
-  watched u (unread v h) e = ap (λ m. truth_in m names) (sym (new_same c n p r s t a v h))
+      ∙ around_watched (mean r p y) (mean s p y) (mean t p y) (mean s p x) names (spread c n p r s t a y h names) (sym (ap (λ m. truth_in m names) (forms.of_binary r p binary.AtLeast x y ∙ ap (λ m. mean_both binary.AtLeast m (mean r p y)) (old_is c n p r s t a x never))) ∙ e)
+      ∙ sym (ap (λ m. truth_in m names) (forms.of_binary t p binary.AtLeast x y ∙ ap (λ m. mean_both binary.AtLeast m (mean t p y)) (new_is c n p r s t a x never)))
+  watched u (unread v h) e = ap (λ m. truth_in m names) (sym (new_is c n p r s t a v h))
   watched u (both {u = x} {v = y} h k) e =
       let is = and_true (mean r p x) (mean r p y) names (sym (ap (λ m. truth_in m names) (forms.of_binary r p binary.And x y)) ∙ e) in
       ap (λ m. truth_in m names) (forms.of_binary s p binary.And x y)

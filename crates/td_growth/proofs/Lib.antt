@@ -5,6 +5,7 @@ pub mod Operators
 pub mod Values
 pub mod Named
 pub mod Reading
+pub mod Virtuals
 pub mod Spreading
 pub mod Constraints
 pub mod Deciding

@@ -32,7 +32,8 @@ use Rattle.td_growth.specs.Growth.{Gains, Grows, IsUnread, IsWatched, narrowed}
 use Rattle.td_growth.specs.Laws.{DifferencesAreGains, LossesKeepWatched, NarrowedIsStored, WatchedByInserts}
 use Rattle.td_growth.proofs.Answers.{Grown}
 use Rattle.td_growth.proofs.Reading.{named_itself}
-use Rattle.td_growth.proofs.Spreading.{Alike, all_alike, not_base}
+use Rattle.td_growth.proofs.Spreading.{AreGrownAlike, all_grown}
+use Rattle.td_growth.proofs.Virtuals.{not_base}
 use Rattle.td_growth.proofs.Walks.{IsGrown}
 use Rattle.td_growth.proofs.Constraints.{watched}
 
@@ -77,16 +78,16 @@ module _ (old now : Relvars) (n : ℕ) (i : RowsData) (g : Gains old now n i) wh
     apart_from_it : (m : ℕ) → IsUnread c n (tree.Relvar m) → m ≡ n → ⊥
     apart_from_it m unread same = it_is_read (subst (λ k. IsUnread c n (tree.Relvar k)) same unread)
 
-    begun : Alike c n (selection_of c) old now (narrowed n i now)
+    begun : AreGrownAlike c n (selection_of c) old now (narrowed n i now)
     begun = record {
       old = λ m unread. sym (g.others m (apart_from_it m unread));
       new = λ m unread. others_stay m (apart_from_it m unread);
-      itself_grown = its_relvar;
-      virtual_grown = λ m u is h. others_grown m (not_base c n (selection_of c) base m u is);
+      itself_related = its_relvar;
+      virtual_related = λ m u is h. others_grown m (not_base c n base m u is);
     }
 
-    all_begun : Alike c n (selection_of c) (all_relvars c old) (all_relvars c now) (all_relvars c (narrowed n i now))
-    all_begun = all_alike c n (selection_of c) base (places c.origins) old now (narrowed n i now) begun
+    all_begun : AreGrownAlike c n (selection_of c) (all_relvars c old) (all_relvars c now) (all_relvars c (narrowed n i now))
+    all_begun = all_grown c n (selection_of c) base (places c.origins) old now (narrowed n i now) begun
 
     tested : (x : List ℕ) (u : Typed) → IsWatched c n u → judgement c old (test.Constraint x u) ≡ Ok true → judgement c now (test.Constraint x u) ≡ judgement c (narrowed n i now) (test.Constraint x u)
     unfolding truth_in

@@ -1,14 +1,12 @@
 -- What spreads, over relvars of which one gained tuples.
-use Rattle.std.proofs.Common.{◌≡◌, ⊎_elim, inl, inr, ℕ, true, List, [], ◌∷◌, Option, Some, None, if◌then◌else◌, Result, refl, ap, sym, ◌∙◌, subst, true≢false, eq-eqb, ne_eqb}
+use Rattle.std.proofs.Common.{◌≡◌, inl, inr, ℕ, true, List, [], ◌∷◌, Result, refl, ap, sym, ◌∙◌, subst}
 use Rattle.std.specs.Prelude.{slice_get}
-use Rattle.std.specs.List.{filter_map, cons_option}
-use Rattle.std.proofs.lemmas.Bool.{cases_eq}
+use Rattle.std.specs.List.{filter_map}
 use Rattle.td_values.specs.Data.{Datum}
 use Rattle.td_values.specs.Rows.{RowsData}
 use Rattle.td_syntax.specs.declared.tree.BinaryOperator.{BinaryOperator}
 use Rattle.td_syntax.specs.declared.tree.BinaryOperator.TheVariants as binary
 use Rattle.td_syntax.specs.declared.tree.Nesting.TheVariants as nesting
-use Rattle.td_trees.specs.declared.expression.VirtualUnder.{VirtualUnder}
 use Rattle.td_trees.specs.declared.tree.Typed.{Typed}
 use Rattle.td_trees.specs.declared.tree.Typed.TheVariants as tree
 use Rattle.td_trees.specs.declared.tree.Typed.TheFolds.{fold-roll-Typed}
@@ -19,22 +17,19 @@ use Rattle.td_algebra.specs.Functions.{extended, restricted}
 use Rattle.td_algebra.specs.Raising.{and_then}
 use Rattle.td_algebra.specs.declared.errors.Stop.{Stop}
 use Rattle.td_headings.specs.Catalogues.{CatalogueData}
-use Rattle.td_headings.specs.Expressions.{virtual_at, virtual_of}
+use Rattle.td_headings.specs.Expressions.{virtual_at}
 use Rattle.td_headings.specs.Reached.{is_base}
-use Rattle.td_headings.specs.declared.defined.Origin.{Origin}
-use Rattle.td_headings.specs.declared.defined.Origin.TheVariants as origin
 use Rattle.td_meaning.specs.ForProofs.Over.{items_meant}
 use Rattle.td_meaning.specs.Mean.{Meaning, Names, Relvars, Selection, mean, mean_binary, mean_both, mean_by, mean_extend, mean_relvar, mean_step, mean_where, rows_in, truth_at, value_at}
 use Rattle.td_meaning.proofs.Forms as forms
 use Rattle.td_operators.specs.Operators.{as_value, nested, operate, part_at, unnested, with_new_names}
 use Rattle.td_operators.specs.Values.{rows_of}
-use Rattle.td_story.specs.Meanings.{no_names, with_virtual, with_virtuals}
+use Rattle.td_story.specs.Meanings.{no_names, with_virtuals}
 use Rattle.td_growth.specs.Growth.{IsUnread, Spreads, goes_by_left, goes_by_right, itself, virtual, where_, project, rename, extend, wrap, open_, left, right, union}
 use Rattle.td_growth.proofs.Answers.{Grown, then_grown, then_same}
-use Rattle.td_growth.proofs.Named.{named_agree}
 use Rattle.td_growth.proofs.Operators.{extended_grown, restricted_grown}
-use Rattle.td_growth.proofs.Reading.{named_unread, tree_unread}
 use Rattle.td_growth.proofs.Values.{GrownValue, as_rows, as_values, both_operands, both_union, left_compose, left_intersect, left_join, left_matching, left_minus, left_not_matching, left_operand, new_names_grown, open_grown, part_grown, right_compose, right_intersect, right_join, right_matching, right_operand, wrap_grown}
+use Rattle.td_growth.proofs.Virtuals.{Alike, all_alike, new_same, old_same}
 use Rattle.td_growth.proofs.Walks.{IsGrown}
 
 along : {x y z p q r : Result Datum Stop} → x ≡ p → y ≡ q → z ≡ r → Grown GrownValue p q r → Grown GrownValue x y z
@@ -112,21 +107,17 @@ right_both binary.And is f m = cc
 right_both binary.Or is f m = cc
 right_both o is f m = refl
 
+-- relvars before and after n gained tuples, and with these alone: what spreads gained what comes of these
+abbrev pub AreGrownAlike : CatalogueData → ℕ → Selection → Relvars → Relvars → Relvars → Type 0
+AreGrownAlike c n p r s t = Alike c n p (Spreads c n) (Grown IsGrown) r s t
+
 module _ (c : CatalogueData) (n : ℕ) (p : Selection) where
-  -- relvars before and after n gained tuples, and with these alone: what does not read n has the same in all, and what
-  -- spreads gained what comes of these
-  pub record Alike (r s t : Relvars) : Type 0 where
-    pub old : (m : ℕ) → IsUnread c n (tree.Relvar m) → r m ≡ s m
-    pub new : (m : ℕ) → IsUnread c n (tree.Relvar m) → t m ≡ s m
-    pub itself_grown : Grown IsGrown (r n) (s n) (t n)
-    pub virtual_grown : (m : ℕ) (u : Typed) → slice_get c.origins m ≡ Some (origin.Virtual u) → Spreads c n u → Grown IsGrown (r m) (s m) (t m)
+  module _ (r s t : Relvars) (a : AreGrownAlike c n p r s t) where
+    abbrev pub old_is : (u : Typed) → IsUnread c n u → mean r p u ≡ mean s p u
+    old_is = old_same c n p (Spreads c n) (Grown IsGrown) r s t a
 
-  module _ (r s t : Relvars) (a : Alike r s t) where
-    pub old_same : (u : Typed) → IsUnread c n u → mean r p u ≡ mean s p u
-    old_same u unread = named_agree r s p u (λ m h. a.old m (named_unread c n u unread m h))
-
-    pub new_same : (u : Typed) → IsUnread c n u → mean t p u ≡ mean s p u
-    new_same u unread = named_agree t s p u (λ m h. a.new m (named_unread c n u unread m h))
+    abbrev pub new_is : (u : Typed) → IsUnread c n u → mean t p u ≡ mean s p u
+    new_is = new_same c n p (Spreads c n) (Grown IsGrown) r s t a
 
     abbrev GrownTree : Typed → Type 0
     GrownTree u = (names : Names) → Grown GrownValue (mean r p u names) (mean s p u names) (mean t p u names)
@@ -152,92 +143,40 @@ module _ (c : CatalogueData) (n : ℕ) (p : Selection) where
     extend_means q x xs = ap (meant q) (sym (tree.rolls-Extend x xs)) ∙ fold-roll-Typed Meaning (mean_step q p) (Typed-F.Extend x xs)
 
     pub spread : (u : Typed) → Spreads c n u → GrownTree u
-    spread u itself = relvar_tree n a.itself_grown
-    spread u (virtual {u = v} m is h) = relvar_tree m (a.virtual_grown m v is h)
+    spread u itself = relvar_tree n a.itself_related
+    spread u (virtual {u = v} m is h) = relvar_tree m (a.virtual_related m v is h)
     spread u (where_ {r = x} b h unread) = λ names.
         along
-        (λ i. (forms.of_where r p x b ∙ ap (mean_where (meant r x)) (old_same b unread)) i names)
+        (λ i. (forms.of_where r p x b ∙ ap (mean_where (meant r x)) (old_is b unread)) i names)
         (λ i. forms.of_where s p x b i names)
-        (λ i. (forms.of_where t p x b ∙ ap (mean_where (meant t x)) (new_same b unread)) i names)
+        (λ i. (forms.of_where t p x b ∙ ap (mean_where (meant t x)) (new_is b unread)) i names)
         (where_grown (meant r x) (meant s x) (meant t x) names (spread x h names) (meant s b))
     spread u (project {r = x} xs h) = one_operand u x (part_at xs) (λ q. forms.of_project q p x xs) (part_grown xs) (spread x h)
     spread u (rename {r = x} xs h) = one_operand u x (with_new_names xs) (λ q. forms.of_rename q p x xs) (new_names_grown xs) (spread x h)
     spread u (extend {r = x} xs h unread) = λ names.
         let each = all_in (λ (y : Item Typed). IsUnread c n y.term) xs unread in
         along
-        (λ i. (extend_means r x xs ∙ ap (mean_extend (meant r x)) (items_same r old_same xs each)) i names)
+        (λ i. (extend_means r x xs ∙ ap (mean_extend (meant r x)) (items_same r old_is xs each)) i names)
         (λ i. extend_means s x xs i names)
-        (λ i. (extend_means t x xs ∙ ap (mean_extend (meant t x)) (items_same t new_same xs each)) i names)
+        (λ i. (extend_means t x xs ∙ ap (mean_extend (meant t x)) (items_same t new_is xs each)) i names)
         (extend_grown (meant r x) (meant s x) (meant t x) names (spread x h names) (items_meant (meant s) xs))
     spread u (wrap {r = x} xs y h) = one_operand u x (nested nesting.Wrap xs y) (λ q. forms.of_nest q p nesting.Wrap x xs y) (wrap_grown xs y) (spread x h)
     spread u (open_ {r = x} o y h) = one_operand u x (unnested o y) (λ q. forms.of_unnest q p o x y) (open_grown o y) (spread x h)
     spread u (left {r = x} o y is h unread) = λ names.
         along
-        (λ i. (forms.of_binary r p o x y ∙ left_both o is (meant r x) (meant r y) ∙ ap (mean_both o (meant r x)) (old_same y unread)) i names)
+        (λ i. (forms.of_binary r p o x y ∙ left_both o is (meant r x) (meant r y) ∙ ap (mean_both o (meant r x)) (old_is y unread)) i names)
         (λ i. (forms.of_binary s p o x y ∙ left_both o is (meant s x) (meant s y)) i names)
-        (λ i. (forms.of_binary t p o x y ∙ left_both o is (meant t x) (meant t y) ∙ ap (mean_both o (meant t x)) (new_same y unread)) i names)
+        (λ i. (forms.of_binary t p o x y ∙ left_both o is (meant t x) (meant t y) ∙ ap (mean_both o (meant t x)) (new_is y unread)) i names)
         (left_grown (meant r x) (meant s x) (meant t x) names (spread x h names) o is (meant s y))
     spread u (right {s = y} o x is unread h) = λ names.
         along
-        (λ i. (forms.of_binary r p o x y ∙ right_both o is (meant r x) (meant r y) ∙ ap (λ m. mean_both o m (meant r y)) (old_same x unread)) i names)
+        (λ i. (forms.of_binary r p o x y ∙ right_both o is (meant r x) (meant r y) ∙ ap (λ m. mean_both o m (meant r y)) (old_is x unread)) i names)
         (λ i. (forms.of_binary s p o x y ∙ right_both o is (meant s x) (meant s y)) i names)
-        (λ i. (forms.of_binary t p o x y ∙ right_both o is (meant t x) (meant t y) ∙ ap (λ m. mean_both o m (meant t y)) (new_same x unread)) i names)
+        (λ i. (forms.of_binary t p o x y ∙ right_both o is (meant t x) (meant t y) ∙ ap (λ m. mean_both o m (meant t y)) (new_is x unread)) i names)
         (right_grown (meant r y) (meant s y) (meant t y) names (spread y h names) o is (meant s x))
     spread u (union {r = x} {s = y} h k) = λ names.
         along (λ i. forms.of_binary r p binary.Union x y i names) (λ i. forms.of_binary s p binary.Union x y i names) (λ i. forms.of_binary t p binary.Union x y i names)
         (union_grown (meant r x) (meant s x) (meant t x) names (spread x h names) (meant r y) (meant s y) (meant t y) (spread y k names))
 
-  -- ---- with a virtual relvar more
-  put_here : (r : Relvars) (v : VirtualUnder) (m : ℕ) → v.place ≡ m → with_virtual p r v m ≡ rows_in (mean r p v.tree) no_names
-  put_here r v m same = ap (λ b. if b then rows_in (mean r p v.tree) no_names else r m) (eq-eqb v.place m same)
-
-  put_other : (r : Relvars) (v : VirtualUnder) (m : ℕ) → (v.place ≡ m → ⊥) → with_virtual p r v m ≡ r m
-  put_other r v m apart = ap (λ b. if b then rows_in (mean r p v.tree) no_names else r m) (ne_eqb v.place m apart)
-
-  along_rows : {x y z d e f : Result RowsData Stop} → x ≡ d → y ≡ e → z ≡ f → Grown IsGrown d e f → Grown IsGrown x y z
-  along_rows {x} {y} {z} {d} {e} {f} i j k h = subst (λ w. Grown IsGrown w y z) (sym i) (subst (λ w. Grown IsGrown d w z) (sym j) (subst (λ w. Grown IsGrown d e w) (sym k) h))
-
-  some_tree : (u v : Typed) → Some (origin.Virtual u) ≡ Some (origin.Virtual v) → u ≡ v
-  some_tree u v h = cc
-
-  module _ (base : is_base (slice_get c.origins n) ≡ true) where
-    pub not_base : (m : ℕ) (u : Typed) → slice_get c.origins m ≡ Some (origin.Virtual u) → m ≡ n → ⊥
-    not_base m u is same = true≢false (sym base ∙ ap (λ k. is_base (slice_get c.origins k)) (sym same) ∙ ap is_base is)
-
-    module _ (r s t : Relvars) (a : Alike r s t) (v : VirtualUnder) (is : slice_get c.origins v.place ≡ Some (origin.Virtual v.tree)) where
-      one_unread : (x y : Relvars) → ((m : ℕ) → IsUnread c n (tree.Relvar m) → x m ≡ y m) → ((u : Typed) → IsUnread c n u → mean x p u ≡ mean y p u) → (m : ℕ) → IsUnread c n (tree.Relvar m) → with_virtual p x v m ≡ with_virtual p y v m
-      one_unread x y others trees m unread =
-          ⊎_elim
-          (λ same. put_here x v m same ∙ ap (λ (f : Meaning). rows_in f no_names) (trees v.tree (tree_unread c n v.place v.tree is (subst (λ k. IsUnread c n (tree.Relvar k)) (sym same) unread))) ∙ sym (put_here y v m same))
-          (λ apart. put_other x v m apart ∙ others m unread ∙ sym (put_other y v m apart))
-          (cases_eq v.place m)
-
-      with_more : Alike (with_virtual p r v) (with_virtual p s v) (with_virtual p t v)
-      with_more = record {
-        old = one_unread r s a.old (old_same r s t a);
-        new = one_unread t s a.new (new_same r s t a);
-        itself_grown = let apart = not_base v.place v.tree is in along_rows (put_other r v n apart) (put_other s v n apart) (put_other t v n apart) a.itself_grown;
-        virtual_grown = λ m u there h.
-            ⊎_elim
-            (λ same.
-            along_rows (put_here r v m same) (put_here s v m same) (put_here t v m same)
-            (rows_grown (mean r p v.tree) (mean s p v.tree) (mean t p v.tree) no_names
-            (spread r s t a v.tree (subst (Spreads c n) (some_tree u v.tree (sym there ∙ ap (slice_get c.origins) (sym same) ∙ is)) h) no_names)))
-            (λ apart. along_rows (put_other r v m apart) (put_other s v m apart) (put_other t v m apart) (a.virtual_grown m u there h))
-            (cases_eq v.place m);
-      }
-
-    -- ---- with all virtual relvars
-    abbrev AllAlike : List VirtualUnder → Relvars → Relvars → Relvars → Type 0
-    AllAlike vs r s t = Alike (with_virtuals p vs r) (with_virtuals p vs s) (with_virtuals p vs t)
-
-    one_place : (m : ℕ) (vs : List VirtualUnder) → ((r s t : Relvars) → Alike r s t → AllAlike vs r s t) → (r s t : Relvars) → Alike r s t → (o : Option Origin) → slice_get c.origins m ≡ o → AllAlike (cons_option (virtual_of m o) vs) r s t
-    one_place m vs rest r s t a None is = rest r s t a
-    one_place m vs rest r s t a (Some (origin.Base ks e)) is = rest r s t a
-    one_place m vs rest r s t a (Some (origin.Virtual u)) is =
-        let v : VirtualUnder = record { place = m; tree = u } in
-        rest (with_virtual p r v) (with_virtual p s v) (with_virtual p t v) (with_more r s t a v is)
-
-    pub all_alike : (ns : List ℕ) (r s t : Relvars) → Alike r s t → AllAlike (filter_map (virtual_at c) ns) r s t
-    all_alike [] r s t a = a
-    all_alike (m ∷ ms) r s t a = one_place m (filter_map (virtual_at c) ms) (all_alike ms) r s t a (slice_get c.origins m) refl
+  pub all_grown : is_base (slice_get c.origins n) ≡ true → (ns : List ℕ) (r s t : Relvars) → AreGrownAlike c n p r s t → AreGrownAlike c n p (with_virtuals p (filter_map (virtual_at c) ns) r) (with_virtuals p (filter_map (virtual_at c) ns) s) (with_virtuals p (filter_map (virtual_at c) ns) t)
+  all_grown base = all_alike c n p (Spreads c n) (Grown IsGrown) base (λ r s t a u h. rows_grown (mean r p u) (mean s p u) (mean t p u) no_names (spread r s t a u h no_names))
