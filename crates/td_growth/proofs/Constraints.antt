@@ -26,7 +26,7 @@ use Rattle.td_growth.proofs.Values.{AreGrown, GrownValue}
 use Rattle.td_growth.proofs.Walks.{IsGrown}
 
 -- ---- no tuples
-abbrev is_nothing : List Attrs → Bool
+abbrev pub is_nothing : List Attrs → Bool
 is_nothing ts = length ts == 0
 
 alike_nothing : (xs ys : List Attrs) → ((t : Attrs) → In t xs → In t ys) → ((t : Attrs) → In t ys → In t xs) → is_nothing xs ≡ is_nothing ys
@@ -35,7 +35,7 @@ alike_nothing [] (y ∷ ys) there back = absurd (back y (inl refl))
 alike_nothing (x ∷ xs) [] there back = absurd (there x (inl refl))
 alike_nothing (x ∷ xs) (y ∷ ys) there back = ne_eqb (length (x ∷ xs)) 0 (λ e. absurd (omega (arith, e))) ∙ sym (ne_eqb (length (y ∷ ys)) 0 (λ e. absurd (omega (arith, e))))
 
-none_in : (ts : List Attrs) → is_nothing ts ≡ true → (t : Attrs) → In t ts → ⊥
+pub none_in : (ts : List Attrs) → is_nothing ts ≡ true → (t : Attrs) → In t ts → ⊥
 none_in [] e t h = h
 none_in (u ∷ ts) e t h = let no : length (u ∷ ts) ≡ 0 = eqb-true (length (u ∷ ts)) 0 e in absurd (omega (arith, no))
 
@@ -47,13 +47,13 @@ still_nothing a w b g none =
     (λ t m. has_in w t (g.new t (in_has b t m)))
 
 -- ---- answers that are true
-abbrev truth_then : Result Datum Stop → Result Bool Stop
+abbrev pub truth_then : Result Datum Stop → Result Bool Stop
 truth_then x = and_then x truth_of
 
-abbrev emptiness : Result RowsData Stop → Result Datum Stop
+abbrev pub emptiness : Result RowsData Stop → Result Datum Stop
 emptiness x = and_then x (λ r. Ok (boolean (is_nothing r.tuples)))
 
-true_of : (b : Bool) → ◌≡◌ {A = Result Bool Stop} (Ok b) (Ok true) → b ≡ true
+pub true_of : (b : Bool) → ◌≡◌ {A = Result Bool Stop} (Ok b) (Ok true) → b ≡ true
 true_of b e = cc
 
 by_rows : (x y z : Result RowsData Stop) → AreGrown x y z → truth_then (emptiness x) ≡ Ok true → truth_then (emptiness y) ≡ truth_then (emptiness z)
@@ -96,7 +96,7 @@ if_true true true false x y z d f each e = cc
 if_true true false r x y z d f each e = cc
 if_true false q r x y z d f each e = cc
 
-abbrev inside : Result RowsData Stop → RowsData → Result Datum Stop
+abbrev pub inside : Result RowsData Stop → RowsData → Result Datum Stop
 inside y r = and_then (and_then y (λ s. Ok (r, s))) (λ (p : RowsData × RowsData). if_alike p.0 p.1 (boolean (is_subset p.0 p.1)))
 
 still_inside : (y : Result RowsData Stop) (a w b : RowsData) → IsGrown a w b → truth_then (inside y a) ≡ Ok true → truth_then (inside y w) ≡ truth_then (inside y b)
@@ -156,10 +156,10 @@ module _ (f g h m : Meaning) (names : Names) (grown : Grown GrownValue (f names)
   around_watched e = above (f names) (g names) (h names) (m names) grown e
 
 -- AND is true where both are
-abbrev and_of : Result Bool Stop → Result Bool Stop → Result Datum Stop
+abbrev pub and_of : Result Bool Stop → Result Bool Stop → Result Datum Stop
 and_of x y = and_then x (λ t. if t then and_then y (λ u. Ok (boolean u)) else Ok (boolean false))
 
-both_true : (x y : Result Bool Stop) → truth_then (and_of x y) ≡ Ok true → (x ≡ Ok true) × (y ≡ Ok true)
+pub both_true : (x y : Result Bool Stop) → truth_then (and_of x y) ≡ Ok true → (x ≡ Ok true) × (y ≡ Ok true)
 both_true (Ok true) (Ok true) e = (refl, refl)
 both_true (Ok true) (Ok false) e = cc
 both_true (Ok true) (Err f) e = cc
@@ -167,11 +167,11 @@ both_true (Ok false) y e = cc
 both_true (Err f) y e = cc
 
 module _ (f g : Meaning) (names : Names) where
-  and_true : truth_in (mean_and f g) names ≡ Ok true → (truth_in f names ≡ Ok true) × (truth_in g names ≡ Ok true)
+  pub and_true : truth_in (mean_and f g) names ≡ Ok true → (truth_in f names ≡ Ok true) × (truth_in g names ≡ Ok true)
   unfolding truth_in mean_and
   and_true e = both_true (truth_then (f names)) (truth_then (g names)) e
 
-  and_same : (h k : Meaning) → truth_in f names ≡ truth_in h names → truth_in g names ≡ truth_in k names → truth_in (mean_and f g) names ≡ truth_in (mean_and h k) names
+  pub and_same : (h k : Meaning) → truth_in f names ≡ truth_in h names → truth_in g names ≡ truth_in k names → truth_in (mean_and f g) names ≡ truth_in (mean_and h k) names
   unfolding truth_in mean_and
   and_same h k d e = λ i. truth_then (and_of (d i) (e i))
 

@@ -8,5 +8,6 @@ pub mod Reading
 pub mod Virtuals
 pub mod Spreading
 pub mod Constraints
+pub mod Widening
 pub mod Deciding
 pub mod Narrowing

@@ -29,11 +29,13 @@ use Rattle.td_story.specs.Stored.{AreStored}
 use Rattle.td_story.specs.Tests.{judgement}
 use Rattle.td_story.specs.Trees.{all_relvars, places, selection_of}
 use Rattle.td_growth.specs.Growth.{Gains, Grows, IsUnread, IsWatched, narrowed}
-use Rattle.td_growth.specs.Laws.{DifferencesAreGains, LossesKeepWatched, NarrowedIsStored, WatchedByInserts}
+use Rattle.td_growth.specs.Laws.{DifferencesAreGains, GrowthKeepsSafe, LossesKeepWatched, NarrowedIsStored, WatchedByInserts}
 use Rattle.td_growth.proofs.Answers.{Grown}
 use Rattle.td_growth.proofs.Reading.{named_itself}
 use Rattle.td_growth.proofs.Spreading.{AreGrownAlike, all_grown}
 use Rattle.td_growth.proofs.Virtuals.{not_base}
+use Rattle.td_growth.proofs.Widening.{AreWiderAlike, IsWider, Wider, all_wider, safe}
+use Rattle.td_growth.specs.Safety.{IsSafe}
 use Rattle.td_growth.proofs.Walks.{IsGrown}
 use Rattle.td_growth.proofs.Constraints.{watched}
 
@@ -47,6 +49,16 @@ ok_same a b e = cc
 in_range : {A : Type 0} (o : Option Origin) → is_base o ≡ true → ((x : Origin) → o ≡ Some x → A) → A
 in_range None e some = cc
 in_range (Some x) e some = some x refl
+
+-- a base relvar reads itself
+module _ (c : CatalogueData) (n : ℕ) (base : is_base (slice_get c.origins n) ≡ true) where
+  it_is_read : IsUnread c n (tree.Relvar n) → ⊥
+  it_is_read unread = in_range (slice_get c.origins n) base (λ o is.
+      let lt = slice_get_within c.origins n o is in
+      unread (start (subst (λ l. Contains l n) (sym (named_itself n)) (0, omega arith, refl)) (omega (arith, lt, length-map c.origins relvars_of_origin)), base))
+
+  apart_from_it : (m : ℕ) → IsUnread c n (tree.Relvar m) → m ≡ n → ⊥
+  apart_from_it m unread same = it_is_read (subst (λ k. IsUnread c n (tree.Relvar k)) same unread)
 
 module _ (old now : Relvars) (n : ℕ) (i : RowsData) (g : Gains old now n i) where
   its_tuples : narrowed n i now n ≡ Ok i
@@ -70,18 +82,10 @@ module _ (old now : Relvars) (n : ℕ) (i : RowsData) (g : Gains old now n i) wh
       (subst (λ z. Grown IsGrown (now m) (now m) z) (sym (others_stay m apart)) (stays_as_it_is (now m)))
 
   module _ (c : CatalogueData) (base : is_base (slice_get c.origins n) ≡ true) where
-    it_is_read : IsUnread c n (tree.Relvar n) → ⊥
-    it_is_read unread = in_range (slice_get c.origins n) base (λ o is.
-        let lt = slice_get_within c.origins n o is in
-        unread (start (subst (λ l. Contains l n) (sym (named_itself n)) (0, omega arith, refl)) (omega (arith, lt, length-map c.origins relvars_of_origin)), base))
-
-    apart_from_it : (m : ℕ) → IsUnread c n (tree.Relvar m) → m ≡ n → ⊥
-    apart_from_it m unread same = it_is_read (subst (λ k. IsUnread c n (tree.Relvar k)) same unread)
-
     begun : AreGrownAlike c n (selection_of c) old now (narrowed n i now)
     begun = record {
-      old = λ m unread. sym (g.others m (apart_from_it m unread));
-      new = λ m unread. others_stay m (apart_from_it m unread);
+      old = λ m unread. sym (g.others m (apart_from_it c n base m unread));
+      new = λ m unread. others_stay m (apart_from_it c n base m unread);
       itself_related = its_relvar;
       virtual_related = λ m u is h. others_grown m (not_base c n base m u is);
     }
@@ -165,3 +169,31 @@ differences_are_gains old now n d h others =
     by : (t : Attrs) → Has h.after t → (b : Bool) → set.contains (body h.before) t ≡ b → ◌⊎◌ (Has h.before t) (Has d.inserted t)
     by t has true e = inl e
     by t has false e = inr ((of_difference h.before.heading h.after h.before d.inserted h.difference.inserted).all t (has, λ there. true≢false (sym there ∙ e)))
+
+-- ---- growth
+module _ (old now : Relvars) (n : ℕ) (g : Grows old now n) where
+  nothing_lost : IsWider g.before g.after
+  nothing_lost = record { old_heading = refl; new_heading = g.one_heading; either = λ t h. inl h; new = g.kept }
+
+  unchanged : (x : Result RowsData Stop) → Wider x x
+  unchanged (Ok a) = record { old_heading = refl; new_heading = refl; either = λ t h. inl h; new = λ t h. h }
+  unchanged (Err e) = tt
+
+  wider_others : (m : ℕ) → (m ≡ n → ⊥) → Wider (old m) (now m)
+  wider_others m apart = subst (λ x. Wider x (now m)) (g.others m apart) (unchanged (now m))
+
+  module _ (c : CatalogueData) (base : is_base (slice_get c.origins n) ≡ true) where
+    grown : AreWiderAlike c n (selection_of c) old now
+    grown = record {
+      old = λ m unread. sym (g.others m (apart_from_it c n base m unread));
+      new = λ m unread. refl;
+      itself_related = subst (λ x. Wider x (now n)) (sym g.was) (subst (λ y. Wider (Ok g.before) y) (sym g.is) nothing_lost);
+      virtual_related = λ m u is h. wider_others m (not_base c n base m u is);
+    }
+
+    still_true : (x : List ℕ) (u : Typed) → IsSafe c n u → judgement c old (test.Constraint x u) ≡ Ok true → judgement c now (test.Constraint x u) ≡ Ok true
+    unfolding truth_in
+    still_true x u h e = safe c n (selection_of c) (all_relvars c old) (all_relvars c now) (all_wider c n (selection_of c) base (places c.origins) old now grown) (within no_attrs no_names) u h e
+
+pub growth_keeps_safe : GrowthKeepsSafe
+growth_keeps_safe c old now n x u base g h e = still_true old now n g c base x u h e

@@ -34,7 +34,7 @@ GrownValue d e g = AreGrown (rows_of d) (rows_of e) (rows_of g)
 pub rows_back : (r : RowsData) → rows_of (relation_value r) ≡ Ok r
 rows_back r = ap Ok (λ i. record { heading = header_back r.heading i; tuples = tuple_list_back r.tuples i })
 
-as_grown : (a w b : RowsData) → IsGrown a w b → GrownValue (relation_value a) (relation_value w) (relation_value b)
+pub as_grown : (a w b : RowsData) → IsGrown a w b → GrownValue (relation_value a) (relation_value w) (relation_value b)
 as_grown a w b g =
     subst (λ x. AreGrown x (rows_of (relation_value w)) (rows_of (relation_value b))) (sym (rows_back a))
     (subst (λ y. AreGrown (Ok a) y (rows_of (relation_value b))) (sym (rows_back w))
@@ -67,7 +67,7 @@ module _ (f : Datum → Result Datum Stop) (F : RowsData → Result Datum Stop) 
   of_grown d e g h = by_rows d e g (rows_of d) (rows_of e) (rows_of g) refl refl refl h
 
 -- ---- one operand
-part_of_rows : (xs : List (List ℕ)) (d : Datum) (r : RowsData) → rows_of d ≡ Ok r → part_at xs d ≡ as_value (project_of xs r)
+pub part_of_rows : (xs : List (List ℕ)) (d : Datum) (r : RowsData) → rows_of d ≡ Ok r → part_at xs d ≡ as_value (project_of xs r)
 part_of_rows xs (relation h ts) r e = ap (λ x. and_then x (λ q. as_value (project_of xs q))) e
 part_of_rows xs (tuple t) r e = cc
 part_of_rows xs (boolean b) r e = cc

@@ -11,6 +11,7 @@ use Rattle.td_story.specs.Differences.{Differs}
 use Rattle.td_story.specs.Stored.{AreStored}
 use Rattle.td_story.specs.Tests.{judgement}
 use Rattle.td_growth.specs.Growth.{Gains, Grows, IsWatched, narrowed}
+use Rattle.td_growth.specs.Safety.{IsSafe}
 
 -- a watched constraint that was true is now what it is over what the relvar gained: true, false, or an error
 abbrev pub WatchedByInserts : Type 0
@@ -24,6 +25,13 @@ abbrev pub LossesKeepWatched : Type 0
 LossesKeepWatched =
     (c : CatalogueData) (old now : Relvars) (n : ℕ) (x : List ℕ) (u : Typed)
     → is_base (slice_get c.origins n) ≡ true → Grows now old n → IsWatched c n u
+    → judgement c old (test.Constraint x u) ≡ Ok true → judgement c now (test.Constraint x u) ≡ Ok true
+
+-- a safe constraint stays true where the relvar lost no tuple
+abbrev pub GrowthKeepsSafe : Type 0
+GrowthKeepsSafe =
+    (c : CatalogueData) (old now : Relvars) (n : ℕ) (x : List ℕ) (u : Typed)
+    → is_base (slice_get c.origins n) ≡ true → Grows old now n → IsSafe c n u
     → judgement c old (test.Constraint x u) ≡ Ok true → judgement c now (test.Constraint x u) ≡ Ok true
 
 -- a relvar that differs gained what is inserted

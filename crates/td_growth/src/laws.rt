@@ -1,5 +1,5 @@
 //! The laws of gains.
-ghost use Rattle.td_growth.specs.Laws.{DifferencesAreGains, LossesKeepWatched, NarrowedIsStored, WatchedByInserts};
+ghost use Rattle.td_growth.specs.Laws.{DifferencesAreGains, GrowthKeepsSafe, LossesKeepWatched, NarrowedIsStored, WatchedByInserts};
 
 /// A watched constraint that was true before a base relvar gained tuples is now what it is over these alone.
 pub fn watched_by_inserts()
@@ -9,6 +9,11 @@ pub fn watched_by_inserts()
 /// Where the relvar lost tuples and gained none it stays true.
 pub fn losses_keep_watched()
     ensures { LossesKeepWatched }
+{}
+
+/// A safe constraint stays true where the relvar lost no tuple.
+pub fn growth_keeps_safe()
+    ensures { GrowthKeepsSafe }
 {}
 
 /// A relvar that differs gained what is inserted.
