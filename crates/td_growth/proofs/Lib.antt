@@ -10,4 +10,5 @@ pub mod Spreading
 pub mod Constraints
 pub mod Widening
 pub mod Deciding
+pub mod Judging
 pub mod Narrowing

@@ -2,6 +2,8 @@
 #![tactic(auto)]
 
 pub mod laws;
+mod safety;
 mod watching;
 
+pub use safety::is_safe;
 pub use watching::is_watched;

@@ -149,7 +149,7 @@ fn all_unread(catalogue: &Catalogue, known: &[Growth], relvar: usize, places: &[
 // ---- of expressions
 
 // Whether nothing in the expression reads the relvar. It costs its size.
-fn is_unread(
+pub(crate) fn is_unread(
     alloc: Global,
     catalogue: &Catalogue,
     known: &[Growth],
@@ -239,7 +239,7 @@ fn of_unary(operator: UnaryOperator, growth: Growth) -> bool
     }
 }
 
-fn is_and(operator: BinaryOperator) -> bool
+pub(crate) fn is_and(operator: BinaryOperator) -> bool
     ensures { result ≡ spec.is_and operator }
 {
     match operator {
@@ -248,7 +248,7 @@ fn is_and(operator: BinaryOperator) -> bool
     }
 }
 
-fn is_at_most(operator: BinaryOperator) -> bool
+pub(crate) fn is_at_most(operator: BinaryOperator) -> bool
     ensures { result ≡ spec.is_at_most operator }
 {
     match operator {
@@ -257,7 +257,7 @@ fn is_at_most(operator: BinaryOperator) -> bool
     }
 }
 
-fn is_at_least(operator: BinaryOperator) -> bool
+pub(crate) fn is_at_least(operator: BinaryOperator) -> bool
     ensures { result ≡ spec.is_at_least operator }
 {
     match operator {
@@ -348,7 +348,7 @@ fn virtual_growth(
     }
 }
 
-fn virtual_growths(
+pub(crate) fn virtual_growths(
     alloc: Global,
     catalogue: &Catalogue,
     virtuals: &[VirtualUnder],

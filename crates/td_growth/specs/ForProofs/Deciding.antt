@@ -1,5 +1,5 @@
 -- What is told of expressions, and of the relvars that they name.
-use Rattle.std.specs.Prelude.{ℕ, Bool, true, false, if◌then◌else◌, List, slice_index_or}
+use Rattle.std.specs.Prelude.{◌≡◌, ℕ, Bool, true, false, if◌then◌else◌, List, slice_index_or}
 use Rattle.td_syntax.specs.declared.tree.BinaryOperator.{BinaryOperator}
 use Rattle.td_syntax.specs.declared.tree.BinaryOperator.TheVariants as binary
 use Rattle.td_syntax.specs.declared.tree.Nesting.{Nesting}
@@ -10,6 +10,7 @@ use Rattle.td_trees.specs.declared.tree.Typed.{Typed}
 use Rattle.td_trees.specs.declared.tree.Typed.TheVariants as tree
 use Rattle.td_headings.specs.Catalogues.{CatalogueData}
 use Rattle.td_growth.specs.Growth.{IsUnread, Spreads, goes_by_left, goes_by_right}
+use Rattle.td_growth.specs.Safety.{Widens}
 use Rattle.td_growth.specs.declared.watching.Growth.{Growth}
 use Rattle.td_growth.specs.declared.watching.Growth.TheVariants as growth
 
@@ -78,3 +79,12 @@ of_comparison o growth.Spreads growth.Spreads = false
 of_comparison o growth.Unread growth.Other = false
 of_comparison o growth.Spreads growth.Other = false
 of_comparison o growth.Other h = false
+
+-- ---- of what has all that it had
+abbrev pub is_not_matching : BinaryOperator → Bool
+is_not_matching binary.NotMatching = true
+is_not_matching o = false
+
+-- which relvars are known to, by their places
+abbrev pub AreWide : CatalogueData → ℕ → List Bool → Type 0
+AreWide c n bs = (m : ℕ) → slice_index_or bs m false ≡ true → Widens c n (tree.Relvar m)
