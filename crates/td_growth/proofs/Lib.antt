@@ -6,6 +6,7 @@ pub mod Values
 pub mod Named
 pub mod Reading
 pub mod Virtuals
+pub mod Agreeing
 pub mod Spreading
 pub mod Constraints
 pub mod Widening

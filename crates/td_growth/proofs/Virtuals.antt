@@ -19,6 +19,14 @@ use Rattle.td_growth.specs.Growth.{IsUnread}
 use Rattle.td_growth.proofs.Named.{named_agree}
 use Rattle.td_growth.proofs.Reading.{named_unread, tree_unread}
 
+-- ---- with a virtual relvar more
+module _ (p : Selection) where
+  pub put_here : (r : Relvars) (v : VirtualUnder) (m : ℕ) → v.place ≡ m → with_virtual p r v m ≡ rows_in (mean r p v.tree) no_names
+  put_here r v m same = ap (λ b. if b then rows_in (mean r p v.tree) no_names else r m) (eq-eqb v.place m same)
+
+  pub put_other : (r : Relvars) (v : VirtualUnder) (m : ℕ) → (v.place ≡ m → ⊥) → with_virtual p r v m ≡ r m
+  put_other r v m apart = ap (λ b. if b then rows_in (mean r p v.tree) no_names else r m) (ne_eqb v.place m apart)
+
 -- a base relvar is no virtual one
 pub not_base : (c : CatalogueData) (n : ℕ) → is_base (slice_get c.origins n) ≡ true → (m : ℕ) (u : Typed) → slice_get c.origins m ≡ Some (origin.Virtual u) → m ≡ n → ⊥
 not_base c n base m u is same = true≢false (sym base ∙ ap (λ k. is_base (slice_get c.origins k)) (sym same) ∙ ap is_base is)
@@ -38,13 +46,6 @@ module _ (c : CatalogueData) (n : ℕ) (p : Selection) (P : Typed → Type 0) (R
     pub new_same : (u : Typed) → IsUnread c n u → mean t p u ≡ mean s p u
     new_same u unread = named_agree t s p u (λ m h. a.new m (named_unread c n u unread m h))
 
-  -- ---- with a virtual relvar more
-  put_here : (r : Relvars) (v : VirtualUnder) (m : ℕ) → v.place ≡ m → with_virtual p r v m ≡ rows_in (mean r p v.tree) no_names
-  put_here r v m same = ap (λ b. if b then rows_in (mean r p v.tree) no_names else r m) (eq-eqb v.place m same)
-
-  put_other : (r : Relvars) (v : VirtualUnder) (m : ℕ) → (v.place ≡ m → ⊥) → with_virtual p r v m ≡ r m
-  put_other r v m apart = ap (λ b. if b then rows_in (mean r p v.tree) no_names else r m) (ne_eqb v.place m apart)
-
   along_rows : {x y z d e f : Result RowsData Stop} → x ≡ d → y ≡ e → z ≡ f → Rel d e f → Rel x y z
   along_rows {x} {y} {z} {d} {e} {f} i j k h = subst (λ w. Rel w y z) (sym i) (subst (λ w. Rel d w z) (sym j) (subst (λ w. Rel d e w) (sym k) h))
 
@@ -56,21 +57,21 @@ module _ (c : CatalogueData) (n : ℕ) (p : Selection) (P : Typed → Type 0) (R
       one_unread : (x y : Relvars) → ((m : ℕ) → IsUnread c n (tree.Relvar m) → x m ≡ y m) → ((u : Typed) → IsUnread c n u → mean x p u ≡ mean y p u) → (m : ℕ) → IsUnread c n (tree.Relvar m) → with_virtual p x v m ≡ with_virtual p y v m
       one_unread x y others trees m unread =
           ⊎_elim
-          (λ same. put_here x v m same ∙ ap (λ (f : Meaning). rows_in f no_names) (trees v.tree (tree_unread c n v.place v.tree is (subst (λ k. IsUnread c n (tree.Relvar k)) (sym same) unread))) ∙ sym (put_here y v m same))
-          (λ apart. put_other x v m apart ∙ others m unread ∙ sym (put_other y v m apart))
+          (λ same. put_here p x v m same ∙ ap (λ (f : Meaning). rows_in f no_names) (trees v.tree (tree_unread c n v.place v.tree is (subst (λ k. IsUnread c n (tree.Relvar k)) (sym same) unread))) ∙ sym (put_here p y v m same))
+          (λ apart. put_other p x v m apart ∙ others m unread ∙ sym (put_other p y v m apart))
           (cases_eq v.place m)
 
       with_more : Alike (with_virtual p r v) (with_virtual p s v) (with_virtual p t v)
       with_more = record {
         old = one_unread r s a.old (old_same r s t a);
         new = one_unread t s a.new (new_same r s t a);
-        itself_related = let apart = not_base c n base v.place v.tree is in along_rows (put_other r v n apart) (put_other s v n apart) (put_other t v n apart) a.itself_related;
+        itself_related = let apart = not_base c n base v.place v.tree is in along_rows (put_other p r v n apart) (put_other p s v n apart) (put_other p t v n apart) a.itself_related;
         virtual_related = λ m u there h.
             ⊎_elim
             (λ same.
-            along_rows (put_here r v m same) (put_here s v m same) (put_here t v m same)
+            along_rows (put_here p r v m same) (put_here p s v m same) (put_here p t v m same)
             (step r s t a v.tree (subst P (some_tree u v.tree (sym there ∙ ap (slice_get c.origins) (sym same) ∙ is)) h)))
-            (λ apart. along_rows (put_other r v m apart) (put_other s v m apart) (put_other t v m apart) (a.virtual_related m u there h))
+            (λ apart. along_rows (put_other p r v m apart) (put_other p s v m apart) (put_other p t v m apart) (a.virtual_related m u there h))
             (cases_eq v.place m);
       }
 

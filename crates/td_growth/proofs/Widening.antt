@@ -158,6 +158,10 @@ within_rows (Err f) (Ok w) a g e = absurd g
 within_rows (Err f) (Err k) a g e = absurd g
 
 -- what is no relation is not at most one
+no_rows : (z : Result RowsData Stop) → AreGrown z z (Err Untyped) → ⊥
+no_rows (Ok a) h = h
+no_rows (Err f) h = h
+
 no_integer : (v w : Datum) → WiderValue v w → integer_of v ≡ Err Untyped
 no_integer (relation h ts) w g = refl
 no_integer (tuple t) w g = refl
@@ -165,10 +169,6 @@ no_integer (boolean b) w g = refl
 no_integer (char x) w g = refl
 no_integer (user p is) w g = refl
 no_integer (integer n) w g = absurd (no_rows (rows_of w) g)
-  where
-    no_rows : (z : Result RowsData Stop) → AreGrown z z (Err Untyped) → ⊥
-    no_rows (Ok a) h = h
-    no_rows (Err f) h = h
 
 no_text : (v w : Datum) → WiderValue v w → text_of v ≡ Err Untyped
 no_text (relation h ts) w g = refl
@@ -177,10 +177,6 @@ no_text (boolean b) w g = refl
 no_text (integer n) w g = refl
 no_text (user p is) w g = refl
 no_text (char x) w g = absurd (no_rows (rows_of w) g)
-  where
-    no_rows : (z : Result RowsData Stop) → AreGrown z z (Err Untyped) → ⊥
-    no_rows (Ok a) h = h
-    no_rows (Err f) h = h
 
 raised : (x : Result Bool Stop) → x ≡ Err Untyped → x ≡ Ok true → ⊥
 raised x d e = let no : Err Untyped ≡ Ok true = sym d ∙ e in cc

@@ -1,4 +1,5 @@
--- A base relvar gains tuples, and nothing else changes: which constraints may be judged over these tuples alone.
+-- A base relvar gains tuples, and nothing else that a constraint reads changes: where it may be judged over these tuples
+-- alone.
 use Rattle.std.specs.Prelude.{◌≡◌, ◌⊎◌, ◌==◌, if◌then◌else◌, ℕ, Bool, true, false, List, Some, Ok, slice_get}
 use Rattle.std.specs.List.{All}
 use Rattle.td_values.specs.Data.{Attrs}
@@ -13,12 +14,12 @@ use Rattle.td_relations.specs.Sets.{Has}
 use Rattle.td_trees.specs.declared.tree.Typed.{Typed}
 use Rattle.td_trees.specs.declared.tree.Typed.TheVariants as tree
 use Rattle.td_headings.specs.Catalogues.{CatalogueData}
-use Rattle.td_headings.specs.Reached.{ReadsRelvar}
+use Rattle.td_headings.specs.Reached.{ReadsRelvar, is_base}
 use Rattle.td_headings.specs.declared.defined.Origin.TheVariants as origin
 use Rattle.td_meaning.specs.Mean.{Relvars}
 
 -- from old to now the relvar at n gained the tuples of i: it has them, and no others that it had not; it may have lost
--- some, and nothing else changed
+-- some
 pub record Gains (old now : Relvars) (n : ℕ) (i : RowsData) : Type 0 where
   pub before : RowsData
   pub after : RowsData
@@ -28,9 +29,8 @@ pub record Gains (old now : Relvars) (n : ℕ) (i : RowsData) : Type 0 where
   pub new_heading : i.heading ≡ after.heading
   pub either : (t : Attrs) → Has after t → Has before t ⊎ Has i t
   pub new : (t : Attrs) → Has i t → Has after t
-  pub others : (m : ℕ) → (m ≡ n → ⊥) → now m ≡ old m
 
--- from old to now the relvar at n lost no tuple, and nothing else changed
+-- from old to now the relvar at n lost no tuple
 pub record Grows (old now : Relvars) (n : ℕ) : Type 0 where
   pub before : RowsData
   pub after : RowsData
@@ -38,7 +38,14 @@ pub record Grows (old now : Relvars) (n : ℕ) : Type 0 where
   pub is : now n ≡ Ok after
   pub one_heading : before.heading ≡ after.heading
   pub kept : (t : Attrs) → Has before t → Has after t
-  pub others : (m : ℕ) → (m ≡ n → ⊥) → now m ≡ old m
+
+-- the relvars agree on what u reads, and where no base relvar is
+abbrev pub AgreeOn : CatalogueData → Typed → Relvars → Relvars → Type 0
+AgreeOn c u r s = (m : ℕ) → (is_base (slice_get c.origins m) ≡ true → ReadsRelvar c.origins u m) → r m ≡ s m
+
+-- there, but for the relvar at n
+abbrev pub AgreeBeside : CatalogueData → Typed → ℕ → Relvars → Relvars → Type 0
+AgreeBeside c u n r s = (m : ℕ) → (m ≡ n → ⊥) → (is_base (slice_get c.origins m) ≡ true → ReadsRelvar c.origins u m) → r m ≡ s m
 
 -- the relvars, but of the one at n these tuples alone
 abbrev pub narrowed : ℕ → RowsData → Relvars → Relvars
@@ -69,15 +76,19 @@ goes_by_right o = false
 -- gains
 pub data Spreads (c : CatalogueData) (n : ℕ) : Typed → Type 0 where
   itself : Spreads c n (tree.Relvar n)
-  virtual : {u : Typed} (m : ℕ) → slice_get c.origins m ≡ Some (origin.Virtual u) → Spreads c n u → Spreads c n (tree.Relvar m)
+  virtual : {u : Typed} (m : ℕ)
+      → slice_get c.origins m ≡ Some (origin.Virtual u) → Spreads c n u → Spreads c n (tree.Relvar m)
   where_ : {r : Typed} (b : Typed) → Spreads c n r → IsUnread c n b → Spreads c n (tree.Where r b)
   project : {r : Typed} (xs : List (List ℕ)) → Spreads c n r → Spreads c n (tree.Project r xs)
   rename : {r : Typed} (xs : List (List ℕ × List ℕ)) → Spreads c n r → Spreads c n (tree.Rename r xs)
-  extend : {r : Typed} (xs : List (Item Typed)) → Spreads c n r → All (λ x. IsUnread c n x.term) xs → Spreads c n (tree.Extend r xs)
+  extend : {r : Typed} (xs : List (Item Typed))
+      → Spreads c n r → All (λ x. IsUnread c n x.term) xs → Spreads c n (tree.Extend r xs)
   wrap : {r : Typed} (xs : List (List ℕ)) (x : List ℕ) → Spreads c n r → Spreads c n (tree.Nest nesting.Wrap r xs x)
   open_ : {r : Typed} (o : Nesting) (x : List ℕ) → Spreads c n r → Spreads c n (tree.Unnest o r x)
-  left : {r : Typed} (o : BinaryOperator) (s : Typed) → goes_by_left o ≡ true → Spreads c n r → IsUnread c n s → Spreads c n (tree.Binary o r s)
-  right : {s : Typed} (o : BinaryOperator) (r : Typed) → goes_by_right o ≡ true → IsUnread c n r → Spreads c n s → Spreads c n (tree.Binary o r s)
+  left : {r : Typed} (o : BinaryOperator) (s : Typed)
+      → goes_by_left o ≡ true → Spreads c n r → IsUnread c n s → Spreads c n (tree.Binary o r s)
+  right : {s : Typed} (o : BinaryOperator) (r : Typed)
+      → goes_by_right o ≡ true → IsUnread c n r → Spreads c n s → Spreads c n (tree.Binary o r s)
   union : {r s : Typed} → Spreads c n r → Spreads c n s → Spreads c n (tree.Binary binary.Union r s)
 
 -- where u was true, it is true if it is true of what n gained

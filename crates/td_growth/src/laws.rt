@@ -1,5 +1,6 @@
 //! The laws of gains.
-ghost use Rattle.td_growth.specs.Laws.{DifferencesAreGains, GrowthKeepsSafe, LossesKeepWatched, NarrowedIsStored, WatchedByInserts};
+ghost use Rattle.td_growth.specs.Laws.{DifferencesAreGains, GrowthKeepsSafe, JudgedByReads, LossesKeepWatched};
+ghost use Rattle.td_growth.specs.Laws.{NarrowedIsStored, WatchedByInserts};
 
 /// A watched constraint that was true before a base relvar gained tuples is now what it is over these alone.
 pub fn watched_by_inserts()
@@ -16,7 +17,12 @@ pub fn growth_keeps_safe()
     ensures { GrowthKeepsSafe }
 {}
 
-/// A relvar that differs gained what is inserted.
+/// Relvars that agree on what it reads give a constraint one judgement.
+pub fn judged_by_reads()
+    ensures { JudgedByReads }
+{}
+
+/// A relvar that differs gained what is inserted, and lost what is deleted.
 pub fn differences_are_gains()
     ensures { DifferencesAreGains }
 {}
