@@ -1,0 +1,2 @@
+-- Words that only proofs and private functions use.
+pub mod Deciding

@@ -1,0 +1,5 @@
+-- The definitions of the crate.
+pub mod Growth
+pub mod Safety
+pub mod Laws
+pub mod ForProofs

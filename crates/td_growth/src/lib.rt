@@ -1,0 +1,9 @@
+//! When a base relvar gains tuples: which constraints may be judged over these alone.
+#![tactic(auto)]
+
+pub mod laws;
+mod safety;
+mod watching;
+
+pub use safety::is_safe;
+pub use watching::is_watched;
