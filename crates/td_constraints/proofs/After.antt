@@ -4,12 +4,9 @@ use Rattle.std.specs.List.{Contains, list_any}
 use Rattle.std.specs.Borrow.{Bor}
 use Rattle.std.specs.FinSet as set
 use Rattle.std.proofs.lemmas.Option.{get_or_from_slice_get, slice_get_within}
-use Rattle.td_values.specs.Data.{Attrs, no_attrs}
+use Rattle.td_values.specs.Data.{no_attrs}
 use Rattle.td_values.specs.Rows.{RowsData}
-use Rattle.td_relations.specs.Deltas.{DeltaData, IsDifference}
-use Rattle.td_relations.specs.Sets.{body, Has}
-use Rattle.td_relations.proofs.Predicates.{of_difference}
-use Rattle.td_tuples.specs.Parts.{cut}
+use Rattle.td_relations.specs.Deltas.{DeltaData}
 use Rattle.td_typing.proofs.KindLemmas.{some_same}
 use Rattle.td_trees.specs.declared.expression.Expression.{Expression}
 use Rattle.td_trees.specs.declared.tree.Typed.{Typed}
@@ -26,7 +23,7 @@ use Rattle.td_headings.specs.declared.defined.Test.TheVariants as test
 use Rattle.td_headings.proofs.ReadLemmas.{reads_those}
 use Rattle.td_headings.proofs.WellTyped.{all_typed}
 use Rattle.td_meaning.specs.Mean.{Relvars}
-use Rattle.td_story.specs.Differences.{AreDifferences, Differs}
+use Rattle.td_story.specs.Differences.{Differs}
 use Rattle.td_story.specs.Tests.{is_key}
 use Rattle.td_story.specs.Trees.{IsIn, tree_means}
 use Rattle.td_constraints.specs.Changes.{PassedBefore}
@@ -131,7 +128,3 @@ module _ (c : CatalogueData) (now : Relvars) (place : ℕ) where
     held = ap (λ v. and_then (tree_means c h.before v no_attrs) truth_of) is ∙ h.legal (test.Constraint name u) (stands_in c.tests place (test.Constraint name u) at);
     differences = h.differences;
   }
-
-pub true_still : (c : CatalogueData) (x : Expression) (now : Relvars) → Defined c → IsIn c x → (o : Option (Bor Changes)) → MatchOption o (Unit {0}) (λ cs. ConstraintBefore c now cs.now x) → MatchOption o ⊥ (λ cs. IsUntouched cs.now x) → and_then (tree_means c now x.tree no_attrs) truth_of ≡ Ok true
-true_still c x now defined is None h never = absurd never
-true_still c x now defined is (Some cs) h never = still_true c x now cs.now defined is h never

@@ -6,3 +6,4 @@ pub mod Apart
 pub mod Legal
 pub mod TreeReads
 pub mod After
+pub mod Gaining

@@ -1,3 +1,4 @@
 -- Words that only proofs and private functions use.
 pub mod Tested
 pub mod Changed
+pub mod Gaining

@@ -1,27 +1,26 @@
 //! The tests of a script, judged over relvars that are looked up.
 
-ghost use Rattle.std.specs.Prelude.{◌≡◌, ◌↔◌, IfOk, false, IsTrue, MatchOption, None, Ok, Some, option_map};
-ghost use Rattle.std.specs.List.{list_any};
+ghost use Rattle.std.specs.Prelude.{◌≡◌, IfOk, MatchOption, None, Ok, Some, option_map};
 ghost use Rattle.td_values.specs.Data.{no_attrs};
 ghost use Rattle.td_values.specs.declared.TypeKind.TheVariants as type_kind;
 ghost use Rattle.td_algebra.specs.Raising.{and_then};
 ghost use Rattle.td_operators.specs.Values.{truth_of};
 ghost use Rattle.td_headings.specs.Definitions.{Defined};
 ghost use Rattle.td_story.specs.Raises.{Tells, stop_of};
-ghost use Rattle.td_story.specs.Trees.{AreBases, IsIn, tree_means};
+ghost use Rattle.td_story.specs.Trees.{IsIn, tree_means};
 ghost use Rattle.td_constraints.specs.Changes.{PassedBefore};
-ghost use Rattle.td_constraints.specs.ForProofs.Changed.{ConstraintBefore, IsUntouched, KeyBefore, KeyOf, change_to};
-ghost use Rattle.td_constraints.specs.ForProofs.Changed as spec_of;
+ghost use Rattle.td_constraints.specs.ForProofs.Changed.{ConstraintBefore, KeyBefore, KeyOf, change_to};
 ghost use Rattle.td_constraints.specs.ForProofs.Tested.{HasRelation, HasRelvar, StandsAt};
 ghost use Rattle.td_story.specs.Reports.{IsReport, title};
 ghost use Rattle.td_story.specs.Stored.{AreStored};
 ghost use Rattle.td_story.specs.Tests as spec;
 ghost use Rattle.td_story.specs.Tests.{failing, judgement, or_behind};
 
+use crate::ways::{Narrowed, Way, way_of};
 use std::alloc::{AllocError, Global};
 use td_algebra::{tell_apart, tell_apart_from};
 use td_eval::{Lookup, truth};
-use td_headings::{Catalogue, Test, TypedExpr, constraint_expr, reads};
+use td_headings::{Catalogue, Test, TypedExpr, constraint_expr};
 use td_relations::{Delta, Relation};
 use td_story::{BrokenTest, Failure, TestFailure};
 use td_values::{Name, Raise};
@@ -55,18 +54,6 @@ fn change_of(changes: &[(usize, Delta)], relvar: usize) -> Option<&Delta>
         }
     }
     None
-}
-
-fn is_changed(changes: &[(usize, Delta)], relvar: usize) -> bool
-    ensures { result ≡ spec_of.is_changed changes.now relvar }
-{
-    changes.iter().any(|change| change.0 == relvar)
-}
-
-fn is_any_changed(changes: &[(usize, Delta)], relvars: &[usize]) -> bool
-    ensures { result ≡ list_any (spec_of.is_changed changes.now) relvars.now }
-{
-    relvars.iter().any(|relvar| is_changed(changes, *relvar))
 }
 
 // Whether no two tuples agree on the key's attributes, where none did before the changes: so the tuples that were put
@@ -106,25 +93,8 @@ fn judge_key<L: Lookup>(
     }
 }
 
-// Whether the expression reads a relvar that was changed, as far as changes are known.
-fn may_differ(
-    alloc: Global,
-    changes: Option<&[(usize, Delta)]>,
-    expr: &TypedExpr,
-) -> Result<bool, AllocError>
-    ensures { IfOk result (λ b. b ≡ false → MatchOption changes.entry ⊥ (λ cs. IsUntouched cs.now expr.now)) }
-{
-    match changes {
-        Some(changes) => {
-            let relvars = reads(alloc, expr)?;
-            Ok(is_any_changed(changes, &relvars))
-        }
-        None => Ok(true),
-    }
-}
-
-// Whether the constraint is true, or the error that it raises. It was true before the changes, so it is where it reads
-// nothing that was changed.
+// Whether the constraint is true, or the error that it raises. Where it was true before changes, as little is evaluated
+// as these allow.
 fn judge_constraint<L: Lookup>(
     alloc: Global,
     catalogue: &Catalogue,
@@ -134,15 +104,21 @@ fn judge_constraint<L: Lookup>(
 ) -> Result<bool, Failure>
     requires expr { IsIn catalogue.now expr.now }
     requires kind { expr.now.kind ≡ type_kind.Boolean }
-    requires bases { AreBases catalogue.now (L.relvars lookup.now) }
+    requires stored { AreStored catalogue.now (L.relvars lookup.now) }
     requires before { MatchOption changes (Unit {0}) (λ cs. ConstraintBefore catalogue.now (L.relvars lookup.now) cs.now expr.now) }
     ensures { Tells result (and_then (tree_means catalogue.now (L.relvars lookup.now) expr.now.tree no_attrs) truth_of) }
 {
-    if may_differ(alloc, changes, expr)? {
-        truth(alloc, catalogue, expr, lookup)
-    } else {
-        catalogue.was_defined();
-        Ok(true)
+    match way_of(alloc, catalogue, changes, expr)? {
+        Way::Stays => Ok(true),
+        Way::Over(relvar, gained) => {
+            let narrowed = Narrowed {
+                lookup,
+                relvar,
+                gained,
+            };
+            truth(alloc, catalogue, expr, &narrowed)
+        }
+        Way::Whole => truth(alloc, catalogue, expr, lookup),
     }
 }
 
@@ -266,8 +242,9 @@ pub fn first_failure<L: Lookup>(
 }
 
 /// The same, after these changes of relvars of which every test was true: it makes only the tests that read a relvar
-/// which was changed. A key costs what `tell_apart_from` of td_algebra does, for the tuples that were put in; a
-/// constraint costs its evaluation.
+/// which was changed. A key costs what `tell_apart_from` of td_algebra does, for the tuples that were put in. A
+/// constraint costs its evaluation: over the tuples that were put in alone, where one relvar was changed and
+/// `is_watched` of td_growth says so, and nothing where that or `is_safe` says that none of it is left to judge.
 pub fn first_failure_after<L: Lookup>(
     alloc: Global,
     catalogue: &Catalogue,

@@ -3,5 +3,6 @@
 
 mod judging;
 pub mod laws;
+mod ways;
 
 pub use judging::{first_failure, first_failure_after};

@@ -3,14 +3,14 @@ use Rattle.std.specs.Prelude.{◌≡◌, ◌==◌, ℕ, Bool, true, if◌then◌
 use Rattle.std.specs.List.{Contains, list_any}
 use Rattle.td_values.specs.Data.{no_attrs}
 use Rattle.td_values.specs.Rows.{RowsData}
-use Rattle.td_relations.specs.Deltas.{DeltaData, IsDifference}
+use Rattle.td_relations.specs.Deltas.{DeltaData}
 use Rattle.td_trees.specs.declared.expression.Expression.{Expression}
 use Rattle.td_algebra.specs.Raising.{and_then}
 use Rattle.td_operators.specs.Values.{truth_of}
 use Rattle.td_headings.specs.Catalogues.{CatalogueData}
 use Rattle.td_headings.specs.Expressions.{reads}
 use Rattle.td_meaning.specs.Mean.{Relvars}
-use Rattle.td_story.specs.Differences.{AreDifferences, Differs}
+use Rattle.td_story.specs.Differences.{AreDifferences}
 use Rattle.td_story.specs.Tests.{is_key}
 use Rattle.td_story.specs.Trees.{tree_means}
 

@@ -1,6 +1,27 @@
-use Rattle.td_constraints.proofs.After.{true_still}
+use Rattle.std.proofs.Common.{sym, subst}
+use Rattle.td_story.specs.Raises.{Tells}
+use Rattle.td_constraints.proofs.Gaining.{over, stays}
+use Rattle.td_constraints.proofs.Judged.{are_bases}
+use Rattle.td_growth.specs.Growth.{narrowed}
 use Rattle.td_constraints.proofs.judging.judge_constraint.Goals as goal
 
-pub returns-else-branch : goal.returns-else-branch
-returns-else-branch g c =
-    true_still c.args.catalogue.now c.args.expr.now (g.L.Lookup.relvars c.args.lookup.now) c.was_defined.ensures c.requires.expr c.args.changes c.requires.before (c.in_ok-may_differ.ensures c.if-branch.false)
+pub truth-requires-clause-bases : goal.truth-requires-clause-bases
+truth-requires-clause-bases g c =
+    let now = g.L.Lookup.relvars c.args.lookup.now in
+    let n = c.in-Over.relvar in
+    let i = c.in-Over.gained in
+    are_bases c.args.catalogue.now (narrowed n i.now now)
+        ((over c.args.catalogue.now c.args.expr.now now c.args.changes c.in_ok-way_of.field-0 c.in_ok-way_of.ensures c.requires.before n i c.in-Over.is).stored c.requires.stored)
+
+pub returns-in-Stays : goal.returns-in-Stays
+returns-in-Stays g c =
+    stays c.args.catalogue.now c.args.expr.now (g.L.Lookup.relvars c.args.lookup.now) c.args.changes c.in_ok-way_of.field-0 c.in_ok-way_of.ensures c.requires.before c.in-Stays.is
+
+pub returns-in-Over : goal.returns-in-Over
+returns-in-Over g c =
+    let now = g.L.Lookup.relvars c.args.lookup.now in
+    let n = c.in-Over.relvar in
+    let i = c.in-Over.gained in
+    subst (Tells c.truth.result)
+        (sym (over c.args.catalogue.now c.args.expr.now now c.args.changes c.in_ok-way_of.field-0 c.in_ok-way_of.ensures c.requires.before n i c.in-Over.is).same)
+        c.truth.ensures
