@@ -11,7 +11,7 @@ truth-requires-clause-bases g c =
     let n = c.in-Over.relvar in
     let i = c.in-Over.gained in
     are_bases c.args.catalogue.now (narrowed n i.now now)
-        ((over c.args.catalogue.now c.args.expr.now now c.args.changes c.in_ok-way_of.field-0 c.in_ok-way_of.ensures c.requires.before n i c.in-Over.is).stored c.requires.stored)
+    ((over c.args.catalogue.now c.args.expr.now now c.args.changes c.in_ok-way_of.field-0 c.in_ok-way_of.ensures c.requires.before n i c.in-Over.is).stored c.requires.stored)
 
 pub returns-in-Stays : goal.returns-in-Stays
 returns-in-Stays g c =
@@ -23,5 +23,5 @@ returns-in-Over g c =
     let n = c.in-Over.relvar in
     let i = c.in-Over.gained in
     subst (Tells c.truth.result)
-        (sym (over c.args.catalogue.now c.args.expr.now now c.args.changes c.in_ok-way_of.field-0 c.in_ok-way_of.ensures c.requires.before n i c.in-Over.is).same)
-        c.truth.ensures
+    (sym (over c.args.catalogue.now c.args.expr.now now c.args.changes c.in_ok-way_of.field-0 c.in_ok-way_of.ensures c.requires.before n i c.in-Over.is).same)
+    c.truth.ensures

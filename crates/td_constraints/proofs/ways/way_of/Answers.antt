@@ -11,4 +11,4 @@ returns-then-not-is_any_changed c =
     let read = c.deref.ensures.value ∙ c.in_ok-relvars.ensures in
     let told = c.is_any_changed.ensures ∙ ap (list_any (is_changed changes.now)) read in
     known_way c.args.catalogue.now c.args.expr.now c.args.changes changes Stays c.in-Some.is
-        (untouched_stays c.args.catalogue.now c.args.expr.now changes.now c.is_any_changed.result c.was_defined.ensures c.requires told c.if-not-is_any_changed.true)
+    (untouched_stays c.args.catalogue.now c.args.expr.now changes.now c.is_any_changed.result c.was_defined.ensures c.requires told c.if-not-is_any_changed.true)
