@@ -1,4 +1,4 @@
-//! The workbench of Ketsarimo: sites of one script, in memory.
+//! The workbench of Ketsarimo: sites of one script, in memory or with journals in files.
 #![tactic(auto)]
 
 use std::env;
@@ -6,6 +6,7 @@ use std::io::{BufReader, ErrorKind};
 use std::process::ExitCode;
 use td_answers::NoLinks;
 use td_devices::Device;
+use td_files::FileJournals;
 use td_replay::Site;
 use td_story::Meter;
 use td_workbench::program;
@@ -33,9 +34,10 @@ fn main(rt: HostRuntime) -> ExitCode {
     let mut sink = Device::new(rt.stdout());
     let mut faults = Device::new(rt.stderr());
     let mut meter = Meter::new(&rt);
-    let status = program::<Site, _, _, _, _>(
+    let status = program::<Site, _, _, _, _, _>(
         alloc,
         &words,
+        &FileJournals::new(&rt),
         &mut NoLinks,
         &mut meter,
         &mut source,

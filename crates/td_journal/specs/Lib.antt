@@ -7,4 +7,5 @@ pub mod Laws
 pub mod Keeping
 pub mod Keepers
 pub mod Reopening
+pub mod Stores
 pub mod ForProofs

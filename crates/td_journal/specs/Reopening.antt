@@ -24,6 +24,10 @@ ReadsOn old new bytes = Consumes old.left new.left bytes × (new.failures ≡ ol
 abbrev pub IsOpened : List ℕ → ℕ → ℕ → Type 0
 IsOpened script site limit = OpensSite script site limit (Ok (opened script site limit))
 
+-- a site that was opened, and holds nothing yet
+abbrev pub IsNew : Seen → Type 0
+IsNew s = OpensSite s.script s.site s.limit (Ok s)
+
 -- a site that has taken what its journal says, and how many bytes of it stand whole
 pub record ReopensSite (script : List ℕ) (site limit : ℕ) (old new : Input) (s : Seen) (whole : ℕ) : Type 0 where
   pub opens : IsOpened script site limit
@@ -59,3 +63,11 @@ ReopensNot script site limit old new OutOfMemory =
 ReopensNot script site limit old new ReadFault = IsOpened script site limit × (bytes : List ℕ) × Consumes old.left new.left bytes × (new.failures ≡ counted old.failures)
 ReopensNot script site limit old new (Refused e) = IsOpened script site limit × (bytes : List ℕ) × ReadsOn old new bytes × (journal_at site script bytes ≡ Err e)
 ReopensNot script site limit old new (Take e) = IsOpened script site limit × RefusesJournal script site limit old new e
+
+-- ---- of a site that was opened before
+
+abbrev pub Retakes : Seen → Input → Input → Seen → ℕ → Type 0
+Retakes s old new after whole = ReopensSite s.script s.site s.limit old new after whole
+
+abbrev pub RetakesNot : Seen → Input → Input → ReopenError → Type 0
+RetakesNot s old new e = ReopensNot s.script s.site s.limit old new e

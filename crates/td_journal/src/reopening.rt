@@ -5,7 +5,7 @@ ghost use Rattle.std.specs.Io.KnownBytes.{Keeps};
 ghost use Rattle.td_devices.specs.Views.{input_of};
 ghost use Rattle.td_journal.specs.ForProofs.Refilled.{Refills, RefillsNot};
 ghost use Rattle.td_journal.specs.ForProofs.Refilled as proofs;
-ghost use Rattle.td_journal.specs.Reopening.{ReopensNot, ReopensSite};
+ghost use Rattle.td_journal.specs.Reopening.{IsNew, ReopensNot, ReopensSite, Retakes, RetakesNot};
 
 use crate::error::JournalError;
 use crate::reading::{Unread, bytes_of, read_frames, read_header};
@@ -54,15 +54,14 @@ fn untaken(error: TakeError) -> ReopenError
 }
 
 // Reads the frames behind a header, and has a new site take what they say.
-fn refill<R: Opens + Drop, S: Source>(
+fn refill<R: Replica + Drop, S: Source>(
     alloc: Global,
     mut replica: R,
     source: &mut S,
-    script: &str,
     meter: &mut Meter,
 ) -> Result<Reopened<R>, ReopenError>
-    requires short { length script.now ≤ 65536 }
-    requires script { (R.seen replica).script ≡ script.now }
+    requires short { length (R.seen replica).script ≤ 65536 }
+    requires open { (R.seen replica).live ≡ true }
     requires none { (R.seen replica).entries ≡ [] }
     ensures told { MatchResult result
         (λ r. Refills (R.seen replica) (input_of S.Source source.old) (input_of S.Source source.new)
@@ -78,8 +77,29 @@ fn refill<R: Opens + Drop, S: Source>(
         Ok(_) => {}
         Err(error) => return Err(untaken(error)),
     }
-    let whole = bytes_of(script, entries.as_slice());
+    let whole = bytes_of(replica.script(), entries.as_slice());
     Ok(Reopened { replica, whole })
+}
+
+/// Has a new site take what its journal says: then it has all that stands whole there. It takes room for the entries,
+/// and runs each once.
+pub fn take_journal<R: Replica + Drop, S: Source>(
+    alloc: Global,
+    replica: R,
+    source: &mut S,
+    meter: &mut Meter,
+) -> Result<Reopened<R>, ReopenError>
+    requires new { IsNew (R.seen replica) }
+    ensures taken { MatchResult result
+        (λ r. Retakes (R.seen replica) (input_of S.Source source.old) (input_of S.Source source.new) (R.seen r.replica) r.whole)
+        (λ e. RetakesNot (R.seen replica) (input_of S.Source source.old) (input_of S.Source source.new) e) }
+    ensures beside { Keeps (S.beside source.old) (S.beside source.new) }
+{
+    match read_header(source, replica.site(), replica.script()) {
+        Ok(true) => refill(alloc, replica, source, meter),
+        Ok(false) => Ok(Reopened { replica, whole: 0 }),
+        Err(error) => Err(unread(error)),
+    }
 }
 
 /// Opens the site of this number and script, with room for so many entries, from its journal: it has all that stands
@@ -98,13 +118,8 @@ pub fn reopen<R: Opens + Drop, S: Source>(
         (λ e. ReopensNot script.now site limit (input_of S.Source source.old) (input_of S.Source source.new) e) }
     ensures beside { Keeps (S.beside source.old) (S.beside source.new) }
 {
-    let replica: R = match R::open_script(alloc, script, site, limit) {
-        Ok(replica) => replica,
-        Err(error) => return Err(ReopenError::Open(error)),
-    };
-    match read_header(source, site, script) {
-        Ok(true) => refill(alloc, replica, source, script, meter),
-        Ok(false) => Ok(Reopened { replica, whole: 0 }),
-        Err(error) => Err(unread(error)),
+    match R::open_script(alloc, script, site, limit) {
+        Ok(replica) => take_journal(alloc, replica, source, meter),
+        Err(error) => Err(ReopenError::Open(error)),
     }
 }

@@ -1,9 +1,12 @@
 -- The exit status of the program, and what it puts where.
-use Rattle.std.specs.Prelude.{◌≡◌, ◌⊎◌, ℕ, Bool, true, false, List, Result, Ok, Err}
+use Rattle.std.specs.Prelude.{◌≡◌, ◌⊎◌, ℕ, Bool, true, false, List, ◌++◌, codes, string_bytes, Result, Ok, Err}
 use Rattle.td_devices.specs.Views.{Input, Output}
 use Rattle.td_listings.specs.Writings.{WritesFront}
+use Rattle.td_workbench.specs.Journals.{JournaledEnds, Kept}
 use Rattle.td_workbench.specs.Programs.{InRange, ProgramEnds}
 use Rattle.td_workbench.specs.Streams.{WritesAll}
+use Rattle.td_workbench.specs.declared.journaled.Stopped.{Stopped}
+use Rattle.td_workbench.specs.declared.journaled.Stopped.TheVariants.{JournalFile, Run}
 use Rattle.td_workbench.specs.declared.opening.Options.{Options}
 use Rattle.td_workbench.specs.declared.run.Ended.{Ended}
 
@@ -28,6 +31,29 @@ pub record RunsBy (status : ℕ) (old new : Standard) : Type 0 where
   pub status_is : status ≡ status_of result
   pub no_faults : new.faults ≡ old.faults
 
+-- what is told of a journal that failed
+abbrev pub journal_fault : List ℕ → List ℕ
+journal_fault name = codes "fault journal " ++ name ++ codes "\n"
+
+-- it was told, or a front of it; or there was no memory for its text
+abbrev pub TellsJournal : List ℕ → ℕ → Output → Output → Type 0
+TellsJournal name status f told =
+    ((status ≡ 3) × (WritesAll (journal_fault name) f told ⊎ WritesFront (journal_fault name) f told)) ⊎ ((status ≡ 1) × (told ≡ f))
+
+abbrev pub TellsStopped : Result Bool Stopped → ℕ → Output → Output → Type 0
+TellsStopped (Ok accepted) status f told = (status ≡ status_of (Ok accepted)) × (told ≡ f)
+TellsStopped (Err (Run e)) status f told = (status ≡ status_of (Err e)) × (told ≡ f)
+TellsStopped (Err (JournalFile name)) status f told = TellsJournal (string_bytes name) status f told
+
+-- the words gave options and where journals stand, and the program was run by them
+pub record RunsJournaled (kept : Kept) (Fails : Type 0) (status : ℕ) (old new : Standard) : Type 0 where
+  pub options : Options
+  pub in_range : InRange options
+  pub prefix : List ℕ
+  pub result : Result Bool Stopped
+  pub ends : JournaledEnds kept Fails prefix options old.input old.output result new.input new.output
+  pub told : TellsStopped result status old.faults new.faults
+
 -- help or the version was written, or a front of it
 abbrev pub PutsHelp : List ℕ → ℕ → Output → Output → Type 0
 PutsHelp text status w after = ((status ≡ 0) × WritesAll text w after) ⊎ ((status ≡ 1) × WritesFront text w after)
@@ -48,5 +74,6 @@ TellsWords status w f after told =
 abbrev pub RunsNot : ℕ → Standard → Standard → Type 0
 RunsNot status old new = TellsWords status old.output old.faults new.output new.faults × (new.input ≡ old.input)
 
-abbrev pub Exits : ℕ → Standard → Standard → Type 0
-Exits status old new = RunsBy status old new ⊎ RunsNot status old new
+-- of journals that had this, where it is known, and one of which may have failed
+abbrev pub Exits : Kept → Type 0 → ℕ → Standard → Standard → Type 0
+Exits kept Fails status old new = RunsBy status old new ⊎ (RunsJournaled kept Fails status old new ⊎ RunsNot status old new)

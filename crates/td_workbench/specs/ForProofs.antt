@@ -1,3 +1,4 @@
 pub mod Serving
 pub mod Reading
 pub mod Opening
+pub mod Journaled

@@ -1,17 +1,19 @@
 //! The program over its words and its streams.
 
-ghost use Rattle.std.specs.Prelude.{◌≡◌};
+ghost use Rattle.std.specs.Prelude.{◌≡◌, IfOk, string_bytes};
 ghost use Rattle.td_devices.specs.Views.{input_of, output_of};
-ghost use Rattle.td_workbench.specs.Exits.{Exits, PutsHelp, PutsRefusal, TellsWords, status_of};
+ghost use Rattle.td_workbench.specs.Exits.{Exits, PutsHelp, PutsRefusal, TellsJournal, TellsStopped, TellsWords, journal_fault, status_of};
 
+use crate::journaled::{Stopped, run_journaled};
 use crate::programs::run_program;
 use crate::run::Ended;
-use crate::words::read_options;
+use crate::words::read_words;
 use clap::Error;
 use clap::error::ErrorKind;
-use std::alloc::Global;
+use std::alloc::{AllocError, Global};
 use td_answers::Links;
 use td_devices::{Sink, Source, put};
+use td_journal::Journals;
 use td_story::{Meter, Opens};
 
 fn status(end: Result<bool, Ended>) -> u8
@@ -59,24 +61,66 @@ fn tell<K: Sink, F: Sink>(alloc: Global, error: &Error, sink: &mut K, faults: &m
     put_help(sink, text.as_bytes())
 }
 
+// Tells on the output of faults that a journal failed.
+fn tell_journal<F: Sink>(alloc: Global, name: &str, faults: &mut F) -> u8
+    ensures { TellsJournal name.now result (output_of F.Sink faults.old) (output_of F.Sink faults.new) }
+{
+    let Ok(text) = journal_fault(alloc, name) else {
+        return 1;
+    };
+    match put(faults, text.as_bytes()) {
+        Ok(()) => 3,
+        Err(_) => 3,
+    }
+}
+
+fn journal_fault(alloc: Global, name: &str) -> Result<String, AllocError>
+    ensures { IfOk result (λ text. string_bytes text ≡ journal_fault name.now) }
+{
+    let mut text = String::new(alloc);
+    text.push_str("fault journal ")?;
+    text.push_str(name)?;
+    text.push_str("\n")?;
+    Ok(text)
+}
+
+// The status of a run over journals, and what is told of one that did not begin.
+fn end_journaled<F: Sink>(alloc: Global, end: Result<bool, Stopped>, faults: &mut F) -> u8
+    ensures { TellsStopped end result (output_of F.Sink faults.old) (output_of F.Sink faults.new) }
+{
+    match end {
+        Ok(accepted) => status(Ok(accepted)),
+        Err(Stopped::Run(e)) => status(Err(e)),
+        Err(Stopped::JournalFile(name)) => tell_journal(alloc, &name, faults),
+    }
+}
+
 /// Reads the words, the first of which names the program, and runs it by them. The answer is the exit status: 0 at
 /// `.quit`, at the end of the input and after help; 1 for a refused script, a stream that fails, and want of memory
-/// that ends the program; 2 for refused words.
-pub fn program<R: Opens + Drop, L: Links, S: Source, K: Sink, F: Sink>(
+/// that ends the program; 2 for refused words; 3 where the journal of a site cannot be opened, read, cut or begun.
+pub fn program<R: Opens + Drop, J: Journals, L: Links, S: Source, K: Sink, F: Sink>(
     alloc: Global,
     words: &[String],
+    journals: &J,
     links: &mut L,
     meter: &mut Meter,
     source: &mut S,
     sink: &mut K,
     faults: &mut F,
 ) -> u8
-    ensures { Exits result (record { input = input_of S.Source source.old; output = output_of K.Sink sink.old; faults = output_of F.Sink faults.old }) (record { input = input_of S.Source source.new; output = output_of K.Sink sink.new; faults = output_of F.Sink faults.new }) }
+    ensures { Exits (J.kept journals.now) (J.fails journals.now) result (record { input = input_of S.Source source.old; output = output_of K.Sink sink.old; faults = output_of F.Sink faults.old }) (record { input = input_of S.Source source.new; output = output_of K.Sink sink.new; faults = output_of F.Sink faults.new }) }
 {
-    match read_options(alloc, words) {
-        Ok(options) => status(run_program::<R, _, _, _>(
-            alloc, &options, links, meter, source, sink,
-        )),
-        Err(error) => tell(alloc, &error, sink, faults),
-    }
+    let words = match read_words(alloc, words) {
+        Ok(words) => words,
+        Err(error) => return tell(alloc, &error, sink, faults),
+    };
+    let Some(prefix) = words.journal else {
+        return status(run_program::<R, _, _, _>(
+            alloc, &words.options, links, meter, source, sink,
+        ));
+    };
+    let end = run_journaled::<R, _, _, _, _>(
+        alloc, &words.options, journals, prefix, links, meter, source, sink,
+    );
+    end_journaled(alloc, end, faults)
 }

@@ -3,6 +3,7 @@
 #![tactic(auto)]
 
 pub mod command;
+pub mod journaled;
 pub mod opening;
 pub mod programs;
 mod refusal;
@@ -12,6 +13,7 @@ pub mod words;
 mod writing;
 
 pub use command::program;
+pub use journaled::{Stopped, run_journaled};
 pub use opening::Options;
 pub use programs::run_program;
 pub use run::{Ended, workbench};

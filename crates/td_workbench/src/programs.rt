@@ -1,10 +1,10 @@
 //! A script, and then the lines for its sites.
 
-ghost use Rattle.std.specs.Prelude.{◌≡◌, map, true};
+ghost use Rattle.std.specs.Prelude.{◌≡◌, map, string_bytes, true};
 ghost use Rattle.std.specs.Io.KnownBytes.{IsAtEnd};
 ghost use Rattle.td_devices.specs.Views.{input_of, output_of};
 ghost use Rattle.td_answers.specs.Sites.{AreOfScript};
-ghost use Rattle.td_workbench.specs.ForProofs.Opening.{BehindEnds, StartEnds};
+ghost use Rattle.td_workbench.specs.ForProofs.Opening.{AreSeen, BehindEnds, ReadyEnds, StartEnds};
 ghost use Rattle.td_workbench.specs.Programs.{InRange, ProgramEnds};
 
 use crate::opening::{Opened, Options, open};
@@ -15,10 +15,10 @@ use crate::writing::put_fault;
 use std::alloc::Global;
 use td_answers::Links;
 use td_devices::{Sink, Source, put};
-use td_story::{Meter, Opens};
+use td_story::{Meter, Opens, Replica};
 
 // Answers the lines behind the script.
-fn answer_behind<R: Opens + Drop, L: Links, S: Source, K: Sink>(
+fn answer_behind<R: Replica + Drop, L: Links, S: Source, K: Sink>(
     alloc: Global,
     mut opened: Opened<R>,
     is_last: bool,
@@ -29,7 +29,7 @@ fn answer_behind<R: Opens + Drop, L: Links, S: Source, K: Sink>(
     reads: &mut u64,
 ) -> Result<(), Ended>
     requires { AreOfScript opened.catalogue (map R.seen opened.sites.items) }
-    ensures { BehindEnds is_last opened.catalogue (map R.seen opened.sites.items) reads.old (input_of S.Source source.old) (output_of K.Sink sink.old) result (input_of S.Source source.new) (output_of K.Sink sink.new) }
+    ensures { BehindEnds (AreSeen R.seen) is_last opened.catalogue (map R.seen opened.sites.items) reads.old (input_of S.Source source.old) (output_of K.Sink sink.old) result (input_of S.Source source.new) (output_of K.Sink sink.new) }
 {
     if is_last {
         return Ok(());
@@ -46,6 +46,30 @@ fn answer_behind<R: Opens + Drop, L: Links, S: Source, K: Sink>(
     )
 }
 
+/// Tells that the sites are ready, and answers the lines behind the script.
+pub(crate) fn tell_and_answer<R: Replica + Drop, L: Links, S: Source, K: Sink>(
+    alloc: Global,
+    opened: Opened<R>,
+    is_last: bool,
+    links: &mut L,
+    meter: &mut Meter,
+    source: &mut S,
+    sink: &mut K,
+    reads: &mut u64,
+) -> Result<bool, Ended>
+    requires { AreOfScript opened.catalogue (map R.seen opened.sites.items) }
+    ensures { ReadyEnds (AreSeen R.seen) is_last (string_bytes opened.ready) opened.catalogue (map R.seen opened.sites.items) reads.old (input_of S.Source source.old) (output_of K.Sink sink.old) result (input_of S.Source source.new) (output_of K.Sink sink.new) }
+{
+    match put(sink, opened.ready.as_bytes()) {
+        Ok(()) => {}
+        Err(_) => return Err(Ended::WriteFault),
+    }
+    match answer_behind(alloc, opened, is_last, links, meter, source, sink, reads) {
+        Ok(()) => Ok(true),
+        Err(e) => Err(e),
+    }
+}
+
 // Opens the sites of the script and answers the lines behind it.
 fn start<R: Opens + Drop, L: Links, S: Source, K: Sink>(
     alloc: Global,
@@ -60,26 +84,18 @@ fn start<R: Opens + Drop, L: Links, S: Source, K: Sink>(
     requires { InRange options.now }
     ensures { StartEnds options.now script.now reads.old (input_of S.Source source.old) (output_of K.Sink sink.old) result (input_of S.Source source.new) (output_of K.Sink sink.new) }
 {
-    let opened = match open::<R>(alloc, options, script) {
-        Ok(opened) => opened,
-        Err(e) => return refuse(alloc, e, sink),
-    };
-    match put(sink, opened.ready.as_bytes()) {
-        Ok(()) => {}
-        Err(_) => return Err(Ended::WriteFault),
-    }
-    match answer_behind(
-        alloc,
-        opened,
-        script.is_last,
-        links,
-        meter,
-        source,
-        sink,
-        reads,
-    ) {
-        Ok(()) => Ok(true),
-        Err(e) => Err(e),
+    match open::<R>(alloc, options, script) {
+        Ok(opened) => tell_and_answer(
+            alloc,
+            opened,
+            script.is_last,
+            links,
+            meter,
+            source,
+            sink,
+            reads,
+        ),
+        Err(e) => refuse(alloc, e, sink),
     }
 }
 

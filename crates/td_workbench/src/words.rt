@@ -44,22 +44,36 @@ fn command<'a>(alloc: Global) -> Result<Command<'a>, AllocError> {
         .action(ArgAction::Set)
         .value_parser(ValueParser::unsigned(1, 100_000))
         .default_value("10000");
+    let journal = Arg::new(alloc, "journal")
+        .long("journal")
+        .value_name("PREFIX")
+        .help("Keeps each site's statements in the file PREFIX, its number, .tdj")
+        .action(ArgAction::Set);
     Command::new(alloc, "td_console")
         .version("1.0")
         .about("A workbench of replicated relational databases")
         .after_help(LINES)
         .arg(sites)?
         .arg(first)?
-        .arg(limit)
+        .arg(limit)?
+        .arg(journal)
 }
 
-/// The options that the words give, the first of which names the program.
-pub fn read_options<'a>(alloc: Global, words: &'a [String]) -> Result<Options, Error>
-    ensures { IfOk result InRange }
+/// What the words of the program ask for.
+#[derive(Clone, Copy, Drop)]
+pub struct Words<'a> {
+    pub options: Options,
+    /// What the names of the sites' journals begin with, if they keep any.
+    pub journal: Option<&'a str>,
+}
+
+/// What the words ask for, the first of which names the program.
+pub fn read_words<'a>(alloc: Global, words: &'a [String]) -> Result<Words<'a>, Error>
+    ensures { IfOk result (λ w. InRange w.options) }
 {
     let matches = command(alloc)?.try_get_matches_from(words)?;
     // The parser lets no other number through, so none is ever cut.
-    Ok(Options {
+    let options = Options {
         sites: matches.get_one::<u16>("sites").unwrap_or(2).clamp(1, 16),
         first: matches
             .get_one::<u16>("first")
@@ -69,5 +83,9 @@ pub fn read_options<'a>(alloc: Global, words: &'a [String]) -> Result<Options, E
             .get_one::<usize>("limit")
             .unwrap_or(10_000)
             .clamp(1, 100_000),
+    };
+    Ok(Words {
+        options,
+        journal: matches.get_str("journal"),
     })
 }

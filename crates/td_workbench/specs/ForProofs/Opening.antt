@@ -1,6 +1,5 @@
 -- What is told of a script that is refused, and what running the lines behind an accepted one comes to.
-use Rattle.std.specs.Prelude.{◌≡◌, ◌⊎◌, ℕ, Bool, true, false, List, option_map, Result, Ok, Err, String, string_bytes}
-use Rattle.std.specs.List.{AllByRecursion}
+use Rattle.std.specs.Prelude.{◌≡◌, ◌⊎◌, ℕ, Bool, true, false, List, map, option_map, Result, Ok, Err, String, string_bytes}
 use Rattle.std.specs.Global.{Global}
 use Rattle.std.specs.declared.alloc.AllocError.{AllocError}
 use Rattle.td_devices.specs.Views.{Input, Output}
@@ -9,6 +8,7 @@ use Rattle.td_story.specs.declared.error.ScriptError.{ScriptError}
 use Rattle.td_story.specs.declared.error.ScriptError.TheVariants.{Syntax, IllTyped, OpeningRaised, OpeningBroken, OutOfMemory}
 use Rattle.td_headings.specs.Catalogues.{CatalogueData}
 use Rattle.td_story.specs.Databases.{DatabaseData}
+use Rattle.td_story.specs.Seen.{Seen}
 use Rattle.td_story.specs.Scripts.{Opens}
 use Rattle.td_answers.specs.Sites.{Sites}
 use Rattle.td_workbench.specs.Streams.{most_reads, WritesAll}
@@ -44,10 +44,24 @@ TellsRefusal e r w after = (told : ScriptError) × MayTell e told × PutsFault (
 abbrev pub OpensAll : Options → List ℕ → Sites → Type 0
 OpensAll options script sites = (d : DatabaseData) × Opens script (Ok d) × (sites ≡ new_sites script options.limit options.first options.sites)
 
+-- some sites of a kind are seen so
+abbrev pub AreSeen : {R : Type 0} → (R → Seen) → Sites → Type 0
+AreSeen {R} seen sites = (rs : List R) × (sites ≡ map seen rs)
+
 -- the lines behind the script, which are none where its `.begin` ended the input
-abbrev pub BehindEnds : Bool → CatalogueData → Sites → ℕ → Input → Output → Result (Unit {0}) Ended → Input → Output → Type 0
-BehindEnds true c old reads from w r left after = (r ≡ Ok tt) × (left ≡ from) × (after ≡ w)
-BehindEnds false c old reads from w r left after = (new : Sites) × AllByRecursion (λ s. s.live ≡ true) new × Serves c old reads from w r new left after
+abbrev pub BehindEnds : (Sites → Type 0) → Bool → CatalogueData → Sites → ℕ → Input → Output → Result (Unit {0}) Ended → Input → Output → Type 0
+BehindEnds Stay true c old reads from w r left after = (r ≡ Ok tt) × (left ≡ from) × (after ≡ w)
+BehindEnds Stay false c old reads from w r left after = (new : Sites) × Stay new × Serves c old reads from w r new left after
+
+-- the text was written, and what came of the lines behind the script
+abbrev pub ReadyBehind : (Sites → Type 0) → Bool → List ℕ → CatalogueData → Sites → ℕ → Input → Output → Result (Unit {0}) Ended → Input → Output → Type 0
+ReadyBehind Stay is_last text c old reads from w r left after = (told : Output) × WritesAll text w told × BehindEnds Stay is_last c old reads from told r left after
+
+abbrev pub ReadyEnds : (Sites → Type 0) → Bool → List ℕ → CatalogueData → Sites → ℕ → Input → Output → Result Bool Ended → Input → Output → Type 0
+ReadyEnds Stay is_last text c old reads from w (Ok true) left after = ReadyBehind Stay is_last text c old reads from w (Ok tt) left after
+ReadyEnds Stay is_last text c old reads from w (Ok false) left after = ⊥
+ReadyEnds Stay is_last text c old reads from w (Err e) left after =
+    ReadyBehind Stay is_last text c old reads from w (Err e) left after ⊎ ((e ≡ ended.WriteFault) × (left ≡ from) × WritesFront text w after)
 
 -- a text that was made, or that there was no memory for it
 abbrev pub TellsMade : Result (String Global) AllocError → Result Bool Ended → Output → Output → Type 0

@@ -1,0 +1,109 @@
+//! Where the journals of sites stand, and sites that come back from there.
+
+ghost use Rattle.std.specs.Prelude.{◌≡◌, ◌≢◌, ℕ, List, Option, MatchResult, true};
+ghost use Rattle.td_devices.specs.Views.{output_of};
+ghost use Rattle.td_journal.specs.Reopening.{IsNew};
+ghost use Rattle.td_journal.specs.Stores.{GoesOn, GoesOnNot, IsCutTo, IsGoneOnWith, KeepsNot, OpensNot};
+ghost use Rattle.td_journal.specs.declared.reopening.ReopenError.TheVariants as reopen_error;
+ghost use Rattle.td_journal.specs.declared.stores.StoreError.TheVariants as store_error;
+
+use crate::keeper::Keeper;
+use crate::reopening::{ReopenError, Reopened, take_journal};
+use std::alloc::Global;
+use td_devices::{Failed, Sink, Source};
+use td_story::{Meter, Replica};
+use thiserror::Error;
+
+/// Why a site does not go on with its journal.
+#[derive(Clone, Copy, Debug, Drop, PartialEq, Eq, Error)]
+pub enum StoreError {
+    #[error("out of memory")]
+    OutOfMemory,
+    #[error("the journal cannot be opened, read, cut or begun")]
+    JournalFile,
+}
+
+/// Where journals stand, each under a name.
+pub trait Journals {
+    /// A journal that was opened, to be read from its beginning.
+    type Journal: Source + Drop;
+
+    /// What goes on with a journal. Where a flush ends well, what was written outlives the program.
+    type Writer: Sink + Drop;
+
+    /// What the journal of a name has, where that is known.
+    ghost kept: { Self → List ℕ → Option (List ℕ) };
+
+    /// A journal could not be opened or cut. Only these calls tell this of any journals, so what a caller tells by it
+    /// says that one of them failed.
+    ghost fails: { Self → Type 0 };
+
+    /// Opens the journal of this name, which has nothing where it is new. Nobody else opens it until it is let go.
+    fn open(&self, alloc: Global, name: &str) -> Result<Self::Journal, StoreError>
+        ensures kept { MatchResult result (λ j. Self.Journal.left j ≡ kept self.now name.now) (λ e. OpensNot (fails self.now) e) }
+        ensures all { MatchResult result (λ j. Self.Journal.beside j ≡ kept self.now name.now) (λ _. Unit {0}) };
+
+    /// Keeps so many bytes of the journal and drops those behind them: what is written then stands behind these.
+    fn cut(&self, journal: Self::Journal, whole: u64) -> Result<Self::Writer, Failed>
+        ensures { MatchResult result (λ w. IsCutTo whole (Self.Journal.beside journal) (Self.Writer.held w)) (λ _. fails self.now) };
+}
+
+// Why the site does not go on, where it did not come back.
+fn not_reopened(error: &ReopenError) -> StoreError
+    ensures { result ≡ store_error.JournalFile → error.now ≢ reopen_error.OutOfMemory }
+{
+    match error {
+        ReopenError::OutOfMemory => StoreError::OutOfMemory,
+        _ => StoreError::JournalFile,
+    }
+}
+
+// Goes on with the journal from which the site came back.
+fn go_on<R: Replica + Drop, J: Journals>(
+    journals: &J,
+    journal: J::Journal,
+    reopened: Reopened<R>,
+) -> Result<Keeper<R, J::Writer>, StoreError>
+    requires open { (R.seen reopened.replica).live ≡ true }
+    ensures { MatchResult result
+        (λ k. IsGoneOnWith reopened.whole (J.Journal.beside journal) (R.seen k.replica) (output_of J.Writer.Sink k.writer)
+        × (k.replica ≡ reopened.replica) × (k.is_open ≡ true))
+        (λ e. GoesOnNot (J.fails journals.now) e) }
+{
+    let Reopened { replica, whole } = reopened;
+    let Ok(writer) = journals.cut(journal, whole) else {
+        return Err(StoreError::JournalFile);
+    };
+    if whole > 0 {
+        return Ok(Keeper::resume(replica, writer));
+    }
+    match Keeper::start(replica, writer) {
+        Ok(keeper) => Ok(keeper),
+        Err(_) => Err(StoreError::JournalFile),
+    }
+}
+
+/// Opens the journal of a new site, has the site take what it says, and goes on with it: with what stands whole of it,
+/// or by beginning it where nothing does. It takes room for the entries, and runs each once.
+pub fn keep_journal<R: Replica + Drop, J: Journals>(
+    alloc: Global,
+    journals: &J,
+    name: &str,
+    replica: R,
+    meter: &mut Meter,
+) -> Result<Keeper<R, J::Writer>, StoreError>
+    requires new { IsNew (R.seen replica) }
+    ensures kept { MatchResult result
+        (λ k. GoesOn (J.kept journals.now name.now) (R.seen replica) (R.seen k.replica) (output_of J.Writer.Sink k.writer))
+        (λ e. KeepsNot (J.fails journals.now) (J.kept journals.now name.now) (R.seen replica) e) }
+    ensures open { MatchResult result (λ k. k.is_open ≡ true) (λ _. Unit {0}) }
+{
+    let mut journal = match journals.open(alloc, name) {
+        Ok(journal) => journal,
+        Err(error) => return Err(error),
+    };
+    match take_journal(alloc, replica, &mut journal, meter) {
+        Ok(reopened) => go_on(journals, journal, reopened),
+        Err(error) => Err(not_reopened(&error)),
+    }
+}
