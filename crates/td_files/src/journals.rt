@@ -31,7 +31,7 @@ impl<R: Files<File = File>> Journals for FileJournals<'_, R> {
 
     ghost kept = { λ _ _. None };
 
-    ghost fails = { λ _. Unit {0} };
+    ghost fails = { λ _ _. Unit {0} };
 
     fn open(&self, alloc: Global, name: &str) -> Result<FileJournal, StoreError> {
         let opened = OpenOptions::new()

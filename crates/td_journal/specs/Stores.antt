@@ -14,11 +14,6 @@ use Rattle.td_journal.specs.declared.stores.StoreError.TheVariants.{OutOfMemory,
 abbrev pub IsCutTo : ℕ → Option (List ℕ) → Option (List ℕ) → Type 0
 IsCutTo whole kept held = held ≡ option_map (take whole) kept
 
--- why a journal is not opened
-abbrev pub OpensNot : Type 0 → StoreError → Type 0
-OpensNot Fails OutOfMemory = Unit {0}
-OpensNot Fails JournalFile = Fails
-
 -- The writer goes on with what stands whole of a journal. Where that is nothing, the journal of the site was begun.
 abbrev pub IsGoneOnWith : ℕ → Option (List ℕ) → Seen → Output → Type 0
 IsGoneOnWith zero kept s w = (cut : Output) × IsCutTo 0 kept cut.held × Starts s cut w
@@ -32,12 +27,10 @@ pub record GoesOn (kept : Option (List ℕ)) (s after : Seen) (w : Output) : Typ
   pub reopens : Retakes s (record { left = kept; failures = failures }) read after whole
   pub goes_on : IsGoneOnWith whole kept after w
 
--- what was read is refused, for another cause than memory
-pub record IsRefused (kept : Option (List ℕ)) (s : Seen) : Type 0 where
+-- what was read is refused, or there was no memory for it
+pub record IsRefused (kept : Option (List ℕ)) (s : Seen) (error : ReopenError) : Type 0 where
   pub failures : ℕ
   pub read : Input
-  pub error : ReopenError
-  pub cause : error ≢ reopen_error.OutOfMemory
   pub refuses : RetakesNot s (record { left = kept; failures = failures }) read error
 
 -- the site came back, and the header of its journal was not written
@@ -45,12 +38,12 @@ abbrev pub BeginsNot : Type 0
 BeginsNot = (after : Seen) × (cut : Output) × (w : Output) × StartsNot after WriteFault cut w
 
 -- why a site that came back does not go on
-abbrev pub GoesOnNot : Type 0 → StoreError → Type 0
+abbrev pub GoesOnNot : (StoreError → Type 0) → StoreError → Type 0
 GoesOnNot Fails OutOfMemory = ⊥
-GoesOnNot Fails JournalFile = Fails ⊎ BeginsNot
+GoesOnNot Fails JournalFile = Fails JournalFile ⊎ BeginsNot
 
--- Why a site does not go on with its journal: for want of memory, or since that could not be opened or cut, what was
--- read is refused, or the header was not written.
-abbrev pub KeepsNot : Type 0 → Option (List ℕ) → Seen → StoreError → Type 0
-KeepsNot Fails kept s OutOfMemory = Unit {0}
-KeepsNot Fails kept s JournalFile = Fails ⊎ (IsRefused kept s ⊎ BeginsNot)
+-- Why a site does not go on with its journal: that could not be opened or cut, what was read is refused, or the header
+-- was not written; or there was no memory to open it, or for what was read.
+abbrev pub KeepsNot : (StoreError → Type 0) → Option (List ℕ) → Seen → StoreError → Type 0
+KeepsNot Fails kept s OutOfMemory = Fails OutOfMemory ⊎ IsRefused kept s reopen_error.OutOfMemory
+KeepsNot Fails kept s JournalFile = Fails JournalFile ⊎ (((error : ReopenError) × (error ≢ reopen_error.OutOfMemory) × IsRefused kept s error) ⊎ BeginsNot)

@@ -3,7 +3,7 @@
 ghost use Rattle.std.specs.Prelude.{◌≡◌, ◌≢◌, ℕ, List, Option, MatchResult, true};
 ghost use Rattle.td_devices.specs.Views.{output_of};
 ghost use Rattle.td_journal.specs.Reopening.{IsNew};
-ghost use Rattle.td_journal.specs.Stores.{GoesOn, GoesOnNot, IsCutTo, IsGoneOnWith, KeepsNot, OpensNot};
+ghost use Rattle.td_journal.specs.Stores.{GoesOn, GoesOnNot, IsCutTo, IsGoneOnWith, KeepsNot};
 ghost use Rattle.td_journal.specs.declared.reopening.ReopenError.TheVariants as reopen_error;
 ghost use Rattle.td_journal.specs.declared.stores.StoreError.TheVariants as store_error;
 
@@ -34,23 +34,24 @@ pub trait Journals {
     /// What the journal of a name has, where that is known.
     ghost kept: { Self → List ℕ → Option (List ℕ) };
 
-    /// A journal could not be opened or cut. Only these calls tell this of any journals, so what a caller tells by it
-    /// says that one of them failed.
-    ghost fails: { Self → Type 0 };
+    /// A journal could not be opened or cut, for this cause. Only these calls tell this of any journals, so what a
+    /// caller tells by it says that one of them did.
+    ghost fails: { Self → StoreError → Type 0 };
 
     /// Opens the journal of this name, which has nothing where it is new. Nobody else opens it until it is let go.
     fn open(&self, alloc: Global, name: &str) -> Result<Self::Journal, StoreError>
-        ensures kept { MatchResult result (λ j. Self.Journal.left j ≡ kept self.now name.now) (λ e. OpensNot (fails self.now) e) }
+        ensures kept { MatchResult result (λ j. Self.Journal.left j ≡ kept self.now name.now) (λ e. fails self.now e) }
         ensures all { MatchResult result (λ j. Self.Journal.beside j ≡ kept self.now name.now) (λ _. Unit {0}) };
 
     /// Keeps so many bytes of the journal and drops those behind them: what is written then stands behind these.
     fn cut(&self, journal: Self::Journal, whole: u64) -> Result<Self::Writer, Failed>
-        ensures { MatchResult result (λ w. IsCutTo whole (Self.Journal.beside journal) (Self.Writer.held w)) (λ _. fails self.now) };
+        ensures { MatchResult result (λ w. IsCutTo whole (Self.Journal.beside journal) (Self.Writer.held w)) (λ _. fails self.now store_error.JournalFile) };
 }
 
 // Why the site does not go on, where it did not come back.
 fn not_reopened(error: &ReopenError) -> StoreError
-    ensures { result ≡ store_error.JournalFile → error.now ≢ reopen_error.OutOfMemory }
+    ensures wanting { result ≡ store_error.OutOfMemory → error.now ≡ reopen_error.OutOfMemory }
+    ensures refused { result ≡ store_error.JournalFile → error.now ≢ reopen_error.OutOfMemory }
 {
     match error {
         ReopenError::OutOfMemory => StoreError::OutOfMemory,

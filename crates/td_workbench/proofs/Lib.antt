@@ -3,3 +3,4 @@ pub mod Serving
 pub mod Answering
 pub mod Scripting
 pub mod Starting
+pub mod Journaling

@@ -1,6 +1,6 @@
 -- The sites of a script, and the program behind it.
 use Rattle.std.proofs.Common.{◌≡◌, ◌⊎◌, ◌≤◌, inl, inr, ℕ, zero, suc, ◌+◌, ◌-◌, Bool, true, false, List, [], ◌∷◌, ◌++◌, length, Option, Result, Ok, Err, refl, sym, ap, ◌∙◌, subst, append-nil, arith, length-append, map, IfOk, MatchResult, String, string_bytes}
-use Rattle.std.proofs.lemmas.Bool.{false≢true, true≢false, false_from_ne_true}
+use Rattle.std.proofs.lemmas.Bool.{false≢true, true≢false, false_from_ne_true, le-leb}
 use Rattle.std.proofs.lemmas.Str.{IsUtf8-from_is_utf8, is_utf8-from_IsUtf8}
 use Rattle.std.specs.List.{AllByRecursion}
 use Rattle.std.specs.Str.{is_utf8, IsUtf8}
@@ -14,13 +14,15 @@ use Rattle.td_story.specs.Scripts.{Opens}
 use Rattle.td_story.specs.declared.error.ScriptError.{ScriptError}
 use Rattle.td_story.specs.declared.error.ScriptError.TheVariants.{Syntax, IllTyped, OpeningRaised, OpeningBroken, OutOfMemory}
 use Rattle.td_story.specs.NewSites.{opened}
-use Rattle.td_story.specs.Seen.{Seen}
+use Rattle.td_story.specs.Databases.{DatabaseData}
+use Rattle.td_story.specs.Seen.{Seen, is_limit}
+use Rattle.td_journal.specs.Reopening.{IsNew}
 use Rattle.td_answers.specs.Sites.{Sites, AreOfScript}
 use Rattle.td_workbench.specs.Streams.{Reads, reads_left, most_reads, WritesAll}
 use Rattle.td_workbench.specs.Runs.{Ends, RunsOut}
 use Rattle.td_workbench.specs.Scripts.{IsAccepted, IsRefused, Says, TellsFault, new_sites, ready, script_fault}
-use Rattle.td_workbench.specs.Programs.{Answers, ProgramEnds}
-use Rattle.td_workbench.specs.ForProofs.Opening.{BehindEnds, OpensAll, MayTell, PutsFault, TellsMade, TellsRefusal}
+use Rattle.td_workbench.specs.Programs.{Answers, AreOpen, EndsBy, InRange, Stops}
+use Rattle.td_workbench.specs.ForProofs.Opening.{AreSeen, BehindEnds, OpensAll, MayTell, PutsFault, ReadyBehind, ReadyEnds, TellsMade, TellsRefusal}
 use Rattle.td_workbench.specs.ForProofs.Reading.{HasScript}
 use Rattle.td_workbench.specs.ForProofs.Serving.{Serves}
 use Rattle.td_workbench.specs.declared.opening.Options.{Options}
@@ -42,21 +44,30 @@ pub one_script : (script : List ℕ) (limit first n : ℕ) → AllByRecursion (�
 one_script script limit first zero = tt
 one_script script limit first (suc n) = (refl, one_script script limit (suc first) n)
 
--- and open
-pub all_new_open : (script : List ℕ) (limit first n : ℕ) → AllByRecursion (λ s. s.live ≡ true) (new_sites script limit first n)
-all_new_open script limit first zero = tt
-all_new_open script limit first (suc n) = (refl, all_new_open script limit (suc first) n)
+-- the sites of a script are new
+pub all_new : (script : List ℕ) (limit first n : ℕ) → 1 ≤ first → is_limit limit ≡ true → (d : DatabaseData) → Opens script (Ok d) → AllByRecursion IsNew (new_sites script limit first n)
+all_new script limit first zero some fits d opens = tt
+all_new script limit first (suc n) some fits d opens =
+    let more : 1 ≤ suc first = omega arith in
+    ((((λ (none : first ≡ 0). omega (arith, some, none)), fits), d, opens, refl), all_new script limit (suc first) n more fits d opens)
 
-all_open : {R : Type 0} (seen : R → Seen) → ((s : R) → (seen s).live ≡ true) → (rs : List R) → AllByRecursion (λ s. s.live ≡ true) (map seen rs)
+-- and open
+pub all_open : {R : Type 0} (seen : R → Seen) → ((s : R) → (seen s).live ≡ true) → (rs : List R) → AllByRecursion (λ s. s.live ≡ true) (map seen rs)
 all_open seen stays [] = tt
 all_open seen stays (s ∷ rs) = (stays s, all_open seen stays rs)
 
+pub seen_open : {R : Type 0} (seen : R → Seen) → ((s : R) → (seen s).live ≡ true) → (ss : Sites) → AreSeen seen ss → AreOpen ss
+seen_open seen stays ss (rs, is) = subst AreOpen (sym is) (all_open seen stays rs)
+
 -- the lines behind the script were run
-pub behind_ran : {R : Type 0} (seen : R → Seen) (stays : (s : R) → (seen s).live ≡ true) (is_last : Bool) (c : CatalogueData) (old ss new : List R) (reads : ℕ) (from left : Input) (w after : Output) (r : Result (Unit {0}) Ended)
-    → is_last ≡ false → ss ≡ old → Serves c (map seen ss) reads from w r (map seen new) left after → BehindEnds is_last c (map seen old) reads from w r left after
-behind_ran seen stays true c old ss new reads from left w after r other same serves = absurd (true≢false other)
-behind_ran seen stays false c old ss new reads from left w after r other same serves =
-    (map seen new, all_open seen stays new, subst (λ xs. Serves c (map seen xs) reads from w r (map seen new) left after) same serves)
+pub behind_ran : {R : Type 0} (seen : R → Seen) (is_last : Bool) (c : CatalogueData) (old ss new : List R) (reads : ℕ) (from left : Input) (w after : Output) (r : Result (Unit {0}) Ended)
+    → is_last ≡ false → ss ≡ old → Serves c (map seen ss) reads from w r (map seen new) left after → BehindEnds (AreSeen seen) is_last c (map seen old) reads from w r left after
+behind_ran seen true c old ss new reads from left w after r other same serves = absurd (true≢false other)
+behind_ran seen false c old ss new reads from left w after r other same serves =
+    (map seen new, (new, refl), subst (λ xs. Serves c (map seen xs) reads from w r (map seen new) left after) same serves)
+
+pub limits : (options : Options) → InRange options → is_limit options.limit ≡ true
+limits options range = rw (le-leb 1 options.limit range.some_limit) (rw (le-leb options.limit 100000 range.low_limit) refl)
 
 -- ---- a script that is judged
 
@@ -78,6 +89,12 @@ module _ {O : Type 0} (sites : O → Sites) (catalogue : O → CatalogueData) (t
   judged script text (Err e) same utf8 short opens =
       subst (λ (t : List ℕ). IsRefused t e) same (refused_by script e (is_utf8-from_IsUtf8 script utf8) (subst (λ (t : List ℕ). length t ≤ 65536) (sym same) short) opens)
 
+  pub new_of : (script : List ℕ) (r : Result O ScriptError) → 1 ≤ options.first → is_limit options.limit ≡ true
+      → MatchResult r (λ o. OpensAll options script (sites o) × AreOfScript (catalogue o) (sites o) × (told o ≡ ready options.sites)) (λ e. Opens script (Err e))
+      → IfOk r (λ o. AllByRecursion IsNew (sites o))
+  new_of script (Ok o) some fits ((d, opens, are), of, tells) = subst (λ (ss : Sites). AllByRecursion IsNew ss) (sym are) (all_new script options.limit options.first options.sites some fits d opens)
+  new_of script (Err e) some fits opens = tt
+
   pub opened_of : (script : List ℕ) (r : Result O ScriptError)
       → MatchResult r (λ o. OpensAll options script (sites o) × AreOfScript (catalogue o) (sites o) × (told o ≡ ready options.sites)) (λ e. Opens script (Err e))
       → IfOk r (λ o. AreOfScript (catalogue o) (sites o))
@@ -95,12 +112,13 @@ pub told_made : (e : ScriptError) (t : Result (String Global) AllocError) (r : R
 told_made e (Ok text) r w after is puts = (e, inl refl, subst (λ (t : List ℕ). PutsFault t r w after) is puts)
 told_made e (Err x) r w after is puts = (OutOfMemory, inr refl, puts)
 
-pub fault_told : (options : Options) (bytes text : List ℕ) (from left : Input) (w after : Output) (r : Result Bool Ended) → Reads bytes from left → TellsFault bytes left.left text → PutsFault text r w after → ProgramEnds options from w r left after
-fault_told options bytes text from left w after (Ok true) read tells puts = absurd puts
-fault_told options bytes text from left w after (Ok false) read tells puts = (bytes, read, text, tells, puts)
-fault_told options bytes text from left w after (Err ended.WriteFault) read tells puts = inr (bytes, read, text, inl tells, puts)
-fault_told options bytes text from left w after (Err ended.ReadFault) read tells puts = absurd puts
-fault_told options bytes text from left w after (Err ended.OutOfMemory) read tells puts = absurd puts
+module _ (Begin : Sites → Sites → Type 0) (Stay : Sites → Type 0) (options : Options) where
+  pub fault_told : (bytes text : List ℕ) (from left : Input) (w after : Output) (r : Result Bool Ended) → Reads bytes from left → TellsFault bytes left.left text → PutsFault text r w after → EndsBy Begin Stay options from w r left after
+  fault_told bytes text from left w after (Ok true) read tells puts = absurd puts
+  fault_told bytes text from left w after (Ok false) read tells puts = (bytes, read, text, tells, puts)
+  fault_told bytes text from left w after (Err ended.WriteFault) read tells puts = inr (bytes, read, text, inl tells, puts)
+  fault_told bytes text from left w after (Err ended.ReadFault) read tells puts = absurd puts
+  fault_told bytes text from left w after (Err ended.OutOfMemory) read tells puts = absurd puts
 
 -- a refusal for which there may be no memory is one of a text that is short
 may_refuse : (script : List ℕ) (e told : ScriptError) → IsRefused script e → MayTell e told → IsRefused script told
@@ -112,42 +130,66 @@ may_refuse script (OpeningRaised x) told (utf8, (c, of, raises)) (inr tells) = s
 may_refuse script (OpeningBroken b) told is (inl tells) = subst (λ (x : ScriptError). IsRefused script x) (sym tells) is
 may_refuse script (OpeningBroken b) told (utf8, (d, t, o, opens, is)) (inr tells) = subst (λ (x : ScriptError). IsRefused script x) (sym tells) (utf8, opens.script.reads.short)
 
-module _ (options : Options) (now : ℕ) (from mid : Input) (kept : Option (List ℕ)) (is_last : Bool) (has : HasScript most_reads now from mid kept is_last) where
+module _ (now : ℕ) (from mid : Input) (kept : Option (List ℕ)) (is_last : Bool) (has : HasScript most_reads now from mid kept is_last) where
   -- nothing behind the script was read
-  says_alone : Says has.bytes has.text []
+  pub says_alone : Says has.bytes has.text []
   says_alone = subst (λ (bs : List ℕ). Says bs has.text []) (append-nil has.bytes) (has.leads [] (λ last. refl))
 
-  pub refused_told : (e : ScriptError) (r : Result Bool Ended) (w after : Output) → IsRefused has.text e → TellsRefusal e r w after → ProgramEnds options from w r mid after
-  refused_told e r w after is (told, may, puts) =
-      fault_told options has.bytes (script_fault told) from mid w after r has.read (inr (inl (has.text, told, says_alone, may_refuse has.text e told is may, refl))) puts
+  module _ (Begin : Sites → Sites → Type 0) (Stay : Sites → Type 0) (options : Options) where
+    pub refused_told : (e : ScriptError) (r : Result Bool Ended) (w after : Output) → IsRefused has.text e → TellsRefusal e r w after → EndsBy Begin Stay options from w r mid after
+    refused_told e r w after is (told, may, puts) =
+        fault_told Begin Stay options has.bytes (script_fault told) from mid w after r has.read (inr (inl (has.text, told, says_alone, may_refuse has.text e told is may, refl))) puts
 
-  pub ready_untold : (sites : Sites) (text : List ℕ) (w after : Output) → IsAccepted options has.text sites → text ≡ ready options.sites → WritesFront text w after → ProgramEnds options from w (Err ended.WriteFault) mid after
-  ready_untold sites text w after accepted is front = inr (has.bytes, has.read, text, inr (has.text, sites, says_alone, accepted, is), front)
+    ready_untold : (sites : Sites) (text : List ℕ) (left : Input) (w after : Output) (e : Ended) → IsAccepted options has.text sites → text ≡ ready options.sites → e ≡ ended.WriteFault → left ≡ mid → WritesFront text w after
+        → Stops options from w e left after
+    ready_untold sites text left w after e accepted is fault unread front =
+        subst (λ (x : Ended). Stops options from w x left after) (sym fault)
+        (subst (λ (x : Input). Stops options from w ended.WriteFault x after) (sym unread) (has.bytes, has.read, text, inr (has.text, sites, says_alone, accepted, is), front))
 
-pub answers_behind : (options : Options) (now : ℕ) (from mid left : Input) (kept : Option (List ℕ)) (is_last : Bool) (w told after : Output) (c : CatalogueData) (old : Sites) (r : Result (Unit {0}) Ended)
-    → (has : HasScript most_reads now from mid kept is_last) → IsAccepted options has.text old → AreOfScript c old → WritesAll (ready options.sites) w told → BehindEnds is_last c old now mid told r left after → Answers options from w r left after
-answers_behind options now from mid left kept true w told after c old r has accepted of wrote (is, unread, unwritten) =
-    let over : RunsOut c old [] mid.left [] old = record { at_end = has.at_end refl; go_on = tt; printed = (refl, refl) } in
-    let ends : Ends c old [] (reads_left has.bytes) has.bytes from told (Ok tt) old mid told = (has.read, [], inr over, writes_nothing told) in
-    let says : Says has.bytes has.text [] = subst (λ (bs : List ℕ). Says bs has.text []) (append-nil has.bytes) (has.leads [] (λ last. refl)) in
-    let answers : Answers options from w (Ok tt) mid told = record { bytes = has.bytes; script = has.text; raws = []; says = says; old = old; accepted = accepted; catalogue = c; of_script = of; told = told; ready_told = wrote; new = old; all_open = subst (λ (ss : Sites). AllByRecursion (λ s. s.live ≡ true) ss) (sym accepted.sites_are) (all_new_open has.text options.limit options.first options.sites); ends = ends } in
-    subst (λ (x : Result (Unit {0}) Ended). Answers options from w x left after) (sym is) (subst (λ (x : Input). Answers options from w (Ok tt) x after) (sym unread) (subst (λ (x : Output). Answers options from w (Ok tt) mid x) (sym unwritten) answers))
-answers_behind options now from mid left kept false w told after c old r has accepted of wrote (new, all_open, serves) =
-    let more : List ℕ = serves.bytes in
-    record {
-      bytes = has.bytes ++ more;
-      script = has.text;
-      raws = raw_lines more;
-      says = has.leads more (λ last. absurd (false≢true last));
-      old = old;
-      accepted = accepted;
-      catalogue = c;
-      of_script = of;
-      told = told;
-      ready_told = wrote;
-      new = new;
-      all_open = all_open;
-      ends = ends_spare c old (raw_lines more) (now - length more) (reads_left (has.bytes ++ more)) (has.bytes ++ more) from left told after r new
-          (λ none. omega (arith, length-append has.bytes more, has.spent refl, none))
-          (ends_behind c old [] [] old (served_none c old) (raw_lines more) (now - length more) has.bytes more from mid left told told after r new has.read (writes_nothing told) serves.ends);
-    }
+-- ---- the lines behind an accepted script, over sites of some kind
+
+module _ (Begin : Sites → Sites → Type 0) (Stay Kind : Sites → Type 0) (stays : (ss : Sites) → Kind ss → Stay ss) (options : Options) where
+  answers_behind : (now : ℕ) (from mid left : Input) (kept : Option (List ℕ)) (is_last : Bool) (w told after : Output) (c : CatalogueData) (opens old : Sites) (r : Result (Unit {0}) Ended)
+      → (has : HasScript most_reads now from mid kept is_last) → IsAccepted options has.text opens → Begin opens old → Kind old → AreOfScript c old → WritesAll (ready options.sites) w told
+      → BehindEnds Kind is_last c old now mid told r left after → Answers Begin Stay options from w r left after
+  answers_behind now from mid left kept true w told after c opens old r has accepted begin kind of wrote (is, unread, unwritten) =
+      let over : RunsOut c old [] mid.left [] old = record { at_end = has.at_end refl; go_on = tt; printed = (refl, refl) } in
+      let ends : Ends c old [] (reads_left has.bytes) has.bytes from told (Ok tt) old mid told = (has.read, [], inr over, writes_nothing told) in
+      let answers : Answers Begin Stay options from w (Ok tt) mid told = record { bytes = has.bytes; script = has.text; raws = []; says = says_alone now from mid kept true has; opened = opens; accepted = accepted; old = old; begin = begin; catalogue = c; of_script = of; told = told; ready_told = wrote; new = old; stay = stays old kind; ends = ends } in
+      subst (λ (x : Result (Unit {0}) Ended). Answers Begin Stay options from w x left after) (sym is) (subst (λ (x : Input). Answers Begin Stay options from w (Ok tt) x after) (sym unread) (subst (λ (x : Output). Answers Begin Stay options from w (Ok tt) mid x) (sym unwritten) answers))
+  answers_behind now from mid left kept false w told after c opens old r has accepted begin kind of wrote (new, more_kind, serves) =
+      let more : List ℕ = serves.bytes in
+      record {
+        bytes = has.bytes ++ more;
+        script = has.text;
+        raws = raw_lines more;
+        says = has.leads more (λ last. absurd (false≢true last));
+        opened = opens;
+        accepted = accepted;
+        old = old;
+        begin = begin;
+        catalogue = c;
+        of_script = of;
+        told = told;
+        ready_told = wrote;
+        new = new;
+        stay = stays new more_kind;
+        ends = ends_spare c old (raw_lines more) (now - length more) (reads_left (has.bytes ++ more)) (has.bytes ++ more) from left told after r new
+            (λ none. omega (arith, length-append has.bytes more, has.spent refl, none))
+            (ends_behind c old [] [] old (served_none c old) (raw_lines more) (now - length more) has.bytes more from mid left told told after r new has.read (writes_nothing told) serves.ends);
+      }
+
+  ready_behind : (now : ℕ) (from mid left : Input) (kept : Option (List ℕ)) (is_last : Bool) (w after : Output) (text : List ℕ) (c : CatalogueData) (opens old : Sites) (r : Result (Unit {0}) Ended)
+      → (has : HasScript most_reads now from mid kept is_last) → IsAccepted options has.text opens → Begin opens old → Kind old → AreOfScript c old → text ≡ ready options.sites
+      → ReadyBehind Kind is_last text c old now mid w r left after → Answers Begin Stay options from w r left after
+  ready_behind now from mid left kept is_last w after text c opens old r has accepted begin kind of is (told, wrote, behind) =
+      answers_behind now from mid left kept is_last w told after c opens old r has accepted begin kind of (subst (λ (t : List ℕ). WritesAll t w told) is wrote) behind
+
+  pub ready_ends : (now : ℕ) (from mid left : Input) (kept : Option (List ℕ)) (is_last : Bool) (w after : Output) (text : List ℕ) (c : CatalogueData) (opens old : Sites) (r : Result Bool Ended)
+      → (has : HasScript most_reads now from mid kept is_last) → IsAccepted options has.text opens → Begin opens old → Kind old → AreOfScript c old → text ≡ ready options.sites
+      → ReadyEnds Kind is_last text c old now mid w r left after → EndsBy Begin Stay options from w r left after
+  ready_ends now from mid left kept is_last w after text c opens old (Ok true) has accepted begin kind of is behind = ready_behind now from mid left kept is_last w after text c opens old (Ok tt) has accepted begin kind of is behind
+  ready_ends now from mid left kept is_last w after text c opens old (Ok false) has accepted begin kind of is behind = absurd behind
+  ready_ends now from mid left kept is_last w after text c opens old (Err e) has accepted begin kind of is (inl behind) = inl (ready_behind now from mid left kept is_last w after text c opens old (Err e) has accepted begin kind of is behind)
+  ready_ends now from mid left kept is_last w after text c opens old (Err e) has accepted begin kind of is (inr (fault, unread, front)) =
+      inr (ready_untold now from mid kept is_last has Begin Stay options opens text left w after e accepted is fault unread front)

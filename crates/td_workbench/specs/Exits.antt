@@ -2,6 +2,7 @@
 use Rattle.std.specs.Prelude.{◌≡◌, ◌⊎◌, ℕ, Bool, true, false, List, ◌++◌, codes, string_bytes, Result, Ok, Err}
 use Rattle.td_devices.specs.Views.{Input, Output}
 use Rattle.td_listings.specs.Writings.{WritesFront}
+use Rattle.td_journal.specs.declared.stores.StoreError.{StoreError}
 use Rattle.td_workbench.specs.Journals.{JournaledEnds, Kept}
 use Rattle.td_workbench.specs.Programs.{InRange, ProgramEnds}
 use Rattle.td_workbench.specs.Streams.{WritesAll}
@@ -46,7 +47,7 @@ TellsStopped (Err (Run e)) status f told = (status ≡ status_of (Err e)) × (to
 TellsStopped (Err (JournalFile name)) status f told = TellsJournal (string_bytes name) status f told
 
 -- the words gave options and where journals stand, and the program was run by them
-pub record RunsJournaled (kept : Kept) (Fails : Type 0) (status : ℕ) (old new : Standard) : Type 0 where
+pub record RunsJournaled (kept : Kept) (Fails : StoreError → Type 0) (status : ℕ) (old new : Standard) : Type 0 where
   pub options : Options
   pub in_range : InRange options
   pub prefix : List ℕ
@@ -75,5 +76,5 @@ abbrev pub RunsNot : ℕ → Standard → Standard → Type 0
 RunsNot status old new = TellsWords status old.output old.faults new.output new.faults × (new.input ≡ old.input)
 
 -- of journals that had this, where it is known, and one of which may have failed
-abbrev pub Exits : Kept → Type 0 → ℕ → Standard → Standard → Type 0
+abbrev pub Exits : Kept → (StoreError → Type 0) → ℕ → Standard → Standard → Type 0
 Exits kept Fails status old new = RunsBy status old new ⊎ (RunsJournaled kept Fails status old new ⊎ RunsNot status old new)

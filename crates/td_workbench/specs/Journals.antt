@@ -2,6 +2,7 @@
 use Rattle.std.specs.Prelude.{◌≡◌, ◌⊎◌, ℕ, Bool, List, [], ◌∷◌, ◌++◌, codes, decimal, Option, Result, Ok, Err, string_bytes}
 use Rattle.std.specs.List.{Contains}
 use Rattle.td_devices.specs.Views.{Input, Output}
+use Rattle.td_journal.specs.declared.stores.StoreError.{StoreError}
 use Rattle.td_story.specs.Seen.{Seen}
 use Rattle.td_journal.specs.Stores.{GoesOn, KeepsNot}
 use Rattle.td_journal.specs.declared.stores.StoreError.TheVariants as store_error
@@ -35,18 +36,18 @@ ComeBack kept prefix (s ∷ ss) [] = ⊥
 ComeBack kept prefix (s ∷ ss) (t ∷ ts) = ComesBack kept prefix s t × ComeBack kept prefix ss ts
 
 -- Why a site does not go on with its journal: for want of memory, or since its journal is refused.
-abbrev pub KeepsOneNot : Kept → Type 0 → List ℕ → Seen → Stopped → Type 0
+abbrev pub KeepsOneNot : Kept → (StoreError → Type 0) → List ℕ → Seen → Stopped → Type 0
 KeepsOneNot kept Fails prefix s (Run e) = e ≡ OutOfMemory
 KeepsOneNot kept Fails prefix s (JournalFile name) =
     (string_bytes name ≡ journal_name prefix s.site) × KeepsNot Fails (kept (journal_name prefix s.site)) s store_error.JournalFile
 
 -- why one of them does not, or that there was no memory for all
-abbrev pub KeepsSomeNot : Kept → Type 0 → List ℕ → Sites → Stopped → Type 0
+abbrev pub KeepsSomeNot : Kept → (StoreError → Type 0) → List ℕ → Sites → Stopped → Type 0
 KeepsSomeNot kept Fails prefix sites (Run e) = e ≡ OutOfMemory
 KeepsSomeNot kept Fails prefix sites (JournalFile name) = (s : Seen) × Contains sites s × KeepsOneNot kept Fails prefix s (JournalFile name)
 
 -- the script was accepted, but not all of its sites came back; nothing was told, and nothing behind the script was read
-pub record ComeBackNot (kept : Kept) (Fails : Type 0) (prefix : List ℕ) (options : Options) (from : Input) (w : Output) (e : Stopped) (left : Input) (after : Output) : Type 0 where
+pub record ComeBackNot (kept : Kept) (Fails : StoreError → Type 0) (prefix : List ℕ) (options : Options) (from : Input) (w : Output) (e : Stopped) (left : Input) (after : Output) : Type 0 where
   pub bytes : List ℕ
   pub script : List ℕ
   pub read : Reads bytes from left
@@ -60,7 +61,7 @@ pub record ComeBackNot (kept : Kept) (Fails : Type 0) (prefix : List ℕ) (optio
 abbrev pub AnyWay : Sites → Type 0
 AnyWay sites = Unit {0}
 
-abbrev pub JournaledEnds : Kept → Type 0 → List ℕ → Options → Input → Output → Result Bool Stopped → Input → Output → Type 0
+abbrev pub JournaledEnds : Kept → (StoreError → Type 0) → List ℕ → Options → Input → Output → Result Bool Stopped → Input → Output → Type 0
 JournaledEnds kept Fails prefix options from w (Ok accepted) left after = EndsBy (ComeBack kept prefix) AnyWay options from w (Ok accepted) left after
 JournaledEnds kept Fails prefix options from w (Err (Run e)) left after =
     EndsBy (ComeBack kept prefix) AnyWay options from w (Err e) left after ⊎ ComeBackNot kept Fails prefix options from w (Run e) left after

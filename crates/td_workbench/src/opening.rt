@@ -1,6 +1,8 @@
 //! The sites of a script.
 
 ghost use Rattle.std.specs.Prelude.{◌≡◌, ◌≤◌, List, ℕ, Err, IfOk, MatchResult, map, option_map, string_bytes, true};
+ghost use Rattle.std.specs.List.{AllByRecursion};
+ghost use Rattle.td_journal.specs.Reopening.{IsNew};
 ghost use Rattle.td_answers.specs.Sites.{AreOfScript};
 ghost use Rattle.td_workbench.specs.ForProofs.Opening.{OpensAll};
 ghost use Rattle.td_workbench.specs.ForProofs.Reading.{IsKeptScript};
@@ -126,6 +128,7 @@ pub fn open<R: Opens + Drop>(
     ensures judged { (text : List ℕ) → IsKeptScript text (option_map (λ v. v.items) script.now.bytes)
         → MatchResult result (λ o. IsAccepted options.now text (map R.seen o.sites.items) × AreOfScript o.catalogue (map R.seen o.sites.items) × (string_bytes o.ready ≡ ready options.now.sites)) (λ e. IsRefused text e) }
     ensures catalogue { IfOk result (λ o. AreOfScript o.catalogue (map R.seen o.sites.items)) }
+    ensures new { IfOk result (λ o. AllByRecursion IsNew (map R.seen o.sites.items)) }
 {
     let Some(bytes) = &script.bytes else {
         return Err(ScriptError::Syntax);

@@ -1,6 +1,6 @@
 //! Words of the command line, and exit statuses.
 
-use crate::fakes::{Full, SlowReader, SlowWriter};
+use crate::fakes::{Full, Shelf, SlowReader, SlowWriter};
 use std::alloc::{AllocError, Global};
 use std::test::Fail;
 use td_answers::NoLinks;
@@ -8,6 +8,15 @@ use td_devices::Device;
 use td_replay::Site;
 use td_story::Meter;
 use td_workbench::program;
+
+// The journal of site 7 and the script of 45 bytes, of a header of 56 bytes and one statement of 26, with a part of
+// another frame behind it.
+const SHELF: Shelf = Shelf {
+    name: "shelf/7.tdj",
+    bytes: b"JTDB\x01\x00\x07\x00\x00\x00\x2dVAR R BASE RELATION { A INTEGER } KEY { A };\n\
+E\x00\x07\x00\x00\x00\x01\x00\x00\x00\x00\x00\x00\x00\x05\x00\x09DELETE R;E\x00\x07",
+    whole: 82,
+};
 
 /// What a call of the program ended with: its status, and what it wrote to its output and to its faults.
 #[derive(Drop)]
@@ -30,9 +39,10 @@ fn called(rt: &HostRuntime, line: &str, input: &str) -> Result<Exit, AllocError>
     let mut meter = Meter::new(rt);
     let mut output = Vec::new(rt.alloc());
     let mut faults = Vec::new(rt.alloc());
-    let status = program::<Site, _, _, _, _>(
+    let status = program::<Site, _, _, _, _, _>(
         rt.alloc(),
         &words,
+        &SHELF,
         &mut NoLinks,
         &mut meter,
         &mut Device::new(input.as_bytes()),
@@ -101,7 +111,8 @@ fn words_that_are_not_understood(rt: HostRuntime) -> Result<(), Fail> {
         "td_console --first 65521",
         "td_console --limit 0",
         "td_console --limit 100001",
-        "td_console --journal x",
+        "td_console --journal",
+        "td_console --journal x --journal x",
         "td_console script.td",
         "td_console --sites 1 --sites 2",
     ] {
@@ -109,6 +120,57 @@ fn words_that_are_not_understood(rt: HostRuntime) -> Result<(), Fail> {
         assert!(rt;
             found.status == 2 && found.output.is_empty() && !found.faults.is_empty(),
             "{line}"
+        );
+    }
+    Ok(())
+}
+
+#[test]
+fn journals(rt: HostRuntime) -> Result<(), Fail> {
+    const SCRIPT: &str = "VAR R BASE RELATION { A INTEGER } KEY { A };\n.begin\n.log 7\n7: DELETE R;\n";
+    for (words, input, status, want, told) in [
+        (
+            "td_console --sites 1 --first 7 --journal shelf/",
+            SCRIPT,
+            0,
+            "ready 1\n5.7 1 done: DELETE R;\n6.7 done\n",
+            "",
+        ),
+        (
+            "td_console --sites 1 --first 7 --journal shelf/",
+            "VAR R BASE RELATION { B INTEGER } KEY { B };\n.begin\n.log 7\n",
+            3,
+            "",
+            "fault journal shelf/7.tdj\n",
+        ),
+        (
+            "td_console --sites 2 --first 7 --journal shelf/",
+            SCRIPT,
+            3,
+            "",
+            "fault journal shelf/8.tdj\n",
+        ),
+        (
+            "td_console --journal shelf/",
+            "VAR\n.begin\n",
+            1,
+            "fault script syntax\n",
+            "",
+        ),
+        (
+            "td_console --journal=shelf/",
+            ".begin\n",
+            3,
+            "",
+            "fault journal shelf/1.tdj\n",
+        ),
+    ] {
+        let found = called(&rt, words, input)?;
+        assert!(rt;
+            found.status == status
+                && found.output.as_slice() == want.as_bytes()
+                && found.faults.as_slice() == told.as_bytes(),
+            "{words}"
         );
     }
     Ok(())
@@ -130,6 +192,8 @@ fn help_and_version(rt: HostRuntime) -> Result<(), Fail> {
         "1 to 65520",
         "--limit",
         "1 to 100000",
+        "--journal",
+        "PREFIX",
         ".begin",
         "N: TEXT",
         "N? TEXT",
@@ -153,9 +217,10 @@ fn broken(rt: &HostRuntime) -> Result<(u8, u8), AllocError> {
         fails: true,
         is_interrupted: false,
     });
-    let unread = program::<Site, _, _, _, _>(
+    let unread = program::<Site, _, _, _, _, _>(
         rt.alloc(),
         &words,
+        &SHELF,
         &mut NoLinks,
         &mut meter,
         &mut failing,
@@ -169,9 +234,10 @@ fn broken(rt: &HostRuntime) -> Result<(u8, u8), AllocError> {
         flushes: 0,
         most_flushes: 100,
     });
-    let unwritten = program::<Site, _, _, _, _>(
+    let unwritten = program::<Site, _, _, _, _, _>(
         rt.alloc(),
         &words,
+        &SHELF,
         &mut NoLinks,
         &mut meter,
         &mut Device::new(&b".begin\n"[..]),

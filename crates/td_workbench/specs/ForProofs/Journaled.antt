@@ -1,6 +1,7 @@
 -- What a run over journals comes to, behind its script.
 use Rattle.std.specs.Prelude.{ℕ, Bool, List, option_map, Result, Ok, Err}
 use Rattle.td_devices.specs.Views.{Input, Output}
+use Rattle.td_journal.specs.declared.stores.StoreError.{StoreError}
 use Rattle.td_workbench.specs.Journals.{JournaledEnds, Kept}
 use Rattle.td_workbench.specs.Streams.{most_reads}
 use Rattle.td_workbench.specs.ForProofs.Reading.{HasScript}
@@ -15,7 +16,7 @@ run_of (Ok accepted) = Ok accepted
 run_of (Err e) = Err (Run e)
 
 -- what the program ends in, whatever was read before
-abbrev pub StartsJournaled : Kept → Type 0 → List ℕ → Options → Script → ℕ → Input → Output → Result Bool Stopped → Input → Output → Type 0
+abbrev pub StartsJournaled : Kept → (StoreError → Type 0) → List ℕ → Options → Script → ℕ → Input → Output → Result Bool Stopped → Input → Output → Type 0
 StartsJournaled kept Fails prefix options script reads mid w r left after =
     (from : Input) → HasScript most_reads reads from mid (option_map (λ v. v.items) script.bytes) script.is_last
     → JournaledEnds kept Fails prefix options from w r left after

@@ -2,7 +2,7 @@ use Rattle.std.proofs.Common.{ℕ, Option, option_map, Vec, map, string_bytes, s
 use Rattle.std.specs.Global.{Global}
 use Rattle.std.specs.Str.{IsUtf8}
 use Rattle.td_workbench.specs.ForProofs.Reading.{IsKeptScript}
-use Rattle.td_workbench.proofs.Starting.{judged, no_text, opened_of}
+use Rattle.td_workbench.proofs.Starting.{judged, limits, new_of, no_text, opened_of}
 use Rattle.td_workbench.proofs.opening.open.Goals as goal
 
 pub returns-in-Ok-clause-judged : goal.returns-in-Ok-clause-judged
@@ -17,3 +17,7 @@ returns-in-Err-clause-judged g c = λ text kept.
 
 pub returns-in-Ok-clause-catalogue : goal.returns-in-Ok-clause-catalogue
 returns-in-Ok-clause-catalogue g c = opened_of (λ o. map g.R.Replica.seen o.sites.items) (λ o. o.catalogue) (λ o. string_bytes o.ready) c.args.options.now c.in-Ok.text.now c.open_text.result c.open_text.ensures
+
+pub returns-in-Ok-clause-new : goal.returns-in-Ok-clause-new
+returns-in-Ok-clause-new g c =
+    new_of (λ o. map g.R.Replica.seen o.sites.items) (λ o. o.catalogue) (λ o. string_bytes o.ready) c.args.options.now c.in-Ok.text.now c.open_text.result c.requires.some_first (limits c.args.options.now c.requires) c.open_text.ensures

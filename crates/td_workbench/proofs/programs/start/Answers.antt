@@ -1,23 +1,14 @@
-use Rattle.std.proofs.Common.{ℕ, List, inl, ◌∙◌, subst}
-use Rattle.std.specs.Io.KnownBytes.{Appends}
-use Rattle.td_workbench.proofs.Starting.{refused_told, ready_untold, answers_behind}
+use Rattle.std.proofs.Common.{ap, ◌∙◌, map}
+use Rattle.td_workbench.specs.ForProofs.Opening.{AreSeen}
+use Rattle.td_workbench.specs.Programs.{AreOpen, AsOpened}
+use Rattle.td_workbench.proofs.Starting.{ready_ends, refused_told, seen_open}
 use Rattle.td_workbench.proofs.programs.start.Goals as goal
 
 pub returns-in-Err : goal.returns-in-Err
 returns-in-Err g c = λ from has.
-    refused_told c.args.options.now c.args.reads.now from _ _ _ has c.in-Err.e c.refuse.result _ _ (c.in-Err.ensures.judged has.text has.is_kept) c.refuse.ensures
+    refused_told c.args.reads.now from _ _ _ has AsOpened AreOpen c.args.options.now c.in-Err.e c.refuse.result _ _ (c.in-Err.ensures.judged has.text has.is_kept) c.refuse.ensures
 
-pub returns-in-Err-put : goal.returns-in-Err-put
-returns-in-Err-put g c = λ from has.
+pub returns-in-Ok : goal.returns-in-Ok
+returns-in-Ok g c = λ from has.
     let (accepted, of, told) = c.in-Ok.ensures.judged has.text has.is_kept in
-    ready_untold c.args.options.now c.args.reads.now from _ _ _ has _ c.as_bytes.result.now _ _ accepted (c.as_bytes.ensures.value ∙ told) (c.in-Err-put.ensures.bytes, c.in-Err-put.ensures.count)
-
-pub returns-in-Ok-answer_behind : goal.returns-in-Ok-answer_behind
-returns-in-Ok-answer_behind g c = λ from has.
-    let (accepted, of, told) = c.in-Ok.ensures.judged has.text has.is_kept in
-    answers_behind c.args.options.now c.args.reads.now from _ _ _ c.args.script.now.is_last _ _ _ _ _ _ has accepted of (subst (λ (t : List ℕ). Appends (g.K.Sink.held c.args.sink.now) (g.K.Sink.held c.put.new.sink) t) (c.as_bytes.ensures.value ∙ told) c.in-Ok-put.ensures.bytes, c.in-Ok-put.ensures.count, λ _. c.in-Ok-put.ensures.flushed) c.in-Ok-answer_behind.ensures
-
-pub returns-in-Err-answer_behind : goal.returns-in-Err-answer_behind
-returns-in-Err-answer_behind g c = λ from has.
-    let (accepted, of, told) = c.in-Ok.ensures.judged has.text has.is_kept in
-    inl (answers_behind c.args.options.now c.args.reads.now from _ _ _ c.args.script.now.is_last _ _ _ _ _ _ has accepted of (subst (λ (t : List ℕ). Appends (g.K.Sink.held c.args.sink.now) (g.K.Sink.held c.put.new.sink) t) (c.as_bytes.ensures.value ∙ told) c.in-Ok-put.ensures.bytes, c.in-Ok-put.ensures.count, λ _. c.in-Ok-put.ensures.flushed) c.in-Err-answer_behind.ensures)
+    ready_ends AsOpened AreOpen (AreSeen g.R.Replica.seen) (seen_open g.R.Replica.seen g.met.R.Opens.stays_open) c.args.options.now c.args.reads.now from _ _ _ c.args.script.now.is_last _ _ _ _ _ _ c.tell_and_answer.result has accepted refl (c.in-Ok.opened.sites.items, refl) of told c.tell_and_answer.ensures
