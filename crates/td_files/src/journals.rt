@@ -6,6 +6,7 @@ use crate::file::FileJournal;
 use crate::synced::Synced;
 use std::alloc::Global;
 use std::fs::{File, OpenOptions};
+use std::path::Path;
 use std::rt::Files;
 use td_devices::{Device, Failed};
 use td_journal::{Journals, StoreError};
@@ -21,6 +22,17 @@ impl<'a, R: Files<File = File>> FileJournals<'a, R> {
     /// The files of this system.
     pub fn new(files: &'a R) -> Self {
         FileJournals { files }
+    }
+
+    // Hands the folder of a file that may be new to the disk, on file systems that can.
+    fn settle_folder(&self, name: &str) {
+        let folder = match Path::new(name).parent() {
+            Some(folder) if !folder.as_str().is_empty() => folder,
+            _ => Path::new("."),
+        };
+        if let Ok(folder) = File::open(self.files, folder) {
+            let _told = folder.sync_all();
+        }
     }
 }
 
@@ -39,10 +51,11 @@ impl<R: Files<File = File>> Journals for FileJournals<'_, R> {
             .write(true)
             .create(true)
             .open(self.files, name);
-        match opened {
-            Ok(file) => FileJournal::locked(alloc, file),
-            Err(_) => Err(StoreError::JournalFile),
-        }
+        let Ok(file) = opened else {
+            return Err(StoreError::JournalFile);
+        };
+        self.settle_folder(name);
+        FileJournal::locked(alloc, file)
     }
 
     fn cut(&self, journal: FileJournal, whole: u64) -> Result<Device<Synced>, Failed> {
