@@ -1,5 +1,5 @@
 -- What reopening tells, put together from what its parts tell.
-use Rattle.std.proofs.Common.{◌≡◌, ◌≤◌, ℕ, true, false, true≢false, List, [], ◌++◌, length, is_ok, MatchResult, Some, Result, Ok, Err, refl, sym, ap, subst, ◌∙◌, arith}
+use Rattle.std.proofs.Common.{◌≡◌, ◌≤◌, ℕ, Bool, Option, true, false, true≢false, List, [], ◌++◌, length, is_ok, MatchResult, Some, Result, Ok, Err, refl, sym, ap, subst, ◌∙◌, arith}
 use Rattle.std.proofs.lemmas.Bool.{le-leb}
 use Rattle.std.specs.Io.KnownBytes.{Consumes, IsAtEnd}
 use Rattle.std.proofs.KnownBytes.{Consumes-trans}
@@ -8,14 +8,15 @@ use Rattle.td_devices.specs.Views.{Input}
 use Rattle.td_stamps.specs.Checks.{check_of}
 use Rattle.td_stamps.specs.Sets.{union}
 use Rattle.td_stamps.specs.declared.entry.Entry.{Entry}
-use Rattle.td_story.specs.Calls.{Takes}
+use Rattle.td_story.specs.Calls.{Takes, TakesBatch}
+use Rattle.td_story.specs.declared.answer.Taken.{Taken}
 use Rattle.td_story.specs.NewSites.{OpensSite}
 use Rattle.td_story.specs.Seen.{Seen, with_entries}
 use Rattle.td_story.specs.declared.refusal.TakeError.{TakeError}
 use Rattle.td_story.specs.declared.refusal.TakeError.TheVariants as take_error
 use Rattle.td_journal.specs.Reading.{behind_header, frames_at, header_at, with_whole}
 use Rattle.td_journal.specs.Spelling.{journal}
-use Rattle.td_journal.specs.Reopening.{IsOpened, ReadsOn, RefusesAll, ReopensNot, ReopensSite}
+use Rattle.td_journal.specs.Reopening.{IsNew, IsOpened, ReadsOn, RefusesAll, ReopensNot, ReopensSite, Retakes, RetakesNot}
 use Rattle.td_journal.specs.ForProofs.{HeaderRead}
 use Rattle.td_journal.specs.ForProofs.Refilled.{Refills, RefillsNot, untaken, unread}
 use Rattle.td_journal.specs.declared.reading.Unread.{Unread}
@@ -28,6 +29,28 @@ short_script script site limit s (fit, d, opens, is) = opens.script.reads.short
 
 pub is_opened : (script : List ℕ) (site limit : ℕ) (s : Seen) → OpensSite script site limit (Ok s) → IsOpened script site limit
 is_opened script site limit s (fit, d, opens, is) = (fit, d, opens, refl)
+
+-- ---- a site that was opened
+
+pub is_new : (script : List ℕ) (site limit : ℕ) (s : Seen) → OpensSite script site limit (Ok s) → IsNew s
+is_new script site limit s (fit, d, opens, is) = subst IsNew (sym is) (fit, d, opens, refl)
+
+pub new_script : (s : Seen) → IsNew s → length s.script ≤ 65536
+new_script s new = short_script s.script s.site s.limit s new
+
+pub new_holds_nothing : (s : Seen) → IsNew s → s.entries ≡ []
+new_holds_nothing s new = ap (λ (t : Seen). t.entries) new.3
+
+pub reopened_as : {K : Type 0} (seen : K → Seen) (whole : K → ℕ) (script : List ℕ) (site limit : ℕ) (old new : Input) (s : Seen) (r : Result K ReopenError)
+    → OpensSite script site limit (Ok s)
+    → MatchResult r (λ k. Retakes s old new (seen k) (whole k)) (λ e. RetakesNot s old new e)
+    → MatchResult r (λ k. ReopensSite script site limit old new (seen k) (whole k)) (λ e. ReopensNot script site limit old new e)
+reopened_as seen whole script site limit old new s r opens taken =
+    subst (λ (t : Seen). MatchResult r (λ k. Retakes t old new (seen k) (whole k)) (λ e. RetakesNot t old new e)) opens.3 taken
+
+-- taking the entries leaves the script
+pub taken_script : (s after : Seen) (es : List Entry) (t : Taken) → TakesBatch s es t after → after.script ≡ s.script
+taken_script s after es t takes = ap (λ (x : Seen). x.script) takes.union
 
 -- ---- the frames
 
@@ -93,6 +116,12 @@ not_taken s after old new bytes es take_error.Full live open' reads all says tak
 
 nothing_fits : (limit : ℕ) → check_of [] limit [] ≡ Ok 0
 nothing_fits limit = rw (le-leb 0 limit (omega arith)) refl
+
+-- what was told of a site's own header
+pub header_as : (site : ℕ) (script : List ℕ) (s : Seen) (b : List ℕ) (r r' : Result Bool Unread) (left : Option (List ℕ)) (old new : ℕ) → site ≡ s.site → script ≡ s.script → r ≡ r'
+    → HeaderRead (header_at site script) b r left old new → HeaderRead (header_at s.site s.script) b r' left old new
+header_as site script s b r r' left old new one two is told =
+    subst (λ (t : List ℕ). HeaderRead (header_at s.site t) b r' left old new) two (subst (λ (n : ℕ). HeaderRead (header_at n script) b r' left old new) one (subst (λ (x : Result Bool Unread). HeaderRead (header_at site script) b x left old new) is told))
 
 pub cut_header : (script : List ℕ) (site limit : ℕ) (old new : Input) (s : Seen) (b : List ℕ) → OpensSite script site limit (Ok s) → Consumes old.left new.left b
     → HeaderRead (header_at site script) b (Ok false) new.left old.failures new.failures → ReopensSite script site limit old new s 0

@@ -6,5 +6,6 @@ pub mod Checked
 pub mod Kept
 pub mod Grown
 pub mod ComesBack
+pub mod Stored
 pub mod GoesOn
 pub mod Failed

@@ -1,5 +1,6 @@
 -- Words that only proofs and private functions use.
 pub mod Refilled
+pub mod Behind
 use Rattle.std.specs.Prelude.{◌≡◌, ℕ, Bool, true, false, List, ◌++◌, None, Option, Some, Result, Ok, Err}
 use Rattle.std.specs.Io.KnownBytes.{IsAtEnd}
 use Rattle.td_devices.specs.Counted.{counted}

@@ -1,5 +1,5 @@
 -- A new site that comes back from where its journal stands, and goes on with it.
-use Rattle.std.specs.Prelude.{◌≡◌, ◌≢◌, ◌⊎◌, ℕ, zero, suc, List, Option, option_map, take}
+use Rattle.std.specs.Prelude.{◌≡◌, ◌≢◌, ◌⊎◌, ℕ, zero, suc, List, Option, None, Some, take}
 use Rattle.td_devices.specs.Views.{Input, Output}
 use Rattle.td_story.specs.Seen.{Seen}
 use Rattle.td_journal.specs.Keeping.{Starts, StartsNot}
@@ -12,7 +12,9 @@ use Rattle.td_journal.specs.declared.stores.StoreError.TheVariants.{OutOfMemory,
 
 -- of the bytes that a journal has, where these are known, so many are kept
 abbrev pub IsCutTo : ℕ → Option (List ℕ) → Option (List ℕ) → Type 0
-IsCutTo whole kept held = held ≡ option_map (take whole) kept
+IsCutTo whole None held = Unit {0}
+IsCutTo whole (Some bytes) None = ⊥
+IsCutTo whole (Some bytes) (Some left) = left ≡ take whole bytes
 
 -- The writer goes on with what stands whole of a journal. Where that is nothing, the journal of the site was begun.
 abbrev pub IsGoneOnWith : ℕ → Option (List ℕ) → Seen → Output → Type 0

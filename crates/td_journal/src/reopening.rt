@@ -11,7 +11,7 @@ use crate::error::JournalError;
 use crate::reading::{Unread, bytes_of, read_frames, read_header};
 use std::alloc::Global;
 use td_devices::Source;
-use td_story::{Meter, OpenError, Opens, Replica, TakeError};
+use td_story::{Meter, OpenError, Opens, TakeError};
 
 /// Why a site is not reopened.
 #[derive(Drop)]
@@ -54,14 +54,13 @@ fn untaken(error: TakeError) -> ReopenError
 }
 
 // Reads the frames behind a header, and has a new site take what they say.
-fn refill<R: Replica + Drop, S: Source>(
+fn refill<R: Opens + Drop, S: Source>(
     alloc: Global,
     mut replica: R,
     source: &mut S,
     meter: &mut Meter,
 ) -> Result<Reopened<R>, ReopenError>
     requires short { length (R.seen replica).script ≤ 65536 }
-    requires open { (R.seen replica).live ≡ true }
     requires none { (R.seen replica).entries ≡ [] }
     ensures told { MatchResult result
         (λ r. Refills (R.seen replica) (input_of S.Source source.old) (input_of S.Source source.new)
@@ -83,7 +82,7 @@ fn refill<R: Replica + Drop, S: Source>(
 
 /// Has a new site take what its journal says: then it has all that stands whole there. It takes room for the entries,
 /// and runs each once.
-pub fn take_journal<R: Replica + Drop, S: Source>(
+pub fn take_journal<R: Opens + Drop, S: Source>(
     alloc: Global,
     replica: R,
     source: &mut S,

@@ -3,7 +3,8 @@
 ghost use Rattle.std.specs.Prelude.{◌≡◌, ◌≢◌, ℕ, List, Option, MatchResult, true};
 ghost use Rattle.td_devices.specs.Views.{output_of};
 ghost use Rattle.td_journal.specs.Reopening.{IsNew};
-ghost use Rattle.td_journal.specs.Stores.{GoesOn, GoesOnNot, IsCutTo, IsGoneOnWith, KeepsNot};
+ghost use Rattle.td_journal.specs.ForProofs.Behind.{IsBehind};
+ghost use Rattle.td_journal.specs.Stores.{BeginsNot, GoesOn, GoesOnNot, IsCutTo, IsGoneOnWith, KeepsNot};
 ghost use Rattle.td_journal.specs.declared.reopening.ReopenError.TheVariants as reopen_error;
 ghost use Rattle.td_journal.specs.declared.stores.StoreError.TheVariants as store_error;
 
@@ -11,7 +12,7 @@ use crate::keeper::Keeper;
 use crate::reopening::{ReopenError, Reopened, take_journal};
 use std::alloc::Global;
 use td_devices::{Failed, Sink, Source};
-use td_story::{Meter, Replica};
+use td_story::{Meter, Opens};
 use thiserror::Error;
 
 /// Why a site does not go on with its journal.
@@ -25,6 +26,8 @@ pub enum StoreError {
 
 /// Where journals stand, each under a name.
 pub trait Journals {
+    ghost use Rattle.td_journal.specs.declared.stores.StoreError.{StoreError};
+
     /// A journal that was opened, to be read from its beginning.
     type Journal: Source + Drop;
 
@@ -59,22 +62,17 @@ fn not_reopened(error: &ReopenError) -> StoreError
     }
 }
 
-// Goes on with the journal from which the site came back.
-fn go_on<R: Replica + Drop, J: Journals>(
-    journals: &J,
-    journal: J::Journal,
-    reopened: Reopened<R>,
-) -> Result<Keeper<R, J::Writer>, StoreError>
-    requires open { (R.seen reopened.replica).live ≡ true }
+// A keeper that goes on behind so many bytes, or begins where there are none.
+fn keeper_behind<R: Opens + Drop, W: Sink + Drop>(
+    whole: u64,
+    replica: R,
+    writer: W,
+) -> Result<Keeper<R, W>, StoreError>
     ensures { MatchResult result
-        (λ k. IsGoneOnWith reopened.whole (J.Journal.beside journal) (R.seen k.replica) (output_of J.Writer.Sink k.writer)
-        × (k.replica ≡ reopened.replica) × (k.is_open ≡ true))
-        (λ e. GoesOnNot (J.fails journals.now) e) }
+        (λ k. IsBehind whole (R.seen replica) (output_of W.Sink writer) (output_of W.Sink k.writer)
+        × ((k.replica ≡ replica) × (k.is_open ≡ true)))
+        (λ e. BeginsNot × (e ≡ store_error.JournalFile)) }
 {
-    let Reopened { replica, whole } = reopened;
-    let Ok(writer) = journals.cut(journal, whole) else {
-        return Err(StoreError::JournalFile);
-    };
     if whole > 0 {
         return Ok(Keeper::resume(replica, writer));
     }
@@ -84,9 +82,27 @@ fn go_on<R: Replica + Drop, J: Journals>(
     }
 }
 
+// Goes on with the journal from which the site came back.
+fn go_on<R: Opens + Drop, J: Journals>(
+    journals: &J,
+    journal: J::Journal,
+    reopened: Reopened<R>,
+) -> Result<Keeper<R, J::Writer>, StoreError>
+    ensures { MatchResult result
+        (λ k. IsGoneOnWith reopened.whole (J.Journal.beside journal) (R.seen k.replica) (output_of J.Writer.Sink k.writer)
+        × ((k.replica ≡ reopened.replica) × (k.is_open ≡ true)))
+        (λ e. GoesOnNot (J.fails journals.now) e) }
+{
+    let Reopened { replica, whole } = reopened;
+    match journals.cut(journal, whole) {
+        Ok(writer) => keeper_behind(whole, replica, writer),
+        Err(Failed) => Err(StoreError::JournalFile),
+    }
+}
+
 /// Opens the journal of a new site, has the site take what it says, and goes on with it: with what stands whole of it,
 /// or by beginning it where nothing does. It takes room for the entries, and runs each once.
-pub fn keep_journal<R: Replica + Drop, J: Journals>(
+pub fn keep_journal<R: Opens + Drop, J: Journals>(
     alloc: Global,
     journals: &J,
     name: &str,

@@ -20,7 +20,7 @@ use td_answers::Links;
 use td_devices::{Sink, Source};
 use td_journal::{Journals, Keeper, StoreError, keep_journal};
 use td_listings::show_number;
-use td_story::{Meter, Opens, Replica};
+use td_story::{Meter, Opens};
 
 /// Why a run over journals ended before its input did.
 #[derive(Drop)]
@@ -41,7 +41,7 @@ fn journal_name(alloc: Global, prefix: &str, site: u16) -> Result<String, AllocE
 }
 
 // The site, which has come back from its journal.
-fn keep_site<R: Replica + Drop, J: Journals>(
+fn keep_site<R: Opens + Drop, J: Journals>(
     alloc: Global,
     journals: &J,
     prefix: &str,
@@ -64,7 +64,7 @@ fn keep_site<R: Replica + Drop, J: Journals>(
 }
 
 // The sites, each of which has come back from its journal, one after the other.
-fn keep_sites<R: Replica + Drop, J: Journals>(
+fn keep_sites<R: Opens + Drop, J: Journals>(
     alloc: Global,
     journals: &J,
     prefix: &str,
@@ -91,7 +91,7 @@ fn keep_sites<R: Replica + Drop, J: Journals>(
 }
 
 // What the script opened, whose sites have come back from their journals.
-fn keep_opened<R: Replica + Drop, J: Journals>(
+fn keep_opened<R: Opens + Drop, J: Journals>(
     alloc: Global,
     journals: &J,
     prefix: &str,
