@@ -37,7 +37,10 @@ impl FileJournal {
 
     /// The file with so many of its bytes, written behind these.
     pub(crate) fn cut(self, whole: u64) -> Result<Device<Synced>, Failed> {
-        let FileJournal { mut file, reader: _ } = self;
+        let FileJournal {
+            mut file,
+            reader: _,
+        } = self;
         if file.set_len(whole).is_err() || file.seek(SeekFrom::Start(whole)).is_err() {
             return Err(Failed);
         }

@@ -1,18 +1,17 @@
 -- Sites that come back from their journals, and the program behind them.
-use Rattle.std.proofs.Common.{◌≡◌, ◌⊎◌, ◌≤◌, inl, inr, ℕ, zero, suc, Bool, true, false, List, [], ◌∷◌, ◌++◌, Option, Result, Ok, Err, refl, sym, ap, subst, arith}
+use Rattle.std.proofs.Common.{◌≡◌, inl, inr, ℕ, Bool, true, List, [], ◌∷◌, ◌++◌, map, Option, Result, Ok, Err, refl, sym, ap, subst}
 use Rattle.std.specs.List.{AllByRecursion}
 use Rattle.td_devices.specs.Views.{Input, Output}
 use Rattle.td_headings.specs.Catalogues.{CatalogueData}
 use Rattle.td_journal.specs.declared.stores.StoreError.{StoreError}
-use Rattle.td_story.specs.Databases.{DatabaseData}
-use Rattle.td_story.specs.Scripts.{IsScriptOf, Opens}
-use Rattle.td_story.specs.Seen.{Seen, is_limit}
-use Rattle.td_journal.specs.Reopening.{IsNew}
+use Rattle.td_story.specs.Scripts.{IsScriptOf}
+use Rattle.td_story.specs.Seen.{Seen}
 use Rattle.td_journal.specs.Stores.{GoesOn}
+use Rattle.td_journal.specs.Views.{kept}
 use Rattle.td_answers.specs.Sites.{Sites, AreOfScript}
-use Rattle.td_workbench.specs.Journals.{AnyWay, ComeBack, ComeBackNot, ComesBack, JournaledEnds, KeepsSomeNot, Kept}
+use Rattle.td_workbench.specs.Journals.{AnyWay, ComeBack, ComesBack, JournaledEnds, KeepsOneNot, KeepsSomeNot, Kept}
 use Rattle.td_workbench.specs.Programs.{EndsBy}
-use Rattle.td_workbench.specs.Scripts.{IsAccepted, new_sites}
+use Rattle.td_workbench.specs.Scripts.{IsAccepted}
 use Rattle.td_workbench.specs.Streams.{most_reads}
 use Rattle.td_workbench.specs.ForProofs.Journaled.{run_of}
 use Rattle.td_workbench.specs.ForProofs.Reading.{HasScript}
@@ -22,34 +21,53 @@ use Rattle.td_workbench.specs.declared.opening.Options.{Options}
 use Rattle.td_workbench.specs.declared.run.Ended.{Ended}
 use Rattle.td_workbench.proofs.Starting.{says_alone}
 
-pub come_back_more : (kept : Kept) (prefix : List ℕ) (ss ts : Sites) (s t : Seen) → ComeBack kept prefix ss ts → ComesBack kept prefix s t → ComeBack kept prefix (ss ++ s ∷ []) (ts ++ t ∷ [])
-come_back_more kept prefix [] [] s t all one = (one, tt)
-come_back_more kept prefix [] (y ∷ ts) s t all one = absurd all
-come_back_more kept prefix (x ∷ ss) [] s t all one = absurd all
-come_back_more kept prefix (x ∷ ss) (y ∷ ts) s t all one = (all.0, come_back_more kept prefix ss ts s t all.1 one)
+pub come_back_more : (journals : Kept) (prefix : List ℕ) (ss ts : Sites) (s t : Seen) → ComeBack journals prefix ss ts → ComesBack journals prefix s t → ComeBack journals prefix (ss ++ s ∷ []) (ts ++ t ∷ [])
+come_back_more journals prefix [] [] s t all one = (one, tt)
+come_back_more journals prefix [] (y ∷ ts) s t all one = absurd all
+come_back_more journals prefix (x ∷ ss) [] s t all one = absurd all
+come_back_more journals prefix (x ∷ ss) (y ∷ ts) s t all one = (all.0, come_back_more journals prefix ss ts s t all.1 one)
 
 -- they are of the same script
 script_stays : (kept : Option (List ℕ)) (s after : Seen) (w : Output) → GoesOn kept s after w → after.script ≡ s.script
 script_stays kept s after w g = ap (λ (x : Seen). x.script) g.reopens.holds
 
-pub of_script_kept : (kept : Kept) (prefix : List ℕ) (c : CatalogueData) (ss ts : Sites) → ComeBack kept prefix ss ts → AreOfScript c ss → AreOfScript c ts
-of_script_kept kept prefix c [] [] all are = tt
-of_script_kept kept prefix c [] (t ∷ ts) all are = absurd all
-of_script_kept kept prefix c (s ∷ ss) [] all are = absurd all
-of_script_kept kept prefix c (s ∷ ss) (t ∷ ts) all are =
-    (subst (λ (x : List ℕ). IsScriptOf x c) (sym (script_stays _ s t all.0.0 all.0.1)) are.0, of_script_kept kept prefix c ss ts all.1 are.1)
+pub of_script_kept : (journals : Kept) (prefix : List ℕ) (c : CatalogueData) (ss ts : Sites) → ComeBack journals prefix ss ts → AreOfScript c ss → AreOfScript c ts
+of_script_kept journals prefix c [] [] all are = tt
+of_script_kept journals prefix c [] (t ∷ ts) all are = absurd all
+of_script_kept journals prefix c (s ∷ ss) [] all are = absurd all
+of_script_kept journals prefix c (s ∷ ss) (t ∷ ts) all are =
+    (subst (λ (x : List ℕ). IsScriptOf x c) (sym (script_stays _ s t all.0.0 all.0.1)) are.0, of_script_kept journals prefix c ss ts all.1 are.1)
+
+-- a keeper that is open is seen as its site
+pub seen_within : (is_open : Bool) (s : Seen) → is_open ≡ true → s ≡ kept is_open s
+seen_within is_open s is = subst (λ (b : Bool). s ≡ kept b s) (sym is) refl
+
+-- one of the sites, in their middle
+pub all_at : {R : Type 0} (P : Seen → Type 0) (seen : R → Seen) (ys : List R) (x : R) (rest : List R) → AllByRecursion P (map seen (ys ++ x ∷ rest)) → P (seen x)
+all_at P seen [] x rest all = all.0
+all_at P seen (y ∷ ys) x rest all = all_at P seen ys x rest all.1
+
+pub some_not : (journals : Kept) (Fails : StoreError → Type 0) (prefix : List ℕ) (sites before back : Sites) (s : Seen) (rest : Sites) (e : Stopped)
+    → sites ≡ before ++ s ∷ rest → ComeBack journals prefix before back → KeepsOneNot journals Fails prefix s e → KeepsSomeNot journals Fails prefix sites e
+some_not journals Fails prefix sites before back s rest (Run e) is came not = not
+some_not journals Fails prefix sites before back s rest (JournalFile name) is came not = (before, back, s, rest, is, came, not)
 
 -- ---- the program
 
-pub as_run : (kept : Kept) (Fails : StoreError → Type 0) (prefix : List ℕ) (options : Options) (from left : Input) (w after : Output) (r : Result Bool Ended)
-    → EndsBy (ComeBack kept prefix) AnyWay options from w r left after → JournaledEnds kept Fails prefix options from w (run_of r) left after
-as_run kept Fails prefix options from left w after (Ok accepted) ends = ends
-as_run kept Fails prefix options from left w after (Err e) ends = inl ends
+run_ends : (journals : Kept) (Fails : StoreError → Type 0) (prefix : List ℕ) (options : Options) (from left : Input) (w after : Output) (r : Result Bool Ended)
+    → EndsBy (ComeBack journals prefix) AnyWay options from w r left after → JournaledEnds journals Fails prefix options from w (run_of r) left after
+run_ends journals Fails prefix options from left w after (Ok accepted) ends = ends
+run_ends journals Fails prefix options from left w after (Err e) ends = inl ends
+
+pub as_run : (journals : Kept) (Fails : StoreError → Type 0) (prefix : List ℕ) (options : Options) (from left : Input) (w after : Output) (r : Result Bool Ended) (end : Result Bool Stopped)
+    → end ≡ run_of r → EndsBy (ComeBack journals prefix) AnyWay options from w r left after → JournaledEnds journals Fails prefix options from w end left after
+as_run journals Fails prefix options from left w after r end is ends =
+    subst (λ (x : Result Bool Stopped). JournaledEnds journals Fails prefix options from w x left after) (sym is) (run_ends journals Fails prefix options from left w after r ends)
 
 module _ (now : ℕ) (from mid : Input) (bytes : Option (List ℕ)) (is_last : Bool) (has : HasScript most_reads now from mid bytes is_last) where
-  pub not_kept : (kept : Kept) (Fails : StoreError → Type 0) (prefix : List ℕ) (options : Options) (opens : Sites) (w : Output) (e : Stopped)
-      → IsAccepted options has.text opens → KeepsSomeNot kept Fails prefix opens e → JournaledEnds kept Fails prefix options from w (Err e) mid w
-  not_kept kept Fails prefix options opens w (Run e) accepted cause =
+  pub not_kept : (journals : Kept) (Fails : StoreError → Type 0) (prefix : List ℕ) (options : Options) (opens : Sites) (w : Output) (e : Stopped)
+      → IsAccepted options has.text opens → KeepsSomeNot journals Fails prefix opens e → JournaledEnds journals Fails prefix options from w (Err e) mid w
+  not_kept journals Fails prefix options opens w (Run e) accepted cause =
       inr (record { bytes = has.bytes; script = has.text; read = has.read; says = says_alone now from mid bytes is_last has; opened = opens; accepted = accepted; cause = cause; untold = refl })
-  not_kept kept Fails prefix options opens w (JournalFile name) accepted cause =
+  not_kept journals Fails prefix options opens w (JournalFile name) accepted cause =
       record { bytes = has.bytes; script = has.text; read = has.read; says = says_alone now from mid bytes is_last has; opened = opens; accepted = accepted; cause = cause; untold = refl }

@@ -1,6 +1,5 @@
 -- The program over sites that keep journals: behind the script, and before the lines, each site comes back from its own.
 use Rattle.std.specs.Prelude.{◌≡◌, ◌⊎◌, ℕ, Bool, List, [], ◌∷◌, ◌++◌, codes, decimal, Option, Result, Ok, Err, string_bytes}
-use Rattle.std.specs.List.{Contains}
 use Rattle.td_devices.specs.Views.{Input, Output}
 use Rattle.td_journal.specs.declared.stores.StoreError.{StoreError}
 use Rattle.td_story.specs.Seen.{Seen}
@@ -13,7 +12,6 @@ use Rattle.td_workbench.specs.Streams.{Reads}
 use Rattle.td_workbench.specs.declared.journaled.Stopped.{Stopped}
 use Rattle.td_workbench.specs.declared.journaled.Stopped.TheVariants.{JournalFile, Run}
 use Rattle.td_workbench.specs.declared.opening.Options.{Options}
-use Rattle.td_workbench.specs.declared.run.Ended.{Ended}
 use Rattle.td_workbench.specs.declared.run.Ended.TheVariants.{OutOfMemory}
 
 -- what the journal of each name had, where that is known
@@ -41,10 +39,12 @@ KeepsOneNot kept Fails prefix s (Run e) = e ≡ OutOfMemory
 KeepsOneNot kept Fails prefix s (JournalFile name) =
     (string_bytes name ≡ journal_name prefix s.site) × KeepsNot Fails (kept (journal_name prefix s.site)) s store_error.JournalFile
 
--- why one of them does not, or that there was no memory for all
+-- Why one of them does not, behind those that came back; or that there was no memory for all.
 abbrev pub KeepsSomeNot : Kept → (StoreError → Type 0) → List ℕ → Sites → Stopped → Type 0
 KeepsSomeNot kept Fails prefix sites (Run e) = e ≡ OutOfMemory
-KeepsSomeNot kept Fails prefix sites (JournalFile name) = (s : Seen) × Contains sites s × KeepsOneNot kept Fails prefix s (JournalFile name)
+KeepsSomeNot kept Fails prefix sites (JournalFile name) =
+    (before : Sites) × (back : Sites) × (s : Seen) × (rest : Sites) × (sites ≡ before ++ s ∷ rest) × ComeBack kept prefix before back
+    × KeepsOneNot kept Fails prefix s (JournalFile name)
 
 -- the script was accepted, but not all of its sites came back; nothing was told, and nothing behind the script was read
 pub record ComeBackNot (kept : Kept) (Fails : StoreError → Type 0) (prefix : List ℕ) (options : Options) (from : Input) (w : Output) (e : Stopped) (left : Input) (after : Output) : Type 0 where

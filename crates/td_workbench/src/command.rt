@@ -115,12 +115,17 @@ pub fn program<R: Opens + Drop, J: Journals, L: Links, S: Source, K: Sink, F: Si
         Err(error) => return tell(alloc, &error, sink, faults),
     };
     let Some(prefix) = words.journal else {
-        return status(run_program::<R, _, _, _>(
-            alloc, &words.options, links, meter, source, sink,
-        ));
+        return status(run_program::<R, _, _, _>(alloc, &words.options, links, meter, source, sink));
     };
     let end = run_journaled::<R, _, _, _, _>(
-        alloc, &words.options, journals, prefix, links, meter, source, sink,
+        alloc,
+        &words.options,
+        journals,
+        prefix,
+        links,
+        meter,
+        source,
+        sink,
     );
     end_journaled(alloc, end, faults)
 }

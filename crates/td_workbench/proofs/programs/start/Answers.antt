@@ -1,4 +1,4 @@
-use Rattle.std.proofs.Common.{ap, ◌∙◌, map}
+use Rattle.std.proofs.Common.{refl}
 use Rattle.td_workbench.specs.ForProofs.Opening.{AreSeen}
 use Rattle.td_workbench.specs.Programs.{AreOpen, AsOpened}
 use Rattle.td_workbench.proofs.Starting.{ready_ends, refused_told, seen_open}
