@@ -5,3 +5,4 @@ pub mod Issuing
 pub mod Taking
 pub mod Asking
 pub mod Counting
+pub mod Anew

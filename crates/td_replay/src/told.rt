@@ -143,8 +143,10 @@ impl Told {
         ensures few { meter.new.count ≤ meter.old.count + length new.now }
         ensures counted { way ≡ by.Replay → (n : ℕ) → RunsOver (opened_by self.old.engine.catalogue) old.now new.now n → meter.new.count ≤ meter.old.count + n }
     {
+        // Where nothing was told nothing is touched, so no entry need be asked what it hangs on.
         match way {
             Way::Anew => *self = tell_all(alloc, script, new, meter)?,
+            Way::Replay if old.is_empty() => *self = tell_all(alloc, script, new, meter)?,
             Way::Replay => self.replay(alloc, old, new, meter)?,
         }
         Ok(())
