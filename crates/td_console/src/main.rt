@@ -4,9 +4,9 @@
 use std::env;
 use std::io::{BufReader, ErrorKind};
 use std::process::ExitCode;
-use td_answers::NoLinks;
 use td_devices::Device;
 use td_replay::Site;
+use td_sockets::TcpLinks;
 use td_story::Meter;
 use td_workbench::program;
 
@@ -36,7 +36,7 @@ fn main(rt: HostRuntime) -> ExitCode {
     let status = program::<Site, _, _, _, _>(
         alloc,
         &words,
-        &mut NoLinks,
+        &mut TcpLinks::new(&rt),
         &mut meter,
         &mut source,
         &mut sink,
