@@ -1,16 +1,11 @@
 -- Sites keep their scripts.
-use Rattle.std.proofs.Common.{◌≡◌, ◌==◌, inl, inr, ℕ, Bool, true, false, cond, List, Option, Some, None, Result, Ok, Err, refl, sym, ap, subst}
+use Rattle.std.proofs.Common.{◌≡◌, ◌==◌, inl, inr, ℕ, Bool, true, false, cond, List, Option, Some, None, Result, Ok, Err, refl, sym, subst}
 use Rattle.std.specs.List.{slice_get, slice_set}
 use Rattle.td_headings.specs.Catalogues.{CatalogueData}
 use Rattle.td_lines.specs.Lines.{Line, nothing, quit, issue, query, meet, listing, log, vector, table, serve, call, faulty}
 use Rattle.td_story.specs.Scripts.{IsScriptOf}
-use Rattle.td_stamps.specs.declared.entry.Entry.{Entry}
-use Rattle.td_story.specs.Calls.{Issues, Takes}
 use Rattle.td_story.specs.Seen.{Seen}
-use Rattle.td_story.specs.declared.answer.Issued.{Issued}
 use Rattle.td_story.specs.declared.answer.Taken.{Taken}
-use Rattle.td_story.specs.declared.refusal.IssueError.{IssueError}
-use Rattle.td_story.specs.declared.refusal.IssueError.TheVariants as issue_error
 use Rattle.td_story.specs.declared.refusal.TakeError.{TakeError}
 use Rattle.td_story.specs.declared.refusal.TakeError.TheVariants as take_error
 use Rattle.td_answers.specs.Answers.{Answered, IssueAnswered, MeetAnswered, Tells}
@@ -19,33 +14,14 @@ use Rattle.td_meeting.specs.declared.error.MeetingError.{MeetingError}
 use Rattle.td_meeting.specs.declared.error.MeetingError.TheVariants as meeting_error
 use Rattle.td_meeting.specs.declared.meeting.Met.{Met}
 use Rattle.td_meeting.specs.declared.meeting.MeetingRefusal.{MeetingRefusal}
+use Rattle.td_answers.specs.Linked.{CallsOver, LinkAnswered, ServesOver, TwoSteps}
 use Rattle.td_answers.specs.Replies.{Replies, words}
 use Rattle.td_answers.specs.Sites.{AreOfScript, Placed, Sites, site_of, sites_of, two_of}
 use Rattle.td_answers.specs.declared.reply.Reply.{Reply}
 use Rattle.td_answers.specs.declared.reply.Reply.TheVariants as reply
+use Rattle.td_answers.proofs.Linked.{KeepsScript, calls_keep, link_keeps, serves_keep}
 use Rattle.td_answers.proofs.Placing.{all_set, all_there, site_there}
-
-same_script : (s after : Seen) → after ≡ s → after.script ≡ s.script
-same_script s after is = ap (λ (t : Seen). t.script) is
-
-issue_keeps : (s : Seen) (t : List ℕ) (r : Result Issued IssueError) (after : Seen) → Issues s t r after → after.script ≡ s.script
-issue_keeps s t (Ok i) after told = ap (λ (u : Seen). u.script) told.last
-issue_keeps s t (Err issue_error.Broken) after told = same_script s after told.1
-issue_keeps s t (Err issue_error.Syntax) after told = same_script s after told.0.1
-issue_keeps s t (Err issue_error.IllTyped) after told = same_script s after told.0.1
-issue_keeps s t (Err issue_error.ClockEnd) after told = same_script s after told.0.1
-issue_keeps s t (Err issue_error.Full) after told = same_script s after told.0.1
-issue_keeps s t (Err issue_error.OutOfMemory) after told = same_script s after told.0.1
-issue_keeps s t (Err issue_error.JournalWrite) after told = ap (λ (u : Seen). u.script) told.3.1
-
-take_keeps : (s : Seen) (batch : List Entry) (r : Result Taken TakeError) (after : Seen) → Takes s batch r after → after.script ≡ s.script
-take_keeps s batch (Ok taken) after told = ap (λ (u : Seen). u.script) told.union
-take_keeps s batch (Err take_error.Broken) after told = same_script s after told.1
-take_keeps s batch (Err take_error.BadEntry) after told = same_script s after told.0.1
-take_keeps s batch (Err (take_error.Clash site seq)) after told = same_script s after told.0.1
-take_keeps s batch (Err take_error.Full) after told = same_script s after told.0.1
-take_keeps s batch (Err take_error.OutOfMemory) after told = same_script s after told.0.1
-take_keeps s batch (Err take_error.JournalWrite) after told = ap (λ (u : Seen). u.script) told.3.1
+use Rattle.td_answers.proofs.Scripts.{issue_keeps, same_script, take_keeps}
 
 takes_keep : (s t : Seen) (r : Result Taken TakeError) (after : Seen) → TakesFrom s t r after → after.script ≡ s.script
 takes_keep s t r after told = take_keeps s told.batch r after told.takes
@@ -94,6 +70,13 @@ issue_all c t old (Some p) text new there all (after, told, is) =
     let of = all_there (λ s. IsScriptOf s.script c) old p.0 p.1 all (there p refl) in
     subst (AreOfScript c) (sym is) (all_set (λ s. IsScriptOf s.script c) old p.0 after all (of_its_script c p.1 after of (issue_keeps p.1 t told.answer after told.issues)))
 
+link_all : (Two : TwoSteps) (done : List ℕ) (n : ℕ) (address : List ℕ) (c : CatalogueData) (old : Sites) (o : Option Placed) (text : List ℕ) (new : Sites) → KeepsScript Two → ((p : Placed) → o ≡ Some p → slice_get old p.0 ≡ Some p.1) → AreOfScript c old
+    → LinkAnswered Two done n address old o text new → AreOfScript c new
+link_all Two done n address c old None text new keeps there all told = none_changes c old new all told.1
+link_all Two done n address c old (Some p) text new keeps there all (after, told, is) =
+    let of = all_there (λ s. IsScriptOf s.script c) old p.0 p.1 all (there p refl) in
+    subst (AreOfScript c) (sym is) (all_set (λ s. IsScriptOf s.script c) old p.0 after all (of_its_script c p.1 after of (link_keeps Two done n told.answer p.1 text after keeps told.told)))
+
 tells_all : (c : CatalogueData) (Asked : Seen → List ℕ → Type 0) (old : Sites) (o : Option Placed) (text : List ℕ) (new : Sites) → AreOfScript c old → Tells Asked old o text new → AreOfScript c new
 tells_all c Asked old None text new all told = none_changes c old new all told.1
 tells_all c Asked old (Some p) text new all told = none_changes c old new all told.1
@@ -134,8 +117,8 @@ answered_keeps c old (listing n) text new all told = tells_all c _ old (site_of 
 answered_keeps c old (log n) text new all told = tells_all c _ old (site_of n old) text new all told
 answered_keeps c old (vector n) text new all told = tells_all c _ old (site_of n old) text new all told
 answered_keeps c old (table n x) text new all told = tells_all c _ old (site_of n old) text new all told
-answered_keeps c old (serve n address) text new all told = tells_all c _ old (site_of n old) text new all told
-answered_keeps c old (call n address) text new all told = tells_all c _ old (site_of n old) text new all told
+answered_keeps c old (serve n address) text new all told = link_all ServesOver _ n address c old (site_of n old) text new serves_keep (site_there n old) all told
+answered_keeps c old (call n address) text new all told = link_all CallsOver _ n address c old (site_of n old) text new calls_keep (site_there n old) all told
 
 pub replies_keep : (c : CatalogueData) (old : Sites) (l : Line) (r : Reply) (new : Sites) → AreOfScript c old → Replies c old l r new → AreOfScript c new
 replies_keep c old l reply.Quit new all told = none_changes c old new all told.1

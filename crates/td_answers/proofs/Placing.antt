@@ -7,9 +7,9 @@ use Rattle.std.proofs.lemmas.Option.{slice_get-get_or, slice_get-map}
 use Rattle.td_headings.specs.Catalogues.{CatalogueData}
 use Rattle.td_story.specs.Scripts.{IsScriptOf}
 use Rattle.td_story.specs.Seen.{Seen}
-use Rattle.td_answers.specs.Answers.{Tells, TellsNoSite}
+use Rattle.td_answers.specs.Answers.{Tells}
 use Rattle.td_answers.specs.ForProofs.Said.{IsSiteOf, TellsIn, place_in}
-use Rattle.td_answers.specs.Sites.{AreOfScript, OneScript, Placed, Sites, one_on, site_of}
+use Rattle.td_answers.specs.Sites.{AreOfScript, OneScript, Placed, Sites, TellsNoSite, one_on, site_of}
 
 -- ---- a walk along the sites
 

@@ -3,9 +3,6 @@
 -- then what the call is refused for. Want of memory may be told in place of what a call on an open site has not reached
 -- yet.
 use Rattle.std.specs.Prelude.{◌≡◌, ℕ, true, false, List, [], ◌++◌, codes, decimal, Option, Some, None, Result, Ok, Err, slice_set}
-use Rattle.std.specs.Net.Grammar.{IsSocketText, Parses}
-use Rattle.std.specs.declared.net.parser.AddrParseError.{AddrParseError}
-use Rattle.std.specs.declared.net.socket_addr.SocketAddr.{SocketAddr}
 use Rattle.td_values.specs.Shown.{shown}
 use Rattle.td_headings.specs.Catalogues.{CatalogueData}
 use Rattle.td_stamps.specs.Vectors.{VersionVector, IsVector}
@@ -22,15 +19,12 @@ use Rattle.td_listings.specs.declared.error.ListError.{ListError}
 use Rattle.td_listings.specs.declared.error.ListError.TheVariants as list_error
 use Rattle.td_listings.specs.declared.error.TableError.{TableError}
 use Rattle.td_lines.specs.Lines.{Line, nothing, quit, issue, query, meet, listing, log, vector, table, serve, call, faulty}
-use Rattle.td_answers.specs.Faults.{ask_fault, issue_fault, link_fault, list_fault, meeting_fault, raised_line, table_fault}
+use Rattle.td_answers.specs.Faults.{ask_fault, issue_fault, list_fault, meeting_fault, raised_line, table_fault}
 use Rattle.td_meeting.specs.Meetings.{Meets}
 use Rattle.td_meeting.specs.declared.meeting.Met.{Met}
 use Rattle.td_meeting.specs.declared.meeting.MeetingRefusal.{MeetingRefusal}
-use Rattle.td_answers.specs.Sites.{Sites, Placed, site_of, sites_of}
-
--- where a site is not there
-abbrev pub TellsNoSite : Sites → List ℕ → Sites → Type 0
-TellsNoSite old text new = (text ≡ codes "fault site\n") × (new ≡ old)
+use Rattle.td_answers.specs.Linked.{CallsOver, LinkAnswered, ServesOver}
+use Rattle.td_answers.specs.Sites.{Sites, Placed, TellsNoSite, site_of, sites_of}
 
 -- a site is asked, and no site changes
 abbrev pub Tells : (Seen → List ℕ → Type 0) → Sites → Option Placed → List ℕ → Sites → Type 0
@@ -115,13 +109,6 @@ pub record TellsTable (c : CatalogueData) (x : List ℕ) (s : Seen) (text : List
   pub tabulates : Tabulates c s x answer
   pub records : text ≡ table_answer answer
 
--- ---- .serve n ADDRESS, .call n ADDRESS
-
-pub record TellsLink (address : List ℕ) (s : Seen) (text : List ℕ) : Type 0 where
-  pub answer : Result SocketAddr AddrParseError
-  pub parses : Parses IsSocketText address answer
-  pub line : text ≡ link_fault answer
-
 -- ---- .meet n m
 
 -- met n m fresh A B
@@ -155,5 +142,5 @@ Answered c old (listing n) text new = Tells TellsListing old (site_of n old) tex
 Answered c old (log n) text new = Tells TellsLog old (site_of n old) text new
 Answered c old (vector n) text new = Tells TellsVector old (site_of n old) text new
 Answered c old (table n x) text new = Tells (TellsTable c x) old (site_of n old) text new
-Answered c old (serve n address) text new = Tells (TellsLink address) old (site_of n old) text new
-Answered c old (call n address) text new = Tells (TellsLink address) old (site_of n old) text new
+Answered c old (serve n address) text new = LinkAnswered ServesOver (codes "served") n address old (site_of n old) text new
+Answered c old (call n address) text new = LinkAnswered CallsOver (codes "called") n address old (site_of n old) text new

@@ -1,7 +1,5 @@
 -- The lines that tell why a call is refused, or which error a query or a relvar raises.
-use Rattle.std.specs.Prelude.{ℕ, List, ◌++◌, codes, decimal, Result, Ok, Err}
-use Rattle.std.specs.declared.net.parser.AddrParseError.{AddrParseError}
-use Rattle.std.specs.declared.net.socket_addr.SocketAddr.{SocketAddr}
+use Rattle.std.specs.Prelude.{ℕ, List, ◌++◌, codes, decimal}
 use Rattle.td_values.specs.declared.raises.Raise.{Raise}
 use Rattle.td_story.specs.declared.refusal.AskError.{AskError}
 use Rattle.td_story.specs.declared.refusal.AskError.TheVariants as ask_error
@@ -18,6 +16,8 @@ use Rattle.td_listings.specs.declared.error.ListError.{ListError}
 use Rattle.td_listings.specs.declared.error.ListError.TheVariants as list_error
 use Rattle.td_listings.specs.declared.error.TableError.{TableError}
 use Rattle.td_listings.specs.declared.error.TableError.TheVariants as table_error
+use Rattle.td_answers.specs.declared.links.LinkError.{LinkError}
+use Rattle.td_answers.specs.declared.links.LinkError.TheVariants as link_error
 
 -- raised E
 abbrev pub raised_line : Raise → List ℕ
@@ -83,7 +83,6 @@ table_fault table_error.Broken = codes "fault broken\n"
 table_fault (table_error.Raised e) = raised_line e
 table_fault table_error.OutOfMemory = codes "fault memory\n"
 
--- a word that is no socket address; or no link is opened to the address that it is
-abbrev pub link_fault : Result SocketAddr AddrParseError → List ℕ
-link_fault (Ok a) = codes "fault net\n"
-link_fault (Err e) = codes "fault address\n"
+abbrev pub link_fault : LinkError → List ℕ
+link_fault link_error.NetFault = codes "fault net\n"
+link_fault link_error.OutOfMemory = codes "fault memory\n"

@@ -1,5 +1,5 @@
 -- The sites of a workbench: what each is seen as, in their order.
-use Rattle.std.specs.Prelude.{◌≡◌, ℕ, suc, ◌==◌, if◌then◌else◌, List, [], ◌∷◌, Option, Some, None, option_map}
+use Rattle.std.specs.Prelude.{◌≡◌, ℕ, suc, ◌==◌, if◌then◌else◌, List, [], ◌∷◌, codes, Option, Some, None, option_map}
 use Rattle.std.specs.List.{AllByRecursion}
 use Rattle.td_headings.specs.Catalogues.{CatalogueData}
 use Rattle.td_story.specs.Scripts.{IsScriptOf}
@@ -40,3 +40,7 @@ OneScript ss = (script : List ℕ) × AllByRecursion (λ s. s.script ≡ script)
 -- the catalogue is that of each site's script
 abbrev pub AreOfScript : CatalogueData → Sites → Type 0
 AreOfScript c ss = AllByRecursion (λ s. IsScriptOf s.script c) ss
+
+-- where a site is not there
+abbrev pub TellsNoSite : Sites → List ℕ → Sites → Type 0
+TellsNoSite old text new = (text ≡ codes "fault site\n") × (new ≡ old)

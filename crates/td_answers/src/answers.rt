@@ -2,8 +2,10 @@
 
 ghost use Rattle.std.specs.Prelude.{◌≡◌, IfOk, codes, map};
 ghost use Rattle.td_lines.specs.Lines.{line_of};
-ghost use Rattle.td_answers.specs.Answers.{IssueAnswered, MeetAnswered, TellsAsked, TellsLink, TellsListing, TellsLog, TellsTable, TellsVector};
-ghost use Rattle.td_answers.specs.Replies.{Replies};
+ghost use Rattle.td_answers.specs.Asking.{AreAsked, AreAskedAt};
+ghost use Rattle.td_answers.specs.Answers.{IssueAnswered, MeetAnswered, TellsAsked, TellsListing, TellsLog, TellsTable, TellsVector};
+ghost use Rattle.td_answers.specs.Linked.{CallsOver, LinkAnswered, ServesOver};
+ghost use Rattle.td_answers.specs.Replies.{Replies, words};
 ghost use Rattle.td_answers.specs.Sites.{AreOfScript, OneScript, site_of, sites_of};
 ghost use Rattle.td_answers.specs.ForProofs.Said.{Says, TellsIn};
 
@@ -11,7 +13,7 @@ use crate::links::Links;
 use crate::meeting::meet_at;
 use crate::places::{place_of, site_in};
 use crate::reply::Reply;
-use crate::telling;
+use crate::{linking, telling};
 use std::alloc::{AllocError, Global};
 use td_headings::Catalogue;
 use td_lines::{Command, command_of};
@@ -118,24 +120,51 @@ fn table_in<R: Replica>(
     }
 }
 
-fn link_in<R: Replica>(sites: &[R], number: u32, address: &str) -> Reply
-    ensures { Says (TellsIn (TellsLink address.now) number (map R.seen sites.now)) result }
+fn serve_in<R: Replica, L: Links>(
+    alloc: Global,
+    sites: &mut [R],
+    links: &mut L,
+    number: u32,
+    address: &str,
+    meter: &mut Meter,
+) -> Reply
+    ensures answered { Says (λ words. LinkAnswered ServesOver (codes "served") number address.now (map R.seen sites.old) (site_of number (map R.seen sites.old)) words (map R.seen sites.new)) result }
+    ensures asked { Says (λ words. AreAskedAt L.serves address.now (site_of number (map R.seen sites.old)) words links.old links.new) result }
 {
-    match site_in(sites, number) {
-        Some(site) => telling::link(site, address),
+    match place_of(sites, number) {
+        Some(at) => linking::serve(alloc, &mut sites[at], links, number, address, meter),
         None => no_site(),
     }
 }
 
-fn reply_to<R: Replica>(
+fn call_in<R: Replica, L: Links>(
+    alloc: Global,
+    sites: &mut [R],
+    links: &mut L,
+    number: u32,
+    address: &str,
+    meter: &mut Meter,
+) -> Reply
+    ensures answered { Says (λ words. LinkAnswered CallsOver (codes "called") number address.now (map R.seen sites.old) (site_of number (map R.seen sites.old)) words (map R.seen sites.new)) result }
+    ensures asked { Says (λ words. AreAskedAt L.calls address.now (site_of number (map R.seen sites.old)) words links.old links.new) result }
+{
+    match place_of(sites, number) {
+        Some(at) => linking::call(alloc, &mut sites[at], links, number, address, meter),
+        None => no_site(),
+    }
+}
+
+fn reply_to<R: Replica, L: Links>(
     alloc: Global,
     catalogue: &Catalogue,
     sites: &mut [R],
+    links: &mut L,
     meter: &mut Meter,
     line: &[u8],
 ) -> Reply
     requires { AreOfScript catalogue.now (map R.seen sites.old) }
-    ensures { Replies catalogue.now (map R.seen sites.old) (line_of line.now) result (map R.seen sites.new) }
+    ensures replies { Replies catalogue.now (map R.seen sites.old) (line_of line.now) result (map R.seen sites.new) }
+    ensures asked { AreAsked L.serves L.calls (map R.seen sites.old) (line_of line.now) (words result) links.old links.new }
 {
     match command_of(line) {
         Command::Nothing => Reply::Fixed(""),
@@ -147,26 +176,27 @@ fn reply_to<R: Replica>(
         Command::Log { site } => log_in(alloc, sites, site),
         Command::Vector { site } => vector_in(alloc, sites, site),
         Command::Table { site, relvar } => table_in(alloc, catalogue, sites, site, relvar),
-        Command::Serve { site, address } => link_in(sites, site, address),
-        Command::Call { site, address } => link_in(sites, site, address),
+        Command::Serve { site, address } => serve_in(alloc, sites, links, site, address, meter),
+        Command::Call { site, address } => call_in(alloc, sites, links, site, address, meter),
         Command::Faulty => Reply::Fixed("fault line\n"),
     }
 }
 
-/// Answers a line, which comes without its line end. No link is asked for yet. It costs what the calls that it makes
-/// cost, and a search among the sites.
+/// Answers a line, which comes without its line end. It costs what the calls that it makes cost, and a search among the
+/// sites. Only a line whose site is there and whose address is one asks for a link, once; it waits for a connection as
+/// long as the links do.
 pub fn answer<R: Replica, L: Links>(
     alloc: Global,
     catalogue: &Catalogue,
     sites: &mut [R],
-    _links: &mut L,
+    links: &mut L,
     meter: &mut Meter,
     line: &[u8],
 ) -> Reply
     requires { AreOfScript catalogue.now (map R.seen sites.old) }
     ensures replies { Replies catalogue.now (map R.seen sites.old) (line_of line.now) result (map R.seen sites.new) }
     ensures kept { AreOfScript catalogue.now (map R.seen sites.new) }
-    ensures unasked { _links.new ≡ _links.old }
+    ensures asked { AreAsked L.serves L.calls (map R.seen sites.old) (line_of line.now) (words result) links.old links.new }
 {
-    reply_to(alloc, catalogue, sites, meter, line)
+    reply_to(alloc, catalogue, sites, links, meter, line)
 }

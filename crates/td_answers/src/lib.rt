@@ -3,6 +3,7 @@
 
 mod answers;
 mod faults;
+mod linking;
 pub mod links;
 mod meeting;
 mod places;

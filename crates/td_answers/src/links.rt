@@ -17,8 +17,7 @@ pub enum LinkError {
     OutOfMemory,
 }
 
-/// Opens links to other sites. The workbench does not ask for one yet: it answers each line that wants a link as if
-/// none could be opened.
+/// Opens links to other sites.
 pub trait Links {
     type Link: Link + Drop;
 

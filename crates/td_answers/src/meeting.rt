@@ -75,7 +75,8 @@ fn frame_fault(line: String, error: FrameError, taken: usize) -> Reply
     }
 }
 
-fn meeting_fault(line: String, error: MeetingError) -> Reply
+/// The line of a meeting that stopped.
+pub(crate) fn meeting_fault(line: String, error: MeetingError) -> Reply
     requires { IsBlank line }
     ensures { Says (λ words. words ≡ spec.meeting_fault error) result }
 {

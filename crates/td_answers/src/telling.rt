@@ -3,14 +3,13 @@
 ghost use Rattle.std.specs.Prelude.{◌≡◌, Ok, Err, IfOk, MatchResult, string_bytes};
 ghost use Rattle.td_story.specs.Scripts.{IsScriptOf};
 ghost use Rattle.td_story.specs.declared.answer.Asked.TheVariants as told;
-ghost use Rattle.td_answers.specs.Answers.{Counts, TellsAsked, TellsIssued, TellsLink, TellsListing, TellsLog, TellsTable, TellsVector, reply_line};
+ghost use Rattle.td_answers.specs.Answers.{Counts, TellsAsked, TellsIssued, TellsListing, TellsLog, TellsTable, TellsVector, reply_line};
 ghost use Rattle.td_answers.specs.ForProofs.Said.{Says};
 
 use crate::faults::{ask_fault, issue_fault, list_fault, raised_line, table_fault};
 use crate::reply::Reply;
 use crate::writing::{blank_line, issued_line};
 use std::alloc::{AllocError, Global};
-use std::net::SocketAddr;
 use td_headings::Catalogue;
 use td_listings::{ListError, listing_text, log_text, table_text, vector_text};
 use td_story::{MOST_BYTES, Meter, Replica};
@@ -119,15 +118,5 @@ pub(crate) fn table<R: Replica>(
     match table_text(alloc, catalogue, site, relvar) {
         Ok(text) => Reply::Table(text),
         Err(error) => Reply::Fixed(table_fault(error)),
-    }
-}
-
-/// Tells why no link is opened to an address.
-pub(crate) fn link<R: Replica>(site: &R, address: &str) -> Reply
-    ensures { Says (TellsLink address.now (R.seen site.now)) result }
-{
-    match address.parse::<SocketAddr>() {
-        Ok(_) => Reply::Fixed("fault net\n"),
-        Err(_) => Reply::Fixed("fault address\n"),
     }
 }

@@ -4,6 +4,7 @@ ghost use Rattle.std.specs.Prelude.{◌≡◌, ◌≤◌, ◌+◌, ◌++◌, cod
 ghost use Rattle.td_listings.specs.Texts as shown;
 ghost use Rattle.td_answers.specs.Answers as answers;
 ghost use Rattle.td_answers.specs.Faults as faults;
+ghost use Rattle.td_answers.specs.Linked as linked;
 ghost use Rattle.td_answers.specs.ForProofs.Said.{IsBlank};
 ghost use Rattle.td_story.specs.declared.outcome.Outcome.TheVariants as became;
 
@@ -173,6 +174,21 @@ pub(crate) fn met_line(mut line: String, numbers: (u32, u32), met: Met) -> Strin
     put_number(&mut line, met.first as u64);
     put(&mut line, " ");
     put_number(&mut line, met.second as u64);
+    put(&mut line, "\n");
+    line
+}
+
+/// The line of a meeting over a link: what the site did, its number, and how many entries were fresh to it.
+pub(crate) fn linked_line(mut line: String, done: &str, number: u32, fresh: usize) -> String
+    requires blank { IsBlank line }
+    requires short { length done.now ≤ 6 }
+    ensures { string_bytes result ≡ linked.linked_line done.now number fresh }
+{
+    put(&mut line, done);
+    put(&mut line, " ");
+    put_number(&mut line, u64::from(number));
+    put(&mut line, " fresh ");
+    put_number(&mut line, fresh as u64);
     put(&mut line, "\n");
     line
 }

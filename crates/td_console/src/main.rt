@@ -4,10 +4,10 @@
 use std::env;
 use std::io::{BufReader, ErrorKind};
 use std::process::ExitCode;
-use td_answers::NoLinks;
 use td_devices::Device;
 use td_files::FileJournals;
 use td_replay::Site;
+use td_sockets::TcpLinks;
 use td_story::Meter;
 use td_workbench::program;
 
@@ -38,7 +38,7 @@ fn main(rt: HostRuntime) -> ExitCode {
         alloc,
         &words,
         &FileJournals::new(&rt),
-        &mut NoLinks,
+        &mut TcpLinks::new(&rt),
         &mut meter,
         &mut source,
         &mut sink,

@@ -1,0 +1,67 @@
+//! Links over TCP, with limits of time.
+
+use std::alloc::Global;
+use std::io;
+use std::net::{Net, SocketAddr, TcpListener, TcpStream};
+use std::time::Duration;
+use td_answers::{LinkError, Links};
+
+// For how many seconds the other site may be silent while it is called, in one read, or in one write.
+const MOST_SECONDS: u64 = 30;
+
+fn most_silence() -> Duration {
+    Duration::from_secs(MOST_SECONDS)
+}
+
+// A stream each read and write of which has a limit.
+fn limited(stream: TcpStream) -> io::Result<TcpStream> {
+    stream.set_read_timeout(Some(most_silence()))?;
+    stream.set_write_timeout(Some(most_silence()))?;
+    Ok(stream)
+}
+
+fn link(opened: io::Result<TcpStream>) -> Result<TcpStream, LinkError> {
+    opened.and_then(limited).map_err(|_| LinkError::NetFault)
+}
+
+/// Waits for a connection at the listener, with no limit, and takes one. A read or a write of it that waits for more
+/// than 30 seconds fails.
+pub fn accept_on(listener: &TcpListener) -> Result<TcpStream, LinkError> {
+    link(listener.accept().map(|(stream, _)| stream))
+}
+
+/// Opens links over TCP.
+#[derive(Drop)]
+pub struct TcpLinks<N> {
+    net: N,
+}
+
+impl<N> TcpLinks<N> {
+    /// Links over this network.
+    pub fn new(net: N) -> Self {
+        TcpLinks { net }
+    }
+}
+
+impl<N: Net<Listener = TcpListener, Stream = TcpStream>> Links for TcpLinks<N> {
+    type Link = TcpStream;
+
+    ghost use Rattle.std.specs.Prelude.{◌≡◌};
+
+    ghost serves = { λ s _ t. t ≡ s };
+
+    ghost calls = { λ s _ t. t ≡ s };
+
+    /// Binds the address, and goes on as `accept_on`.
+    fn serve(&mut self, _alloc: Global, address: SocketAddr) -> Result<TcpStream, LinkError> {
+        match TcpListener::bind(&self.net, address) {
+            Ok(listener) => accept_on(&listener),
+            Err(_) => Err(LinkError::NetFault),
+        }
+    }
+
+    /// Connects to the address, within 30 seconds.
+    fn call(&mut self, _alloc: Global, address: SocketAddr) -> Result<TcpStream, LinkError> {
+        link(TcpStream::connect_timeout(&self.net, &address, most_silence()))
+    }
+}
