@@ -6,7 +6,7 @@ ghost use Rattle.td_algebra.specs.Raising.{Answers, AnswersBy};
 ghost use Rattle.td_algebra.specs.Summaries.{summary_over};
 ghost use Rattle.td_operators.specs.ForProofs.Lent.{operand_value};
 ghost use Rattle.td_meaning.specs.ForProofs.Over as over;
-ghost use Rattle.td_meaning.specs.ForProofs.Over.{list_meant, items_meant, all_meant, groups_meant, terms};
+ghost use Rattle.td_meaning.specs.ForProofs.Over.{list_meant, items_meant, all_meant, terms};
 ghost use Rattle.td_meaning.specs.ForProofs.Right.{AreRight, deepest_in, known_value};
 ghost use Rattle.td_meaning.specs.ForProofs.Terms.{terms_levels};
 ghost use Rattle.td_meaning.specs.Mean as spec;
@@ -23,10 +23,10 @@ use crate::selections::{selector_at, user_value};
 use crate::surroundings::Surroundings;
 use sqlite_items::{Boxed, Items};
 use std::alloc::{AllocError, Global};
-use td_algebra::{Fault, Stop, aggregate, extend, restrict, summarize};
+use td_algebra::{Fault, Stop, aggregate, extend, restrict, summarize, summarize_by};
 use td_operators::{
     Lease, Operand, attribute_at, component_at, integer_value, nested, operate, operate_on,
-    part_at, project_of, relation_over, relation_value, rows_of, table_dee, text_value, truth_of,
+    part_at, relation_over, relation_value, rows_of, table_dee, text_value, truth_of,
     truth_value, tuple_value, unnested, with_new_names,
 };
 use td_relations::Relation;
@@ -791,24 +791,6 @@ fn extension(
 }
 
 #[cycle(evaluation)]
-#[tactic(auto, unfolding(crate::specs::Mean::groups_at))]
-fn groups<'a>(
-    alloc: Global,
-    env: &'a Surroundings<'_>,
-    groups: &TypedGroups<Boxed<Typed>>,
-    ts: &Relation,
-    scope: &'a Scope<'_>,
-) -> Result<Lease<'a>, Fault>
-    ensures { Answers result (spec.groups_at (groups_meant (mean_in env.now.env.now) groups.now) (visible scope.now) ts.now) }
-{
-    match groups {
-        TypedGroups::Whole => Ok(Lease::own(table_dee(alloc)?)),
-        TypedGroups::Per(a) => rows(alloc, &*env, a.get(), &*scope),
-        TypedGroups::By(names) => Ok(Lease::own(project_of(alloc, ts, names.as_slice())?)),
-    }
-}
-
-#[cycle(evaluation)]
 #[tactic(auto, unfolding(crate::specs::ForProofs::Over::terms))]
 fn summarized(
     alloc: Global,
@@ -831,16 +813,67 @@ fn summarized(
     )
 }
 
+// Per the relation's own parts: the runs of one sort.
+#[cycle(evaluation)]
+#[tactic(auto, unfolding(crate::specs::ForProofs::Over::terms))]
+fn summarized_in_runs(
+    alloc: Global,
+    env: &Surroundings,
+    ts: &Relation,
+    names: &[Name],
+    items: &[Item<Summary<Boxed<Typed>>>],
+    scope: &Scope,
+) -> Result<Relation, Fault>
+    ensures { Answers result (functions.summarized (terms (mean_in env.now.env.now) (visible scope.now)) items.now ts.now (functions.project_of names.now ts.now)) }
+{
+    summarize_by(
+        alloc,
+        ts,
+        names,
+        items,
+        &|e: &Boxed<Typed>, t: &Tuple| -> Result<Value, Fault>
+            ensures { Answers result (terms (mean_in env.entry.now.env.now) (visible scope.entry.now) e.now t.now) }
+        { evaluate(alloc, env, e.get(), &Scope::Within(t, &*scope)) },
+    )
+}
+
+#[cycle(evaluation)]
+#[tactic(auto, unfolding(crate::specs::ForProofs::Over::summarized_over, crate::specs::Mean::groups_at))]
+fn groups_summarized(
+    alloc: Global,
+    env: &Surroundings,
+    ts: &Relation,
+    groups: &TypedGroups<Boxed<Typed>>,
+    items: &[Item<Summary<Boxed<Typed>>>],
+    scope: &Scope,
+) -> Result<Relation, Fault>
+    ensures { Answers result (over.summarized_over (mean_in env.now.env.now) groups.now items.now (visible scope.now) ts.now) }
+{
+    match groups {
+        TypedGroups::Whole => {
+            let us = table_dee(alloc)?;
+            summarized(alloc, env, ts, &us, items, scope)
+        }
+        TypedGroups::Per(a) => {
+            let us = rows(alloc, &*env, a.get(), &*scope)?;
+            summarized(alloc, env, ts, us.get(), items, scope)
+        }
+        TypedGroups::By(names) => {
+            summarized_in_runs(alloc, env, ts, names.as_slice(), items, scope)
+        }
+    }
+}
+
 #[cycle(evaluation)]
 fn summarized_by(
     alloc: Global,
     env: &Surroundings,
     ts: &Relation,
-    us: &Relation,
+    groups: &TypedGroups<Boxed<Typed>>,
     items: &[Item<Summary<Boxed<Typed>>>],
     scope: &Scope,
 ) -> Result<Relation, Fault>
-    ensures { Answers result (functions.summarized (terms (mean_in env.now.env.now) (visible scope.now)) items.now ts.now us.now) }
+    ensures { Answers result (over.summarized_over (mean_in env.now.env.now) groups.now items.now (visible scope.now) ts.now) }
 {
     match prepared(alloc, &*env, Terms::Summaries(&*items), ts.len())? {
         Some(parts) => {
@@ -848,9 +881,9 @@ fn summarized_by(
                 env: &*env.env,
                 parts: parts.as_slice(),
             };
-            summarized(alloc, &around, ts, us, items, scope)
+            groups_summarized(alloc, &around, ts, groups, items, scope)
         }
-        None => summarized(alloc, env, ts, us, items, scope),
+        None => groups_summarized(alloc, env, ts, groups, items, scope),
     }
 }
 
@@ -867,9 +900,7 @@ fn summarization(
     ensures { Answers result (over.over_summarize (mean_in env.now.env.now) r.now by.now items.now (visible scope.now)) }
 {
     let ts = rows(alloc, &*env, r, &*scope)?;
-    let us = groups(alloc, &*env, by, ts.get(), &*scope)?;
-    let found = summarized_by(alloc, env, ts.get(), us.get(), items, scope)?;
-    Ok(relation_value(found))
+    Ok(relation_value(summarized_by(alloc, env, ts.get(), by, items, scope)?))
 }
 
 /// The value of an expression, by its form.

@@ -2,15 +2,15 @@ use Rattle.std.proofs.Common.{◌+◌, ℕ, List, Vec, Global, drop, rules, get_
 use Rattle.td_values.specs.Data.{Datum}
 use Rattle.td_values.specs.Rows.{RowsData}
 use Rattle.td_syntax.specs.declared.tree.Named.{Named}
-use Rattle.td_algebra.specs.Functions.{extended, summarized}
-use Rattle.td_algebra.specs.Raising.{Answers, AnswersBy, and_then}
+use Rattle.td_algebra.specs.Functions.{extended, project_of, summarized}
+use Rattle.td_algebra.specs.Raising.{Answers, AnswersBy}
 use Rattle.td_algebra.proofs.Bridges.{restricts_to, extends_to, summarizes_to}
 use Rattle.td_meaning.specs.declared.scope.Held.{Held}
 use Rattle.td_operators.specs.ForProofs.Lent.{operand_value}
-use Rattle.td_meaning.specs.ForProofs.Over.{terms, list_meant, items_meant, all_meant, groups_meant, over_aggregate, over_extend, over_summarize}
+use Rattle.td_meaning.specs.ForProofs.Over.{terms, list_meant, items_meant, all_meant, over_aggregate, over_extend, over_summarize, summarized_over}
 use Rattle.td_operators.specs.ForProofs.Turns.{turn}
-use Rattle.td_meaning.specs.Mean.{at, named_at, introduced, truth_at, truth_in, rows_in, groups_at, mean, mean_by, mean_binary, mean_where, mean_if, mean_with}
-use Rattle.td_operators.specs.Operators.{as_value, in_turn, operate_on, attribute_at, part_at, with_new_names, nested, unnested}
+use Rattle.td_meaning.specs.Mean.{at, named_at, introduced, truth_at, truth_in, rows_in, mean, mean_by, mean_binary, mean_where, mean_if, mean_with}
+use Rattle.td_operators.specs.Operators.{in_turn, operate_on, attribute_at, part_at, with_new_names, nested, unnested}
 use Rattle.td_meaning.specs.ForProofs.Right.{AreRight}
 use Rattle.td_meaning.proofs.Deepest.{in_deepest}
 use Rattle.td_meaning.proofs.Rightness.{error_means, right_in_slice, told_error, value_means}
@@ -18,7 +18,7 @@ use Rattle.td_meaning.specs.Seen.{held_value, all_given, mean_in, relvars_at, vi
 use Rattle.td_meaning.specs.Selections.{admits, no_relvars, selection}
 use Rattle.td_meaning.proofs.Falls.{in_list, in_items, in_named, term_within, summary_within, of_term, select_falls, relation_falls, tuple_falls, extend_falls, with_falls, summarize_falls}
 use Rattle.td_meaning.proofs.Forms.{of_relvar, of_unary, of_binary, of_from, of_project, of_where, of_rename, of_nest, of_unnest, of_aggregate, of_if, of_extend, of_summarize, of_with}
-use Rattle.td_meaning.proofs.Walks.{value_goes, value_stops, field_goes, field_stops, name_goes, name_stops, one_more_given, fails, made_over, stops_over, over_both}
+use Rattle.td_meaning.proofs.Walks.{value_goes, value_stops, field_goes, field_stops, name_goes, name_stops, one_more_given, fails, made_over, stops_over}
 use Rattle.td_operators.proofs.Turns.{turn_begins}
 use Rattle.td_meaning.proofs.evaluation.+evaluation.Goals as goal
 
@@ -47,6 +47,16 @@ pub summarized-returns : goal.summarized-returns
 summarized-returns t c =
     let m = terms (mean_in c.args.env.now.env.now) (visible c.args.scope.now) in
     summarizes_to m c.args.items.now c.args.ts.now c.args.us.now c.summarize.result (c.summarize.ensures m (λ k d lt i x among. of_term _ (get_or c.args.items.now i x).term (λ e le p q a is_term is_tuple gave.
+    subst (λ e. Answers a (m e (get_or c.args.ts.now.tuples k d))) is_term (subst (λ u. Answers a (m p.now u)) is_tuple gave))))
+
+pub summarized_in_runs-summarize_by-requires : goal.summarized_in_runs-summarize_by-requires
+summarized_in_runs-summarize_by-requires t c = λ k d lt i x among. of_term _ (get_or c.args.items.now i x).term (λ e le p q is_term is_tuple.
+    (omega (arith, c.decreases, summary_within c.args.items.now i x e p.now among le is_term), tt))
+
+pub summarized_in_runs-returns : goal.summarized_in_runs-returns
+summarized_in_runs-returns t c =
+    let m = terms (mean_in c.args.env.now.env.now) (visible c.args.scope.now) in
+    summarizes_to m c.args.items.now c.args.ts.now (project_of c.args.names.now c.args.ts.now) c.summarize_by.result (c.summarize_by.ensures m (λ k d lt i x among. of_term _ (get_or c.args.items.now i x).term (λ e le p q a is_term is_tuple gave.
     subst (λ e. Answers a (m e (get_or c.args.ts.now.tuples k d))) is_term (subst (λ u. Answers a (m p.now u)) is_tuple gave))))
 
 -- ---- measures
@@ -192,23 +202,18 @@ unfolding over_summarize
 summarization-returns t c =
     let m = mean_in c.args.env.now.env.now in
     let names = visible c.args.scope.now in
-    over_both (rows_in (m c.args.r.now) names) (groups_at (groups_meant m c.args.by.now) names) (summarized (terms m names) c.args.items.now)
-    c.in_ok-ts.ts c.in_ok-us.us c.get.result.now c.get-2.result.now c.get-3.result.now
-    c.in_ok-ts.ensures c.get.ensures c.get-2.ensures c.in_ok-us.ensures c.get-3.ensures
-    ∙ ap (λ w. and_then w as_value) c.in_ok-found.ensures ∙ ap Ok (sym c.relation_value.ensures)
+    made_over (rows_in (m c.args.r.now) names) (summarized_over m c.args.by.now c.args.items.now names) c.in_ok-ts.ts c.get.result.now c.in_ok-ts.ensures c.get.ensures
+    c.in_ok-summarized_by.field-0 c.relation_value.result c.in_ok-summarized_by.ensures c.relation_value.ensures
 
-pub summarization-returns-in_err-found : goal.summarization-returns-in_err-found
+pub summarization-returns-in_err-summarized_by : goal.summarization-returns-in_err-summarized_by
 unfolding over_summarize
-summarization-returns-in_err-found t c =
+summarization-returns-in_err-summarized_by t c =
     let m = mean_in c.args.env.now.env.now in
     let names = visible c.args.scope.now in
-    let f = summarized (terms m names) c.args.items.now in
-    let h = fails {A = RowsData} (λ (d : Datum). d) c.in_err-found.field-0.0 (f c.get-2.result.now c.get-3.result.now) (over_summarize m c.args.r.now c.args.by.now c.args.items.now names)
-    (λ e stop. over_both (rows_in (m c.args.r.now) names) (groups_at (groups_meant m c.args.by.now) names) f
-    c.in_ok-ts.ts c.in_ok-us.us c.get.result.now c.get-2.result.now c.get-3.result.now
-    c.in_ok-ts.ensures c.get.ensures c.get-2.ensures c.in_ok-us.ensures c.get-3.ensures
-    ∙ ap (λ w. and_then w as_value) stop)
-    c.in_err-found.ensures in
+    let f = summarized_over m c.args.by.now c.args.items.now names in
+    let h = fails {A = RowsData} (λ (d : Datum). d) c.in_err-summarized_by.field-0.0 (f c.get.result.now) (over_summarize m c.args.r.now c.args.by.now c.args.items.now names)
+    (λ e stop. stops_over (rows_in (m c.args.r.now) names) f c.in_ok-ts.ts c.get.result.now c.in_ok-ts.ensures c.get.ensures e stop)
+    c.in_err-summarized_by.ensures in
     search (rules, h)
 
 -- ---- forms

@@ -114,14 +114,20 @@ decreases-extended l = 9 * item_levels l.items.now + 4 + weight l.env.now.env.no
 abbrev pub decreases-extension : goal.decreases-extension
 decreases-extension l = 9 * max (levels l.r.now) (item_levels l.items.now) + 8 + weight l.env.now.env.now.selectors.now
 
-abbrev pub decreases-groups : goal.decreases-groups
-decreases-groups l = 9 * groups_levels l.groups.now + 3 + weight l.env.now.env.now.selectors.now
-
 abbrev pub decreases-summarized-summarize : goal.decreases-summarized-summarize
 decreases-summarized-summarize l = 9 * levels l.e.now + 2 + weight l.env.now.env.now.selectors.now
 
 abbrev pub decreases-summarized : goal.decreases-summarized
 decreases-summarized l = 9 * summaries_levels l.items.now + 4 + weight l.env.now.env.now.selectors.now
+
+abbrev pub decreases-summarized_in_runs-summarize_by : goal.decreases-summarized_in_runs-summarize_by
+decreases-summarized_in_runs-summarize_by l = 9 * levels l.e.now + 2 + weight l.env.now.env.now.selectors.now
+
+abbrev pub decreases-summarized_in_runs : goal.decreases-summarized_in_runs
+decreases-summarized_in_runs l = 9 * summaries_levels l.items.now + 4 + weight l.env.now.env.now.selectors.now
+
+abbrev pub decreases-groups_summarized : goal.decreases-groups_summarized
+decreases-groups_summarized l = 9 * max (groups_levels l.groups.now) (summaries_levels l.items.now) + 5 + weight l.env.now.env.now.selectors.now
 
 abbrev pub decreases-summarization : goal.decreases-summarization
 decreases-summarization l = 9 * max (levels l.r.now) (max (groups_levels l.by.now) (summaries_levels l.items.now)) + 8 + weight l.env.now.env.now.selectors.now
@@ -151,7 +157,7 @@ abbrev pub decreases-extended_by : goal.decreases-extended_by
 decreases-extended_by l = 9 * item_levels l.items.now + 7 + weight l.env.now.env.now.selectors.now
 
 abbrev pub decreases-summarized_by : goal.decreases-summarized_by
-decreases-summarized_by l = 9 * summaries_levels l.items.now + 7 + weight l.env.now.env.now.selectors.now
+decreases-summarized_by l = 9 * max (groups_levels l.groups.now) (summaries_levels l.items.now) + 7 + weight l.env.now.env.now.selectors.now
 
 abbrev pub decreases-closed_value : goal.decreases-closed_value
 decreases-closed_value l = 9 * levels l.tree.now + 2 + weight l.env.now.env.now.selectors.now
