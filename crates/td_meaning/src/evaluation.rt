@@ -5,6 +5,7 @@ ghost use Rattle.td_algebra.specs.Functions as functions;
 ghost use Rattle.td_algebra.specs.Raising.{Answers, AnswersBy};
 ghost use Rattle.td_algebra.specs.Summaries.{summary_over};
 ghost use Rattle.td_operators.specs.ForProofs.Lent.{operand_value};
+ghost use Rattle.td_meaning.specs.ForProofs.Checks.{AreChecks, all_hold, check_holds};
 ghost use Rattle.td_meaning.specs.ForProofs.Over as over;
 ghost use Rattle.td_meaning.specs.ForProofs.Over.{list_meant, items_meant, all_meant, terms};
 ghost use Rattle.td_meaning.specs.ForProofs.Right.{AreRight, deepest_in, known_value};
@@ -12,10 +13,12 @@ ghost use Rattle.td_meaning.specs.ForProofs.Terms.{terms_levels};
 ghost use Rattle.td_meaning.specs.Mean as spec;
 ghost use Rattle.td_meaning.specs.Mean.{Names, truth_at};
 ghost use Rattle.td_operators.specs.Operators as operators;
+ghost use Rattle.td_trees.specs.declared.tree.Typed.{Typed};
 ghost use Rattle.td_meaning.specs.Seen.{all_given, held_value, mean_in, relvars_at, visible};
 ghost use Rattle.td_meaning.specs.Selections as selections;
 
 use crate::closed::{Terms, closed_parts};
+use crate::conditions::{Check, checks_of, compared};
 use crate::environment::{Environment, relvar_at};
 use crate::parts::{Part, copied, operand_known, put, value_known};
 use crate::scope::{Held, Scope, hold, operand_meant, value_meant};
@@ -26,8 +29,8 @@ use std::alloc::{AllocError, Global};
 use td_algebra::{Fault, Stop, aggregate, extend, restrict, summarize, summarize_by};
 use td_operators::{
     Lease, Operand, attribute_at, component_at, integer_value, nested, operate, operate_on,
-    part_at, relation_over, relation_value, rows_of, table_dee, text_value, truth_of,
-    truth_value, tuple_value, unnested, with_new_names,
+    part_at, relation_over, relation_value, rows_of, table_dee, text_value, truth_of, truth_value,
+    tuple_value, unnested, with_new_names,
 };
 use td_relations::Relation;
 use td_syntax::tree::{BinaryOperator, Named, Nesting, UnaryOperator};
@@ -618,7 +621,61 @@ fn prepared<'a>(
 // ---- over tuples
 
 #[cycle(evaluation)]
-#[tactic(auto, unfolding(crate::specs::Mean::truth_at))]
+#[tactic(auto, unfolding(crate::specs::ForProofs::Checks::check_holds))]
+fn holds_at(
+    alloc: Global,
+    env: &Surroundings,
+    check: &Check<'_>,
+    t: &Tuple,
+    scope: &Scope,
+) -> Result<bool, Fault>
+    ensures { Answers result (check_holds (mean_in env.now.env.now) (visible scope.now) t.now check.now) }
+{
+    match check {
+        Check::Comparison(operator, a, b) => compared(alloc, *operator, a, b, t),
+        Check::Other(tree) => truth(alloc, env, *tree, &Scope::Within(t, &*scope)),
+    }
+}
+
+#[cycle(evaluation)]
+fn all_hold(
+    alloc: Global,
+    env: &Surroundings,
+    checks: &[Check<'_>],
+    t: &Tuple,
+    scope: &Scope,
+) -> Result<bool, Fault>
+    ensures { Answers result (all_hold (mean_in env.now.env.now) (visible scope.now) t.now checks.now) }
+{
+    for check in checks {
+        if !holds_at(alloc, env, check, t, scope)? {
+            return Ok(false);
+        }
+    }
+    Ok(true)
+}
+
+#[cycle(evaluation)]
+fn restricted_to(
+    alloc: Global,
+    env: &Surroundings,
+    ts: &Relation,
+    checks: &[Check<'_>],
+    scope: &Scope,
+) -> Result<Relation, Fault>
+    ensures { (c : Typed) → AreChecks (mean_in env.now.env.now) (visible scope.now) ts.now.heading c checks.now → Answers result (functions.restricted (truth_at (mean_in env.now.env.now c) (visible scope.now)) ts.now) }
+{
+    ts.rows_fit();
+    restrict(
+        alloc,
+        ts,
+        |t: &Tuple| -> Result<bool, Fault>
+            ensures { Answers result (all_hold (mean_in env.entry.now.env.now) (visible scope.entry.now) t.now checks.entry.now) }
+        { all_hold(alloc, env, checks, t, scope) },
+    )
+}
+
+#[cycle(evaluation)]
 fn restricted(
     alloc: Global,
     env: &Surroundings,
@@ -628,13 +685,8 @@ fn restricted(
 ) -> Result<Relation, Fault>
     ensures { Answers result (functions.restricted (truth_at (mean_in env.now.env.now c.now) (visible scope.now)) ts.now) }
 {
-    restrict(
-        alloc,
-        ts,
-        |t: &Tuple| -> Result<bool, Fault>
-            ensures { Answers result (truth_at (mean_in env.entry.now.env.now c.entry.now) (visible scope.entry.now) t.now) }
-        { truth(alloc, env, c, &Scope::Within(t, &*scope)) },
-    )
+    let checks = checks_of(alloc, &*env, &*scope, ts.heading(), &*c)?;
+    restricted_to(alloc, env, ts, checks.as_slice(), scope)
 }
 
 #[cycle(evaluation)]

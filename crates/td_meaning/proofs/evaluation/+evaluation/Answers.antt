@@ -1,8 +1,8 @@
-use Rattle.std.proofs.Common.{◌+◌, ℕ, List, Vec, Global, drop, rules, get_or, Ok, sym, ap, ◌∙◌, subst, arith}
+use Rattle.std.proofs.Common.{◌+◌, ℕ, Bool, List, Vec, Global, drop, rules, get_or, Ok, sym, ap, ◌∙◌, subst, arith}
 use Rattle.td_values.specs.Data.{Datum}
 use Rattle.td_values.specs.Rows.{RowsData}
 use Rattle.td_syntax.specs.declared.tree.Named.{Named}
-use Rattle.td_algebra.specs.Functions.{extended, project_of, summarized}
+use Rattle.td_algebra.specs.Functions.{extended, project_of}
 use Rattle.td_algebra.specs.Raising.{Answers, AnswersBy}
 use Rattle.td_algebra.proofs.Bridges.{restricts_to, extends_to, summarizes_to}
 use Rattle.td_meaning.specs.declared.scope.Held.{Held}
@@ -11,8 +11,11 @@ use Rattle.td_meaning.specs.ForProofs.Over.{terms, list_meant, items_meant, all_
 use Rattle.td_operators.specs.ForProofs.Turns.{turn}
 use Rattle.td_meaning.specs.Mean.{at, named_at, introduced, truth_at, truth_in, rows_in, mean, mean_by, mean_binary, mean_where, mean_if, mean_with}
 use Rattle.td_operators.specs.Operators.{in_turn, operate_on, attribute_at, part_at, with_new_names, nested, unnested}
+use Rattle.td_tuples.specs.Parts.{Fits}
+use Rattle.td_meaning.specs.ForProofs.Checks.{AreChecks, all_hold, check_holds}
 use Rattle.td_meaning.specs.ForProofs.Right.{AreRight}
 use Rattle.td_meaning.proofs.Deepest.{in_deepest}
+use Rattle.td_meaning.proofs.Ready.{check_within, hold_goes, hold_stops}
 use Rattle.td_meaning.proofs.Rightness.{error_means, right_in_slice, told_error, value_means}
 use Rattle.td_meaning.specs.Seen.{held_value, all_given, mean_in, relvars_at, visible}
 use Rattle.td_meaning.specs.Selections.{admits, no_relvars, selection}
@@ -24,10 +27,23 @@ use Rattle.td_meaning.proofs.evaluation.+evaluation.Goals as goal
 
 -- ---- closures
 
+pub restricted_to-returns : goal.restricted_to-returns
+unfolding truth_at
+restricted_to-returns t c = λ a are.
+    let names = visible c.args.scope.now in
+    let h = c.args.ts.now.heading in
+    let m = truth_at (mean_in c.args.env.now.env.now a) names in
+    restricts_to m c.args.ts.now c.restrict.result (c.restrict.ensures m (λ k d lt r gave.
+    let fit = subst (Fits h) (sym gave.shows) (c.rows_fit.ensures.fit k d lt) in
+    subst (λ x. Answers r (m x)) gave.shows (subst (Answers r) (are gave.shown.now fit) gave.says.met)))
+
 pub restricted-returns : goal.restricted-returns
 restricted-returns t c =
-    let m = truth_at (mean_in c.args.env.now.env.now c.args.c.now) (visible c.args.scope.now) in
-    restricts_to m c.args.ts.now c.restrict.result (c.restrict.ensures m (λ k d lt r h. subst (λ x. Answers r (m x)) h.shows h.says.met))
+    let m = mean_in c.args.env.now.env.now in
+    let names = visible c.args.scope.now in
+    let a = c.args.c.now in
+    c.restricted_to.ensures a (subst (AreChecks m names c.args.ts.now.heading a) (sym c.as_slice.ensures.value)
+    (subst (λ h. AreChecks m names h a c.in_ok-checks.checks.items) c.heading.ensures c.in_ok-checks.ensures.means))
 
 pub extended-extend-requires : goal.extended-extend-requires
 extended-extend-requires t c = λ k d lt i x among p q is_term is_tuple.
@@ -69,6 +85,9 @@ fields-evaluate-requires t c = (omega (arith, c.decreases, in_items c.args.items
 
 pub introduced-evaluate-requires : goal.introduced-evaluate-requires
 introduced-evaluate-requires t c = (omega (arith, c.decreases, in_named c.args.xs.now c.loop-x.x-index c.x-item.result _ c.loop-x-test.true c.x-item.is c.get.ensures), tt)
+
+pub all_hold-holds_at-requires : goal.all_hold-holds_at-requires
+all_hold-holds_at-requires t c = (omega (arith, c.decreases, check_within c.args.checks.now c.loop-check.check-index c.check-item.result c.check-item.result c.loop-check-test.true c.check-item.is), tt)
 
 pub by_form-selection-requires : goal.by_form-selection-requires
 by_form-selection-requires t c = (omega (arith, c.decreases, select_falls c.args.tree.now c.in-Select.place c.in-Select.trees _ c.in-Select.is c.as_slice.ensures), tt)
@@ -165,6 +184,26 @@ introduced-returns-in_err-value t c =
     (λ e stop. c.loop-x.invariant ∙ name_stops m (all_given c.loop-x.found outer) xs c.loop-x.x-index c.x-item.result a c.loop-x-test.true c.x-item.is c.get.ensures e
     (ap (λ fs. m a (all_given fs outer)) (sym c.as_slice.ensures) ∙ stop))
     c.in_err-value.ensures in
+    search (rules, h)
+
+pub all_hold-loop-check-preserved : goal.all_hold-loop-check-preserved
+all_hold-loop-check-preserved t c =
+    let m = mean_in c.args.env.now.env.now in
+    let names = visible c.args.scope.now in
+    let u = c.args.t.now in
+    let k = c.check-item.result in
+    c.loop-check.invariant
+    ∙ hold_goes m names u c.args.checks.now c.loop-check.check-index k c.loop-check-test.true c.check-item.is (c.in_ok-holds_at.ensures ∙ ap Ok c.if-not-branch.false)
+
+pub all_hold-returns-in_err-holds_at : goal.all_hold-returns-in_err-holds_at
+all_hold-returns-in_err-holds_at t c =
+    let m = mean_in c.args.env.now.env.now in
+    let names = visible c.args.scope.now in
+    let u = c.args.t.now in
+    let k = c.check-item.result in
+    let h = fails {A = Bool} (λ (b : Bool). b) c.in_err-holds_at.field-0.0 (check_holds m names u k) (all_hold m names u c.args.checks.now)
+    (λ e stop. c.loop-check.invariant ∙ hold_stops m names u c.args.checks.now c.loop-check.check-index k c.loop-check-test.true c.check-item.is e stop)
+    c.in_err-holds_at.ensures in
     search (rules, h)
 
 pub admits-returns-in-Some : goal.admits-returns-in-Some
