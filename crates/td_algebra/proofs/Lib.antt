@@ -28,3 +28,4 @@ pub mod KeyLaws
 pub mod Marks
 pub mod Matchings
 pub mod GroupParts
+pub mod Beside

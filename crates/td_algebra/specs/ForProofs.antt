@@ -5,3 +5,4 @@ pub mod Opened
 pub mod Links
 pub mod Ends
 pub mod Gathered
+pub mod Origins

@@ -17,6 +17,7 @@ pub mod laws;
 mod matches;
 mod newcomers;
 mod opening;
+mod origins;
 mod parts;
 mod restriction;
 mod searches;

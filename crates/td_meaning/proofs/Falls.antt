@@ -60,20 +60,20 @@ of_term P (summary.And e) h = h e (omega arith)
 of_term P (summary.Or e) h = h e (omega arith)
 
 -- ---- a form with a list, as its parts are handed on
-pub select_falls : (a : Typed) (n : ℕ) (xs ys : List Typed) → a ≡ t.Select n xs → ys ≡ xs → 9 * list_levels ys + 5 < 9 * levels a
+pub select_falls : (a : Typed) (n : ℕ) (xs ys : List Typed) → a ≡ t.Select n xs → ys ≡ xs → 12 * list_levels ys + 5 < 12 * levels a
 select_falls a n xs ys is same = omega (arith, ap levels is, of_select n xs, ap list_levels same)
 
-pub relation_falls : (a : Typed) (h : Header) (xs ys : List Typed) → a ≡ t.Relation h xs → ys ≡ xs → 9 * list_levels ys + 3 < 9 * levels a
+pub relation_falls : (a : Typed) (h : Header) (xs ys : List Typed) → a ≡ t.Relation h xs → ys ≡ xs → 12 * list_levels ys + 3 < 12 * levels a
 relation_falls a h xs ys is same = omega (arith, ap levels is, of_relation h xs, ap list_levels same)
 
-pub tuple_falls : (a : Typed) (xs ys : List (Item Typed)) → a ≡ t.Tuple xs → ys ≡ xs → 9 * item_levels ys + 3 < 9 * levels a
+pub tuple_falls : (a : Typed) (xs ys : List (Item Typed)) → a ≡ t.Tuple xs → ys ≡ xs → 12 * item_levels ys + 3 < 12 * levels a
 tuple_falls a xs ys is same = omega (arith, ap levels is, of_tuple xs, ap item_levels same)
 
-pub extend_falls : (a b c : Typed) (xs ys : List (Item Typed)) → a ≡ t.Extend b xs → c ≡ b → ys ≡ xs → 9 * max (levels c) (item_levels ys) + 8 < 9 * levels a
+pub extend_falls : (a b c : Typed) (xs ys : List (Item Typed)) → a ≡ t.Extend b xs → c ≡ b → ys ≡ xs → 12 * max (levels c) (item_levels ys) + 8 < 12 * levels a
 extend_falls a b c xs ys is one same = omega (arith, ap levels is, of_extend b xs, ap levels one, ap item_levels same)
 
-pub with_falls : (a b c : Typed) (xs ys : List (Named Typed)) → a ≡ t.With xs b → c ≡ b → ys ≡ xs → 9 * max (named_levels ys) (levels c) + 3 < 9 * levels a
+pub with_falls : (a b c : Typed) (xs ys : List (Named Typed)) → a ≡ t.With xs b → c ≡ b → ys ≡ xs → 12 * max (named_levels ys) (levels c) + 3 < 12 * levels a
 with_falls a b c xs ys is one same = omega (arith, ap levels is, of_with xs b, ap levels one, ap named_levels same)
 
-pub summarize_falls : (a b c : Typed) (g : TypedGroups Typed) (xs ys : List (Item (Summary Typed))) → a ≡ t.Summarize b g xs → c ≡ b → ys ≡ xs → 9 * max (levels c) (max (groups_levels g) (summaries_levels ys)) + 8 < 9 * levels a
+pub summarize_falls : (a b c : Typed) (g : TypedGroups Typed) (xs ys : List (Item (Summary Typed))) → a ≡ t.Summarize b g xs → c ≡ b → ys ≡ xs → 12 * max (levels c) (max (groups_levels g) (summaries_levels ys)) + 8 < 12 * levels a
 summarize_falls a b c g xs ys is one same = omega (arith, ap levels is, of_summarize b g xs, ap levels one, ap summaries_levels same)

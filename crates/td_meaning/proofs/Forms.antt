@@ -1,8 +1,9 @@
 -- The equations of `mean`, form by form.
-use Rattle.std.proofs.Common.{◌≡◌, ◌≢◌, ℕ, ℤ, Bool, List, [], ◌∷◌, map, Result, Ok, refl, ap, sym, ◌∙◌}
+use Rattle.std.proofs.Common.{◌≡◌, ◌≢◌, ℕ, ℤ, Bool, List, [], ◌∷◌, map, Result, Ok, Err, refl, ap, sym, ◌∙◌}
 use Rattle.std.specs.FinMap as by_name
 use Rattle.td_values.specs.Data.{Ty, Datum, boolean, integer, char, Attrs}
 use Rattle.td_values.specs.Headings.{Header}
+use Rattle.td_values.specs.Rows.{RowsData}
 use Rattle.td_values.specs.Rows.{RowsData}
 use Rattle.td_syntax.specs.declared.tree.BinaryOperator.{BinaryOperator}
 use Rattle.td_syntax.specs.declared.tree.BinaryOperator.TheVariants as binary
@@ -27,7 +28,7 @@ use Rattle.td_algebra.specs.Functions.{relation_from, extended, summarized}
 use Rattle.td_algebra.specs.Raising.{all_of, and_then}
 use Rattle.td_algebra.specs.Summaries.{summary_over, over_groups, group_of}
 use Rattle.td_algebra.proofs.Walks.{all_mapped}
-use Rattle.td_meaning.specs.ForProofs.Over.{Means, terms, list_meant, items_meant, all_meant, over_aggregate, over_extend, over_summarize}
+use Rattle.td_meaning.specs.ForProofs.Over.{Means, terms, list_meant, items_meant, all_meant, over_aggregate, over_extend, over_summarize, summarized_over}
 use Rattle.td_meaning.specs.Mean.{Meaning, Relvars, Selection, mean, mean_step, mean_local, mean_relvar, mean_by, mean_both, mean_binary, mean_if, mean_select, mean_relation, mean_tuple, mean_with, mean_where, mean_aggregate, mean_extend, mean_summarize, groups_at, rows_in, value_at}
 use Rattle.td_operators.specs.Operators.{operate_on, component_at, attribute_at, part_at, with_new_names, nested, unnested, as_value}
 
@@ -180,13 +181,18 @@ module _ (relvars : Relvars) (selection : Selection) where
 
   -- ---- summaries over groups
 
-  all_over : (r : Typed) (g : TypedGroups Meaning) (items : List (Item (Summary Typed))) → mean_summarize (means r) g (map mapped items) ≡ (λ names. and_then (rows_in (means r) names) (λ ts. and_then (groups_at g names ts) (λ us. and_then (summarized (terms means names) items ts us) as_value)))
+  in_two : (w : Result RowsData Stop) (f : RowsData → Result RowsData Stop) → and_then w (λ us. and_then (f us) as_value) ≡ and_then (and_then w f) as_value
+  in_two (Ok us) f = refl
+  in_two (Err e) f = refl
+
+  all_over : (r : Typed) (g : TypedGroups Meaning) (items : List (Item (Summary Typed))) → mean_summarize (means r) g (map mapped items) ≡ (λ names. and_then (rows_in (means r) names) (λ ts. and_then (and_then (groups_at g names ts) (summarized (terms means names) items ts)) as_value))
   unfolding mean_summarize terms value_at
   all_over r g items = ap (mean_summarize (means r) g) (each_mapped items)
       ∙ (λ i names. and_then (rows_in (means r) names) (λ ts. and_then (groups_at g names ts) (λ us. and_then (summarized_mapped means (value_at names) items ts us i) as_value)))
+      ∙ (λ i names. and_then (rows_in (means r) names) (λ ts. in_two (groups_at g names ts) (summarized (terms means names) items ts) i))
 
   pub of_summarize : (r : Typed) (g : TypedGroups Typed) (items : List (Item (Summary Typed))) → means (t.Summarize r g items) ≡ over_summarize means r g items
-  unfolding over_summarize
+  unfolding over_summarize summarized_over
   of_summarize r groups.Whole items = ap means (sym (t.rolls-Summarize r groups.Whole items)) ∙ (fold-roll-Typed Meaning step (Typed-F.Summarize r groups.Whole items) ∙ all_over r groups.Whole items)
   of_summarize r (groups.Per a) items = ap means (sym (t.rolls-Summarize r (groups.Per a) items)) ∙ (fold-roll-Typed Meaning step (Typed-F.Summarize r (groups.Per a) items) ∙ all_over r (groups.Per (means a)) items)
   of_summarize r (groups.By xs) items = ap means (sym (t.rolls-Summarize r (groups.By xs) items)) ∙ (fold-roll-Typed Meaning step (Typed-F.Summarize r (groups.By xs) items) ∙ all_over r (groups.By xs) items)

@@ -8,3 +8,4 @@ pub mod Scopes
 pub mod Fewer
 pub mod Rightness
 pub mod Deepest
+pub mod Ready

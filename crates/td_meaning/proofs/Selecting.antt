@@ -10,7 +10,7 @@ use Rattle.td_meaning.specs.Selections.{selected, selection, one_more, none_sele
 last_selection : (earlier : List Selector) (s : Selector) → selection (earlier ++ s ∷ []) ≡ one_more (selection earlier) s
 last_selection earlier s = fold_push one_more none_selected earlier s
 
-last_weight : (earlier : List Selector) (s : Selector) → weight (earlier ++ s ∷ []) ≡ weight earlier + (9 * limit_levels s.limit + 4)
+last_weight : (earlier : List Selector) (s : Selector) → weight (earlier ++ s ∷ []) ≡ weight earlier + (12 * limit_levels s.limit + 4)
 last_weight [] s = omega arith
 last_weight (t ∷ earlier) s = omega (arith, last_weight earlier s)
 
@@ -18,7 +18,7 @@ pub begins : (ss : List Selector) (n : ℕ) → IsRest ss n ss
 begins ss n = record { same = λ ds. refl; lighter = omega arith }
 
 module _ (ss rest earlier : List Selector) (n : ℕ) (s : Selector) (so_far : IsRest ss n rest) (is : rest ≡ earlier ++ s ∷ []) where
-  heavier : weight earlier + (9 * limit_levels s.limit + 4) ≤ weight ss
+  heavier : weight earlier + (12 * limit_levels s.limit + 4) ≤ weight ss
   heavier = omega (arith, so_far.lighter, ap weight is, last_weight earlier s)
 
   one : (ds : List Datum) → selection ss n ds ≡ one_more (selection earlier) s n ds

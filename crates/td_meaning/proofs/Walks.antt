@@ -105,10 +105,3 @@ module _ (all : Result RowsData Stop) (f : RowsData → Result RowsData Stop) (t
 
   pub stops_over : (e : Stop) → f us ≡ Err e → and_then all (λ r. and_then (f r) as_value) ≡ Err e
   stops_over e stop = over_first ∙ ap (λ w. and_then w as_value) stop
-
-module _ (all : Result RowsData Stop) (g : RowsData → Result RowsData Stop) (f : RowsData → RowsData → Result RowsData Stop) (ts us t1 t2 u : RowsData) where
-  pub over_both : all ≡ Ok ts → t1 ≡ ts → t2 ≡ ts → g t1 ≡ Ok us → u ≡ us → and_then all (λ r. and_then (g r) (λ s. and_then (f r s) as_value)) ≡ and_then (f t2 u) as_value
-  over_both first p1 p2 second q =
-      ap (λ w. and_then w (λ r. and_then (g r) (λ s. and_then (f r s) as_value))) first
-      ∙ ap (λ w. and_then w (λ s. and_then (f ts s) as_value)) (ap g (sym p1) ∙ second)
-      ∙ (λ i. and_then (f (sym p2 i) (sym q i)) as_value)

@@ -6,3 +6,4 @@ pub mod Latest
 pub mod Found
 pub mod Right
 pub mod Terms
+pub mod Checks

@@ -5,17 +5,20 @@ ghost use Rattle.td_algebra.specs.Functions as functions;
 ghost use Rattle.td_algebra.specs.Raising.{Answers, AnswersBy};
 ghost use Rattle.td_algebra.specs.Summaries.{summary_over};
 ghost use Rattle.td_operators.specs.ForProofs.Lent.{operand_value};
+ghost use Rattle.td_meaning.specs.ForProofs.Checks.{AreChecks, all_hold, check_holds};
 ghost use Rattle.td_meaning.specs.ForProofs.Over as over;
-ghost use Rattle.td_meaning.specs.ForProofs.Over.{list_meant, items_meant, all_meant, groups_meant, terms};
+ghost use Rattle.td_meaning.specs.ForProofs.Over.{list_meant, items_meant, all_meant, terms};
 ghost use Rattle.td_meaning.specs.ForProofs.Right.{AreRight, deepest_in, known_value};
 ghost use Rattle.td_meaning.specs.ForProofs.Terms.{terms_levels};
 ghost use Rattle.td_meaning.specs.Mean as spec;
 ghost use Rattle.td_meaning.specs.Mean.{Names, truth_at};
 ghost use Rattle.td_operators.specs.Operators as operators;
+ghost use Rattle.td_trees.specs.declared.tree.Typed.{Typed};
 ghost use Rattle.td_meaning.specs.Seen.{all_given, held_value, mean_in, relvars_at, visible};
 ghost use Rattle.td_meaning.specs.Selections as selections;
 
 use crate::closed::{Terms, closed_parts};
+use crate::conditions::{Check, checks_of, compared};
 use crate::environment::{Environment, relvar_at};
 use crate::parts::{Part, copied, operand_known, put, value_known};
 use crate::scope::{Held, Scope, hold, operand_meant, value_meant};
@@ -23,11 +26,11 @@ use crate::selections::{selector_at, user_value};
 use crate::surroundings::Surroundings;
 use sqlite_items::{Boxed, Items};
 use std::alloc::{AllocError, Global};
-use td_algebra::{Fault, Stop, aggregate, extend, restrict, summarize};
+use td_algebra::{Fault, Stop, aggregate, extend, restrict, summarize, summarize_by};
 use td_operators::{
     Lease, Operand, attribute_at, component_at, integer_value, nested, operate, operate_on,
-    part_at, project_of, relation_over, relation_value, rows_of, table_dee, text_value, truth_of,
-    truth_value, tuple_value, unnested, with_new_names,
+    part_at, relation_over, relation_value, rows_of, table_dee, text_value, truth_of, truth_value,
+    tuple_value, unnested, with_new_names,
 };
 use td_relations::Relation;
 use td_syntax::tree::{BinaryOperator, Named, Nesting, UnaryOperator};
@@ -618,7 +621,61 @@ fn prepared<'a>(
 // ---- over tuples
 
 #[cycle(evaluation)]
-#[tactic(auto, unfolding(crate::specs::Mean::truth_at))]
+#[tactic(auto, unfolding(crate::specs::ForProofs::Checks::check_holds))]
+fn holds_at(
+    alloc: Global,
+    env: &Surroundings,
+    check: &Check<'_>,
+    t: &Tuple,
+    scope: &Scope,
+) -> Result<bool, Fault>
+    ensures { Answers result (check_holds (mean_in env.now.env.now) (visible scope.now) t.now check.now) }
+{
+    match check {
+        Check::Comparison(operator, a, b) => compared(alloc, *operator, a, b, t),
+        Check::Other(tree) => truth(alloc, env, *tree, &Scope::Within(t, &*scope)),
+    }
+}
+
+#[cycle(evaluation)]
+fn all_hold(
+    alloc: Global,
+    env: &Surroundings,
+    checks: &[Check<'_>],
+    t: &Tuple,
+    scope: &Scope,
+) -> Result<bool, Fault>
+    ensures { Answers result (all_hold (mean_in env.now.env.now) (visible scope.now) t.now checks.now) }
+{
+    for check in checks {
+        if !holds_at(alloc, env, check, t, scope)? {
+            return Ok(false);
+        }
+    }
+    Ok(true)
+}
+
+#[cycle(evaluation)]
+fn restricted_to(
+    alloc: Global,
+    env: &Surroundings,
+    ts: &Relation,
+    checks: &[Check<'_>],
+    scope: &Scope,
+) -> Result<Relation, Fault>
+    ensures { (c : Typed) → AreChecks (mean_in env.now.env.now) (visible scope.now) ts.now.heading c checks.now → Answers result (functions.restricted (truth_at (mean_in env.now.env.now c) (visible scope.now)) ts.now) }
+{
+    ts.rows_fit();
+    restrict(
+        alloc,
+        ts,
+        |t: &Tuple| -> Result<bool, Fault>
+            ensures { Answers result (all_hold (mean_in env.entry.now.env.now) (visible scope.entry.now) t.now checks.entry.now) }
+        { all_hold(alloc, env, checks, t, scope) },
+    )
+}
+
+#[cycle(evaluation)]
 fn restricted(
     alloc: Global,
     env: &Surroundings,
@@ -628,13 +685,8 @@ fn restricted(
 ) -> Result<Relation, Fault>
     ensures { Answers result (functions.restricted (truth_at (mean_in env.now.env.now c.now) (visible scope.now)) ts.now) }
 {
-    restrict(
-        alloc,
-        ts,
-        |t: &Tuple| -> Result<bool, Fault>
-            ensures { Answers result (truth_at (mean_in env.entry.now.env.now c.entry.now) (visible scope.entry.now) t.now) }
-        { truth(alloc, env, c, &Scope::Within(t, &*scope)) },
-    )
+    let checks = checks_of(alloc, &*env, &*scope, ts.heading(), &*c)?;
+    restricted_to(alloc, env, ts, checks.as_slice(), scope)
 }
 
 #[cycle(evaluation)]
@@ -791,24 +843,6 @@ fn extension(
 }
 
 #[cycle(evaluation)]
-#[tactic(auto, unfolding(crate::specs::Mean::groups_at))]
-fn groups<'a>(
-    alloc: Global,
-    env: &'a Surroundings<'_>,
-    groups: &TypedGroups<Boxed<Typed>>,
-    ts: &Relation,
-    scope: &'a Scope<'_>,
-) -> Result<Lease<'a>, Fault>
-    ensures { Answers result (spec.groups_at (groups_meant (mean_in env.now.env.now) groups.now) (visible scope.now) ts.now) }
-{
-    match groups {
-        TypedGroups::Whole => Ok(Lease::own(table_dee(alloc)?)),
-        TypedGroups::Per(a) => rows(alloc, &*env, a.get(), &*scope),
-        TypedGroups::By(names) => Ok(Lease::own(project_of(alloc, ts, names.as_slice())?)),
-    }
-}
-
-#[cycle(evaluation)]
 #[tactic(auto, unfolding(crate::specs::ForProofs::Over::terms))]
 fn summarized(
     alloc: Global,
@@ -831,16 +865,67 @@ fn summarized(
     )
 }
 
+// Per the relation's own parts: the runs of one sort.
+#[cycle(evaluation)]
+#[tactic(auto, unfolding(crate::specs::ForProofs::Over::terms))]
+fn summarized_in_runs(
+    alloc: Global,
+    env: &Surroundings,
+    ts: &Relation,
+    names: &[Name],
+    items: &[Item<Summary<Boxed<Typed>>>],
+    scope: &Scope,
+) -> Result<Relation, Fault>
+    ensures { Answers result (functions.summarized (terms (mean_in env.now.env.now) (visible scope.now)) items.now ts.now (functions.project_of names.now ts.now)) }
+{
+    summarize_by(
+        alloc,
+        ts,
+        names,
+        items,
+        &|e: &Boxed<Typed>, t: &Tuple| -> Result<Value, Fault>
+            ensures { Answers result (terms (mean_in env.entry.now.env.now) (visible scope.entry.now) e.now t.now) }
+        { evaluate(alloc, env, e.get(), &Scope::Within(t, &*scope)) },
+    )
+}
+
+#[cycle(evaluation)]
+#[tactic(auto, unfolding(crate::specs::ForProofs::Over::summarized_over, crate::specs::Mean::groups_at))]
+fn groups_summarized(
+    alloc: Global,
+    env: &Surroundings,
+    ts: &Relation,
+    groups: &TypedGroups<Boxed<Typed>>,
+    items: &[Item<Summary<Boxed<Typed>>>],
+    scope: &Scope,
+) -> Result<Relation, Fault>
+    ensures { Answers result (over.summarized_over (mean_in env.now.env.now) groups.now items.now (visible scope.now) ts.now) }
+{
+    match groups {
+        TypedGroups::Whole => {
+            let us = table_dee(alloc)?;
+            summarized(alloc, env, ts, &us, items, scope)
+        }
+        TypedGroups::Per(a) => {
+            let us = rows(alloc, &*env, a.get(), &*scope)?;
+            summarized(alloc, env, ts, us.get(), items, scope)
+        }
+        TypedGroups::By(names) => {
+            summarized_in_runs(alloc, env, ts, names.as_slice(), items, scope)
+        }
+    }
+}
+
 #[cycle(evaluation)]
 fn summarized_by(
     alloc: Global,
     env: &Surroundings,
     ts: &Relation,
-    us: &Relation,
+    groups: &TypedGroups<Boxed<Typed>>,
     items: &[Item<Summary<Boxed<Typed>>>],
     scope: &Scope,
 ) -> Result<Relation, Fault>
-    ensures { Answers result (functions.summarized (terms (mean_in env.now.env.now) (visible scope.now)) items.now ts.now us.now) }
+    ensures { Answers result (over.summarized_over (mean_in env.now.env.now) groups.now items.now (visible scope.now) ts.now) }
 {
     match prepared(alloc, &*env, Terms::Summaries(&*items), ts.len())? {
         Some(parts) => {
@@ -848,9 +933,9 @@ fn summarized_by(
                 env: &*env.env,
                 parts: parts.as_slice(),
             };
-            summarized(alloc, &around, ts, us, items, scope)
+            groups_summarized(alloc, &around, ts, groups, items, scope)
         }
-        None => summarized(alloc, env, ts, us, items, scope),
+        None => groups_summarized(alloc, env, ts, groups, items, scope),
     }
 }
 
@@ -867,9 +952,7 @@ fn summarization(
     ensures { Answers result (over.over_summarize (mean_in env.now.env.now) r.now by.now items.now (visible scope.now)) }
 {
     let ts = rows(alloc, &*env, r, &*scope)?;
-    let us = groups(alloc, &*env, by, ts.get(), &*scope)?;
-    let found = summarized_by(alloc, env, ts.get(), us.get(), items, scope)?;
-    Ok(relation_value(found))
+    Ok(relation_value(summarized_by(alloc, env, ts.get(), by, items, scope)?))
 }
 
 /// The value of an expression, by its form.

@@ -2,6 +2,7 @@
 #![tactic(auto)]
 
 mod closed;
+mod conditions;
 pub mod environment;
 mod evaluation;
 pub mod laws;

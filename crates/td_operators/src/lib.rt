@@ -1,6 +1,7 @@
 //! What operators make of values, or the errors that they raise.
 #![tactic(auto)]
 
+mod comparisons;
 pub mod operand;
 mod operators;
 mod pairs;
@@ -8,6 +9,7 @@ mod parts;
 mod relations;
 mod tuples;
 
+pub use comparisons::holds;
 pub use operand::{Lease, Operand, rows_of};
 pub use operators::{
     attribute_at, component_at, nested, operate_on, part_at, unnested, with_new_names,

@@ -12,7 +12,7 @@ IsNowhere ss n = (ds : List Datum) → selection ss n ds ≡ Err Untyped
 -- s makes what is selected at the place, and those before it weigh less by it
 pub record IsFound (ss : List Selector) (n : ℕ) (earlier : List Selector) (s : Selector) : Type 0 where
   pub makes : (ds : List Datum) → selection ss n ds ≡ selected (selection earlier) s ds
-  pub lighter : weight earlier + (9 * limit_levels s.limit + 4) ≤ weight ss
+  pub lighter : weight earlier + (12 * limit_levels s.limit + 4) ≤ weight ss
 
 -- what is selected at the place is selected among the first ones
 pub record IsRest (ss : List Selector) (n : ℕ) (rest : List Selector) : Type 0 where

@@ -104,4 +104,4 @@ limit_levels (Some a) = levels a
 
 abbrev pub weight : List Selector → ℕ
 weight [] = 0
-weight (s ∷ ss) = 9 * limit_levels s.limit + 4 + weight ss
+weight (s ∷ ss) = 12 * limit_levels s.limit + 4 + weight ss

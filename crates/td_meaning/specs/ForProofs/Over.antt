@@ -1,6 +1,7 @@
 -- The forms with terms, over the expressions themselves and not over their meanings.
 use Rattle.std.specs.Prelude.{List, map, Result}
 use Rattle.td_values.specs.Data.{Datum, Attrs}
+use Rattle.td_values.specs.Rows.{RowsData}
 use Rattle.td_syntax.specs.declared.tree.Named.{Named}
 use Rattle.td_tuples.specs.declared.items.Item.{Item}
 use Rattle.td_tuples.specs.declared.items.Summary.{Summary}
@@ -49,5 +50,9 @@ over_aggregate m r s names = and_then (rows_in (m r) names) (λ ts. summary_over
 unfoldable pub over_extend : Means → Typed → List (Item Typed) → Meaning
 over_extend m r items names = and_then (rows_in (m r) names) (λ ts. and_then (extended (terms m names) items ts) as_value)
 
+-- the summaries per the groups of a relation
+unfoldable pub summarized_over : Means → TypedGroups Typed → List (Item (Summary Typed)) → Names → RowsData → Result RowsData Stop
+summarized_over m g items names ts = and_then (groups_at (groups_meant m g) names ts) (summarized (terms m names) items ts)
+
 unfoldable pub over_summarize : Means → Typed → TypedGroups Typed → List (Item (Summary Typed)) → Meaning
-over_summarize m r g items names = and_then (rows_in (m r) names) (λ ts. and_then (groups_at (groups_meant m g) names ts) (λ us. and_then (summarized (terms m names) items ts us) as_value))
+over_summarize m r g items names = and_then (rows_in (m r) names) (λ ts. and_then (summarized_over m g items names ts) as_value)

@@ -1,33 +1,49 @@
-use Rattle.std.proofs.Common.{◌+◌, ℕ, List, Vec, Global, drop, rules, get_or, Ok, sym, ap, ◌∙◌, subst, arith}
+use Rattle.std.proofs.Common.{◌+◌, ℕ, Bool, List, Vec, Global, drop, rules, get_or, Ok, sym, ap, ◌∙◌, subst, arith}
 use Rattle.td_values.specs.Data.{Datum}
 use Rattle.td_values.specs.Rows.{RowsData}
 use Rattle.td_syntax.specs.declared.tree.Named.{Named}
-use Rattle.td_algebra.specs.Functions.{extended, summarized}
-use Rattle.td_algebra.specs.Raising.{Answers, AnswersBy, and_then}
+use Rattle.td_algebra.specs.Functions.{extended, project_of}
+use Rattle.td_algebra.specs.Raising.{Answers, AnswersBy}
 use Rattle.td_algebra.proofs.Bridges.{restricts_to, extends_to, summarizes_to}
 use Rattle.td_meaning.specs.declared.scope.Held.{Held}
 use Rattle.td_operators.specs.ForProofs.Lent.{operand_value}
-use Rattle.td_meaning.specs.ForProofs.Over.{terms, list_meant, items_meant, all_meant, groups_meant, over_aggregate, over_extend, over_summarize}
+use Rattle.td_meaning.specs.ForProofs.Over.{terms, list_meant, items_meant, all_meant, over_aggregate, over_extend, over_summarize, summarized_over}
 use Rattle.td_operators.specs.ForProofs.Turns.{turn}
-use Rattle.td_meaning.specs.Mean.{at, named_at, introduced, truth_at, truth_in, rows_in, groups_at, mean, mean_by, mean_binary, mean_where, mean_if, mean_with}
-use Rattle.td_operators.specs.Operators.{as_value, in_turn, operate_on, attribute_at, part_at, with_new_names, nested, unnested}
+use Rattle.td_meaning.specs.Mean.{at, named_at, introduced, truth_at, truth_in, rows_in, mean, mean_by, mean_binary, mean_where, mean_if, mean_with}
+use Rattle.td_operators.specs.Operators.{in_turn, operate_on, attribute_at, part_at, with_new_names, nested, unnested}
+use Rattle.td_tuples.specs.Parts.{Fits}
+use Rattle.td_meaning.specs.ForProofs.Checks.{AreChecks, all_hold, check_holds}
 use Rattle.td_meaning.specs.ForProofs.Right.{AreRight}
 use Rattle.td_meaning.proofs.Deepest.{in_deepest}
+use Rattle.td_meaning.proofs.Ready.{check_within, hold_goes, hold_stops}
 use Rattle.td_meaning.proofs.Rightness.{error_means, right_in_slice, told_error, value_means}
 use Rattle.td_meaning.specs.Seen.{held_value, all_given, mean_in, relvars_at, visible}
 use Rattle.td_meaning.specs.Selections.{admits, no_relvars, selection}
 use Rattle.td_meaning.proofs.Falls.{in_list, in_items, in_named, term_within, summary_within, of_term, select_falls, relation_falls, tuple_falls, extend_falls, with_falls, summarize_falls}
 use Rattle.td_meaning.proofs.Forms.{of_relvar, of_unary, of_binary, of_from, of_project, of_where, of_rename, of_nest, of_unnest, of_aggregate, of_if, of_extend, of_summarize, of_with}
-use Rattle.td_meaning.proofs.Walks.{value_goes, value_stops, field_goes, field_stops, name_goes, name_stops, one_more_given, fails, made_over, stops_over, over_both}
+use Rattle.td_meaning.proofs.Walks.{value_goes, value_stops, field_goes, field_stops, name_goes, name_stops, one_more_given, fails, made_over, stops_over}
 use Rattle.td_operators.proofs.Turns.{turn_begins}
 use Rattle.td_meaning.proofs.evaluation.+evaluation.Goals as goal
 
 -- ---- closures
 
+pub restricted_to-returns : goal.restricted_to-returns
+unfolding truth_at
+restricted_to-returns t c = λ a are.
+    let names = visible c.args.scope.now in
+    let h = c.args.ts.now.heading in
+    let m = truth_at (mean_in c.args.env.now.env.now a) names in
+    restricts_to m c.args.ts.now c.restrict.result (c.restrict.ensures m (λ k d lt r gave.
+    let fit = subst (Fits h) (sym gave.shows) (c.rows_fit.ensures.fit k d lt) in
+    subst (λ x. Answers r (m x)) gave.shows (subst (Answers r) (are gave.shown.now fit) gave.says.met)))
+
 pub restricted-returns : goal.restricted-returns
 restricted-returns t c =
-    let m = truth_at (mean_in c.args.env.now.env.now c.args.c.now) (visible c.args.scope.now) in
-    restricts_to m c.args.ts.now c.restrict.result (c.restrict.ensures m (λ k d lt r h. subst (λ x. Answers r (m x)) h.shows h.says.met))
+    let m = mean_in c.args.env.now.env.now in
+    let names = visible c.args.scope.now in
+    let a = c.args.c.now in
+    c.restricted_to.ensures a (subst (AreChecks m names c.args.ts.now.heading a) (sym c.as_slice.ensures.value)
+    (subst (λ h. AreChecks m names h a c.in_ok-checks.checks.items) c.heading.ensures c.in_ok-checks.ensures.means))
 
 pub extended-extend-requires : goal.extended-extend-requires
 extended-extend-requires t c = λ k d lt i x among p q is_term is_tuple.
@@ -49,6 +65,16 @@ summarized-returns t c =
     summarizes_to m c.args.items.now c.args.ts.now c.args.us.now c.summarize.result (c.summarize.ensures m (λ k d lt i x among. of_term _ (get_or c.args.items.now i x).term (λ e le p q a is_term is_tuple gave.
     subst (λ e. Answers a (m e (get_or c.args.ts.now.tuples k d))) is_term (subst (λ u. Answers a (m p.now u)) is_tuple gave))))
 
+pub summarized_in_runs-summarize_by-requires : goal.summarized_in_runs-summarize_by-requires
+summarized_in_runs-summarize_by-requires t c = λ k d lt i x among. of_term _ (get_or c.args.items.now i x).term (λ e le p q is_term is_tuple.
+    (omega (arith, c.decreases, summary_within c.args.items.now i x e p.now among le is_term), tt))
+
+pub summarized_in_runs-returns : goal.summarized_in_runs-returns
+summarized_in_runs-returns t c =
+    let m = terms (mean_in c.args.env.now.env.now) (visible c.args.scope.now) in
+    summarizes_to m c.args.items.now c.args.ts.now (project_of c.args.names.now c.args.ts.now) c.summarize_by.result (c.summarize_by.ensures m (λ k d lt i x among. of_term _ (get_or c.args.items.now i x).term (λ e le p q a is_term is_tuple gave.
+    subst (λ e. Answers a (m e (get_or c.args.ts.now.tuples k d))) is_term (subst (λ u. Answers a (m p.now u)) is_tuple gave))))
+
 -- ---- measures
 
 pub values-evaluate-requires : goal.values-evaluate-requires
@@ -59,6 +85,9 @@ fields-evaluate-requires t c = (omega (arith, c.decreases, in_items c.args.items
 
 pub introduced-evaluate-requires : goal.introduced-evaluate-requires
 introduced-evaluate-requires t c = (omega (arith, c.decreases, in_named c.args.xs.now c.loop-x.x-index c.x-item.result _ c.loop-x-test.true c.x-item.is c.get.ensures), tt)
+
+pub all_hold-holds_at-requires : goal.all_hold-holds_at-requires
+all_hold-holds_at-requires t c = (omega (arith, c.decreases, check_within c.args.checks.now c.loop-check.check-index c.check-item.result c.check-item.result c.loop-check-test.true c.check-item.is), tt)
 
 pub by_form-selection-requires : goal.by_form-selection-requires
 by_form-selection-requires t c = (omega (arith, c.decreases, select_falls c.args.tree.now c.in-Select.place c.in-Select.trees _ c.in-Select.is c.as_slice.ensures), tt)
@@ -157,6 +186,26 @@ introduced-returns-in_err-value t c =
     c.in_err-value.ensures in
     search (rules, h)
 
+pub all_hold-loop-check-preserved : goal.all_hold-loop-check-preserved
+all_hold-loop-check-preserved t c =
+    let m = mean_in c.args.env.now.env.now in
+    let names = visible c.args.scope.now in
+    let u = c.args.t.now in
+    let k = c.check-item.result in
+    c.loop-check.invariant
+    ∙ hold_goes m names u c.args.checks.now c.loop-check.check-index k c.loop-check-test.true c.check-item.is (c.in_ok-holds_at.ensures ∙ ap Ok c.if-not-branch.false)
+
+pub all_hold-returns-in_err-holds_at : goal.all_hold-returns-in_err-holds_at
+all_hold-returns-in_err-holds_at t c =
+    let m = mean_in c.args.env.now.env.now in
+    let names = visible c.args.scope.now in
+    let u = c.args.t.now in
+    let k = c.check-item.result in
+    let h = fails {A = Bool} (λ (b : Bool). b) c.in_err-holds_at.field-0.0 (check_holds m names u k) (all_hold m names u c.args.checks.now)
+    (λ e stop. c.loop-check.invariant ∙ hold_stops m names u c.args.checks.now c.loop-check.check-index k c.loop-check-test.true c.check-item.is e stop)
+    c.in_err-holds_at.ensures in
+    search (rules, h)
+
 pub admits-returns-in-Some : goal.admits-returns-in-Some
 unfolding admits
 admits-returns-in-Some t c =
@@ -192,23 +241,18 @@ unfolding over_summarize
 summarization-returns t c =
     let m = mean_in c.args.env.now.env.now in
     let names = visible c.args.scope.now in
-    over_both (rows_in (m c.args.r.now) names) (groups_at (groups_meant m c.args.by.now) names) (summarized (terms m names) c.args.items.now)
-    c.in_ok-ts.ts c.in_ok-us.us c.get.result.now c.get-2.result.now c.get-3.result.now
-    c.in_ok-ts.ensures c.get.ensures c.get-2.ensures c.in_ok-us.ensures c.get-3.ensures
-    ∙ ap (λ w. and_then w as_value) c.in_ok-found.ensures ∙ ap Ok (sym c.relation_value.ensures)
+    made_over (rows_in (m c.args.r.now) names) (summarized_over m c.args.by.now c.args.items.now names) c.in_ok-ts.ts c.get.result.now c.in_ok-ts.ensures c.get.ensures
+    c.in_ok-summarized_by.field-0 c.relation_value.result c.in_ok-summarized_by.ensures c.relation_value.ensures
 
-pub summarization-returns-in_err-found : goal.summarization-returns-in_err-found
+pub summarization-returns-in_err-summarized_by : goal.summarization-returns-in_err-summarized_by
 unfolding over_summarize
-summarization-returns-in_err-found t c =
+summarization-returns-in_err-summarized_by t c =
     let m = mean_in c.args.env.now.env.now in
     let names = visible c.args.scope.now in
-    let f = summarized (terms m names) c.args.items.now in
-    let h = fails {A = RowsData} (λ (d : Datum). d) c.in_err-found.field-0.0 (f c.get-2.result.now c.get-3.result.now) (over_summarize m c.args.r.now c.args.by.now c.args.items.now names)
-    (λ e stop. over_both (rows_in (m c.args.r.now) names) (groups_at (groups_meant m c.args.by.now) names) f
-    c.in_ok-ts.ts c.in_ok-us.us c.get.result.now c.get-2.result.now c.get-3.result.now
-    c.in_ok-ts.ensures c.get.ensures c.get-2.ensures c.in_ok-us.ensures c.get-3.ensures
-    ∙ ap (λ w. and_then w as_value) stop)
-    c.in_err-found.ensures in
+    let f = summarized_over m c.args.by.now c.args.items.now names in
+    let h = fails {A = RowsData} (λ (d : Datum). d) c.in_err-summarized_by.field-0.0 (f c.get.result.now) (over_summarize m c.args.r.now c.args.by.now c.args.items.now names)
+    (λ e stop. stops_over (rows_in (m c.args.r.now) names) f c.in_ok-ts.ts c.get.result.now c.in_ok-ts.ensures c.get.ensures e stop)
+    c.in_err-summarized_by.ensures in
     search (rules, h)
 
 -- ---- forms

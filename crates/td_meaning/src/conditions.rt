@@ -1,0 +1,259 @@
+//! Conditions made ready for a walk over tuples.
+
+ghost use Rattle.std.specs.Prelude.{◌≡◌, ◌≤◌, ◌++◌, ◌∷◌, [], max, IfOk, IfSome, IsTrue, Ok, OnOk};
+ghost use Rattle.std.specs.Option.{option_copied};
+ghost use Rattle.td_algebra.specs.KeyIndexes.{place_in};
+ghost use Rattle.td_algebra.specs.Raising.{Answers};
+ghost use Rattle.td_meaning.specs.ForProofs.Checks.{AddsChecks, AreChecks, IsCheck, IsSide, check_levels, comparison, deepest_check, side_value};
+ghost use Rattle.td_meaning.specs.ForProofs.Levels.{levels};
+ghost use Rattle.td_meaning.specs.ForProofs.Right.{known_value};
+ghost use Rattle.td_meaning.specs.ForProofs.Standing.{meant_value};
+ghost use Rattle.td_meaning.specs.Mean.{Meaning, mean_binary, mean_both, within};
+ghost use Rattle.td_meaning.specs.Seen.{mean_in, visible};
+ghost use Rattle.td_operators.specs.Values.{known};
+ghost use Rattle.td_syntax.specs.declared.tree.BinaryOperator.TheVariants as binary;
+ghost use Rattle.td_tuples.specs.Parts.{Fits};
+ghost use Rattle.td_values.specs.Data.{Attrs};
+
+use crate::scope::{Held, Meant, Scope, lent};
+use crate::surroundings::Surroundings;
+use sqlite_items::Boxed;
+use std::alloc::{AllocError, Global};
+use td_algebra::{Fault, Stop};
+use td_operators::{holds, integer_value, text_value, truth_value};
+use td_syntax::tree::BinaryOperator;
+use td_trees::tree::Typed;
+use td_values::{Heading, Name, Tuple, Value, copy};
+
+/// What is compared: an attribute of the tuple, by its place, or a value that is one at all tuples.
+#[derive(Drop)]
+pub(crate) enum Side {
+    Attribute(usize),
+    Value(Boxed<Value>),
+}
+
+/// A part of a condition whose parts are joined by AND.
+#[derive(Drop)]
+pub(crate) enum Check<'a> {
+    Comparison(BinaryOperator, Side, Side),
+    Other(&'a Typed),
+}
+
+// Where the name stands in the heading; where it lacks it, how many columns it has.
+fn place_of(heading: &Heading, name: &Name) -> usize
+    ensures { result ≡ place_in heading.now name.now }
+{
+    let fields = heading.fields();
+    for at in 0..fields.len() {
+        if *name == fields[at].0 {
+            return at;
+        }
+    }
+    fields.len()
+}
+
+fn side_value(alloc: Global, value: Value) -> Result<Side, AllocError>
+    ensures { IfOk result (λ s. (t : Attrs) → side_value t s ≡ Ok value) }
+{
+    Ok(Side::Value(Boxed::new(alloc, value)?))
+}
+
+// The value of what a name stands for. A relation is left to the operators, to which it is lent.
+fn side_meant(alloc: Global, meant: Meant<'_>) -> Result<Option<Side>, AllocError>
+    ensures { IfOk result (λ o. IfSome o (λ s. (t : Attrs) → side_value t s ≡ Ok (meant_value meant.entry))) }
+{
+    match meant {
+        Meant::Value(value) => Ok(Some(side_value(alloc, copy(alloc, value)?)?)),
+        Meant::Rows(_) => Ok(None),
+    }
+}
+
+fn side_known(alloc: Global, value: &Result<Held, Stop>) -> Result<Option<Side>, AllocError>
+    ensures { IfOk result (λ o. IfSome o (λ s. (t : Attrs) → side_value t s ≡ known_value value.now)) }
+{
+    match value {
+        Ok(held) => side_meant(alloc, lent(held)),
+        Err(_) => Ok(None),
+    }
+}
+
+// The tuples' attributes hide the names around them.
+fn side_local(
+    alloc: Global,
+    scope: &Scope,
+    heading: &Heading,
+    name: &Name,
+) -> Result<Option<Side>, AllocError>
+    ensures { IfOk result (λ o. IfSome o (λ s. (t : Attrs) → Fits heading.now t → known (within t (visible scope.now) name.now) ≡ side_value t s)) }
+{
+    if heading.type_of(name).is_some() {
+        return Ok(Some(Side::Attribute(place_of(heading, name))));
+    }
+    match scope.find(name) {
+        Some(meant) => side_meant(alloc, meant),
+        None => Ok(None),
+    }
+}
+
+// The operand as a side, where it is an attribute or its value is known.
+fn side_of(
+    alloc: Global,
+    env: &Surroundings<'_>,
+    scope: &Scope,
+    heading: &Heading,
+    tree: &Typed,
+) -> Result<Option<Side>, AllocError>
+    ensures { IfOk result (λ o. IfSome o (IsSide (mean_in env.now.env.now) (visible scope.now) heading.now tree.now)) }
+{
+    match tree {
+        Typed::Integer(n) => Ok(Some(side_value(alloc, integer_value(*n))?)),
+        Typed::Text(text) => Ok(Some(side_value(alloc, text_value(text.copy()?))?)),
+        Typed::Truth(b) => Ok(Some(side_value(alloc, truth_value(*b))?)),
+        Typed::Local(name) => side_local(alloc, scope, heading, name),
+        _ => match env.known(tree) {
+            Some(value) => side_known(alloc, value),
+            None => Ok(None),
+        },
+    }
+}
+
+fn sides_of(
+    alloc: Global,
+    env: &Surroundings<'_>,
+    scope: &Scope,
+    heading: &Heading,
+    a: &Typed,
+    b: &Typed,
+) -> Result<Option<(Side, Side)>, AllocError>
+    ensures { IfOk result (λ o. IfSome o (λ p. IsSide (mean_in env.now.env.now) (visible scope.now) heading.now a.now p.0 × IsSide (mean_in env.now.env.now) (visible scope.now) heading.now b.now p.1)) }
+{
+    let Some(first) = side_of(alloc, env, scope, heading, a)? else {
+        return Ok(None);
+    };
+    match side_of(alloc, env, scope, heading, b)? {
+        Some(second) => Ok(Some((first, second))),
+        None => Ok(None),
+    }
+}
+
+fn is_and(operator: BinaryOperator) -> bool
+    ensures { IsTrue result → operator ≡ binary.And }
+{
+    match operator {
+        BinaryOperator::And => true,
+        _ => false,
+    }
+}
+
+// Whether it compares the values of both operands.
+fn is_comparison(operator: BinaryOperator) -> bool
+    ensures { IsTrue result → (a b : Meaning) → mean_binary operator a b ≡ mean_both operator a b }
+{
+    match operator {
+        BinaryOperator::Equals => true,
+        BinaryOperator::Differs => true,
+        BinaryOperator::Less => true,
+        BinaryOperator::Greater => true,
+        BinaryOperator::AtMost => true,
+        BinaryOperator::AtLeast => true,
+        _ => false,
+    }
+}
+
+// The expression as a check: a comparison whose operands are sides, or as it is.
+fn check_of<'a>(
+    alloc: Global,
+    env: &Surroundings<'_>,
+    scope: &Scope,
+    heading: &Heading,
+    tree: &'a Typed,
+) -> Result<Check<'a>, AllocError>
+    ensures means { IfOk result (IsCheck (mean_in env.now.env.now) (visible scope.now) heading.now tree.now) }
+    ensures levels { IfOk result (λ c. check_levels c ≤ levels tree.now) }
+{
+    match tree {
+        Typed::Binary(operator, a, b) if is_comparison(*operator) => {
+            match sides_of(alloc, env, scope, heading, a.get(), b.get())? {
+                Some((first, second)) => Ok(Check::Comparison(*operator, first, second)),
+                None => Ok(Check::Other(tree)),
+            }
+        }
+        _ => Ok(Check::Other(tree)),
+    }
+}
+
+fn add_check<'a>(checks: &mut Vec<Check<'a>>, check: Check<'a>) -> Result<(), AllocError>
+    ensures { OnOk result (checks.new.items ≡ checks.old.items ++ check.entry ∷ []) }
+{
+    checks.push(check)?;
+    Ok(())
+}
+
+// Adds the operands of AND in written order.
+#[cycle(conjuncts)]
+fn add_checks<'a>(
+    alloc: Global,
+    env: &Surroundings<'_>,
+    scope: &Scope,
+    heading: &Heading,
+    tree: &'a Typed,
+    checks: &mut Vec<Check<'a>>,
+) -> Result<(), AllocError>
+    ensures means { OnOk result (AddsChecks (mean_in env.now.env.now) (visible scope.now) heading.now tree.now checks.old.items checks.new.items) }
+    ensures levels { OnOk result (deepest_check checks.new.items ≤ max (deepest_check checks.old.items) (levels tree.now)) }
+{
+    match tree {
+        Typed::Binary(operator, a, b) if is_and(*operator) => {
+            add_checks(alloc, env, scope, heading, a.get(), checks)?;
+            add_checks(alloc, env, scope, heading, b.get(), checks)
+        }
+        _ => add_check(checks, check_of(alloc, env, scope, heading, tree)?),
+    }
+}
+
+/// The condition, ready for the tuples of a heading.
+pub(crate) fn checks_of<'a>(
+    alloc: Global,
+    env: &Surroundings<'_>,
+    scope: &Scope,
+    heading: &Heading,
+    condition: &'a Typed,
+) -> Result<Vec<Check<'a>>, AllocError>
+    ensures means { IfOk result (λ v. AreChecks (mean_in env.now.env.now) (visible scope.now) heading.now condition.now v.items) }
+    ensures levels { IfOk result (λ v. deepest_check v.items ≤ levels condition.now) }
+{
+    let mut checks = Vec::new(alloc);
+    add_checks(alloc, env, scope, heading, condition, &mut checks)?;
+    Ok(checks)
+}
+
+fn value_at<'a>(side: &'a Side, tuple: &'a Tuple) -> Option<&'a Value>
+    ensures { side_value tuple.now side.now ≡ known (option_copied result) }
+{
+    match side {
+        Side::Attribute(at) => match tuple.attributes().get(*at) {
+            Some(attribute) => Some(&attribute.1),
+            None => None,
+        },
+        Side::Value(value) => Some(value.get()),
+    }
+}
+
+/// Whether the comparison is true at the tuple.
+pub(crate) fn compared(
+    alloc: Global,
+    operator: BinaryOperator,
+    a: &Side,
+    b: &Side,
+    tuple: &Tuple,
+) -> Result<bool, Fault>
+    ensures { Answers result (comparison operator (side_value tuple.now a.now) (side_value tuple.now b.now)) }
+{
+    let Some(first) = value_at(a, tuple) else {
+        return Err(Fault::Raised(Stop::Untyped));
+    };
+    let Some(second) = value_at(b, tuple) else {
+        return Err(Fault::Raised(Stop::Untyped));
+    };
+    holds(alloc, operator, first, second)
+}

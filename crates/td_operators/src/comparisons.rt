@@ -1,0 +1,73 @@
+//! Comparisons of values that stand elsewhere.
+
+ghost use Rattle.std.specs.Prelude.{◌≡◌, IfSome, Ok};
+ghost use Rattle.td_algebra.specs.Raising.{Answers, and_then};
+ghost use Rattle.td_operators.specs.Operators as spec;
+ghost use Rattle.td_operators.specs.Values.{truth_of};
+ghost use Rattle.td_values.specs.Data.{boolean};
+
+use crate::operand::Operand;
+use crate::pairs::operate;
+use crate::parts::truth_of;
+use std::alloc::Global;
+use td_algebra::Fault;
+use td_syntax::tree::BinaryOperator;
+use td_values::{Kind, Value, copy, equal};
+
+fn same(u: &Value, v: &Value) -> bool
+    ensures { result ≡ spec.same u.now v.now }
+{
+    equal(u, v)
+}
+
+// Of two integers or two texts.
+fn less(u: &Value, v: &Value) -> Option<bool>
+    ensures { IfSome result (λ b. spec.less u.now v.now ≡ Ok (boolean b)) }
+{
+    match (&u.kind, &v.kind) {
+        (Kind::Integer(m), Kind::Integer(n)) => Some(*m < *n),
+        (Kind::Char(s), Kind::Char(t)) => Some(s.compare(t).is_lt()),
+        _ => None,
+    }
+}
+
+// Of two integers or two texts.
+fn at_most(u: &Value, v: &Value) -> Option<bool>
+    ensures { IfSome result (λ b. spec.at_most u.now v.now ≡ Ok (boolean b)) }
+{
+    match (&u.kind, &v.kind) {
+        (Kind::Integer(m), Kind::Integer(n)) => Some(*m <= *n),
+        (Kind::Char(s), Kind::Char(t)) => Some(s.compare(t).is_le()),
+        _ => None,
+    }
+}
+
+// The answer of a comparison that copies nothing.
+fn compared(operator: BinaryOperator, u: &Value, v: &Value) -> Option<bool>
+    ensures { IfSome result (λ b. spec.operate operator u.now v.now ≡ Ok (boolean b)) }
+{
+    match operator {
+        BinaryOperator::Equals => Some(same(u, v)),
+        BinaryOperator::Differs => Some(!same(u, v)),
+        BinaryOperator::Less => less(u, v),
+        BinaryOperator::Greater => less(v, u),
+        BinaryOperator::AtMost => at_most(u, v),
+        BinaryOperator::AtLeast => at_most(v, u),
+        _ => None,
+    }
+}
+
+/// The truth of what an operator makes of two values. Comparisons of integers and of texts, and for equality those of
+/// all values, copy neither.
+pub fn holds(alloc: Global, operator: BinaryOperator, u: &Value, v: &Value) -> Result<bool, Fault>
+    ensures { Answers result (and_then (spec.operate operator u.now v.now) truth_of) }
+{
+    match compared(operator, u, v) {
+        Some(truth) => Ok(truth),
+        None => {
+            let first = Operand::Made(copy(alloc, u)?);
+            let second = Operand::Made(copy(alloc, v)?);
+            truth_of(operate(alloc, operator, first, second)?)
+        }
+    }
+}
