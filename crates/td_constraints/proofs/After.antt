@@ -2,7 +2,6 @@
 use Rattle.std.proofs.Common.{◌≡◌, ◌↔◌, ℕ, Bool, true, false, IsTrue, ◌==◌, if◌then◌else◌, eqb-true, eq-eqb, inl, inr, List, [], ◌∷◌, Option, None, Some, MatchOption, slice_get, Result, Ok, refl, ap, sym, ◌∙◌, subst, true≢false}
 use Rattle.std.specs.List.{Contains, list_any}
 use Rattle.std.specs.Borrow.{Bor}
-use Rattle.std.specs.FinSet as set
 use Rattle.std.proofs.lemmas.Option.{get_or_from_slice_get, slice_get_within}
 use Rattle.td_values.specs.Data.{no_attrs}
 use Rattle.td_values.specs.Rows.{RowsData}
@@ -42,7 +41,7 @@ still_true c x now changes defined is b never =
     ∙ b.held
 
 -- ---- keys
-ok_same : {A : Type 0} (a b : A) → ◌≡◌ {A = Result A Stop} (Ok a) (Ok b) → a ≡ b
+pub ok_same : {A : Type 0} (a b : A) → ◌≡◌ {A = Result A Stop} (Ok a) (Ok b) → a ≡ b
 ok_same a b h = cc
 
 module _ (key : List (List ℕ)) (changes : Changes) (n : ℕ) (r : RowsData) (k : KeyOf changes n key r) where

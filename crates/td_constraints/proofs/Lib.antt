@@ -7,3 +7,4 @@ pub mod Legal
 pub mod TreeReads
 pub mod After
 pub mod Gaining
+pub mod Found

@@ -2,3 +2,4 @@
 pub mod Tested
 pub mod Changed
 pub mod Gaining
+pub mod Found

@@ -1,8 +1,9 @@
 //! The tests of a script, judged over relvars that are looked up.
 
-ghost use Rattle.std.specs.Prelude.{◌≡◌, IfOk, MatchOption, None, Ok, Some, option_map};
+ghost use Rattle.std.specs.Prelude.{◌≡◌, ◌↔◌, IfOk, IsTrue, MatchOption, None, Ok, Some, option_map};
 ghost use Rattle.td_values.specs.Data.{no_attrs};
 ghost use Rattle.td_values.specs.declared.TypeKind.TheVariants as type_kind;
+ghost use Rattle.td_algebra.specs.Keys.{TellApartFrom};
 ghost use Rattle.td_algebra.specs.Raising.{and_then};
 ghost use Rattle.td_operators.specs.Values.{truth_of};
 ghost use Rattle.td_headings.specs.Definitions.{Defined};
@@ -16,6 +17,7 @@ ghost use Rattle.td_story.specs.Stored.{AreStored};
 ghost use Rattle.td_story.specs.Tests as spec;
 ghost use Rattle.td_story.specs.Tests.{failing, judgement, or_behind};
 
+use crate::keyed::tell_apart_by;
 use crate::ways::{Narrowed, Way, way_of};
 use std::alloc::{AllocError, Global};
 use td_algebra::{tell_apart, tell_apart_from};
@@ -56,20 +58,42 @@ fn change_of(changes: &[(usize, Delta)], relvar: usize) -> Option<&Delta>
     None
 }
 
+// Whether the tuples that were put into a relvar are told from all others of the relation that it has now by their
+// parts at the key: by searches where its tuples are kept by this key, and else by a walk along it.
+fn tells_apart<L: Lookup>(
+    alloc: Global,
+    lookup: &L,
+    relvar: usize,
+    inserted: &Relation,
+    relation: &Relation,
+    key: &[Name],
+) -> Result<bool, AllocError>
+    requires is { L.relvars lookup.now relvar ≡ Ok relation.now }
+    requires heading { inserted.now.heading ≡ relation.now.heading }
+    ensures { IfOk result (λ b. IsTrue b ↔ TellApartFrom key.now inserted.now relation.now) }
+{
+    match lookup.by_key(relvar, key) {
+        Some(index) => Ok(tell_apart_by(index, inserted)),
+        None => tell_apart_from(alloc, inserted, relation, key),
+    }
+}
+
 // Whether no two tuples agree on the key's attributes, where none did before the changes: so the tuples that were put
 // in are held against all, and the others against none.
-fn is_key_after(
+fn is_key_after<L: Lookup>(
     alloc: Global,
+    lookup: &L,
     changes: &[(usize, Delta)],
     relvar: usize,
     relation: &Relation,
     key: &[Name],
 ) -> Result<bool, AllocError>
-    requires { KeyOf changes.now relvar key.now relation.now }
+    requires is { L.relvars lookup.now relvar ≡ Ok relation.now }
+    requires before { KeyOf changes.now relvar key.now relation.now }
     ensures { IfOk result (λ b. b ≡ spec.is_key key.now relation.now.tuples) }
 {
     match change_of(changes, relvar) {
-        Some(delta) => tell_apart_from(alloc, delta.inserted(), relation, key),
+        Some(delta) => tells_apart(alloc, lookup, relvar, delta.inserted(), relation, key),
         None => Ok(true),
     }
 }
@@ -88,7 +112,7 @@ fn judge_key<L: Lookup>(
 {
     let relation = stored(lookup, relvar);
     match changes {
-        Some(changes) => is_key_after(alloc, changes, relvar, relation, key),
+        Some(changes) => is_key_after(alloc, lookup, changes, relvar, relation, key),
         None => is_key(alloc, relation, key),
     }
 }
@@ -242,9 +266,10 @@ pub fn first_failure<L: Lookup>(
 }
 
 /// The same, after these changes of relvars of which every test was true: it makes only the tests that read a relvar
-/// which was changed. A key costs what `tell_apart_from` of td_algebra does, for the tuples that were put in. A
-/// constraint costs its evaluation: over the tuples that were put in alone, where one relvar was changed and
-/// `is_watched` of td_growth says so, and nothing where that or `is_safe` says that none of it is left to judge.
+/// which was changed. A key costs a search for each tuple that was put in where the look-up lends the relvar's tuples
+/// by it, and else what `tell_apart_from` of td_algebra does. A constraint costs its evaluation: over the tuples that
+/// were put in alone, where one relvar was changed and `is_watched` of td_growth says so, and nothing where that or
+/// `is_safe` says that none of it is left to judge.
 pub fn first_failure_after<L: Lookup>(
     alloc: Global,
     catalogue: &Catalogue,

@@ -2,6 +2,7 @@
 #![tactic(auto)]
 
 mod judging;
+mod keyed;
 pub mod laws;
 mod ways;
 

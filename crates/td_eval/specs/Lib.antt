@@ -1,4 +1,5 @@
 -- The definitions of the crate.
 pub mod Added
+pub mod Keyed
 pub mod Laws
 pub mod ForProofs

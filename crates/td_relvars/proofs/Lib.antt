@@ -6,3 +6,4 @@ pub mod Told
 pub mod Places
 pub mod Kept
 pub mod Copies
+pub mod Keyed

@@ -88,13 +88,12 @@ is_changed (Ok u) r s new d same is = relation_is r.heading (applied (body r) d)
 is_changed (Err e) r s new d same is = tt
 
 -- a change that took nothing out is taken back by taking out what it put in
-pub is_taken_back :
-    (r s new : RowsData) (x : DeltaData) → r ≡ s → body x.deleted ≡ set.empty
-    → IsRelation r.heading (set.difference (body r) (body x.inserted)) new → new ≡ changed s (inverse_of x)
-is_taken_back r s new x same none is =
+pub nothing_back :
+    (r new : RowsData) (x : DeltaData) → body x.deleted ≡ set.empty
+    → IsRelation r.heading (set.difference (body r) (body x.inserted)) new → IsApplied r (inverse_of x) new
+nothing_back r new x none is =
     let left : TupleSet = set.difference (body r) (body x.inserted) in
-    let all : left ≡ set.union left (body x.deleted) = union_nothing left ∙ ap (set.union left) (sym none) in
-    is_changed {E = Unit {0}} (Ok tt) r s new (inverse_of x) same (record { heading = is.heading; members = is.members ∙ all; ascending = is.ascending })
+    record { heading = is.heading; members = is.members ∙ union_nothing left ∙ ap (set.union left) (sym none); ascending = is.ascending }
 
 pub set_changed :
     {E : Type 0} (a : Result (Unit {0}) E) (n : ℕ) (xs : Stored) (r new : RowsData) (d : DeltaData)

@@ -1,15 +1,20 @@
 //! What base relvars have.
 
-ghost use Rattle.std.specs.Prelude.{◌≡◌, IfOk, OnErr, OnOk};
+ghost use Rattle.std.specs.Prelude.{◌≡◌, IfOk, MatchOption, OnErr, OnOk};
 ghost use Rattle.std.specs.FinSet as set;
 ghost use Rattle.td_relations.specs.Sets.{IsRelation, body, tuple_set};
-ghost use Rattle.td_relations.specs.Deltas.{inverse_of};
+ghost use Rattle.td_algebra.specs.KeyIndexes.{IsKeyIndex};
+ghost use Rattle.td_relations.specs.Deltas.{IsApplied, inverse_of};
 ghost use Rattle.td_relvars.specs.Changed.{changed};
+ghost use Rattle.td_relvars.specs.ForProofs.Keyed.{AreOf};
 
+use crate::by_keys::{ByKeys, count, follow, index_by};
+use sqlite_items::Items;
 use std::alloc::{AllocError, Global};
 use std::marker::Model;
+use td_algebra::KeyIndex;
 use td_relations::{Delta, Relation};
-use td_values::Tuple;
+use td_values::{Name, Tuple};
 
 // Takes these tuples out.
 fn take_out(relation: &mut Relation, tuples: &[Tuple])
@@ -21,27 +26,91 @@ fn take_out(relation: &mut Relation, tuples: &[Tuple])
     }
 }
 
-/// What a base relvar has.
+// Makes the change in a relation, and what is kept of its tuples by keys goes along.
+fn change(
+    alloc: Global,
+    relation: &mut Relation,
+    by_keys: &mut ByKeys,
+    keys: &[Items<Name>],
+    delta: &Delta,
+) -> Result<(), AllocError>
+    requires heading { delta.now.inserted.heading ≡ relation.old.heading }
+    requires kept { AreOf relation.old by_keys.old }
+    ensures ok { OnOk result (IsApplied relation.old delta.now relation.new) }
+    ensures err { OnErr result (relation.new ≡ relation.old) }
+    ensures kept { AreOf relation.new by_keys.new }
+{
+    relation.rows_fit();
+    delta.apply(alloc, relation)?;
+    follow(by_keys, relation.len(), delta.deleted(), delta.inserted());
+    count(alloc, by_keys, relation, keys);
+    Ok(())
+}
+
+// Makes its inverse.
+fn change_back(
+    alloc: Global,
+    relation: &mut Relation,
+    by_keys: &mut ByKeys,
+    keys: &[Items<Name>],
+    delta: &Delta,
+) -> Result<(), AllocError>
+    requires heading { delta.now.deleted.heading ≡ relation.old.heading }
+    requires kept { AreOf relation.old by_keys.old }
+    ensures ok { OnOk result (IsApplied relation.old (inverse_of delta.now) relation.new) }
+    ensures err { OnErr result (relation.new ≡ relation.old) }
+    ensures kept { AreOf relation.new by_keys.new }
+{
+    relation.rows_fit();
+    delta.headings_agree();
+    delta.undo(alloc, relation)?;
+    follow(by_keys, relation.len(), delta.inserted(), delta.deleted());
+    count(alloc, by_keys, relation, keys);
+    Ok(())
+}
+
+// The same of a change that took nothing out. It takes no memory.
+fn take_back(relation: &mut Relation, by_keys: &mut ByKeys, delta: &Delta)
+    requires heading { delta.now.deleted.heading ≡ relation.old.heading }
+    requires growth { body delta.now.deleted ≡ set.empty }
+    requires kept { AreOf relation.old by_keys.old }
+    ensures back { IsApplied relation.old (inverse_of delta.now) relation.new }
+    ensures kept { AreOf relation.new by_keys.new }
+{
+    relation.rows_fit();
+    take_out(relation, delta.inserted().tuples());
+    follow(by_keys, relation.len(), delta.inserted(), delta.deleted());
+}
+
+/// What a base relvar has. Beside the relation it keeps its tuples by the relvar's keys, where enough small changes were
+/// made where it stands; contracts see the relation alone.
 #[derive(Drop)]
 pub struct Base {
     relation: Relation,
+    by_keys: ByKeys,
 }
 
 impl Model for Base {
     ghost use Rattle.td_values.specs.Rows.{RowsData, rows_code};
+    ghost use Rattle.td_relvars.specs.ForProofs.Keyed.{AreOf};
 
     ghost Value = { RowsData };
 
     ghost coded = { rows_code };
 
     ghost view = { λ b. b.relation };
+
+    ghost invariant = { λ b. AreOf b.relation b.by_keys };
 }
 
 impl Base {
     pub(crate) fn of(relation: Relation) -> Base
         ensures { result ≡ relation }
     {
-        Base { relation }
+        Base {
+            relation,
+            by_keys: ByKeys::Awaited(0),
+        }
     }
 
     /// How many tuples there are.
@@ -78,30 +147,47 @@ impl Base {
         Ok(Base::of(self.relation.copy(alloc)?))
     }
 
-    /// Makes the change.
-    pub(crate) fn change(&mut self, alloc: Global, delta: &Delta) -> Result<(), AllocError>
+    /// Its tuples by the key of these names, where they are kept so. It takes no memory.
+    pub(crate) fn by_key(&self, key: &[Name]) -> Option<&KeyIndex>
+        ensures { MatchOption result (Unit {0}) (λ x. IsKeyIndex key.now self.now x.now) }
+    {
+        index_by(&self.by_keys, key)
+    }
+
+    /// Makes the change. These are the keys by which its tuples are kept where that pays.
+    pub(crate) fn change(
+        &mut self,
+        alloc: Global,
+        keys: &[Items<Name>],
+        delta: &Delta,
+    ) -> Result<(), AllocError>
         requires { delta.now.inserted.heading ≡ self.old.heading }
         ensures ok { OnOk result (self.new ≡ changed self.old delta.now) }
         ensures err { OnErr result (self.new ≡ self.old) }
     {
-        delta.apply(alloc, &mut self.relation)
+        change(alloc, &mut self.relation, &mut self.by_keys, keys, delta)
     }
 
     /// Makes the inverse.
-    pub(crate) fn change_back(&mut self, alloc: Global, delta: &Delta) -> Result<(), AllocError>
+    pub(crate) fn change_back(
+        &mut self,
+        alloc: Global,
+        keys: &[Items<Name>],
+        delta: &Delta,
+    ) -> Result<(), AllocError>
         requires { delta.now.deleted.heading ≡ self.old.heading }
         ensures ok { OnOk result (self.new ≡ changed self.old (inverse_of delta.now)) }
         ensures err { OnErr result (self.new ≡ self.old) }
     {
-        delta.headings_agree();
-        delta.undo(alloc, &mut self.relation)
+        change_back(alloc, &mut self.relation, &mut self.by_keys, keys, delta)
     }
 
     /// Makes the inverse of a change that took nothing out. It takes no memory.
     pub(crate) fn take_back(&mut self, delta: &Delta)
-        requires { body delta.now.deleted ≡ set.empty }
+        requires heading { delta.now.deleted.heading ≡ self.old.heading }
+        requires growth { body delta.now.deleted ≡ set.empty }
         ensures { self.new ≡ changed self.old (inverse_of delta.now) }
     {
-        take_out(&mut self.relation, delta.inserted().tuples());
+        take_back(&mut self.relation, &mut self.by_keys, delta);
     }
 }

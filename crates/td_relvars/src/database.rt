@@ -15,9 +15,10 @@ ghost use Rattle.td_relvars.specs.ForProofs.Empty.{empty_in};
 ghost use Rattle.td_story.specs.Openings as opening;
 
 use crate::base::Base;
+use sqlite_items::Items;
 use std::alloc::{AllocError, Global};
 use std::marker::Model;
-use td_algebra::Stop;
+use td_algebra::{KeyIndex, Stop};
 use td_eval::Lookup;
 use td_headings::{Catalogue, Origin};
 use td_relations::{Delta, Relation};
@@ -62,6 +63,10 @@ impl Lookup for Database {
             None => Err(Stop::Untyped),
         }
     }
+
+    fn by_key(&self, relvar: usize, key: &[Name]) -> Option<&KeyIndex> {
+        self.base_at(relvar)?.by_key(key)
+    }
 }
 
 // No tuples of the heading.
@@ -101,9 +106,18 @@ fn set_at<T: Drop>(items: &mut Vec<T>, place: usize, item: T)
     items[place] = item;
 }
 
+// The keys of the base relvar at the place.
+fn keys_of(catalogue: &Catalogue, relvar: usize) -> &[Items<Name>] {
+    match catalogue.origin(relvar) {
+        Some(Origin::Base(keys, _)) => keys.as_slice(),
+        _ => &[],
+    }
+}
+
 // Makes the change in what is stored at the place.
 fn change_at(
     alloc: Global,
+    catalogue: &Catalogue,
     stored: &mut Vec<Option<Base>>,
     relvar: usize,
     delta: &Delta,
@@ -113,7 +127,7 @@ fn change_at(
     ensures err { OnErr result (stored.new.items ≡ stored.old.items) }
 {
     match &mut stored[relvar] {
-        Some(base) => base.change(alloc, delta),
+        Some(base) => base.change(alloc, keys_of(catalogue, relvar), delta),
         None => unreachable!(),
     }
 }
@@ -121,6 +135,7 @@ fn change_at(
 // Makes its inverse.
 fn change_back_at(
     alloc: Global,
+    catalogue: &Catalogue,
     stored: &mut Vec<Option<Base>>,
     relvar: usize,
     delta: &Delta,
@@ -130,7 +145,7 @@ fn change_back_at(
     ensures err { OnErr result (stored.new.items ≡ stored.old.items) }
 {
     match &mut stored[relvar] {
-        Some(base) => base.change_back(alloc, delta),
+        Some(base) => base.change_back(alloc, keys_of(catalogue, relvar), delta),
         None => unreachable!(),
     }
 }
@@ -216,7 +231,7 @@ impl Database {
         ensures ok { OnOk result (self.new ≡ with_change relvar delta.now self.old) }
         ensures err { OnErr result (self.new ≡ self.old) }
     {
-        change_at(alloc, &mut self.stored, relvar, delta)
+        change_at(alloc, &self.catalogue, &mut self.stored, relvar, delta)
     }
 
     /// Makes its inverse there. It costs as `Delta::undo`.
@@ -230,7 +245,7 @@ impl Database {
         ensures ok { OnOk result (self.new ≡ with_change relvar (inverse_of delta.now) self.old) }
         ensures err { OnErr result (self.new ≡ self.old) }
     {
-        change_back_at(alloc, &mut self.stored, relvar, delta)
+        change_back_at(alloc, &self.catalogue, &mut self.stored, relvar, delta)
     }
 
     /// Makes the inverse of a change that took nothing out. It takes no memory, and costs a search and a shift for each

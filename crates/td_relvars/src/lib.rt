@@ -3,6 +3,7 @@
 
 mod asking;
 pub mod base;
+mod by_keys;
 pub mod database;
 pub mod laws;
 mod opening;

@@ -1,5 +1,4 @@
-use Rattle.std.proofs.Common.{refl, sym, ap, ◌∙◌}
-use Rattle.std.specs.FinSet as set
+use Rattle.std.proofs.Common.{refl, ◌∙◌}
 use Rattle.td_relations.specs.Sets.{body}
 use Rattle.td_relations.proofs.Edits.{difference_nothing, less_one}
 use Rattle.td_relvars.proofs.base.take_out.Goals as goal

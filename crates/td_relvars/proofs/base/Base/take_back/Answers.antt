@@ -1,12 +1,7 @@
-use Rattle.std.proofs.Common.{ap, ◌∙◌, subst}
-use Rattle.std.specs.FinSet as set
-use Rattle.td_values.specs.Rows.{RowsData}
-use Rattle.td_relations.specs.Sets.{IsRelation, body, tuple_set}
-use Rattle.td_relvars.proofs.Places.{is_taken_back}
+use Rattle.std.proofs.Common.{Ok}
+use Rattle.td_relations.specs.Deltas.{inverse_of}
+use Rattle.td_relvars.proofs.Places.{is_changed}
 use Rattle.td_relvars.proofs.base.Base.take_back.Goals as goal
 
 pub returns : goal.returns
-returns c =
-    let r = c.self.inside.relation in
-    let x = c.args.delta.now in
-    is_taken_back r c.args.self.now c.take_out.new.relation x c.self.view_is c.requires (subst (λ ts. IsRelation r.heading (set.difference (body r) (tuple_set ts)) c.take_out.new.relation) (c.tuples.ensures.all ∙ ap (λ (q : RowsData). q.tuples) c.inserted.ensures) c.take_out.ensures)
+returns c = is_changed {E = Unit {0}} (Ok tt) c.self.inside.relation c.args.self.now c.take_back.new.relation (inverse_of c.args.delta.now) c.self.view_is c.take_back.ensures.back
