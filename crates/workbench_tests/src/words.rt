@@ -127,7 +127,8 @@ fn words_that_are_not_understood(rt: HostRuntime) -> Result<(), Fail> {
 
 #[test]
 fn journals(rt: HostRuntime) -> Result<(), Fail> {
-    const SCRIPT: &str = "VAR R BASE RELATION { A INTEGER } KEY { A };\n.begin\n.log 7\n7: DELETE R;\n";
+    const SCRIPT: &str =
+        "VAR R BASE RELATION { A INTEGER } KEY { A };\n.begin\n.log 7\n7: DELETE R;\n";
     for (words, input, status, want, told) in [
         (
             "td_console --sites 1 --first 7 --journal shelf/",
