@@ -18,8 +18,9 @@ Standard input holds a script, a line `.begin`, and then lines:
   .log N           the statements that site N holds
   .vector N        the version vector of site N
   .csv N RELVAR    a relvar as comma-separated values
-  .serve N ADDRESS, .call N ADDRESS
-                   a meeting over a socket
+  .serve N ADDRESS site N waits at the address for a caller, and meets it
+  .call N ADDRESS  site N meets the site that serves at the address
+                   (as 127.0.0.1:7001 or [::1]:7001; nothing is encrypted)
   .quit            ends the program";
 
 fn command<'a>(alloc: Global) -> Result<Command<'a>, AllocError> {
