@@ -65,11 +65,7 @@ fn gain(index: &mut KeyIndex, inserted: &Relation) -> Result<(), AllocError>
 }
 
 // Takes the first ones out and puts the second ones in.
-fn exchange(
-    index: &mut KeyIndex,
-    deleted: &Relation,
-    inserted: &Relation,
-) -> Result<(), AllocError>
+fn exchange(index: &mut KeyIndex, deleted: &Relation, inserted: &Relation) -> Result<(), AllocError>
     requires { index.old.heading ≡ inserted.now.heading }
     ensures { OnOk result (Becomes (exchanged deleted.now inserted.now) index.old index.new) }
 {
@@ -150,12 +146,7 @@ fn one_more(alloc: Global, count: usize, relation: &Relation, keys: &[Items<Name
 }
 
 /// Counts a change of the relation, and makes an index by each of these keys at the last one that is awaited.
-pub(crate) fn count(
-    alloc: Global,
-    by_keys: &mut ByKeys,
-    relation: &Relation,
-    keys: &[Items<Name>],
-)
+pub(crate) fn count(alloc: Global, by_keys: &mut ByKeys, relation: &Relation, keys: &[Items<Name>])
     requires { AreOf relation.now by_keys.old }
     ensures { AreOf relation.now by_keys.new }
 {

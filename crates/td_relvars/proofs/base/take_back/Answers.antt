@@ -17,8 +17,8 @@ returns-clause-kept c =
     let r = c.args.relation.now in
     let d = c.args.delta.now in
     let back = nothing_back r c.take_out.new.relation d c.requires.growth
-        (subst (λ ts. IsRelation r.heading (set.difference (body r) (tuple_set ts)) c.take_out.new.relation) (c.tuples.ensures.all ∙ ap (λ (q : RowsData). q.tuples) c.inserted.ensures) c.take_out.ensures) in
+    (subst (λ ts. IsRelation r.heading (set.difference (body r) (tuple_set ts)) c.take_out.new.relation) (c.tuples.ensures.all ∙ ap (λ (q : RowsData). q.tuples) c.inserted.ensures) c.take_out.ensures) in
     let goes : AllBecome (exchanged d.inserted d.deleted) c.args.by_keys.now c.follow.new.by_keys =
-        subst (λ i. AllBecome (exchanged i d.deleted) c.args.by_keys.now c.follow.new.by_keys) c.inserted-2.ensures
-        (subst (λ i. AllBecome (exchanged c.inserted-2.result.now i) c.args.by_keys.now c.follow.new.by_keys) c.deleted.ensures c.follow.ensures) in
+    subst (λ i. AllBecome (exchanged i d.deleted) c.args.by_keys.now c.follow.new.by_keys) c.inserted-2.ensures
+    (subst (λ i. AllBecome (exchanged c.inserted-2.result.now i) c.args.by_keys.now c.follow.new.by_keys) c.deleted.ensures c.follow.ensures) in
     goes r c.take_out.new.relation c.rows_fit.ensures.ascending c.requires.kept back
