@@ -13,8 +13,11 @@ const SCRIPT: &str = "VAR SEEN BASE RELATION { WARD INTEGER, NO INTEGER } KEY { 
 
 // A greeting has these beside its script and six for each site; the entries behind it end with one more.
 const GREETING_BYTES: u64 = 13;
+
 const SITE_BYTES: u64 = 6;
+
 const END_BYTES: u64 = 1;
+
 const ENTRY_BYTES: u64 = 17;
 
 /// What meetings took.
@@ -83,10 +86,12 @@ fn greeting_of(alloc: Global, site: &Site) -> Result<u64> {
         return Ok(0);
     };
     let known = held.vector(alloc)?.len() as u64;
-    Ok(known
-        .saturating_mul(SITE_BYTES)
-        .saturating_add(GREETING_BYTES)
-        .saturating_add(SCRIPT.len() as u64))
+    Ok(
+        known
+            .saturating_mul(SITE_BYTES)
+            .saturating_add(GREETING_BYTES)
+            .saturating_add(SCRIPT.len() as u64),
+    )
 }
 
 fn entries_of(count: u64, bytes: u64) -> u64 {
@@ -105,13 +110,17 @@ fn meet_once(
 {
     let second = 1 + random.below(crowd.len() as u64 - 1) as usize;
     let first = random.below(second as u64) as usize;
-    let greetings =
-        greeting_of(alloc, &crowd[first])?.saturating_add(greeting_of(alloc, &crowd[second])?);
+    let greetings = greeting_of(alloc, &crowd[first])?.saturating_add(greeting_of(
+        alloc,
+        &crowd[second],
+    )?);
     let met = meet_at(alloc, crowd, first, second, meter)?;
     let fresh = (met.first as u64).saturating_add(met.second as u64);
-    Ok(greetings
-        .saturating_add(entries_of(fresh, text))
-        .saturating_add(2 * END_BYTES))
+    Ok(
+        greetings
+            .saturating_add(entries_of(fresh, text))
+            .saturating_add(2 * END_BYTES),
+    )
 }
 
 fn have_all(crowd: &[Site], all: u64) -> bool {

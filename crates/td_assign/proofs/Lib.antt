@@ -10,4 +10,4 @@ pub mod Remaking
 pub mod Leading
 pub mod Naming
 pub mod Stepping
-pub mod Growing
+pub mod Turning

@@ -34,7 +34,7 @@ use Rattle.td_assign.specs.declared.changes.Change.{Change}
 use Rattle.td_story.specs.declared.outcome.Outcome.{Outcome}
 use Rattle.td_story.specs.declared.outcome.Outcome.TheVariants as outcome
 use Rattle.td_assign.specs.declared.running.Prepared.{Prepared}
-use Rattle.td_assign.specs.declared.running.Prepared.TheVariants.{Changes, Growth, Refused}
+use Rattle.td_assign.specs.declared.running.Prepared.TheVariants.{Changes, Turn, Refused}
 use Rattle.td_assign.proofs.Replacing.{all_replaced}
 use Rattle.td_story.proofs.Unique.{one_text}
 
@@ -112,7 +112,7 @@ module _ (c k : CatalogueData) (text : List ℕ) (o : Option TypedStatement) (sa
 -- ---- what follows from each step
 pub judged : {E : Type 0} (d : DatabaseData) (xs : List TypedAssignment) (cs : List Change) → assigned_by d xs ≡ Ok (given_to cs) → (m : Result Prepared E) → IfOk m (IsJudged d cs) → IfOk m (AreAssignedTo d xs)
 judged d xs cs given (Ok (Changes v ds)) h = (given ∙ ap (λ ys. Ok (given_to ys)) (sym h.0), subst (λ ys. MayChange d ys ds.items) (sym h.0) h.1)
-judged d xs cs given (Ok (Growth n x)) h = absurd h
+judged d xs cs given (Ok (Turn n x)) h = absurd h
 judged d xs cs given (Ok (Refused o)) h = by_test cs given h
 judged d xs cs given (Err e) h = tt
 
@@ -123,7 +123,7 @@ module _ (d : DatabaseData) (text : List ℕ) (x : TypedStatement) (p : IsRead d
 
   pub prepared : (m : Prepared) → AreAssignedTo d (assignments_of x) m → IsPrepared d text m
   prepared (Changes v ds) h = (done p h.0 h.1.passes, h.1)
-  prepared (Growth n y) h = (x, p, h)
+  prepared (Turn n y) h = (x, p, h)
   prepared (Refused o) h = refuses o h
 
 pub no_differences : (r : Relvars) → AreDifferences r r []

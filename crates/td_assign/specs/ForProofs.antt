@@ -3,4 +3,4 @@ pub mod Lists
 pub mod Given
 pub mod Prepared
 pub mod Names
-pub mod Growth
+pub mod Turning

@@ -1,17 +1,17 @@
 //! Running a statement.
 
-ghost use Rattle.std.specs.Prelude.{◌≡◌, [], IfOk, MatchOption, OnErr, Option, Some};
+ghost use Rattle.std.specs.Prelude.{◌≡◌, [], IfOk, IsTrue, MatchOption, OnErr, Option, Some};
 ghost use Rattle.td_story.specs.Reports.{IsReport};
 ghost use Rattle.td_headings.specs.Catalogues.{CatalogueData};
 ghost use Rattle.td_headings.specs.Reached.{AreThose};
 ghost use Rattle.td_headings.specs.declared.defined.Test.{Test};
 ghost use Rattle.td_algebra.specs.declared.errors.Stop.{Stop};
-ghost use Rattle.td_story.specs.Databases.{IsLegal, stored_relvars};
+ghost use Rattle.td_story.specs.Databases.{DatabaseData, IsLegal, stored_relvars};
 ghost use Rattle.td_story.specs.Counts.{one_more};
 ghost use Rattle.td_story.specs.Differences.{AreDifferences};
 ghost use Rattle.td_story.specs.Footprints.{IsInFootprint, IsTargetOfText};
 ghost use Rattle.td_assign.specs.ForProofs.Given.{AreAssigned, AreChanges};
-ghost use Rattle.td_assign.specs.ForProofs.Growth.{IsGrown, IsOneGrowth, IsTried, MayGrow};
+ghost use Rattle.td_assign.specs.ForProofs.Turning.{CameFrom, IsTurned, IsOneTurn, IsTried, MayTurn, TakesNothing};
 ghost use Rattle.td_assign.specs.ForProofs.Names.{AreNames};
 ghost use Rattle.td_assign.specs.ForProofs.Prepared.{AreAssignedTo, IsJudged, IsPrepared};
 ghost use Rattle.td_assign.specs.ForProofs.Lists.{given_to};
@@ -23,14 +23,15 @@ use crate::deltas::differences;
 use crate::names::{Names, assignments_of, footprint, names_of, no_names};
 use crate::ran::Ran;
 use crate::seen::Replaced;
-use crate::sources::{changes, growth};
+use crate::sources;
+use crate::sources::changes;
 use std::alloc::{AllocError, Global};
 use td_constraints::first_failure_after;
 use td_grammar::{ReadError, read_statement};
 use td_headings::{Catalogue, TypedAssignment, TypedStatement, type_statement};
 use td_kinds::error::TypeError;
 use td_relations::Delta;
-use td_relvars::Database;
+use td_relvars::{Database, Part};
 use td_story::{BrokenTest, Failure, Meter, Outcome, TestFailure};
 
 // The statement that the text is, typed, if it is one.
@@ -64,12 +65,12 @@ fn refusal(failure: TestFailure) -> Outcome
     }
 }
 
-/// What a statement makes of a database that it has not changed yet: changes with the differences that they make, tuples
-/// that a relvar gets, which no test has judged yet, or the outcome that it has without effect.
+/// What a statement makes of a database that it has not changed yet: changes with the differences that they make, the
+/// change of one relvar, which no test has judged yet, or the outcome that it has without effect.
 #[derive(Drop)]
 pub(crate) enum Prepared {
     Changes(Vec<Change>, Vec<(usize, Delta)>),
-    Growth(usize, Delta),
+    Turn(usize, Delta),
     Refused(Outcome),
 }
 
@@ -118,8 +119,8 @@ fn assigned(
     requires legal { IsLegal database.now }
     ensures { IfOk result (AreAssignedTo database.now assignments.now) }
 {
-    match growth(alloc, database, assignments) {
-        Ok(Some((target, delta))) => Ok(Prepared::Growth(target, delta)),
+    match sources::turn(alloc, database, assignments) {
+        Ok(Some((target, delta))) => Ok(Prepared::Turn(target, delta)),
         Ok(None) => evaluated(alloc, database, assignments),
         Err(Failure::Raised(raise)) => Ok(Prepared::Refused(Outcome::Raised(raise))),
         Err(Failure::OutOfMemory) => Err(AllocError),
@@ -154,14 +155,15 @@ fn put_all(database: &mut Database, changes: Vec<Change>)
     }
 }
 
-// Makes the one change, and takes it back where a test fails or memory is wanting for them.
+// Makes the one change, which takes nothing out, and takes it back where a test fails or memory is wanting for them.
 fn tried(
     alloc: Global,
     database: &mut Database,
     changes: &[(usize, Delta)],
 ) -> Result<Option<TestFailure>, AllocError>
     requires legal { IsLegal database.old }
-    requires one { IsOneGrowth database.old changes.now }
+    requires one { IsOneTurn database.old changes.now }
+    requires growth { TakesNothing changes.now }
     ensures { IsTried database.old changes.now result database.new }
 {
     database.relvars_fit();
@@ -180,16 +182,75 @@ fn tried(
     }
 }
 
-// Puts the tuples in, and the tests decide whether they stay.
-fn grow(
+// The relvar has again what it had before the change: by its inverse, so that what it keeps by its keys stays, or, where
+// memory is wanting for that, by the copy.
+fn restore(alloc: Global, database: &mut Database, change: &(usize, Delta), part: Part)
+    requires { (d : DatabaseData) × CameFrom d change.now part database.old }
+    ensures { (d : DatabaseData) → CameFrom d change.now part database.old → database.new ≡ d }
+{
+    match database.change_back(alloc, change.0, &change.1) {
+        Ok(()) => {}
+        Err(_) => database.put_back(part),
+    }
+}
+
+// Makes the one change, and the relvar has again what it had where a test fails or memory is wanting for them. There is a
+// way back that takes no memory: what the relvar had is copied before.
+fn tried_with_copy(
+    alloc: Global,
+    database: &mut Database,
+    changes: &[(usize, Delta)],
+) -> Result<Option<TestFailure>, AllocError>
+    requires legal { IsLegal database.old }
+    requires one { IsOneTurn database.old changes.now }
+    ensures { IsTried database.old changes.now result database.new }
+{
+    database.relvars_fit();
+    let made = &changes[0];
+    let part = database.copy_of(alloc, &[made.0])?;
+    database.change(alloc, made.0, &made.1)?;
+    match first_failure_after(alloc, database.catalogue(), &*database, changes) {
+        Ok(None) => Ok(None),
+        Ok(Some(failure)) => {
+            restore(alloc, database, made, part);
+            Ok(Some(failure))
+        }
+        Err(error) => {
+            restore(alloc, database, made, part);
+            Err(error)
+        }
+    }
+}
+
+// The same, as it takes something out or not.
+fn made(
+    alloc: Global,
+    database: &mut Database,
+    changes: &[(usize, Delta)],
+    grows: bool,
+) -> Result<Option<TestFailure>, AllocError>
+    requires legal { IsLegal database.old }
+    requires one { IsOneTurn database.old changes.now }
+    requires growth { IsTrue grows → TakesNothing changes.now }
+    ensures { IsTried database.old changes.now result database.new }
+{
+    if grows {
+        tried(alloc, database, changes)
+    } else {
+        tried_with_copy(alloc, database, changes)
+    }
+}
+
+// Makes the change, and the tests decide whether it stays.
+fn turn(
     alloc: Global,
     database: &mut Database,
     relvar: usize,
     delta: Delta,
 ) -> Result<(Outcome, Vec<(usize, Delta)>), AllocError>
     requires legal { IsLegal database.old }
-    requires grows { MayGrow database.old relvar delta }
-    ensures grown { IfOk result (λ r. IsGrown database.old relvar delta r.0 r.1.items database.new) }
+    requires turns { MayTurn database.old relvar delta }
+    ensures turned { IfOk result (λ r. IsTurned database.old relvar delta r.0 r.1.items database.new) }
     ensures kept { OnErr result (database.new ≡ database.old) }
 {
     database.relvars_fit();
@@ -197,8 +258,9 @@ fn grow(
     if delta.is_empty() {
         return Ok((Outcome::Done, changes));
     }
+    let grows = delta.deleted().is_empty();
     changes.push((relvar, delta))?;
-    match tried(alloc, database, &changes)? {
+    match made(alloc, database, &changes, grows)? {
         Some(failure) => Ok((refusal(failure), Vec::new(alloc))),
         None => Ok((Outcome::Done, changes)),
     }
@@ -236,10 +298,10 @@ pub fn footprint_of(
 
 /// Runs the statement over relvars of which every test is true: its text is read and typed once, each source is
 /// evaluated once, the differences are made and then the tests that read a relvar which differs, and the relvars change
-/// where all are true. Where one assignment alone adds tuples to its target, these are put in where it stands, and taken
-/// out again where a test fails: so it costs those tuples, a search for each, and the tests. Which relvars it names is
-/// found out before, by the typed statement. A refusal for want of memory leaves the database; the meter has counted
-/// then.
+/// where all are true. Where one assignment alone adds tuples to its target, takes tuples out of it by a condition, or
+/// changes such tuples, the target is changed where it stands, and changed back where a test fails: what is added costs
+/// its tuples, a search for each, and the tests, and a condition one walk. Which relvars it names is found out before, by
+/// the typed statement. A refusal for want of memory leaves the database; the meter has counted then.
 #[tactic(auto, using(crate::proofs::Preparing::no_differences))]
 pub fn run(
     alloc: Global,
@@ -264,8 +326,8 @@ pub fn run(
             put_all(database, changes);
             Ok(ran(Outcome::Done, delta, names))
         }
-        Prepared::Growth(relvar, delta) => {
-            let (outcome, delta) = grow(alloc, database, relvar, delta)?;
+        Prepared::Turn(relvar, delta) => {
+            let (outcome, delta) = turn(alloc, database, relvar, delta)?;
             Ok(ran(outcome, delta, names))
         }
         Prepared::Refused(outcome) => Ok(ran(outcome, Vec::new(alloc), names)),

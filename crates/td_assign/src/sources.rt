@@ -1,10 +1,11 @@
 //! The sources of a multiple assignment.
 
-ghost use Rattle.std.specs.Prelude.{◌≡◌, IfOk, OnOk};
+ghost use Rattle.std.specs.Prelude.{◌≡◌, IfOk, Ok, OnOk};
+ghost use Rattle.td_values.specs.Rows.{AreRows, RowsData};
 ghost use Rattle.td_story.specs.Raises.{Tells};
 ghost use Rattle.td_story.specs.Databases.{Belongs, stored_relvars};
 ghost use Rattle.td_assign.specs.ForProofs.Given.{AreAssigned, AreChanges, GivesMore, IsAssigned, TellsChanges};
-ghost use Rattle.td_assign.specs.ForProofs.Growth.{Adds, IsGrowth, TellsAddition, TellsGrowth};
+ghost use Rattle.td_assign.specs.ForProofs.Turning.{Adds, IsGrowth, TellsAddition, TellsAlone, TellsTurn};
 ghost use Rattle.td_assign.specs.ForProofs.Lists.{given_to};
 ghost use Rattle.td_story.specs.Given.{nothing_given};
 ghost use Rattle.td_story.specs.Sources.{source_means, sources};
@@ -122,26 +123,86 @@ fn growth_by(
     }
 }
 
-/// The target of an assignment that stands alone and whose source is the target united with more, and the change that
-/// puts in what the target lacks of that. It costs the evaluation of what is united with the target, and a search for
-/// each of its tuples.
-pub(crate) fn growth(
+// The change that puts in what the source adds to its target, if it is the target united with more.
+fn added(
+    alloc: Global,
+    database: &Database,
+    assignment: &TypedAssignment,
+) -> Result<Option<Delta>, Failure>
+    requires { IsAssigned database.now.catalogue assignment.now }
+    ensures { TellsAlone database.now assignment.now result }
+{
+    database.relvars_fit();
+    match addition(alloc, database, assignment) {
+        Ok(Some(more)) => Ok(Some(growth_by(alloc, database, assignment.target, &more)?)),
+        Ok(None) => Ok(None),
+        Err(failure) => Err(failure),
+    }
+}
+
+// The tuples that the relvar at the place has fit its heading, and those of the change theirs.
+fn rows_fit(database: &Database, relvar: usize, delta: &Delta)
+    ensures there { (r : RowsData) → stored_relvars database.now.stored relvar ≡ Ok r → AreRows r.heading r.tuples }
+    ensures new { AreRows delta.now.inserted.heading delta.now.inserted.tuples }
+{
+    delta.inserted().rows_fit();
+    match database.base_at(relvar) {
+        Some(base) => base.relation().rows_fit(),
+        None => {}
+    }
+}
+
+// The change that the source makes of its target, if it takes tuples out of it, or puts changed ones in their place.
+fn exchanged(
+    alloc: Global,
+    database: &Database,
+    assignment: &TypedAssignment,
+) -> Result<Option<Delta>, Failure>
+    requires { IsAssigned database.now.catalogue assignment.now }
+    ensures { TellsAlone database.now assignment.now result }
+{
+    let catalogue = database.catalogue();
+    let target = assignment.target;
+    match td_eval::changed(alloc, catalogue, &assignment.source, database, target) {
+        Ok(Some(delta)) => {
+            rows_fit(database, target, &delta);
+            Ok(Some(delta))
+        }
+        Ok(None) => Ok(None),
+        Err(failure) => Err(failure),
+    }
+}
+
+fn alone(
+    alloc: Global,
+    database: &Database,
+    assignment: &TypedAssignment,
+) -> Result<Option<Delta>, Failure>
+    requires { IsAssigned database.now.catalogue assignment.now }
+    ensures { TellsAlone database.now assignment.now result }
+{
+    match added(alloc, database, assignment) {
+        Ok(None) => exchanged(alloc, database, assignment),
+        told => told,
+    }
+}
+
+/// The target of an assignment that stands alone, and the change that it makes of that: where its source is the target
+/// united with more, or the target without the tuples that a condition selects, or that with these tuples changed. It
+/// costs the evaluation of what is united with the target, or a walk along it, and a search for each changed tuple.
+pub(crate) fn turn(
     alloc: Global,
     database: &Database,
     assignments: &[TypedAssignment],
 ) -> Result<Option<(usize, Delta)>, Failure>
     requires { AreAssigned database.now.catalogue assignments.now }
-    ensures { TellsGrowth database.now assignments.now result }
+    ensures { TellsTurn database.now assignments.now result }
 {
     let [assignment] = assignments else {
         return Ok(None);
     };
-    database.relvars_fit();
-    match addition(alloc, database, assignment) {
-        Ok(Some(more)) => {
-            let delta = growth_by(alloc, database, assignment.target, &more)?;
-            Ok(Some((assignment.target, delta)))
-        }
+    match alone(alloc, database, assignment) {
+        Ok(Some(delta)) => Ok(Some((assignment.target, delta))),
         Ok(None) => Ok(None),
         Err(failure) => Err(failure),
     }

@@ -1,10 +1,12 @@
 -- Inserted tuples are told from all others where each finds itself alone in an index of all.
-use Rattle.std.proofs.Common.{◌≡◌, ◌↔◌, ℕ, Bool, true, IsTrue, List, sym, ◌∙◌, subst}
+use Rattle.std.proofs.Common.{◌≡◌, ◌↔◌, ℕ, Bool, true, IsTrue, List, refl, sym, ap, ◌∙◌, subst, true≢false}
+use Rattle.std.specs.FinSet as set
 use Rattle.std.specs.List.{filter, list_all}
 use Rattle.std.specs.Ordering.{eq_by_cmp}
 use Rattle.td_values.specs.Data.{Attrs}
 use Rattle.td_values.specs.Order.{attrs_order}
 use Rattle.td_values.specs.Rows.{RowsData}
+use Rattle.td_relations.specs.Sets.{body}
 use Rattle.td_tuples.specs.Parts.{cut}
 use Rattle.td_algebra.specs.KeyIndexes.{KeyIndexData, IsKeyIndex}
 use Rattle.td_algebra.specs.Keys.{TellApartFrom, shares_part}
@@ -33,3 +35,10 @@ module _ (key : List (List ℕ)) (i r : RowsData) (x : KeyIndexData) (is : IsKey
         let one = by_own.1 h t u (in_has i t m) (entry_of r x.tuples is.tuples u kept.0) (sym (same_key _ _ kept.1)) in
         subst (λ w. eq_by_cmp attrs_order w t ≡ true) one (itself t))),
   )
+
+-- where none is inserted, none is like another one
+pub none_to_tell : (key : List (List ℕ)) (i r : RowsData) → body i ≡ set.empty → IsTrue true ↔ TellApartFrom key i r
+none_to_tell key i r none = (
+  λ _ t u new. absurd (true≢false (sym new ∙ ap (λ w. set.contains w t) none ∙ set.contains-empty attrs_order t)),
+  λ _. refl,
+)

@@ -72,6 +72,9 @@ fn tells_apart<L: Lookup>(
     requires heading { inserted.now.heading ≡ relation.now.heading }
     ensures { IfOk result (λ b. IsTrue b ↔ TellApartFrom key.now inserted.now relation.now) }
 {
+    if inserted.is_empty() {
+        return Ok(true);
+    }
     match lookup.by_key(relvar, key) {
         Some(index) => Ok(tell_apart_by(index, inserted)),
         None => tell_apart_from(alloc, inserted, relation, key),

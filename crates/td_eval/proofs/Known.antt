@@ -244,6 +244,10 @@ module _ (x y : Expression) (same : y ≡ x) (r : Relvars) (ss : List Selector) 
       let ks_is : ks ≡ bases_known r x.bases = k_is ∙ ap (bases_known r) (b_is ∙ ap (λ (e : Expression). e.bases) same) in
       d_is ∙ j_is ∙ (λ i. virtuals_known (selection (selectors_are i)) (vs_is i) (ks_is i))
 
+  -- what expressions mean over them
+  pub means_known : mean (relvars_at ds) (selection ss) ≡ mean (relvars_at (all_known x r)) (selection x.selectors)
+  means_known = λ i. mean (relvars_at (all_are i)) (selection (selectors_are i))
+
   -- a part of the tree
   pub part_known : (v : Typed) → mean (relvars_at ds) (selection ss) v ≡ mean (relvars_at (all_known x r)) (selection x.selectors) v
   part_known v = λ i. mean (relvars_at (all_are i)) (selection (selectors_are i)) v

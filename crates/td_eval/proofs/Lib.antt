@@ -10,3 +10,7 @@ pub mod TypeNames
 pub mod HasValues
 pub mod Told
 pub mod United
+pub mod Rest
+pub mod Exact
+pub mod Selecting
+pub mod Remade

@@ -61,7 +61,7 @@ module _ (q : RowsData) where
   united (Err e) = refl
 
 -- ---- an expression that is a relvar united with more
-within_none : within no_attrs no_names ≡ no_names
+pub within_none : within no_attrs no_names ≡ no_names
 within_none = λ i x. None
 
 module _ (relvars : Relvars) (selected : Selection) (n : ℕ) (b : Typed) (q : RowsData) (has : relvars n ≡ Ok q) where
@@ -74,7 +74,7 @@ module _ (relvars : Relvars) (selected : Selection) (n : ℕ) (b : Typed) (q : R
       ∙ ap (λ names. and_then (mean relvars selected b names) (operate binary.Union (relation_value q))) within_none
       ∙ united q (mean relvars selected b no_names)
 
-first : {A : Type 0} (x : A) (xs : List A) → Contains (x ∷ xs) x
+pub first : {A : Type 0} (x : A) (xs : List A) → Contains (x ∷ xs) x
 first x xs = (0, omega arith, refl)
 
 module _ (c : CatalogueData) (x : Expression) (r : Relvars) (n : ℕ) (b : Typed) (q : RowsData) (defined : Defined c) (typed : IsTyped x) (is : IsIn c x) (are : AreBases c r) (base : is_base (slice_get c.origins n) ≡ true) (has : r n ≡ Ok q) (form : x.tree ≡ t.Binary binary.Union (t.Relvar n) b) where

@@ -1,6 +1,6 @@
 //! What an expression adds to a relvar.
 
-ghost use Rattle.std.specs.Prelude.{◌≡◌, true, IsTrue, MatchOption, Ok, slice_get};
+ghost use Rattle.std.specs.Prelude.{◌≡◌, true, MatchOption, Ok, slice_get};
 ghost use Rattle.td_values.specs.Data.{no_attrs};
 ghost use Rattle.td_values.specs.Rows.{RowsData};
 ghost use Rattle.td_algebra.specs.Raising.{Answers, and_then};
@@ -17,6 +17,7 @@ ghost use Rattle.td_eval.specs.Added.{TellsAdded};
 ghost use Rattle.td_eval.specs.ForProofs.Environments.{all_known};
 
 use crate::evaluation::{add_virtuals, known_bases, rows};
+use crate::forms::is_relvar;
 use crate::lookup::Lookup;
 use crate::valued::raise_of;
 use std::alloc::Global;
@@ -27,15 +28,6 @@ use td_relations::Relation;
 use td_story::Failure;
 use td_syntax::tree::BinaryOperator;
 use td_trees::tree::Typed;
-
-fn is_relvar(tree: &Typed, relvar: usize) -> bool
-    ensures { IsTrue result → tree.now ≡ typed.Relvar relvar }
-{
-    match tree {
-        Typed::Relvar(place) => *place == relvar,
-        _ => false,
-    }
-}
 
 // The expression that the relvar is united with, if the tree is such a union.
 fn united_with(tree: &Typed, relvar: usize) -> Option<&Typed>

@@ -2,12 +2,15 @@
 #![tactic(auto)]
 
 mod addition;
+mod changes;
 mod evaluation;
+mod forms;
 pub mod laws;
 pub mod lookup;
 pub mod valued;
 
 pub use addition::added;
+pub use changes::changed;
 pub use evaluation::eval;
 pub use lookup::Lookup;
 pub use valued::{relation, truth, value};

@@ -1,5 +1,5 @@
 -- What preparing a statement gives, before anything is changed.
-use Rattle.std.specs.Prelude.{◌≡◌, ℕ, List, None, Some, Option, Result, Ok, Err}
+use Rattle.std.specs.Prelude.{◌≡◌, ℕ, List, None, Some, Option, Ok, Err}
 use Rattle.td_values.specs.declared.raises.Raise.{Raise}
 use Rattle.td_algebra.specs.declared.errors.Stop.{Stop}
 use Rattle.td_relations.specs.Deltas.{DeltaData}
@@ -10,7 +10,7 @@ use Rattle.td_story.specs.Databases.{DatabaseData, stored_relvars}
 use Rattle.td_story.specs.Given.{with_given}
 use Rattle.td_story.specs.Differences.{AreDifferences}
 use Rattle.td_assign.specs.ForProofs.Given.{AreChanges, assigned_by}
-use Rattle.td_assign.specs.ForProofs.Growth.{Gives}
+use Rattle.td_assign.specs.ForProofs.Turning.{Gives}
 use Rattle.td_assign.specs.ForProofs.Lists.{given_to}
 use Rattle.td_headings.specs.Statements.{assignments_of}
 use Rattle.td_headings.specs.declared.statement.TypedStatement.{TypedStatement}
@@ -19,7 +19,7 @@ use Rattle.td_assign.specs.declared.changes.Change.{Change}
 use Rattle.td_story.specs.declared.outcome.Outcome.{Outcome}
 use Rattle.td_story.specs.declared.outcome.Outcome.TheVariants.{Done, Raised}
 use Rattle.td_assign.specs.declared.running.Prepared.{Prepared}
-use Rattle.td_assign.specs.declared.running.Prepared.TheVariants.{Changes, Growth, Refused}
+use Rattle.td_assign.specs.declared.running.Prepared.TheVariants.{Changes, Turn, Refused}
 
 abbrev pub failing_after : DatabaseData → List Change → Option (Test × Option Stop)
 failing_after d cs = failing_with d (given_to cs)
@@ -33,7 +33,7 @@ pub record MayChange (d : DatabaseData) (cs : List Change) (ds : List (ℕ × De
 -- with these changes the tests decide
 abbrev pub IsJudged : DatabaseData → List Change → Prepared → Type 0
 IsJudged d cs (Changes v ds) = (v.items ≡ cs) × MayChange d cs ds.items
-IsJudged d cs (Growth n x) = ⊥
+IsJudged d cs (Turn n x) = ⊥
 IsJudged d cs (Refused o) = (t : Test) × (e : Option Stop) × (failing_after d cs ≡ Some (t, e)) × TellsTest d.catalogue t e o
 
 -- a source raises, or a test decides
@@ -44,11 +44,11 @@ pub data Refuses (d : DatabaseData) (xs : List TypedAssignment) : Outcome → Ty
 -- what assignments come to
 abbrev pub AreAssignedTo : DatabaseData → List TypedAssignment → Prepared → Type 0
 AreAssignedTo d xs (Changes v ds) = (assigned_by d xs ≡ Ok (given_to v.items)) × MayChange d v.items ds.items
-AreAssignedTo d xs (Growth n x) = Gives d xs n x
+AreAssignedTo d xs (Turn n x) = Gives d xs n x
 AreAssignedTo d xs (Refused o) = Refuses d xs o
 
 -- what a text comes to
 abbrev pub IsPrepared : DatabaseData → List ℕ → Prepared → Type 0
 IsPrepared d text (Changes v ds) = Steps d text Done (with_all d (given_to v.items)) × MayChange d v.items ds.items
-IsPrepared d text (Growth n x) = (z : TypedStatement) × IsRead d.catalogue text z × Gives d (assignments_of z) n x
+IsPrepared d text (Turn n x) = (z : TypedStatement) × IsRead d.catalogue text z × Gives d (assignments_of z) n x
 IsPrepared d text (Refused o) = Steps d text o d

@@ -5,11 +5,11 @@ use Rattle.td_headings.specs.Catalogues.{CatalogueData}
 use Rattle.td_headings.specs.Reached.{is_base}
 use Rattle.td_operators.specs.Values.{rows_of}
 use Rattle.td_story.specs.Databases.{stored_relvars}
-use Rattle.td_story.specs.Trees.{AreBases, IsIn, tree_means}
+use Rattle.td_story.specs.Trees.{AreBases, tree_means}
 use Rattle.td_eval.specs.Added.{TellsAdded}
 use Rattle.td_relvars.proofs.Kept.{base_has}
 use Rattle.td_relvars.proofs.Stores.{bases}
-use Rattle.td_assign.proofs.Growing.{is_real, told_addition}
+use Rattle.td_assign.proofs.Turning.{is_real, told_addition}
 use Rattle.td_assign.proofs.sources.addition.Goals as goal
 
 pub added-requires-clause-bases : goal.added-requires-clause-bases

@@ -1,10 +1,9 @@
 use Rattle.std.proofs.Common.{Some, slice_get, ap, sym, subst, ◌∙◌}
 use Rattle.std.specs.FinSet as set
 use Rattle.td_values.specs.Headings.{Header}
-use Rattle.td_values.specs.Rows.{AreRows, RowsData}
-use Rattle.td_relations.specs.Sets.{IsRelation, body}
+use Rattle.td_relations.specs.Sets.{IsRelation}
 use Rattle.td_relvars.proofs.Stores.{looked_up}
-use Rattle.td_assign.proofs.Growing.{apart_from_none, growth_is, of_target}
+use Rattle.td_assign.proofs.Turning.{apart_from_none, growth_is, of_target}
 use Rattle.td_assign.proofs.sources.growth_by.Goals as goal
 
 pub minus-requires : goal.minus-requires
