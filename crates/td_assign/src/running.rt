@@ -182,8 +182,8 @@ fn tried(
     }
 }
 
-// The relvar has again what it had before the change: by its inverse, so that what it keeps by its keys stays, or, where
-// memory is wanting for that, by the copy.
+// The relvar has again what it had before the change: by its inverse, so that what it keeps by its keys stays, or,
+// where memory is wanting for that, by the copy.
 fn restore(alloc: Global, database: &mut Database, change: &(usize, Delta), part: Part)
     requires { (d : DatabaseData) × CameFrom d change.now part database.old }
     ensures { (d : DatabaseData) → CameFrom d change.now part database.old → database.new ≡ d }
@@ -194,8 +194,8 @@ fn restore(alloc: Global, database: &mut Database, change: &(usize, Delta), part
     }
 }
 
-// Makes the one change, and the relvar has again what it had where a test fails or memory is wanting for them. There is a
-// way back that takes no memory: what the relvar had is copied before.
+// Makes the one change, and the relvar has again what it had where a test fails or memory is wanting for them. There is
+// a way back that takes no memory: what the relvar had is copied before.
 fn tried_with_copy(
     alloc: Global,
     database: &mut Database,
@@ -300,8 +300,8 @@ pub fn footprint_of(
 /// evaluated once, the differences are made and then the tests that read a relvar which differs, and the relvars change
 /// where all are true. Where one assignment alone adds tuples to its target, takes tuples out of it by a condition, or
 /// changes such tuples, the target is changed where it stands, and changed back where a test fails: what is added costs
-/// its tuples, a search for each, and the tests, and a condition one walk. Which relvars it names is found out before, by
-/// the typed statement. A refusal for want of memory leaves the database; the meter has counted then.
+/// its tuples, a search for each, and the tests, and a condition one walk. Which relvars it names is found out before,
+/// by the typed statement. A refusal for want of memory leaves the database; the meter has counted then.
 #[tactic(auto, using(crate::proofs::Preparing::no_differences))]
 pub fn run(
     alloc: Global,

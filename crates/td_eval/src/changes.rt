@@ -192,8 +192,8 @@ fn change_by_part<L: Lookup>(
 
 /// What an expression of the catalogue changes of the base relvar at the place, where it is that relvar without the
 /// tuples of which a condition is true, or that united with these tuples changed: the exact change. The condition is
-/// asked of each tuple once, and the items are evaluated at those that it selects. None where the expression has another
-/// form, or parts that are better evaluated once for all tuples.
+/// asked of each tuple once, and the items are evaluated at those that it selects. None where the expression has
+/// another form, or parts that are better evaluated once for all tuples.
 pub fn changed<L: Lookup>(
     alloc: Global,
     catalogue: &Catalogue,

@@ -82,8 +82,8 @@ fn take_back(relation: &mut Relation, by_keys: &mut ByKeys, delta: &Delta)
     follow(by_keys, relation.len(), delta.inserted(), delta.deleted());
 }
 
-/// What a base relvar has. Beside the relation it keeps its tuples by the relvar's keys, where enough small changes were
-/// made where it stands; contracts see the relation alone.
+/// What a base relvar has. Beside the relation it keeps its tuples by the relvar's keys, where enough small changes
+/// were made where it stands; contracts see the relation alone.
 #[derive(Drop)]
 pub struct Base {
     relation: Relation,

@@ -104,9 +104,9 @@ fn is_large(changed: usize, size: usize) -> bool {
     changed > MANY || changed > size / SHARE
 }
 
-/// What is kept of a relation goes along with a change of it that leaves so many tuples: at each index it costs a search
-/// and a shift for each tuple, and memory for those put in. Where the change is large, or memory is wanting, nothing is
-/// kept.
+/// What is kept of a relation goes along with a change of it that leaves so many tuples: at each index it costs a
+/// search and a shift for each tuple, and memory for those put in. Where the change is large, or memory is wanting,
+/// nothing is kept.
 pub(crate) fn follow(by_keys: &mut ByKeys, size: usize, deleted: &Relation, inserted: &Relation)
     requires { AreOver inserted.now.heading by_keys.old }
     ensures { AllBecome (exchanged deleted.now inserted.now) by_keys.old by_keys.new }
