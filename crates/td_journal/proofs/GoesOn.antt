@@ -68,7 +68,7 @@ front_has P (x ∷ xs) back all = (all.0, front_has P xs back all.1)
 
 -- ---- what was read
 
-all_read : (old new : Option (List ℕ)) (bytes front : List ℕ) → old ≡ Some front → Consumes old new bytes → IsAtEnd new → bytes ≡ front
+pub all_read : (old new : Option (List ℕ)) (bytes front : List ℕ) → old ≡ Some front → Consumes old new bytes → IsAtEnd new → bytes ≡ front
 all_read old None bytes front is h end = absurd (subst (λ (o : Option (List ℕ)). Consumes o None bytes) is h)
 all_read old (Some rest) bytes front is h end =
     let split : front ≡ bytes ++ rest = subst (λ (o : Option (List ℕ)). Consumes o (Some rest) bytes) is h in
@@ -78,7 +78,7 @@ abbrev entries_in : Result (List Entry × ℕ) JournalError → List Entry
 entries_in (Ok x) = x.0
 entries_in (Err e) = []
 
-abbrev whole_in : Result (List Entry × ℕ) JournalError → ℕ
+abbrev pub whole_in : Result (List Entry × ℕ) JournalError → ℕ
 whole_in (Ok x) = x.1
 whole_in (Err e) = 0
 

@@ -7,5 +7,6 @@ pub mod Kept
 pub mod Grown
 pub mod ComesBack
 pub mod Stored
+pub mod KeptOn
 pub mod GoesOn
 pub mod Failed

@@ -1,7 +1,8 @@
 -- A new site that comes back from where its journal stands, and goes on with it.
 use Rattle.std.specs.Prelude.{◌≡◌, ◌≢◌, ◌⊎◌, ℕ, zero, suc, List, Option, None, Some, take}
 use Rattle.td_devices.specs.Views.{Input, Output}
-use Rattle.td_story.specs.Seen.{Seen}
+use Rattle.td_story.specs.Seen.{Seen, IsSound}
+use Rattle.td_journal.specs.Keepers.{IsJournal}
 use Rattle.td_journal.specs.Keeping.{Starts, StartsNot}
 use Rattle.td_journal.specs.Reopening.{Retakes, RetakesNot}
 use Rattle.td_journal.specs.declared.keeper.StartError.TheVariants.{WriteFault}
@@ -49,3 +50,10 @@ GoesOnNot Fails JournalFile = Fails JournalFile ⊎ BeginsNot
 abbrev pub KeepsNot : (StoreError → Type 0) → Option (List ℕ) → Seen → StoreError → Type 0
 KeepsNot Fails kept s OutOfMemory = Fails OutOfMemory ⊎ IsRefused kept s reopen_error.OutOfMemory
 KeepsNot Fails kept s JournalFile = Fails JournalFile ⊎ (((error : ReopenError) × (error ≢ reopen_error.OutOfMemory) × IsRefused kept s error) ⊎ BeginsNot)
+
+-- A new site that came back from a front of the journal of another one, of its script and number, writes behind the
+-- journal of what it holds: so its journal is that again, as after a start.
+abbrev pub KeptHasJournal : Type 0
+KeptHasJournal =
+    (s new after : Seen) (bytes front : List ℕ) (k : ℕ) (w : Output) → IsSound s → IsJournal s bytes → front ≡ take k bytes
+    → new.script ≡ s.script → new.site ≡ s.site → IsSound after → GoesOn (Some front) new after w → (all : List ℕ) × (w.held ≡ Some all) × IsJournal after all
