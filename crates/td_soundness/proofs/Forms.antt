@@ -24,7 +24,7 @@ use Rattle.td_algebra.specs.Summaries.{summary_over}
 use Rattle.td_kinds.specs.Kinds.{Name}
 use Rattle.td_kinds.specs.Operators.{binary_kind, suits}
 use Rattle.td_kinds.specs.Schemas.{SchemaData}
-use Rattle.td_meaning.specs.ForProofs.Over.{Means, terms, groups_meant, over_aggregate, over_extend, over_summarize}
+use Rattle.td_meaning.specs.ForProofs.Over.{Means, terms, groups_meant, over_aggregate, over_extend, over_summarize, summarized_over}
 use Rattle.td_meaning.specs.Mean.{Names, Meaning, Relvars, within, given, truth_in, rows_in, truth_at, mean_local, mean_relvar, mean_by, mean_both, mean_and, mean_or, mean_binary, mean_if, mean_where, introduced, mean_with, groups_at}
 use Rattle.td_operators.specs.Operators.{operate, as_value}
 use Rattle.td_operators.specs.Values.{truth_of, rows_of, known}
@@ -140,11 +140,12 @@ module _ (s : SchemaData) where
     aggregate_over o v h k may each ts are = summary_gives s (terms m names) v ts o k may (λ t i. each t (are t i))
 
     pub summarize_gives : (r : Typed) (g : TypedGroups Typed) (items : List (Item (Summary Typed))) (h k : Header) → GivesValue s (kind.Relation h) (m r names) → ((ts : RowsData) → IsRelationOver s h ts → GivesRelation s k (groups_at (groups_meant m g) names ts)) → SummariesGive s h (terms m names) items → GivesValue s (kind.Relation (extended_columns items k)) (over_summarize m r g items names)
-    unfolding over_summarize
+    unfolding over_summarize summarized_over
     summarize_gives r g items h k give groups each =
-        goes_on (IsRelationOver s h) (HasKind s (kind.Relation (extended_columns items k))) (λ ts. and_then (groups_at (groups_meant m g) names ts) (λ us. and_then (summarized (terms m names) items ts us) as_value)) (rows_in (m r) names) (rows_give h (m r) names give) (λ ts is.
-        goes_on (IsRelationOver s k) (HasKind s (kind.Relation (extended_columns items k))) (λ us. and_then (summarized (terms m names) items ts us) as_value) (groups_at (groups_meant m g) names ts) (groups ts is) (λ us are.
-        goes_on (IsRelationOver s (extended_columns items k)) (HasKind s (kind.Relation (extended_columns items k))) as_value (summarized (terms m names) items ts us) (summarization_is s (terms m names) items h k ts us is are each) (λ vs made. as_relation s (extended_columns items k) vs made)))
+        goes_on (IsRelationOver s h) (HasKind s (kind.Relation (extended_columns items k))) (λ ts. and_then (summarized_over m g items names ts) as_value) (rows_in (m r) names) (rows_give h (m r) names give) (λ ts is.
+        goes_on (IsRelationOver s (extended_columns items k)) (HasKind s (kind.Relation (extended_columns items k))) as_value (summarized_over m g items names ts)
+        (goes_on (IsRelationOver s k) (IsRelationOver s (extended_columns items k)) (summarized (terms m names) items ts) (groups_at (groups_meant m g) names ts) (groups ts is) (λ us are. summarization_is s (terms m names) items h k ts us is are each))
+        (λ vs made. as_relation s (extended_columns items k) vs made))
 
     -- ---- the groups
     pub whole_gives : (ts : RowsData) → GivesRelation s by_name.empty (groups_at groups.Whole names ts)
