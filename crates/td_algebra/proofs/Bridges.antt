@@ -283,7 +283,7 @@ back Empty = refl
 back Selector = refl
 back Cardinality = refl
 
-same_stop : (e f : Stop) → number_of e ≡ number_of f → e ≡ f
+pub same_stop : (e f : Stop) → number_of e ≡ number_of f → e ≡ f
 same_stop e f h = sym (back e) ∙ ap stop_at h ∙ back f
 
 abbrev told : {A : Type 0} → Result A Stop → Result A Fault

@@ -17,6 +17,7 @@ pub mod Openings
 pub mod Chains
 pub mod Closing
 pub mod Bridges
+pub mod Narrowed
 pub mod Reaching
 pub mod Ending
 pub mod Extremes
@@ -27,5 +28,6 @@ pub mod ByKey
 pub mod KeyLaws
 pub mod Marks
 pub mod Matchings
+pub mod Shared
 pub mod GroupParts
 pub mod Beside

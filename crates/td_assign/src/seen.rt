@@ -5,7 +5,7 @@ ghost use Rattle.td_story.specs.Given as spec;
 ghost use Rattle.td_story.specs.Databases.{stored_relvars};
 
 use crate::changes::{Change, given_to};
-use td_algebra::Stop;
+use td_algebra::{KeyIndex, Stop};
 use td_eval::Lookup;
 use td_relations::Relation;
 use td_relvars::Database;
@@ -29,6 +29,15 @@ impl Lookup for Seen<'_> {
         }
         self.database.lent(relvar)
     }
+
+    fn indexes(&self, relvar: usize) -> &[KeyIndex] {
+        if self.target == relvar {
+            if let Some(_) = given_to(self.changes, relvar) {
+                return &[];
+            }
+        }
+        self.database.indexes(relvar)
+    }
 }
 
 /// The relvars of a database with all targets replaced.
@@ -45,6 +54,13 @@ impl Lookup for Replaced<'_> {
         match given_to(self.changes, relvar) {
             Some(relation) => Ok(relation),
             None => self.database.lent(relvar),
+        }
+    }
+
+    fn indexes(&self, relvar: usize) -> &[KeyIndex] {
+        match given_to(self.changes, relvar) {
+            Some(_) => &[],
+            None => self.database.indexes(relvar),
         }
     }
 }

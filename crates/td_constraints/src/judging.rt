@@ -1,11 +1,12 @@
 //! The tests of a script, judged over relvars that are looked up.
 
-ghost use Rattle.std.specs.Prelude.{◌≡◌, ◌↔◌, IfOk, IsTrue, MatchOption, None, Ok, Some, option_map};
+ghost use Rattle.std.specs.Prelude.{◌≡◌, ◌↔◌, IfOk, IfSome, IsTrue, MatchOption, None, Ok, Some, option_map};
 ghost use Rattle.td_values.specs.Data.{no_attrs};
 ghost use Rattle.td_values.specs.declared.TypeKind.TheVariants as type_kind;
 ghost use Rattle.td_algebra.specs.Keys.{TellApartFrom};
 ghost use Rattle.td_algebra.specs.Raising.{and_then};
 ghost use Rattle.td_operators.specs.Values.{truth_of};
+ghost use Rattle.td_eval.specs.Keyed.{IsByKey};
 ghost use Rattle.td_headings.specs.Definitions.{Defined};
 ghost use Rattle.td_story.specs.Raises.{Tells, stop_of};
 ghost use Rattle.td_story.specs.Trees.{IsIn, tree_means};
@@ -20,7 +21,7 @@ ghost use Rattle.td_story.specs.Tests.{failing, judgement, or_behind};
 use crate::keyed::tell_apart_by;
 use crate::ways::{Narrowed, Way, way_of};
 use std::alloc::{AllocError, Global};
-use td_algebra::{tell_apart, tell_apart_from};
+use td_algebra::{KeyIndex, tell_apart, tell_apart_from};
 use td_eval::{Lookup, truth};
 use td_headings::{Catalogue, Test, TypedExpr, constraint_expr};
 use td_relations::{Delta, Relation};
@@ -58,6 +59,13 @@ fn change_of(changes: &[(usize, Delta)], relvar: usize) -> Option<&Delta>
     None
 }
 
+// The index of the relvar's tuples by this key, if they are kept so.
+fn index_by<'a, L: Lookup>(lookup: &'a L, relvar: usize, key: &[Name]) -> Option<&'a KeyIndex>
+    ensures { IfSome result (λ x. IsByKey (L.relvars lookup.now relvar) key.now x.now) }
+{
+    lookup.indexes(relvar).iter().find(|index| index.is_of(key))
+}
+
 // Whether the tuples that were put into a relvar are told from all others of the relation that it has now by their
 // parts at the key: by searches where its tuples are kept by this key, and else by a walk along it.
 fn tells_apart<L: Lookup>(
@@ -75,7 +83,7 @@ fn tells_apart<L: Lookup>(
     if inserted.is_empty() {
         return Ok(true);
     }
-    match lookup.by_key(relvar, key) {
+    match index_by(lookup, relvar, key) {
         Some(index) => Ok(tell_apart_by(index, inserted)),
         None => tell_apart_from(alloc, inserted, relation, key),
     }

@@ -9,7 +9,7 @@ ghost use Rattle.td_constraints.specs.ForProofs.Changed as spec;
 ghost use Rattle.td_constraints.specs.ForProofs.Gaining.{AreWays, IsWay};
 
 use std::alloc::{AllocError, Global};
-use td_algebra::Stop;
+use td_algebra::{KeyIndex, Stop};
 use td_eval::Lookup;
 use td_growth::{is_safe, is_watched};
 use td_headings::{Catalogue, Origin, TypedExpr, reads};
@@ -31,6 +31,14 @@ impl<L: Lookup> Lookup for Narrowed<'_, L> {
             Ok(self.gained)
         } else {
             self.lookup.lent(relvar)
+        }
+    }
+
+    fn indexes(&self, relvar: usize) -> &[KeyIndex] {
+        if relvar == self.relvar {
+            &[]
+        } else {
+            self.lookup.indexes(relvar)
         }
     }
 }

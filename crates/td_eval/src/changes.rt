@@ -4,110 +4,31 @@ ghost use Rattle.std.specs.Prelude.{◌≡◌, Bool, true, IfOk, Ok, Result, sli
 ghost use Rattle.td_values.specs.Data.{Attrs, no_attrs};
 ghost use Rattle.td_values.specs.Rows.{RowsData};
 ghost use Rattle.td_algebra.specs.Functions.{minus_of, restricted, union_of};
-ghost use Rattle.td_algebra.specs.Raising.{Answers, and_then};
+ghost use Rattle.td_algebra.specs.Raising.{and_then};
 ghost use Rattle.td_algebra.specs.declared.errors.Stop.{Stop};
 ghost use Rattle.td_headings.specs.Reached.{is_base};
-ghost use Rattle.td_meaning.specs.ForProofs.Over.{terms};
-ghost use Rattle.td_meaning.specs.Mean.{mean, truth_at};
+ghost use Rattle.td_meaning.specs.Mean.{mean};
 ghost use Rattle.td_meaning.specs.Seen.{mean_in, relvars_at};
 ghost use Rattle.td_meaning.specs.Selections.{selection};
 ghost use Rattle.td_operators.specs.Values as spec;
-ghost use Rattle.td_story.specs.Meanings.{no_names};
 ghost use Rattle.td_story.specs.Trees.{AreBases, IsIn, tree_means};
 ghost use Rattle.td_relations.specs.Deltas.{IsDifference};
 ghost use Rattle.td_eval.specs.Changed.{TellsChanged};
 ghost use Rattle.td_eval.specs.ForProofs.Environments.{all_known};
 ghost use Rattle.td_eval.specs.declared.forms.Form.TheVariants.{Changed};
-ghost use Rattle.td_eval.specs.ForProofs.Forms.{TellsForm, chosen, form_means, renewed};
+ghost use Rattle.td_eval.specs.ForProofs.Forms.{TellsForm, form_means};
 
-use crate::evaluation::{add_virtuals, known_bases};
-use crate::forms::{Change, Form, form_of, is_simple};
+use crate::evaluation::{add_virtuals, known_bases, leased};
+use crate::forms::{Change, Form, form_of};
 use crate::lookup::Lookup;
 use crate::valued::raise_of;
-use sqlite_items::Boxed;
 use std::alloc::{AllocError, Global};
-use td_algebra::{Fault, Stop, extend, restrict};
+use td_algebra::{Fault, Stop};
 use td_headings::{Catalogue, TypedExpr};
-use td_meaning::{Environment, Scope};
-use td_operators::truth_of;
+use td_meaning::{Environment, Scope, extend_all, select};
+use td_operators::Lease;
 use td_relations::{Delta, Relation, minus};
 use td_story::Failure;
-use td_trees::tree::Typed;
-use td_tuples::Item;
-use td_values::{Tuple, Value};
-
-// Whether the condition is true of the tuple.
-#[tactic(auto, unfolding(td_meaning::specs::Mean::truth_at, td_meaning::specs::Mean::truth_in))]
-fn is_chosen(
-    alloc: Global,
-    env: &Environment,
-    condition: &Typed,
-    tuple: &Tuple,
-) -> Result<bool, Fault>
-    ensures { Answers result (truth_at (mean_in env.now condition.now) no_names tuple.now) }
-{
-    truth_of(td_meaning::eval(
-        alloc,
-        env,
-        condition,
-        &Scope::Within(tuple, &Scope::Nothing),
-    )?)
-}
-
-// The tuples of which the condition is true.
-fn chosen(
-    alloc: Global,
-    env: &Environment,
-    relation: &Relation,
-    condition: &Typed,
-) -> Result<Relation, Fault>
-    ensures { Answers result (chosen (mean_in env.now) condition.now relation.now) }
-{
-    restrict(
-        alloc,
-        relation,
-        |tuple: &Tuple| -> Result<bool, Fault>
-            ensures { Answers result (truth_at (mean_in env.entry.now condition.entry.now) no_names tuple.now) }
-        { is_chosen(alloc, env, condition, tuple) },
-    )
-}
-
-// The value of an item's term within the tuple.
-#[tactic(auto, unfolding(td_meaning::specs::ForProofs::Over::terms))]
-fn term_at(
-    alloc: Global,
-    env: &Environment,
-    term: &Boxed<Typed>,
-    tuple: &Tuple,
-) -> Result<Value, Fault>
-    ensures { Answers result (terms (mean_in env.now) no_names term.now tuple.now) }
-{
-    td_meaning::eval(
-        alloc,
-        env,
-        term.get(),
-        &Scope::Within(tuple, &Scope::Nothing),
-    )
-}
-
-// The tuples with their new values.
-fn renewed(
-    alloc: Global,
-    env: &Environment,
-    tuples: &Relation,
-    items: &[Item<Boxed<Typed>>],
-) -> Result<Relation, Fault>
-    ensures { Answers result (renewed (mean_in env.now) items.now tuples.now) }
-{
-    extend(
-        alloc,
-        tuples,
-        items,
-        &|term: &Boxed<Typed>, tuple: &Tuple| -> Result<Value, Fault>
-            ensures { Answers result (terms (mean_in env.entry.now) no_names term.now tuple.now) }
-        { term_at(alloc, env, term, tuple) },
-    )
-}
 
 // The change that takes these tuples of the relation out.
 fn without(alloc: Global, relation: &Relation, gone: Relation) -> Result<Delta, AllocError>
@@ -138,34 +59,34 @@ fn replaced(
 fn update(
     alloc: Global,
     env: &Environment,
-    relation: &Relation,
+    tuples: &Lease<'_>,
     change: &Change,
 ) -> Result<Delta, Fault>
-    ensures { TellsForm relation.now (form_means (mean_in env.now) relation.now (Changed change.now)) result }
+    ensures { TellsForm tuples.now (form_means (mean_in env.now) tuples.now (Changed change.now)) result }
 {
-    let gone = chosen(alloc, env, relation, change.condition)?;
-    let more = renewed(alloc, env, &gone, change.items)?;
-    if !more.same_heading(relation) {
+    let gone = select(alloc, env, tuples, change.condition, &Scope::Nothing)?;
+    let more = extend_all(alloc, env, &gone, change.items, &Scope::Nothing)?;
+    if !more.same_heading(tuples.get()) {
         return Err(Fault::Raised(Stop::Untyped));
     }
-    Ok(replaced(alloc, relation, &gone, &more)?)
+    Ok(replaced(alloc, tuples.get(), &gone, &more)?)
 }
 
 // The change that makes what an expression of this form means of the relation.
 fn exchange(
     alloc: Global,
     env: &Environment,
-    relation: &Relation,
+    tuples: &Lease<'_>,
     form: &Form,
 ) -> Result<Delta, Fault>
-    ensures { TellsForm relation.now (form_means (mean_in env.now) relation.now form.now) result }
+    ensures { TellsForm tuples.now (form_means (mean_in env.now) tuples.now form.now) result }
 {
     match form {
         Form::Less(condition) => {
-            let gone = chosen(alloc, env, relation, condition)?;
-            Ok(without(alloc, relation, gone)?)
+            let gone = select(alloc, env, tuples, condition, &Scope::Nothing)?;
+            Ok(without(alloc, tuples.get(), gone)?)
         }
-        Form::Changed(change) => update(alloc, env, relation, change),
+        Form::Changed(change) => update(alloc, env, tuples, change),
     }
 }
 
@@ -174,10 +95,10 @@ fn change_by_part<L: Lookup>(
     alloc: Global,
     expr: &TypedExpr,
     lookup: &L,
-    relation: &Relation,
+    tuples: &Lease<'_>,
     form: &Form,
 ) -> Result<Delta, Fault>
-    ensures { TellsForm relation.now (form_means (mean (relvars_at (all_known expr.now (L.relvars lookup.now))) (selection expr.now.selectors)) relation.now form.now) result }
+    ensures { TellsForm tuples.now (form_means (mean (relvars_at (all_known expr.now (L.relvars lookup.now))) (selection expr.now.selectors)) tuples.now form.now) result }
 {
     let expression = expr.get();
     let selectors = expression.selectors.as_slice();
@@ -187,13 +108,13 @@ fn change_by_part<L: Lookup>(
         relvars: &known,
         selectors,
     };
-    exchange(alloc, &env, relation, form)
+    exchange(alloc, &env, tuples, form)
 }
 
 /// What an expression of the catalogue changes of the base relvar at the place, where it is that relvar without the
 /// tuples of which a condition is true, or that united with these tuples changed: the exact change. The condition is
-/// asked of each tuple once, and the items are evaluated at those that it selects. None where the expression has
-/// another form, or parts that are better evaluated once for all tuples.
+/// asked of each tuple once, or of those alone that it finds by a key, and the items are evaluated at those that it
+/// selects. None where the expression has another form.
 pub fn changed<L: Lookup>(
     alloc: Global,
     catalogue: &Catalogue,
@@ -211,13 +132,10 @@ pub fn changed<L: Lookup>(
     let Some(form) = form_of(expr.get().tree.get(), relvar) else {
         return Ok(None);
     };
-    let Ok(relation) = lookup.lent(relvar) else {
+    let Ok(tuples) = leased(lookup, relvar) else {
         return Ok(None);
     };
-    if !is_simple(&form) {
-        return Ok(None);
-    }
-    match change_by_part(alloc, expr, lookup, relation, &form) {
+    match change_by_part(alloc, expr, lookup, &tuples, &form) {
         Ok(delta) => Ok(Some(delta)),
         Err(Fault::Raised(stop)) => Err(Failure::Raised(raise_of(stop))),
         Err(Fault::OutOfMemory) => Err(Failure::OutOfMemory),

@@ -1,6 +1,6 @@
 //! Evaluation.
 
-ghost use Rattle.std.specs.Prelude.{◌≡◌, IfOk, OnOk};
+ghost use Rattle.std.specs.Prelude.{◌≡◌, IfOk, MatchResult, OnOk};
 ghost use Rattle.td_algebra.specs.Raising.{Answers};
 ghost use Rattle.td_meaning.specs.Mean.{rows_in};
 ghost use Rattle.td_meaning.specs.Seen.{mean_in};
@@ -31,19 +31,22 @@ fn kept<'a>(answer: Result<Relation, Fault>) -> Result<Result<Lease<'a>, Stop>, 
     }
 }
 
+// What the base relvar at the place has, with what the look-up keeps beside it.
+pub(crate) fn leased<L: Lookup>(lookup: &L, relvar: usize) -> Result<Lease<'_>, Stop>
+    ensures { MatchResult result (λ r. L.relvars lookup.now relvar ≡ Ok r) (λ e. L.relvars lookup.now relvar ≡ Err e) }
+{
+    match lookup.lent(relvar) {
+        Ok(relation) => Ok(Lease::kept(relation, lookup.indexes(relvar))),
+        Err(stop) => Err(stop),
+    }
+}
+
 fn known_base<'a, L: Lookup>(lookup: &'a L, base: &BaseUnder) -> Known<'a>
     ensures { result ≡ base_known (L.relvars lookup.now) base.now }
 {
-    let place = base.place;
-    match lookup.lent(place) {
-        Ok(relation) => Known {
-            place,
-            value: Ok(Lease::lent(relation)),
-        },
-        Err(stop) => Known {
-            place,
-            value: Err(stop),
-        },
+    Known {
+        place: base.place,
+        value: leased(lookup, base.place),
     }
 }
 

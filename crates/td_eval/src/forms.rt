@@ -133,25 +133,3 @@ pub(crate) fn form_of(tree: &Typed, relvar: usize) -> Option<Form<'_>>
         },
     }
 }
-
-// Whether the expression is made of values and names alone, so that there is nothing in it to be evaluated once for all
-// tuples.
-fn is_plain(tree: &Typed) -> bool {
-    match tree {
-        Typed::Integer(_) | Typed::Text(_) | Typed::Truth(_) | Typed::Local(_) => true,
-        Typed::Component(_, a) | Typed::Unary(_, a) => is_plain(a.get()),
-        Typed::Binary(_, a, b) => is_plain(a.get()) && is_plain(b.get()),
-        Typed::If(a, b, c) => is_plain(a.get()) && is_plain(b.get()) && is_plain(c.get()),
-        _ => false,
-    }
-}
-
-/// Whether its condition and its items are such expressions.
-pub(crate) fn is_simple(form: &Form) -> bool {
-    match form {
-        Form::Less(condition) => is_plain(condition),
-        Form::Changed(change) => {
-            is_plain(change.condition) && change.items.iter().all(|item| is_plain(item.term.get()))
-        }
-    }
-}

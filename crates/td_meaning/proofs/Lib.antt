@@ -9,3 +9,4 @@ pub mod Fewer
 pub mod Rightness
 pub mod Deepest
 pub mod Ready
+pub mod Pinning

@@ -44,7 +44,7 @@ value_placed n (attr m d u) =
     ]
 
 module _ (h : Header) (n : List ℕ) (u : Attrs) (f : Fits h u) where
-  value_at_place : option_map (λ a. a.1) (slice_get (attributes u) (place_in h n)) ≡ attribute_of n u
+  pub value_at_place : option_map (λ a. a.1) (slice_get (attributes u) (place_in h n)) ≡ attribute_of n u
   value_at_place = ap (λ fs. option_map (λ (a : List ℕ × Datum). a.1) (slice_get (attributes u) (position_or_len (λ f. eq_by_cmp text_cmp n f.0) fs))) (sym (fits_typed h u f)) ∙ value_placed n u
 
   hides : (o : Option Datum) (outer : Option Datum) → is_some o ≡ true → known (or_else o outer) ≡ known o

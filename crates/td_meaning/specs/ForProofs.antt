@@ -7,3 +7,4 @@ pub mod Found
 pub mod Right
 pub mod Terms
 pub mod Checks
+pub mod Pinned

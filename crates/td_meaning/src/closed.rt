@@ -94,7 +94,7 @@ impl Bound<'_> {
 fn heading_of<'a>(env: &'a Surroundings<'_>, tree: &Typed) -> Option<&'a Heading> {
     match tree {
         Typed::Relvar(place) => match relvar_at(env.env.relvars, *place) {
-            Ok(relation) => Some(relation.heading()),
+            Ok(lease) => Some(lease.get().heading()),
             Err(_) => None,
         },
         Typed::Where(r, _) => heading_of(env, r.get()),

@@ -2,7 +2,6 @@
 
 ghost use Rattle.std.specs.Prelude.{◌≡◌, ◌≤◌, ◌++◌, ◌∷◌, [], max, IfOk, IfSome, IsTrue, Ok, OnOk};
 ghost use Rattle.std.specs.Option.{option_copied};
-ghost use Rattle.td_algebra.specs.KeyIndexes.{place_in};
 ghost use Rattle.td_algebra.specs.Raising.{Answers};
 ghost use Rattle.td_meaning.specs.ForProofs.Checks.{AddsChecks, AreChecks, IsCheck, IsSide, check_levels, comparison, deepest_check, side_value};
 ghost use Rattle.td_meaning.specs.ForProofs.Levels.{levels};
@@ -19,7 +18,7 @@ use crate::scope::{Held, Meant, Scope, lent};
 use crate::surroundings::Surroundings;
 use sqlite_items::Boxed;
 use std::alloc::{AllocError, Global};
-use td_algebra::{Fault, Stop};
+use td_algebra::{Fault, Stop, place_in};
 use td_operators::{holds, integer_value, text_value, truth_value};
 use td_syntax::tree::BinaryOperator;
 use td_trees::tree::Typed;
@@ -37,19 +36,6 @@ pub(crate) enum Side {
 pub(crate) enum Check<'a> {
     Comparison(BinaryOperator, Side, Side),
     Other(&'a Typed),
-}
-
-// Where the name stands in the heading; where it lacks it, how many columns it has.
-fn place_of(heading: &Heading, name: &Name) -> usize
-    ensures { result ≡ place_in heading.now name.now }
-{
-    let fields = heading.fields();
-    for at in 0..fields.len() {
-        if *name == fields[at].0 {
-            return at;
-        }
-    }
-    fields.len()
 }
 
 fn side_value(alloc: Global, value: Value) -> Result<Side, AllocError>
@@ -87,7 +73,7 @@ fn side_local(
     ensures { IfOk result (λ o. IfSome o (λ s. (t : Attrs) → Fits heading.now t → known (within t (visible scope.now) name.now) ≡ side_value t s)) }
 {
     if heading.type_of(name).is_some() {
-        return Ok(Some(Side::Attribute(place_of(heading, name))));
+        return Ok(Some(Side::Attribute(place_in(heading, name))));
     }
     match scope.find(name) {
         Some(meant) => side_meant(alloc, meant),

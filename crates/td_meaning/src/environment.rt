@@ -5,7 +5,6 @@ ghost use Rattle.td_meaning.specs.Seen.{relvars_at};
 
 use td_algebra::{Fault, Stop};
 use td_operators::Lease;
-use td_relations::Relation;
 use td_trees::expression::Selector;
 
 /// What a relvar has, by its place in order of definition: a relation, which may be lent, or what its expression
@@ -24,22 +23,22 @@ pub struct Environment<'a> {
     pub selectors: &'a [Selector],
 }
 
-fn relation_of<'a>(known: &'a Known<'_>) -> Result<&'a Relation, Fault>
+fn lease_of<'a>(known: &'a Known<'_>) -> Result<&'a Lease<'a>, Fault>
     ensures { AnswersBy (λ r. r.now) result known.now.value }
 {
     match &known.value {
-        Ok(lease) => Ok(lease.get()),
+        Ok(lease) => Ok(lease),
         Err(stop) => Err(Fault::Raised(*stop)),
     }
 }
 
-// The relation of the relvar at the place. It looks at the relvars one by one.
-pub(crate) fn relvar_at<'a>(relvars: &'a [Known<'_>], place: usize) -> Result<&'a Relation, Fault>
+// What the relvar at the place has. It looks at the relvars one by one.
+pub(crate) fn relvar_at<'a>(relvars: &'a [Known<'_>], place: usize) -> Result<&'a Lease<'a>, Fault>
     ensures { AnswersBy (λ r. r.now) result (relvars_at relvars.now place) }
 {
     for known in relvars {
         if known.place == place {
-            return relation_of(known);
+            return lease_of(known);
         }
     }
     Err(Fault::Raised(Stop::Untyped))

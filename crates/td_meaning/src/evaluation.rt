@@ -20,6 +20,7 @@ ghost use Rattle.td_meaning.specs.Selections as selections;
 use crate::closed::{Terms, closed_parts};
 use crate::conditions::{Check, checks_of, compared};
 use crate::environment::{Environment, relvar_at};
+use crate::keyed::found_by_key;
 use crate::parts::{Part, copied, operand_known, put, value_known};
 use crate::scope::{Held, Scope, hold, operand_meant, value_meant};
 use crate::selections::{selector_at, user_value};
@@ -55,8 +56,8 @@ fn local(alloc: Global, name: &Name, scope: &Scope) -> Result<Value, Fault>
 fn relvar(alloc: Global, env: &Surroundings, place: usize) -> Result<Value, Fault>
     ensures { (names : Names) → Answers result (spec.mean_relvar (relvars_at env.now.env.now.relvars.now) place names) }
 {
-    let relation = relvar_at(env.env.relvars, place)?;
-    Ok(relation_value(relation.copy(alloc)?))
+    let lease = relvar_at(env.env.relvars, place)?;
+    Ok(relation_value(lease.get().copy(alloc)?))
 }
 
 #[tactic(auto, unfolding(crate::specs::Mean::mean_local))]
@@ -73,7 +74,7 @@ fn local_operand<'a>(alloc: Global, name: &Name, scope: &'a Scope<'_>) -> Result
 fn relvar_operand<'a>(env: &'a Surroundings<'_>, place: usize) -> Result<Operand<'a>, Fault>
     ensures { (names : Names) → AnswersBy operand_value result (spec.mean_relvar (relvars_at env.now.env.now.relvars.now) place names) }
 {
-    Ok(Operand::Lent(relvar_at(env.env.relvars, place)?))
+    Ok(Operand::Lent(relvar_at(env.env.relvars, place)?.share()))
 }
 
 /// The value of an operand. A relvar and a relation that a name of WITH stands for are lent.
@@ -679,27 +680,30 @@ fn restricted_to(
 fn restricted(
     alloc: Global,
     env: &Surroundings,
-    ts: &Relation,
+    ts: &Lease<'_>,
     c: &Typed,
     scope: &Scope,
 ) -> Result<Relation, Fault>
     ensures { Answers result (functions.restricted (truth_at (mean_in env.now.env.now c.now) (visible scope.now)) ts.now) }
 {
-    let checks = checks_of(alloc, &*env, &*scope, ts.heading(), &*c)?;
-    restricted_to(alloc, env, ts, checks.as_slice(), scope)
+    let checks = checks_of(alloc, &*env, &*scope, ts.get().heading(), &*c)?;
+    match found_by_key(alloc, &*ts, checks.as_slice())? {
+        Some(part) => restricted_to(alloc, env, &part, checks.as_slice(), scope),
+        None => restricted_to(alloc, env, ts.get(), checks.as_slice(), scope),
+    }
 }
 
 #[cycle(evaluation)]
 fn restricted_by(
     alloc: Global,
     env: &Surroundings,
-    ts: &Relation,
+    ts: &Lease<'_>,
     c: &Typed,
     scope: &Scope,
 ) -> Result<Relation, Fault>
     ensures { Answers result (functions.restricted (truth_at (mean_in env.now.env.now c.now) (visible scope.now)) ts.now) }
 {
-    match prepared(alloc, &*env, Terms::Condition(&*c), ts.len())? {
+    match prepared(alloc, &*env, Terms::Condition(&*c), ts.get().len())? {
         Some(parts) => {
             let around = Surroundings {
                 env: &*env.env,
@@ -723,7 +727,7 @@ fn restriction(
     ensures { Answers result (spec.mean_where (mean_in env.now.env.now r.now) (mean_in env.now.env.now c.now) (visible scope.now)) }
 {
     let ts = rows(alloc, &*env, r, &*scope)?;
-    Ok(relation_value(restricted_by(alloc, env, ts.get(), c, scope)?))
+    Ok(relation_value(restricted_by(alloc, env, &ts, c, scope)?))
 }
 
 #[cycle(evaluation)]
@@ -1020,4 +1024,33 @@ pub fn eval(alloc: Global, env: &Environment, tree: &Typed, scope: &Scope) -> Re
     ensures { Answers result (mean_in env.now tree.now (visible scope.now)) }
 {
     evaluate(alloc, &Surroundings::of(env), tree, scope)
+}
+
+/// The tuples of which the condition is true, or the least error that it raises at one. Its parts that name nothing
+/// around it are evaluated once. Where it begins with `A = e` for each name of a key by which the tuples are kept,
+/// joined by AND and each e such a part, a literal or a name around it, it is asked of those alone that have these
+/// values: it is false of all others, and raises nothing there.
+pub fn select(
+    alloc: Global,
+    env: &Environment,
+    ts: &Lease<'_>,
+    condition: &Typed,
+    scope: &Scope,
+) -> Result<Relation, Fault>
+    ensures { Answers result (functions.restricted (truth_at (mean_in env.now condition.now) (visible scope.now)) ts.now) }
+{
+    restricted_by(alloc, &Surroundings::of(env), ts, condition, scope)
+}
+
+/// The tuples with the items' values, as EXTEND gives them: the values that have names of attributes in place of these.
+pub fn extend_all(
+    alloc: Global,
+    env: &Environment,
+    ts: &Relation,
+    items: &[Item<Boxed<Typed>>],
+    scope: &Scope,
+) -> Result<Relation, Fault>
+    ensures { Answers result (functions.extended (terms (mean_in env.now) (visible scope.now)) items.now ts.now) }
+{
+    extended_by(alloc, &Surroundings::of(env), ts, items, scope)
 }

@@ -5,6 +5,7 @@ mod closed;
 mod conditions;
 pub mod environment;
 mod evaluation;
+mod keyed;
 pub mod laws;
 mod parts;
 pub mod scope;
@@ -12,5 +13,5 @@ mod selections;
 mod surroundings;
 
 pub use environment::{Environment, Known};
-pub use evaluation::eval;
+pub use evaluation::{eval, extend_all, select};
 pub use scope::{Held, Scope};

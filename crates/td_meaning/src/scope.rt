@@ -9,7 +9,7 @@ ghost use Rattle.td_meaning.specs.Seen.{held_value, visible};
 ghost use Rattle.td_meaning.specs.Selections.{components};
 
 use std::alloc::{AllocError, Global};
-use td_operators::{Operand, relation_value};
+use td_operators::{Lease, Operand, relation_value};
 use td_relations::Relation;
 use td_syntax::tree::Named;
 use td_values::{Kind, Name, Tuple, Value, copy};
@@ -56,7 +56,7 @@ pub(crate) fn operand_meant<'a>(alloc: Global, meant: Meant<'a>) -> Result<Opera
 {
     match meant {
         Meant::Value(value) => Ok(Operand::Made(copy(alloc, value)?)),
-        Meant::Rows(relation) => Ok(Operand::Lent(relation)),
+        Meant::Rows(relation) => Ok(Operand::Lent(Lease::lent(relation))),
     }
 }
 

@@ -1,4 +1,5 @@
 -- Words that only proofs and private functions use.
+pub mod Leases
 pub mod Lent
 pub mod Kinds
 pub mod Turns

@@ -1,13 +1,14 @@
 //! Values as operators take them: a relation may be lent.
 
 ghost use Rattle.std.specs.Prelude.{◌≡◌};
+ghost use Rattle.td_algebra.specs.KeyIndexes.{AreKeyIndexes};
 ghost use Rattle.td_algebra.specs.Raising.{Answers, AnswersBy};
 ghost use Rattle.td_operators.specs.ForProofs.Kinds.{HasShape};
 ghost use Rattle.td_operators.specs.ForProofs.Lent.{operand_value};
 ghost use Rattle.td_operators.specs.Values as spec;
 
 use std::marker::Model;
-use td_algebra::{Fault, Stop};
+use td_algebra::{Fault, KeyIndex, Stop};
 use td_relations::Relation;
 use td_values::{Kind, Text, Tuple, Value};
 
@@ -15,12 +16,14 @@ use td_values::{Kind, Text, Tuple, Value};
 #[derive(Drop)]
 pub enum Operand<'a> {
     Made(Value),
-    Lent(&'a Relation),
+    Lent(Lease<'a>),
 }
 
-/// A relation that is read: an owned or a lent one.
+/// A relation that is read: an owned or a lent one. Where its tuples are kept by keys beside it, they are lent too;
+/// contracts see the relation alone.
 pub struct Lease<'a> {
     relation: Leased<'a>,
+    indexes: &'a [KeyIndex],
 }
 
 #[derive(Drop)]
@@ -31,19 +34,26 @@ enum Leased<'a> {
 
 impl<'a> Model for Lease<'a> {
     ghost use Rattle.td_values.specs.Rows.{RowsData, rows_code};
-    ghost use Rattle.td_operators.specs.ForProofs.Lent.{leased_rows};
+    ghost use Rattle.td_operators.specs.ForProofs.Leases.{leased_rows};
 
     ghost Value = { RowsData };
 
     ghost coded = { rows_code };
 
     ghost view = { λ l. leased_rows l.relation };
+
+    ghost use Rattle.td_algebra.specs.KeyIndexes.{AreKeyIndexes};
+
+    ghost invariant = { λ l. AreKeyIndexes (leased_rows l.relation) l.indexes.now };
 }
 
 // By hand, since a derived one is proved anew at each place where a lease is dropped: this one is a call there.
 impl<'a> Drop for Lease<'a> {
     fn drop(self) {
-        let Lease { relation: _ } = self;
+        let Lease {
+            relation: _,
+            indexes: _,
+        } = self;
     }
 }
 
@@ -63,6 +73,7 @@ impl<'a> Lease<'a> {
     {
         Lease {
             relation: Leased::Own(relation),
+            indexes: &[],
         }
     }
 
@@ -72,6 +83,28 @@ impl<'a> Lease<'a> {
     {
         Lease {
             relation: Leased::Lent(relation),
+            indexes: &[],
+        }
+    }
+
+    /// A relation that stands elsewhere, and its tuples by some keys.
+    pub fn kept(relation: &'a Relation, indexes: &'a [KeyIndex]) -> Lease<'a>
+        requires { AreKeyIndexes relation.now indexes.now }
+        ensures { result ≡ relation.now }
+    {
+        Lease {
+            relation: Leased::Lent(relation),
+            indexes,
+        }
+    }
+
+    /// The same relation, lent.
+    pub fn share(&self) -> Lease<'_>
+        ensures { result ≡ self.now }
+    {
+        Lease {
+            relation: Leased::Lent(self.get()),
+            indexes: self.indexes,
         }
     }
 
@@ -83,6 +116,13 @@ impl<'a> Lease<'a> {
             Leased::Own(relation) => relation,
             Leased::Lent(relation) => relation,
         }
+    }
+
+    /// Its tuples by the keys by which they are kept, if they are.
+    pub fn indexes(&self) -> &[KeyIndex]
+        ensures { AreKeyIndexes self.now result.now }
+    {
+        self.indexes
     }
 }
 
@@ -175,6 +215,6 @@ pub fn rows_of<'a>(operand: Operand<'a>) -> Result<Lease<'a>, Fault>
 {
     match operand {
         Operand::Made(value) => own_rows(value),
-        Operand::Lent(relation) => Ok(Lease::lent(relation)),
+        Operand::Lent(lease) => Ok(lease),
     }
 }

@@ -1,19 +1,23 @@
 //! What operators make of two values.
 
-ghost use Rattle.std.specs.Prelude.{◌≡◌, ◌↔◌, ◌++◌, ◌+ℤ◌, ◌-ℤ◌, ◌*ℤ◌, IfOk, IsTrue};
+ghost use Rattle.std.specs.Prelude.{◌≡◌, ◌↔◌, ◌++◌, ◌+ℤ◌, ◌-ℤ◌, ◌*ℤ◌, IfOk, IfSome, IsTrue, Ok};
+ghost use Rattle.td_algebra.specs.KeyIndexes.{IsKeyIndex};
 ghost use Rattle.td_algebra.specs.Nested.{relation_value};
 ghost use Rattle.td_algebra.specs.Raising.{Answers};
 ghost use Rattle.td_operators.specs.ForProofs.Lent.{operand_value};
 ghost use Rattle.td_syntax.specs.declared.tree.BinaryOperator.TheVariants as binary;
 ghost use Rattle.td_operators.specs.Operators as spec;
 
-use crate::operand::{Operand, Shape, integer_of, rows_of, shape_of, text_of, truth_of, tuple_of};
+use crate::operand::{
+    Lease, Operand, Shape, integer_of, rows_of, shape_of, text_of, truth_of, tuple_of,
+};
 use crate::parts::{integer_value, relation_value, text_value, truth_value};
 use crate::relations::{
-    compose_of, intersect_of, join_of, matching_of, minus_of, not_matching_of, union_of,
+    compose_of, intersect_of, join_of, matching_of, matching_of_indexed, minus_of, not_matching_of,
+    not_matching_of_indexed, union_of,
 };
 use std::alloc::{AllocError, Global};
-use td_algebra::{Fault, Stop};
+use td_algebra::{Fault, KeyIndex, Stop};
 use td_relations::{Relation, is_subset};
 use td_syntax::tree::BinaryOperator;
 use td_values::{Heading, Kind, Text, Tuple, Value, equal, equal_headings};
@@ -132,6 +136,12 @@ fn same_rows(g: &Heading, ts: &[Tuple], h: &Heading, us: &[Tuple]) -> bool
     equal_headings(g, h) && same_tuples(ts, us)
 }
 
+fn are_one(r: &Relation, s: &Relation) -> bool
+    ensures { IsTrue result ↔ (relation_value r.now ≡ relation_value s.now) }
+{
+    same_rows(r.heading(), r.tuples(), s.heading(), s.tuples())
+}
+
 fn is_relation(value: &Value, r: &Relation) -> bool
     ensures { IsTrue result ↔ (value.now ≡ relation_value r.now) }
 {
@@ -148,11 +158,9 @@ fn are_same(u: &Operand<'_>, v: &Operand<'_>) -> bool
 {
     match (u, v) {
         (Operand::Made(a), Operand::Made(b)) => equal(a, b),
-        (Operand::Made(a), Operand::Lent(r)) => is_relation(a, r),
-        (Operand::Lent(r), Operand::Made(b)) => is_relation(b, r),
-        (Operand::Lent(r), Operand::Lent(s)) => {
-            same_rows(r.heading(), r.tuples(), s.heading(), s.tuples())
-        }
+        (Operand::Made(a), Operand::Lent(r)) => is_relation(a, r.get()),
+        (Operand::Lent(r), Operand::Made(b)) => is_relation(b, r.get()),
+        (Operand::Lent(r), Operand::Lent(s)) => are_one(r.get(), s.get()),
     }
 }
 
@@ -218,6 +226,55 @@ fn related(
     }
 }
 
+// The same of MATCHING and NOT MATCHING by an index of the second relation, where it is by the names that both have.
+fn related_by(
+    alloc: Global,
+    operator: BinaryOperator,
+    r: &Relation,
+    s: &Relation,
+    index: &KeyIndex,
+) -> Result<Option<Relation>, AllocError>
+    requires { IsKeyIndex index.now.key s.now index.now }
+    ensures { IfOk result (λ o. IfSome o (λ n. spec.related operator r.now s.now ≡ Ok n)) }
+{
+    match operator {
+        BinaryOperator::Matching => matching_of_indexed(alloc, r, s, index),
+        BinaryOperator::NotMatching => not_matching_of_indexed(alloc, r, s, index),
+        _ => Ok(None),
+    }
+}
+
+// The same by one of those that are kept.
+fn related_by_kept(
+    alloc: Global,
+    operator: BinaryOperator,
+    r: &Relation,
+    s: &Lease<'_>,
+) -> Result<Option<Relation>, AllocError>
+    ensures { IfOk result (λ o. IfSome o (λ n. spec.related operator r.now s.now ≡ Ok n)) }
+{
+    for index in s.indexes() {
+        if let Some(made) = related_by(alloc, operator, r, s.get(), index)? {
+            return Ok(Some(made));
+        }
+    }
+    Ok(None)
+}
+
+fn related_to(
+    alloc: Global,
+    operator: BinaryOperator,
+    r: &Relation,
+    s: &Lease<'_>,
+) -> Result<Relation, Fault>
+    ensures { Answers result (spec.related operator r.now s.now) }
+{
+    match related_by_kept(alloc, operator, r, s)? {
+        Some(made) => Ok(made),
+        None => related(alloc, operator, r, s.get()),
+    }
+}
+
 #[tactic(auto, unfolding(crate::specs::Operators::of_relations))]
 fn of_relations(
     alloc: Global,
@@ -229,7 +286,7 @@ fn of_relations(
 {
     let r = rows_of(u)?;
     let s = rows_of(v)?;
-    Ok(relation_value(related(alloc, operator, r.get(), s.get())?))
+    Ok(relation_value(related_to(alloc, operator, r.get(), &s)?))
 }
 
 #[tactic(auto, unfolding(crate::specs::Operators::member))]

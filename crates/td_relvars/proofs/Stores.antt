@@ -1,8 +1,9 @@
 -- What is stored, place by place.
-use Rattle.std.proofs.Common.{◌≡◌, ⊎_elim, ℕ, zero, suc, pred, ◌+◌, ◌<◌, ◌≤◌, true, false, true≢false, List, [], ◌∷◌, ◌++◌, append_assoc, append-nil, length, drop, Option, None, Some, MatchOption, Result, Ok, slice_get, refl, ap, sym, ◌∙◌, subst, arith}
+use Rattle.std.proofs.Common.{◌≡◌, ⊎_elim, ℕ, zero, suc, pred, ◌+◌, ◌<◌, ◌≤◌, true, false, true≢false, List, [], ◌∷◌, ◌++◌, append_assoc, append-nil, length, drop, Option, None, Some, Result, Ok, slice_get, refl, ap, sym, ◌∙◌, subst, arith}
 use Rattle.std.specs.Borrow.{Bor}
 use Rattle.std.specs.FinSet as set
 use Rattle.std.specs.Prelude.{slice_set}
+use Rattle.std.proofs.lemmas.List.Elements.{All-weaker}
 use Rattle.std.specs.List.{All}
 use Rattle.std.specs.List.Sorted.{IsStrictlySortedBy}
 use Rattle.std.specs.Option.{option_flatten}
@@ -15,7 +16,7 @@ use Rattle.td_kinds.specs.Schemas.{SchemaData}
 use Rattle.td_relations.specs.Sets.{ascending, relation_of}
 use Rattle.td_relations.proofs.Members.{tuples_are}
 use Rattle.td_typing.proofs.KindLemmas.{some_same}
-use Rattle.td_algebra.specs.KeyIndexes.{IsKeyIndex, KeyIndexData}
+use Rattle.td_algebra.specs.KeyIndexes.{AreKeyIndexes, IsKeyIndex, KeyIndexData}
 use Rattle.td_algebra.specs.declared.errors.Stop.{Stop}
 use Rattle.td_headings.specs.Catalogues.{CatalogueData}
 use Rattle.td_headings.specs.Definitions.{Defined}
@@ -26,7 +27,7 @@ use Rattle.td_headings.proofs.WellTyped.{all_typed}
 use Rattle.td_soundness.specs.Meanings.{IsTupleOver, IsRelationOver}
 use Rattle.td_story.specs.Trees.{AreBases}
 use Rattle.td_story.specs.Stored.{AreStored}
-use Rattle.td_eval.specs.Keyed.{IsByKey}
+use Rattle.td_eval.specs.Keyed.{AreByKeys, IsByKey}
 use Rattle.td_constraints.proofs.Judged.{are_bases}
 use Rattle.td_story.specs.Databases.{Stored, DatabaseData, IsDatabase, Belongs, at_place, put, stored_relvars}
 use Rattle.td_story.specs.Openings.{all_empty}
@@ -159,7 +160,6 @@ not_stored None r h e = cc
 not_stored (Some None) r h e = cc
 not_stored (Some (Some q)) r h e = cc
 
--- tuples by a key are lent of the relation that is there
-pub lends : (m : Result RowsData Stop) (key : List (List ℕ)) (r : RowsData) → m ≡ Ok r → (o : Option (Bor KeyIndexData)) → MatchOption o (Unit {0}) (λ x. IsKeyIndex key r x.now) → MatchOption o (Unit {0}) (λ x. IsByKey m key x.now)
-lends m key r has None h = tt
-lends m key r has (Some x) h = (r, has, h)
+-- tuples by keys are lent of the relation that is there
+pub lends : (m : Result RowsData Stop) (r : RowsData) → m ≡ Ok r → (xs : List KeyIndexData) → AreKeyIndexes r xs → AreByKeys m xs
+lends m r has xs are = All-weaker (λ (x : KeyIndexData). IsKeyIndex x.key r x) (λ (x : KeyIndexData). IsByKey m x.key x) (λ x is. (r, has, is)) xs are

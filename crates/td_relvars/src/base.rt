@@ -1,14 +1,14 @@
 //! What base relvars have.
 
-ghost use Rattle.std.specs.Prelude.{◌≡◌, IfOk, MatchOption, OnErr, OnOk};
+ghost use Rattle.std.specs.Prelude.{◌≡◌, IfOk, OnErr, OnOk};
 ghost use Rattle.std.specs.FinSet as set;
 ghost use Rattle.td_relations.specs.Sets.{IsRelation, body, tuple_set};
-ghost use Rattle.td_algebra.specs.KeyIndexes.{IsKeyIndex};
+ghost use Rattle.td_algebra.specs.KeyIndexes.{AreKeyIndexes};
 ghost use Rattle.td_relations.specs.Deltas.{IsApplied, inverse_of};
 ghost use Rattle.td_relvars.specs.Changed.{changed};
 ghost use Rattle.td_relvars.specs.ForProofs.Keyed.{AreOf};
 
-use crate::by_keys::{ByKeys, count, follow, index_by};
+use crate::by_keys::{ByKeys, count, follow, kept};
 use sqlite_items::Items;
 use std::alloc::{AllocError, Global};
 use std::marker::Model;
@@ -147,11 +147,11 @@ impl Base {
         Ok(Base::of(self.relation.copy(alloc)?))
     }
 
-    /// Its tuples by the key of these names, where they are kept so. It takes no memory.
-    pub(crate) fn by_key(&self, key: &[Name]) -> Option<&KeyIndex>
-        ensures { MatchOption result (Unit {0}) (λ x. IsKeyIndex key.now self.now x.now) }
+    /// Its tuples by the keys by which they are kept. It takes no memory.
+    pub(crate) fn indexes(&self) -> &[KeyIndex]
+        ensures { AreKeyIndexes self.now result.now }
     {
-        index_by(&self.by_keys, key)
+        kept(&self.by_keys)
     }
 
     /// Makes the change. These are the keys by which its tuples are kept where that pays.

@@ -1,9 +1,9 @@
 //! A relation's tuples by its keys, kept where that pays.
 
-ghost use Rattle.std.specs.Prelude.{◌≡◌, IfOk, IsTrue, MatchOption, OnOk};
+ghost use Rattle.std.specs.Prelude.{◌≡◌, IfOk, IsTrue, OnOk};
 ghost use Rattle.std.specs.FinSet as set;
 ghost use Rattle.std.specs.List.{All, Contains};
-ghost use Rattle.td_algebra.specs.KeyIndexes.{KeyIndexData};
+ghost use Rattle.td_algebra.specs.KeyIndexes.{AreKeyIndexes, KeyIndexData};
 ghost use Rattle.td_relations.specs.Sets.{body};
 ghost use Rattle.td_relvars.specs.ForProofs.Keyed.{AllBecome, AreOf, AreOver, BecomeEach, Becomes, IsIndexOf, exchanged};
 ghost use Rattle.td_tuples.specs.Parts.{Fits};
@@ -155,12 +155,12 @@ pub(crate) fn count(alloc: Global, by_keys: &mut ByKeys, relation: &Relation, ke
     }
 }
 
-/// The index by this key, if it is kept.
-pub(crate) fn index_by<'a>(by_keys: &'a ByKeys, key: &[Name]) -> Option<&'a KeyIndex>
-    ensures { MatchOption result (Unit {0}) (λ x. (x.now.key ≡ key.now) × ((r : RowsData) → AreOf r by_keys.now → IsIndexOf r x.now)) }
+/// The indexes that are kept.
+pub(crate) fn kept(by_keys: &ByKeys) -> &[KeyIndex]
+    ensures { (r : RowsData) → AreOf r by_keys.now → AreKeyIndexes r result.now }
 {
-    let ByKeys::Kept(indexes) = by_keys else {
-        return None;
-    };
-    indexes.iter().find(|index| index.is_of(key))
+    match by_keys {
+        ByKeys::Awaited(_) => &[],
+        ByKeys::Kept(indexes) => indexes,
+    }
 }

@@ -64,8 +64,11 @@ impl Lookup for Database {
         }
     }
 
-    fn by_key(&self, relvar: usize, key: &[Name]) -> Option<&KeyIndex> {
-        self.base_at(relvar)?.by_key(key)
+    fn indexes(&self, relvar: usize) -> &[KeyIndex] {
+        match self.base_at(relvar) {
+            Some(base) => base.indexes(),
+            None => &[],
+        }
     }
 }
 

@@ -7,7 +7,7 @@ use Rattle.td_eval.proofs.changes.change_by_part.Goals as goal
 
 pub returns : goal.returns
 returns g c =
-    let r = c.args.relation.now in
+    let r = c.args.tuples.now in
     subst (λ (m : Typed → Meaning). TellsForm r (form_means m r c.args.form.now) c.exchange.result)
     (means_known c.args.expr.now c.get-expression.result.now c.get-expression.ensures.same (g.L.Lookup.relvars c.args.lookup.now)
     c.as_slice-selectors.result.now c.as_slice.result.now c.as_slice-2.result.now c.in_ok-known.known.items c.add_virtuals.new.known.items c.deref.result.now

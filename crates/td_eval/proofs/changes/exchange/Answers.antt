@@ -7,7 +7,7 @@ use Rattle.td_eval.proofs.changes.exchange.Goals as goal
 pub returns-in_ok-without-in-Less : goal.returns-in_ok-without-in-Less
 returns-in_ok-without-in-Less c =
     let m = mean_in c.args.env.now in
-    let r = c.args.relation.now in
+    let r = c.args.tuples.now in
     let d = c.in_ok-without-in-Less.field-0 in
     subst (λ f. TellsForm r (form_means m r f) (Ok d)) (sym c.in-Less.is)
     (told_less r c.in_ok-gone-in-Less.gone (chosen m c.in-Less.condition.now r) c.in_ok-gone-in-Less.ensures d c.in_ok-without-in-Less.ensures)
@@ -15,5 +15,5 @@ returns-in_ok-without-in-Less c =
 pub returns-in-Changed : goal.returns-in-Changed
 returns-in-Changed c =
     let m = mean_in c.args.env.now in
-    let r = c.args.relation.now in
+    let r = c.args.tuples.now in
     subst (λ f. TellsForm r (form_means m r f) c.update.result) (sym c.in-Changed.is) c.update.ensures

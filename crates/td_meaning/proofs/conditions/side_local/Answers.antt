@@ -13,7 +13,7 @@ use Rattle.td_meaning.proofs.conditions.side_local.Goals as goal
 pub returns-then-is_some : goal.returns-then-is_some
 returns-then-is_some c =
     let there : is_some (by_name.get c.args.heading.now c.args.name.now) ≡ true = search rules in
-    λ u f. attribute_is c.args.heading.now c.args.name.now u f (visible c.args.scope.now) c.place_of.result there c.place_of.ensures
+    λ u f. attribute_is c.args.heading.now c.args.name.now u f (visible c.args.scope.now) c.place_in.result there c.place_in.ensures
 
 pub returns-in-Some : goal.returns-in-Some
 returns-in-Some c =

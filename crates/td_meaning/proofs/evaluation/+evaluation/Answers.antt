@@ -2,7 +2,7 @@ use Rattle.std.proofs.Common.{◌+◌, ℕ, Bool, List, Vec, Global, drop, rules
 use Rattle.td_values.specs.Data.{Datum}
 use Rattle.td_values.specs.Rows.{RowsData}
 use Rattle.td_syntax.specs.declared.tree.Named.{Named}
-use Rattle.td_algebra.specs.Functions.{extended, project_of}
+use Rattle.td_algebra.specs.Functions.{extended, project_of, restricted}
 use Rattle.td_algebra.specs.Raising.{Answers, AnswersBy}
 use Rattle.td_algebra.proofs.Bridges.{restricts_to, extends_to, summarizes_to}
 use Rattle.td_meaning.specs.declared.scope.Held.{Held}
@@ -42,8 +42,26 @@ restricted-returns t c =
     let m = mean_in c.args.env.now.env.now in
     let names = visible c.args.scope.now in
     let a = c.args.c.now in
-    c.restricted_to.ensures a (subst (AreChecks m names c.args.ts.now.heading a) (sym c.as_slice.ensures.value)
-    (subst (λ h. AreChecks m names h a c.in_ok-checks.checks.items) c.heading.ensures c.in_ok-checks.ensures.means))
+    let ts = c.args.ts.now in
+    let are = subst (λ (r : RowsData). AreChecks m names r.heading a c.in_ok-checks.checks.items) c.get.ensures (subst (λ h. AreChecks m names h a c.in_ok-checks.checks.items) c.heading.ensures c.in_ok-checks.ensures.means) in
+    subst (λ r. Answers c.restricted_to-in-None.result (restricted (truth_at (m a) names) r)) c.get-in-None.ensures
+    (c.restricted_to-in-None.ensures a
+    (subst (λ (r : RowsData). AreChecks m names r.heading a c.as_slice-in-None.result.now) (sym c.get-in-None.ensures) (subst (AreChecks m names ts.heading a) (sym c.as_slice-in-None.ensures.value) are)))
+
+pub restricted-returns-in-Some : goal.restricted-returns-in-Some
+unfolding truth_at
+restricted-returns-in-Some t c =
+    let m = mean_in c.args.env.now.env.now in
+    let names = visible c.args.scope.now in
+    let a = c.args.c.now in
+    let ts = c.args.ts.now in
+    let part = c.in-Some.part in
+    let are = subst (λ (r : RowsData). AreChecks m names r.heading a c.in_ok-checks.checks.items) c.get.ensures (subst (λ h. AreChecks m names h a c.in_ok-checks.checks.items) c.heading.ensures c.in_ok-checks.ensures.means) in
+    let narrow = rw c.in-Some.is at c.in_ok-part.ensures in
+    let sought = subst (AreChecks m names ts.heading a) (sym c.as_slice.ensures.value) are in
+    let here = subst (AreChecks m names ts.heading a) (sym c.as_slice-in-Some.ensures.value) are in
+    subst (Answers c.restricted_to.result) (narrow.same m names (truth_at (m a) names) (λ u f. sym (sought u f)))
+    (c.restricted_to.ensures a (subst (λ h. AreChecks m names h a c.as_slice-in-Some.result.now) (sym narrow.heading) here))
 
 pub extended-extend-requires : goal.extended-extend-requires
 extended-extend-requires t c = λ k d lt i x among p q is_term is_tuple.

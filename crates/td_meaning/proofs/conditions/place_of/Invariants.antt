@@ -1,8 +1,0 @@
-use Rattle.std.proofs.Common.{◌≡◌, ℕ, ◌<◌, get_or, List, false}
-use Rattle.std.specs.Ordering.{eq_by_cmp}
-use Rattle.td_values.specs.Data.{Ty}
-use Rattle.td_values.specs.Order.{text_cmp}
-use Rattle.td_meaning.proofs.conditions.place_of.Given as goal
-
-abbrev pub invariant-loop-at : goal.invariant-loop-at
-invariant-loop-at l = (k : ℕ) (d : List ℕ × Ty) → k < l.at → eq_by_cmp text_cmp l.name (get_or l.fields k d).0 ≡ false
