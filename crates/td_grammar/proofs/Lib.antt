@@ -1,5 +1,6 @@
 pub mod Places
 pub mod Steps
+pub mod Begins
 pub mod Complete
 pub mod Sound
 pub mod OneTree

@@ -21,6 +21,8 @@ use td_values::{Name, Text};
 #[derive(Drop)]
 pub struct Cursor<'a> {
     rest: &'a [Token<'a>],
+    // From the token on that was skipped last.
+    skipped: &'a [Token<'a>],
 }
 
 impl<'a> Model for Cursor<'a> {
@@ -34,7 +36,7 @@ impl<'a> Model for Cursor<'a> {
 
     ghost view = { λ t. map lexeme_of t.rest.now };
 
-    ghost invariant = { λ t. list_all fits (map lexeme_of t.rest.now) ≡ true };
+    ghost invariant = { λ t. (list_all fits (map lexeme_of t.rest.now) ≡ true) × (list_all fits (map lexeme_of t.skipped.now) ≡ true) };
 }
 
 #[tactic(auto, unfolding(crate::specs::ForProofs::Reader::same_word))]
@@ -131,7 +133,10 @@ impl<'a> Cursor<'a> {
         requires { list_all fits (map lexeme_of tokens.now) ≡ true }
         ensures { result ≡ map lexeme_of tokens.now }
     {
-        Cursor { rest: tokens }
+        Cursor {
+            rest: tokens,
+            skipped: tokens,
+        }
     }
 
     pub fn len(&self) -> usize
@@ -193,8 +198,17 @@ impl<'a> Cursor<'a> {
         ensures { self.new ≡ spec.tail self.old }
     {
         if let [_, rest @ ..] = self.rest {
+            self.skipped = self.rest;
             self.rest = rest;
         }
+    }
+
+    /// Refuses the token that was skipped last, and stands at it again.
+    pub fn refuse(&mut self) -> ReadError
+        ensures { result ≡ ReadError.Syntax }
+    {
+        self.rest = self.skipped;
+        ReadError::Syntax
     }
 
     /// Takes the word if it comes next.
@@ -271,9 +285,13 @@ impl<'a> Cursor<'a> {
     fn after(&self) -> Cursor<'a>
         ensures { result ≡ spec.tail self.now }
     {
-        match self.rest {
-            [] => Cursor { rest: self.rest },
-            [_, rest @ ..] => Cursor { rest },
+        let rest = match self.rest {
+            [] => self.rest,
+            [_, rest @ ..] => rest,
+        };
+        Cursor {
+            rest,
+            skipped: self.skipped,
         }
     }
 
@@ -337,10 +355,10 @@ impl<'a> Cursor<'a> {
         ensures { Gives (spec.take_infix self.old) result self.new }
     {
         if self.at(Word::Not) {
-            if !self.then_at(Word::Matching) {
+            self.skip();
+            if !self.at(Word::Matching) {
                 return Err(ReadError::Syntax);
             }
-            self.skip();
             self.skip();
             return Ok(BinaryOperator::NotMatching);
         }

@@ -143,7 +143,7 @@ impl<F: Fn(Global, &mut Cursor<'_>, usize, usize, Form) -> Result<Tree, ReadErro
         }
         match aggregate_of(word) {
             Some(aggregate) => self.summed(tokens, aggregate),
-            None => Err(ReadError::Syntax),
+            None => Err(tokens.refuse()),
         }
     }
 

@@ -14,7 +14,9 @@ mod lists;
 mod primary;
 pub mod reader;
 mod statements;
+pub mod stops;
 mod types;
 
 pub use error::ReadError;
 pub use reader::{read_expr, read_script, read_statement};
+pub use stops::{Reading, stop};

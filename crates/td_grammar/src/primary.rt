@@ -194,7 +194,7 @@ impl<F: Fn(Global, &mut Cursor<'_>, usize, usize, Form) -> Result<Tree, ReadErro
             Word::Summarize => self.summarize(tokens),
             _ => match aggregate_of(word) {
                 Some(aggregate) => self.aggregated(tokens, aggregate),
-                None => Err(ReadError::Syntax),
+                None => Err(tokens.refuse()),
             },
         }
     }

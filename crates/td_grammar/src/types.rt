@@ -68,7 +68,7 @@ impl<F: Fn(Global, &mut Cursor<'_>, usize) -> Result<TypeExpr, ReadError>> Types
             Word::Char | Word::Character => Ok(TypeExpr::Char),
             Word::Tuple => Ok(TypeExpr::Tuple(self.heading(tokens)?)),
             Word::Relation => Ok(TypeExpr::Relation(self.heading(tokens)?)),
-            _ => Err(ReadError::Syntax),
+            _ => Err(tokens.refuse()),
         }
     }
 

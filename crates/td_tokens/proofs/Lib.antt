@@ -7,3 +7,5 @@ pub mod Boundaries
 pub mod Progress
 pub mod Quotes
 pub mod Callers
+pub mod Ends
+pub mod Starts

@@ -39,7 +39,7 @@ after_one ts t None = refl
 after_one ts t (Some us) = ap Some (sym (append_assoc ts (t ∷ []) us))
 
 -- the bytes of a token do not count for brackets
-same_open : (depth : ℕ) (k : Kind) (bs : Text) → open_after depth (lexeme k bs) ≡ open_after depth (lexeme k [])
+pub same_open : (depth : ℕ) (k : Kind) (bs : Text) → open_after depth (lexeme k bs) ≡ open_after depth (lexeme k [])
 same_open depth (kind.Word v) bs = refl
 same_open depth kind.Name bs = refl
 same_open depth (kind.Int n) bs = refl
@@ -142,7 +142,7 @@ nothing_left ts depth start (b ∷ bs) empty = absurd (omega arith)
 pub read_whole : (source : Text) (ts : List Token) (start depth : ℕ) (rest : Text) → IsReadTo source ts start depth rest → length rest ≡ 0 → reading source ≡ Some (map spanned_of ts)
 read_whole source ts start depth rest read empty = read.whole ∙ nothing_left (map spanned_of ts) depth start rest empty
 
-stuck : (depth start : ℕ) (rest : Text) → 0 < length rest → front rest ≡ None → lexed 0 depth start rest ≡ None
+pub stuck : (depth start : ℕ) (rest : Text) → 0 < length rest → front rest ≡ None → lexed 0 depth start rest ≡ None
 unfolding lexed
 stuck depth start [] nonempty none = absurd (omega arith)
 stuck depth start (b ∷ bs) nonempty none =

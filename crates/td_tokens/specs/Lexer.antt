@@ -109,3 +109,15 @@ reading bs = lexed 0 0 0 bs
 -- the same without their places
 abbrev pub lexemes : Text → Option (List Lexeme)
 lexemes bs = option_map (map (λ (t : Spanned). t.lexeme)) (reading bs)
+
+-- how many brackets are open behind a piece
+abbrev pub open_behind : ℕ → Option Kind → ℕ
+open_behind depth None = depth
+open_behind depth (Some k) = open_after depth (lexeme k [])
+
+abbrev pub where_shallow : ℕ → ℕ → Option (ℕ × ℕ)
+where_shallow depth n = if nat_le depth most_open then Some (n, depth) else None
+
+-- the length of the piece at the front and how many brackets are open behind it, where these are not too many
+unfoldable pub next_piece : ℕ → Text → Option (ℕ × ℕ)
+next_piece depth bs = option_and_then (λ (p : Piece). where_shallow (open_behind depth p.kind) p.length) (front bs)

@@ -1,8 +1,10 @@
 //! The tokens of a text, one after the other.
 
-ghost use Rattle.std.specs.Prelude.{◌≡◌, ◌≤◌, IfOk, All, Some, None, [], map, slice_range};
+ghost use Rattle.std.specs.Prelude.{◌≡◌, ◌≤◌, ◌==◌, IfOk, All, Some, None, [], length, map, slice_range};
+ghost use Rattle.std.specs.Option.{is_some};
+ghost use Rattle.std.specs.Str.{IsCharBoundary};
 ghost use Rattle.td_tokens.specs.Lex.{open_after};
-ghost use Rattle.td_tokens.specs.Lexer.{lexeme, reading};
+ghost use Rattle.td_tokens.specs.Lexer.{lexeme, next_piece, open_behind, reading};
 ghost use Rattle.td_tokens.specs.View.{spanned_of};
 
 use crate::error::TokenError;
@@ -56,4 +58,46 @@ pub fn tokens(alloc: Global, source: &str) -> Result<Vec<Token<'_>>, TokenError>
         start = end;
     }
     Ok(found)
+}
+
+fn open_behind(depth: usize, kind: Option<Kind>) -> usize
+    requires { depth ≤ 64 }
+    ensures { result ≡ open_behind depth kind }
+{
+    match kind {
+        Some(kind) => open_after(depth, kind),
+        None => depth,
+    }
+}
+
+// The length of what stands at the front and how many brackets are open behind it, where these are not too many.
+#[tactic(auto, unfolding(crate::specs::Lexer::next_piece))]
+fn next_piece(rest: &str, depth: usize) -> Option<(usize, usize)>
+    requires { depth ≤ 64 }
+    ensures { result ≡ next_piece depth rest.now }
+{
+    let piece = front(rest)?;
+    let behind = open_behind(depth, piece.kind);
+    if behind <= MOST_OPEN {
+        Some((piece.length, behind))
+    } else {
+        None
+    }
+}
+
+/// The byte at which a text goes on as neither a token nor white space, or with a bracket too many: the text's length
+/// exactly where it has a reading.
+///
+/// Takes time linear in the text, and no memory.
+pub fn tokens_end(source: &str) -> usize
+    ensures boundary { IsCharBoundary source.now result }
+    ensures whole { is_some (reading source.now) ≡ (result == length source.now) }
+{
+    let mut rest = source;
+    let mut depth = 0;
+    while let Some((taken, behind)) = next_piece(rest, depth) {
+        (_, rest) = rest.split_at(taken);
+        depth = behind;
+    }
+    source.len() - rest.len()
 }

@@ -16,5 +16,5 @@ pub mod token;
 mod words;
 
 pub use error::TokenError;
-pub use lexer::tokens;
+pub use lexer::{tokens, tokens_end};
 pub use token::{Kind, Token, Word};

@@ -1,0 +1,144 @@
+//! Which definitions of a script are refused, and where.
+
+use crate::names::Names;
+use crate::pieces::{Piece, pieces, tokens_of};
+use crate::report::Report;
+use std::alloc::AllocError;
+use td_grammar::{ReadError, read_script};
+use td_headings::Catalogue;
+use td_kinds::TypeError;
+use td_places::{Reading, place_of_fault};
+use td_syntax::script::Definition;
+use td_tokens::{Token, tokens_end};
+
+// What is wrong with a text that is no definition, where its reading stops at this place.
+fn syntax_fault(text: &str, place: usize) -> &'static str {
+    let (front, rest) = text.split_at(text.floor_char_boundary(place));
+    if rest.is_empty() {
+        return "the definition ends here too early; a semicolon may be missing";
+    }
+    if tokens_end(text) > front.len() {
+        return "this does not go on with the definition";
+    }
+    match rest.as_bytes() {
+        [b'\'', ..] => "a text without its closing quote on this line",
+        [b'/', b'*', ..] => "a comment without its end",
+        [b'(' | b'{', ..] => "more than 64 brackets are open here",
+        [b'0'..=b'9', ..] => "an integer that is too large, or that letters follow",
+        [b'a'..=b'z' | b'A'..=b'Z', ..] => "a name of more than 64 bytes",
+        _ => "a character that no word of the language has",
+    }
+}
+
+/// What was defined so far.
+#[derive(Drop)]
+struct Checker<'a> {
+    script: &'a str,
+    catalogue: Catalogue,
+    names: Names<'a>,
+}
+
+impl<'a> Checker<'a> {
+    // Tells why the definition is ill typed.
+    fn tell_type(
+        &self,
+        report: &mut Report<'_>,
+        piece: &Piece<'a>,
+        tokens: &[Token<'a>],
+    ) -> Result<(), AllocError> {
+        if let Some(name) = self.names.twice(tokens) {
+            report.count_refused();
+            let place = piece.begin.saturating_add(name.start);
+            return report.tell(self.script, place, "ill typed: this is defined before");
+        }
+        let unknown = self.names.unknown(report.alloc, tokens)?;
+        if unknown.is_empty() {
+            report.count_refused();
+            return report.tell(
+                self.script,
+                piece.begin,
+                "ill typed: its names are defined, but its types do not fit",
+            );
+        }
+        if unknown.iter().all(|name| self.names.was_lost(name)) {
+            report.count_unjudged();
+            return Ok(());
+        }
+        report.count_refused();
+        for name in &unknown {
+            if !self.names.was_lost(name) {
+                let place = piece.begin.saturating_add(name.start);
+                report.tell(
+                    self.script,
+                    place,
+                    "ill typed: nothing before defines this name",
+                )?;
+            }
+        }
+        Ok(())
+    }
+
+    // Defines what the piece is, or tells why it is ill typed.
+    fn define(
+        &mut self,
+        report: &mut Report<'_>,
+        piece: &Piece<'a>,
+        definition: &Definition,
+    ) -> Result<(), AllocError> {
+        let tokens = tokens_of(report.alloc, piece.text)?;
+        match self.catalogue.define(report.alloc, definition) {
+            Ok(()) => self.names.accept(&tokens),
+            Err(TypeError::IllTyped) => {
+                self.tell_type(report, piece, &tokens)?;
+                self.names.lose(&tokens)
+            }
+            Err(TypeError::OutOfMemory) => Err(AllocError),
+        }
+    }
+
+    // Tells where the piece goes wrong as a text.
+    fn tell_syntax(
+        &mut self,
+        report: &mut Report<'_>,
+        piece: &Piece<'a>,
+    ) -> Result<(), AllocError> {
+        let Some(place) = place_of_fault(report.alloc, Reading::Script, piece.text)? else {
+            return Ok(());
+        };
+        report.count_refused();
+        let what = syntax_fault(piece.text, place);
+        report.tell(self.script, piece.begin.saturating_add(place), what)?;
+        let (front, _) = piece.text.split_at(tokens_end(piece.text));
+        self.names.lose(&tokens_of(report.alloc, front)?)
+    }
+
+    fn judge(&mut self, report: &mut Report<'_>, piece: &Piece<'a>) -> Result<(), AllocError> {
+        report.count_definition();
+        match read_script(report.alloc, piece.text) {
+            Ok(definitions) => match definitions.as_slice() {
+                [definition] => self.define(report, piece, definition),
+                _ => Ok(()),
+            },
+            Err(ReadError::Syntax) => self.tell_syntax(report, piece),
+            Err(ReadError::OutOfMemory) => Err(AllocError),
+        }
+    }
+}
+
+/// Judges each definition of a script, from a byte on, after those before it that were accepted. It takes the time of
+/// reading and typing the script, and for each definition a walk along the script.
+pub fn check_definitions(
+    report: &mut Report<'_>,
+    script: &str,
+    from: usize,
+) -> Result<(), AllocError> {
+    let mut checker = Checker {
+        script,
+        catalogue: Catalogue::new(report.alloc),
+        names: Names::new(report.alloc),
+    };
+    for piece in &pieces(report.alloc, script, from)? {
+        checker.judge(report, piece)?;
+    }
+    Ok(())
+}

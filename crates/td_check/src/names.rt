@@ -1,0 +1,170 @@
+//! The names of definitions, and which of them nothing defines.
+//!
+//! A name is taken for defined where it stands in a definition that was accepted, as what it defines or as what that
+//! names: so what is told to be defined by nothing is, and an attribute of some other relvar is not told.
+
+use std::alloc::{AllocError, Global};
+use td_tokens::{Kind, Token, Word};
+
+/// The names of the definitions so far.
+#[derive(Drop)]
+pub struct Names<'a> {
+    // In definitions that were accepted.
+    known: Vec<&'a str>,
+    // Defined by those that were refused.
+    lost: Vec<&'a str>,
+    // What was accepted as a type, a relvar or a constraint.
+    defined: Vec<(Kind, &'a str)>,
+}
+
+fn word_at(tokens: &[Token<'_>], at: usize) -> Option<Word> {
+    match tokens.get(at)?.kind {
+        Kind::Word(word) => Some(word),
+        _ => None,
+    }
+}
+
+// Whether a value or a type may begin with this.
+fn begins_value(kind: Kind) -> bool {
+    match kind {
+        Kind::Name | Kind::Int(_) | Kind::Text => true,
+        Kind::Word(word) => matches!(
+            word,
+            Word::Boolean
+                | Word::Integer
+                | Word::Char
+                | Word::Character
+                | Word::Tuple
+                | Word::Relation
+                | Word::True
+                | Word::False
+                | Word::TableDee
+                | Word::TableDum
+                | Word::OpenParenthesis
+                | Word::Dash
+                | Word::Not
+                | Word::Tclose
+                | Word::IsEmpty
+                | Word::Count
+                | Word::Sum
+                | Word::Max
+                | Word::Min
+                | Word::And
+                | Word::Or
+                | Word::If
+                | Word::With
+                | Word::Extend
+                | Word::Summarize
+        ),
+    }
+}
+
+// Whether the name at this place is given there to a part of the definition: `AS Name`, `Name :=`, `{ Name type`.
+fn introduces(tokens: &[Token<'_>], at: usize) -> bool {
+    let next = at.saturating_add(1);
+    let before = word_at(tokens, at.saturating_sub(1));
+    match before {
+        Some(Word::As | Word::Possrep) => true,
+        Some(Word::OpenBrace | Word::Comma) => match tokens.get(next) {
+            Some(token) => begins_value(token.kind) || word_at(tokens, next) == Some(Word::Assign),
+            None => false,
+        },
+        _ => word_at(tokens, next) == Some(Word::Assign),
+    }
+}
+
+fn has(names: &[&str], name: &str) -> bool {
+    names.iter().any(|known| *known == name)
+}
+
+impl<'a> Names<'a> {
+    pub fn new(alloc: Global) -> Names<'a> {
+        Names {
+            known: Vec::new(alloc),
+            lost: Vec::new(alloc),
+            defined: Vec::new(alloc),
+        }
+    }
+
+    /// Takes in the names of a definition that was accepted.
+    pub fn accept(&mut self, tokens: &[Token<'a>]) -> Result<(), AllocError> {
+        if let [first, name, ..] = tokens {
+            self.defined.push((first.kind, name.text))?;
+        }
+        for token in tokens {
+            if token.kind == Kind::Name && !has(&self.known, token.text) {
+                self.known.push(token.text)?;
+            }
+        }
+        Ok(())
+    }
+
+    /// Takes in what a definition that was refused would have defined.
+    pub fn lose(&mut self, tokens: &[Token<'a>]) -> Result<(), AllocError> {
+        for (at, token) in tokens.iter().enumerate() {
+            if token.kind == Kind::Name && (at == 1 || introduces(tokens, at)) {
+                self.lost.push(token.text)?;
+            }
+        }
+        Ok(())
+    }
+
+    // Whether a definition before has this name, as it is or as the component that an operator THE_ gives.
+    fn is_known(&self, name: &str) -> bool {
+        let component = name.strip_prefix("THE_").unwrap_or(name);
+        has(&self.known, name) || has(&self.known, component)
+    }
+
+    fn is_lost(&self, name: &str) -> bool {
+        let component = name.strip_prefix("THE_").unwrap_or(name);
+        has(&self.lost, name) || has(&self.lost, component)
+    }
+
+    /// The names in a definition that neither it nor one before it defines, each once.
+    pub fn unknown(
+        &self,
+        alloc: Global,
+        tokens: &[Token<'a>],
+    ) -> Result<Vec<Token<'a>>, AllocError> {
+        let own = names_introduced(alloc, tokens)?;
+        let mut found: Vec<Token<'a>> = Vec::new(alloc);
+        for (at, token) in tokens.iter().enumerate() {
+            let is_used = token.kind == Kind::Name && at != 1;
+            if is_used
+                && !has(&own, token.text)
+                && !self.is_known(token.text)
+                && !found.iter().any(|before| before.text == token.text)
+            {
+                found.push(*token)?;
+            }
+        }
+        Ok(found)
+    }
+
+    /// Whether a definition that was refused would have defined the name.
+    pub fn was_lost(&self, token: &Token<'_>) -> bool {
+        self.is_lost(token.text)
+    }
+
+    /// The name of a definition, where one of its kind has it already.
+    pub fn twice<'t>(&self, tokens: &'t [Token<'a>]) -> Option<&'t Token<'a>> {
+        match tokens {
+            [first, name, ..] => {
+                let own = (first.kind, name.text);
+                self.defined.iter().any(|it| *it == own).then_some(name)
+            }
+            _ => None,
+        }
+    }
+}
+
+// The names that a definition gives to its parts.
+fn names_introduced<'a>(alloc: Global, tokens: &[Token<'a>]) -> Result<Vec<&'a str>, AllocError> {
+    let mut own = Vec::new(alloc);
+    for (at, token) in tokens.iter().enumerate() {
+        if token.kind == Kind::Name && at != 1 && introduces(tokens, at) {
+            own.push(token.text)?;
+        }
+    }
+    Ok(own)
+}

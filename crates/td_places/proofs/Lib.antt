@@ -1,0 +1,2 @@
+mod Carets
+mod Fronts
