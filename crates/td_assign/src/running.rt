@@ -321,6 +321,7 @@ pub fn run(
     meter.tick();
     database.relvars_fit();
     let (prepared, names) = prepare(alloc, database, text)?;
+    database.count_reads(alloc, &names.footprint);
     match prepared {
         Prepared::Changes(changes, delta) => {
             put_all(database, changes);

@@ -154,6 +154,13 @@ impl Base {
         kept(&self.by_keys)
     }
 
+    /// Counts a read as a change is counted: these are the keys by which its tuples are kept where that pays.
+    pub(crate) fn count_read(&mut self, alloc: Global, keys: &[Items<Name>])
+        ensures { self.new ≡ self.old }
+    {
+        count(alloc, &mut self.by_keys, &self.relation, keys);
+    }
+
     /// Makes the change. These are the keys by which its tuples are kept where that pays.
     pub(crate) fn change(
         &mut self,

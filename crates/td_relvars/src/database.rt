@@ -117,6 +117,34 @@ fn keys_of(catalogue: &Catalogue, relvar: usize) -> &[Items<Name>] {
     }
 }
 
+// Counts a read of what is stored at the place.
+fn count_read_at(
+    alloc: Global,
+    catalogue: &Catalogue,
+    stored: &mut Vec<Option<Base>>,
+    relvar: usize,
+)
+    ensures { stored.new.items ≡ stored.old.items }
+{
+    if let Some(Some(base)) = stored.get_mut(relvar) {
+        base.count_read(alloc, keys_of(catalogue, relvar));
+    }
+}
+
+// The same of each of these places.
+fn count_reads_at(
+    alloc: Global,
+    catalogue: &Catalogue,
+    stored: &mut Vec<Option<Base>>,
+    relvars: &[usize],
+)
+    ensures { stored.new.items ≡ stored.old.items }
+{
+    for relvar in relvars {
+        count_read_at(alloc, catalogue, stored, *relvar);
+    }
+}
+
 // Makes the change in what is stored at the place.
 fn change_at(
     alloc: Global,
@@ -226,6 +254,15 @@ impl Database {
         ensures stored { self.new.stored ≡ put relvar base self.old.stored }
     {
         set_at(&mut self.stored, relvar, Some(base));
+    }
+
+    /// Counts that a statement hangs on the relvars at these places, each as a small change of it would count: at the
+    /// sixteenth its tuples are kept by its keys, which costs a sort for each. Nothing that they have changes; where
+    /// memory is wanting, nothing is kept.
+    pub fn count_reads(&mut self, alloc: Global, relvars: &[usize])
+        ensures { self.new ≡ self.old }
+    {
+        count_reads_at(alloc, &self.catalogue, &mut self.stored, relvars);
     }
 
     /// Makes the change in the base relvar at the place, where its relation stands. It costs as `Delta::apply`.

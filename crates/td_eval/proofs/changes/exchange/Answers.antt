@@ -10,7 +10,7 @@ returns-in_ok-without-in-Less c =
     let r = c.args.tuples.now in
     let d = c.in_ok-without-in-Less.field-0 in
     subst (λ f. TellsForm r (form_means m r f) (Ok d)) (sym c.in-Less.is)
-    (told_less r c.in_ok-gone-in-Less.gone (chosen m c.in-Less.condition.now r) c.in_ok-gone-in-Less.ensures d c.in_ok-without-in-Less.ensures)
+    (told_less r c.in_ok-gone-in-Less.gone (chosen m c.in-Less.condition.now r) c.in_ok-gone-in-Less.ensures d (rw c.get.ensures at c.in_ok-without-in-Less.ensures))
 
 pub returns-in-Changed : goal.returns-in-Changed
 returns-in-Changed c =
