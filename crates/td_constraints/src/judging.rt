@@ -63,7 +63,12 @@ fn change_of(changes: &[(usize, Delta)], relvar: usize) -> Option<&Delta>
 fn index_by<'a, L: Lookup>(lookup: &'a L, relvar: usize, key: &[Name]) -> Option<&'a KeyIndex>
     ensures { IfSome result (λ x. IsByKey (L.relvars lookup.now relvar) key.now x.now) }
 {
-    lookup.indexes(relvar).iter().find(|index| index.is_of(key))
+    for index in lookup.indexes(relvar) {
+        if index.is_of(key) {
+            return Some(index);
+        }
+    }
+    None
 }
 
 // Whether the tuples that were put into a relvar are told from all others of the relation that it has now by their
