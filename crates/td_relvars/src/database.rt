@@ -126,8 +126,12 @@ fn count_read_at(
 )
     ensures { stored.new.items ≡ stored.old.items }
 {
-    if let Some(Some(base)) = stored.get_mut(relvar) {
-        base.count_read(alloc, keys_of(catalogue, relvar));
+    if relvar >= stored.len() {
+        return;
+    }
+    match &mut stored[relvar] {
+        Some(base) => base.count_read(alloc, keys_of(catalogue, relvar)),
+        None => {}
     }
 }
 
