@@ -31,12 +31,13 @@ impl Lookup for Seen<'_> {
     }
 
     fn indexes(&self, relvar: usize) -> &[KeyIndex] {
-        if self.target == relvar {
-            if let Some(_) = given_to(self.changes, relvar) {
-                return &[];
-            }
+        if self.target != relvar {
+            return self.database.indexes(relvar);
         }
-        self.database.indexes(relvar)
+        match given_to(self.changes, relvar) {
+            Some(_) => &[],
+            None => self.database.indexes(relvar),
+        }
     }
 }
 

@@ -1,10 +1,10 @@
 use Rattle.std.proofs.Common.{ap, sym, subst}
 use Rattle.td_story.proofs.Legal.{all_pass}
-use Rattle.td_story.specs.Databases.{IsLegal, stored_relvars}
+use Rattle.td_story.specs.Databases.{DatabaseData, IsLegal, stored_relvars}
 use Rattle.td_story.specs.Given.{with_given}
 use Rattle.td_assign.specs.ForProofs.Lists.{given_to}
 use Rattle.td_story.specs.Differences.{AreDifferences}
-use Rattle.td_story.specs.Steps.{Steps}
+use Rattle.td_story.specs.Steps.{Steps, with_all}
 use Rattle.td_story.specs.declared.outcome.Outcome.{Outcome}
 use Rattle.td_assign.proofs.Turning.{turned_differences, turned_legal, turned_step}
 use Rattle.td_assign.proofs.running.run.Goals as goal
@@ -14,7 +14,7 @@ returns-in-Changes-clause-legal c =
     let d = c.args.database.now in
     let cs = c.in-Changes.changes.items in
     let prepared = rw c.in-Changes.is at c.in_ok-prepared.ensures.prepared in
-    subst IsLegal (sym c.put_all.ensures) (all_pass d.catalogue (stored_relvars (with_given (given_to cs) d.stored)) d.catalogue.tests prepared.1.passes)
+    subst IsLegal (sym c.put_all.ensures) (subst (λ (e : DatabaseData). IsLegal (with_all e (given_to cs))) (sym c.count_reads.ensures) (all_pass d.catalogue (stored_relvars (with_given (given_to cs) d.stored)) d.catalogue.tests prepared.1.passes))
 
 pub returns-in_ok-outcome-in-Turn-clause-step : goal.returns-in_ok-outcome-in-Turn-clause-step
 returns-in_ok-outcome-in-Turn-clause-step c =
@@ -23,7 +23,7 @@ returns-in_ok-outcome-in-Turn-clause-step c =
     let told = rw c.in-Turn.is at c.in_ok-prepared.ensures.prepared in
     let o = c.in_ok-outcome-in-Turn.outcome in
     subst (λ (out : Outcome). Steps d text out c.turn.new.database) (sym c.ran-in-Turn.ensures.outcome)
-    (turned_step d text told.0 told.1 c.in-Turn.relvar c.in-Turn.delta c.relvars_fit.ensures told.2 o c.in_ok-outcome-in-Turn.delta.items c.turn.new.database c.in_ok-outcome-in-Turn.ensures.turned)
+    (turned_step d text told.0 told.1 c.in-Turn.relvar c.in-Turn.delta c.relvars_fit.ensures told.2 o c.in_ok-outcome-in-Turn.delta.items c.turn.new.database (rw c.count_reads.ensures at c.in_ok-outcome-in-Turn.ensures.turned))
 
 pub returns-in_ok-outcome-in-Turn-clause-delta : goal.returns-in_ok-outcome-in-Turn-clause-delta
 returns-in_ok-outcome-in-Turn-clause-delta c =
@@ -31,11 +31,11 @@ returns-in_ok-outcome-in-Turn-clause-delta c =
     let text = c.args.text.now in
     let told = rw c.in-Turn.is at c.in_ok-prepared.ensures.prepared in
     subst (AreDifferences (stored_relvars d.stored) (stored_relvars c.turn.new.database.stored)) (sym (ap (λ v. v.items) c.ran-in-Turn.ensures.delta))
-    (turned_differences d text told.0 told.1 c.in-Turn.relvar c.in-Turn.delta c.relvars_fit.ensures told.2 c.in_ok-outcome-in-Turn.outcome c.in_ok-outcome-in-Turn.delta.items c.turn.new.database c.in_ok-outcome-in-Turn.ensures.turned)
+    (turned_differences d text told.0 told.1 c.in-Turn.relvar c.in-Turn.delta c.relvars_fit.ensures told.2 c.in_ok-outcome-in-Turn.outcome c.in_ok-outcome-in-Turn.delta.items c.turn.new.database (rw c.count_reads.ensures at c.in_ok-outcome-in-Turn.ensures.turned))
 
 pub returns-in_ok-outcome-in-Turn-clause-legal : goal.returns-in_ok-outcome-in-Turn-clause-legal
 returns-in_ok-outcome-in-Turn-clause-legal c =
     let d = c.args.database.now in
     let text = c.args.text.now in
     let told = rw c.in-Turn.is at c.in_ok-prepared.ensures.prepared in
-    turned_legal d text told.0 told.1 c.in-Turn.relvar c.in-Turn.delta c.relvars_fit.ensures told.2 c.in_ok-outcome-in-Turn.outcome c.in_ok-outcome-in-Turn.delta.items c.turn.new.database c.requires c.in_ok-outcome-in-Turn.ensures.turned
+    turned_legal d text told.0 told.1 c.in-Turn.relvar c.in-Turn.delta c.relvars_fit.ensures told.2 c.in_ok-outcome-in-Turn.outcome c.in_ok-outcome-in-Turn.delta.items c.turn.new.database c.requires (rw c.count_reads.ensures at c.in_ok-outcome-in-Turn.ensures.turned)
