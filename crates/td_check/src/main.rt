@@ -17,7 +17,7 @@ use std::{env, fs};
 const USAGE: &str = "\
 Usage: tools/check SCRIPT
 Tells each definition of a script that is refused, by FILE:LINE:COLUMN, with the line and a caret under the place.
-A script ends at a line .begin, if it has one; the lines behind it are not judged.
+A script ends at a line .begin, if it has one; the lines behind it are not judged, and nothing is evaluated.
 The status is 0 where nothing is refused, 1 where something is, and 2 where the file can't be read.";
 
 // The file that the words name, the first of which names the program.
