@@ -23,7 +23,7 @@ The status is 0 where nothing is refused, 1 where something is, and 2 where the 
 // The file that the words name, the first of which names the program.
 fn file_of(words: &[String]) -> Option<&str> {
     match words {
-        [_, file] if file.as_str() != "--help" => Some(file.as_str()),
+        [_, file] => Some(file.as_str()),
         _ => None,
     }
 }
@@ -54,6 +54,10 @@ fn main(rt: HostRuntime) -> ExitCode {
     let Some(file) = file_of(&words) else {
         return refused(&rt, USAGE);
     };
+    if file == "--help" {
+        let _told = println!(rt; "{USAGE}");
+        return ExitCode::SUCCESS;
+    }
     let Ok(bytes) = fs::read(&rt, file) else {
         return refused(&rt, "the file can't be read");
     };

@@ -75,6 +75,17 @@ fn introduces(tokens: &[Token<'_>], at: usize) -> bool {
     }
 }
 
+// What a definition defines, where it has its first two words.
+fn name_of<'a>(tokens: &[Token<'a>]) -> Option<&'a str> {
+    match tokens {
+        [first, name, ..] if name.kind == Kind::Name => match first.kind {
+            Kind::Word(Word::Type | Word::Var | Word::Constraint) => Some(name.text),
+            _ => None,
+        },
+        _ => None,
+    }
+}
+
 fn has(names: &[&str], name: &str) -> bool {
     names.iter().any(|known| *known == name)
 }
@@ -104,8 +115,8 @@ impl<'a> Names<'a> {
 
     /// Takes in what a definition that was refused would have defined.
     pub fn lose(&mut self, tokens: &[Token<'a>]) -> Result<(), AllocError> {
-        if let [_, name, ..] = tokens {
-            self.refused.push(name.text)?;
+        if let Some(name) = name_of(tokens) {
+            self.refused.push(name)?;
         }
         for (at, token) in tokens.iter().enumerate() {
             if token.kind == Kind::Name && introduces(tokens, at) {
@@ -150,10 +161,9 @@ impl<'a> Names<'a> {
 
     /// Whether a definition names a type, a relvar or a constraint that was refused.
     pub fn names_refused(&self, tokens: &[Token<'_>]) -> bool {
-        tokens
-            .iter()
-            .enumerate()
-            .any(|(at, token)| at != 1 && has(&self.refused, token.text))
+        tokens.iter().enumerate().any(|(at, token)| {
+            at != 1 && token.kind == Kind::Name && has(&self.refused, token.text)
+        })
     }
 
     /// The name of a definition, where one of its kind has it already.
