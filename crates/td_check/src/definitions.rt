@@ -39,9 +39,9 @@ struct Checker<'a> {
 }
 
 impl<'a> Checker<'a> {
-    // Tells why the definition is ill typed.
-    fn tell_type(
-        &self,
+    // Tells why the definition is ill typed, and forgets what it would have defined.
+    fn refuse(
+        &mut self,
         report: &mut Report<'_>,
         piece: &Piece<'a>,
         tokens: &[Token<'a>],
@@ -52,21 +52,33 @@ impl<'a> Checker<'a> {
             return report.tell(self.script, place, "ill typed: this is defined before");
         }
         let unknown = self.names.unknown(report.alloc, tokens)?;
-        if unknown.is_empty() {
+        let is_judged = if unknown.is_empty() {
+            !self.names.names_refused(tokens)
+        } else {
+            !unknown.iter().all(|name| self.names.is_lost(name.text))
+        };
+        if is_judged {
             report.count_refused();
-            return report.tell(
-                self.script,
-                piece.begin,
-                "ill typed: its names are defined, but its types do not fit",
-            );
-        }
-        if unknown.iter().all(|name| self.names.was_lost(name)) {
+            self.tell_type(report, piece, &unknown)?;
+        } else {
             report.count_unjudged();
-            return Ok(());
         }
-        report.count_refused();
-        for name in &unknown {
-            if !self.names.was_lost(name) {
+        self.names.lose(tokens)
+    }
+
+    // Tells the names that nothing defines, or that types do not fit where each name is defined.
+    fn tell_type(
+        &self,
+        report: &mut Report<'_>,
+        piece: &Piece<'a>,
+        unknown: &[Token<'a>],
+    ) -> Result<(), AllocError> {
+        if unknown.is_empty() {
+            let what = "ill typed: its names are defined, but its types do not fit";
+            return report.tell(self.script, piece.begin, what);
+        }
+        for name in unknown {
+            if !self.names.is_lost(name.text) {
                 let place = piece.begin.saturating_add(name.start);
                 report.tell(
                     self.script,
@@ -88,10 +100,7 @@ impl<'a> Checker<'a> {
         let tokens = tokens_of(report.alloc, piece.text)?;
         match self.catalogue.define(report.alloc, definition) {
             Ok(()) => self.names.accept(&tokens),
-            Err(TypeError::IllTyped) => {
-                self.tell_type(report, piece, &tokens)?;
-                self.names.lose(&tokens)
-            }
+            Err(TypeError::IllTyped) => self.refuse(report, piece, &tokens),
             Err(TypeError::OutOfMemory) => Err(AllocError),
         }
     }

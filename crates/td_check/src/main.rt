@@ -17,13 +17,13 @@ use std::{env, fs};
 const USAGE: &str = "\
 Usage: tools/check SCRIPT
 Tells each definition of a script that is refused, by FILE:LINE:COLUMN, with the line and a caret under the place.
-A script ends at a line .begin, if it has one; the lines behind it are not judged.
+A script ends at a line .begin, if it has one; the lines behind it are not judged, and nothing is evaluated.
 The status is 0 where nothing is refused, 1 where something is, and 2 where the file can't be read.";
 
 // The file that the words name, the first of which names the program.
 fn file_of(words: &[String]) -> Option<&str> {
     match words {
-        [_, file] if file.as_str() != "--help" => Some(file.as_str()),
+        [_, file] => Some(file.as_str()),
         _ => None,
     }
 }
@@ -54,6 +54,10 @@ fn main(rt: HostRuntime) -> ExitCode {
     let Some(file) = file_of(&words) else {
         return refused(&rt, USAGE);
     };
+    if file == "--help" {
+        let _told = println!(rt; "{USAGE}");
+        return ExitCode::SUCCESS;
+    }
     let Ok(bytes) = fs::read(&rt, file) else {
         return refused(&rt, "the file can't be read");
     };

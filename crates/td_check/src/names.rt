@@ -11,10 +11,12 @@ use td_tokens::{Kind, Token, Word};
 pub struct Names<'a> {
     // In definitions that were accepted.
     known: Vec<&'a str>,
-    // Defined by those that were refused.
-    lost: Vec<&'a str>,
     // What was accepted as a type, a relvar or a constraint.
     defined: Vec<(Kind, &'a str)>,
+    // Types, relvars and constraints that were refused.
+    refused: Vec<&'a str>,
+    // Given to their parts.
+    lost: Vec<&'a str>,
 }
 
 fn word_at(tokens: &[Token<'_>], at: usize) -> Option<Word> {
@@ -73,6 +75,17 @@ fn introduces(tokens: &[Token<'_>], at: usize) -> bool {
     }
 }
 
+// What a definition defines, where it has its first two words.
+fn name_of<'a>(tokens: &[Token<'a>]) -> Option<&'a str> {
+    match tokens {
+        [first, name, ..] if name.kind == Kind::Name => match first.kind {
+            Kind::Word(Word::Type | Word::Var | Word::Constraint) => Some(name.text),
+            _ => None,
+        },
+        _ => None,
+    }
+}
+
 fn has(names: &[&str], name: &str) -> bool {
     names.iter().any(|known| *known == name)
 }
@@ -81,8 +94,9 @@ impl<'a> Names<'a> {
     pub fn new(alloc: Global) -> Names<'a> {
         Names {
             known: Vec::new(alloc),
-            lost: Vec::new(alloc),
             defined: Vec::new(alloc),
+            refused: Vec::new(alloc),
+            lost: Vec::new(alloc),
         }
     }
 
@@ -101,8 +115,11 @@ impl<'a> Names<'a> {
 
     /// Takes in what a definition that was refused would have defined.
     pub fn lose(&mut self, tokens: &[Token<'a>]) -> Result<(), AllocError> {
+        if let Some(name) = name_of(tokens) {
+            self.refused.push(name)?;
+        }
         for (at, token) in tokens.iter().enumerate() {
-            if token.kind == Kind::Name && (at == 1 || introduces(tokens, at)) {
+            if token.kind == Kind::Name && introduces(tokens, at) {
                 self.lost.push(token.text)?;
             }
         }
@@ -113,11 +130,6 @@ impl<'a> Names<'a> {
     fn is_known(&self, name: &str) -> bool {
         let component = name.strip_prefix("THE_").unwrap_or(name);
         has(&self.known, name) || has(&self.known, component)
-    }
-
-    fn is_lost(&self, name: &str) -> bool {
-        let component = name.strip_prefix("THE_").unwrap_or(name);
-        has(&self.lost, name) || has(&self.lost, component)
     }
 
     /// The names in a definition that neither it nor one before it defines, each once.
@@ -142,8 +154,16 @@ impl<'a> Names<'a> {
     }
 
     /// Whether a definition that was refused would have defined the name.
-    pub fn was_lost(&self, token: &Token<'_>) -> bool {
-        self.is_lost(token.text)
+    pub fn is_lost(&self, name: &str) -> bool {
+        let component = name.strip_prefix("THE_").unwrap_or(name);
+        has(&self.refused, name) || has(&self.lost, component)
+    }
+
+    /// Whether a definition names a type, a relvar or a constraint that was refused.
+    pub fn names_refused(&self, tokens: &[Token<'_>]) -> bool {
+        tokens.iter().enumerate().any(|(at, token)| {
+            at != 1 && token.kind == Kind::Name && has(&self.refused, token.text)
+        })
     }
 
     /// The name of a definition, where one of its kind has it already.

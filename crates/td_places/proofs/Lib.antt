@@ -1,2 +1,2 @@
 mod Carets
-mod Fronts
+mod Trees

@@ -1,5 +1,5 @@
 -- What it means that a place is told.
-use Rattle.std.specs.Prelude.{◌≡◌, Bool, true, false, ℕ, List, Option, Some, None}
+use Rattle.std.specs.Prelude.{Bool, true, false, ℕ, List, Option, Some, None}
 use Rattle.std.specs.Str.{IsCharBoundary}
 use Rattle.td_tokens.specs.Lex.{Text}
 use Rattle.td_syntax.specs.declared.script.Definition.{Definition}

@@ -1,5 +1,5 @@
 -- Lines and columns.
-use Rattle.std.specs.Prelude.{◌≡◌, ℕ, ◌+◌, ◌-◌, Bool, ◌&&◌, ◌==◌, nat_le, if◌then◌else◌, List, [], ◌∷◌, ◌++◌, take, map, fold, codes}
+use Rattle.std.specs.Prelude.{ℕ, ◌+◌, ◌-◌, Bool, ◌&&◌, ◌==◌, nat_le, if◌then◌else◌, List, ◌++◌, take, map, fold, codes}
 use Rattle.std.specs.Str.{chars}
 use Rattle.td_places.specs.declared.position.Position.{Position}
 

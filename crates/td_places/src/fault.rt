@@ -1,6 +1,6 @@
 //! The byte at which a text goes wrong.
 
-ghost use Rattle.std.specs.Prelude.{IfOk};
+ghost use Rattle.std.specs.Prelude.{◌≡◌, IfOk, Ok, Err, is_ok, true, false};
 ghost use Rattle.std.specs.Str.{IsCharBoundary};
 ghost use Rattle.td_places.specs.Places.{Decides, TellsPlace};
 
@@ -9,34 +9,34 @@ use td_grammar::reader::{QUERY_BYTES, SCRIPT_BYTES, STATEMENT_BYTES};
 use td_grammar::{ReadError, Reading, read_expr, read_script, read_statement, stop};
 use td_tokens::tokens_end;
 
-fn is_script(alloc: Global, text: &str) -> Result<bool, AllocError>
-    ensures { IfOk result (Decides Reading.Script text.now) }
+// Whether a tree was read.
+fn is_there<T: Drop>(read: Result<T, ReadError>) -> Result<bool, AllocError>
+    ensures yes { result ≡ Ok true → is_ok read ≡ true }
+    ensures no { result ≡ Ok false → read ≡ Err ReadError.Syntax }
 {
-    match read_script(alloc, text) {
+    match read {
         Ok(_) => Ok(true),
         Err(ReadError::Syntax) => Ok(false),
         Err(ReadError::OutOfMemory) => Err(AllocError),
     }
+}
+
+fn is_script(alloc: Global, text: &str) -> Result<bool, AllocError>
+    ensures { IfOk result (Decides Reading.Script text.now) }
+{
+    is_there(read_script(alloc, text))
 }
 
 fn is_statement(alloc: Global, text: &str) -> Result<bool, AllocError>
     ensures { IfOk result (Decides Reading.Statement text.now) }
 {
-    match read_statement(alloc, text) {
-        Ok(_) => Ok(true),
-        Err(ReadError::Syntax) => Ok(false),
-        Err(ReadError::OutOfMemory) => Err(AllocError),
-    }
+    is_there(read_statement(alloc, text))
 }
 
 fn is_query(alloc: Global, text: &str) -> Result<bool, AllocError>
     ensures { IfOk result (Decides Reading.Query text.now) }
 {
-    match read_expr(alloc, text) {
-        Ok(_) => Ok(true),
-        Err(ReadError::Syntax) => Ok(false),
-        Err(ReadError::OutOfMemory) => Err(AllocError),
-    }
+    is_there(read_expr(alloc, text))
 }
 
 fn is_read(alloc: Global, reading: Reading, text: &str) -> Result<bool, AllocError>

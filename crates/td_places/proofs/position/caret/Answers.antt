@@ -1,4 +1,4 @@
-use Rattle.std.proofs.Common.{◌≡◌, ◌-◌, List, [], ◌∷◌, ◌++◌, map, take, encode_utf8, string_bytes, ap, sym, ◌∙◌}
+use Rattle.std.proofs.Common.{◌-◌, ◌++◌, map, take, encode_utf8, ap, sym, ◌∙◌}
 use Rattle.std.proofs.lemmas.Iterator.{YieldsList-from_chars, YieldsList-from_take}
 use Rattle.std.proofs.lemmas.Iterator.Consumers.{YieldsList-end}
 use Rattle.std.specs.Iterator.Adapters.{take_source, take_count}

@@ -1,4 +1,4 @@
-use Rattle.std.proofs.Common.{◌≡◌, ◌-◌, ℕ, List, [], Option, Some, None, get_or, refl, ap, ◌∙◌, option_map, Bor}
+use Rattle.std.proofs.Common.{◌≡◌, ℕ, List, [], Option, Some, None, get_or, refl, ap, ◌∙◌, option_map, Bor}
 use Rattle.std.specs.Prelude.{unwrap_or}
 use Rattle.std.specs.Str.Lines.{lines}
 use Rattle.std.proofs.lemmas.Option.{unwrap_or-slice_get}

@@ -1,0 +1,3 @@
+VAR P BASE RELATION { PNO CHAR } KEY { PNO };
+.begin 
+1: INSERT P RELATION { TUPLE { PNO 'P1' } };

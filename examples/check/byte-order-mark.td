@@ -1,0 +1,2 @@
+﻿VAR P BASE RELATION { PNO CHAR } KEY { PNO };
+.begin

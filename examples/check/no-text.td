@@ -1,0 +1,3 @@
+VAR P BASE RELATION { PNO CHAR } KEY { PNO };
+CONSTRAINT C IS_EMPTY ( P WHERE PNO = 'Müller' );
+.begin
