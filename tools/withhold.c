@@ -1,0 +1,171 @@
+/* Preloaded before the C library: withholds memory, reads or writes from a program, one after the other.
+ *
+ * WITHHELD is what: 'memory' (an allocation is refused), 'failing' (a read, a write or a sync fails) or 'short' (a read
+ * or a write of several bytes moves one). WITHHELD_UNTIL has a letter for each kind of withholding: 'o' that one alone,
+ * 'w' that one and all after it up to the next write to standard output, 'e' that one and all after it.
+ *
+ * With WITHHELD_FROM a number, that one is withheld in a single run. With WITHHELD_AFTER a text the process is forked
+ * where it first writes that text to standard output, or from its start where the text is empty, for the first one, the
+ * second, and so on until a run meets none. With WITHHELD_CALL nothing is withheld behind the next write to standard
+ * output. Each run reads the file WITHHELD_INPUT as its standard input, where that is set. To the file WITHHELD_TOLD a
+ * line is written for each run: the kind, the number, the exit status or the signal as a negative number, whether the
+ * run met it, and how many bytes it wrote to standard output, which follow.
+ */
+#define _GNU_SOURCE
+#include <dlfcn.h>
+#include <errno.h>
+#include <fcntl.h>
+#include <stdio.h>
+#include <stdlib.h>
+#include <string.h>
+#include <sys/mman.h>
+#include <sys/socket.h>
+#include <sys/wait.h>
+#include <unistd.h>
+
+#define NEXT(name)                                                                     \
+    ({                                                                                 \
+        static typeof(&name) next;                                                     \
+        if (next == NULL) next = (typeof(&name))dlsym(RTLD_NEXT, #name);               \
+        next;                                                                          \
+    })
+
+static char what, until;
+static long from, count;
+static int is_on, is_over, is_call;
+static const char *after;
+/* whether the run met what is withheld: shared with the process that forks */
+static int *met;
+
+static int is_withheld(char asked) {
+    if (!is_on || asked != what) return 0;
+    count += 1;
+    if (count < from || is_over || (until == 'o' && count > from)) return 0;
+    *met = 1;
+    return 1;
+}
+
+static void fork_each(void);
+
+void *malloc(size_t size) {
+    return is_withheld('m') ? NULL : NEXT(malloc)(size);
+}
+
+void *realloc(void *old, size_t size) {
+    return is_withheld('m') ? NULL : NEXT(realloc)(old, size);
+}
+
+static int fails(void) {
+    if (!is_withheld('f')) return 0;
+    errno = EIO;
+    return 1;
+}
+
+static size_t moved(size_t size) {
+    return size > 1 && is_withheld('s') ? 1 : size;
+}
+
+ssize_t read(int fd, void *bytes, size_t size) {
+    return fails() ? -1 : NEXT(read)(fd, bytes, moved(size));
+}
+
+ssize_t recv(int fd, void *bytes, size_t size, int flags) {
+    return fails() ? -1 : NEXT(recv)(fd, bytes, moved(size), flags);
+}
+
+ssize_t send(int fd, const void *bytes, size_t size, int flags) {
+    return fails() ? -1 : NEXT(send)(fd, bytes, moved(size), flags);
+}
+
+int fsync(int fd) {
+    return fails() ? -1 : NEXT(fsync)(fd);
+}
+
+int fdatasync(int fd) {
+    return fails() ? -1 : NEXT(fdatasync)(fd);
+}
+
+/* Whether the process is to be forked behind these bytes. */
+static int is_mark(const void *bytes, size_t size) {
+    return after != NULL && size == strlen(after) && memcmp(bytes, after, size) == 0;
+}
+
+ssize_t write(int fd, const void *bytes, size_t size) {
+    if (fd != 1) return fails() ? -1 : NEXT(write)(fd, bytes, moved(size));
+    if (what == 'm') {
+        is_over |= until == 'w' && *met;
+        is_on &= !is_call;
+    }
+    ssize_t written = fails() ? -1 : NEXT(write)(fd, bytes, moved(size));
+    if (is_mark(bytes, size)) fork_each();
+    return written;
+}
+
+/* Writes what came of a run. */
+static void tell(FILE *told, int status, int output) {
+    char bytes[4096];
+    long size = lseek(output, 0, SEEK_END), here;
+    fprintf(told, "%c %ld %d %d %ld\n", until, from, WIFEXITED(status) ? WEXITSTATUS(status) : -WTERMSIG(status), *met, size);
+    lseek(output, 0, SEEK_SET);
+    while ((here = NEXT(read)(output, bytes, sizeof bytes)) > 0) fwrite(bytes, 1, here, told);
+    close(output);
+    fflush(told);
+}
+
+/* Begins a run in a process of its own, and returns whether this is that process. */
+static int is_forked(FILE *told) {
+    int status, output = memfd_create("output", 0);
+    *met = 0;
+    pid_t run = fork();
+    if (run == 0) {
+        const char *input = getenv("WITHHELD_INPUT");
+        if (input != NULL) dup2(open(input, O_RDONLY), 0);
+        dup2(output, 1);
+        close(output);
+        is_on = 1;
+        count = is_over = 0;
+        return 1;
+    }
+    waitpid(run, &status, 0);
+    tell(told, status, output);
+    return 0;
+}
+
+static void fork_each(void) {
+    FILE *told = fopen(getenv("WITHHELD_TOLD"), "w");
+    after = NULL;
+    for (const char *kind = getenv("WITHHELD_UNTIL"); *kind != 0; kind++) {
+        until = *kind;
+        from = 0;
+        do {
+            from += 1;
+            if (is_forked(told)) return;
+        } while (*met);
+    }
+    _exit(0);
+}
+
+__attribute__((constructor)) static void begin(void) {
+    const char *word = getenv("WITHHELD"), *number = getenv("WITHHELD_FROM");
+    met = mmap(NULL, sizeof *met, PROT_READ | PROT_WRITE, MAP_SHARED | MAP_ANONYMOUS, -1, 0);
+    if (word == NULL) return;
+    what = *word;
+    is_call = getenv("WITHHELD_CALL") != NULL;
+    after = getenv("WITHHELD_AFTER");
+    if (number != NULL) {
+        from = atol(number);
+        until = *getenv("WITHHELD_UNTIL");
+        is_on = 1;
+    } else if (after != NULL && *after == 0) {
+        fork_each();
+    }
+}
+
+/* Of a single run it is told whether it met what was withheld. */
+__attribute__((destructor)) static void end(void) {
+    FILE *told = getenv("WITHHELD_FROM") == NULL ? NULL : fopen(getenv("WITHHELD_TOLD"), "w");
+    if (told != NULL) {
+        fprintf(told, "%d", *met);
+        fclose(told);
+    }
+}
