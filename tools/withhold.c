@@ -7,8 +7,8 @@
  * With WITHHELD_FROM a number, that one is withheld in a single run. With WITHHELD_AFTER a text the process is forked
  * where it first writes that text to standard output, or from its start where the text is empty, for the first one, the
  * second, and so on until a run meets none. With WITHHELD_CALL nothing is withheld behind the next write to standard
- * output. Each run reads the file WITHHELD_INPUT as its standard input, where that is set. To the file WITHHELD_TOLD a
- * line is written for each run: the kind, the number, the exit status or the signal as a negative number, whether the
+ * output. Each run reads the file WITHHELD_INPUT, which is the standard input, from where that was read up to. To the file
+ * WITHHELD_TOLD a line is written for each run: the kind, the number, the exit status or the signal as a negative number, whether the
  * run met it, and how many bytes it wrote to standard output, which follow.
  */
 #define _GNU_SOURCE
@@ -115,11 +115,13 @@ static void tell(FILE *told, int status, int output) {
 /* Begins a run in a process of its own, and returns whether this is that process. */
 static int is_forked(FILE *told) {
     int status, output = memfd_create("output", 0);
+    off_t read_so_far = lseek(0, 0, SEEK_CUR);
     *met = 0;
     pid_t run = fork();
     if (run == 0) {
-        const char *input = getenv("WITHHELD_INPUT");
-        if (input != NULL) dup2(open(input, O_RDONLY), 0);
+        /* (an input that is shared would be read on by each run) */
+        dup2(open(getenv("WITHHELD_INPUT"), O_RDONLY), 0);
+        lseek(0, read_so_far, SEEK_SET);
         dup2(output, 1);
         close(output);
         is_on = 1;

@@ -39,7 +39,18 @@ const SHIPMENT: &str = "INSERT SP RELATION { TUPLE { SNO 'S1', PNO 'P1', QTY 200
 
 const BOUND: &str = "MOST := RELATION { TUPLE { N 5 } };";
 
-const SUPPLIED: &[Written] = &[(1, 1, 1, LONDON), (1, 2, 3, SHIPMENT)];
+/// Eight suppliers, and five shipments of each.
+const MANY: &str = "INSERT S RELATION { \
+TUPLE { SNO 'S1' }, TUPLE { SNO 'S2' }, TUPLE { SNO 'S3' }, TUPLE { SNO 'S4' }, \
+TUPLE { SNO 'S5' }, TUPLE { SNO 'S6' }, TUPLE { SNO 'S7' }, TUPLE { SNO 'S8' } } \
+JOIN RELATION { TUPLE { STATUS 20, CITY 'Paris' } }, \
+INSERT SP RELATION { \
+TUPLE { SNO 'S1' }, TUPLE { SNO 'S2' }, TUPLE { SNO 'S3' }, TUPLE { SNO 'S4' }, \
+TUPLE { SNO 'S5' }, TUPLE { SNO 'S6' }, TUPLE { SNO 'S7' }, TUPLE { SNO 'S8' } } \
+JOIN RELATION { TUPLE { PNO 'P1' }, TUPLE { PNO 'P2' }, TUPLE { PNO 'P3' }, TUPLE { PNO 'P4' }, TUPLE { PNO 'P5' } } \
+JOIN RELATION { TUPLE { QTY 100 } };";
+
+const SUPPLIED: &[Written] = &[(2, 1, 1, LONDON), (2, 2, 2, SHIPMENT)];
 
 const EXAMPLES: &[Example] = &[
     Example {
@@ -71,40 +82,70 @@ const EXAMPLES: &[Example] = &[
     },
     Example {
         name: "replay counts: a late statement of MOST",
-        first: 2,
-        first_held: &[(2, 1, 2, "DELETE MOST;")],
-        second: 3,
+        first: 1,
+        first_held: &[(2, 1, 1, LONDON), (1, 1, 2, "DELETE MOST;")],
+        second: 2,
         second_held: SUPPLIED,
         statement: BOUND,
     },
     Example {
         name: "replay counts: a late statement of SP",
-        first: 2,
-        first_held: &[(
-            2,
-            1,
-            2,
-            "INSERT SP RELATION { TUPLE { SNO 'S1', PNO 'P2', QTY 100 } };",
-        )],
-        second: 3,
+        first: 1,
+        first_held: &[
+            (2, 1, 1, LONDON),
+            (
+                1,
+                1,
+                2,
+                "INSERT SP RELATION { TUPLE { SNO 'S1', PNO 'P2', QTY 100 } };",
+            ),
+        ],
+        second: 2,
         second_held: SUPPLIED,
         statement: BOUND,
     },
     Example {
         name: "replay counts: a late statement of S",
-        first: 2,
-        first_held: &[(2, 1, 2, "UPDATE S ( STATUS := 30 );")],
-        second: 3,
+        first: 1,
+        first_held: &[(2, 1, 1, LONDON), (1, 1, 2, "UPDATE S ( STATUS := 30 );")],
+        second: 2,
         second_held: SUPPLIED,
         statement: BOUND,
     },
     Example {
         name: "replay counts: a late statement that is unread",
-        first: 2,
-        first_held: &[(2, 1, 2, "INSERT Q X;")],
-        second: 3,
+        first: 1,
+        first_held: &[(2, 1, 1, LONDON), (1, 1, 2, "INSERT Q X;")],
+        second: 2,
         second_held: SUPPLIED,
         statement: BOUND,
+    },
+    Example {
+        name: "many tuples: a key is broken",
+        first: 1,
+        first_held: &[(1, 1, 1, MANY), (1, 2, 2, "DELETE SP WHERE SNO = 'S8';")],
+        second: 2,
+        second_held: &[
+            (1, 1, 1, MANY),
+            (2, 1, 2, "UPDATE SP WHERE PNO = 'P1' ( QTY := 7 );"),
+        ],
+        statement: "UPDATE SP WHERE PNO = 'P1' ( PNO := 'P2' );",
+    },
+    Example {
+        name: "many tuples: refused here, done after the meeting",
+        first: 1,
+        first_held: &[
+            (1, 1, 1, MANY),
+            (
+                1,
+                2,
+                2,
+                "INSERT S RELATION { TUPLE { SNO 'S9', STATUS 20, CITY 'Paris' } };",
+            ),
+        ],
+        second: 2,
+        second_held: &[(1, 1, 1, MANY), (2, 1, 2, "DELETE SP WHERE PNO = 'P5';")],
+        statement: "INSERT SP RELATION { TUPLE { SNO 'S9', PNO 'P1', QTY 100 } };",
     },
 ];
 
