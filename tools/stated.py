@@ -254,5 +254,5 @@ def greeting_length(state):
     return 13 + len(SCRIPT) + 6 * len(state.vector())
 
 
-def journal_length(state):
-    return 11 + len(SCRIPT) + len(frames(state.entries))
+def journal(site, entries):
+    return b"JTDB" + struct.pack(">BHI", 1, site, len(SCRIPT)) + SCRIPT.encode() + frames(entries)

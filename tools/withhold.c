@@ -4,12 +4,13 @@
  * or a write of several bytes moves one). WITHHELD_UNTIL has a letter for each kind of withholding: 'o' that one alone,
  * 'w' that one and all after it up to the next write to standard output, 'e' that one and all after it.
  *
- * With WITHHELD_FROM a number, that one is withheld in a single run. With WITHHELD_AFTER a text the process is forked
- * where it first writes that text to standard output, or from its start where the text is empty, for the first one, the
- * second, and so on until a run meets none. With WITHHELD_CALL nothing is withheld behind the next write to standard
- * output. Each run reads the file WITHHELD_INPUT, which is the standard input, from where that was read up to. To the file
- * WITHHELD_TOLD a line is written for each run: the kind, the number, the exit status or the signal as a negative number, whether the
- * run met it, and how many bytes it wrote to standard output, which follow.
+ * With WITHHELD_AFTER a text the process is forked where it first writes that text to standard output, or from its start
+ * where the text is empty, for the first one, the second, and so on until a run meets none. With WITHHELD_CALL nothing is
+ * withheld behind the next write to standard output. Each run reads the file WITHHELD_INPUT, which is the standard input,
+ * from where that was read up to, and finds the files WITHHELD_KEPT, whose names a colon parts, as the first one found
+ * them. To the file WITHHELD_TOLD a line is written for each run: the kind, the number, the exit status or the signal as
+ * a negative number, whether the run met what was withheld, and how many bytes it wrote to standard output and to those
+ * files, which follow.
  */
 #define _GNU_SOURCE
 #include <dlfcn.h>
@@ -44,6 +45,16 @@ static int is_withheld(char asked) {
     *met = 1;
     return 1;
 }
+
+#define MOST_FILES 3
+#define MOST_BYTES 65536
+
+/* files of up to three names, and an end */
+static struct kept {
+    const char *path;
+    long size;
+    char bytes[MOST_BYTES];
+} kept[MOST_FILES + 1];
 
 static void fork_each(void);
 
@@ -101,14 +112,42 @@ ssize_t write(int fd, const void *bytes, size_t size) {
     return written;
 }
 
+/* Reads a file from its beginning. */
+static long bytes_of(int file, char *bytes) {
+    long size = 0, here;
+    lseek(file, 0, SEEK_SET);
+    while ((here = NEXT(read)(file, bytes + size, MOST_BYTES - size)) > 0) size += here;
+    close(file);
+    return size;
+}
+
+static void remember(char *paths) {
+    struct kept *file = kept;
+    for (char *path = strtok(paths, ":"); path != NULL; path = strtok(NULL, ":"), file++) {
+        file->path = path;
+        file->size = bytes_of(open(path, O_RDONLY), file->bytes);
+    }
+}
+
+static void restore(void) {
+    for (struct kept *file = kept; file->path != NULL; file++) {
+        int written = open(file->path, O_WRONLY | O_TRUNC);
+        if (NEXT(write)(written, file->bytes, file->size) != file->size) abort();
+        close(written);
+    }
+}
+
 /* Writes what came of a run. */
 static void tell(FILE *told, int status, int output) {
-    char bytes[4096];
-    long size = lseek(output, 0, SEEK_END), here;
-    fprintf(told, "%c %ld %d %d %ld\n", until, from, WIFEXITED(status) ? WEXITSTATUS(status) : -WTERMSIG(status), *met, size);
-    lseek(output, 0, SEEK_SET);
-    while ((here = NEXT(read)(output, bytes, sizeof bytes)) > 0) fwrite(bytes, 1, here, told);
-    close(output);
+    static char bytes[MOST_FILES + 1][MOST_BYTES];
+    long sizes[MOST_FILES + 1] = {bytes_of(output, bytes[0])};
+    fprintf(told, "%c %ld %d %d %ld", until, from, WIFEXITED(status) ? WEXITSTATUS(status) : -WTERMSIG(status), *met, sizes[0]);
+    for (int n = 0; kept[n].path != NULL; n++) {
+        sizes[n + 1] = bytes_of(open(kept[n].path, O_RDONLY), bytes[n + 1]);
+        fprintf(told, " %ld", sizes[n + 1]);
+    }
+    fprintf(told, "\n");
+    for (int n = 0; n <= MOST_FILES; n++) fwrite(bytes[n], 1, sizes[n], told);
     fflush(told);
 }
 
@@ -117,6 +156,7 @@ static int is_forked(FILE *told) {
     int status, output = memfd_create("output", 0);
     off_t read_so_far = lseek(0, 0, SEEK_CUR);
     *met = 0;
+    restore();
     pid_t run = fork();
     if (run == 0) {
         /* (an input that is shared would be read on by each run) */
@@ -135,6 +175,8 @@ static int is_forked(FILE *told) {
 
 static void fork_each(void) {
     FILE *told = fopen(getenv("WITHHELD_TOLD"), "w");
+    char *paths = getenv("WITHHELD_KEPT");
+    if (paths != NULL) remember(paths);
     after = NULL;
     for (const char *kind = getenv("WITHHELD_UNTIL"); *kind != 0; kind++) {
         until = *kind;
@@ -148,26 +190,11 @@ static void fork_each(void) {
 }
 
 __attribute__((constructor)) static void begin(void) {
-    const char *word = getenv("WITHHELD"), *number = getenv("WITHHELD_FROM");
-    met = mmap(NULL, sizeof *met, PROT_READ | PROT_WRITE, MAP_SHARED | MAP_ANONYMOUS, -1, 0);
+    const char *word = getenv("WITHHELD");
     if (word == NULL) return;
     what = *word;
     is_call = getenv("WITHHELD_CALL") != NULL;
     after = getenv("WITHHELD_AFTER");
-    if (number != NULL) {
-        from = atol(number);
-        until = *getenv("WITHHELD_UNTIL");
-        is_on = 1;
-    } else if (after != NULL && *after == 0) {
-        fork_each();
-    }
-}
-
-/* Of a single run it is told whether it met what was withheld. */
-__attribute__((destructor)) static void end(void) {
-    FILE *told = getenv("WITHHELD_FROM") == NULL ? NULL : fopen(getenv("WITHHELD_TOLD"), "w");
-    if (told != NULL) {
-        fprintf(told, "%d", *met);
-        fclose(told);
-    }
+    met = mmap(NULL, sizeof *met, PROT_READ | PROT_WRITE, MAP_SHARED | MAP_ANONYMOUS, -1, 0);
+    if (*after == 0) fork_each();
 }
