@@ -20,6 +20,9 @@ PARIS = "INSERT S RELATION { TUPLE { SNO 'S1', STATUS 20, CITY 'Paris' } };"
 SHIPMENT = "INSERT SP RELATION { TUPLE { SNO 'S1', PNO 'P1', QTY 200 } };"
 SECOND_SHIPMENT = "INSERT SP RELATION { TUPLE { SNO 'S1', PNO 'P2', QTY 100 } };"
 BOUND = "MOST := RELATION { TUPLE { N 5 } };"
+TUPLES = ", ".join(f"TUPLE {{ N {n} }}" for n in range(1, 301))
+DEAR_BOUND = f"MOST := EXTEND TABLE_DEE ADD ( COUNT ( RELATION {{ {TUPLES} }} ) - 295 AS N );"
+NO_SHIPMENTS = "DELETE SP;"
 NO_BOUND = "MOST := RELATION { TUPLE { N 0 } };"
 TO_LONDON = "UPDATE S WHERE SNO = 'S1' ( CITY := 'London' );"
 AWAY = "DELETE S WHERE SNO = 'S1';"
@@ -67,10 +70,10 @@ class State(NamedTuple):
         return "".join(f"{it}\n" for it in [*lines, f"held {len(self.entries)}"])
 
     def relvars(self):
-        suppliers = [(city, f"TUPLE {{ CITY '{city}', SNO '{sno}', STATUS {status} }}") for city, sno, status in self.suppliers]
-        yield "S", [shown for _, shown in suppliers]
+        shown = [f"TUPLE {{ CITY '{city}', SNO '{sno}', STATUS {status} }}" for city, sno, status in self.suppliers]
+        yield "S", shown
         yield "SP", [f"TUPLE {{ PNO '{pno}', QTY {qty}, SNO '{sno}' }}" for pno, qty, sno in self.shipments]
-        yield "LS", [shown for city, shown in suppliers if city == "London"]
+        yield "LS", [it for it, (city, _, _) in zip(shown, self.suppliers) if city == "London"]
         yield "MOST", [f"TUPLE {{ N {n} }}" for n in self.most]
 
     def log(self):
@@ -150,7 +153,12 @@ def replayed(name, late, outcome, suppliers=(SUPPLIER,), shipped=(SHIPPED,)):
     supplied, found = Entry(1, 2, 1, LONDON), Entry(2, 1, 1, late, outcome)
     shipment, bound = Entry(2, 2, 2, SHIPMENT), Entry(3, 2, 3, BOUND)
     alone = tuple(it for it in shipped if it != SHIPPED)
-    lines = ((f"2: {LONDON}", "1.2 done"), (".meet 1 2", "met 1 2 fresh 1 0"), (f"1: {late}", f"2.1 {outcome}"), (f"2: {SHIPMENT}", "2.2 done"))
+    lines = (
+        (f"2: {LONDON}", "1.2 done"),
+        (".meet 1 2", "met 1 2 fresh 1 0"),
+        (f"1: {late}", f"2.1 {outcome}"),
+        (f"2: {SHIPMENT}", "2.2 done"),
+    )
     return Example(
         f"replay counts: a late statement {name}",
         State(suppliers, alone, (), (supplied, found)),
@@ -165,7 +173,12 @@ def replayed(name, late, outcome, suppliers=(SUPPLIER,), shipped=(SHIPPED,)):
 def many(name, late, own, statement, first, before, refused, met, outcome):
     """Many tuples at two sites, of which each changes some; the second's statement is refused there."""
     filled, found, mine = Entry(1, 1, 1, MANY), Entry(2, 1, 2, late), Entry(2, 2, 1, own)
-    lines = ((f"1: {MANY}", "1.1 done"), (".meet 1 2", "met 1 2 fresh 0 1"), (f"1: {late}", "2.1 done"), (f"2: {own}", "2.2 done"))
+    lines = (
+        (f"1: {MANY}", "1.1 done"),
+        (".meet 1 2", "met 1 2 fresh 0 1"),
+        (f"1: {late}", "2.1 done"),
+        (f"2: {own}", "2.2 done"),
+    )
     return Example(
         f"many tuples: {name}",
         State(*first, entries=(filled, found)),
@@ -246,8 +259,12 @@ EXAMPLES = [
 # ---- bytes, by docs/FORMATS.md
 
 
+def frame(entry):
+    return b"E" + struct.pack(">HIQH", entry.site, entry.seq, entry.clock, len(entry.text)) + entry.text.encode()
+
+
 def frames(entries):
-    return b"".join(b"E" + struct.pack(">HIQH", it.site, it.seq, it.clock, len(it.text)) + it.text.encode() for it in entries)
+    return b"".join(map(frame, entries))
 
 
 def greeting_length(state):

@@ -4,13 +4,13 @@
  * or a write of several bytes moves one). WITHHELD_UNTIL has a letter for each kind of withholding: 'o' that one alone,
  * 'w' that one and all after it up to the next write to standard output, 'e' that one and all after it.
  *
- * With WITHHELD_AFTER a text the process is forked where it first writes that text to standard output, or from its start
- * where the text is empty, for the first one, the second, and so on until a run meets none. With WITHHELD_CALL nothing is
- * withheld behind the next write to standard output. Each run reads the file WITHHELD_INPUT, which is the standard input,
- * from where that was read up to, and finds the files WITHHELD_KEPT, whose names a colon parts, as the first one found
- * them. To the file WITHHELD_TOLD a line is written for each run: the kind, the number, the exit status or the signal as
- * a negative number, whether the run met what was withheld, and how many bytes it wrote to standard output and to those
- * files, which follow.
+ * With WITHHELD_AFTER a text the process is forked where it first writes that text to standard output, or from its
+ * start where the text is empty, for the first one, the second, and so on until a run meets none. With WITHHELD_CALL
+ * nothing is withheld behind the next write to standard output. Each run reads the file WITHHELD_INPUT, which is the
+ * standard input, from where that was read up to, and finds the files WITHHELD_KEPT, whose names a colon parts, as the
+ * first one found them. To the file WITHHELD_TOLD a line is written for each run: the kind, the number, the exit status
+ * or the signal as a negative number, whether the run met what was withheld, and how many bytes it wrote to standard
+ * output and how many those files have, which follow.
  */
 #define _GNU_SOURCE
 #include <dlfcn.h>
@@ -141,7 +141,8 @@ static void restore(void) {
 static void tell(FILE *told, int status, int output) {
     static char bytes[MOST_FILES + 1][MOST_BYTES];
     long sizes[MOST_FILES + 1] = {bytes_of(output, bytes[0])};
-    fprintf(told, "%c %ld %d %d %ld", until, from, WIFEXITED(status) ? WEXITSTATUS(status) : -WTERMSIG(status), *met, sizes[0]);
+    int end = WIFEXITED(status) ? WEXITSTATUS(status) : -WTERMSIG(status);
+    fprintf(told, "%c %ld %d %d %ld", until, from, end, *met, sizes[0]);
     for (int n = 0; kept[n].path != NULL; n++) {
         sizes[n + 1] = bytes_of(open(kept[n].path, O_RDONLY), bytes[n + 1]);
         fprintf(told, " %ld", sizes[n + 1]);
