@@ -48,7 +48,7 @@ class Withholding:
     def each(self, words, text, what, kinds, after="", call=False, kept=()):
         """What the program writes up to this text, what it tells on standard error, and the runs from there on, for
         each time of each kind until a run does not come that far. With call, nothing is withheld behind the next
-        write. Each run begins with the kept files as they are."""
+        write. Each run begins with the kept files as they are. There are none where the program ended otherwise."""
         told, path = self.file(), self.file()
         with open(path, "w", encoding="utf-8") as it:
             it.write(text)
@@ -64,4 +64,6 @@ class Withholding:
                 runs = runs_in(it.read())
             os.remove(told)
         os.remove(path)
-        return ran.stdout.decode(errors="replace"), ran.stderr.decode(errors="replace"), runs
+        # (each kind ends with a run that meets nothing: runs that were cut off count for nothing)
+        is_whole = [it.kind for it in runs if not it.met] == list(kinds)
+        return ran.stdout.decode(errors="replace"), ran.stderr.decode(errors="replace"), runs if is_whole else []
