@@ -4,13 +4,13 @@
  * or a write of several bytes moves one). WITHHELD_UNTIL has a letter for each kind of withholding: 'o' that one alone,
  * 'w' that one and all after it up to the next write to standard output, 'e' that one and all after it.
  *
- * With WITHHELD_AFTER a text the process is forked where it first writes that text to standard output, or from its
- * start where the text is empty, for the first one, the second, and so on until a run meets none. With WITHHELD_CALL
- * nothing is withheld behind the next write to standard output. Each run reads the file WITHHELD_INPUT, which is the
- * standard input, from where that was read up to, and finds the files WITHHELD_KEPT, whose names a colon parts, as the
- * first one found them. To the file WITHHELD_TOLD a line is written for each run: the kind, the number, the exit status
- * or the signal as a negative number, whether the run met what was withheld, and how many bytes it wrote to standard
- * output and how many those files have, which follow.
+ * The process is forked where it first writes the text WITHHELD_AFTER to standard output, or behind so many writes as
+ * WITHHELD_WRITES says, for the first one, the second, and so on until a run meets none. With WITHHELD_CALL nothing is
+ * withheld behind the next write to standard output. Each run reads the file WITHHELD_INPUT, which is the standard input,
+ * from where that was read up to, and finds the files WITHHELD_KEPT, whose names a colon parts, as the first one found
+ * them. To the file WITHHELD_TOLD a line is written for each run: the kind, the number, the exit status or the signal as
+ * a negative number, whether the run met what was withheld, and how many bytes it wrote to standard output and how many
+ * those files have, which follow.
  */
 #define _GNU_SOURCE
 #include <dlfcn.h>
@@ -34,7 +34,9 @@
 static char what, until;
 static long from, count;
 static int is_on, is_over, is_call;
+/* behind what the process is forked: a text, or so many writes */
 static const char *after;
+static long writes;
 /* whether the run met what is withheld: shared with the process that forks */
 static int *met;
 
@@ -98,7 +100,8 @@ int fdatasync(int fd) {
 
 /* Whether the process is to be forked behind these bytes. */
 static int is_mark(const void *bytes, size_t size) {
-    return after != NULL && size == strlen(after) && memcmp(bytes, after, size) == 0;
+    writes -= 1;
+    return writes == 0 || (after != NULL && size == strlen(after) && memcmp(bytes, after, size) == 0);
 }
 
 ssize_t write(int fd, const void *bytes, size_t size) {
@@ -191,11 +194,12 @@ static void fork_each(void) {
 }
 
 __attribute__((constructor)) static void begin(void) {
-    const char *word = getenv("WITHHELD");
+    const char *word = getenv("WITHHELD"), *number = getenv("WITHHELD_WRITES");
     if (word == NULL) return;
     what = *word;
     is_call = getenv("WITHHELD_CALL") != NULL;
     after = getenv("WITHHELD_AFTER");
     met = mmap(NULL, sizeof *met, PROT_READ | PROT_WRITE, MAP_SHARED | MAP_ANONYMOUS, -1, 0);
-    if (*after == 0) fork_each();
+    writes = number == NULL ? -1 : atol(number);
+    if (writes == 0) fork_each();
 }

@@ -45,15 +45,17 @@ class Withholding:
     def file(self):
         return f"{self.room}/{next(self.files)}"
 
-    def each(self, words, text, what, kinds, after="", call=False, kept=()):
-        """What the program writes up to this text, what it tells on standard error, and the runs from there on, for
-        each time of each kind until a run does not come that far. With call, nothing is withheld behind the next
-        write. Each run begins with the kept files as they are. There are none where the program ended otherwise."""
+    def each(self, words, text, what, kinds, after=0, call=False, kept=()):
+        """What the program writes up to a text, or by so many writes, what it tells on standard error, and the runs
+        from there on, for each time of each kind until a run does not come that far. With call, nothing is withheld
+        behind the next write. Each run begins with the kept files as they are. There are none where the program ended
+        otherwise."""
         told, path = self.file(), self.file()
         with open(path, "w", encoding="utf-8") as it:
             it.write(text)
         environment = {"LD_PRELOAD": self.library, "WITHHELD_TOLD": told, "WITHHELD_INPUT": path}
-        environment |= {"WITHHELD": what, "WITHHELD_UNTIL": kinds, "WITHHELD_AFTER": after}
+        environment |= {"WITHHELD": what, "WITHHELD_UNTIL": kinds}
+        environment |= {"WITHHELD_WRITES": str(after)} if isinstance(after, int) else {"WITHHELD_AFTER": after}
         environment |= {"WITHHELD_CALL": "1"} if call else {}
         environment |= {"WITHHELD_KEPT": ":".join(kept)} if kept else {}
         with open(path, "rb") as it:
