@@ -6,11 +6,11 @@
  *
  * The process is forked where it first writes the text WITHHELD_AFTER to standard output, or behind so many writes as
  * WITHHELD_WRITES says, for the first one, the second, and so on until a run meets none. With WITHHELD_CALL nothing is
- * withheld behind the next write to standard output. Each run reads the file WITHHELD_INPUT, which is the standard input,
- * from where that was read up to, and finds the files WITHHELD_KEPT, whose names a colon parts, as the first one found
- * them. To the file WITHHELD_TOLD a line is written for each run: the kind, the number, the exit status or the signal as
- * a negative number, whether the run met what was withheld, and how many bytes it wrote to standard output and how many
- * those files have, which follow.
+ * withheld behind the next write to standard output. Each run reads the file WITHHELD_INPUT, which is the standard
+ * input, from where that was read up to, and finds the files WITHHELD_KEPT, whose names a colon parts, as the first one
+ * found them. To the file WITHHELD_TOLD a line is written for each run: the kind, the number, the exit status or the
+ * signal as a negative number, whether the run met what was withheld, and how many bytes it wrote to standard output
+ * and how many those files have, which follow.
  */
 #define _GNU_SOURCE
 #include <dlfcn.h>
