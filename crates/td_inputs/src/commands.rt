@@ -19,10 +19,7 @@ pub enum Command<'a> {
     Listing,
     Vector,
     Read(&'a str),
-    Import {
-        file: &'a str,
-        relvar: &'a str,
-    },
+    Import { file: &'a str, relvar: &'a str },
     Dump(&'a str),
     Serve(&'a str),
     Call(&'a str),

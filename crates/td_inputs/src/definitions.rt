@@ -57,7 +57,10 @@ fn is_in_word(byte: &u8) -> bool {
 // The first word of a text and what is behind it.
 fn word(text: &[u8]) -> (&[u8], &[u8]) {
     let text = without_blanks(text);
-    let end = text.iter().position(|byte| !is_in_word(byte)).unwrap_or(text.len());
+    let end = text
+        .iter()
+        .position(|byte| !is_in_word(byte))
+        .unwrap_or(text.len());
     text.split_at_checked(end).unwrap_or((text, b"".as_slice()))
 }
 
@@ -73,7 +76,10 @@ pub fn script_front(bytes: &[u8]) -> (&[u8], &[u8]) {
     let mut rest = bytes;
     let mut before: usize = 0;
     for _ in 0..bytes.len() {
-        let end = rest.iter().position(|byte| *byte == b'\n').unwrap_or(rest.len());
+        let end = rest
+            .iter()
+            .position(|byte| *byte == b'\n')
+            .unwrap_or(rest.len());
         let (line, behind) = rest.split_at_checked(end).unwrap_or((rest, b"".as_slice()));
         let behind = behind.strip_prefix(b"\n".as_slice()).unwrap_or(behind);
         if line.strip_suffix(b"\r".as_slice()).unwrap_or(line) == b".begin".as_slice() {
