@@ -3,6 +3,15 @@
 // The most brackets that are open at once.
 const MOST_BRACKETS: u32 = 64;
 
+/// What a text is to be.
+#[derive(Clone, Copy, Debug, PartialEq, Eq)]
+pub enum Reading {
+    Statement,
+    Query,
+    /// Definitions, each of which ends with a `;`.
+    Script,
+}
+
 #[derive(Clone, Copy, PartialEq, Eq)]
 enum Inside {
     Text,
@@ -14,11 +23,13 @@ enum Inside {
 // The brackets that are open and what a walk along a text is inside of.
 #[derive(Clone, Copy)]
 struct Walk {
+    reading: Reading,
     inside: Inside,
     // A bit for each open bracket, the last one least: whether it is a brace.
     braces: u64,
     depth: u32,
     passes: bool,
+    // Whether the last byte that counts is a `;`.
     is_behind_end: bool,
     // Behind the last byte that is no blank and in no comment.
     end: usize,
@@ -33,8 +44,9 @@ fn bit(is_brace: bool) -> u64 {
 }
 
 impl Walk {
-    fn new() -> Walk {
+    fn new(reading: Reading) -> Walk {
         Walk {
+            reading,
             inside: Inside::Text,
             braces: 0,
             depth: 0,
@@ -72,9 +84,10 @@ impl Walk {
         if byte.is_ascii_whitespace() {
             return true;
         }
-        if self.is_behind_end {
+        if self.is_behind_end && self.reading == Reading::Statement {
             return false;
         }
+        self.is_behind_end = byte == b';';
         self.end = at.saturating_add(1);
         match byte {
             b'(' => self.open(false),
@@ -85,10 +98,7 @@ impl Walk {
                 self.inside = Inside::Quote(at);
                 true
             }
-            b';' => {
-                self.is_behind_end = true;
-                self.depth == 0
-            }
+            b';' => self.depth == 0 && self.reading != Reading::Query,
             _ => is_mark(byte),
         }
     }
@@ -133,16 +143,18 @@ impl Walk {
         match self.inside {
             Inside::Comment(begin) | Inside::Quote(begin) => Some(begin),
             Inside::Text if self.depth > 0 => Some(self.end),
+            Inside::Text if self.reading != Reading::Query && !self.is_behind_end => Some(self.end),
             Inside::Text => None,
         }
     }
 }
 
-/// The place of the first byte that fits no statement, whatever its words: a quote or a comment that is not closed, a
-/// bracket that closes none of its kind, a byte of no word, what stands behind the `;`; or the end of the text, where a
-/// bracket is open. A text without such a place may still have no reading. It costs the length of the text.
-pub fn blemish_in(text: &[u8]) -> Option<usize> {
-    let mut walk = Walk::new();
+/// The place of the first byte that fits no such text, whatever its words: a quote or a comment that is not closed, a
+/// bracket that closes none of its kind, a byte of no word, a `;` where none stands, what is behind that of a statement;
+/// or the end of the text, where a bracket is open or a `;` is wanting. A text without such a place may still have no
+/// reading. It costs the length of the text.
+pub fn blemish_in(reading: Reading, text: &[u8]) -> Option<usize> {
+    let mut walk = Walk::new(reading);
     for (at, byte) in text.iter().enumerate() {
         let place = walk.step(at, *byte, text.get(at.saturating_add(1)).copied());
         if place.is_some() {

@@ -6,7 +6,7 @@ pub mod commands;
 pub mod definitions;
 pub mod scan;
 
-pub use blemishes::blemish_in;
+pub use blemishes::{Reading, blemish_in};
 pub use commands::{Command, Mode, command_of};
 pub use definitions::{Defined, defined_by, definition_at, script_front};
 pub use scan::{Scan, Standing};

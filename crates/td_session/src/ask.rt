@@ -3,7 +3,7 @@
 use crate::places::fault_text;
 use crate::wording::{BROKEN, NO_MEMORY, raise_words};
 use std::alloc::{AllocError, Global};
-use td_inputs::Mode;
+use td_inputs::{Mode, Reading};
 use td_listings::relation_table as csv_table;
 use td_relations::Relation;
 use td_story::{AskError, Asked, MOST_BYTES, Replica};
@@ -17,7 +17,12 @@ fn unread(alloc: Global, text: &str) -> Result<String, AllocError> {
             "fault syntax: a query has at most {MOST_BYTES} bytes, and this one has {bytes}\n"
         );
     }
-    fault_text(alloc, "fault syntax: this is no query\n", text)
+    fault_text(
+        alloc,
+        "fault syntax: this is no query\n",
+        Reading::Query,
+        text,
+    )
 }
 
 fn not_asked(alloc: Global, text: &str, error: AskError) -> Result<String, AllocError> {

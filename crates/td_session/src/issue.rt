@@ -3,6 +3,7 @@
 use crate::places::fault_text;
 use crate::wording::{BROKEN, NO_MEMORY, push_outcome};
 use std::alloc::{AllocError, Global};
+use td_inputs::Reading;
 use td_listings::show_stamp;
 use td_story::{IssueError, Issued, MOST_BYTES, Meter, Replica};
 
@@ -26,7 +27,12 @@ fn unread(alloc: Global, text: &str) -> Result<String, AllocError> {
         let words = "fault syntax: definitions stand in the script and cannot be changed later\n";
         return String::from_str(alloc, words);
     }
-    fault_text(alloc, "fault syntax: this is no statement\n", text)
+    fault_text(
+        alloc,
+        "fault syntax: this is no statement\n",
+        Reading::Statement,
+        text,
+    )
 }
 
 /// Why a statement is not issued.

@@ -4,7 +4,7 @@ use crate::places::fault_text;
 use crate::wording::raise_words;
 use std::alloc::{AllocError, Global};
 use std::str;
-use td_inputs::script_front;
+use td_inputs::{Reading, script_front};
 use td_story::{BrokenTest, OpenError, ScriptError};
 
 /// The most bytes of a script.
@@ -82,6 +82,7 @@ fn refused_words(alloc: Global, script: &str, error: &ScriptError) -> Result<Str
         ScriptError::Syntax => fault_text(
             alloc,
             "fault script syntax: the script is no list of definitions\n",
+            Reading::Script,
             script,
         ),
         ScriptError::IllTyped => String::from_str(

@@ -1,7 +1,7 @@
 //! Where a text stops being one of the language.
 
 use std::alloc::{AllocError, Global};
-use td_inputs::blemish_in;
+use td_inputs::{Reading, blemish_in};
 use unicode_width::UnicodeWidthStr;
 
 // The line as a terminal shows it, with a blank for each character that would move the cursor.
@@ -34,9 +34,14 @@ pub fn push_place(out: &mut String, text: &str, at: usize) -> Result<(), AllocEr
 }
 
 /// What is said of a text that has no reading, with the place where that is seen.
-pub fn fault_text(alloc: Global, words: &str, text: &str) -> Result<String, AllocError> {
+pub fn fault_text(
+    alloc: Global,
+    words: &str,
+    reading: Reading,
+    text: &str,
+) -> Result<String, AllocError> {
     let mut out = String::from_str(alloc, words)?;
-    if let Some(at) = blemish_in(text.as_bytes()) {
+    if let Some(at) = blemish_in(reading, text.as_bytes()) {
         push_place(&mut out, text, at)?;
     }
     Ok(out)
