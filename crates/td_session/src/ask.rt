@@ -1,7 +1,7 @@
 //! Queries that are asked.
 
 use crate::places::fault_text;
-use crate::wording::{BROKEN, NO_MEMORY, raise_words};
+use crate::wording::{BROKEN, UNCHANGED, raise_words};
 use std::alloc::{AllocError, Global};
 use td_inputs::{Mode, Reading};
 use td_listings::relation_table as csv_table;
@@ -35,7 +35,7 @@ fn not_asked(alloc: Global, text: &str, error: AskError) -> Result<String, Alloc
                 "fault type: a name that is not there, or a type that does not fit\n",
             )
         }
-        AskError::OutOfMemory => String::from_str(alloc, NO_MEMORY),
+        AskError::OutOfMemory => String::from_str(alloc, UNCHANGED),
     }
 }
 

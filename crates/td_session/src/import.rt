@@ -81,16 +81,31 @@ fn refused(alloc: Global, issued: &Issued) -> Result<String, AllocError> {
     Ok(out)
 }
 
-fn imported(alloc: Global, progress: &Progress) -> Result<String, AllocError> {
-    let rows = progress.rows;
-    let statements = progress.statements;
-    let mut out = format!(in alloc; "imported {rows} rows by {statements} statements: ")?;
-    if let (Some(first), Some(last)) = (&progress.first, &progress.last) {
-        show_stamp(&mut out, first)?;
-        out.push_str(" to ")?;
-        show_stamp(&mut out, last)?;
+fn counted(alloc: Global, count: usize, what: &str) -> Result<String, AllocError> {
+    if count == 1 {
+        return format!(in alloc; "1 {what}");
     }
-    out.push_str("\n")?;
+    format!(in alloc; "{count} {what}s")
+}
+
+fn push_stamps(out: &mut String, progress: &Progress) -> Result<(), AllocError> {
+    if let Some(first) = &progress.first {
+        show_stamp(out, first)?;
+    }
+    if let Some(last) = &progress.last
+        && progress.statements > 1
+    {
+        out.push_str(" to ")?;
+        show_stamp(out, last)?;
+    }
+    out.push_str("\n")
+}
+
+fn imported(alloc: Global, progress: &Progress) -> Result<String, AllocError> {
+    let rows = counted(alloc, progress.rows, "row")?;
+    let statements = counted(alloc, progress.statements, "statement")?;
+    let mut out = format!(in alloc; "imported {rows} by {statements}: ")?;
+    push_stamps(&mut out, progress)?;
     Ok(out)
 }
 

@@ -1,7 +1,7 @@
 //! Statements that are issued.
 
 use crate::places::fault_text;
-use crate::wording::{BROKEN, NO_MEMORY, push_outcome};
+use crate::wording::{BROKEN, UNCHANGED, push_outcome};
 use std::alloc::{AllocError, Global};
 use td_inputs::Reading;
 use td_listings::show_stamp;
@@ -45,7 +45,7 @@ pub fn not_issued(alloc: Global, text: &str, error: IssueError) -> Result<String
         }
         IssueError::ClockEnd => "fault clock: this site has no numbers left\n",
         IssueError::Full => "fault full: this site holds as many statements as its limit says\n",
-        IssueError::OutOfMemory => NO_MEMORY,
+        IssueError::OutOfMemory => UNCHANGED,
         IssueError::JournalWrite => {
             "fault journal: the journal cannot be written; end the program, and see whether the disk is full\n"
         }

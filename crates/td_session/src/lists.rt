@@ -1,6 +1,6 @@
 //! What a site holds.
 
-use crate::wording::{BROKEN, NO_MEMORY};
+use crate::wording::{BROKEN, UNCHANGED};
 use std::alloc::{AllocError, Global};
 use td_headings::Catalogue;
 use td_listings::{ListError, log_text, vector_text};
@@ -9,7 +9,7 @@ use td_story::Replica;
 fn not_listed(alloc: Global, error: ListError) -> Result<String, AllocError> {
     match error {
         ListError::Broken => String::from_str(alloc, BROKEN),
-        ListError::OutOfMemory => String::from_str(alloc, NO_MEMORY),
+        ListError::OutOfMemory => String::from_str(alloc, UNCHANGED),
     }
 }
 

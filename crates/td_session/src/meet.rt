@@ -1,6 +1,6 @@
 //! Meetings with sites of other programs.
 
-use crate::wording::{BROKEN, NO_MEMORY};
+use crate::wording::{BROKEN, NO_MEMORY, UNCHANGED};
 use std::alloc::{AllocError, Global};
 use std::net::SocketAddr;
 use td_answers::{LinkError, Links};
@@ -20,7 +20,7 @@ fn not_linked(alloc: Global, error: LinkError) -> Result<String, AllocError> {
                 "fault net: the address cannot be reached, or cannot be served at\n",
             )
         }
-        LinkError::OutOfMemory => String::from_str(alloc, NO_MEMORY),
+        LinkError::OutOfMemory => String::from_str(alloc, UNCHANGED),
     }
 }
 
@@ -58,7 +58,7 @@ fn take_words(alloc: Global, error: TakeError) -> Result<String, AllocError> {
             );
         }
         TakeError::Full => "fault full: this site would hold more statements than its limit says\n",
-        TakeError::OutOfMemory => NO_MEMORY,
+        TakeError::OutOfMemory => UNCHANGED,
         TakeError::JournalWrite => {
             "fault journal: the journal cannot be written; end the program, and see whether the disk is full\n"
         }
