@@ -4,7 +4,7 @@ use crate::wording::{BROKEN, NO_MEMORY, UNCHANGED};
 use std::alloc::{AllocError, Global};
 use std::net::SocketAddr;
 use td_answers::{LinkError, Links};
-use td_devices::Device;
+use td_devices::{Device, Sink, put};
 use td_frames::FrameError;
 use td_meeting::{MeetingError, answer, finish, greet, settle};
 use td_story::{Meter, Replica, TakeError, Taken};
@@ -98,17 +98,20 @@ fn met(alloc: Global, told: Result<Taken, MeetingError>) -> Result<String, Alloc
     }
 }
 
-/// Waits at the address for one site, and meets it.
-pub fn serve<R: Replica, L: Links>(
+/// Waits at the address for one site, and meets it. That it waits is told on the output of faults.
+pub fn serve<R: Replica, L: Links, F: Sink>(
     alloc: Global,
     site: &mut R,
     links: &mut L,
-    address: &str,
+    word: &str,
     meter: &mut Meter,
+    faults: &mut F,
 ) -> Result<String, AllocError> {
-    let Ok(address) = address.parse::<SocketAddr>() else {
+    let Ok(address) = word.parse::<SocketAddr>() else {
         return String::from_str(alloc, NO_ADDRESS);
     };
+    let line = format!(in alloc; "waiting at {word} for another site\n")?;
+    let _told = put(faults, line.as_bytes());
     let mut link = match links.serve(alloc, address) {
         Ok(link) => Device::link(link),
         Err(error) => return not_linked(alloc, error),

@@ -181,28 +181,6 @@ impl<'a, R: Replica + Drop, H: Files + Clock + AllocGlobal, L: Links> Shell<'a, 
         }
     }
 
-    fn meet<F: Sink>(
-        &mut self,
-        command: Command<'_>,
-        faults: &mut F,
-    ) -> Result<String, AllocError> {
-        match command {
-            Command::Serve(address) => {
-                let line = format!(in self.alloc; "waiting at {address} for another site\n")?;
-                let _told = put(faults, line.as_bytes());
-                serve(self.alloc, &mut self.site, self.links, address, self.meter)
-            }
-            Command::Call(address) => call(
-                self.alloc,
-                &mut self.site,
-                self.links,
-                address,
-                self.meter,
-            ),
-            _ => Ok(String::new(self.alloc)),
-        }
-    }
-
     // The answer to a command that is a text.
     fn answer_command<F: Sink>(
         &mut self,
@@ -220,7 +198,15 @@ impl<'a, R: Replica + Drop, H: Files + Clock + AllocGlobal, L: Links> Shell<'a, 
             Command::Read(file) => self.read(inputs, file),
             Command::Import { file, relvar } => self.import(file, relvar, faults),
             Command::Dump(file) => dump(alloc, self.host, &self.site, file),
-            Command::Serve(_) | Command::Call(_) => self.meet(command, faults),
+            Command::Serve(address) => serve(
+                alloc,
+                &mut self.site,
+                self.links,
+                address,
+                self.meter,
+                faults,
+            ),
+            Command::Call(address) => call(alloc, &mut self.site, self.links, address, self.meter),
             Command::Misused(usage) => format!(in alloc;
                 "fault command: it is written so: {usage}\n"
             ),
