@@ -35,7 +35,8 @@ fn is_same_tuple(first: &Row, second: &Row) -> bool {
     first.literals.as_slice() == second.literals.as_slice()
 }
 
-/// Refuses rows of which two have one key and are not the same tuple. It costs a search among the rows before, for each.
+/// Refuses rows of which two have one key and are not the same tuple. It costs a search among the rows before, for each
+/// row.
 pub fn check_keys(
     alloc: Global,
     heading: &Heading,

@@ -150,9 +150,9 @@ impl Walk {
 }
 
 /// The place of the first byte that fits no such text, whatever its words: a quote or a comment that is not closed, a
-/// bracket that closes none of its kind, a byte of no word, a `;` where none stands, what is behind that of a statement;
-/// or the end of the text, where a bracket is open or a `;` is wanting. A text without such a place may still have no
-/// reading. It costs the length of the text.
+/// bracket that closes none of its kind, a byte of no word, a `;` where none stands, what is behind that of a
+/// statement; or the end of the text, where a bracket is open or a `;` is wanting. A text without such a place may still
+/// have no reading. It costs the length of the text.
 pub fn blemish_in(reading: Reading, text: &[u8]) -> Option<usize> {
     let mut walk = Walk::new(reading);
     for (at, byte) in text.iter().enumerate() {

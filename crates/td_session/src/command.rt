@@ -1,5 +1,8 @@
 //! The program over its words and its streams.
 
+ghost use Rattle.std.specs.Prelude.{IfOk};
+ghost use Rattle.td_journal.specs.Reopening.{IsNew};
+
 use crate::ended::Ended;
 use crate::inputs::Inputs;
 use crate::open::{Script, no_script_words, script_in, unopened_words};
@@ -15,7 +18,7 @@ use td_answers::Links;
 use td_devices::{Sink, Source, put};
 use td_journal::{Journals, StoreError, keep_journal};
 use td_listings::script_catalogue;
-use td_story::{Meter, Opens, Replica};
+use td_story::{Meter, OpenError, Opens, Replica};
 
 // The exit status where words are refused, or the script's file cannot be read.
 const BAD_WORDS: u8 = 2;
@@ -113,6 +116,13 @@ fn unkept<F: Sink>(error: StoreError, name: &str, faults: &mut F) -> u8 {
     }
 }
 
+// A site that holds nothing, as one must that is to come back from a journal.
+fn open_new<R: Opens>(alloc: Global, script: &str, site: u16, limit: usize) -> Result<R, OpenError>
+    ensures { IfOk result (λ s. IsNew (R.seen s)) }
+{
+    R::open_script(alloc, script, site, limit)
+}
+
 // Opens the site of the script and has it come back from its journal, where it keeps one, and answers what is typed.
 fn start<
     R: Opens + Drop,
@@ -136,7 +146,7 @@ fn start<
     faults: &mut F,
 ) -> u8 {
     let Script { text, behind } = script;
-    let site = match R::open_script(alloc, text.as_str(), words.site, words.limit) {
+    let site = match open_new::<R>(alloc, text.as_str(), words.site, words.limit) {
         Ok(site) => site,
         Err(error) => {
             if let Ok(words) = unopened_words(alloc, text.as_str(), &error) {

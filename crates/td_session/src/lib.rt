@@ -1,5 +1,5 @@
-//! A person at one site: what is typed is read, answered in plain words, and relations are shown as tables. It runs over
-//! any kind of site, reader and writer, and changes a site by the calls of `Replica` alone.
+//! A person at one site: what is typed is read and answered in plain words, and relations are shown as tables. It runs
+//! over any kind of site, reader and writer, and changes a site by the calls of `Replica` alone.
 #![tactic(auto)]
 
 mod ask;
