@@ -18,7 +18,7 @@ use td_answers::Links;
 use td_devices::{Sink, Source, put};
 use td_journal::{Journals, StoreError, keep_journal};
 use td_listings::script_catalogue;
-use td_story::{Meter, OpenError, Opens, Replica};
+use td_story::{Meter, Opens, Replica};
 
 // The exit status where words are refused, or the script's file cannot be read.
 const BAD_WORDS: u8 = 2;
@@ -116,11 +116,25 @@ fn unkept<F: Sink>(error: StoreError, name: &str, faults: &mut F) -> u8 {
     }
 }
 
-// A site that holds nothing, as one must that is to come back from a journal.
-fn open_new<R: Opens>(alloc: Global, script: &str, site: u16, limit: usize) -> Result<R, OpenError>
+// A site that holds nothing, as one must that is to come back from a journal; or the status, where it is told why there
+// is none.
+fn open_new<R: Opens, F: Sink>(
+    alloc: Global,
+    words: &Words<'_>,
+    script: &str,
+    faults: &mut F,
+) -> Result<R, u8>
     ensures { IfOk result (λ s. IsNew (R.seen s)) }
 {
-    R::open_script(alloc, script, site, limit)
+    match R::open_script(alloc, script, words.site, words.limit) {
+        Ok(site) => Ok(site),
+        Err(error) => {
+            if let Ok(text) = unopened_words(alloc, script, &error) {
+                complain(faults, text.as_str());
+            }
+            Err(1)
+        }
+    }
 }
 
 // Opens the site of the script and has it come back from its journal, where it keeps one, and answers what is typed.
@@ -146,14 +160,9 @@ fn start<
     faults: &mut F,
 ) -> u8 {
     let Script { text, behind } = script;
-    let site = match open_new::<R>(alloc, text.as_str(), words.site, words.limit) {
+    let site = match open_new::<R, _>(alloc, words, text.as_str(), faults) {
         Ok(site) => site,
-        Err(error) => {
-            if let Ok(words) = unopened_words(alloc, text.as_str(), &error) {
-                complain(faults, words.as_str());
-            }
-            return 1;
-        }
+        Err(status) => return status,
     };
     let Some(prefix) = words.journal else {
         let ended = converse_at(
