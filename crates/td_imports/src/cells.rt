@@ -1,0 +1,74 @@
+//! Cells as values.
+
+use crate::error::CellFault;
+use std::alloc::{AllocError, Global};
+use std::str;
+use td_values::{Kind, Text, TypeKind, Value};
+
+/// Why a cell is not read.
+#[derive(Clone, Copy, Debug, Drop, PartialEq, Eq)]
+pub enum Unread {
+    OutOfMemory,
+    Fault(CellFault),
+}
+
+impl From<AllocError> for Unread {
+    fn from(_e: AllocError) -> Unread {
+        Unread::OutOfMemory
+    }
+}
+
+fn stands_in_no_text(byte: &u8) -> bool {
+    *byte == 0 || *byte == b'\n' || *byte == b'\r'
+}
+
+fn text_in(alloc: Global, cell: &[u8]) -> Result<Kind, Unread> {
+    let Ok(text) = str::from_utf8(cell) else {
+        return Err(Unread::Fault(CellFault::NoUtf8));
+    };
+    if cell.iter().any(stands_in_no_text) {
+        return Err(Unread::Fault(CellFault::NoText));
+    }
+    Ok(Kind::Char(Text::from_str(alloc, text)?))
+}
+
+fn integer_in(cell: &[u8]) -> Result<Kind, Unread> {
+    if cell.is_empty() {
+        return Err(Unread::Fault(CellFault::Empty));
+    }
+    match str::from_utf8(cell) {
+        Ok(text) => match text.parse::<i64>() {
+            Ok(number) => Ok(Kind::Integer(number)),
+            Err(_) => Err(Unread::Fault(CellFault::NoInteger)),
+        },
+        Err(_) => Err(Unread::Fault(CellFault::NoUtf8)),
+    }
+}
+
+fn boolean_in(cell: &[u8]) -> Result<Kind, Unread> {
+    if cell.is_empty() {
+        return Err(Unread::Fault(CellFault::Empty));
+    }
+    if cell.eq_ignore_ascii_case(b"TRUE") {
+        return Ok(Kind::Boolean(true));
+    }
+    if cell.eq_ignore_ascii_case(b"FALSE") {
+        return Ok(Kind::Boolean(false));
+    }
+    Err(Unread::Fault(CellFault::NoBoolean))
+}
+
+/// Whether cells have values of this type.
+pub fn is_taken(kind: &TypeKind) -> bool {
+    matches!(kind, TypeKind::Char | TypeKind::Integer | TypeKind::Boolean)
+}
+
+/// The value of a cell. Blanks around a number or a truth value mean nothing; those of a text stay.
+pub fn value_in(alloc: Global, kind: &TypeKind, cell: &[u8]) -> Result<Value, Unread> {
+    let kind = match kind {
+        TypeKind::Integer => integer_in(cell.trim_ascii())?,
+        TypeKind::Boolean => boolean_in(cell.trim_ascii())?,
+        _ => text_in(alloc, cell)?,
+    };
+    Ok(Value { kind })
+}

@@ -1,0 +1,92 @@
+//! Which column has the cells of which attribute.
+
+use crate::cells::is_taken;
+use crate::error::ImportFault;
+use csv::ByteRecord;
+use std::alloc::{AllocError, Global};
+use td_values::{Heading, Name, TdType, show_type};
+
+/// The bytes as a text to be told, with a blank for each character that would move the cursor.
+pub(crate) fn told(alloc: Global, bytes: &[u8]) -> Result<String, AllocError> {
+    let text = String::from_utf8_lossy(alloc, bytes)?;
+    let mut told = String::with_capacity(alloc, text.len())?;
+    for c in text.as_str().chars() {
+        told.push(if c.is_control() { ' ' } else { c })?;
+    }
+    Ok(told)
+}
+
+fn is_title(cell: &[u8], name: &Name) -> bool {
+    cell.trim_ascii() == name.as_str().as_bytes()
+}
+
+fn has_title(titles: &ByteRecord, at: usize, name: &Name) -> bool {
+    titles.get(at).is_some_and(|cell| is_title(cell, name))
+}
+
+// The column of an attribute, which one title names.
+fn column_of(alloc: Global, titles: &ByteRecord, name: &Name) -> Result<usize, ImportFault> {
+    let mut found = None;
+    for at in 0..titles.len() {
+        if has_title(titles, at, name) {
+            if found.is_some() {
+                let name = String::from_str(alloc, name.as_str())?;
+                return Err(ImportFault::RepeatedColumn { name });
+            }
+            found = Some(at);
+        }
+    }
+    match found {
+        Some(at) => Ok(at),
+        None => {
+            let name = String::from_str(alloc, name.as_str())?;
+            Err(ImportFault::MissingColumn { name })
+        }
+    }
+}
+
+fn check_title(alloc: Global, fields: &[(Name, TdType)], title: &[u8]) -> Result<(), ImportFault> {
+    if fields.iter().any(|field| is_title(title, &field.0)) {
+        return Ok(());
+    }
+    let name = told(alloc, title)?;
+    Err(ImportFault::UnknownColumn { name })
+}
+
+fn check_titles(alloc: Global, heading: &Heading, titles: &ByteRecord) -> Result<(), ImportFault> {
+    for at in 0..titles.len() {
+        if let Some(title) = titles.get(at) {
+            check_title(alloc, heading.fields(), title)?;
+        }
+    }
+    Ok(())
+}
+
+/// Refuses a heading with other types than an import takes.
+pub fn check_types(alloc: Global, heading: &Heading) -> Result<(), ImportFault> {
+    if heading.is_empty() {
+        return Err(ImportFault::NoAttributes);
+    }
+    for (name, ty) in heading.fields() {
+        if !is_taken(&ty.kind) {
+            let name = String::from_str(alloc, name.as_str())?;
+            let type_text = show_type(alloc, ty)?;
+            return Err(ImportFault::OtherType { name, type_text });
+        }
+    }
+    Ok(())
+}
+
+/// The column of each attribute, in the order of the heading: each is named once, and no other column is.
+pub fn columns_of(
+    alloc: Global,
+    heading: &Heading,
+    titles: &ByteRecord,
+) -> Result<Vec<usize>, ImportFault> {
+    check_titles(alloc, heading, titles)?;
+    let mut columns = Vec::with_capacity(alloc, heading.len())?;
+    for (name, _type) in heading.fields() {
+        columns.push(column_of(alloc, titles, name)?)?;
+    }
+    Ok(columns)
+}

@@ -1,0 +1,14 @@
+//! Comma-separated values as statements that insert them.
+#![tactic(auto)]
+
+pub mod cells;
+pub mod columns;
+pub mod error;
+pub mod keys;
+pub mod rows;
+pub mod statements;
+
+pub use error::{CellFault, ImportFault};
+pub use keys::check_keys;
+pub use rows::{Row, read_rows};
+pub use statements::{Insertion, MOST_TUPLES, insertion_of};

@@ -1,0 +1,136 @@
+//! The rows of a file, each read and checked.
+
+use crate::cells::{Unread, value_in};
+use crate::columns::{check_types, columns_of, told};
+use crate::error::{CellFault, ImportFault};
+use crate::statements::is_short;
+use csv::{ByteRecord, Error, ErrorKind, ReaderBuilder};
+use std::alloc::Global;
+use td_values::{Heading, Name, TdType, show};
+
+/// A row: the line in which it begins, and its values as the language writes them, in the order of the heading.
+#[derive(Drop)]
+pub struct Row {
+    pub line: u64,
+    pub literals: Vec<String>,
+}
+
+fn unreadable(error: &Error) -> ImportFault {
+    match error.kind() {
+        ErrorKind::OutOfMemory => ImportFault::OutOfMemory,
+        _ => ImportFault::Unreadable,
+    }
+}
+
+fn line_of(record: &ByteRecord) -> u64 {
+    match record.position() {
+        Some(position) => position.line(),
+        None => 0,
+    }
+}
+
+fn cell_fault(
+    alloc: Global,
+    line: u64,
+    name: &Name,
+    cell: &[u8],
+    fault: CellFault,
+) -> Result<ImportFault, ImportFault> {
+    Ok(ImportFault::Cell {
+        line,
+        name: String::from_str(alloc, name.as_str())?,
+        cell: told(alloc, cell)?,
+        fault,
+    })
+}
+
+fn literal_in(
+    alloc: Global,
+    field: &(Name, TdType),
+    line: u64,
+    cell: &[u8],
+) -> Result<String, ImportFault> {
+    match value_in(alloc, &field.1.kind, cell) {
+        Ok(value) => Ok(show(alloc, &value)?),
+        Err(Unread::OutOfMemory) => Err(ImportFault::OutOfMemory),
+        Err(Unread::Fault(fault)) => Err(cell_fault(alloc, line, &field.0, cell, fault)?),
+    }
+}
+
+fn row_in(
+    alloc: Global,
+    heading: &Heading,
+    columns: &[usize],
+    record: &ByteRecord,
+) -> Result<Row, ImportFault> {
+    let line = line_of(record);
+    let mut literals = Vec::with_capacity(alloc, columns.len())?;
+    for (field, column) in heading.fields().iter().zip(columns) {
+        let cell = record.get(*column).unwrap_or(b"".as_slice());
+        literals.push(literal_in(alloc, field, line, cell)?)?;
+    }
+    Ok(Row { line, literals })
+}
+
+fn checked_row(
+    alloc: Global,
+    relvar: &Name,
+    heading: &Heading,
+    columns: &[usize],
+    record: &ByteRecord,
+    wanted: usize,
+    most_bytes: usize,
+) -> Result<Row, ImportFault> {
+    if record.len() != wanted {
+        return Err(ImportFault::CellCount {
+            line: line_of(record),
+            count: record.len(),
+            wanted,
+        });
+    }
+    let row = row_in(alloc, heading, columns, record)?;
+    if !is_short(relvar, heading, &row, most_bytes) {
+        return Err(ImportFault::TooLong { line: row.line });
+    }
+    Ok(row)
+}
+
+/// The rows of a file for a relvar of this heading. Its first line names the columns, in any order. Each row is one
+/// tuple, whose INSERT has at most so many bytes. All of them are kept in memory; it costs the length of the file.
+pub fn read_rows(
+    alloc: Global,
+    relvar: &Name,
+    heading: &Heading,
+    file: &[u8],
+    most_bytes: usize,
+) -> Result<Vec<Row>, ImportFault> {
+    check_types(alloc, heading)?;
+    let reader = ReaderBuilder::new()
+        .has_headers(false)
+        .flexible(true)
+        .from_reader(alloc, file);
+    let mut records = reader.into_byte_records();
+    let titles = match records.next() {
+        Some(Ok(titles)) => titles,
+        Some(Err(error)) => return Err(unreadable(&error)),
+        None => return Err(ImportFault::NoHeader),
+    };
+    let columns = columns_of(alloc, heading, &titles)?;
+    let mut rows = Vec::new(alloc);
+    for record in records {
+        let record = match record {
+            Ok(record) => record,
+            Err(error) => return Err(unreadable(&error)),
+        };
+        rows.push(checked_row(
+            alloc,
+            relvar,
+            heading,
+            &columns,
+            &record,
+            titles.len(),
+            most_bytes,
+        )?)?;
+    }
+    Ok(rows)
+}

@@ -1,0 +1,82 @@
+//! Rows as statements.
+
+use crate::rows::Row;
+use std::alloc::{AllocError, Global};
+use td_values::{Heading, Name};
+
+/// The most tuples of one statement. A statement is refused as a whole, so one that is refused tells of few rows, and a
+/// site that takes many rows does not hold many statements.
+pub const MOST_TUPLES: usize = 200;
+
+/// A statement that inserts rows, and how many.
+#[derive(Drop)]
+pub struct Insertion {
+    pub text: String,
+    pub count: usize,
+}
+
+const FRONT: &str = "INSERT ";
+
+const OPENING: &str = " RELATION { ";
+
+const CLOSING: &str = " };";
+
+// How many bytes a row's tuple takes, with what stands between two.
+fn tuple_bytes(heading: &Heading, row: &Row) -> usize {
+    let mut bytes: usize = 12;
+    for (field, literal) in heading.fields().iter().zip(&row.literals) {
+        let more = field.0.as_str().len().saturating_add(literal.len());
+        bytes = bytes.saturating_add(more).saturating_add(3);
+    }
+    bytes
+}
+
+fn frame_bytes(relvar: &Name) -> usize {
+    relvar
+        .as_str()
+        .len()
+        .saturating_add(FRONT.len() + OPENING.len() + CLOSING.len())
+}
+
+/// Whether a statement of so many bytes has room for the row.
+pub(crate) fn is_short(relvar: &Name, heading: &Heading, row: &Row, most_bytes: usize) -> bool {
+    frame_bytes(relvar).saturating_add(tuple_bytes(heading, row)) <= most_bytes
+}
+
+fn push_tuple(text: &mut String, heading: &Heading, row: &Row) -> Result<(), AllocError> {
+    text.push_str("TUPLE {")?;
+    for (at, (field, literal)) in heading.fields().iter().zip(&row.literals).enumerate() {
+        text.push_str(if at == 0 { " " } else { ", " })?;
+        text.push_str(field.0.as_str())?;
+        text.push_str(" ")?;
+        text.push_str(literal.as_str())?;
+    }
+    text.push_str(" }")
+}
+
+/// The statement that inserts the first of these rows: as many as have room in so many bytes, and 200 at most.
+pub fn insertion_of(
+    alloc: Global,
+    relvar: &Name,
+    heading: &Heading,
+    rows: &[Row],
+    most_bytes: usize,
+) -> Result<Insertion, AllocError> {
+    let mut text = String::from_str(alloc, FRONT)?;
+    text.push_str(relvar.as_str())?;
+    text.push_str(OPENING)?;
+    let mut count: usize = 0;
+    for row in rows.iter().take(MOST_TUPLES) {
+        let more = tuple_bytes(heading, row).saturating_add(CLOSING.len());
+        if text.len().saturating_add(more) > most_bytes {
+            break;
+        }
+        if count > 0 {
+            text.push_str(", ")?;
+        }
+        push_tuple(&mut text, heading, row)?;
+        count = count.saturating_add(1);
+    }
+    text.push_str(CLOSING)?;
+    Ok(Insertion { text, count })
+}

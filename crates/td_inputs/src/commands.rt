@@ -1,0 +1,131 @@
+//! What a line with a dot in front says.
+
+/// How the relations that queries give are shown.
+#[derive(Clone, Copy, Debug, PartialEq, Eq)]
+pub enum Mode {
+    Table,
+    Csv,
+    Literal,
+}
+
+/// What a line with a dot in front says.
+#[derive(Clone, Copy, Debug, PartialEq, Eq)]
+pub enum Command<'a> {
+    Help,
+    Tables,
+    /// The definition of a name, or all of them.
+    Schema(Option<&'a str>),
+    Log,
+    Listing,
+    Vector,
+    Read(&'a str),
+    Import { file: &'a str, relvar: &'a str },
+    Dump(&'a str),
+    Serve(&'a str),
+    Call(&'a str),
+    Mode(Mode),
+    Timer(bool),
+    Quit,
+    /// The command is there, and is written so.
+    Misused(&'static str),
+    /// There is none of this name.
+    Unknown(&'a str),
+}
+
+fn without_words<'a>(command: Command<'a>, rest: &str, usage: &'static str) -> Command<'a> {
+    if rest.is_empty() {
+        command
+    } else {
+        Command::Misused(usage)
+    }
+}
+
+fn schema_in(rest: &str) -> Command<'_> {
+    if rest.is_empty() {
+        return Command::Schema(None);
+    }
+    match rest.split_once(' ') {
+        None => Command::Schema(Some(rest)),
+        Some(_) => Command::Misused(".schema [NAME]"),
+    }
+}
+
+// The relvar is the last word, so that a file's name may have blanks.
+fn import_in(rest: &str) -> Command<'_> {
+    match rest.rsplit_once(' ') {
+        Some((file, relvar)) => Command::Import {
+            file: file.trim_ascii(),
+            relvar,
+        },
+        None => Command::Misused(".import FILE RELVAR"),
+    }
+}
+
+fn mode_in(rest: &str) -> Command<'static> {
+    match rest {
+        "table" => Command::Mode(Mode::Table),
+        "csv" => Command::Mode(Mode::Csv),
+        "literal" => Command::Mode(Mode::Literal),
+        _ => Command::Misused(".mode table|csv|literal"),
+    }
+}
+
+fn timer_in(rest: &str) -> Command<'static> {
+    match rest {
+        "on" => Command::Timer(true),
+        "off" => Command::Timer(false),
+        _ => Command::Misused(".timer on|off"),
+    }
+}
+
+fn read_in(rest: &str) -> Command<'_> {
+    match rest {
+        "" => Command::Misused(".read FILE"),
+        file => Command::Read(file),
+    }
+}
+
+fn dump_in(rest: &str) -> Command<'_> {
+    match rest {
+        "" => Command::Misused(".dump FILE"),
+        file => Command::Dump(file),
+    }
+}
+
+fn serve_in(rest: &str) -> Command<'_> {
+    match rest {
+        "" => Command::Misused(".serve ADDRESS"),
+        address => Command::Serve(address),
+    }
+}
+
+fn call_in(rest: &str) -> Command<'_> {
+    match rest {
+        "" => Command::Misused(".call ADDRESS"),
+        address => Command::Call(address),
+    }
+}
+
+/// What a line says whose first byte that is no blank is a dot.
+pub fn command_of(line: &str) -> Command<'_> {
+    let line = line.trim_ascii();
+    let (word, rest) = line.split_once(' ').unwrap_or((line, ""));
+    let rest = rest.trim_ascii();
+    match word {
+        ".help" => without_words(Command::Help, rest, ".help"),
+        ".tables" => without_words(Command::Tables, rest, ".tables"),
+        ".schema" => schema_in(rest),
+        ".log" => without_words(Command::Log, rest, ".log"),
+        ".listing" => without_words(Command::Listing, rest, ".listing"),
+        ".vector" => without_words(Command::Vector, rest, ".vector"),
+        ".read" => read_in(rest),
+        ".import" => import_in(rest),
+        ".dump" => dump_in(rest),
+        ".serve" => serve_in(rest),
+        ".call" => call_in(rest),
+        ".mode" => mode_in(rest),
+        ".timer" => timer_in(rest),
+        ".quit" => without_words(Command::Quit, rest, ".quit"),
+        _ => Command::Unknown(word),
+    }
+}

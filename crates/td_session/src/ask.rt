@@ -1,0 +1,83 @@
+//! Queries that are asked.
+
+use crate::places::fault_text;
+use crate::wording::{BROKEN, UNCHANGED, raise_words};
+use std::alloc::{AllocError, Global};
+use td_inputs::{Mode, Reading};
+use td_listings::relation_table as csv_table;
+use td_relations::Relation;
+use td_story::{AskError, Asked, MOST_BYTES, Replica};
+use td_tables::relation_table;
+use td_values::{Kind, Rows, Value, show};
+
+fn unread(alloc: Global, text: &str) -> Result<String, AllocError> {
+    if text.len() > MOST_BYTES {
+        let bytes = text.len();
+        return format!(in alloc;
+            "fault syntax: a query has at most {MOST_BYTES} bytes, and this one has {bytes}\n"
+        );
+    }
+    fault_text(
+        alloc,
+        "fault syntax: this is no query\n",
+        Reading::Query,
+        text,
+    )
+}
+
+fn not_asked(alloc: Global, text: &str, error: AskError) -> Result<String, AllocError> {
+    match error {
+        AskError::Syntax => unread(alloc, text),
+        AskError::Broken => String::from_str(alloc, BROKEN),
+        AskError::IllTyped => {
+            String::from_str(
+                alloc,
+                "fault type: a name that is not there, or a type that does not fit\n",
+            )
+        }
+        AskError::OutOfMemory => String::from_str(alloc, UNCHANGED),
+    }
+}
+
+fn literal(alloc: Global, value: &Value) -> Result<String, AllocError> {
+    let mut out = show(alloc, value)?;
+    out.push_str("\n")?;
+    Ok(out)
+}
+
+fn as_csv(alloc: Global, rows: Rows) -> Result<String, AllocError> {
+    if rows.heading().is_empty() {
+        return String::from_str(alloc, "fault csv: the relation has no attributes\n");
+    }
+    let bytes = csv_table(alloc, &Relation::of(rows))?;
+    match String::from_utf8(bytes) {
+        Ok(text) => Ok(text),
+        Err(_) => Err(AllocError),
+    }
+}
+
+fn shown(alloc: Global, value: Value, mode: Mode) -> Result<String, AllocError> {
+    match (value.kind, mode) {
+        (Kind::Relation(rows), Mode::Table) => relation_table(alloc, rows.heading(), rows.tuples()),
+        (Kind::Relation(rows), Mode::Csv) => as_csv(alloc, rows),
+        (kind, _) => literal(alloc, &Value { kind }),
+    }
+}
+
+/// Asks a query and shows its value.
+pub fn ask<R: Replica>(
+    alloc: Global,
+    site: &R,
+    text: &str,
+    mode: Mode,
+) -> Result<String, AllocError> {
+    match site.ask(alloc, text) {
+        Ok(Asked::Value(value)) => shown(alloc, value, mode),
+        Ok(Asked::Raised(raise)) => {
+            let mut out = String::from_str(alloc, raise_words(raise))?;
+            out.push_str("\n")?;
+            Ok(out)
+        }
+        Err(error) => not_asked(alloc, text, error),
+    }
+}

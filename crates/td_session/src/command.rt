@@ -1,0 +1,259 @@
+//! The program over its words and its streams.
+
+ghost use Rattle.std.specs.Prelude.{IfOk};
+ghost use Rattle.td_journal.specs.Reopening.{IsNew};
+
+use crate::ended::Ended;
+use crate::inputs::Inputs;
+use crate::open::{Script, no_script_words, script_in, unopened_words};
+use crate::shell::{Shell, converse};
+use crate::words::{Words, read_words};
+use clap::Error;
+use clap::error::ErrorKind;
+use std::alloc::Global;
+use std::fs;
+use std::rt::Files;
+use std::time::Clock;
+use td_answers::Links;
+use td_devices::{Sink, Source, put};
+use td_journal::{Journals, StoreError, keep_journal};
+use td_listings::script_catalogue;
+use td_story::{Meter, Opens, Replica};
+
+// The exit status where words are refused, or the script's file cannot be read.
+const BAD_WORDS: u8 = 2;
+// The exit status where the journal cannot be used.
+const BAD_JOURNAL: u8 = 3;
+
+// Writes what is to be seen beside the answers. Where that fails too, the status is all that tells.
+fn complain<F: Sink>(faults: &mut F, text: &str) {
+    let _told = put(faults, text.as_bytes());
+}
+
+// Tells what the words asked for in place of a run, or why they are refused.
+fn tell<K: Sink, F: Sink>(alloc: Global, error: &Error, sink: &mut K, faults: &mut F) -> u8 {
+    if error.kind() == ErrorKind::OutOfMemory {
+        return 1;
+    }
+    let Ok(text) = error.to_string(alloc) else {
+        return 1;
+    };
+    if error.use_stderr() {
+        complain(faults, text.as_str());
+        return BAD_WORDS;
+    }
+    match put(sink, text.as_bytes()) {
+        Ok(()) => 0,
+        Err(_) => 1,
+    }
+}
+
+fn ended_words(ended: Ended) -> &'static str {
+    match ended {
+        Ended::OutOfMemory => "fault memory: there is not enough memory to go on\n",
+        Ended::ReadFault => "fault input: the input cannot be read\n",
+        Ended::WriteFault => "fault output: the output cannot be written\n",
+    }
+}
+
+// The lines behind the script are for a site that holds nothing yet: one that comes back has had them.
+fn first_lines<R: Replica>(alloc: Global, site: &R, behind: Vec<u8>) -> Result<Inputs, Ended> {
+    let mut inputs = Inputs::new(alloc);
+    let is_new = match site.held() {
+        Ok(held) => held.len() == 0,
+        Err(_) => false,
+    };
+    if is_new {
+        let _is_read = inputs.read_file(behind)?;
+    }
+    Ok(inputs)
+}
+
+fn converse_at<
+    R: Replica + Drop,
+    H: Files + Clock + AllocGlobal,
+    L: Links,
+    S: Source,
+    K: Sink,
+    F: Sink,
+>(
+    alloc: Global,
+    host: &H,
+    links: &mut L,
+    meter: &mut Meter,
+    site: R,
+    behind: Vec<u8>,
+    is_terminal: bool,
+    source: &mut S,
+    sink: &mut K,
+    faults: &mut F,
+) -> Result<(), Ended> {
+    let catalogue = script_catalogue(alloc, &site)?;
+    let mut inputs = first_lines(alloc, &site, behind)?;
+    let mut shell = Shell::new(alloc, host, links, meter, site, catalogue);
+    converse(&mut shell, &mut inputs, is_terminal, source, sink, faults)
+}
+
+fn end<F: Sink>(end: Result<(), Ended>, faults: &mut F) -> u8 {
+    match end {
+        Ok(()) => 0,
+        Err(ended) => {
+            complain(faults, ended_words(ended));
+            1
+        }
+    }
+}
+
+fn unkept<F: Sink>(error: StoreError, name: &str, faults: &mut F) -> u8 {
+    match error {
+        StoreError::OutOfMemory => end(Err(Ended::OutOfMemory), faults),
+        StoreError::JournalFile => {
+            complain(faults, "fault journal ");
+            complain(faults, name);
+            complain(faults, "\n");
+            BAD_JOURNAL
+        }
+    }
+}
+
+// A site that holds nothing, as one must that is to come back from a journal; or the status, where it is told why there
+// is none.
+fn open_new<R: Opens, F: Sink>(
+    alloc: Global,
+    words: &Words<'_>,
+    script: &str,
+    faults: &mut F,
+) -> Result<R, u8>
+    ensures { IfOk result (λ s. IsNew (R.seen s)) }
+{
+    match R::open_script(alloc, script, words.site, words.limit) {
+        Ok(site) => Ok(site),
+        Err(error) => {
+            if let Ok(text) = unopened_words(alloc, script, &error) {
+                complain(faults, text.as_str());
+            }
+            Err(1)
+        }
+    }
+}
+
+// Opens the site of the script and has it come back from its journal, where it keeps one, and answers what is typed.
+fn start<
+    R: Opens + Drop,
+    J: Journals,
+    H: Files + Clock + AllocGlobal,
+    L: Links,
+    S: Source,
+    K: Sink,
+    F: Sink,
+>(
+    alloc: Global,
+    words: &Words<'_>,
+    script: Script,
+    host: &H,
+    journals: &J,
+    links: &mut L,
+    meter: &mut Meter,
+    is_terminal: bool,
+    source: &mut S,
+    sink: &mut K,
+    faults: &mut F,
+) -> u8 {
+    let Script { text, behind } = script;
+    let site = match open_new::<R, _>(alloc, words, text.as_str(), faults) {
+        Ok(site) => site,
+        Err(status) => return status,
+    };
+    let Some(prefix) = words.journal else {
+        let ended = converse_at(
+            alloc,
+            host,
+            links,
+            meter,
+            site,
+            behind,
+            is_terminal,
+            source,
+            sink,
+            faults,
+        );
+        return end(ended, faults);
+    };
+    let number = words.site;
+    let Ok(name) = format!(in alloc; "{prefix}{number}.tdj") else {
+        return end(Err(Ended::OutOfMemory), faults);
+    };
+    match keep_journal(alloc, journals, &name, site, meter) {
+        Ok(site) => {
+            let ended = converse_at(
+                alloc,
+                host,
+                links,
+                meter,
+                site,
+                behind,
+                is_terminal,
+                source,
+                sink,
+                faults,
+            );
+            end(ended, faults)
+        }
+        Err(error) => unkept(error, &name, faults),
+    }
+}
+
+/// Reads the words, the first of which names the program, and the script, and answers what is typed. The answer is the
+/// exit status: 0 at `.quit`, at the end of the input and after help; 1 for a script that is refused, a stream that
+/// fails, and want of memory that ends the program; 2 for words that are refused and a script that cannot be read; 3
+/// where the journal of the site cannot be used.
+pub fn program<
+    R: Opens + Drop,
+    J: Journals,
+    H: Files + Clock + AllocGlobal,
+    L: Links,
+    S: Source,
+    K: Sink,
+    F: Sink,
+>(
+    alloc: Global,
+    words: &[String],
+    host: &H,
+    journals: &J,
+    links: &mut L,
+    meter: &mut Meter,
+    is_terminal: bool,
+    source: &mut S,
+    sink: &mut K,
+    faults: &mut F,
+) -> u8 {
+    let words = match read_words(alloc, words) {
+        Ok(words) => words,
+        Err(error) => return tell(alloc, &error, sink, faults),
+    };
+    let Ok(file) = fs::read(host, words.script) else {
+        complain(faults, "error: the script cannot be read: ");
+        complain(faults, words.script);
+        complain(faults, "\n");
+        return BAD_WORDS;
+    };
+    match script_in(alloc, &file) {
+        Ok(script) => start::<R, _, _, _, _, _, _>(
+            alloc,
+            &words,
+            script,
+            host,
+            journals,
+            links,
+            meter,
+            is_terminal,
+            source,
+            sink,
+            faults,
+        ),
+        Err(error) => {
+            complain(faults, no_script_words(error));
+            1
+        }
+    }
+}

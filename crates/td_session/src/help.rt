@@ -1,0 +1,23 @@
+//! The commands, for `.help`.
+
+/// What can be typed.
+pub const HELP: &str = "\
+A text that ends in ; is a statement, and else a query. It may go on over lines:
+a statement up to the line that ends in ;, a query until its brackets are closed.
+An empty line ends it too.
+
+  .tables            the relvars: how many tuples, kind, heading
+  .schema [NAME]     the definitions, or that of a name
+  .listing           each relvar with its tuples, and the refused statements
+  .log               each statement with what became of it
+  .vector            up to which number each site's statements are here
+  .import FILE R     inserts the rows of a CSV file, whose first line names the columns
+  .read FILE         reads lines from a file as if they were typed
+  .dump FILE         writes a script that makes this site's tables again
+  .serve ADDRESS     waits at an address for another site, and meets it
+  .call ADDRESS      meets the site that serves at an address (as 127.0.0.1:7001)
+  .mode WORD         shows relations as a table, as csv or as a literal
+  .timer on|off      tells how long each answer takes
+  .help              this page
+  .quit              ends the program
+";

@@ -1,0 +1,220 @@
+//! Files of comma-separated values that are imported.
+
+use crate::ended::Ended;
+use crate::issue::{not_issued, push_issued};
+use crate::relvars::relvar_named;
+use std::alloc::{AllocError, Global};
+use td_devices::{Sink, put};
+use td_headings::{Catalogue, Origin};
+use td_imports::{ImportFault, Row, check_keys, insertion_of, read_rows};
+use td_listings::show_stamp;
+use td_stamps::Stamp;
+use td_story::{Issued, MOST_BYTES, Meter, Outcome, Replica};
+use td_values::{Heading, Name};
+
+// From how many rows on it is told how far an import is, and after how many each time.
+const ROWS_TOLD: usize = 1_000;
+
+/// Where rows go: a relvar and its heading.
+#[derive(Clone, Copy, Drop)]
+struct Target<'a> {
+    relvar: &'a Name,
+    heading: &'a Heading,
+}
+
+/// How far an import is.
+#[derive(Drop)]
+struct Progress {
+    rows: usize,
+    statements: usize,
+    first: Option<Stamp>,
+    last: Option<Stamp>,
+}
+
+fn fault_words(alloc: Global, fault: ImportFault) -> Result<String, AllocError> {
+    let words = fault.to_string(alloc)?;
+    format!(in alloc; "fault import: {words}; nothing is imported\n")
+}
+
+fn checked_rows(
+    alloc: Global,
+    target: Target<'_>,
+    origin: Option<&Origin>,
+    file: &[u8],
+) -> Result<Vec<Row>, ImportFault> {
+    let rows = read_rows(alloc, target.relvar, target.heading, file, MOST_BYTES)?;
+    if let Some(Origin::Base(keys, _opening)) = origin {
+        for key in keys.as_slice() {
+            check_keys(alloc, target.heading, key.as_slice(), &rows)?;
+        }
+    }
+    Ok(rows)
+}
+
+fn lines_of(alloc: Global, rows: &[Row]) -> Result<String, AllocError> {
+    match (rows.first(), rows.last()) {
+        (Some(first), Some(last)) => {
+            let first = first.line;
+            let last = last.line;
+            format!(in alloc; "lines {first} to {last} of the file")
+        }
+        _ => Ok(String::new(alloc)),
+    }
+}
+
+// What is said of a statement that was refused: the rows before it are there, and those behind it are not.
+fn stopped(
+    alloc: Global,
+    progress: &Progress,
+    all: usize,
+    rows: &[Row],
+    why: &str,
+) -> Result<String, AllocError> {
+    let lines = lines_of(alloc, rows)?;
+    let imported = progress.rows;
+    format!(in alloc; "{why}\nimported {imported} of {all} rows: it stops at {lines}\n")
+}
+
+fn refused(alloc: Global, issued: &Issued) -> Result<String, AllocError> {
+    let mut out = String::new(alloc);
+    push_issued(&mut out, issued)?;
+    Ok(out)
+}
+
+fn counted(alloc: Global, count: usize, what: &str) -> Result<String, AllocError> {
+    if count == 1 {
+        return format!(in alloc; "1 {what}");
+    }
+    format!(in alloc; "{count} {what}s")
+}
+
+fn push_stamps(out: &mut String, progress: &Progress) -> Result<(), AllocError> {
+    if let Some(first) = &progress.first {
+        show_stamp(out, first)?;
+    }
+    if let Some(last) = &progress.last
+        && progress.statements > 1
+    {
+        out.push_str(" to ")?;
+        show_stamp(out, last)?;
+    }
+    out.push_str("\n")
+}
+
+fn imported(alloc: Global, progress: &Progress) -> Result<String, AllocError> {
+    let rows = counted(alloc, progress.rows, "row")?;
+    let statements = counted(alloc, progress.statements, "statement")?;
+    let mut out = format!(in alloc; "imported {rows} by {statements}: ")?;
+    push_stamps(&mut out, progress)?;
+    Ok(out)
+}
+
+// Tells on the output of faults how far a long import is. Nothing hangs on whether that is seen.
+fn tell<F: Sink>(
+    alloc: Global,
+    progress: &Progress,
+    before: usize,
+    all: usize,
+    faults: &mut F,
+) -> Result<(), AllocError> {
+    let rows = progress.rows;
+    if all > ROWS_TOLD && rows / ROWS_TOLD > before / ROWS_TOLD {
+        let line = format!(in alloc; "{rows} of {all} rows\n")?;
+        let _told = put(faults, line.as_bytes());
+    }
+    Ok(())
+}
+
+// Issues the statement of the first of these rows. The answer is why the import stops, if it does.
+fn insert_some<R: Replica>(
+    alloc: Global,
+    site: &mut R,
+    target: Target<'_>,
+    rows: &[Row],
+    progress: &mut Progress,
+    meter: &mut Meter,
+) -> Result<Option<String>, AllocError> {
+    let insertion = insertion_of(alloc, target.relvar, target.heading, rows, MOST_BYTES)?;
+    let issued = match site.issue(alloc, insertion.text.as_str(), meter) {
+        Ok(issued) => issued,
+        Err(error) => return Ok(Some(not_issued(alloc, insertion.text.as_str(), error)?)),
+    };
+    if !matches!(&issued.outcome, Outcome::Done) {
+        return Ok(Some(refused(alloc, &issued)?));
+    }
+    progress.rows = progress.rows.saturating_add(insertion.count);
+    progress.statements = progress.statements.saturating_add(1);
+    if progress.first.is_none() {
+        progress.first = Some(issued.stamp);
+    }
+    progress.last = Some(issued.stamp);
+    Ok(None)
+}
+
+fn insert_all<R: Replica, F: Sink>(
+    alloc: Global,
+    site: &mut R,
+    target: Target<'_>,
+    rows: &[Row],
+    meter: &mut Meter,
+    faults: &mut F,
+) -> Result<String, AllocError> {
+    let mut progress = Progress {
+        rows: 0,
+        statements: 0,
+        first: None,
+        last: None,
+    };
+    for _ in 0..rows.len() {
+        let before = progress.rows;
+        let Some(left) = rows.get(before..) else {
+            break;
+        };
+        if left.is_empty() {
+            break;
+        }
+        if let Some(why) = insert_some(alloc, site, target, left, &mut progress, meter)? {
+            return stopped(
+                alloc,
+                &progress,
+                rows.len(),
+                left,
+                why.as_str().trim_ascii_end(),
+            );
+        }
+        tell(alloc, &progress, before, rows.len(), faults)?;
+    }
+    imported(alloc, &progress)
+}
+
+/// Inserts the rows of a file into the relvar of this name: all rows are checked first, and then inserted by as few
+/// statements as have room for them. How far it is is told on the output of faults at more than 1,000 rows.
+pub fn import<R: Replica, F: Sink>(
+    alloc: Global,
+    catalogue: &Catalogue,
+    site: &mut R,
+    name: &str,
+    file: &[u8],
+    meter: &mut Meter,
+    faults: &mut F,
+) -> Result<String, Ended> {
+    let Some((place, relvar, heading)) = relvar_named(catalogue, name) else {
+        return Ok(format!(in alloc; "fault relvar: there is no relvar {name}\n")?);
+    };
+    let origin = catalogue.origin(place);
+    if let Some(Origin::Virtual(_)) = origin {
+        return Ok(format!(in alloc;
+            "fault relvar: {name} is virtual, and nothing is inserted into it\n"
+        )?);
+    }
+    let target = Target { relvar, heading };
+    let rows = match checked_rows(alloc, target, origin, file) {
+        Ok(rows) => rows,
+        Err(ImportFault::OutOfMemory) => return Err(Ended::OutOfMemory),
+        Err(fault) => return Ok(fault_words(alloc, fault)?),
+    };
+    if rows.is_empty() {
+        return Ok(String::from_str(alloc, "the file has no rows, and nothing is imported\n")?);
+    }
+    Ok(insert_all(alloc, site, target, &rows, meter, faults)?)
+}

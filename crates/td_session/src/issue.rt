@@ -1,0 +1,80 @@
+//! Statements that are issued.
+
+use crate::places::fault_text;
+use crate::wording::{BROKEN, UNCHANGED, push_outcome};
+use std::alloc::{AllocError, Global};
+use td_inputs::Reading;
+use td_listings::show_stamp;
+use td_story::{IssueError, Issued, MOST_BYTES, Meter, Replica};
+
+// The words that begin a definition.
+const DEFINITIONS: [&[u8]; 3] = [b"VAR", b"TYPE", b"CONSTRAINT"];
+
+fn is_definition(text: &str) -> bool {
+    let text = text.trim_ascii_start();
+    let word = text.split_once(' ').map_or(text, |parts| parts.0);
+    DEFINITIONS.iter().any(|definition| word.as_bytes().eq_ignore_ascii_case(definition))
+}
+
+fn unread(alloc: Global, text: &str) -> Result<String, AllocError> {
+    if text.len() > MOST_BYTES {
+        let bytes = text.len();
+        return format!(in alloc;
+            "fault syntax: a statement has at most {MOST_BYTES} bytes, and this one has {bytes}\n"
+        );
+    }
+    if is_definition(text) {
+        let words = "fault syntax: definitions stand in the script and cannot be changed later\n";
+        return String::from_str(alloc, words);
+    }
+    fault_text(
+        alloc,
+        "fault syntax: this is no statement\n",
+        Reading::Statement,
+        text,
+    )
+}
+
+/// Why a statement is not issued.
+pub fn not_issued(alloc: Global, text: &str, error: IssueError) -> Result<String, AllocError> {
+    let words = match error {
+        IssueError::Syntax => return unread(alloc, text),
+        IssueError::Broken => BROKEN,
+        IssueError::IllTyped => {
+            "fault type: a name that is not there, a type that does not fit, or a target that is no stored relvar\n"
+        }
+        IssueError::ClockEnd => "fault clock: this site has no numbers left\n",
+        IssueError::Full => "fault full: this site holds as many statements as its limit says\n",
+        IssueError::OutOfMemory => UNCHANGED,
+        IssueError::JournalWrite => {
+            "fault journal: the journal cannot be written; end the program, and see whether the disk is full\n"
+        }
+    };
+    String::from_str(alloc, words)
+}
+
+/// The stamp of a statement and what became of it.
+pub fn push_issued(out: &mut String, issued: &Issued) -> Result<(), AllocError> {
+    show_stamp(out, &issued.stamp)?;
+    out.push_str(" ")?;
+    push_outcome(out, &issued.outcome)
+}
+
+/// Issues a statement and tells what became of it.
+pub fn issue<R: Replica>(
+    alloc: Global,
+    site: &mut R,
+    text: &str,
+    meter: &mut Meter,
+) -> Result<String, AllocError> {
+    // Behind the call nothing may fail for want of room: the site has taken the statement then.
+    let mut out = String::with_capacity(alloc, 256)?;
+    match site.issue(alloc, text, meter) {
+        Ok(issued) => {
+            push_issued(&mut out, &issued)?;
+            out.push_str("\n")?;
+            Ok(out)
+        }
+        Err(error) => not_issued(alloc, text, error),
+    }
+}

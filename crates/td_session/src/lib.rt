@@ -1,0 +1,25 @@
+//! A person at one site: what is typed is read and answered in plain words, and relations are shown as tables. It runs
+//! over any kind of site, reader and writer, and changes a site by the calls of `Replica` alone.
+#![tactic(auto)]
+
+mod ask;
+pub mod command;
+mod dump;
+pub mod ended;
+mod help;
+mod import;
+mod inputs;
+mod issue;
+mod lists;
+mod meet;
+pub mod open;
+mod places;
+mod relvars;
+mod shell;
+mod timing;
+mod wording;
+pub mod words;
+
+pub use command::program;
+pub use ended::Ended;
+pub use shell::{Shell, converse};

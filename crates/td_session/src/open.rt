@@ -1,0 +1,118 @@
+//! A script, read from a file, and the site that it opens.
+
+use crate::places::fault_text;
+use crate::wording::raise_words;
+use std::alloc::{AllocError, Global};
+use std::str;
+use td_inputs::{Reading, script_front};
+use td_story::{BrokenTest, OpenError, ScriptError};
+
+/// The most bytes of a script.
+pub const SCRIPT_BYTES: usize = 65_536;
+
+/// A script, and the lines behind its `.begin`.
+#[derive(Drop)]
+pub struct Script {
+    pub text: String,
+    pub behind: Vec<u8>,
+}
+
+/// Why a file is no script.
+#[derive(Clone, Copy, Debug, Drop, PartialEq, Eq)]
+pub enum NoScript {
+    OutOfMemory,
+    NoUtf8,
+    TooLong,
+}
+
+impl From<AllocError> for NoScript {
+    fn from(_e: AllocError) -> NoScript {
+        NoScript::OutOfMemory
+    }
+}
+
+/// The script that a file has: what stands in front of a line `.begin`, or all of it. The last line has an end there,
+/// as where a line `.begin` follows it, so that both programs read one script.
+pub fn script_in(alloc: Global, file: &[u8]) -> Result<Script, NoScript> {
+    let (front, behind) = script_front(file);
+    let Ok(text) = str::from_utf8(front) else {
+        return Err(NoScript::NoUtf8);
+    };
+    let mut text = String::from_str(alloc, text)?;
+    if !text.is_empty() && !text.as_str().ends_with('\n') {
+        text.push_str("\n")?;
+    }
+    if text.len() > SCRIPT_BYTES {
+        return Err(NoScript::TooLong);
+    }
+    Ok(Script {
+        text,
+        behind: Vec::from_slice(alloc, behind)?,
+    })
+}
+
+/// Why a file is no script, in words.
+pub fn no_script_words(error: NoScript) -> &'static str {
+    match error {
+        NoScript::OutOfMemory => "fault script memory: there is not enough memory\n",
+        NoScript::NoUtf8 => "fault script syntax: the script is no UTF-8\n",
+        NoScript::TooLong => "fault script syntax: a script has at most 65536 bytes\n",
+    }
+}
+
+fn broken_words(alloc: Global, broken: &BrokenTest) -> Result<String, AllocError> {
+    match broken {
+        BrokenTest::Key(relvar) => {
+            let relvar = relvar.as_str();
+            format!(in alloc;
+                "fault script broken key {relvar}: what {relvar} is to hold at first breaks its key\n"
+            )
+        }
+        BrokenTest::Constraint(name) => {
+            let name = name.as_str();
+            format!(in alloc;
+                "fault script broken constraint {name}: it is not true of what the relvars hold at first\n"
+            )
+        }
+    }
+}
+
+fn refused_words(alloc: Global, script: &str, error: &ScriptError) -> Result<String, AllocError> {
+    match error {
+        ScriptError::Syntax => fault_text(
+            alloc,
+            "fault script syntax: the script is no list of definitions\n",
+            Reading::Script,
+            script,
+        ),
+        ScriptError::IllTyped => String::from_str(
+            alloc,
+            "fault script type: a definition names what is not defined before it, or its types do not fit\n",
+        ),
+        ScriptError::OpeningRaised(raise) => {
+            let words = raise_words(*raise);
+            format!(in alloc; "fault script raised: what a relvar is to hold at first {words}\n")
+        }
+        ScriptError::OpeningBroken(broken) => broken_words(alloc, broken),
+        ScriptError::OutOfMemory => String::from_str(alloc, no_script_words(NoScript::OutOfMemory)),
+    }
+}
+
+/// Why a script opens no site, in words.
+pub fn unopened_words(
+    alloc: Global,
+    script: &str,
+    error: &OpenError,
+) -> Result<String, AllocError> {
+    match error {
+        OpenError::Script(error) => refused_words(alloc, script, error),
+        OpenError::BadSite => String::from_str(
+            alloc,
+            "fault site: a site's number is 1 to 65535\n",
+        ),
+        OpenError::BadLimit => String::from_str(
+            alloc,
+            "fault limit: a site's limit is 1 to 100000\n",
+        ),
+    }
+}

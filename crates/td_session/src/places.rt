@@ -1,0 +1,48 @@
+//! Where a text stops being one of the language.
+
+use std::alloc::{AllocError, Global};
+use td_inputs::{Reading, blemish_in};
+use unicode_width::UnicodeWidthStr;
+
+// The line as a terminal shows it, with a blank for each character that would move the cursor.
+fn push_line(out: &mut String, line: &str) -> Result<(), AllocError> {
+    for c in line.chars() {
+        out.push(if c.is_control() { ' ' } else { c })?;
+    }
+    out.push_str("\n")
+}
+
+fn push_caret(out: &mut String, column: usize) -> Result<(), AllocError> {
+    for _ in 0..column {
+        out.push(' ')?;
+    }
+    out.push_str("^\n")
+}
+
+/// Appends the line in which the byte stands, and a caret under it.
+pub fn push_place(out: &mut String, text: &str, at: usize) -> Result<(), AllocError> {
+    let Some((front, behind)) = text.split_at_checked(at) else {
+        return Ok(());
+    };
+    let front = front.rsplit_once('\n').map_or(front, |parts| parts.1);
+    let behind = behind.split_once('\n').map_or(behind, |parts| parts.0);
+    let mut line = String::from_str(*out.allocator(), front)?;
+    let column = line.as_str().width();
+    line.push_str(behind)?;
+    push_line(out, line.as_str())?;
+    push_caret(out, column)
+}
+
+/// What is said of a text that has no reading, with the place where that is seen.
+pub fn fault_text(
+    alloc: Global,
+    words: &str,
+    reading: Reading,
+    text: &str,
+) -> Result<String, AllocError> {
+    let mut out = String::from_str(alloc, words)?;
+    if let Some(at) = blemish_in(reading, text.as_bytes()) {
+        push_place(&mut out, text, at)?;
+    }
+    Ok(out)
+}

@@ -1,0 +1,69 @@
+//! The words of the program.
+
+use clap::builder::ValueParser;
+use clap::{Arg, ArgAction, Command, Error};
+use std::alloc::{AllocError, Global};
+
+const TYPED: &str = "\
+SCRIPT has the definitions. Then what is typed is read: a text that ends in ; is a
+statement, and else a query. A line that begins with a dot is a command; .help lists
+them, and .quit ends the program.";
+
+fn command<'a>(alloc: Global) -> Result<Command<'a>, AllocError> {
+    let script = Arg::new(alloc, "script")
+        .value_name("SCRIPT")
+        .help("The file of definitions, up to a line .begin where it has one")
+        .required(true)
+        .action(ArgAction::Set);
+    let site = Arg::new(alloc, "site")
+        .long("site")
+        .value_name("N")
+        .help("The number of the site, 1 to 65535")
+        .action(ArgAction::Set)
+        .value_parser(ValueParser::unsigned(1, 65_535))
+        .default_value("1");
+    let limit = Arg::new(alloc, "limit")
+        .long("limit")
+        .value_name("L")
+        .help("The most statements that the site may hold, 1 to 100000")
+        .action(ArgAction::Set)
+        .value_parser(ValueParser::unsigned(1, 100_000))
+        .default_value("10000");
+    let journal = Arg::new(alloc, "journal")
+        .long("journal")
+        .value_name("PREFIX")
+        .help("Keeps the site's statements in the file PREFIX, its number, .tdj")
+        .action(ArgAction::Set);
+    Command::new(alloc, "td_shell")
+        .version("1.0")
+        .about("A person at one site of a replicated relational database")
+        .after_help(TYPED)
+        .arg(script)?
+        .arg(site)?
+        .arg(limit)?
+        .arg(journal)
+}
+
+/// What the words of the program ask for.
+#[derive(Clone, Copy, Drop)]
+pub struct Words<'a> {
+    /// The name of the file that has the script.
+    pub script: &'a str,
+    /// The number of the site: 1 to 65,535.
+    pub site: u16,
+    /// The most statements that it may hold: 1 to 100,000.
+    pub limit: usize,
+    /// What the name of its journal begins with, if it keeps one.
+    pub journal: Option<&'a str>,
+}
+
+/// What the words ask for, the first of which names the program.
+pub fn read_words<'a>(alloc: Global, words: &'a [String]) -> Result<Words<'a>, Error> {
+    let matches = command(alloc)?.try_get_matches_from(words)?;
+    Ok(Words {
+        script: matches.get_str("script").unwrap_or(""),
+        site: matches.get_one::<u16>("site").unwrap_or(1),
+        limit: matches.get_one::<usize>("limit").unwrap_or(10_000),
+        journal: matches.get_str("journal"),
+    })
+}

@@ -1,0 +1,51 @@
+//! A person at one site of Ketsarimo, in memory or with a journal in a file.
+#![tactic(auto)]
+
+use std::env;
+use std::io::{BufReader, ErrorKind, IsTerminal};
+use std::process::ExitCode;
+use td_devices::Device;
+use td_files::FileJournals;
+use td_replay::Site;
+use td_session::program;
+use td_sockets::TcpLinks;
+use td_story::Meter;
+
+// A word that is no UTF-8 is refused as the command line library refuses words.
+fn refused(rt: &HostRuntime) -> ExitCode {
+    let _told = eprintln!(rt; "error: a word of the command line is not UTF-8");
+    ExitCode::from(2)
+}
+
+fn main(rt: HostRuntime) -> ExitCode {
+    let alloc = rt.alloc();
+    let words = match env::args(&rt) {
+        Ok(words) => words,
+        Err(error) if error.kind() == ErrorKind::InvalidData => return refused(&rt),
+        Err(_) => return ExitCode::FAILURE,
+    };
+    let Ok(words) = words.collect::<Vec<String>>(alloc) else {
+        return ExitCode::FAILURE;
+    };
+    let is_terminal = rt.stdin().is_terminal();
+    let Ok(reader) = BufReader::new(alloc, rt.reader()) else {
+        return ExitCode::FAILURE;
+    };
+    let mut source = Device::new(reader);
+    let mut sink = Device::new(rt.stdout());
+    let mut faults = Device::new(rt.stderr());
+    let mut meter = Meter::new(&rt);
+    let status = program::<Site, _, _, _, _, _, _>(
+        alloc,
+        &words,
+        &rt,
+        &FileJournals::new(&rt),
+        &mut TcpLinks::new(&rt),
+        &mut meter,
+        is_terminal,
+        &mut source,
+        &mut sink,
+        &mut faults,
+    );
+    ExitCode::from(status)
+}

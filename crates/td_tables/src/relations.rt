@@ -1,0 +1,87 @@
+//! Relations as tables.
+
+use crate::layout::{Column, Side, laid_out};
+use std::alloc::{AllocError, Global};
+use td_values::{Heading, Kind, Name, TdType, Tuple, TypeKind, Value, show};
+
+fn side_of(kind: &TypeKind) -> Side {
+    match kind {
+        TypeKind::Integer => Side::Right,
+        _ => Side::Left,
+    }
+}
+
+fn columns_of<'a>(
+    alloc: Global,
+    fields: &'a [(Name, TdType)],
+) -> Result<Vec<Column<'a>>, AllocError> {
+    let mut columns = Vec::with_capacity(alloc, fields.len())?;
+    for (name, ty) in fields {
+        columns.push(Column {
+            title: name.as_str(),
+            side: side_of(&ty.kind),
+        })?;
+    }
+    Ok(columns)
+}
+
+// A text with a blank for each character that would move the cursor, so that a cell stays in its line.
+fn in_line(alloc: Global, text: &str) -> Result<String, AllocError> {
+    let mut line = String::with_capacity(alloc, text.len())?;
+    for c in text.chars() {
+        line.push(if c.is_control() { ' ' } else { c })?;
+    }
+    Ok(line)
+}
+
+fn cell(alloc: Global, value: &Value) -> Result<String, AllocError> {
+    match &value.kind {
+        Kind::Char(text) => in_line(alloc, text.as_str()),
+        _ => in_line(alloc, show(alloc, value)?.as_str()),
+    }
+}
+
+fn cells(alloc: Global, tuple: &Tuple) -> Result<Vec<String>, AllocError> {
+    let mut cells = Vec::with_capacity(alloc, tuple.attributes().len())?;
+    for (_name, value) in tuple.attributes() {
+        cells.push(cell(alloc, value)?)?;
+    }
+    Ok(cells)
+}
+
+fn rows_of(alloc: Global, tuples: &[Tuple]) -> Result<Vec<Vec<String>>, AllocError> {
+    let mut rows = Vec::with_capacity(alloc, tuples.len())?;
+    for tuple in tuples {
+        rows.push(cells(alloc, tuple)?)?;
+    }
+    Ok(rows)
+}
+
+/// `1 tuple`, or how many there are.
+pub fn counted_tuples(alloc: Global, count: usize) -> Result<String, AllocError> {
+    if count == 1 {
+        return String::from_str(alloc, "1 tuple");
+    }
+    format!(in alloc; "{count} tuples")
+}
+
+/// A relation's table: its attributes in the order of their names, its tuples in their order, and how many there are.
+/// Integers stand at the right. Texts stand as they are, and other values as the language writes them. A relation
+/// without attributes has no columns. It costs the length of what it gives.
+pub fn relation_table(
+    alloc: Global,
+    heading: &Heading,
+    tuples: &[Tuple],
+) -> Result<String, AllocError> {
+    let mut out = if heading.is_empty() {
+        String::from_str(alloc, "(no attributes)\n")?
+    } else {
+        let columns = columns_of(alloc, heading.fields())?;
+        let rows = rows_of(alloc, tuples)?;
+        laid_out(alloc, &columns, &rows)?
+    };
+    let count = counted_tuples(alloc, tuples.len())?;
+    out.push_str(count.as_str())?;
+    out.push_str("\n")?;
+    Ok(out)
+}
