@@ -1,12 +1,10 @@
 //! What a person types: texts over several lines, words with a dot in front, and the definitions of a script.
 #![tactic(auto)]
 
-pub mod blemishes;
 pub mod commands;
 pub mod definitions;
 pub mod scan;
 
-pub use blemishes::{Reading, blemish_in};
 pub use commands::{Command, Mode, command_of};
 pub use definitions::{Defined, defined_by, definition_at, script_front};
 pub use scan::{Scan, Standing};

@@ -3,8 +3,9 @@
 use crate::places::fault_text;
 use crate::wording::{BROKEN, UNCHANGED, raise_words};
 use std::alloc::{AllocError, Global};
-use td_inputs::{Mode, Reading};
+use td_inputs::Mode;
 use td_listings::relation_table as csv_table;
+use td_places::Reading;
 use td_relations::Relation;
 use td_story::{AskError, Asked, MOST_BYTES, Replica};
 use td_tables::relation_table;

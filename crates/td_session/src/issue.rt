@@ -3,8 +3,8 @@
 use crate::places::fault_text;
 use crate::wording::{BROKEN, UNCHANGED, push_outcome};
 use std::alloc::{AllocError, Global};
-use td_inputs::Reading;
 use td_listings::show_stamp;
+use td_places::Reading;
 use td_story::{IssueError, Issued, MOST_BYTES, Meter, Replica};
 
 // The words that begin a definition.

@@ -4,7 +4,8 @@ use crate::places::fault_text;
 use crate::wording::raise_words;
 use std::alloc::{AllocError, Global};
 use std::str;
-use td_inputs::{Reading, script_front};
+use td_inputs::script_front;
+use td_places::Reading;
 use td_story::{BrokenTest, OpenError, ScriptError};
 
 /// The most bytes of a script.

@@ -1,7 +1,7 @@
 //! Where a text stops being one of the language.
 
 use std::alloc::{AllocError, Global};
-use td_inputs::{Reading, blemish_in};
+use td_places::{Reading, place_of_fault};
 use unicode_width::UnicodeWidthStr;
 
 // The line as a terminal shows it, with a blank for each character that would move the cursor.
@@ -41,8 +41,9 @@ pub fn fault_text(
     text: &str,
 ) -> Result<String, AllocError> {
     let mut out = String::from_str(alloc, words)?;
-    if let Some(at) = blemish_in(reading, text.as_bytes()) {
-        push_place(&mut out, text, at)?;
+    if let Some(at) = place_of_fault(alloc, reading, text)? {
+        // (a text that ends too early goes wrong behind its last word, and not behind the line's end)
+        push_place(&mut out, text, at.min(text.trim_end().len()))?;
     }
     Ok(out)
 }
