@@ -11,8 +11,8 @@ use td_relvars::{Database, open_script};
 use td_story::{Meter, Outcome};
 use td_values::Name;
 
-const SCRIPT: &str = "VAR R BASE RELATION { N INTEGER, V CHAR } KEY { N };
-CONSTRAINT C IS_EMPTY ( R WHERE N < 0 );";
+const SCRIPT: &str = "VAR S BASE RELATION { SNO CHAR, STATUS INTEGER, CITY CHAR } KEY { SNO };
+CONSTRAINT C IS_EMPTY ( S WHERE STATUS < 0 );";
 
 /// How long statements took, how long the tests after them take alone, and how many tuples there are then.
 pub struct Times {
@@ -30,11 +30,25 @@ fn opened(rt: &HostRuntime) -> Result<Database>
     }
 }
 
+// The text of the statement of this number. Up to a million of them have keys that differ, in no order.
+fn text_of(rt: &HostRuntime, n: u32) -> Result<String> {
+    let number = u64::from(n).wrapping_mul(611_953) % 1_000_003;
+    let status = number % 100;
+    let city = match number % 3 {
+        0 => "London",
+        1 => "Paris",
+        _ => "Athens",
+    };
+    Ok(format!(in rt.alloc();
+        "INSERT S RELATION {{ TUPLE {{ SNO 'S{number}', STATUS {status}, CITY '{city}' }} }};"
+    )?)
+}
+
 fn insert(rt: &HostRuntime, database: &mut Database, n: u32, meter: &mut Meter) -> Result<Duration>
     requires { IsLegal database.old }
     ensures { IsLegal database.new }
 {
-    let text = format!(in rt.alloc(); "INSERT R RELATION {{ TUPLE {{ N {n}, V 'x' }} }};")?;
+    let text = text_of(rt, n)?;
     let start = Instant::now(rt)?;
     let ran = run(rt.alloc(), database, text.as_str(), meter)?;
     let time = start.elapsed(rt)?;
@@ -55,7 +69,7 @@ fn test(rt: &HostRuntime, database: &Database) -> Result<Duration> {
 }
 
 fn count_of(rt: &HostRuntime, database: &Database) -> Result<usize> {
-    let name = Name::new(rt.alloc(), "R")?;
+    let name = Name::new(rt.alloc(), "S")?;
     match database.base_of(&name) {
         Some(base) => Ok(base.len()),
         None => bail!("no relvar"),

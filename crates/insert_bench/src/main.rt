@@ -1,5 +1,5 @@
-//! Times single INSERTs into one relvar with a key and a constraint, as many as each word of the command line says;
-//! without words 100 and 1,000.
+//! Times single INSERTs into one relvar with a constraint, whose key is a text, as many as each word of the command
+//! line says; without words 100 and 1,000.
 //!
 //! Standard error has a line for each number: how long all statements took, and how long their tests take alone, over
 //! what each one left, in nanoseconds. Standard output has how many tuples there are then. `benches/inserts` prints the
