@@ -136,6 +136,14 @@ class Example(NamedTuple):
         [it] = self.second.beside(self.before)
         return it
 
+    def begun(self):
+        """What there is just after the first entry, for which nothing is refused yet."""
+        return {
+            LONDON: State((SUPPLIER,)),
+            PARIS: State((("Paris", "S1", 20),)),
+            MANY: State(SUPPLIERS, shipments(range(1, 6), range(1, 9))),
+        }[self.met.entries[0].text]
+
 
 SUPPLIER = ("London", "S1", 20)
 SHIPPED = ("P1", 200, "S1")
@@ -260,7 +268,8 @@ EXAMPLES = [
 
 
 def frame(entry):
-    return b"E" + struct.pack(">HIQH", entry.site, entry.seq, entry.clock, len(entry.text)) + entry.text.encode()
+    """The frame of an entry, of dialect 2, in version 2."""
+    return b"E" + struct.pack(">HIQBH", entry.site, entry.seq, entry.clock, 2, len(entry.text)) + entry.text.encode()
 
 
 def frames(entries):
@@ -272,4 +281,4 @@ def greeting_length(state):
 
 
 def journal(site, entries):
-    return b"JTDB" + struct.pack(">BHI", 1, site, len(SCRIPT)) + SCRIPT.encode() + frames(entries)
+    return b"JTDB" + struct.pack(">BHI", 2, site, len(SCRIPT)) + SCRIPT.encode() + frames(entries)

@@ -6,6 +6,7 @@ use crate::contents::held;
 use crate::database::Result;
 use std::alloc::Global;
 use td_assign::{Ran, redo, run, undo};
+use td_grammar::LATEST;
 use td_relvars::{Database, open_script};
 use td_story::Meter;
 
@@ -36,7 +37,7 @@ fn back_and_on(
     requires { IsLegal database.old }
 {
     database.relvars_fit();
-    let ran = run(alloc, &mut *database, text, meter)?;
+    let ran = run(alloc, &mut *database, text, LATEST, meter)?;
     let after = held(alloc, &*database, "S")?;
     undo(alloc, &mut *database, &ran.delta)?;
     let undone = held(alloc, &*database, "S")?;
@@ -58,7 +59,7 @@ fn put_back_behind(
 {
     database.relvars_fit();
     let part = database.copy_of(alloc, relvars)?;
-    let _ran = run(alloc, &mut *database, text, meter)?;
+    let _ran = run(alloc, &mut *database, text, LATEST, meter)?;
     database.put_back(part);
     held(alloc, &*database, "S")
 }

@@ -5,6 +5,7 @@ ghost use Rattle.td_story.specs.Databases.{IsLegal};
 use crate::database::Result;
 use std::alloc::{AllocError, Global};
 use td_assign::{Ran, run};
+use td_grammar::LATEST;
 use td_relvars::{Database, open_script};
 use td_story::{Answer, Meter, Outcome, RelvarError};
 use td_values::Name;
@@ -43,7 +44,7 @@ fn answered(alloc: Global, database: &mut Database, meter: &mut Meter, step: Ste
     ensures { IsLegal database.new }
 {
     match step {
-        Step::Run(text) => told(alloc, &run(alloc, &mut *database, text, meter)?),
+        Step::Run(text) => told(alloc, &run(alloc, &mut *database, text, LATEST, meter)?),
         Step::Held(name) => held(alloc, &*database, name),
     }
 }

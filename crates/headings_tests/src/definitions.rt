@@ -124,6 +124,16 @@ fn targets_stand_once(rt: HostRuntime) -> Result<()> {
 }
 
 #[test]
+fn targets_of_both_lists_stand_once(rt: HostRuntime) -> Result<()> {
+    let found = assigned_to_suppliers(
+        rt.alloc(),
+        "IF IS_EMPTY ( SP ) THEN DELETE S, UPDATE BOX ( K := 'x' ); ELSE INSERT S LS, DELETE MOST; END IF;",
+    )?;
+    assert!(rt; found.as_str() == "0 3 4 ", "{found}");
+    Ok(())
+}
+
+#[test]
 fn what_is_under_expressions(rt: HostRuntime) -> Result<()> {
     let unlike = unlike(
         rt.alloc(),

@@ -7,6 +7,7 @@ use anyhow::{Result, bail};
 use std::time::{Duration, Instant};
 use td_assign::run;
 use td_constraints::first_failure;
+use td_grammar::LATEST;
 use td_relvars::{Database, open_script};
 use td_story::{Meter, Outcome};
 use td_values::Name;
@@ -50,7 +51,7 @@ fn insert(rt: &HostRuntime, database: &mut Database, n: u32, meter: &mut Meter) 
 {
     let text = text_of(rt, n)?;
     let start = Instant::now(rt)?;
-    let ran = run(rt.alloc(), database, text.as_str(), meter)?;
+    let ran = run(rt.alloc(), database, text.as_str(), LATEST, meter)?;
     let time = start.elapsed(rt)?;
     match ran.outcome {
         Outcome::Done => Ok(time),

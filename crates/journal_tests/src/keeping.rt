@@ -20,6 +20,7 @@ fn entry(alloc: Global, n: u32) -> Result<Entry> {
         site: 2,
         seq: n,
         clock: 4 + n as u64,
+        dialect: 1,
         text,
     })
 }
@@ -73,7 +74,7 @@ fn kept(alloc: Global, meter: &mut Meter, writer: &mut Narrow) -> Result<String>
 fn expected(room: usize) -> &'static str {
     match room {
         0..=54 => "the journal cannot be written",
-        55..=106 => {
+        55..=108 => {
             "the journal cannot be written; the site's journal failed; open false, not answered"
         }
         _ => "fresh 2 known 1; fresh 0 known 2; open true, answered",
@@ -93,7 +94,7 @@ fn a_keeper_writes_before_it_answers(rt: HostRuntime) -> Result<()> {
         );
         let flushes = if room < 55 {
             0
-        } else if room < 107 {
+        } else if room < 109 {
             1
         } else {
             2
@@ -136,10 +137,10 @@ fn issued_by(alloc: Global, meter: &mut Meter, writer: &mut Narrow) -> Result<&'
 fn a_failed_statement_is_not_there_again(rt: HostRuntime) -> Result<()> {
     let mut meter = Meter::new(&rt);
     for (room, expected) in [
-        (54, "not started; held 0, whole 0"),
-        (55, "failed; held 0, whole 55"),
-        (80, "failed; held 0, whole 55"),
-        (81, "issued; held 1, whole 81"),
+        (54, "not started; held 0, whole 0, version 2"),
+        (55, "failed; held 0, whole 55, version 2"),
+        (81, "failed; held 0, whole 55, version 2"),
+        (82, "issued; held 1, whole 82, version 2"),
     ] {
         let told = issued(rt.alloc(), &mut meter, room)?;
         assert!(rt; told.as_str() == expected, "{room}: {told}");

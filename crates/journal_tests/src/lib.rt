@@ -10,4 +10,6 @@ mod fakes;
 #[cfg(test)]
 mod keeping;
 #[cfg(test)]
+mod renewing;
+#[cfg(test)]
 mod reopening;

@@ -1,22 +1,31 @@
 //! Journals that are read.
 
-use crate::bytes::{JOURNAL, SCRIPT, changed};
+use crate::bytes::{JOURNAL, OLD, SCRIPT, changed};
 use crate::fakes::Given;
 use std::alloc::Global;
 use std::test::Fail;
 use td_devices::Device;
+use td_frames::Version;
 use td_journal::{ReopenError, Reopened, reopen};
 use td_replay::Site;
 use td_story::{Meter, Replica};
 
 pub type Result<T> = std::result::Result<T, Fail>;
 
+fn number_of(version: Version) -> u8 {
+    match version {
+        Version::First => 1,
+        Version::Second => 2,
+    }
+}
+
 fn shown<R: Replica>(alloc: Global, back: &Reopened<R>) -> Result<String> {
     let held = match back.replica.held() {
         Ok(held) => held.len(),
         Err(_) => usize::MAX,
     };
-    Ok(format!(in alloc; "held {held}, whole {}", back.whole)?)
+    let version = number_of(back.version);
+    Ok(format!(in alloc; "held {held}, whole {}, version {version}", back.whole)?)
 }
 
 fn reason(alloc: Global, error: &ReopenError) -> Result<String> {
@@ -54,10 +63,20 @@ pub fn reopened(
 // What is to be told of the journal that is cut after so many bytes.
 fn expected(cut: usize) -> &'static str {
     match cut {
-        0..=54 => "held 0, whole 0",
-        55..=80 => "held 0, whole 55",
-        81..=106 => "held 1, whole 81",
-        _ => "held 2, whole 107",
+        0..=54 => "held 0, whole 0, version 2",
+        55..=81 => "held 0, whole 55, version 2",
+        82..=108 => "held 1, whole 82, version 2",
+        _ => "held 2, whole 109, version 2",
+    }
+}
+
+// And of the one of version 1.
+fn expected_of_old(cut: usize) -> &'static str {
+    match cut {
+        0..=54 => "held 0, whole 0, version 2",
+        55..=80 => "held 0, whole 55, version 1",
+        81..=106 => "held 1, whole 81, version 1",
+        _ => "held 2, whole 107, version 1",
     }
 }
 
@@ -72,9 +91,19 @@ fn a_cut_journal_has_its_whole_frames(rt: HostRuntime) -> Result<()> {
 }
 
 #[test]
+fn a_cut_journal_of_version_1_has_its_whole_frames(rt: HostRuntime) -> Result<()> {
+    let mut meter = Meter::new(&rt);
+    for cut in 0..=OLD.len() {
+        let found = reopened(rt.alloc(), &mut meter, &OLD[..cut], 10_000, false)?;
+        assert!(rt; found.as_str() == expected_of_old(cut), "{cut}: {found}");
+    }
+    Ok(())
+}
+
+#[test]
 fn a_reader_that_fails_is_told(rt: HostRuntime) -> Result<()> {
     let mut meter = Meter::new(&rt);
-    for cut in [0, 30, 55, 60, 107] {
+    for cut in [0, 4, 5, 30, 55, 60, 109] {
         let found = reopened(rt.alloc(), &mut meter, &JOURNAL[..cut], 10_000, true)?;
         assert!(rt; found.as_str() == "the reader failed", "{cut}: {found}");
     }
@@ -85,42 +114,57 @@ fn a_reader_that_fails_is_told(rt: HostRuntime) -> Result<()> {
 type Damage<'a> = (usize, u8, usize, usize, &'a str);
 
 const DAMAGED: &[Damage] = &[
-    (0, b'H', 107, 10_000, "the bytes begin no journal"),
+    (0, b'H', 109, 10_000, "the bytes begin no journal"),
     (1, b'X', 2, 10_000, "the bytes begin no journal"),
-    (4, 2, 107, 10_000, "the journal is of another version"),
-    (4, 2, 5, 10_000, "the journal is of another version"),
-    (6, 1, 107, 10_000, "the journal is another site's"),
+    (4, 0, 109, 10_000, "the journal is of another version"),
+    (4, 3, 109, 10_000, "the journal is of another version"),
+    (4, 3, 5, 10_000, "the journal is of another version"),
+    (4, 1, 109, 10_000, "held 0, whole 55, version 1"),
+    (6, 1, 109, 10_000, "the journal is another site's"),
     (5, 1, 6, 10_000, "the journal is another site's"),
-    (10, 45, 107, 10_000, "the journal is of another script"),
+    (10, 45, 109, 10_000, "the journal is of another script"),
     (7, 1, 8, 10_000, "the journal is of another script"),
-    (54, b'!', 107, 10_000, "the journal is of another script"),
+    (54, b'!', 109, 10_000, "the journal is of another script"),
     (20, b'!', 30, 10_000, "the journal is of another script"),
     (
         55,
         b'Z',
-        107,
+        109,
         10_000,
         "a frame of the journal is no entry's",
     ),
-    (81, b'F', 82, 10_000, "a frame of the journal is no entry's"),
-    (70, 0xff, 72, 10_000, "a frame of the journal is no entry's"),
+    (82, b'F', 83, 10_000, "a frame of the journal is no entry's"),
+    (71, 0xff, 73, 10_000, "a frame of the journal is no entry's"),
     (
-        72,
+        73,
         0xff,
-        107,
+        109,
         10_000,
         "a frame of the journal is no entry's",
     ),
-    (61, 0, 107, 10_000, "an entry is out of its ranges"),
-    (107, 0, 107, 1, "the site has no room for the batch"),
-    (107, 0, 81, 1, "held 1, whole 81"),
-    (107, 0, 107, 0, "the site is not opened"),
+    (61, 0, 109, 10_000, "an entry is out of its ranges"),
+    (70, 0, 109, 10_000, "an entry is out of its ranges"),
+    (70, 3, 109, 10_000, "an entry is out of its ranges"),
+    (109, 0, 109, 1, "the site has no room for the batch"),
+    (109, 0, 82, 1, "held 1, whole 82, version 2"),
+    (109, 0, 109, 0, "the site is not opened"),
 ];
 
-fn unlike(alloc: Global, meter: &mut Meter, damaged: &[Damage]) -> Result<String> {
+const OLD_DAMAGED: &[Damage] = &[
+    (4, 3, 107, 10_000, "the journal is of another version"),
+    (4, 2, 107, 10_000, "held 0, whole 55, version 2"),
+    (6, 1, 107, 10_000, "the journal is another site's"),
+    (54, b'!', 107, 10_000, "the journal is of another script"),
+    (81, b'F', 82, 10_000, "a frame of the journal is no entry's"),
+    (70, 0xff, 72, 10_000, "a frame of the journal is no entry's"),
+    (61, 0, 107, 10_000, "an entry is out of its ranges"),
+    (107, 0, 107, 1, "the site has no room for the batch"),
+];
+
+fn unlike(alloc: Global, meter: &mut Meter, journal: &[u8], damaged: &[Damage]) -> Result<String> {
     for (place, byte, cut, limit, told) in damaged {
-        let bytes = changed(alloc, *place, *byte)?;
-        let front = bytes.get(..*cut).unwrap_or(JOURNAL);
+        let bytes = changed(alloc, journal, *place, *byte)?;
+        let front = bytes.get(..*cut).unwrap_or(journal);
         let found = reopened(alloc, meter, front, *limit, false)?;
         if found.as_str() != *told {
             return Ok(format!(in alloc; "{place}, {cut}: {found}")?);
@@ -132,7 +176,9 @@ fn unlike(alloc: Global, meter: &mut Meter, damaged: &[Damage]) -> Result<String
 #[test]
 fn a_damaged_journal_is_refused_by_its_first_field(rt: HostRuntime) -> Result<()> {
     let mut meter = Meter::new(&rt);
-    let found = unlike(rt.alloc(), &mut meter, DAMAGED)?;
+    let found = unlike(rt.alloc(), &mut meter, JOURNAL, DAMAGED)?;
     assert!(rt; found.is_empty(), "{found}");
+    let found = unlike(rt.alloc(), &mut meter, OLD, OLD_DAMAGED)?;
+    assert!(rt; found.is_empty(), "version 1: {found}");
     Ok(())
 }

@@ -50,7 +50,7 @@ fn whole_entries_before_a_cut_are_taken(rt: HostRuntime) -> Result<()> {
     let mut meter = Meter::new(&rt);
     for fails in [false, true] {
         for cut in 0..ANSWER.len() {
-            let whole = cut.saturating_sub(63) / 26;
+            let whole = cut.saturating_sub(63) / 27;
             let (found, written) = settled(rt.alloc(), &mut meter, &ANSWER[..cut], fails)?;
             let expected = expected(rt.alloc(), whole, fails)?;
             assert!(rt;

@@ -190,6 +190,7 @@ fn long_batch(alloc: Global, count: u32) -> Result<Vec<Entry>> {
             site: 2,
             seq: n + 1,
             clock: u64::from(n) + 1,
+            dialect: 2,
             text,
         })?;
     }

@@ -69,6 +69,7 @@ pub fn batch(alloc: Global, written: &[Written]) -> Result<Vec<Entry>> {
             site: *site,
             seq: *seq,
             clock: *clock,
+            dialect: 2,
             text,
         })?;
     }

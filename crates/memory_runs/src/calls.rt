@@ -3,7 +3,8 @@
 use td_meeting::{MeetingError, MeetingRefusal, Met};
 use td_stamps::Stamp;
 use td_story::{
-    Answer, AskError, Asked, IssueError, Issued, Outcome, TakeError, Taken, TellError, ValueError,
+    Answer, AskError, Asked, IssueError, Issued, Outcome, PastError, TakeError, Taken, TellError,
+    ValueError,
 };
 
 #[derive(Clone, Copy, PartialEq, Eq)]
@@ -11,6 +12,7 @@ pub enum Call {
     Issue,
     Take,
     Ask,
+    AskAt,
     ValueOf,
     Outcomes,
     Greet,
@@ -22,10 +24,11 @@ pub enum Call {
     Reopen,
 }
 
-const CALLS: [(&str, Call); 12] = [
+const CALLS: [(&str, Call); 13] = [
     ("issue", Call::Issue),
     ("take", Call::Take),
     ("ask", Call::Ask),
+    ("ask_at", Call::AskAt),
     ("value_of", Call::ValueOf),
     ("outcomes", Call::Outcomes),
     ("greet", Call::Greet),
@@ -79,6 +82,14 @@ pub fn asked(answer: Result<Asked, AskError>) -> Ended {
     match answer {
         Ok(asked) => Ended::Asked(asked),
         Err(AskError::OutOfMemory) => Ended::OutOfMemory(0),
+        Err(_) => Ended::Refused,
+    }
+}
+
+pub fn asked_at(answer: Result<Asked, PastError>) -> Ended {
+    match answer {
+        Ok(asked) => Ended::Asked(asked),
+        Err(PastError::OutOfMemory) => Ended::OutOfMemory(0),
         Err(_) => Ended::Refused,
     }
 }

@@ -42,7 +42,8 @@ fn reopened<O: Opens + Drop>(
 ) -> Result<bool> {
     let mut source = Device::new(journal);
     match reopen::<O, _>(rt.alloc(), &mut source, SCRIPT, number, 10_000, meter) {
-        Ok(Reopened { replica, whole }) => {
+        Ok(back) => {
+            let Reopened { replica, whole, .. } = back;
             println!(rt; "answered")?;
             tell_site(rt, &replica)?;
             println!(rt; "whole {whole}")?;

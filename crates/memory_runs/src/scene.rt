@@ -1,7 +1,9 @@
 //! Two sites, and a call on one of them or on both.
 
 use crate::MOST_WRITTEN;
-use crate::calls::{Call, Ended, asked, issued, met, received, sent, taken, told, valued};
+use crate::calls::{
+    Call, Ended, asked, asked_at, issued, met, received, sent, taken, told, valued,
+};
 use crate::examples::{Example, QUERY, RELVAR, SCRIPT, Written};
 use crate::shown::{tell_end, tell_site};
 use anyhow::{Result, bail};
@@ -31,6 +33,7 @@ fn batch_of(alloc: Global, written: &[Written]) -> Result<Vec<Entry>> {
             site: *site,
             seq: *seq,
             clock: *clock,
+            dialect: 2,
             text: Text::from_str(alloc, text)?,
         })?;
     }
@@ -85,11 +88,8 @@ impl<R: Replica + Drop> Scene<R> {
         }
         self.done(alloc, Call::Issue, meter)?;
         match call {
-            Call::Ask | Call::ValueOf | Call::Outcomes | Call::Start | Call::Reopen => self.done(
-                alloc,
-                Call::Meet,
-                meter,
-            ),
+            Call::Ask | Call::AskAt | Call::ValueOf | Call::Outcomes | Call::Start | Call::Reopen =>
+                self.done(alloc, Call::Meet, meter),
             Call::Answer | Call::Settle | Call::Finish => self.step_up_to(alloc, call, meter),
             _ => Ok(()),
         }
@@ -119,10 +119,22 @@ impl<R: Replica + Drop> Scene<R> {
             Call::Issue => issued(self.second.issue(alloc, self.statement, meter)),
             Call::Take => taken(self.second.take(alloc, self.batch.as_slice(), meter)),
             Call::Ask => asked(self.second.ask(alloc, QUERY)),
+            Call::AskAt => self.ask_at_first(alloc, meter),
             Call::ValueOf => valued(self.second.value_of(alloc, &self.relvar)),
             Call::Outcomes => told(self.second.outcomes(alloc)),
             Call::Meet => met(meet(alloc, &mut self.first, &mut self.second, meter)),
             _ => self.stepped(alloc, call, meter),
+        }
+    }
+
+    // Asks just after the first entry, so that what all others changed is taken back or not run.
+    fn ask_at_first(&self, alloc: Global, meter: &mut Meter) -> Ended {
+        let Ok(held) = self.second.held() else {
+            return Ended::Refused;
+        };
+        match held.entries().first() {
+            Some(entry) => asked_at(self.second.ask_at(alloc, QUERY, entry.stamp(), meter)),
+            None => Ended::Refused,
         }
     }
 

@@ -94,6 +94,43 @@ fn statements(rt: HostRuntime) -> Result<(), Fail> {
 }
 
 #[test]
+fn conditionals(rt: HostRuntime) -> Result<(), Fail> {
+    for marked in [
+        "IF @THEN DELETE S; END IF;",
+        "IF A = @THEN DELETE S; END IF;",
+        "IF COUNT @S > 0 THEN DELETE S; END IF;",
+        "IF A @DELETE S; END IF;",
+        "IF A THEN @END IF;",
+        "IF A THEN DELETE S @END IF;",
+        "IF A THEN DELETE @WHERE B; END IF;",
+        "IF A THEN DELETE S, @; END IF;",
+        "IF A THEN DELETE S; @DELETE T; END IF;",
+        "IF A THEN DELETE S;@",
+        "IF A THEN DELETE S; ELSE DELETE T;@",
+        "IF A THEN DELETE S; END@",
+        "IF A THEN DELETE S; END @;",
+        "IF A THEN DELETE S; END IF@",
+        "IF A THEN DELETE S; ELSE @END IF;",
+        "IF A THEN DELETE S; ELSE DELETE T; @ELSE DELETE U; END IF;",
+        "IF A THEN @IF B THEN DELETE S; END IF; END IF;",
+        "IF A THEN DELETE S;\nELSE @IF B THEN DELETE T; END IF;\nEND IF;",
+        "DELETE S, @IF A THEN DELETE T; END IF;",
+        "IF A THEN B @ELSE C END IF;",
+        "IF A THEN DELETE S; END IF; @DELETE T;",
+    ] {
+        assert!(rt; stops(&rt, Reading::Statement, marked)?, "{marked}");
+    }
+    assert!(rt;
+        is_read(
+            &rt,
+            Reading::Statement,
+            "IF A THEN DELETE S; ELSE T := IF B THEN U ELSE V END IF; END IF;"
+        )?
+    );
+    Ok(())
+}
+
+#[test]
 fn queries(rt: HostRuntime) -> Result<(), Fail> {
     for marked in [
         "@",

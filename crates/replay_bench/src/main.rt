@@ -1,16 +1,17 @@
 //! Times how a site takes a late statement, one that touches nothing that it holds and one that touches all of it,
-//! beside a plain site, which runs all anew; and what issuing costs at both kinds.
+//! beside a plain site, which runs all anew; what issuing costs at both kinds, and a query at a past place.
 //!
 //! A site holds as many statements as each word of the command line says; without words 100 and 400. Standard error has
 //! a line for each number: nanoseconds of a plain site that takes the late statement, of a site that takes one that
-//! touches nothing and one that touches all, and of so many issued statements at a site and at a plain one. Standard
-//! output has how many statements the three takes ran. `benches/replay` prints the ratios.
+//! touches nothing and one that touches all, of so many issued statements at a site and at a plain one, and of a query
+//! just after the tenth statement from the end, just after the first one, and there at a plain site. Standard output
+//! has how many statements the three takes ran. `benches/replay` prints the ratios.
 #![tactic(auto)]
 
 mod replaying;
 
 use anyhow::Result;
-use replaying::{Took, time_of_issues, time_of_late};
+use replaying::{Took, time_of_issues, time_of_late, time_of_past};
 use std::env;
 use td_replay::{PlainSite, Site};
 use td_story::Meter;
@@ -30,14 +31,20 @@ fn tell(rt: &HostRuntime, size: u32) -> Result<()> {
     let touched = time_of_late::<Site>(rt, size, TOUCHING, &mut meter)?;
     let issues = time_of_issues::<Site>(rt, size, &mut meter)?;
     let plain = time_of_issues::<PlainSite>(rt, size, &mut meter)?;
+    let recent = time_of_past::<Site>(rt, size, u64::from(size.saturating_sub(8)), &mut meter)?;
+    let first = time_of_past::<Site>(rt, size, 2, &mut meter)?;
+    let first_anew = time_of_past::<PlainSite>(rt, size, 2, &mut meter)?;
     tell_runs(rt, size, anew, untouched, touched)?;
     eprintln!(rt;
-        "replay {size} {} {} {} {} {}",
+        "replay {size} {} {} {} {} {} {} {} {}",
         anew.time.as_nanos(),
         untouched.time.as_nanos(),
         touched.time.as_nanos(),
         issues.as_nanos(),
-        plain.as_nanos()
+        plain.as_nanos(),
+        recent.as_nanos(),
+        first.as_nanos(),
+        first_anew.as_nanos()
     )?;
     Ok(())
 }

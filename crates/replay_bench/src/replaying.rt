@@ -3,7 +3,7 @@
 use anyhow::{Result, bail};
 use std::alloc::{AllocError, Global};
 use std::time::{Duration, Instant};
-use td_stamps::Entry;
+use td_stamps::{Entry, Stamp};
 use td_story::{Meter, Opens, Replica};
 use td_values::Text;
 
@@ -12,6 +12,9 @@ VAR NOTE BASE RELATION { N INTEGER, TEXT CHAR } KEY { N };
 CONSTRAINT C IS_EMPTY ( S WHERE STATUS < 0 );";
 
 const CITIES: [&str; 5] = ["London", "Paris", "Athens", "Oslo", "Rome"];
+
+/// What is asked at a past place.
+const QUERY: &str = "COUNT ( S WHERE STATUS = 7 )";
 
 /// How many statements are issued while a site is timed.
 const ISSUES: u32 = 20;
@@ -42,6 +45,7 @@ fn entries(alloc: Global, count: u32) -> Result<Vec<Entry>, AllocError> {
             site: 1,
             seq: n + 1,
             clock: u64::from(n) + 2,
+            dialect: 2,
             text: Text::from_str(alloc, text.as_str())?,
         })?;
     }
@@ -55,6 +59,7 @@ fn late(alloc: Global, text: &str) -> Result<Vec<Entry>, AllocError> {
         site: 2,
         seq: 1,
         clock: 1,
+        dialect: 2,
         text: Text::from_str(alloc, text)?,
     })?;
     Ok(entries)
@@ -132,6 +137,39 @@ pub fn time_of_issues<R: Opens + Drop>(
 ) -> Result<Duration> {
     match R::open_script(rt.alloc(), SCRIPT, 3, 100_000) {
         Ok(mut site) => issue(rt, &mut site, size, meter),
+        Err(_) => bail!("the script is refused"),
+    }
+}
+
+fn ask<R: Replica>(
+    rt: &HostRuntime,
+    site: &mut R,
+    size: u32,
+    clock: u64,
+    meter: &mut Meter,
+) -> Result<Duration> {
+    let held = entries(rt.alloc(), size)?;
+    take(rt, site, held.as_slice(), meter)?;
+    let at = Stamp { clock, site: 1 };
+    let start = Instant::now(rt)?;
+    let is_answered = site.ask_at(rt.alloc(), QUERY, at, meter).is_ok();
+    let time = start.elapsed(rt)?;
+    if !is_answered {
+        bail!("a query is refused");
+    }
+    Ok(time)
+}
+
+/// How long a site of this kind, which holds so many statements, takes to answer a query just after the statement of
+/// the clock.
+pub fn time_of_past<R: Opens + Drop>(
+    rt: &HostRuntime,
+    size: u32,
+    clock: u64,
+    meter: &mut Meter,
+) -> Result<Duration> {
+    match R::open_script(rt.alloc(), SCRIPT, 3, 100_000) {
+        Ok(mut site) => ask(rt, &mut site, size, clock, meter),
         Err(_) => bail!("the script is refused"),
     }
 }

@@ -17,6 +17,7 @@ fn batch(alloc: Global, written: &[Written]) -> Result<Vec<Entry>, Fail> {
             site: *site,
             seq: *seq,
             clock: *clock,
+            dialect: 2,
             text: Text::from_str(alloc, "")?,
         })?;
     }

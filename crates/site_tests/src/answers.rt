@@ -5,7 +5,8 @@ use std::test::Fail;
 use td_relations::Relation;
 use td_stamps::{Stamp, Vector};
 use td_story::{
-    Answer, AskError, Asked, IssueError, Issued, Outcome, TakeError, Taken, TellError, ValueError,
+    Answer, AskError, Asked, IssueError, Issued, Outcome, PastError, TakeError, Taken, TellError,
+    ValueError,
 };
 use td_values::{Kind, Value, show};
 
@@ -42,10 +43,23 @@ pub fn taken(alloc: Global, answer: std::result::Result<Taken, TakeError>) -> Re
     }
 }
 
+fn asked(alloc: Global, asked: Asked) -> Result<String> {
+    match asked {
+        Asked::Value(value) => Ok(show(alloc, &value)?),
+        Asked::Raised(raise) => Ok(format!(in alloc; "raised {raise}")?),
+    }
+}
+
 pub fn replied(alloc: Global, answer: std::result::Result<Asked, AskError>) -> Result<String> {
     match answer {
-        Ok(Asked::Value(value)) => Ok(show(alloc, &value)?),
-        Ok(Asked::Raised(raise)) => Ok(format!(in alloc; "raised {raise}")?),
+        Ok(answer) => asked(alloc, answer),
+        Err(error) => Ok(format!(in alloc; "{error}")?),
+    }
+}
+
+pub fn replied_at(alloc: Global, answer: std::result::Result<Asked, PastError>) -> Result<String> {
+    match answer {
+        Ok(answer) => asked(alloc, answer),
         Err(error) => Ok(format!(in alloc; "{error}")?),
     }
 }

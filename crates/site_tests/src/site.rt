@@ -2,10 +2,10 @@
 
 ghost use Rattle.std.specs.Prelude.{◌≡◌, IfOk};
 
-use crate::answers::{Result, counted, issued, listed, replied, taken, told};
+use crate::answers::{Result, counted, issued, listed, replied, replied_at, taken, told};
 use std::alloc::Global;
 use td_replay::{PlainSite, Site};
-use td_stamps::Entry;
+use td_stamps::{Entry, Stamp};
 use td_story::{Meter, OpenError, Opens, Replica};
 use td_values::{Name, Text};
 
@@ -17,30 +17,39 @@ pub type Written<'a> = (u16, u32, u64, &'a str);
 pub enum Call<'a> {
     Issue(&'a str),
     Take(&'a [Written<'a>]),
+    /// As `Take`, of entries of the first dialect.
+    TakeOld(&'a [Written<'a>]),
     Ask(&'a str),
+    /// At the clock of the site.
+    AskAt(u64, u16, &'a str),
     ValueOf(&'a str),
     Outcomes,
     Vector,
 }
 
-fn entry(alloc: Global, site: u16, seq: u32, clock: u64, text: &str) -> Result<Entry>
-    ensures { IfOk result (λ e. e ≡ record { site = site; seq = seq; clock = clock; text = text.now }) }
+fn entry(alloc: Global, site: u16, seq: u32, clock: u64, dialect: u8, text: &str) -> Result<Entry>
+    ensures { IfOk result (λ e. e ≡ record { site = site; seq = seq; clock = clock; dialect = dialect; text = text.now }) }
 {
     let text = Text::from_str(alloc, text)?;
     Ok(Entry {
         site,
         seq,
         clock,
+        dialect,
         text,
     })
 }
 
-pub fn batch(alloc: Global, written: &[Written]) -> Result<Vec<Entry>> {
+fn batch_in(alloc: Global, written: &[Written], dialect: u8) -> Result<Vec<Entry>> {
     let mut batch = Vec::new(alloc);
     for (site, seq, clock, text) in written {
-        batch.push(entry(alloc, *site, *seq, *clock, text)?)?;
+        batch.push(entry(alloc, *site, *seq, *clock, dialect, text)?)?;
     }
     Ok(batch)
+}
+
+pub fn batch(alloc: Global, written: &[Written]) -> Result<Vec<Entry>> {
+    batch_in(alloc, written, 2)
 }
 
 fn take<R: Replica>(
@@ -48,8 +57,9 @@ fn take<R: Replica>(
     site: &mut R,
     meter: &mut Meter,
     written: &[Written],
+    dialect: u8,
 ) -> Result<String> {
-    let batch = batch(alloc, written)?;
+    let batch = batch_in(alloc, written, dialect)?;
     taken(alloc, site.take(alloc, batch.as_slice(), meter))
 }
 
@@ -73,8 +83,16 @@ fn answered<R: Replica>(
 ) -> Result<String> {
     match call {
         Call::Issue(text) => issued(alloc, site.issue(alloc, text, meter)),
-        Call::Take(written) => take(alloc, site, meter, written),
+        Call::Take(written) => take(alloc, site, meter, written, 2),
+        Call::TakeOld(written) => take(alloc, site, meter, written, 1),
         Call::Ask(text) => replied(alloc, site.ask(alloc, text)),
+        Call::AskAt(past, number, text) => {
+            let at = Stamp {
+                clock: past,
+                site: number,
+            };
+            replied_at(alloc, site.ask_at(alloc, text, at, meter))
+        }
         Call::ValueOf(name) => value_of(alloc, site, name),
         Call::Outcomes => listed(alloc, site.outcomes(alloc)),
         Call::Vector => vector(alloc, site),

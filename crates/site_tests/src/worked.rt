@@ -23,6 +23,9 @@ const PARIS: &str = "INSERT S RELATION { TUPLE { SNO 'S2', STATUS 10, CITY 'Pari
 const BOTH: &str =
     "RELATION { CITY CHAR, SNO CHAR, STATUS INTEGER } { TUPLE { CITY 'London', SNO 'S1', STATUS 20 }, TUPLE { CITY 'Paris', SNO 'S2', STATUS 10 } }";
 
+const CHOICE: &str =
+    "IF IS_EMPTY ( S ) THEN INSERT S RELATION { TUPLE { SNO 'S1', STATUS 20, CITY 'London' } }; ELSE DELETE S; END IF;";
+
 const END: u64 = 1_000_000_000_000_000_000;
 
 #[test]
@@ -189,6 +192,84 @@ fn late_statements_judge_anew(rt: HostRuntime) -> Result<()> {
                 "RELATION { CITY CHAR, SNO CHAR, STATUS INTEGER } { TUPLE { CITY 'London', SNO 'S1', STATUS 20 } }",
             ),
             (Call::ValueOf("NOSUCH"), "no relvar has this name"),
+        ],
+    )?;
+    assert!(rt; unlike.as_str() == "", "{unlike}");
+    Ok(())
+}
+
+#[test]
+fn past_answers(rt: HostRuntime) -> Result<()> {
+    let mut meter = Meter::new(&rt);
+    let shipment = "INSERT SP RELATION { TUPLE { SNO 'S1', PNO 'P1', QTY 200 } };";
+    let unlike = unlike(
+        rt.alloc(),
+        &mut meter,
+        (SHIPMENTS, 2, 10_000),
+        &[
+            (Call::AskAt(1, 1, "S"), "no entry has this stamp"),
+            (Call::Take(&[(1, 1, 1, LONDON)]), "fresh 1 known 0"),
+            (Call::Issue(shipment), "2.2 done"),
+            (Call::AskAt(1, 1, "COUNT ( SP )"), "0"),
+            (Call::AskAt(2, 2, "COUNT ( SP )"), "1"),
+            // the supplier goes before the shipment comes
+            (Call::Take(&[(1, 2, 2, "DELETE S;")]), "fresh 1 known 0"),
+            (Call::AskAt(2, 2, "COUNT ( SP )"), "0"),
+            (Call::AskAt(2, 1, "COUNT ( LS )"), "0"),
+            (
+                Call::AskAt(1, 1, "LS"),
+                "RELATION { CITY CHAR, SNO CHAR, STATUS INTEGER } { TUPLE { CITY 'London', SNO 'S1', STATUS 20 } }",
+            ),
+            (Call::AskAt(1, 1, "SUM ( S, STATUS ) + COUNT ( SP )"), "20"),
+            (
+                Call::AskAt(1, 1, "COUNT ( S ) / COUNT ( SP )"),
+                "raised divide",
+            ),
+            (Call::AskAt(1, 2, "S"), "no entry has this stamp"),
+            (Call::AskAt(3, 1, "S"), "no entry has this stamp"),
+            (Call::AskAt(0, 0, "S"), "no entry has this stamp"),
+            // what is wrong with the text stands before that
+            (Call::AskAt(3, 1, "COUNT ("), "the text is no query"),
+            (Call::AskAt(3, 1, "NOSUCH"), "the query is ill typed"),
+            (Call::AskAt(1, 1, "NOSUCH"), "the query is ill typed"),
+            (Call::Ask("COUNT ( S )"), "0"),
+            (
+                Call::Outcomes,
+                "1.1 done; 2.1 done; 2.2 breaks constraint C1; ",
+            ),
+        ],
+    )?;
+    assert!(rt; unlike.as_str() == "", "{unlike}");
+    Ok(())
+}
+
+#[test]
+fn entries_of_both_dialects(rt: HostRuntime) -> Result<()> {
+    let mut meter = Meter::new(&rt);
+    let unlike = unlike(
+        rt.alloc(),
+        &mut meter,
+        (SHIPMENTS, 3, 10_000),
+        &[
+            // the first dialect has no conditional statement, and its entries keep their outcomes
+            (Call::TakeOld(&[(1, 1, 1, CHOICE)]), "fresh 1 known 0"),
+            (Call::Take(&[(2, 1, 1, CHOICE)]), "fresh 1 known 0"),
+            (Call::Outcomes, "1.1 unread; 1.2 done; "),
+            (Call::Ask("COUNT ( S )"), "1"),
+            // entries that differ in their dialect alone clash
+            (
+                Call::Take(&[(1, 1, 1, CHOICE)]),
+                "an entry claims the place of another one: site 1, sequence number 1",
+            ),
+            (
+                Call::TakeOld(&[(2, 1, 1, CHOICE)]),
+                "an entry claims the place of another one: site 2, sequence number 1",
+            ),
+            (Call::TakeOld(&[(1, 1, 1, CHOICE)]), "fresh 0 known 1"),
+            (Call::Issue(CHOICE), "2.3 done"),
+            (Call::Ask("COUNT ( S )"), "0"),
+            (Call::AskAt(1, 2, "COUNT ( S )"), "1"),
+            (Call::Outcomes, "1.1 unread; 1.2 done; 2.3 done; "),
         ],
     )?;
     assert!(rt; unlike.as_str() == "", "{unlike}");

@@ -87,13 +87,13 @@ fn over(alloc: Global, meter: &mut Meter, line: &str, bytes: &[u8]) -> Result<(S
 fn a_connection_in_memory(rt: HostRuntime) -> Result<()> {
     let mut meter = Meter::new(&rt);
     for (line, bytes, wanted, written) in [
-        (".call 1 127.0.0.1:7001", 116, "called 1 fresh 2\n", 58),
+        (".call 1 127.0.0.1:7001", 118, "called 1 fresh 2\n", 58),
         (".call 1 127.0.0.1:7001", 100, "fault cut 1\n", 57),
-        (".serve 1 [::1]:7001", 116, "served 1 fresh 2\n", 58),
+        (".serve 1 [::1]:7001", 118, "served 1 fresh 2\n", 58),
         (".serve 1 [::1]:7001", 62, "fault cut 0\n", 0),
-        (".serve 1 [::1]:7001", 115, "fault cut 2\n", 58),
-        (".call 1 nowhere", 116, "fault address\n", 0),
-        (".call 9 127.0.0.1:7001", 116, "fault site\n", 0),
+        (".serve 1 [::1]:7001", 117, "fault cut 2\n", 58),
+        (".call 1 nowhere", 118, "fault address\n", 0),
+        (".call 9 127.0.0.1:7001", 118, "fault site\n", 0),
     ] {
         let bytes = ENTRIES.get(..bytes).unwrap_or(ENTRIES);
         let (told, count) = over(rt.alloc(), &mut meter, line, bytes)?;

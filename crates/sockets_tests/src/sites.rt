@@ -12,11 +12,11 @@ pub type Result<T> = std::result::Result<T, Fail>;
 /// The script, of 44 bytes.
 pub const SCRIPT: &str = "VAR R BASE RELATION { A INTEGER } KEY { A };";
 
-/// What site 2 sends, which holds two entries: a greeting of 63 bytes, two frames of 26, and the end.
+/// What site 2 sends, which holds two entries: a greeting of 63 bytes, two frames of 27, and the end.
 pub const ENTRIES: &[u8] =
-    b"HTDB\x01\x00\x02\x00\x00\x00\x2cVAR R BASE RELATION { A INTEGER } KEY { A };\x00\x01\x00\x02\x00\x00\x00\x02\
-E\x00\x02\x00\x00\x00\x01\x00\x00\x00\x00\x00\x00\x00\x05\x00\x09DELETE R;\
-E\x00\x02\x00\x00\x00\x02\x00\x00\x00\x00\x00\x00\x00\x06\x00\x09DELETE R;Z";
+    b"HTDB\x02\x00\x02\x00\x00\x00\x2cVAR R BASE RELATION { A INTEGER } KEY { A };\x00\x01\x00\x02\x00\x00\x00\x02\
+E\x00\x02\x00\x00\x00\x01\x00\x00\x00\x00\x00\x00\x00\x05\x02\x00\x09DELETE R;\
+E\x00\x02\x00\x00\x00\x02\x00\x00\x00\x00\x00\x00\x00\x06\x02\x00\x09DELETE R;Z";
 
 // What a site alone answers the line.
 fn said<R: Replica + Drop, L: Links>(

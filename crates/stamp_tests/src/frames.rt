@@ -6,7 +6,8 @@ use std::alloc::{AllocError, Global};
 use std::test::Fail;
 use td_devices::Device;
 use td_frames::{
-    FrameError, Greeting, put_end, put_entry, put_greeting, read_entries, read_greeting,
+    FrameError, Greeting, Version, put_end, put_entry, put_greeting, read_entries, read_frame,
+    read_greeting,
 };
 use td_stamps::Entry;
 use td_values::Text;
@@ -15,13 +16,17 @@ const SCRIPT: &str = "VAR R BASE RELATION { A INTEGER } KEY { A };";
 
 /// What site 1 greets with, which holds nothing.
 const GREETING: &[u8] =
-    b"HTDB\x01\x00\x01\x00\x00\x00\x2cVAR R BASE RELATION { A INTEGER } KEY { A };\x00\x00";
+    b"HTDB\x02\x00\x01\x00\x00\x00\x2cVAR R BASE RELATION { A INTEGER } KEY { A };\x00\x00";
 
 /// What site 2 answers, which holds two entries.
 const ANSWER: &[u8] =
-    b"HTDB\x01\x00\x02\x00\x00\x00\x2cVAR R BASE RELATION { A INTEGER } KEY { A };\x00\x01\x00\x02\x00\x00\x00\x02\
-E\x00\x02\x00\x00\x00\x01\x00\x00\x00\x00\x00\x00\x00\x05\x00\x09DELETE R;\
-E\x00\x02\x00\x00\x00\x02\x00\x00\x00\x00\x00\x00\x00\x06\x00\x09DELETE R;Z";
+    b"HTDB\x02\x00\x02\x00\x00\x00\x2cVAR R BASE RELATION { A INTEGER } KEY { A };\x00\x01\x00\x02\x00\x00\x00\x02\
+E\x00\x02\x00\x00\x00\x01\x00\x00\x00\x00\x00\x00\x00\x05\x02\x00\x09DELETE R;\
+E\x00\x02\x00\x00\x00\x02\x00\x00\x00\x00\x00\x00\x00\x06\x02\x00\x09DELETE R;Z";
+
+/// The first of them, as the first version spells it.
+const OLD_FRAME: &[u8] =
+    b"E\x00\x02\x00\x00\x00\x01\x00\x00\x00\x00\x00\x00\x00\x05\x00\x09DELETE R;";
 
 fn entry(alloc: Global, seq: u32, clock: u64) -> Result<Entry, AllocError>
     ensures { IfOk result (λ e. length e.text ≤ 8192) }
@@ -30,6 +35,7 @@ fn entry(alloc: Global, seq: u32, clock: u64) -> Result<Entry, AllocError>
         site: 2,
         seq,
         clock,
+        dialect: 2,
         text: Text::from_str(alloc, "DELETE R;")?,
     })
 }
@@ -53,8 +59,63 @@ fn the_bytes_of_a_meeting(rt: HostRuntime) -> Result<(), Fail> {
     put_greeting(&mut Device::new(&mut greeting), 1, SCRIPT, &[])?;
     assert!(rt; greeting.len() == 57 && greeting.as_slice() == GREETING);
     let answer = answered(rt.alloc())?;
-    assert!(rt; answer.len() == 116 && answer.as_slice() == ANSWER);
+    assert!(rt; answer.len() == 118 && answer.as_slice() == ANSWER);
     Ok(())
+}
+
+#[test]
+fn the_places_of_fields(rt: HostRuntime) {
+    for (found, want) in [
+        (&ANSWER[63..64], b"E".as_slice()),
+        (&ANSWER[78..79], b"\x02"),
+        (&ANSWER[79..81], b"\x00\x09"),
+        (&ANSWER[81..82], b"D"),
+        (&ANSWER[93..97], b"\x00\x00\x00\x02"),
+        (&ANSWER[117..], b"Z"),
+    ] {
+        assert!(rt; found == want);
+    }
+}
+
+// The clock, the dialect and the length of the text of the entry that stands there in this version, if one does.
+fn entry_in(
+    alloc: Global,
+    version: Version,
+    bytes: &[u8],
+) -> Result<Option<(u64, u8, usize)>, FrameError> {
+    match read_frame(alloc, &mut Device::new(bytes), version)? {
+        Some(entry) => Ok(Some((entry.clock, entry.dialect, entry.text.as_str().len()))),
+        None => Ok(None),
+    }
+}
+
+#[test]
+fn frames_of_both_versions(rt: HostRuntime) {
+    let frame = &ANSWER[63..90];
+    let cut = Err(FrameError::Cut);
+    for (version, bytes, want) in [
+        (Version::First, OLD_FRAME, Ok(Some((5, 1, 9)))),
+        (Version::Second, frame, Ok(Some((5, 2, 9)))),
+        // the other version's frames are of longer texts
+        (Version::First, frame, cut),
+        (Version::Second, OLD_FRAME, cut),
+        (Version::First, b"Z", Ok(None)),
+        (Version::Second, b"Z", Ok(None)),
+        // the range of a dialect is not the frame's matter
+        (
+            Version::Second,
+            b"E\x00\x02\x00\x00\x00\x01\x00\x00\x00\x00\x00\x00\x00\x05\xff\x00\x00",
+            Ok(Some((5, 255, 0))),
+        ),
+    ] {
+        assert!(rt; entry_in(rt.alloc(), version, bytes) == want);
+    }
+    for cut in 0..OLD_FRAME.len() {
+        assert!(rt;
+            entry_in(rt.alloc(), Version::First, &OLD_FRAME[..cut]) == Err(FrameError::Cut),
+            "{cut}"
+        );
+    }
 }
 
 // A greeting, as it is read: its site, how long its script is, how many sites its version vector has, and the number of
@@ -76,30 +137,30 @@ fn greetings(rt: HostRuntime) {
         (GREETING, Ok((1, 44, 0, 0))),
         (ANSWER, Ok((2, 44, 1, 2))),
         (b"HTDC\x01", Err(FrameError::Magic)),
-        (b"HTDB\x02", Err(FrameError::Version)),
-        (b"HTDB\x01\x00\x00", bad),
-        (b"HTDB\x01\x00\x01\x00\x01\x00\x01", bad),
-        (b"HTDB\x01\x00\x01\x00\x01\x00\x00", Err(FrameError::Cut)),
-        (b"HTDB\x01\x00\x01\x00\x00\x00\x01\xff", bad),
-        (b"HTDB\x01\x00\x01\x00\x00\x00\x00\x00\x01\x00\x00", bad),
+        (b"HTDB\x01", Err(FrameError::Version)),
+        (b"HTDB\x02\x00\x00", bad),
+        (b"HTDB\x02\x00\x01\x00\x01\x00\x01", bad),
+        (b"HTDB\x02\x00\x01\x00\x01\x00\x00", Err(FrameError::Cut)),
+        (b"HTDB\x02\x00\x01\x00\x00\x00\x01\xff", bad),
+        (b"HTDB\x02\x00\x01\x00\x00\x00\x00\x00\x01\x00\x00", bad),
         (
-            b"HTDB\x01\x00\x01\x00\x00\x00\x00\x00\x01\x00\x03\x00\x00\x00\x00",
+            b"HTDB\x02\x00\x01\x00\x00\x00\x00\x00\x01\x00\x03\x00\x00\x00\x00",
             bad,
         ),
         (
-            b"HTDB\x01\x00\x01\x00\x00\x00\x00\x00\x01\x00\x03\x3b\x9a\xca\x01",
+            b"HTDB\x02\x00\x01\x00\x00\x00\x00\x00\x01\x00\x03\x3b\x9a\xca\x01",
             bad,
         ),
         (
-            b"HTDB\x01\x00\x01\x00\x00\x00\x00\x00\x01\x00\x02\x3b\x9a\xca\x00",
+            b"HTDB\x02\x00\x01\x00\x00\x00\x00\x00\x01\x00\x02\x3b\x9a\xca\x00",
             Ok((1, 0, 1, 1_000_000_000)),
         ),
         (
-            b"HTDB\x01\x00\x01\x00\x00\x00\x00\x00\x02\x00\x02\x00\x00\x00\x01\x00\x02",
+            b"HTDB\x02\x00\x01\x00\x00\x00\x00\x00\x02\x00\x02\x00\x00\x00\x01\x00\x02",
             bad,
         ),
         (
-            b"HTDB\x01\x00\x01\x00\x00\x00\x00\x00\x02\x00\x03\x00\x00\x00\x01\x00\x02",
+            b"HTDB\x02\x00\x01\x00\x00\x00\x00\x00\x02\x00\x03\x00\x00\x00\x01\x00\x02",
             bad,
         ),
     ] {
@@ -115,7 +176,7 @@ fn greetings(rt: HostRuntime) {
 
 // How many entries are read whole, of at most two, and how the reading ends.
 fn streamed(alloc: Global, bytes: &[u8]) -> (usize, Result<(), FrameError>) {
-    let (entries, end) = read_entries(alloc, &mut Device::new(bytes), 2);
+    let (entries, end) = read_entries(alloc, &mut Device::new(bytes), Version::Second, 2);
     (entries.len(), end)
 }
 
@@ -127,17 +188,17 @@ fn streams_of_entries(rt: HostRuntime) -> Result<(), Fail> {
         (b"Z and more", 0, Ok(())),
         (b"F", 0, Err(FrameError::BadFrame)),
         (
-            b"E\x00\x02\x00\x00\x00\x01\x00\x00\x00\x00\x00\x00\x00\x05\x20\x01",
+            b"E\x00\x02\x00\x00\x00\x01\x00\x00\x00\x00\x00\x00\x00\x05\x02\x20\x01",
             0,
             Err(FrameError::BadFrame),
         ),
         (
-            b"E\x00\x02\x00\x00\x00\x01\x00\x00\x00\x00\x00\x00\x00\x05\x20\x00",
+            b"E\x00\x02\x00\x00\x00\x01\x00\x00\x00\x00\x00\x00\x00\x05\x02\x20\x00",
             0,
             Err(FrameError::Cut),
         ),
         (
-            b"E\x00\x02\x00\x00\x00\x01\x00\x00\x00\x00\x00\x00\x00\x05\x00\x01\xff",
+            b"E\x00\x02\x00\x00\x00\x01\x00\x00\x00\x00\x00\x00\x00\x05\x02\x00\x01\xff",
             0,
             Err(FrameError::BadFrame),
         ),
@@ -147,7 +208,7 @@ fn streams_of_entries(rt: HostRuntime) -> Result<(), Fail> {
     }
     for cut in 0..stream.len() {
         assert!(rt;
-            streamed(rt.alloc(), &stream[..cut]) == (cut / 26, Err(FrameError::Cut)),
+            streamed(rt.alloc(), &stream[..cut]) == (cut / 27, Err(FrameError::Cut)),
             "{cut}"
         );
     }
@@ -161,7 +222,7 @@ fn streamed_at_most(
     most: u32,
 ) -> (usize, Result<(), FrameError>, usize) {
     let mut rest = bytes;
-    let (entries, end) = read_entries(alloc, &mut Device::new(&mut rest), most);
+    let (entries, end) = read_entries(alloc, &mut Device::new(&mut rest), Version::Second, most);
     (entries.len(), end, rest.len())
 }
 
@@ -171,10 +232,10 @@ fn one_entry_too_many(rt: HostRuntime) {
     let bad = Err(FrameError::BadFrame);
     for (bytes, most, want) in [
         (stream, 2, (2, Ok(()), 0)),
-        (stream, 1, (1, bad, 26)),
-        (stream, 0, (0, bad, 52)),
+        (stream, 1, (1, bad, 27)),
+        (stream, 0, (0, bad, 54)),
         // no more is there than the letter
-        (&stream[..27], 1, (1, bad, 0)),
+        (&stream[..28], 1, (1, bad, 0)),
         (b"E".as_slice(), 0, (0, bad, 0)),
         (b"".as_slice(), 0, (0, Err(FrameError::Cut), 0)),
         (b"Z".as_slice(), 0, (0, Ok(()), 0)),
@@ -222,13 +283,19 @@ fn text_again(alloc: Global, text: &str) -> Result<usize, Fail> {
         site: 1,
         seq: 1,
         clock: 1,
+        dialect: 255,
         text: Text::from_str(alloc, text)?,
     };
     let mut bytes = Vec::new(alloc);
     if written.text.as_str().len() <= 8_192 {
         put_entry(&mut Device::new(&mut bytes), &written)?;
     }
-    let (entries, _) = read_entries(alloc, &mut Device::new(bytes.as_slice()), 1);
+    let (entries, _) = read_entries(
+        alloc,
+        &mut Device::new(bytes.as_slice()),
+        Version::Second,
+        1,
+    );
     match entries.first() {
         Some(read) if read.is_same(&written) => Ok(read.text.as_str().len()),
         _ => Ok(0),

@@ -22,6 +22,7 @@ fn entry(alloc: Global, (site, seq, clock, text): Parts) -> Result<Entry, AllocE
         site,
         seq,
         clock,
+        dialect: 1,
         text,
     })
 }
@@ -138,6 +139,46 @@ fn clash_and_bad_entry(rt: HostRuntime) -> Result<(), Fail> {
     assert!(rt; refuses(alloc, 10_000, last, bad, checked, taken)?);
     let told = clash.to_string(alloc)?;
     assert!(rt; told.as_str() == "entry 1 of site 2 clashes with another");
+    Ok(())
+}
+
+// The entry of site 2 in this dialect.
+fn in_dialect(alloc: Global, dialect: u8) -> Result<Entry, AllocError> {
+    let mut entry = entry(alloc, (2, 1, 5, DELETE))?;
+    entry.dialect = dialect;
+    Ok(entry)
+}
+
+// What a site that holds it in the first dialect says of it in this one.
+fn of_dialect(alloc: Global, dialect: u8) -> Result<String, Fail> {
+    let mut held = held_of(alloc, 10_000, &[(2, 1, 5, DELETE)])?;
+    let mut batch = Vec::new(alloc);
+    batch.push(in_dialect(alloc, dialect)?)?;
+    match take(&mut held, alloc, &batch) {
+        Ok((fresh, known)) => Ok(format!(in alloc; "fresh {fresh} known {known}")?),
+        Err(error) => Ok(format!(in alloc; "{error}")?),
+    }
+}
+
+#[test]
+fn entries_differ_in_their_dialect(rt: HostRuntime) -> Result<(), Fail> {
+    let first = in_dialect(rt.alloc(), 1)?;
+    let second = in_dialect(rt.alloc(), 2)?;
+    assert!(rt; !first.is_same(&second) && first.clashes(&second));
+    Ok(())
+}
+
+#[test]
+fn dialects_of_entries(rt: HostRuntime) -> Result<(), Fail> {
+    for (dialect, want) in [
+        (0, "an entry of the batch is out of range"),
+        (1, "fresh 0 known 1"),
+        (2, "entry 1 of site 2 clashes with another"),
+        (3, "an entry of the batch is out of range"),
+    ] {
+        let told = of_dialect(rt.alloc(), dialect)?;
+        assert!(rt; told.as_str() == want);
+    }
     Ok(())
 }
 

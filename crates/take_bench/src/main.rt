@@ -34,6 +34,7 @@ fn entries_of(alloc: Global, site: u16, count: u32) -> Result<Vec<Entry>, AllocE
             site,
             seq,
             clock: u64::from(seq),
+            dialect: 2,
             text: text.copy()?,
         })?;
     }

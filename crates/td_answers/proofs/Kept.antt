@@ -2,7 +2,7 @@
 use Rattle.std.proofs.Common.{◌≡◌, ◌==◌, inl, inr, ℕ, Bool, true, false, cond, List, Option, Some, None, Result, Ok, Err, refl, sym, subst}
 use Rattle.std.specs.List.{slice_get, slice_set}
 use Rattle.td_headings.specs.Catalogues.{CatalogueData}
-use Rattle.td_lines.specs.Lines.{Line, nothing, quit, issue, query, meet, listing, log, vector, table, serve, call, faulty}
+use Rattle.td_lines.specs.Lines.{Line, nothing, quit, issue, query, query_at, meet, listing, log, vector, table, serve, call, faulty}
 use Rattle.td_story.specs.Scripts.{IsScriptOf}
 use Rattle.td_story.specs.Seen.{Seen}
 use Rattle.td_story.specs.declared.answer.Taken.{Taken}
@@ -112,6 +112,7 @@ answered_keeps c old quit text new all told = none_changes c old new all told.1
 answered_keeps c old faulty text new all told = none_changes c old new all told.1
 answered_keeps c old (issue n t) text new all told = issue_all c t old (site_of n old) text new (site_there n old) all told
 answered_keeps c old (query n t) text new all told = tells_all c _ old (site_of n old) text new all told
+answered_keeps c old (query_at n t at) text new all told = tells_all c _ old (site_of n old) text new all told
 answered_keeps c old (meet n m) text new all told = meet_all c n m old (sites_of n m old) text new (λ two. two_by old (site_of n old) (site_of m old) two (site_there n old) (site_there m old)) all told
 answered_keeps c old (listing n) text new all told = tells_all c _ old (site_of n old) text new all told
 answered_keeps c old (log n) text new all told = tells_all c _ old (site_of n old) text new all told

@@ -2,24 +2,27 @@
 -- script alone. Of the faults of a line the first that stands is told: its form, its sites, its address or relvar, and
 -- then what the call is refused for. Want of memory may be told in place of what a call on an open site has not reached
 -- yet.
-use Rattle.std.specs.Prelude.{◌≡◌, ℕ, true, false, List, [], ◌++◌, codes, decimal, Option, Some, None, Result, Ok, Err, slice_set}
+use Rattle.std.specs.Prelude.{◌≡◌, ℕ, nat_lt, if◌then◌else◌, true, false, List, [], ◌++◌, codes, decimal, Option, Some, None, Result, Ok, Err, slice_set}
 use Rattle.td_values.specs.Shown.{shown}
 use Rattle.td_headings.specs.Catalogues.{CatalogueData}
 use Rattle.td_stamps.specs.Vectors.{VersionVector, IsVector}
+use Rattle.td_stamps.specs.declared.entry.Stamp.{Stamp}
 use Rattle.td_story.specs.Calls.{Asks, Issues}
+use Rattle.td_story.specs.Past.{AsksAt}
 use Rattle.td_story.specs.Seen.{Seen}
 use Rattle.td_story.specs.declared.answer.Issued.{Issued}
 use Rattle.td_story.specs.declared.answer.Asked.{Asked}
 use Rattle.td_story.specs.declared.answer.Asked.TheVariants as asked
 use Rattle.td_story.specs.declared.refusal.AskError.{AskError}
 use Rattle.td_story.specs.declared.refusal.IssueError.{IssueError}
+use Rattle.td_story.specs.declared.refusal.PastError.{PastError}
 use Rattle.td_listings.specs.Calls.{Lists, Logs, Tabulates}
 use Rattle.td_listings.specs.Texts.{shown_outcome, shown_stamp, vector_of}
 use Rattle.td_listings.specs.declared.error.ListError.{ListError}
 use Rattle.td_listings.specs.declared.error.ListError.TheVariants as list_error
 use Rattle.td_listings.specs.declared.error.TableError.{TableError}
-use Rattle.td_lines.specs.Lines.{Line, nothing, quit, issue, query, meet, listing, log, vector, table, serve, call, faulty}
-use Rattle.td_answers.specs.Faults.{ask_fault, issue_fault, list_fault, meeting_fault, raised_line, table_fault}
+use Rattle.td_lines.specs.Lines.{Line, nothing, quit, issue, query, query_at, meet, listing, log, vector, table, serve, call, faulty}
+use Rattle.td_answers.specs.Faults.{ask_fault, issue_fault, list_fault, meeting_fault, past_fault, raised_line, table_fault}
 use Rattle.td_meeting.specs.Meetings.{Meets}
 use Rattle.td_meeting.specs.declared.meeting.Met.{Met}
 use Rattle.td_meeting.specs.declared.meeting.MeetingRefusal.{MeetingRefusal}
@@ -65,6 +68,21 @@ pub record TellsAsked (t : List ℕ) (s : Seen) (text : List ℕ) : Type 0 where
   pub answer : Result Asked AskError
   pub asks : Asks s t answer
   pub line : text ≡ ask_answer answer
+
+-- ---- n? text @ CLOCK.SITE
+
+-- a number that no site has stands for a stamp that no entry has
+abbrev pub stamp_at : ℕ × ℕ → Stamp
+stamp_at p = if nat_lt p.1 65536 then record { clock = p.0; site = p.1 } else record { clock = 0; site = 0 }
+
+abbrev pub past_answer : Result Asked PastError → List ℕ
+past_answer (Ok r) = reply_line r
+past_answer (Err e) = past_fault e
+
+pub record TellsPast (t : List ℕ) (at : ℕ × ℕ) (s : Seen) (text : List ℕ) : Type 0 where
+  pub answer : Result Asked PastError
+  pub asks : AsksAt s t (stamp_at at) answer
+  pub line : text ≡ past_answer answer
 
 -- ---- .listing n, .log n, .vector n
 
@@ -137,6 +155,7 @@ Answered c old quit text new = (text ≡ []) × (new ≡ old)
 Answered c old faulty text new = (text ≡ codes "fault line\n") × (new ≡ old)
 Answered c old (issue n t) text new = IssueAnswered t old (site_of n old) text new
 Answered c old (query n t) text new = Tells (TellsAsked t) old (site_of n old) text new
+Answered c old (query_at n t at) text new = Tells (TellsPast t at) old (site_of n old) text new
 Answered c old (meet n m) text new = MeetAnswered n m old (sites_of n m old) text new
 Answered c old (listing n) text new = Tells TellsListing old (site_of n old) text new
 Answered c old (log n) text new = Tells TellsLog old (site_of n old) text new

@@ -5,6 +5,8 @@ use Rattle.td_story.specs.declared.refusal.AskError.{AskError}
 use Rattle.td_story.specs.declared.refusal.AskError.TheVariants as ask_error
 use Rattle.td_story.specs.declared.refusal.IssueError.{IssueError}
 use Rattle.td_story.specs.declared.refusal.IssueError.TheVariants as issue_error
+use Rattle.td_story.specs.declared.refusal.PastError.{PastError}
+use Rattle.td_story.specs.declared.refusal.PastError.TheVariants as past_error
 use Rattle.td_story.specs.declared.refusal.TakeError.{TakeError}
 use Rattle.td_story.specs.declared.refusal.TakeError.TheVariants as take_error
 use Rattle.td_frames.specs.declared.error.FrameError.{FrameError}
@@ -37,6 +39,13 @@ ask_fault ask_error.Broken = codes "fault broken\n"
 ask_fault ask_error.Syntax = codes "fault syntax\n"
 ask_fault ask_error.IllTyped = codes "fault type\n"
 ask_fault ask_error.OutOfMemory = codes "fault memory\n"
+
+abbrev pub past_fault : PastError → List ℕ
+past_fault past_error.Broken = codes "fault broken\n"
+past_fault past_error.Syntax = codes "fault syntax\n"
+past_fault past_error.IllTyped = codes "fault type\n"
+past_fault past_error.NoPlace = codes "fault place\n"
+past_fault past_error.OutOfMemory = codes "fault memory\n"
 
 -- fault clash SITE SEQ
 abbrev pub clash_line : ℕ → ℕ → List ℕ

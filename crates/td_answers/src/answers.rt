@@ -3,7 +3,7 @@
 ghost use Rattle.std.specs.Prelude.{◌≡◌, IfOk, codes, map};
 ghost use Rattle.td_lines.specs.Lines.{line_of};
 ghost use Rattle.td_answers.specs.Asking.{AreAsked, AreAskedAt};
-ghost use Rattle.td_answers.specs.Answers.{IssueAnswered, MeetAnswered, TellsAsked, TellsListing, TellsLog, TellsTable, TellsVector};
+ghost use Rattle.td_answers.specs.Answers.{IssueAnswered, MeetAnswered, TellsAsked, TellsListing, TellsLog, TellsPast, TellsTable, TellsVector};
 ghost use Rattle.td_answers.specs.Linked.{CallsOver, LinkAnswered, ServesOver};
 ghost use Rattle.td_answers.specs.Replies.{Replies, words};
 ghost use Rattle.td_answers.specs.Sites.{AreOfScript, OneScript, site_of, sites_of};
@@ -57,6 +57,22 @@ fn query_in<R: Replica>(alloc: Global, sites: &[R], number: u32, text: &str) -> 
 {
     match site_in(sites, number) {
         Some(site) => telling::query(alloc, site, text),
+        None => no_site(),
+    }
+}
+
+fn query_at_in<R: Replica>(
+    alloc: Global,
+    sites: &[R],
+    number: u32,
+    text: &str,
+    stamp: (u64, u32),
+    meter: &mut Meter,
+) -> Reply
+    ensures { Says (TellsIn (TellsPast text.now stamp) number (map R.seen sites.now)) result }
+{
+    match site_in(sites, number) {
+        Some(site) => telling::query_at(alloc, site, text, stamp.0, stamp.1, meter),
         None => no_site(),
     }
 }
@@ -171,6 +187,12 @@ fn reply_to<R: Replica, L: Links>(
         Command::Quit => Reply::Quit,
         Command::Issue { site, text } => issue_in(alloc, sites, site, text, meter),
         Command::Query { site, text } => query_in(alloc, sites, site, text),
+        Command::QueryAt {
+            site,
+            text,
+            clock,
+            origin,
+        } => query_at_in(alloc, sites, site, text, (clock, origin), meter),
         Command::Meet { first, second } => meet_in(alloc, sites, first, second, meter),
         Command::Listing { site } => listing_in(alloc, catalogue, sites, site),
         Command::Log { site } => log_in(alloc, sites, site),

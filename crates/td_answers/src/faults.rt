@@ -4,7 +4,7 @@ ghost use Rattle.std.specs.Prelude.{◌≡◌};
 ghost use Rattle.td_answers.specs.Faults as spec;
 
 use td_listings::{ListError, TableError};
-use td_story::{AskError, IssueError};
+use td_story::{AskError, IssueError, PastError};
 use td_values::Raise;
 
 pub(crate) fn raised_line(raise: Raise) -> &'static str
@@ -41,6 +41,18 @@ pub(crate) fn ask_fault(error: AskError) -> &'static str
         AskError::Syntax => "fault syntax\n",
         AskError::IllTyped => "fault type\n",
         AskError::OutOfMemory => "fault memory\n",
+    }
+}
+
+pub(crate) fn past_fault(error: PastError) -> &'static str
+    ensures { result.now ≡ spec.past_fault error }
+{
+    match error {
+        PastError::Broken => "fault broken\n",
+        PastError::Syntax => "fault syntax\n",
+        PastError::IllTyped => "fault type\n",
+        PastError::NoPlace => "fault place\n",
+        PastError::OutOfMemory => "fault memory\n",
     }
 }
 

@@ -3,16 +3,18 @@
 ghost use Rattle.std.specs.Prelude.{◌≡◌, Ok, Err, IfOk, MatchResult, string_bytes};
 ghost use Rattle.td_story.specs.Scripts.{IsScriptOf};
 ghost use Rattle.td_story.specs.declared.answer.Asked.TheVariants as told;
-ghost use Rattle.td_answers.specs.Answers.{Counts, TellsAsked, TellsIssued, TellsListing, TellsLog, TellsTable, TellsVector, reply_line};
+ghost use Rattle.td_answers.specs.Answers as spec;
+ghost use Rattle.td_answers.specs.Answers.{Counts, TellsAsked, TellsIssued, TellsListing, TellsLog, TellsPast, TellsTable, TellsVector, reply_line};
 ghost use Rattle.td_answers.specs.ForProofs.Said.{Says};
 
-use crate::faults::{ask_fault, issue_fault, list_fault, raised_line, table_fault};
+use crate::faults::{ask_fault, issue_fault, list_fault, past_fault, raised_line, table_fault};
 use crate::reply::Reply;
 use crate::writing::{blank_line, issued_line};
 use std::alloc::{AllocError, Global};
 use td_headings::Catalogue;
 use td_listings::{ListError, listing_text, log_text, table_text, vector_text};
-use td_story::{MOST_BYTES, Meter, Replica};
+use td_stamps::Stamp;
+use td_story::{Asked, MOST_BYTES, Meter, Replica};
 use td_values::{Value, show};
 
 /// Issues a statement. The room for its line is taken first, but for a text that is too long, which wants none.
@@ -42,17 +44,56 @@ fn value_line(alloc: Global, value: &Value) -> Result<String, AllocError>
     Ok(line)
 }
 
+// The line of what a query means.
+fn said(alloc: Global, asked: &Asked) -> Result<Reply, AllocError>
+    ensures { IfOk result (Says (λ words. words ≡ reply_line asked.now)) }
+{
+    match asked {
+        Asked::Value(value) => Ok(Reply::Text(value_line(alloc, value)?)),
+        Asked::Raised(raise) => Ok(Reply::Fixed(raised_line(*raise))),
+    }
+}
+
 /// Asks a query.
 pub(crate) fn query<R: Replica>(alloc: Global, site: &R, text: &str) -> Reply
     ensures { Says (TellsAsked text.now (R.seen site.now)) result }
 {
-    let value = match site.ask(alloc, text) {
-        Ok(td_story::Asked::Value(value)) => value,
-        Ok(td_story::Asked::Raised(raise)) => return Reply::Fixed(raised_line(raise)),
+    let asked = match site.ask(alloc, text) {
+        Ok(asked) => asked,
         Err(error) => return Reply::Fixed(ask_fault(error)),
     };
-    match value_line(alloc, &value) {
-        Ok(line) => Reply::Text(line),
+    match said(alloc, &asked) {
+        Ok(reply) => reply,
+        Err(_) => Reply::Fixed("fault memory\n"),
+    }
+}
+
+fn stamp_at(clock: u64, origin: u32) -> Stamp
+    ensures { result ≡ spec.stamp_at (clock, origin) }
+{
+    match u16::try_from(origin) {
+        Ok(site) => Stamp { clock, site },
+        Err(_) => Stamp { clock: 0, site: 0 },
+    }
+}
+
+/// Asks a query just after the entry of this clock and origin.
+pub(crate) fn query_at<R: Replica>(
+    alloc: Global,
+    site: &R,
+    text: &str,
+    clock: u64,
+    origin: u32,
+    meter: &mut Meter,
+) -> Reply
+    ensures { Says (TellsPast text.now (clock, origin) (R.seen site.now)) result }
+{
+    let past = match site.ask_at(alloc, text, stamp_at(clock, origin), meter) {
+        Ok(past) => past,
+        Err(error) => return Reply::Fixed(past_fault(error)),
+    };
+    match said(alloc, &past) {
+        Ok(reply) => reply,
         Err(_) => Reply::Fixed("fault memory\n"),
     }
 }

@@ -1,12 +1,17 @@
 -- Legal databases that agree on the footprint of a text give it one outcome and the same differences.
-use Rattle.std.proofs.Common.{◌≡◌, ◌⊎◌, inl, inr, ⊎_elim, ◌==◌, ℕ, zero, suc, pred, Bool, true, false, if◌then◌else◌, eqb-true, List, [], ◌∷◌, map, length, Option, None, Some, slice_get, Result, Ok, Err, refl, ap, sym, ◌∙◌, subst, arith}
+use Rattle.std.proofs.Common.{◌≡◌, ◌⊎◌, inl, inr, ⊎_elim, ◌==◌, ℕ, zero, suc, pred, Bool, true, false, if◌then◌else◌, eqb-true, List, [], ◌∷◌, ◌++◌, map, length, Option, None, Some, slice_get, Result, Ok, Err, refl, ap, sym, ◌∙◌, subst, arith}
 use Rattle.std.specs.List.{Contains}
 use Rattle.std.proofs.lemmas.Bool.{cases_eq}
-use Rattle.std.proofs.lemmas.List.Elements.{Contains-append_right}
+use Rattle.std.proofs.lemmas.List.Elements.{Contains-append_left, Contains-append_right}
 use Rattle.std.proofs.lemmas.Option.{slice_get-get_or}
+use Rattle.td_values.specs.Data.{no_attrs}
 use Rattle.td_values.specs.Rows.{RowsData}
 use Rattle.td_values.specs.declared.TypeKind.TheVariants as kind
 use Rattle.td_syntax.specs.declared.script.Action.{Action}
+use Rattle.td_syntax.specs.declared.script.Statement.{Statement}
+use Rattle.td_syntax.specs.declared.script.Statement.TheVariants as statement
+use Rattle.td_syntax.specs.declared.tree.Expr.{Expr}
+use Rattle.td_trees.specs.declared.expression.Expression.{Expression}
 use Rattle.td_relations.specs.Deltas.{DeltaData}
 use Rattle.td_algebra.specs.Raising.{and_then}
 use Rattle.td_algebra.specs.declared.errors.Stop.{Stop}
@@ -14,21 +19,23 @@ use Rattle.td_algebra.specs.declared.errors.Stop.TheVariants as stop
 use Rattle.td_headings.specs.Catalogues.{CatalogueData}
 use Rattle.td_headings.specs.Definitions.{Defined}
 use Rattle.td_headings.specs.Reached.{ReadsRelvar}
-use Rattle.td_headings.specs.Statements.{AreAssignments, IsAssignment, IsTarget, actions_of, assignments_of, next_assignment, no_assignments, source_of}
+use Rattle.td_headings.specs.Statements.{AreAssignments, IsAssignment, IsCondition, IsTarget, TypesStatement, assignments_of, condition_of, next_assignment, no_assignments, source_of, types_assignment, types_conditional}
 use Rattle.td_headings.specs.declared.defined.Test.{Test}
 use Rattle.td_headings.specs.declared.defined.Test.TheVariants as test
 use Rattle.td_headings.specs.declared.statement.TypedAssignment.{TypedAssignment}
 use Rattle.td_headings.specs.declared.statement.TypedStatement.{TypedStatement}
+use Rattle.td_headings.specs.declared.statement.TypedStatement.TheVariants as typed_statement
 use Rattle.td_headings.proofs.WellTyped.{all_typed}
 use Rattle.td_meaning.specs.Mean.{Relvars}
 use Rattle.td_operators.specs.Values.{rows_of, truth_of}
+use Rattle.td_story.specs.Trees.{tree_means}
 use Rattle.td_story.specs.Tests.{AreLegal, failing, is_key, judgement, or_behind}
 use Rattle.td_story.specs.Databases.{DatabaseData, IsDatabase, Stored, at_place, stored_relvars}
 use Rattle.td_story.specs.Given.{Given, gives, nothing_given, or_old, or_stored, seen, with_given}
 use Rattle.td_story.specs.Differences.{AreDifferences, Differs}
-use Rattle.td_story.specs.Footprints.{AgreeOnFootprint, InFootprint, IsInFootprint, TestReads, by_source, by_test, target}
+use Rattle.td_story.specs.Footprints.{AgreeOnFootprint, InFootprint, IsInFootprint, TestReads, by_condition, by_source, by_test, target}
 use Rattle.td_assign.specs.Laws.{StepsAlike}
-use Rattle.td_story.specs.Sources.{source_means, sources}
+use Rattle.td_story.specs.Sources.{given_over, made_where, source_means, sources}
 use Rattle.td_story.specs.Steps.{IsRead, Steps, unread, raised, refused, done, failing_with, given_by, with_all}
 use Rattle.td_story.specs.declared.outcome.Outcome.{Outcome}
 use Rattle.td_assign.proofs.Replacing.{given_none}
@@ -100,6 +107,28 @@ module _ (c : CatalogueData) (defined : Defined c) (r s : Relvars) where
       let here = source_alike a x p (same x (first x xs)) g in
       λ i. and_then (here i) (λ v. sources_alike as' xs ps (λ y h. same y (further x xs y h)) (gives x.target v g) i)
 
+  chosen_alike : (a : Expr) (u : Expression) → IsCondition c a u → ((n : ℕ) → ReadsRelvar c.origins u.tree n → r n ≡ s n) → and_then (tree_means c r u.tree no_attrs) truth_of ≡ and_then (tree_means c s u.tree no_attrs) truth_of
+  chosen_alike a u i same = ap (λ m. and_then m truth_of) (trees_alike c defined u.tree u.kind (record { expr = a; types = i.expression.types }) r s same)
+
+  by_truth : (m : Result Bool Stop) (xs ys : List TypedAssignment)
+      → sources c r nothing_given xs ≡ sources c s nothing_given xs
+      → sources c r nothing_given ys ≡ sources c s nothing_given ys
+      → and_then (and_then m (made_where xs ys)) (sources c r nothing_given) ≡ and_then (and_then m (made_where xs ys)) (sources c s nothing_given)
+  by_truth (Ok true) xs ys h k = h
+  by_truth (Ok false) xs ys h k = k
+  by_truth (Err e) xs ys h k = refl
+
+  pub given_alike_over : (t : Statement) (x : TypedStatement) → TypesStatement c t x
+      → ((u : Expression) → condition_of x ≡ Some u → (n : ℕ) → ReadsRelvar c.origins u.tree n → r n ≡ s n)
+      → ((y : TypedAssignment) → Contains (assignments_of x) y → (n : ℕ) → ReadsRelvar c.origins y.source.tree n → r n ≡ s n)
+      → given_over c r x ≡ given_over c s x
+  given_alike_over (statement.Assignment as') x (types_assignment {xs} p) decides same = sources_alike as' xs p same nothing_given
+  given_alike_over (statement.Conditional a as' bs) x (types_conditional {u} {xs} {ys} i p q) decides same =
+      ap (λ m. and_then (and_then m (made_where xs ys)) (sources c r nothing_given)) (chosen_alike a u i (decides u refl))
+      ∙ by_truth (and_then (tree_means c s u.tree no_attrs) truth_of) xs ys
+      (sources_alike as' xs p (λ y h. same y (Contains-append_left xs ys y h)) nothing_given)
+      (sources_alike bs ys q (λ y h. same y (Contains-append_right xs ys y h)) nothing_given)
+
   pub judged_alike : (t : Test) → Contains c.tests t → ((n : ℕ) → TestReads c t n → r n ≡ s n) → judgement c r t ≡ judgement c s t
   judged_alike (test.Key m key) there same = ap (λ o. and_then o (λ (v : RowsData). Ok (is_key key v.tuples))) (same m refl)
   judged_alike (test.Constraint x u) there same =
@@ -153,6 +182,29 @@ module _ (P : ℕ → Type 0) where
       by None e = inr (λ s. ap at_place (given_none g s n e))
       by (Some r) e = inl (h n r e)
 
+-- ---- what a statement gives, it gives to its targets
+map_both : (xs ys : List TypedAssignment) → map (λ (x : TypedAssignment). x.target) (xs ++ ys) ≡ map (λ (x : TypedAssignment). x.target) xs ++ map (λ (x : TypedAssignment). x.target) ys
+map_both [] ys = refl
+map_both (x ∷ xs) ys = ap (λ (ns : List ℕ). x.target ∷ ns) (map_both xs ys)
+
+nothing_of : (P : ℕ → Type 0) → AreOf P nothing_given
+nothing_of P n r is = cc
+
+pub given_of : (c : CatalogueData) (r : Relvars) (x : TypedStatement) (g : Given) → given_over c r x ≡ Ok g → AreOf (IsTarget x) g
+given_of c r (typed_statement.Assignment xs) g h = sources_of (IsTarget (typed_statement.Assignment xs)) c r xs (λ m q. q) nothing_given g (nothing_of (IsTarget (typed_statement.Assignment xs))) h
+given_of c r (typed_statement.Conditional u xs ys) g h = by (and_then (tree_means c r u.tree no_attrs) truth_of) h
+  where
+    of_first : (n : ℕ) → Contains (map (λ (x : TypedAssignment). x.target) xs) n → IsTarget (typed_statement.Conditional u xs ys) n
+    of_first n q = subst (λ (ns : List ℕ). Contains ns n) (sym (map_both xs ys)) (Contains-append_left (map (λ (x : TypedAssignment). x.target) xs) (map (λ (x : TypedAssignment). x.target) ys) n q)
+
+    of_second : (n : ℕ) → Contains (map (λ (x : TypedAssignment). x.target) ys) n → IsTarget (typed_statement.Conditional u xs ys) n
+    of_second n q = subst (λ (ns : List ℕ). Contains ns n) (sym (map_both xs ys)) (Contains-append_right (map (λ (x : TypedAssignment). x.target) xs) (map (λ (x : TypedAssignment). x.target) ys) n q)
+
+    by : (m : Result Bool Stop) → and_then (and_then m (made_where xs ys)) (sources c r nothing_given) ≡ Ok g → AreOf (IsTarget (typed_statement.Conditional u xs ys)) g
+    by (Ok true) e = sources_of (IsTarget (typed_statement.Conditional u xs ys)) c r xs of_first nothing_given g (nothing_of (IsTarget (typed_statement.Conditional u xs ys))) e
+    by (Ok false) e = sources_of (IsTarget (typed_statement.Conditional u xs ys)) c r ys of_second nothing_given g (nothing_of (IsTarget (typed_statement.Conditional u xs ys))) e
+    by (Err f) e = cc
+
 -- ---- no differences
 ok_same : (a b : RowsData) → ◌≡◌ {A = Result RowsData Stop} (Ok a) (Ok b) → a ≡ b
 ok_same a b h = cc
@@ -166,23 +218,20 @@ module _ (r s : Relvars) (ds : List (ℕ × DeltaData)) where
   }
 
 -- ---- two databases
-module _ (d : DatabaseData) (stored : Stored) (text : List ℕ) (is : IsDatabase d) (length_same : length d.stored ≡ length stored) (legal : AreLegal d.catalogue (stored_relvars d.stored)) (other_legal : AreLegal d.catalogue (stored_relvars stored)) (agree : (n : ℕ) → IsInFootprint d.catalogue text n → stored_relvars d.stored n ≡ stored_relvars stored n) where
+module _ (d : DatabaseData) (stored : Stored) (dialect : ℕ) (text : List ℕ) (is : IsDatabase d) (length_same : length d.stored ≡ length stored) (legal : AreLegal d.catalogue (stored_relvars d.stored)) (other_legal : AreLegal d.catalogue (stored_relvars stored)) (agree : (n : ℕ) → IsInFootprint d.catalogue dialect text n → stored_relvars d.stored n ≡ stored_relvars stored n) where
   abbrev other : DatabaseData
   other = record { catalogue = d.catalogue; stored = stored }
 
-  module _ (x : TypedStatement) (p : IsRead d.catalogue text x) where
+  module _ (x : TypedStatement) (p : IsRead d.catalogue dialect text x) where
     agree_at : (n : ℕ) → InFootprint d.catalogue x n → stored_relvars d.stored n ≡ stored_relvars stored n
     agree_at n h = agree n (record { statement = x; reads = p; within = h })
 
     same_sources : given_by d x ≡ given_by other x
-    same_sources = sources_alike d.catalogue is.defined (stored_relvars d.stored) (stored_relvars stored) (actions_of p.statement) (assignments_of x) p.types (λ a there n h. agree_at n (by_source there h)) nothing_given
+    same_sources = given_alike_over d.catalogue is.defined (stored_relvars d.stored) (stored_relvars stored) p.statement x p.types (λ u its n h. agree_at n (by_condition its h)) (λ a there n h. agree_at n (by_source there h))
 
     module _ (g : Given) (given : given_by d x ≡ Ok g) where
-      nothing_of : AreOf (IsTarget x) nothing_given
-      nothing_of n r is = cc
-
       changed : (n : ℕ) → IsTarget x n ⊎ ((s : Stored) → stored_relvars (with_given g s) n ≡ stored_relvars s n)
-      changed = of_or_stays (IsTarget x) g (sources_of (IsTarget x) d.catalogue (stored_relvars d.stored) (assignments_of x) (λ n h. h) nothing_given g nothing_of given)
+      changed = of_or_stays (IsTarget x) g (given_of d.catalogue (stored_relvars d.stored) x g given)
 
       agree_after : (n : ℕ) → InFootprint d.catalogue x n → stored_relvars (with_given g d.stored) n ≡ stored_relvars (with_given g stored) n
       agree_after n h = given_alike g d.stored stored n length_same (agree_at n h)
@@ -223,7 +272,7 @@ module _ (d : DatabaseData) (stored : Stored) (text : List ℕ) (is : IsDatabase
         same_differences : AreDifferences (stored_relvars stored) (stored_relvars (with_given g stored)) ds
         same_differences = record { once = a.once; only = differs; all = λ n never. stays_there n (a.all n never) }
 
-  alike : (f : DatabaseData) (o : Outcome) → Steps d text o f → StepsAlike d f other text o
+  alike : (f : DatabaseData) (o : Outcome) → Steps d dialect text o f → StepsAlike d f other dialect text o
   alike f o (unread h) = record { after = other; step = unread h; differences = none_differ (stored_relvars d.stored) (stored_relvars stored) }
   alike f o (raised {x = x} p h) = record { after = other; step = raised p (sym (same_sources x p) ∙ h); differences = none_differ (stored_relvars d.stored) (stored_relvars stored) }
   alike f o (refused {x = x} {g = g} p h i j) = record {
@@ -237,10 +286,10 @@ module _ (d : DatabaseData) (stored : Stored) (text : List ℕ) (is : IsDatabase
     differences = same_differences x p g h;
   }
 
-pub step_by_footprint : (d e f : DatabaseData) (text : List ℕ) (o : Outcome) → IsDatabase d → IsDatabase e → AreLegal d.catalogue (stored_relvars d.stored) → AreLegal e.catalogue (stored_relvars e.stored) → AgreeOnFootprint d e text → Steps d text o f → StepsAlike d f e text o
-step_by_footprint d e f text o is other_is legal other_legal a step =
+pub step_by_footprint : (d e f : DatabaseData) (dialect : ℕ) (text : List ℕ) (o : Outcome) → IsDatabase d → IsDatabase e → AreLegal d.catalogue (stored_relvars d.stored) → AreLegal e.catalogue (stored_relvars e.stored) → AgreeOnFootprint d e dialect text → Steps d dialect text o f → StepsAlike d f e dialect text o
+step_by_footprint d e f dialect text o is other_is legal other_legal a step =
     let same = a.catalogue in
     let length_same = is.each ∙ ap (λ (c : CatalogueData). length c.origins) same ∙ sym other_is.each in
     let moved : AreLegal d.catalogue (stored_relvars e.stored) = subst (λ (c : CatalogueData). AreLegal c (stored_relvars e.stored)) (sym same) other_legal in
-    subst (λ (c : CatalogueData). StepsAlike d f (record { catalogue = c; stored = e.stored }) text o) same
-    (alike d e.stored text is length_same legal moved a.relvars f o step)
+    subst (λ (c : CatalogueData). StepsAlike d f (record { catalogue = c; stored = e.stored }) dialect text o) same
+    (alike d e.stored dialect text is length_same legal moved a.relvars f o step)

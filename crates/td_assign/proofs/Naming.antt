@@ -8,6 +8,7 @@ use Rattle.std.proofs.lemmas.List.Elements.{Contains-append_cases, Contains-appe
 use Rattle.td_values.specs.declared.TypeKind.TheVariants as kind
 use Rattle.td_syntax.specs.declared.script.Action.{Action}
 use Rattle.td_syntax.specs.declared.script.Statement.{Statement}
+use Rattle.td_syntax.specs.declared.script.Statement.TheVariants as statement
 use Rattle.td_kinds.specs.Kinds.{Name}
 use Rattle.td_trees.specs.declared.expression.Expression.{Expression}
 use Rattle.td_trees.specs.declared.tree.Typed.{Typed}
@@ -18,17 +19,18 @@ use Rattle.td_headings.specs.Catalogues.{CatalogueData}
 use Rattle.td_headings.specs.Definitions.{Defined}
 use Rattle.td_headings.specs.Expressions.{HasAllUnder, IsClosedExpression, IsConstraint, constraint_at, constraint_of, reads}
 use Rattle.td_headings.specs.Reached.{AreThose, ReadsRelvar}
-use Rattle.td_headings.specs.Statements.{AreAssignments, IsAssignment, IsTarget, TypesStatement, actions_of, assignments_of, next_assignment, no_assignments}
+use Rattle.td_headings.specs.Statements.{AreAssignments, IsAssignment, IsTarget, TypesStatement, assignments_of, condition_of, next_assignment, no_assignments, types_assignment, types_conditional}
 use Rattle.td_headings.specs.declared.defined.Test.{Test}
 use Rattle.td_headings.specs.declared.defined.Test.TheVariants as test
 use Rattle.td_headings.specs.declared.statement.TypedAssignment.{TypedAssignment}
 use Rattle.td_headings.specs.declared.statement.TypedStatement.{TypedStatement}
+use Rattle.td_headings.proofs.ConditionLemmas.{actions_of, are_all}
 use Rattle.td_headings.proofs.ReadLemmas.{reads_those}
 use Rattle.td_headings.proofs.WellTyped.{all_typed}
 use Rattle.td_story.proofs.Unique.{one_text}
-use Rattle.td_story.specs.Footprints.{InFootprint, IsInFootprint, IsTargetOfText, TestReads, by_source, by_test, target}
+use Rattle.td_story.specs.Footprints.{InFootprint, IsInFootprint, IsTargetOfText, TestReads, by_condition, by_source, by_test, target}
 use Rattle.td_story.specs.Steps.{IsRead, IsUnread}
-use Rattle.td_assign.specs.ForProofs.Names.{AreNames, Gathers, ReadsWith}
+use Rattle.td_assign.specs.ForProofs.Names.{AreNames, Gathers, ReadsWith, condition_reads}
 use Rattle.td_assign.specs.declared.names.Names.{Names}
 
 -- ---- lists
@@ -105,28 +107,58 @@ under c (a ∷ as') (y ∷ xs) (next_assignment p ps) x h = either y xs x h (λ 
 under c [] (y ∷ xs) p x h = elim p [ ]
 under c (a ∷ as') [] p x h = elim p [ ]
 
+condition_under : (c : CatalogueData) (s : Statement) (x : TypedStatement) → TypesStatement c s x → (u : Expression) → condition_of x ≡ Some u → HasAllUnder c u
+condition_under c (statement.Assignment as') x (types_assignment h) u is = cc
+condition_under c (statement.Conditional a as' bs) x (types_conditional {u = v} i p q) u is = subst (HasAllUnder c) (some_same v u is) i.expression.under
+
 module _ (c : CatalogueData) (x : TypedStatement) (typed : (s : Statement) × TypesStatement c s x) (defined : Defined c) (ts needed : List ℕ) (are_targets : AreThose (IsTarget x) ts) (gathers : Gathers (ReadsWith c ts) c.tests needed) where
+  -- what the sources read
   abbrev read : List ℕ
   read = flat_map (λ (y : TypedAssignment). reads y.source) (assignments_of x)
 
   source_reads : (y : TypedAssignment) → Contains (assignments_of x) y → (n : ℕ) → Contains (reads y.source) n ↔ ReadsRelvar c.origins y.source.tree n
-  source_reads y there = (reads_those c (all_typed c defined) y.source (under c (actions_of typed.0) (assignments_of x) typed.1 y there)).members
+  source_reads y there = (reads_those c (all_typed c defined) y.source (under c (actions_of typed.0) (assignments_of x) (are_all c typed.0 x typed.1) y there)).members
 
-  named : (n : ℕ) → Contains ((ts ++ needed) ++ read) n → InFootprint c x n
+  -- what the condition reads
+  decided : (u : Expression) → condition_of x ≡ Some u → (n : ℕ) → Contains (reads u) n ↔ ReadsRelvar c.origins u.tree n
+  decided u is = (reads_those c (all_typed c defined) u (condition_under c typed.0 x typed.1 u is)).members
+
+  by_its_condition : (n : ℕ) (o : Option Expression) → condition_of x ≡ o → Contains (condition_reads o) n → InFootprint c x n
+  by_its_condition n None is h = nowhere n h
+  by_its_condition n (Some u) is h = by_condition is ((decided u is n).0 h)
+
+  read_by_condition : (n : ℕ) (u : Expression) → condition_of x ≡ Some u → ReadsRelvar c.origins u.tree n → Contains (condition_reads (condition_of x)) n
+  read_by_condition n u is h = subst (λ o. Contains (condition_reads o) n) (sym is) ((decided u is n).1 h)
+
+  -- all that is gathered
+  abbrev pub gathered : List ℕ
+  gathered = ((ts ++ needed) ++ condition_reads (condition_of x)) ++ read
+
+  named : (n : ℕ) → Contains gathered n → InFootprint c x n
   named n h = ⊎_elim
       (λ front. ⊎_elim
+      (λ more. ⊎_elim
       (λ is. target ((are_targets.members n).0 is))
       (λ need. let q = (gathers n).0 need in by_test q.1 q.2.1 ((are_targets.members q.2.0).0 q.2.2) q.2.3)
-      (Contains-append_cases ts needed n front))
+      (Contains-append_cases ts needed n more))
+      (λ decides. by_its_condition n (condition_of x) refl decides)
+      (Contains-append_cases (ts ++ needed) (condition_reads (condition_of x)) n front))
       (λ of. let q = (in_flat (λ (y : TypedAssignment). reads y.source) (assignments_of x) n).0 of in by_source q.1 ((source_reads q.0 q.1 n).0 q.2))
-      (Contains-append_cases (ts ++ needed) read n h)
+      (Contains-append_cases ((ts ++ needed) ++ condition_reads (condition_of x)) read n h)
 
-  is_named : (n : ℕ) → InFootprint c x n → Contains ((ts ++ needed) ++ read) n
-  is_named n (target h) = Contains-append_left (ts ++ needed) read n (Contains-append_left ts needed n ((are_targets.members n).1 h))
-  is_named n (by_source {a = a} there r) = Contains-append_right (ts ++ needed) read n ((in_flat (λ (y : TypedAssignment). reads y.source) (assignments_of x) n).1 (a, there, (source_reads a there n).1 r))
-  is_named n (by_test {m = m} {t = t} there q h r) = Contains-append_left (ts ++ needed) read n (Contains-append_right ts needed n ((gathers n).1 (t, there, (m, q, (are_targets.members m).1 h, r))))
+  in_front : (n : ℕ) → Contains ((ts ++ needed) ++ condition_reads (condition_of x)) n → Contains gathered n
+  in_front n h = Contains-append_left ((ts ++ needed) ++ condition_reads (condition_of x)) read n h
 
-  pub footprint_those : (places all : List ℕ) → all ≡ (ts ++ needed) ++ read → AreThose (Contains all) places → AreThose (InFootprint c x) places
+  at_first : (n : ℕ) → Contains (ts ++ needed) n → Contains gathered n
+  at_first n h = in_front n (Contains-append_left (ts ++ needed) (condition_reads (condition_of x)) n h)
+
+  is_named : (n : ℕ) → InFootprint c x n → Contains gathered n
+  is_named n (target h) = at_first n (Contains-append_left ts needed n ((are_targets.members n).1 h))
+  is_named n (by_condition {u = u} is r) = in_front n (Contains-append_right (ts ++ needed) (condition_reads (condition_of x)) n (read_by_condition n u is r))
+  is_named n (by_source {a = a} there r) = Contains-append_right ((ts ++ needed) ++ condition_reads (condition_of x)) read n ((in_flat (λ (y : TypedAssignment). reads y.source) (assignments_of x) n).1 (a, there, (source_reads a there n).1 r))
+  is_named n (by_test {m = m} {t = t} there q h r) = at_first n (Contains-append_right ts needed n ((gathers n).1 (t, there, (m, q, (are_targets.members m).1 h, r))))
+
+  pub footprint_those : (places all : List ℕ) → all ≡ gathered → AreThose (Contains all) places → AreThose (InFootprint c x) places
   footprint_those places all is a = those_alike (Contains all) (InFootprint c x) places (λ n. (λ h. named n (subst (λ (l : List ℕ). Contains l n) is h), λ f. subst (λ (l : List ℕ). Contains l n) (sym is) (is_named n f))) a
 
 -- ---- a text names what its statement does
@@ -155,44 +187,62 @@ module _ (c : CatalogueData) where
       (λ e. (y, first y ys, subst (λ (v : TypedAssignment). v.source.tree ≡ y.source.tree) e (one_tree a x y p q)))
       (λ later. let k = same_tree as' xs ys ps qs z later in (k.0, further y ys k.0 k.1, k.2))
 
-  module _ (text : List ℕ) where
-    moved : (x y : TypedStatement) (p : IsRead c text x) (q : IsRead c text y) → AreAssignments c (actions_of p.statement) (assignments_of y)
-    moved x y p q = subst (λ s. AreAssignments c (actions_of s) (assignments_of y)) (one_text text q.statement p.statement q.reads p.reads) q.types
+  one_condition : (s : Statement) (x y : TypedStatement) → TypesStatement c s x → TypesStatement c s y → (u : Expression) → condition_of x ≡ Some u → (v : Expression) × (condition_of y ≡ Some v) × (u.tree ≡ v.tree)
+  one_condition (statement.Assignment as') x y (types_assignment h) q u is = cc
+  one_condition (statement.Conditional a as' bs) x y (types_conditional {u = w} i p q) (types_conditional {u = v} j k l) u is = (
+    v,
+    refl,
+    subst (λ z. z.tree ≡ v.tree) (some_same w u is)
+        (ap (λ z. z.tree) (some_same (typing w.tree w.kind) (typing v.tree v.kind) (sym (complete c.schema i.expression.types) ∙ complete c.schema j.expression.types))),
+  )
 
-    one_targets : (x y : TypedStatement) (p : IsRead c text x) (q : IsRead c text y) → map (λ (z : TypedAssignment). z.target) (assignments_of x) ≡ map (λ (z : TypedAssignment). z.target) (assignments_of y)
-    one_targets x y p q = same_targets (actions_of p.statement) (assignments_of x) (assignments_of y) p.types (moved x y p q)
+  module _ (dialect : ℕ) (text : List ℕ) where
+    typed_so : (x y : TypedStatement) (p : IsRead c dialect text x) (q : IsRead c dialect text y) → TypesStatement c p.statement y
+    typed_so x y p q = subst (λ s. TypesStatement c s y) (one_text dialect text q.statement p.statement q.reads p.reads) q.types
 
-    target_moves : (x y : TypedStatement) (p : IsRead c text x) (q : IsRead c text y) (n : ℕ) → IsTarget x n → IsTarget y n
+    own : (x : TypedStatement) (p : IsRead c dialect text x) → AreAssignments c (actions_of p.statement) (assignments_of x)
+    own x p = are_all c p.statement x p.types
+
+    moved : (x y : TypedStatement) (p : IsRead c dialect text x) (q : IsRead c dialect text y) → AreAssignments c (actions_of p.statement) (assignments_of y)
+    moved x y p q = are_all c p.statement y (typed_so x y p q)
+
+    one_targets : (x y : TypedStatement) (p : IsRead c dialect text x) (q : IsRead c dialect text y) → map (λ (z : TypedAssignment). z.target) (assignments_of x) ≡ map (λ (z : TypedAssignment). z.target) (assignments_of y)
+    one_targets x y p q = same_targets (actions_of p.statement) (assignments_of x) (assignments_of y) (own x p) (moved x y p q)
+
+    target_moves : (x y : TypedStatement) (p : IsRead c dialect text x) (q : IsRead c dialect text y) (n : ℕ) → IsTarget x n → IsTarget y n
     target_moves x y p q n h = subst (λ (ts : List ℕ). Contains ts n) (one_targets x y p q) h
 
-    place_moves : (x y : TypedStatement) (p : IsRead c text x) (q : IsRead c text y) (n : ℕ) → InFootprint c x n → InFootprint c y n
+    place_moves : (x y : TypedStatement) (p : IsRead c dialect text x) (q : IsRead c dialect text y) (n : ℕ) → InFootprint c x n → InFootprint c y n
     place_moves x y p q n (target h) = target (target_moves x y p q n h)
+    place_moves x y p q n (by_condition {u = u} is r) =
+        let k = one_condition p.statement x y p.types (typed_so x y p q) u is in
+        by_condition k.1 (subst (λ w. ReadsRelvar c.origins w n) k.2 r)
     place_moves x y p q n (by_source {a = a} there r) =
-        let k = same_tree (actions_of p.statement) (assignments_of x) (assignments_of y) p.types (moved x y p q) a there in
+        let k = same_tree (actions_of p.statement) (assignments_of x) (assignments_of y) (own x p) (moved x y p q) a there in
         by_source k.1 (subst (λ u. ReadsRelvar c.origins u n) k.2 r)
     place_moves x y p q n (by_test {m = m} there k h r) = by_test there k (target_moves x y p q m h) r
 
-    targets_read : (x : TypedStatement) → IsRead c text x → (places : List ℕ) → AreThose (IsTarget x) places → AreThose (IsTargetOfText c text) places
+    targets_read : (x : TypedStatement) → IsRead c dialect text x → (places : List ℕ) → AreThose (IsTarget x) places → AreThose (IsTargetOfText c dialect text) places
     targets_read x p places ts =
-        those_alike (IsTarget x) (IsTargetOfText c text) places (λ n. (λ h. record { statement = x; reads = p; target = h }, λ t. target_moves t.statement x t.reads p n t.target)) ts
+        those_alike (IsTarget x) (IsTargetOfText c dialect text) places (λ n. (λ h. record { statement = x; reads = p; target = h }, λ t. target_moves t.statement x t.reads p n t.target)) ts
 
-    targets_unread : IsUnread c text → (places : List ℕ) → places ≡ [] → AreThose (IsTargetOfText c text) places
-    targets_unread unread places none = subst (AreThose (IsTargetOfText c text)) (sym none) (none_of (IsTargetOfText c text) (λ n t. unread t.statement t.reads))
+    targets_unread : IsUnread c dialect text → (places : List ℕ) → places ≡ [] → AreThose (IsTargetOfText c dialect text) places
+    targets_unread unread places none = subst (AreThose (IsTargetOfText c dialect text)) (sym none) (none_of (IsTargetOfText c dialect text) (λ n t. unread t.statement t.reads))
 
-    pub footprint_told : {E Z : Type 0} (x : TypedStatement) → IsRead c text x → (m : Result (Vec ℕ Z) E) → IfOk m (λ v. AreThose (InFootprint c x) v.items) → IfOk m (λ v. AreThose (IsInFootprint c text) v.items)
-    footprint_told x p (Ok v) ns = those_alike (InFootprint c x) (IsInFootprint c text) v.items (λ n. (λ h. record { statement = x; reads = p; within = h }, λ t. place_moves t.statement x t.reads p n t.within)) ns
+    pub footprint_told : {E Z : Type 0} (x : TypedStatement) → IsRead c dialect text x → (m : Result (Vec ℕ Z) E) → IfOk m (λ v. AreThose (InFootprint c x) v.items) → IfOk m (λ v. AreThose (IsInFootprint c dialect text) v.items)
+    footprint_told x p (Ok v) ns = those_alike (InFootprint c x) (IsInFootprint c dialect text) v.items (λ n. (λ h. record { statement = x; reads = p; within = h }, λ t. place_moves t.statement x t.reads p n t.within)) ns
     footprint_told x p (Err e) ns = tt
 
-    pub footprint_unread : IsUnread c text → (places : List ℕ) → places ≡ [] → AreThose (IsInFootprint c text) places
-    footprint_unread unread places none = subst (AreThose (IsInFootprint c text)) (sym none) (none_of (IsInFootprint c text) (λ n t. unread t.statement t.reads))
+    pub footprint_unread : IsUnread c dialect text → (places : List ℕ) → places ≡ [] → AreThose (IsInFootprint c dialect text) places
+    footprint_unread unread places none = subst (AreThose (IsInFootprint c dialect text)) (sym none) (none_of (IsInFootprint c dialect text) (λ n t. unread t.statement t.reads))
 
-    pub names_read : (x : TypedStatement) → IsRead c text x → (v : Names) → AreThose (IsTarget x) v.targets.items → AreThose (InFootprint c x) v.footprint.items → AreNames c text v
+    pub names_read : (x : TypedStatement) → IsRead c dialect text x → (v : Names) → AreThose (IsTarget x) v.targets.items → AreThose (InFootprint c x) v.footprint.items → AreNames c dialect text v
     names_read x p v ts ns = record {
       targets = targets_read x p v.targets.items ts;
-      footprint = those_alike (InFootprint c x) (IsInFootprint c text) v.footprint.items (λ n. (λ h. record { statement = x; reads = p; within = h }, λ t. place_moves t.statement x t.reads p n t.within)) ns;
+      footprint = those_alike (InFootprint c x) (IsInFootprint c dialect text) v.footprint.items (λ n. (λ h. record { statement = x; reads = p; within = h }, λ t. place_moves t.statement x t.reads p n t.within)) ns;
     }
 
-    pub names_unread : IsUnread c text → (v : Names) → v.targets.items ≡ [] → v.footprint.items ≡ [] → AreNames c text v
+    pub names_unread : IsUnread c dialect text → (v : Names) → v.targets.items ≡ [] → v.footprint.items ≡ [] → AreNames c dialect text v
     names_unread unread v ts ns = record {
       targets = targets_unread unread v.targets.items ts;
       footprint = footprint_unread unread v.footprint.items ns;

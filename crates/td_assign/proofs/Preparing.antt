@@ -1,19 +1,25 @@
 -- What a text comes to, step by step.
-use Rattle.std.proofs.Common.{◌≡◌, ℕ, List, [], ◌∷◌, Option, None, Some, IfOk, MatchOption, Result, Ok, Err, option_map, refl, ap, sym, ◌∙◌, subst, arith}
+use Rattle.std.proofs.Common.{◌≡◌, ℕ, Bool, if◌then◌else◌, List, [], ◌∷◌, Option, None, Some, IfOk, MatchOption, Result, Ok, Err, option_map, refl, ap, sym, ◌∙◌, subst, arith}
 use Rattle.std.specs.List.{All}
 use Rattle.std.proofs.lemmas.List.Elements.{All-cons, All-nil}
 use Rattle.td_values.specs.declared.raises.Raise.{Raise}
 use Rattle.td_syntax.specs.declared.script.Action.{Action}
 use Rattle.td_syntax.specs.declared.script.Statement.{Statement}
+use Rattle.td_syntax.specs.declared.script.Statement.TheVariants as statement
+use Rattle.td_syntax.specs.declared.tree.Expr.{Expr}
+use Rattle.td_trees.specs.declared.expression.Expression.{Expression}
+use Rattle.td_values.specs.declared.TypeKind.TheVariants as kind
 use Rattle.td_grammar.specs.Statements as grammar
 use Rattle.td_typing.proofs.KindLemmas.{some_same}
+use Rattle.td_algebra.specs.Raising.{and_then}
 use Rattle.td_algebra.specs.declared.errors.Stop.{Stop}
 use Rattle.td_headings.specs.Catalogues.{CatalogueData}
 use Rattle.td_headings.specs.Statements as typed
-use Rattle.td_headings.specs.Statements.{AreAssignments, TypesNoStatement, assignments_of, next_assignment, no_assignments}
+use Rattle.td_headings.specs.Statements.{AreAssignments, IsCondition, TypesNoStatement, next_assignment, no_assignments, types_assignment, types_conditional}
 use Rattle.td_headings.specs.declared.defined.Test.{Test}
 use Rattle.td_headings.specs.declared.statement.TypedAssignment.{TypedAssignment}
 use Rattle.td_headings.specs.declared.statement.TypedStatement.{TypedStatement}
+use Rattle.td_headings.specs.declared.statement.TypedStatement.TheVariants as typed_statement
 use Rattle.td_meaning.specs.Mean.{Relvars}
 use Rattle.td_story.specs.Raises.{stop_of}
 use Rattle.td_story.specs.Reports.{IsReport, title}
@@ -22,14 +28,18 @@ use Rattle.td_story.specs.declared.broken.BrokenTest.TheVariants as broken
 use Rattle.td_story.specs.declared.broken.TestFailure.{TestFailure}
 use Rattle.td_story.specs.Tests.{failing}
 use Rattle.td_story.specs.Databases.{DatabaseData, IsDatabase, IsLegal, stored_relvars}
-use Rattle.td_story.specs.Given.{replaced, with_given}
+use Rattle.td_story.specs.Given.{nothing_given, replaced, with_given}
+use Rattle.td_story.specs.Sources.{made_where, sources}
+use Rattle.td_story.specs.Trees.{IsIn}
 use Rattle.td_relations.specs.Deltas.{DeltaData}
 use Rattle.td_constraints.specs.Changes.{PassedBefore}
 use Rattle.td_assign.specs.ForProofs.Lists.{given_to}
 use Rattle.td_story.specs.Differences.{AreDifferences}
-use Rattle.td_assign.specs.ForProofs.Given.{AreAssigned, AreChanges, IsAssigned, assigned_by}
-use Rattle.td_assign.specs.ForProofs.Prepared.{AreAssignedTo, IsJudged, IsPrepared, MayChange, Refuses, by_source, by_test, failing_after}
-use Rattle.td_story.specs.Steps.{IsRead, IsUnread, Steps, TellsTest, done, raised, refused}
+use Rattle.td_assign.specs.ForProofs.Given.{AreAssigned, AreChanges, IsAssigned, Stands, assigned_by}
+use Rattle.td_story.specs.declared.failure.Failure.{Failure}
+use Rattle.td_story.specs.declared.failure.Failure.TheVariants as failure
+use Rattle.td_assign.specs.ForProofs.Prepared.{AreAssignedTo, IsJudged, IsMade, IsPrepared, MayChange, Refuses, by_assignments, by_error, by_source, by_test, chosen_by, failing_after}
+use Rattle.td_story.specs.Steps.{IsRead, IsUnread, Steps, TellsTest, done, given_by, raised, refused}
 use Rattle.td_assign.specs.declared.changes.Change.{Change}
 use Rattle.td_story.specs.declared.outcome.Outcome.{Outcome}
 use Rattle.td_story.specs.declared.outcome.Outcome.TheVariants as outcome
@@ -39,12 +49,12 @@ use Rattle.td_assign.proofs.Replacing.{all_replaced}
 use Rattle.td_story.proofs.Unique.{one_text}
 
 -- ---- no reading, or no typing
-module _ (c : CatalogueData) (text : List ℕ) where
-  pub without_reading : ((s : Statement) → ¬ grammar.IsStatement text s) → IsUnread c text
+module _ (c : CatalogueData) (dialect : ℕ) (text : List ℕ) where
+  pub without_reading : ((s : Statement) → ¬ grammar.IsStatementIn dialect text s) → IsUnread c dialect text
   without_reading none x p = none p.statement p.reads
 
-  pub without_typing : (s : Statement) → grammar.IsStatement text s → TypesNoStatement c s → IsUnread c text
-  without_typing s reads never x p = never x (subst (λ t. typed.TypesStatement c t x) (one_text text p.statement s p.reads reads) p.types)
+  pub without_typing : (s : Statement) → grammar.IsStatementIn dialect text s → TypesNoStatement c s → IsUnread c dialect text
+  without_typing s reads never x p = never x (subst (λ t. typed.TypesStatement c t x) (one_text dialect text p.statement s p.reads reads) p.types)
 
 all_assigned : (c : CatalogueData) (as' : List Action) (xs : List TypedAssignment) → AreAssignments c as' xs → All (IsAssigned c) xs
 all_assigned c [] [] no_assignments = All-nil (IsAssigned c)
@@ -52,8 +62,67 @@ all_assigned c (a ∷ as') (x ∷ xs) (next_assignment p ps) = All-cons (IsAssig
 all_assigned c [] (x ∷ xs) h = elim h [ ]
 all_assigned c (a ∷ as') [] h = elim h [ ]
 
-pub are_assigned : (c : CatalogueData) (text : List ℕ) (x : TypedStatement) → IsRead c text x → AreAssigned c (assignments_of x)
-are_assigned c text x p = all_assigned c (typed.actions_of p.statement) (assignments_of x) p.types
+-- ---- the parts of a statement
+all_alone_of : (c : CatalogueData) (s : Statement) (x : TypedStatement) (xs : List TypedAssignment) → typed.TypesStatement c s x → x ≡ typed_statement.Assignment xs → AreAssigned c xs
+all_alone_of c (statement.Assignment as') x xs (types_assignment {xs = zs} h) is =
+    let same : zs ≡ xs = cc in
+    subst (AreAssigned c) same (all_assigned c as' zs h)
+all_alone_of c (statement.Conditional a as' bs) x xs (types_conditional i p q) is = cc
+
+first_of_both : (c : CatalogueData) (s : Statement) (x : TypedStatement) (u : Expression) (xs ys : List TypedAssignment) → typed.TypesStatement c s x → x ≡ typed_statement.Conditional u xs ys → AreAssigned c xs
+first_of_both c (statement.Assignment as') x u xs ys (types_assignment h) is = cc
+first_of_both c (statement.Conditional a as' bs) x u xs ys (types_conditional {xs = zs} i p q) is =
+    let same : zs ≡ xs = cc in
+    subst (AreAssigned c) same (all_assigned c as' zs p)
+
+second_of_both : (c : CatalogueData) (s : Statement) (x : TypedStatement) (u : Expression) (xs ys : List TypedAssignment) → typed.TypesStatement c s x → x ≡ typed_statement.Conditional u xs ys → AreAssigned c ys
+second_of_both c (statement.Assignment as') x u xs ys (types_assignment h) is = cc
+second_of_both c (statement.Conditional a as' bs) x u xs ys (types_conditional {ys = zs} i p q) is =
+    let same : zs ≡ ys = cc in
+    subst (AreAssigned c) same (all_assigned c bs zs q)
+
+condition_of_both : (c : CatalogueData) (s : Statement) (x : TypedStatement) (u : Expression) (xs ys : List TypedAssignment) → typed.TypesStatement c s x → x ≡ typed_statement.Conditional u xs ys → (a : Expr) × IsCondition c a u
+condition_of_both c (statement.Assignment as') x u xs ys (types_assignment h) is = cc
+condition_of_both c (statement.Conditional a as' bs) x u xs ys (types_conditional {u = v} i p q) is =
+    let same : v ≡ u = cc in
+    (a, subst (IsCondition c a) same i)
+
+module _ (c : CatalogueData) (x : TypedStatement) (t : (s : Statement) × typed.TypesStatement c s x) where
+  pub all_alone : (xs : List TypedAssignment) → x ≡ typed_statement.Assignment xs → AreAssigned c xs
+  all_alone xs is = all_alone_of c t.0 x xs t.1 is
+
+  module _ (u : Expression) (xs ys : List TypedAssignment) (is : x ≡ typed_statement.Conditional u xs ys) where
+    pub first_of : AreAssigned c xs
+    first_of = first_of_both c t.0 x u xs ys t.1 is
+
+    pub second_of : AreAssigned c ys
+    second_of = second_of_both c t.0 x u xs ys t.1 is
+
+    its_condition : (a : Expr) × IsCondition c a u
+    its_condition = condition_of_both c t.0 x u xs ys t.1 is
+
+    pub condition_kind : u.kind ≡ kind.Boolean
+    condition_kind = its_condition.1.kind_
+
+    pub condition_in : IsIn c u
+    condition_in = record {
+      tree = record { expr = its_condition.0; types = its_condition.1.expression.types };
+      attributes = its_condition.1.expression.attributes;
+      under = its_condition.1.expression.under;
+    }
+
+-- what the condition comes to decides
+pub where_ok : (m : Result Bool Stop) (b : Bool) (xs ys : List TypedAssignment) → m ≡ Ok b → and_then m (made_where xs ys) ≡ Ok (if b then xs else ys)
+where_ok (Ok a) b xs ys h = let same : a ≡ b = cc in ap (λ (v : Bool). made_where xs ys v) same
+where_ok (Err f) b xs ys h = cc
+
+pub where_err : (m : Result Bool Stop) (f : Failure) (xs ys : List TypedAssignment) → Stands f m → Stands f (and_then m (made_where xs ys))
+where_err m (failure.Raised e) xs ys h = ap (λ (r : Result Bool Stop). and_then r (made_where xs ys)) h
+where_err m failure.OutOfMemory xs ys h = tt
+
+pub made : {E : Type 0} (d : DatabaseData) (x : TypedStatement) (xs : List TypedAssignment) → chosen_by d x ≡ Ok xs → (r : Result Prepared E) → IfOk r (AreAssignedTo d xs) → IfOk r (IsMade d x)
+made d x xs h (Ok m) a = by_assignments xs h a
+made d x xs h (Err e) a = tt
 
 -- ---- how a test is told
 module _ (c : CatalogueData) (t : Test) where
@@ -102,12 +171,12 @@ module _ (d : DatabaseData) (cs : List Change) where
   pub none_fails : (o : Option TestFailure) → o ≡ None → IsReport d.catalogue (failing_after d cs) o → failing_after d cs ≡ None
   none_fails o is h = passes d.catalogue (failing_after d cs) (subst (IsReport d.catalogue (failing_after d cs)) is h)
 
-module _ (c k : CatalogueData) (text : List ℕ) (o : Option TypedStatement) (same : k ≡ c) (h : MatchOption o (IsUnread k text) (IsRead k text)) where
-  pub read_is : (x : TypedStatement) → o ≡ Some x → IsRead c text x
-  read_is x is = subst (λ (z : CatalogueData). IsRead z text x) same (subst (λ q. MatchOption q (IsUnread k text) (IsRead k text)) is h)
+module _ (c k : CatalogueData) (dialect : ℕ) (text : List ℕ) (o : Option TypedStatement) (same : k ≡ c) (h : MatchOption o (IsUnread k dialect text) (IsRead k dialect text)) where
+  pub read_is : (x : TypedStatement) → o ≡ Some x → IsRead c dialect text x
+  read_is x is = subst (λ (z : CatalogueData). IsRead z dialect text x) same (subst (λ q. MatchOption q (IsUnread k dialect text) (IsRead k dialect text)) is h)
 
-  pub unread_is : o ≡ None → IsUnread c text
-  unread_is is = subst (λ (z : CatalogueData). IsUnread z text) same (subst (λ q. MatchOption q (IsUnread k text) (IsRead k text)) is h)
+  pub unread_is : o ≡ None → IsUnread c dialect text
+  unread_is is = subst (λ (z : CatalogueData). IsUnread z dialect text) same (subst (λ q. MatchOption q (IsUnread k dialect text) (IsRead k dialect text)) is h)
 
 -- ---- what follows from each step
 pub judged : {E : Type 0} (d : DatabaseData) (xs : List TypedAssignment) (cs : List Change) → assigned_by d xs ≡ Ok (given_to cs) → (m : Result Prepared E) → IfOk m (IsJudged d cs) → IfOk m (AreAssignedTo d xs)
@@ -116,15 +185,27 @@ judged d xs cs given (Ok (Turn n x)) h = absurd h
 judged d xs cs given (Ok (Refused o)) h = by_test cs given h
 judged d xs cs given (Err e) h = tt
 
-module _ (d : DatabaseData) (text : List ℕ) (x : TypedStatement) (p : IsRead d.catalogue text x) where
-  refuses : (o : Outcome) → Refuses d (assignments_of x) o → Steps d text o d
-  refuses (outcome.Raised e) (by_source given) = raised p given
-  refuses o (by_test cs given j) = refused p given j.2 j.3
+-- what a statement gives is what the assignments give that it makes
+pub given_as : (d : DatabaseData) (x : TypedStatement) (xs : List TypedAssignment) → chosen_by d x ≡ Ok xs → given_by d x ≡ assigned_by d xs
+given_as d x xs is = ap (λ m. and_then m (sources d.catalogue (stored_relvars d.stored) nothing_given)) is
 
-  pub prepared : (m : Prepared) → AreAssignedTo d (assignments_of x) m → IsPrepared d text m
-  prepared (Changes v ds) h = (done p h.0 h.1.passes, h.1)
-  prepared (Turn n y) h = (x, p, h)
-  prepared (Refused o) h = refuses o h
+module _ (d : DatabaseData) (dialect : ℕ) (text : List ℕ) (x : TypedStatement) (p : IsRead d.catalogue dialect text x) where
+  module _ (xs : List TypedAssignment) (is : chosen_by d x ≡ Ok xs) where
+    refuses : (o : Outcome) → Refuses d xs o → Steps d dialect text o d
+    refuses (outcome.Raised e) (by_source given) = raised p (given_as d x xs is ∙ given)
+    refuses o (by_test cs given j) = refused p (given_as d x xs is ∙ given) j.2 j.3
+
+    all_made : (m : Prepared) → AreAssignedTo d xs m → IsPrepared d dialect text m
+    all_made (Changes v ds) h = (done p (given_as d x xs is ∙ h.0) h.1.passes, h.1)
+    all_made (Turn n y) h = (x, p, (xs, is, h))
+    all_made (Refused o) h = refuses o h
+
+  none_made : (e : Raise) → chosen_by d x ≡ Err (stop_of e) → Steps d dialect text (outcome.Raised e) d
+  none_made e is = raised p (ap (λ m. and_then m (sources d.catalogue (stored_relvars d.stored) nothing_given)) is)
+
+  pub prepared : (m : Prepared) → IsMade d x m → IsPrepared d dialect text m
+  prepared m (by_assignments xs is h) = all_made xs is m h
+  prepared m (by_error e is same) = subst (IsPrepared d dialect text) (sym same) (none_made e is)
 
 pub no_differences : (r : Relvars) → AreDifferences r r []
 no_differences r = record {

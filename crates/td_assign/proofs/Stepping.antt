@@ -4,13 +4,16 @@ use Rattle.td_values.specs.Data.{fields_of, no_attrs}
 use Rattle.td_values.specs.Rows.{RowsData}
 use Rattle.td_tuples.specs.Parts.{Fits}
 use Rattle.td_tuples.proofs.Lists.{entries-from_entries}
+use Rattle.td_operators.specs.Values.{truth_of}
 use Rattle.td_syntax.specs.declared.script.Action.{Action}
+use Rattle.td_syntax.specs.declared.script.Statement.{Statement}
+use Rattle.td_syntax.specs.declared.script.Statement.TheVariants as statement
 use Rattle.td_typing.proofs.KindLemmas.{some_same}
 use Rattle.td_algebra.specs.Raising.{and_then}
 use Rattle.td_algebra.specs.declared.errors.Stop.{Stop}
 use Rattle.td_headings.specs.Expressions.{no_tuple}
 use Rattle.td_headings.specs.Reached.{is_base}
-use Rattle.td_headings.specs.Statements.{AreAssignments, IsAssignment, IsTarget, actions_of, assignments_of, next_assignment, no_assignments, source_of, target_of}
+use Rattle.td_headings.specs.Statements.{AreAssignments, IsAssignment, IsTarget, TypesStatement, next_assignment, no_assignments, source_of, target_of, types_assignment, types_conditional}
 use Rattle.td_headings.specs.declared.statement.TypedAssignment.{TypedAssignment}
 use Rattle.td_headings.specs.declared.statement.TypedStatement.{TypedStatement}
 use Rattle.td_soundness.specs.Meanings.{GivesRelation, GivesValue}
@@ -20,24 +23,23 @@ use Rattle.td_relvars.proofs.Asked.{relvar_there}
 use Rattle.td_story.specs.Databases.{Belongs, DatabaseData, IsDatabase, stored_relvars}
 use Rattle.td_story.specs.Footprints.{IsTargetOfText}
 use Rattle.td_story.specs.Given.{Given, gives, nothing_given, seen}
-use Rattle.td_story.specs.Sources.{source_means, sources}
+use Rattle.td_story.specs.Sources.{made_where, source_means, sources}
 use Rattle.td_story.specs.Steps.{IsRead, Steps, unread, raised, refused, done, given_by}
 use Rattle.td_story.specs.Trees.{tree_means}
 use Rattle.td_story.specs.declared.outcome.Outcome.{Outcome}
-use Rattle.td_assign.proofs.Footprint.{AreOf, of_or_stays, sources_of}
+use Rattle.td_assign.proofs.Footprint.{given_of, of_or_stays}
 use Rattle.td_assign.proofs.Replacing.{bases_seen, given_is}
 
 -- ---- only targets change
-pub changes_targets : (d e : DatabaseData) (text : List ℕ) (o : Outcome) (n : ℕ) → Steps d text o e → (IsTargetOfText d.catalogue text n → ⊥) → stored_relvars e.stored n ≡ stored_relvars d.stored n
-changes_targets d e text o n (unread h) never = refl
-changes_targets d e text o n (raised p h) never = refl
-changes_targets d e text o n (refused p h i j) never = refl
-changes_targets d e text o n (done {x = x} {g = g} p h i) never =
-    let nothing : AreOf (IsTarget x) nothing_given = λ m r is. cc in
+pub changes_targets : (d e : DatabaseData) (dialect : ℕ) (text : List ℕ) (o : Outcome) (n : ℕ) → Steps d dialect text o e → (IsTargetOfText d.catalogue dialect text n → ⊥) → stored_relvars e.stored n ≡ stored_relvars d.stored n
+changes_targets d e dialect text o n (unread h) never = refl
+changes_targets d e dialect text o n (raised p h) never = refl
+changes_targets d e dialect text o n (refused p h i j) never = refl
+changes_targets d e dialect text o n (done {x = x} {g = g} p h i) never =
     ⊎_elim
     (λ t. absurd (never (record { statement = x; reads = p; target = t })))
     (λ stays. stays d.stored)
-    (of_or_stays (IsTarget x) g (sources_of (IsTarget x) d.catalogue (stored_relvars d.stored) (assignments_of x) (λ m q. q) nothing_given g nothing h) n)
+    (of_or_stays (IsTarget x) g (given_of d.catalogue (stored_relvars d.stored) x g h) n)
 
 -- ---- each target is given a relation of its heading
 ok_same : {A : Type 0} (a b : A) → ◌≡◌ {A = Result A Stop} (Ok a) (Ok b) → a ≡ b
@@ -89,13 +91,26 @@ module _ (d : DatabaseData) (is : IsDatabase d) where
       by (Ok r) means f rest = rest r (gives_belongs x.target r g (source_belongs a x p g each r means) each) f
       by (Err s) means f rest = cc
 
-  given_database : (x : TypedStatement) (text : List ℕ) → IsRead d.catalogue text x → (g : Given) → given_by d x ≡ Ok g → Belonging g
-  given_database x text p g h =
+  assigned_belong : (as' : List Action) (xs : List TypedAssignment) → AreAssignments d.catalogue as' xs → (g : Given) → sources d.catalogue (stored_relvars d.stored) nothing_given xs ≡ Ok g → Belonging g
+  assigned_belong as' xs p g h =
       let nothing : Belonging nothing_given = λ n r e. cc in
-      sources_belong (actions_of p.statement) (assignments_of x) p.types nothing_given g nothing h
+      sources_belong as' xs p nothing_given g nothing h
 
-pub step_keeps_database : (d e : DatabaseData) (text : List ℕ) (o : Outcome) → IsDatabase d → Steps d text o e → IsDatabase e × (e.catalogue ≡ d.catalogue)
-step_keeps_database d e text o is (unread h) = (is, refl)
-step_keeps_database d e text o is (raised p h) = (is, refl)
-step_keeps_database d e text o is (refused p h i j) = (is, refl)
-step_keeps_database d e text o is (done {x = x} {g = g} p h i) = (given_is d.catalogue g (given_database d is x text p g h) d.stored is, refl)
+  given_belongs : (s : Statement) (x : TypedStatement) → TypesStatement d.catalogue s x → (g : Given) → given_by d x ≡ Ok g → Belonging g
+  given_belongs (statement.Assignment as') x (types_assignment {xs} p) g h = assigned_belong as' xs p g h
+  given_belongs (statement.Conditional a as' bs) x (types_conditional {u} {xs} {ys} i p q) g h =
+      by (and_then (tree_means d.catalogue (stored_relvars d.stored) u.tree no_attrs) truth_of) h
+    where
+      by : (m : Result Bool Stop) → and_then (and_then m (made_where xs ys)) (sources d.catalogue (stored_relvars d.stored) nothing_given) ≡ Ok g → Belonging g
+      by (Ok true) e = assigned_belong as' xs p g e
+      by (Ok false) e = assigned_belong bs ys q g e
+      by (Err f) e = cc
+
+  given_database : (x : TypedStatement) (dialect : ℕ) (text : List ℕ) → IsRead d.catalogue dialect text x → (g : Given) → given_by d x ≡ Ok g → Belonging g
+  given_database x dialect text p g h = given_belongs p.statement x p.types g h
+
+pub step_keeps_database : (d e : DatabaseData) (dialect : ℕ) (text : List ℕ) (o : Outcome) → IsDatabase d → Steps d dialect text o e → IsDatabase e × (e.catalogue ≡ d.catalogue)
+step_keeps_database d e dialect text o is (unread h) = (is, refl)
+step_keeps_database d e dialect text o is (raised p h) = (is, refl)
+step_keeps_database d e dialect text o is (refused p h i j) = (is, refl)
+step_keeps_database d e dialect text o is (done {x = x} {g = g} p h i) = (given_is d.catalogue g (given_database d is x dialect text p g h) d.stored is, refl)

@@ -17,7 +17,6 @@ use Rattle.td_algebra.specs.Raising.{and_then}
 use Rattle.td_algebra.specs.declared.errors.Stop.{Stop}
 use Rattle.td_headings.specs.Catalogues.{CatalogueData}
 use Rattle.td_headings.specs.Reached.{is_base}
-use Rattle.td_headings.specs.Statements.{assignments_of}
 use Rattle.td_headings.specs.declared.defined.Test.{Test}
 use Rattle.td_headings.specs.declared.statement.TypedAssignment.{TypedAssignment}
 use Rattle.td_headings.specs.declared.statement.TypedStatement.{TypedStatement}
@@ -27,7 +26,7 @@ use Rattle.td_story.specs.Databases.{Belongs, DatabaseData, IsDatabase, IsLegal,
 use Rattle.td_story.specs.Differences.{AreDifferences, Differs}
 use Rattle.td_story.specs.Given.{gives, nothing_given, seen, with_given}
 use Rattle.td_story.specs.Reports.{IsReport}
-use Rattle.td_story.specs.Steps.{IsRead, Steps, TellsTest, done, refused}
+use Rattle.td_story.specs.Steps.{IsRead, Steps, TellsTest, done, given_by, refused}
 use Rattle.td_story.specs.declared.broken.TestFailure.{TestFailure}
 use Rattle.td_story.specs.Tests.{failing}
 use Rattle.td_story.specs.Trees.{tree_means}
@@ -50,7 +49,8 @@ use Rattle.td_assign.specs.ForProofs.Given.{IsAssigned, Stands, assigned_by}
 use Rattle.td_assign.specs.ForProofs.Turning.{Adds, CameFrom, Gives, IsTurned, IsGrowth, IsOneTurn, IsTried, MayTurn, TakesNothing, TellsAddition, TellsAlone, ChangesSome, IsExact, failing_turned, goes, means_alone, stays}
 use Rattle.td_assign.proofs.Leading.{differences_go_both_ways}
 use Rattle.td_assign.proofs.Listed.{first_there, there_cases}
-use Rattle.td_assign.proofs.Preparing.{no_differences, passes, reported}
+use Rattle.td_assign.specs.ForProofs.Prepared.{MakesTurn}
+use Rattle.td_assign.proofs.Preparing.{given_as, no_differences, passes, reported}
 use Rattle.td_assign.proofs.Replacing.{given_nothing, put_first}
 use Rattle.td_assign.proofs.Stepping.{alone_belongs}
 
@@ -221,19 +221,25 @@ module _ (d : DatabaseData) (n : ℕ) (x : DeltaData) (is : IsDatabase d) (m : M
     passed legal = record { before = stored_relvars d.stored; legal = legal; differences = differences d n x m.exact some }
 
 -- ---- what the step of the statement is
-module _ (d : DatabaseData) (text : List ℕ) (z : TypedStatement) (p : IsRead d.catalogue text z) (n : ℕ) (x : DeltaData) (is : IsDatabase d) (given : Gives d (assignments_of z) n x) where
+module _ (d : DatabaseData) (dialect : ℕ) (text : List ℕ) (z : TypedStatement) (p : IsRead d.catalogue dialect text z) (n : ℕ) (x : DeltaData) (is : IsDatabase d) (turns : MakesTurn d z n x) where
+  abbrev may : MayTurn d n x
+  may = turns.2.0
+
+  given : given_by d z ≡ Ok (gives n (changed may.exact.before x) nothing_given)
+  given = given_as d z turns.0 turns.1 ∙ turns.2.1
+
   abbrev given_stored : Stored
-  given_stored = with_given (gives n (changed given.0.exact.before x) nothing_given) d.stored
+  given_stored = with_given (gives n (changed may.exact.before x) nothing_given) d.stored
 
   same : given_stored ≡ change n x d.stored
-  same = gives_change d n x is given.0
+  same = gives_change d n x is may
 
   abbrev Failing : Stored → Option (Test × Option Stop)
   Failing stored = failing d.catalogue (stored_relvars stored) d.catalogue.tests
 
-  pub turned_step : (o : Outcome) (ds : List (ℕ × DeltaData)) (e : DatabaseData) → IsTurned d n x o ds e → Steps d text o e
-  turned_step o ds e (stays none differ) = subst (Steps d text Done) (λ i. record { catalogue = d.catalogue; stored = same i }) (done p given.1 (ap Failing same ∙ none))
-  turned_step o ds e (goes some tells) = refused p given.1 (ap Failing same ∙ some) tells
+  pub turned_step : (o : Outcome) (ds : List (ℕ × DeltaData)) (e : DatabaseData) → IsTurned d n x o ds e → Steps d dialect text o e
+  turned_step o ds e (stays none differ) = subst (Steps d dialect text Done) (λ i. record { catalogue = d.catalogue; stored = same i }) (done p given (ap Failing same ∙ none))
+  turned_step o ds e (goes some tells) = refused p given (ap Failing same ∙ some) tells
 
   pub turned_differences : (o : Outcome) (ds : List (ℕ × DeltaData)) (e : DatabaseData) → IsTurned d n x o ds e → AreDifferences (stored_relvars d.stored) (stored_relvars e.stored) ds
   turned_differences o ds e (stays none differ) = differ

@@ -12,27 +12,27 @@ use Rattle.td_relvars.specs.Changed.{redone, undone}
 use Rattle.td_assign.specs.Redoing.{AreOnce, CanRedo, CanUndo}
 
 -- e takes a step of this outcome too, and it makes the differences that the step from d to f made
-pub record StepsAlike (d f e : DatabaseData) (text : List ℕ) (o : Outcome) : Type 0 where
+pub record StepsAlike (d f e : DatabaseData) (dialect : ℕ) (text : List ℕ) (o : Outcome) : Type 0 where
   pub after : DatabaseData
-  pub step : Steps e text o after
+  pub step : Steps e dialect text o after
   pub differences : (ds : List (ℕ × DeltaData)) → AreDifferences (stored_relvars d.stored) (stored_relvars f.stored) ds → AreDifferences (stored_relvars e.stored) (stored_relvars after.stored) ds
 
 -- legal databases that agree on the footprint of a text give it one outcome and the same differences
 abbrev pub StepByFootprint : Type 0
 StepByFootprint =
-    (d e f : DatabaseData) (text : List ℕ) (o : Outcome) → IsDatabase d → IsDatabase e → IsLegal d → IsLegal e
-    → AgreeOnFootprint d e text → Steps d text o f → StepsAlike d f e text o
+    (d e f : DatabaseData) (dialect : ℕ) (text : List ℕ) (o : Outcome) → IsDatabase d → IsDatabase e → IsLegal d → IsLegal e
+    → AgreeOnFootprint d e dialect text → Steps d dialect text o f → StepsAlike d f e dialect text o
 
 -- a statement changes its targets alone
 abbrev pub ChangesTargets : Type 0
 ChangesTargets =
-    (d e : DatabaseData) (text : List ℕ) (o : Outcome) (n : ℕ) → Steps d text o e → (IsTargetOfText d.catalogue text n → ⊥)
+    (d e : DatabaseData) (dialect : ℕ) (text : List ℕ) (o : Outcome) (n : ℕ) → Steps d dialect text o e → (IsTargetOfText d.catalogue dialect text n → ⊥)
     → stored_relvars e.stored n ≡ stored_relvars d.stored n
 
 -- a statement leaves a database, of the same catalogue
 abbrev pub StepKeepsDatabase : Type 0
 StepKeepsDatabase =
-    (d e : DatabaseData) (text : List ℕ) (o : Outcome) → IsDatabase d → Steps d text o e → IsDatabase e × (e.catalogue ≡ d.catalogue)
+    (d e : DatabaseData) (dialect : ℕ) (text : List ℕ) (o : Outcome) → IsDatabase d → Steps d dialect text o e → IsDatabase e × (e.catalogue ≡ d.catalogue)
 
 -- a relvar that is not listed stays, whether changes are made or taken back
 abbrev pub OnlyListedChange : Type 0

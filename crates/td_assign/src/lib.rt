@@ -2,6 +2,7 @@
 #![tactic(auto)]
 
 pub mod changes;
+mod choices;
 mod deltas;
 pub mod laws;
 pub mod names;

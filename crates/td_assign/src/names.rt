@@ -1,6 +1,6 @@
 //! The relvars of a statement: those that it assigns, and those on which it hangs.
 
-ghost use Rattle.std.specs.Prelude.{◌≡◌, ◌↔◌, ℕ, [], IfOk, IsTrue, Some, slice_get};
+ghost use Rattle.std.specs.Prelude.{◌≡◌, ◌↔◌, ◌++◌, ℕ, [], IfOk, IsTrue, OnOk, Some, slice_get};
 ghost use Rattle.std.specs.List.{Contains, flat_map};
 ghost use Rattle.td_syntax.specs.declared.script.Statement.{Statement};
 ghost use Rattle.td_headings.specs.Definitions.{Defined};
@@ -10,11 +10,11 @@ ghost use Rattle.td_headings.specs.Statements as typed;
 ghost use Rattle.td_headings.specs.Statements.{IsTarget, TypesStatement};
 ghost use Rattle.td_headings.specs.declared.statement.TypedAssignment as declared;
 ghost use Rattle.td_story.specs.Footprints.{InFootprint, TestReads};
-ghost use Rattle.td_assign.specs.ForProofs.Names.{Gathers, ReadsWith};
+ghost use Rattle.td_assign.specs.ForProofs.Names.{Gathers, ReadsWith, condition_reads};
 
 use std::alloc::{AllocError, Global};
 use td_headings::{
-    Catalogue, Test, TypedAssignment, TypedStatement, constraint_expr, reads, targets,
+    Catalogue, Test, TypedAssignment, TypedStatement, constraint_expr, lists_of, reads, targets,
 };
 
 /// The relvars of a statement, by their places in order of definition, each once.
@@ -40,24 +40,40 @@ fn meets(targets: &[usize], places: &[usize]) -> bool
     places.iter().any(|place| targets.contains(place))
 }
 
-pub(crate) fn assignments_of(statement: &TypedStatement) -> &[TypedAssignment]
-    ensures { result.now ≡ typed.assignments_of statement.now }
+// With what the sources read behind the places.
+fn add_reads(
+    alloc: Global,
+    places: &mut Vec<usize>,
+    assignments: &[TypedAssignment],
+) -> Result<(), AllocError>
+    ensures { OnOk result (places.new.items ≡ places.old.items ++ flat_map (λ (x : declared.TypedAssignment). expressions.reads x.source) assignments.now) }
 {
-    match statement {
-        TypedStatement::Assignment(assignments) => assignments.as_slice(),
-    }
-}
-
-// What the sources read.
-fn sources_read(alloc: Global, assignments: &[TypedAssignment]) -> Result<Vec<usize>, AllocError>
-    ensures { IfOk result (λ v. v.items ≡ flat_map (λ (x : declared.TypedAssignment). expressions.reads x.source) assignments.now) }
-{
-    let mut places = Vec::new(alloc);
     for assignment in assignments {
         let mut more = reads(alloc, &assignment.source)?;
         places.append(&mut more)?;
     }
+    Ok(())
+}
+
+// What the sources of a statement read, whichever are evaluated.
+fn sources_read(alloc: Global, statement: &TypedStatement) -> Result<Vec<usize>, AllocError>
+    ensures { IfOk result (λ v. v.items ≡ flat_map (λ (x : declared.TypedAssignment). expressions.reads x.source) (typed.assignments_of statement.now)) }
+{
+    let (made, otherwise) = lists_of(statement);
+    let mut places = Vec::new(alloc);
+    add_reads(alloc, &mut places, made)?;
+    add_reads(alloc, &mut places, otherwise)?;
     Ok(places)
+}
+
+// What its condition reads, if it has one.
+fn condition_read(alloc: Global, statement: &TypedStatement) -> Result<Vec<usize>, AllocError>
+    ensures { IfOk result (λ v. v.items ≡ condition_reads (typed.condition_of statement.now)) }
+{
+    match statement {
+        TypedStatement::Assignment(_) => Ok(Vec::new(alloc)),
+        TypedStatement::Conditional(condition, _, _) => reads(alloc, condition),
+    }
 }
 
 fn only(alloc: Global, place: usize) -> Result<Vec<usize>, AllocError>
@@ -68,8 +84,8 @@ fn only(alloc: Global, place: usize) -> Result<Vec<usize>, AllocError>
     Ok(places)
 }
 
-/// What the test, which stands at this place, reads. It costs the size of a constraint, with those of the expressions of
-/// the virtual relvars under it.
+/// What the test, which stands at this place, reads. It costs the size of a constraint, with those of the expressions
+/// of the virtual relvars under it.
 pub fn test_reads(
     alloc: Global,
     catalogue: &Catalogue,
@@ -139,8 +155,10 @@ pub fn footprint(
 {
     let mut places = targets(alloc, statement)?;
     let mut needed = tests_need(alloc, catalogue, &places)?;
-    let mut read = sources_read(alloc, assignments_of(statement))?;
+    let mut decides = condition_read(alloc, statement)?;
+    let mut read = sources_read(alloc, statement)?;
     places.append(&mut needed)?;
+    places.append(&mut decides)?;
     places.append(&mut read)?;
     Ok(in_order(places))
 }

@@ -4,6 +4,8 @@ ghost use Rattle.std.specs.Prelude.{◌≡◌, [], IfOk, IsTrue, MatchOption, On
 ghost use Rattle.td_story.specs.Reports.{IsReport};
 ghost use Rattle.td_headings.specs.Catalogues.{CatalogueData};
 ghost use Rattle.td_headings.specs.Reached.{AreThose};
+ghost use Rattle.td_headings.specs.Statements.{TypesStatement};
+ghost use Rattle.td_syntax.specs.declared.script.Statement.{Statement};
 ghost use Rattle.td_headings.specs.declared.defined.Test.{Test};
 ghost use Rattle.td_algebra.specs.declared.errors.Stop.{Stop};
 ghost use Rattle.td_story.specs.Databases.{DatabaseData, IsLegal, stored_relvars};
@@ -13,21 +15,22 @@ ghost use Rattle.td_story.specs.Footprints.{IsInFootprint, IsTargetOfText};
 ghost use Rattle.td_assign.specs.ForProofs.Given.{AreAssigned, AreChanges};
 ghost use Rattle.td_assign.specs.ForProofs.Turning.{CameFrom, IsTurned, IsOneTurn, IsTried, MayTurn, TakesNothing};
 ghost use Rattle.td_assign.specs.ForProofs.Names.{AreNames};
-ghost use Rattle.td_assign.specs.ForProofs.Prepared.{AreAssignedTo, IsJudged, IsPrepared};
+ghost use Rattle.td_assign.specs.ForProofs.Prepared.{AreAssignedTo, IsJudged, IsMade, IsPrepared};
 ghost use Rattle.td_assign.specs.ForProofs.Lists.{given_to};
 ghost use Rattle.td_story.specs.Steps as spec;
 ghost use Rattle.td_story.specs.Steps.{IsRead, IsUnread, Steps};
 
 use crate::changes::Change;
+use crate::choices::chosen;
 use crate::deltas::differences;
-use crate::names::{Names, assignments_of, footprint, names_of, no_names};
+use crate::names::{Names, footprint, names_of, no_names};
 use crate::ran::Ran;
 use crate::seen::Replaced;
 use crate::sources;
 use crate::sources::changes;
 use std::alloc::{AllocError, Global};
 use td_constraints::first_failure_after;
-use td_grammar::{ReadError, read_statement};
+use td_grammar::{ReadError, read_statement_in};
 use td_headings::{Catalogue, TypedAssignment, TypedStatement, type_statement};
 use td_kinds::error::TypeError;
 use td_relations::Delta;
@@ -39,10 +42,11 @@ fn read(
     alloc: Global,
     catalogue: &Catalogue,
     text: &str,
+    dialect: u8,
 ) -> Result<Option<TypedStatement>, AllocError>
-    ensures { IfOk result (λ o. MatchOption o (IsUnread catalogue.now text.now) (IsRead catalogue.now text.now)) }
+    ensures { IfOk result (λ o. MatchOption o (IsUnread catalogue.now dialect text.now) (IsRead catalogue.now dialect text.now)) }
 {
-    let statement = match read_statement(alloc, text) {
+    let statement = match read_statement_in(alloc, text, dialect) {
         Ok(statement) => statement,
         Err(ReadError::Syntax) => return Ok(None),
         Err(ReadError::OutOfMemory) => return Err(AllocError),
@@ -127,17 +131,39 @@ fn assigned(
     }
 }
 
+// What the statement makes of the database.
+fn made_by(
+    alloc: Global,
+    database: &Database,
+    statement: &TypedStatement,
+) -> Result<Prepared, AllocError>
+    requires typed { (s : Statement) × TypesStatement database.now.catalogue s statement.now }
+    requires legal { IsLegal database.now }
+    ensures { IfOk result (IsMade database.now statement.now) }
+{
+    match chosen(alloc, database, statement) {
+        Ok(assignments) => assigned(alloc, database, assignments),
+        Err(Failure::Raised(raise)) => Ok(Prepared::Refused(Outcome::Raised(raise))),
+        Err(Failure::OutOfMemory) => Err(AllocError),
+    }
+}
+
 // What the text makes of the database, and the relvars that it names.
-fn prepare(alloc: Global, database: &Database, text: &str) -> Result<(Prepared, Names), AllocError>
+fn prepare(
+    alloc: Global,
+    database: &Database,
+    text: &str,
+    dialect: u8,
+) -> Result<(Prepared, Names), AllocError>
     requires { IsLegal database.now }
-    ensures prepared { IfOk result (λ p. IsPrepared database.now text.now p.0) }
-    ensures names { IfOk result (λ p. AreNames database.now.catalogue text.now p.1) }
+    ensures prepared { IfOk result (λ p. IsPrepared database.now dialect text.now p.0) }
+    ensures names { IfOk result (λ p. AreNames database.now.catalogue dialect text.now p.1) }
 {
     let catalogue = database.catalogue();
-    match read(alloc, catalogue, text)? {
+    match read(alloc, catalogue, text, dialect)? {
         Some(statement) => {
             let names = names_of(alloc, catalogue, &statement)?;
-            let prepared = assigned(alloc, database, assignments_of(&statement))?;
+            let prepared = made_by(alloc, database, &statement)?;
             Ok((prepared, names))
         }
         None => Ok((Prepared::Refused(Outcome::Unread), no_names(alloc))),
@@ -287,40 +313,43 @@ pub fn footprint_of(
     alloc: Global,
     catalogue: &Catalogue,
     text: &str,
+    dialect: u8,
 ) -> Result<Vec<usize>, AllocError>
-    ensures { IfOk result (λ v. AreThose (IsInFootprint catalogue.now text.now) v.items) }
+    ensures { IfOk result (λ v. AreThose (IsInFootprint catalogue.now dialect text.now) v.items) }
 {
-    match read(alloc, catalogue, text)? {
+    match read(alloc, catalogue, text, dialect)? {
         Some(statement) => footprint(alloc, catalogue, &statement),
         None => Ok(Vec::new(alloc)),
     }
 }
 
-/// Runs the statement over relvars of which every test is true: its text is read and typed once, each source is
-/// evaluated once, the differences are made and then the tests that read a relvar which differs, and the relvars change
-/// where all are true. Where one assignment alone adds tuples to its target, takes tuples out of it by a condition, or
-/// changes such tuples, the target is changed where it stands, and changed back where a test fails: what is added costs
-/// its tuples, a search for each, and the tests, and a condition one walk. Which relvars it names is found out before,
-/// by the typed statement. A refusal for want of memory leaves the database; the meter has counted then.
+/// Runs the statement over relvars of which every test is true: its text is read in its dialect and typed once, its
+/// condition, if it has one, is evaluated and decides which assignments are made, each source of these is evaluated
+/// once, the differences are made and then the tests that read a relvar which differs, and the relvars change where all
+/// are true. Where one assignment alone adds tuples to its target, takes tuples out of it by a condition, or changes
+/// such tuples, the target is changed where it stands, and changed back where a test fails: what is added costs its
+/// tuples, a search for each, and the tests, and a condition one walk. Which relvars it names is found out before, by
+/// the typed statement. A refusal for want of memory leaves the database; the meter has counted then.
 #[tactic(auto, using(crate::proofs::Preparing::no_differences))]
 pub fn run(
     alloc: Global,
     database: &mut Database,
     text: &str,
+    dialect: u8,
     meter: &mut Meter,
 ) -> Result<Ran, AllocError>
     requires { IsLegal database.old }
-    ensures step { IfOk result (λ r. Steps database.old text.now r.outcome database.new) }
+    ensures step { IfOk result (λ r. Steps database.old dialect text.now r.outcome database.new) }
     ensures delta { IfOk result (λ r. AreDifferences (stored_relvars database.old.stored) (stored_relvars database.new.stored) r.delta.items) }
     ensures kept { OnErr result (database.new ≡ database.old) }
     ensures legal { IsLegal database.new }
-    ensures targets { IfOk result (λ r. AreThose (IsTargetOfText database.old.catalogue text.now) r.targets.items) }
-    ensures footprint { IfOk result (λ r. AreThose (IsInFootprint database.old.catalogue text.now) r.footprint.items) }
+    ensures targets { IfOk result (λ r. AreThose (IsTargetOfText database.old.catalogue dialect text.now) r.targets.items) }
+    ensures footprint { IfOk result (λ r. AreThose (IsInFootprint database.old.catalogue dialect text.now) r.footprint.items) }
     ensures counted { meter.new.count ≡ one_more meter.old.count }
 {
     meter.tick();
     database.relvars_fit();
-    let (prepared, names) = prepare(alloc, database, text)?;
+    let (prepared, names) = prepare(alloc, database, text, dialect)?;
     database.count_reads(alloc, &names.footprint);
     match prepared {
         Prepared::Changes(changes, delta) => {

@@ -17,12 +17,8 @@ pub struct FileJournal {
 }
 
 impl FileJournal {
-    /// Takes the lock of a file that was opened, which lasts for as long as the file is open. It takes a buffer to read
-    /// by.
-    pub(crate) fn locked(alloc: Global, file: File) -> Result<FileJournal, StoreError> {
-        if file.try_lock().is_err() {
-            return Err(StoreError::JournalFile);
-        }
+    /// A file that is locked. It takes a buffer to read by.
+    pub(crate) fn new(alloc: Global, file: File) -> Result<FileJournal, StoreError> {
         let Ok(read) = file.try_clone() else {
             return Err(StoreError::JournalFile);
         };

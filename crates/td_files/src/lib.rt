@@ -3,8 +3,10 @@
 
 mod file;
 mod journals;
+mod renewal;
 mod synced;
 
 pub use file::FileJournal;
 pub use journals::FileJournals;
+pub use renewal::FileRenewal;
 pub use synced::Synced;

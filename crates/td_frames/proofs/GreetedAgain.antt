@@ -62,8 +62,8 @@ script_again script more le text =
 head_again : (site : ℕ) (more : List ℕ) → 1 ≤ site → site < 2 ^ 16 → head_at (head_frame site ++ more) ≡ Ok (site, more)
 head_again site more some fits =
     let behind = to_be_bytes w16 site ++ more in
-    let letters : magic_at (codes "HTDB" ++ 1 ∷ behind) ≡ Ok (tt, 1 ∷ behind) = checked_passes 4 (λ b. bytes_eq b (codes "HTDB")) (λ b. tt) magic (codes "HTDB") (1 ∷ behind) refl refl in
-    let one : version_at ((1 ∷ []) ++ behind) ≡ Ok (tt, behind) = checked_passes 1 (λ b. bytes_eq b (1 ∷ [])) (λ b. tt) version (1 ∷ []) behind refl refl in
+    let letters : magic_at (codes "HTDB" ++ 2 ∷ behind) ≡ Ok (tt, 2 ∷ behind) = checked_passes 4 (λ b. bytes_eq b (codes "HTDB")) (λ b. tt) magic (codes "HTDB") (2 ∷ behind) refl refl in
+    let one : version_at ((2 ∷ []) ++ behind) ≡ Ok (tt, behind) = checked_passes 1 (λ b. bytes_eq b (2 ∷ [])) (λ b. tt) version (2 ∷ []) behind refl refl in
     ap (λ r. then_at r (λ _ b. then_at (version_at b) (λ _ c. site_at 0 c))) letters ∙ ap (λ r. then_at r (λ _ c. site_at 0 c)) one ∙ site_again 0 site more some fits
 
 -- ---- the sites of a vector, which rise

@@ -91,13 +91,13 @@ head_was bytes site rest all e =
     let (u, b, letters, then) = first_was (magic_at bytes) (λ _ b. then_at (version_at b) (λ _ c. site_at 0 c)) (site, rest) e in
     let (v, c, one, last) = first_was (version_at b) (λ _ c. site_at 0 c) (site, rest) then in
     let m = checked_was 4 (λ x. bytes_eq x (codes "HTDB")) (λ x. tt) magic bytes u b letters in
-    let n = checked_was 1 (λ x. bytes_eq x (1 ∷ [])) (λ x. tt) version b v c one in
+    let n = checked_was 1 (λ x. bytes_eq x (2 ∷ [])) (λ x. tt) version b v c one in
     let in_b : AreBytes b = subst AreBytes (sym m.behind) (bytes_after 4 bytes all) in
     let in_c : AreBytes c = subst AreBytes (sym n.behind) (bytes_after 1 b in_b) in
     let (spelled, above, left) = site_was 0 c site rest in_c last in
     let is_m : take 4 bytes ≡ codes "HTDB" = (bytes_eq-Decides _ _).0 m.passes in
-    let is_n : take 1 b ≡ 1 ∷ [] = (bytes_eq-Decides _ _).0 n.passes in
-    let whole_b : b ≡ 1 ∷ (to_be_bytes w16 site ++ rest) = n.whole ∙ ap (λ (l : List ℕ). l ++ c) is_n ∙ ap (λ (l : List ℕ). 1 ∷ l) spelled in
+    let is_n : take 1 b ≡ 2 ∷ [] = (bytes_eq-Decides _ _).0 n.passes in
+    let whole_b : b ≡ 2 ∷ (to_be_bytes w16 site ++ rest) = n.whole ∙ ap (λ (l : List ℕ). l ++ c) is_n ∙ ap (λ (l : List ℕ). 2 ∷ l) spelled in
     (m.whole ∙ ap (λ (l : List ℕ). l ++ b) is_m ∙ ap (λ (l : List ℕ). codes "HTDB" ++ l) whole_b, left)
 
 -- ---- the sites of a vector

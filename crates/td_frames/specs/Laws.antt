@@ -5,11 +5,12 @@ use Rattle.std.specs.FinMap as by_site
 use Rattle.td_stamps.specs.declared.entry.Entry.{Entry}
 use Rattle.td_stamps.specs.Vectors.{VersionVector}
 use Rattle.td_frames.specs.declared.greeting.Greeting.{Greeting}
+use Rattle.td_frames.specs.declared.version.Version.{Version}
 use Rattle.td_frames.specs.Spelling.{HasFrame, HasGreeting, entry_frame, greeting_frame, stream}
 use Rattle.td_frames.specs.Reading.{entries_at, frame_at, greeting_at}
 
 abbrev pub FrameIsReadAgain : Type 0
-FrameIsReadAgain = (e : Entry) (more : List ℕ) → HasFrame e → frame_at (entry_frame e ++ more) ≡ Ok (Some e, more)
+FrameIsReadAgain = (v : Version) (e : Entry) (more : List ℕ) → HasFrame v e → frame_at v (entry_frame v e ++ more) ≡ Ok (Some e, more)
 
 -- numbers that are bytes
 abbrev pub AreBytes : List ℕ → Type 0
@@ -17,7 +18,7 @@ AreBytes bs = (i : ℕ) → slice_index bs i < 256
 
 -- what is read as an entry was spelled so
 abbrev pub FrameWasSpelled : Type 0
-FrameWasSpelled = (bytes rest : List ℕ) (e : Entry) → AreBytes bytes → frame_at bytes ≡ Ok (Some e, rest) → bytes ≡ entry_frame e ++ rest
+FrameWasSpelled = (v : Version) (bytes rest : List ℕ) (e : Entry) → AreBytes bytes → frame_at v bytes ≡ Ok (Some e, rest) → bytes ≡ entry_frame v e ++ rest
 
 -- a greeting that is written is read, whatever follows
 abbrev pub GreetingIsReadAgain : Type 0
@@ -30,4 +31,4 @@ GreetingWasSpelled = (bytes rest : List ℕ) (g : Greeting) → AreBytes bytes �
 
 -- a stream of entries that is written is read, whatever follows, where no more than so many entries are allowed
 abbrev pub StreamIsReadAgain : Type 0
-StreamIsReadAgain = (most : ℕ) (es : List Entry) (more : List ℕ) → length es ≤ most → AllByRecursion HasFrame es → entries_at most (stream es ++ more) ≡ (es, Ok more)
+StreamIsReadAgain = (v : Version) (most : ℕ) (es : List Entry) (more : List ℕ) → length es ≤ most → AllByRecursion (HasFrame v) es → entries_at v most (stream v es ++ more) ≡ (es, Ok more)

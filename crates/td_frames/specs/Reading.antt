@@ -1,5 +1,5 @@
 -- The reading of frames, field by field: a value and the bytes after it, or the first field that misses.
-use Rattle.std.specs.Prelude.{◌≡◌, ℕ, zero, suc, Bool, true, ◌&&◌, List, [], ◌∷◌, ◌++◌, length, take, drop, codes, Option, Some, None, Result, Ok, Err, nat_le, nat_lt, ◌==◌, if◌then◌else◌}
+use Rattle.std.specs.Prelude.{◌≡◌, ℕ, zero, suc, Bool, true, ◌&&◌, List, [], ◌∷◌, ◌++◌, length, take, drop, codes, Option, Some, None, Result, Ok, Err, slice_index, ◌-◌, nat_le, nat_lt, ◌==◌, if◌then◌else◌}
 use Rattle.std.specs.FinMap as by_site
 use Rattle.std.specs.Int.{w16, w32, w64, from_be_bytes}
 use Rattle.std.specs.Str.{bytes_eq, is_utf8}
@@ -9,8 +9,10 @@ use Rattle.td_stamps.specs.Vectors.{VersionVector}
 use Rattle.td_stamps.specs.declared.entry.Entry.{Entry}
 use Rattle.td_frames.specs.declared.fields.Head.{Head}
 use Rattle.td_frames.specs.declared.error.FrameError.{FrameError}
-use Rattle.td_frames.specs.declared.error.FrameError.TheVariants.{OutOfMemory, ReadFault, Cut, Magic, Version, BadFrame}
+use Rattle.td_frames.specs.declared.error.FrameError.TheVariants.{OutOfMemory, ReadFault, Cut, Magic, Version as OtherVersion, BadFrame}
 use Rattle.td_frames.specs.declared.greeting.Greeting.{Greeting}
+use Rattle.td_frames.specs.declared.version.Version.{Version}
+use Rattle.td_frames.specs.declared.version.Version.TheVariants.{First, Second}
 
 -- what misses: the bytes end before the field is whole; they are no greeting, or one of another version; or the field
 -- has no such value
@@ -36,9 +38,9 @@ then_at (Err m) next = Err m
 abbrev pub magic_at : List ℕ → Result (Unit {0} × List ℕ) Miss
 magic_at bytes = checked_at 4 (λ b. bytes_eq b (codes "HTDB")) (λ b. tt) magic bytes
 
--- the version of these formats, which is 1
+-- the version of a greeting, which is 2
 abbrev pub version_at : List ℕ → Result (Unit {0} × List ℕ) Miss
-version_at bytes = checked_at 1 (λ b. bytes_eq b (1 ∷ [])) (λ b. tt) version bytes
+version_at bytes = checked_at 1 (λ b. bytes_eq b (2 ∷ [])) (λ b. tt) version bytes
 
 -- a site, which comes after the last one
 abbrev pub site_at : ℕ → List ℕ → Result (ℕ × List ℕ) Miss
@@ -84,17 +86,28 @@ greeting_at bytes = then_at (head_at bytes) rest_at
 
 -- ---- entries
 
--- the fields in 16 bytes
-abbrev pub fields : List ℕ → Head
-fields bytes = record {
+-- how many bytes the fields before the text have
+abbrev pub head_size : Version → ℕ
+head_size First = 16
+head_size Second = 17
+
+-- the dialect in these bytes: in the first version there is none, and it is the first one
+abbrev pub dialect_in : Version → List ℕ → ℕ
+dialect_in First bytes = 1
+dialect_in Second bytes = slice_index bytes 14
+
+-- the fields in these bytes, of which the last two are the length of the text
+abbrev pub fields : Version → List ℕ → Head
+fields v bytes = record {
   site = from_be_bytes w16 (take 2 bytes);
   seq = from_be_bytes w32 (take 4 (drop 2 bytes));
   clock = from_be_bytes w64 (take 8 (drop 6 bytes));
-  length = from_be_bytes w16 (take 2 (drop 14 bytes));
+  dialect = dialect_in v bytes;
+  length = from_be_bytes w16 (take 2 (drop (head_size v - 2) bytes));
 }
 
 abbrev pub with_text : Head → List ℕ → Entry
-with_text h text = record { site = h.site; seq = h.seq; clock = h.clock; text = text }
+with_text h text = record { site = h.site; seq = h.seq; clock = h.clock; dialect = h.dialect; text = text }
 
 -- the text, of at most 8,192 bytes, which are UTF-8
 unfoldable pub text_at : Head → List ℕ → Result (Entry × List ℕ) Miss
@@ -104,8 +117,8 @@ text_at h bytes =
     else if is_utf8 (take h.length bytes) then Ok (with_text h (take h.length bytes), drop h.length bytes)
     else Err bad
 
-unfoldable pub entry_at : List ℕ → Result (Entry × List ℕ) Miss
-entry_at bytes = if nat_lt (length bytes) 16 then Err short else text_at (fields (take 16 bytes)) (drop 16 bytes)
+unfoldable pub entry_at : Version → List ℕ → Result (Entry × List ℕ) Miss
+entry_at v bytes = if nat_lt (length bytes) (head_size v) then Err short else text_at (fields v (take (head_size v) bytes)) (drop (head_size v) bytes)
 
 abbrev pub some_entry : Result (Entry × List ℕ) Miss → Result (Option Entry × List ℕ) Miss
 some_entry (Ok x) = Ok (Some x.0, x.1)
@@ -114,9 +127,9 @@ some_entry (Err m) = Err m
 -- ---- frames
 
 -- E and an entry, or Z, the end
-unfoldable pub frame_at : List ℕ → Result (Option Entry × List ℕ) Miss
-frame_at [] = Err short
-frame_at (letter ∷ rest) = if letter == 90 then Ok (None, rest) else if letter == 69 then some_entry (entry_at rest) else Err bad
+unfoldable pub frame_at : Version → List ℕ → Result (Option Entry × List ℕ) Miss
+frame_at v [] = Err short
+frame_at v (letter ∷ rest) = if letter == 90 then Ok (None, rest) else if letter == 69 then some_entry (entry_at v rest) else Err bad
 
 -- the entries before the end or before the first frame that misses, and what is after the end, or what misses
 abbrev pub Entries : Type 0
@@ -139,9 +152,9 @@ last_frame (Ok x) = ([], Ok x.1)
 last_frame (Err m) = ([], Err m)
 
 -- the stream of at most so many entries
-unfoldable pub entries_at : ℕ → List ℕ → Entries
-entries_at zero bytes = last_frame (end_at bytes)
-entries_at (suc n) bytes = with_frame (entries_at n) (frame_at bytes)
+unfoldable pub entries_at : Version → ℕ → List ℕ → Entries
+entries_at v zero bytes = last_frame (end_at bytes)
+entries_at v (suc n) bytes = with_frame (entries_at v n) (frame_at v bytes)
 
 -- ---- what a reader tells of the bytes that it took: it took exactly a value's, or up to the first field that misses
 
@@ -150,7 +163,7 @@ ToldErr OutOfMemory read left old new = new ≡ old
 ToldErr ReadFault read left old new = (read ≡ Err short) × (new ≡ counted old)
 ToldErr Cut read left old new = (read ≡ Err short) × IsAtEnd left × (new ≡ old)
 ToldErr Magic read left old new = (read ≡ Err magic) × (new ≡ old)
-ToldErr Version read left old new = (read ≡ Err version) × (new ≡ old)
+ToldErr OtherVersion read left old new = (read ≡ Err version) × (new ≡ old)
 ToldErr BadFrame read left old new = (read ≡ Err bad) × (new ≡ old)
 
 -- whatever follows
@@ -168,5 +181,5 @@ ToldEntries (Err OutOfMemory) es read left old new = new ≡ old
 ToldEntries (Err ReadFault) es read left old new = (read ≡ (es, Err short)) × (new ≡ counted old)
 ToldEntries (Err Cut) es read left old new = (read ≡ (es, Err short)) × IsAtEnd left × (new ≡ old)
 ToldEntries (Err Magic) es read left old new = (read ≡ (es, Err magic)) × (new ≡ old)
-ToldEntries (Err Version) es read left old new = (read ≡ (es, Err version)) × (new ≡ old)
+ToldEntries (Err OtherVersion) es read left old new = (read ≡ (es, Err version)) × (new ≡ old)
 ToldEntries (Err BadFrame) es read left old new = (read ≡ (es, Err bad)) × (new ≡ old)

@@ -1,35 +1,48 @@
--- The frames of a meeting: each has one spelling. Numbers are big-endian.
-use Rattle.std.specs.Prelude.{ℕ, ◌<◌, ◌≤◌, ◌^◌, List, [], ◌∷◌, ◌++◌, length, codes, IsUtf8}
+-- The frames of a meeting: each has one spelling in each version of the formats. Numbers are big-endian.
+use Rattle.std.specs.Prelude.{◌≡◌, ℕ, ◌<◌, ◌≤◌, ◌^◌, List, [], ◌∷◌, ◌++◌, length, codes, IsUtf8}
 use Rattle.std.specs.FinMap as by_site
 use Rattle.std.specs.List.{AllByRecursion, flat_map}
 use Rattle.std.specs.Int.{w16, w32, w64, to_be_bytes}
 use Rattle.td_stamps.specs.Vectors.{VersionVector}
 use Rattle.td_stamps.specs.declared.entry.Entry.{Entry}
+use Rattle.td_frames.specs.declared.version.Version.{Version}
+use Rattle.td_frames.specs.declared.version.Version.TheVariants.{First, Second}
 
--- the fields before the text, 16 bytes: site, sequence number, clock, length of the text
-abbrev pub head_of : Entry → List ℕ
-head_of e = to_be_bytes w16 e.site ++ to_be_bytes w32 e.seq ++ to_be_bytes w64 e.clock ++ to_be_bytes w16 (length e.text)
+-- a dialect is one byte, and none in the first version, whose entries are of the first dialect
+abbrev pub dialect_frame : Version → ℕ → List ℕ
+dialect_frame First d = []
+dialect_frame Second d = d ∷ []
+
+-- the fields before the text: site, sequence number, clock, dialect, length of the text
+abbrev pub head_of : Version → Entry → List ℕ
+head_of v e = to_be_bytes w16 e.site ++ to_be_bytes w32 e.seq ++ to_be_bytes w64 e.clock ++ dialect_frame v e.dialect ++ to_be_bytes w16 (length e.text)
 
 -- the frame of an entry: E, the fields, the text
-abbrev pub entry_frame : Entry → List ℕ
-entry_frame e = (69 ∷ head_of e) ++ e.text
+abbrev pub entry_frame : Version → Entry → List ℕ
+entry_frame v e = (69 ∷ head_of v e) ++ e.text
 
 -- the frame that ends a stream: Z
 abbrev pub end_frame : List ℕ
 end_frame = 90 ∷ []
 
-abbrev pub entry_frames : List Entry → List ℕ
-entry_frames es = flat_map entry_frame es
+abbrev pub entry_frames : Version → List Entry → List ℕ
+entry_frames v es = flat_map (entry_frame v) es
 
 -- the stream of entries: their frames, and the end
-abbrev pub stream : List Entry → List ℕ
-stream es = entry_frames es ++ end_frame
+abbrev pub stream : Version → List Entry → List ℕ
+stream v es = entry_frames v es ++ end_frame
 
--- what has a frame
-pub record HasFrame (e : Entry) : Type 0 where
+-- which dialects have a frame
+abbrev pub HasDialect : Version → ℕ → Type 0
+HasDialect First d = d ≡ 1
+HasDialect Second d = d < 2 ^ 8
+
+-- which entries have a frame
+pub record HasFrame (v : Version) (e : Entry) : Type 0 where
   pub site : e.site < 2 ^ 16
   pub seq : e.seq < 2 ^ 32
   pub clock : e.clock < 2 ^ 64
+  pub dialect : HasDialect v e.dialect
   pub short : length e.text ≤ 8192
   pub text : IsUtf8 e.text
 
@@ -47,9 +60,9 @@ place p = to_be_bytes w16 p.0 ++ to_be_bytes w32 p.1
 abbrev pub vector_frame : List (ℕ × ℕ) → List ℕ
 vector_frame ps = to_be_bytes w16 (length ps) ++ flat_map place ps
 
--- the letters HTDB, the version, and the site that greets
+-- the letters HTDB, the version, which is the second, and the site that greets
 abbrev pub head_frame : ℕ → List ℕ
-head_frame site = codes "HTDB" ++ 1 ∷ to_be_bytes w16 site
+head_frame site = codes "HTDB" ++ 2 ∷ to_be_bytes w16 site
 
 -- the length of its script, and the script
 abbrev pub script_frame : List ℕ → List ℕ

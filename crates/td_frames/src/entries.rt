@@ -7,10 +7,12 @@ ghost use Rattle.td_devices.specs.Counted.{Counts};
 ghost use Rattle.td_devices.specs.Streams.{Writes};
 ghost use Rattle.td_frames.specs.Reading.{Told, ToldEntries, end_at, entries_at};
 ghost use Rattle.td_frames.specs.Spelling.{HasFrame, end_frame, entry_frame};
+ghost use Rattle.td_frames.specs.declared.version.Version.TheVariants.{Second};
 
 use crate::entry::read_frame;
 use crate::error::FrameError;
 use crate::fields::read_field;
+use crate::version::Version;
 use std::alloc::Global;
 use td_devices::{Failed, Sink, Source, write_all};
 use td_stamps::Entry;
@@ -32,20 +34,21 @@ fn read_end<S: Source>(source: &mut S) -> Result<(), FrameError>
     Ok(())
 }
 
-/// Reads the frames of at most so many entries, and the end. A frame of one entry more is refused at its letter. What
-/// was read whole before an error is there too.
+/// Reads the frames of at most so many entries in this version, and the end. A frame of one entry more is refused at
+/// its letter. What was read whole before an error is there too.
 pub fn read_entries<S: Source>(
     alloc: Global,
     source: &mut S,
+    version: Version,
     most: u32,
 ) -> (Vec<Entry>, Result<(), FrameError>)
     ensures told { (bytes : List ℕ) × Consumes (S.left source.old) (S.left source.new) bytes
-        × ToldEntries result.1 result.0.items (entries_at most bytes) (S.left source.new) (S.failures source.old) (S.failures source.new) }
+        × ToldEntries result.1 result.0.items (entries_at version most bytes) (S.left source.new) (S.failures source.old) (S.failures source.new) }
     ensures beside { Keeps (S.beside source.old) (S.beside source.new) }
 {
     let mut entries = Vec::new(alloc);
     for _ in 0..most {
-        match read_frame(alloc, source) {
+        match read_frame(alloc, source, version) {
             Err(e) => return (entries, Err(e)),
             Ok(None) => return (entries, Ok(())),
             Ok(Some(entry)) => match entries.push(entry) {
@@ -60,8 +63,8 @@ pub fn read_entries<S: Source>(
     }
 }
 
-fn head_bytes(site: u16, seq: u32, clock: u64, length: u16) -> [u8; 17]
-    ensures { result ≡ 69 ∷ (to_be_bytes w16 site ++ to_be_bytes w32 seq ++ to_be_bytes w64 clock ++ to_be_bytes w16 length) }
+fn head_bytes(site: u16, seq: u32, clock: u64, dialect: u8, length: u16) -> [u8; 18]
+    ensures { result ≡ 69 ∷ (to_be_bytes w16 site ++ to_be_bytes w32 seq ++ to_be_bytes w64 clock ++ dialect ∷ to_be_bytes w16 length) }
 {
     let s = site.to_be_bytes();
     let q = seq.to_be_bytes();
@@ -69,20 +72,26 @@ fn head_bytes(site: u16, seq: u32, clock: u64, length: u16) -> [u8; 17]
     let n = length.to_be_bytes();
     [
         b'E', s[0], s[1], q[0], q[1], q[2], q[3], c[0], c[1], c[2], c[3], c[4], c[5], c[6], c[7],
-        n[0], n[1],
+        dialect, n[0], n[1],
     ]
 }
 
-/// Writes the frame of an entry. It takes no memory, and flushes nothing.
+/// Writes the frame of an entry, in the second version. It takes no memory, and flushes nothing.
 pub fn put_entry<K: Sink>(sink: &mut K, entry: &Entry) -> Result<(), Failed>
     requires { length entry.now.text ≤ 8192 }
-    ensures bytes { Writes (K.held sink.old) (K.held sink.new) result (entry_frame entry.now) }
-    ensures has { HasFrame entry.now }
+    ensures bytes { Writes (K.held sink.old) (K.held sink.new) result (entry_frame Second entry.now) }
+    ensures has { HasFrame Second entry.now }
     ensures count { Counts (K.faults sink.old) (K.faults sink.new) result }
     ensures aside { Keeps (K.aside sink.old) (K.aside sink.new) }
 {
     let text = entry.text.as_str().as_bytes();
-    let head = head_bytes(entry.site, entry.seq, entry.clock, text.len() as u16);
+    let head = head_bytes(
+        entry.site,
+        entry.seq,
+        entry.clock,
+        entry.dialect,
+        text.len() as u16,
+    );
     write_all(sink, &head)?;
     write_all(sink, text)
 }

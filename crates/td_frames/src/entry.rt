@@ -5,7 +5,8 @@ ghost use Rattle.std.specs.Io.KnownBytes.{Keeps, Consumes};
 ghost use Rattle.td_frames.specs.Reading.{Told, entry_at, frame_at, text_at};
 
 use crate::error::FrameError;
-use crate::fields::{HEAD_BYTES, Head, fields_of, read_bytes, read_field};
+use crate::fields::{Head, MOST_HEAD, fields_of, read_bytes, read_field};
+use crate::version::Version;
 use std::alloc::{AllocError, Global};
 use td_devices::Source;
 use td_stamps::Entry;
@@ -16,12 +17,13 @@ const MOST_TEXT: u16 = 8_192;
 
 // The entry of these fields and this text.
 fn entry_with(alloc: Global, head: Head, text: String) -> Result<Entry, AllocError>
-    ensures { IfOk result (λ e. e ≡ record { site = head.site; seq = head.seq; clock = head.clock; text = string_bytes text }) }
+    ensures { IfOk result (λ e. e ≡ record { site = head.site; seq = head.seq; clock = head.clock; dialect = head.dialect; text = string_bytes text }) }
 {
     Ok(Entry {
         site: head.site,
         seq: head.seq,
         clock: head.clock,
+        dialect: head.dialect,
         text: Text::new(alloc, text)?,
     })
 }
@@ -47,25 +49,31 @@ fn read_text<S: Source>(alloc: Global, source: &mut S, head: Head) -> Result<Ent
     }
 }
 
-fn read_entry<S: Source>(alloc: Global, source: &mut S) -> Result<Entry, FrameError>
+fn read_entry<S: Source>(
+    alloc: Global,
+    source: &mut S,
+    version: Version,
+) -> Result<Entry, FrameError>
     ensures told { (bytes : List ℕ) × Consumes (S.left source.old) (S.left source.new) bytes
-        × Told result (entry_at bytes) (S.left source.new) (S.failures source.old) (S.failures source.new) }
+        × Told result (entry_at version bytes) (S.left source.new) (S.failures source.old) (S.failures source.new) }
     ensures beside { Keeps (S.beside source.old) (S.beside source.new) }
 {
-    let mut head = [0u8; HEAD_BYTES];
-    match read_field(source, &mut head) {
+    let mut room = [0u8; MOST_HEAD];
+    let (head, _) = room.split_at_mut(version.head_size());
+    match read_field(source, head) {
         Err(e) => Err(e),
-        Ok(()) => read_text(alloc, source, fields_of(&head)),
+        Ok(()) => read_text(alloc, source, fields_of(version, head)),
     }
 }
 
 fn after_letter<S: Source>(
     alloc: Global,
     source: &mut S,
+    version: Version,
     letter: u8,
 ) -> Result<Option<Entry>, FrameError>
     ensures told { (bytes : List ℕ) × Consumes (S.left source.old) (S.left source.new) bytes
-        × Told result (frame_at (letter ∷ bytes)) (S.left source.new) (S.failures source.old) (S.failures source.new) }
+        × Told result (frame_at version (letter ∷ bytes)) (S.left source.new) (S.failures source.old) (S.failures source.new) }
     ensures beside { Keeps (S.beside source.old) (S.beside source.new) }
 {
     if letter == b'Z' {
@@ -74,21 +82,25 @@ fn after_letter<S: Source>(
     if letter != b'E' {
         return Err(FrameError::BadFrame);
     }
-    match read_entry(alloc, source) {
+    match read_entry(alloc, source, version) {
         Err(e) => Err(e),
         Ok(entry) => Ok(Some(entry)),
     }
 }
 
-/// Reads the frame of an entry, or of the end. It takes room for the text alone.
-pub fn read_frame<S: Source>(alloc: Global, source: &mut S) -> Result<Option<Entry>, FrameError>
+/// Reads the frame of an entry in this version, or of the end. It takes room for the text alone.
+pub fn read_frame<S: Source>(
+    alloc: Global,
+    source: &mut S,
+    version: Version,
+) -> Result<Option<Entry>, FrameError>
     ensures told { (bytes : List ℕ) × Consumes (S.left source.old) (S.left source.new) bytes
-        × Told result (frame_at bytes) (S.left source.new) (S.failures source.old) (S.failures source.new) }
+        × Told result (frame_at version bytes) (S.left source.new) (S.failures source.old) (S.failures source.new) }
     ensures beside { Keeps (S.beside source.old) (S.beside source.new) }
 {
     let mut letter = [0u8; 1];
     match read_field(source, &mut letter) {
         Err(e) => Err(e),
-        Ok(()) => after_letter(alloc, source, letter[0]),
+        Ok(()) => after_letter(alloc, source, version, letter[0]),
     }
 }

@@ -13,7 +13,7 @@ fn head_bytes(site: u16) -> [u8; 7]
     ensures { result ≡ spelled.head_frame site }
 {
     let s = site.to_be_bytes();
-    [b'H', b'T', b'D', b'B', 1, s[0], s[1]]
+    [b'H', b'T', b'D', b'B', 2, s[0], s[1]]
 }
 
 fn place_bytes(place: &(u16, u32)) -> [u8; 6]

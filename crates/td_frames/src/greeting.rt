@@ -54,7 +54,7 @@ fn read_version<S: Source>(source: &mut S) -> Result<(), FrameError>
         Ok(()) => {}
         Err(e) => return Err(e),
     }
-    if field.as_slice() != [1u8].as_slice() {
+    if field.as_slice() != [2u8].as_slice() {
         return Err(FrameError::Version);
     }
     Ok(())

@@ -1,6 +1,6 @@
 -- The laws of statements and scripts.
-use Rattle.std.proofs.Common.{◌≡◌, ◌≤◌, ◌+◌, ◌↔◌, ℕ, List, [], Some, length, nat_le, option_and_then, refl, ap, sym, ◌∙◌, subst, arith}
-use Rattle.std.proofs.lemmas.Bool.{le-leb}
+use Rattle.std.proofs.Common.{◌≡◌, ◌≤◌, ◌+◌, ◌↔◌, ℕ, Bool, true, false, cond, List, [], Some, None, length, nat_le, option_and_then, refl, ap, sym, ◌∙◌, subst, arith}
+use Rattle.std.proofs.lemmas.Bool.{leb-true, le-leb}
 use Rattle.td_tokens.specs.Lex.{Text}
 use Rattle.td_tokens.specs.Lexer.{lexemes}
 use Rattle.td_grammar.specs.declared.forms.Form.TheVariants as f
@@ -9,12 +9,13 @@ use Rattle.td_syntax.specs.declared.script.Statement.{Statement}
 use Rattle.td_syntax.specs.declared.script.Definition.{Definition}
 use Rattle.td_syntax.specs.Levels.{levels}
 use Rattle.td_grammar.specs.Grammar.{Tokens, most_levels, without_places}
-use Rattle.td_grammar.specs.Statements.{ReadsStatement, ReadsScript, IsStatement, IsScript, statement_levels, definitions_levels, statement_bytes, script_bytes}
+use Rattle.td_grammar.specs.Statements.{ReadsStatement, ReadsScript, IsStatement, IsStatementIn, since, IsScript, statement_levels, definitions_levels, statement_bytes, script_bytes}
 use Rattle.td_grammar.specs.ForProofs.Reader.{Outcome, reads, whole}
 use Rattle.td_grammar.specs.ForProofs.StatementReader as read
-use Rattle.td_grammar.specs.ForProofs.StatementReader.{statement_of_tokens, script_of_tokens, read_statement, read_script}
+use Rattle.td_grammar.specs.ForProofs.StatementReader.{statement_of_tokens, script_of_tokens, read_statement, read_statement_in, read_script}
 use Rattle.td_grammar.proofs.Lexing.{reading_lexed, lexed_reading}
-use Rattle.td_grammar.proofs.OneTree.{text_read, ended}
+use Rattle.td_grammar.proofs.OneTree.{chosen, text_read, ended}
+use Rattle.td_grammar.proofs.Places.{none_some}
 use Rattle.td_grammar.proofs.Sound.{parts, sound}
 use Rattle.td_grammar.proofs.StatementsComplete.{statement_read, script_read}
 use Rattle.td_grammar.proofs.StatementsSound.{statement_sound, script_sound}
@@ -62,6 +63,27 @@ read_is_statement bytes s h =
 
 pub reader_decides_statements : (bytes : Text) (s : Statement) → (read_statement bytes ≡ Some s) ↔ IsStatement bytes s
 reader_decides_statements bytes s = (read_is_statement bytes s, statement_is_read bytes s)
+
+same_statements : (s t : Statement) → Some s ≡ Some t → s ≡ t
+same_statements s t h = cc
+
+kept_is : (dialect : ℕ) (bytes : Text) (t s : Statement) (b : Bool) → IsStatement bytes t → nat_le (since t) dialect ≡ b → cond b (Some t) None ≡ Some s → IsStatementIn dialect bytes s
+kept_is dialect bytes t s true is e h = subst (IsStatementIn dialect bytes) (same_statements t s h) (record { reads = is; form = leb-true (since t) dialect e })
+kept_is dialect bytes t s false is e h = absurd (none_some h)
+
+read_is_in : (dialect : ℕ) (bytes : Text) (s : Statement) → read_statement_in dialect bytes ≡ Some s → IsStatementIn dialect bytes s
+unfolding read_statement_in
+read_is_in dialect bytes s h =
+    let c = chosen (read_statement bytes) (λ (t : Statement). cond (nat_le (since t) dialect) (Some t) None) s h in
+    kept_is dialect bytes c.0 s (nat_le (since c.0) dialect) (read_is_statement bytes c.0 c.1) refl c.2
+
+in_is_read : (dialect : ℕ) (bytes : Text) (s : Statement) → IsStatementIn dialect bytes s → read_statement_in dialect bytes ≡ Some s
+unfolding read_statement_in
+in_is_read dialect bytes s is =
+    ap (option_and_then (λ (t : Statement). cond (nat_le (since t) dialect) (Some t) None)) (statement_is_read bytes s is.reads) ∙ rw (le-leb (since s) dialect is.form) refl
+
+pub reader_decides_in : (dialect : ℕ) (bytes : Text) (s : Statement) → (read_statement_in dialect bytes ≡ Some s) ↔ IsStatementIn dialect bytes s
+reader_decides_in dialect bytes s = (read_is_in dialect bytes s, in_is_read dialect bytes s)
 
 script_is_read : (bytes : Text) (ds : List Definition) → IsScript bytes ds → read_script bytes ≡ Some ds
 unfolding read_script

@@ -24,7 +24,7 @@ one_expr ts a b d e =
 
 -- ---- texts
 
-chosen : {A B : Type 0} (o : Option A) (g : A → Option B) (x : B) → option_and_then g o ≡ Some x → (a : A) × (o ≡ Some a) × (g a ≡ Some x)
+pub chosen : {A B : Type 0} (o : Option A) (g : A → Option B) (x : B) → option_and_then g o ≡ Some x → (a : A) × (o ≡ Some a) × (g a ≡ Some x)
 chosen None g x h = absurd (none_some h)
 chosen (Some a) g x h = (a, refl, h)
 

@@ -1,5 +1,5 @@
 -- What the reader of statements reads is not too deep.
-use Rattle.std.proofs.Common.{◌≡◌, ◌≤◌, ◌⊎◌, inl, inr, ℕ, zero, suc, max, Bool, true, false, cond, List, [], ◌∷◌, ◌++◌, Option, Some, None, length, refl, ap, sym, ◌∙◌, subst, append_assoc, arith, option_and_then}
+use Rattle.std.proofs.Common.{◌≡◌, ◌≤◌, inl, inr, ℕ, zero, suc, max, List, [], ◌∷◌, ◌++◌, Option, Some, None, refl, subst, arith, option_and_then}
 use Rattle.td_tokens.specs.declared.token.Word.{Word}
 use Rattle.td_tokens.specs.declared.token.Word.TheVariants as w
 use Rattle.td_tokens.specs.Lex.{Text, word}
@@ -20,7 +20,7 @@ use Rattle.td_syntax.specs.declared.script.Definition.TheVariants as definition
 use Rattle.td_syntax.specs.Levels.{levels, named_levels}
 use Rattle.td_grammar.specs.Grammar.{Tokens}
 use Rattle.td_grammar.specs.Statements.{maybe_levels, action_levels, actions_levels, statement_levels, opening_levels, definition_levels, definitions_levels}
-use Rattle.td_grammar.specs.ForProofs.Reader.{Outcome, Reader, and_then, pure, at, tail, eat, expect, take_name, is_over, list_at, listed, attributes_at, heading_at, named_at}
+use Rattle.td_grammar.specs.ForProofs.Reader.{Reader, and_then, pure, at, tail, heading_at, named_at}
 use Rattle.td_grammar.specs.ForProofs.StatementReader as read
 use Rattle.td_grammar.proofs.Places.{none_some}
 use Rattle.td_grammar.proofs.Sound.{bound, tested, eaten, expected, a_name_read, made, Run, last, next, listed_run}
@@ -111,11 +111,46 @@ module _ (rds : ℕ → Form → Reader Expr) (b : ℕ) (shallow : (ts : Tokens)
   actions_shallow ts xs r (last {x = x} h) = both_shallow (action_levels x) 0 (action_shallow ts (x, r) h) (omega arith)
   actions_shallow ts xs r (next {mid = mid} {x = x} {xs = ys} h d) = both_shallow (action_levels x) (actions_levels ys) (action_shallow ts (x, word w.Comma ∷ mid) h) (actions_shallow mid ys r d)
 
+  list_shallow : (ts : Tokens) (p : List Action × Tokens) → read.actions_at rds b ts ≡ Some p → actions_levels p.0 ≤ b
+  unfolding read.actions_at
+  list_shallow ts p h = actions_shallow ts p.0 (word w.Semicolon ∷ p.1) (listed_run w.Semicolon (read.action_at rds b) ts p.0 p.1 h)
+
+  no_actions_shallow : actions_levels [] ≤ b
+  no_actions_shallow = omega arith
+
+  otherwise_shallow : (ts : Tokens) (p : List Action × Tokens) → read.otherwise rds b ts ≡ Some p → actions_levels p.0 ≤ b
+  unfolding read.otherwise
+  otherwise_shallow ts p h =
+      elim (eaten w.Else ts _ p h) [
+        | inl q ↦ list_shallow (tail ts) p q.1
+        | inr q ↦ made (λ xs s. actions_levels xs ≤ b) [] ts p no_actions_shallow q
+      ]
+
+  conditional_shallow : (ts : Tokens) (p : Statement × Tokens) → read.conditional rds b ts ≡ Some p → statement_levels p.0 ≤ b
+  unfolding read.conditional
+  conditional_shallow ts p h =
+      let a = bound (rds b f.Expr ts) _ p h in
+      let t = expected w.Then a.1 _ p a.3 in
+      let first = bound (read.actions_at rds b t.0) _ p t.2 in
+      let second = bound (read.otherwise rds b first.1) _ p first.3 in
+      let e = expected w.End second.1 _ p second.3 in
+      let i = expected w.If e.0 _ p e.2 in
+      let c = expected w.Semicolon i.0 _ p i.2 in
+      let lists = both_shallow (actions_levels first.0) (actions_levels second.0) (list_shallow t.0 (first.0, first.1) first.2) (otherwise_shallow first.1 (second.0, second.1) second.2) in
+      made (λ s r. statement_levels s ≤ b) (statement.Conditional a.0 first.0 second.0) c.0 p (both_shallow (levels a.0) (max (actions_levels first.0) (actions_levels second.0)) (shallow ts (a.0, a.1) a.2) lists) c.2
+
+  assignment_shallow : (ts : Tokens) (p : Statement × Tokens) → and_then (read.actions_at rds b ts) (λ xs. pure (statement.Assignment xs)) ≡ Some p → statement_levels p.0 ≤ b
+  assignment_shallow ts p h =
+      let l = bound (read.actions_at rds b ts) _ p h in
+      made (λ s r. statement_levels s ≤ b) (statement.Assignment l.0) l.1 p (list_shallow ts (l.0, l.1) l.2) l.3
+
   pub statement_shallow : (ts : Tokens) (p : Statement × Tokens) → read.statement_at rds b ts ≡ Some p → statement_levels p.0 ≤ b
   unfolding read.statement_at
   statement_shallow ts p h =
-      let l = bound (listed w.Semicolon (read.action_at rds b) ts) _ p h in
-      made (λ s r. statement_levels s ≤ b) (statement.Assignment l.0) l.1 p (actions_shallow ts l.0 (word w.Semicolon ∷ l.1) (listed_run w.Semicolon (read.action_at rds b) ts l.0 l.1 l.2)) l.3
+      elim (tested (at w.If ts) _ _ p h) [
+        | inl q ↦ conditional_shallow (tail ts) p q.1
+        | inr q ↦ assignment_shallow ts p q.1
+      ]
 
   -- ---- definitions
 

@@ -12,11 +12,12 @@ use Rattle.td_syntax.specs.declared.tree.Attributes.{Attributes}
 use Rattle.td_syntax.specs.declared.tree.Expr.{Expr}
 use Rattle.td_syntax.specs.declared.script.Action.{Action}
 use Rattle.td_syntax.specs.declared.script.Statement.{Statement}
+use Rattle.td_syntax.specs.declared.script.Statement.TheVariants as statement
 use Rattle.td_syntax.specs.declared.script.Opening.{Opening}
 use Rattle.td_syntax.specs.declared.script.Definition.{Definition}
 use Rattle.td_syntax.specs.Levels.{levels, named_levels}
 use Rattle.td_grammar.specs.Grammar.{Tokens, Reads, ReadsFields, last_field, next_field, IsList, last_item, next_item}
-use Rattle.td_grammar.specs.Statements.{ReadsSets, sets, sets_braces, sets_colon, ReadsAction, assign, insert, delete_all, delete_where, update_all, update_where, ReadsStatement, assignment, maybe_levels, action_levels, actions_levels, statement_levels, ReadsMaybeName, no_name, this_name, ReadsComponents, no_components, components, ReadsLimit, no_limit, limit, ReadsOpening, empty, headed_init, init, ReadsKeys, last_key, next_key, IsBase, base_word, real_word, ReadsDefinition, type_, base, virtual, constraint, ReadsScript, nothing, define, opening_levels, definition_levels, definitions_levels}
+use Rattle.td_grammar.specs.Statements.{ReadsSets, sets, sets_braces, sets_colon, ReadsAction, assign, insert, delete_all, delete_where, update_all, update_where, ReadsStatement, assignment, if_then, if_else, maybe_levels, action_levels, actions_levels, statement_levels, ReadsMaybeName, no_name, this_name, ReadsComponents, no_components, components, ReadsLimit, no_limit, limit, ReadsOpening, empty, headed_init, init, ReadsKeys, last_key, next_key, IsBase, base_word, real_word, ReadsDefinition, type_, base, virtual, constraint, ReadsScript, nothing, define, opening_levels, definition_levels, definitions_levels}
 use Rattle.td_grammar.specs.ForProofs.Reader.{Outcome, Reader, same_word, at, at_name, eat, expect, take_name, is_over, reads}
 use Rattle.td_grammar.specs.ForProofs.StatementReader as read
 use Rattle.td_grammar.proofs.Places.{goes_on, shorter, named_list_shorter, attributes_shorter, heading_shorter, fields_shorter}
@@ -92,9 +93,50 @@ actions_list : {ts : Tokens} {xs : List Action} {r : Tokens} → IsList ReadsAct
 actions_list (last_item d) h z n b le lv = one (action_read d h z n b le (omega arith)) (action_shorter d)
 actions_list (next_item {mid = mid} d k) h z n b le lv = then_more (action_read d refl (comma_no_where mid) n b le (omega arith)) (omega (arith, action_shorter d)) (actions_list k h z n b (omega (arith, action_shorter d)) (omega arith))
 
+actions_shorter : {ts : Tokens} {xs : List Action} {r : Tokens} → IsList ReadsAction ts xs r → length r < length ts
+actions_shorter (last_item d) = action_shorter d
+actions_shorter (next_item d k) = omega (arith, action_shorter d, actions_shorter k)
+
+actions_read : {ts : Tokens} {xs : List Action} {r : Tokens} → IsList ReadsAction ts xs (word w.Semicolon ∷ r) → (n b : ℕ) → length ts ≤ n → actions_levels xs ≤ b → read.actions_at (reads n) b ts ≡ Some (xs, r)
+unfolding read.actions_at
+actions_read {r = r} d n b le lv = listed_reads w.Semicolon semicolon_closes (actions_list d refl (semicolon_no_where r) n b le lv)
+
+-- an action does not begin with IF
+action_begins : {ts : Tokens} {x : Action} {r : Tokens} → ReadsAction ts x r → at w.If ts ≡ false
+unfolding at same_word
+action_begins (assign d) = refl
+action_begins (insert d) = refl
+action_begins delete_all = refl
+action_begins (delete_where d) = refl
+action_begins (update_all d) = refl
+action_begins (update_where d k) = refl
+
+actions_begin : {ts : Tokens} {xs : List Action} {r : Tokens} → IsList ReadsAction ts xs r → at w.If ts ≡ false
+actions_begin (last_item d) = action_begins d
+actions_begin (next_item d k) = action_begins d
+
+otherwise_none : (ts : Tokens) (n b : ℕ) → read.otherwise (reads n) b (word w.End ∷ ts) ≡ Some ([], word w.End ∷ ts)
+unfolding read.otherwise eat at same_word
+otherwise_none ts n b = refl
+
+otherwise_read : (ts r : Tokens) (ys : List Action) (n b : ℕ) → read.actions_at (reads n) b ts ≡ Some (ys, r) → read.otherwise (reads n) b (word w.Else ∷ ts) ≡ Some (ys, r)
+unfolding read.otherwise eat at same_word
+otherwise_read ts r ys n b h = h
+
+conditional_read : (ts mid next : Tokens) (a : Expr) (xs ys : List Action) (n b : ℕ) → reads n b f.Expr ts ≡ Some (a, word w.Then ∷ mid) → read.actions_at (reads n) b mid ≡ Some (xs, next) → read.otherwise (reads n) b next ≡ Some (ys, word w.End ∷ word w.If ∷ word w.Semicolon ∷ []) → read.statement_at (reads n) b (word w.If ∷ ts) ≡ Some (statement.Conditional a xs ys, [])
+unfolding read.statement_at read.conditional expect at same_word
+conditional_read ts mid next a xs ys n b d k j = rw (d, k, j) refl
+
 pub statement_read : {ts : Tokens} {s : Statement} → ReadsStatement ts s → (b : ℕ) → statement_levels s ≤ b → read.statement_at (reads (length ts)) b ts ≡ Some (s, [])
 unfolding read.statement_at
-statement_read (assignment {ts} d) b lv = rw (listed_reads w.Semicolon semicolon_closes (actions_list d refl (semicolon_no_where []) (length ts) b (omega arith) lv)) refl
+statement_read (assignment {ts} d) b lv = rw (actions_begin d, actions_read d (length ts) b (omega arith) lv) refl
+statement_read (if_then {ts} {mid} {a} {xs} d k) b lv =
+    let n = length (word w.If ∷ ts) in
+    conditional_read ts mid _ a xs [] n b (read_nested d n b (omega arith) (omega arith) refl) (actions_read k n b (omega (arith, shorter d)) (omega arith)) (otherwise_none _ n b)
+statement_read (if_else {ts} {mid} {next} {a} {xs} {ys} d k j) b lv =
+    let n = length (word w.If ∷ ts) in
+    conditional_read ts mid (word w.Else ∷ next) a xs ys n b (read_nested d n b (omega arith) (omega arith) refl) (actions_read k n b (omega (arith, shorter d)) (omega arith))
+    (otherwise_read next _ ys n b (actions_read j n b (omega (arith, shorter d, actions_shorter k)) (omega arith)))
 
 -- ---- definitions
 

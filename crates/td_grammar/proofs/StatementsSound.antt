@@ -20,8 +20,8 @@ use Rattle.td_syntax.specs.declared.script.Opening.TheVariants as opening
 use Rattle.td_syntax.specs.declared.script.Definition.{Definition}
 use Rattle.td_syntax.specs.declared.script.Definition.TheVariants as definition
 use Rattle.td_grammar.specs.Grammar.{Tokens, Reads, ReadsAttributes, ReadsHeading, IsList, last_item, next_item}
-use Rattle.td_grammar.specs.Statements.{ReadsSets, sets, sets_braces, sets_colon, ReadsAction, assign, insert, delete_all, delete_where, update_all, update_where, ReadsStatement, assignment, ReadsMaybeName, no_name, this_name, ReadsComponents, no_components, components, ReadsLimit, no_limit, limit, ReadsOpening, empty, headed_init, init, ReadsKeys, last_key, next_key, IsBase, base_word, real_word, ReadsDefinition, type_, base, virtual, constraint, ReadsScript, nothing, define}
-use Rattle.td_grammar.specs.ForProofs.Reader.{Outcome, Reader, and_then, pure, at, at_name, tail, attributes_at, heading_at, field_of, type_at, listed, named_at}
+use Rattle.td_grammar.specs.Statements.{ReadsSets, sets, sets_braces, sets_colon, ReadsAction, assign, insert, delete_all, delete_where, update_all, update_where, ReadsStatement, assignment, if_then, if_else, ReadsMaybeName, no_name, this_name, ReadsComponents, no_components, components, ReadsLimit, no_limit, limit, ReadsOpening, empty, headed_init, init, ReadsKeys, last_key, next_key, IsBase, base_word, real_word, ReadsDefinition, type_, base, virtual, constraint, ReadsScript, nothing, define}
+use Rattle.td_grammar.specs.ForProofs.Reader.{Outcome, Reader, and_then, pure, at, at_name, tail, attributes_at, heading_at, field_of, type_at, named_at}
 use Rattle.td_grammar.specs.ForProofs.StatementReader as read
 use Rattle.td_grammar.proofs.Places.{none_some}
 use Rattle.td_grammar.proofs.Sound.{bound, parts, tested, at_word, eaten, expected, a_name_read, made, Run, last, next, list_run, listed_run, attributes_sound, heading_sound, type_sound, fields_of, Sound, ended, named_list_of}
@@ -140,13 +140,55 @@ module _ (rds : ℕ → Form → Reader Expr) (b : ℕ) (inside : (m : ℕ) (g :
   actions_of ts xs r (last h) = last_item (action_sound ts _ h)
   actions_of ts xs r (next {mid = mid} {xs = ys} h d) = next_item (action_sound ts _ h) (actions_of mid ys r d)
 
+  actions_sound : (ts : Tokens) (xs : List Action) (r : Tokens) → read.actions_at rds b ts ≡ Some (xs, r) → IsList ReadsAction ts xs (word w.Semicolon ∷ r)
+  unfolding read.actions_at
+  actions_sound ts xs r h = actions_of ts xs (word w.Semicolon ∷ r) (listed_run w.Semicolon (read.action_at rds b) ts xs r h)
+
+  -- actions behind ELSE, or nothing
+  abbrev Otherwise : Tokens → List Action → Tokens → Type 0
+  Otherwise ts xs r = ((us : Tokens) × (ts ≡ word w.Else ∷ us) × IsList ReadsAction us xs (word w.Semicolon ∷ r)) ⊎ ((ts ≡ r) × ([] ≡ xs))
+
+  otherwise_sound : (ts : Tokens) (p : List Action × Tokens) → read.otherwise rds b ts ≡ Some p → Otherwise ts p.0 p.1
+  unfolding read.otherwise
+  otherwise_sound ts p h =
+      elim (eaten w.Else ts _ p h) [
+        | inl q ↦ inl (tail ts, q.0, actions_sound (tail ts) p.0 p.1 q.1)
+        | inr q ↦ (let z = parts [] p.0 ts p.1 q in inr (z.1, z.0))
+      ]
+
+  conditional_made : (ts mid rest : Tokens) (a : Expr) (xs ys : List Action) → Reads f.Expr ts a (word w.Then ∷ mid) → IsList ReadsAction mid xs (word w.Semicolon ∷ rest) → Otherwise rest ys (word w.End ∷ word w.If ∷ word w.Semicolon ∷ []) → ReadsStatement (word w.If ∷ ts) (statement.Conditional a xs ys)
+  conditional_made ts mid rest a xs ys d k (inl q) = if_else d (subst (λ r. IsList ReadsAction mid xs (word w.Semicolon ∷ r)) q.1 k) q.2
+  conditional_made ts mid rest a xs ys d k (inr q) = subst (λ zs. ReadsStatement (word w.If ∷ ts) (statement.Conditional a xs zs)) q.1 (if_then d (subst (λ r. IsList ReadsAction mid xs (word w.Semicolon ∷ r)) q.0 k))
+
+  conditional_sound : (ts : Tokens) (s : Statement) → read.conditional rds b ts ≡ Some (s, []) → ReadsStatement (word w.If ∷ ts) s
+  unfolding read.conditional
+  conditional_sound ts s h =
+      let a = bound (rds b f.Expr ts) _ (s, []) h in
+      let t = expected w.Then a.1 _ (s, []) a.3 in
+      let first = bound (read.actions_at rds b t.0) _ (s, []) t.2 in
+      let second = bound (read.otherwise rds b first.1) _ (s, []) first.3 in
+      let e = expected w.End second.1 _ (s, []) second.3 in
+      let i = expected w.If e.0 _ (s, []) e.2 in
+      let c = expected w.Semicolon i.0 _ (s, []) i.2 in
+      let z = parts (statement.Conditional a.0 first.0 second.0) s c.0 [] c.2 in
+      let ends = e.1 ∙ ap (λ r. word w.End ∷ r) (i.1 ∙ ap (λ r. word w.If ∷ r) (c.1 ∙ ap (λ r. word w.Semicolon ∷ r) z.1)) in
+      subst (ReadsStatement (word w.If ∷ ts)) z.0
+      (conditional_made ts t.0 first.1 a.0 first.0 second.0 (ended (inside b f.Expr ts _ a.2) t.1) (actions_sound t.0 first.0 first.1 first.2)
+      (subst (λ r. Otherwise first.1 second.0 r) ends (otherwise_sound first.1 (second.0, second.1) second.2)))
+
+  assignment_sound : (ts : Tokens) (s : Statement) → and_then (read.actions_at rds b ts) (λ xs. pure (statement.Assignment xs)) ≡ Some (s, []) → ReadsStatement ts s
+  assignment_sound ts s h =
+      let l = bound (read.actions_at rds b ts) _ (s, []) h in
+      let z = parts (statement.Assignment l.0) s l.1 [] l.3 in
+      subst (ReadsStatement ts) z.0 (assignment (subst (λ r. IsList ReadsAction ts l.0 (word w.Semicolon ∷ r)) z.1 (actions_sound ts l.0 l.1 l.2)))
+
   pub statement_sound : (ts : Tokens) (s : Statement) → read.statement_at rds b ts ≡ Some (s, []) → ReadsStatement ts s
   unfolding read.statement_at
   statement_sound ts s h =
-      let l = bound (listed w.Semicolon (read.action_at rds b) ts) _ (s, []) h in
-      let z = parts (statement.Assignment l.0) s l.1 [] l.3 in
-      let run = actions_of ts l.0 (word w.Semicolon ∷ l.1) (listed_run w.Semicolon (read.action_at rds b) ts l.0 l.1 l.2) in
-      subst (ReadsStatement ts) z.0 (assignment (subst (λ r. IsList ReadsAction ts l.0 (word w.Semicolon ∷ r)) z.1 run))
+      elim (tested (at w.If ts) _ _ (s, []) h) [
+        | inl q ↦ subst (λ us. ReadsStatement us s) (sym (at_word w.If ts q.0)) (conditional_sound (tail ts) s q.1)
+        | inr q ↦ assignment_sound ts s q.1
+      ]
 
   -- ---- definitions
 

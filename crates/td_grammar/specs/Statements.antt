@@ -1,5 +1,5 @@
 -- The grammar of statements and scripts, in the way of that of expressions.
-use Rattle.std.specs.Prelude.{◌≡◌, ◌≤◌, ℕ, max, length, List, [], ◌∷◌, Option, Some, None}
+use Rattle.std.specs.Prelude.{◌≤◌, ℕ, max, length, List, [], ◌∷◌, Option, Some, None}
 use Rattle.td_tokens.specs.declared.token.Word.{Word}
 use Rattle.td_tokens.specs.declared.token.Word.TheVariants as w
 use Rattle.td_tokens.specs.Lex.{Text, word, name, Spanned, IsReading}
@@ -62,6 +62,27 @@ pub data ReadsStatement : Tokens → Statement → Type 0 where
   assignment : {ts : Tokens} {xs : List Action}
       → IsList ReadsAction ts xs (word w.Semicolon ∷ [])
       → ReadsStatement ts (statement.Assignment xs)
+  -- IF expression THEN action, .. ";" END IF ";"
+  if_then : {ts mid : Tokens} {a : Expr} {xs : List Action}
+      → Reads f.Expr ts a (word w.Then ∷ mid)
+      → IsList ReadsAction mid xs (word w.Semicolon ∷ word w.End ∷ word w.If ∷ word w.Semicolon ∷ [])
+      → ReadsStatement (word w.If ∷ ts) (statement.Conditional a xs [])
+  -- IF expression THEN action, .. ";" ELSE action, .. ";" END IF ";"
+  if_else : {ts mid next : Tokens} {a : Expr} {xs ys : List Action}
+      → Reads f.Expr ts a (word w.Then ∷ mid)
+      → IsList ReadsAction mid xs (word w.Semicolon ∷ word w.Else ∷ next)
+      → IsList ReadsAction next ys (word w.Semicolon ∷ word w.End ∷ word w.If ∷ word w.Semicolon ∷ [])
+      → ReadsStatement (word w.If ∷ ts) (statement.Conditional a xs ys)
+
+-- The dialect in which a form of statements came. A text is read by its own dialect for ever, so that a statement
+-- which had no reading when it was written keeps its outcome.
+abbrev pub since : Statement → ℕ
+since (statement.Assignment xs) = 1
+since (statement.Conditional a xs ys) = 2
+
+-- the dialect in which statements are written today
+abbrev pub latest : ℕ
+latest = 2
 
 -- ---- scripts
 
@@ -165,6 +186,7 @@ actions_levels (x ∷ xs) = max (action_levels x) (actions_levels xs)
 
 abbrev pub statement_levels : Statement → ℕ
 statement_levels (statement.Assignment xs) = actions_levels xs
+statement_levels (statement.Conditional a xs ys) = max (levels a) (max (actions_levels xs) (actions_levels ys))
 
 abbrev pub definitions_levels : List Definition → ℕ
 definitions_levels [] = 0
@@ -185,6 +207,11 @@ pub record IsStatement (bytes : Text) (s : Statement) : Type 0 where
   pub reads : ReadsStatement (without_places spans) s
   pub shallow : statement_levels s ≤ most_levels
   pub short : length bytes ≤ statement_bytes
+
+-- the same in a dialect: of a form that it has
+pub record IsStatementIn (dialect : ℕ) (bytes : Text) (s : Statement) : Type 0 where
+  pub reads : IsStatement bytes s
+  pub form : since s ≤ dialect
 
 -- the text is this script, likewise
 pub record IsScript (bytes : Text) (ds : List Definition) : Type 0 where

@@ -18,5 +18,5 @@ pub mod stops;
 mod types;
 
 pub use error::ReadError;
-pub use reader::{read_expr, read_script, read_statement};
+pub use reader::{LATEST, read_expr, read_script, read_statement, read_statement_in};
 pub use stops::{Reading, stop};

@@ -7,7 +7,7 @@ ghost use Rattle.td_grammar.specs.ForProofs.Reader as spec;
 ghost use Rattle.td_grammar.specs.ForProofs.Readings.{Tells, Lexes, fits, lexemes_of};
 ghost use Rattle.td_grammar.specs.ForProofs.StatementReader as statements;
 ghost use Rattle.td_grammar.specs.Grammar.{IsQuery};
-ghost use Rattle.td_grammar.specs.Statements.{IsScript, IsStatement};
+ghost use Rattle.td_grammar.specs.Statements.{IsScript, IsStatement, IsStatementIn};
 ghost use Rattle.td_syntax.specs.declared.script.Definition.{Definition};
 ghost use Rattle.td_syntax.specs.declared.script.Statement.{Statement};
 ghost use Rattle.td_syntax.specs.declared.tree.Expr.{Expr};
@@ -16,6 +16,7 @@ use crate::cursor::Cursor;
 use crate::error::ReadError;
 use crate::forms::Form;
 use crate::grammar::{Grammar, Tree, expr};
+use crate::statements::since;
 use sqlite_items::{Boxed, Items};
 use std::alloc::Global;
 use td_syntax::script::{Definition, Statement};
@@ -34,6 +35,9 @@ pub const SCRIPT_BYTES: usize = 65_536;
 
 /// The most levels of an expression.
 pub const LEVELS: usize = 256;
+
+/// The dialect in which statements are written today.
+pub const LATEST: u8 = 2;
 
 // The tokens of a text.
 fn tokens_of(alloc: Global, text: &str) -> Result<Vec<Token<'_>>, ReadError>
@@ -86,6 +90,19 @@ fn statement(alloc: Global, text: &str) -> Result<Statement, ReadError>
     }
 }
 
+// The tree of a statement of a form that the dialect has, likewise.
+#[tactic(auto, unfolding(crate::specs::ForProofs::StatementReader::read_statement_in))]
+fn statement_in(alloc: Global, text: &str, dialect: u8) -> Result<Statement, ReadError>
+    ensures { Tells (statements.read_statement_in dialect text.now) result }
+{
+    let tree = statement(alloc, text)?;
+    if since(&tree) <= dialect {
+        Ok(tree)
+    } else {
+        Err(ReadError::Syntax)
+    }
+}
+
 // The trees of a script's definitions, likewise.
 #[tactic(auto, unfolding(crate::specs::ForProofs::StatementReader::read_script))]
 fn script(alloc: Global, text: &str) -> Result<Items<Definition>, ReadError>
@@ -122,6 +139,15 @@ pub fn read_statement(alloc: Global, text: &str) -> Result<Statement, ReadError>
     ensures syntax_only_without_one { result ≡ Err ReadError.Syntax → (tree : Statement) → ¬ IsStatement text.now tree }
 {
     statement(alloc, text)
+}
+
+/// The tree of a statement in a dialect: a text of a form that came with a later one has none. Time and depth are as
+/// for a query.
+pub fn read_statement_in(alloc: Global, text: &str, dialect: u8) -> Result<Statement, ReadError>
+    ensures tree { IfOk result (IsStatementIn dialect text.now) }
+    ensures syntax_only_without_one { result ≡ Err ReadError.Syntax → (tree : Statement) → ¬ IsStatementIn dialect text.now tree }
+{
+    statement_in(alloc, text, dialect)
 }
 
 /// The trees of a script's definitions. Time and depth are as for a query.

@@ -1,8 +1,10 @@
 //! Statements from tokens.
 
+ghost use Rattle.std.specs.Prelude.{◌≡◌};
 ghost use Rattle.td_grammar.specs.ForProofs.Reader.{reads};
 ghost use Rattle.td_grammar.specs.ForProofs.Readings.{Gives, Nests};
 ghost use Rattle.td_grammar.specs.ForProofs.StatementReader as spec;
+ghost use Rattle.td_grammar.specs.Statements as grammar;
 
 use crate::cursor::Cursor;
 use crate::error::ReadError;
@@ -100,14 +102,63 @@ impl<F: Fn(Global, &mut Cursor<'_>, usize, usize, Form) -> Result<Tree, ReadErro
         self.assigned(tokens)
     }
 
+    // Actions, with the semicolon that ends them.
+    #[tactic(auto, unfolding(crate::specs::ForProofs::StatementReader::actions_at))]
+    fn actions(&self, tokens: &mut Cursor<'_>) -> Result<Items<Action>, ReadError>
+        requires { Nests self.now.depth (F.pre self.now.nested) (F.post self.now.nested) }
+        ensures { Gives (spec.actions_at (reads self.now.depth) self.now.levels tokens.old) result tokens.new }
+    {
+        let action = |tokens: &mut Cursor<'_>| self.action(tokens);
+        listed(self.alloc, tokens, Word::Semicolon, action)
+    }
+
+    // Those behind ELSE, if it comes next, or none.
+    #[tactic(auto, unfolding(crate::specs::ForProofs::StatementReader::otherwise))]
+    fn otherwise(&self, tokens: &mut Cursor<'_>) -> Result<Items<Action>, ReadError>
+        requires { Nests self.now.depth (F.pre self.now.nested) (F.post self.now.nested) }
+        ensures { Gives (spec.otherwise (reads self.now.depth) self.now.levels tokens.old) result tokens.new }
+    {
+        if tokens.eat(Word::Else) {
+            return self.actions(tokens);
+        }
+        Ok(Items::new(self.alloc))
+    }
+
+    #[tactic(auto, unfolding(crate::specs::ForProofs::StatementReader::conditional))]
+    fn conditional(&self, tokens: &mut Cursor<'_>) -> Result<Statement, ReadError>
+        requires { Nests self.now.depth (F.pre self.now.nested) (F.post self.now.nested) }
+        ensures { Gives (spec.conditional (reads self.now.depth) self.now.levels tokens.old) result tokens.new }
+    {
+        let condition = self.inner(tokens)?;
+        tokens.expect(Word::Then)?;
+        let yes = self.actions(tokens)?;
+        let no = self.otherwise(tokens)?;
+        tokens.expect(Word::End)?;
+        tokens.expect(Word::If)?;
+        tokens.expect(Word::Semicolon)?;
+        Ok(Statement::Conditional(condition, yes, no))
+    }
+
     /// A statement, with the semicolon that ends it.
     #[tactic(auto, unfolding(crate::specs::ForProofs::StatementReader::statement_at))]
     pub fn statement(&self, tokens: &mut Cursor<'_>) -> Result<Statement, ReadError>
         requires { Nests self.now.depth (F.pre self.now.nested) (F.post self.now.nested) }
         ensures { Gives (spec.statement_at (reads self.now.depth) self.now.levels tokens.old) result tokens.new }
     {
-        let action = |tokens: &mut Cursor<'_>| self.action(tokens);
-        let actions = listed(self.alloc, tokens, Word::Semicolon, action)?;
-        Ok(Statement::Assignment(actions))
+        if tokens.at(Word::If) {
+            tokens.skip();
+            return self.conditional(tokens);
+        }
+        Ok(Statement::Assignment(self.actions(tokens)?))
+    }
+}
+
+/// The dialect in which the statement's form came.
+pub fn since(statement: &Statement) -> u8
+    ensures { result ≡ grammar.since statement.now }
+{
+    match statement {
+        Statement::Assignment(_) => 1,
+        Statement::Conditional(_, _, _) => 2,
     }
 }

@@ -119,11 +119,11 @@ module _ (c : CatalogueData) where
   unfolding value_after
   is_value a u h d = types_value c.schema (names_of_relvars c) a u h d
 
-  condition_is : (a : Expr) (u : Typed) → condition_after c.schema a ≡ Some u → Types c.schema (names_of_relvars c) a u kind.Boolean
+  pub condition_is : (a : Expr) (u : Typed) → condition_after c.schema a ≡ Some u → Types c.schema (names_of_relvars c) a u kind.Boolean
   unfolding condition_after
   condition_is a u h = truth_types c.schema (names_of_relvars c) a u h
 
-  is_condition : (a : Expr) (u : Typed) → Types c.schema (names_of_relvars c) a u kind.Boolean → condition_after c.schema a ≡ Some u
+  pub is_condition : (a : Expr) (u : Typed) → Types c.schema (names_of_relvars c) a u kind.Boolean → condition_after c.schema a ≡ Some u
   unfolding condition_after
   is_condition a u d = types_truth c.schema (names_of_relvars c) a u d
 

@@ -6,3 +6,4 @@ pub mod WellTyped
 pub mod ReadLemmas
 pub mod SourceLemmas
 pub mod StatementLemmas
+pub mod ConditionLemmas

@@ -1,9 +1,8 @@
 -- What is put behind the others, by the fields of a catalogue.
-use Rattle.std.proofs.Common.{◌≡◌, ℕ, Bool, true, false, List, [], ◌∷◌, ◌++◌, map, length, Option, Some, None, is_none, Result, Ok, Err, refl, sym, ap, subst, ◌∙◌}
+use Rattle.std.proofs.Common.{◌≡◌, ℕ, Bool, true, false, List, [], ◌∷◌, ◌++◌, map, length, Option, Some, None, is_none, Result, Ok, Err, refl, sym, ap, ◌∙◌}
 use Rattle.td_values.specs.Headings.{Header}
 use Rattle.td_syntax.specs.declared.tree.Attributes.{Attributes}
 use Rattle.td_syntax.specs.declared.script.Opening.{Opening}
-use Rattle.td_syntax.specs.declared.tree.Expr.{Expr}
 use Rattle.td_kinds.specs.declared.error.TypeError.{TypeError}
 use Rattle.td_kinds.specs.declared.error.TypeError.TheVariants.{IllTyped, OutOfMemory}
 use Rattle.td_kinds.specs.Kinds.{Name}
@@ -15,7 +14,7 @@ use Rattle.td_kinds.specs.ForProofs.Additions.{relvar_added, may_add, type_added
 use Rattle.td_trees.specs.declared.tree.Typed.{Typed}
 use Rattle.td_headings.specs.Catalogues.{CatalogueData}
 use Rattle.td_headings.specs.Definitions.{with_relvar, with_type, key_tests}
-use Rattle.td_headings.specs.ForProofs.After.{Value, opening_after, keys_after, value_after, relvar_after, possrep_after, base_after}
+use Rattle.td_headings.specs.ForProofs.After.{opening_after, keys_after, relvar_after, possrep_after, base_after}
 use Rattle.td_headings.specs.ForProofs.Changes.{Changes}
 use Rattle.td_headings.specs.declared.defined.Origin.{Origin}
 use Rattle.td_headings.specs.declared.defined.Origin.TheVariants as origin

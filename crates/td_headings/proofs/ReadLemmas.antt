@@ -1,5 +1,5 @@
 -- What an expression reads is the base relvars among those that it reaches.
-use Rattle.std.proofs.Common.{◌≡◌, ◌↔◌, ◌⊎◌, inl, inr, ℕ, ◌<◌, Bool, true, false, cond, List, [], ◌∷◌, map, length, get_or, Option, Some, None, slice_get, refl, sym, ap, subst, ◌∙◌, arith}
+use Rattle.std.proofs.Common.{◌≡◌, ◌⊎◌, inl, inr, ℕ, ◌<◌, Bool, true, false, cond, List, [], ◌∷◌, map, get_or, Option, Some, None, slice_get, refl, sym, ap, subst, ◌∙◌, arith}
 use Rattle.std.specs.FinMap as by_name
 use Rattle.std.specs.List.{Contains, filter, filter_map, cons_option}
 use Rattle.std.specs.List.Sorted.{IsStrictlySortedBy}
@@ -14,7 +14,7 @@ use Rattle.td_trees.specs.declared.expression.BaseUnder.{BaseUnder}
 use Rattle.td_trees.specs.declared.expression.Expression.{Expression}
 use Rattle.td_headings.specs.Catalogues.{CatalogueData}
 use Rattle.td_headings.specs.Expressions.{HasAllUnder, base_of, base_at, reads}
-use Rattle.td_headings.specs.Reached.{AreThose, IsReached, ReadsRelvar, is_base}
+use Rattle.td_headings.specs.Reached.{AreThose, ReadsRelvar, is_base}
 use Rattle.td_headings.specs.ForProofs.WellTyped.{AllTyped}
 use Rattle.td_headings.specs.declared.defined.Origin.{Origin}
 use Rattle.td_headings.specs.declared.defined.Origin.TheVariants as origin

@@ -1,5 +1,5 @@
 -- What is found for the source of an action is what is inferred for it.
-use Rattle.std.proofs.Common.{◌≡◌, false, List, Option, Some, None, refl, sym, ap, ◌∙◌}
+use Rattle.std.proofs.Common.{◌≡◌, false, List, Option, Some, None, refl, ap, ◌∙◌}
 use Rattle.td_syntax.specs.declared.tree.Expr.{Expr}
 use Rattle.td_syntax.specs.declared.tree.Expr.TheVariants as e
 use Rattle.td_syntax.specs.declared.tree.BinaryOperator.TheVariants as binary
@@ -12,7 +12,6 @@ use Rattle.td_kinds.specs.Kinds.{Name, relation_heading}
 use Rattle.td_kinds.specs.Results.{where_some}
 use Rattle.td_kinds.specs.Schemas.{SchemaData}
 use Rattle.td_kinds.specs.Scopes.{relvars_of, within_tuple}
-use Rattle.td_kinds.specs.Written.{names}
 use Rattle.td_typing.specs.ForProofs.Infer.{Inferred, infer, infer_name, infer_by, infer_binary, infer_where, infer_extend, by_unary, by_binary, restricted}
 use Rattle.td_typing.proofs.Equations.{of_name, of_truth, of_unary, of_binary, of_where, of_extend}
 use Rattle.td_headings.specs.ForProofs.Sources.{others, selected, no_tuples, changed, inserted, all_updated, updated, found}

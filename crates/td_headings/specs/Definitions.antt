@@ -1,8 +1,7 @@
 -- Which definitions are well typed after others, and what they add. Types, possreps, relvars and constraints are four
 -- name spaces; in each a name is defined once, and a definition names only earlier ones.
-use Rattle.std.specs.Prelude.{◌≡◌, Bool, true, false, not, length, List, [], ◌∷◌, ◌++◌, map, Option, Some, None, unwrap_or}
+use Rattle.std.specs.Prelude.{◌≡◌, Bool, false, length, List, [], ◌∷◌, ◌++◌, map, Option, Some, None, unwrap_or}
 use Rattle.std.specs.List.{list_any}
-use Rattle.std.specs.Option.{is_some}
 use Rattle.td_values.specs.Headings.{Header}
 use Rattle.td_values.specs.declared.TypeKind.{TypeKind}
 use Rattle.td_values.specs.declared.TypeKind.TheVariants as kind

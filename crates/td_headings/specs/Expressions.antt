@@ -7,7 +7,6 @@ use Rattle.td_values.specs.declared.TypeKind.{TypeKind}
 use Rattle.td_values.specs.declared.TypeKind.TheVariants as kind
 use Rattle.td_syntax.specs.declared.tree.Expr.{Expr}
 use Rattle.td_syntax.specs.declared.tree.Named.{Named}
-use Rattle.td_kinds.specs.Kinds.{Name}
 use Rattle.td_kinds.specs.Scopes.{within_tuple, relvars_of}
 use Rattle.td_kinds.specs.Written.{names}
 use Rattle.td_kinds.specs.declared.schema.Representation.{Representation}

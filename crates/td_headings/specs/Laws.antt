@@ -1,5 +1,5 @@
 -- The laws of definitions.
-use Rattle.std.specs.Prelude.{◌≡◌, ◌↔◌, ℕ, Some}
+use Rattle.std.specs.Prelude.{◌≡◌, ◌↔◌, Some}
 use Rattle.td_syntax.specs.declared.script.Definition.{Definition}
 use Rattle.td_trees.specs.declared.expression.Expression.{Expression}
 use Rattle.td_headings.specs.Catalogues.{CatalogueData}

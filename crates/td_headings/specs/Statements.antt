@@ -1,5 +1,5 @@
 -- Which statements are well typed. Each assignment's source is one expression over its target.
-use Rattle.std.specs.Prelude.{◌≡◌, ℕ, true, false, List, [], ◌∷◌, map, Option, Some, None, slice_get}
+use Rattle.std.specs.Prelude.{◌≡◌, ℕ, false, List, [], ◌∷◌, ◌++◌, map, Option, Some, None, slice_get}
 use Rattle.std.specs.List.{Contains}
 use Rattle.td_values.specs.Headings.{Header}
 use Rattle.td_values.specs.declared.TypeKind.TheVariants as kind
@@ -15,6 +15,7 @@ use Rattle.td_syntax.specs.declared.script.Statement.{Statement}
 use Rattle.td_syntax.specs.declared.script.Statement.TheVariants as statement
 use Rattle.td_kinds.specs.Kinds.{Name}
 use Rattle.td_kinds.specs.Schemas.{relvar_named}
+use Rattle.td_trees.specs.declared.expression.Expression.{Expression}
 use Rattle.td_trees.specs.declared.tree.Typed.{Typed}
 use Rattle.td_headings.specs.Catalogues.{CatalogueData}
 use Rattle.td_headings.specs.Expressions.{IsExpression, no_tuple}
@@ -55,20 +56,35 @@ pub data AreAssignments (c : CatalogueData) : List Action → List TypedAssignme
   no_assignments : AreAssignments c [] []
   next_assignment : {a : Action} {x : TypedAssignment} {as' : List Action} {xs : List TypedAssignment} → IsAssignment c a x → AreAssignments c as' xs → AreAssignments c (a ∷ as') (x ∷ xs)
 
-abbrev pub actions_of : Statement → List Action
-actions_of (statement.Assignment as') = as'
+-- a condition is BOOLEAN
+pub record IsCondition (c : CatalogueData) (a : Expr) (u : Expression) : Type 0 where
+  pub expression : IsExpression c no_tuple a u
+  pub kind_ : u.kind ≡ kind.Boolean
 
-abbrev pub assignments_of : TypedStatement → List TypedAssignment
-assignments_of (typed.Assignment xs) = xs
-
--- x is the statement, typed
-abbrev pub TypesStatement : CatalogueData → Statement → TypedStatement → Type 0
-TypesStatement c s x = AreAssignments c (actions_of s) (assignments_of x)
+-- x is the statement, typed: of a conditional one all assignments are typed, whichever are made
+pub data TypesStatement (c : CatalogueData) : Statement → TypedStatement → Type 0 where
+  types_assignment : {as' : List Action} {xs : List TypedAssignment}
+      → AreAssignments c as' xs
+      → TypesStatement c (statement.Assignment as') (typed.Assignment xs)
+  types_conditional : {a : Expr} {u : Expression} {as' bs : List Action} {xs ys : List TypedAssignment}
+      → IsCondition c a u
+      → AreAssignments c as' xs
+      → AreAssignments c bs ys
+      → TypesStatement c (statement.Conditional a as' bs) (typed.Conditional u xs ys)
 
 -- no rule types it
 abbrev pub TypesNoStatement : CatalogueData → Statement → Type 0
 TypesNoStatement c s = (x : TypedStatement) → TypesStatement c s x → ⊥
 
--- the relvar at this place is assigned
+-- the condition of a statement, and all its assignments, whichever are made
+abbrev pub condition_of : TypedStatement → Option Expression
+condition_of (typed.Assignment xs) = None
+condition_of (typed.Conditional u xs ys) = Some u
+
+abbrev pub assignments_of : TypedStatement → List TypedAssignment
+assignments_of (typed.Assignment xs) = xs
+assignments_of (typed.Conditional u xs ys) = xs ++ ys
+
+-- the relvar at this place may be assigned
 abbrev pub IsTarget : TypedStatement → ℕ → Type 0
 IsTarget s n = Contains (map (λ (x : TypedAssignment). x.target) (assignments_of s)) n

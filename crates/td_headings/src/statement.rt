@@ -1,6 +1,6 @@
 //! Typed statements.
 
-ghost use Rattle.std.specs.Prelude.{◌≡◌, List, Err, IfOk, MatchOption, None, Some, map};
+ghost use Rattle.std.specs.Prelude.{◌≡◌, ◌++◌, List, Err, IfOk, MatchOption, None, OnOk, Some, map};
 ghost use Rattle.td_kinds.specs.Kinds as kinds;
 ghost use Rattle.td_kinds.specs.Results.{Gives};
 ghost use Rattle.td_kinds.specs.declared.error.TypeError.TheVariants as type_error;
@@ -8,11 +8,14 @@ ghost use Rattle.td_values.specs.declared.TypeKind.TheVariants as type_kind;
 ghost use Rattle.td_headings.specs.ForProofs.Sources as sources;
 ghost use Rattle.td_headings.specs.Reached.{AreThose};
 ghost use Rattle.td_headings.specs.Statements as spec;
-ghost use Rattle.td_headings.specs.Statements.{AreAssignments, IsAssignment, TypesNoStatement, TypesStatement, IsTarget};
+ghost use Rattle.td_headings.specs.Statements.{AreAssignments, IsAssignment, IsCondition, TypesNoStatement, TypesStatement, IsTarget};
 ghost use Rattle.td_headings.specs.declared.statement.TypedAssignment as typed;
+ghost use Rattle.td_syntax.specs.declared.script.Statement.TheVariants as statements;
+ghost use Rattle.td_trees.specs.declared.expression.Expression.{Expression};
 
 use crate::catalogue::Catalogue;
 use crate::defined::Origin;
+use crate::opening::condition;
 use crate::reach::in_order;
 use crate::sources::source;
 use crate::typed::{TypedExpr, whole};
@@ -22,6 +25,7 @@ use td_kinds::error::TypeError;
 use td_kinds::kinds::{relation_heading, same_heading};
 use td_kinds::schema::Schema;
 use td_syntax::script::{Action, Statement};
+use td_syntax::tree::Expr;
 use td_trees::tree::Typing;
 use td_tuples::Shared;
 use td_values::{Heading, Name, TypeKind};
@@ -39,6 +43,8 @@ pub struct TypedAssignment {
 pub enum TypedStatement {
     /// A multiple assignment: all its targets change at once.
     Assignment(Items<TypedAssignment>),
+    /// A condition, the assignments that are made at once where it is true, and those where it is false.
+    Conditional(TypedExpr, Items<TypedAssignment>, Items<TypedAssignment>),
 }
 
 fn target_of(action: &Action) -> &Name
@@ -138,11 +144,54 @@ fn assignments(
     Ok(found)
 }
 
-fn actions_of(statement: &Statement) -> &[Action]
-    ensures { result.now ≡ spec.actions_of statement.now }
+// The condition of a statement, in which no tuple is in scope.
+fn conditioned(alloc: Global, catalogue: &Catalogue, expr: &Expr) -> Result<TypedExpr, TypeError>
+    ensures typed { IfOk result (IsCondition catalogue.now expr.now) }
+    ensures refused { result ≡ Err type_error.IllTyped → (u : Expression) → IsCondition catalogue.now expr.now u → ⊥ }
 {
-    match statement {
-        Statement::Assignment(actions) => actions.as_slice(),
+    let tree = match condition(alloc, catalogue.schema(), expr) {
+        Ok(tree) => tree,
+        Err(error) => return Err(error),
+    };
+    let expression = whole(alloc, catalogue, tree, TypeKind::Boolean)?;
+    Ok(expression)
+}
+
+fn unconditional(
+    alloc: Global,
+    catalogue: &Catalogue,
+    actions: &[Action],
+) -> Result<TypedStatement, TypeError>
+    ensures typed { IfOk result (TypesStatement catalogue.now (statements.Assignment actions.now)) }
+    ensures refused { result ≡ Err type_error.IllTyped → TypesNoStatement catalogue.now (statements.Assignment actions.now) }
+{
+    match assignments(alloc, catalogue, actions) {
+        Ok(assignments) => Ok(TypedStatement::Assignment(assignments)),
+        Err(error) => Err(error),
+    }
+}
+
+fn conditional(
+    alloc: Global,
+    catalogue: &Catalogue,
+    expr: &Expr,
+    actions: &[Action],
+    others: &[Action],
+) -> Result<TypedStatement, TypeError>
+    ensures typed { IfOk result (TypesStatement catalogue.now (statements.Conditional expr.now actions.now others.now)) }
+    ensures refused { result ≡ Err type_error.IllTyped → TypesNoStatement catalogue.now (statements.Conditional expr.now actions.now others.now) }
+{
+    let condition = match conditioned(alloc, catalogue, expr) {
+        Ok(condition) => condition,
+        Err(error) => return Err(error),
+    };
+    let made = match assignments(alloc, catalogue, actions) {
+        Ok(made) => made,
+        Err(error) => return Err(error),
+    };
+    match assignments(alloc, catalogue, others) {
+        Ok(otherwise) => Ok(TypedStatement::Conditional(condition, made, otherwise)),
+        Err(error) => Err(error),
     }
 }
 
@@ -156,27 +205,35 @@ pub fn type_statement(
     ensures typed { IfOk result (TypesStatement catalogue.now statement.now) }
     ensures refused { result ≡ Err type_error.IllTyped → TypesNoStatement catalogue.now statement.now }
 {
-    match assignments(alloc, catalogue, actions_of(statement)) {
-        Ok(assignments) => Ok(TypedStatement::Assignment(assignments)),
-        Err(error) => Err(error),
+    match statement {
+        Statement::Assignment(actions) => unconditional(alloc, catalogue, actions.as_slice()),
+        Statement::Conditional(expr, actions, others) => conditional(
+            alloc,
+            catalogue,
+            expr.get(),
+            actions.as_slice(),
+            others.as_slice(),
+        ),
     }
 }
 
-fn targets_of(alloc: Global, assignments: &[TypedAssignment]) -> Result<Vec<usize>, AllocError>
-    ensures { IfOk result (λ v. v.items ≡ map (λ (x : typed.TypedAssignment). x.target) assignments.now) }
+// With the targets of these assignments behind the places.
+fn add_targets(places: &mut Vec<usize>, assignments: &[TypedAssignment]) -> Result<(), AllocError>
+    ensures { OnOk result (places.new.items ≡ places.old.items ++ map (λ (x : typed.TypedAssignment). x.target) assignments.now) }
 {
-    let mut places = Vec::with_capacity(alloc, assignments.len())?;
     for assignment in assignments {
         places.push(assignment.target)?;
     }
-    Ok(places)
+    Ok(())
 }
 
-fn assignments_of(statement: &TypedStatement) -> &[TypedAssignment]
-    ensures { result.now ≡ spec.assignments_of statement.now }
+/// The assignments of a statement: of a conditional one those where its condition is true, and those where it is false.
+pub fn lists_of(statement: &TypedStatement) -> (&[TypedAssignment], &[TypedAssignment])
+    ensures { spec.assignments_of statement.now ≡ result.0.now ++ result.1.now }
 {
     match statement {
-        TypedStatement::Assignment(assignments) => assignments.as_slice(),
+        TypedStatement::Assignment(all) => (all.as_slice(), &[]),
+        TypedStatement::Conditional(_, made, otherwise) => (made.as_slice(), otherwise.as_slice()),
     }
 }
 
@@ -184,6 +241,9 @@ fn assignments_of(statement: &TypedStatement) -> &[TypedAssignment]
 pub fn targets(alloc: Global, statement: &TypedStatement) -> Result<Vec<usize>, AllocError>
     ensures { IfOk result (λ v. AreThose (IsTarget statement.now) v.items) }
 {
-    let places = targets_of(alloc, assignments_of(statement))?;
+    let (made, otherwise) = lists_of(statement);
+    let mut places = Vec::with_capacity(alloc, made.len() + otherwise.len())?;
+    add_targets(&mut places, made)?;
+    add_targets(&mut places, otherwise)?;
     Ok(in_order(places))
 }

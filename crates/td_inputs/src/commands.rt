@@ -19,10 +19,19 @@ pub enum Command<'a> {
     Listing,
     Vector,
     Read(&'a str),
-    Import { file: &'a str, relvar: &'a str },
+    Import {
+        file: &'a str,
+        relvar: &'a str,
+    },
     Dump(&'a str),
     Serve(&'a str),
     Call(&'a str),
+    /// A query, asked just after the statement of this stamp.
+    At {
+        clock: u64,
+        site: u16,
+        query: &'a str,
+    },
     Mode(Mode),
     Timer(bool),
     Quit,
@@ -106,6 +115,24 @@ fn call_in(rest: &str) -> Command<'_> {
     }
 }
 
+fn at_in(rest: &str) -> Command<'_> {
+    let misused = Command::Misused(".at CLOCK.SITE QUERY");
+    let Some((stamp, query)) = rest.split_once(' ') else {
+        return misused;
+    };
+    let Some((clock, site)) = stamp.split_once('.') else {
+        return misused;
+    };
+    match (clock.parse::<u64>(), site.parse::<u16>()) {
+        (Ok(clock), Ok(site)) => Command::At {
+            clock,
+            site,
+            query: query.trim_ascii(),
+        },
+        _ => misused,
+    }
+}
+
 /// What a line says whose first byte that is no blank is a dot.
 pub fn command_of(line: &str) -> Command<'_> {
     let line = line.trim_ascii();
@@ -123,6 +150,7 @@ pub fn command_of(line: &str) -> Command<'_> {
         ".dump" => dump_in(rest),
         ".serve" => serve_in(rest),
         ".call" => call_in(rest),
+        ".at" => at_in(rest),
         ".mode" => mode_in(rest),
         ".timer" => timer_in(rest),
         ".quit" => without_words(Command::Quit, rest, ".quit"),

@@ -2,6 +2,7 @@
 #![tactic(auto)]
 
 pub mod commands;
+mod conditions;
 pub mod definitions;
 pub mod scan;
 

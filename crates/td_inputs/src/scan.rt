@@ -1,5 +1,7 @@
 //! When a text that comes line by line is complete.
 
+use crate::conditions::{Conditions, goes_on_in_word};
+
 /// What a text is after some of its lines.
 #[derive(Clone, Copy, Debug, PartialEq, Eq)]
 pub enum Standing {
@@ -31,6 +33,8 @@ pub struct Scan {
     passes: bool,
     assigns: bool,
     begins_statement: bool,
+    conditions: Conditions,
+    has_semicolon: bool,
     has_open_quote: bool,
 }
 
@@ -43,10 +47,6 @@ const BEGINNINGS: [&[u8]; 6] = [
     b"TYPE",
     b"CONSTRAINT",
 ];
-
-fn goes_on_in_word(byte: &u8) -> bool {
-    byte.is_ascii_alphanumeric() || *byte == b'_' || *byte == b'#'
-}
 
 fn first_word(line: &[u8]) -> &[u8] {
     let line = line.trim_ascii_start();
@@ -73,6 +73,8 @@ impl Scan {
             passes: false,
             assigns: false,
             begins_statement: false,
+            conditions: Conditions::new(),
+            has_semicolon: false,
             has_open_quote: false,
         }
     }
@@ -85,6 +87,7 @@ impl Scan {
         for (at, byte) in line.iter().enumerate() {
             self.step(*byte, line.get(at.saturating_add(1)).copied());
         }
+        self.conditions.end_word();
         if self.place == Place::Quote {
             self.has_open_quote = true;
             self.place = Place::Plain;
@@ -113,13 +116,17 @@ impl Scan {
         if byte == b'/' && next == Some(b'*') {
             self.passes = true;
             self.place = Place::Comment;
+            self.conditions.end_word();
             return;
         }
         if byte.is_ascii_whitespace() {
+            self.conditions.end_word();
             return;
         }
         self.last = Some(byte);
+        self.conditions.step(byte);
         match byte {
+            b';' => self.has_semicolon = true,
             b'\'' => self.place = Place::Quote,
             b'(' | b'{' => self.open_brackets = self.open_brackets.saturating_add(1),
             b')' | b'}' => self.open_brackets = self.open_brackets.saturating_sub(1),
@@ -128,8 +135,17 @@ impl Scan {
         }
     }
 
+    // (what begins with IF is a query where no semicolon stands in it)
     fn is_like_statement(&self) -> bool {
-        self.begins_statement || self.assigns
+        self.begins_statement || self.assigns || self.conditions.begin_text() && self.has_semicolon
+    }
+
+    // Whether what stands behind a line is still to come.
+    fn goes_on(&self) -> bool {
+        if self.conditions.begin_text() && self.conditions.are_open() {
+            return true;
+        }
+        !self.is_behind_end() && (self.is_like_statement() || self.open_brackets > 0)
     }
 
     /// Whether the last byte ends a definition or a statement: it is `;`, outside of comments and quotes.
@@ -138,8 +154,8 @@ impl Scan {
     }
 
     /// What the text is behind a whole line. A statement ends with the line that ends in `;`, and a query with the
-    /// line in which its brackets are closed. A quote that is open at the end of a line ends the text too: no other
-    /// line can close it.
+    /// line in which its brackets are closed; one that begins with IF goes on until each IF has its END IF. A quote
+    /// that is open at the end of a line ends the text too: no other line can close it.
     pub fn standing(&self) -> Standing {
         if self.place == Place::Comment {
             return Standing::Open;
@@ -147,10 +163,8 @@ impl Scan {
         if self.last.is_none() {
             return Standing::Empty;
         }
-        if !self.is_behind_end() && !self.has_open_quote {
-            if self.is_like_statement() || self.open_brackets > 0 {
-                return Standing::Open;
-            }
+        if !self.has_open_quote && self.goes_on() {
+            return Standing::Open;
         }
         self.ended()
     }

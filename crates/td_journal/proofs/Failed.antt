@@ -10,6 +10,7 @@ use Rattle.td_stamps.proofs.Fresh.{fresh_are_counted, fresh_suffice}
 use Rattle.td_stamps.proofs.Merges.{clash_is_found, fresh_is_growth}
 use Rattle.td_stamps.proofs.Next.{next_comes_last}
 use Rattle.td_frames.specs.Spelling.{entry_frames}
+use Rattle.td_frames.specs.declared.version.Version.TheVariants.{Second}
 use Rattle.td_story.specs.Seen.{Seen, with_entries}
 use Rattle.td_journal.specs.Keepers.{FailedIssueLeavesFront, FailedTakeLeavesFront, IsJournal, LeavesFront}
 use Rattle.td_journal.specs.Keeping.{Leaves}
@@ -35,8 +36,8 @@ closed s bytes j = record { entries = j.entries; spelled = j.spelled; has = j.ha
 leaves : (s after : Seen) (fresh : List Entry) (bytes : List ℕ) (old new : Output) → old.held ≡ Some bytes → IsJournal s bytes → after ≡ with_entries (kept false s) (union s.entries fresh)
     → length (union s.entries fresh) ≡ length fresh + length s.entries → Leaves fresh old new → LeavesFront bytes after new
 leaves s after fresh bytes old new held j is count (front, has) =
-    let (k, beyond, left) = front_held old.held new.held bytes (entry_frames fresh) held front in
-    (bytes ++ entry_frames fresh, grows (kept false s) after fresh bytes (closed s bytes j) has is count, k, beyond, left)
+    let (k, beyond, left) = front_held old.held new.held bytes (entry_frames Second fresh) held front in
+    (bytes ++ entry_frames Second fresh, grows (kept false s) after fresh bytes (closed s bytes j) has is count, k, beyond, left)
 
 pub failed_issue : FailedIssueLeavesFront
 failed_issue s after text bytes old new held j (statement, e, next, closes) (x, is, front) =

@@ -11,6 +11,7 @@ use Rattle.td_stamps.specs.declared.entry.Entry.{Entry}
 use Rattle.td_stamps.proofs.Fresh.{fresh_are_counted, fresh_suffice}
 use Rattle.td_stamps.proofs.Merges.{clash_is_found, fresh_is_growth, same_members, set_free, union_has_both, union_is_set}
 use Rattle.td_frames.specs.Spelling.{HasFrame, entry_frame, entry_frames}
+use Rattle.td_frames.specs.declared.version.Version.TheVariants.{Second}
 use Rattle.td_story.specs.Calls.{IssuesEntry, TakesBatch}
 use Rattle.td_story.specs.Seen.{Seen, IsSound, with_entries}
 use Rattle.td_story.specs.declared.answer.Issued.{Issued}
@@ -40,25 +41,25 @@ of_nothing es set =
     same_members (union [] es) es (union_is_set [] es refl free) set (λ e. union_has_both [] es refl free e)
 
 -- with more entries, which the site then holds
-pub grows : (s after : Seen) (fresh : List Entry) (bytes : List ℕ) → IsJournal s bytes → AllByRecursion HasFrame fresh → after ≡ with_entries s (union s.entries fresh)
-    → length (union s.entries fresh) ≡ length fresh + length s.entries → IsJournal after (bytes ++ entry_frames fresh)
+pub grows : (s after : Seen) (fresh : List Entry) (bytes : List ℕ) → IsJournal s bytes → AllByRecursion (HasFrame Second) fresh → after ≡ with_entries s (union s.entries fresh)
+    → length (union s.entries fresh) ≡ length fresh + length s.entries → IsJournal after (bytes ++ entry_frames Second fresh)
 grows s after fresh bytes j has is count =
     let all = j.entries ++ fresh in
-    let spelled : bytes ++ entry_frames fresh ≡ journal s.site s.script all =
-    ap (λ (l : List ℕ). l ++ entry_frames fresh) j.spelled ∙ append_assoc (header s.site s.script) (entry_frames j.entries) (entry_frames fresh)
-    ∙ ap (λ (l : List ℕ). header s.site s.script ++ l) (sym (flat_map-append entry_frame j.entries fresh)) in
+    let spelled : bytes ++ entry_frames Second fresh ≡ journal Second s.site s.script all =
+    ap (λ (l : List ℕ). l ++ entry_frames Second fresh) j.spelled ∙ append_assoc (header Second s.site s.script) (entry_frames Second j.entries) (entry_frames Second fresh)
+    ∙ ap (λ (l : List ℕ). header Second s.site s.script ++ l) (sym (flat_map-append (entry_frame Second) j.entries fresh)) in
     let holds : union [] all ≡ union s.entries fresh = union_beside j.entries [] fresh ∙ ap (λ (l : List Entry). union l fresh) j.holds in
     let once : length all ≡ length (union s.entries fresh) = omega (arith, length-append j.entries fresh, j.once, count) in
-    let whole : IsJournal (with_entries s (union s.entries fresh)) (bytes ++ entry_frames fresh) =
-    record { entries = all; spelled = spelled; has = all_beside HasFrame j.entries fresh j.has has; holds = holds; once = once } in
-    subst (λ (t : Seen). IsJournal t (bytes ++ entry_frames fresh)) (sym is) whole
+    let whole : IsJournal (with_entries s (union s.entries fresh)) (bytes ++ entry_frames Second fresh) =
+    record { entries = all; spelled = spelled; has = all_beside (HasFrame Second) j.entries fresh j.has has; holds = holds; once = once } in
+    subst (λ (t : Seen). IsJournal t (bytes ++ entry_frames Second fresh)) (sym is) whole
 
 -- with these accepted
 accepts : (s after : Seen) (fresh : List Entry) (bytes : List ℕ) (old new : Output) → old.held ≡ Some bytes → IsJournal s bytes → after ≡ with_entries s (union s.entries fresh)
     → length (union s.entries fresh) ≡ length fresh + length s.entries → Accepts fresh old new → (more : List ℕ) × (new.held ≡ Some more) × IsJournal after more
 accepts s after [] bytes old new held j is count same = (bytes, ap (λ (o : Output). o.held) same ∙ held, subst (λ (t : Seen). IsJournal t bytes) (sym is) j)
 accepts s after (e ∷ es) bytes old new held j is count (written, has) =
-    (bytes ++ entry_frames (e ∷ es), grown old.held new.held bytes (entry_frames (e ∷ es)) held written.0.0, grows s after (e ∷ es) bytes j has is count)
+    (bytes ++ entry_frames Second (e ∷ es), grown old.held new.held bytes (entry_frames Second (e ∷ es)) held written.0.0, grows s after (e ∷ es) bytes j has is count)
 
 -- nothing was accepted
 stays : (s after : Seen) (bytes : List ℕ) (old new : Output) → old.held ≡ Some bytes → IsJournal s bytes → after ≡ s → new ≡ old → (more : List ℕ) × (new.held ≡ Some more) × IsJournal after more
@@ -66,8 +67,8 @@ stays s after bytes old new held j is same = (bytes, ap (λ (o : Output). o.held
 
 pub starts_journal : StartsJournal
 starts_journal s old new sound held (live, written, has) = (
-  journal s.site s.script s.entries,
-  grown old.held new.held [] (journal s.site s.script s.entries) held written.0.0,
+  journal Second s.site s.script s.entries,
+  grown old.held new.held [] (journal Second s.site s.script s.entries) held written.0.0,
   record { entries = s.entries; spelled = refl; has = has; holds = of_nothing s.entries sound.set; once = refl },
 )
 
@@ -120,12 +121,12 @@ take_keeps s after batch bytes (Err take_error.JournalWrite) old new sound held 
 -- ---- reading
 
 pub says_all : JournalSaysAll
-says_all s bytes sound j =
+says_all v s bytes sound j =
     let es = j.entries in
     let limit : s.limit ≤ 100000 = leb-true s.limit 100000 (and_parts (leb 1 s.limit) (leb s.limit 100000) sound.limit).1 in
     let few : length es ≤ 100000 = omega (arith, limit, j.once, sound.within) in (
       es,
       j.holds,
-      subst (λ (b : List ℕ). journal_at s.site s.script b ≡ Ok (es, length b)) (sym j.spelled) (is_read_again s.site s.script es few j.has),
-      λ k. subst (λ (b : List ℕ). journal_at s.site s.script (take k b) ≡ Ok (left_of s.site s.script es k)) (sym j.spelled) (cut_is_read s.site s.script es k few j.has),
+      subst (λ (b : List ℕ). journal_at s.site s.script b ≡ Ok (es, length b, v)) (sym j.spelled) (is_read_again v s.site s.script es few j.has),
+      λ k. subst (λ (b : List ℕ). journal_at s.site s.script (take k b) ≡ Ok (left_of v s.site s.script es k)) (sym j.spelled) (cut_is_read v s.site s.script es k few j.has),
     )

@@ -1,12 +1,13 @@
 -- A site that goes on with the journal from which it came back, put together from what its parts tell.
-use Rattle.std.proofs.Common.{◌≡◌, ◌≢◌, ◌⊎◌, ◌<◌, ◌≤◌, inl, inr, ℕ, zero, suc, true, false, true≢false, List, Option, None, Some, Result, Ok, Err, MatchResult, take, refl, sym, ap, subst, ◌∙◌, arith}
-use Rattle.std.specs.Io.KnownBytes.{Keeps}
+use Rattle.std.proofs.Common.{◌≡◌, ◌≢◌, ◌<◌, ◌≤◌, inl, inr, ℕ, zero, suc, true, true≢false, List, Option, Result, Ok, Err, MatchResult, refl, sym, subst, ◌∙◌, arith}
 use Rattle.td_devices.specs.Views.{Input, Output}
 use Rattle.td_story.specs.Seen.{Seen}
+use Rattle.td_frames.specs.declared.version.Version.{Version}
+use Rattle.td_frames.specs.declared.version.Version.TheVariants.{Second}
 use Rattle.td_journal.specs.ForProofs.Behind.{IsBehind}
 use Rattle.td_journal.specs.Keeping.{Starts, StartsNot}
 use Rattle.td_journal.specs.Reopening.{Retakes, RetakesNot}
-use Rattle.td_journal.specs.Stores.{BeginsNot, GoesOn, GoesOnNot, IsCutTo, IsGoneOnWith, IsRefused, KeepsNot}
+use Rattle.td_journal.specs.Stores.{BeginsNot, GoesOn, GoesOnNot, IsCutTo, IsGoneOnWith, IsMadeAnew, IsRefused, KeepsNot}
 use Rattle.td_journal.specs.declared.keeper.StartError.{StartError}
 use Rattle.td_journal.specs.declared.keeper.StartError.TheVariants.{Broken, WriteFault}
 use Rattle.td_journal.specs.declared.reopening.ReopenError.{ReopenError}
@@ -27,33 +28,28 @@ not_started s Broken cut w live h = absurd (true≢false (sym live ∙ h.0))
 not_started s WriteFault cut w live h = (s, cut, w, h)
 
 -- a keeper behind what was kept goes on with it
-pub gone_on : (n : ℕ) (kept : Option (List ℕ)) (s after : Seen) (cut w : Output) → after ≡ s → IsCutTo n kept cut.held → IsBehind n s cut w → IsGoneOnWith n kept after w
+pub gone_on : (n : ℕ) (kept : Option (List ℕ)) (s after : Seen) (cut w : Output) → after ≡ s → IsCutTo n kept cut.held → IsBehind n s cut w → IsGoneOnWith Second n kept after w
 gone_on zero kept s after cut w same is behind = (cut, is, subst (λ (t : Seen). Starts t cut w) (sym same) behind)
 gone_on (suc n) kept s after cut w same is behind = subst (λ (o : Output). IsCutTo (suc n) kept o.held) (sym behind) is
 
-cut_of_kept : (n : ℕ) (old new held : Option (List ℕ)) → Keeps old new → IsCutTo n new held → IsCutTo n old held
-cut_of_kept n None new held keeps is = tt
-cut_of_kept n (Some xs) None held keeps is = absurd keeps
-cut_of_kept n (Some xs) (Some ys) None keeps is = absurd is
-cut_of_kept n (Some xs) (Some ys) (Some left) keeps is = is ∙ ap (take n) keeps
-
-pub gone_on_kept : (n : ℕ) (old new : Option (List ℕ)) (s : Seen) (w : Output) → Keeps old new → IsGoneOnWith n new s w → IsGoneOnWith n old s w
-gone_on_kept zero old new s w keeps (cut, is, starts) = (cut, cut_of_kept 0 old new cut.held keeps is, starts)
-gone_on_kept (suc n) old new s w keeps is = cut_of_kept (suc n) old new w.held keeps is
-
 -- what was read of a journal, from its beginning
-goes_on : (kept beside aside : Option (List ℕ)) (old new : Input) (s after : Seen) (w : Output) (n : ℕ)
-    → old.left ≡ kept → beside ≡ kept → Keeps beside aside → Retakes s old new after n → IsGoneOnWith n aside after w → GoesOn kept s after w
-goes_on kept beside aside old new s after w n begun all keeps retakes gone = record {
+goes_on : (kept : Option (List ℕ)) (old new : Input) (s after : Seen) (w : Output) (n : ℕ) (v : Version)
+    → old.left ≡ kept → Retakes s old new after n v → IsGoneOnWith v n kept after w → GoesOn kept s after w
+goes_on kept old new s after w n v begun retakes gone = record {
   failures = old.failures;
   read = new;
   whole = n;
-  reopens = subst (λ (l : Option (List ℕ)). Retakes s (record { left = l; failures = old.failures }) new after n) begun retakes;
-  goes_on = subst (λ (b : Option (List ℕ)). IsGoneOnWith n b after w) all (gone_on_kept n beside aside after w keeps gone);
+  version = v;
+  reopens = subst (λ (l : Option (List ℕ)). Retakes s (record { left = l; failures = old.failures }) new after n v) begun retakes;
+  goes_on = gone;
 }
 
+-- what was begun beside has taken the old one's place
+pub anew : (kept : Option (List ℕ)) (s after : Seen) (empty begun w : Output) → after ≡ s → IsCutTo 0 kept empty.held → Starts s empty begun → w.held ≡ begun.held → IsMadeAnew kept after w
+anew kept s after empty begun w same is starts held = (empty, is, begun, subst (λ (t : Seen). Starts t empty begun) (sym same) starts, held)
+
 goes_on_not : (Fails : StoreError → Type 0) (kept : Option (List ℕ)) (s : Seen) (e : StoreError) → GoesOnNot Fails e → KeepsNot Fails kept s e
-goes_on_not Fails kept s OutOfMemory h = absurd h
+goes_on_not Fails kept s OutOfMemory h = inl h
 goes_on_not Fails kept s JournalFile (inl fails) = inl fails
 goes_on_not Fails kept s JournalFile (inr begins) = inr (inr begins)
 
@@ -70,13 +66,13 @@ not_kept Fails kept old new s error JournalFile begun retakes wanting refused =
 
 module _ {K : Type 0} (seen : K → Seen) (out : K → Output) (Same : K → Type 0) (Fails : StoreError → Type 0) (n : ℕ) where
   pub went_on : (kept : Option (List ℕ)) (s : Seen) (cut : Output) (r : Result K StoreError) → IsCutTo n kept cut.held → ((k : K) → Same k → seen k ≡ s)
-      → MatchResult r (λ k. IsBehind n s cut (out k) × Same k) (λ e. BeginsNot × (e ≡ JournalFile)) → MatchResult r (λ k. IsGoneOnWith n kept (seen k) (out k) × Same k) (λ e. GoesOnNot Fails e)
+      → MatchResult r (λ k. IsBehind n s cut (out k) × Same k) (λ e. BeginsNot × (e ≡ JournalFile)) → MatchResult r (λ k. IsGoneOnWith Second n kept (seen k) (out k) × Same k) (λ e. GoesOnNot Fails e)
   went_on kept s cut (Ok k) is same (behind, all) = (gone_on n kept s (seen k) cut (out k) (same k all) is behind, all)
   went_on kept s cut (Err e) is same (begins, at) = subst (λ (x : StoreError). GoesOnNot Fails x) (sym at) (inr begins)
 
-  pub kept_on : (kept beside aside : Option (List ℕ)) (old new : Input) (s mid : Seen) (r : Result K StoreError) → old.left ≡ kept → beside ≡ kept → Keeps beside aside → Retakes s old new mid n
-      → ((k : K) → Same k → seen k ≡ mid) → MatchResult r (λ k. IsGoneOnWith n aside (seen k) (out k) × Same k) (λ e. GoesOnNot Fails e)
+  pub kept_on : (v : Version) (kept : Option (List ℕ)) (old new : Input) (s mid : Seen) (r : Result K StoreError) → old.left ≡ kept → Retakes s old new mid n v
+      → ((k : K) → Same k → seen k ≡ mid) → MatchResult r (λ k. IsGoneOnWith v n kept (seen k) (out k) × Same k) (λ e. GoesOnNot Fails e)
       → MatchResult r (λ k. GoesOn kept s (seen k) (out k)) (λ e. KeepsNot Fails kept s e)
-  kept_on kept beside aside old new s mid (Ok k) begun all keeps retakes same (gone, is) =
-      goes_on kept beside aside old new s (seen k) (out k) n begun all keeps (subst (λ (t : Seen). Retakes s old new t n) (sym (same k is)) retakes) gone
-  kept_on kept beside aside old new s mid (Err e) begun all keeps retakes same not = goes_on_not Fails kept s e not
+  kept_on v kept old new s mid (Ok k) begun retakes same (gone, is) =
+      goes_on kept old new s (seen k) (out k) n v begun (subst (λ (t : Seen). Retakes s old new t n v) (sym (same k is)) retakes) gone
+  kept_on v kept old new s mid (Err e) begun retakes same not = goes_on_not Fails kept s e not

@@ -1,11 +1,13 @@
 -- The journal of a keeper: as long as it is open, the header, and a frame for each entry that it holds, in the order in
--- which it accepted them.
+-- which it accepted them; all in the second version of the formats.
 use Rattle.std.specs.Prelude.{◌≡◌, ◌≤◌, ℕ, true, List, [], length, take, Some, Result, Ok, Err}
 use Rattle.std.specs.List.{AllByRecursion}
 use Rattle.td_devices.specs.Views.{Input, Output}
 use Rattle.td_stamps.specs.Sets.{union}
 use Rattle.td_stamps.specs.declared.entry.Entry.{Entry}
 use Rattle.td_frames.specs.Spelling.{HasFrame}
+use Rattle.td_frames.specs.declared.version.Version.{Version}
+use Rattle.td_frames.specs.declared.version.Version.TheVariants.{Second}
 use Rattle.td_story.specs.Calls.{Issues, Takes}
 use Rattle.td_story.specs.Seen.{Seen, IsSound}
 use Rattle.td_story.specs.declared.answer.Issued.{Issued}
@@ -20,13 +22,17 @@ use Rattle.td_journal.specs.Reading.{journal_at}
 use Rattle.td_journal.specs.Reopening.{ReopensSite}
 use Rattle.td_journal.specs.Spelling.{header, journal}
 
--- these bytes are the journal of what the site holds
-pub record IsJournal (s : Seen) (bytes : List ℕ) : Type 0 where
+-- these bytes are the journal, of this version, of what the site holds
+pub record IsJournalOf (v : Version) (s : Seen) (bytes : List ℕ) : Type 0 where
   pub entries : List Entry
-  pub spelled : bytes ≡ journal s.site s.script entries
-  pub has : AllByRecursion HasFrame entries
+  pub spelled : bytes ≡ journal v s.site s.script entries
+  pub has : AllByRecursion (HasFrame v) entries
   pub holds : union [] entries ≡ s.entries
   pub once : length entries ≡ length s.entries
+
+-- of the version that is written
+abbrev pub IsJournal : Seen → List ℕ → Type 0
+IsJournal s bytes = IsJournalOf Second s bytes
 
 -- what a writer that held nothing holds is the journal of the site that was started
 abbrev pub StartsJournal : Type 0
@@ -58,16 +64,17 @@ FailedTakeLeavesFront =
     (s after : Seen) (batch : List Entry) (bytes : List ℕ) (old new : Output) → IsSound s → old.held ≡ Some bytes → IsJournal s bytes
     → Takes s batch (Err take_error.JournalWrite) after → JournalsBatch s batch (Err take_error.JournalWrite) old new → LeavesFront bytes after new
 
--- read whole it says what the site holds, and cut after whatever byte the front of it that stands whole
+-- read whole it says what the site holds, and cut after whatever byte the front of it that stands whole; so does one of
+-- the first version
 abbrev pub JournalSaysAll : Type 0
 JournalSaysAll =
-    (s : Seen) (bytes : List ℕ) → IsSound s → IsJournal s bytes
-    → (es : List Entry) × (union [] es ≡ s.entries) × (journal_at s.site s.script bytes ≡ Ok (es, length bytes))
-    × ((k : ℕ) → journal_at s.site s.script (take k bytes) ≡ Ok (left_of s.site s.script es k))
+    (v : Version) (s : Seen) (bytes : List ℕ) → IsSound s → IsJournalOf v s bytes
+    → (es : List Entry) × (union [] es ≡ s.entries) × (journal_at s.site s.script bytes ≡ Ok (es, length bytes, v))
+    × ((k : ℕ) → journal_at s.site s.script (take k bytes) ≡ Ok (left_of v s.site s.script es k))
 
 -- a site that was reopened from a front of a journal has what stands whole there for its journal: so it may go on with
 -- it
 abbrev pub ReopenedHasJournal : Type 0
 ReopenedHasJournal =
-    (s after : Seen) (bytes front : List ℕ) (k limit whole : ℕ) (old new : Input) → IsSound s → IsJournal s bytes → length (header s.site s.script) ≤ k → front ≡ take k bytes
-    → old.left ≡ Some front → ReopensSite s.script s.site limit old new after whole → IsJournal after (take whole front)
+    (s after : Seen) (bytes front : List ℕ) (k limit whole : ℕ) (version : Version) (old new : Input) → IsSound s → IsJournal s bytes → length (header Second s.site s.script) ≤ k
+    → front ≡ take k bytes → old.left ≡ Some front → ReopensSite s.script s.site limit old new after whole version → IsJournal after (take whole front)

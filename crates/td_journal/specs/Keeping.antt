@@ -1,5 +1,5 @@
--- What a keeper does to its journal: it writes the frame of each fresh entry, in the order in which they came, and
--- hands them on; a call that brings nothing fresh leaves the writer as it was.
+-- What a keeper does to its journal, which is of the second version: it writes the frame of each fresh entry, in the
+-- order in which they came, and hands them on; a call that brings nothing fresh leaves the writer as it was.
 use Rattle.std.specs.Prelude.{◌≡◌, true, false, List, [], ◌∷◌, ◌++◌, Result, Ok, Err}
 use Rattle.std.specs.List.{AllByRecursion}
 use Rattle.td_devices.specs.Streams.{AppendsFront}
@@ -7,6 +7,7 @@ use Rattle.td_devices.specs.Views.{Output}
 use Rattle.td_stamps.specs.Checks.{fresh_of}
 use Rattle.td_stamps.specs.declared.entry.Entry.{Entry}
 use Rattle.td_frames.specs.Spelling.{HasFrame, entry_frames}
+use Rattle.td_frames.specs.declared.version.Version.TheVariants.{Second}
 use Rattle.td_story.specs.Seen.{Seen}
 use Rattle.td_story.specs.declared.answer.Issued.{Issued}
 use Rattle.td_story.specs.declared.answer.Taken.{Taken}
@@ -22,20 +23,20 @@ use Rattle.td_journal.specs.declared.keeper.StartError.TheVariants.{Broken, Writ
 -- the frames of these entries, handed on; where there is none, the writer isn't touched
 abbrev pub Accepts : List Entry → Output → Output → Type 0
 Accepts [] old new = new ≡ old
-Accepts (e ∷ es) old new = HandsOn old new (entry_frames (e ∷ es)) × AllByRecursion HasFrame (e ∷ es)
+Accepts (e ∷ es) old new = HandsOn old new (entry_frames Second (e ∷ es)) × AllByRecursion (HasFrame Second) (e ∷ es)
 
 -- a front of these frames, behind which the journal failed
 abbrev pub Leaves : List Entry → Output → Output → Type 0
-Leaves es old new = AppendsFront old.held new.held (entry_frames es) × AllByRecursion HasFrame es
+Leaves es old new = AppendsFront old.held new.held (entry_frames Second es) × AllByRecursion (HasFrame Second) es
 
 -- ---- start: the journal of all that is held, in stamp order
 
 abbrev pub Starts : Seen → Output → Output → Type 0
-Starts s old new = (s.live ≡ true) × HandsOn old new (journal s.site s.script s.entries) × AllByRecursion HasFrame s.entries
+Starts s old new = (s.live ≡ true) × HandsOn old new (journal Second s.site s.script s.entries) × AllByRecursion (HasFrame Second) s.entries
 
 abbrev pub StartsNot : Seen → StartError → Output → Output → Type 0
 StartsNot s Broken old new = (s.live ≡ false) × (new ≡ old)
-StartsNot s WriteFault old new = (s.live ≡ true) × WritesFront old new (journal s.site s.script s.entries)
+StartsNot s WriteFault old new = (s.live ≡ true) × WritesFront old new (journal Second s.site s.script s.entries)
 
 -- ---- issue: the entry that the site then has more
 

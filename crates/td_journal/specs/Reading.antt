@@ -1,41 +1,56 @@
--- The reading of a journal, as a function of its bytes: first its header, which is known beforehand, field by field;
--- then the entries whose frames stand whole. Bytes that end inside the header are to be a front of it, and say that
--- nothing was accepted; a frame that they end in is dropped.
+-- The reading of a journal, as a function of its bytes: first its header, field by field, of which all but the version
+-- is known beforehand; then, as frames of this version, the entries whose frames stand whole. Bytes that end inside the
+-- header are to be a front of it, and say that nothing was accepted; a frame that they end in is dropped.
 use Rattle.std.specs.Prelude.{ℕ, List, [], ◌∷◌, length, codes, Option, None, Some, Result, Ok, Err, ◌==◌, if◌then◌else◌}
 use Rattle.std.specs.Int.{w16, w32, to_be_bytes}
 use Rattle.td_stamps.specs.declared.entry.Entry.{Entry}
 use Rattle.td_frames.specs.Reading.{Entries, short, entries_at}
+use Rattle.td_frames.specs.declared.version.Version.{Version}
+use Rattle.td_frames.specs.declared.version.Version.TheVariants.{First, Second}
 use Rattle.td_journal.specs.Spelling.{journal}
 use Rattle.td_journal.specs.declared.error.JournalError.{JournalError}
-use Rattle.td_journal.specs.declared.error.JournalError.TheVariants.{Magic, Version, OtherSite, OtherScript, BadFrame}
+use Rattle.td_journal.specs.declared.error.JournalError.TheVariants as journal_error
 
--- what follows the header, or None where the bytes end inside it and are a front of it
-abbrev pub Header : Type 0
-Header = Result (Option (List ℕ)) JournalError
+-- what is read of a header, with what follows, or None where the bytes end inside it and are a front of it
+abbrev pub Header : Type 0 → Type 0
+Header A = Result (Option A) JournalError
 
 -- a field that has these bytes, or is refused so
-abbrev pub field_at : List ℕ → JournalError → List ℕ → Header
+abbrev pub field_at : List ℕ → JournalError → List ℕ → Header (List ℕ)
 field_at [] error bytes = Ok (Some bytes)
 field_at (x ∷ xs) error [] = Ok None
 field_at (x ∷ xs) error (b ∷ bytes) = if b == x then field_at xs error bytes else Err error
 
-abbrev pub then_at : Header → (List ℕ → Header) → Header
-then_at (Ok (Some rest)) next = next rest
+abbrev pub then_at : {A B : Type 0} → Header A → (A → Header B) → Header B
+then_at (Ok (Some x)) next = next x
 then_at (Ok None) next = Ok None
 then_at (Err e) next = Err e
 
 -- one field after the other
-abbrev pub fields_at : List (List ℕ × JournalError) → List ℕ → Header
+abbrev pub fields_at : List (List ℕ × JournalError) → List ℕ → Header (List ℕ)
 fields_at [] bytes = Ok (Some bytes)
 fields_at (f ∷ fs) bytes = then_at (field_at f.0 f.1 bytes) (fields_at fs)
 
--- the fields of a header, and what each is refused as
-abbrev pub header_fields : ℕ → List ℕ → List (List ℕ × JournalError)
-header_fields site script =
-    (codes "JTDB", Magic) ∷ (1 ∷ [], Version) ∷ (to_be_bytes w16 site, OtherSite) ∷ (to_be_bytes w32 (length script), OtherScript) ∷ (script, OtherScript) ∷ []
+-- the version
+abbrev pub version_at : List ℕ → Header (Version × List ℕ)
+version_at [] = Ok None
+version_at (b ∷ bytes) =
+    if b == 1 then Ok (Some (First, bytes))
+    else if b == 2 then Ok (Some (Second, bytes))
+    else Err journal_error.Version
 
-abbrev pub header_at : ℕ → List ℕ → List ℕ → Header
-header_at site script bytes = fields_at (header_fields site script) bytes
+-- the fields that say whose journal it is, and what each is refused as
+abbrev pub owner_fields : ℕ → List ℕ → List (List ℕ × JournalError)
+owner_fields site script =
+    (to_be_bytes w16 site, journal_error.OtherSite) ∷ (to_be_bytes w32 (length script), journal_error.OtherScript) ∷ (script, journal_error.OtherScript) ∷ []
+
+-- the version, and then whose journal it is
+abbrev pub owned_at : ℕ → List ℕ → List ℕ → Header (Version × List ℕ)
+owned_at site script bytes = then_at (version_at bytes) (λ x. then_at (fields_at (owner_fields site script) x.1) (λ rest. Ok (Some (x.0, rest))))
+
+-- the letters first
+abbrev pub header_at : ℕ → List ℕ → List ℕ → Header (Version × List ℕ)
+header_at site script bytes = then_at (field_at (codes "JTDB") journal_error.Magic bytes) (owned_at site script)
 
 -- the most entries of a journal
 abbrev pub most_entries : ℕ
@@ -44,21 +59,25 @@ most_entries = 100000
 -- the entries before the bytes' end; a frame that is none, the end of a stream among them, is refused
 abbrev pub until_end : Entries → Result (List Entry) JournalError
 until_end (es, Err short) = Ok es
-until_end (es, r) = Err BadFrame
+until_end (es, r) = Err journal_error.BadFrame
 
-abbrev pub frames_at : List ℕ → Result (List Entry) JournalError
-frames_at bytes = until_end (entries_at most_entries bytes)
+abbrev pub frames_at : Version → List ℕ → Result (List Entry) JournalError
+frames_at v bytes = until_end (entries_at v most_entries bytes)
 
--- the entries, and how many bytes the header and their frames have: none, where the header is cut
-abbrev pub with_whole : ℕ → List ℕ → Result (List Entry) JournalError → Result (List Entry × ℕ) JournalError
-with_whole site script (Ok es) = Ok (es, length (journal site script es))
-with_whole site script (Err e) = Err e
+-- what a journal says: the entries, how many bytes the header and their frames have, and the version
+abbrev pub Contents : Type 0
+Contents = List Entry × ℕ × Version
 
-abbrev pub behind_header : ℕ → List ℕ → Header → Result (List Entry × ℕ) JournalError
-behind_header site script (Ok (Some rest)) = with_whole site script (frames_at rest)
-behind_header site script (Ok None) = Ok ([], 0)
+abbrev pub with_whole : ℕ → List ℕ → Version → Result (List Entry) JournalError → Result Contents JournalError
+with_whole site script v (Ok es) = Ok (es, length (journal v site script es), v)
+with_whole site script v (Err e) = Err e
+
+-- where the header is cut nothing stands whole, and what is begun there is of the second version
+abbrev pub behind_header : ℕ → List ℕ → Header (Version × List ℕ) → Result Contents JournalError
+behind_header site script (Ok (Some x)) = with_whole site script x.0 (frames_at x.0 x.1)
+behind_header site script (Ok None) = Ok ([], 0, Second)
 behind_header site script (Err e) = Err e
 
 -- what the bytes of the journal of this site say
-abbrev pub journal_at : ℕ → List ℕ → List ℕ → Result (List Entry × ℕ) JournalError
+abbrev pub journal_at : ℕ → List ℕ → List ℕ → Result Contents JournalError
 journal_at site script bytes = behind_header site script (header_at site script bytes)

@@ -7,6 +7,7 @@ use Rattle.td_devices.specs.Views.{Input}
 use Rattle.td_stamps.specs.Checks.{check_of}
 use Rattle.td_stamps.specs.Sets.{union}
 use Rattle.td_stamps.specs.declared.entry.Entry.{Entry}
+use Rattle.td_frames.specs.declared.version.Version.{Version}
 use Rattle.td_story.specs.Calls.{Takes}
 use Rattle.td_story.specs.NewSites.{OpensSite, opened}
 use Rattle.td_story.specs.Seen.{Seen, with_entries}
@@ -28,14 +29,14 @@ IsOpened script site limit = OpensSite script site limit (Ok (opened script site
 abbrev pub IsNew : Seen → Type 0
 IsNew s = OpensSite s.script s.site s.limit (Ok s)
 
--- a site that has taken what its journal says, and how many bytes of it stand whole
-pub record ReopensSite (script : List ℕ) (site limit : ℕ) (old new : Input) (s : Seen) (whole : ℕ) : Type 0 where
+-- a site that has taken what its journal says, how many bytes of it stand whole, and its version
+pub record ReopensSite (script : List ℕ) (site limit : ℕ) (old new : Input) (s : Seen) (whole : ℕ) (version : Version) : Type 0 where
   pub opens : IsOpened script site limit
   pub bytes : List ℕ
   pub reads : ReadsOn old new bytes
   pub all : IsAtEnd new.left
   pub entries : List Entry
-  pub says : journal_at site script bytes ≡ Ok (entries, whole)
+  pub says : journal_at site script bytes ≡ Ok (entries, whole, version)
   pub fits : IsOk (check_of [] limit entries)
   pub holds : s ≡ with_entries (opened script site limit) (union [] entries)
 
@@ -52,22 +53,24 @@ pub record RefusesJournal (script : List ℕ) (site limit : ℕ) (old new : Inpu
   pub all : IsAtEnd new.left
   pub entries : List Entry
   pub whole : ℕ
-  pub says : journal_at site script bytes ≡ Ok (entries, whole)
+  pub version : Version
+  pub says : journal_at site script bytes ≡ Ok (entries, whole, version)
   pub refuses : RefusesAll (opened script site limit) entries e
 
 -- Why there is no site. Nothing is read where none is opened; memory for entries is wanted behind a whole header alone.
 abbrev pub ReopensNot : List ℕ → ℕ → ℕ → Input → Input → ReopenError → Type 0
 ReopensNot script site limit old new (Open e) = OpensSite script site limit (Err e) × (new ≡ old)
 ReopensNot script site limit old new OutOfMemory =
-    IsOpened script site limit × (bytes : List ℕ) × (rest : List ℕ) × ReadsOn old new bytes × (header_at site script bytes ≡ Ok (Some rest))
+    IsOpened script site limit × (bytes : List ℕ) × (version : Version) × (rest : List ℕ) × ReadsOn old new bytes
+    × (header_at site script bytes ≡ Ok (Some (version, rest)))
 ReopensNot script site limit old new ReadFault = IsOpened script site limit × (bytes : List ℕ) × Consumes old.left new.left bytes × (new.failures ≡ counted old.failures)
 ReopensNot script site limit old new (Refused e) = IsOpened script site limit × (bytes : List ℕ) × ReadsOn old new bytes × (journal_at site script bytes ≡ Err e)
 ReopensNot script site limit old new (Take e) = IsOpened script site limit × RefusesJournal script site limit old new e
 
 -- ---- of a site that was opened before
 
-abbrev pub Retakes : Seen → Input → Input → Seen → ℕ → Type 0
-Retakes s old new after whole = ReopensSite s.script s.site s.limit old new after whole
+abbrev pub Retakes : Seen → Input → Input → Seen → ℕ → Version → Type 0
+Retakes s old new after whole version = ReopensSite s.script s.site s.limit old new after whole version
 
 abbrev pub RetakesNot : Seen → Input → Input → ReopenError → Type 0
 RetakesNot s old new e = ReopensNot s.script s.site s.limit old new e

@@ -1,8 +1,11 @@
--- A new site that comes back from where its journal stands, and goes on with it.
+-- A new site that comes back from where its journal stands, and goes on with it: or with one of the second version that
+-- was made of it, where it was of the first.
 use Rattle.std.specs.Prelude.{◌≡◌, ◌≢◌, ◌⊎◌, ℕ, zero, suc, List, Option, None, Some, take}
 use Rattle.td_devices.specs.Views.{Input, Output}
 use Rattle.td_story.specs.Seen.{Seen, IsSound}
-use Rattle.td_journal.specs.Keepers.{IsJournal}
+use Rattle.td_frames.specs.declared.version.Version.{Version}
+use Rattle.td_frames.specs.declared.version.Version.TheVariants.{First, Second}
+use Rattle.td_journal.specs.Keepers.{IsJournal, IsJournalOf}
 use Rattle.td_journal.specs.Keeping.{Starts, StartsNot}
 use Rattle.td_journal.specs.Reopening.{Retakes, RetakesNot}
 use Rattle.td_journal.specs.declared.keeper.StartError.TheVariants.{WriteFault}
@@ -17,18 +20,26 @@ IsCutTo whole None held = Unit {0}
 IsCutTo whole (Some bytes) None = ⊥
 IsCutTo whole (Some bytes) (Some left) = left ≡ take whole bytes
 
--- The writer goes on with what stands whole of a journal. Where that is nothing, the journal of the site was begun.
-abbrev pub IsGoneOnWith : ℕ → Option (List ℕ) → Seen → Output → Type 0
-IsGoneOnWith zero kept s w = (cut : Output) × IsCutTo 0 kept cut.held × Starts s cut w
-IsGoneOnWith (suc n) kept s w = IsCutTo (suc n) kept w.held
+-- The journal of what the site holds was begun beside, where nothing stood, and was handed on; then it took the place
+-- of the old one.
+abbrev pub IsMadeAnew : Option (List ℕ) → Seen → Output → Type 0
+IsMadeAnew kept s w = (empty : Output) × IsCutTo 0 kept empty.held × (begun : Output) × Starts s empty begun × (w.held ≡ begun.held)
+
+-- The writer goes on with what stands whole of a journal. Where that is nothing, the journal of the site was begun;
+-- where it is of the first version, that was made anew.
+abbrev pub IsGoneOnWith : Version → ℕ → Option (List ℕ) → Seen → Output → Type 0
+IsGoneOnWith First whole kept s w = IsMadeAnew kept s w
+IsGoneOnWith Second zero kept s w = (cut : Output) × IsCutTo 0 kept cut.held × Starts s cut w
+IsGoneOnWith Second (suc n) kept s w = IsCutTo (suc n) kept w.held
 
 -- a new site has taken what its journal says, and goes on with it
 pub record GoesOn (kept : Option (List ℕ)) (s after : Seen) (w : Output) : Type 0 where
   pub failures : ℕ
   pub read : Input
   pub whole : ℕ
-  pub reopens : Retakes s (record { left = kept; failures = failures }) read after whole
-  pub goes_on : IsGoneOnWith whole kept after w
+  pub version : Version
+  pub reopens : Retakes s (record { left = kept; failures = failures }) read after whole version
+  pub goes_on : IsGoneOnWith version whole kept after w
 
 -- what was read is refused, or there was no memory for it
 pub record IsRefused (kept : Option (List ℕ)) (s : Seen) (error : ReopenError) : Type 0 where
@@ -36,24 +47,24 @@ pub record IsRefused (kept : Option (List ℕ)) (s : Seen) (error : ReopenError)
   pub read : Input
   pub refuses : RetakesNot s (record { left = kept; failures = failures }) read error
 
--- the site came back, and the header of its journal was not written
+-- the site came back, and its journal was not written, of which it was to begin one
 abbrev pub BeginsNot : Type 0
 BeginsNot = (after : Seen) × (cut : Output) × (w : Output) × StartsNot after WriteFault cut w
 
 -- why a site that came back does not go on
 abbrev pub GoesOnNot : (StoreError → Type 0) → StoreError → Type 0
-GoesOnNot Fails OutOfMemory = ⊥
+GoesOnNot Fails OutOfMemory = Fails OutOfMemory
 GoesOnNot Fails JournalFile = Fails JournalFile ⊎ BeginsNot
 
--- Why a site does not go on with its journal: that could not be opened or cut, what was read is refused, or the header
--- was not written; or there was no memory to open it, or for what was read.
+-- Why a site does not go on with its journal: that could not be opened, cut or replaced, what was read is refused, or
+-- what it was to begin was not written; or there was no memory to open it or one beside, or for what was read.
 abbrev pub KeepsNot : (StoreError → Type 0) → Option (List ℕ) → Seen → StoreError → Type 0
 KeepsNot Fails kept s OutOfMemory = Fails OutOfMemory ⊎ IsRefused kept s reopen_error.OutOfMemory
 KeepsNot Fails kept s JournalFile = Fails JournalFile ⊎ (((error : ReopenError) × (error ≢ reopen_error.OutOfMemory) × IsRefused kept s error) ⊎ BeginsNot)
 
--- A new site that came back from a front of the journal of another one, of its script and number, writes behind the
--- journal of what it holds: so its journal is that again, as after a start.
+-- A new site that came back from a front of the journal of another one, of its script and number, and of whatever
+-- version, writes behind the journal of what it holds: so its journal is that again, as after a start.
 abbrev pub KeptHasJournal : Type 0
 KeptHasJournal =
-    (s new after : Seen) (bytes front : List ℕ) (k : ℕ) (w : Output) → IsSound s → IsJournal s bytes → front ≡ take k bytes
+    (v : Version) (s new after : Seen) (bytes front : List ℕ) (k : ℕ) (w : Output) → IsSound s → IsJournalOf v s bytes → front ≡ take k bytes
     → new.script ≡ s.script → new.site ≡ s.site → IsSound after → GoesOn (Some front) new after w → (all : List ℕ) × (w.held ≡ Some all) × IsJournal after all

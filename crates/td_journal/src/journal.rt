@@ -1,10 +1,11 @@
-//! A journal that is written.
+//! A journal that is written, in the second version of the formats.
 
 ghost use Rattle.std.specs.Prelude.{◌≡◌, ◌≤◌, true, length, MatchResult, OnOk};
 ghost use Rattle.std.specs.List.{AllByRecursion, list_all};
 ghost use Rattle.td_devices.specs.Views.{output_of};
 ghost use Rattle.td_stamps.specs.Entries.{in_range};
 ghost use Rattle.td_frames.specs.Spelling.{HasFrame, entry_frame, entry_frames};
+ghost use Rattle.td_frames.specs.declared.version.Version.TheVariants.{Second};
 ghost use Rattle.td_journal.specs.Spelling.{header};
 ghost use Rattle.td_journal.specs.Written.{HandsOn, WritesAll, WritesFront};
 
@@ -38,8 +39,8 @@ impl<W: Sink> Journal<W> {
     pub fn begin(mut writer: W, site: u16, script: &str) -> Result<Journal<W>, NotBegun<W>>
         requires { length script.now ≤ 65536 }
         ensures { MatchResult result
-            (λ j. WritesAll (output_of W.Sink writer) (output_of W.Sink j) (header site script.now))
-            (λ e. WritesFront (output_of W.Sink writer) (output_of W.Sink e.writer) (header site script.now)) }
+            (λ j. WritesAll (output_of W.Sink writer) (output_of W.Sink j) (header Second site script.now))
+            (λ e. WritesFront (output_of W.Sink writer) (output_of W.Sink e.writer) (header Second site script.now)) }
     {
         match put_header(&mut writer, site, script) {
             Ok(()) => Ok(Journal { writer }),
@@ -50,10 +51,10 @@ impl<W: Sink> Journal<W> {
     /// Writes the frame of an entry behind those before it. It takes no memory, and flushes nothing.
     pub fn append(&mut self, entry: &Entry) -> Result<(), WriteFault>
         requires { length entry.now.text ≤ 8192 }
-        ensures has { HasFrame entry.now }
+        ensures has { HasFrame Second entry.now }
         ensures written { MatchResult result
-            (λ _. WritesAll (output_of W.Sink self.old) (output_of W.Sink self.new) (entry_frame entry.now))
-            (λ _. WritesFront (output_of W.Sink self.old) (output_of W.Sink self.new) (entry_frame entry.now)) }
+            (λ _. WritesAll (output_of W.Sink self.old) (output_of W.Sink self.new) (entry_frame Second entry.now))
+            (λ _. WritesFront (output_of W.Sink self.old) (output_of W.Sink self.new) (entry_frame Second entry.now)) }
     {
         match put_entry(&mut self.writer, entry) {
             Ok(()) => Ok(()),
@@ -64,10 +65,10 @@ impl<W: Sink> Journal<W> {
     /// Writes the frames of entries, and hands them on.
     pub(crate) fn accept(&mut self, entries: &[Entry]) -> Result<(), WriteFault>
         requires { list_all in_range entries.now ≡ true }
-        ensures has { OnOk result (AllByRecursion HasFrame entries.now) }
+        ensures has { OnOk result (AllByRecursion (HasFrame Second) entries.now) }
         ensures written { MatchResult result
-            (λ _. HandsOn (output_of W.Sink self.old) (output_of W.Sink self.new) (entry_frames entries.now))
-            (λ _. WritesFront (output_of W.Sink self.old) (output_of W.Sink self.new) (entry_frames entries.now)) }
+            (λ _. HandsOn (output_of W.Sink self.old) (output_of W.Sink self.new) (entry_frames Second entries.now))
+            (λ _. WritesFront (output_of W.Sink self.old) (output_of W.Sink self.new) (entry_frames Second entries.now)) }
     {
         match send_entries(&mut self.writer, entries) {
             Ok(()) => Ok(()),

@@ -18,8 +18,8 @@ use std::marker::Model;
 use td_devices::{Failed, Sink};
 use td_stamps::{Entry, Held, Stamp};
 use td_story::{
-    Answer, AskError, Asked, IssueError, Issued, Meter, NotOpen, Outcome, Replica, TakeError,
-    Taken, TellError, ValueError,
+    Answer, AskError, Asked, IssueError, Issued, Meter, NotOpen, Outcome, PastError, Replica,
+    TakeError, Taken, TellError, ValueError,
 };
 use td_values::Name;
 use thiserror::Error;
@@ -58,6 +58,24 @@ impl<R, W> Model for Keeper<R, W> {
     ghost view = { λ k. record { replica = k.replica; writer = k.journal; is_open = k.is_open } };
 }
 
+/// Writes the journal of what a site holds, and hands it on. It takes no memory.
+pub(crate) fn put_journal<R: Replica, W: Sink>(
+    replica: &R,
+    writer: &mut W,
+) -> Result<(), StartError>
+    ensures { MatchResult result
+        (λ _. Starts (R.seen replica.now) (output_of W.Sink writer.old) (output_of W.Sink writer.new))
+        (λ e. StartsNot (R.seen replica.now) e (output_of W.Sink writer.old) (output_of W.Sink writer.new)) }
+{
+    let Ok(held) = replica.held() else {
+        return Err(StartError::Broken);
+    };
+    match send_journal(writer, replica.site(), replica.script(), held.entries()) {
+        Ok(()) => Ok(()),
+        Err(Failed) => Err(StartError::WriteFault),
+    }
+}
+
 impl<R: Replica, W: Sink> Keeper<R, W> {
     /// Begins the journal of a site: writes its header and what the site holds, and hands it on. It takes no memory.
     pub fn start(replica: R, mut writer: W) -> Result<Keeper<R, W>, NotStarted<R, W>>
@@ -66,30 +84,18 @@ impl<R: Replica, W: Sink> Keeper<R, W> {
             (λ e. StartsNot (R.seen replica) e.error (output_of W.Sink writer) (output_of W.Sink e.writer)) }
         ensures same { MatchResult result (λ k. (k.replica ≡ replica) × (k.is_open ≡ true)) (λ e. e.replica ≡ replica) }
     {
-        let Ok(held) = replica.held() else {
-            return Err(NotStarted {
-                error: StartError::Broken,
-                replica,
-                writer,
-            });
-        };
-        match send_journal(
-            &mut writer,
-            replica.site(),
-            replica.script(),
-            held.entries(),
-        ) {
+        match put_journal(&replica, &mut writer) {
             Ok(()) => Ok(Keeper::resume(replica, writer)),
-            Err(Failed) => Err(NotStarted {
-                error: StartError::WriteFault,
+            Err(error) => Err(NotStarted {
+                error,
                 replica,
                 writer,
             }),
         }
     }
 
-    /// Goes on with a journal: the writer holds that of this site, whole, and writes behind it. This itself writes
-    /// nothing.
+    /// Goes on with a journal: the writer holds that of this site, whole and of the second version, and writes behind
+    /// it. This itself writes nothing.
     pub fn resume(replica: R, writer: W) -> Keeper<R, W>
         ensures { result ≡ record { replica = replica; writer = writer; is_open = true } }
     {
@@ -198,6 +204,19 @@ impl<R: Replica, W: Sink> Replica for Keeper<R, W> {
             return Err(AskError::Broken);
         }
         self.replica.ask(alloc, text)
+    }
+
+    fn ask_at(
+        &self,
+        alloc: Global,
+        text: &str,
+        at: Stamp,
+        meter: &mut Meter,
+    ) -> Result<Asked, PastError> {
+        if !self.is_open {
+            return Err(PastError::Broken);
+        }
+        self.replica.ask_at(alloc, text, at, meter)
     }
 
     fn value_of(&self, alloc: Global, name: &Name) -> Result<Answer, ValueError> {

@@ -4,15 +4,16 @@ ghost use Rattle.std.specs.Prelude.{◌≡◌, ◌≤◌, ◌&&◌, ◌==◌, �
 ghost use Rattle.std.specs.Io.KnownBytes.{Keeps, Consumes};
 ghost use Rattle.std.specs.List.{list_all};
 ghost use Rattle.td_stamps.specs.Entries.{in_range};
-ghost use Rattle.td_journal.specs.ForProofs.{FramesRead, HeaderRead};
-ghost use Rattle.td_journal.specs.Reading.{field_at, frames_at, header_at};
+ghost use Rattle.td_frames.specs.Spelling.{entry_frame};
+ghost use Rattle.td_journal.specs.ForProofs.{FieldRead, FramesRead, HeaderRead, told_by, version_of};
+ghost use Rattle.td_journal.specs.Reading.{field_at, fields_at, frames_at, header_at, owned_at, owner_fields, version_at};
 ghost use Rattle.td_journal.specs.Spelling.{journal};
 ghost use Rattle.td_journal.specs.declared.reading.Unread.TheVariants.{Refused};
 
 use crate::error::JournalError;
 use std::alloc::Global;
 use td_devices::{Source, read_byte};
-use td_frames::{FrameError, read_entries};
+use td_frames::{FrameError, Version, read_entries};
 use td_stamps::Entry;
 
 /// The most entries of a journal.
@@ -46,7 +47,7 @@ fn judged(same: bool, is_whole: bool, error: JournalError) -> Result<bool, Unrea
 // Reads a field to its end or to the end of the input, and then judges it: whether it is whole, or why it is refused.
 fn read_field<S: Source>(source: &mut S, field: &[u8], error: JournalError) -> Result<bool, Unread>
     ensures told { (bytes : List ℕ) × Consumes (S.left source.old) (S.left source.new) bytes
-        × HeaderRead (field_at field.now error) bytes result
+        × FieldRead (field_at field.now error) bytes result
         (S.left source.new) (S.failures source.old) (S.failures source.new) }
     ensures beside { Keeps (S.beside source.old) (S.beside source.new) }
 {
@@ -61,28 +62,38 @@ fn read_field<S: Source>(source: &mut S, field: &[u8], error: JournalError) -> R
     judged(same, true, error)
 }
 
-/// Reads a header that is known beforehand: whether it is whole, or the input ends inside it.
-pub(crate) fn read_header<S: Source>(
-    source: &mut S,
-    site: u16,
-    script: &str,
-) -> Result<bool, Unread>
-    requires { length script.now ≤ 65536 }
+fn version_of(byte: u8) -> Result<Option<Version>, Unread>
+    ensures { result ≡ version_of byte }
+{
+    match byte {
+        1 => Ok(Some(Version::First)),
+        2 => Ok(Some(Version::Second)),
+        _ => Err(Unread::Refused(JournalError::Version)),
+    }
+}
+
+// Reads the version; `None` is the end of the input.
+fn read_version<S: Source>(source: &mut S) -> Result<Option<Version>, Unread>
     ensures told { (bytes : List ℕ) × Consumes (S.left source.old) (S.left source.new) bytes
-        × HeaderRead (header_at site script.now) bytes result
+        × HeaderRead version_at bytes result
         (S.left source.new) (S.failures source.old) (S.failures source.new) }
     ensures beside { Keeps (S.beside source.old) (S.beside source.new) }
 {
-    match read_field(source, b"JTDB".as_slice(), JournalError::Magic) {
-        Ok(true) => {}
-        Ok(false) => return Ok(false),
-        Err(error) => return Err(error),
+    match read_byte(source) {
+        Ok(Some(byte)) => version_of(byte),
+        Ok(None) => Ok(None),
+        Err(_) => Err(Unread::ReadFault),
     }
-    match read_field(source, [1u8].as_slice(), JournalError::Version) {
-        Ok(true) => {}
-        Ok(false) => return Ok(false),
-        Err(error) => return Err(error),
-    }
+}
+
+// Reads whose journal it is, which is known beforehand: whether that is whole, or the input ends inside it.
+fn read_owner<S: Source>(source: &mut S, site: u16, script: &str) -> Result<bool, Unread>
+    requires { length script.now ≤ 65536 }
+    ensures told { (bytes : List ℕ) × Consumes (S.left source.old) (S.left source.new) bytes
+        × FieldRead (fields_at (owner_fields site script.now)) bytes result
+        (S.left source.new) (S.failures source.old) (S.failures source.new) }
+    ensures beside { Keeps (S.beside source.old) (S.beside source.new) }
+{
     match read_field(
         source,
         site.to_be_bytes().as_slice(),
@@ -105,14 +116,63 @@ pub(crate) fn read_header<S: Source>(
     read_field(source, script.as_bytes(), JournalError::OtherScript)
 }
 
-/// Reads the frames behind a header, to the end of the input. It takes room for the entries.
-pub(crate) fn read_frames<S: Source>(alloc: Global, source: &mut S) -> Result<Vec<Entry>, Unread>
+// The version, where what is behind it was read so.
+fn told_by(version: Version, owner: Result<bool, Unread>) -> Result<Option<Version>, Unread>
+    ensures { result ≡ told_by version owner }
+{
+    match owner {
+        Ok(true) => Ok(Some(version)),
+        Ok(false) => Ok(None),
+        Err(error) => Err(error),
+    }
+}
+
+fn read_owned<S: Source>(source: &mut S, site: u16, script: &str) -> Result<Option<Version>, Unread>
+    requires { length script.now ≤ 65536 }
     ensures told { (bytes : List ℕ) × Consumes (S.left source.old) (S.left source.new) bytes
-        × MatchResult result (λ v. FramesRead (frames_at bytes) (Ok v.items) (S.left source.new) (S.failures source.old) (S.failures source.new))
-        (λ e. FramesRead (frames_at bytes) (Err e) (S.left source.new) (S.failures source.old) (S.failures source.new)) }
+        × HeaderRead (owned_at site script.now) bytes result
+        (S.left source.new) (S.failures source.old) (S.failures source.new) }
     ensures beside { Keeps (S.beside source.old) (S.beside source.new) }
 {
-    let (entries, ending) = read_entries(alloc, source, MOST_ENTRIES);
+    match read_version(source) {
+        Ok(Some(version)) => told_by(version, read_owner(source, site, script)),
+        Ok(None) => Ok(None),
+        Err(error) => Err(error),
+    }
+}
+
+/// Reads a header, of which all but the version is known beforehand: its version where it is whole, or `None` where the
+/// input ends inside it.
+pub(crate) fn read_header<S: Source>(
+    source: &mut S,
+    site: u16,
+    script: &str,
+) -> Result<Option<Version>, Unread>
+    requires { length script.now ≤ 65536 }
+    ensures told { (bytes : List ℕ) × Consumes (S.left source.old) (S.left source.new) bytes
+        × HeaderRead (header_at site script.now) bytes result
+        (S.left source.new) (S.failures source.old) (S.failures source.new) }
+    ensures beside { Keeps (S.beside source.old) (S.beside source.new) }
+{
+    match read_field(source, b"JTDB".as_slice(), JournalError::Magic) {
+        Ok(true) => read_owned(source, site, script),
+        Ok(false) => Ok(None),
+        Err(error) => Err(error),
+    }
+}
+
+/// Reads the frames behind a header of this version, to the end of the input. It takes room for the entries.
+pub(crate) fn read_frames<S: Source>(
+    alloc: Global,
+    source: &mut S,
+    version: Version,
+) -> Result<Vec<Entry>, Unread>
+    ensures told { (bytes : List ℕ) × Consumes (S.left source.old) (S.left source.new) bytes
+        × MatchResult result (λ v. FramesRead (frames_at version bytes) (Ok v.items) (S.left source.new) (S.failures source.old) (S.failures source.new))
+        (λ e. FramesRead (frames_at version bytes) (Err e) (S.left source.new) (S.failures source.old) (S.failures source.new)) }
+    ensures beside { Keeps (S.beside source.old) (S.beside source.new) }
+{
+    let (entries, ending) = read_entries(alloc, source, version, MOST_ENTRIES);
     match ending {
         Err(FrameError::Cut) => Ok(entries),
         Err(FrameError::ReadFault) => Err(Unread::ReadFault),
@@ -122,16 +182,29 @@ pub(crate) fn read_frames<S: Source>(alloc: Global, source: &mut S) -> Result<Ve
     }
 }
 
-/// How many bytes the journal of these entries has, whatever the site.
-pub(crate) fn bytes_of(script: &str, entries: &[Entry]) -> u64
+// How many bytes the frame of an entry has.
+fn frame_bytes(version: Version, entry: &Entry) -> u64
+    requires { length entry.now.text ≤ 8192 }
+    ensures size { result ≡ length (entry_frame version entry.now) }
+    ensures few { result ≤ 8210 }
+{
+    let head = match version {
+        Version::First => 17,
+        Version::Second => 18,
+    };
+    head + entry.text.as_str().len() as u64
+}
+
+/// How many bytes the journal of these entries has in this version, whatever the site.
+pub(crate) fn bytes_of(version: Version, script: &str, entries: &[Entry]) -> u64
     requires script { length script.now ≤ 65536 }
     requires few { length entries.now ≤ 100000 }
     requires ranges { list_all in_range entries.now ≡ true }
-    ensures { (site : ℕ) → result ≡ length (journal site script.now entries.now) }
+    ensures { (site : ℕ) → result ≡ length (journal version site script.now entries.now) }
 {
     let mut bytes = 11 + script.len() as u64;
     for entry in entries {
-        bytes += 17 + entry.text.as_str().len() as u64;
+        bytes += frame_bytes(version, entry);
     }
     bytes
 }

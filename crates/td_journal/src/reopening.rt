@@ -11,6 +11,7 @@ use crate::error::JournalError;
 use crate::reading::{Unread, bytes_of, read_frames, read_header};
 use std::alloc::Global;
 use td_devices::Source;
+use td_frames::Version;
 use td_story::{Meter, OpenError, Opens, TakeError};
 
 /// Why a site is not reopened.
@@ -26,12 +27,14 @@ pub enum ReopenError {
     Take(TakeError),
 }
 
-/// A site as its journal says it, and how many bytes of the journal stand whole: its header and frames, or none where
-/// the header is cut.
+/// A site as its journal says it, how many bytes of the journal stand whole, and its version: its header and frames, or
+/// none where the header is cut, and then the second version, in which it is to be begun. Behind a journal of the first
+/// version nothing may be written.
 #[derive(Drop)]
 pub struct Reopened<R> {
     pub replica: R,
     pub whole: u64,
+    pub version: Version,
 }
 
 fn unread(error: Unread) -> ReopenError
@@ -58,17 +61,18 @@ fn refill<R: Opens + Drop, S: Source>(
     alloc: Global,
     mut replica: R,
     source: &mut S,
+    version: Version,
     meter: &mut Meter,
 ) -> Result<Reopened<R>, ReopenError>
     requires short { length (R.seen replica).script ≤ 65536 }
     requires none { (R.seen replica).entries ≡ [] }
     ensures told { MatchResult result
-        (λ r. Refills (R.seen replica) (input_of S.Source source.old) (input_of S.Source source.new)
-        (R.seen r.replica) r.whole)
-        (λ e. RefillsNot (R.seen replica) (input_of S.Source source.old) (input_of S.Source source.new) e) }
+        (λ r. Refills version (R.seen replica) (input_of S.Source source.old) (input_of S.Source source.new)
+        (R.seen r.replica) r.whole × (r.version ≡ version))
+        (λ e. RefillsNot version (R.seen replica) (input_of S.Source source.old) (input_of S.Source source.new) e) }
     ensures beside { Keeps (S.beside source.old) (S.beside source.new) }
 {
-    let entries = match read_frames(alloc, source) {
+    let entries = match read_frames(alloc, source, version) {
         Ok(entries) => entries,
         Err(error) => return Err(unread(error)),
     };
@@ -76,8 +80,12 @@ fn refill<R: Opens + Drop, S: Source>(
         Ok(_) => {}
         Err(error) => return Err(untaken(error)),
     }
-    let whole = bytes_of(replica.script(), entries.as_slice());
-    Ok(Reopened { replica, whole })
+    let whole = bytes_of(version, replica.script(), entries.as_slice());
+    Ok(Reopened {
+        replica,
+        whole,
+        version,
+    })
 }
 
 /// Has a new site take what its journal says: then it has all that stands whole there. It takes room for the entries,
@@ -90,13 +98,17 @@ pub fn take_journal<R: Opens + Drop, S: Source>(
 ) -> Result<Reopened<R>, ReopenError>
     requires new { IsNew (R.seen replica) }
     ensures taken { MatchResult result
-        (λ r. Retakes (R.seen replica) (input_of S.Source source.old) (input_of S.Source source.new) (R.seen r.replica) r.whole)
+        (λ r. Retakes (R.seen replica) (input_of S.Source source.old) (input_of S.Source source.new) (R.seen r.replica) r.whole r.version)
         (λ e. RetakesNot (R.seen replica) (input_of S.Source source.old) (input_of S.Source source.new) e) }
     ensures beside { Keeps (S.beside source.old) (S.beside source.new) }
 {
     match read_header(source, replica.site(), replica.script()) {
-        Ok(true) => refill(alloc, replica, source, meter),
-        Ok(false) => Ok(Reopened { replica, whole: 0 }),
+        Ok(Some(version)) => refill(alloc, replica, source, version, meter),
+        Ok(None) => Ok(Reopened {
+            replica,
+            whole: 0,
+            version: Version::Second,
+        }),
         Err(error) => Err(unread(error)),
     }
 }
@@ -113,7 +125,7 @@ pub fn reopen<R: Opens + Drop, S: Source>(
 ) -> Result<Reopened<R>, ReopenError>
     ensures reopened { MatchResult result
         (λ r. ReopensSite script.now site limit (input_of S.Source source.old) (input_of S.Source source.new)
-        (R.seen r.replica) r.whole)
+        (R.seen r.replica) r.whole r.version)
         (λ e. ReopensNot script.now site limit (input_of S.Source source.old) (input_of S.Source source.new) e) }
     ensures beside { Keeps (S.beside source.old) (S.beside source.new) }
 {

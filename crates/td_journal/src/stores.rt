@@ -1,17 +1,20 @@
 //! Where the journals of sites stand, and sites that come back from there.
 
 ghost use Rattle.std.specs.Prelude.{◌≡◌, ◌≢◌, ℕ, List, Option, MatchResult, true};
+ghost use Rattle.std.specs.Io.KnownBytes.{Keeps};
 ghost use Rattle.td_devices.specs.Views.{output_of};
 ghost use Rattle.td_journal.specs.Reopening.{IsNew};
 ghost use Rattle.td_journal.specs.ForProofs.Behind.{IsBehind};
-ghost use Rattle.td_journal.specs.Stores.{BeginsNot, GoesOn, GoesOnNot, IsCutTo, IsGoneOnWith, KeepsNot};
+ghost use Rattle.td_journal.specs.Stores.{BeginsNot, GoesOn, GoesOnNot, IsCutTo, IsGoneOnWith, IsMadeAnew, KeepsNot};
+ghost use Rattle.td_frames.specs.declared.version.Version.TheVariants.{Second};
 ghost use Rattle.td_journal.specs.declared.reopening.ReopenError.TheVariants as reopen_error;
 ghost use Rattle.td_journal.specs.declared.stores.StoreError.TheVariants as store_error;
 
-use crate::keeper::Keeper;
+use crate::keeper::{Keeper, put_journal};
 use crate::reopening::{ReopenError, Reopened, take_journal};
 use std::alloc::Global;
 use td_devices::{Failed, Sink, Source};
+use td_frames::Version;
 use td_story::{Meter, Opens};
 use thiserror::Error;
 
@@ -20,7 +23,7 @@ use thiserror::Error;
 pub enum StoreError {
     #[error("out of memory")]
     OutOfMemory,
-    #[error("the journal cannot be opened, read, cut or begun")]
+    #[error("the journal cannot be opened, read, cut, replaced or begun")]
     JournalFile,
 }
 
@@ -34,11 +37,14 @@ pub trait Journals {
     /// What goes on with a journal. Where a flush ends well, what was written outlives the program.
     type Writer: Sink + Drop;
 
+    /// A journal that is written beside another one, whose place it is to take.
+    type Renewal: Sink + Drop;
+
     /// What the journal of a name has, where that is known.
     ghost kept: { Self → List ℕ → Option (List ℕ) };
 
-    /// A journal could not be opened or cut, for this cause. Only these calls tell this of any journals, so what a
-    /// caller tells by it says that one of them did.
+    /// A journal could not be opened, cut or replaced, for this cause. Only these calls tell this of any journals, so
+    /// what a caller tells by it says that one of them did.
     ghost fails: { Self → StoreError → Type 0 };
 
     /// Opens the journal of this name, which has nothing where it is new. Nobody else opens it until it is let go.
@@ -49,6 +55,20 @@ pub trait Journals {
     /// Keeps so many bytes of the journal and drops those behind them: what is written then stands behind these.
     fn cut(&self, journal: Self::Journal, whole: u64) -> Result<Self::Writer, Failed>
         ensures { MatchResult result (λ w. IsCutTo whole (Self.Journal.beside journal) (Self.Writer.held w)) (λ _. fails self.now store_error.JournalFile) };
+
+    /// Begins a journal beside that of this name, with nothing in it. Nobody else opens it until it is let go.
+    fn renew(&self, alloc: Global, name: &str) -> Result<Self::Renewal, StoreError>
+        ensures { MatchResult result (λ n. IsCutTo 0 (kept self.now name.now) (Self.Renewal.held n)) (λ e. fails self.now e) };
+
+    /// Puts a journal that was written beside another one, and handed on, in that one's place, which is let go behind
+    /// that: what is written then stands behind the new one. At an error the old one stands as it did.
+    fn replace(
+        &self,
+        journal: Self::Journal,
+        renewal: Self::Renewal,
+    ) -> Result<Self::Writer, Failed>
+        requires { Self.Renewal.is_flushed renewal ≡ true }
+        ensures { MatchResult result (λ w. Self.Writer.held w ≡ Self.Renewal.held renewal) (λ _. fails self.now store_error.JournalFile) };
 }
 
 // Why the site does not go on, where it did not come back.
@@ -82,26 +102,79 @@ fn keeper_behind<R: Opens + Drop, W: Sink + Drop>(
     }
 }
 
-// Goes on with the journal from which the site came back.
+// Goes on behind what stands whole of the journal from which the site came back.
 fn go_on<R: Opens + Drop, J: Journals>(
     journals: &J,
     journal: J::Journal,
-    reopened: Reopened<R>,
+    whole: u64,
+    replica: R,
 ) -> Result<Keeper<R, J::Writer>, StoreError>
     ensures { MatchResult result
-        (λ k. IsGoneOnWith reopened.whole (J.Journal.beside journal) (R.seen k.replica) (output_of J.Writer.Sink k.writer)
-        × ((k.replica ≡ reopened.replica) × (k.is_open ≡ true)))
+        (λ k. IsGoneOnWith Second whole (J.Journal.beside journal) (R.seen k.replica) (output_of J.Writer.Sink k.writer)
+        × ((k.replica ≡ replica) × (k.is_open ≡ true)))
         (λ e. GoesOnNot (J.fails journals.now) e) }
 {
-    let Reopened { replica, whole } = reopened;
     match journals.cut(journal, whole) {
         Ok(writer) => keeper_behind(whole, replica, writer),
         Err(Failed) => Err(StoreError::JournalFile),
     }
 }
 
+// Makes the journal anew from which the site came back, and goes on with that.
+fn make_anew<R: Opens + Drop, J: Journals>(
+    alloc: Global,
+    journals: &J,
+    name: &str,
+    journal: J::Journal,
+    replica: R,
+) -> Result<Keeper<R, J::Writer>, StoreError>
+    ensures { MatchResult result
+        (λ k. IsMadeAnew (J.kept journals.now name.now) (R.seen k.replica) (output_of J.Writer.Sink k.writer)
+        × ((k.replica ≡ replica) × (k.is_open ≡ true)))
+        (λ e. GoesOnNot (J.fails journals.now) e) }
+{
+    let mut renewal = match journals.renew(alloc, name) {
+        Ok(renewal) => renewal,
+        Err(error) => return Err(error),
+    };
+    match put_journal(&replica, &mut renewal) {
+        Ok(()) => {}
+        Err(_) => return Err(StoreError::JournalFile),
+    }
+    match journals.replace(journal, renewal) {
+        Ok(writer) => Ok(Keeper::resume(replica, writer)),
+        Err(Failed) => Err(StoreError::JournalFile),
+    }
+}
+
+// Goes on with the journal from which the site came back: as it stands, where it is of the version that is written.
+fn keep_reopened<R: Opens + Drop, J: Journals>(
+    alloc: Global,
+    journals: &J,
+    name: &str,
+    journal: J::Journal,
+    reopened: Reopened<R>,
+) -> Result<Keeper<R, J::Writer>, StoreError>
+    requires { Keeps (J.kept journals.now name.now) (J.Journal.beside journal) }
+    ensures { MatchResult result
+        (λ k. IsGoneOnWith reopened.version reopened.whole (J.kept journals.now name.now) (R.seen k.replica) (output_of J.Writer.Sink k.writer)
+        × ((k.replica ≡ reopened.replica) × (k.is_open ≡ true)))
+        (λ e. GoesOnNot (J.fails journals.now) e) }
+{
+    let Reopened {
+        replica,
+        whole,
+        version,
+    } = reopened;
+    match version {
+        Version::First => make_anew(alloc, journals, name, journal, replica),
+        Version::Second => go_on(journals, journal, whole, replica),
+    }
+}
+
 /// Opens the journal of a new site, has the site take what it says, and goes on with it: with what stands whole of it,
-/// or by beginning it where nothing does. It takes room for the entries, and runs each once.
+/// or by beginning it where nothing does; one of the first version is made anew. It takes room for the entries, and
+/// runs each once.
 pub fn keep_journal<R: Opens + Drop, J: Journals>(
     alloc: Global,
     journals: &J,
@@ -120,7 +193,7 @@ pub fn keep_journal<R: Opens + Drop, J: Journals>(
         Err(error) => return Err(error),
     };
     match take_journal(alloc, replica, &mut journal, meter) {
-        Ok(reopened) => go_on(journals, journal, reopened),
+        Ok(reopened) => keep_reopened(alloc, journals, name, journal, reopened),
         Err(error) => Err(not_reopened(&error)),
     }
 }

@@ -9,6 +9,7 @@ pub data Line : Type 0 where
   quit : Line
   issue : ℕ → List ℕ → Line
   query : ℕ → List ℕ → Line
+  query_at : ℕ → List ℕ → ℕ × ℕ → Line
   meet : ℕ → ℕ → Line
   listing : ℕ → Line
   log : ℕ → Line
@@ -28,12 +29,19 @@ abbrev pub is_number : List ℕ → Bool
 is_number [] = false
 is_number (b ∷ bs) = list_all is_ascii_digit (b ∷ bs) && (not (b == 48) || (length bs == 0))
 
--- no number of a site is larger than this; all those that no site has are alike
+-- a number, of which all that are larger than this one are alike
+abbrev pub number_within : ℕ → List ℕ → Option ℕ
+number_within most bs = if is_number bs then Some (min (value bs) most) else None
+
+-- no site has a number as large as this, and no entry such a clock
 abbrev pub no_site : ℕ
 no_site = 65536
 
+abbrev pub no_clock : ℕ
+no_clock = 1000000000000000001
+
 abbrev pub number_of : List ℕ → Option ℕ
-number_of bs = if is_number bs then Some (min (value bs) no_site) else None
+number_of bs = number_within no_site bs
 
 -- bytes without a space, of which there are some
 abbrev pub is_word : List ℕ → Bool
@@ -47,8 +55,17 @@ after front bs = if bytes_eq (take (length front) bs) front then Some (drop (len
 abbrev pub parted : ℕ → List ℕ → Option (List ℕ × List ℕ)
 parted c bs = if nat_lt (position_or_len (λ b. b == c) bs) (length bs) then Some (before_first (λ b. b == c) bs, after_first (λ b. b == c) bs) else None
 
--- ---- the forms of lines: an empty line, n: text, n? text, and those that begin with a dot, whose words have one space
--- between and none after
+-- what is before the last byte c, and what is after it
+abbrev pub or_here : Bool → ℕ → List ℕ → Option (List ℕ × List ℕ) → Option (List ℕ × List ℕ)
+or_here is_here b bs (Some p) = Some (b ∷ p.0, p.1)
+or_here is_here b bs None = if is_here then Some ([], bs) else None
+
+abbrev pub parted_last : ℕ → List ℕ → Option (List ℕ × List ℕ)
+parted_last c [] = None
+parted_last c (b ∷ bs) = or_here (b == c) b bs (parted_last c bs)
+
+-- ---- the forms of lines: an empty line, n: text, n? text, n? text @ CLOCK.SITE, and those that begin with a dot, whose
+-- words have one space between and none after
 
 -- without one space in front, where there is one
 abbrev pub text_of : List ℕ → List ℕ
@@ -57,6 +74,19 @@ text_of bs = unwrap_or (after (codes " ") bs) bs
 -- a site's number and a text, with this mark between
 abbrev pub site_and_text : ℕ → List ℕ → Option (ℕ × List ℕ)
 site_and_text mark bs = option_and_then (λ (p : List ℕ × List ℕ). option_map (λ n. (n, text_of p.1)) (number_of p.0)) (parted mark bs)
+
+-- CLOCK.SITE
+abbrev pub stamp_in : List ℕ → Option (ℕ × ℕ)
+stamp_in bs = option_and_then (λ (p : List ℕ × List ℕ). option_and_then (λ c. option_map (λ n. (c, n)) (number_of p.1)) (number_within no_clock p.0)) (parted 46 bs)
+
+-- what is before a space, which is the last byte
+abbrev pub before_space : List ℕ → Option (List ℕ)
+before_space bs = if bytes_eq (drop (length bs - 1) bs) (codes " ") then Some (take (length bs - 1) bs) else None
+
+-- a text, and the stamp at which it is asked: what stands before ` @ `, and behind it, where nothing else does
+abbrev pub at_stamp : List ℕ → Option (List ℕ × (ℕ × ℕ))
+at_stamp bs =
+    option_and_then (λ (p : List ℕ × List ℕ). option_and_then (λ front. option_and_then (λ rest. option_map (λ s. (front, s)) (stamp_in rest)) (after (codes " ") p.1)) (before_space p.0)) (parted_last 64 bs)
 
 -- a site's number and a word
 abbrev pub site_and_word : List ℕ → Option (ℕ × List ℕ)
@@ -92,8 +122,16 @@ abbrev pub or_else : Option Line → Option Line → Option Line
 or_else (Some l) m = Some l
 or_else None m = m
 
+-- of the present, or at a stamp
+abbrev pub asked : ℕ → List ℕ → Option (List ℕ × (ℕ × ℕ)) → Line
+asked n text None = query n text
+asked n text (Some p) = query_at n p.0 p.1
+
+abbrev pub query_form : ℕ → List ℕ → Line
+query_form n text = asked n text (at_stamp text)
+
 abbrev pub text_form : List ℕ → Option Line
-text_form bs = or_else (of_pair issue (site_and_text 58 bs)) (of_pair query (site_and_text 63 bs))
+text_form bs = or_else (of_pair issue (site_and_text 58 bs)) (of_pair query_form (site_and_text 63 bs))
 
 abbrev pub form_of : List ℕ → Option Line
 form_of bs =

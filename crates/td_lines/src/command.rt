@@ -1,56 +1,94 @@
 //! What a line of the workbench says.
 
-ghost use Rattle.std.specs.Prelude.{◌≡◌, ◌<◌, ◌==◌, not, option_map};
+ghost use Rattle.std.specs.Prelude.{◌≡◌, ◌<◌, ◌≤◌, ◌==◌, MatchOption, not, option_map};
 ghost use Rattle.std.specs.List.{list_all};
 ghost use Rattle.std.specs.Option.{option_copied};
 ghost use Rattle.td_lines.specs.Lines as spec;
 ghost use Rattle.td_lines.specs.Lines.{after, form_of, line_of, number_of, parted, text_of};
-ghost use Rattle.td_lines.specs.Commands.{beside, both, meant};
+ghost use Rattle.td_lines.specs.Commands.{beside, beside_stamp, both, meant};
 
 /// The most bytes of a line, without its line end.
 pub const LINE_BYTES: usize = 16_384;
 
-/// What a line says. A number too large for a site stands as 65,536.
+/// What a line says. A number too large for a site stands as 65,536, and one too large for a clock as 10^18 + 1.
 #[derive(Clone, Copy, PartialEq, Eq)]
 pub enum Command<'a> {
     /// The empty line.
     Nothing,
     Quit,
-    Issue { site: u32, text: &'a str },
-    Query { site: u32, text: &'a str },
-    Meet { first: u32, second: u32 },
-    Listing { site: u32 },
-    Log { site: u32 },
-    Vector { site: u32 },
-    Table { site: u32, relvar: &'a str },
-    Serve { site: u32, address: &'a str },
-    Call { site: u32, address: &'a str },
+    Issue {
+        site: u32,
+        text: &'a str,
+    },
+    Query {
+        site: u32,
+        text: &'a str,
+    },
+    /// As it was just after the entry of this clock and origin.
+    QueryAt {
+        site: u32,
+        text: &'a str,
+        clock: u64,
+        origin: u32,
+    },
+    Meet {
+        first: u32,
+        second: u32,
+    },
+    Listing {
+        site: u32,
+    },
+    Log {
+        site: u32,
+    },
+    Vector {
+        site: u32,
+    },
+    Table {
+        site: u32,
+        relvar: &'a str,
+    },
+    Serve {
+        site: u32,
+        address: &'a str,
+    },
+    Call {
+        site: u32,
+        address: &'a str,
+    },
     /// It has none of the forms.
     Faulty,
 }
 
 /// What stands for each number that is too large for a site.
-const NO_SITE: u32 = 65_536;
+const NO_SITE: u64 = 65_536;
+
+/// What stands for each number that is too large for a clock.
+const NO_CLOCK: u64 = 1_000_000_000_000_000_001;
 
 // The decimal number without leading zeros that this is.
 fn number(digits: &str) -> Option<u32>
     ensures { result ≡ number_of digits.now }
 {
-    number_in(digits.as_bytes())
+    let number = number_within(digits.as_bytes(), NO_SITE)?;
+    Some(number as u32)
 }
 
-fn number_in(digits: &[u8]) -> Option<u32>
-    ensures { result ≡ number_of digits.now }
+// The same, or this one where it is larger.
+fn number_within(digits: &[u8], most: u64) -> Option<u64>
+    requires { most ≤ 1000000000000000001 }
+    ensures small { MatchOption result (Unit {0}) (λ n. n ≤ most) }
+    ensures told { result ≡ spec.number_within most digits.now }
 {
     if digits.is_empty() || digits[0] == b'0' && digits.len() > 1 {
         return None;
     }
-    let mut value: u32 = 0;
+    let mut value: u64 = 0;
     for b in digits {
         if !b.is_ascii_digit() {
             return None;
         }
-        value = (value * 10 + u32::from(*b - b'0')).min(NO_SITE);
+        value = (value * 10 + u64::from(*b - b'0')).min(most);
     }
     Some(value)
 }
@@ -169,11 +207,60 @@ fn issue(line: &str) -> Option<Command<'_>>
     Some(Command::Issue { site, text })
 }
 
+// CLOCK.SITE
+fn stamp_in(word: &str) -> Option<(u64, u32)>
+    ensures { result ≡ spec.stamp_in word.now }
+{
+    let (clock, origin) = parted('.', word)?;
+    let clock = number_within(clock.as_bytes(), NO_CLOCK)?;
+    let origin = number(origin)?;
+    Some((clock, origin))
+}
+
+// What is before the last such character, and what is after it.
+fn parted_last(c: char, line: &str) -> Option<(&str, &str)>
+    requires { c < 128 }
+    ensures { option_map both result ≡ spec.parted_last c line.now }
+{
+    line.rsplit_once(c)
+}
+
+fn before_space(text: &str) -> Option<&str>
+    ensures { option_copied result ≡ spec.before_space text.now }
+{
+    text.strip_suffix(' ')
+}
+
+// The text that stands before ` @ `, and the stamp behind it.
+fn at_stamp(text: &str) -> Option<(&str, (u64, u32))>
+    ensures { option_map beside_stamp result ≡ spec.at_stamp text.now }
+{
+    let (front, rest) = parted_last('@', text)?;
+    let front = before_space(front)?;
+    let word = after(" ", rest)?;
+    let stamp = stamp_in(word)?;
+    Some((front, stamp))
+}
+
+fn asked(site: u32, text: &str) -> Command<'_>
+    ensures { meant result ≡ spec.query_form site text.now }
+{
+    match at_stamp(text) {
+        Some((text, (clock, origin))) => Command::QueryAt {
+            site,
+            text,
+            clock,
+            origin,
+        },
+        None => Command::Query { site, text },
+    }
+}
+
 fn query(line: &str) -> Option<Command<'_>>
-    ensures { option_map meant result ≡ spec.of_pair spec.query (spec.site_and_text 63 line.now) }
+    ensures { option_map meant result ≡ spec.of_pair spec.query_form (spec.site_and_text 63 line.now) }
 {
     let (site, text) = site_and_text('?', line)?;
-    Some(Command::Query { site, text })
+    Some(asked(site, text))
 }
 
 // The form of a line that begins with this word, which has a dot.

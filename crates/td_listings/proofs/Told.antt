@@ -27,15 +27,15 @@ use Rattle.td_listings.specs.Texts.{value_at}
 use Rattle.td_listings.proofs.Relvars.{some_same}
 
 -- ---- statements define nothing
-step_keeps : (d e : DatabaseData) (text : List ℕ) (o : Outcome) → Steps d text o e → e.catalogue ≡ d.catalogue
-step_keeps d e text o (unread a) = refl
-step_keeps d e text o (raised a b) = refl
-step_keeps d e text o (refused a b x y) = refl
-step_keeps d e text o (done a b x) = refl
+step_keeps : (d e : DatabaseData) (dialect : ℕ) (text : List ℕ) (o : Outcome) → Steps d dialect text o e → e.catalogue ≡ d.catalogue
+step_keeps d e dialect text o (unread a) = refl
+step_keeps d e dialect text o (raised a b) = refl
+step_keeps d e dialect text o (refused a b x y) = refl
+step_keeps d e dialect text o (done a b x) = refl
 
 story_keeps : (d e : DatabaseData) (es : List Entry) (os : List (Stamp × Outcome)) → Story StepsEntry d es os e → e.catalogue ≡ d.catalogue
 story_keeps d e es os nothing_ran = refl
-story_keeps d e es os (next_ran {t = t} {e = x} {es = xs} {o = o} {os = ps} step rest) = story_keeps t e xs ps rest ∙ step_keeps d t x.text o step
+story_keeps d e es os (next_ran {t = t} {e = x} {es = xs} {o = o} {os = ps} step rest) = story_keeps t e xs ps rest ∙ step_keeps d t x.dialect x.text o step
 
 -- the database after the story is that of the script's catalogue
 pub script_of : (s : Seen) (os : List (Stamp × Outcome)) (d : DatabaseData) → IsTold s os d → IsScriptOf s.script d.catalogue

@@ -7,6 +7,7 @@ use Rattle.td_frames.specs.Reading.{Miss, short, magic, version, bad, entries_at
 use Rattle.td_frames.specs.declared.error.FrameError.{FrameError}
 use Rattle.td_frames.specs.declared.error.FrameError.TheVariants as frame_error
 use Rattle.td_frames.specs.declared.greeting.Greeting.{Greeting}
+use Rattle.td_frames.specs.declared.version.Version.TheVariants.{Second}
 use Rattle.td_story.specs.Calls.{Takes, TakesBatch}
 use Rattle.td_story.specs.Seen.{Seen}
 use Rattle.td_story.specs.declared.answer.Taken.{Taken}
@@ -79,16 +80,16 @@ Stream = List Entry × Result (List ℕ) Miss
 whole_err : (es fs : List Entry) (rest : List ℕ) (m : Miss) → ◌≡◌ {A = Stream} (es, Ok rest) (fs, Err m) → ⊥
 whole_err es fs rest m e = let ends = ap (λ (p : Stream). p.1) e in absurd cc
 
-pub same_entries : (left rest : List ℕ) (es fs : List Entry) (bytes : List ℕ) → left ≡ bytes ++ rest → entries_at most_entries bytes ≡ (fs, Ok []) → entries_at most_entries left ≡ (es, Ok []) → fs ≡ es
-same_entries left rest es fs bytes split read is = ap (λ (p : Stream). p.0) (sym (stream_reads most_entries bytes rest [] fs read) ∙ ap (entries_at most_entries) (sym split) ∙ is)
+pub same_entries : (left rest : List ℕ) (es fs : List Entry) (bytes : List ℕ) → left ≡ bytes ++ rest → entries_at Second most_entries bytes ≡ (fs, Ok []) → entries_at Second most_entries left ≡ (es, Ok []) → fs ≡ es
+same_entries left rest es fs bytes split read is = ap (λ (p : Stream). p.0) (sym (stream_reads Second most_entries bytes rest [] fs read) ∙ ap (entries_at Second most_entries) (sym split) ∙ is)
 
-cut_not : (left rest bytes : List ℕ) (es fs : List Entry) → left ≡ bytes ++ rest → rest ≡ [] → entries_at most_entries bytes ≡ (fs, Err short) → entries_at most_entries left ≡ (es, Ok []) → ⊥
-cut_not left rest bytes es fs split end read is = whole_err es fs [] short (sym is ∙ ap (entries_at most_entries) (split ∙ ap (λ (l : List ℕ). bytes ++ l) end ∙ append-nil bytes) ∙ read)
+cut_not : (left rest bytes : List ℕ) (es fs : List Entry) → left ≡ bytes ++ rest → rest ≡ [] → entries_at Second most_entries bytes ≡ (fs, Err short) → entries_at Second most_entries left ≡ (es, Ok []) → ⊥
+cut_not left rest bytes es fs split end read is = whole_err es fs [] short (sym is ∙ ap (entries_at Second most_entries) (split ∙ ap (λ (l : List ℕ). bytes ++ l) end ∙ append-nil bytes) ∙ read)
 
-bad_stream_not : (left rest bytes : List ℕ) (es fs : List Entry) (m : Miss) → m ≢ short → left ≡ bytes ++ rest → entries_at most_entries bytes ≡ (fs, Err m) → entries_at most_entries left ≡ (es, Ok []) → ⊥
-bad_stream_not left rest bytes es fs m not_short split read is = whole_err es fs [] m (sym is ∙ ap (entries_at most_entries) split ∙ stream_refuses most_entries bytes rest fs m not_short read)
+bad_stream_not : (left rest bytes : List ℕ) (es fs : List Entry) (m : Miss) → m ≢ short → left ≡ bytes ++ rest → entries_at Second most_entries bytes ≡ (fs, Err m) → entries_at Second most_entries left ≡ (es, Ok []) → ⊥
+bad_stream_not left rest bytes es fs m not_short split read is = whole_err es fs [] m (sym is ∙ ap (entries_at Second most_entries) split ∙ stream_refuses Second most_entries bytes rest fs m not_short read)
 
-misses_entries_not : (s : Seen) (left rest : List ℕ) (es : List Entry) (e : FrameError) (n : ℕ) (t : Seen) → MissesEntries s e n (Some left) (Some rest) 0 0 t → entries_at most_entries left ≡ (es, Ok []) → ⊥
+misses_entries_not : (s : Seen) (left rest : List ℕ) (es : List Entry) (e : FrameError) (n : ℕ) (t : Seen) → MissesEntries s e n (Some left) (Some rest) 0 0 t → entries_at Second most_entries left ≡ (es, Ok []) → ⊥
 misses_entries_not s left rest es frame_error.OutOfMemory n t u is = u.takes
 misses_entries_not s left rest es frame_error.ReadFault n t u is = not_counted u.told.1
 misses_entries_not s left rest es frame_error.Cut n t u is = cut_not left rest u.bytes es u.entries u.consumed u.told.1 u.told.0 is
@@ -96,8 +97,8 @@ misses_entries_not s left rest es frame_error.Magic n t u is = bad_stream_not le
 misses_entries_not s left rest es frame_error.Version n t u is = bad_stream_not left rest u.bytes es u.entries version version_not u.consumed u.told.0 is
 misses_entries_not s left rest es frame_error.BadFrame n t u is = bad_stream_not left rest u.bytes es u.entries bad bad_not u.consumed u.told.0 is
 
-refuses_by : (s : Seen) (left rest : List ℕ) (es fs : List Entry) (bytes : List ℕ) (e : TakeError) (t : Seen) (ending : Result (List ℕ) Miss) → IsTaken ending (Some rest) 0 0 → left ≡ bytes ++ rest → entries_at most_entries bytes ≡ (fs, ending)
-    → Takes s fs (Err e) t → entries_at most_entries left ≡ (es, Ok []) → Takes s es (Err e) t
+refuses_by : (s : Seen) (left rest : List ℕ) (es fs : List Entry) (bytes : List ℕ) (e : TakeError) (t : Seen) (ending : Result (List ℕ) Miss) → IsTaken ending (Some rest) 0 0 → left ≡ bytes ++ rest → entries_at Second most_entries bytes ≡ (fs, ending)
+    → Takes s fs (Err e) t → entries_at Second most_entries left ≡ (es, Ok []) → Takes s es (Err e) t
 refuses_by s left rest es fs bytes e t (Ok end) taken split read takes is =
     subst (λ (l : List Entry). Takes s l (Err e) t) (same_entries left rest es fs bytes split (read ∙ ap (λ (l : List ℕ). (fs, Ok l)) taken.0) is) takes
 refuses_by s left rest es fs bytes e t (Err short) (inl cut) split read takes is = absurd (cut_not left rest bytes es fs split cut.0 read is)
@@ -106,10 +107,10 @@ refuses_by s left rest es fs bytes e t (Err magic) taken split read takes is = a
 refuses_by s left rest es fs bytes e t (Err version) taken split read takes is = absurd taken
 refuses_by s left rest es fs bytes e t (Err bad) taken split read takes is = absurd taken
 
-refuses_in : (s : Seen) (left rest : List ℕ) (es : List Entry) (e : TakeError) (t : Seen) → Refuses s e (Some left) (Some rest) 0 0 t → entries_at most_entries left ≡ (es, Ok []) → Takes s es (Err e) t
+refuses_in : (s : Seen) (left rest : List ℕ) (es : List Entry) (e : TakeError) (t : Seen) → Refuses s e (Some left) (Some rest) 0 0 t → entries_at Second most_entries left ≡ (es, Ok []) → Takes s es (Err e) t
 refuses_in s left rest es e t u is = refuses_by s left rest es u.entries u.reads.bytes e t u.ending u.is_taken u.reads.consumed u.reads.reads u.takes is
 
-unreceived_in : (s : Seen) (left rest : List ℕ) (es : List Entry) (e : MeetingError) (t : Seen) → Unreceived s e (Some left) (Some rest) 0 0 t → entries_at most_entries left ≡ (es, Ok []) → Untaken s es e t
+unreceived_in : (s : Seen) (left rest : List ℕ) (es : List Entry) (e : MeetingError) (t : Seen) → Unreceived s e (Some left) (Some rest) 0 0 t → entries_at Second most_entries left ≡ (es, Ok []) → Untaken s es e t
 unreceived_in s left rest es Broken t u is = absurd u
 unreceived_in s left rest es OutOfMemory t u is = u.0
 unreceived_in s left rest es (Frame e n) t u is = absurd (misses_entries_not s left rest es e n t u is)

@@ -11,6 +11,7 @@ use Rattle.td_frames.specs.Reading.{entries_at, greeting_at}
 use Rattle.td_frames.specs.declared.greeting.Greeting.{Greeting}
 use Rattle.td_frames.proofs.Again.{stream_again}
 use Rattle.td_frames.proofs.GreetedAgain.{greeting_again}
+use Rattle.td_frames.specs.declared.version.Version.TheVariants.{Second}
 use Rattle.td_story.specs.Calls.{Takes}
 use Rattle.td_story.specs.Seen.{Seen, IsSound, is_limit}
 use Rattle.td_story.specs.declared.answer.Taken.{Taken}
@@ -49,8 +50,8 @@ within_most n is = grind (arith, nat_tests)
 few_held : (s : Seen) (v : VersionVector) → is_limit s.limit ≡ true → length s.entries ≤ s.limit → length (after_vector v s.entries) ≤ most_entries
 few_held s v limit within = let most = within_most s.limit limit in let some = fewer (lacks v) s.entries in omega (arith, most, some, within)
 
-sends_read : (s : Seen) (v : VersionVector) → AreSent s v → length (after_vector v s.entries) ≤ most_entries → entries_at most_entries (sends s v) ≡ (after_vector v s.entries, Ok [])
-sends_read s v sent few = ap (entries_at most_entries) (sym (append-nil (sends s v))) ∙ stream_again most_entries (after_vector v s.entries) [] few sent
+sends_read : (s : Seen) (v : VersionVector) → AreSent s v → length (after_vector v s.entries) ≤ most_entries → entries_at Second most_entries (sends s v) ≡ (after_vector v s.entries, Ok [])
+sends_read s v sent few = ap (entries_at Second most_entries) (sym (append-nil (sends s v))) ∙ stream_again Second most_entries (after_vector v s.entries) [] few sent
 
 -- ---- a greeting that is not answered
 
@@ -97,7 +98,7 @@ pub settles_untaken : (s : Seen) (left bytes rest : List ℕ) (x : Greeting) (e 
     → SettlesIn s bytes (Err r) after
 settles_untaken s left bytes rest x e r after same is hears receives = λ g more es found read.
     let heard = hears g more (ap greeting_at same ∙ found) in
-    subst (λ (x : MeetingRefusal). SettlesNot s g es x.error x.first_took after) (sym is) (untaken_settles s g es e after (receives es (ap (entries_at most_entries) heard.1 ∙ read)))
+    subst (λ (x : MeetingRefusal). SettlesNot s g es x.error x.first_took after) (sym is) (untaken_settles s g es e after (receives es (ap (entries_at Second most_entries) heard.1 ∙ read)))
 
 -- ---- the last two steps
 
@@ -105,7 +106,7 @@ settles_untaken s left bytes rest x e r after same is hears receives = λ g more
 pub found : (s t : Seen) (bytes : List ℕ) (answer : IsAnswer s t bytes) → greeting_at bytes ≡ Ok (greeting_of t answer.greets.vector, sends t answer.vector)
 found s t bytes answer = ap greeting_at answer.whole ∙ greets_read t answer.own (sends t answer.vector) answer.greets
 
-pub whole_stream : (s t : Seen) (bytes : List ℕ) (answer : IsAnswer s t bytes) → IsSound t → entries_at most_entries (sends t answer.vector) ≡ (after_vector answer.vector t.entries, Ok [])
+pub whole_stream : (s t : Seen) (bytes : List ℕ) (answer : IsAnswer s t bytes) → IsSound t → entries_at Second most_entries (sends t answer.vector) ≡ (after_vector answer.vector t.entries, Ok [])
 whole_stream s t bytes answer sound = sends_read t answer.vector answer.sent (few_held t answer.vector sound.limit sound.within)
 
 module _ (s t : Seen) (bytes : List ℕ) (answer : IsAnswer s t bytes) (both : AreOpen s t) (two : AreTwo s t) where
@@ -145,8 +146,8 @@ module _ (s t : Seen) (bytes : List ℕ) (answer : IsAnswer s t bytes) (both : A
         subst (λ (u : Seen). length (after_vector answer.greets.vector u.entries) ≤ most_entries) (sym settled.0.union)
         (few_held (record { script = s.script; site = s.site; limit = s.limit; entries = union s.entries (after_vector answer.vector t.entries); live = s.live }) answer.greets.vector sound.limit fits.2)
 
-    sent_back : entries_at most_entries out ≡ (after_vector answer.greets.vector after.entries, Ok [])
-    sent_back = ap (entries_at most_entries) settled.1 ∙ sends_read after answer.greets.vector settled.2 few_then
+    sent_back : entries_at Second most_entries out ≡ (after_vector answer.greets.vector after.entries, Ok [])
+    sent_back = ap (entries_at Second most_entries) settled.1 ∙ sends_read after answer.greets.vector settled.2 few_then
 
     takes_second : (r : Result Taken TakeError) (other : Seen) → Takes t (after_vector answer.greets.vector after.entries) r other → TakesFrom t after r other
     takes_second r other takes = record {

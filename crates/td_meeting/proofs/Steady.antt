@@ -9,7 +9,8 @@ use lib.Seq.{take-append-le}
 use Rattle.td_stamps.specs.Vectors.{VersionVector}
 use Rattle.td_stamps.specs.declared.entry.Entry.{Entry}
 use Rattle.td_frames.specs.declared.fields.Head.{Head}
-use Rattle.td_frames.specs.Reading.{Miss, short, magic, version, bad, checked_at, then_at, magic_at, version_at, site_at, length_at, text_of, script_at, count_at, number_at, sites_at, vector_at, head_at, rest_at, greeting_at, fields, with_text, text_at, entry_at, some_entry, frame_at, Entries, end_at, entries_at, with_frame, last_frame}
+use Rattle.td_frames.specs.Reading.{Miss, short, magic, version, bad, checked_at, then_at, magic_at, version_at, site_at, length_at, text_of, script_at, count_at, number_at, sites_at, vector_at, head_at, rest_at, greeting_at, fields, with_text, text_at, entry_at, some_entry, frame_at, Entries, end_at, entries_at, with_frame, last_frame, head_size}
+use Rattle.td_frames.specs.declared.version.Version.{Version}
 use Rattle.td_frames.proofs.Loops.{frame_more}
 
 -- a value that was read is read, whatever follows, and so is a field refused
@@ -101,7 +102,7 @@ script_steady = then_steady length_at text_of (field_steady 4 (λ b. leb (from_b
 head_steady : Steady head_at
 head_steady =
     then_steady magic_at (λ _ b. then_at (version_at b) (λ _ c. site_at 0 c)) (field_steady 4 (λ b. bytes_eq b (codes "HTDB")) (λ b. tt) magic)
-    (λ x. then_steady version_at (λ _ c. site_at 0 c) (field_steady 1 (λ b. bytes_eq b (1 ∷ [])) (λ b. tt) version) (λ y. site_steady 0))
+    (λ x. then_steady version_at (λ _ c. site_at 0 c) (field_steady 1 (λ b. bytes_eq b (2 ∷ [])) (λ b. tt) version) (λ y. site_steady 0))
 
 rest_steady : (site : ℕ) → Steady (rest_at site)
 rest_steady site =
@@ -143,13 +144,13 @@ text_refuses : (h : Head) (bytes more : List ℕ) (m : Miss) → m ≢ short →
 unfolding text_at
 text_refuses h bytes more m not_short e = text_limit (ltb 8192 h.length) (text_in h bytes) (text_in h (bytes ++ more)) m (text_in_refuses h bytes more m (ltb (length bytes) h.length) not_short refl) e
 
-entry_refuses_by : (bytes more : List ℕ) (m : Miss) (b : Bool) → m ≢ short → ltb (length bytes) 16 ≡ b → entry_at bytes ≡ Err m → entry_at (bytes ++ more) ≡ Err m
+entry_refuses_by : (v : Version) (bytes more : List ℕ) (m : Miss) (b : Bool) → m ≢ short → ltb (length bytes) (head_size v) ≡ b → entry_at v bytes ≡ Err m → entry_at v (bytes ++ more) ≡ Err m
 unfolding entry_at
-entry_refuses_by bytes more m true not_short is e = let wrong : Err short ≡ Err m = ap (λ (c : Bool). cond {A = Read} c (Err short) (text_at (fields (take 16 bytes)) (drop 16 bytes))) (sym is) ∙ e in absurd (not_short cc)
-entry_refuses_by bytes more m false not_short is e =
-    let long : 16 ≤ length bytes = ltb-false _ _ is in
-    rw (long_enough 16 bytes more is, take-append-le 16 bytes more long, drop-append-le 16 bytes more long)
-    (text_refuses (fields (take 16 bytes)) (drop 16 bytes) more m not_short (ap (λ (c : Bool). cond {A = Read} c (Err short) (text_at (fields (take 16 bytes)) (drop 16 bytes))) (sym is) ∙ e))
+entry_refuses_by v bytes more m true not_short is e = let wrong : Err short ≡ Err m = ap (λ (c : Bool). cond {A = Read} c (Err short) (text_at (fields v (take (head_size v) bytes)) (drop (head_size v) bytes))) (sym is) ∙ e in absurd (not_short cc)
+entry_refuses_by v bytes more m false not_short is e =
+    let long : head_size v ≤ length bytes = ltb-false _ _ is in
+    rw (long_enough (head_size v) bytes more is, take-append-le (head_size v) bytes more long, drop-append-le (head_size v) bytes more long)
+    (text_refuses (fields v (take (head_size v) bytes)) (drop (head_size v) bytes) more m not_short (ap (λ (c : Bool). cond {A = Read} c (Err short) (text_at (fields v (take (head_size v) bytes)) (drop (head_size v) bytes))) (sym is) ∙ e))
 
 some_refuses : (r s : Read) (m : Miss) → (r ≡ Err m → s ≡ Err m) → some_entry r ≡ Err m → some_entry s ≡ Err m
 some_refuses (Ok x) s m f e = absurd cc
@@ -158,16 +159,16 @@ some_refuses (Err k) s m f e = let same : k ≡ m = cc in ap some_entry (f (ap (
 abbrev Frame : Type 0
 Frame = Result (Option Entry × List ℕ) Miss
 
-letter_refuses : (z t : Bool) (rest more : List ℕ) (m : Miss) → m ≢ short → cond {A = Frame} z (Ok (None, rest)) (cond {A = Frame} t (some_entry (entry_at rest)) (Err bad)) ≡ Err m
-    → cond {A = Frame} z (Ok (None, rest ++ more)) (cond {A = Frame} t (some_entry (entry_at (rest ++ more))) (Err bad)) ≡ Err m
-letter_refuses true t rest more m not_short e = absurd cc
-letter_refuses false true rest more m not_short e = some_refuses (entry_at rest) (entry_at (rest ++ more)) m (entry_refuses_by rest more m (ltb (length rest) 16) not_short refl) e
-letter_refuses false false rest more m not_short e = e
+letter_refuses : (v : Version) (z t : Bool) (rest more : List ℕ) (m : Miss) → m ≢ short → cond {A = Frame} z (Ok (None, rest)) (cond {A = Frame} t (some_entry (entry_at v rest)) (Err bad)) ≡ Err m
+    → cond {A = Frame} z (Ok (None, rest ++ more)) (cond {A = Frame} t (some_entry (entry_at v (rest ++ more))) (Err bad)) ≡ Err m
+letter_refuses v true t rest more m not_short e = absurd cc
+letter_refuses v false true rest more m not_short e = some_refuses (entry_at v rest) (entry_at v (rest ++ more)) m (entry_refuses_by v rest more m (ltb (length rest) (head_size v)) not_short refl) e
+letter_refuses v false false rest more m not_short e = e
 
-frame_refuses : (bytes more : List ℕ) (m : Miss) → m ≢ short → frame_at bytes ≡ Err m → frame_at (bytes ++ more) ≡ Err m
+frame_refuses : (v : Version) (bytes more : List ℕ) (m : Miss) → m ≢ short → frame_at v bytes ≡ Err m → frame_at v (bytes ++ more) ≡ Err m
 unfolding frame_at
-frame_refuses [] more m not_short e = absurd (not_short cc)
-frame_refuses (letter ∷ rest) more m not_short e = letter_refuses (eqb letter 90) (eqb letter 69) rest more m not_short e
+frame_refuses v [] more m not_short e = absurd (not_short cc)
+frame_refuses v (letter ∷ rest) more m not_short e = letter_refuses v (eqb letter 90) (eqb letter 69) rest more m not_short e
 
 -- ---- streams
 
@@ -197,20 +198,20 @@ after_entry x es m p q f e =
     let same : q ≡ (p.0, Err m) = f p.0 (ap (λ r. (p.0, r)) ends) in
     ap (onto x) same ∙ ap (λ (l : List Entry). (l, Err m)) front
 
-next_ends : (n : ℕ) (bytes more : List ℕ) (es : List Entry) (m : Miss) → ((bs ms : List ℕ) (fs : List Entry) → entries_at n bs ≡ (fs, Err m) → entries_at n (bs ++ ms) ≡ (fs, Err m)) → (r : Frame) → m ≢ short
-    → frame_at bytes ≡ r → with_frame (entries_at n) r ≡ (es, Err m) → with_frame (entries_at n) (frame_at (bytes ++ more)) ≡ (es, Err m)
-next_ends n bytes more es m others (Ok (None, rest)) not_short is e = let wrong = ap (λ (r : Entries). r.1) e in absurd cc
-next_ends n bytes more es m others (Ok (Some x, rest)) not_short is e =
-    ap (with_frame (entries_at n)) (frame_more bytes more (Some x, rest) is) ∙ after_entry x es m (entries_at n rest) (entries_at n (rest ++ more)) (λ fs e. others rest more fs e) e
-next_ends n bytes more es m others (Err k) not_short is e =
+next_ends : (v : Version) (n : ℕ) (bytes more : List ℕ) (es : List Entry) (m : Miss) → ((bs ms : List ℕ) (fs : List Entry) → entries_at v n bs ≡ (fs, Err m) → entries_at v n (bs ++ ms) ≡ (fs, Err m)) → (r : Frame) → m ≢ short
+    → frame_at v bytes ≡ r → with_frame (entries_at v n) r ≡ (es, Err m) → with_frame (entries_at v n) (frame_at v (bytes ++ more)) ≡ (es, Err m)
+next_ends v n bytes more es m others (Ok (None, rest)) not_short is e = let wrong = ap (λ (r : Entries). r.1) e in absurd cc
+next_ends v n bytes more es m others (Ok (Some x, rest)) not_short is e =
+    ap (with_frame (entries_at v n)) (frame_more v bytes more (Some x, rest) is) ∙ after_entry x es m (entries_at v n rest) (entries_at v n (rest ++ more)) (λ fs e. others rest more fs e) e
+next_ends v n bytes more es m others (Err k) not_short is e =
     let ends = ap (λ (r : Entries). r.1) e in
     let same : k ≡ m = cc in
-    ap (with_frame (entries_at n)) (frame_refuses bytes more m not_short (is ∙ ap (λ j. Err j) same)) ∙ ap (λ (j : Miss). ([], Err j)) (sym same) ∙ e
+    ap (with_frame (entries_at v n)) (frame_refuses v bytes more m not_short (is ∙ ap (λ j. Err j) same)) ∙ ap (λ (j : Miss). ([], Err j)) (sym same) ∙ e
 
-pub stream_refuses : (n : ℕ) (bytes more : List ℕ) (es : List Entry) (m : Miss) → m ≢ short → entries_at n bytes ≡ (es, Err m) → entries_at n (bytes ++ more) ≡ (es, Err m)
+pub stream_refuses : (v : Version) (n : ℕ) (bytes more : List ℕ) (es : List Entry) (m : Miss) → m ≢ short → entries_at v n bytes ≡ (es, Err m) → entries_at v n (bytes ++ more) ≡ (es, Err m)
 unfolding entries_at
-stream_refuses zero bytes more es m not_short e = last_ends bytes more es m (end_at bytes) not_short refl e
-stream_refuses (suc n) bytes more es m not_short e = next_ends n bytes more es m (λ bs ms fs e. stream_refuses n bs ms fs m not_short e) (frame_at bytes) not_short refl e
+stream_refuses v zero bytes more es m not_short e = last_ends bytes more es m (end_at bytes) not_short refl e
+stream_refuses v (suc n) bytes more es m not_short e = next_ends v n bytes more es m (λ bs ms fs e. stream_refuses v n bs ms fs m not_short e) (frame_at v bytes) not_short refl e
 
 abbrev longer_by : List ℕ → Result (List ℕ) Miss → Result (List ℕ) Miss
 longer_by more (Ok rest) = Ok (rest ++ more)
@@ -230,15 +231,15 @@ entry_read x es rest more p q f e =
     let same : q ≡ (p.0, Ok (rest ++ more)) = f p.0 (ap (λ r. (p.0, r)) ends) in
     ap (onto x) same ∙ ap (λ (l : List Entry). (l, Ok (rest ++ more))) front
 
-next_read : (n : ℕ) (bytes more rest : List ℕ) (es : List Entry) → ((bs : List ℕ) (fs : List Entry) → entries_at n bs ≡ (fs, Ok rest) → entries_at n (bs ++ more) ≡ (fs, Ok (rest ++ more))) → (r : Frame)
-    → frame_at bytes ≡ r → with_frame (entries_at n) r ≡ (es, Ok rest) → with_frame (entries_at n) (frame_at (bytes ++ more)) ≡ (es, Ok (rest ++ more))
-next_read n bytes more rest es others (Ok (None, left)) is e = ap (with_frame (entries_at n)) (frame_more bytes more (None, left) is) ∙ ap (λ (r : Entries). longer more r) e
-next_read n bytes more rest es others (Ok (Some x, left)) is e =
-    ap (with_frame (entries_at n)) (frame_more bytes more (Some x, left) is) ∙ entry_read x es rest more (entries_at n left) (entries_at n (left ++ more)) (λ fs e. others left fs e) e
-next_read n bytes more rest es others (Err k) is e = let wrong = ap (λ (r : Entries). r.1) e in absurd cc
+next_read : (v : Version) (n : ℕ) (bytes more rest : List ℕ) (es : List Entry) → ((bs : List ℕ) (fs : List Entry) → entries_at v n bs ≡ (fs, Ok rest) → entries_at v n (bs ++ more) ≡ (fs, Ok (rest ++ more))) → (r : Frame)
+    → frame_at v bytes ≡ r → with_frame (entries_at v n) r ≡ (es, Ok rest) → with_frame (entries_at v n) (frame_at v (bytes ++ more)) ≡ (es, Ok (rest ++ more))
+next_read v n bytes more rest es others (Ok (None, left)) is e = ap (with_frame (entries_at v n)) (frame_more v bytes more (None, left) is) ∙ ap (λ (r : Entries). longer more r) e
+next_read v n bytes more rest es others (Ok (Some x, left)) is e =
+    ap (with_frame (entries_at v n)) (frame_more v bytes more (Some x, left) is) ∙ entry_read x es rest more (entries_at v n left) (entries_at v n (left ++ more)) (λ fs e. others left fs e) e
+next_read v n bytes more rest es others (Err k) is e = let wrong = ap (λ (r : Entries). r.1) e in absurd cc
 
 -- a whole stream is read, whatever follows
-pub stream_reads : (n : ℕ) (bytes more rest : List ℕ) (es : List Entry) → entries_at n bytes ≡ (es, Ok rest) → entries_at n (bytes ++ more) ≡ (es, Ok (rest ++ more))
+pub stream_reads : (v : Version) (n : ℕ) (bytes more rest : List ℕ) (es : List Entry) → entries_at v n bytes ≡ (es, Ok rest) → entries_at v n (bytes ++ more) ≡ (es, Ok (rest ++ more))
 unfolding entries_at
-stream_reads zero bytes more rest es e = last_read bytes more rest es (end_at bytes) refl e
-stream_reads (suc n) bytes more rest es e = next_read n bytes more rest es (λ bs fs e. stream_reads n bs more rest fs e) (frame_at bytes) refl e
+stream_reads v zero bytes more rest es e = last_read bytes more rest es (end_at bytes) refl e
+stream_reads v (suc n) bytes more rest es e = next_read v n bytes more rest es (λ bs fs e. stream_reads v n bs more rest fs e) (frame_at v bytes) refl e

@@ -2,6 +2,7 @@
 use Rattle.std.proofs.Common.{◌≡◌, ℕ, List, [], ◌++◌, Option, Some, None, Ok, sym, ap, subst, ◌∙◌, append-nil}
 use Rattle.td_frames.specs.Reading.{entries_at, greeting_at}
 use Rattle.td_frames.specs.declared.greeting.Greeting.{Greeting}
+use Rattle.td_frames.specs.declared.version.Version.TheVariants.{Second}
 use Rattle.td_stamps.specs.Vectors.{after_vector}
 use Rattle.td_stamps.specs.declared.entry.Entry.{Entry}
 use Rattle.td_story.specs.Calls.{TakesBatch}
@@ -29,7 +30,7 @@ heard_second s t answer is (Some rest) g hears =
     let same = reads_same answer rest (sends t is.vector) g (greeting_of t is.greets.vector) hears.greeting (found s t answer is) in
     (ap (λ (p : Greeting × List ℕ). p.0) same, ap (λ (p : Greeting × List ℕ). Some p.1) same)
 
-stream_is : (left rest : List ℕ) (es batch : List Entry) → ReadsStream (Some left) (Some rest) batch → entries_at most_entries left ≡ (es, Ok []) → batch ≡ es
+stream_is : (left rest : List ℕ) (es batch : List Entry) → ReadsStream (Some left) (Some rest) batch → entries_at Second most_entries left ≡ (es, Ok []) → batch ≡ es
 stream_is left rest es batch reads is = same_entries left rest es batch reads.bytes reads.consumed reads.reads is
 
 receives : (t : Seen) (back last : List ℕ) (batch : List Entry) (x : Taken) (other : Seen) → ReadsStream (Some back) (Some last) batch → TakesBatch t batch x other → ReceivesIn t back (Ok x) other

@@ -9,6 +9,7 @@ use Rattle.td_stamps.specs.declared.entry.Entry.{Entry}
 use Rattle.td_frames.specs.Reading.{Miss, short, magic, version, bad, ToldEntries, entries_at}
 use Rattle.td_frames.specs.declared.error.FrameError.{FrameError}
 use Rattle.td_frames.specs.declared.error.FrameError.TheVariants as frame_error
+use Rattle.td_frames.specs.declared.version.Version.TheVariants.{Second}
 use Rattle.td_story.specs.Calls.{TakesBatch}
 use Rattle.td_story.specs.Seen.{Seen}
 use Rattle.td_story.specs.declared.answer.Taken.{Taken}
@@ -29,7 +30,7 @@ places_told es v (Err x) items is places fit = tt
 pub record Read (left after : Option (List ℕ)) (old new : ℕ) (es : List Entry) (ending : Result (List ℕ) Miss) : Type 0 where
   pub bytes : List ℕ
   pub consumed : Consumes left after bytes
-  pub reads : entries_at most_entries bytes ≡ (es, ending)
+  pub reads : entries_at Second most_entries bytes ≡ (es, ending)
   pub is_taken : IsTaken ending after old new
 
 counted_once : (ending : Result (List ℕ) Miss) (after : Option (List ℕ)) (old new : ℕ) → IsTaken ending after old new → (new ≡ old) ⊎ (new ≡ counted old)
@@ -55,16 +56,16 @@ refused s left after old new es t ending SameSite read u = u
 refused s left after old new es t ending (WriteFault n) read u = u
 
 pub refused_if : (s : Seen) (left after : Option (List ℕ)) (old new : ℕ) (es batch : List Entry) (t : Seen) (bytes : List ℕ) (x : Unit {0}) (told : Result (Unit {0}) FrameError) (r : Result Taken MeetingError)
-    → Consumes left after bytes → ToldEntries told es (entries_at most_entries bytes) after old new → told ≡ Ok x → batch ≡ es → IfErr r (λ e. Untaken s batch e t) → IfErr r (λ e. Unreceived s e left after old new t)
+    → Consumes left after bytes → ToldEntries told es (entries_at Second most_entries bytes) after old new → told ≡ Ok x → batch ≡ es → IfErr r (λ e. Untaken s batch e t) → IfErr r (λ e. Unreceived s e left after old new t)
 refused_if s left after old new es batch t bytes x told (Ok y) consumed tells is same u = tt
 refused_if s left after old new es batch t bytes x told (Err e) consumed tells is same u =
-    let all : ToldEntries (Ok x) es (entries_at most_entries bytes) after old new = subst (λ (r : Result (Unit {0}) FrameError). ToldEntries r es (entries_at most_entries bytes) after old new) is tells in
+    let all : ToldEntries (Ok x) es (entries_at Second most_entries bytes) after old new = subst (λ (r : Result (Unit {0}) FrameError). ToldEntries r es (entries_at Second most_entries bytes) after old new) is tells in
     refused s left after old new es t (Ok []) e (record { bytes = bytes; consumed = consumed; reads = all.0; is_taken = (refl, all.1) }) (subst (λ (l : List Entry). Untaken s l e t) same u)
 
 -- ---- a stream that isn't whole
 
 takes_short : (s : Seen) (left after : Option (List ℕ)) (old new : ℕ) (es : List Entry) (t : Seen) (bytes : List ℕ) (error : FrameError) (e : MeetingError)
-    → Consumes left after bytes → entries_at most_entries bytes ≡ (es, Err short) → ToldEntries (Err error) es (entries_at most_entries bytes) after old new
+    → Consumes left after bytes → entries_at Second most_entries bytes ≡ (es, Err short) → ToldEntries (Err error) es (entries_at Second most_entries bytes) after old new
     → (IsAtEnd after × (new ≡ old)) ⊎ (new ≡ counted old) → ((n : ℕ) (x : Taken) → n ≡ x.fresh → TakesBatch s es x t → TakesFront s es error n t) → TakesShort s es error e t → Unreceived s e left after old new t
 takes_short s left after old new es t bytes error (Frame f n) consumed reads told why front u =
     subst (λ (f : FrameError). MissesEntries s f n left after old new t) (sym u.0) (record { entries = es; bytes = bytes; consumed = consumed; told = told; takes = front n u.1 u.3 u.2 })
@@ -76,12 +77,12 @@ takes_short s left after old new es t bytes error SameSite consumed reads told w
 takes_short s left after old new es t bytes error (WriteFault n) consumed reads told why front u = u
 
 misses : (s : Seen) (left after : Option (List ℕ)) (old new : ℕ) (es : List Entry) (t : Seen) (bytes : List ℕ) (error : FrameError) (e : MeetingError)
-    → Consumes left after bytes → ToldEntries (Err error) es (entries_at most_entries bytes) after old new → TakesFront s es error 0 t → e ≡ Frame error 0 → Unreceived s e left after old new t
+    → Consumes left after bytes → ToldEntries (Err error) es (entries_at Second most_entries bytes) after old new → TakesFront s es error 0 t → e ≡ Frame error 0 → Unreceived s e left after old new t
 misses s left after old new es t bytes error e consumed told takes is =
     subst (λ (e : MeetingError). Unreceived s e left after old new t) (sym is) (record { entries = es; bytes = bytes; consumed = consumed; told = told; takes = takes })
 
 stops : (s : Seen) (left after : Option (List ℕ)) (old new : ℕ) (es : List Entry) (t : Seen) (bytes : List ℕ) (error : FrameError) (e : MeetingError)
-    → Consumes left after bytes → ToldEntries (Err error) es (entries_at most_entries bytes) after old new → StopsAt s es error e t → Unreceived s e left after old new t
+    → Consumes left after bytes → ToldEntries (Err error) es (entries_at Second most_entries bytes) after old new → StopsAt s es error e t → Unreceived s e left after old new t
 stops s left after old new es t bytes frame_error.OutOfMemory e consumed told u = subst (λ (e : MeetingError). Unreceived s e left after old new t) (sym u.0) (u.1, bytes, consumed, inl told)
 stops s left after old new es t bytes frame_error.ReadFault e consumed told u = takes_short s left after old new es t bytes frame_error.ReadFault e consumed told.0 told (inr told.1) (λ n x same takes. (x, takes, same)) u
 stops s left after old new es t bytes frame_error.Cut e consumed told u = takes_short s left after old new es t bytes frame_error.Cut e consumed told.0 told (inl (told.1, told.2)) (λ n x same takes. (x, takes, same)) u
@@ -90,6 +91,6 @@ stops s left after old new es t bytes frame_error.Version e consumed told u = mi
 stops s left after old new es t bytes frame_error.BadFrame e consumed told u = misses s left after old new es t bytes frame_error.BadFrame e consumed told (u.1, refl) u.0
 
 pub stops_told : (s : Seen) (left after : Option (List ℕ)) (old new : ℕ) (es batch : List Entry) (t : Seen) (bytes : List ℕ) (error : FrameError) (told : Result (Unit {0}) FrameError) (e : MeetingError)
-    → Consumes left after bytes → ToldEntries told es (entries_at most_entries bytes) after old new → told ≡ Err error → batch ≡ es → StopsAt s batch error e t → Unreceived s e left after old new t
+    → Consumes left after bytes → ToldEntries told es (entries_at Second most_entries bytes) after old new → told ≡ Err error → batch ≡ es → StopsAt s batch error e t → Unreceived s e left after old new t
 stops_told s left after old new es batch t bytes error told e consumed tells is same u =
-    stops s left after old new es t bytes error e consumed (subst (λ (r : Result (Unit {0}) FrameError). ToldEntries r es (entries_at most_entries bytes) after old new) is tells) (subst (λ (l : List Entry). StopsAt s l error e t) same u)
+    stops s left after old new es t bytes error e consumed (subst (λ (r : Result (Unit {0}) FrameError). ToldEntries r es (entries_at Second most_entries bytes) after old new) is tells) (subst (λ (l : List Entry). StopsAt s l error e t) same u)

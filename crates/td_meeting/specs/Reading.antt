@@ -8,6 +8,7 @@ use Rattle.td_frames.specs.Reading.{Miss, short, ToldErr, ToldEntries, entries_a
 use Rattle.td_frames.specs.declared.error.FrameError.{FrameError}
 use Rattle.td_frames.specs.declared.error.FrameError.TheVariants as frame_error
 use Rattle.td_frames.specs.declared.greeting.Greeting.{Greeting}
+use Rattle.td_frames.specs.declared.version.Version.TheVariants.{Second}
 use Rattle.td_story.specs.Calls.{Takes, TakesBatch}
 use Rattle.td_story.specs.Seen.{Seen}
 use Rattle.td_story.specs.declared.answer.Taken.{Taken}
@@ -53,7 +54,7 @@ most_entries = 100000
 pub record ReadsEntries (left after : Option (List ℕ)) (es : List Entry) (ending : Result (List ℕ) Miss) : Type 0 where
   pub bytes : List ℕ
   pub consumed : Consumes left after bytes
-  pub reads : entries_at most_entries bytes ≡ (es, ending)
+  pub reads : entries_at Second most_entries bytes ≡ (es, ending)
 
 -- the stream was whole, and nothing behind it was read
 abbrev pub ReadsStream : Option (List ℕ) → Option (List ℕ) → List Entry → Type 0
@@ -71,7 +72,7 @@ pub record MissesEntries (s : Seen) (e : FrameError) (taken : ℕ) (left after :
   pub entries : List Entry
   pub bytes : List ℕ
   pub consumed : Consumes left after bytes
-  pub told : ToldEntries (Err e) entries (entries_at most_entries bytes) after old new
+  pub told : ToldEntries (Err e) entries (entries_at Second most_entries bytes) after old new
   pub takes : TakesFront s entries e taken t
 
 -- its entries are taken: the stream was whole, it was cut, or its reader failed

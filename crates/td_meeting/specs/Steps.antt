@@ -13,6 +13,7 @@ use Rattle.td_stamps.specs.Vectors.{VersionVector, after_vector}
 use Rattle.td_stamps.specs.declared.entry.Entry.{Entry}
 use Rattle.td_frames.specs.Spelling.{HasFrame}
 use Rattle.td_frames.specs.declared.greeting.Greeting.{Greeting}
+use Rattle.td_frames.specs.declared.version.Version.TheVariants.{Second}
 use Rattle.td_story.specs.Calls.{TakesBatch}
 use Rattle.td_story.specs.Seen.{Seen}
 use Rattle.td_story.specs.declared.answer.Taken.{Taken}
@@ -42,7 +43,7 @@ IsClosed s old new = (s.live ≡ false) × (new ≡ old)
 
 -- each entry that is sent has a frame
 abbrev pub AreSent : Seen → VersionVector → Type 0
-AreSent s v = AllByRecursion HasFrame (after_vector v s.entries)
+AreSent s v = AllByRecursion (HasFrame Second) (after_vector v s.entries)
 
 -- ---- greet
 

@@ -8,6 +8,7 @@ ghost use Rattle.td_devices.specs.Counted.{Counts};
 ghost use Rattle.td_devices.specs.Streams.{Writes};
 ghost use Rattle.td_stamps.specs.Vectors.{after_vector};
 ghost use Rattle.td_frames.specs.Spelling.{HasFrame, entry_frames, stream};
+ghost use Rattle.td_frames.specs.declared.version.Version.TheVariants.{Second};
 ghost use Rattle.td_meeting.specs.ForProofs.Parts.{ArePlaces, Replied};
 ghost use Rattle.td_meeting.specs.Steps.{AreSent};
 ghost use Rattle.td_meeting.specs.Writing.{Greets, sends};
@@ -43,8 +44,8 @@ pub(crate) fn put_own<R: Replica, K: Sink>(
 
 fn put_lacking<K: Sink>(sink: &mut K, vector: &Vector, entry: &Entry) -> Result<(), Failed>
     requires { length entry.now.text ≤ 8192 }
-    ensures bytes { Writes (K.held sink.old) (K.held sink.new) result (entry_frames (after_vector vector.now (entry.now ∷ []))) }
-    ensures has { OnOk result (AllByRecursion HasFrame (after_vector vector.now (entry.now ∷ []))) }
+    ensures bytes { Writes (K.held sink.old) (K.held sink.new) result (entry_frames Second (after_vector vector.now (entry.now ∷ []))) }
+    ensures has { OnOk result (AllByRecursion (HasFrame Second) (after_vector vector.now (entry.now ∷ []))) }
     ensures count { Counts (K.faults sink.old) (K.faults sink.new) result }
     ensures aside { Keeps (K.aside sink.old) (K.aside sink.new) }
 {
@@ -58,8 +59,8 @@ fn put_lacking<K: Sink>(sink: &mut K, vector: &Vector, entry: &Entry) -> Result<
 // Writes the frames of the entries after a version vector.
 fn put_entries<K: Sink>(sink: &mut K, entries: &[Entry], vector: &Vector) -> Result<(), Failed>
     requires { list_all in_range entries.now ≡ true }
-    ensures bytes { Writes (K.held sink.old) (K.held sink.new) result (entry_frames (after_vector vector.now entries.now)) }
-    ensures has { OnOk result (AllByRecursion HasFrame (after_vector vector.now entries.now)) }
+    ensures bytes { Writes (K.held sink.old) (K.held sink.new) result (entry_frames Second (after_vector vector.now entries.now)) }
+    ensures has { OnOk result (AllByRecursion (HasFrame Second) (after_vector vector.now entries.now)) }
     ensures count { Counts (K.faults sink.old) (K.faults sink.new) result }
     ensures aside { Keeps (K.aside sink.old) (K.aside sink.new) }
 {
@@ -71,8 +72,8 @@ fn put_entries<K: Sink>(sink: &mut K, entries: &[Entry], vector: &Vector) -> Res
 
 // Writes the stream of what is held after a version vector.
 fn put_stream<K: Sink>(sink: &mut K, held: &Held, vector: &Vector) -> Result<(), Failed>
-    ensures bytes { Writes (K.held sink.old) (K.held sink.new) result (stream (after_vector vector.now held.now.entries)) }
-    ensures has { OnOk result (AllByRecursion HasFrame (after_vector vector.now held.now.entries)) }
+    ensures bytes { Writes (K.held sink.old) (K.held sink.new) result (stream Second (after_vector vector.now held.now.entries)) }
+    ensures has { OnOk result (AllByRecursion (HasFrame Second) (after_vector vector.now held.now.entries)) }
     ensures count { Counts (K.faults sink.old) (K.faults sink.new) result }
     ensures aside { Keeps (K.aside sink.old) (K.aside sink.new) }
 {

@@ -10,7 +10,7 @@ ghost use Rattle.td_meeting.specs.Reading.{ReadsStream, Unreceived};
 use crate::error::MeetingError;
 use std::alloc::Global;
 use td_devices::Source;
-use td_frames::{FrameError, read_entries};
+use td_frames::{FrameError, Version, read_entries};
 use td_stamps::Entry;
 use td_story::{Meter, Replica, TakeError, Taken};
 
@@ -95,7 +95,7 @@ pub(crate) fn receive<R: Replica, S: Source>(
     ensures err { IfErr result (λ e. Unreceived (R.seen site.old) e (S.left source.old) (S.left source.new) (S.failures source.old) (S.failures source.new) (R.seen site.new)) }
     ensures beside { Keeps (S.beside source.old) (S.beside source.new) }
 {
-    let (batch, ending) = read_entries(alloc, source, MOST_ENTRIES);
+    let (batch, ending) = read_entries(alloc, source, Version::Second, MOST_ENTRIES);
     match ending {
         Ok(()) => take_all(alloc, site, batch.as_slice(), meter),
         Err(error) => Err(stopped(alloc, site, batch.as_slice(), error, meter)),

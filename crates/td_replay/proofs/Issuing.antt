@@ -1,5 +1,5 @@
 -- The next entry of a site: what is known of it, and that it comes last.
-use Rattle.std.proofs.Common.{◌≡◌, ◌≤◌, ◌<◌, ℕ, Bool, true, false, cond, List, [], ◌∷◌, ◌++◌, length, Result, Ok, Err, refl, sym, ap, subst, ◌∙◌}
+use Rattle.std.proofs.Common.{◌≡◌, ◌≤◌, ◌<◌, ℕ, Bool, true, false, cond, List, [], ◌∷◌, ◌++◌, length, Result, Ok, Err, refl, sym, ap, subst, ◌∙◌, arith}
 use Rattle.std.specs.Prelude.{nat_lt, IsOk}
 use Rattle.std.proofs.lemmas.Bool.{ltb-true}
 use Rattle.td_headings.specs.declared.statement.TypedStatement.{TypedStatement}
@@ -11,7 +11,7 @@ use Rattle.td_stamps.specs.Sets.{union}
 use Rattle.td_stamps.proofs.Next.{next_fits, union_last}
 use Rattle.td_story.specs.Databases.{DatabaseData}
 use Rattle.td_story.specs.Steps.{IsRead}
-use Rattle.td_story.specs.Calls.{entry_of, numbered, Issues, IssuesEntry}
+use Rattle.td_story.specs.Calls.{entry_of, numbered, written, Issues, IssuesEntry}
 use Rattle.td_replay.specs.ForProofs.Judged.{IsRefusal}
 use Rattle.td_replay.specs.ForProofs.Told.{IsLogged, Log, Numbers, Outcomes, TellsOutcome, outcomes_of}
 use Rattle.td_story.specs.Seen.{Seen, with_entries}
@@ -24,16 +24,17 @@ use Rattle.td_replay.proofs.Telling.{logged_more, logged_story, outcomes_more, s
 -- what is known where a text has a next entry
 pub record IsNext (s : Seen) (text : List ℕ) (e : Entry) : Type 0 where
   pub site : e.site ≡ s.site
+  pub dialect_is : e.dialect ≡ written
   pub text_is : e.text ≡ text
   pub numbers : next_of s.site s.entries ≡ Ok (e.seq, e.clock)
   pub room : length s.entries < s.limit
 
 roomy : (s : Seen) (text : List ℕ) (e : Entry) (n : ℕ × ℕ) (b : Bool) → next_of s.site s.entries ≡ Ok n → nat_lt (length s.entries) s.limit ≡ b
-    → ◌≡◌ {A = Result Entry IssueError} (cond b (Ok (record { site = s.site; seq = n.0; clock = n.1; text = text })) (Err issue_error.Full)) (Ok e) → IsNext s text e
+    → ◌≡◌ {A = Result Entry IssueError} (cond b (Ok (record { site = s.site; seq = n.0; clock = n.1; dialect = written; text = text })) (Err issue_error.Full)) (Ok e) → IsNext s text e
 roomy s text e n false next test h = cc
 roomy s text e n true next test h =
-    let is : ◌≡◌ {A = Entry} (record { site = s.site; seq = n.0; clock = n.1; text = text }) e = cc in
-    subst (IsNext s text) is (record { site = refl; text_is = refl; numbers = next; room = ltb-true _ _ test })
+    let is : ◌≡◌ {A = Entry} (record { site = s.site; seq = n.0; clock = n.1; dialect = written; text = text }) e = cc in
+    subst (IsNext s text) is (record { site = refl; dialect_is = refl; text_is = refl; numbers = next; room = ltb-true _ _ test })
 
 by_numbers : (s : Seen) (text : List ℕ) (e : Entry) (o : Result (ℕ × ℕ) NextError) → next_of s.site s.entries ≡ o → numbered s text o ≡ Ok e → IsNext s text e
 by_numbers s text e (Err x) next h = cc
@@ -47,7 +48,9 @@ module _ (s : Seen) (text : List ℕ) (e : Entry) (site : 1 ≤ s.site) (short :
   next_may_be_added =
       let known = next_is_known s text e next in
       let short_too : length e.text ≤ 8192 = subst (λ (t : List ℕ). length t ≤ 8192) (sym known.text_is) short in
-      subst (λ o. IsOk o) (sym (next_fits s.site s.entries e known.site known.numbers s.limit site short_too known.room)) refl
+      let low : 1 ≤ e.dialect = subst (λ (n : ℕ). 1 ≤ n) (sym known.dialect_is) (omega arith) in
+      let high : e.dialect ≤ 2 = subst (λ (n : ℕ). n ≤ 2) (sym known.dialect_is) (omega arith) in
+      subst (λ o. IsOk o) (sym (next_fits s.site s.entries e known.site known.numbers s.limit site low high short_too known.room)) refl
 
   pub next_is_last : union s.entries (e ∷ []) ≡ s.entries ++ e ∷ []
   next_is_last = let known = next_is_known s text e next in union_last s.site s.entries e known.site known.numbers
@@ -64,7 +67,7 @@ issues_entry s after text e i log longer d end live l next tells stamp is =
     record {
       entry = e;
       live = live;
-      statement = record { catalogue = d.catalogue; statement = tells.statement; defines = story_catalogue s.script s.entries (outcomes_of log) d before; read = subst (λ t. IsRead d.catalogue t tells.statement) known.text_is tells.read };
+      statement = record { catalogue = d.catalogue; statement = tells.statement; defines = story_catalogue s.script s.entries (outcomes_of log) d before; read = subst (λ k. IsRead d.catalogue k text tells.statement) known.dialect_is (subst (λ t. IsRead d.catalogue e.dialect t tells.statement) known.text_is tells.read) };
       next = next;
       stamp = stamp;
       last = is;
@@ -83,7 +86,7 @@ issues_refusal s after text os d issue_error.ClockEnd live st same h = absurd h
 issues_refusal s after text os d issue_error.Full live st same h = absurd h
 issues_refusal s after text os d issue_error.JournalWrite live st same h = absurd h
 
-pub issues_no_entry : (s : Seen) (text : List ℕ) (os : Outcomes) (d : DatabaseData) (error : IssueError) (x : TypedStatement) → s.live ≡ true → IsStory s.script s.entries os d → IsRead d.catalogue text x → length text ≤ 8192 → Numbers s text (Err error) → Issues s text (Err error) s
+pub issues_no_entry : (s : Seen) (text : List ℕ) (os : Outcomes) (d : DatabaseData) (error : IssueError) (x : TypedStatement) → s.live ≡ true → IsStory s.script s.entries os d → IsRead d.catalogue written text x → length text ≤ 8192 → Numbers s text (Err error) → Issues s text (Err error) s
 issues_no_entry s text os d issue_error.ClockEnd x live st read short h = ((live, refl), record { catalogue = d.catalogue; statement = x; defines = story_catalogue s.script s.entries os d st; read = read }, h)
 issues_no_entry s text os d issue_error.Full x live st read short h = ((live, refl), record { catalogue = d.catalogue; statement = x; defines = story_catalogue s.script s.entries os d st; read = read }, h)
 issues_no_entry s text os d issue_error.OutOfMemory x live st read short h = ((live, refl), short)

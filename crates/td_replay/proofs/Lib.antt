@@ -6,3 +6,5 @@ pub mod Taking
 pub mod Asking
 pub mod Counting
 pub mod Anew
+pub mod Copies
+pub mod Earlier

@@ -27,7 +27,7 @@ use Rattle.td_replay.specs.ForProofs.Going.{catalogue_stays, origin_of, stays_so
 listed_is_target : (s t : DatabaseData) (e : Entry) (r : Ran) → Notes s e r t → (n : ℕ) → (Contains r.targets.items n → ⊥) → (d : DeltaData) → Contains r.delta.items (n, d) → ⊥
 listed_is_target s t e r step n never d h =
     let differs = step.delta.only (n, d) h in
-    let stays = changes_targets s t e.text r.outcome n step.step (λ target. never ((step.targets.members n).1 target)) in
+    let stays = changes_targets s t e.dialect e.text r.outcome n step.step (λ target. never ((step.targets.members n).1 target)) in
     differs.apart (ok_same differs.before differs.after (sym differs.was ∙ sym stays ∙ differs.is))
   where
     ok_same : (a b : RowsData) → ◌≡◌ {A = Result RowsData Stop} (Ok a) (Ok b) → a ≡ b
@@ -82,9 +82,9 @@ module _ {A E : Type 0} (d u : DatabaseData) (after : Stored) where
   origin_is (Err x) h k = ap opened_by k.catalogue
 
 -- ---- a run
-module _ {E : Type 0} (s t : DatabaseData) (text : List ℕ) where
-  pub origin_ran : (m : Result Ran E) → IsSound s → IfOk m (λ r. Steps s text r.outcome t) → OnErr m (t ≡ s) → origin_of t ≡ origin_of s
-  origin_ran (Ok r) good h k = ap opened_by (step_keeps_database s t text r.outcome good.0 h).1
+module _ {E : Type 0} (s t : DatabaseData) (dialect : ℕ) (text : List ℕ) where
+  pub origin_ran : (m : Result Ran E) → IsSound s → IfOk m (λ r. Steps s dialect text r.outcome t) → OnErr m (t ≡ s) → origin_of t ≡ origin_of s
+  origin_ran (Ok r) good h k = ap opened_by (step_keeps_database s t dialect text r.outcome good.0 h).1
   origin_ran (Err x) good h k = ap origin_of k
 
 -- ---- what is put back
@@ -100,7 +100,7 @@ is_put_back s d u ns part there put good is same alike =
     ∙ put_back_restores s d ns good.0 there (ap (λ (z : DatabaseData). z.catalogue) same) (λ n never. (alike n never).1)
 
 -- ---- what an entry hangs on
-pub named_all : {E Z : Type 0} (c k : CatalogueData) (text t : List ℕ) (m : Result (Vec ℕ Z) E) → k ≡ c → text ≡ t → IfOk m (λ v. AreThose (IsInFootprint k text) v.items) → IfOk m (λ v. (n : ℕ) → IsInFootprint c t n → Contains v.items n)
-named_all c k text t (Ok v) same is h = λ n target.
-    (h.members n).1 (subst (λ (x : List ℕ). IsInFootprint k x n) (sym is) (subst (λ (z : CatalogueData). IsInFootprint z t n) (sym same) target))
-named_all c k text t (Err e) same is h = tt
+pub named_all : {E Z : Type 0} (c k : CatalogueData) (dialect : ℕ) (text t : List ℕ) (m : Result (Vec ℕ Z) E) → k ≡ c → text ≡ t → IfOk m (λ v. AreThose (IsInFootprint k dialect text) v.items) → IfOk m (λ v. (n : ℕ) → IsInFootprint c dialect t n → Contains v.items n)
+named_all c k dialect text t (Ok v) same is h = λ n target.
+    (h.members n).1 (subst (λ (x : List ℕ). IsInFootprint k dialect x n) (sym is) (subst (λ (z : CatalogueData). IsInFootprint z dialect t n) (sym same) target))
+named_all c k dialect text t (Err e) same is h = tt

@@ -22,45 +22,45 @@ use Rattle.td_replay.specs.ForProofs.Going.{stays_sound}
 use Rattle.td_replay.specs.ForProofs.Told.{IsLogged, Log, Outcomes, RunsNext, RunsSome, outcomes_of}
 
 -- ---- a step
-pub same_catalogue : (d e : DatabaseData) (text : List ℕ) (o : Outcome) → Steps d text o e → e.catalogue ≡ d.catalogue
-same_catalogue d e text o (unread h) = refl
-same_catalogue d e text o (raised p h) = refl
-same_catalogue d e text o (refused p h i j) = refl
-same_catalogue d e text o (done p h i) = refl
+pub same_catalogue : (d e : DatabaseData) (dialect : ℕ) (text : List ℕ) (o : Outcome) → Steps d dialect text o e → e.catalogue ≡ d.catalogue
+same_catalogue d e dialect text o (unread h) = refl
+same_catalogue d e dialect text o (raised p h) = refl
+same_catalogue d e dialect text o (refused p h i j) = refl
+same_catalogue d e dialect text o (done p h i) = refl
 
-pub undone_stays : (d e : DatabaseData) (text : List ℕ) (o : Outcome) → Steps d text o e → (o ≡ outcome.Done → ⊥) → e ≡ d
-undone_stays d e text o (unread h) other = refl
-undone_stays d e text o (raised p h) other = refl
-undone_stays d e text o (refused p h i j) other = refl
-undone_stays d e text o (done p h i) other = absurd (other refl)
+pub undone_stays : (d e : DatabaseData) (dialect : ℕ) (text : List ℕ) (o : Outcome) → Steps d dialect text o e → (o ≡ outcome.Done → ⊥) → e ≡ d
+undone_stays d e dialect text o (unread h) other = refl
+undone_stays d e dialect text o (raised p h) other = refl
+undone_stays d e dialect text o (refused p h i j) other = refl
+undone_stays d e dialect text o (done p h i) other = absurd (other refl)
 
 never_unread : (c : CatalogueData) (t : Test) (o : Option Stop) → TellsTest c t o outcome.Unread → ⊥
 never_unread c t None h = h
 never_unread c t (Some e) h = h
 
-pub unread_is : (d e : DatabaseData) (text : List ℕ) (o : Outcome) → Steps d text o e → o ≡ outcome.Unread → IsUnread d.catalogue text
-unread_is d e text o (unread h) is = h
-unread_is d e text o (raised p h) is = cc
-unread_is d e text o (refused {t = t} {o = m} p h i j) is = absurd (never_unread d.catalogue t m (subst (TellsTest d.catalogue t m) is j))
-unread_is d e text o (done p h i) is = cc
+pub unread_is : (d e : DatabaseData) (dialect : ℕ) (text : List ℕ) (o : Outcome) → Steps d dialect text o e → o ≡ outcome.Unread → IsUnread d.catalogue dialect text
+unread_is d e dialect text o (unread h) is = h
+unread_is d e dialect text o (raised p h) is = cc
+unread_is d e dialect text o (refused {t = t} {o = m} p h i j) is = absurd (never_unread d.catalogue t m (subst (TellsTest d.catalogue t m) is j))
+unread_is d e dialect text o (done p h i) is = cc
 
-pub unread_stays : (d e : DatabaseData) (text : List ℕ) (o : Outcome) → Steps d text o e → o ≡ outcome.Unread → e ≡ d
-unread_stays d e text o step is = undone_stays d e text o step (λ done. let never : outcome.Unread ≡ outcome.Done = sym is ∙ done in cc)
+pub unread_stays : (d e : DatabaseData) (dialect : ℕ) (text : List ℕ) (o : Outcome) → Steps d dialect text o e → o ≡ outcome.Unread → e ≡ d
+unread_stays d e dialect text o step is = undone_stays d e dialect text o step (λ done. let never : outcome.Unread ≡ outcome.Done = sym is ∙ done in cc)
 
-pub read_is : (d e : DatabaseData) (text : List ℕ) (o : Outcome) → Steps d text o e → (o ≡ outcome.Unread → ⊥) → (x : TypedStatement) × IsRead d.catalogue text x
-read_is d e text o (unread h) other = absurd (other refl)
-read_is d e text o (raised {x = x} p h) other = (x, p)
-read_is d e text o (refused {x = x} p h i j) other = (x, p)
-read_is d e text o (done {x = x} p h i) other = (x, p)
+pub read_is : (d e : DatabaseData) (dialect : ℕ) (text : List ℕ) (o : Outcome) → Steps d dialect text o e → (o ≡ outcome.Unread → ⊥) → (x : TypedStatement) × IsRead d.catalogue dialect text x
+read_is d e dialect text o (unread h) other = absurd (other refl)
+read_is d e dialect text o (raised {x = x} p h) other = (x, p)
+read_is d e dialect text o (refused {x = x} p h i j) other = (x, p)
+read_is d e dialect text o (done {x = x} p h i) other = (x, p)
 
 -- ---- a story
 pub story_catalogue : (script : List ℕ) (es : List Entry) (os : Outcomes) (d : DatabaseData) → IsStory script es os d → IsScriptOf script d.catalogue
 story_catalogue script es os d st =
     let P : DatabaseData → Type 0 = λ e. IsScriptOf script e.catalogue in
-    stories.kept StepsEntry P (λ s t e o step is. subst (IsScriptOf script) (sym (same_catalogue s t e.text o step)) is) st.opening d es os st.runs st.opens.script
+    stories.kept StepsEntry P (λ s t e o step is. subst (IsScriptOf script) (sym (same_catalogue s t e.dialect e.text o step)) is) st.opening d es os st.runs st.opens.script
 
 -- ---- with what is kept of each step
-outcomes_alone : (s t : DatabaseData) (es : List Entry) (log : Log) → Story Notes s es log t → Story StepsEntry s es (outcomes_of log) t
+pub outcomes_alone : (s t : DatabaseData) (es : List Entry) (log : Log) → Story Notes s es log t → Story StepsEntry s es (outcomes_of log) t
 outcomes_alone s t es log nothing_ran = nothing_ran
 outcomes_alone s t es log (next_ran {t = v} {es = fs} {os = ps} notes rest) = next_ran notes.step (outcomes_alone v t fs ps rest)
 
@@ -85,7 +85,7 @@ module _ (script : List ℕ) (es : List Entry) (log : Log) (d : DatabaseData) (l
   -- one entry more
   pub logged_more : (longer : Log) (after : DatabaseData) (e : Entry) (r : Ran) → RunsNext d log e r after longer → IsLogged script (es ++ e ∷ []) longer after
   logged_more longer after e r next =
-      told_on (es ++ e ∷ []) longer after (ap opened_by (same_catalogue d after e.text r.outcome next.notes.step))
+      told_on (es ++ e ∷ []) longer after (ap opened_by (same_catalogue d after e.dialect e.text r.outcome next.notes.step))
       (subst (λ (ps : Log). Story Notes (opened_by d.catalogue) (es ++ e ∷ []) ps after) (sym next.log_is) (stories.one_more Notes (opened_by d.catalogue) d after es log e r l.runs next.notes))
 
 pub begun : (script : List ℕ) (d : DatabaseData) → IsSound d → OpensOn script None d → IsLogged script [] [] d

@@ -4,3 +4,4 @@ pub mod Mixing
 pub mod Told
 pub mod Judged
 pub mod Asked
+pub mod Past

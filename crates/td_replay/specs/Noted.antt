@@ -16,10 +16,10 @@ use Rattle.td_story.specs.Steps.{Steps}
 
 -- the record is of the entry's step
 pub record Notes (d : DatabaseData) (e : Entry) (r : Ran) (after : DatabaseData) : Type 0 where
-  pub step : Steps d e.text r.outcome after
+  pub step : Steps d e.dialect e.text r.outcome after
   pub delta : AreDifferences (stored_relvars d.stored) (stored_relvars after.stored) r.delta.items
-  pub targets : AreThose (IsTargetOfText d.catalogue e.text) r.targets.items
-  pub footprint : AreThose (IsInFootprint d.catalogue e.text) r.footprint.items
+  pub targets : AreThose (IsTargetOfText d.catalogue e.dialect e.text) r.targets.items
+  pub footprint : AreThose (IsInFootprint d.catalogue e.dialect e.text) r.footprint.items
 
 -- a database in which every test is true
 abbrev pub IsSound : DatabaseData → Type 0
@@ -39,10 +39,10 @@ opened_by c = record { catalogue = c; stored = or_none (opening c) }
 
 -- of an entry, in stories that began with the database
 abbrev pub IsFootprintOf : DatabaseData → Entry → ℕ → Type 0
-IsFootprintOf o e n = IsInFootprint o.catalogue e.text n
+IsFootprintOf o e n = IsInFootprint o.catalogue e.dialect e.text n
 
 abbrev pub AreTargetsOf : DatabaseData → Entry → ℕ → Type 0
-AreTargetsOf o e n = IsTargetOfText o.catalogue e.text n
+AreTargetsOf o e n = IsTargetOfText o.catalogue e.dialect e.text n
 
 -- ---- databases in two parts
 -- what the one has at places of the part, and the other one has elsewhere

@@ -1,19 +1,32 @@
 //! What a database is asked.
 
+ghost use Rattle.std.specs.Prelude.{◌≡◌, ◌≤◌, ◌+◌, ℕ, List, IfOk, length};
+ghost use Rattle.td_stamps.specs.declared.entry.Entry as entry;
+ghost use Rattle.td_story.specs.Databases.{DatabaseData};
+ghost use Rattle.td_story.specs.Trees.{AreBases, IsIn};
 ghost use Rattle.td_replay.specs.ForProofs.Asked.{Answers, TellsNamed};
+ghost use Rattle.td_replay.specs.ForProofs.Past.{Says, SaysAfter, TellsQuery, Types};
+ghost use Rattle.td_replay.specs.ForProofs.Told.{IsLogged, Log};
 
-use std::alloc::Global;
-use td_eval::value;
+use crate::past::{Past, copied, undo_behind};
+use crate::told::{Told, tell_all};
+use std::alloc::{AllocError, Global};
+use td_eval::{Lookup, value};
 use td_grammar::{ReadError, read_expr};
-use td_headings::type_expr;
+use td_headings::{Catalogue, TypedExpr, reads, type_expr};
 use td_kinds::error::TypeError;
 use td_relvars::Database;
-use td_story::{Answer, AskError, Asked, Failure, MOST_BYTES, ValueError};
+use td_stamps::Entry;
+use td_story::{Answer, AskError, Asked, Failure, MOST_BYTES, Meter, ValueError};
 use td_values::Name;
 
-/// What the query means over the relvars.
-pub(crate) fn ask(alloc: Global, database: &Database, text: &str) -> Result<Asked, AskError>
-    ensures { Answers database.now text.now result }
+/// The query that the text is, typed.
+pub(crate) fn query_of(
+    alloc: Global,
+    catalogue: &Catalogue,
+    text: &str,
+) -> Result<TypedExpr, AskError>
+    ensures { TellsQuery catalogue.now text.now result }
 {
     if text.len() > MOST_BYTES {
         return Err(AskError::Syntax);
@@ -23,17 +36,87 @@ pub(crate) fn ask(alloc: Global, database: &Database, text: &str) -> Result<Aske
         Err(ReadError::Syntax) => return Err(AskError::Syntax),
         Err(ReadError::OutOfMemory) => return Err(AskError::OutOfMemory),
     };
-    let catalogue = database.catalogue();
-    let typed = match type_expr(alloc, catalogue, query.get()) {
-        Ok(typed) => typed,
-        Err(TypeError::IllTyped) => return Err(AskError::IllTyped),
-        Err(TypeError::OutOfMemory) => return Err(AskError::OutOfMemory),
-    };
-    match value(alloc, catalogue, &typed, database) {
+    match type_expr(alloc, catalogue, query.get()) {
+        Ok(typed) => Ok(typed),
+        Err(TypeError::IllTyped) => Err(AskError::IllTyped),
+        Err(TypeError::OutOfMemory) => Err(AskError::OutOfMemory),
+    }
+}
+
+// What the query means over these relvars.
+fn evaluated<L: Lookup>(
+    alloc: Global,
+    catalogue: &Catalogue,
+    query: &TypedExpr,
+    lookup: &L,
+) -> Result<Asked, AllocError>
+    requires query { IsIn catalogue.now query.now }
+    requires bases { AreBases catalogue.now (L.relvars lookup.now) }
+    ensures { IfOk result (Says catalogue.now (L.relvars lookup.now) query.now) }
+{
+    match value(alloc, catalogue, query, lookup) {
         Ok(value) => Ok(Asked::Value(value)),
         Err(Failure::Raised(raise)) => Ok(Asked::Raised(raise)),
-        Err(Failure::OutOfMemory) => Err(AskError::OutOfMemory),
+        Err(Failure::OutOfMemory) => Err(AllocError),
     }
+}
+
+/// What the query means over the relvars.
+pub(crate) fn ask(alloc: Global, database: &Database, text: &str) -> Result<Asked, AskError>
+    ensures { Answers database.now text.now result }
+{
+    let catalogue = database.catalogue();
+    let query = match query_of(alloc, catalogue, text) {
+        Ok(query) => query,
+        Err(error) => return Err(error),
+    };
+    match evaluated(alloc, catalogue, &query, database) {
+        Ok(asked) => Ok(asked),
+        Err(_) => Err(AskError::OutOfMemory),
+    }
+}
+
+/// What the query means over the relvars that the first entries leave: what they have, with what came later taken back
+/// in copies of those that the query reads. It runs nothing.
+pub(crate) fn ask_back(
+    alloc: Global,
+    told: &Told,
+    query: &TypedExpr,
+    kept: usize,
+) -> Result<Asked, AllocError>
+    requires typed { (text : List ℕ) × Types told.now.engine.catalogue text query.now }
+    requires logged { (script : List ℕ) × (es : List entry.Entry) × IsLogged script es told.now.log.items told.now.engine × (kept ≤ length es) }
+    ensures { (script : List ℕ) (es : List entry.Entry) → IsLogged script es told.now.log.items told.now.engine → kept ≤ length es → IfOk result (SaysAfter script es kept query.now) }
+{
+    let database = told.engine.database();
+    let places = reads(alloc, query)?;
+    let mut copies = copied(alloc, database, &places)?;
+    undo_behind(alloc, &mut copies, &told.log, kept)?;
+    let past = Past {
+        database,
+        copies: &copies,
+    };
+    evaluated(alloc, database.catalogue(), query, &past)
+}
+
+/// The same, by running the first entries anew.
+pub(crate) fn ask_anew(
+    alloc: Global,
+    script: &str,
+    entries: &[Entry],
+    query: &TypedExpr,
+    kept: usize,
+    meter: &mut Meter,
+) -> Result<Asked, AllocError>
+    requires kept { kept ≤ length entries.now }
+    requires typed { (log : Log) × (d : DatabaseData) × IsLogged script.now entries.now log d × (text : List ℕ) × Types d.catalogue text query.now }
+    ensures says { IfOk result (SaysAfter script.now entries.now kept query.now) }
+    ensures counted { meter.new.count ≤ meter.old.count + length entries.now }
+{
+    let (front, _) = entries.split_at(kept);
+    let told = tell_all(alloc, script, front, meter)?;
+    let database = told.engine.database();
+    evaluated(alloc, database.catalogue(), query, database)
 }
 
 /// What the relvar of this name has.

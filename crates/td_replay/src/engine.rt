@@ -107,7 +107,8 @@ impl Machine for Engine {
     ghost closed = { IsClosed };
 
     fn run(&mut self, alloc: Global, entry: &Entry, meter: &mut Meter) -> Result<Ran, AllocError> {
-        run(alloc, &mut self.database, entry.text.as_str(), meter)
+        let text = entry.text.as_str();
+        run(alloc, &mut self.database, text, entry.dialect, meter)
     }
 
     fn undo(&mut self, alloc: Global, ran: &Ran) -> Result<(), AllocError> {
@@ -119,7 +120,8 @@ impl Machine for Engine {
     }
 
     fn places_of(&self, alloc: Global, entry: &Entry) -> Result<Vec<usize>, AllocError> {
-        footprint_of(alloc, self.database.catalogue(), entry.text.as_str())
+        let text = entry.text.as_str();
+        footprint_of(alloc, self.database.catalogue(), text, entry.dialect)
     }
 
     fn tie_places(&self, alloc: Global, labels: &mut Vec<usize>) -> Result<(), AllocError> {

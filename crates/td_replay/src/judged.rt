@@ -1,11 +1,12 @@
-//! Whether a text is a statement, well typed.
+//! Whether a text that is issued is a statement, well typed.
 
 ghost use Rattle.std.specs.Prelude.{◌≤◌, length};
+ghost use Rattle.td_story.specs.Calls.{written};
 ghost use Rattle.td_story.specs.Steps.{IsUnread};
 ghost use Rattle.td_replay.specs.ForProofs.Judged.{IsRefusal, Judges};
 
 use std::alloc::Global;
-use td_grammar::{ReadError, read_statement};
+use td_grammar::{LATEST, ReadError, read_statement_in};
 use td_headings::{Catalogue, type_statement};
 use td_kinds::error::TypeError;
 use td_story::IssueError;
@@ -15,7 +16,7 @@ pub(crate) fn judge(alloc: Global, catalogue: &Catalogue, text: &str) -> Result<
     requires { length text.now ≤ 8192 }
     ensures { Judges catalogue.now text.now result }
 {
-    let statement = match read_statement(alloc, text) {
+    let statement = match read_statement_in(alloc, text, LATEST) {
         Ok(statement) => statement,
         Err(ReadError::Syntax) => return Err(IssueError::Syntax),
         Err(ReadError::OutOfMemory) => return Err(IssueError::OutOfMemory),
@@ -29,7 +30,7 @@ pub(crate) fn judge(alloc: Global, catalogue: &Catalogue, text: &str) -> Result<
 
 /// Why a text that is none is no statement of the catalogue.
 pub(crate) fn refusal(alloc: Global, catalogue: &Catalogue, text: &str) -> IssueError
-    requires unread { IsUnread catalogue.now text.now }
+    requires unread { IsUnread catalogue.now written text.now }
     requires short { length text.now ≤ 8192 }
     ensures { IsRefusal catalogue.now text.now result }
 {

@@ -5,6 +5,7 @@ mod asked;
 mod engine;
 mod judged;
 pub mod laws;
+mod past;
 mod plain;
 mod site;
 mod state;

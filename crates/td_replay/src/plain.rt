@@ -3,6 +3,7 @@
 ghost use Rattle.std.specs.Prelude.{◌≡◌, ◌≤◌, ◌+◌, Err, length, refl};
 ghost use Rattle.td_stamps.specs.Sets.{union};
 ghost use Rattle.td_story.specs.Calls.{Issues, Takes};
+ghost use Rattle.td_story.specs.Past.{AsksAt};
 ghost use Rattle.td_story.specs.Seen.{always_open};
 ghost use Rattle.td_story.specs.declared.refusal.IssueError.TheVariants as issue_error;
 ghost use Rattle.td_story.specs.declared.refusal.TakeError.TheVariants as take_error;
@@ -14,7 +15,7 @@ use std::marker::Model;
 use td_stamps::{Entry, Held, Stamp};
 use td_story::{
     Answer, AskError, Asked, IssueError, Issued, Meter, NotOpen, OpenError, Opens, Outcome,
-    Replica, TakeError, Taken, TellError, ValueError,
+    PastError, Replica, TakeError, Taken, TellError, ValueError,
 };
 use td_values::Name;
 
@@ -61,6 +62,19 @@ impl Replica for PlainSite {
 
     fn ask(&self, alloc: Global, text: &str) -> Result<Asked, AskError> {
         self.state.ask(alloc, text)
+    }
+
+    fn ask_at(
+        &self,
+        alloc: Global,
+        text: &str,
+        at: Stamp,
+        meter: &mut Meter,
+    ) -> Result<Asked, PastError>
+        ensures asks { AsksAt (always_open self.now) text.now at result }
+        ensures meter { meter.new.count ≤ meter.old.count + length self.now.entries }
+    {
+        self.state.ask_at(alloc, text, at, Way::Anew, meter)
     }
 
     fn value_of(&self, alloc: Global, name: &Name) -> Result<Answer, ValueError> {

@@ -1,30 +1,60 @@
 //! What a site keeps, and what both kinds of sites do.
 
-ghost use Rattle.std.specs.Prelude.{◌≡◌, ◌≤◌, ◌+◌, ℕ, Err, IfOk, IsOk, MatchResult, Ok, OnErr, OnOk, length, true};
+ghost use Rattle.std.specs.Prelude.{◌≡◌, ◌≤◌, ◌+◌, ℕ, Err, IfOk, IsOk, MatchOption, MatchResult, Ok, OnErr, OnOk, length, true};
 ghost use Rattle.td_stamps.specs.Sets.{union};
 ghost use Rattle.td_story.specs.Calls.{Asks, Issues, Takes, TellsOutcomes, TellsValue, entry_of};
 ghost use Rattle.td_story.specs.NewSites.{OpensSite};
+ghost use Rattle.td_story.specs.Past.{AsksAt, HasNoPlace};
 ghost use Rattle.td_story.specs.Seen.{IsSound, always_open, holding};
 ghost use Rattle.td_story.specs.declared.refusal.IssueError.TheVariants as issue_error;
 ghost use Rattle.td_story.specs.declared.refusal.TakeError.TheVariants as take_error;
 ghost use Rattle.td_replay.specs.Counted.{RunsIn};
 ghost use Rattle.td_replay.specs.declared.told.Way.TheVariants as by;
+ghost use Rattle.td_replay.specs.ForProofs.Past.{EndsWith, as_past};
 ghost use Rattle.td_replay.specs.ForProofs.Told.{Numbers};
 
 use crate::asked;
+use crate::asked::{ask_anew, ask_back, query_of};
 use crate::judged::{judge, refusal};
 use crate::told::{Told, Way, add_last, outcomes};
 use std::alloc::Global;
 use std::marker::Model;
+use td_grammar::LATEST;
 use td_stamps::{Entry, Held, NextError, PrepareError, Stamp};
 use td_story::{
-    Answer, AskError, Asked, IssueError, Issued, MOST_BYTES, Meter, OpenError, Outcome, TakeError,
-    Taken, TellError, ValueError,
+    Answer, AskError, Asked, IssueError, Issued, MOST_BYTES, Meter, OpenError, Outcome, PastError,
+    TakeError, Taken, TellError, ValueError,
 };
 use td_values::{Name, Text};
 
 /// The greatest limit of a site.
 pub const MOST_ENTRIES: usize = 100_000;
+
+// How many entries there are up to that of this stamp, which is sought from the end on.
+fn kept_to(entries: &[Entry], at: Stamp) -> Option<usize>
+    ensures { MatchOption result (HasNoPlace at entries.now) (EndsWith at entries.now) }
+{
+    let mut left = entries.len();
+    while left > 0 {
+        let kept = left;
+        left -= 1;
+        if entries[left].stamp() == at {
+            return Some(kept);
+        }
+    }
+    None
+}
+
+fn past_error(error: AskError) -> PastError
+    ensures { result ≡ as_past error }
+{
+    match error {
+        AskError::Broken => PastError::Broken,
+        AskError::Syntax => PastError::Syntax,
+        AskError::IllTyped => PastError::IllTyped,
+        AskError::OutOfMemory => PastError::OutOfMemory,
+    }
+}
 
 /// What a site keeps: what it started from, the entries that it holds, and what came of each.
 pub(crate) struct State {
@@ -106,6 +136,7 @@ impl State {
                 site: self.site,
                 seq,
                 clock,
+                dialect: LATEST,
                 text,
             }),
             Err(_) => Err(IssueError::OutOfMemory),
@@ -217,6 +248,41 @@ impl State {
         ensures { Asks (always_open self.now) text.now result }
     {
         asked::ask(alloc, self.told.engine.database(), text)
+    }
+
+    /// Just after the entry of this stamp: by what came later taken back, or by running what came before anew.
+    pub fn ask_at(
+        &self,
+        alloc: Global,
+        text: &str,
+        at: Stamp,
+        way: Way,
+        meter: &mut Meter,
+    ) -> Result<Asked, PastError>
+        ensures asks { AsksAt (always_open self.now) text.now at result }
+        ensures few { meter.new.count ≤ meter.old.count + length self.now.entries }
+        ensures nothing { way ≡ by.Replay → meter.new.count ≡ meter.old.count }
+    {
+        let told = &self.told;
+        let query = match query_of(alloc, told.engine.database().catalogue(), text) {
+            Ok(query) => query,
+            Err(error) => return Err(past_error(error)),
+        };
+        let entries = self.held.entries();
+        let Some(kept) = kept_to(entries, at) else {
+            return Err(PastError::NoPlace);
+        };
+        let asked = match way {
+            Way::Anew => {
+                let script = self.script.as_str();
+                ask_anew(alloc, script, entries, &query, kept, meter)
+            }
+            Way::Replay => ask_back(alloc, told, &query, kept),
+        };
+        match asked {
+            Ok(asked) => Ok(asked),
+            Err(_) => Err(PastError::OutOfMemory),
+        }
     }
 
     pub fn value_of(&self, alloc: Global, name: &Name) -> Result<Answer, ValueError>

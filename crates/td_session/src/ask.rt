@@ -7,7 +7,8 @@ use td_inputs::Mode;
 use td_listings::relation_table as csv_table;
 use td_places::Reading;
 use td_relations::Relation;
-use td_story::{AskError, Asked, MOST_BYTES, Replica};
+use td_stamps::Stamp;
+use td_story::{AskError, Asked, MOST_BYTES, Meter, PastError, Replica};
 use td_tables::relation_table;
 use td_values::{Kind, Rows, Value, show};
 
@@ -65,6 +66,32 @@ fn shown(alloc: Global, value: Value, mode: Mode) -> Result<String, AllocError> 
     }
 }
 
+fn not_asked_at(alloc: Global, text: &str, error: PastError) -> Result<String, AllocError> {
+    match error {
+        PastError::Broken => not_asked(alloc, text, AskError::Broken),
+        PastError::Syntax => not_asked(alloc, text, AskError::Syntax),
+        PastError::IllTyped => not_asked(alloc, text, AskError::IllTyped),
+        PastError::NoPlace => {
+            String::from_str(
+                alloc,
+                "fault place: this site holds no statement of that stamp\n",
+            )
+        }
+        PastError::OutOfMemory => not_asked(alloc, text, AskError::OutOfMemory),
+    }
+}
+
+fn answer(alloc: Global, asked: Asked, mode: Mode) -> Result<String, AllocError> {
+    match asked {
+        Asked::Value(value) => shown(alloc, value, mode),
+        Asked::Raised(raise) => {
+            let mut out = String::from_str(alloc, raise_words(raise))?;
+            out.push_str("\n")?;
+            Ok(out)
+        }
+    }
+}
+
 /// Asks a query and shows its value.
 pub fn ask<R: Replica>(
     alloc: Global,
@@ -73,12 +100,22 @@ pub fn ask<R: Replica>(
     mode: Mode,
 ) -> Result<String, AllocError> {
     match site.ask(alloc, text) {
-        Ok(Asked::Value(value)) => shown(alloc, value, mode),
-        Ok(Asked::Raised(raise)) => {
-            let mut out = String::from_str(alloc, raise_words(raise))?;
-            out.push_str("\n")?;
-            Ok(out)
-        }
+        Ok(asked) => answer(alloc, asked, mode),
         Err(error) => not_asked(alloc, text, error),
+    }
+}
+
+/// Asks a query as it was just after the statement of the stamp, by what the site holds now.
+pub fn ask_at<R: Replica>(
+    alloc: Global,
+    site: &R,
+    text: &str,
+    at: Stamp,
+    mode: Mode,
+    meter: &mut Meter,
+) -> Result<String, AllocError> {
+    match site.ask_at(alloc, text, at, meter) {
+        Ok(asked) => answer(alloc, asked, mode),
+        Err(error) => not_asked_at(alloc, text, error),
     }
 }

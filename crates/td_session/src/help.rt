@@ -3,14 +3,15 @@
 /// What can be typed.
 pub const HELP: &str = "\
 A text that ends in ; is a statement, and else a query. It may go on over lines:
-a statement up to the line that ends in ;, a query until its brackets are closed.
-An empty line ends it too.
+a statement up to the line that ends in ;, a query until its brackets are closed,
+and what begins with IF until each IF has its END IF. An empty line ends it too.
 
   .tables            the relvars: how many tuples, kind, heading
   .schema [NAME]     the definitions, or that of a name
   .listing           each relvar with its tuples, and the refused statements
   .log               each statement with what became of it
   .vector            up to which number each site's statements are here
+  .at CLOCK.SITE Q   asks a query as it was just after that statement
   .import FILE R     inserts the rows of a CSV file, whose first line names the columns
   .read FILE         reads lines from a file as if they were typed
   .dump FILE         writes a script that makes this site's tables again

@@ -1,6 +1,6 @@
 //! The conversation at one site.
 
-use crate::ask::ask;
+use crate::ask::{ask, ask_at};
 use crate::dump::dump;
 use crate::ended::Ended;
 use crate::help::HELP;
@@ -21,6 +21,7 @@ use td_devices::{Sink, Source, put};
 use td_headings::Catalogue;
 use td_inputs::{Command, Mode, Scan, Standing, command_of};
 use td_listings::{ListingError, listing};
+use td_stamps::Stamp;
 use td_story::{MOST_BYTES, Meter, Replica};
 
 /// A site and what a conversation at it needs.
@@ -207,6 +208,10 @@ impl<'a, R: Replica + Drop, H: Files + Clock + AllocGlobal, L: Links> Shell<'a, 
                 faults,
             ),
             Command::Call(address) => call(alloc, &mut self.site, self.links, address, self.meter),
+            Command::At { clock, site, query } => {
+                let at = Stamp { clock, site };
+                ask_at(alloc, &self.site, query, at, self.mode, self.meter)
+            }
             Command::Misused(usage) => format!(in alloc;
                 "fault command: it is written so: {usage}\n"
             ),

@@ -18,7 +18,7 @@ pub opens_legal : (script : List ℕ) (d : DatabaseData) → OpensOn script None
 opens_legal script d opens = all_pass d.catalogue (stored_relvars d.stored) d.catalogue.tests opens.first
 
 runs_legal : (d e : DatabaseData) (es : List Entry) (os : List (Stamp × Outcome)) → Story StepsEntry d es os e → IsLegal d → IsLegal e
-runs_legal d e es os runs legal = stories.kept StepsEntry IsLegal (λ s t x o step first. step_is_legal s t x.text o step first) d e es os runs legal
+runs_legal d e es os runs legal = stories.kept StepsEntry IsLegal (λ s t x o step first. step_is_legal s t x.dialect x.text o step first) d e es os runs legal
 
 pub ends_legal : (script : List ℕ) (es : List Entry) (os : List (Stamp × Outcome)) (d : DatabaseData) → IsStory script es os d → IsLegal d
 ends_legal script es os d st = runs_legal st.opening d es os st.runs (opens_legal script st.opening st.opens)
@@ -31,7 +31,7 @@ story_is_legal script es os d st n =
 pub story_is_one : StoryIsOne
 story_is_one script es os ps d e st tt' =
     let same = one_opening script None None tt'.opening st.opening tt'.opens st.opens in
-    stories.one_story StepsEntry (λ s t u x o p first second. one_step s x.text t u o p first second) st.opening d e es os ps st.runs (subst (λ z. Story StepsEntry z es ps e) same.0 tt'.runs)
+    stories.one_story StepsEntry (λ s t u x o p first second. one_step s x.dialect x.text t u o p first second) st.opening d e es os ps st.runs (subst (λ z. Story StepsEntry z es ps e) same.0 tt'.runs)
 
 pub sites_agree : SitesAgree
 sites_agree s t same os ps d e told asked =

@@ -28,8 +28,8 @@ all_pass c r (u ∷ ts) h t there =
     let now = passed u (judgement c r u) (failing c r ts) h in
     head_or_tail u ts t there (λ same. subst (λ v. judgement c r v ≡ Ok true) same now.0) (all_pass c r ts now.1 t)
 
-pub step_is_legal : (d e : DatabaseData) (text : List ℕ) (o : Outcome) → Steps d text o e → AreLegal d.catalogue (stored_relvars d.stored) → AreLegal e.catalogue (stored_relvars e.stored)
-step_is_legal d e text o (unread h) legal = legal
-step_is_legal d e text o (raised p h) legal = legal
-step_is_legal d e text o (refused p h i j) legal = legal
-step_is_legal d e text o (done p h i) legal = all_pass e.catalogue (stored_relvars e.stored) e.catalogue.tests i
+pub step_is_legal : (d e : DatabaseData) (dialect : ℕ) (text : List ℕ) (o : Outcome) → Steps d dialect text o e → AreLegal d.catalogue (stored_relvars d.stored) → AreLegal e.catalogue (stored_relvars e.stored)
+step_is_legal d e k text o (unread h) legal = legal
+step_is_legal d e k text o (raised p h) legal = legal
+step_is_legal d e k text o (refused p h i j) legal = legal
+step_is_legal d e k text o (done p h i) legal = all_pass e.catalogue (stored_relvars e.stored) e.catalogue.tests i

@@ -1,10 +1,12 @@
 -- A text has one outcome, and leaves one database.
-use Rattle.std.proofs.Common.{◌≡◌, ℕ, List, [], ◌∷◌, Option, Some, None, Result, Ok, Err, refl, ap, sym, ◌∙◌, subst}
+use Rattle.std.proofs.Common.{◌≡◌, ℕ, Bool, true, false, List, [], ◌∷◌, Option, Some, None, Result, Ok, Err, refl, ap, sym, ◌∙◌, subst}
 use Rattle.td_values.specs.Data.{no_attrs}
 use Rattle.td_values.specs.declared.raises.Raise.{Raise}
 use Rattle.td_values.specs.declared.raises.Raise.TheVariants as raise
 use Rattle.td_syntax.specs.declared.script.Action.{Action}
 use Rattle.td_syntax.specs.declared.script.Statement.{Statement}
+use Rattle.td_syntax.specs.declared.script.Statement.TheVariants as statement
+use Rattle.td_syntax.specs.declared.tree.Expr.{Expr}
 use Rattle.td_grammar.specs.Statements as grammar
 use Rattle.td_grammar.proofs.OneStatement.{reader_decides_statements}
 use Rattle.td_typing.specs.Trees.{typing}
@@ -12,18 +14,18 @@ use Rattle.td_typing.proofs.Complete.{complete}
 use Rattle.td_algebra.specs.Raising.{and_then}
 use Rattle.td_algebra.specs.declared.errors.Stop.{Stop}
 use Rattle.td_headings.specs.Catalogues.{CatalogueData}
-use Rattle.td_headings.specs.Statements.{IsAssignment, AreAssignments, no_assignments, next_assignment, actions_of, assignments_of}
+use Rattle.td_headings.specs.Statements.{IsAssignment, IsCondition, AreAssignments, no_assignments, next_assignment, TypesStatement, types_assignment, types_conditional}
 use Rattle.td_headings.specs.declared.defined.Test.{Test}
 use Rattle.td_headings.specs.declared.statement.TypedAssignment.{TypedAssignment}
 use Rattle.td_headings.specs.declared.statement.TypedStatement.{TypedStatement}
 use Rattle.td_meaning.specs.Mean.{Relvars}
-use Rattle.td_operators.specs.Values.{rows_of}
+use Rattle.td_operators.specs.Values.{rows_of, truth_of}
+use Rattle.td_trees.specs.declared.expression.Expression.{Expression}
 use Rattle.td_story.specs.Raises.{stop_of}
 use Rattle.td_story.specs.Trees.{tree_means}
-use Rattle.td_story.specs.Tests.{failing}
 use Rattle.td_story.specs.Databases.{DatabaseData, stored_relvars}
 use Rattle.td_story.specs.Given.{Given, gives, nothing_given, seen}
-use Rattle.td_story.specs.Sources.{sources}
+use Rattle.td_story.specs.Sources.{given_over, made_where, sources}
 use Rattle.td_story.specs.Steps.{IsRead, Steps, unread, raised, refused, done, TellsTest, failing_with, given_by, with_all}
 use Rattle.td_story.specs.declared.outcome.Outcome.{Outcome}
 use Rattle.td_story.specs.declared.outcome.Outcome.TheVariants as outcome
@@ -63,8 +65,8 @@ one_raise : (e f : Raise) → stop_of e ≡ stop_of f → e ≡ f
 one_raise e f h = sym (and_back e) ∙ ap back h ∙ and_back f
 
 -- ---- a text is one statement
-pub one_text : (text : List ℕ) (s t : Statement) → grammar.IsStatement text s → grammar.IsStatement text t → s ≡ t
-one_text text s t p q = some_same s t (sym ((reader_decides_statements text s).1 p) ∙ (reader_decides_statements text t).1 q)
+pub one_text : (dialect : ℕ) (text : List ℕ) (s t : Statement) → grammar.IsStatementIn dialect text s → grammar.IsStatementIn dialect text t → s ≡ t
+one_text dialect text s t p q = some_same s t (sym ((reader_decides_statements text s).1 p.reads) ∙ (reader_decides_statements text t).1 q.reads)
 
 module _ (c : CatalogueData) (r : Relvars) where
   one_target : (a : Action) (x y : TypedAssignment) → IsAssignment c a x → IsAssignment c a y → x.target ≡ y.target
@@ -83,10 +85,27 @@ module _ (c : CatalogueData) (r : Relvars) where
   one_meaning (a ∷ as') (x ∷ xs) (y ∷ ys) (next_assignment p ps) (next_assignment q qs) cs =
       λ i. and_then (and_then (tree_means c (seen cs (one_target a x y p q i) r) (one_tree a x y p q i) no_attrs) rows_of) (λ v. one_meaning as' xs ys ps qs (gives (one_target a x y p q i) v cs) i)
 
-  one_reading : (text : List ℕ) (x y : TypedStatement) → IsRead c text x → IsRead c text y → sources c r nothing_given (assignments_of x) ≡ sources c r nothing_given (assignments_of y)
-  one_reading text x y p q =
-      one_meaning (actions_of p.statement) (assignments_of x) (assignments_of y) p.types
-      (subst (λ s. AreAssignments c (actions_of s) (assignments_of y)) (one_text text q.statement p.statement q.reads p.reads) q.types) nothing_given
+  -- whose condition is one
+  one_condition : (a : Expr) (u v : Expression) → IsCondition c a u → IsCondition c a v → u.tree ≡ v.tree
+  one_condition a u v p q = ap (λ z. z.tree) (some_same (typing u.tree u.kind) (typing v.tree v.kind) (sym (complete c.schema p.expression.types) ∙ complete c.schema q.expression.types))
+
+  by_truth : (m : Result Bool Stop) (xs ys zs ws : List TypedAssignment)
+      → sources c r nothing_given xs ≡ sources c r nothing_given zs
+      → sources c r nothing_given ys ≡ sources c r nothing_given ws
+      → and_then (and_then m (made_where xs ys)) (sources c r nothing_given) ≡ and_then (and_then m (made_where zs ws)) (sources c r nothing_given)
+  by_truth (Ok true) xs ys zs ws h k = h
+  by_truth (Ok false) xs ys zs ws h k = k
+  by_truth (Err e) xs ys zs ws h k = refl
+
+  one_choice : (s : Statement) (x y : TypedStatement) → TypesStatement c s x → TypesStatement c s y → given_over c r x ≡ given_over c r y
+  one_choice (statement.Assignment as') x y (types_assignment {xs = xs} p) (types_assignment {xs = ys} q) = one_meaning as' xs ys p q nothing_given
+  one_choice (statement.Conditional a as' bs) x y (types_conditional {u = u} {xs = xs} {ys = ys} i p q) (types_conditional {u = v} {xs = zs} {ys = ws} j k l) =
+      (λ n. and_then (and_then (and_then (tree_means c r (one_condition a u v i j n) no_attrs) truth_of) (made_where xs ys)) (sources c r nothing_given))
+      ∙ by_truth (and_then (tree_means c r v.tree no_attrs) truth_of) xs ys zs ws (one_meaning as' xs zs p k nothing_given) (one_meaning bs ys ws q l nothing_given)
+
+  one_reading : (dialect : ℕ) (text : List ℕ) (x y : TypedStatement) → IsRead c dialect text x → IsRead c dialect text y → given_over c r x ≡ given_over c r y
+  one_reading dialect text x y p q =
+      one_choice p.statement x y p.types (subst (λ s. TypesStatement c s y) (one_text dialect text q.statement p.statement q.reads p.reads) q.types)
 
 -- ---- a test is told in one way
 one_telling : (c : CatalogueData) (t : Test) (o : Option Stop) (p q : Outcome) → TellsTest c t o p → TellsTest c t o q → p ≡ q
@@ -114,14 +133,14 @@ one_telling c t (Some e) (outcome.BreaksKey m) q h k = absurd h
 one_telling c t (Some e) (outcome.BreaksConstraint m) q h k = absurd h
 
 -- ---- a step ends in one way
-module _ (d : DatabaseData) (text : List ℕ) where
-  same_given : (x y : TypedStatement) → IsRead d.catalogue text x → IsRead d.catalogue text y → given_by d x ≡ given_by d y
-  same_given x y p q = one_reading d.catalogue (stored_relvars d.stored) text x y p q
+module _ (d : DatabaseData) (dialect : ℕ) (text : List ℕ) where
+  same_given : (x y : TypedStatement) → IsRead d.catalogue dialect text x → IsRead d.catalogue dialect text y → given_by d x ≡ given_by d y
+  same_given x y p q = one_reading d.catalogue (stored_relvars d.stored) dialect text x y p q
 
-  same_changes : (x y : TypedStatement) (cs ds : Given) → IsRead d.catalogue text x → IsRead d.catalogue text y → given_by d x ≡ Ok cs → given_by d y ≡ Ok ds → cs ≡ ds
+  same_changes : (x y : TypedStatement) (cs ds : Given) → IsRead d.catalogue dialect text x → IsRead d.catalogue dialect text y → given_by d x ≡ Ok cs → given_by d y ≡ Ok ds → cs ≡ ds
   same_changes x y cs ds p q h k = ok_same cs ds (sym h ∙ same_given x y p q ∙ k)
 
-  differ : {P : Type 0} (x y : TypedStatement) (cs : Given) (e : Stop) → IsRead d.catalogue text x → IsRead d.catalogue text y → given_by d x ≡ Ok cs → given_by d y ≡ Err e → P
+  differ : {P : Type 0} (x y : TypedStatement) (cs : Given) (e : Stop) → IsRead d.catalogue dialect text x → IsRead d.catalogue dialect text y → given_by d x ≡ Ok cs → given_by d y ≡ Err e → P
   differ x y cs e p q h k = ok_err cs e (sym h ∙ same_given x y p q ∙ k)
 
   abbrev IsOne : Outcome → DatabaseData → Outcome → DatabaseData → Type 0
@@ -132,7 +151,7 @@ module _ (d : DatabaseData) (text : List ℕ) where
       let one = some_same (t, o) (u, q) (sym h ∙ ap (failing_with d) same ∙ k) in
       one_telling d.catalogue t o a b told (subst (λ (z : Test × Option Stop). TellsTest d.catalogue z.0 z.1 b) (sym one) asked)
 
-  pub one_step : (e f : DatabaseData) (a b : Outcome) → Steps d text a e → Steps d text b f → IsOne a e b f
+  pub one_step : (e f : DatabaseData) (a b : Outcome) → Steps d dialect text a e → Steps d dialect text b f → IsOne a e b f
   one_step e f a b (unread h) (unread k) = (refl, refl)
   one_step e f a b (unread h) (raised {x = y} q k) = absurd (h y q)
   one_step e f a b (unread h) (refused {x = y} q k l m) = absurd (h y q)

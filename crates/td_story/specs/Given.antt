@@ -1,5 +1,5 @@
 -- What a statement gives to its targets.
-use Rattle.std.specs.Prelude.{ℕ, zero, suc, ◌==◌, if◌then◌else◌, List, [], ◌∷◌, Option, None, Some, Result, Ok}
+use Rattle.std.specs.Prelude.{ℕ, zero, suc, ◌==◌, if◌then◌else◌, [], ◌∷◌, Option, None, Some, Result, Ok}
 use Rattle.td_values.specs.Rows.{RowsData}
 use Rattle.td_algebra.specs.declared.errors.Stop.{Stop}
 use Rattle.td_meaning.specs.Mean.{Relvars}

@@ -33,11 +33,11 @@ OpensOrWants = (text : List ℕ) (d : DatabaseData) (e : ScriptError) → OpensO
 
 -- every test is true after a statement where every one was true before
 abbrev pub StepIsLegal : Type 0
-StepIsLegal = (d e : DatabaseData) (text : List ℕ) (o : Outcome) → Steps d text o e → IsLegal d → IsLegal e
+StepIsLegal = (d e : DatabaseData) (dialect : ℕ) (text : List ℕ) (o : Outcome) → Steps d dialect text o e → IsLegal d → IsLegal e
 
 -- a text has one outcome, and leaves one database
 abbrev pub StepIsUnique : Type 0
-StepIsUnique = (d e f : DatabaseData) (text : List ℕ) (o p : Outcome) → Steps d text o e → Steps d text p f → (o ≡ p) × (e ≡ f)
+StepIsUnique = (d e f : DatabaseData) (dialect : ℕ) (text : List ℕ) (o p : Outcome) → Steps d dialect text o e → Steps d dialect text p f → (o ≡ p) × (e ≡ f)
 
 -- ---- stories and sites
 

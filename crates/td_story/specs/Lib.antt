@@ -18,5 +18,6 @@ pub mod Counts
 pub mod Stories
 pub mod Seen
 pub mod Calls
+pub mod Past
 pub mod NewSites
 pub mod Laws

@@ -13,19 +13,19 @@ use Rattle.td_story.specs.Reports.{title}
 use Rattle.td_story.specs.Tests.{failing}
 use Rattle.td_story.specs.declared.broken.BrokenTest.TheVariants as broken
 use Rattle.td_story.specs.Databases.{DatabaseData, stored_relvars}
-use Rattle.td_story.specs.Given.{Given, nothing_given, with_given}
-use Rattle.td_story.specs.Sources.{sources}
+use Rattle.td_story.specs.Given.{Given, with_given}
+use Rattle.td_story.specs.Sources.{given_over}
 use Rattle.td_story.specs.declared.outcome.Outcome.{Outcome}
 use Rattle.td_story.specs.declared.outcome.Outcome.TheVariants.{Done, Unread, Raised, BreaksKey, BreaksConstraint}
 
--- the text is the statement, of this typed form
-pub record IsRead (c : CatalogueData) (text : List ℕ) (x : TypedStatement) : Type 0 where
+-- in this dialect the text is the statement, of this typed form
+pub record IsRead (c : CatalogueData) (dialect : ℕ) (text : List ℕ) (x : TypedStatement) : Type 0 where
   pub statement : Statement
-  pub reads : grammar.IsStatement text statement
+  pub reads : grammar.IsStatementIn dialect text statement
   pub types : typed.TypesStatement c statement x
 
-abbrev pub IsUnread : CatalogueData → List ℕ → Type 0
-IsUnread c text = (x : TypedStatement) → IsRead c text x → ⊥
+abbrev pub IsUnread : CatalogueData → ℕ → List ℕ → Type 0
+IsUnread c dialect text = (x : TypedStatement) → IsRead c dialect text x → ⊥
 
 -- the database with what its targets are given
 abbrev pub with_all : DatabaseData → Given → DatabaseData
@@ -33,7 +33,7 @@ with_all d g = record { catalogue = d.catalogue; stored = with_given g d.stored 
 
 -- what the statement gives to its targets over these relvars
 abbrev pub given_by : DatabaseData → TypedStatement → Result Given Stop
-given_by d x = sources d.catalogue (stored_relvars d.stored) nothing_given (typed.assignments_of x)
+given_by d x = given_over d.catalogue (stored_relvars d.stored) x
 
 -- the first test that is false or raises with all targets replaced
 abbrev pub failing_with : DatabaseData → Given → Option (Test × Option Stop)
@@ -46,25 +46,25 @@ TellsTest c t None (BreaksConstraint n) = title c t ≡ broken.Constraint n
 TellsTest c t (Some e) (Raised r) = e ≡ stop_of r
 TellsTest c t o outcome = ⊥
 
--- A text that has no reading or no typing is unread. Else its sources are evaluated; where one raises, that error
--- stands. Else, with all targets replaced, the first test that is false or raises decides. Only where none does, the
--- database changes.
-pub data Steps (d : DatabaseData) (text : List ℕ) : Outcome → DatabaseData → Type 0 where
+-- A text that in its dialect has no reading or no typing is unread. Else its condition, if it has one, decides which
+-- assignments it makes, and their sources are evaluated; where one of these raises, that error stands. Else, with all
+-- targets replaced, the first test that is false or raises decides. Only where none does, the database changes.
+pub data Steps (d : DatabaseData) (dialect : ℕ) (text : List ℕ) : Outcome → DatabaseData → Type 0 where
   unread :
-      IsUnread d.catalogue text
-      → Steps d text Unread d
+      IsUnread d.catalogue dialect text
+      → Steps d dialect text Unread d
   raised : {x : TypedStatement} {e : Raise}
-      → IsRead d.catalogue text x
+      → IsRead d.catalogue dialect text x
       → given_by d x ≡ Err (stop_of e)
-      → Steps d text (Raised e) d
+      → Steps d dialect text (Raised e) d
   refused : {x : TypedStatement} {g : Given} {t : Test} {o : Option Stop} {outcome : Outcome}
-      → IsRead d.catalogue text x
+      → IsRead d.catalogue dialect text x
       → given_by d x ≡ Ok g
       → failing_with d g ≡ Some (t, o)
       → TellsTest d.catalogue t o outcome
-      → Steps d text outcome d
+      → Steps d dialect text outcome d
   done : {x : TypedStatement} {g : Given}
-      → IsRead d.catalogue text x
+      → IsRead d.catalogue dialect text x
       → given_by d x ≡ Ok g
       → failing_with d g ≡ None
-      → Steps d text Done (with_all d g)
+      → Steps d dialect text Done (with_all d g)

@@ -8,9 +8,9 @@ use Rattle.td_story.specs.Scripts.{OpensOn}
 use Rattle.td_story.specs.Steps.{Steps}
 use Rattle.td_story.specs.declared.outcome.Outcome.{Outcome}
 
--- an entry's step is that of its text
+-- an entry's step is that of its text, in its dialect
 abbrev pub StepsEntry : DatabaseData → Entry → Outcome → DatabaseData → Type 0
-StepsEntry d e o after = Steps d e.text o after
+StepsEntry d e o after = Steps d e.dialect e.text o after
 
 -- these outcomes, with their stamps, and this database after all
 pub record IsStory (script : List ℕ) (es : List Entry) (os : List (Stamp × Outcome)) (d : DatabaseData) : Type 0 where

@@ -20,5 +20,7 @@ pub use error::{CatalogueError, RelvarError, ScriptError};
 pub use failure::Failure;
 pub use meter::Meter;
 pub use outcome::Outcome;
-pub use refusal::{AskError, IssueError, NotOpen, OpenError, TakeError, TellError, ValueError};
+pub use refusal::{
+    AskError, IssueError, NotOpen, OpenError, PastError, TakeError, TellError, ValueError,
+};
 pub use replica::{MOST_BYTES, Opens, Replica};

@@ -63,6 +63,21 @@ pub enum AskError {
     OutOfMemory,
 }
 
+/// Why a query is not answered at a past place.
+#[derive(Clone, Copy, Debug, Drop, PartialEq, Eq, Error)]
+pub enum PastError {
+    #[error("the site's journal failed")]
+    Broken,
+    #[error("the text is no query")]
+    Syntax,
+    #[error("the query is ill typed")]
+    IllTyped,
+    #[error("no entry has this stamp")]
+    NoPlace,
+    #[error("out of memory")]
+    OutOfMemory,
+}
+
 /// Why a relvar is not told.
 #[derive(Clone, Copy, Debug, Drop, PartialEq, Eq, Error)]
 pub enum ValueError {

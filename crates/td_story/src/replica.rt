@@ -3,6 +3,7 @@
 ghost use Rattle.std.specs.Prelude.{◌≡◌, Err, MatchResult, Ok, false, true};
 ghost use Rattle.td_story.specs.Calls.{Asks, Issues, Takes, TellsOutcomes, TellsValue};
 ghost use Rattle.td_story.specs.NewSites.{OpensSite};
+ghost use Rattle.td_story.specs.Past.{AsksAt};
 ghost use Rattle.td_story.specs.Seen.{IsSound, Seen, holding};
 ghost use Rattle.td_story.specs.declared.refusal.IssueError.TheVariants as issue_error;
 ghost use Rattle.td_story.specs.declared.refusal.TakeError.TheVariants as take_error;
@@ -10,7 +11,9 @@ ghost use Rattle.td_story.specs.declared.refusal.TakeError.TheVariants as take_e
 use crate::answer::{Answer, Asked, Issued, Taken};
 use crate::meter::Meter;
 use crate::outcome::Outcome;
-use crate::refusal::{AskError, IssueError, NotOpen, OpenError, TakeError, TellError, ValueError};
+use crate::refusal::{
+    AskError, IssueError, NotOpen, OpenError, PastError, TakeError, TellError, ValueError,
+};
 use std::alloc::Global;
 use td_stamps::{Entry, Held, Stamp};
 use td_values::Name;
@@ -43,6 +46,17 @@ pub trait Replica {
     /// What a query means over the relvars.
     fn ask(&self, alloc: Global, text: &str) -> Result<Asked, AskError>
         ensures { Asks (seen self.now) text.now result };
+
+    /// What a query means over the relvars as they were just after the entry of this stamp, by what is held now:
+    /// entries that come later may change it.
+    fn ask_at(
+        &self,
+        alloc: Global,
+        text: &str,
+        at: Stamp,
+        meter: &mut Meter,
+    ) -> Result<Asked, PastError>
+        ensures asks { AsksAt (seen self.now) text.now at result };
 
     /// What the relvar of this name has, or the error that evaluating it raises.
     fn value_of(&self, alloc: Global, name: &Name) -> Result<Answer, ValueError>

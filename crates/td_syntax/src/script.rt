@@ -19,6 +19,9 @@ pub enum Action {
 pub enum Statement {
     /// A multiple assignment: all its targets change at once.
     Assignment(Items<Action>),
+    /// A condition, the assignments that are made at once where it is true, and those where it is false: none, where
+    /// none are written.
+    Conditional(Boxed<Expr>, Items<Action>, Items<Action>),
 }
 
 /// What a base relvar holds at first: nothing, under its heading, or the value of an expression, whose heading may be

@@ -160,12 +160,13 @@ or_turned false false = refl
 abbrev Follows : Sets → Type 0
 Follows w = (evs : List Event) × (u : World) × Reached evs u × Mirrors w u
 
-after_issue : (w : Sets) (site : ℕ) (text : List ℕ) (n : ℕ × ℕ) → next_of site (w.held site) ≡ Ok n → length text ≤ 8192 → Follows w → Follows (with_one w site (w.held site ++ entry_of site n text ∷ []))
-after_issue w site text n next short (evs, u, reached, mirrors) =
-    let e = entry_of site n text in (
-      issue site text ∷ evs,
+after_issue : (w : Sets) (site dialect : ℕ) (text : List ℕ) (n : ℕ × ℕ) → next_of site (w.held site) ≡ Ok n → 1 ≤ dialect → dialect ≤ 2 → length text ≤ 8192 → Follows w
+    → Follows (with_one w site (w.held site ++ entry_of site n dialect text ∷ []))
+after_issue w site dialect text n next low high short (evs, u, reached, mirrors) =
+    let e = entry_of site n dialect text in (
+      issue site dialect text ∷ evs,
       with_issued u site e,
-      (u, reached, (n, sym (same_next site (w.held site) (u.held site) (mirrors.held site)) ∙ next, short, refl)),
+      (u, reached, (n, sym (same_next site (w.held site) (u.held site) (mirrors.held site)) ∙ next, low, high, short, refl)),
       record {
         held = both_changed w.held u.held site (w.held site ++ e ∷ []) (e ∷ u.held site) mirrors.held (behind (w.held site) (u.held site) e (mirrors.held site));
         sent = mirrors.sent;
@@ -232,7 +233,7 @@ after_coming w site es set part keeps (evs, u, reached, mirrors) = (
 -- ---- all calls
 
 after_call : (w : Sets) (c : Call) (v : Sets) → Does w c v → Follows w → Follows v
-after_call w (issues site text) v (n, next, short, is) follows = subst Follows (sym is) (after_issue w site text n next short follows)
+after_call w (issues site dialect text) v (n, next, low, high, short, is) follows = subst Follows (sym is) (after_issue w site dialect text n next low high short follows)
 after_call w (sends site es) v (holds, is) follows = subst Follows (sym is) (after_send w site es holds follows)
 after_call w (takes site es) v (sent, is) follows = subst Follows (sym is) (after_take w site es sent follows)
 after_call w (comes_back site es) v (set, part, keeps, is) follows = subst Follows (sym is) (after_coming w site es set part keeps follows)

@@ -185,8 +185,8 @@ issued_entry w s e sound own_site next = record {
 -- ---- every world
 
 after_event : NextComesLast → (w : World) (ev : Event) (v : World) → IsSound w → Happens w ev v → IsSound v
-after_event law w (issue s text) v sound (n, numbers, short, is) =
-    subst IsSound (sym is) (issued_entry w s (entry_of s n text) sound refl (law s (w.held s) (entry_of s n text) refl numbers).1)
+after_event law w (issue s dialect text) v sound (n, numbers, low, high, short, is) =
+    let e = entry_of s n dialect text in subst IsSound (sym is) (issued_entry w s e sound refl (law s (w.held s) e refl numbers).1)
 after_event law w (send s e) v sound (h, is) = subst IsSound (sym is) (sent_entry w s e sound h)
 after_event law w (deliver s e) v sound (h, is) = subst IsSound (sym is) (delivered w s e sound h)
 after_event law w (reopen s es) v sound (part, keeps, is) = subst IsSound (sym is) (reopened w s es sound part keeps)
@@ -210,8 +210,8 @@ none_clash w sound e f known_e known_f = elim (cases (eqb e.site f.site)) [
 
 pub issued_held : (evs : List Event) (w : World) → Reached evs w → NoneReopens evs → (x : Entry) → has w.issued x ≡ true → has (w.held x.site) x ≡ true
 issued_held [] w is none x h = absurd (false≢true (ap (λ (v : World). has v.issued x) (sym is) ∙ h))
-issued_held (issue s text ∷ evs) w (before, reached, (n, numbers, short, is)) none x h =
-    let e = entry_of s n text in
+issued_held (issue s dialect text ∷ evs) w (before, reached, (n, numbers, low, high, short, is)) none x h =
+    let e = entry_of s n dialect text in
     let P : World → Type 0 = λ v. has v.issued x ≡ true → has (v.held x.site) x ≡ true in
     let kept : P (with_issued before s e) = λ hx. elim (member e before.issued x hx) [
       | inl new ↦

@@ -14,9 +14,9 @@ pub record Sets : Type 0 where
 abbrev pub no_sets : Sets
 no_sets = record { held = λ site. []; sent = [] }
 
--- a site issues a text; it writes frames of these entries; it takes these as one batch; it comes back with these
+-- a site issues a text of a dialect; it writes frames of these entries; it takes these as one batch; it comes back with these
 pub data Call : Type 0 where
-  issues : ℕ → List ℕ → Call
+  issues : ℕ → ℕ → List ℕ → Call
   sends : ℕ → List Entry → Call
   takes : ℕ → List Entry → Call
   comes_back : ℕ → List Entry → Call
@@ -42,8 +42,9 @@ KeepsSent w site es = (e : Entry) → e.site ≡ site → has w.sent e ≡ true 
 -- what one call makes of the sets: an entry with the next numbers of a set comes last in it, and a batch of what was
 -- sent is joined to it
 abbrev pub Does : Sets → Call → Sets → Type 0
-Does w (issues site text) v =
-    (n : ℕ × ℕ) × (next_of site (w.held site) ≡ Ok n) × (length text ≤ 8192) × (v ≡ with_one w site (w.held site ++ entry_of site n text ∷ []))
+Does w (issues site dialect text) v =
+    (n : ℕ × ℕ) × (next_of site (w.held site) ≡ Ok n) × (1 ≤ dialect) × (dialect ≤ 2) × (length text ≤ 8192)
+    × (v ≡ with_one w site (w.held site ++ entry_of site n dialect text ∷ []))
 Does w (sends site es) v = AllHeld w site es × (v ≡ with_all_sent w es)
 Does w (takes site es) v = AllSent w es × (v ≡ with_one w site (union (w.held site) es))
 Does w (comes_back site es) v = (is_set es ≡ true) × AllHeld w site es × KeepsSent w site es × (v ≡ with_one w site es)

@@ -90,8 +90,8 @@ impl Write for SlowWriter {
 pub struct Shelf {
     pub name: &'static str,
     pub bytes: &'static [u8],
-    /// How many of its bytes are to stand whole.
-    pub whole: u64,
+    /// How many of its bytes are to stand whole, where it is to be gone on with; or none, where it is to be made anew.
+    pub whole: Option<u64>,
 }
 
 /// A journal of a shelf.
@@ -134,6 +134,8 @@ impl Journals for Shelf {
 
     type Writer = Device<Taken>;
 
+    type Renewal = Device<Taken>;
+
     ghost kept = { λ _ _. None };
 
     ghost fails = { λ _ _. Unit {0} };
@@ -149,12 +151,26 @@ impl Journals for Shelf {
     }
 
     fn cut(&self, journal: Book, whole: u64) -> Result<Device<Taken>, Failed> {
-        if whole != self.whole {
+        if self.whole != Some(whole) {
             return Err(Failed);
         }
         let Book { reader: _, alloc } = journal;
         Ok(Device::new(Taken {
             taken: Vec::new(alloc),
         }))
+    }
+
+    fn renew(&self, alloc: Global, name: &str) -> Result<Device<Taken>, StoreError> {
+        if name != self.name || self.whole.is_some() {
+            return Err(StoreError::JournalFile);
+        }
+        Ok(Device::new(Taken {
+            taken: Vec::new(alloc),
+        }))
+    }
+
+    fn replace(&self, journal: Book, renewal: Device<Taken>) -> Result<Device<Taken>, Failed> {
+        drop(journal);
+        Ok(renewal)
     }
 }

@@ -9,13 +9,21 @@ use td_replay::Site;
 use td_story::Meter;
 use td_workbench::program;
 
-// The journal of site 7 and the script of 45 bytes, of a header of 56 bytes and one statement of 26, with a part of
+// The journal of site 7 and the script of 45 bytes, of a header of 56 bytes and one statement of 27, with a part of
 // another frame behind it.
 const SHELF: Shelf = Shelf {
     name: "shelf/7.tdj",
+    bytes: b"JTDB\x02\x00\x07\x00\x00\x00\x2dVAR R BASE RELATION { A INTEGER } KEY { A };\n\
+E\x00\x07\x00\x00\x00\x01\x00\x00\x00\x00\x00\x00\x00\x05\x02\x00\x09DELETE R;E\x00\x07",
+    whole: Some(83),
+};
+
+// Its journal of version 1, whose frame is of 26 bytes, cut within that of another statement.
+const OLD_SHELF: Shelf = Shelf {
+    name: "shelf/7.tdj",
     bytes: b"JTDB\x01\x00\x07\x00\x00\x00\x2dVAR R BASE RELATION { A INTEGER } KEY { A };\n\
 E\x00\x07\x00\x00\x00\x01\x00\x00\x00\x00\x00\x00\x00\x05\x00\x09DELETE R;E\x00\x07",
-    whole: 82,
+    whole: None,
 };
 
 /// What a call of the program ended with: its status, and what it wrote to its output and to its faults.
@@ -35,6 +43,10 @@ fn words_of(alloc: Global, line: &str) -> Result<Vec<String>, AllocError> {
 }
 
 fn called(rt: &HostRuntime, line: &str, input: &str) -> Result<Exit, AllocError> {
+    called_at(rt, &SHELF, line, input)
+}
+
+fn called_at(rt: &HostRuntime, shelf: &Shelf, line: &str, input: &str) -> Result<Exit, AllocError> {
     let words = words_of(rt.alloc(), line)?;
     let mut meter = Meter::new(rt);
     let mut output = Vec::new(rt.alloc());
@@ -42,7 +54,7 @@ fn called(rt: &HostRuntime, line: &str, input: &str) -> Result<Exit, AllocError>
     let status = program::<Site, _, _, _, _, _>(
         rt.alloc(),
         &words,
-        &SHELF,
+        shelf,
         &mut NoLinks,
         &mut meter,
         &mut Device::new(input.as_bytes()),
@@ -174,6 +186,20 @@ fn journals(rt: HostRuntime) -> Result<(), Fail> {
             "{words}"
         );
     }
+    Ok(())
+}
+
+#[test]
+fn an_old_journal(rt: HostRuntime) -> Result<(), Fail> {
+    let found = called_at(
+        &rt,
+        &OLD_SHELF,
+        "td_console --sites 1 --first 7 --journal shelf/",
+        "VAR R BASE RELATION { A INTEGER } KEY { A };\n.begin\n.log 7\n7: DELETE R;\n",
+    )?;
+    let want = "ready 1\n5.7 1 done: DELETE R;\n6.7 done\n";
+    assert!(rt; found.status == 0 && found.faults.is_empty());
+    assert!(rt; found.output.as_slice() == want.as_bytes());
     Ok(())
 }
 

@@ -1,9 +1,11 @@
 -- The places that a statement names, while they are gathered.
-use Rattle.std.specs.Prelude.{◌↔◌, ℕ, List}
+use Rattle.std.specs.Prelude.{◌↔◌, ℕ, List, [], Option, None, Some}
 use Rattle.std.specs.List.{Contains}
 use Rattle.td_headings.specs.Catalogues.{CatalogueData}
+use Rattle.td_headings.specs.Expressions.{reads}
 use Rattle.td_headings.specs.Reached.{AreThose}
 use Rattle.td_headings.specs.declared.defined.Test.{Test}
+use Rattle.td_trees.specs.declared.expression.Expression.{Expression}
 use Rattle.td_story.specs.Footprints.{IsInFootprint, IsTargetOfText, TestReads}
 use Rattle.td_assign.specs.declared.names.Names.{Names}
 
@@ -11,11 +13,16 @@ use Rattle.td_assign.specs.declared.names.Names.{Names}
 abbrev pub ReadsWith : CatalogueData → List ℕ → Test → ℕ → Type 0
 ReadsWith c targets t n = (m : ℕ) × TestReads c t m × Contains targets m × TestReads c t n
 
+-- what a condition reads, if there is one
+abbrev pub condition_reads : Option Expression → List ℕ
+condition_reads None = []
+condition_reads (Some u) = reads u
+
 -- the places are those of each of these
 abbrev pub Gathers : {A : Type 0} → (A → ℕ → Type 0) → List A → List ℕ → Type 0
 Gathers {A} P xs places = (n : ℕ) → Contains places n ↔ ((x : A) × Contains xs x × P x n)
 
 -- the names are those of the text
-pub record AreNames (c : CatalogueData) (text : List ℕ) (x : Names) : Type 0 where
-  pub targets : AreThose (IsTargetOfText c text) x.targets.items
-  pub footprint : AreThose (IsInFootprint c text) x.footprint.items
+pub record AreNames (c : CatalogueData) (dialect : ℕ) (text : List ℕ) (x : Names) : Type 0 where
+  pub targets : AreThose (IsTargetOfText c dialect text) x.targets.items
+  pub footprint : AreThose (IsInFootprint c dialect text) x.footprint.items

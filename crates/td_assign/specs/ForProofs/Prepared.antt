@@ -1,5 +1,5 @@
 -- What preparing a statement gives, before anything is changed.
-use Rattle.std.specs.Prelude.{◌≡◌, ℕ, List, None, Some, Option, Ok, Err}
+use Rattle.std.specs.Prelude.{◌≡◌, ℕ, List, None, Some, Option, Result, Ok, Err}
 use Rattle.td_values.specs.declared.raises.Raise.{Raise}
 use Rattle.td_algebra.specs.declared.errors.Stop.{Stop}
 use Rattle.td_relations.specs.Deltas.{DeltaData}
@@ -12,8 +12,8 @@ use Rattle.td_story.specs.Differences.{AreDifferences}
 use Rattle.td_assign.specs.ForProofs.Given.{AreChanges, assigned_by}
 use Rattle.td_assign.specs.ForProofs.Turning.{Gives}
 use Rattle.td_assign.specs.ForProofs.Lists.{given_to}
-use Rattle.td_headings.specs.Statements.{assignments_of}
 use Rattle.td_headings.specs.declared.statement.TypedStatement.{TypedStatement}
+use Rattle.td_story.specs.Sources.{chosen}
 use Rattle.td_story.specs.Steps.{IsRead, Steps, TellsTest, failing_with, with_all}
 use Rattle.td_assign.specs.declared.changes.Change.{Change}
 use Rattle.td_story.specs.declared.outcome.Outcome.{Outcome}
@@ -47,8 +47,21 @@ AreAssignedTo d xs (Changes v ds) = (assigned_by d xs ≡ Ok (given_to v.items))
 AreAssignedTo d xs (Turn n x) = Gives d xs n x
 AreAssignedTo d xs (Refused o) = Refuses d xs o
 
+-- what decides which assignments a statement makes
+abbrev pub chosen_by : DatabaseData → TypedStatement → Result (List TypedAssignment) Stop
+chosen_by d x = chosen d.catalogue (stored_relvars d.stored) x
+
+-- what a statement comes to: what the assignments do that it makes, or its condition raises
+pub data IsMade (d : DatabaseData) (x : TypedStatement) (m : Prepared) : Type 0 where
+  by_assignments : (xs : List TypedAssignment) → chosen_by d x ≡ Ok xs → AreAssignedTo d xs m → IsMade d x m
+  by_error : (e : Raise) → chosen_by d x ≡ Err (stop_of e) → m ≡ Refused (Raised e) → IsMade d x m
+
+-- the relvar is changed so, by the assignments that the statement makes
+abbrev pub MakesTurn : DatabaseData → TypedStatement → ℕ → DeltaData → Type 0
+MakesTurn d x n y = (xs : List TypedAssignment) × (chosen_by d x ≡ Ok xs) × Gives d xs n y
+
 -- what a text comes to
-abbrev pub IsPrepared : DatabaseData → List ℕ → Prepared → Type 0
-IsPrepared d text (Changes v ds) = Steps d text Done (with_all d (given_to v.items)) × MayChange d v.items ds.items
-IsPrepared d text (Turn n x) = (z : TypedStatement) × IsRead d.catalogue text z × Gives d (assignments_of z) n x
-IsPrepared d text (Refused o) = Steps d text o d
+abbrev pub IsPrepared : DatabaseData → ℕ → List ℕ → Prepared → Type 0
+IsPrepared d dialect text (Changes v ds) = Steps d dialect text Done (with_all d (given_to v.items)) × MayChange d v.items ds.items
+IsPrepared d dialect text (Turn n y) = (x : TypedStatement) × IsRead d.catalogue dialect text x × MakesTurn d x n y
+IsPrepared d dialect text (Refused o) = Steps d dialect text o d

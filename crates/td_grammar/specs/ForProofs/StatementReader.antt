@@ -19,7 +19,7 @@ use Rattle.td_syntax.specs.declared.script.Opening.TheVariants as opening
 use Rattle.td_syntax.specs.declared.script.Definition.{Definition}
 use Rattle.td_syntax.specs.declared.script.Definition.TheVariants as definition
 use Rattle.td_grammar.specs.Grammar.{Tokens, most_levels}
-use Rattle.td_grammar.specs.Statements.{statement_bytes, script_bytes}
+use Rattle.td_grammar.specs.Statements.{since, statement_bytes, script_bytes}
 use Rattle.td_grammar.specs.ForProofs.Reader.{Reader, and_then, ◌>>=◌, ◌>>◌, pure, refuse, at, at_name, tail, eat, expect, take_name, list_at, listed, attributes_at, heading_at, field_of, type_at, named_at, reads, inner, is_over, whole}
 
 -- a name, if one comes next
@@ -89,10 +89,31 @@ module _ (reads : ℕ → Form → Reader Expr) (b : ℕ) where
       else (if at w.Update ts then updated (tail ts)
       else assigned ts))
 
+  -- actions, up to a semicolon
+  unfoldable pub actions_at : Reader (List Action)
+  actions_at = listed w.Semicolon action_at
+
+  -- those behind ELSE, if it comes next
+  unfoldable pub otherwise : Reader (List Action)
+  otherwise = do
+    found ← eat w.Else
+    if found then actions_at else pure []
+
+  unfoldable pub conditional : Reader Statement
+  conditional = do
+    a ← inner reads b
+    expect w.Then
+    xs ← actions_at
+    ys ← otherwise
+    expect w.End
+    expect w.If
+    expect w.Semicolon
+    pure (statement.Conditional a xs ys)
+
   unfoldable pub statement_at : Reader Statement
-  statement_at = do
-    xs ← listed w.Semicolon action_at
-    pure (statement.Assignment xs)
+  statement_at = λ ts.
+      if at w.If ts then conditional (tail ts)
+      else and_then (actions_at ts) (λ xs. pure (statement.Assignment xs))
 
   unfoldable pub type_definition : Reader Definition
   type_definition = do
@@ -169,6 +190,10 @@ script_of_tokens ts = definitions_from (reads (length ts)) most_levels (length t
 -- the tree of a statement
 unfoldable pub read_statement : Text → Option Statement
 read_statement bytes = if nat_le (length bytes) statement_bytes then option_and_then statement_of_tokens (lexemes bytes) else None
+
+-- the tree of a statement of a form that the dialect has
+unfoldable pub read_statement_in : ℕ → Text → Option Statement
+read_statement_in dialect bytes = option_and_then (λ s. if nat_le (since s) dialect then Some s else None) (read_statement bytes)
 
 -- the trees of a script
 unfoldable pub read_script : Text → Option (List Definition)

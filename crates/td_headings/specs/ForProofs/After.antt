@@ -1,5 +1,5 @@
 -- What a definition makes of what is defined: a function that decides `Defines`.
-use Rattle.std.specs.Prelude.{ℕ, Bool, true, false, not, ◌&&◌, List, [], ◌∷◌, Option, Some, None, unwrap_or, is_none}
+use Rattle.std.specs.Prelude.{not, List, [], Option, Some, None, unwrap_or, is_none}
 use Rattle.std.specs.List.{list_any}
 use Rattle.td_values.specs.Headings.{Header}
 use Rattle.td_values.specs.declared.TypeKind.{TypeKind}

@@ -1,5 +1,5 @@
 -- What the expressions of a catalogue are.
-use Rattle.std.specs.Prelude.{◌≡◌, ℕ, List, length, Option, Some, None, slice_get}
+use Rattle.std.specs.Prelude.{◌≡◌, ℕ, length, Some, None, slice_get}
 use Rattle.td_values.specs.Headings.{Header}
 use Rattle.td_values.specs.declared.TypeKind.TheVariants as kind
 use Rattle.td_syntax.specs.declared.tree.Expr.{Expr}

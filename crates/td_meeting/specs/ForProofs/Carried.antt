@@ -4,6 +4,7 @@ use Rattle.td_stamps.specs.Vectors.{VersionVector, IsVector}
 use Rattle.td_stamps.specs.declared.entry.Entry.{Entry}
 use Rattle.td_frames.specs.Reading.{entries_at, greeting_at}
 use Rattle.td_frames.specs.declared.greeting.Greeting.{Greeting}
+use Rattle.td_frames.specs.declared.version.Version.TheVariants.{Second}
 use Rattle.td_story.specs.Calls.{TakesBatch}
 use Rattle.td_story.specs.Seen.{Seen}
 use Rattle.td_story.specs.declared.answer.Taken.{Taken}
@@ -51,7 +52,7 @@ Taking s es (Ok t) after = TakesBatch s es t after
 Taking s es (Err e) after = Untaken s es e after
 
 abbrev pub ReceivesIn : Seen → List ℕ → Result Taken MeetingError → Seen → Type 0
-ReceivesIn s left r after = (es : List Entry) → entries_at most_entries left ≡ (es, Ok []) → Taking s es r after
+ReceivesIn s left r after = (es : List Entry) → entries_at Second most_entries left ≡ (es, Ok []) → Taking s es r after
 
 abbrev pub SettlesNot : Seen → Greeting → List Entry → MeetingError → ℕ → Seen → Type 0
 SettlesNot s g es OtherScript took after = g.script ≢ s.script
@@ -66,7 +67,7 @@ Settling s g es (Ok x) after = TakesBatch s es x.0 after × (x.1 ≡ sends after
 Settling s g es (Err r) after = SettlesNot s g es r.error r.first_took after
 
 abbrev pub SettlesIn : Seen → List ℕ → Result (Taken × List ℕ) MeetingRefusal → Seen → Type 0
-SettlesIn s left r after = (g : Greeting) (more : List ℕ) (es : List Entry) → greeting_at left ≡ Ok (g, more) → entries_at most_entries more ≡ (es, Ok []) → Settling s g es r after
+SettlesIn s left r after = (g : Greeting) (more : List ℕ) (es : List Entry) → greeting_at left ≡ Ok (g, more) → entries_at Second most_entries more ≡ (es, Ok []) → Settling s g es r after
 
 -- the second site's answer to the first's greeting
 pub record IsAnswer (s t : Seen) (bytes : List ℕ) : Type 0 where

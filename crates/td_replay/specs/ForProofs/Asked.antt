@@ -4,6 +4,7 @@ use Rattle.td_values.specs.Data.{no_attrs}
 use Rattle.td_syntax.specs.declared.tree.Expr.{Expr}
 use Rattle.td_grammar.specs.Grammar.{IsQuery}
 use Rattle.td_trees.specs.declared.expression.Expression.{Expression}
+use Rattle.td_headings.specs.Catalogues.{CatalogueData}
 use Rattle.td_headings.specs.Expressions.{IsExpression, no_tuple}
 use Rattle.td_story.specs.Trees.{tree_means}
 use Rattle.td_story.specs.Answers.{TellsRelvar}
@@ -26,16 +27,16 @@ pub record Means (d : DatabaseData) (text : List ℕ) (r : Asked) : Type 0 where
   pub says : SaysValue r (tree_means d.catalogue (stored_relvars d.stored) expression.tree no_attrs)
 
 -- the text is a query that is ill typed
-pub record IsIllTyped (d : DatabaseData) (text : List ℕ) : Type 0 where
+pub record IsIllTyped (c : CatalogueData) (text : List ℕ) : Type 0 where
   pub query : Expr
   pub reads : IsQuery text query
-  pub refused : (x : Expression) → IsExpression d.catalogue no_tuple query x → ⊥
+  pub refused : (x : Expression) → IsExpression c no_tuple query x → ⊥
 
 abbrev pub Answers : DatabaseData → List ℕ → Result Asked AskError → Type 0
 Answers d text (Ok r) = Means d text r
 Answers d text (Err ask_error.Broken) = ⊥
 Answers d text (Err ask_error.Syntax) = (e : Expr) → IsQuery text e → ⊥
-Answers d text (Err ask_error.IllTyped) = IsIllTyped d text
+Answers d text (Err ask_error.IllTyped) = IsIllTyped d.catalogue text
 Answers d text (Err ask_error.OutOfMemory) = length text ≤ 8192
 
 abbrev pub TellsNamed : DatabaseData → List ℕ → Result Answer ValueError → Type 0

@@ -25,10 +25,10 @@ pub one_catalogue : (s o : DatabaseData) → origin_of s ≡ o → s.catalogue �
 one_catalogue s o h = ap (λ (d : DatabaseData). d.catalogue) h
 
 pub catalogue_stays : (s t : DatabaseData) (e : Entry) (r : Ran) → IsSound s → Notes s e r t → t.catalogue ≡ s.catalogue
-catalogue_stays s t e r good step = (step_keeps_database s t e.text r.outcome good.0 step.step).1
+catalogue_stays s t e r good step = (step_keeps_database s t e.dialect e.text r.outcome good.0 step.step).1
 
 pub stays_sound : (s t : DatabaseData) (e : Entry) (r : Ran) → IsSound s → Notes s e r t → IsSound t
-stays_sound s t e r good step = ((step_keeps_database s t e.text r.outcome good.0 step.step).0, step_is_legal s t e.text r.outcome step.step good.1)
+stays_sound s t e r good step = ((step_keeps_database s t e.dialect e.text r.outcome good.0 step.step).0, step_is_legal s t e.dialect e.text r.outcome step.step good.1)
 
 stay_sound : (o s t : DatabaseData) (e : Entry) (r : Ran) → Sound o s → Notes s e r t → Sound o t
 stay_sound o s t e r good step = (stays_sound s t e r good.0 step, ap opened_by (catalogue_stays s t e r good.0 step) ∙ good.1)
@@ -36,22 +36,22 @@ stay_sound o s t e r good step = (stays_sound s t e r good.0 step, ap opened_by 
 change_targets : (o s t : DatabaseData) (e : Entry) (r : Ran) (n : ℕ) → Sound o s → Notes s e r t → (AreTargetsOf o e n → ⊥) → AreAlike s t n
 change_targets o s t e r n good step never =
     let same = one_catalogue s o good.1 in
-    (sym (catalogue_stays s t e r good.0 step), sym (changes_targets s t e.text r.outcome n step.step (λ h. never (subst (λ (c : CatalogueData). IsTargetOfText c e.text n) same h))))
+    (sym (catalogue_stays s t e r good.0 step), sym (changes_targets s t e.dialect e.text r.outcome n step.step (λ h. never (subst (λ (c : CatalogueData). IsTargetOfText c e.dialect e.text n) same h))))
 
 by_footprint : (o s t u : DatabaseData) (e : Entry) (r : Ran) → Sound o s → Sound o u → ((n : ℕ) → IsFootprintOf o e n → AreAlike s u n) → Notes s e r t → (v : DatabaseData) × Notes u e r v
 by_footprint o s t u e r good fine alike step =
     let same = one_catalogue s o good.1 in
     let both = same ∙ sym (one_catalogue u o fine.1) in
-    let taken = step_by_footprint s u t e.text r.outcome good.0.0 fine.0.0 good.0.1 fine.0.1 (record {
+    let taken = step_by_footprint s u t e.dialect e.text r.outcome good.0.0 fine.0.0 good.0.1 fine.0.1 (record {
       catalogue = both;
-      relvars = λ n h. (alike n (subst (λ (c : CatalogueData). IsInFootprint c e.text n) same h)).1;
+      relvars = λ n h. (alike n (subst (λ (c : CatalogueData). IsInFootprint c e.dialect e.text n) same h)).1;
     }) step.step in (
       taken.after,
       record {
         step = taken.step;
         delta = taken.differences r.delta.items step.delta;
-        targets = subst (λ (c : CatalogueData). AreThose (IsTargetOfText c e.text) r.targets.items) both step.targets;
-        footprint = subst (λ (c : CatalogueData). AreThose (IsInFootprint c e.text) r.footprint.items) both step.footprint;
+        targets = subst (λ (c : CatalogueData). AreThose (IsTargetOfText c e.dialect e.text) r.targets.items) both step.targets;
+        footprint = subst (λ (c : CatalogueData). AreThose (IsInFootprint c e.dialect e.text) r.footprint.items) both step.footprint;
       },
     )
 
@@ -63,11 +63,11 @@ steps_alike o s t u v e r n good fine step other alike = (
 
 name_footprint : (o s t : DatabaseData) (e : Entry) (r : Ran) → Sound o s → Notes s e r t → (n : ℕ) → Contains r.footprint.items n ↔ IsFootprintOf o e n
 name_footprint o s t e r good step n =
-    subst (λ (c : CatalogueData). Contains r.footprint.items n ↔ IsInFootprint c e.text n) (one_catalogue s o good.1) (step.footprint.members n)
+    subst (λ (c : CatalogueData). Contains r.footprint.items n ↔ IsInFootprint c e.dialect e.text n) (one_catalogue s o good.1) (step.footprint.members n)
 
 name_targets : (o s t : DatabaseData) (e : Entry) (r : Ran) → Sound o s → Notes s e r t → (n : ℕ) → Contains r.targets.items n ↔ AreTargetsOf o e n
 name_targets o s t e r good step n =
-    subst (λ (c : CatalogueData). Contains r.targets.items n ↔ IsTargetOfText c e.text n) (one_catalogue s o good.1) (step.targets.members n)
+    subst (λ (c : CatalogueData). Contains r.targets.items n ↔ IsTargetOfText c e.dialect e.text n) (one_catalogue s o good.1) (step.targets.members n)
 
 hang_on_targets : (o : DatabaseData) (e : Entry) (n : ℕ) → AreTargetsOf o e n → IsFootprintOf o e n
 hang_on_targets o e n h = record { statement = h.statement; reads = h.reads; within = target h.target }

@@ -54,11 +54,11 @@ pub record TellsOutcome (d : DatabaseData) (log : Log) (e : Entry) (o : Outcome)
   pub runs : RunsNext d log e ran after longer
   pub told : o ≡ ran.outcome
   pub statement : TypedStatement
-  pub read : IsRead d.catalogue e.text statement
+  pub read : IsRead d.catalogue e.dialect e.text statement
 
 abbrev pub TellsNext : DatabaseData → Log → Entry → Result (Option Outcome) AllocError → DatabaseData → Log → Type 0
 TellsNext d log e (Ok (Some o)) after longer = TellsOutcome d log e o after longer
-TellsNext d log e (Ok None) after longer = (after ≡ d) × (longer ≡ log) × IsUnread d.catalogue e.text
+TellsNext d log e (Ok None) after longer = (after ≡ d) × (longer ≡ log) × IsUnread d.catalogue e.dialect e.text
 TellsNext d log e (Err x) after longer = (after ≡ d) × (longer ≡ log)
 
 -- it is held, likewise

@@ -12,6 +12,6 @@ pub returns-then-text-gt-MOST_BYTES : goal.returns-then-text-gt-MOST_BYTES
 returns-then-text-gt-MOST_BYTES g c =
     record {
       answer = Err issue_error.Syntax;
-      issues = ((sym c.is_open.ensures ∙ c.if-not-is_open.false, refl), λ t is. let short = is.short in absurd (omega (arith, short)));
+      issues = ((sym c.is_open.ensures ∙ c.if-not-is_open.false, refl), λ t is. let short = is.reads.short in absurd (omega (arith, short)));
       line = refl;
     }

@@ -8,10 +8,10 @@ returns-in-Some c =
     let k = c.args.catalogue.now in
     let text = c.args.text.now in
     let x = c.in-Some.statement in
-    footprint_told k text x (read_is k k text c.in_ok-statement.field-0 refl c.in_ok-statement.ensures x c.in-Some.is) c.footprint.result c.footprint.ensures
+    footprint_told k c.args.dialect text x (read_is k k c.args.dialect text c.in_ok-statement.field-0 refl c.in_ok-statement.ensures x c.in-Some.is) c.footprint.result c.footprint.ensures
 
 pub returns-in-None : goal.returns-in-None
 returns-in-None c =
     let k = c.args.catalogue.now in
     let text = c.args.text.now in
-    footprint_unread k text (unread_is k k text c.in_ok-statement.field-0 refl c.in_ok-statement.ensures c.in-None.is) c.new.result.items c.new.ensures.items
+    footprint_unread k c.args.dialect text (unread_is k k c.args.dialect text c.in_ok-statement.field-0 refl c.in_ok-statement.ensures c.in-None.is) c.new.result.items c.new.ensures.items

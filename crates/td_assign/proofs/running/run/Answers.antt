@@ -22,8 +22,8 @@ returns-in_ok-outcome-in-Turn-clause-step c =
     let text = c.args.text.now in
     let told = rw c.in-Turn.is at c.in_ok-prepared.ensures.prepared in
     let o = c.in_ok-outcome-in-Turn.outcome in
-    subst (λ (out : Outcome). Steps d text out c.turn.new.database) (sym c.ran-in-Turn.ensures.outcome)
-    (turned_step d text told.0 told.1 c.in-Turn.relvar c.in-Turn.delta c.relvars_fit.ensures told.2 o c.in_ok-outcome-in-Turn.delta.items c.turn.new.database (rw c.count_reads.ensures at c.in_ok-outcome-in-Turn.ensures.turned))
+    subst (λ (out : Outcome). Steps d c.args.dialect text out c.turn.new.database) (sym c.ran-in-Turn.ensures.outcome)
+    (turned_step d c.args.dialect text told.0 told.1 c.in-Turn.relvar c.in-Turn.delta c.relvars_fit.ensures told.2 o c.in_ok-outcome-in-Turn.delta.items c.turn.new.database (rw c.count_reads.ensures at c.in_ok-outcome-in-Turn.ensures.turned))
 
 pub returns-in_ok-outcome-in-Turn-clause-delta : goal.returns-in_ok-outcome-in-Turn-clause-delta
 returns-in_ok-outcome-in-Turn-clause-delta c =
@@ -31,11 +31,11 @@ returns-in_ok-outcome-in-Turn-clause-delta c =
     let text = c.args.text.now in
     let told = rw c.in-Turn.is at c.in_ok-prepared.ensures.prepared in
     subst (AreDifferences (stored_relvars d.stored) (stored_relvars c.turn.new.database.stored)) (sym (ap (λ v. v.items) c.ran-in-Turn.ensures.delta))
-    (turned_differences d text told.0 told.1 c.in-Turn.relvar c.in-Turn.delta c.relvars_fit.ensures told.2 c.in_ok-outcome-in-Turn.outcome c.in_ok-outcome-in-Turn.delta.items c.turn.new.database (rw c.count_reads.ensures at c.in_ok-outcome-in-Turn.ensures.turned))
+    (turned_differences d c.args.dialect text told.0 told.1 c.in-Turn.relvar c.in-Turn.delta c.relvars_fit.ensures told.2 c.in_ok-outcome-in-Turn.outcome c.in_ok-outcome-in-Turn.delta.items c.turn.new.database (rw c.count_reads.ensures at c.in_ok-outcome-in-Turn.ensures.turned))
 
 pub returns-in_ok-outcome-in-Turn-clause-legal : goal.returns-in_ok-outcome-in-Turn-clause-legal
 returns-in_ok-outcome-in-Turn-clause-legal c =
     let d = c.args.database.now in
     let text = c.args.text.now in
     let told = rw c.in-Turn.is at c.in_ok-prepared.ensures.prepared in
-    turned_legal d text told.0 told.1 c.in-Turn.relvar c.in-Turn.delta c.relvars_fit.ensures told.2 c.in_ok-outcome-in-Turn.outcome c.in_ok-outcome-in-Turn.delta.items c.turn.new.database c.requires (rw c.count_reads.ensures at c.in_ok-outcome-in-Turn.ensures.turned)
+    turned_legal d c.args.dialect text told.0 told.1 c.in-Turn.relvar c.in-Turn.delta c.relvars_fit.ensures told.2 c.in_ok-outcome-in-Turn.outcome c.in_ok-outcome-in-Turn.delta.items c.turn.new.database c.requires (rw c.count_reads.ensures at c.in_ok-outcome-in-Turn.ensures.turned)

@@ -1,4 +1,4 @@
-use Rattle.std.proofs.Common.{◌+◌, ◌++◌, ◌∷◌, [], drop, length, subst, sym, ap, ◌∙◌, arith}
+use Rattle.std.proofs.Common.{◌+◌, drop, subst, sym, arith}
 use Rattle.std.proofs.lemmas.List.{drop_all}
 use Rattle.td_headings.proofs.StatementLemmas.{Walked, left_at, one_more, ended, stopped, same_error}
 use Rattle.td_headings.proofs.statement.assignments.Goals as goal

@@ -1,5 +1,4 @@
 use Rattle.std.proofs.Common.{ap, sym, subst, ◌∙◌, slice_get}
-use Rattle.std.specs.Prelude.{◌≡◌, Some}
 use Rattle.td_values.specs.declared.TypeKind.TheVariants as kind
 use Rattle.td_headings.specs.Expressions.{IsTree, no_tuple, constraint_of}
 use Rattle.td_headings.proofs.WellTyped.{constraint_tree}

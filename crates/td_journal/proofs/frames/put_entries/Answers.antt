@@ -7,6 +7,7 @@ use Rattle.std.proofs.KnownBytes.{Appends-trans, Keeps-trans}
 use Rattle.td_devices.specs.Streams.{AppendsFront}
 use Rattle.td_stamps.specs.declared.entry.Entry.{Entry}
 use Rattle.td_frames.specs.Spelling.{HasFrame, entry_frame}
+use Rattle.td_frames.specs.declared.version.Version.TheVariants.{Second}
 use Rattle.td_frames.proofs.Writing.{front_longer, front_after, more_of, all_of}
 use Rattle.td_journal.proofs.Framed.{framed_more}
 use Rattle.td_journal.proofs.frames.put_entries.Goals as goal
@@ -17,8 +18,8 @@ returns-in_err-put_entry-clause-bytes g c =
     let i = c.loop-entry.entry-index in
     let xs = c.args.entries.now in
     let e = c.entry-item.result in
-    let so_far = front_after _ _ _ (flat_map entry_frame (take i xs)) (entry_frame (get_or xs i e)) c.loop-entry.invariant.bytes (subst (AppendsFront _ _) (ap entry_frame c.entry-item.is) c.in_err-put_entry.ensures.bytes) in
-    rw p.1 (subst (AppendsFront _ _) (sym (all_of entry_frame xs i e c.loop-entry-test.true)) (front_longer _ _ (flat_map entry_frame (take i xs) ++ entry_frame (get_or xs i e)) (flat_map entry_frame (drop (i + 1) xs)) so_far))
+    let so_far = front_after _ _ _ (flat_map (entry_frame Second) (take i xs)) (entry_frame Second (get_or xs i e)) c.loop-entry.invariant.bytes (subst (AppendsFront _ _) (ap (entry_frame Second) c.entry-item.is) c.in_err-put_entry.ensures.bytes) in
+    rw p.1 (subst (AppendsFront _ _) (sym (all_of (entry_frame Second) xs i e c.loop-entry-test.true)) (front_longer _ _ (flat_map (entry_frame Second) (take i xs) ++ entry_frame Second (get_or xs i e)) (flat_map (entry_frame Second) (drop (i + 1) xs)) so_far))
 
 pub loop-entry-preserved : goal.loop-entry-preserved
 loop-entry-preserved g c =
@@ -27,9 +28,9 @@ loop-entry-preserved g c =
     let xs = c.args.entries.now in
     let e = c.entry-item.result in
     record {
-      bytes = subst (Appends _ _) (sym (more_of entry_frame xs i e c.loop-entry-test.true))
-          (Appends-trans _ _ _ _ _ l.invariant.bytes (subst (Appends _ _) (ap entry_frame c.entry-item.is) c.in_ok-put_entry.ensures.bytes));
-      has = framed_more xs i e c.loop-entry-test.true l.invariant.has (subst (λ (x : Entry). HasFrame x) c.entry-item.is c.in_ok-put_entry.ensures.has);
+      bytes = subst (Appends _ _) (sym (more_of (entry_frame Second) xs i e c.loop-entry-test.true))
+          (Appends-trans _ _ _ _ _ l.invariant.bytes (subst (Appends _ _) (ap (entry_frame Second) c.entry-item.is) c.in_ok-put_entry.ensures.bytes));
+      has = framed_more xs i e c.loop-entry-test.true l.invariant.has (subst (λ (x : Entry). HasFrame Second x) c.entry-item.is c.in_ok-put_entry.ensures.has);
       aside = Keeps-trans _ _ _ l.invariant.aside c.in_ok-put_entry.ensures.aside;
       count = search rules;
     }
@@ -37,7 +38,7 @@ loop-entry-preserved g c =
 pub returns-clause-bytes : goal.returns-clause-bytes
 returns-clause-bytes g c =
     let all = take_all c.loop-entry.entry-index c.args.entries.now c.loop-entry-test.false in
-    subst (λ (xs : List Entry). Appends (g.K.Sink.held c.args.sink.now) (g.K.Sink.held c.loop-entry.sink) (flat_map entry_frame xs)) all c.loop-entry.invariant.bytes
+    subst (λ (xs : List Entry). Appends (g.K.Sink.held c.args.sink.now) (g.K.Sink.held c.loop-entry.sink) (flat_map (entry_frame Second) xs)) all c.loop-entry.invariant.bytes
 
 pub returns-clause-has : goal.returns-clause-has
-returns-clause-has g c = subst (AllByRecursion HasFrame) (take_all c.loop-entry.entry-index c.args.entries.now c.loop-entry-test.false) c.loop-entry.invariant.has
+returns-clause-has g c = subst (AllByRecursion (HasFrame Second)) (take_all c.loop-entry.entry-index c.args.entries.now c.loop-entry-test.false) c.loop-entry.invariant.has

@@ -9,6 +9,7 @@ use Rattle.td_stamps.specs.declared.entry.Entry.{Entry}
 use Rattle.td_stamps.specs.Vectors.{after_vector}
 use Rattle.td_frames.specs.Spelling.{HasFrame}
 use Rattle.td_frames.proofs.Writing.{front_longer, front_after, more_of, all_of}
+use Rattle.td_frames.specs.declared.version.Version.TheVariants.{Second}
 use Rattle.td_meeting.proofs.InTurn.{frames_of, frames_each, framed_more}
 use Rattle.td_meeting.proofs.sending.put_entries.Goals as goal
 
@@ -32,7 +33,7 @@ loop-entry-preserved g c =
     record {
       bytes = subst (Appends _ _) (sym (more_of (frames_of v) xs i e c.loop-entry-test.true))
           (Appends-trans _ _ _ _ _ l.invariant.bytes (subst (Appends _ _) (ap (frames_of v) c.entry-item.is) c.in_ok-put_lacking.ensures.bytes));
-      has = framed_more v xs i e c.loop-entry-test.true l.invariant.has (subst (λ (x : Entry). AllByRecursion HasFrame (after_vector v (x ∷ []))) c.entry-item.is c.in_ok-put_lacking.ensures.has);
+      has = framed_more v xs i e c.loop-entry-test.true l.invariant.has (subst (λ (x : Entry). AllByRecursion (HasFrame Second) (after_vector v (x ∷ []))) c.entry-item.is c.in_ok-put_lacking.ensures.has);
       aside = Keeps-trans _ _ _ l.invariant.aside c.in_ok-put_lacking.ensures.aside;
       count = search rules;
     }
@@ -47,4 +48,4 @@ returns-clause-bytes g c =
 pub returns-clause-has : goal.returns-clause-has
 returns-clause-has g c =
     let all = take_all c.loop-entry.entry-index c.args.entries.now c.loop-entry-test.false in
-    subst (λ (xs : List Entry). AllByRecursion HasFrame (after_vector c.args.vector.now xs)) all c.loop-entry.invariant.has
+    subst (λ (xs : List Entry). AllByRecursion (HasFrame Second) (after_vector c.args.vector.now xs)) all c.loop-entry.invariant.has

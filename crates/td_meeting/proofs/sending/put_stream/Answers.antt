@@ -6,15 +6,16 @@ use Rattle.std.proofs.lemmas.Result.{err_from_is_err_and}
 use Rattle.td_stamps.specs.Vectors.{after_vector}
 use Rattle.td_frames.specs.Spelling.{end_frame, entry_frames}
 use Rattle.td_frames.proofs.Writing.{front_longer, writes_then}
+use Rattle.td_frames.specs.declared.version.Version.TheVariants.{Second}
 use Rattle.td_meeting.proofs.sending.put_stream.Goals as goal
 
 pub returns-in_err-put_entries-clause-bytes : goal.returns-in_err-put_entries-clause-bytes
 returns-in_err-put_entries-clause-bytes g c =
     let p = err_from_is_err_and c.from_residual.result c.from_residual.ensures.1 in
-    rw p.1 (front_longer _ _ (entry_frames (after_vector c.args.vector.now c.args.held.now.entries)) end_frame
-    (subst (AppendsFront _ _) (ap (λ (es : List Entry). entry_frames (after_vector c.args.vector.now es)) c.entries.ensures.entries) c.in_err-put_entries.ensures.bytes))
+    rw p.1 (front_longer _ _ (entry_frames Second (after_vector c.args.vector.now c.args.held.now.entries)) end_frame
+    (subst (AppendsFront _ _) (ap (λ (es : List Entry). entry_frames Second (after_vector c.args.vector.now es)) c.entries.ensures.entries) c.in_err-put_entries.ensures.bytes))
 
 pub returns-clause-bytes : goal.returns-clause-bytes
 returns-clause-bytes g c =
-    writes_then _ _ _ c.put_end.result (entry_frames (after_vector c.args.vector.now c.args.held.now.entries)) end_frame
-    (subst (Appends _ _) (ap (λ (es : List Entry). entry_frames (after_vector c.args.vector.now es)) c.entries.ensures.entries) c.in_ok-put_entries.ensures.bytes) c.put_end.ensures.bytes
+    writes_then _ _ _ c.put_end.result (entry_frames Second (after_vector c.args.vector.now c.args.held.now.entries)) end_frame
+    (subst (Appends _ _) (ap (λ (es : List Entry). entry_frames Second (after_vector c.args.vector.now es)) c.entries.ensures.entries) c.in_ok-put_entries.ensures.bytes) c.put_end.ensures.bytes

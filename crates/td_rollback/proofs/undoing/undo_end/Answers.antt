@@ -8,7 +8,7 @@ use Rattle.td_rollback.proofs.undoing.undo_end.Goals as goal
 
 -- what stands for an entry that is not read
 nobody : EntryData
-nobody = record { site = 0; seq = 0; clock = 0; text = [] }
+nobody = record { site = 0; seq = 0; clock = 0; dialect = 0; text = [] }
 
 pub loop-left-init : goal.loop-left-init
 loop-left-init g c =

@@ -1,7 +1,6 @@
 use Rattle.std.proofs.Common.{◌≡◌, None, Some, OnOk, sym, subst, ◌∙◌}
 use Rattle.td_headings.specs.Definitions.{Defines}
 use Rattle.td_headings.specs.ForProofs.After.{after}
-use Rattle.td_headings.specs.ForProofs.Changes.{Changes}
 use Rattle.td_headings.proofs.Deciding.{after_is, is_after}
 use Rattle.td_headings.proofs.Placed.{taken, ill_typed}
 use Rattle.td_headings.proofs.WellTyped.{still_defined}

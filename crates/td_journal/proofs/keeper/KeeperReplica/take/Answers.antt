@@ -6,6 +6,7 @@ use Rattle.td_stamps.specs.Entries.{in_range}
 use Rattle.td_stamps.specs.Checks.{fresh_of}
 use Rattle.td_stamps.specs.declared.entry.Entry.{Entry}
 use Rattle.td_frames.specs.Spelling.{HasFrame, entry_frames}
+use Rattle.td_frames.specs.declared.version.Version.TheVariants.{Second}
 use Rattle.td_story.specs.Calls.{Takes}
 use Rattle.td_story.specs.declared.refusal.TakeError.TheVariants as take_error
 use Rattle.td_journal.specs.Keeping.{Accepts, JournalsBatch, Leaves}
@@ -19,7 +20,7 @@ pub returns-in-Err-clause-written : goal.returns-in-Err-clause-written
 returns-in-Err-clause-written g c =
     let inside = c.self.inside in
     let new = output_of g.W.Sink inside.journal in
-    let has : AllByRecursion HasFrame c.args.batch.now = search rules in
+    let has : AllByRecursion (HasFrame Second) c.args.batch.now = search rules in
     subst (λ (k : KeeperData _ _). JournalsBatch (kept k.is_open (g.R.Replica.seen k.replica)) c.args.batch.now (Err c.in-Err.error) (output_of g.W.Sink k.writer) new) c.self.view_is
     (take_refused (g.R.Replica.seen inside.replica) c.args.batch.now c.in-Err.error inside.is_open new has)
 
@@ -45,7 +46,7 @@ returns-in-Ok-accept-clause-written g c =
     let some : items ≡ [] → ⊥ = search rules in
     let all : c.as_slice.result.now ≡ fresh = c.as_slice.ensures.value ∙ is in
     subst (λ (k : KeeperData _ _). Accepts (fresh_of (g.R.Replica.seen k.replica).entries c.args.batch.now) (output_of g.W.Sink k.writer) new) c.self.view_is
-    (some_accepted fresh old new (λ none. some (is ∙ none)) (subst (λ (l : List Entry). HandsOn old new (entry_frames l)) all c.in-Ok-accept.ensures.written) (subst (AllByRecursion HasFrame) all c.in-Ok-accept.ensures.has))
+    (some_accepted fresh old new (λ none. some (is ∙ none)) (subst (λ (l : List Entry). HandsOn old new (entry_frames Second l)) all c.in-Ok-accept.ensures.written) (subst (AllByRecursion (HasFrame Second)) all c.in-Ok-accept.ensures.has))
 
 pub returns-clause-takes : goal.returns-clause-takes
 returns-clause-takes g c =
@@ -69,7 +70,7 @@ returns-clause-written g c =
     let is = fresh_is s after c.args.batch.now c.in-Ok-take.taken c.in-Ok.held.now items c.in-Ok.ensures.1 c.in-Ok-take.ensures.takes c.in-Ok-fresh.ensures in
     let old = output_of g.W.Sink inside.journal in
     let new = output_of g.W.Sink c.accept.new.self in
-    let has : AllByRecursion HasFrame c.args.batch.now = search rules in
+    let has : AllByRecursion (HasFrame Second) c.args.batch.now = search rules in
     let all : c.as_slice.result.now ≡ fresh_of s.entries c.args.batch.now = c.as_slice.ensures.value ∙ is in
     subst (λ (k : KeeperData _ _). Leaves (fresh_of (g.R.Replica.seen k.replica).entries c.args.batch.now) (output_of g.W.Sink k.writer) new) c.self.view_is
-    (subst (λ (l : List Entry). AppendsFront old.held new.held (entry_frames l)) all c.in-Err-accept.ensures.written.0, fresh_framed s.entries c.args.batch.now has)
+    (subst (λ (l : List Entry). AppendsFront old.held new.held (entry_frames Second l)) all c.in-Err-accept.ensures.written.0, fresh_framed s.entries c.args.batch.now has)

@@ -5,6 +5,6 @@ use Rattle.td_replay.proofs.engine.EngineMachine.places_of.Goals as goal
 
 pub returns : goal.returns
 returns c =
-    named_all c.args.self.now.catalogue c.catalogue.result.now c.as_str.result.now c.args.entry.now.text c.footprint_of.result
+    named_all c.args.self.now.catalogue c.catalogue.result.now c.args.entry.now.dialect c.as_str-text.result.now c.args.entry.now.text c.footprint_of.result
     (subst (λ (z : DatabaseData). c.catalogue.result.now ≡ z.catalogue) c.self.view_is c.catalogue.ensures.same)
-    c.as_str.ensures c.footprint_of.ensures
+    c.as_str-text.ensures c.footprint_of.ensures

@@ -9,7 +9,7 @@ pub returns-clause-origin : goal.returns-clause-origin
 returns-clause-origin c =
     let d = c.args.self.now in
     let new = c.run.new.database in
-    let text = c.as_str.result.now in
-    origin_ran d new text c.run.result c.requires
-    (subst (λ (z : DatabaseData). IfOk c.run.result (λ r. Steps z text r.outcome new)) c.self.view_is c.run.ensures.step)
+    let text = c.as_str-text.result.now in
+    origin_ran d new c.args.entry.now.dialect text c.run.result c.requires
+    (subst (λ (z : DatabaseData). IfOk c.run.result (λ r. Steps z c.args.entry.now.dialect text r.outcome new)) c.self.view_is c.run.ensures.step)
     (subst (λ (z : DatabaseData). OnErr c.run.result (new ≡ z)) c.self.view_is c.run.ensures.kept)

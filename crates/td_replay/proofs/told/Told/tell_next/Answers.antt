@@ -8,11 +8,12 @@ pub returns-then-is_unread-clause-told : goal.returns-then-is_unread-clause-told
 returns-then-is_unread-clause-told c =
     let d = c.args.self.now.engine in
     let e = c.run.new.self in
+    let k = c.args.entry.now.dialect in
     let text = c.args.entry.now.text in
     let o = c.in_ok-ran.ran.outcome in
     let step = c.in_ok-ran.ensures.step.step in
     let is = c.is_unread.ensures.0 c.if-is_unread.true in
-    (unread_stays d e text o step is, c.in_ok-reserve.ensures.items, unread_is d e text o step is)
+    (unread_stays d e k text o step is, c.in_ok-reserve.ensures.items, unread_is d e k text o step is)
 
 pub returns-clause-told : goal.returns-clause-told
 returns-clause-told c =
@@ -24,7 +25,7 @@ returns-clause-told c =
     let notes = c.in_ok-ran.ensures.step in
     let items = c.push.ensures.items in
     let said = rw c.unwrap.ensures at items in
-    let read = read_is d e entry.text r.outcome notes.step (λ unread. true≢false (sym (c.is_unread.ensures.1 unread) ∙ c.if-is_unread.false)) in
+    let read = read_is d e entry.dialect entry.text r.outcome notes.step (λ unread. true≢false (sym (c.is_unread.ensures.1 unread) ∙ c.if-is_unread.false)) in
     record {
       ran = r;
       runs = record {

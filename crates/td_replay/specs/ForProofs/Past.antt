@@ -1,0 +1,105 @@
+-- Copies of what some base relvars have, while changes are taken back in them.
+use Rattle.std.specs.Prelude.{◌≡◌, ◌≤◌, ◌+◌, ℕ, true, List, length, take, Option, Some, Result, Ok, Err, slice_get}
+use Rattle.std.specs.List.{Contains}
+use Rattle.td_values.specs.Data.{no_attrs}
+use Rattle.td_values.specs.Rows.{RowsData}
+use Rattle.td_relations.specs.Deltas.{DeltaData}
+use Rattle.td_syntax.specs.declared.tree.Expr.{Expr}
+use Rattle.td_grammar.specs.Grammar.{IsQuery}
+use Rattle.td_trees.specs.declared.expression.Expression.{Expression}
+use Rattle.td_headings.specs.Catalogues.{CatalogueData}
+use Rattle.td_headings.specs.Expressions.{IsExpression, no_tuple}
+use Rattle.td_headings.specs.Reached.{is_base}
+use Rattle.td_algebra.specs.declared.errors.Stop.{Stop}
+use Rattle.td_meaning.specs.Mean.{Relvars}
+use Rattle.td_stamps.specs.declared.entry.Entry.{Entry}
+use Rattle.td_stamps.specs.Entries.{stamp_of}
+use Rattle.td_stamps.specs.declared.entry.Stamp.{Stamp}
+use Rattle.td_stamps.specs.Story.{Story}
+use Rattle.td_story.specs.Calls.{SaysValue}
+use Rattle.td_story.specs.Databases.{DatabaseData, Stored, stored_relvars}
+use Rattle.td_story.specs.Stories.{IsStory}
+use Rattle.td_story.specs.Trees.{tree_means}
+use Rattle.td_story.specs.declared.answer.Asked.{Asked}
+use Rattle.td_story.specs.declared.refusal.AskError.{AskError}
+use Rattle.td_story.specs.declared.refusal.AskError.TheVariants as ask_error
+use Rattle.td_story.specs.declared.refusal.PastError.{PastError}
+use Rattle.td_story.specs.declared.refusal.PastError.TheVariants as past_error
+use Rattle.td_replay.specs.Noted.{Notes}
+use Rattle.td_replay.specs.ForProofs.Asked.{IsIllTyped}
+use Rattle.td_replay.specs.ForProofs.Told.{Log, Outcomes}
+
+-- a copy, where there is one, or what is there
+abbrev pub or_there : Result RowsData Stop → Result RowsData Stop → Result RowsData Stop
+or_there (Ok r) there = Ok r
+or_there (Err e) there = there
+
+-- what relvars have, some of them by their copies
+abbrev pub over : Stored → Relvars → Relvars
+over copies there n = or_there (stored_relvars copies n) (there n)
+
+-- each copy is of what is stored
+abbrev pub AreCopies : Stored → Stored → Type 0
+AreCopies copies stored = (n : ℕ) (r : RowsData) → stored_relvars copies n ≡ Ok r → stored_relvars stored n ≡ Ok r
+
+-- and each of these base relvars has one
+abbrev pub HaveCopies : CatalogueData → List ℕ → Stored → Type 0
+HaveCopies c places copies = (n : ℕ) → Contains places n → is_base (slice_get c.origins n) ≡ true → (r : RowsData) × (stored_relvars copies n ≡ Ok r)
+
+-- what a copy is of, where there is one: of a place that is listed what is stored
+pub record IsCopyIf (places : List ℕ) (stored : Stored) (n : ℕ) (o : Option RowsData) : Type 0 where
+  pub same : (r : RowsData) → o ≡ Some r → stored_relvars stored n ≡ Ok r
+  pub there : Contains places n → (r : RowsData) → stored_relvars stored n ≡ Ok r → o ≡ Some r
+
+-- the change is of the copy's heading, if there is one
+abbrev pub FitsCopy : Stored → ℕ × DeltaData → Type 0
+FitsCopy copies p = (r : RowsData) → stored_relvars copies p.0 ≡ Ok r → p.1.inserted.heading ≡ r.heading
+
+abbrev pub FitCopies : Stored → List (ℕ × DeltaData) → Type 0
+FitCopies copies ds = (p : ℕ × DeltaData) → Contains ds p → FitsCopy copies p
+
+-- the copies of these relvars are of what they had at the end of the first entries
+pub record AreAt (o : DatabaseData) (es : List Entry) (log : Log) (places : List ℕ) (n : ℕ) (copies : Stored) : Type 0 where
+  pub state : DatabaseData
+  pub story : Story Notes o (take n es) (take n log) state
+  pub copied : AreCopies copies state.stored
+  pub all : HaveCopies o.catalogue places copies
+
+-- the text is this query
+pub record Types (c : CatalogueData) (text : List ℕ) (x : Expression) : Type 0 where
+  pub query : Expr
+  pub reads : IsQuery text query
+  pub types : IsExpression c no_tuple query x
+
+-- what the query means over these relvars
+abbrev pub Says : CatalogueData → Relvars → Expression → Asked → Type 0
+Says c relvars x r = SaysValue r (tree_means c relvars x.tree no_attrs)
+
+-- the query, or why there is none
+abbrev pub TellsQuery : CatalogueData → List ℕ → Result Expression AskError → Type 0
+TellsQuery c text (Ok x) = Types c text x
+TellsQuery c text (Err ask_error.Broken) = ⊥
+TellsQuery c text (Err ask_error.Syntax) = (e : Expr) → IsQuery text e → ⊥
+TellsQuery c text (Err ask_error.IllTyped) = IsIllTyped c text
+TellsQuery c text (Err ask_error.OutOfMemory) = length text ≤ 8192
+
+-- what it means over what the first entries leave
+pub record SaysAfter (script : List ℕ) (es : List Entry) (n : ℕ) (x : Expression) (r : Asked) : Type 0 where
+  pub state : DatabaseData
+  pub outcomes : Outcomes
+  pub story : IsStory script (take n es) outcomes state
+  pub says : Says state.catalogue (stored_relvars state.stored) x r
+
+-- so many entries end with that of the stamp
+pub record EndsWith (at : Stamp) (es : List Entry) (n : ℕ) : Type 0 where
+  pub place : ℕ
+  pub entry : Entry
+  pub count : n ≡ place + 1
+  pub there : slice_get es place ≡ Some entry
+  pub stamp : stamp_of entry ≡ at
+
+abbrev pub as_past : AskError → PastError
+as_past ask_error.Broken = past_error.Broken
+as_past ask_error.Syntax = past_error.Syntax
+as_past ask_error.IllTyped = past_error.IllTyped
+as_past ask_error.OutOfMemory = past_error.OutOfMemory
