@@ -1,5 +1,5 @@
 -- Conditions that begin with the values of a key.
-use Rattle.std.proofs.Common.{◌≡◌, ◌<◌, ◌+◌, ◌++◌, ℕ, zero, suc, Bool, true, false, cond, List, [], ◌∷◌, length, map, take, get_or, IfSome, Bor, Option, None, Some, Result, Ok, Err, ◌⊎◌, inl, inr, ⊎_elim, ◌||◌, refl, sym, ap, ◌∙◌, subst, true≢false, arith}
+use Rattle.std.proofs.Common.{◌≡◌, ◌<◌, ◌+◌, ◌++◌, ℕ, zero, suc, Bool, true, false, cond, List, [], ◌∷◌, length, map, take, get_or, IfSome, Bor, Option, None, Some, Result, Ok, ◌⊎◌, inl, inr, ⊎_elim, ◌||◌, refl, sym, ap, ◌∙◌, subst, true≢false, arith}
 use Rattle.std.specs.Cmp.{tied_itself}
 use Rattle.std.specs.FinMap as by_name
 use Rattle.std.specs.List.{All, Contains, slice_get}
@@ -9,16 +9,16 @@ use Rattle.std.proofs.lemmas.List.Elements.{All-cons, All-push, All-tail}
 use Rattle.td_values.specs.Attributes.{attribute_of}
 use Rattle.td_values.specs.Data.{Datum, Attrs}
 use Rattle.td_values.specs.Headings.{Header}
-use Rattle.td_values.specs.Order.{attrs_order, order, text_cmp}
+use Rattle.td_values.specs.Order.{attrs_order, text_cmp}
 use Rattle.td_values.specs.Proving.Total.{order_total, tied}
 use Rattle.td_values.specs.Rows.{RowsData, AreRows}
 use Rattle.td_values.specs.Whole.{type_of}
 use Rattle.td_values.proofs.Walks.{is_tied}
-use Rattle.td_relations.specs.Sets.{Has, IsRelationOf}
+use Rattle.td_relations.specs.Sets.{IsRelationOf}
 use Rattle.td_tuples.specs.Parts.{Fits, attributes, is_in}
 use Rattle.td_tuples.specs.Unions.{tuple_of}
 use Rattle.td_tuples.proofs.ByName.{attribute-tuple_of, fits_typed}
-use Rattle.td_tuples.proofs.Filters.{mapped_more, taken}
+use Rattle.td_tuples.proofs.Filters.{taken}
 use Rattle.td_tuples.proofs.Lists.{on_values, same_name}
 use Rattle.td_syntax.specs.declared.tree.BinaryOperator.{BinaryOperator}
 use Rattle.td_syntax.specs.declared.tree.BinaryOperator.TheVariants as binary
@@ -35,7 +35,7 @@ use Rattle.td_meaning.specs.declared.conditions.Side.{Side}
 use Rattle.td_meaning.specs.declared.conditions.Side.TheVariants as side
 use Rattle.td_meaning.specs.ForProofs.Checks.{all_hold, and_also, check_holds, comparison}
 use Rattle.td_meaning.specs.ForProofs.Over.{Means}
-use Rattle.td_meaning.specs.ForProofs.Pinned.{ArePinned, Equals, FailsBut, Narrows, Pins, PinsAt, placed}
+use Rattle.td_meaning.specs.ForProofs.Pinned.{ArePinned, Equals, Narrows, Pins, PinsAt, placed}
 use Rattle.td_meaning.specs.Mean.{Names}
 use Rattle.td_operators.specs.Values.{known}
 use Rattle.td_meaning.proofs.Ready.{value_at_place}

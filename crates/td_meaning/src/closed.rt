@@ -6,10 +6,10 @@ ghost use Rattle.td_meaning.specs.ForProofs.Right.{deepest_in};
 ghost use Rattle.td_meaning.specs.ForProofs.Terms.{terms_levels};
 
 use crate::environment::relvar_at;
+use crate::evaluator::Evaluator;
 use crate::parts::heading_known;
-use crate::surroundings::Surroundings;
 use sqlite_items::Boxed;
-use std::alloc::{AllocError, Global};
+use std::alloc::AllocError;
 use td_syntax::tree::{BinaryOperator, Named};
 use td_trees::tree::{Typed, TypedGroups};
 use td_tuples::{Item, Summary};
@@ -91,14 +91,14 @@ impl Bound<'_> {
 }
 
 // The heading of the relation that the expression means, where it is there to be seen.
-fn heading_of<'a>(env: &'a Surroundings<'_>, tree: &Typed) -> Option<&'a Heading> {
+fn heading_of<'a>(evaluator: &'a Evaluator<'_>, tree: &Typed) -> Option<&'a Heading> {
     match tree {
-        Typed::Relvar(place) => match relvar_at(env.env.relvars, *place) {
+        Typed::Relvar(place) => match relvar_at(evaluator.env.relvars, *place) {
             Ok(lease) => Some(lease.get().heading()),
             Err(_) => None,
         },
-        Typed::Where(r, _) => heading_of(env, r.get()),
-        _ => match env.known(tree) {
+        Typed::Where(r, _) => heading_of(evaluator, r.get()),
+        _ => match evaluator.known(tree) {
             Some(value) => heading_known(value),
             None => None,
         },
@@ -106,9 +106,9 @@ fn heading_of<'a>(env: &'a Surroundings<'_>, tree: &Typed) -> Option<&'a Heading
 }
 
 // What is bound at the tuples of the relation that the expression means.
-fn within<'a>(env: &'a Surroundings<'_>, r: &Typed, outer: &'a Bound<'a>) -> Bound<'a> {
+fn within<'a>(evaluator: &'a Evaluator<'_>, r: &Typed, outer: &'a Bound<'a>) -> Bound<'a> {
     let place = outer.place().saturating_add(1);
-    match heading_of(env, r) {
+    match heading_of(evaluator, r) {
         Some(heading) => Bound::Attributes(heading, place, outer),
         None => Bound::Unknown(place, outer),
     }
@@ -116,7 +116,7 @@ fn within<'a>(env: &'a Surroundings<'_>, r: &Typed, outer: &'a Bound<'a>) -> Bou
 
 #[cycle(survey)]
 fn of_list<'t>(
-    env: &Surroundings<'_>,
+    evaluator: &Evaluator<'_>,
     found: &mut Vec<&'t Typed>,
     trees: &'t [Boxed<Typed>],
     bound: &Bound<'_>,
@@ -125,7 +125,7 @@ fn of_list<'t>(
 {
     let mut reach = Reach::NOTHING;
     for tree in trees {
-        let next = survey(env, found, tree.get(), bound)?;
+        let next = survey(evaluator, found, tree.get(), bound)?;
         reach = reach.and(next);
     }
     Ok(reach)
@@ -133,7 +133,7 @@ fn of_list<'t>(
 
 #[cycle(survey)]
 fn of_items<'t>(
-    env: &Surroundings<'_>,
+    evaluator: &Evaluator<'_>,
     found: &mut Vec<&'t Typed>,
     items: &'t [Item<Boxed<Typed>>],
     bound: &Bound<'_>,
@@ -142,7 +142,7 @@ fn of_items<'t>(
 {
     let mut reach = Reach::NOTHING;
     for item in items {
-        let next = survey(env, found, item.term.get(), bound)?;
+        let next = survey(evaluator, found, item.term.get(), bound)?;
         reach = reach.and(next);
     }
     Ok(reach)
@@ -150,7 +150,7 @@ fn of_items<'t>(
 
 #[cycle(survey)]
 fn of_summary<'t>(
-    env: &Surroundings<'_>,
+    evaluator: &Evaluator<'_>,
     found: &mut Vec<&'t Typed>,
     summary: &'t Summary<Boxed<Typed>>,
     bound: &Bound<'_>,
@@ -163,13 +163,13 @@ fn of_summary<'t>(
         | Summary::Max(term)
         | Summary::Min(term)
         | Summary::And(term)
-        | Summary::Or(term) => survey(env, found, term.get(), bound),
+        | Summary::Or(term) => survey(evaluator, found, term.get(), bound),
     }
 }
 
 #[cycle(survey)]
 fn of_summaries<'t>(
-    env: &Surroundings<'_>,
+    evaluator: &Evaluator<'_>,
     found: &mut Vec<&'t Typed>,
     items: &'t [Item<Summary<Boxed<Typed>>>],
     bound: &Bound<'_>,
@@ -184,7 +184,7 @@ fn of_summaries<'t>(
             | Summary::Max(term)
             | Summary::Min(term)
             | Summary::And(term)
-            | Summary::Or(term) => survey(env, found, term.get(), bound)?,
+            | Summary::Or(term) => survey(evaluator, found, term.get(), bound)?,
         };
         reach = reach.and(next);
     }
@@ -194,7 +194,7 @@ fn of_summaries<'t>(
 // Each expression sees the names before it.
 #[cycle(survey)]
 fn of_names<'t>(
-    env: &Surroundings<'_>,
+    evaluator: &Evaluator<'_>,
     found: &mut Vec<&'t Typed>,
     xs: &'t [Named<Boxed<Typed>>],
     bound: &Bound<'_>,
@@ -205,7 +205,7 @@ fn of_names<'t>(
     let mut reach = Reach::NOTHING;
     for i in 0..xs.len() {
         let within = Bound::Given(&xs[..i], place, &*bound);
-        let next = survey(env, found, xs[i].value.get(), &within)?;
+        let next = survey(evaluator, found, xs[i].value.get(), &within)?;
         reach = reach.and(next);
     }
     Ok(reach)
@@ -214,7 +214,7 @@ fn of_names<'t>(
 // Of the forms that bind names.
 #[cycle(survey)]
 fn of_terms<'t>(
-    env: &Surroundings<'_>,
+    evaluator: &Evaluator<'_>,
     found: &mut Vec<&'t Typed>,
     tree: &'t Typed,
     bound: &Bound<'_>,
@@ -223,34 +223,34 @@ fn of_terms<'t>(
 {
     match tree {
         Typed::Where(r, c) => {
-            let first = survey(env, found, r.get(), bound)?;
-            let inner = within(&*env, r.get(), &*bound);
-            let second = survey(env, found, c.get(), &inner)?;
+            let first = survey(evaluator, found, r.get(), bound)?;
+            let inner = within(&*evaluator, r.get(), &*bound);
+            let second = survey(evaluator, found, c.get(), &inner)?;
             Ok(first.and(second))
         }
         Typed::Aggregate(r, summary) => {
-            let first = survey(env, found, r.get(), bound)?;
-            let inner = within(&*env, r.get(), &*bound);
-            let second = of_summary(env, found, summary, &inner)?;
+            let first = survey(evaluator, found, r.get(), bound)?;
+            let inner = within(&*evaluator, r.get(), &*bound);
+            let second = of_summary(evaluator, found, summary, &inner)?;
             Ok(first.and(second))
         }
         Typed::Extend(r, items) => {
-            let first = survey(env, found, r.get(), bound)?;
-            let inner = within(&*env, r.get(), &*bound);
-            let second = of_items(env, found, items.as_slice(), &inner)?;
+            let first = survey(evaluator, found, r.get(), bound)?;
+            let inner = within(&*evaluator, r.get(), &*bound);
+            let second = of_items(evaluator, found, items.as_slice(), &inner)?;
             Ok(first.and(second))
         }
         Typed::Summarize(r, groups, items) => {
-            let first = survey(env, found, r.get(), bound)?;
-            let second = of_groups(env, found, groups, bound)?;
-            let inner = within(&*env, r.get(), &*bound);
-            let third = of_summaries(env, found, items.as_slice(), &inner)?;
+            let first = survey(evaluator, found, r.get(), bound)?;
+            let second = of_groups(evaluator, found, groups, bound)?;
+            let inner = within(&*evaluator, r.get(), &*bound);
+            let third = of_summaries(evaluator, found, items.as_slice(), &inner)?;
             Ok(first.and(second).and(third))
         }
         Typed::With(xs, body) => {
-            let first = of_names(env, found, xs.as_slice(), bound)?;
+            let first = of_names(evaluator, found, xs.as_slice(), bound)?;
             let inner = Bound::Given(xs.as_slice(), bound.place().saturating_add(1), &*bound);
-            let second = survey(env, found, body.get(), &inner)?;
+            let second = survey(evaluator, found, body.get(), &inner)?;
             Ok(first.and(second))
         }
         _ => Ok(Reach::NOTHING),
@@ -259,7 +259,7 @@ fn of_terms<'t>(
 
 #[cycle(survey)]
 fn of_groups<'t>(
-    env: &Surroundings<'_>,
+    evaluator: &Evaluator<'_>,
     found: &mut Vec<&'t Typed>,
     groups: &'t TypedGroups<Boxed<Typed>>,
     bound: &Bound<'_>,
@@ -267,14 +267,14 @@ fn of_groups<'t>(
     ensures { OnOk result (deepest_in found.new.items ≤ max (deepest_in found.old.items) (groups_levels groups.now)) }
 {
     match groups {
-        TypedGroups::Per(tree) => survey(env, found, tree.get(), bound),
+        TypedGroups::Per(tree) => survey(evaluator, found, tree.get(), bound),
         TypedGroups::Whole | TypedGroups::By(_) => Ok(Reach::NOTHING),
     }
 }
 
 #[cycle(survey)]
 fn of_parts<'t>(
-    env: &Surroundings<'_>,
+    evaluator: &Evaluator<'_>,
     found: &mut Vec<&'t Typed>,
     tree: &'t Typed,
     bound: &Bound<'_>,
@@ -289,38 +289,38 @@ fn of_parts<'t>(
         }),
         Typed::Relvar(_) => Ok(Reach::DEAR),
         Typed::Select(_, trees) => {
-            Ok(of_list(env, found, trees.as_slice(), bound)?.and(Reach::DEAR))
+            Ok(of_list(evaluator, found, trees.as_slice(), bound)?.and(Reach::DEAR))
         }
         Typed::Relation(_, trees) => {
-            Ok(of_list(env, found, trees.as_slice(), bound)?.and(Reach::DEAR))
+            Ok(of_list(evaluator, found, trees.as_slice(), bound)?.and(Reach::DEAR))
         }
-        Typed::Tuple(items) => of_items(env, found, items.as_slice(), bound),
+        Typed::Tuple(items) => of_items(evaluator, found, items.as_slice(), bound),
         Typed::Component(_, a)
         | Typed::Unary(_, a)
         | Typed::From(_, a)
         | Typed::Project(a, _)
         | Typed::Rename(a, _)
         | Typed::Nest(_, a, _, _)
-        | Typed::Unnest(_, a, _) => survey(env, found, a.get(), bound),
+        | Typed::Unnest(_, a, _) => survey(evaluator, found, a.get(), bound),
         Typed::Binary(_, a, b) => {
-            let first = survey(env, found, a.get(), bound)?;
-            let second = survey(env, found, b.get(), bound)?;
+            let first = survey(evaluator, found, a.get(), bound)?;
+            let second = survey(evaluator, found, b.get(), bound)?;
             Ok(first.and(second))
         }
         Typed::If(c, a, b) => {
-            let first = survey(env, found, c.get(), bound)?;
-            let second = survey(env, found, a.get(), bound)?;
-            let third = survey(env, found, b.get(), bound)?;
+            let first = survey(evaluator, found, c.get(), bound)?;
+            let second = survey(evaluator, found, a.get(), bound)?;
+            let third = survey(evaluator, found, b.get(), bound)?;
             Ok(first.and(second).and(third))
         }
-        _ => of_terms(env, found, tree, bound),
+        _ => of_terms(evaluator, found, tree, bound),
     }
 }
 
 // Adds the greatest parts of the expression that name nothing around it and are worth keeping.
 #[cycle(survey)]
 fn survey<'t>(
-    env: &Surroundings<'_>,
+    evaluator: &Evaluator<'_>,
     found: &mut Vec<&'t Typed>,
     tree: &'t Typed,
     bound: &Bound<'_>,
@@ -328,10 +328,10 @@ fn survey<'t>(
     ensures { OnOk result (deepest_in found.new.items ≤ max (deepest_in found.old.items) (levels tree.now)) }
 {
     let mark = found.len();
-    let reach = of_parts(env, found, tree, bound)?;
+    let reach = of_parts(evaluator, found, tree, bound)?;
     if reach.is_dear && bound.place() < reach.outermost {
         found.truncate(mark);
-        if !matches!(tree, Typed::Relvar(_)) && env.known(tree).is_none() {
+        if !matches!(tree, Typed::Relvar(_)) && evaluator.known(tree).is_none() {
             found.push(tree)?;
         }
     }
@@ -349,19 +349,18 @@ pub(crate) enum Terms<'t> {
 
 /// The greatest parts of these terms that name nothing around them, but those that a look answers.
 pub(crate) fn closed_parts<'t>(
-    alloc: Global,
-    env: &Surroundings<'_>,
+    evaluator: &Evaluator<'_>,
     terms: Terms<'t>,
 ) -> Result<Vec<&'t Typed>, AllocError>
     ensures { IfOk result (λ v. deepest_in v.items ≤ terms_levels terms.entry) }
 {
-    let mut found = Vec::new(alloc);
+    let mut found = Vec::new(evaluator.alloc);
     let bound = Bound::Nothing;
     match terms {
-        Terms::Condition(tree) => survey(env, &mut found, tree, &bound)?,
-        Terms::Summary(summary) => of_summary(env, &mut found, summary, &bound)?,
-        Terms::Items(items) => of_items(env, &mut found, items, &bound)?,
-        Terms::Summaries(items) => of_summaries(env, &mut found, items, &bound)?,
+        Terms::Condition(tree) => survey(evaluator, &mut found, tree, &bound)?,
+        Terms::Summary(summary) => of_summary(evaluator, &mut found, summary, &bound)?,
+        Terms::Items(items) => of_items(evaluator, &mut found, items, &bound)?,
+        Terms::Summaries(items) => of_summaries(evaluator, &mut found, items, &bound)?,
     };
     Ok(found)
 }

@@ -14,8 +14,8 @@ ghost use Rattle.td_syntax.specs.declared.tree.BinaryOperator.TheVariants as bin
 ghost use Rattle.td_tuples.specs.Parts.{Fits};
 ghost use Rattle.td_values.specs.Data.{Attrs};
 
+use crate::evaluator::Evaluator;
 use crate::scope::{Held, Meant, Scope, lent};
-use crate::surroundings::Surroundings;
 use sqlite_items::Boxed;
 use std::alloc::{AllocError, Global};
 use td_algebra::{Fault, Stop, place_in};
@@ -83,40 +83,38 @@ fn side_local(
 
 // The operand as a side, where it is an attribute or its value is known.
 fn side_of(
-    alloc: Global,
-    env: &Surroundings<'_>,
+    evaluator: &Evaluator<'_>,
     scope: &Scope,
     heading: &Heading,
     tree: &Typed,
 ) -> Result<Option<Side>, AllocError>
-    ensures { IfOk result (λ o. IfSome o (IsSide (mean_in env.now.env.now) (visible scope.now) heading.now tree.now)) }
+    ensures { IfOk result (λ o. IfSome o (IsSide (mean_in evaluator.now.env.now) (visible scope.now) heading.now tree.now)) }
 {
     match tree {
-        Typed::Integer(n) => Ok(Some(side_value(alloc, integer_value(*n))?)),
-        Typed::Text(text) => Ok(Some(side_value(alloc, text_value(text.copy()?))?)),
-        Typed::Truth(b) => Ok(Some(side_value(alloc, truth_value(*b))?)),
-        Typed::Local(name) => side_local(alloc, scope, heading, name),
-        _ => match env.known(tree) {
-            Some(value) => side_known(alloc, value),
+        Typed::Integer(n) => Ok(Some(side_value(evaluator.alloc, integer_value(*n))?)),
+        Typed::Text(text) => Ok(Some(side_value(evaluator.alloc, text_value(text.copy()?))?)),
+        Typed::Truth(b) => Ok(Some(side_value(evaluator.alloc, truth_value(*b))?)),
+        Typed::Local(name) => side_local(evaluator.alloc, scope, heading, name),
+        _ => match evaluator.known(tree) {
+            Some(value) => side_known(evaluator.alloc, value),
             None => Ok(None),
         },
     }
 }
 
 fn sides_of(
-    alloc: Global,
-    env: &Surroundings<'_>,
+    evaluator: &Evaluator<'_>,
     scope: &Scope,
     heading: &Heading,
     a: &Typed,
     b: &Typed,
 ) -> Result<Option<(Side, Side)>, AllocError>
-    ensures { IfOk result (λ o. IfSome o (λ p. IsSide (mean_in env.now.env.now) (visible scope.now) heading.now a.now p.0 × IsSide (mean_in env.now.env.now) (visible scope.now) heading.now b.now p.1)) }
+    ensures { IfOk result (λ o. IfSome o (λ p. IsSide (mean_in evaluator.now.env.now) (visible scope.now) heading.now a.now p.0 × IsSide (mean_in evaluator.now.env.now) (visible scope.now) heading.now b.now p.1)) }
 {
-    let Some(first) = side_of(alloc, env, scope, heading, a)? else {
+    let Some(first) = side_of(evaluator, scope, heading, a)? else {
         return Ok(None);
     };
-    match side_of(alloc, env, scope, heading, b)? {
+    match side_of(evaluator, scope, heading, b)? {
         Some(second) => Ok(Some((first, second))),
         None => Ok(None),
     }
@@ -148,18 +146,17 @@ fn is_comparison(operator: BinaryOperator) -> bool
 
 // The expression as a check: a comparison whose operands are sides, or as it is.
 fn check_of<'a>(
-    alloc: Global,
-    env: &Surroundings<'_>,
+    evaluator: &Evaluator<'_>,
     scope: &Scope,
     heading: &Heading,
     tree: &'a Typed,
 ) -> Result<Check<'a>, AllocError>
-    ensures means { IfOk result (IsCheck (mean_in env.now.env.now) (visible scope.now) heading.now tree.now) }
+    ensures means { IfOk result (IsCheck (mean_in evaluator.now.env.now) (visible scope.now) heading.now tree.now) }
     ensures levels { IfOk result (λ c. check_levels c ≤ levels tree.now) }
 {
     match tree {
         Typed::Binary(operator, a, b) if is_comparison(*operator) => {
-            match sides_of(alloc, env, scope, heading, a.get(), b.get())? {
+            match sides_of(evaluator, scope, heading, a.get(), b.get())? {
                 Some((first, second)) => Ok(Check::Comparison(*operator, first, second)),
                 None => Ok(Check::Other(tree)),
             }
@@ -178,38 +175,36 @@ fn add_check<'a>(checks: &mut Vec<Check<'a>>, check: Check<'a>) -> Result<(), Al
 // Adds the operands of AND in written order.
 #[cycle(conjuncts)]
 fn add_checks<'a>(
-    alloc: Global,
-    env: &Surroundings<'_>,
+    evaluator: &Evaluator<'_>,
     scope: &Scope,
     heading: &Heading,
     tree: &'a Typed,
     checks: &mut Vec<Check<'a>>,
 ) -> Result<(), AllocError>
-    ensures means { OnOk result (AddsChecks (mean_in env.now.env.now) (visible scope.now) heading.now tree.now checks.old.items checks.new.items) }
+    ensures means { OnOk result (AddsChecks (mean_in evaluator.now.env.now) (visible scope.now) heading.now tree.now checks.old.items checks.new.items) }
     ensures levels { OnOk result (deepest_check checks.new.items ≤ max (deepest_check checks.old.items) (levels tree.now)) }
 {
     match tree {
         Typed::Binary(operator, a, b) if is_and(*operator) => {
-            add_checks(alloc, env, scope, heading, a.get(), checks)?;
-            add_checks(alloc, env, scope, heading, b.get(), checks)
+            add_checks(evaluator, scope, heading, a.get(), checks)?;
+            add_checks(evaluator, scope, heading, b.get(), checks)
         }
-        _ => add_check(checks, check_of(alloc, env, scope, heading, tree)?),
+        _ => add_check(checks, check_of(evaluator, scope, heading, tree)?),
     }
 }
 
 /// The condition, ready for the tuples of a heading.
 pub(crate) fn checks_of<'a>(
-    alloc: Global,
-    env: &Surroundings<'_>,
+    evaluator: &Evaluator<'_>,
     scope: &Scope,
     heading: &Heading,
     condition: &'a Typed,
 ) -> Result<Vec<Check<'a>>, AllocError>
-    ensures means { IfOk result (λ v. AreChecks (mean_in env.now.env.now) (visible scope.now) heading.now condition.now v.items) }
+    ensures means { IfOk result (λ v. AreChecks (mean_in evaluator.now.env.now) (visible scope.now) heading.now condition.now v.items) }
     ensures levels { IfOk result (λ v. deepest_check v.items ≤ levels condition.now) }
 {
-    let mut checks = Vec::new(alloc);
-    add_checks(alloc, env, scope, heading, condition, &mut checks)?;
+    let mut checks = Vec::new(evaluator.alloc);
+    add_checks(evaluator, scope, heading, condition, &mut checks)?;
     Ok(checks)
 }
 

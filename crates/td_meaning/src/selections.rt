@@ -1,15 +1,27 @@
 //! The selectors of possreps.
 
 ghost use Rattle.std.specs.Prelude.{◌≡◌, IfOk, MatchOption};
+ghost use Rattle.td_algebra.specs.Raising.{Answers};
 ghost use Rattle.td_meaning.specs.ForProofs.Found.{IsFound, IsNowhere};
+ghost use Rattle.td_meaning.specs.ForProofs.Over.{list_meant};
+ghost use Rattle.td_meaning.specs.Mean as spec;
+ghost use Rattle.td_meaning.specs.Seen.{mean_in, visible};
+ghost use Rattle.td_meaning.specs.Selections as selections;
 ghost use Rattle.td_values.specs.Data.{items_of, user};
 
+use crate::environment::Environment;
+use crate::evaluator::Evaluator;
+use crate::scope::Scope;
+use sqlite_items::Boxed;
 use std::alloc::{AllocError, Global};
+use td_algebra::{Fault, Stop};
 use td_trees::expression::Selector;
+use td_trees::tree::Typed;
+use td_tuples::Shared;
 use td_values::{Items, Kind, Value};
 
-/// The last selector at the place, and those before it. It looks at them one by one, from the end.
-pub(crate) fn selector_at(selectors: &[Selector], place: usize) -> Option<(&[Selector], &Selector)>
+// The last selector at the place, and those before it. It looks at them one by one, from the end.
+fn selector_at(selectors: &[Selector], place: usize) -> Option<(&[Selector], &Selector)>
     ensures { MatchOption result (IsNowhere selectors.now place) (λ f. IsFound selectors.now place f.0.now f.1.now) }
 {
     let mut rest = selectors;
@@ -22,12 +34,8 @@ pub(crate) fn selector_at(selectors: &[Selector], place: usize) -> Option<(&[Sel
     None
 }
 
-/// The value of the possrep with these components.
-pub(crate) fn user_value(
-    alloc: Global,
-    selector: &Selector,
-    values: Vec<Value>,
-) -> Result<Value, AllocError>
+// The value of the possrep with these components.
+fn user_value(alloc: Global, selector: &Selector, values: Vec<Value>) -> Result<Value, AllocError>
     ensures { IfOk result (λ v. v ≡ user selector.now.possrep (items_of values.items)) }
 {
     let possrep = selector.possrep.copy()?;
@@ -35,4 +43,63 @@ pub(crate) fn user_value(
     Ok(Value {
         kind: Kind::User(possrep, items),
     })
+}
+
+impl Evaluator<'_> {
+    #[cycle(evaluation)]
+    #[tactic(auto, unfolding(crate::specs::Selections::admits))]
+    fn admits(
+        &self,
+        earlier: &[Selector],
+        limit: &Option<Shared<Typed>>,
+        scope: &Scope,
+    ) -> Result<bool, Fault>
+        ensures { Answers result (selections.admits (selections.selection earlier.now) limit.now (visible scope.now)) }
+    {
+        match limit {
+            None => Ok(true),
+            Some(tree) => {
+                let env = Environment {
+                    relvars: &[],
+                    selectors: earlier,
+                };
+                Evaluator::of(self.alloc, &env).truth(tree.get(), scope)
+            }
+        }
+    }
+
+    #[cycle(evaluation)]
+    #[tactic(auto, unfolding(crate::specs::Selections::selected))]
+    fn selected(
+        &self,
+        earlier: &[Selector],
+        selector: &Selector,
+        values: Vec<Value>,
+    ) -> Result<Value, Fault>
+        ensures { Answers result (selections.selected (selections.selection earlier.now) selector.now values.items) }
+    {
+        let scope = Scope::Components(selector.components.as_slice(), values.as_slice());
+        if self.admits(earlier, &selector.limit, &scope)? {
+            Ok(user_value(self.alloc, selector, values)?)
+        } else {
+            Err(Fault::Raised(Stop::Selector))
+        }
+    }
+
+    #[cycle(evaluation)]
+    #[tactic(auto, unfolding(crate::specs::Mean::mean_select))]
+    pub(crate) fn selection(
+        &self,
+        place: usize,
+        trees: &[Boxed<Typed>],
+        scope: &Scope,
+    ) -> Result<Value, Fault>
+        ensures { Answers result (spec.mean_select (selections.selection self.now.env.now.selectors.now) place (list_meant (mean_in self.now.env.now) trees.now) (visible scope.now)) }
+    {
+        let found = self.values(trees, scope)?;
+        match selector_at(self.env.selectors, place) {
+            Some((earlier, selector)) => self.selected(earlier, selector, found),
+            None => Err(Fault::Raised(Stop::Untyped)),
+        }
+    }
 }

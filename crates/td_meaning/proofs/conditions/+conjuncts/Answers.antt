@@ -8,7 +8,7 @@ use Rattle.td_meaning.proofs.conditions.+conjuncts.Goals as goal
 pub returns-in_ok-add_checks-in-Binary-clause-means : goal.returns-in_ok-add_checks-in-Binary-clause-means
 returns-in_ok-add_checks-in-Binary-clause-means t c =
     let h = c.args.heading.now in
-    let env = c.args.env.now.env.now in
+    let env = c.args.evaluator.now.env.now in
     let names = visible c.args.scope.now in
     let old = c.args.checks.now.items in
     let mid = c.add_checks.new.checks.items in
@@ -22,7 +22,7 @@ returns-in_ok-add_checks-in-Binary-clause-means t c =
 pub returns-in_ok-check_of-in_default-clause-means : goal.returns-in_ok-check_of-in_default-clause-means
 returns-in_ok-check_of-in_default-clause-means t c =
     on_ok_weaker c.add_check.result
-    (λ same. adds_one c.args.env.now.env.now (visible c.args.scope.now) c.args.heading.now c.args.tree.now c.in_ok-check_of-in_default.field-0 c.args.checks.now.items c.add_check.new.checks.items
+    (λ same. adds_one c.args.evaluator.now.env.now (visible c.args.scope.now) c.args.heading.now c.args.tree.now c.in_ok-check_of-in_default.field-0 c.args.checks.now.items c.add_check.new.checks.items
     c.in_ok-check_of-in_default.ensures.means same)
     c.add_check.ensures
 

@@ -10,10 +10,10 @@ pub returns-in-Some-clause-means : goal.returns-in-Some-clause-means
 unfolding check_holds
 returns-in-Some-clause-means c =
     let h = c.args.heading.now in
-    let m = mean_in c.args.env.now.env.now in
+    let m = mean_in c.args.evaluator.now.env.now in
     let names = visible c.args.scope.now in
     let sides = subst (λ o. IfSome o (λ p. IsSide m names h c.get.result.now p.0 × IsSide m names h c.get-in-Binary.result.now p.1)) c.in-Some.is c.in_ok-first-in-Binary.ensures in
-    compares c.args.env.now.env.now names h c.args.tree.now c.in-Binary.a c.in-Binary.b c.in-Binary.operator (check.Comparison c.in-Binary.operator c.in-Some.first c.in-Some.second) (λ u. side_value u c.in-Some.first) (λ u. side_value u c.in-Some.second)
+    compares c.args.evaluator.now.env.now names h c.args.tree.now c.in-Binary.a c.in-Binary.b c.in-Binary.operator (check.Comparison c.in-Binary.operator c.in-Some.first c.in-Some.second) (λ u. side_value u c.in-Some.first) (λ u. side_value u c.in-Some.second)
     c.in-Binary.is (c.is_comparison.ensures c.if-is_comparison.true) (λ u. refl)
     (λ u f. ap (λ x. m x (within u names)) (sym c.get.ensures) ∙ sides.0 u f) (λ u f. ap (λ x. m x (within u names)) (sym c.get-in-Binary.ensures) ∙ sides.1 u f)
 

@@ -13,7 +13,7 @@ pub returns-in-Local : goal.returns-in-Local
 returns-in-Local c =
     let h = c.args.heading.now in
     let n = c.in-Local.name in
-    let env = c.args.env.now.env.now in
+    let env = c.args.evaluator.now.env.now in
     let names = visible c.args.scope.now in
     side_weaker (λ s. (u : Attrs) → Fits h u → known (within u names n) ≡ side_value u s) (IsSide (mean_in env) names h c.args.tree.now) c.side_local.result
     (λ s is u f. local_is env names c.args.tree.now n u c.in-Local.is ∙ is u f) c.side_local.ensures
@@ -21,7 +21,7 @@ returns-in-Local c =
 pub returns-in-Some : goal.returns-in-Some
 returns-in-Some c =
     let h = c.args.heading.now in
-    let env = c.args.env.now.env.now in
+    let env = c.args.evaluator.now.env.now in
     let names = visible c.args.scope.now in
     side_weaker (λ s. (u : Attrs) → side_value u s ≡ known_value c.in-Some.value.now) (IsSide (mean_in env) names h c.args.tree.now) c.side_known.result
     (λ s is u f. c.in-Some.ensures (within u names) ∙ sym (is u)) c.side_known.ensures

@@ -1,4 +1,3 @@
-use Rattle.std.proofs.Common.{◌≡◌, sym, ap, ◌∙◌}
 use Rattle.td_meaning.proofs.Pinning.{equals_some}
 use Rattle.td_meaning.proofs.keyed.equality.Goals as goal
 

@@ -1,4 +1,4 @@
-use Rattle.std.proofs.Common.{◌≡◌, ◌++◌, ◌∷◌, [], length, ap, ◌∙◌, subst, arith}
+use Rattle.std.proofs.Common.{◌++◌, ◌∷◌, [], length, ap, ◌∙◌, subst, arith}
 use Rattle.td_meaning.specs.ForProofs.Pinned.{PinsAt}
 use Rattle.td_meaning.proofs.Pinning.{one_pinned, pins_named}
 use Rattle.td_meaning.proofs.keyed.key_values.Goals as goal

@@ -1,4 +1,4 @@
-//! What is around an expression that is evaluated.
+//! The evaluator.
 
 ghost use Rattle.std.specs.Prelude.{◌≡◌, IfSome};
 ghost use Rattle.td_meaning.specs.ForProofs.Right.{AreRight, AreRight-prop, known_value};
@@ -8,23 +8,30 @@ ghost use Rattle.td_meaning.specs.Seen.{mean_in};
 use crate::environment::Environment;
 use crate::parts::{Part, find};
 use crate::scope::Held;
+use std::alloc::Global;
 use td_algebra::Stop;
 use td_trees::tree::Typed;
 
-/// Relvars and selectors, and parts of expressions whose values over them are known, in the order of these.
+/// Evaluates expressions over relvars and selectors, beside parts of expressions whose values over them are known, in
+/// the order of these.
 #[derive(Clone, Copy)]
-pub(crate) struct Surroundings<'a> {
+pub(crate) struct Evaluator<'a> {
+    pub alloc: Global,
     pub env: &'a Environment<'a>,
     pub parts: &'a [Part<'a>],
     ghost right: { AreRight env.now parts.now } by { AreRight-prop env.now parts.now },
 }
 
-impl<'a> Surroundings<'a> {
+impl<'a> Evaluator<'a> {
     /// Where nothing is known.
-    pub(crate) fn of(env: &'a Environment<'a>) -> Surroundings<'a>
+    pub(crate) fn of(alloc: Global, env: &'a Environment<'a>) -> Evaluator<'a>
         ensures { result.env.now ≡ env.now }
     {
-        Surroundings { env, parts: &[] }
+        Evaluator {
+            alloc,
+            env,
+            parts: &[],
+        }
     }
 
     /// What is known of the expression. What takes no evaluation is not sought.

@@ -1,0 +1,111 @@
+//! What is evaluated once, and not at each tuple.
+
+ghost use Rattle.std.specs.Prelude.{◌≡◌, ◌≤◌, IfOk, IfSome, OnOk};
+ghost use Rattle.td_meaning.specs.ForProofs.Right.{AreRight, deepest_in, known_value};
+ghost use Rattle.td_meaning.specs.ForProofs.Terms.{terms_levels};
+ghost use Rattle.td_meaning.specs.Mean.{Names};
+ghost use Rattle.td_meaning.specs.Seen.{mean_in};
+
+use crate::closed::{Terms, closed_parts};
+use crate::evaluator::Evaluator;
+use crate::parts::{Part, copied, put};
+use crate::scope::{Held, Scope, hold};
+use std::alloc::AllocError;
+use td_algebra::{Fault, Stop};
+use td_trees::tree::Typed;
+
+impl Evaluator<'_> {
+    // What the expression means wherever it stands, if it names nothing that is around it.
+    #[cycle(evaluation)]
+    fn closed_value(&self, tree: &Typed) -> Result<Option<Result<Held, Stop>>, AllocError>
+        ensures { IfOk result (λ v. IfSome v (λ w. (names : Names) → mean_in self.now.env.now tree.now names ≡ known_value w)) }
+    {
+        match self.evaluate(tree, &Scope::Nothing) {
+            Ok(value) => Ok(Some(Ok(hold(value)))),
+            Err(Fault::Raised(stop)) => match stop {
+                Stop::Untyped => Ok(None),
+                _ => Ok(Some(Err(stop))),
+            },
+            Err(Fault::OutOfMemory) => Err(AllocError),
+        }
+    }
+
+    fn parts_beside<'a>(
+        &self,
+        parts: &[Part<'_>],
+        terms: Terms<'a>,
+    ) -> Result<Vec<&'a Typed>, AllocError>
+        requires { AreRight self.now.env.now parts.now }
+        ensures { IfOk result (λ v. deepest_in v.items ≤ terms_levels terms.entry) }
+    {
+        let around = Evaluator {
+            alloc: self.alloc,
+            env: &*self.env,
+            parts: &*parts,
+        };
+        closed_parts(&around, terms)
+    }
+
+    #[cycle(evaluation)]
+    fn keep<'a>(&self, parts: &mut Vec<Part<'a>>, tree: &'a Typed) -> Result<(), AllocError>
+        requires { AreRight self.now.env.now parts.old.items }
+        ensures { OnOk result (AreRight self.now.env.now parts.new.items) }
+    {
+        let around = Evaluator {
+            alloc: self.alloc,
+            env: &*self.env,
+            parts: parts.as_slice(),
+        };
+        match around.closed_value(tree)? {
+            Some(value) => put(self.alloc, parts, tree, value),
+            None => Ok(()),
+        }
+    }
+
+    #[cycle(evaluation)]
+    fn keep_all<'a>(&self, parts: &mut Vec<Part<'a>>, trees: &[&'a Typed]) -> Result<(), AllocError>
+        requires { AreRight self.now.env.now parts.old.items }
+        ensures { OnOk result (AreRight self.now.env.now parts.new.items) }
+    {
+        for tree in trees {
+            self.keep(parts, *tree)?;
+        }
+        Ok(())
+    }
+
+    // Adds the parts of the terms that name nothing around them. Where the heading of a relation is not to be seen
+    // before it is evaluated, what stands within its attributes comes one round later; the last round adds nothing.
+    #[cycle(evaluation)]
+    fn add_parts<'a>(&self, parts: &mut Vec<Part<'a>>, terms: Terms<'a>) -> Result<(), AllocError>
+        requires { AreRight self.now.env.now parts.old.items }
+        ensures { OnOk result (AreRight self.now.env.now parts.new.items) }
+    {
+        for _ in 0..usize::MAX {
+            let before = parts.len();
+            let found = self.parts_beside(parts.as_slice(), terms)?;
+            self.keep_all(parts, found.as_slice())?;
+            if parts.len() == before {
+                break;
+            }
+        }
+        Ok(())
+    }
+
+    /// What is known at each of the tuples, or nothing beside what is known already: over one tuple nothing is
+    /// evaluated twice.
+    #[cycle(evaluation)]
+    pub(crate) fn prepared<'a, 'e: 'a, 't: 'a>(
+        &'e self,
+        terms: Terms<'t>,
+        tuples: usize,
+    ) -> Result<Option<Vec<Part<'a>>>, AllocError>
+        ensures { IfOk result (λ v. IfSome v (λ v. AreRight self.now.env.now v.items)) }
+    {
+        if tuples < 2 || closed_parts(self, terms)?.is_empty() {
+            return Ok(None);
+        }
+        let mut parts = copied(self.alloc, self.parts)?;
+        self.add_parts(&mut parts, terms)?;
+        Ok(Some(parts))
+    }
+}

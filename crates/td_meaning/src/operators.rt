@@ -1,0 +1,182 @@
+//! Operators and their operands.
+
+ghost use Rattle.td_algebra.specs.Raising.{Answers};
+ghost use Rattle.td_meaning.specs.Mean as spec;
+ghost use Rattle.td_operators.specs.Operators as operators;
+ghost use Rattle.td_meaning.specs.Seen.{mean_in, visible};
+
+use crate::evaluator::Evaluator;
+use crate::scope::Scope;
+use td_algebra::Fault;
+use td_operators::{
+    attribute_at, component_at, nested, operate, operate_on, part_at, truth_value, unnested,
+    with_new_names,
+};
+use td_syntax::tree::{BinaryOperator, Nesting, UnaryOperator};
+use td_trees::tree::Typed;
+use td_values::{Name, Value};
+
+impl Evaluator<'_> {
+    #[cycle(evaluation)]
+    #[tactic(auto, unfolding(crate::specs::Mean::mean_by))]
+    pub(crate) fn unary(
+        &self,
+        operator: UnaryOperator,
+        a: &Typed,
+        scope: &Scope,
+    ) -> Result<Value, Fault>
+        ensures { Answers result (spec.mean_by (operators.operate_on operator) (mean_in self.now.env.now a.now) (visible scope.now)) }
+    {
+        operate_on(self.alloc, operator, self.operand(a, &*scope)?)
+    }
+
+    #[cycle(evaluation)]
+    #[tactic(auto, unfolding(crate::specs::Mean::mean_by))]
+    pub(crate) fn component(&self, at: usize, a: &Typed, scope: &Scope) -> Result<Value, Fault>
+        ensures { Answers result (spec.mean_by (operators.component_at at) (mean_in self.now.env.now a.now) (visible scope.now)) }
+    {
+        let a = self.operand(a, &*scope)?;
+        component_at(self.alloc, at, &a)
+    }
+
+    #[cycle(evaluation)]
+    #[tactic(auto, unfolding(crate::specs::Mean::mean_by))]
+    pub(crate) fn attribute(&self, name: &Name, a: &Typed, scope: &Scope) -> Result<Value, Fault>
+        ensures { Answers result (spec.mean_by (operators.attribute_at name.now) (mean_in self.now.env.now a.now) (visible scope.now)) }
+    {
+        let a = self.operand(a, &*scope)?;
+        attribute_at(self.alloc, name, &a)
+    }
+
+    #[cycle(evaluation)]
+    #[tactic(auto, unfolding(crate::specs::Mean::mean_by))]
+    pub(crate) fn projection(
+        &self,
+        a: &Typed,
+        names: &[Name],
+        scope: &Scope,
+    ) -> Result<Value, Fault>
+        ensures { Answers result (spec.mean_by (operators.part_at names.now) (mean_in self.now.env.now a.now) (visible scope.now)) }
+    {
+        part_at(self.alloc, names, self.operand(a, &*scope)?)
+    }
+
+    #[cycle(evaluation)]
+    #[tactic(auto, unfolding(crate::specs::Mean::mean_by))]
+    pub(crate) fn renaming(
+        &self,
+        a: &Typed,
+        items: &[(Name, Name)],
+        scope: &Scope,
+    ) -> Result<Value, Fault>
+        ensures { Answers result (spec.mean_by (operators.with_new_names items.now) (mean_in self.now.env.now a.now) (visible scope.now)) }
+    {
+        with_new_names(self.alloc, items, self.operand(a, &*scope)?)
+    }
+
+    #[cycle(evaluation)]
+    #[tactic(auto, unfolding(crate::specs::Mean::mean_by))]
+    pub(crate) fn nesting(
+        &self,
+        nesting: Nesting,
+        a: &Typed,
+        names: &[Name],
+        name: &Name,
+        scope: &Scope,
+    ) -> Result<Value, Fault>
+        ensures { Answers result (spec.mean_by (operators.nested nesting names.now name.now) (mean_in self.now.env.now a.now) (visible scope.now)) }
+    {
+        nested(self.alloc, nesting, names, name, self.operand(a, &*scope)?)
+    }
+
+    #[cycle(evaluation)]
+    #[tactic(auto, unfolding(crate::specs::Mean::mean_by))]
+    pub(crate) fn unnesting(
+        &self,
+        nesting: Nesting,
+        a: &Typed,
+        name: &Name,
+        scope: &Scope,
+    ) -> Result<Value, Fault>
+        ensures { Answers result (spec.mean_by (operators.unnested nesting name.now) (mean_in self.now.env.now a.now) (visible scope.now)) }
+    {
+        unnested(self.alloc, nesting, name, self.operand(a, &*scope)?)
+    }
+
+    #[cycle(evaluation)]
+    #[tactic(auto, unfolding(crate::specs::Mean::mean_and))]
+    fn both(&self, a: &Typed, b: &Typed, scope: &Scope) -> Result<Value, Fault>
+        ensures { Answers result (spec.mean_and (mean_in self.now.env.now a.now) (mean_in self.now.env.now b.now) (visible scope.now)) }
+    {
+        if self.truth(a, scope)? {
+            let second = self.truth(b, scope)?;
+            Ok(truth_value(second))
+        } else {
+            Ok(truth_value(false))
+        }
+    }
+
+    #[cycle(evaluation)]
+    #[tactic(auto, unfolding(crate::specs::Mean::mean_or))]
+    fn either(&self, a: &Typed, b: &Typed, scope: &Scope) -> Result<Value, Fault>
+        ensures { Answers result (spec.mean_or (mean_in self.now.env.now a.now) (mean_in self.now.env.now b.now) (visible scope.now)) }
+    {
+        if self.truth(a, scope)? {
+            Ok(truth_value(true))
+        } else {
+            let second = self.truth(b, scope)?;
+            Ok(truth_value(second))
+        }
+    }
+
+    #[cycle(evaluation)]
+    #[tactic(auto, unfolding(crate::specs::Mean::mean_both))]
+    fn two(
+        &self,
+        operator: BinaryOperator,
+        a: &Typed,
+        b: &Typed,
+        scope: &Scope,
+    ) -> Result<Value, Fault>
+        ensures { Answers result (spec.mean_both operator (mean_in self.now.env.now a.now) (mean_in self.now.env.now b.now) (visible scope.now)) }
+    {
+        let u = self.operand(a, &*scope)?;
+        let v = self.operand(b, &*scope)?;
+        operate(self.alloc, operator, u, v)
+    }
+
+    #[cycle(evaluation)]
+    pub(crate) fn binary(
+        &self,
+        operator: BinaryOperator,
+        a: &Typed,
+        b: &Typed,
+        scope: &Scope,
+    ) -> Result<Value, Fault>
+        ensures { Answers result (spec.mean_binary operator (mean_in self.now.env.now a.now) (mean_in self.now.env.now b.now) (visible scope.now)) }
+    {
+        match operator {
+            BinaryOperator::And => self.both(a, b, scope),
+            BinaryOperator::Or => self.either(a, b, scope),
+            _ => self.two(operator, a, b, scope),
+        }
+    }
+
+    #[cycle(evaluation)]
+    #[tactic(auto, unfolding(crate::specs::Mean::mean_if))]
+    pub(crate) fn choice(
+        &self,
+        c: &Typed,
+        a: &Typed,
+        b: &Typed,
+        scope: &Scope,
+    ) -> Result<Value, Fault>
+        ensures { Answers result (spec.mean_if (mean_in self.now.env.now c.now) (mean_in self.now.env.now a.now) (mean_in self.now.env.now b.now) (visible scope.now)) }
+    {
+        if self.truth(c, scope)? {
+            self.evaluate(a, scope)
+        } else {
+            self.evaluate(b, scope)
+        }
+    }
+}

@@ -1,0 +1,106 @@
+//! The tuples of which a condition is true.
+
+ghost use Rattle.td_algebra.specs.Functions as functions;
+ghost use Rattle.td_algebra.specs.Raising.{Answers};
+ghost use Rattle.td_meaning.specs.ForProofs.Checks.{AreChecks, all_hold, check_holds};
+ghost use Rattle.td_meaning.specs.Mean as spec;
+ghost use Rattle.td_meaning.specs.Mean.{truth_at};
+ghost use Rattle.td_trees.specs.declared.tree.Typed.{Typed};
+ghost use Rattle.td_meaning.specs.Seen.{mean_in, visible};
+
+use crate::closed::Terms;
+use crate::conditions::{Check, checks_of, compared};
+use crate::evaluator::Evaluator;
+use crate::keyed::found_by_key;
+use crate::scope::Scope;
+use td_algebra::{Fault, restrict};
+use td_operators::{Lease, relation_value};
+use td_relations::Relation;
+use td_trees::tree::Typed;
+use td_values::{Tuple, Value};
+
+impl Evaluator<'_> {
+    #[cycle(evaluation)]
+    #[tactic(auto, unfolding(crate::specs::ForProofs::Checks::check_holds))]
+    fn holds_at(&self, check: &Check<'_>, t: &Tuple, scope: &Scope) -> Result<bool, Fault>
+        ensures { Answers result (check_holds (mean_in self.now.env.now) (visible scope.now) t.now check.now) }
+    {
+        match check {
+            Check::Comparison(operator, a, b) => compared(self.alloc, *operator, a, b, t),
+            Check::Other(tree) => self.truth(*tree, &Scope::Within(t, &*scope)),
+        }
+    }
+
+    #[cycle(evaluation)]
+    fn all_hold(&self, checks: &[Check<'_>], t: &Tuple, scope: &Scope) -> Result<bool, Fault>
+        ensures { Answers result (all_hold (mean_in self.now.env.now) (visible scope.now) t.now checks.now) }
+    {
+        for check in checks {
+            if !self.holds_at(check, t, scope)? {
+                return Ok(false);
+            }
+        }
+        Ok(true)
+    }
+
+    #[cycle(evaluation)]
+    fn restricted_to(
+        &self,
+        ts: &Relation,
+        checks: &[Check<'_>],
+        scope: &Scope,
+    ) -> Result<Relation, Fault>
+        ensures { (c : Typed) → AreChecks (mean_in self.now.env.now) (visible scope.now) ts.now.heading c checks.now → Answers result (functions.restricted (truth_at (mean_in self.now.env.now c) (visible scope.now)) ts.now) }
+    {
+        ts.rows_fit();
+        restrict(
+            self.alloc,
+            ts,
+            |t: &Tuple| -> Result<bool, Fault>
+                ensures { Answers result (all_hold (mean_in self.entry.now.env.now) (visible scope.entry.now) t.now checks.entry.now) }
+            { self.all_hold(checks, t, scope) },
+        )
+    }
+
+    #[cycle(evaluation)]
+    fn restricted(&self, ts: &Lease<'_>, c: &Typed, scope: &Scope) -> Result<Relation, Fault>
+        ensures { Answers result (functions.restricted (truth_at (mean_in self.now.env.now c.now) (visible scope.now)) ts.now) }
+    {
+        let checks = checks_of(&*self, &*scope, ts.get().heading(), &*c)?;
+        match found_by_key(self.alloc, &*ts, checks.as_slice())? {
+            Some(part) => self.restricted_to(&part, checks.as_slice(), scope),
+            None => self.restricted_to(ts.get(), checks.as_slice(), scope),
+        }
+    }
+
+    #[cycle(evaluation)]
+    pub(crate) fn restricted_by(
+        &self,
+        ts: &Lease<'_>,
+        c: &Typed,
+        scope: &Scope,
+    ) -> Result<Relation, Fault>
+        ensures { Answers result (functions.restricted (truth_at (mean_in self.now.env.now c.now) (visible scope.now)) ts.now) }
+    {
+        match self.prepared(Terms::Condition(c), ts.get().len())? {
+            Some(parts) => {
+                let around = Evaluator {
+                    alloc: self.alloc,
+                    env: &*self.env,
+                    parts: parts.as_slice(),
+                };
+                around.restricted(ts, c, scope)
+            }
+            None => self.restricted(ts, c, scope),
+        }
+    }
+
+    #[cycle(evaluation)]
+    #[tactic(auto, unfolding(crate::specs::Mean::mean_where))]
+    pub(crate) fn restriction(&self, r: &Typed, c: &Typed, scope: &Scope) -> Result<Value, Fault>
+        ensures { Answers result (spec.mean_where (mean_in self.now.env.now r.now) (mean_in self.now.env.now c.now) (visible scope.now)) }
+    {
+        let ts = self.rows(r, &*scope)?;
+        Ok(relation_value(self.restricted_by(&ts, c, scope)?))
+    }
+}

@@ -1,0 +1,186 @@
+//! Aggregates and summaries of tuples.
+
+ghost use Rattle.td_algebra.specs.Functions as functions;
+ghost use Rattle.td_algebra.specs.Raising.{Answers};
+ghost use Rattle.td_algebra.specs.Summaries.{summary_over};
+ghost use Rattle.td_meaning.specs.ForProofs.Over as over;
+ghost use Rattle.td_meaning.specs.ForProofs.Over.{terms};
+ghost use Rattle.td_meaning.specs.Seen.{mean_in, visible};
+
+use crate::closed::Terms;
+use crate::evaluator::Evaluator;
+use crate::scope::Scope;
+use sqlite_items::Boxed;
+use td_algebra::{Fault, aggregate, summarize, summarize_by};
+use td_operators::{relation_value, table_dee};
+use td_relations::Relation;
+use td_trees::tree::{Typed, TypedGroups};
+use td_tuples::{Item, Summary};
+use td_values::{Name, Tuple, Value};
+
+impl Evaluator<'_> {
+    #[cycle(evaluation)]
+    #[tactic(auto, unfolding(crate::specs::ForProofs::Over::terms))]
+    fn aggregated(
+        &self,
+        ts: &Relation,
+        summary: &Summary<Boxed<Typed>>,
+        scope: &Scope,
+    ) -> Result<Value, Fault>
+        ensures { Answers result (summary_over (terms (mean_in self.now.env.now) (visible scope.now)) ts.now.tuples summary.now) }
+    {
+        aggregate(
+            self.alloc,
+            ts,
+            summary,
+            &|e: &Boxed<Typed>, t: &Tuple| -> Result<Value, Fault>
+                ensures { Answers result (terms (mean_in self.entry.now.env.now) (visible scope.entry.now) e.now t.now) }
+            { self.evaluate(e.get(), &Scope::Within(t, &*scope)) },
+        )
+    }
+
+    #[cycle(evaluation)]
+    fn aggregated_by(
+        &self,
+        ts: &Relation,
+        summary: &Summary<Boxed<Typed>>,
+        scope: &Scope,
+    ) -> Result<Value, Fault>
+        ensures { Answers result (summary_over (terms (mean_in self.now.env.now) (visible scope.now)) ts.now.tuples summary.now) }
+    {
+        match self.prepared(Terms::Summary(summary), ts.len())? {
+            Some(parts) => {
+                let around = Evaluator {
+                    alloc: self.alloc,
+                    env: &*self.env,
+                    parts: parts.as_slice(),
+                };
+                around.aggregated(ts, summary, scope)
+            }
+            None => self.aggregated(ts, summary, scope),
+        }
+    }
+
+    #[cycle(evaluation)]
+    #[tactic(auto, unfolding(crate::specs::ForProofs::Over::over_aggregate))]
+    pub(crate) fn aggregation(
+        &self,
+        r: &Typed,
+        summary: &Summary<Boxed<Typed>>,
+        scope: &Scope,
+    ) -> Result<Value, Fault>
+        ensures { Answers result (over.over_aggregate (mean_in self.now.env.now) r.now summary.now (visible scope.now)) }
+    {
+        let ts = self.rows(r, &*scope)?;
+        self.aggregated_by(ts.get(), summary, scope)
+    }
+
+    #[cycle(evaluation)]
+    #[tactic(auto, unfolding(crate::specs::ForProofs::Over::terms))]
+    fn summarized(
+        &self,
+        ts: &Relation,
+        us: &Relation,
+        items: &[Item<Summary<Boxed<Typed>>>],
+        scope: &Scope,
+    ) -> Result<Relation, Fault>
+        ensures { Answers result (functions.summarized (terms (mean_in self.now.env.now) (visible scope.now)) items.now ts.now us.now) }
+    {
+        summarize(
+            self.alloc,
+            ts,
+            us,
+            items,
+            &|e: &Boxed<Typed>, t: &Tuple| -> Result<Value, Fault>
+                ensures { Answers result (terms (mean_in self.entry.now.env.now) (visible scope.entry.now) e.now t.now) }
+            { self.evaluate(e.get(), &Scope::Within(t, &*scope)) },
+        )
+    }
+
+    // Per the relation's own parts: the runs of one sort.
+    #[cycle(evaluation)]
+    #[tactic(auto, unfolding(crate::specs::ForProofs::Over::terms))]
+    fn summarized_in_runs(
+        &self,
+        ts: &Relation,
+        names: &[Name],
+        items: &[Item<Summary<Boxed<Typed>>>],
+        scope: &Scope,
+    ) -> Result<Relation, Fault>
+        ensures { Answers result (functions.summarized (terms (mean_in self.now.env.now) (visible scope.now)) items.now ts.now (functions.project_of names.now ts.now)) }
+    {
+        summarize_by(
+            self.alloc,
+            ts,
+            names,
+            items,
+            &|e: &Boxed<Typed>, t: &Tuple| -> Result<Value, Fault>
+                ensures { Answers result (terms (mean_in self.entry.now.env.now) (visible scope.entry.now) e.now t.now) }
+            { self.evaluate(e.get(), &Scope::Within(t, &*scope)) },
+        )
+    }
+
+    #[cycle(evaluation)]
+    #[tactic(auto, unfolding(crate::specs::ForProofs::Over::summarized_over, crate::specs::Mean::groups_at))]
+    fn groups_summarized(
+        &self,
+        ts: &Relation,
+        groups: &TypedGroups<Boxed<Typed>>,
+        items: &[Item<Summary<Boxed<Typed>>>],
+        scope: &Scope,
+    ) -> Result<Relation, Fault>
+        ensures { Answers result (over.summarized_over (mean_in self.now.env.now) groups.now items.now (visible scope.now) ts.now) }
+    {
+        match groups {
+            TypedGroups::Whole => {
+                let us = table_dee(self.alloc)?;
+                self.summarized(ts, &us, items, scope)
+            }
+            TypedGroups::Per(a) => {
+                let us = self.rows(a.get(), &*scope)?;
+                self.summarized(ts, us.get(), items, scope)
+            }
+            TypedGroups::By(names) => {
+                self.summarized_in_runs(ts, names.as_slice(), items, scope)
+            }
+        }
+    }
+
+    #[cycle(evaluation)]
+    fn summarized_by(
+        &self,
+        ts: &Relation,
+        groups: &TypedGroups<Boxed<Typed>>,
+        items: &[Item<Summary<Boxed<Typed>>>],
+        scope: &Scope,
+    ) -> Result<Relation, Fault>
+        ensures { Answers result (over.summarized_over (mean_in self.now.env.now) groups.now items.now (visible scope.now) ts.now) }
+    {
+        match self.prepared(Terms::Summaries(items), ts.len())? {
+            Some(parts) => {
+                let around = Evaluator {
+                    alloc: self.alloc,
+                    env: &*self.env,
+                    parts: parts.as_slice(),
+                };
+                around.groups_summarized(ts, groups, items, scope)
+            }
+            None => self.groups_summarized(ts, groups, items, scope),
+        }
+    }
+
+    #[cycle(evaluation)]
+    #[tactic(auto, unfolding(crate::specs::ForProofs::Over::over_summarize))]
+    pub(crate) fn summarization(
+        &self,
+        r: &Typed,
+        by: &TypedGroups<Boxed<Typed>>,
+        items: &[Item<Summary<Boxed<Typed>>>],
+        scope: &Scope,
+    ) -> Result<Value, Fault>
+        ensures { Answers result (over.over_summarize (mean_in self.now.env.now) r.now by.now items.now (visible scope.now)) }
+    {
+        let ts = self.rows(r, &*scope)?;
+        Ok(relation_value(self.summarized_by(ts.get(), by, items, scope)?))
+    }
+}
