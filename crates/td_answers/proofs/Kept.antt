@@ -8,7 +8,7 @@ use Rattle.td_story.specs.Seen.{Seen}
 use Rattle.td_story.specs.declared.answer.Taken.{Taken}
 use Rattle.td_story.specs.declared.refusal.TakeError.{TakeError}
 use Rattle.td_story.specs.declared.refusal.TakeError.TheVariants as take_error
-use Rattle.td_answers.specs.Answers.{Answered, IssueAnswered, MeetAnswered, Tells}
+use Rattle.td_answers.specs.Answers.{IssueAnswered, LineAnswered, MeetAnswered, SiteAnswered}
 use Rattle.td_meeting.specs.Meetings.{Meets, MeetsNot, Stay, Stops, TakesFrom}
 use Rattle.td_meeting.specs.declared.error.MeetingError.{MeetingError}
 use Rattle.td_meeting.specs.declared.error.MeetingError.TheVariants as meeting_error
@@ -77,7 +77,7 @@ link_all Two done n address c old (Some p) text new keeps there all (after, told
     let of = all_there (λ s. IsScriptOf s.script c) old p.0 p.1 all (there p refl) in
     subst (AreOfScript c) (sym is) (all_set (λ s. IsScriptOf s.script c) old p.0 after all (of_its_script c p.1 after of (link_keeps Two done n told.answer p.1 text after keeps told.told)))
 
-tells_all : (c : CatalogueData) (Asked : Seen → List ℕ → Type 0) (old : Sites) (o : Option Placed) (text : List ℕ) (new : Sites) → AreOfScript c old → Tells Asked old o text new → AreOfScript c new
+tells_all : (c : CatalogueData) (Asked : Seen → List ℕ → Type 0) (old : Sites) (o : Option Placed) (text : List ℕ) (new : Sites) → AreOfScript c old → SiteAnswered Asked old o text new → AreOfScript c new
 tells_all c Asked old None text new all told = none_changes c old new all told.1
 tells_all c Asked old (Some p) text new all told = none_changes c old new all told.1
 
@@ -106,7 +106,7 @@ two_by old None x two at_o at_x e = cc
 two_by old (Some p) None two at_o at_x e = cc
 two_by old (Some p) (Some q) two at_o at_x e = apart_by old p q (p.0 == q.0) two (at_o p refl) (at_x q refl) e
 
-answered_keeps : (c : CatalogueData) (old : Sites) (l : Line) (text : List ℕ) (new : Sites) → AreOfScript c old → Answered c old l text new → AreOfScript c new
+answered_keeps : (c : CatalogueData) (old : Sites) (l : Line) (text : List ℕ) (new : Sites) → AreOfScript c old → LineAnswered c old l text new → AreOfScript c new
 answered_keeps c old nothing text new all told = none_changes c old new all told.1
 answered_keeps c old quit text new all told = none_changes c old new all told.1
 answered_keeps c old faulty text new all told = none_changes c old new all told.1

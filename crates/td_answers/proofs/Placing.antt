@@ -7,9 +7,9 @@ use Rattle.std.proofs.lemmas.Option.{slice_get-get_or, slice_get-map}
 use Rattle.td_headings.specs.Catalogues.{CatalogueData}
 use Rattle.td_story.specs.Scripts.{IsScriptOf}
 use Rattle.td_story.specs.Seen.{Seen}
-use Rattle.td_answers.specs.Answers.{Tells}
+use Rattle.td_answers.specs.Answers.{SiteAnswered}
 use Rattle.td_answers.specs.ForProofs.Said.{IsSiteOf, TellsIn, place_in}
-use Rattle.td_answers.specs.Sites.{AreOfScript, OneScript, Placed, Sites, TellsNoSite, one_on, site_of}
+use Rattle.td_answers.specs.Sites.{AreOfOneScript, AreOfScript, Placed, Sites, TellsNoSite, one_on, site_of}
 
 -- ---- a walk along the sites
 
@@ -102,10 +102,10 @@ none n ss e = none_by (site_of n ss) e
 -- ---- a site is asked
 
 pub tells_site : (Asked : Seen → List ℕ → Type 0) (n : ℕ) (ss : Sites) (s : Seen) (text : List ℕ) → IsSiteOf n ss s → Asked s text → TellsIn Asked n ss text
-tells_site Asked n ss s text (at, is) told = subst (λ (o : Option Placed). Tells Asked ss o text ss) (sym is) (told, refl)
+tells_site Asked n ss s text (at, is) told = subst (λ (o : Option Placed). SiteAnswered Asked ss o text ss) (sym is) (told, refl)
 
 pub tells_none : (Asked : Seen → List ℕ → Type 0) (n : ℕ) (ss : Sites) (text : List ℕ) → site_of n ss ≡ None → TellsNoSite ss text ss → TellsIn Asked n ss text
-tells_none Asked n ss text is told = subst (λ (o : Option Placed). Tells Asked ss o text ss) (sym is) told
+tells_none Asked n ss text is told = subst (λ (o : Option Placed). SiteAnswered Asked ss o text ss) (sym is) told
 
 -- ---- all sites
 
@@ -132,6 +132,6 @@ of_one c script [] of all = all
 of_one c script (s ∷ ss) of all = (subst (λ t. IsScriptOf t c) (sym all.0) of, of_one c script ss of all.1)
 
 -- the catalogue of the first site's script is that of all
-pub of_first : {R : Type 0} (seen : R → Seen) (rs : List R) (x : R) (c : CatalogueData) → 1 ≤ length rs → x ≡ get_or rs 0 x → OneScript (map seen rs) → IsScriptOf (seen x).script c → AreOfScript c (map seen rs)
+pub of_first : {R : Type 0} (seen : R → Seen) (rs : List R) (x : R) (c : CatalogueData) → 1 ≤ length rs → x ≡ get_or rs 0 x → AreOfOneScript (map seen rs) → IsScriptOf (seen x).script c → AreOfScript c (map seen rs)
 of_first seen [] x c some is one of = absurd (omega arith)
 of_first seen (r ∷ rs) x c some is (script, all) of = of_one c script (map seen (r ∷ rs)) (subst (λ t. IsScriptOf t c) (ap (λ y. (seen y).script) is ∙ all.0) of) all

@@ -5,7 +5,7 @@ use Rattle.std.proofs.lemmas.List.{map-set}
 use Rattle.td_headings.specs.Catalogues.{CatalogueData}
 use Rattle.td_lines.specs.Lines.{Line, is_quit}
 use Rattle.td_story.specs.Seen.{Seen}
-use Rattle.td_answers.specs.Answers.{Answered, IssueAnswered, TellsIssued}
+use Rattle.td_answers.specs.Answers.{IssueAnswered, LineAnswered, TellsIssued}
 use Rattle.td_answers.specs.ForProofs.Said.{Says, place_in}
 use Rattle.td_answers.specs.Replies.{Replies}
 use Rattle.td_answers.specs.Sites.{Placed, Sites, site_of}
@@ -19,7 +19,7 @@ says_more P Q (reply.Table text) more says = more _ says
 says_more P Q (reply.Fixed text) more says = more _ says
 says_more P Q reply.Quit more says = says
 
-pub replies_of : (c : CatalogueData) (old : Sites) (l : Line) (r : Reply) (new : Sites) → is_quit l ≡ false → Says (λ text. Answered c old l text new) r → Replies c old l r new
+pub replies_of : (c : CatalogueData) (old : Sites) (l : Line) (r : Reply) (new : Sites) → is_quit l ≡ false → Says (λ text. LineAnswered c old l text new) r → Replies c old l r new
 replies_of c old l (reply.Text text) new other says = (other, says)
 replies_of c old l (reply.Table text) new other says = (other, says)
 replies_of c old l (reply.Fixed text) new other says = (other, says)

@@ -30,9 +30,9 @@ use Rattle.td_answers.specs.Linked.{CallsOver, LinkAnswered, ServesOver}
 use Rattle.td_answers.specs.Sites.{Sites, Placed, TellsNoSite, site_of, sites_of}
 
 -- a site is asked, and no site changes
-abbrev pub Tells : (Seen → List ℕ → Type 0) → Sites → Option Placed → List ℕ → Sites → Type 0
-Tells Asked old None text new = TellsNoSite old text new
-Tells Asked old (Some p) text new = Asked p.1 text × (new ≡ old)
+abbrev pub SiteAnswered : (Seen → List ℕ → Type 0) → Sites → Option Placed → List ℕ → Sites → Type 0
+SiteAnswered Asked old None text new = TellsNoSite old text new
+SiteAnswered Asked old (Some p) text new = Asked p.1 text × (new ≡ old)
 
 -- ---- n: text
 
@@ -106,14 +106,14 @@ pub record IsVectorLine (s : Seen) (text : List ℕ) : Type 0 where
   pub counts : IsVector s.entries vector
   pub line : text ≡ vector_of vector
 
-abbrev pub Counts : Seen → Result (List ℕ) ListError → Type 0
-Counts s (Ok text) = (s.live ≡ true) × IsVectorLine s text
-Counts s (Err list_error.Broken) = s.live ≡ false
-Counts s (Err list_error.OutOfMemory) = s.live ≡ true
+abbrev pub CountsEntries : Seen → Result (List ℕ) ListError → Type 0
+CountsEntries s (Ok text) = (s.live ≡ true) × IsVectorLine s text
+CountsEntries s (Err list_error.Broken) = s.live ≡ false
+CountsEntries s (Err list_error.OutOfMemory) = s.live ≡ true
 
 pub record TellsVector (s : Seen) (text : List ℕ) : Type 0 where
   pub answer : Result (List ℕ) ListError
-  pub counts : Counts s answer
+  pub counts : CountsEntries s answer
   pub line : text ≡ list_answer answer
 
 -- ---- .csv n R
@@ -149,17 +149,17 @@ MeetAnswered n m old (Some two) text new =
 
 -- ---- the lines
 
-abbrev pub Answered : CatalogueData → Sites → Line → List ℕ → Sites → Type 0
-Answered c old nothing text new = (text ≡ []) × (new ≡ old)
-Answered c old quit text new = (text ≡ []) × (new ≡ old)
-Answered c old faulty text new = (text ≡ codes "fault line\n") × (new ≡ old)
-Answered c old (issue n t) text new = IssueAnswered t old (site_of n old) text new
-Answered c old (query n t) text new = Tells (TellsAsked t) old (site_of n old) text new
-Answered c old (query_at n t at) text new = Tells (TellsPast t at) old (site_of n old) text new
-Answered c old (meet n m) text new = MeetAnswered n m old (sites_of n m old) text new
-Answered c old (listing n) text new = Tells TellsListing old (site_of n old) text new
-Answered c old (log n) text new = Tells TellsLog old (site_of n old) text new
-Answered c old (vector n) text new = Tells TellsVector old (site_of n old) text new
-Answered c old (table n x) text new = Tells (TellsTable c x) old (site_of n old) text new
-Answered c old (serve n address) text new = LinkAnswered ServesOver (codes "served") n address old (site_of n old) text new
-Answered c old (call n address) text new = LinkAnswered CallsOver (codes "called") n address old (site_of n old) text new
+abbrev pub LineAnswered : CatalogueData → Sites → Line → List ℕ → Sites → Type 0
+LineAnswered c old nothing text new = (text ≡ []) × (new ≡ old)
+LineAnswered c old quit text new = (text ≡ []) × (new ≡ old)
+LineAnswered c old faulty text new = (text ≡ codes "fault line\n") × (new ≡ old)
+LineAnswered c old (issue n t) text new = IssueAnswered t old (site_of n old) text new
+LineAnswered c old (query n t) text new = SiteAnswered (TellsAsked t) old (site_of n old) text new
+LineAnswered c old (query_at n t at) text new = SiteAnswered (TellsPast t at) old (site_of n old) text new
+LineAnswered c old (meet n m) text new = MeetAnswered n m old (sites_of n m old) text new
+LineAnswered c old (listing n) text new = SiteAnswered TellsListing old (site_of n old) text new
+LineAnswered c old (log n) text new = SiteAnswered TellsLog old (site_of n old) text new
+LineAnswered c old (vector n) text new = SiteAnswered TellsVector old (site_of n old) text new
+LineAnswered c old (table n x) text new = SiteAnswered (TellsTable c x) old (site_of n old) text new
+LineAnswered c old (serve n address) text new = LinkAnswered ServesOver (codes "served") n address old (site_of n old) text new
+LineAnswered c old (call n address) text new = LinkAnswered CallsOver (codes "called") n address old (site_of n old) text new

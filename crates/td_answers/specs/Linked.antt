@@ -16,8 +16,8 @@ use Rattle.td_answers.specs.Sites.{Placed, Sites, TellsNoSite}
 -- ---- two steps over a link
 
 -- it has not failed, and nothing that was written to it is kept back
-abbrev pub IsNew : LinkData → Type 0
-IsNew link = (link.failures ≡ 0) × (link.is_flushed ≡ true)
+abbrev pub IsNewLink : LinkData → Type 0
+IsNewLink link = (link.failures ≡ 0) × (link.is_flushed ≡ true)
 
 -- what two steps make of a site and of a link, and what they end in
 abbrev pub TwoSteps : Type 1
@@ -55,7 +55,7 @@ pub record MeetsOver (Two : TwoSteps) (done : List ℕ) (n : ℕ) (s : Seen) (te
   pub old : LinkData
   pub new : LinkData
   pub answer : Result Taken MeetingError
-  pub is_new : IsNew old
+  pub is_new : IsNewLink old
   pub two : Two s old answer new after
   pub line : text ≡ linked_answer done n answer
 

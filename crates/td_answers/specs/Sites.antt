@@ -21,11 +21,11 @@ site_of n [] = None
 site_of n (s ∷ ss) = if s.site == n then Some (0, s) else option_map one_on (site_of n ss)
 
 -- two sites at two places
-abbrev pub apart : Placed → Placed → Option (Placed × Placed)
-apart p q = if p.0 == q.0 then None else Some (p, q)
+abbrev pub two_placed : Placed → Placed → Option (Placed × Placed)
+two_placed p q = if p.0 == q.0 then None else Some (p, q)
 
 abbrev pub two_of : Option Placed → Option Placed → Option (Placed × Placed)
-two_of (Some p) (Some q) = apart p q
+two_of (Some p) (Some q) = two_placed p q
 two_of (Some p) None = None
 two_of None o = None
 
@@ -34,8 +34,8 @@ abbrev pub sites_of : ℕ → ℕ → Sites → Option (Placed × Placed)
 sites_of n m ss = two_of (site_of n ss) (site_of m ss)
 
 -- they started from one script
-abbrev pub OneScript : Sites → Type 0
-OneScript ss = (script : List ℕ) × AllByRecursion (λ s. s.script ≡ script) ss
+abbrev pub AreOfOneScript : Sites → Type 0
+AreOfOneScript ss = (script : List ℕ) × AllByRecursion (λ s. s.script ≡ script) ss
 
 -- the catalogue is that of each site's script
 abbrev pub AreOfScript : CatalogueData → Sites → Type 0

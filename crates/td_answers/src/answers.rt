@@ -6,7 +6,7 @@ ghost use Rattle.td_answers.specs.Asking.{AreAsked, AreAskedAt};
 ghost use Rattle.td_answers.specs.Answers.{IssueAnswered, MeetAnswered, TellsAsked, TellsListing, TellsLog, TellsPast, TellsTable, TellsVector};
 ghost use Rattle.td_answers.specs.Linked.{CallsOver, LinkAnswered, ServesOver};
 ghost use Rattle.td_answers.specs.Replies.{Replies, words};
-ghost use Rattle.td_answers.specs.Sites.{AreOfScript, OneScript, site_of, sites_of};
+ghost use Rattle.td_answers.specs.Sites.{AreOfOneScript, AreOfScript, site_of, sites_of};
 ghost use Rattle.td_answers.specs.ForProofs.Said.{Says, TellsIn};
 
 use crate::links::Links;
@@ -22,7 +22,7 @@ use td_story::{Meter, Replica};
 
 /// The catalogue of the sites' script; without sites an empty one. It costs the reading and typing of the script.
 pub fn catalogue_for<R: Replica>(alloc: Global, sites: &[R]) -> Result<Catalogue, AllocError>
-    requires { OneScript (map R.seen sites.now) }
+    requires { AreOfOneScript (map R.seen sites.now) }
     ensures { IfOk result (λ catalogue. AreOfScript catalogue (map R.seen sites.now)) }
 {
     match sites {

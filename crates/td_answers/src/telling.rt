@@ -4,7 +4,7 @@ ghost use Rattle.std.specs.Prelude.{◌≡◌, Ok, Err, IfOk, MatchResult, strin
 ghost use Rattle.td_story.specs.Scripts.{IsScriptOf};
 ghost use Rattle.td_story.specs.declared.answer.Asked.TheVariants as told;
 ghost use Rattle.td_answers.specs.Answers as spec;
-ghost use Rattle.td_answers.specs.Answers.{Counts, TellsAsked, TellsIssued, TellsListing, TellsLog, TellsPast, TellsTable, TellsVector, reply_line};
+ghost use Rattle.td_answers.specs.Answers.{CountsEntries, TellsAsked, TellsIssued, TellsListing, TellsLog, TellsPast, TellsTable, TellsVector, reply_line};
 ghost use Rattle.td_answers.specs.ForProofs.Said.{Says};
 
 use crate::faults::{ask_fault, issue_fault, list_fault, past_fault, raised_line, table_fault};
@@ -120,7 +120,7 @@ pub(crate) fn log<R: Replica>(alloc: Global, site: &R) -> Reply
 }
 
 fn vector_line<R: Replica>(alloc: Global, site: &R) -> Result<String, ListError>
-    ensures { MatchResult result (λ text. Counts (R.seen site.now) (Ok (string_bytes text))) (λ e. Counts (R.seen site.now) (Err e)) }
+    ensures { MatchResult result (λ text. CountsEntries (R.seen site.now) (Ok (string_bytes text))) (λ e. CountsEntries (R.seen site.now) (Err e)) }
 {
     let held = match site.held() {
         Ok(held) => held,

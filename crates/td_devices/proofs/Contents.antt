@@ -4,7 +4,7 @@ use Rattle.std.proofs.Math.Seq.{take-append_seam, drop-append_seam}
 use Rattle.std.proofs.lemmas.Slice.Eq.{bytes_eq-Decides}
 use Rattle.std.specs.Option.{option_map_or}
 use Rattle.std.specs.Str.{bytes_eq}
-use Rattle.td_devices.specs.Lines.{cut, cut_cr, content}
+use Rattle.td_devices.specs.Lines.{cut_end, cut_cr, content}
 
 front_length : (front : List ℕ) (b : ℕ) → length (front ++ b ∷ []) - 1 ≡ length front
 front_length front b = omega (arith, length-append front (b ∷ []))
@@ -15,12 +15,12 @@ without_last front b = ap (λ n. take n (front ++ b ∷ [])) (front_length front
 last_alone : (front : List ℕ) (b : ℕ) → drop (length (front ++ b ∷ []) - 1) (front ++ b ∷ []) ≡ b ∷ []
 last_alone front b = ap (λ n. drop n (front ++ b ∷ [])) (front_length front b) ∙ drop-append_seam front (b ∷ [])
 
-cut_last : (front : List ℕ) (b : ℕ) → cut b (front ++ b ∷ []) ≡ Some front
+cut_last : (front : List ℕ) (b : ℕ) → cut_end b (front ++ b ∷ []) ≡ Some front
 cut_last front b =
     let same : bytes_eq (drop (length (front ++ b ∷ []) - 1) (front ++ b ∷ [])) (b ∷ []) ≡ true = (bytes_eq-Decides _ _).1 (last_alone front b) in
     rw same (ap Some (without_last front b))
 
-cut_none : (b : ℕ) (xs : List ℕ) → ((front : List ℕ) → xs ≢ front ++ b ∷ []) → cut b xs ≡ None
+cut_none : (b : ℕ) (xs : List ℕ) → ((front : List ℕ) → xs ≢ front ++ b ∷ []) → cut_end b xs ≡ None
 cut_none b xs other = by (bytes_eq (drop (length xs - 1) xs) (b ∷ [])) refl
   where
     by : (t : Bool) → bytes_eq (drop (length xs - 1) xs) (b ∷ []) ≡ t → cond t (Some (take (length xs - 1) xs)) None ≡ None

@@ -4,7 +4,7 @@ use Rattle.std.proofs.lemmas.Bool.{eqb-true, ne_eqb, leb-false, ltb-false}
 use Rattle.std.specs.Option.{option_map_or}
 use Rattle.std.proofs.lemmas.List.Folds.{list_all-append}
 use Rattle.std.specs.Str.{bytes_eq}
-use Rattle.td_devices.specs.Lines.{onto, raw_lines, cut, cut_cr, content, is_one_line, IsWholeLine, IsOfOneLine, IsKept}
+use Rattle.td_devices.specs.Lines.{onto, raw_lines, cut_end, cut_cr, content, is_one_line, IsWholeLine, IsOfOneLine, IsKept}
 use Rattle.td_devices.specs.ForProofs.Held.{begun, with_byte, kept}
 
 -- ---- splitting at LF
@@ -47,7 +47,7 @@ raw_last (b ∷ bs) one some = raw_part b bs one
 
 -- ---- what is kept of a line
 
-cut_length : (b : ℕ) (bs : List ℕ) → length bs ≤ length (unwrap_or (cut b bs) bs) + 1
+cut_length : (b : ℕ) (bs : List ℕ) → length bs ≤ length (unwrap_or (cut_end b bs) bs) + 1
 cut_length b bs = by (bytes_eq (drop (length bs - 1) bs) (b ∷ []))
   where
     by : (t : Bool) → length bs ≤ length (unwrap_or (cond t (Some (take (length bs - 1) bs)) None) bs) + 1

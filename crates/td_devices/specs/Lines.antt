@@ -20,16 +20,16 @@ raw_lines [] = []
 raw_lines (b ∷ bs) = if b == 10 then (10 ∷ []) ∷ raw_lines bs else onto b (raw_lines bs)
 
 -- without its last byte, which is b
-abbrev pub cut : ℕ → List ℕ → Option (List ℕ)
-cut b xs = if bytes_eq (drop (length xs - 1) xs) (b ∷ []) then Some (take (length xs - 1) xs) else None
+abbrev pub cut_end : ℕ → List ℕ → Option (List ℕ)
+cut_end b xs = if bytes_eq (drop (length xs - 1) xs) (b ∷ []) then Some (take (length xs - 1) xs) else None
 
 -- without a CR at its end
 abbrev pub cut_cr : List ℕ → List ℕ
-cut_cr front = unwrap_or (cut 13 front) front
+cut_cr front = unwrap_or (cut_end 13 front) front
 
 -- a line without its line end: an LF, and a CR before it
 abbrev pub content : List ℕ → List ℕ
-content raw = option_map_or cut_cr (cut 10 raw) raw
+content raw = option_map_or cut_cr (cut_end 10 raw) raw
 
 -- no LF is among the bytes
 abbrev pub is_one_line : List ℕ → Bool

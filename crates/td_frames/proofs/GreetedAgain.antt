@@ -16,7 +16,7 @@ use Rattle.std.proofs.lemmas.Str.{is_utf8-from_IsUtf8}
 use Rattle.td_stamps.specs.Vectors.{VersionVector}
 use Rattle.td_frames.specs.declared.greeting.Greeting.{Greeting}
 use Rattle.td_frames.specs.Spelling.{HasGreeting, IsPlace, place, head_frame, script_frame, vector_frame, greeting_frame}
-use Rattle.td_frames.specs.Reading.{Miss, magic, version, bad, then_at, magic_at, version_at, site_at, length_at, text_of, script_at, count_at, number_at, sites_at, vector_at, head_at, rest_at, greeting_at}
+use Rattle.td_frames.specs.Reading.{Miss, magic, version, bad, then_at, magic_at, version_at, site_at, length_at, utf8_at, script_at, count_at, number_at, sites_at, vector_at, head_at, rest_at, greeting_at}
 use Rattle.td_frames.specs.ForProofs.{AreAtMost}
 use Rattle.td_frames.proofs.InTurn.{checked_passes}
 use Rattle.td_frames.proofs.Places.{is_new, at_most_after}
@@ -56,7 +56,7 @@ length_again n more le =
 
 script_again : (script more : List ℕ) → length script ≤ 65536 → is_utf8 script ≡ true → script_at (script_frame script ++ more) ≡ Ok (script, more)
 script_again script more le text =
-    ap script_at (append_assoc (to_be_bytes w32 (length script)) script more) ∙ ap (λ r. then_at r text_of) (length_again (length script) (script ++ more) le)
+    ap script_at (append_assoc (to_be_bytes w32 (length script)) script more) ∙ ap (λ r. then_at r utf8_at) (length_again (length script) (script ++ more) le)
     ∙ checked_passes (length script) is_utf8 (λ b. b) bad script more refl text
 
 head_again : (site : ℕ) (more : List ℕ) → 1 ≤ site → site < 2 ^ 16 → head_at (head_frame site ++ more) ≡ Ok (site, more)

@@ -17,7 +17,7 @@ use Rattle.td_frames.specs.declared.greeting.Greeting.{Greeting}
 use Rattle.td_frames.specs.ForProofs.{AreAtMost}
 use Rattle.td_frames.specs.Laws.{AreBytes}
 use Rattle.td_frames.specs.Spelling.{place, head_frame, script_frame, vector_frame, greeting_frame}
-use Rattle.td_frames.specs.Reading.{Miss, short, magic, version, bad, checked_at, then_at, magic_at, version_at, site_at, length_at, text_of, script_at, count_at, number_at, sites_at, vector_at, head_at, rest_at, greeting_at}
+use Rattle.td_frames.specs.Reading.{Miss, short, magic, version, bad, checked_at, then_at, magic_at, version_at, site_at, length_at, utf8_at, script_at, count_at, number_at, sites_at, vector_at, head_at, rest_at, greeting_at}
 use Rattle.td_frames.proofs.Loops.{guard, guard_ok}
 use Rattle.td_frames.proofs.Spelled.{bytes_taken, bytes_after}
 use Rattle.td_frames.proofs.Vectors.{none_is_at_most}
@@ -78,7 +78,7 @@ length_was bytes x rest all e =
 
 script_was : (bytes s rest : List ℕ) → AreBytes bytes → script_at bytes ≡ Ok (s, rest) → (bytes ≡ script_frame s ++ rest) × AreBytes rest
 script_was bytes s rest all e =
-    let (n, b, first, second) = first_was (length_at bytes) text_of (s, rest) e in
+    let (n, b, first, second) = first_was (length_at bytes) utf8_at (s, rest) e in
     let (spelled, left) = length_was bytes n b all first in
     let w = checked_was n is_utf8 (λ x. x) bad b s rest second in
     let len : length s ≡ n = ap length w.is ∙ w.len in

@@ -4,7 +4,7 @@ use Rattle.std.proofs.lemmas.Bool.{le-ltb, lt-ltb}
 use Rattle.std.proofs.lemmas.List.{take_at, take_all, drop_at}
 use Rattle.td_frames.specs.declared.error.FrameError.{FrameError}
 use Rattle.td_frames.specs.declared.error.FrameError.TheVariants.{OutOfMemory, ReadFault, Cut, Magic, Version, BadFrame}
-use Rattle.td_frames.specs.Reading.{Miss, short, checked_at, then_at, ToldErr, Reads}
+use Rattle.td_frames.specs.Reading.{Miss, short, checked_at, then_at, ToldErr, ReadsValue}
 
 pub checked_cut : {A : Type 0} (n : ℕ) (test : List ℕ → Bool) (value : List ℕ → A) (miss : Miss) (b : List ℕ) → length b < n → checked_at n test value miss b ≡ Err short
 checked_cut n test value miss b lt = rw (lt-ltb (length b) n lt) refl
@@ -35,8 +35,8 @@ told_as e r s left old new same h = rw same h
 
 -- one thing that is read whole, and then what is read after it
 pub reads_then : {A B : Type 0} (first : List ℕ → Result (A × List ℕ) Miss) (next : A → List ℕ → Result (B × List ℕ) Miss) (x : A) (b c : List ℕ) (r : Result B FrameError)
-    (left : Option (List ℕ)) (old mid new : ℕ) → ((more : List ℕ) → first (b ++ more) ≡ Ok (x, more)) → mid ≡ old → Reads (next x) c r left mid new
-    → Reads (λ bytes. then_at (first bytes) next) (b ++ c) r left old new
+    (left : Option (List ℕ)) (old mid new : ℕ) → ((more : List ℕ) → first (b ++ more) ≡ Ok (x, more)) → mid ≡ old → ReadsValue (next x) c r left mid new
+    → ReadsValue (λ bytes. then_at (first bytes) next) (b ++ c) r left old new
 reads_then first next x b c (Ok y) left old mid new whole same h =
     ((λ more. ap (λ bytes. then_at (first bytes) next) (append_assoc b c more) ∙ ap (λ r. then_at r next) (whole (c ++ more)) ∙ h.0 more), h.1 ∙ same)
 reads_then first next x b c (Err e) left old mid new whole same h =

@@ -51,11 +51,11 @@ abbrev pub length_at : List ℕ → Result (ℕ × List ℕ) Miss
 length_at bytes = checked_at 4 (λ b. nat_le (from_be_bytes w32 b) 65536) (from_be_bytes w32) bad bytes
 
 -- a text of this length, which is UTF-8
-abbrev pub text_of : ℕ → List ℕ → Result (List ℕ × List ℕ) Miss
-text_of n bytes = checked_at n is_utf8 (λ b. b) bad bytes
+abbrev pub utf8_at : ℕ → List ℕ → Result (List ℕ × List ℕ) Miss
+utf8_at n bytes = checked_at n is_utf8 (λ b. b) bad bytes
 
 abbrev pub script_at : List ℕ → Result (List ℕ × List ℕ) Miss
-script_at bytes = then_at (length_at bytes) text_of
+script_at bytes = then_at (length_at bytes) utf8_at
 
 -- how many sites a version vector has
 abbrev pub count_at : List ℕ → Result (ℕ × List ℕ) Miss
@@ -151,6 +151,10 @@ abbrev pub last_frame : Result (Unit {0} × List ℕ) Miss → Entries
 last_frame (Ok x) = ([], Ok x.1)
 last_frame (Err m) = ([], Err m)
 
+-- the most entries that a site reads of a stream or of a journal
+abbrev pub most_entries : ℕ
+most_entries = 100000
+
 -- the stream of at most so many entries
 unfoldable pub entries_at : Version → ℕ → List ℕ → Entries
 entries_at v zero bytes = last_frame (end_at bytes)
@@ -167,9 +171,9 @@ ToldErr OtherVersion read left old new = (read ≡ Err version) × (new ≡ old)
 ToldErr BadFrame read left old new = (read ≡ Err bad) × (new ≡ old)
 
 -- whatever follows
-abbrev pub Reads : {A : Type 0} → (List ℕ → Result (A × List ℕ) Miss) → List ℕ → Result A FrameError → Option (List ℕ) → ℕ → ℕ → Type 0
-Reads value_at bytes (Ok x) left old new = ((more : List ℕ) → value_at (bytes ++ more) ≡ Ok (x, more)) × (new ≡ old)
-Reads value_at bytes (Err e) left old new = ToldErr e (value_at bytes) left old new
+abbrev pub ReadsValue : {A : Type 0} → (List ℕ → Result (A × List ℕ) Miss) → List ℕ → Result A FrameError → Option (List ℕ) → ℕ → ℕ → Type 0
+ReadsValue value_at bytes (Ok x) left old new = ((more : List ℕ) → value_at (bytes ++ more) ≡ Ok (x, more)) × (new ≡ old)
+ReadsValue value_at bytes (Err e) left old new = ToldErr e (value_at bytes) left old new
 
 abbrev pub Told : {A : Type 0} → Result A FrameError → Result (A × List ℕ) Miss → Option (List ℕ) → ℕ → ℕ → Type 0
 Told (Ok x) read left old new = (read ≡ Ok (x, [])) × (new ≡ old)

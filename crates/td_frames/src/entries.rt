@@ -17,6 +17,9 @@ use std::alloc::Global;
 use td_devices::{Failed, Sink, Source, write_all};
 use td_stamps::Entry;
 
+/// The most entries that a site reads of a stream or of a journal.
+pub const MOST_ENTRIES: u32 = 100_000;
+
 // Reads the end, where no entry may follow: one byte.
 fn read_end<S: Source>(source: &mut S) -> Result<(), FrameError>
     ensures told { (bytes : List ℕ) × Consumes (S.left source.old) (S.left source.new) bytes

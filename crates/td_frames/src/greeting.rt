@@ -4,7 +4,7 @@ ghost use Rattle.std.specs.Prelude.{◌<◌, ◌≤◌, ℕ, List, IfOk};
 ghost use Rattle.std.specs.FinMap as by_site;
 ghost use Rattle.std.specs.Io.KnownBytes.{Keeps, Consumes};
 ghost use Rattle.td_frames.specs.ForProofs.{AreAtMost, PlaceRead};
-ghost use Rattle.td_frames.specs.Reading.{Reads, count_at, greeting_at, head_at, length_at, magic_at, number_at, rest_at, script_at, site_at, sites_at, text_of, vector_at, version_at};
+ghost use Rattle.td_frames.specs.Reading.{ReadsValue, count_at, greeting_at, head_at, length_at, magic_at, number_at, rest_at, script_at, site_at, sites_at, utf8_at, vector_at, version_at};
 
 use crate::error::FrameError;
 use crate::fields::{read_bytes, read_field};
@@ -14,7 +14,7 @@ use td_stamps::Vector;
 use td_values::Text;
 
 /// The most bytes of a script.
-const MOST_SCRIPT: u32 = 65_536;
+pub const SCRIPT_BYTES: u32 = 65_536;
 
 /// The greatest sequence number.
 const LAST_NUMBER: u32 = 1_000_000_000;
@@ -30,7 +30,7 @@ pub struct Greeting {
 
 fn read_magic<S: Source>(source: &mut S) -> Result<(), FrameError>
     ensures told { (bytes : List ℕ) × Consumes (S.left source.old) (S.left source.new) bytes
-        × Reads magic_at bytes result (S.left source.new) (S.failures source.old) (S.failures source.new) }
+        × ReadsValue magic_at bytes result (S.left source.new) (S.failures source.old) (S.failures source.new) }
     ensures beside { Keeps (S.beside source.old) (S.beside source.new) }
 {
     let mut field = [0u8; 4];
@@ -46,7 +46,7 @@ fn read_magic<S: Source>(source: &mut S) -> Result<(), FrameError>
 
 fn read_version<S: Source>(source: &mut S) -> Result<(), FrameError>
     ensures told { (bytes : List ℕ) × Consumes (S.left source.old) (S.left source.new) bytes
-        × Reads version_at bytes result (S.left source.new) (S.failures source.old) (S.failures source.new) }
+        × ReadsValue version_at bytes result (S.left source.new) (S.failures source.old) (S.failures source.new) }
     ensures beside { Keeps (S.beside source.old) (S.beside source.new) }
 {
     let mut field = [0u8; 1];
@@ -62,7 +62,7 @@ fn read_version<S: Source>(source: &mut S) -> Result<(), FrameError>
 
 fn read_count<S: Source>(source: &mut S) -> Result<u16, FrameError>
     ensures told { (bytes : List ℕ) × Consumes (S.left source.old) (S.left source.new) bytes
-        × Reads count_at bytes result (S.left source.new) (S.failures source.old) (S.failures source.new) }
+        × ReadsValue count_at bytes result (S.left source.new) (S.failures source.old) (S.failures source.new) }
     ensures beside { Keeps (S.beside source.old) (S.beside source.new) }
 {
     let mut field = [0u8; 2];
@@ -75,7 +75,7 @@ fn read_count<S: Source>(source: &mut S) -> Result<u16, FrameError>
 // A site that comes after the last one.
 fn read_site<S: Source>(source: &mut S, last: u16) -> Result<u16, FrameError>
     ensures told { (bytes : List ℕ) × Consumes (S.left source.old) (S.left source.new) bytes
-        × Reads (site_at last) bytes result (S.left source.new) (S.failures source.old) (S.failures source.new) }
+        × ReadsValue (site_at last) bytes result (S.left source.new) (S.failures source.old) (S.failures source.new) }
     ensures after { IfOk result (λ site. last < site) }
     ensures beside { Keeps (S.beside source.old) (S.beside source.new) }
 {
@@ -94,7 +94,7 @@ fn read_site<S: Source>(source: &mut S, last: u16) -> Result<u16, FrameError>
 // A site's number.
 fn read_number<S: Source>(source: &mut S) -> Result<u32, FrameError>
     ensures told { (bytes : List ℕ) × Consumes (S.left source.old) (S.left source.new) bytes
-        × Reads number_at bytes result (S.left source.new) (S.failures source.old) (S.failures source.new) }
+        × ReadsValue number_at bytes result (S.left source.new) (S.failures source.old) (S.failures source.new) }
     ensures some { IfOk result (λ number. 1 ≤ number) }
     ensures beside { Keeps (S.beside source.old) (S.beside source.new) }
 {
@@ -112,7 +112,7 @@ fn read_number<S: Source>(source: &mut S) -> Result<u32, FrameError>
 
 fn read_length<S: Source>(source: &mut S) -> Result<u32, FrameError>
     ensures told { (bytes : List ℕ) × Consumes (S.left source.old) (S.left source.new) bytes
-        × Reads length_at bytes result (S.left source.new) (S.failures source.old) (S.failures source.new) }
+        × ReadsValue length_at bytes result (S.left source.new) (S.failures source.old) (S.failures source.new) }
     ensures beside { Keeps (S.beside source.old) (S.beside source.new) }
 {
     let mut field = [0u8; 4];
@@ -121,7 +121,7 @@ fn read_length<S: Source>(source: &mut S) -> Result<u32, FrameError>
         Err(e) => return Err(e),
     }
     let length = u32::from_be_bytes(field);
-    if length > MOST_SCRIPT {
+    if length > SCRIPT_BYTES {
         return Err(FrameError::BadFrame);
     }
     Ok(length)
@@ -130,7 +130,7 @@ fn read_length<S: Source>(source: &mut S) -> Result<u32, FrameError>
 // A text of so many bytes.
 fn read_text_of<S: Source>(alloc: Global, source: &mut S, length: u32) -> Result<Text, FrameError>
     ensures told { (bytes : List ℕ) × Consumes (S.left source.old) (S.left source.new) bytes
-        × Reads (text_of length) bytes result (S.left source.new) (S.failures source.old) (S.failures source.new) }
+        × ReadsValue (utf8_at length) bytes result (S.left source.new) (S.failures source.old) (S.failures source.new) }
     ensures beside { Keeps (S.beside source.old) (S.beside source.new) }
 {
     let bytes = match read_bytes(alloc, source, length as usize) {
@@ -148,7 +148,7 @@ fn read_text_of<S: Source>(alloc: Global, source: &mut S, length: u32) -> Result
 
 fn read_script<S: Source>(alloc: Global, source: &mut S) -> Result<Text, FrameError>
     ensures told { (bytes : List ℕ) × Consumes (S.left source.old) (S.left source.new) bytes
-        × Reads script_at bytes result (S.left source.new) (S.failures source.old) (S.failures source.new) }
+        × ReadsValue script_at bytes result (S.left source.new) (S.failures source.old) (S.failures source.new) }
     ensures beside { Keeps (S.beside source.old) (S.beside source.new) }
 {
     match read_length(source) {
@@ -180,7 +180,7 @@ fn read_place<S: Source>(source: &mut S, last: u16, vector: &mut Vector) -> Resu
 
 fn read_places<S: Source>(alloc: Global, source: &mut S, count: u16) -> Result<Vector, FrameError>
     ensures told { (bytes : List ℕ) × Consumes (S.left source.old) (S.left source.new) bytes
-        × Reads (sites_at count 0 by_site.empty) bytes result (S.left source.new) (S.failures source.old) (S.failures source.new) }
+        × ReadsValue (sites_at count 0 by_site.empty) bytes result (S.left source.new) (S.failures source.old) (S.failures source.new) }
     ensures beside { Keeps (S.beside source.old) (S.beside source.new) }
 {
     let mut vector = Vector::new(alloc);
@@ -196,7 +196,7 @@ fn read_places<S: Source>(alloc: Global, source: &mut S, count: u16) -> Result<V
 
 fn read_vector<S: Source>(alloc: Global, source: &mut S) -> Result<Vector, FrameError>
     ensures told { (bytes : List ℕ) × Consumes (S.left source.old) (S.left source.new) bytes
-        × Reads vector_at bytes result (S.left source.new) (S.failures source.old) (S.failures source.new) }
+        × ReadsValue vector_at bytes result (S.left source.new) (S.failures source.old) (S.failures source.new) }
     ensures beside { Keeps (S.beside source.old) (S.beside source.new) }
 {
     match read_count(source) {
@@ -207,7 +207,7 @@ fn read_vector<S: Source>(alloc: Global, source: &mut S) -> Result<Vector, Frame
 
 fn read_head<S: Source>(source: &mut S) -> Result<u16, FrameError>
     ensures told { (bytes : List ℕ) × Consumes (S.left source.old) (S.left source.new) bytes
-        × Reads head_at bytes result (S.left source.new) (S.failures source.old) (S.failures source.new) }
+        × ReadsValue head_at bytes result (S.left source.new) (S.failures source.old) (S.failures source.new) }
     ensures beside { Keeps (S.beside source.old) (S.beside source.new) }
 {
     match read_magic(source) {
@@ -224,7 +224,7 @@ fn read_head<S: Source>(source: &mut S) -> Result<u16, FrameError>
 // The script and the version vector of a site that greets.
 fn read_rest<S: Source>(alloc: Global, source: &mut S, site: u16) -> Result<Greeting, FrameError>
     ensures told { (bytes : List ℕ) × Consumes (S.left source.old) (S.left source.new) bytes
-        × Reads (rest_at site) bytes result (S.left source.new) (S.failures source.old) (S.failures source.new) }
+        × ReadsValue (rest_at site) bytes result (S.left source.new) (S.failures source.old) (S.failures source.new) }
     ensures beside { Keeps (S.beside source.old) (S.beside source.new) }
 {
     let script = match read_script(alloc, source) {
@@ -244,7 +244,7 @@ fn read_rest<S: Source>(alloc: Global, source: &mut S, site: u16) -> Result<Gree
 /// Reads a greeting. It takes room for the script and the version vector.
 pub fn read_greeting<S: Source>(alloc: Global, source: &mut S) -> Result<Greeting, FrameError>
     ensures told { (bytes : List ℕ) × Consumes (S.left source.old) (S.left source.new) bytes
-        × Reads greeting_at bytes result (S.left source.new) (S.failures source.old) (S.failures source.new) }
+        × ReadsValue greeting_at bytes result (S.left source.new) (S.failures source.old) (S.failures source.new) }
     ensures beside { Keeps (S.beside source.old) (S.beside source.new) }
 {
     match read_head(source) {

@@ -10,9 +10,9 @@ pub mod greeting;
 pub mod laws;
 pub mod version;
 
-pub use entries::{put_end, put_entry, read_entries};
+pub use entries::{MOST_ENTRIES, put_end, put_entry, read_entries};
 pub use entry::read_frame;
 pub use error::FrameError;
 pub use greeted::put_greeting;
-pub use greeting::{Greeting, read_greeting};
+pub use greeting::{Greeting, SCRIPT_BYTES, read_greeting};
 pub use version::Version;

@@ -11,12 +11,12 @@ use Rattle.td_frames.specs.declared.version.Version.{Version}
 use Rattle.td_frames.specs.declared.version.Version.TheVariants.{First, Second}
 use Rattle.td_frames.specs.declared.fields.Head.{Head}
 use Rattle.td_frames.specs.Spelling.{HasDialect, HasFrame, head_of, entry_frame, entry_frames, script_frame}
-use Rattle.td_frames.specs.Reading.{Entries, short, entries_at, entry_at, fields, frame_at, head_size, some_entry, text_at, with_frame}
+use Rattle.td_frames.specs.Reading.{Entries, short, entries_at, entry_at, fields, frame_at, head_size, some_entry, text_at, with_frame, most_entries}
 use Rattle.td_frames.proofs.Again.{frame_again}
 use Rattle.td_frames.proofs.Steps.{entry_short, entry_then, text_short}
 use Rattle.td_journal.specs.declared.error.JournalError.{JournalError}
 use Rattle.td_journal.specs.Spelling.{header, journal, version_byte}
-use Rattle.td_journal.specs.Reading.{Header, behind_header, field_at, fields_at, frames_at, header_at, journal_at, most_entries, owned_at, owner_fields, then_at, until_end, with_whole}
+use Rattle.td_journal.specs.Reading.{JournalHeader, behind_header, frames_at, header_at, header_then, journal_at, known_field_at, known_fields_at, owned_at, owner_fields, until_end, with_whole}
 use Rattle.td_journal.specs.Laws.{CutJournalIsRead, JournalIsReadAgain, left_of, whole}
 
 pub take_beyond : {A : Type 0} (xs ys : List A) (k : ℕ) → length xs ≤ k → take k (xs ++ ys) ≡ xs ++ take (k - length xs) ys
@@ -28,11 +28,11 @@ take_beyond (x ∷ xs) ys (suc n) le =
 
 -- ---- the header
 
-field_again : (f : List ℕ) (error : JournalError) (more : List ℕ) → field_at f error (f ++ more) ≡ Ok (Some more)
+field_again : (f : List ℕ) (error : JournalError) (more : List ℕ) → known_field_at f error (f ++ more) ≡ Ok (Some more)
 field_again [] error more = refl
 field_again (x ∷ xs) error more = rw (eq-eqb x x refl) (field_again xs error more)
 
-field_is_cut : (f : List ℕ) (error : JournalError) (more : List ℕ) (k : ℕ) → k < length f → field_at f error (take k (f ++ more)) ≡ Ok None
+field_is_cut : (f : List ℕ) (error : JournalError) (more : List ℕ) (k : ℕ) → k < length f → known_field_at f error (take k (f ++ more)) ≡ Ok None
 field_is_cut [] error more k lt = absurd (omega (arith, lt))
 field_is_cut (x ∷ xs) error more zero lt = refl
 field_is_cut (x ∷ xs) error more (suc n) lt = rw (eq-eqb x x refl) (field_is_cut xs error more n (omega (arith, lt)))
@@ -41,31 +41,31 @@ abbrev spelled : List (List ℕ × JournalError) → List ℕ
 spelled [] = []
 spelled (f ∷ fs) = f.0 ++ spelled fs
 
-fields_again : (fs : List (List ℕ × JournalError)) (more : List ℕ) → fields_at fs (spelled fs ++ more) ≡ Ok (Some more)
+fields_again : (fs : List (List ℕ × JournalError)) (more : List ℕ) → known_fields_at fs (spelled fs ++ more) ≡ Ok (Some more)
 fields_again [] more = refl
 fields_again (f ∷ fs) more =
-    ap (λ (l : List ℕ). then_at (field_at f.0 f.1 l) (fields_at fs)) (append_assoc f.0 (spelled fs) more) ∙ ap (λ (r : Header (List ℕ)). then_at r (fields_at fs)) (field_again f.0 f.1 (spelled fs ++ more))
+    ap (λ (l : List ℕ). header_then (known_field_at f.0 f.1 l) (known_fields_at fs)) (append_assoc f.0 (spelled fs) more) ∙ ap (λ (r : JournalHeader (List ℕ)). header_then r (known_fields_at fs)) (field_again f.0 f.1 (spelled fs ++ more))
     ∙ fields_again fs more
 
-fields_are_cut : (fs : List (List ℕ × JournalError)) (more : List ℕ) (k : ℕ) → k < length (spelled fs) → fields_at fs (take k (spelled fs ++ more)) ≡ Ok None
+fields_are_cut : (fs : List (List ℕ × JournalError)) (more : List ℕ) (k : ℕ) → k < length (spelled fs) → known_fields_at fs (take k (spelled fs ++ more)) ≡ Ok None
 fields_are_cut [] more k lt = absurd (omega (arith, lt))
 fields_are_cut (f ∷ fs) more k lt =
-    ap (λ (l : List ℕ). then_at (field_at f.0 f.1 (take k l)) (fields_at fs)) (append_assoc f.0 (spelled fs) more)
+    ap (λ (l : List ℕ). header_then (known_field_at f.0 f.1 (take k l)) (known_fields_at fs)) (append_assoc f.0 (spelled fs) more)
     ∙ by (cases_lt k (length f.0)) (λ beyond. fields_are_cut fs more (k - length f.0) (omega (arith, lt, beyond, length-append f.0 (spelled fs))))
   where
-    by : (k < length f.0) ⊎ (length f.0 ≤ k) → (length f.0 ≤ k → fields_at fs (take (k - length f.0) (spelled fs ++ more)) ≡ Ok None)
-        → then_at (field_at f.0 f.1 (take k (f.0 ++ (spelled fs ++ more)))) (fields_at fs) ≡ Ok None
-    by (inl within) others = ap (λ (r : Header (List ℕ)). then_at r (fields_at fs)) (field_is_cut f.0 f.1 (spelled fs ++ more) k within)
+    by : (k < length f.0) ⊎ (length f.0 ≤ k) → (length f.0 ≤ k → known_fields_at fs (take (k - length f.0) (spelled fs ++ more)) ≡ Ok None)
+        → header_then (known_field_at f.0 f.1 (take k (f.0 ++ (spelled fs ++ more)))) (known_fields_at fs) ≡ Ok None
+    by (inl within) others = ap (λ (r : JournalHeader (List ℕ)). header_then r (known_fields_at fs)) (field_is_cut f.0 f.1 (spelled fs ++ more) k within)
     by (inr beyond) others =
-        ap (λ (l : List ℕ). then_at (field_at f.0 f.1 l) (fields_at fs)) (take_beyond f.0 (spelled fs ++ more) k beyond)
-        ∙ ap (λ (r : Header (List ℕ)). then_at r (fields_at fs)) (field_again f.0 f.1 (take (k - length f.0) (spelled fs ++ more)))
+        ap (λ (l : List ℕ). header_then (known_field_at f.0 f.1 l) (known_fields_at fs)) (take_beyond f.0 (spelled fs ++ more) k beyond)
+        ∙ ap (λ (r : JournalHeader (List ℕ)). header_then r (known_fields_at fs)) (field_again f.0 f.1 (take (k - length f.0) (spelled fs ++ more)))
         ∙ others beyond
 
 -- the version's byte stood there
-abbrev behind_version : Version → Header (List ℕ) → Header (Version × List ℕ)
-behind_version v owner = then_at owner (λ rest. Ok (Some (v, rest)))
+abbrev behind_version : Version → JournalHeader (List ℕ) → JournalHeader (Version × List ℕ)
+behind_version v owner = header_then owner (λ rest. Ok (Some (v, rest)))
 
-owned_again : (v : Version) (site : ℕ) (script rest : List ℕ) → owned_at site script (version_byte v ∷ rest) ≡ behind_version v (fields_at (owner_fields site script) rest)
+owned_again : (v : Version) (site : ℕ) (script rest : List ℕ) → owned_at site script (version_byte v ∷ rest) ≡ behind_version v (known_fields_at (owner_fields site script) rest)
 owned_again First site script rest = refl
 owned_again Second site script rest = refl
 
@@ -75,7 +75,7 @@ owner_is site script = ap (λ (l : List ℕ). to_be_bytes w16 site ++ (to_be_byt
 header_again : (v : Version) (site : ℕ) (script more : List ℕ) → header_at site script (header v site script ++ more) ≡ Ok (Some (v, more))
 header_again v site script more =
     owned_again v site script ((to_be_bytes w16 site ++ script_frame script) ++ more)
-    ∙ ap (λ (l : List ℕ). behind_version v (fields_at (owner_fields site script) (l ++ more))) (sym (owner_is site script))
+    ∙ ap (λ (l : List ℕ). behind_version v (known_fields_at (owner_fields site script) (l ++ more))) (sym (owner_is site script))
     ∙ ap (behind_version v) (fields_again (owner_fields site script) more)
 
 -- cut within its letters, right behind them, or behind the version
@@ -88,7 +88,7 @@ header_is_cut v site script more (suc (suc (suc (suc zero)))) lt = refl
 header_is_cut v site script more (suc (suc (suc (suc (suc k))))) lt =
     let same = owner_is site script in
     owned_again v site script (take k ((to_be_bytes w16 site ++ script_frame script) ++ more))
-    ∙ ap (λ (l : List ℕ). behind_version v (fields_at (owner_fields site script) (take k (l ++ more)))) (sym same)
+    ∙ ap (λ (l : List ℕ). behind_version v (known_fields_at (owner_fields site script) (take k (l ++ more)))) (sym same)
     ∙ ap (behind_version v) (fields_are_cut (owner_fields site script) more k (subst (λ (l : List ℕ). k < length l) (sym same) (omega (arith, lt))))
 
 -- ---- frames

@@ -13,7 +13,7 @@ use Rattle.td_frames.specs.Spelling.{entry_frames}
 use Rattle.td_frames.specs.declared.version.Version.TheVariants.{Second}
 use Rattle.td_story.specs.Seen.{Seen, with_entries}
 use Rattle.td_journal.specs.Keepers.{FailedIssueLeavesFront, FailedTakeLeavesFront, IsJournal, LeavesFront}
-use Rattle.td_journal.specs.Keeping.{Leaves}
+use Rattle.td_journal.specs.Keeping.{LeavesPart}
 use Rattle.td_journal.specs.Views.{kept}
 use Rattle.td_journal.proofs.Checked.{passes}
 use Rattle.td_journal.proofs.Framed.{is_next}
@@ -34,7 +34,7 @@ closed : (s : Seen) (bytes : List ℕ) → IsJournal s bytes → IsJournal (kept
 closed s bytes j = record { entries = j.entries; spelled = j.spelled; has = j.has; holds = j.holds; once = j.once }
 
 leaves : (s after : Seen) (fresh : List Entry) (bytes : List ℕ) (old new : Output) → old.held ≡ Some bytes → IsJournal s bytes → after ≡ with_entries (kept false s) (union s.entries fresh)
-    → length (union s.entries fresh) ≡ length fresh + length s.entries → Leaves fresh old new → LeavesFront bytes after new
+    → length (union s.entries fresh) ≡ length fresh + length s.entries → LeavesPart fresh old new → LeavesFront bytes after new
 leaves s after fresh bytes old new held j is count (front, has) =
     let (k, beyond, left) = front_held old.held new.held bytes (entry_frames Second fresh) held front in
     (bytes ++ entry_frames Second fresh, grows (kept false s) after fresh bytes (closed s bytes j) has is count, k, beyond, left)
@@ -46,7 +46,7 @@ failed_issue s after text bytes old new held j (statement, e, next, closes) (x, 
     let n = is_next s text e next in
     let last : union s.entries (e ∷ []) ≡ s.entries ++ e ∷ [] = (next_comes_last s.site s.entries e n.site n.next).2 in
     let count : length (union s.entries (e ∷ [])) ≡ 1 + length s.entries = omega (arith, ap length last, length-append s.entries (e ∷ [])) in
-    leaves s after (e ∷ []) bytes old new held j (closes.1 ∙ ap (with_entries (kept false s)) (sym last)) count (subst (λ (y : Entry). Leaves (y ∷ []) old new) same front)
+    leaves s after (e ∷ []) bytes old new held j (closes.1 ∙ ap (with_entries (kept false s)) (sym last)) count (subst (λ (y : Entry). LeavesPart (y ∷ []) old new) same front)
 
 pub failed_take : FailedTakeLeavesFront
 failed_take s after batch bytes old new sound held j (n, check, some, closes) left =

@@ -14,7 +14,7 @@ use Rattle.td_story.specs.Seen.{Seen, with_entries}
 use Rattle.td_journal.specs.declared.error.JournalError.{JournalError}
 use Rattle.td_journal.specs.Keepers.{IsJournal, ReopenedHasJournal}
 use Rattle.td_journal.specs.Laws.{left_of, whole}
-use Rattle.td_journal.specs.Reading.{Contents, journal_at}
+use Rattle.td_journal.specs.Reading.{JournalContents, journal_at}
 use Rattle.td_journal.specs.Spelling.{header, journal}
 use Rattle.td_journal.proofs.Cut.{cut_is_read, frames_first, nothing_left, take_beyond}
 use Rattle.td_journal.proofs.Grown.{union_beside}
@@ -76,15 +76,15 @@ all_read old (Some rest) bytes front is h end =
     let split : front ≡ bytes ++ rest = subst (λ (o : Option (List ℕ)). Consumes o (Some rest) bytes) is h in
     sym (split ∙ ap (λ (l : List ℕ). bytes ++ l) end ∙ append-nil bytes)
 
-abbrev entries_in : Result Contents JournalError → List Entry
+abbrev entries_in : Result JournalContents JournalError → List Entry
 entries_in (Ok x) = x.0
 entries_in (Err e) = []
 
-abbrev pub version_in : Result Contents JournalError → Version
+abbrev pub version_in : Result JournalContents JournalError → Version
 version_in (Ok x) = x.2
 version_in (Err e) = Second
 
-abbrev pub whole_in : Result Contents JournalError → ℕ
+abbrev pub whole_in : Result JournalContents JournalError → ℕ
 whole_in (Ok x) = x.1
 whole_in (Err e) = 0
 
@@ -120,7 +120,7 @@ reopened_has s after bytes front k limit n version old new sound j beyond is hel
     let few : length es ≤ 100000 = omega (arith, limited, j.once, sound.within) in
     let read : r.bytes ≡ take k (journal Second s.site s.script es) = all_read old.left new.left r.bytes front held r.reads.0 r.all ∙ is ∙ ap (take k) j.spelled in
     let cut : left_of Second s.site s.script es k ≡ (left, length (journal Second s.site s.script left), Second) = rw (le-ltb k (length head) beyond) refl in
-    let says : ◌≡◌ {A = Result Contents JournalError} (Ok (r.entries, n, version)) (Ok (left, length (journal Second s.site s.script left), Second)) =
+    let says : ◌≡◌ {A = Result JournalContents JournalError} (Ok (r.entries, n, version)) (Ok (left, length (journal Second s.site s.script left), Second)) =
     sym r.says ∙ ap (journal_at s.site s.script) read ∙ cut_is_read Second s.site s.script es k few j.has ∙ ap Ok cut in
     let entries_are : r.entries ≡ left = ap entries_in says in
     let whole_is : n ≡ length (journal Second s.site s.script left) = ap whole_in says in

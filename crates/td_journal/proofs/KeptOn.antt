@@ -8,7 +8,7 @@ use Rattle.td_frames.specs.declared.version.Version.TheVariants.{First, Second}
 use Rattle.td_journal.specs.declared.error.JournalError.{JournalError}
 use Rattle.td_journal.specs.Keepers.{IsJournal, IsJournalOf}
 use Rattle.td_journal.specs.Laws.{left_of}
-use Rattle.td_journal.specs.Reading.{Contents, journal_at}
+use Rattle.td_journal.specs.Reading.{JournalContents, journal_at}
 use Rattle.td_journal.specs.Reopening.{ReopensSite}
 use Rattle.td_journal.specs.Spelling.{header, journal}
 use Rattle.td_journal.specs.Stores.{IsCutTo, IsGoneOnWith, IsMadeAnew, KeptHasJournal}
@@ -40,7 +40,7 @@ gone_on_has Second (suc n) front after w sound (inr (inr j)) is = (take (suc n) 
 -- what was read of a front of a journal
 read_as : (v : Version) (s after : Seen) (bytes front : List ℕ) (k limit n : ℕ) (version : Version) (old new : Input) → IsSound s → (j : IsJournalOf v s bytes) → front ≡ take k bytes
     → old.left ≡ Some front → (r : ReopensSite s.script s.site limit old new after n version)
-    → ◌≡◌ {A = Result Contents JournalError} (Ok (r.entries, n, version)) (Ok (left_of v s.site s.script j.entries k))
+    → ◌≡◌ {A = Result JournalContents JournalError} (Ok (r.entries, n, version)) (Ok (left_of v s.site s.script j.entries k))
 read_as v s after bytes front k limit n version old new sound j is held r =
     let es = j.entries in
     let limited : s.limit ≤ 100000 = leb-true s.limit 100000 (and_parts (leb 1 s.limit) (leb s.limit 100000) sound.limit).1 in

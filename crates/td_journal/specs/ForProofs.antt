@@ -7,7 +7,7 @@ use Rattle.td_devices.specs.Counted.{counted}
 use Rattle.td_stamps.specs.declared.entry.Entry.{Entry}
 use Rattle.td_frames.specs.declared.version.Version.{Version}
 use Rattle.td_frames.specs.declared.version.Version.TheVariants.{First, Second}
-use Rattle.td_journal.specs.Reading.{Header}
+use Rattle.td_journal.specs.Reading.{JournalHeader}
 use Rattle.td_journal.specs.declared.error.JournalError.{JournalError}
 use Rattle.td_journal.specs.declared.error.JournalError.TheVariants as journal_error
 use Rattle.td_journal.specs.declared.reading.Unread.{Unread}
@@ -15,7 +15,7 @@ use Rattle.td_journal.specs.declared.reading.Unread.TheVariants.{ReadFault, OutO
 
 -- what a reader of a field, or of some, tells of the bytes that it took: whether these stood whole there; or that the
 -- bytes ended inside them; or why they are refused
-abbrev pub FieldRead : (List ℕ → Header (List ℕ)) → List ℕ → Result Bool Unread → Option (List ℕ) → ℕ → ℕ → Type 0
+abbrev pub FieldRead : (List ℕ → JournalHeader (List ℕ)) → List ℕ → Result Bool Unread → Option (List ℕ) → ℕ → ℕ → Type 0
 FieldRead at bytes (Ok true) left old new = ((more : List ℕ) → at (bytes ++ more) ≡ Ok (Some more)) × (new ≡ old)
 FieldRead at bytes (Ok false) left old new = (at bytes ≡ Ok None) × IsAtEnd left × (new ≡ old)
 FieldRead at bytes (Err ReadFault) left old new = new ≡ counted old
@@ -23,7 +23,7 @@ FieldRead at bytes (Err OutOfMemory) left old new = ⊥
 FieldRead at bytes (Err (Refused e)) left old new = (at bytes ≡ Err e) × (new ≡ old)
 
 -- and of a header, or of a part of it, that tells the version
-abbrev pub HeaderRead : (List ℕ → Header (Version × List ℕ)) → List ℕ → Result (Option Version) Unread → Option (List ℕ) → ℕ → ℕ → Type 0
+abbrev pub HeaderRead : (List ℕ → JournalHeader (Version × List ℕ)) → List ℕ → Result (Option Version) Unread → Option (List ℕ) → ℕ → ℕ → Type 0
 HeaderRead at bytes (Ok (Some v)) left old new = ((more : List ℕ) → at (bytes ++ more) ≡ Ok (Some (v, more))) × (new ≡ old)
 HeaderRead at bytes (Ok None) left old new = (at bytes ≡ Ok None) × IsAtEnd left × (new ≡ old)
 HeaderRead at bytes (Err ReadFault) left old new = new ≡ counted old

@@ -19,5 +19,5 @@ abbrev pub seen_of : {R W : Type 0} → replica.Ghosts R → KeeperData R W → 
 seen_of site k = kept k.is_open (site.seen k.replica)
 
 -- its own writer has counted a failure, or the journal of a keeper within has failed
-abbrev pub Fails : {R W : Type 0} → replica.Ghosts R → sink.Ghosts W → KeeperData R W → KeeperData R W → Type 0
-Fails site writer old new = (writer.faults new.writer ≡ counted (writer.faults old.writer)) ⊎ site.failed old.replica new.replica
+abbrev pub JournalFails : {R W : Type 0} → replica.Ghosts R → sink.Ghosts W → KeeperData R W → KeeperData R W → Type 0
+JournalFails site writer old new = (writer.faults new.writer ≡ counted (writer.faults old.writer)) ⊎ site.failed old.replica new.replica

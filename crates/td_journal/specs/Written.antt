@@ -14,5 +14,5 @@ abbrev pub HandsOn : Output → Output → List ℕ → Type 0
 HandsOn old new bytes = WritesAll old new bytes × (new.is_flushed ≡ true)
 
 -- a front of them, and a failure was counted
-abbrev pub WritesFront : Output → Output → List ℕ → Type 0
-WritesFront old new bytes = AppendsFront old.held new.held bytes × (new.faults ≡ counted old.faults)
+abbrev pub WritesPart : Output → Output → List ℕ → Type 0
+WritesPart old new bytes = AppendsFront old.held new.held bytes × (new.faults ≡ counted old.faults)

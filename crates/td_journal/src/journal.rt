@@ -7,7 +7,7 @@ ghost use Rattle.td_stamps.specs.Entries.{in_range};
 ghost use Rattle.td_frames.specs.Spelling.{HasFrame, entry_frame, entry_frames};
 ghost use Rattle.td_frames.specs.declared.version.Version.TheVariants.{Second};
 ghost use Rattle.td_journal.specs.Spelling.{header};
-ghost use Rattle.td_journal.specs.Written.{HandsOn, WritesAll, WritesFront};
+ghost use Rattle.td_journal.specs.Written.{HandsOn, WritesAll, WritesPart};
 
 use crate::error::WriteFault;
 use crate::frames::{put_header, send_entries};
@@ -40,7 +40,7 @@ impl<W: Sink> Journal<W> {
         requires { length script.now ≤ 65536 }
         ensures { MatchResult result
             (λ j. WritesAll (output_of W.Sink writer) (output_of W.Sink j) (header Second site script.now))
-            (λ e. WritesFront (output_of W.Sink writer) (output_of W.Sink e.writer) (header Second site script.now)) }
+            (λ e. WritesPart (output_of W.Sink writer) (output_of W.Sink e.writer) (header Second site script.now)) }
     {
         match put_header(&mut writer, site, script) {
             Ok(()) => Ok(Journal { writer }),
@@ -54,7 +54,7 @@ impl<W: Sink> Journal<W> {
         ensures has { HasFrame Second entry.now }
         ensures written { MatchResult result
             (λ _. WritesAll (output_of W.Sink self.old) (output_of W.Sink self.new) (entry_frame Second entry.now))
-            (λ _. WritesFront (output_of W.Sink self.old) (output_of W.Sink self.new) (entry_frame Second entry.now)) }
+            (λ _. WritesPart (output_of W.Sink self.old) (output_of W.Sink self.new) (entry_frame Second entry.now)) }
     {
         match put_entry(&mut self.writer, entry) {
             Ok(()) => Ok(()),
@@ -68,7 +68,7 @@ impl<W: Sink> Journal<W> {
         ensures has { OnOk result (AllByRecursion (HasFrame Second) entries.now) }
         ensures written { MatchResult result
             (λ _. HandsOn (output_of W.Sink self.old) (output_of W.Sink self.new) (entry_frames Second entries.now))
-            (λ _. WritesFront (output_of W.Sink self.old) (output_of W.Sink self.new) (entry_frames Second entries.now)) }
+            (λ _. WritesPart (output_of W.Sink self.old) (output_of W.Sink self.new) (entry_frames Second entries.now)) }
     {
         match send_entries(&mut self.writer, entries) {
             Ok(()) => Ok(()),

@@ -6,7 +6,7 @@ ghost use Rattle.td_devices.specs.Views.{output_of};
 ghost use Rattle.td_stamps.specs.Entries.{in_range};
 ghost use Rattle.td_stamps.specs.declared.entry.Entry.{Entry};
 ghost use Rattle.td_journal.specs.Keeping.{JournalsBatch, JournalsIssue, Starts, StartsNot};
-ghost use Rattle.td_journal.specs.Views.{Fails, seen_of};
+ghost use Rattle.td_journal.specs.Views.{JournalFails, seen_of};
 ghost use Rattle.td_story.specs.Calls.{Issues, Takes};
 ghost use Rattle.td_story.specs.declared.refusal.IssueError.TheVariants as issue_error;
 ghost use Rattle.td_story.specs.declared.refusal.TakeError.TheVariants as take_error;
@@ -131,11 +131,11 @@ fn last_of(entries: &[Entry]) -> &[Entry]
 impl<R: Replica, W: Sink> Replica for Keeper<R, W> {
     ghost seen = { λ k. seen_of R.Replica k };
 
-    ghost failed = { λ old new. Fails R.Replica W.Sink old new };
+    ghost failed = { λ old new. JournalFails R.Replica W.Sink old new };
 
     fn issue(&mut self, alloc: Global, text: &str, meter: &mut Meter) -> Result<Issued, IssueError>
         ensures issues { Issues (seen_of R.Replica self.old) text.now result (seen_of R.Replica self.new) }
-        ensures journal { result ≡ Err issue_error.JournalWrite → Fails R.Replica W.Sink self.old self.new }
+        ensures journal { result ≡ Err issue_error.JournalWrite → JournalFails R.Replica W.Sink self.old self.new }
         ensures written { JournalsIssue (seen_of R.Replica self.old) result (seen_of R.Replica self.new)
             (output_of W.Sink self.old.writer) (output_of W.Sink self.new.writer) }
     {
@@ -167,7 +167,7 @@ impl<R: Replica, W: Sink> Replica for Keeper<R, W> {
         meter: &mut Meter,
     ) -> Result<Taken, TakeError>
         ensures takes { Takes (seen_of R.Replica self.old) batch.now result (seen_of R.Replica self.new) }
-        ensures journal { result ≡ Err take_error.JournalWrite → Fails R.Replica W.Sink self.old self.new }
+        ensures journal { result ≡ Err take_error.JournalWrite → JournalFails R.Replica W.Sink self.old self.new }
         ensures written { JournalsBatch (seen_of R.Replica self.old) batch.now result
             (output_of W.Sink self.old.writer) (output_of W.Sink self.new.writer) }
     {

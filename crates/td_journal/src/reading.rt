@@ -6,18 +6,15 @@ ghost use Rattle.std.specs.List.{list_all};
 ghost use Rattle.td_stamps.specs.Entries.{in_range};
 ghost use Rattle.td_frames.specs.Spelling.{entry_frame};
 ghost use Rattle.td_journal.specs.ForProofs.{FieldRead, FramesRead, HeaderRead, told_by, version_of};
-ghost use Rattle.td_journal.specs.Reading.{field_at, fields_at, frames_at, header_at, owned_at, owner_fields, version_at};
+ghost use Rattle.td_journal.specs.Reading.{frames_at, header_at, header_version_at, known_field_at, known_fields_at, owned_at, owner_fields};
 ghost use Rattle.td_journal.specs.Spelling.{journal};
 ghost use Rattle.td_journal.specs.declared.reading.Unread.TheVariants.{Refused};
 
 use crate::error::JournalError;
 use std::alloc::Global;
 use td_devices::{Source, read_byte};
-use td_frames::{FrameError, Version, read_entries};
+use td_frames::{FrameError, MOST_ENTRIES, Version, read_entries};
 use td_stamps::Entry;
-
-/// The most entries of a journal.
-const MOST_ENTRIES: u32 = 100_000;
 
 /// Why a journal is not read.
 #[derive(Clone, Copy, Drop)]
@@ -47,7 +44,7 @@ fn judged(same: bool, is_whole: bool, error: JournalError) -> Result<bool, Unrea
 // Reads a field to its end or to the end of the input, and then judges it: whether it is whole, or why it is refused.
 fn read_field<S: Source>(source: &mut S, field: &[u8], error: JournalError) -> Result<bool, Unread>
     ensures told { (bytes : List ℕ) × Consumes (S.left source.old) (S.left source.new) bytes
-        × FieldRead (field_at field.now error) bytes result
+        × FieldRead (known_field_at field.now error) bytes result
         (S.left source.new) (S.failures source.old) (S.failures source.new) }
     ensures beside { Keeps (S.beside source.old) (S.beside source.new) }
 {
@@ -75,7 +72,7 @@ fn version_of(byte: u8) -> Result<Option<Version>, Unread>
 // Reads the version; `None` is the end of the input.
 fn read_version<S: Source>(source: &mut S) -> Result<Option<Version>, Unread>
     ensures told { (bytes : List ℕ) × Consumes (S.left source.old) (S.left source.new) bytes
-        × HeaderRead version_at bytes result
+        × HeaderRead header_version_at bytes result
         (S.left source.new) (S.failures source.old) (S.failures source.new) }
     ensures beside { Keeps (S.beside source.old) (S.beside source.new) }
 {
@@ -90,7 +87,7 @@ fn read_version<S: Source>(source: &mut S) -> Result<Option<Version>, Unread>
 fn read_owner<S: Source>(source: &mut S, site: u16, script: &str) -> Result<bool, Unread>
     requires { length script.now ≤ 65536 }
     ensures told { (bytes : List ℕ) × Consumes (S.left source.old) (S.left source.new) bytes
-        × FieldRead (fields_at (owner_fields site script.now)) bytes result
+        × FieldRead (known_fields_at (owner_fields site script.now)) bytes result
         (S.left source.new) (S.failures source.old) (S.failures source.new) }
     ensures beside { Keeps (S.beside source.old) (S.beside source.new) }
 {

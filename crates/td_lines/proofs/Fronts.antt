@@ -13,7 +13,7 @@ use Rattle.std.proofs.lemmas.Bool.{le-leb}
 use Rattle.td_lines.specs.declared.command.Command.{Command}
 use Rattle.td_lines.specs.declared.command.Command.TheVariants as command
 use Rattle.td_lines.specs.Commands.{meant}
-use Rattle.td_lines.specs.Lines.{after, before_space, Line, faulty, form_of, line_of}
+use Rattle.td_lines.specs.Lines.{after_front, before_space, Line, faulty, form_of, line_of}
 
 take_front : (front rest : List ℕ) → take (length front) (front ++ rest) ≡ front
 take_front front rest = take-append-le (length front) front rest (omega arith) ∙ take_all (length front) front (omega arith)
@@ -23,7 +23,7 @@ none_after front bs lacks false e = refl
 none_after front bs lacks true e =
     absurd (lacks (drop (length front) bs) (sym (take-append-drop (length front) bs) ∙ ap (λ (f : List ℕ). f ++ drop (length front) bs) ((bytes_eq-Decides _ _).0 e)))
 
-pub after_is : (front bs : List ℕ) (r : Option (Bor (List ℕ))) → MatchOption r (FindsTextPrefix front bs None) (λ x. StripsPrefix (FindsTextPrefix front) bs x.now) → option_copied r ≡ after front bs
+pub after_is : (front bs : List ℕ) (r : Option (Bor (List ℕ))) → MatchOption r (FindsTextPrefix front bs None) (λ x. StripsPrefix (FindsTextPrefix front) bs x.now) → option_copied r ≡ after_front front bs
 after_is front bs None lacks = none_after front bs lacks (bytes_eq (take (length front) bs) front) refl
 after_is front bs (Some x) (n, (count, split, edge), rest, len) =
     let there : take (length front) bs ≡ front = ap (take (length front)) split ∙ take_front front (drop n bs) in

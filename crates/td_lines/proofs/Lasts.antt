@@ -4,7 +4,7 @@ use Rattle.std.specs.Prelude.{option_map}
 use Rattle.std.specs.Str.Pattern.{RFindsChar}
 use Rattle.std.proofs.lemmas.Str.Pattern.{NoCharPasses-char}
 use Rattle.std.proofs.lemmas.Str.{len_utf8_ascii}
-use Rattle.td_lines.specs.Commands.{both}
+use Rattle.td_lines.specs.Commands.{both_texts}
 use Rattle.td_lines.specs.Lines.{or_here, parted_last}
 
 -- no byte from the first on is c
@@ -35,7 +35,7 @@ last_there c (b ∷ bs) (suc i) lt at later =
 
 pub parted_last_is : (c : ℕ) (bs : List ℕ) (r : Option (Bor (List ℕ) × Bor (List ℕ)))
     → MatchOption r (RFindsChar c bs None) (λ x. (i : ℕ) × (j : ℕ) × RFindsChar c bs (Some (i, j)) × (x.0.now ≡ take i bs) × (x.1.now ≡ drop j bs) × (i ≤ j) × (length x.0.now ≡ i) × (length x.1.now + j ≡ length bs))
-    → c < 128 → option_map both r ≡ parted_last c bs
+    → c < 128 → option_map both_texts r ≡ parted_last c bs
 parted_last_is c bs None h low = sym (none_there c bs (λ k lt. NoCharPasses-char c bs k h low lt))
 parted_last_is c bs (Some x) h low =
     let i = h.0 in

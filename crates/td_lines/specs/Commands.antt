@@ -21,13 +21,13 @@ meant (command.Call n address) = call n address.now
 meant command.Faulty = faulty
 
 -- what two references point to
-abbrev pub both : Bor (List ℕ) × Bor (List ℕ) → List ℕ × List ℕ
-both p = (p.0.now, p.1.now)
+abbrev pub both_texts : Bor (List ℕ) × Bor (List ℕ) → List ℕ × List ℕ
+both_texts p = (p.0.now, p.1.now)
 
 -- what a reference points to, and a stamp
 abbrev pub beside_stamp : Bor (List ℕ) × (ℕ × ℕ) → List ℕ × (ℕ × ℕ)
 beside_stamp p = (p.0.now, p.1)
 
 -- a number, and what a reference points to
-abbrev pub beside : ℕ × Bor (List ℕ) → ℕ × List ℕ
-beside p = (p.0, p.1.now)
+abbrev pub beside_number : ℕ × Bor (List ℕ) → ℕ × List ℕ
+beside_number p = (p.0, p.1.now)

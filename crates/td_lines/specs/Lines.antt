@@ -21,8 +21,8 @@ pub data Line : Type 0 where
 
 -- ---- numbers and words
 
-abbrev pub value : List ℕ → ℕ
-value = fold (λ n b. 10 * n + (b - 48)) 0
+abbrev pub decimal_value : List ℕ → ℕ
+decimal_value = fold (λ n b. 10 * n + (b - 48)) 0
 
 -- digits without leading zeros
 abbrev pub is_number : List ℕ → Bool
@@ -31,7 +31,7 @@ is_number (b ∷ bs) = list_all is_ascii_digit (b ∷ bs) && (not (b == 48) || (
 
 -- a number, of which all that are larger than this one are alike
 abbrev pub number_within : ℕ → List ℕ → Option ℕ
-number_within most bs = if is_number bs then Some (min (value bs) most) else None
+number_within most bs = if is_number bs then Some (min (decimal_value bs) most) else None
 
 -- no site has a number as large as this, and no entry such a clock
 abbrev pub no_site : ℕ
@@ -40,16 +40,16 @@ no_site = 65536
 abbrev pub no_clock : ℕ
 no_clock = 1000000000000000001
 
-abbrev pub number_of : List ℕ → Option ℕ
-number_of bs = number_within no_site bs
+abbrev pub site_number : List ℕ → Option ℕ
+site_number bs = number_within no_site bs
 
 -- bytes without a space, of which there are some
 abbrev pub is_word : List ℕ → Bool
 is_word bs = not (length bs == 0) && list_all (λ b. not (b == 32)) bs
 
 -- what follows a front, which it has
-abbrev pub after : List ℕ → List ℕ → Option (List ℕ)
-after front bs = if bytes_eq (take (length front) bs) front then Some (drop (length front) bs) else None
+abbrev pub after_front : List ℕ → List ℕ → Option (List ℕ)
+after_front front bs = if bytes_eq (take (length front) bs) front then Some (drop (length front) bs) else None
 
 -- what is before the first byte c, and what is after it
 abbrev pub parted : ℕ → List ℕ → Option (List ℕ × List ℕ)
@@ -68,16 +68,16 @@ parted_last c (b ∷ bs) = or_here (b == c) b bs (parted_last c bs)
 -- words have one space between and none after
 
 -- without one space in front, where there is one
-abbrev pub text_of : List ℕ → List ℕ
-text_of bs = unwrap_or (after (codes " ") bs) bs
+abbrev pub without_space : List ℕ → List ℕ
+without_space bs = unwrap_or (after_front (codes " ") bs) bs
 
 -- a site's number and a text, with this mark between
 abbrev pub site_and_text : ℕ → List ℕ → Option (ℕ × List ℕ)
-site_and_text mark bs = option_and_then (λ (p : List ℕ × List ℕ). option_map (λ n. (n, text_of p.1)) (number_of p.0)) (parted mark bs)
+site_and_text mark bs = option_and_then (λ (p : List ℕ × List ℕ). option_map (λ n. (n, without_space p.1)) (site_number p.0)) (parted mark bs)
 
 -- CLOCK.SITE
 abbrev pub stamp_in : List ℕ → Option (ℕ × ℕ)
-stamp_in bs = option_and_then (λ (p : List ℕ × List ℕ). option_and_then (λ c. option_map (λ n. (c, n)) (number_of p.1)) (number_within no_clock p.0)) (parted 46 bs)
+stamp_in bs = option_and_then (λ (p : List ℕ × List ℕ). option_and_then (λ c. option_map (λ n. (c, n)) (site_number p.1)) (number_within no_clock p.0)) (parted 46 bs)
 
 -- what is before a space, which is the last byte
 abbrev pub before_space : List ℕ → Option (List ℕ)
@@ -86,18 +86,18 @@ before_space bs = if bytes_eq (drop (length bs - 1) bs) (codes " ") then Some (t
 -- a text, and the stamp at which it is asked: what stands before ` @ `, and behind it, where nothing else does
 abbrev pub at_stamp : List ℕ → Option (List ℕ × (ℕ × ℕ))
 at_stamp bs =
-    option_and_then (λ (p : List ℕ × List ℕ). option_and_then (λ front. option_and_then (λ rest. option_map (λ s. (front, s)) (stamp_in rest)) (after (codes " ") p.1)) (before_space p.0)) (parted_last 64 bs)
+    option_and_then (λ (p : List ℕ × List ℕ). option_and_then (λ front. option_and_then (λ rest. option_map (λ s. (front, s)) (stamp_in rest)) (after_front (codes " ") p.1)) (before_space p.0)) (parted_last 64 bs)
 
 -- a site's number and a word
 abbrev pub site_and_word : List ℕ → Option (ℕ × List ℕ)
-site_and_word bs = option_and_then (λ (p : List ℕ × List ℕ). if is_word p.1 then option_map (λ n. (n, p.1)) (number_of p.0) else None) (parted 32 bs)
+site_and_word bs = option_and_then (λ (p : List ℕ × List ℕ). if is_word p.1 then option_map (λ n. (n, p.1)) (site_number p.0) else None) (parted 32 bs)
 
 -- the numbers of two sites
 abbrev pub two_sites : List ℕ → Option (ℕ × ℕ)
-two_sites bs = option_and_then (λ (p : List ℕ × List ℕ). option_and_then (λ n. option_map (λ m. (n, m)) (number_of p.1)) (number_of p.0)) (parted 32 bs)
+two_sites bs = option_and_then (λ (p : List ℕ × List ℕ). option_and_then (λ n. option_map (λ m. (n, m)) (site_number p.1)) (site_number p.0)) (parted 32 bs)
 
 abbrev pub of_site : (ℕ → Line) → List ℕ → Option Line
-of_site form bs = option_map form (number_of bs)
+of_site form bs = option_map form (site_number bs)
 
 abbrev pub of_pair : {A : Type 0} → (ℕ → A → Line) → Option (ℕ × A) → Option Line
 of_pair {A} form o = option_map (λ (p : ℕ × A). form p.0 p.1) o
@@ -118,9 +118,9 @@ abbrev pub dot_form : List ℕ → Option Line
 dot_form bs = option_and_then (λ (p : List ℕ × List ℕ). dotted p.0 p.1) (parted 32 bs)
 
 -- the first, or else the second
-abbrev pub or_else : Option Line → Option Line → Option Line
-or_else (Some l) m = Some l
-or_else None m = m
+abbrev pub either_form : Option Line → Option Line → Option Line
+either_form (Some l) m = Some l
+either_form None m = m
 
 -- of the present, or at a stamp
 abbrev pub asked : ℕ → List ℕ → Option (List ℕ × (ℕ × ℕ)) → Line
@@ -131,13 +131,13 @@ abbrev pub query_form : ℕ → List ℕ → Line
 query_form n text = asked n text (at_stamp text)
 
 abbrev pub text_form : List ℕ → Option Line
-text_form bs = or_else (of_pair issue (site_and_text 58 bs)) (of_pair query_form (site_and_text 63 bs))
+text_form bs = either_form (of_pair issue (site_and_text 58 bs)) (of_pair query_form (site_and_text 63 bs))
 
 abbrev pub form_of : List ℕ → Option Line
 form_of bs =
     if bytes_eq bs [] then Some nothing
     else (if bytes_eq bs (codes ".quit") then Some quit
-    else or_else (dot_form bs) (text_form bs))
+    else either_form (dot_form bs) (text_form bs))
 
 -- a line has at most 16,384 bytes, without its line end, which are text
 abbrev pub line_of : List ℕ → Line

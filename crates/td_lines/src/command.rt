@@ -4,8 +4,8 @@ ghost use Rattle.std.specs.Prelude.{◌≡◌, ◌<◌, ◌≤◌, ◌==◌, Mat
 ghost use Rattle.std.specs.List.{list_all};
 ghost use Rattle.std.specs.Option.{option_copied};
 ghost use Rattle.td_lines.specs.Lines as spec;
-ghost use Rattle.td_lines.specs.Lines.{after, form_of, line_of, number_of, parted, text_of};
-ghost use Rattle.td_lines.specs.Commands.{beside, beside_stamp, both, meant};
+ghost use Rattle.td_lines.specs.Lines.{after_front, form_of, line_of, parted, site_number, without_space};
+ghost use Rattle.td_lines.specs.Commands.{beside_number, beside_stamp, both_texts, meant};
 
 /// The most bytes of a line, without its line end.
 pub const LINE_BYTES: usize = 16_384;
@@ -68,7 +68,7 @@ const NO_CLOCK: u64 = 1_000_000_000_000_000_001;
 
 // The decimal number without leading zeros that this is.
 fn number(digits: &str) -> Option<u32>
-    ensures { result ≡ number_of digits.now }
+    ensures { result ≡ site_number digits.now }
 {
     let number = number_within(digits.as_bytes(), NO_SITE)?;
     Some(number as u32)
@@ -95,7 +95,7 @@ fn number_within(digits: &[u8], most: u64) -> Option<u64>
 
 // What follows the front, which the line has.
 fn after<'a>(front: &str, line: &'a str) -> Option<&'a str>
-    ensures { option_copied result ≡ after front.now line.now }
+    ensures { option_copied result ≡ after_front front.now line.now }
 {
     line.strip_prefix(front)
 }
@@ -103,14 +103,14 @@ fn after<'a>(front: &str, line: &'a str) -> Option<&'a str>
 // What is before the first such character, and what is after it.
 fn parted(c: char, line: &str) -> Option<(&str, &str)>
     requires { c < 128 }
-    ensures { option_map both result ≡ parted c line.now }
+    ensures { option_map both_texts result ≡ parted c line.now }
 {
     line.split_once(c)
 }
 
 // The text without one space in front of it, where there is one.
 fn text_of(text: &str) -> &str
-    ensures { result.now ≡ text_of text.now }
+    ensures { result.now ≡ without_space text.now }
 {
     after(" ", text).unwrap_or(text)
 }
@@ -118,7 +118,7 @@ fn text_of(text: &str) -> &str
 // A site's number and a text, with this mark between.
 fn site_and_text(mark: char, line: &str) -> Option<(u32, &str)>
     requires { mark < 128 }
-    ensures { option_map beside result ≡ spec.site_and_text mark line.now }
+    ensures { option_map beside_number result ≡ spec.site_and_text mark line.now }
 {
     let (site, text) = parted(mark, line)?;
     let site = number(site)?;
@@ -139,7 +139,7 @@ fn is_word(word: &str) -> bool
 
 // A site's number and a word.
 fn site_and_word(words: &str) -> Option<(u32, &str)>
-    ensures { option_map beside result ≡ spec.site_and_word words.now }
+    ensures { option_map beside_number result ≡ spec.site_and_word words.now }
 {
     let (site, word) = parted(' ', words)?;
     if !is_word(word) {
@@ -220,7 +220,7 @@ fn stamp_in(word: &str) -> Option<(u64, u32)>
 // What is before the last such character, and what is after it.
 fn parted_last(c: char, line: &str) -> Option<(&str, &str)>
     requires { c < 128 }
-    ensures { option_map both result ≡ spec.parted_last c line.now }
+    ensures { option_map both_texts result ≡ spec.parted_last c line.now }
 {
     line.rsplit_once(c)
 }

@@ -24,8 +24,8 @@ abbrev pub cells : Attrs → List (List ℕ)
 cells no_attrs = []
 cells (attr n d rest) = cell d ∷ cells rest
 
-abbrev pub names_of : Header → List (List ℕ)
-names_of h = map (λ a. a.0) (by_name.entries h)
+abbrev pub column_names : Header → List (List ℕ)
+column_names h = map (λ a. a.0) (by_name.entries h)
 
 abbrev pub record_of : List (List ℕ) → List ℕ
 record_of fields = row_text default_writer fields
@@ -34,4 +34,4 @@ abbrev pub tuple_record : Attrs → List ℕ
 tuple_record t = record_of (cells t)
 
 abbrev pub table_of : RowsData → List ℕ
-table_of r = record_of (names_of r.heading) ++ flat_map tuple_record r.tuples
+table_of r = record_of (column_names r.heading) ++ flat_map tuple_record r.tuples

@@ -44,7 +44,7 @@ fn fields<'a>(alloc: Global, cells: &'a [String]) -> Result<Vec<&'a [u8]>, Alloc
 }
 
 fn names<'a>(alloc: Global, heading: &'a Heading) -> Result<Vec<&'a [u8]>, AllocError>
-    ensures { IfOk result (λ v. map (λ f. f.now) v.items ≡ spec.names_of heading.now) }
+    ensures { IfOk result (λ v. map (λ f. f.now) v.items ≡ spec.column_names heading.now) }
 {
     let mut names = Vec::with_capacity(alloc, heading.len())?;
     for field in heading.fields() {
@@ -72,7 +72,7 @@ fn write_names<W: Write + Drop>(
 ) -> Result<(), AllocError>
     requires { IsReady writer.old }
     ensures ready { OnOk result (IsReady writer.new) }
-    ensures text { OnOk result (Appends (text_written W.contents writer.old) (text_written W.contents writer.new) (spec.record_of (spec.names_of heading.now))) }
+    ensures text { OnOk result (Appends (text_written W.contents writer.old) (text_written W.contents writer.new) (spec.record_of (spec.column_names heading.now))) }
 {
     let names = names(alloc, heading)?;
     write_record(writer, names.as_slice())

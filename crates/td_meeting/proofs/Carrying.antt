@@ -3,7 +3,7 @@ use Rattle.std.proofs.Common.{◌≡◌, ◌≢◌, ℕ, inl, inr, List, [], ◌
 use Rattle.std.specs.Result.{IfErr, IfOk}
 use Rattle.td_devices.specs.Counted.{counted}
 use Rattle.td_stamps.specs.declared.entry.Entry.{Entry}
-use Rattle.td_frames.specs.Reading.{Miss, short, magic, version, bad, entries_at, greeting_at}
+use Rattle.td_frames.specs.Reading.{Miss, short, magic, version, bad, entries_at, greeting_at, most_entries}
 use Rattle.td_frames.specs.declared.error.FrameError.{FrameError}
 use Rattle.td_frames.specs.declared.error.FrameError.TheVariants as frame_error
 use Rattle.td_frames.specs.declared.greeting.Greeting.{Greeting}
@@ -15,7 +15,7 @@ use Rattle.td_story.specs.declared.refusal.TakeError.{TakeError}
 use Rattle.td_story.specs.declared.refusal.TakeError.TheVariants as take_error
 use Rattle.td_meeting.specs.declared.error.MeetingError.{MeetingError}
 use Rattle.td_meeting.specs.declared.error.MeetingError.TheVariants.{Broken, OutOfMemory, Frame, OtherScript, SameSite, WriteFault, Take}
-use Rattle.td_meeting.specs.Reading.{Hears, IsTaken, MissesEntries, MissesGreeting, ReadsGreeting, ReadsStream, Refuses, Unheard, Unreceived, most_entries}
+use Rattle.td_meeting.specs.Reading.{Hears, IsTaken, MissesEntries, MissesGreeting, ReadsGreeting, ReadsStream, Refuses, Unheard, Unreceived}
 use Rattle.td_meeting.specs.ForProofs.Carried.{Heard, HearsIn, ReceivesIn}
 use Rattle.td_meeting.specs.ForProofs.Parts.{Untaken}
 use Rattle.td_meeting.proofs.Steady.{greeting_steady, stream_reads, stream_refuses}

@@ -7,7 +7,7 @@ use Rattle.td_stamps.specs.Vectors.{VersionVector, after_vector, lacks}
 use Rattle.td_stamps.specs.declared.entry.Entry.{Entry}
 use Rattle.td_stamps.specs.declared.errors.CheckError.{CheckError}
 use Rattle.td_stamps.proofs.SetLemmas.{added}
-use Rattle.td_frames.specs.Reading.{entries_at, greeting_at}
+use Rattle.td_frames.specs.Reading.{entries_at, greeting_at, most_entries}
 use Rattle.td_frames.specs.declared.greeting.Greeting.{Greeting}
 use Rattle.td_frames.proofs.Again.{stream_again}
 use Rattle.td_frames.proofs.GreetedAgain.{greeting_again}
@@ -20,7 +20,6 @@ use Rattle.td_story.specs.declared.refusal.TakeError.TheVariants as take_error
 use Rattle.td_meeting.specs.declared.error.MeetingError.{MeetingError}
 use Rattle.td_meeting.specs.declared.error.MeetingError.TheVariants.{Broken, OutOfMemory, Frame, OtherScript, SameSite, WriteFault, Take}
 use Rattle.td_meeting.specs.declared.meeting.MeetingRefusal.{MeetingRefusal}
-use Rattle.td_meeting.specs.Reading.{most_entries}
 use Rattle.td_meeting.specs.Writing.{Greets, sends}
 use Rattle.td_meeting.specs.Steps.{AreSent}
 use Rattle.td_meeting.specs.Meetings.{AreOpen, AreTwo, MeetsNot, MeetsWhole, TakesFrom}

@@ -9,7 +9,7 @@ use lib.Seq.{take-append-le}
 use Rattle.td_stamps.specs.Vectors.{VersionVector}
 use Rattle.td_stamps.specs.declared.entry.Entry.{Entry}
 use Rattle.td_frames.specs.declared.fields.Head.{Head}
-use Rattle.td_frames.specs.Reading.{Miss, short, magic, version, bad, checked_at, then_at, magic_at, version_at, site_at, length_at, text_of, script_at, count_at, number_at, sites_at, vector_at, head_at, rest_at, greeting_at, fields, with_text, text_at, entry_at, some_entry, frame_at, Entries, end_at, entries_at, with_frame, last_frame, head_size}
+use Rattle.td_frames.specs.Reading.{Miss, short, magic, version, bad, checked_at, then_at, magic_at, version_at, site_at, length_at, utf8_at, script_at, count_at, number_at, sites_at, vector_at, head_at, rest_at, greeting_at, fields, with_text, text_at, entry_at, some_entry, frame_at, Entries, end_at, entries_at, with_frame, last_frame, head_size}
 use Rattle.td_frames.specs.declared.version.Version.{Version}
 use Rattle.td_frames.proofs.Loops.{frame_more}
 
@@ -97,7 +97,7 @@ vector_steady : Steady vector_at
 vector_steady = then_steady count_at (λ k rest. sites_at k 0 by_site.empty rest) (field_steady 2 (λ b. true) (from_be_bytes w16) bad) (λ k. sites_steady k 0 by_site.empty)
 
 script_steady : Steady script_at
-script_steady = then_steady length_at text_of (field_steady 4 (λ b. leb (from_be_bytes w32 b) 65536) (from_be_bytes w32) bad) (λ n. field_steady n is_utf8 (λ b. b) bad)
+script_steady = then_steady length_at utf8_at (field_steady 4 (λ b. leb (from_be_bytes w32 b) 65536) (from_be_bytes w32) bad) (λ n. field_steady n is_utf8 (λ b. b) bad)
 
 head_steady : Steady head_at
 head_steady =

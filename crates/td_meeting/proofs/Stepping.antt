@@ -1,6 +1,6 @@
 -- Four steps over links whose bytes are known.
 use Rattle.std.proofs.Common.{◌≡◌, ℕ, List, [], ◌++◌, Option, Some, None, Ok, sym, ap, subst, ◌∙◌, append-nil}
-use Rattle.td_frames.specs.Reading.{entries_at, greeting_at}
+use Rattle.td_frames.specs.Reading.{entries_at, greeting_at, most_entries}
 use Rattle.td_frames.specs.declared.greeting.Greeting.{Greeting}
 use Rattle.td_frames.specs.declared.version.Version.TheVariants.{Second}
 use Rattle.td_stamps.specs.Vectors.{after_vector}
@@ -11,7 +11,7 @@ use Rattle.td_story.specs.declared.answer.Taken.{Taken}
 use Rattle.td_meeting.specs.ForProofs.Carried.{IsAnswer, ReceivesIn, Settling}
 use Rattle.td_meeting.specs.Laws.{MeetBySteps}
 use Rattle.td_meeting.specs.Meetings.{AreOpen, AreTwo, MeetsWhole}
-use Rattle.td_meeting.specs.Reading.{Hears, ReadsStream, most_entries}
+use Rattle.td_meeting.specs.Reading.{Hears, ReadsStream}
 use Rattle.td_meeting.specs.Steps.{AreSent}
 use Rattle.td_meeting.specs.Writing.{Greets, sends}
 use Rattle.td_meeting.proofs.Carrying.{reads_same, same_entries}

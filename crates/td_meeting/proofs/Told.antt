@@ -6,7 +6,7 @@ use Rattle.td_devices.specs.Counted.{counted}
 use Rattle.std.specs.Result.{IfErr, IfOk}
 use Rattle.td_stamps.specs.Vectors.{VersionVector, IsVector, sites_fit}
 use Rattle.td_stamps.specs.declared.entry.Entry.{Entry}
-use Rattle.td_frames.specs.Reading.{Miss, short, magic, version, bad, ToldEntries, entries_at}
+use Rattle.td_frames.specs.Reading.{Miss, short, magic, version, bad, ToldEntries, entries_at, most_entries}
 use Rattle.td_frames.specs.declared.error.FrameError.{FrameError}
 use Rattle.td_frames.specs.declared.error.FrameError.TheVariants as frame_error
 use Rattle.td_frames.specs.declared.version.Version.TheVariants.{Second}
@@ -16,7 +16,7 @@ use Rattle.td_story.specs.declared.answer.Taken.{Taken}
 use Rattle.td_story.specs.declared.refusal.TakeError.TheVariants as take_error
 use Rattle.td_meeting.specs.declared.error.MeetingError.{MeetingError}
 use Rattle.td_meeting.specs.declared.error.MeetingError.TheVariants.{Broken, OutOfMemory, Frame, OtherScript, SameSite, WriteFault, Take}
-use Rattle.td_meeting.specs.Reading.{IsTaken, MissesEntries, TakesFront, Unreceived, most_entries}
+use Rattle.td_meeting.specs.Reading.{IsTaken, MissesEntries, TakesFront, Unreceived}
 use Rattle.td_meeting.specs.ForProofs.Parts.{ArePlaces, StopsAt, TakesShort, Untaken}
 
 pub places_told : {V E : Type 0} (es : List Entry) (v : VersionVector) (r : Result V E) (items : V → List (ℕ × ℕ)) → IsVector es v

@@ -4,7 +4,7 @@ use Rattle.std.specs.Prelude.{◌≡◌, ◌≢◌, ◌⊎◌, ℕ, List, [], �
 use Rattle.std.specs.Io.KnownBytes.{Consumes, IsAtEnd}
 use Rattle.td_devices.specs.Counted.{counted}
 use Rattle.td_stamps.specs.declared.entry.Entry.{Entry}
-use Rattle.td_frames.specs.Reading.{Miss, short, ToldErr, ToldEntries, entries_at, greeting_at}
+use Rattle.td_frames.specs.Reading.{Miss, short, ToldErr, ToldEntries, entries_at, greeting_at, most_entries}
 use Rattle.td_frames.specs.declared.error.FrameError.{FrameError}
 use Rattle.td_frames.specs.declared.error.FrameError.TheVariants as frame_error
 use Rattle.td_frames.specs.declared.greeting.Greeting.{Greeting}
@@ -45,10 +45,6 @@ Unheard s OutOfMemory left after old new = (bytes : List ℕ) × Consumes left a
 Unheard s e left after old new = ⊥
 
 -- ---- a stream of entries
-
--- the most entries that a stream may have
-abbrev pub most_entries : ℕ
-most_entries = 100000
 
 -- these entries were read, with what their reading ended in
 pub record ReadsEntries (left after : Option (List ℕ)) (es : List Entry) (ending : Result (List ℕ) Miss) : Type 0 where

@@ -10,12 +10,9 @@ ghost use Rattle.td_meeting.specs.Reading.{ReadsStream, Unreceived};
 use crate::error::MeetingError;
 use std::alloc::Global;
 use td_devices::Source;
-use td_frames::{FrameError, Version, read_entries};
+use td_frames::{FrameError, MOST_ENTRIES, Version, read_entries};
 use td_stamps::Entry;
 use td_story::{Meter, Replica, TakeError, Taken};
-
-/// The most entries of a stream.
-const MOST_ENTRIES: u32 = 100_000;
 
 // Why an open site does not take a batch.
 fn untaken(error: TakeError) -> MeetingError

@@ -11,17 +11,17 @@ use Rattle.td_grammar.specs.Grammar.{IsQuery}
 use Rattle.td_grammar.specs.Statements.{IsScript, IsStatement}
 
 -- the text is a script, a statement or a query
-abbrev pub IsRead : Reading → Text → Type 0
-IsRead reading.Script bytes = (trees : List Definition) × IsScript bytes trees
-IsRead reading.Statement bytes = (tree : Statement) × IsStatement bytes tree
-IsRead reading.Query bytes = (tree : Expr) × IsQuery bytes tree
+abbrev pub HasReading : Reading → Text → Type 0
+HasReading reading.Script bytes = (trees : List Definition) × IsScript bytes trees
+HasReading reading.Statement bytes = (tree : Statement) × IsStatement bytes tree
+HasReading reading.Query bytes = (tree : Expr) × IsQuery bytes tree
 
 -- whether it is
 abbrev pub Decides : Reading → Text → Bool → Type 0
-Decides r bytes true = IsRead r bytes
-Decides r bytes false = ¬ (IsRead r bytes)
+Decides r bytes true = HasReading r bytes
+Decides r bytes false = ¬ (HasReading r bytes)
 
 -- a place is told exactly where the text has no such reading, and lies in it, between two characters
 abbrev pub TellsPlace : Reading → Text → Option ℕ → Type 0
-TellsPlace r bytes None = IsRead r bytes
-TellsPlace r bytes (Some n) = ¬ (IsRead r bytes) × IsCharBoundary bytes n
+TellsPlace r bytes None = HasReading r bytes
+TellsPlace r bytes (Some n) = ¬ (HasReading r bytes) × IsCharBoundary bytes n

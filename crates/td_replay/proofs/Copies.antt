@@ -35,7 +35,7 @@ use Rattle.td_story.specs.Calls.{SaysValue}
 use Rattle.td_story.specs.Databases.{DatabaseData, IsDatabase, Stored, at_place, stored_relvars}
 use Rattle.td_story.specs.Trees.{AreBases, IsIn, tree_means}
 use Rattle.td_story.specs.declared.answer.Asked.{Asked}
-use Rattle.td_replay.specs.Noted.{IsSound, Notes, opened_by}
+use Rattle.td_replay.specs.Noted.{IsLegalDatabase, Notes, opened_by}
 use Rattle.td_replay.specs.ForProofs.Going.{catalogue_stays, stays_sound}
 use Rattle.td_replay.specs.ForProofs.Past.{AreAt, AreCopies, FitCopies, FitsCopy, HaveCopies, IsCopyIf, Says, SaysAfter, Types, or_there, over}
 use Rattle.td_replay.specs.ForProofs.Told.{IsLogged, Log, outcomes_of}
@@ -200,7 +200,7 @@ have_redone c places [] copies have = have
 have_redone c places (p ∷ ds) copies have = have_redone c places ds (change p.0 p.1 copies) (have_changed c places p.0 p.1 copies have)
 
 -- ---- one statement less
-module _ (o : DatabaseData) (good : IsSound o) (es : List Entry) (log : Log) (places : List ℕ) (i : ℕ) (copies : Stored) (each : length es ≡ length log) (within : i < length log) (p : Stamp × Ran) (x : Entry) (at : AreAt o es log places (i + 1) copies) where
+module _ (o : DatabaseData) (good : IsLegalDatabase o) (es : List Entry) (log : Log) (places : List ℕ) (i : ℕ) (copies : Stored) (each : length es ≡ length log) (within : i < length log) (p : Stamp × Ran) (x : Entry) (at : AreAt o es log places (i + 1) copies) where
   abbrev e : Entry
   e = get_or es i x
 
@@ -212,10 +212,10 @@ module _ (o : DatabaseData) (good : IsSound o) (es : List Entry) (log : Log) (pl
       (subst (λ (ps : Log). Story Notes o (take i es ++ e ∷ []) ps at.state) (take_more log i p within)
       (subst (λ (fs : List Entry). Story Notes o fs (take (i + 1) log) at.state) (take_more es i x (omega (arith, each, within))) at.story))
 
-  before_sound : IsSound off.state
-  before_sound = stories.kept Notes IsSound (λ s t f r notes was. stays_sound s t f r was notes) o off.state (take i es) (take i log) off.story good
+  before_sound : IsLegalDatabase off.state
+  before_sound = stories.kept Notes IsLegalDatabase (λ s t f r notes was. stays_sound s t f r was notes) o off.state (take i es) (take i log) off.story good
 
-  after_sound : IsSound at.state
+  after_sound : IsLegalDatabase at.state
   after_sound = stays_sound off.state at.state e q.1 before_sound off.step
 
   pub fits_at : FitCopies copies q.1.delta.items
@@ -292,12 +292,12 @@ module _ (script : List ℕ) (es : List Entry) (log : Log) (d : DatabaseData) (l
       }
 
   module _ (places : List ℕ) (kept : ℕ) (copies : Stored) (at : AreAt origin es log places kept copies) where
-    pub was_sound : IsSound at.state
-    was_sound = stories.kept Notes IsSound (λ s t e r notes good. stays_sound s t e r good notes) origin at.state (take kept es) (take kept log) at.story l.sound
+    pub was_sound : IsLegalDatabase at.state
+    was_sound = stories.kept Notes IsLegalDatabase (λ s t e r notes good. stays_sound s t e r good notes) origin at.state (take kept es) (take kept log) at.story l.sound
 
     pub was_of : at.state.catalogue ≡ d.catalogue
     was_of =
-        let P : DatabaseData → Type 0 = λ z. IsSound z × (z.catalogue ≡ d.catalogue) in
+        let P : DatabaseData → Type 0 = λ z. IsLegalDatabase z × (z.catalogue ≡ d.catalogue) in
         (stories.kept Notes P (λ s t e r notes good. (stays_sound s t e r good.0 notes, catalogue_stays s t e r good.0 notes ∙ good.1)) origin at.state (take kept es) (take kept log) at.story (l.sound, refl)).1
 
     pub says_after : (x : Expression) (r : Asked) → IsDatabase d → (text : List ℕ) (t : Types d.catalogue text x) → places ≡ reads x → Says d.catalogue (over copies (stored_relvars d.stored)) x r → SaysAfter script es kept x r

@@ -20,7 +20,7 @@ use Rattle.td_story.specs.Databases.{Belongs, DatabaseData, IsDatabase, Stored, 
 use Rattle.td_story.specs.Footprints.{IsInFootprint}
 use Rattle.td_story.specs.Steps.{Steps}
 use Rattle.td_values.specs.Rows.{RowsData}
-use Rattle.td_replay.specs.Noted.{AreAlike, IsSound, Notes, opened_by}
+use Rattle.td_replay.specs.Noted.{AgreeAt, IsLegalDatabase, Notes, opened_by}
 use Rattle.td_replay.specs.ForProofs.Going.{catalogue_stays, origin_of, stays_sound}
 
 -- ---- what is listed is a target, so nothing else changes where the list is made or taken back
@@ -33,17 +33,17 @@ listed_is_target s t e r step n never d h =
     ok_same : (a b : RowsData) → ◌≡◌ {A = Result RowsData Stop} (Ok a) (Ok b) → a ≡ b
     ok_same a b h = cc
 
-alike_between : (d u : DatabaseData) (after : Stored) (n : ℕ) → IsBetween d after u → stored_relvars after n ≡ stored_relvars d.stored n → AreAlike d u n
+alike_between : (d u : DatabaseData) (after : Stored) (n : ℕ) → IsBetween d after u → stored_relvars after n ≡ stored_relvars d.stored n → AgreeAt d u n
 alike_between d u after n h same = (
   sym h.catalogue,
   ⊎_elim (λ old. sym old) (λ new. sym (new ∙ same)) (h.each n),
 )
 
-alike_changed : (d u : DatabaseData) (after : Stored) (n : ℕ) → u ≡ record d { stored = after } → stored_relvars after n ≡ stored_relvars d.stored n → AreAlike d u n
+alike_changed : (d u : DatabaseData) (after : Stored) (n : ℕ) → u ≡ record d { stored = after } → stored_relvars after n ≡ stored_relvars d.stored n → AgreeAt d u n
 alike_changed d u after n is same = (sym (ap (λ (z : DatabaseData). z.catalogue) is), sym (ap (λ (z : DatabaseData). stored_relvars z.stored n) is ∙ same))
 
 -- ---- a step taken back, or made again: over what a call answers
-module _ (s t : DatabaseData) (e : Entry) (r : Ran) (good : IsSound s) (step : Notes s e r t) (ds : List (ℕ × DeltaData)) (are : ds ≡ r.delta.items) where
+module _ (s t : DatabaseData) (e : Entry) (r : Ran) (good : IsLegalDatabase s) (step : Notes s e r t) (ds : List (ℕ × DeltaData)) (are : ds ≡ r.delta.items) where
   both : GoesBothWays s t ds
   both = subst (GoesBothWays s t) (sym are) (differences_go_both_ways s t r.delta.items good.0 (stays_sound s t e r good step).0 (catalogue_stays s t e r good step) step.delta)
 
@@ -68,11 +68,11 @@ module _ (s t : DatabaseData) (e : Entry) (r : Ran) (good : IsSound s) (step : N
   made_elsewhere n never stored =
       only_listed_change ds stored n (λ d h. listed_is_target s t e r step n never d (subst (λ (xs : List (ℕ × DeltaData)). Contains xs (n, d)) are h))
 
-  pub undone_elsewhere : {A E : Type 0} (u : DatabaseData) (m : Result A E) → OnOk m (u ≡ record t { stored = undone ds t.stored }) → OnErr m (IsBetween t (undone ds t.stored) u) → (n : ℕ) → (Contains r.targets.items n → ⊥) → AreAlike t u n
+  pub undone_elsewhere : {A E : Type 0} (u : DatabaseData) (m : Result A E) → OnOk m (u ≡ record t { stored = undone ds t.stored }) → OnErr m (IsBetween t (undone ds t.stored) u) → (n : ℕ) → (Contains r.targets.items n → ⊥) → AgreeAt t u n
   undone_elsewhere u (Ok a) h k n never = alike_changed t u (undone ds t.stored) n h (made_elsewhere n never t.stored).1
   undone_elsewhere u (Err x) h k n never = alike_between t u (undone ds t.stored) n k (made_elsewhere n never t.stored).1
 
-  pub redone_elsewhere : {A E : Type 0} (u : DatabaseData) (m : Result A E) → OnOk m (u ≡ record s { stored = redone ds s.stored }) → OnErr m (IsBetween s (redone ds s.stored) u) → (n : ℕ) → (Contains r.targets.items n → ⊥) → AreAlike s u n
+  pub redone_elsewhere : {A E : Type 0} (u : DatabaseData) (m : Result A E) → OnOk m (u ≡ record s { stored = redone ds s.stored }) → OnErr m (IsBetween s (redone ds s.stored) u) → (n : ℕ) → (Contains r.targets.items n → ⊥) → AgreeAt s u n
   redone_elsewhere u (Ok a) h k n never = alike_changed s u (redone ds s.stored) n h (made_elsewhere n never s.stored).0
   redone_elsewhere u (Err x) h k n never = alike_between s u (redone ds s.stored) n k (made_elsewhere n never s.stored).0
 
@@ -83,18 +83,18 @@ module _ {A E : Type 0} (d u : DatabaseData) (after : Stored) where
 
 -- ---- a run
 module _ {E : Type 0} (s t : DatabaseData) (dialect : ℕ) (text : List ℕ) where
-  pub origin_ran : (m : Result Ran E) → IsSound s → IfOk m (λ r. Steps s dialect text r.outcome t) → OnErr m (t ≡ s) → origin_of t ≡ origin_of s
+  pub origin_ran : (m : Result Ran E) → IsLegalDatabase s → IfOk m (λ r. Steps s dialect text r.outcome t) → OnErr m (t ≡ s) → origin_of t ≡ origin_of s
   origin_ran (Ok r) good h k = ap opened_by (step_keeps_database s t dialect text r.outcome good.0 h).1
   origin_ran (Err x) good h k = ap origin_of k
 
 -- ---- what is put back
-pub may_be_put_back : (s d : DatabaseData) (ns : List ℕ) (part : List (ℕ × RowsData)) → IsSound s → part ≡ part_of s.stored ns → origin_of s ≡ origin_of d → All (λ (p : ℕ × RowsData). Belongs d.catalogue p.0 p.1) part
+pub may_be_put_back : (s d : DatabaseData) (ns : List ℕ) (part : List (ℕ × RowsData)) → IsLegalDatabase s → part ≡ part_of s.stored ns → origin_of s ≡ origin_of d → All (λ (p : ℕ × RowsData). Belongs d.catalogue p.0 p.1) part
 may_be_put_back s d ns part good is same =
     subst (λ (q : List (ℕ × RowsData)). All (λ (p : ℕ × RowsData). Belongs d.catalogue p.0 p.1) q) (sym is)
     (subst (λ (c : CatalogueData). All (λ (p : ℕ × RowsData). Belongs c p.0 p.1) (part_of s.stored ns)) (ap (λ (z : DatabaseData). z.catalogue) same) (part_belongs s ns good.0))
 
-pub is_put_back : (s d u : DatabaseData) (ns : List ℕ) (part : List (ℕ × RowsData)) → IsDatabase d → u ≡ record d { stored = put_part part d.stored } → IsSound s → part ≡ part_of s.stored ns → origin_of s ≡ origin_of d
-    → ((n : ℕ) → (Contains ns n → ⊥) → AreAlike s d n) → u ≡ s
+pub is_put_back : (s d u : DatabaseData) (ns : List ℕ) (part : List (ℕ × RowsData)) → IsDatabase d → u ≡ record d { stored = put_part part d.stored } → IsLegalDatabase s → part ≡ part_of s.stored ns → origin_of s ≡ origin_of d
+    → ((n : ℕ) → (Contains ns n → ⊥) → AgreeAt s d n) → u ≡ s
 is_put_back s d u ns part there put good is same alike =
     put ∙ ap (λ (q : List (ℕ × RowsData)). record d { stored = put_part q d.stored }) is
     ∙ put_back_restores s d ns good.0 there (ap (λ (z : DatabaseData). z.catalogue) same) (λ n never. (alike n never).1)

@@ -17,7 +17,7 @@ use Rattle.td_story.specs.Steps.{IsRead, IsUnread, Steps, TellsTest, unread, rai
 use Rattle.td_story.specs.declared.outcome.Outcome.{Outcome}
 use Rattle.td_story.specs.declared.outcome.Outcome.TheVariants as outcome
 use Rattle.td_story.specs.Stories.{IsStory, StepsEntry}
-use Rattle.td_replay.specs.Noted.{IsSound, Notes, opened_by, or_none}
+use Rattle.td_replay.specs.Noted.{IsLegalDatabase, Notes, opened_by, or_none}
 use Rattle.td_replay.specs.ForProofs.Going.{stays_sound}
 use Rattle.td_replay.specs.ForProofs.Told.{IsLogged, Log, Outcomes, RunsNext, RunsSome, outcomes_of}
 
@@ -71,14 +71,14 @@ module _ (script : List ℕ) (es : List Entry) (log : Log) (d : DatabaseData) (l
   pub logged_story : IsStory script es (outcomes_of log) d
   logged_story = record { opening = opened_by d.catalogue; opens = l.opens; runs = outcomes_alone (opened_by d.catalogue) d es log l.runs }
 
-  pub logged_sound : IsSound d
-  logged_sound = stories.kept Notes IsSound (λ s t e r notes good. stays_sound s t e r good notes) (opened_by d.catalogue) d es log l.runs l.sound
+  pub logged_sound : IsLegalDatabase d
+  logged_sound = stories.kept Notes IsLegalDatabase (λ s t e r notes good. stays_sound s t e r good notes) (opened_by d.catalogue) d es log l.runs l.sound
 
   -- a story of the same script, with other entries
   pub told_on : (fs : List Entry) (all : Log) (u : DatabaseData) → opened_by u.catalogue ≡ opened_by d.catalogue → Story Notes (opened_by d.catalogue) fs all u → IsLogged script fs all u
   told_on fs all u same runs = record {
     opens = subst (OpensOn script None) (sym same) l.opens;
-    sound = subst IsSound (sym same) l.sound;
+    sound = subst IsLegalDatabase (sym same) l.sound;
     runs = subst (λ (o : DatabaseData). Story Notes o fs all u) (sym same) runs;
   }
 
@@ -88,12 +88,12 @@ module _ (script : List ℕ) (es : List Entry) (log : Log) (d : DatabaseData) (l
       told_on (es ++ e ∷ []) longer after (ap opened_by (same_catalogue d after e.dialect e.text r.outcome next.notes.step))
       (subst (λ (ps : Log). Story Notes (opened_by d.catalogue) (es ++ e ∷ []) ps after) (sym next.log_is) (stories.one_more Notes (opened_by d.catalogue) d after es log e r l.runs next.notes))
 
-pub begun : (script : List ℕ) (d : DatabaseData) → IsSound d → OpensOn script None d → IsLogged script [] [] d
+pub begun : (script : List ℕ) (d : DatabaseData) → IsLegalDatabase d → OpensOn script None d → IsLogged script [] [] d
 begun script d good h =
     let same = one_opened script d h in
     record {
       opens = subst (OpensOn script None) (sym same) h;
-      sound = subst IsSound (sym same) good;
+      sound = subst IsLegalDatabase (sym same) good;
       runs = subst (λ (o : DatabaseData). Story Notes o [] [] d) (sym same) nothing_ran;
     }
 

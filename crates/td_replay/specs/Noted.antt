@@ -22,12 +22,12 @@ pub record Notes (d : DatabaseData) (e : Entry) (r : Ran) (after : DatabaseData)
   pub footprint : AreThose (IsInFootprint d.catalogue e.dialect e.text) r.footprint.items
 
 -- a database in which every test is true
-abbrev pub IsSound : DatabaseData → Type 0
-IsSound d = IsDatabase d × IsLegal d
+abbrev pub IsLegalDatabase : DatabaseData → Type 0
+IsLegalDatabase d = IsDatabase d × IsLegal d
 
 -- databases of one catalogue that have the same at the place
-abbrev pub AreAlike : DatabaseData → DatabaseData → ℕ → Type 0
-AreAlike d e n = (d.catalogue ≡ e.catalogue) × (stored_relvars d.stored n ≡ stored_relvars e.stored n)
+abbrev pub AgreeAt : DatabaseData → DatabaseData → ℕ → Type 0
+AgreeAt d e n = (d.catalogue ≡ e.catalogue) × (stored_relvars d.stored n ≡ stored_relvars e.stored n)
 
 -- the database that a catalogue opens, as a function
 abbrev pub or_none : Result Stored Stop → Stored
@@ -58,5 +58,5 @@ mix part d e = record { catalogue = d.catalogue; stored = mixed part d.stored e.
 abbrev pub AreClosed : CatalogueData → (ℕ → Bool) → Type 0
 AreClosed c part = (t : Test) → Contains c.tests t → (b : Bool) × ((n : ℕ) → TestReads c t n → part n ≡ b)
 
-abbrev pub IsClosed : DatabaseData → (ℕ → Bool) → Type 0
-IsClosed o part = AreClosed o.catalogue part
+abbrev pub IsClosedPart : DatabaseData → (ℕ → Bool) → Type 0
+IsClosedPart o part = AreClosed o.catalogue part

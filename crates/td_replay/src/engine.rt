@@ -1,8 +1,8 @@
 //! The database of one script, as a machine that runs entries, takes them back and makes their changes again.
 
 ghost use Rattle.std.specs.Prelude.{◌≡◌, ℕ, Option, OnOk};
-ghost use Rattle.td_rollback.specs.Labels.{IsCoarser, is_in};
-ghost use Rattle.td_replay.specs.Noted.{AreAlike, AreClosed, AreTargetsOf, IsClosed, IsFootprintOf, IsSound, Notes, mix, opened_by};
+ghost use Rattle.td_rollback.specs.Labels.{IsCoarser, has_label};
+ghost use Rattle.td_replay.specs.Noted.{AgreeAt, AreClosed, AreTargetsOf, IsClosedPart, IsFootprintOf, IsLegalDatabase, Notes, mix, opened_by};
 ghost use Rattle.td_relvars.specs.Parts.{part_of};
 ghost use Rattle.td_story.specs.Databases.{IsDatabase};
 ghost use Rattle.td_replay.specs.ForProofs.Going.{go};
@@ -64,7 +64,7 @@ fn tie_tests(
     catalogue: &Catalogue,
     labels: &mut Vec<usize>,
 ) -> Result<(), AllocError>
-    ensures closed { OnOk result ((label : Option ℕ) → AreClosed catalogue.now (is_in labels.new.items label)) }
+    ensures closed { OnOk result ((label : Option ℕ) → AreClosed catalogue.now (has_label labels.new.items label)) }
     ensures coarser { IsCoarser labels.old.items labels.new.items }
 {
     let tests = catalogue.tests();
@@ -82,11 +82,11 @@ impl Machine for Engine {
 
     type Meter = Meter;
 
-    ghost sound = { IsSound };
+    ghost sound = { IsLegalDatabase };
 
     ghost steps = { Notes };
 
-    ghost alike = { AreAlike };
+    ghost alike = { AgreeAt };
 
     ghost origin = { λ d. opened_by d.catalogue };
 
@@ -104,7 +104,7 @@ impl Machine for Engine {
 
     ghost mix = { mix };
 
-    ghost closed = { IsClosed };
+    ghost closed = { IsClosedPart };
 
     fn run(&mut self, alloc: Global, entry: &Entry, meter: &mut Meter) -> Result<Ran, AllocError> {
         let text = entry.text.as_str();

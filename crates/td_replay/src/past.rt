@@ -5,7 +5,7 @@ ghost use Rattle.td_relations.specs.Deltas.{inverse_of};
 ghost use Rattle.td_relvars.specs.Changed.{change, undone};
 ghost use Rattle.td_stamps.specs.declared.entry.Entry.{Entry};
 ghost use Rattle.td_story.specs.Databases.{DatabaseData, stored_relvars};
-ghost use Rattle.td_replay.specs.Noted.{IsSound};
+ghost use Rattle.td_replay.specs.Noted.{IsLegalDatabase};
 ghost use Rattle.td_replay.specs.ForProofs.Past as spec;
 ghost use Rattle.td_replay.specs.ForProofs.Past.{AreAt, AreCopies, FitCopies, FitsCopy, HaveCopies, IsCopyIf};
 
@@ -122,8 +122,8 @@ pub(crate) fn undo_behind(
     kept: usize,
 ) -> Result<(), AllocError>
     requires kept { kept ≤ length log.now }
-    requires now { (o : DatabaseData) × (es : List Entry) × (places : List ℕ) × IsSound o × (length es ≡ length log.now) × AreAt o es log.now places (length log.now) copies.old.items }
-    ensures { (o : DatabaseData) (es : List Entry) (places : List ℕ) → IsSound o → length es ≡ length log.now → AreAt o es log.now places (length log.now) copies.old.items → OnOk result (AreAt o es log.now places kept copies.new.items) }
+    requires now { (o : DatabaseData) × (es : List Entry) × (places : List ℕ) × IsLegalDatabase o × (length es ≡ length log.now) × AreAt o es log.now places (length log.now) copies.old.items }
+    ensures { (o : DatabaseData) (es : List Entry) (places : List ℕ) → IsLegalDatabase o → length es ≡ length log.now → AreAt o es log.now places (length log.now) copies.old.items → OnOk result (AreAt o es log.now places kept copies.new.items) }
 {
     let mut left = log.len();
     while left > kept {

@@ -8,7 +8,7 @@ ghost use Rattle.td_stamps.specs.Sets.{union};
 ghost use Rattle.td_story.specs.declared.outcome.Outcome.TheVariants as became;
 ghost use Rattle.td_rollback.specs.Touched.{AreMore};
 ghost use Rattle.td_replay.specs.Counted.{RunsOver};
-ghost use Rattle.td_replay.specs.Noted.{IsSound, opened_by};
+ghost use Rattle.td_replay.specs.Noted.{IsLegalDatabase, opened_by};
 ghost use Rattle.td_replay.specs.declared.told.Way.TheVariants as by;
 ghost use Rattle.td_replay.specs.ForProofs.Told.{HoldsNext, IsAccepted, IsLogged, RunsSome, TellsNext, outcomes_of};
 
@@ -76,7 +76,7 @@ impl Told {
         entry: &Entry,
         meter: &mut Meter,
     ) -> Result<(), AllocError>
-        requires { IsSound self.old.engine }
+        requires { IsLegalDatabase self.old.engine }
         ensures counted { meter.new.count ≤ meter.old.count + 1 }
         ensures ran { OnOk result (RunsSome self.old.engine self.old.log.items entry.now self.new.engine self.new.log.items) }
     {
@@ -93,7 +93,7 @@ impl Told {
         entry: &Entry,
         meter: &mut Meter,
     ) -> Result<Option<Outcome>, AllocError>
-        requires { IsSound self.old.engine }
+        requires { IsLegalDatabase self.old.engine }
         ensures counted { meter.new.count ≤ meter.old.count + 1 }
         ensures told { TellsNext self.old.engine self.old.log.items entry.now result self.new.engine self.new.log.items }
     {
@@ -197,7 +197,7 @@ pub(crate) fn add_last(
 ) -> Result<Option<Outcome>, AllocError>
     requires fits { IsOk (check_of held.old.entries held.old.limit (entry ∷ [])) }
     requires last { union held.old.entries (entry ∷ []) ≡ held.old.entries ++ entry ∷ [] }
-    requires sound { IsSound told.old.engine }
+    requires sound { IsLegalDatabase told.old.engine }
     ensures counted { meter.new.count ≤ meter.old.count + 1 }
     ensures ran { TellsNext told.old.engine told.old.log.items entry result told.new.engine told.new.log.items }
     ensures holds { HoldsNext held.old entry result held.new }

@@ -5,7 +5,7 @@ use Rattle.std.proofs.lemmas.Bool.{eqb-false}
 use Rattle.std.proofs.lemmas.List.{take_more}
 use Rattle.std.proofs.lemmas.List.Elements.{Contains-append_cases}
 use Rattle.std.proofs.lemmas.Option.{slice_get-get_or}
-use Rattle.td_rollback.specs.Labels.{AllOrNone, AreTied, IsCoarser, is_in, is_of}
+use Rattle.td_rollback.specs.Labels.{AllOrNone, AreTied, IsCoarser, has_label, is_of}
 use Rattle.td_rollback.proofs.Members.{number_first, number_none}
 
 same_number : (n : ℕ) → n == n ≡ true
@@ -77,7 +77,7 @@ tied_on xs ys ns c t n h = (
 pub each_tied : (xs ns : List ℕ) (first : ℕ) → ((n : ℕ) → Contains ns n → (n < length xs) × (slice_get xs n ≡ slice_get xs first)) → AreTied xs ns
 each_tied xs ns first each n h = ((each n h).0, λ m k. (each m k).1 ∙ sym (each n h).1)
 
-pub all_or_none : (xs ns : List ℕ) (label : Option ℕ) → AreTied xs ns → AllOrNone (is_in xs label) ns
+pub all_or_none : (xs ns : List ℕ) (label : Option ℕ) → AreTied xs ns → AllOrNone (has_label xs label) ns
 all_or_none xs [] label t n h = number_none n h
 all_or_none xs (m ∷ ns) label t n h = ap (is_of label) ((t m (number_first m ns)).1 n h)
 
@@ -86,7 +86,7 @@ pub starts : (xs : List ℕ) (x : ℕ) → Some x ≡ slice_get xs 0 → Contain
 starts [] x h = cc
 starts (y ∷ ys) x h = let is : x ≡ y = cc in subst (Contains (y ∷ ys)) (sym is) (number_first y ys)
 
-pub labelled : (xs : List ℕ) (first n : ℕ) → first < length xs → slice_get xs n ≡ slice_get xs first → is_in xs (slice_get xs first) n ≡ true
+pub labelled : (xs : List ℕ) (first n : ℕ) → first < length xs → slice_get xs n ≡ slice_get xs first → has_label xs (slice_get xs first) n ≡ true
 labelled xs first n lt same =
     let some : slice_get xs first ≡ Some (get_or xs first 0) = slice_get-get_or xs first 0 lt in
     let here : slice_get xs n ≡ Some (get_or xs first 0) = same ∙ some in

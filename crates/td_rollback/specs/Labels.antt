@@ -17,8 +17,8 @@ is_of None found = false
 is_of (Some label) None = false
 is_of (Some label) (Some found) = found == label
 
-abbrev pub is_in : List ℕ → Option ℕ → ℕ → Bool
-is_in labels label n = is_of label (slice_get labels n)
+abbrev pub has_label : List ℕ → Option ℕ → ℕ → Bool
+has_label labels label n = is_of label (slice_get labels n)
 
 -- whether the first of the places is in the part
 abbrev pub starts_in : (ℕ → Bool) → List ℕ → Bool

@@ -3,7 +3,7 @@
 ghost use Rattle.std.specs.Prelude.{◌≡◌, ◌<◌, ◌==◌, ℕ, if◌then◌else◌, length, map, IfOk, OnOk, slice_get, true};
 ghost use Rattle.std.specs.List.{Contains};
 ghost use Rattle.td_stamps.specs.declared.entry.Stamp.{Stamp as StampData};
-ghost use Rattle.td_rollback.specs.Labels.{AllOrNone, AreTied, IsCoarser, is_in, starts_in};
+ghost use Rattle.td_rollback.specs.Labels.{AllOrNone, AreTied, IsCoarser, has_label, starts_in};
 
 use crate::machine::Machine;
 use std::alloc::{AllocError, Global};
@@ -85,7 +85,7 @@ pub(crate) struct Part {
 impl Part {
     // Whether the first of the places is in the part.
     pub fn has_first(&self, places: &[usize]) -> bool
-        ensures { result ≡ starts_in (is_in self.now.labels.items self.now.label) places.now }
+        ensures { result ≡ starts_in (has_label self.now.labels.items self.now.label) places.now }
     {
         let Some(first) = places.first() else {
             return false;
@@ -121,7 +121,7 @@ fn label_at(labels: &[usize], place: usize) -> Option<usize>
 // The label of the first of the places, which has one.
 fn first_label(labels: &[usize], places: &[usize]) -> Option<usize>
     requires { AreTied labels.now places.now }
-    ensures { (n : ℕ) → Contains places.now n → is_in labels.now result n ≡ true }
+    ensures { (n : ℕ) → Contains places.now n → has_label labels.now result n ≡ true }
 {
     let first = places.first()?;
     label_at(labels, *first)
@@ -135,9 +135,9 @@ pub(crate) fn part_of<M: Machine>(
     places: &[usize],
     log: &[(Stamp, M::Record)],
 ) -> Result<Part, AllocError>
-    ensures closed { IfOk result (λ p. M.closed (M.origin machine.now) (is_in p.labels.items p.label)) }
-    ensures places { IfOk result (λ p. (n : ℕ) → Contains places.now n → is_in p.labels.items p.label n ≡ true) }
-    ensures records { IfOk result (λ p. (q : StampData × M.Record) → Contains log.now q → AllOrNone (is_in p.labels.items p.label) (M.footprint_in q.1)) }
+    ensures closed { IfOk result (λ p. M.closed (M.origin machine.now) (has_label p.labels.items p.label)) }
+    ensures places { IfOk result (λ p. (n : ℕ) → Contains places.now n → has_label p.labels.items p.label n ≡ true) }
+    ensures records { IfOk result (λ p. (q : StampData × M.Record) → Contains log.now q → AllOrNone (has_label p.labels.items p.label) (M.footprint_in q.1)) }
 {
     let mut labels = Vec::new(alloc);
     tie(alloc, &mut labels, places)?;

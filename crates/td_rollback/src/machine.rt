@@ -4,7 +4,7 @@ ghost use Rattle.std.specs.Prelude.{◌≡◌, ◌≤◌, ◌+◌, ℕ, Bool, Li
 ghost use Rattle.std.specs.List.{Contains};
 ghost use Rattle.td_stamps.specs.declared.entry.Entry.{Entry as EntryData};
 ghost use Rattle.td_rollback.specs.Going.{GoByRecords, SoundFrom};
-ghost use Rattle.td_rollback.specs.Labels.{IsCoarser, is_in};
+ghost use Rattle.td_rollback.specs.Labels.{IsCoarser, has_label};
 ghost use Rattle.td_rollback.specs.Parts.{Mixes};
 
 use std::alloc::{AllocError, Global};
@@ -93,7 +93,7 @@ pub trait Machine {
 
     /// Ties the places that what is asked of states ties.
     fn tie_places(&self, alloc: Global, labels: &mut Vec<usize>) -> Result<(), AllocError>
-        ensures closed { OnOk result ((label : Option ℕ) → closed (origin self.now) (is_in labels.new.items label)) }
+        ensures closed { OnOk result ((label : Option ℕ) → closed (origin self.now) (has_label labels.new.items label)) }
         ensures coarser { IsCoarser labels.old.items labels.new.items };
 
     /// A copy of what these places have, and maybe of more.

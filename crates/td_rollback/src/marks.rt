@@ -1,7 +1,7 @@
 //! Marks on entries: which of them a replay is about.
 
 ghost use Rattle.std.specs.Prelude.{◌≡◌, ◌≤◌, ◌+◌, ◌++◌, IfOk, length, map, vec_capacity};
-ghost use Rattle.td_rollback.specs.Labels.{is_in, starts_in};
+ghost use Rattle.td_rollback.specs.Labels.{has_label, starts_in};
 ghost use Rattle.td_rollback.specs.Parts.{marked, unmarked, woven};
 ghost use Rattle.td_rollback.specs.ForProofs.Marked as spec;
 ghost use Rattle.td_rollback.specs.ForProofs.Marked.{AreFlagged};
@@ -18,7 +18,7 @@ pub(crate) fn marks_of<M: Machine>(
     part: &Part,
     log: &[(Stamp, M::Record)],
 ) -> Result<Vec<bool>, AllocError>
-    ensures { IfOk result (λ v. v.items ≡ map (λ p. starts_in (is_in part.now.labels.items part.now.label) (M.footprint_in p.1)) log.now) }
+    ensures { IfOk result (λ v. v.items ≡ map (λ p. starts_in (has_label part.now.labels.items part.now.label) (M.footprint_in p.1)) log.now) }
 {
     let mut marks = Vec::with_capacity(alloc, log.len())?;
     for record in log {

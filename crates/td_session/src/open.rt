@@ -9,7 +9,7 @@ use td_places::Reading;
 use td_story::{BrokenTest, OpenError, ScriptError};
 
 /// The most bytes of a script.
-pub const SCRIPT_BYTES: usize = 65_536;
+pub const SCRIPT_BYTES: usize = td_frames::SCRIPT_BYTES as usize;
 
 /// A script, and the lines behind its `.begin`.
 #[derive(Drop)]

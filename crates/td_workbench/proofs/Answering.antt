@@ -11,9 +11,9 @@ use Rattle.td_devices.specs.declared.streams.Failed.{Failed}
 use Rattle.td_lines.specs.Lines.{Line, is_quit}
 use Rattle.td_devices.specs.Views.{Input, Output}
 use Rattle.td_answers.specs.Sites.{Sites}
-use Rattle.td_answers.specs.Answers.{Answered}
-use Rattle.td_workbench.specs.Streams.{Reads, WritesAll}
-use Rattle.td_workbench.specs.Runs.{said, GoesOn, Quits, RunsOut}
+use Rattle.td_answers.specs.Answers.{LineAnswered}
+use Rattle.td_workbench.specs.Streams.{ReadsBytes, WritesText}
+use Rattle.td_workbench.specs.Runs.{said, DoesNotQuit, Quits, RunsOut}
 use Rattle.td_workbench.specs.ForProofs.Serving.{LineEnds, ReadEnds, Serves, ended_by}
 use Rattle.td_workbench.specs.declared.run.Ended.TheVariants.{ReadFault, WriteFault}
 use Rattle.td_workbench.proofs.Lines.{one_line, no_bytes}
@@ -36,18 +36,18 @@ pub quit_read : (c : CatalogueData) (old : Sites) (raw : List ℕ) (is_last : Bo
 quit_read c old raw is_last left new w after line read some says (quits, same, unwritten) =
     let (lines, out) = one_line is_last raw left read some in
     let ended : Quits c old (raw_lines raw) left [] old = record { before = []; last = raw; lines = lines; read_out = out; quits = sym says ∙ quits; served = served_none c old } in
-    ([], inl (subst (λ (s : Sites). Quits c old (raw_lines raw) left [] s) (sym same) ended), subst (λ (v : Output). WritesAll [] w v) (sym unwritten) (writes_nothing w))
+    ([], inl (subst (λ (s : Sites). Quits c old (raw_lines raw) left [] s) (sym same) ended), subst (λ (v : Output). WritesText [] w v) (sym unwritten) (writes_nothing w))
 
 pub last_read : (c : CatalogueData) (old : Sites) (raw : List ℕ) (is_last : Bool) (left : Option (List ℕ)) (new : Sites) (w after : Output) (line : Line) → IsRead is_last raw left → (is_last && (length raw == 0)) ≡ false → line ≡ said raw
     → LineEnds c old line (Ok false) new w after → ReadEnds c old raw is_last left (Ok is_last) new w after
 last_read c old raw true left new w after line read some says (text, on, answered, wrote) =
     let (lines, out) = one_line true raw left read some in
-    let goes : GoesOn raw = subst (λ (l : Line). is_quit l ≡ false) says on in
-    let told : Answered c old (said raw) text new = subst (λ (l : Line). Answered c old l text new) says answered in
+    let goes : DoesNotQuit raw = subst (λ (l : Line). is_quit l ≡ false) says on in
+    let told : LineAnswered c old (said raw) text new = subst (λ (l : Line). LineAnswered c old l text new) says answered in
     let ended : RunsOut c old (raw ∷ []) left text new = record { at_end = read.1; go_on = (goes, tt); printed = printed_one c old raw text new told } in
     (text, inr (subst (λ (ls : List (List ℕ)). RunsOut c old ls left text new) (sym lines) ended), wrote)
 last_read c old raw false left new w after line read some says (text, on, answered, wrote) =
-    (text, refl, read, subst (λ (l : Line). is_quit l ≡ false) says on, subst (λ (l : Line). Answered c old l text new) says answered, wrote)
+    (text, refl, read, subst (λ (l : Line). is_quit l ≡ false) says on, subst (λ (l : Line). LineAnswered c old l text new) says answered, wrote)
 
 pub failed_read : (c : CatalogueData) (old : Sites) (raw : List ℕ) (is_last : Bool) (left : Option (List ℕ)) (new : Sites) (w after : Output) (line : Line) (e : Failed) → IsRead is_last raw left → (is_last && (length raw == 0)) ≡ false → line ≡ said raw
     → LineEnds c old line (Err e) new w after → ReadEnds c old raw is_last left (Err e) new w after
@@ -62,7 +62,7 @@ failed_read c old raw is_last left new w after line e read some says (text, on, 
         read_out = out;
         goes_on = subst (λ (l : Line). is_quit l ≡ false) says on;
         served = served_none c old;
-        answered = subst (λ (l : Line). Answered c old l text new) says answered;
+        answered = subst (λ (l : Line). LineAnswered c old l text new) says answered;
       },
       wrote,
     )
@@ -86,9 +86,9 @@ unbegun_serves c old now from w none =
 -- ---- the line by which a run ends
 
 pub over_serves : (c : CatalogueData) (old : Sites) (now : ℕ) (is_last : Bool) (from left : Input) (w after : Output) (raw : List ℕ) (new : Sites)
-    → Reads raw from left → ReadEnds c old raw is_last left.left (Ok true) new w after → Serves c old now from w (Ok tt) new left after
+    → ReadsBytes raw from left → ReadEnds c old raw is_last left.left (Ok true) new w after → Serves c old now from w (Ok tt) new left after
 over_serves c old now is_last from left w after raw new took (text, why, wrote) = record { bytes = raw; ends = (took, text, why, wrote) }
 
 pub failed_serves : (c : CatalogueData) (old : Sites) (now : ℕ) (is_last : Bool) (from left : Input) (w after : Output) (raw : List ℕ) (new : Sites) (e : Failed)
-    → Reads raw from left → ReadEnds c old raw is_last left.left (Err e) new w after → Serves c old now from w (Err WriteFault) new left after
+    → ReadsBytes raw from left → ReadEnds c old raw is_last left.left (Err e) new w after → Serves c old now from w (Err WriteFault) new left after
 failed_serves c old now is_last from left w after raw new e took (answer, why, front) = record { bytes = raw; ends = (took, [], answer, w, why, writes_nothing w, front) }

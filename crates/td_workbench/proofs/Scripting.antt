@@ -8,7 +8,7 @@ use Rattle.td_devices.specs.Lines.{raw_lines, is_one_line, IsWholeLine, TellsLin
 use Rattle.td_devices.specs.declared.lines.LineError.{LineError}
 use Rattle.td_devices.specs.declared.lines.LineError.TheVariants as line_error
 use Rattle.td_workbench.specs.Scripts.{is_begin, script_then, Says, IsOfScript, IsUnfinished}
-use Rattle.td_workbench.specs.Streams.{Reads}
+use Rattle.td_workbench.specs.Streams.{ReadsBytes}
 use Rattle.td_workbench.specs.ForProofs.Reading.{IsKeptScript, HasScript, ScriptRead, unready_by}
 use Rattle.td_workbench.specs.declared.script.Unready.TheVariants as unready
 use Rattle.td_workbench.proofs.Lines.{joined, joined_none, joined_last, raw_whole, raw_some, all_append}
@@ -54,7 +54,7 @@ pub record Begun (reads now : ℕ) (from at : Input) (kept : Option (List ℕ)) 
   pub lines : List (List ℕ)
   pub whole : AllByRecursion IsWholeLine lines
   pub of_script : AllByRecursion IsOfScript lines
-  pub read : Reads (joined lines) from at
+  pub read : ReadsBytes (joined lines) from at
   pub is_kept : IsKeptScript (joined lines) kept
   pub spent : now + length (joined lines) ≡ reads
 
@@ -63,18 +63,18 @@ begun_none reads from kept is = record {
   lines = [];
   whole = tt;
   of_script = tt;
-  read = subst (λ (bs : List ℕ). Reads bs from from) (sym joined_none) (reads_nothing from);
+  read = subst (λ (bs : List ℕ). ReadsBytes bs from from) (sym joined_none) (reads_nothing from);
   is_kept = subst (λ (k : Option (List ℕ)). IsKeptScript (joined []) k) (sym is) (sym joined_none, subst (λ (bs : List ℕ). length bs ≤ 65536) (sym joined_none) (omega arith));
   spent = subst (λ (bs : List ℕ). reads + length bs ≡ reads) (sym joined_none) (omega arith);
 }
 
 pub begun_more : (reads now then : ℕ) (from at left : Input) (old new : Option (List ℕ)) (raw : List ℕ) (b : Begun reads now from at old)
-    → Reads raw at left → IsWholeLine raw → is_begin raw ≡ false → now - then ≡ length raw + 0 → then ≤ now → IsKeptScript (joined b.lines ++ raw) new → Begun reads then from left new
+    → ReadsBytes raw at left → IsWholeLine raw → is_begin raw ≡ false → now - then ≡ length raw + 0 → then ≤ now → IsKeptScript (joined b.lines ++ raw) new → Begun reads then from left new
 begun_more reads now then from at left old new raw b took whole is count fewer keeps = record {
   lines = b.lines ++ raw ∷ [];
   whole = all_append IsWholeLine b.lines (raw ∷ []) b.whole (whole, tt);
   of_script = all_append IsOfScript b.lines (raw ∷ []) b.of_script (is, tt);
-  read = subst (λ (bs : List ℕ). Reads bs from left) (sym (joined_last b.lines raw)) (reads_trans from at left (joined b.lines) raw b.read took);
+  read = subst (λ (bs : List ℕ). ReadsBytes bs from left) (sym (joined_last b.lines raw)) (reads_trans from at left (joined b.lines) raw b.read took);
   is_kept = subst (λ (bs : List ℕ). IsKeptScript bs new) (sym (joined_last b.lines raw)) keeps;
   spent = subst (λ (bs : List ℕ). then + length bs ≡ reads) (sym (joined_last b.lines raw)) (omega (arith, length-append (joined b.lines) raw, b.spent, count, fewer));
 }
@@ -105,17 +105,17 @@ no_reads_script reads now from at kept b none =
     (joined b.lines ++ [], no_more_trans (reads - length (joined b.lines ++ [])) from at at (joined b.lines) [] b.read (Consumes-nil at.left, inr (refl, omega (arith, none, b.spent, length-append (joined b.lines) []))), unfinished reads now from at kept [] _ b refl)
 
 pub unended_script : (reads now then : ℕ) (from at left : Input) (kept : Option (List ℕ)) (raw : List ℕ) (b : Begun reads now from at kept)
-    → Reads raw at left → is_one_line raw ≡ true → IsAtEnd left.left → is_begin raw ≡ false → ScriptRead reads then from left (Err unready.End)
+    → ReadsBytes raw at left → is_one_line raw ≡ true → IsAtEnd left.left → is_begin raw ≡ false → ScriptRead reads then from left (Err unready.End)
 unended_script reads now then from at left kept raw b took one end is =
     (joined b.lines ++ raw, reads_trans from at left (joined b.lines) raw b.read took, ap script_then (raw_whole b.lines raw b.whole) ∙ no_script b.lines (raw_lines raw) b.of_script (part_none raw one is), end)
 
 pub unkept_script : (reads now then : ℕ) (from at left : Input) (kept : Option (List ℕ)) (raw : List ℕ) (b : Begun reads now from at kept)
-    → Reads raw at left → IsWholeLine raw → ScriptRead reads then from left (Err unready.OutOfMemory)
+    → ReadsBytes raw at left → IsWholeLine raw → ScriptRead reads then from left (Err unready.OutOfMemory)
 unkept_script reads now then from at left kept raw b took whole =
     (joined b.lines ++ raw, reads_trans from at left (joined b.lines) raw b.read took, unfinished reads now from at kept raw _ b (inr whole))
 
 pub has_script : (reads now then : ℕ) (from at left : Input) (kept : Option (List ℕ)) (is_last : Bool) (raw : List ℕ) (b : Begun reads now from at kept)
-    → Reads raw at left → is_begin raw ≡ true → MatchBool is_last ((is_one_line raw ≡ true) × IsAtEnd left.left) (IsWholeLine raw) → now - then ≡ length raw + cond is_last 1 0 → then ≤ now
+    → ReadsBytes raw at left → is_begin raw ≡ true → MatchBool is_last ((is_one_line raw ≡ true) × IsAtEnd left.left) (IsWholeLine raw) → now - then ≡ length raw + cond is_last 1 0 → then ≤ now
     → HasScript reads then from left kept is_last
 has_script reads now then from at left kept true raw b took is read count fewer = record {
   bytes = joined b.lines ++ raw;

@@ -6,9 +6,9 @@ use Rattle.td_devices.specs.Counted.{counted}
 use Rattle.td_devices.specs.Lines.{raw_lines, IsWholeLine}
 use Rattle.td_devices.specs.Views.{Input, Output}
 use Rattle.td_answers.specs.Sites.{Sites}
-use Rattle.td_answers.specs.Answers.{Answered}
-use Rattle.td_workbench.specs.Streams.{Reads, ReadsNoMore, WritesAll}
-use Rattle.td_workbench.specs.Runs.{said, GoesOn, Printed, Served, Quits, RunsOut, BreaksOff, Reaches, Ends}
+use Rattle.td_answers.specs.Answers.{LineAnswered}
+use Rattle.td_workbench.specs.Streams.{ReadsBytes, ReadsNoMore, WritesText}
+use Rattle.td_workbench.specs.Runs.{said, DoesNotQuit, Printed, Served, Quits, RunsOut, BreaksOff, Reaches, Ends}
 use Rattle.td_workbench.specs.ForProofs.Serving.{Serves}
 use Rattle.td_workbench.specs.declared.run.Ended.{Ended}
 use Rattle.td_workbench.specs.declared.run.Ended.TheVariants.{OutOfMemory, ReadFault, WriteFault}
@@ -16,19 +16,19 @@ use Rattle.td_workbench.proofs.Lines.{joined, joined_none, joined_last, raw_whol
 
 -- ---- streams
 
-pub writes_nothing : (w : Output) → WritesAll [] w w
+pub writes_nothing : (w : Output) → WritesText [] w w
 writes_nothing w = (Appends-nil w.held, refl, λ flushed. flushed)
 
-pub whole_trans : (w half after : Output) (t u : List ℕ) → WritesAll t w half → WritesAll u half after → WritesAll (t ++ u) w after
+pub whole_trans : (w half after : Output) (t u : List ℕ) → WritesText t w half → WritesText u half after → WritesText (t ++ u) w after
 whole_trans w half after t u first second = (Appends-trans w.held half.held after.held t u first.0 second.0, second.1 ∙ first.1, λ flushed. second.2 (first.2 flushed))
 
-pub reads_nothing : (from : Input) → Reads [] from from
+pub reads_nothing : (from : Input) → ReadsBytes [] from from
 reads_nothing from = (Consumes-nil from.left, refl)
 
-pub reads_trans : (from at left : Input) (bs cs : List ℕ) → Reads bs from at → Reads cs at left → Reads (bs ++ cs) from left
+pub reads_trans : (from at left : Input) (bs cs : List ℕ) → ReadsBytes bs from at → ReadsBytes cs at left → ReadsBytes (bs ++ cs) from left
 reads_trans from at left bs cs first second = (Consumes-trans from.left at.left left.left bs cs first.0 second.0, second.1 ∙ first.1)
 
-pub no_more_trans : (spare : ℕ) (from at left : Input) (bs cs : List ℕ) → Reads bs from at → ReadsNoMore spare cs at left → ReadsNoMore spare (bs ++ cs) from left
+pub no_more_trans : (spare : ℕ) (from at left : Input) (bs cs : List ℕ) → ReadsBytes bs from at → ReadsNoMore spare cs at left → ReadsNoMore spare (bs ++ cs) from left
 no_more_trans spare from at left bs cs first (took, inl failed) = (Consumes-trans from.left at.left left.left bs cs first.0 took, inl (failed ∙ ap counted first.1))
 no_more_trans spare from at left bs cs first (took, inr none) = (Consumes-trans from.left at.left left.left bs cs first.0 took, inr (none.0 ∙ first.1, none.1))
 
@@ -44,7 +44,7 @@ printed_append c old [] t mid ks u new (none, same) next =
 printed_append c old (l ∷ ls) t mid ks u new (step, first, rest, answered, others, split) next =
     (step, first, rest ++ u, answered, printed_append c step ls rest mid ks u new others next, ap (λ (v : List ℕ). v ++ u) split ∙ append_assoc first rest u)
 
-pub printed_one : (c : CatalogueData) (old : Sites) (l : List ℕ) (t : List ℕ) (new : Sites) → Answered c old (said l) t new → Printed c old (l ∷ []) t new
+pub printed_one : (c : CatalogueData) (old : Sites) (l : List ℕ) (t : List ℕ) (new : Sites) → LineAnswered c old (said l) t new → Printed c old (l ∷ []) t new
 printed_one c old l t new answered = (new, t, [], answered, (refl, refl), sym (append-nil t))
 
 pub served_none : (c : CatalogueData) (old : Sites) → Served c old [] [] old
@@ -53,11 +53,11 @@ served_none c old = record { whole = tt; go_on = tt; printed = (refl, refl) }
 pub served_append : (c : CatalogueData) (old : Sites) (ls : List (List ℕ)) (t : List ℕ) (mid : Sites) (ks : List (List ℕ)) (u : List ℕ) (new : Sites) → Served c old ls t mid → Served c mid ks u new → Served c old (ls ++ ks) (t ++ u) new
 served_append c old ls t mid ks u new s next = record {
   whole = all_append IsWholeLine ls ks s.whole next.whole;
-  go_on = all_append GoesOn ls ks s.go_on next.go_on;
+  go_on = all_append DoesNotQuit ls ks s.go_on next.go_on;
   printed = printed_append c old ls t mid ks u new s.printed next.printed;
 }
 
-pub served_one : (c : CatalogueData) (old : Sites) (l : List ℕ) (t : List ℕ) (new : Sites) → IsWholeLine l → GoesOn l → Answered c old (said l) t new → Served c old (l ∷ []) t new
+pub served_one : (c : CatalogueData) (old : Sites) (l : List ℕ) (t : List ℕ) (new : Sites) → IsWholeLine l → DoesNotQuit l → LineAnswered c old (said l) t new → Served c old (l ∷ []) t new
 served_one c old l t new whole on answered = record { whole = (whole, tt); go_on = (on, tt); printed = printed_one c old l t new answered }
 
 -- ---- ways to end, behind lines that were served
@@ -79,7 +79,7 @@ module _ (c : CatalogueData) (old : Sites) (ls : List (List ℕ)) (t : List ℕ)
   runs_out_behind : (ks : List (List ℕ)) (left : Option (List ℕ)) (u : List ℕ) (new : Sites) → RunsOut c mid ks left u new → RunsOut c old (ls ++ ks) left (t ++ u) new
   runs_out_behind ks left u new q = record {
     at_end = q.at_end;
-    go_on = all_append GoesOn ls ks s.go_on q.go_on;
+    go_on = all_append DoesNotQuit ls ks s.go_on q.go_on;
     printed = printed_append c old ls t mid ks u new s.printed q.printed;
   }
 
@@ -105,7 +105,7 @@ module _ (c : CatalogueData) (old : Sites) (ls : List (List ℕ)) (t : List ℕ)
   }
 
   pub ends_behind : (ks : List (List ℕ)) (spare : ℕ) (bs more : List ℕ) (from at left : Input) (w half after : Output) (r : Result (Unit {0}) Ended) (new : Sites)
-      → Reads bs from at → WritesAll t w half → Ends c mid ks spare more at half r new left after → Ends c old (ls ++ ks) spare (bs ++ more) from w r new left after
+      → ReadsBytes bs from at → WritesText t w half → Ends c mid ks spare more at half r new left after → Ends c old (ls ++ ks) spare (bs ++ more) from w r new left after
   ends_behind ks spare bs more from at left w half after (Ok x) new read wrote (took, u, why, puts) = (
     reads_trans from at left bs more read took,
     t ++ u,
@@ -134,8 +134,8 @@ pub record Done (c : CatalogueData) (old : Sites) (reads now : ℕ) (from at : I
   pub lines : List (List ℕ)
   pub text : List ℕ
   pub served : Served c old lines text mid
-  pub read : Reads (joined lines) from at
-  pub wrote : WritesAll text w half
+  pub read : ReadsBytes (joined lines) from at
+  pub wrote : WritesText text w half
   pub spent : now + length (joined lines) ≡ reads
 
 pub done_none : (c : CatalogueData) (old : Sites) (reads : ℕ) (from : Input) (w : Output) → Done c old reads reads from from w w old
@@ -143,19 +143,19 @@ done_none c old reads from w = record {
   lines = [];
   text = [];
   served = served_none c old;
-  read = subst (λ (bs : List ℕ). Reads bs from from) (sym joined_none) (reads_nothing from);
+  read = subst (λ (bs : List ℕ). ReadsBytes bs from from) (sym joined_none) (reads_nothing from);
   wrote = writes_nothing w;
   spent = subst (λ (bs : List ℕ). reads + length bs ≡ reads) (sym joined_none) (omega arith);
 }
 
 pub done_more : (c : CatalogueData) (old : Sites) (reads now then : ℕ) (from at left : Input) (w half after : Output) (mid new : Sites) (raw t : List ℕ)
-    → Done c old reads now from at w half mid → Reads raw at left → now - then ≡ length raw + 0 → then ≤ now → Served c mid (raw ∷ []) t new → WritesAll t half after
+    → Done c old reads now from at w half mid → ReadsBytes raw at left → now - then ≡ length raw + 0 → then ≤ now → Served c mid (raw ∷ []) t new → WritesText t half after
     → Done c old reads then from left w after new
 done_more c old reads now then from at left w half after mid new raw t d took count fewer served wrote = record {
   lines = d.lines ++ raw ∷ [];
   text = d.text ++ t;
   served = served_append c old d.lines d.text mid (raw ∷ []) t new d.served served;
-  read = subst (λ (bs : List ℕ). Reads bs from left) (sym (joined_last d.lines raw)) (reads_trans from at left (joined d.lines) raw d.read took);
+  read = subst (λ (bs : List ℕ). ReadsBytes bs from left) (sym (joined_last d.lines raw)) (reads_trans from at left (joined d.lines) raw d.read took);
   wrote = whole_trans w half after d.text t d.wrote wrote;
   spent = subst (λ (bs : List ℕ). then + length bs ≡ reads) (sym (joined_last d.lines raw)) (omega (arith, length-append (joined d.lines) raw, d.spent, count, fewer));
 }

@@ -18,10 +18,10 @@ use Rattle.td_story.specs.Databases.{DatabaseData}
 use Rattle.td_story.specs.Seen.{Seen, is_limit}
 use Rattle.td_journal.specs.Reopening.{IsNew}
 use Rattle.td_answers.specs.Sites.{Sites, AreOfScript}
-use Rattle.td_workbench.specs.Streams.{Reads, reads_left, most_reads, WritesAll}
+use Rattle.td_workbench.specs.Streams.{ReadsBytes, reads_left, most_reads, WritesText}
 use Rattle.td_workbench.specs.Runs.{Ends, RunsOut}
-use Rattle.td_workbench.specs.Scripts.{IsAccepted, IsRefused, Says, TellsFault, new_sites, ready, script_fault}
-use Rattle.td_workbench.specs.Programs.{Answers, AreOpen, EndsBy, InRange, Stops}
+use Rattle.td_workbench.specs.Scripts.{IsAccepted, IsRefusedScript, Says, TellsFault, new_sites, ready, script_fault}
+use Rattle.td_workbench.specs.Programs.{AreAllOpen, EndsBy, InRange, ProgramRuns, ProgramStops}
 use Rattle.td_workbench.specs.ForProofs.Opening.{AreSeen, BehindEnds, OpensAll, MayTell, PutsFault, ReadyBehind, ReadyEnds, TellsMade, TellsRefusal}
 use Rattle.td_workbench.specs.ForProofs.Reading.{HasScript}
 use Rattle.td_workbench.specs.ForProofs.Serving.{Serves}
@@ -56,8 +56,8 @@ pub all_open : {R : Type 0} (seen : R → Seen) → ((s : R) → (seen s).live �
 all_open seen stays [] = tt
 all_open seen stays (s ∷ rs) = (stays s, all_open seen stays rs)
 
-pub seen_open : {R : Type 0} (seen : R → Seen) → ((s : R) → (seen s).live ≡ true) → (ss : Sites) → AreSeen seen ss → AreOpen ss
-seen_open seen stays ss (rs, is) = subst AreOpen (sym is) (all_open seen stays rs)
+pub seen_open : {R : Type 0} (seen : R → Seen) → ((s : R) → (seen s).live ≡ true) → (ss : Sites) → AreSeen seen ss → AreAllOpen ss
+seen_open seen stays ss (rs, is) = subst AreAllOpen (sym is) (all_open seen stays rs)
 
 -- the lines behind the script were run
 pub behind_ran : {R : Type 0} (seen : R → Seen) (is_last : Bool) (c : CatalogueData) (old ss new : List R) (reads : ℕ) (from left : Input) (w after : Output) (r : Result (Unit {0}) Ended)
@@ -71,7 +71,7 @@ limits options range = rw (le-leb 1 options.limit range.some_limit) (rw (le-leb 
 
 -- ---- a script that is judged
 
-refused_by : (script : List ℕ) (e : ScriptError) → is_utf8 script ≡ true → length script ≤ 65536 → Opens script (Err e) → IsRefused script e
+refused_by : (script : List ℕ) (e : ScriptError) → is_utf8 script ≡ true → length script ≤ 65536 → Opens script (Err e) → IsRefusedScript script e
 refused_by script Syntax text short opens = inr opens
 refused_by script IllTyped text short opens = (text, opens)
 refused_by script (OpeningRaised x) text short opens = (text, opens)
@@ -81,13 +81,13 @@ refused_by script OutOfMemory text short opens = (text, short)
 module _ {O : Type 0} (sites : O → Sites) (catalogue : O → CatalogueData) (told : O → List ℕ) (options : Options) where
   pub judged : (script text : List ℕ) (r : Result O ScriptError) → script ≡ text → IsUtf8 script → length text ≤ 65536
       → MatchResult r (λ o. OpensAll options script (sites o) × AreOfScript (catalogue o) (sites o) × (told o ≡ ready options.sites)) (λ e. Opens script (Err e))
-      → MatchResult r (λ o. IsAccepted options text (sites o) × AreOfScript (catalogue o) (sites o) × (told o ≡ ready options.sites)) (λ e. IsRefused text e)
+      → MatchResult r (λ o. IsAccepted options text (sites o) × AreOfScript (catalogue o) (sites o) × (told o ≡ ready options.sites)) (λ e. IsRefusedScript text e)
   judged script text (Ok o) same utf8 short ((d, opens, are), of, tells) =
       let text_is : is_utf8 script ≡ true = is_utf8-from_IsUtf8 script utf8 in
       let accepted : IsAccepted options script (sites o) = record { text = text_is; database = d; opens = opens; sites_are = are } in
       (subst (λ (t : List ℕ). IsAccepted options t (sites o)) same accepted, of, tells)
   judged script text (Err e) same utf8 short opens =
-      subst (λ (t : List ℕ). IsRefused t e) same (refused_by script e (is_utf8-from_IsUtf8 script utf8) (subst (λ (t : List ℕ). length t ≤ 65536) (sym same) short) opens)
+      subst (λ (t : List ℕ). IsRefusedScript t e) same (refused_by script e (is_utf8-from_IsUtf8 script utf8) (subst (λ (t : List ℕ). length t ≤ 65536) (sym same) short) opens)
 
   pub new_of : (script : List ℕ) (r : Result O ScriptError) → 1 ≤ options.first → is_limit options.limit ≡ true
       → MatchResult r (λ o. OpensAll options script (sites o) × AreOfScript (catalogue o) (sites o) × (told o ≡ ready options.sites)) (λ e. Opens script (Err e))
@@ -113,7 +113,7 @@ told_made e (Ok text) r w after is puts = (e, inl refl, subst (λ (t : List ℕ)
 told_made e (Err x) r w after is puts = (OutOfMemory, inr refl, puts)
 
 module _ (Begin : Sites → Sites → Type 0) (Stay : Sites → Type 0) (options : Options) where
-  pub fault_told : (bytes text : List ℕ) (from left : Input) (w after : Output) (r : Result Bool Ended) → Reads bytes from left → TellsFault bytes left.left text → PutsFault text r w after → EndsBy Begin Stay options from w r left after
+  pub fault_told : (bytes text : List ℕ) (from left : Input) (w after : Output) (r : Result Bool Ended) → ReadsBytes bytes from left → TellsFault bytes left.left text → PutsFault text r w after → EndsBy Begin Stay options from w r left after
   fault_told bytes text from left w after (Ok true) read tells puts = absurd puts
   fault_told bytes text from left w after (Ok false) read tells puts = (bytes, read, text, tells, puts)
   fault_told bytes text from left w after (Err ended.WriteFault) read tells puts = inr (bytes, read, text, inl tells, puts)
@@ -121,14 +121,14 @@ module _ (Begin : Sites → Sites → Type 0) (Stay : Sites → Type 0) (options
   fault_told bytes text from left w after (Err ended.OutOfMemory) read tells puts = absurd puts
 
 -- a refusal for which there may be no memory is one of a text that is short
-may_refuse : (script : List ℕ) (e told : ScriptError) → IsRefused script e → MayTell e told → IsRefused script told
-may_refuse script Syntax told is tells = subst (λ (x : ScriptError). IsRefused script x) (sym tells) is
-may_refuse script IllTyped told is tells = subst (λ (x : ScriptError). IsRefused script x) (sym tells) is
-may_refuse script OutOfMemory told is tells = subst (λ (x : ScriptError). IsRefused script x) (sym tells) is
-may_refuse script (OpeningRaised x) told is (inl tells) = subst (λ (x : ScriptError). IsRefused script x) (sym tells) is
-may_refuse script (OpeningRaised x) told (utf8, (c, of, raises)) (inr tells) = subst (λ (x : ScriptError). IsRefused script x) (sym tells) (utf8, of.reads.short)
-may_refuse script (OpeningBroken b) told is (inl tells) = subst (λ (x : ScriptError). IsRefused script x) (sym tells) is
-may_refuse script (OpeningBroken b) told (utf8, (d, t, o, opens, is)) (inr tells) = subst (λ (x : ScriptError). IsRefused script x) (sym tells) (utf8, opens.script.reads.short)
+may_refuse : (script : List ℕ) (e told : ScriptError) → IsRefusedScript script e → MayTell e told → IsRefusedScript script told
+may_refuse script Syntax told is tells = subst (λ (x : ScriptError). IsRefusedScript script x) (sym tells) is
+may_refuse script IllTyped told is tells = subst (λ (x : ScriptError). IsRefusedScript script x) (sym tells) is
+may_refuse script OutOfMemory told is tells = subst (λ (x : ScriptError). IsRefusedScript script x) (sym tells) is
+may_refuse script (OpeningRaised x) told is (inl tells) = subst (λ (x : ScriptError). IsRefusedScript script x) (sym tells) is
+may_refuse script (OpeningRaised x) told (utf8, (c, of, raises)) (inr tells) = subst (λ (x : ScriptError). IsRefusedScript script x) (sym tells) (utf8, of.reads.short)
+may_refuse script (OpeningBroken b) told is (inl tells) = subst (λ (x : ScriptError). IsRefusedScript script x) (sym tells) is
+may_refuse script (OpeningBroken b) told (utf8, (d, t, o, opens, is)) (inr tells) = subst (λ (x : ScriptError). IsRefusedScript script x) (sym tells) (utf8, opens.script.reads.short)
 
 module _ (now : ℕ) (from mid : Input) (kept : Option (List ℕ)) (is_last : Bool) (has : HasScript most_reads now from mid kept is_last) where
   -- nothing behind the script was read
@@ -136,28 +136,28 @@ module _ (now : ℕ) (from mid : Input) (kept : Option (List ℕ)) (is_last : Bo
   says_alone = subst (λ (bs : List ℕ). Says bs has.text []) (append-nil has.bytes) (has.leads [] (λ last. refl))
 
   module _ (Begin : Sites → Sites → Type 0) (Stay : Sites → Type 0) (options : Options) where
-    pub refused_told : (e : ScriptError) (r : Result Bool Ended) (w after : Output) → IsRefused has.text e → TellsRefusal e r w after → EndsBy Begin Stay options from w r mid after
+    pub refused_told : (e : ScriptError) (r : Result Bool Ended) (w after : Output) → IsRefusedScript has.text e → TellsRefusal e r w after → EndsBy Begin Stay options from w r mid after
     refused_told e r w after is (told, may, puts) =
         fault_told Begin Stay options has.bytes (script_fault told) from mid w after r has.read (inr (inl (has.text, told, says_alone, may_refuse has.text e told is may, refl))) puts
 
     ready_untold : (sites : Sites) (text : List ℕ) (left : Input) (w after : Output) (e : Ended) → IsAccepted options has.text sites → text ≡ ready options.sites → e ≡ ended.WriteFault → left ≡ mid → WritesFront text w after
-        → Stops options from w e left after
+        → ProgramStops options from w e left after
     ready_untold sites text left w after e accepted is fault unread front =
-        subst (λ (x : Ended). Stops options from w x left after) (sym fault)
-        (subst (λ (x : Input). Stops options from w ended.WriteFault x after) (sym unread) (has.bytes, has.read, text, inr (has.text, sites, says_alone, accepted, is), front))
+        subst (λ (x : Ended). ProgramStops options from w x left after) (sym fault)
+        (subst (λ (x : Input). ProgramStops options from w ended.WriteFault x after) (sym unread) (has.bytes, has.read, text, inr (has.text, sites, says_alone, accepted, is), front))
 
 -- ---- the lines behind an accepted script, over sites of some kind
 
 module _ (Begin : Sites → Sites → Type 0) (Stay Kind : Sites → Type 0) (stays : (ss : Sites) → Kind ss → Stay ss) (options : Options) where
-  answers_behind : (now : ℕ) (from mid left : Input) (kept : Option (List ℕ)) (is_last : Bool) (w told after : Output) (c : CatalogueData) (opens old : Sites) (r : Result (Unit {0}) Ended)
-      → (has : HasScript most_reads now from mid kept is_last) → IsAccepted options has.text opens → Begin opens old → Kind old → AreOfScript c old → WritesAll (ready options.sites) w told
-      → BehindEnds Kind is_last c old now mid told r left after → Answers Begin Stay options from w r left after
-  answers_behind now from mid left kept true w told after c opens old r has accepted begin kind of wrote (is, unread, unwritten) =
+  runs_behind : (now : ℕ) (from mid left : Input) (kept : Option (List ℕ)) (is_last : Bool) (w told after : Output) (c : CatalogueData) (opens old : Sites) (r : Result (Unit {0}) Ended)
+      → (has : HasScript most_reads now from mid kept is_last) → IsAccepted options has.text opens → Begin opens old → Kind old → AreOfScript c old → WritesText (ready options.sites) w told
+      → BehindEnds Kind is_last c old now mid told r left after → ProgramRuns Begin Stay options from w r left after
+  runs_behind now from mid left kept true w told after c opens old r has accepted begin kind of wrote (is, unread, unwritten) =
       let over : RunsOut c old [] mid.left [] old = record { at_end = has.at_end refl; go_on = tt; printed = (refl, refl) } in
       let ends : Ends c old [] (reads_left has.bytes) has.bytes from told (Ok tt) old mid told = (has.read, [], inr over, writes_nothing told) in
-      let answers : Answers Begin Stay options from w (Ok tt) mid told = record { bytes = has.bytes; script = has.text; raws = []; says = says_alone now from mid kept true has; opened = opens; accepted = accepted; old = old; begin = begin; catalogue = c; of_script = of; told = told; ready_told = wrote; new = old; stay = stays old kind; ends = ends } in
-      subst (λ (x : Result (Unit {0}) Ended). Answers Begin Stay options from w x left after) (sym is) (subst (λ (x : Input). Answers Begin Stay options from w (Ok tt) x after) (sym unread) (subst (λ (x : Output). Answers Begin Stay options from w (Ok tt) mid x) (sym unwritten) answers))
-  answers_behind now from mid left kept false w told after c opens old r has accepted begin kind of wrote (new, more_kind, serves) =
+      let runs : ProgramRuns Begin Stay options from w (Ok tt) mid told = record { bytes = has.bytes; script = has.text; raws = []; says = says_alone now from mid kept true has; opened = opens; accepted = accepted; old = old; begin = begin; catalogue = c; of_script = of; told = told; ready_told = wrote; new = old; stay = stays old kind; ends = ends } in
+      subst (λ (x : Result (Unit {0}) Ended). ProgramRuns Begin Stay options from w x left after) (sym is) (subst (λ (x : Input). ProgramRuns Begin Stay options from w (Ok tt) x after) (sym unread) (subst (λ (x : Output). ProgramRuns Begin Stay options from w (Ok tt) mid x) (sym unwritten) runs))
+  runs_behind now from mid left kept false w told after c opens old r has accepted begin kind of wrote (new, more_kind, serves) =
       let more : List ℕ = serves.bytes in
       record {
         bytes = has.bytes ++ more;
@@ -181,9 +181,9 @@ module _ (Begin : Sites → Sites → Type 0) (Stay Kind : Sites → Type 0) (st
 
   ready_behind : (now : ℕ) (from mid left : Input) (kept : Option (List ℕ)) (is_last : Bool) (w after : Output) (text : List ℕ) (c : CatalogueData) (opens old : Sites) (r : Result (Unit {0}) Ended)
       → (has : HasScript most_reads now from mid kept is_last) → IsAccepted options has.text opens → Begin opens old → Kind old → AreOfScript c old → text ≡ ready options.sites
-      → ReadyBehind Kind is_last text c old now mid w r left after → Answers Begin Stay options from w r left after
+      → ReadyBehind Kind is_last text c old now mid w r left after → ProgramRuns Begin Stay options from w r left after
   ready_behind now from mid left kept is_last w after text c opens old r has accepted begin kind of is (told, wrote, behind) =
-      answers_behind now from mid left kept is_last w told after c opens old r has accepted begin kind of (subst (λ (t : List ℕ). WritesAll t w told) is wrote) behind
+      runs_behind now from mid left kept is_last w told after c opens old r has accepted begin kind of (subst (λ (t : List ℕ). WritesText t w told) is wrote) behind
 
   pub ready_ends : (now : ℕ) (from mid left : Input) (kept : Option (List ℕ)) (is_last : Bool) (w after : Output) (text : List ℕ) (c : CatalogueData) (opens old : Sites) (r : Result Bool Ended)
       → (has : HasScript most_reads now from mid kept is_last) → IsAccepted options has.text opens → Begin opens old → Kind old → AreOfScript c old → text ≡ ready options.sites

@@ -5,7 +5,7 @@ use Rattle.td_listings.specs.Writings.{WritesFront}
 use Rattle.td_journal.specs.declared.stores.StoreError.{StoreError}
 use Rattle.td_workbench.specs.Journals.{JournaledEnds, Kept}
 use Rattle.td_workbench.specs.Programs.{InRange, ProgramEnds}
-use Rattle.td_workbench.specs.Streams.{WritesAll}
+use Rattle.td_workbench.specs.Streams.{WritesText}
 use Rattle.td_workbench.specs.declared.journaled.Stopped.{Stopped}
 use Rattle.td_workbench.specs.declared.journaled.Stopped.TheVariants.{JournalFile, Run}
 use Rattle.td_workbench.specs.declared.opening.Options.{Options}
@@ -39,7 +39,7 @@ journal_fault name = codes "fault journal " ++ name ++ codes "\n"
 -- it was told, or a front of it; or there was no memory for its text
 abbrev pub TellsJournal : List ℕ → ℕ → Output → Output → Type 0
 TellsJournal name status f told =
-    ((status ≡ 3) × (WritesAll (journal_fault name) f told ⊎ WritesFront (journal_fault name) f told)) ⊎ ((status ≡ 1) × (told ≡ f))
+    ((status ≡ 3) × (WritesText (journal_fault name) f told ⊎ WritesFront (journal_fault name) f told)) ⊎ ((status ≡ 1) × (told ≡ f))
 
 abbrev pub TellsStopped : Result Bool Stopped → ℕ → Output → Output → Type 0
 TellsStopped (Ok accepted) status f told = (status ≡ status_of (Ok accepted)) × (told ≡ f)
@@ -57,11 +57,11 @@ pub record RunsJournaled (kept : Kept) (Fails : StoreError → Type 0) (status :
 
 -- help or the version was written, or a front of it
 abbrev pub PutsHelp : List ℕ → ℕ → Output → Output → Type 0
-PutsHelp text status w after = ((status ≡ 0) × WritesAll text w after) ⊎ ((status ≡ 1) × WritesFront text w after)
+PutsHelp text status w after = ((status ≡ 0) × WritesText text w after) ⊎ ((status ≡ 1) × WritesFront text w after)
 
 -- why the words are refused was written, or a front of it
 abbrev pub PutsRefusal : List ℕ → ℕ → Output → Output → Type 0
-PutsRefusal text status w after = (status ≡ 2) × (WritesAll text w after ⊎ WritesFront text w after)
+PutsRefusal text status w after = (status ≡ 2) × (WritesText text w after ⊎ WritesFront text w after)
 
 -- What is told in place of a run: help, to the output; why the words are refused, to the output of faults; or nothing,
 -- for want of memory.

@@ -8,7 +8,7 @@ use Rattle.td_journal.specs.declared.stores.StoreError.TheVariants as store_erro
 use Rattle.td_answers.specs.Sites.{Sites}
 use Rattle.td_workbench.specs.Programs.{EndsBy}
 use Rattle.td_workbench.specs.Scripts.{IsAccepted, Says}
-use Rattle.td_workbench.specs.Streams.{Reads}
+use Rattle.td_workbench.specs.Streams.{ReadsBytes}
 use Rattle.td_workbench.specs.declared.journaled.Stopped.{Stopped}
 use Rattle.td_workbench.specs.declared.journaled.Stopped.TheVariants.{JournalFile, Run}
 use Rattle.td_workbench.specs.declared.opening.Options.{Options}
@@ -50,7 +50,7 @@ KeepsSomeNot kept Fails prefix sites (JournalFile name) =
 pub record ComeBackNot (kept : Kept) (Fails : StoreError → Type 0) (prefix : List ℕ) (options : Options) (from : Input) (w : Output) (e : Stopped) (left : Input) (after : Output) : Type 0 where
   pub bytes : List ℕ
   pub script : List ℕ
-  pub read : Reads bytes from left
+  pub read : ReadsBytes bytes from left
   pub says : Says bytes script []
   pub opened : Sites
   pub accepted : IsAccepted options script opened

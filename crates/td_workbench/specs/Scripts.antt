@@ -41,8 +41,8 @@ pub record IsUnfinished (bytes : List ℕ) (IsPart : List ℕ → Type 0) : Type
   pub is_part : IsPart part
 
 -- the most bytes of a script
-abbrev pub script_bytes : ℕ
-script_bytes = 65536
+abbrev pub most_script_bytes : ℕ
+most_script_bytes = 65536
 
 -- ---- a script that opens sites
 
@@ -64,12 +64,12 @@ ready n = codes "ready " ++ decimal n ++ codes "\n"
 -- ---- a script that is refused
 
 -- Bytes that are no text are no script. Memory is wanted only where the bytes may be a script.
-abbrev pub IsRefused : List ℕ → ScriptError → Type 0
-IsRefused script Syntax = (is_utf8 script ≡ false) ⊎ Opens script (Err Syntax)
-IsRefused script IllTyped = (is_utf8 script ≡ true) × Opens script (Err IllTyped)
-IsRefused script (OpeningRaised e) = (is_utf8 script ≡ true) × Opens script (Err (OpeningRaised e))
-IsRefused script (OpeningBroken b) = (is_utf8 script ≡ true) × Opens script (Err (OpeningBroken b))
-IsRefused script OutOfMemory = (is_utf8 script ≡ true) × (length script ≤ script_bytes)
+abbrev pub IsRefusedScript : List ℕ → ScriptError → Type 0
+IsRefusedScript script Syntax = (is_utf8 script ≡ false) ⊎ Opens script (Err Syntax)
+IsRefusedScript script IllTyped = (is_utf8 script ≡ true) × Opens script (Err IllTyped)
+IsRefusedScript script (OpeningRaised e) = (is_utf8 script ≡ true) × Opens script (Err (OpeningRaised e))
+IsRefusedScript script (OpeningBroken b) = (is_utf8 script ≡ true) × Opens script (Err (OpeningBroken b))
+IsRefusedScript script OutOfMemory = (is_utf8 script ≡ true) × (length script ≤ most_script_bytes)
 
 abbrev pub script_fault : ScriptError → List ℕ
 script_fault Syntax = codes "fault script syntax\n"
@@ -88,7 +88,7 @@ HasNoEnd bytes left text = (script_then (raw_lines bytes) ≡ None) × IsAtEnd l
 
 -- the script is refused, and nothing behind it was read
 abbrev pub HasFault : List ℕ → List ℕ → Type 0
-HasFault bytes text = (script : List ℕ) × (e : ScriptError) × Says bytes script [] × IsRefused script e × (text ≡ script_fault e)
+HasFault bytes text = (script : List ℕ) × (e : ScriptError) × Says bytes script [] × IsRefusedScript script e × (text ≡ script_fault e)
 
 -- there was no memory for the script
 abbrev pub IsNotKept : List ℕ → List ℕ → Type 0

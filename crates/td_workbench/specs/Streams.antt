@@ -5,8 +5,8 @@ use Rattle.td_devices.specs.Counted.{counted}
 use Rattle.td_devices.specs.Views.{Input, Output}
 
 -- the bytes were read, and no failure was counted
-abbrev pub Reads : List ℕ → Input → Input → Type 0
-Reads bytes from after = Consumes from.left after.left bytes × (after.failures ≡ from.failures)
+abbrev pub ReadsBytes : List ℕ → Input → Input → Type 0
+ReadsBytes bytes from after = Consumes from.left after.left bytes × (after.failures ≡ from.failures)
 
 -- the most reads that a run makes; each gives one byte
 abbrev pub most_reads : ℕ
@@ -23,5 +23,5 @@ ReadsNoMore spare bytes from after =
 
 -- All of the text was written, and where what was written before had been handed on, so has this: each answer is
 -- flushed before the next line is read.
-abbrev pub WritesAll : List ℕ → Output → Output → Type 0
-WritesAll text w after = Appends w.held after.held text × (after.faults ≡ w.faults) × (w.is_flushed ≡ true → after.is_flushed ≡ true)
+abbrev pub WritesText : List ℕ → Output → Output → Type 0
+WritesText text w after = Appends w.held after.held text × (after.faults ≡ w.faults) × (w.is_flushed ≡ true → after.is_flushed ≡ true)

@@ -7,7 +7,7 @@ ghost use Rattle.td_answers.specs.Sites.{AreOfScript};
 ghost use Rattle.td_workbench.specs.ForProofs.Opening.{OpensAll};
 ghost use Rattle.td_workbench.specs.ForProofs.Reading.{IsKeptScript};
 ghost use Rattle.td_workbench.specs.Programs.{InRange};
-ghost use Rattle.td_workbench.specs.Scripts.{IsAccepted, IsRefused, ready};
+ghost use Rattle.td_workbench.specs.Scripts.{IsAccepted, IsRefusedScript, ready};
 ghost use Rattle.td_story.specs.Scripts as scripts;
 ghost use Rattle.td_story.specs.NewSites.{OpensSite};
 ghost use Rattle.td_story.specs.Seen.{is_limit};
@@ -126,7 +126,7 @@ pub fn open<R: Opens + Drop>(
 ) -> Result<Opened<R>, ScriptError>
     requires { InRange options.now }
     ensures judged { (text : List ℕ) → IsKeptScript text (option_map (λ v. v.items) script.now.bytes)
-        → MatchResult result (λ o. IsAccepted options.now text (map R.seen o.sites.items) × AreOfScript o.catalogue (map R.seen o.sites.items) × (string_bytes o.ready ≡ ready options.now.sites)) (λ e. IsRefused text e) }
+        → MatchResult result (λ o. IsAccepted options.now text (map R.seen o.sites.items) × AreOfScript o.catalogue (map R.seen o.sites.items) × (string_bytes o.ready ≡ ready options.now.sites)) (λ e. IsRefusedScript text e) }
     ensures catalogue { IfOk result (λ o. AreOfScript o.catalogue (map R.seen o.sites.items)) }
     ensures new { IfOk result (λ o. AllByRecursion IsNew (map R.seen o.sites.items)) }
 {

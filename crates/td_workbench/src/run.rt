@@ -1,7 +1,7 @@
 //! Lines answered by sites.
 
 ghost use Rattle.std.specs.Prelude.{◌≡◌, ◌==◌, ◌&&◌, length, List, ℕ, Option, map, option_map, Ok};
-ghost use Rattle.td_answers.specs.Sites.{AreOfScript, OneScript};
+ghost use Rattle.td_answers.specs.Sites.{AreOfOneScript, AreOfScript};
 ghost use Rattle.td_workbench.specs.ForProofs.Serving.{LineEnds, ReadEnds, Serves, ended_by};
 ghost use Rattle.td_workbench.specs.Runs.{WorkbenchEnds, said};
 ghost use Rattle.td_devices.specs.Lines.{IsKept, TellsLine};
@@ -145,7 +145,7 @@ pub fn workbench<R: Replica, L: Links, S: Source, K: Sink>(
     source: &mut S,
     sink: &mut K,
 ) -> Result<(), Ended>
-    requires { OneScript (map R.seen sites.old) }
+    requires { AreOfOneScript (map R.seen sites.old) }
     ensures { WorkbenchEnds (map R.seen sites.old) (input_of S.Source source.old) (output_of K.Sink sink.old) result (map R.seen sites.new) (input_of S.Source source.new) (output_of K.Sink sink.new) }
 {
     let catalogue = match catalogue_for(alloc, sites) {

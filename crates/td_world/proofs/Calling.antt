@@ -10,7 +10,7 @@ use Rattle.td_stamps.specs.Checks.{first_clash, last_seq, last_clock, next_of}
 use Rattle.td_stamps.proofs.Merges.{head_has, no_first_clash, union_has_both, union_is_set}
 use Rattle.td_stamps.proofs.Next.{seq_at_most, clock_at_most, next_free, put_last, next_comes_last}
 use Rattle.td_stamps.proofs.SetLemmas.{set-put}
-use Rattle.td_world.specs.Worlds.{World, nothing, Event, issue, send, deliver, reopen, with_held, with_issued, with_sent, with_set, entry_of, Reached, IsKnown}
+use Rattle.td_world.specs.Worlds.{World, empty_world, Event, issue, send, deliver, reopen, with_held, with_issued, with_sent, with_set, new_entry, Reached, IsKnown}
 use Rattle.td_world.specs.Calls.{Sets, Call, issues, sends, takes, comes_back, with_one, with_all_sent, AllHeld, AllSent, KeepsSent, Does, Mirrors}
 use Rattle.td_world.specs.Laws.{CallsAreEvents, NoCallClashes}
 use Rattle.td_world.proofs.Sound.{reached_is_sound, none_clash}
@@ -161,9 +161,9 @@ abbrev Follows : Sets → Type 0
 Follows w = (evs : List Event) × (u : World) × Reached evs u × Mirrors w u
 
 after_issue : (w : Sets) (site dialect : ℕ) (text : List ℕ) (n : ℕ × ℕ) → next_of site (w.held site) ≡ Ok n → 1 ≤ dialect → dialect ≤ 2 → length text ≤ 8192 → Follows w
-    → Follows (with_one w site (w.held site ++ entry_of site n dialect text ∷ []))
+    → Follows (with_one w site (w.held site ++ new_entry site n dialect text ∷ []))
 after_issue w site dialect text n next low high short (evs, u, reached, mirrors) =
-    let e = entry_of site n dialect text in (
+    let e = new_entry site n dialect text in (
       issue site dialect text ∷ evs,
       with_issued u site e,
       (u, reached, (n, sym (same_next site (w.held site) (u.held site) (mirrors.held site)) ∙ next, low, high, short, refl)),
@@ -239,7 +239,7 @@ after_call w (takes site es) v (sent, is) follows = subst Follows (sym is) (afte
 after_call w (comes_back site es) v (set, part, keeps, is) follows = subst Follows (sym is) (after_coming w site es set part keeps follows)
 
 pub calls_are_events : CallsAreEvents
-calls_are_events [] w is = subst Follows (sym is) ([], nothing, refl, record { held = λ site e. refl; sent = λ e. refl; sets = λ site. refl })
+calls_are_events [] w is = subst Follows (sym is) ([], empty_world, refl, record { held = λ site e. refl; sent = λ e. refl; sets = λ site. refl })
 calls_are_events (c ∷ cs) w (before, done, does) = after_call before c w does (calls_are_events cs before done)
 
 clashless : (w : Sets) → Follows w → (site : ℕ) (batch : List Entry) → AllSent w batch → first_clash (w.held site) batch ≡ None

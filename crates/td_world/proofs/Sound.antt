@@ -8,7 +8,7 @@ use Rattle.td_stamps.specs.Entries.{same, clash}
 use Rattle.td_stamps.specs.Laws.{NextComesLast}
 use Rattle.td_stamps.specs.Sets.{has}
 use Rattle.td_stamps.proofs.EntryLemmas.{same-is, same-refl, clash-refl, clash-sym}
-use Rattle.td_world.specs.Worlds.{World, nothing, Event, issue, send, deliver, reopen, with_held, with_issued, with_sent, with_set, entry_of, Happens, Reached, IsKnown, NoneReopens}
+use Rattle.td_world.specs.Worlds.{World, empty_world, Event, issue, send, deliver, reopen, with_held, with_issued, with_sent, with_set, new_entry, Happens, Reached, IsKnown, NoneReopens}
 
 -- ---- members
 
@@ -64,7 +64,7 @@ pub record IsSound (w : World) : Type 0 where
   pub own : (x : Entry) → has w.sent x ≡ true → has (w.held x.site) x ≡ true
   pub others : (s : ℕ) (x : Entry) → has (w.held s) x ≡ true → eqb x.site s ≡ false → has w.sent x ≡ true
 
-nothing_is_sound : IsSound nothing
+nothing_is_sound : IsSound empty_world
 nothing_is_sound = record {
   apart = λ s x y hx hy px py. absurd (false≢true hx);
   own = λ x h. absurd (false≢true h);
@@ -186,7 +186,7 @@ issued_entry w s e sound own_site next = record {
 
 after_event : NextComesLast → (w : World) (ev : Event) (v : World) → IsSound w → Happens w ev v → IsSound v
 after_event law w (issue s dialect text) v sound (n, numbers, low, high, short, is) =
-    let e = entry_of s n dialect text in subst IsSound (sym is) (issued_entry w s e sound refl (law s (w.held s) e refl numbers).1)
+    let e = new_entry s n dialect text in subst IsSound (sym is) (issued_entry w s e sound refl (law s (w.held s) e refl numbers).1)
 after_event law w (send s e) v sound (h, is) = subst IsSound (sym is) (sent_entry w s e sound h)
 after_event law w (deliver s e) v sound (h, is) = subst IsSound (sym is) (delivered w s e sound h)
 after_event law w (reopen s es) v sound (part, keeps, is) = subst IsSound (sym is) (reopened w s es sound part keeps)
@@ -211,7 +211,7 @@ none_clash w sound e f known_e known_f = elim (cases (eqb e.site f.site)) [
 pub issued_held : (evs : List Event) (w : World) → Reached evs w → NoneReopens evs → (x : Entry) → has w.issued x ≡ true → has (w.held x.site) x ≡ true
 issued_held [] w is none x h = absurd (false≢true (ap (λ (v : World). has v.issued x) (sym is) ∙ h))
 issued_held (issue s dialect text ∷ evs) w (before, reached, (n, numbers, low, high, short, is)) none x h =
-    let e = entry_of s n dialect text in
+    let e = new_entry s n dialect text in
     let P : World → Type 0 = λ v. has v.issued x ≡ true → has (v.held x.site) x ≡ true in
     let kept : P (with_issued before s e) = λ hx. elim (member e before.issued x hx) [
       | inl new ↦

@@ -4,7 +4,7 @@ use Rattle.std.specs.Prelude.{◌≡◌, ℕ, ◌≤◌, true, List, [], ◌∷�
 use Rattle.td_stamps.specs.declared.entry.Entry.{Entry}
 use Rattle.td_stamps.specs.Sets.{has, union, is_set}
 use Rattle.td_stamps.specs.Checks.{next_of}
-use Rattle.td_world.specs.Worlds.{World, with_held, entry_of}
+use Rattle.td_world.specs.Worlds.{World, with_held, new_entry}
 
 -- the set that each site holds, and what was ever sent
 pub record Sets : Type 0 where
@@ -44,7 +44,7 @@ KeepsSent w site es = (e : Entry) → e.site ≡ site → has w.sent e ≡ true 
 abbrev pub Does : Sets → Call → Sets → Type 0
 Does w (issues site dialect text) v =
     (n : ℕ × ℕ) × (next_of site (w.held site) ≡ Ok n) × (1 ≤ dialect) × (dialect ≤ 2) × (length text ≤ 8192)
-    × (v ≡ with_one w site (w.held site ++ entry_of site n dialect text ∷ []))
+    × (v ≡ with_one w site (w.held site ++ new_entry site n dialect text ∷ []))
 Does w (sends site es) v = AllHeld w site es × (v ≡ with_all_sent w es)
 Does w (takes site es) v = AllSent w es × (v ≡ with_one w site (union (w.held site) es))
 Does w (comes_back site es) v = (is_set es ≡ true) × AllHeld w site es × KeepsSent w site es × (v ≡ with_one w site es)

@@ -11,8 +11,8 @@ pub record World : Type 0 where
   pub issued : List Entry
   pub sent : List Entry
 
-abbrev pub nothing : World
-nothing = record { held = λ site. []; issued = []; sent = [] }
+abbrev pub empty_world : World
+empty_world = record { held = λ site. []; issued = []; sent = [] }
 
 -- a site issues a text of a dialect, an entry that a site holds is sent, an entry comes to a site, a site comes back
 -- with these entries
@@ -35,15 +35,15 @@ with_sent w e = record { held = w.held; issued = w.issued; sent = e ∷ w.sent }
 abbrev pub with_set : World → ℕ → List Entry → World
 with_set w site es = record { held = with_held w.held site es; issued = w.issued; sent = w.sent }
 
-abbrev pub entry_of : ℕ → ℕ × ℕ → ℕ → List ℕ → Entry
-entry_of site n dialect text = record { site = site; seq = n.0; clock = n.1; dialect = dialect; text = text }
+abbrev pub new_entry : ℕ → ℕ × ℕ → ℕ → List ℕ → Entry
+new_entry site n dialect text = record { site = site; seq = n.0; clock = n.1; dialect = dialect; text = text }
 
 -- A site issues any text, of dialect 1 or 2 and of at most 8,192 bytes, with its next numbers, as long as these are in
 -- their ranges. What was sent comes to any site, late, again, or never. A site that comes back has lost no entry of its
 -- own that was sent.
 abbrev pub Happens : World → Event → World → Type 0
 Happens w (issue site dialect text) v =
-    (n : ℕ × ℕ) × (next_of site (w.held site) ≡ Ok n) × (1 ≤ dialect) × (dialect ≤ 2) × (length text ≤ 8192) × (v ≡ with_issued w site (entry_of site n dialect text))
+    (n : ℕ × ℕ) × (next_of site (w.held site) ≡ Ok n) × (1 ≤ dialect) × (dialect ≤ 2) × (length text ≤ 8192) × (v ≡ with_issued w site (new_entry site n dialect text))
 Happens w (send site e) v = (has (w.held site) e ≡ true) × (v ≡ with_sent w e)
 Happens w (deliver site e) v = (has w.sent e ≡ true) × (v ≡ with_set w site (e ∷ w.held site))
 Happens w (reopen site es) v =
@@ -51,7 +51,7 @@ Happens w (reopen site es) v =
 
 -- these events, of which the last stands first, lead to the world
 abbrev pub Reached : List Event → World → Type 0
-Reached [] w = w ≡ nothing
+Reached [] w = w ≡ empty_world
 Reached (ev ∷ evs) w = (before : World) × Reached evs before × Happens before ev w
 
 -- a site holds the entry, or it was sent

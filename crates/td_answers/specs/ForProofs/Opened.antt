@@ -7,8 +7,8 @@ use Rattle.td_story.specs.Seen.{Seen}
 use Rattle.td_story.specs.declared.answer.Taken.{Taken}
 use Rattle.td_meeting.specs.Steps.{LinkData}
 use Rattle.td_meeting.specs.declared.error.MeetingError.{MeetingError}
-use Rattle.td_answers.specs.Asking.{AreAskedFor, Asks}
-use Rattle.td_answers.specs.Linked.{IsNew, TellsAddress, TwoSteps}
+use Rattle.td_answers.specs.Asking.{AreAskedFor, LinkRequest}
+use Rattle.td_answers.specs.Linked.{IsNewLink, TellsAddress, TwoSteps}
 
 -- the word is this address
 abbrev pub IsAddress : List ℕ → SocketAddr → Type 0
@@ -23,10 +23,10 @@ abbrev pub IsUnready : List ℕ → List ℕ → Type 0
 IsUnready address fault = (r : Result SocketAddr AddrParseError) × Parses IsSocketText address r × (fault ≡ fault_before r)
 
 -- what a site is told and is then, and how links were asked for it
-abbrev pub TellsAndAsks : {L : Type 0} → TwoSteps → Asks L → List ℕ → ℕ → List ℕ → Seen → List ℕ → Seen → L → L → Type 0
+abbrev pub TellsAndAsks : {L : Type 0} → TwoSteps → LinkRequest L → List ℕ → ℕ → List ℕ → Seen → List ℕ → Seen → L → L → Type 0
 TellsAndAsks Two Ask done n address s text after old new =
     (r : Result SocketAddr AddrParseError) × Parses IsSocketText address r × TellsAddress Two done n r s text after × AreAskedFor Ask r text old new
 
 -- two steps over a link that was new
 abbrev pub IsOverNew : TwoSteps → Seen → Result Taken MeetingError → Seen → Type 0
-IsOverNew Two s r after = (old : LinkData) × (new : LinkData) × IsNew old × Two s old r new after
+IsOverNew Two s r after = (old : LinkData) × (new : LinkData) × IsNewLink old × Two s old r new after

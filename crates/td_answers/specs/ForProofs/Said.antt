@@ -3,7 +3,7 @@ use Rattle.std.specs.Prelude.{◌≡◌, ◌≤◌, ℕ, List, [], Some, string_
 use Rattle.std.specs.Global.{Global}
 use Rattle.td_answers.specs.Replies.{words}
 use Rattle.td_story.specs.Seen.{Seen}
-use Rattle.td_answers.specs.Answers.{Tells}
+use Rattle.td_answers.specs.Answers.{SiteAnswered}
 use Rattle.td_answers.specs.Sites.{Placed, Sites, site_of}
 use Rattle.td_answers.specs.declared.reply.Reply.{Reply}
 use Rattle.td_answers.specs.declared.reply.Reply.TheVariants as reply
@@ -28,4 +28,4 @@ IsSiteOf n ss s = (at : ℕ) × (site_of n ss ≡ Some (at, s))
 
 -- the first site of this number is asked
 abbrev pub TellsIn : (Seen → List ℕ → Type 0) → ℕ → Sites → List ℕ → Type 0
-TellsIn Asked n ss text = Tells Asked ss (site_of n ss) text ss
+TellsIn Asked n ss text = SiteAnswered Asked ss (site_of n ss) text ss

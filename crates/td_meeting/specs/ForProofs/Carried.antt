@@ -2,7 +2,7 @@
 use Rattle.std.specs.Prelude.{◌≡◌, ◌≢◌, ◌⊎◌, ℕ, List, [], ◌++◌, Result, Ok, Err}
 use Rattle.td_stamps.specs.Vectors.{VersionVector, IsVector}
 use Rattle.td_stamps.specs.declared.entry.Entry.{Entry}
-use Rattle.td_frames.specs.Reading.{entries_at, greeting_at}
+use Rattle.td_frames.specs.Reading.{entries_at, greeting_at, most_entries}
 use Rattle.td_frames.specs.declared.greeting.Greeting.{Greeting}
 use Rattle.td_frames.specs.declared.version.Version.TheVariants.{Second}
 use Rattle.td_story.specs.Calls.{TakesBatch}
@@ -11,7 +11,6 @@ use Rattle.td_story.specs.declared.answer.Taken.{Taken}
 use Rattle.td_meeting.specs.declared.error.MeetingError.{MeetingError}
 use Rattle.td_meeting.specs.declared.error.MeetingError.TheVariants.{OutOfMemory, OtherScript, SameSite, Take}
 use Rattle.td_meeting.specs.declared.meeting.MeetingRefusal.{MeetingRefusal}
-use Rattle.td_meeting.specs.Reading.{most_entries}
 use Rattle.td_meeting.specs.Writing.{Greets, sends}
 use Rattle.td_meeting.specs.Steps.{AreSent}
 use Rattle.td_meeting.specs.ForProofs.Parts.{Untaken}

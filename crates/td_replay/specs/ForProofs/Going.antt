@@ -12,33 +12,33 @@ use Rattle.td_stamps.specs.declared.entry.Entry.{Entry}
 use Rattle.td_story.specs.Databases.{DatabaseData, stored_relvars}
 use Rattle.td_story.specs.Footprints.{IsInFootprint, IsTargetOfText, target}
 use Rattle.td_story.proofs.Legal.{step_is_legal}
-use Rattle.td_replay.specs.Noted.{AreAlike, AreTargetsOf, IsFootprintOf, IsSound, Notes, opened_by}
+use Rattle.td_replay.specs.Noted.{AgreeAt, AreTargetsOf, IsFootprintOf, IsLegalDatabase, Notes, opened_by}
 
 abbrev pub origin_of : DatabaseData → DatabaseData
 origin_of d = opened_by d.catalogue
 
 abbrev Sound : DatabaseData → DatabaseData → Type 0
-Sound o = SoundFrom IsSound origin_of o
+Sound o = SoundFrom IsLegalDatabase origin_of o
 
 -- the catalogue is that of the origin
 pub one_catalogue : (s o : DatabaseData) → origin_of s ≡ o → s.catalogue ≡ o.catalogue
 one_catalogue s o h = ap (λ (d : DatabaseData). d.catalogue) h
 
-pub catalogue_stays : (s t : DatabaseData) (e : Entry) (r : Ran) → IsSound s → Notes s e r t → t.catalogue ≡ s.catalogue
+pub catalogue_stays : (s t : DatabaseData) (e : Entry) (r : Ran) → IsLegalDatabase s → Notes s e r t → t.catalogue ≡ s.catalogue
 catalogue_stays s t e r good step = (step_keeps_database s t e.dialect e.text r.outcome good.0 step.step).1
 
-pub stays_sound : (s t : DatabaseData) (e : Entry) (r : Ran) → IsSound s → Notes s e r t → IsSound t
+pub stays_sound : (s t : DatabaseData) (e : Entry) (r : Ran) → IsLegalDatabase s → Notes s e r t → IsLegalDatabase t
 stays_sound s t e r good step = ((step_keeps_database s t e.dialect e.text r.outcome good.0 step.step).0, step_is_legal s t e.dialect e.text r.outcome step.step good.1)
 
 stay_sound : (o s t : DatabaseData) (e : Entry) (r : Ran) → Sound o s → Notes s e r t → Sound o t
 stay_sound o s t e r good step = (stays_sound s t e r good.0 step, ap opened_by (catalogue_stays s t e r good.0 step) ∙ good.1)
 
-change_targets : (o s t : DatabaseData) (e : Entry) (r : Ran) (n : ℕ) → Sound o s → Notes s e r t → (AreTargetsOf o e n → ⊥) → AreAlike s t n
+change_targets : (o s t : DatabaseData) (e : Entry) (r : Ran) (n : ℕ) → Sound o s → Notes s e r t → (AreTargetsOf o e n → ⊥) → AgreeAt s t n
 change_targets o s t e r n good step never =
     let same = one_catalogue s o good.1 in
     (sym (catalogue_stays s t e r good.0 step), sym (changes_targets s t e.dialect e.text r.outcome n step.step (λ h. never (subst (λ (c : CatalogueData). IsTargetOfText c e.dialect e.text n) same h))))
 
-by_footprint : (o s t u : DatabaseData) (e : Entry) (r : Ran) → Sound o s → Sound o u → ((n : ℕ) → IsFootprintOf o e n → AreAlike s u n) → Notes s e r t → (v : DatabaseData) × Notes u e r v
+by_footprint : (o s t u : DatabaseData) (e : Entry) (r : Ran) → Sound o s → Sound o u → ((n : ℕ) → IsFootprintOf o e n → AgreeAt s u n) → Notes s e r t → (v : DatabaseData) × Notes u e r v
 by_footprint o s t u e r good fine alike step =
     let same = one_catalogue s o good.1 in
     let both = same ∙ sym (one_catalogue u o fine.1) in
@@ -55,7 +55,7 @@ by_footprint o s t u e r good fine alike step =
       },
     )
 
-steps_alike : (o s t u v : DatabaseData) (e : Entry) (r : Ran) (n : ℕ) → Sound o s → Sound o u → Notes s e r t → Notes u e r v → AreAlike s u n → AreAlike t v n
+steps_alike : (o s t u v : DatabaseData) (e : Entry) (r : Ran) (n : ℕ) → Sound o s → Sound o u → Notes s e r t → Notes u e r v → AgreeAt s u n → AgreeAt t v n
 steps_alike o s t u v e r n good fine step other alike = (
   catalogue_stays s t e r good.0 step ∙ alike.0 ∙ sym (catalogue_stays u v e r fine.0 other),
   go_alike (stored_relvars s.stored) (stored_relvars t.stored) (stored_relvars u.stored) (stored_relvars v.stored) r.delta.items step.delta other.delta n alike.1,
@@ -72,7 +72,7 @@ name_targets o s t e r good step n =
 hang_on_targets : (o : DatabaseData) (e : Entry) (n : ℕ) → AreTargetsOf o e n → IsFootprintOf o e n
 hang_on_targets o e n h = record { statement = h.statement; reads = h.reads; within = target h.target }
 
-pub go : (o : DatabaseData) → GoByRecords {S = DatabaseData} {R = Ran} (SoundFrom IsSound origin_of o) Notes AreAlike (IsFootprintOf o) (AreTargetsOf o) (λ r. r.footprint.items) (λ r. r.targets.items)
+pub go : (o : DatabaseData) → GoByRecords {S = DatabaseData} {R = Ran} (SoundFrom IsLegalDatabase origin_of o) Notes AgreeAt (IsFootprintOf o) (AreTargetsOf o) (λ r. r.footprint.items) (λ r. r.targets.items)
 go o = record {
   hang_on_targets = hang_on_targets o;
   stay_sound = stay_sound o;

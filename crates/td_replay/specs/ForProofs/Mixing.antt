@@ -10,7 +10,7 @@ use Rattle.td_rollback.specs.Going.{SoundFrom}
 use Rattle.td_rollback.specs.Parts.{Mixes}
 use Rattle.td_story.specs.Databases.{DatabaseData, IsDatabase, IsLegal, Stored, at_place, stored_at, stored_relvars}
 use Rattle.td_story.specs.Stored.{AreStored}
-use Rattle.td_replay.specs.Noted.{AreAlike, AreClosed, IsClosed, IsSound, mix, mixed}
+use Rattle.td_replay.specs.Noted.{AgreeAt, AreClosed, IsClosedPart, IsLegalDatabase, mix, mixed}
 use Rattle.td_replay.specs.ForProofs.Going.{origin_of}
 
 by_part : {P : Type 0} (b : Bool) → (b ≡ true → P) → (b ≡ false → P) → P
@@ -43,7 +43,7 @@ within_at part xs ys n e is = mixed_at part xs ys n e ∙ ap (λ (b : Bool). if 
 without_at : (part : ℕ → Bool) (xs ys : Stored) (n : ℕ) → length xs ≡ length ys → part n ≡ false → slice_get (mixed part xs ys) n ≡ slice_get ys n
 without_at part xs ys n e is = mixed_at part xs ys n e ∙ ap (λ (b : Bool). if b then slice_get xs n else slice_get ys n) is
 
-module _ (o : DatabaseData) (part : ℕ → Bool) (closed : IsClosed o part) (s t : DatabaseData) (good : SoundFrom IsSound origin_of o s) (fine : SoundFrom IsSound origin_of o t) where
+module _ (o : DatabaseData) (part : ℕ → Bool) (closed : IsClosedPart o part) (s t : DatabaseData) (good : SoundFrom IsLegalDatabase origin_of o s) (fine : SoundFrom IsLegalDatabase origin_of o t) where
   here : s.catalogue ≡ o.catalogue
   here = ap (λ (d : DatabaseData). d.catalogue) good.1
 
@@ -53,15 +53,15 @@ module _ (o : DatabaseData) (part : ℕ → Bool) (closed : IsClosed o part) (s 
   as_long : length s.stored ≡ length t.stored
   as_long = good.0.0.each ∙ ap (λ (c : CatalogueData). length c.origins) (sym one) ∙ sym fine.0.0.each
 
-  pub within : (n : ℕ) → part n ≡ true → AreAlike (mix part s t) s n
+  pub within : (n : ℕ) → part n ≡ true → AgreeAt (mix part s t) s n
   within n is = (refl, ap at_place (within_at part s.stored t.stored n as_long is))
 
-  pub without : (n : ℕ) → part n ≡ false → AreAlike (mix part s t) t n
+  pub without : (n : ℕ) → part n ≡ false → AgreeAt (mix part s t) t n
   without n is = (sym one, ap at_place (without_at part s.stored t.stored n as_long is))
 
   -- of the other one, over the same catalogue
-  other : IsSound (record t { catalogue = s.catalogue })
-  other = subst (λ (c : CatalogueData). IsSound (record t { catalogue = c })) one fine.0
+  other : IsLegalDatabase (record t { catalogue = s.catalogue })
+  other = subst (λ (c : CatalogueData). IsLegalDatabase (record t { catalogue = c })) one fine.0
 
   stored : AreStored s.catalogue (stored_relvars (mixed part s.stored t.stored))
   stored n v base there = by_part (part n)
@@ -92,15 +92,15 @@ module _ (o : DatabaseData) (part : ℕ → Bool) (closed : IsClosed o part) (s 
       (λ is. judged_alike c good.0.0.defined (stored_relvars (mixed part s.stored t.stored)) (stored_relvars s.stored) u there (λ n h. (within n (tied.1 n h ∙ is)).1) ∙ good.0.1 u there)
       (λ is. judged_alike c good.0.0.defined (stored_relvars (mixed part s.stored t.stored)) (stored_relvars t.stored) u there (λ n h. (without n (tied.1 n h ∙ is)).1) ∙ other.1 u there)
 
-  pub mixed_sound : SoundFrom IsSound origin_of o (mix part s t)
+  pub mixed_sound : SoundFrom IsLegalDatabase origin_of o (mix part s t)
   mixed_sound = ((database, legal), good.1)
 
-one_database : (o s t : DatabaseData) → SoundFrom IsSound origin_of o s → SoundFrom IsSound origin_of o t → ((n : ℕ) → AreAlike s t n) → s ≡ t
+one_database : (o s t : DatabaseData) → SoundFrom IsLegalDatabase origin_of o s → SoundFrom IsLegalDatabase origin_of o t → ((n : ℕ) → AgreeAt s t n) → s ≡ t
 one_database o s t good fine alike =
     let same = ap (λ (d : DatabaseData). d.catalogue) good.1 ∙ sym (ap (λ (d : DatabaseData). d.catalogue) fine.1) in
     sym (put_back_restores s t [] good.0.0 fine.0.0 same (λ n never. (alike n).1))
 
-pub mixes : (o : DatabaseData) (part : ℕ → Bool) → IsClosed o part → Mixes (SoundFrom IsSound origin_of o) AreAlike part (mix part)
+pub mixes : (o : DatabaseData) (part : ℕ → Bool) → IsClosedPart o part → Mixes (SoundFrom IsLegalDatabase origin_of o) AgreeAt part (mix part)
 mixes o part closed = record {
   stay_sound = λ s t good fine. mixed_sound o part closed s t good fine;
   inside = λ s t n good fine is. within o part closed s t good fine n is;

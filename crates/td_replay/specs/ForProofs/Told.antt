@@ -16,7 +16,7 @@ use Rattle.td_story.specs.Calls.{entry_of}
 use Rattle.td_story.specs.Seen.{Seen}
 use Rattle.td_story.specs.declared.refusal.IssueError.{IssueError}
 use Rattle.td_story.specs.declared.refusal.IssueError.TheVariants as issue_error
-use Rattle.td_replay.specs.Noted.{IsSound, Notes, opened_by}
+use Rattle.td_replay.specs.Noted.{IsLegalDatabase, Notes, opened_by}
 
 -- the script opens a database
 abbrev pub IsAccepted : List ℕ → Type 0
@@ -37,7 +37,7 @@ outcomes_of log = map outcome_of log
 -- these records are those of the entries' steps, which lead here from what the script opens
 pub record IsLogged (script : List ℕ) (es : List Entry) (log : Log) (d : DatabaseData) : Type 0 where
   pub opens : OpensOn script None (opened_by d.catalogue)
-  pub sound : IsSound (opened_by d.catalogue)
+  pub sound : IsLegalDatabase (opened_by d.catalogue)
   pub runs : Story Notes (opened_by d.catalogue) es log d
 
 -- one entry more ran, and left this record

@@ -11,7 +11,7 @@ use Rattle.td_story.specs.Databases.{DatabaseData}
 use Rattle.td_story.specs.Seen.{Seen}
 use Rattle.td_story.specs.Scripts.{Opens}
 use Rattle.td_answers.specs.Sites.{Sites}
-use Rattle.td_workbench.specs.Streams.{most_reads, WritesAll}
+use Rattle.td_workbench.specs.Streams.{most_reads, WritesText}
 use Rattle.td_workbench.specs.Programs.{ProgramEnds}
 use Rattle.td_workbench.specs.ForProofs.Reading.{HasScript}
 use Rattle.td_workbench.specs.declared.script.Script.{Script}
@@ -32,7 +32,7 @@ MayTell OutOfMemory told = told ≡ OutOfMemory
 -- a fault was told, or a front of it
 abbrev pub PutsFault : List ℕ → Result Bool Ended → Output → Output → Type 0
 PutsFault text (Ok true) w after = ⊥
-PutsFault text (Ok false) w after = WritesAll text w after
+PutsFault text (Ok false) w after = WritesText text w after
 PutsFault text (Err ended.WriteFault) w after = WritesFront text w after
 PutsFault text (Err ended.ReadFault) w after = ⊥
 PutsFault text (Err ended.OutOfMemory) w after = ⊥
@@ -55,7 +55,7 @@ BehindEnds Stay false c old reads from w r left after = (new : Sites) × Stay ne
 
 -- the text was written, and what came of the lines behind the script
 abbrev pub ReadyBehind : (Sites → Type 0) → Bool → List ℕ → CatalogueData → Sites → ℕ → Input → Output → Result (Unit {0}) Ended → Input → Output → Type 0
-ReadyBehind Stay is_last text c old reads from w r left after = (told : Output) × WritesAll text w told × BehindEnds Stay is_last c old reads from told r left after
+ReadyBehind Stay is_last text c old reads from w r left after = (told : Output) × WritesText text w told × BehindEnds Stay is_last c old reads from told r left after
 
 abbrev pub ReadyEnds : (Sites → Type 0) → Bool → List ℕ → CatalogueData → Sites → ℕ → Input → Output → Result Bool Ended → Input → Output → Type 0
 ReadyEnds Stay is_last text c old reads from w (Ok true) left after = ReadyBehind Stay is_last text c old reads from w (Ok tt) left after

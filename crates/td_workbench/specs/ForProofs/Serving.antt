@@ -9,27 +9,27 @@ use Rattle.td_lines.specs.Lines.{Line, quit, is_quit}
 use Rattle.td_devices.specs.Views.{Input, Output}
 use Rattle.td_listings.specs.Writings.{WritesFront}
 use Rattle.td_answers.specs.Sites.{Sites}
-use Rattle.td_answers.specs.Answers.{Answered}
-use Rattle.td_workbench.specs.Streams.{WritesAll}
-use Rattle.td_workbench.specs.Runs.{said, GoesOn, Quits, RunsOut, Reaches, Ends}
+use Rattle.td_answers.specs.Answers.{LineAnswered}
+use Rattle.td_workbench.specs.Streams.{WritesText}
+use Rattle.td_workbench.specs.Runs.{said, DoesNotQuit, Quits, RunsOut, Reaches, Ends}
 use Rattle.td_workbench.specs.declared.run.Ended.{Ended}
 use Rattle.td_workbench.specs.declared.run.Ended.TheVariants as ended
 
 -- the text was written, and the run goes on; or a front of it was
 abbrev pub Puts : List ℕ → Result Bool Failed → Output → Output → Type 0
-Puts text (Ok quits) w after = (quits ≡ false) × WritesAll text w after
+Puts text (Ok quits) w after = (quits ≡ false) × WritesText text w after
 Puts text (Err e) w after = WritesFront text w after
 
 -- true says that the line is `.quit`
 abbrev pub LineEnds : CatalogueData → Sites → Line → Result Bool Failed → Sites → Output → Output → Type 0
 LineEnds c old line (Ok true) new w after = (line ≡ quit) × (new ≡ old) × (after ≡ w)
-LineEnds c old line (Ok false) new w after = (text : List ℕ) × (is_quit line ≡ false) × Answered c old line text new × WritesAll text w after
-LineEnds c old line (Err e) new w after = (text : List ℕ) × (is_quit line ≡ false) × Answered c old line text new × WritesFront text w after
+LineEnds c old line (Ok false) new w after = (text : List ℕ) × (is_quit line ≡ false) × LineAnswered c old line text new × WritesText text w after
+LineEnds c old line (Err e) new w after = (text : List ℕ) × (is_quit line ≡ false) × LineAnswered c old line text new × WritesFront text w after
 
 -- true says that the run is over
 abbrev pub ReadEnds : CatalogueData → Sites → List ℕ → Bool → Option (List ℕ) → Result Bool Failed → Sites → Output → Output → Type 0
-ReadEnds c old raw is_last left (Ok true) new w after = (text : List ℕ) × (Quits c old (raw_lines raw) left text new ⊎ RunsOut c old (raw_lines raw) left text new) × WritesAll text w after
-ReadEnds c old raw is_last left (Ok false) new w after = (text : List ℕ) × (is_last ≡ false) × IsWholeLine raw × GoesOn raw × Answered c old (said raw) text new × WritesAll text w after
+ReadEnds c old raw is_last left (Ok true) new w after = (text : List ℕ) × (Quits c old (raw_lines raw) left text new ⊎ RunsOut c old (raw_lines raw) left text new) × WritesText text w after
+ReadEnds c old raw is_last left (Ok false) new w after = (text : List ℕ) × (is_last ≡ false) × IsWholeLine raw × DoesNotQuit raw × LineAnswered c old (said raw) text new × WritesText text w after
 ReadEnds c old raw is_last left (Err e) new w after = (answer : List ℕ) × Reaches c old (raw_lines raw) left [] answer new × WritesFront answer w after
 
 -- a run over lines, by so many reads

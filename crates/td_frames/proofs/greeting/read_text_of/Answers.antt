@@ -2,7 +2,7 @@ use Rattle.std.proofs.Common.{◌≡◌, true, Ok, ap, sym, ◌∙◌, subst, st
 use Rattle.std.specs.Prelude.{IsUtf8}
 use Rattle.std.specs.Str.{is_utf8}
 use Rattle.std.proofs.lemmas.Str.{IsUtf8-string_bytes, is_utf8-from_IsUtf8}
-use Rattle.td_frames.specs.Reading.{bad, text_of}
+use Rattle.td_frames.specs.Reading.{bad, utf8_at}
 use Rattle.td_frames.proofs.Steps.{told_short, not_text}
 use Rattle.td_frames.proofs.InTurn.{checked_cut, checked_fails, checked_passes}
 use Rattle.td_frames.proofs.greeting.read_text_of.Goals as goal
@@ -10,7 +10,7 @@ use Rattle.td_frames.proofs.greeting.read_text_of.Goals as goal
 pub returns-in-Err-clause-told : goal.returns-in-Err-clause-told
 returns-in-Err-clause-told g c =
     let (bytes, taken, few) = c.in-Err.ensures.err in
-    (bytes, taken, told_short c.in-Err.e c.args.length bytes (text_of c.args.length bytes) _ _ _ (λ lt. checked_cut c.args.length is_utf8 (λ b. b) bad bytes lt) few)
+    (bytes, taken, told_short c.in-Err.e c.args.length bytes (utf8_at c.args.length bytes) _ _ _ (λ lt. checked_cut c.args.length is_utf8 (λ b. b) bad bytes lt) few)
 
 pub returns-in_default-clause-told : goal.returns-in_default-clause-told
 returns-in_default-clause-told g c =

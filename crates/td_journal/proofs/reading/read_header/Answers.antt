@@ -1,6 +1,6 @@
 use Rattle.std.proofs.Common.{rules, ◌≡◌, ◌++◌, codes, Ok, true, ap}
 use Rattle.std.proofs.KnownBytes.{Consumes-trans}
-use Rattle.td_journal.specs.Reading.{field_at, owned_at}
+use Rattle.td_journal.specs.Reading.{known_field_at, owned_at}
 use Rattle.td_journal.specs.declared.error.JournalError.TheVariants.{Magic}
 use Rattle.td_journal.proofs.Fields.{field_as, letters_then}
 use Rattle.td_journal.proofs.reading.read_header.Goals as goal
@@ -20,5 +20,5 @@ returns-in-Ok-true-clause-told g c =
     let letters = field_as c.as_slice.result.now (codes "JTDB") Magic b0 (Ok c.in-Ok-true.field-0) (Ok true) (left at1) (count at0) (count at1) is0 (ap Ok c.in-Ok-true.field-0-test) told0 in (
       b0 ++ b1,
       Consumes-trans _ _ _ _ _ taken0 taken1,
-      letters_then (field_at (codes "JTDB") Magic) (owned_at n s) b0 b1 c.read_owned.result (left at2) (left at1) (count at0) (count at1) (count at2) letters told1,
+      letters_then (known_field_at (codes "JTDB") Magic) (owned_at n s) b0 b1 c.read_owned.result (left at2) (left at1) (count at0) (count at1) (count at2) letters told1,
     )

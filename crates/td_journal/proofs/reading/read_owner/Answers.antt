@@ -1,7 +1,7 @@
 use Rattle.std.proofs.Common.{rules, ◌≡◌, ℕ, List, [], ◌∷◌, ◌++◌, length, Ok, Err, true, false, refl, ap}
 use Rattle.std.proofs.KnownBytes.{Consumes-trans}
 use Rattle.std.specs.Int.{w16, w32, to_be_bytes}
-use Rattle.td_journal.specs.Reading.{field_at, fields_at}
+use Rattle.td_journal.specs.Reading.{known_field_at, known_fields_at}
 use Rattle.td_journal.specs.declared.error.JournalError.{JournalError}
 use Rattle.td_journal.specs.declared.error.JournalError.TheVariants.{OtherSite, OtherScript}
 use Rattle.td_journal.proofs.Fields.{field_as, field_first, fields_cut, fields_refused, last_field}
@@ -31,7 +31,7 @@ returns-in-Err-read_field-clause-told g c =
       Consumes-trans _ _ _ _ _ taken0 taken1,
       field_first (to_be_bytes w16 n) OtherSite (after_site s) b0 b1 (Err c.in-Err-read_field.error) (left at2) (left at1) (count at0) (count at1) (count at2)
           (field_as c.as_slice.result.now (to_be_bytes w16 n) OtherSite b0 (Ok c.in-Ok-true.field-0) (Ok true) (left at1) (count at0) (count at1) is0 (ap Ok c.in-Ok-true.field-0-test) told0)
-          (fields_refused (field_at (to_be_bytes w32 (length s)) OtherScript) (fields_at (after_length s)) b1 c.in-Err-read_field.error (left at2) (count at1) (count at2)
+          (fields_refused (known_field_at (to_be_bytes w32 (length s)) OtherScript) (known_fields_at (after_length s)) b1 c.in-Err-read_field.error (left at2) (count at1) (count at2)
           (field_as c.as_slice-2.result.now (to_be_bytes w32 (length s)) OtherScript b1 (Err c.in-Err-read_field.error) (Err c.in-Err-read_field.error) (left at2) (count at1) (count at2) is1 refl told1)),
     )
 
@@ -52,7 +52,7 @@ returns-in-Ok-false-read_field-clause-told g c =
       Consumes-trans _ _ _ _ _ taken0 taken1,
       field_first (to_be_bytes w16 n) OtherSite (after_site s) b0 b1 (Ok false) (left at2) (left at1) (count at0) (count at1) (count at2)
           (field_as c.as_slice.result.now (to_be_bytes w16 n) OtherSite b0 (Ok c.in-Ok-true.field-0) (Ok true) (left at1) (count at0) (count at1) is0 (ap Ok c.in-Ok-true.field-0-test) told0)
-          (fields_cut (field_at (to_be_bytes w32 (length s)) OtherScript) (fields_at (after_length s)) b1 (left at2) (count at1) (count at2)
+          (fields_cut (known_field_at (to_be_bytes w32 (length s)) OtherScript) (known_fields_at (after_length s)) b1 (left at2) (count at1) (count at2)
           (field_as c.as_slice-2.result.now (to_be_bytes w32 (length s)) OtherScript b1 (Ok c.in-Ok-false-read_field.field-0) (Ok false) (left at2) (count at1) (count at2) is1 (ap Ok c.in-Ok-false-read_field.field-0-test) told1)),
     )
 

@@ -2,7 +2,7 @@ use Rattle.std.proofs.Common.{◌≡◌, ℕ, List, take, sym, subst, ◌∙◌,
 use Rattle.std.specs.List.{Contains}
 use Rattle.std.proofs.lemmas.List.{take_all}
 use Rattle.td_headings.specs.declared.defined.Test.{Test}
-use Rattle.td_rollback.specs.Labels.{AreTied, is_in, starts_in}
+use Rattle.td_rollback.specs.Labels.{AreTied, has_label, starts_in}
 use Rattle.td_rollback.proofs.Tying.{all_or_none, coarser_through, item_more, tied_on}
 use Rattle.td_story.specs.Footprints.{TestReads}
 use Rattle.td_replay.proofs.engine.tie_tests.Goals as goal
@@ -31,4 +31,4 @@ returns-clause-closed c = λ label t there.
     let end = c.loop-place-test.false in
     let all : take l.place c.tests-tests.result.now ≡ c.args.catalogue.now.tests = take_all l.place c.tests-tests.result.now (omega (arith, end)) ∙ c.tests-tests.ensures.tests in
     let e = l.invariant.each t (subst (λ (ts : List Test). Contains ts t) (sym all) there) in
-    (starts_in (is_in xs label) e.0, λ n h. all_or_none xs e.0 label e.1 n (e.2 n h))
+    (starts_in (has_label xs label) e.0, λ n h. all_or_none xs e.0 label e.1 n (e.2 n h))

@@ -1,7 +1,7 @@
 use Rattle.std.proofs.Common.{◌≡◌, ◌≤◌, ◌-◌, ℕ, List, length}
 use Rattle.td_stamps.specs.declared.entry.Entry.{Entry}
 use Rattle.td_story.specs.Databases.{DatabaseData}
-use Rattle.td_replay.specs.Noted.{IsSound}
+use Rattle.td_replay.specs.Noted.{IsLegalDatabase}
 use Rattle.td_replay.specs.ForProofs.Past.{AreAt}
 use Rattle.td_replay.proofs.past.undo_behind.Given as goal
 
@@ -9,7 +9,7 @@ abbrev pub invariant-loop-left : goal.invariant-loop-left
 invariant-loop-left l = record {
   within : l.left ≤ length l.log;
   kept : l.kept ≤ l.left;
-  at : (o : DatabaseData) (es : List Entry) (places : List ℕ) → IsSound o → length es ≡ length l.log → AreAt o es l.log places (length l.log) l.initial.copies.items → AreAt o es l.log places l.left l.copies.items;
+  at : (o : DatabaseData) (es : List Entry) (places : List ℕ) → IsLegalDatabase o → length es ≡ length l.log → AreAt o es l.log places (length l.log) l.initial.copies.items → AreAt o es l.log places l.left l.copies.items;
 }
 
 abbrev pub decreases-loop-left : goal.decreases-loop-left

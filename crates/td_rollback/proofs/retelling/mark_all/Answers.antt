@@ -1,7 +1,7 @@
 use Rattle.std.proofs.Common.{◌≡◌, ℕ, Bool, List, ap, sym, subst, ◌∙◌}
 use Rattle.std.specs.List.{Contains}
 use Rattle.td_stamps.specs.declared.entry.Entry.{Entry}
-use Rattle.td_rollback.specs.Labels.{is_in}
+use Rattle.td_rollback.specs.Labels.{has_label}
 use Rattle.td_rollback.specs.Parts.{marked}
 use Rattle.td_rollback.specs.Touched.{IsTargetOf}
 use Rattle.td_rollback.specs.ForProofs.Marked.{with_flagged}
@@ -15,7 +15,7 @@ returns-clause-parted g c =
     let o = m.origin c.args.machine.now in
     let w = way_of m.sound m.steps m.alike m.origin m.footprint m.targets m.footprint_in m.targets_in g.met.M.Machine.goes o in
     let p = c.in_ok-part.part in
-    let part : ℕ → Bool = is_in p.labels.items p.label in
+    let part : ℕ → Bool = has_label p.labels.items p.label in
     let new = c.args.new.now in
     let flags = c.in_ok-flags.flags.items in
     let b = c.requires.story.1 in

@@ -9,7 +9,7 @@ use Rattle.td_frames.specs.Spelling.{HasFrame, entry_frames}
 use Rattle.td_frames.specs.declared.version.Version.TheVariants.{Second}
 use Rattle.td_story.specs.Calls.{Takes}
 use Rattle.td_story.specs.declared.refusal.TakeError.TheVariants as take_error
-use Rattle.td_journal.specs.Keeping.{Accepts, JournalsBatch, Leaves}
+use Rattle.td_journal.specs.Keeping.{Accepts, JournalsBatch, LeavesPart}
 use Rattle.td_journal.specs.Views.{KeeperData, kept}
 use Rattle.td_journal.specs.Written.{HandsOn}
 use Rattle.td_journal.proofs.Framed.{fresh_framed}
@@ -72,5 +72,5 @@ returns-clause-written g c =
     let new = output_of g.W.Sink c.accept.new.self in
     let has : AllByRecursion (HasFrame Second) c.args.batch.now = search rules in
     let all : c.as_slice.result.now ≡ fresh_of s.entries c.args.batch.now = c.as_slice.ensures.value ∙ is in
-    subst (λ (k : KeeperData _ _). Leaves (fresh_of (g.R.Replica.seen k.replica).entries c.args.batch.now) (output_of g.W.Sink k.writer) new) c.self.view_is
+    subst (λ (k : KeeperData _ _). LeavesPart (fresh_of (g.R.Replica.seen k.replica).entries c.args.batch.now) (output_of g.W.Sink k.writer) new) c.self.view_is
     (subst (λ (l : List Entry). AppendsFront old.held new.held (entry_frames Second l)) all c.in-Err-accept.ensures.written.0, fresh_framed s.entries c.args.batch.now has)
