@@ -38,8 +38,7 @@ use Rattle.td_story.specs.declared.failure.Failure.TheVariants as failure
 use Rattle.td_story.specs.declared.outcome.Outcome.{Outcome}
 use Rattle.td_story.specs.declared.outcome.Outcome.TheVariants.{Done}
 use Rattle.td_relvars.specs.Changed.{CanChange, change, changed, with_change}
-use Rattle.td_relvars.specs.Parts.{part_of, put_part}
-use Rattle.td_relvars.proofs.Copies.{part_belongs, put_back_restores}
+use Rattle.td_relvars.specs.Ways.{LeadsBackAt, WayBackData}
 use Rattle.td_relvars.proofs.Kept.{changed_is}
 use Rattle.td_relvars.proofs.Places.{change_other, change_put, change_there}
 use Rattle.td_constraints.specs.Changes.{PassedBefore}
@@ -389,32 +388,17 @@ takes_nothing n x cs one none = subst TakesNothing (sym one) (All-cons (λ (p : 
 pub taken_nothing : (changes : List (ℕ × DeltaData)) → TakesNothing changes → 0 < length changes → (p : ℕ × DeltaData) → p ≡ get_or changes 0 p → body p.1.deleted ≡ set.empty
 taken_nothing cs nothing some p at = ap (λ (q : ℕ × DeltaData). body q.1.deleted) at ∙ nothing 0 p some
 
--- ---- what the relvar had, put back
-module _ (d : DatabaseData) (changes : List (ℕ × DeltaData)) (is : IsDatabase d) (one : IsOneTurn d changes) (p : ℕ × DeltaData) (at : p ≡ get_or changes 0 p) (e : DatabaseData) (made : e ≡ with_change p.0 p.1 d) (part : List (ℕ × RowsData)) (copied : part ≡ part_of d.stored (p.0 ∷ [])) where
-  same_catalogue : e.catalogue ≡ d.catalogue
-  same_catalogue = ap (λ (q : DatabaseData). q.catalogue) made
-
-  part_fits : All (λ (q : ℕ × RowsData). Belongs e.catalogue q.0 q.1) part
-  part_fits =
-      subst (λ (k : CatalogueData). All (λ (q : ℕ × RowsData). Belongs k q.0 q.1) part) (sym same_catalogue)
-      (subst (λ l. All (λ (q : ℕ × RowsData). Belongs d.catalogue q.0 q.1) l) (sym copied) (part_belongs d (p.0 ∷ []) is))
-
-  changed_is_database : IsDatabase e
-  changed_is_database = subst IsDatabase (sym made) (changed_is d.catalogue d.stored p.0 p.1 is (can_first d changes is one p at))
-
-  others_stay : (m : ℕ) → (Contains (p.0 ∷ []) m → ⊥) → stored_relvars d.stored m ≡ stored_relvars e.stored m
-  others_stay m never =
-      sym (change_other p.0 m p.1 d.stored (λ same. never (subst (Contains (p.0 ∷ [])) same (first_place p.0 []))))
-      ∙ ap (λ (q : DatabaseData). stored_relvars q.stored m) (sym made)
-
-  pub came_from : CameFrom d p part e
+-- ---- the way back that was made before
+module _ (d : DatabaseData) (changes : List (ℕ × DeltaData)) (is : IsDatabase d) (one : IsOneTurn d changes) (p : ℕ × DeltaData) (at : p ≡ get_or changes 0 p) (e : DatabaseData) (made : e ≡ with_change p.0 p.1 d) (way : WayBackData) (leads : LeadsBackAt d p.0 p.1 way) where
+  pub came_from : CameFrom d p way e
   came_from = record {
-    can_back = first_back d changes is one p at e made;
+    can_go = record {
+      change = first_back d changes is one p at e made;
+      before = leads.0;
+      made = ap (λ (q : DatabaseData). stored_relvars q.stored p.0) made ∙ change_there p.0 p.1 d.stored leads.0 leads.1;
+      way = leads.2;
+    };
     back = is_back d changes is one p at e made (with_change p.0 (inverse_of p.1) e) refl;
-    fits = part_fits;
-    restored =
-        ap (λ l. record e { stored = put_part l e.stored }) copied
-        ∙ put_back_restores d e (p.0 ∷ []) is changed_is_database (sym same_catalogue) others_stay;
   }
 
 -- ---- what becomes of the statement

@@ -31,6 +31,8 @@ fn in_order(places: Vec<usize>) -> Vec<usize>
     let mut places = places;
     places.sort_unstable();
     places.dedup();
+    // (kept of each statement for ever)
+    places.shrink_to_fit();
     places
 }
 

@@ -34,7 +34,7 @@ use td_grammar::{ReadError, read_statement_in};
 use td_headings::{Catalogue, TypedAssignment, TypedStatement, type_statement};
 use td_kinds::error::TypeError;
 use td_relations::Delta;
-use td_relvars::{Database, Part};
+use td_relvars::{Database, WayBack};
 use td_story::{BrokenTest, Failure, Meter, Outcome, TestFailure};
 
 // The statement that the text is, typed, if it is one.
@@ -208,21 +208,21 @@ fn tried(
     }
 }
 
-// The relvar has again what it had before the change: by its inverse, so that what it keeps by its keys stays, or,
-// where memory is wanting for that, by the copy.
-fn restore(alloc: Global, database: &mut Database, change: &(usize, Delta), part: Part)
-    requires { (d : DatabaseData) × CameFrom d change.now part database.old }
-    ensures { (d : DatabaseData) → CameFrom d change.now part database.old → database.new ≡ d }
+// The relvar has again what it had before the change: by its inverse, which costs the change alone, or, where memory is
+// wanting for that, by the way that takes none.
+fn restore(alloc: Global, database: &mut Database, change: &(usize, Delta), way: WayBack)
+    requires { (d : DatabaseData) × CameFrom d change.now way database.old }
+    ensures { (d : DatabaseData) → CameFrom d change.now way database.old → database.new ≡ d }
 {
     match database.change_back(alloc, change.0, &change.1) {
         Ok(()) => {}
-        Err(_) => database.put_back(part),
+        Err(_) => database.go_back(change.0, &change.1, way),
     }
 }
 
 // Makes the one change, and the relvar has again what it had where a test fails or memory is wanting for them. There is
-// a way back that takes no memory: what the relvar had is copied before.
-fn tried_with_copy(
+// a way back that takes no memory: it is made before.
+fn tried_with_way(
     alloc: Global,
     database: &mut Database,
     changes: &[(usize, Delta)],
@@ -233,16 +233,16 @@ fn tried_with_copy(
 {
     database.relvars_fit();
     let made = &changes[0];
-    let part = database.copy_of(alloc, &[made.0])?;
+    let way = database.way_back(alloc, made.0, &made.1)?;
     database.change(alloc, made.0, &made.1)?;
     match first_failure_after(alloc, database.catalogue(), &*database, changes) {
         Ok(None) => Ok(None),
         Ok(Some(failure)) => {
-            restore(alloc, database, made, part);
+            restore(alloc, database, made, way);
             Ok(Some(failure))
         }
         Err(error) => {
-            restore(alloc, database, made, part);
+            restore(alloc, database, made, way);
             Err(error)
         }
     }
@@ -263,7 +263,7 @@ fn made(
     if grows {
         tried(alloc, database, changes)
     } else {
-        tried_with_copy(alloc, database, changes)
+        tried_with_way(alloc, database, changes)
     }
 }
 
@@ -280,11 +280,12 @@ fn turn(
     ensures kept { OnErr result (database.new ≡ database.old) }
 {
     database.relvars_fit();
-    let mut changes = Vec::new(alloc);
     if delta.is_empty() {
-        return Ok((Outcome::Done, changes));
+        return Ok((Outcome::Done, Vec::new(alloc)));
     }
     let grows = delta.deleted().is_empty();
+    // (what is kept of each statement for ever: with no room for more)
+    let mut changes = Vec::with_capacity(alloc, 1)?;
     changes.push((relvar, delta))?;
     match made(alloc, database, &changes, grows)? {
         Some(failure) => Ok((refusal(failure), Vec::new(alloc))),

@@ -4,6 +4,7 @@ pub mod Inits
 pub mod Asked
 pub mod Told
 pub mod Places
+pub mod Returning
 pub mod Kept
 pub mod Copies
 pub mod Keyed

@@ -1,6 +1,5 @@
 -- What is stored, place by place.
 use Rattle.std.proofs.Common.{◌≡◌, ⊎_elim, ℕ, zero, suc, pred, ◌+◌, ◌<◌, ◌≤◌, true, false, true≢false, List, [], ◌∷◌, ◌++◌, append_assoc, append-nil, length, drop, Option, None, Some, Result, Ok, slice_get, refl, ap, sym, ◌∙◌, subst, arith}
-use Rattle.std.specs.Borrow.{Bor}
 use Rattle.std.specs.FinSet as set
 use Rattle.std.specs.Prelude.{slice_set}
 use Rattle.std.proofs.lemmas.List.Elements.{All-weaker}

@@ -1,5 +1,6 @@
 -- The definitions of the crate.
 pub mod Changed
 pub mod Parts
+pub mod Ways
 pub mod Laws
 pub mod ForProofs

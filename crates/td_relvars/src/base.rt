@@ -7,8 +7,11 @@ ghost use Rattle.td_algebra.specs.KeyIndexes.{AreKeyIndexes};
 ghost use Rattle.td_relations.specs.Deltas.{IsApplied, inverse_of};
 ghost use Rattle.td_relvars.specs.Changed.{changed};
 ghost use Rattle.td_relvars.specs.ForProofs.Keyed.{AreOf};
+ghost use Rattle.td_relvars.specs.Ways.{LeadsBack};
+ghost use Rattle.td_values.specs.Rows.{RowsData};
 
-use crate::by_keys::{ByKeys, count, follow, kept};
+use crate::by_keys::{ByKeys, copy, count, follow, kept};
+use crate::ways::WayBack;
 use sqlite_items::Items;
 use std::alloc::{AllocError, Global};
 use std::marker::Model;
@@ -24,6 +27,13 @@ fn take_out(relation: &mut Relation, tuples: &[Tuple])
     for tuple in tuples {
         relation.remove(tuple);
     }
+}
+
+// Takes out what a change put in.
+fn take_inserted(relation: &mut Relation, delta: &Delta)
+    ensures { IsRelation relation.old.heading (set.difference (body relation.old) (body delta.now.inserted)) relation.new }
+{
+    take_out(relation, delta.inserted().tuples());
 }
 
 // Makes the change in a relation, and what is kept of its tuples by keys goes along.
@@ -78,7 +88,22 @@ fn take_back(relation: &mut Relation, by_keys: &mut ByKeys, delta: &Delta)
     ensures kept { AreOf relation.new by_keys.new }
 {
     relation.rows_fit();
-    take_out(relation, delta.inserted().tuples());
+    take_inserted(relation, delta);
+    follow(by_keys, relation.len(), delta.inserted(), delta.deleted());
+}
+
+// The same of any change, by a way that was made before it. It takes no memory.
+fn go_back(relation: &mut Relation, by_keys: &mut ByKeys, delta: &Delta, way: WayBack)
+    requires heading { delta.now.deleted.heading ≡ relation.old.heading }
+    requires way { (r : RowsData) × LeadsBack r delta.now way × IsApplied r delta.now relation.old }
+    requires kept { AreOf relation.old by_keys.old }
+    ensures back { IsApplied relation.old (inverse_of delta.now) relation.new }
+    ensures kept { AreOf relation.new by_keys.new }
+{
+    relation.rows_fit();
+    delta.deleted().rows_fit();
+    take_inserted(relation, delta);
+    way.refill(relation);
     follow(by_keys, relation.len(), delta.inserted(), delta.deleted());
 }
 
@@ -147,8 +172,19 @@ impl Base {
         Ok(Base::of(self.relation.copy(alloc)?))
     }
 
+    /// The same, with its tuples by the keys by which they are kept, all shared: for each list of n tuples it takes one
+    /// of n, and n counts.
+    pub fn copy_with_keys(&self, alloc: Global) -> Result<Base, AllocError>
+        ensures { IfOk result (λ b. b ≡ self.now) }
+    {
+        Ok(Base {
+            relation: self.relation.copy(alloc)?,
+            by_keys: copy(alloc, &self.by_keys)?,
+        })
+    }
+
     /// Its tuples by the keys by which they are kept. It takes no memory.
-    pub(crate) fn indexes(&self) -> &[KeyIndex]
+    pub fn indexes(&self) -> &[KeyIndex]
         ensures { AreKeyIndexes self.now result.now }
     {
         kept(&self.by_keys)
@@ -196,5 +232,21 @@ impl Base {
         ensures { self.new ≡ changed self.old (inverse_of delta.now) }
     {
         take_back(&mut self.relation, &mut self.by_keys, delta);
+    }
+
+    /// What it takes to take the change back without memory.
+    pub(crate) fn way_back(&self, alloc: Global, delta: &Delta) -> Result<WayBack, AllocError>
+        ensures { IfOk result (LeadsBack self.now delta.now) }
+    {
+        WayBack::from(alloc, &self.relation, delta)
+    }
+
+    /// Makes the inverse of a change by such a way. It takes no memory.
+    pub(crate) fn go_back(&mut self, delta: &Delta, way: WayBack)
+        requires heading { delta.now.deleted.heading ≡ self.old.heading }
+        requires way { (r : RowsData) × LeadsBack r delta.now way × (self.old ≡ changed r delta.now) }
+        ensures { self.new ≡ changed self.old (inverse_of delta.now) }
+    {
+        go_back(&mut self.relation, &mut self.by_keys, delta, way);
     }
 }

@@ -155,6 +155,28 @@ pub(crate) fn count(alloc: Global, by_keys: &mut ByKeys, relation: &Relation, ke
     }
 }
 
+// The indexes, whose tuples are shared.
+fn copy_each(alloc: Global, indexes: &[KeyIndex]) -> Result<Vec<KeyIndex>, AllocError>
+    ensures { IfOk result (λ v. v.items ≡ indexes.now) }
+{
+    let mut copies = Vec::with_capacity(alloc, indexes.len())?;
+    for index in indexes {
+        copies.push(index.copy(alloc)?)?;
+    }
+    Ok(copies)
+}
+
+/// What is kept, its tuples shared; of a relation of which nothing is kept no change is counted yet. A copy of n tuples
+/// by a key takes a list of n and n counts.
+pub(crate) fn copy(alloc: Global, by_keys: &ByKeys) -> Result<ByKeys, AllocError>
+    ensures { (r : RowsData) → AreOf r by_keys.now → IfOk result (AreOf r) }
+{
+    match by_keys {
+        ByKeys::Awaited(_) => Ok(ByKeys::Awaited(0)),
+        ByKeys::Kept(indexes) => Ok(ByKeys::Kept(copy_each(alloc, indexes)?)),
+    }
+}
+
 /// The indexes that are kept.
 pub(crate) fn kept(by_keys: &ByKeys) -> &[KeyIndex]
     ensures { (r : RowsData) → AreOf r by_keys.now → AreKeyIndexes r result.now }

@@ -1,20 +1,23 @@
 //! Databases.
 
-ghost use Rattle.std.specs.Prelude.{◌≡◌, ◌<◌, IfOk, OnErr, OnOk, length, slice_get, slice_set};
+ghost use Rattle.std.specs.Prelude.{◌≡◌, ◌<◌, IfOk, Ok, OnErr, OnOk, length, slice_get, slice_set};
 ghost use Rattle.std.specs.Option.{option_copied};
 ghost use Rattle.std.specs.FinSet as set;
 ghost use Rattle.td_relations.specs.Sets.{body, relation_of};
 ghost use Rattle.td_relations.specs.Deltas.{inverse_of};
+ghost use Rattle.td_values.specs.Rows.{RowsData};
 ghost use Rattle.td_headings.specs.Definitions.{Defined};
 ghost use Rattle.td_story.specs.Databases as spec;
-ghost use Rattle.td_story.specs.Databases.{Belongs, IsDatabase, put};
+ghost use Rattle.td_story.specs.Databases.{Belongs, IsDatabase, put, stored_relvars};
 ghost use Rattle.td_relvars.specs.Changed as changes;
 ghost use Rattle.td_relvars.specs.Changed.{CanChange, with_change};
 ghost use Rattle.td_relvars.specs.ForProofs.Standing.{HasOf};
+ghost use Rattle.td_relvars.specs.Ways.{CanGoBack, LeadsBack, LeadsBackAt};
 ghost use Rattle.td_relvars.specs.ForProofs.Empty.{empty_in};
 ghost use Rattle.td_story.specs.Openings as opening;
 
 use crate::base::Base;
+use crate::ways::WayBack;
 use sqlite_items::Items;
 use std::alloc::{AllocError, Global};
 use std::marker::Model;
@@ -197,6 +200,18 @@ fn take_back_at(stored: &mut Vec<Option<Base>>, relvar: usize, delta: &Delta)
     }
 }
 
+// The same of any change, by a way that was made before it.
+fn go_back_at(stored: &mut Vec<Option<Base>>, relvar: usize, delta: &Delta, way: WayBack)
+    requires there { HasOf stored.old.items relvar delta.now.deleted.heading }
+    requires way { (r : RowsData) × (stored_relvars stored.old.items relvar ≡ Ok (changes.changed r delta.now)) × LeadsBack r delta.now way }
+    ensures { stored.new.items ≡ changes.change relvar (inverse_of delta.now) stored.old.items }
+{
+    match &mut stored[relvar] {
+        Some(base) => base.go_back(delta, way),
+        None => unreachable!(),
+    }
+}
+
 impl Database {
     /// One whose base relvars are empty.
     pub(crate) fn empty(alloc: Global, catalogue: Catalogue) -> Result<Database, AllocError>
@@ -292,6 +307,22 @@ impl Database {
         change_back_at(alloc, &self.catalogue, &mut self.stored, relvar, delta)
     }
 
+    /// Makes it in a copy of what the base relvar at the place has, or had before some changes. Nothing is changed here.
+    pub fn change_back_copy(
+        &self,
+        alloc: Global,
+        relvar: usize,
+        copy: &mut Base,
+        delta: &Delta,
+    ) -> Result<(), AllocError>
+        requires { delta.now.inserted.heading ≡ copy.old.heading }
+        ensures ok { OnOk result (copy.new ≡ changes.changed copy.old (inverse_of delta.now)) }
+        ensures err { OnErr result (copy.new ≡ copy.old) }
+    {
+        delta.headings_agree();
+        copy.change_back(alloc, keys_of(&self.catalogue, relvar), delta)
+    }
+
     /// Makes the inverse of a change that took nothing out. It takes no memory, and costs a search and a shift for each
     /// tuple that was put in.
     pub fn take_back(&mut self, relvar: usize, delta: &Delta)
@@ -300,5 +331,32 @@ impl Database {
         ensures { self.new ≡ with_change relvar (inverse_of delta.now) self.old }
     {
         take_back_at(&mut self.stored, relvar, delta);
+    }
+
+    /// What it takes to take this change of the relvar at the place back without memory, once it is made. It costs a
+    /// count for each tuple that the change takes out, and room for a list as long as what the relvar has, in which
+    /// nothing is written.
+    pub fn way_back(
+        &self,
+        alloc: Global,
+        relvar: usize,
+        delta: &Delta,
+    ) -> Result<WayBack, AllocError>
+        requires { CanChange self.now relvar delta.now }
+        ensures { IfOk result (LeadsBackAt self.now relvar delta.now) }
+    {
+        match self.base_at(relvar) {
+            Some(base) => base.way_back(alloc, delta),
+            None => unreachable!(),
+        }
+    }
+
+    /// Makes the inverse of a change by a way that was made before it. It takes no memory, and costs a search and a
+    /// shift for each tuple that was put in, and a sort of all tuples.
+    pub fn go_back(&mut self, relvar: usize, delta: &Delta, way: WayBack)
+        requires { CanGoBack self.old relvar delta.now way }
+        ensures { self.new ≡ with_change relvar (inverse_of delta.now) self.old }
+    {
+        go_back_at(&mut self.stored, relvar, delta, way);
     }
 }

@@ -8,8 +8,10 @@ pub mod database;
 pub mod laws;
 mod opening;
 pub mod parts;
+pub mod ways;
 
 pub use base::Base;
 pub use database::Database;
 pub use opening::open_script;
 pub use parts::Part;
+pub use ways::WayBack;

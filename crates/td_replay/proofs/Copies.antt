@@ -1,6 +1,6 @@
 -- Copies of what base relvars had, and the changes of statements taken back in them.
-use Rattle.std.proofs.Common.{◌≡◌, ◌≤◌, ◌<◌, ◌+◌, ◌⊎◌, inl, inr, ⊎_elim, ℕ, zero, suc, List, [], ◌∷◌, ◌++◌, drop, take, get_or, length, length-append, true, Option, None, Some, slice_get, slice_set, IfOk, Result, Ok, Err, refl, ap, sym, ◌∙◌, subst, arith}
-use Rattle.std.specs.List.{Contains}
+use Rattle.std.proofs.Common.{◌≡◌, ◌≤◌, ◌<◌, ◌+◌, ◌⊎◌, inl, inr, ⊎_elim, ℕ, zero, suc, List, [], ◌∷◌, ◌++◌, drop, take, get_or, length, length-append, Bool, true, false, true≢false, ◌||◌, ◌==◌, eq-eqb, Option, None, Some, slice_get, slice_set, IfOk, Result, Ok, Err, refl, ap, sym, ◌∙◌, subst, arith}
+use Rattle.std.specs.List.{Contains, filter}
 use Rattle.std.proofs.lemmas.Bool.{cases_eq}
 use Rattle.std.proofs.lemmas.List.{take_all, take_more}
 use Rattle.std.proofs.lemmas.Option.{slice_get_read}
@@ -21,6 +21,8 @@ use Rattle.td_relvars.specs.Changed.{change, changed, changed_at, inverses, redo
 use Rattle.td_relvars.proofs.Kept.{base_has}
 use Rattle.td_relvars.proofs.Places.{change_other, change_there, ok_same}
 use Rattle.td_relvars.proofs.Stores.{bases}
+use Rattle.td_algebra.proofs.Lists.{any_in, contains_in, filter_in, in_contains}
+use Rattle.td_algebra.proofs.Runs.{same_at}
 use Rattle.td_assign.specs.declared.ran.Ran.{Ran}
 use Rattle.td_assign.proofs.Differing.{left_at}
 use Rattle.td_assign.proofs.Leading.{undone_leads_back}
@@ -37,12 +39,27 @@ use Rattle.td_story.specs.Trees.{AreBases, IsIn, tree_means}
 use Rattle.td_story.specs.declared.answer.Asked.{Asked}
 use Rattle.td_replay.specs.Noted.{IsLegalDatabase, Notes, opened_by}
 use Rattle.td_replay.specs.ForProofs.Going.{catalogue_stays, stays_sound}
-use Rattle.td_replay.specs.ForProofs.Past.{AreAt, AreCopies, FitCopies, FitsCopy, HaveCopies, IsCopyIf, Says, SaysAfter, Types, or_there, over}
+use Rattle.td_replay.specs.ForProofs.Past.{AreAt, AreCopies, FitCopies, FitsCopy, HaveCopies, IsCopyIf, Says, SaysAfter, Types, is_changed, is_changed_in, or_there, over}
 use Rattle.td_replay.specs.ForProofs.Told.{IsLogged, Log, outcomes_of}
 use Rattle.td_replay.proofs.Telling.{logged_story, outcomes_alone}
 
 nowhere : {P : Type 0} (r : RowsData) → at_place None ≡ Ok r → P
 nowhere r h = cc
+
+neither_true : (a b : Bool) → (a || b) ≡ false → (a ≡ false) × (b ≡ false)
+neither_true false b h = (refl, h)
+neither_true true b h = absurd (true≢false h)
+
+either_way : (b : Bool) → (b ≡ true) ⊎ (b ≡ false)
+either_way true = inl refl
+either_way false = inr refl
+
+-- no change of what is at the place
+unlisted : (ds : Changes) (n : ℕ) → is_changed ds n ≡ false → (d : DeltaData) → Contains ds (n, d) → ⊥
+unlisted ds n never d there = true≢false (sym (any_in (λ (p : ℕ × DeltaData). p.0 == n) ds (n, d) (contains_in ds (n, d) there) (eq-eqb n n refl)) ∙ never)
+
+apart : {P : Type 0} (r : RowsData) (e : Stop) → Ok r ≡ Err e → P
+apart r e h = cc
 
 placed : (o : Option RowsData) (r : RowsData) → at_place (Some o) ≡ Ok r → o ≡ Some r
 placed None r h = cc
@@ -200,7 +217,7 @@ have_redone c places [] copies have = have
 have_redone c places (p ∷ ds) copies have = have_redone c places ds (change p.0 p.1 copies) (have_changed c places p.0 p.1 copies have)
 
 -- ---- one statement less
-module _ (o : DatabaseData) (good : IsLegalDatabase o) (es : List Entry) (log : Log) (places : List ℕ) (i : ℕ) (copies : Stored) (each : length es ≡ length log) (within : i < length log) (p : Stamp × Ran) (x : Entry) (at : AreAt o es log places (i + 1) copies) where
+module _ (o : DatabaseData) (good : IsLegalDatabase o) (es : List Entry) (log : Log) (places : List ℕ) (i : ℕ) (copies : Stored) (each : length es ≡ length log) (within : i < length log) (p : Stamp × Ran) (x : Entry) (now : DatabaseData) (at : AreAt o now es log places (i + 1) copies) where
   abbrev e : Entry
   e = get_or es i x
 
@@ -224,7 +241,10 @@ module _ (o : DatabaseData) (good : IsLegalDatabase o) (es : List Entry) (log : 
       let same : r ≡ differs.after = ok_same r differs.after (sym (at.copied y.0 r h) ∙ differs.is) in
       differs.difference.inserted.heading ∙ differs.one_heading ∙ sym (ap (λ (z : RowsData). z.heading) same)
 
-  pub one_less : (new : Stored) → new ≡ undone q.1.delta.items copies → AreAt o es log places i new
+  here : drop i log ≡ q ∷ drop (i + 1) log
+  here = left_at log i q within (same_at log i p q within)
+
+  pub one_less : (new : Stored) → new ≡ undone q.1.delta.items copies → AreAt o now es log places i new
   one_less new is =
       let back = undone_leads_back off.state at.state q.1.delta.items before_sound.0 after_sound.0 (catalogue_stays off.state at.state e q.1 before_sound off.step) off.step.delta in
       record {
@@ -232,6 +252,9 @@ module _ (o : DatabaseData) (good : IsLegalDatabase o) (es : List Entry) (log : 
         story = off.story;
         copied = subst (λ (z : Stored). AreCopies z off.state.stored) (sym is) (subst (AreCopies (undone q.1.delta.items copies)) back (copies_redone (inverses q.1.delta.items) copies at.state.stored at.copied));
         all = subst (HaveCopies o.catalogue places) (sym is) (have_redone o.catalogue places (inverses q.1.delta.items) copies at.all);
+        others = λ m never.
+            let neither = neither_true (is_changed q.1.delta.items m) (is_changed_in (drop (i + 1) log) m) (sym (ap (λ (ps : Log). is_changed_in ps m) here) ∙ never) in
+            at.others m neither.1 ∙ off.step.delta.all m (unlisted q.1.delta.items m neither.0);
       }
 
 -- ---- what is seen over the copies
@@ -246,12 +269,15 @@ module _ (d : DatabaseData) (is : IsDatabase d) (state : DatabaseData) (was : Is
       by (Ok r) h = subst (GivesRelation d.catalogue.schema v.value) (are n r h) (were n v base there)
       by (Err e) h = bases d is n v base there
 
-  module _ (x : Expression) (t : IsTree d.catalogue no_tuple x.tree x.kind) (under_reads : (n : ℕ) → ReadsRelvar d.catalogue.origins x.tree n → Contains (reads x) n) (have : HaveCopies d.catalogue (reads x) copies) where
-    agree : (n : ℕ) → ReadsRelvar d.catalogue.origins x.tree n → over copies (stored_relvars d.stored) n ≡ stored_relvars state.stored n
-    agree n h =
-        let had = have n (under_reads n h) h.1 in
-        ap (λ (m : Result RowsData Stop). or_there m (stored_relvars d.stored n)) had.1 ∙ sym (are n had.0 had.1)
+  -- a relvar that has a copy, or needs none
+  pub sees : (n : ℕ) → (((r : RowsData) → stored_relvars copies n ≡ Ok r → ⊥) → stored_relvars d.stored n ≡ stored_relvars state.stored n) → over copies (stored_relvars d.stored) n ≡ stored_relvars state.stored n
+  sees n otherwise = by (stored_relvars copies n) refl
+    where
+      by : (m : Result RowsData Stop) → stored_relvars copies n ≡ m → or_there m (stored_relvars d.stored n) ≡ stored_relvars state.stored n
+      by (Ok r) h = sym (are n r h)
+      by (Err e) h = otherwise (λ r is. apart r e (sym is ∙ h))
 
+  module _ (x : Expression) (t : IsTree d.catalogue no_tuple x.tree x.kind) (agree : (n : ℕ) → ReadsRelvar d.catalogue.origins x.tree n → over copies (stored_relvars d.stored) n ≡ stored_relvars state.stored n) where
     pub means_over : tree_means d.catalogue (over copies (stored_relvars d.stored)) x.tree no_attrs ≡ tree_means d.catalogue (stored_relvars state.stored) x.tree no_attrs
     means_over = trees_alike d.catalogue is.defined x.tree x.kind t (over copies (stored_relvars d.stored)) (stored_relvars state.stored) agree
 
@@ -280,7 +306,7 @@ module _ (script : List ℕ) (es : List Entry) (log : Log) (d : DatabaseData) (l
   pub as_many : length es ≡ length log
   as_many = sym (stories.as_many Notes origin d es log l.runs)
 
-  pub at_end : (places : List ℕ) (copies : Stored) → AreCopies copies d.stored → HaveCopies d.catalogue places copies → AreAt origin es log places (length log) copies
+  pub at_end : (places : List ℕ) (copies : Stored) → AreCopies copies d.stored → HaveCopies d.catalogue places copies → AreAt origin d es log places (length log) copies
   at_end places copies are have =
       let each = as_many in
       record {
@@ -289,9 +315,10 @@ module _ (script : List ℕ) (es : List Entry) (log : Log) (d : DatabaseData) (l
             (subst (λ (ps : Log). Story Notes origin es ps d) (sym (take_all (length log) log (omega arith))) l.runs);
         copied = are;
         all = have;
+        others = λ m never. refl;
       }
 
-  module _ (places : List ℕ) (kept : ℕ) (copies : Stored) (at : AreAt origin es log places kept copies) where
+  module _ (places : List ℕ) (kept : ℕ) (copies : Stored) (at : AreAt origin d es log places kept copies) where
     pub was_sound : IsLegalDatabase at.state
     was_sound = stories.kept Notes IsLegalDatabase (λ s t e r notes good. stays_sound s t e r good notes) origin at.state (take kept es) (take kept log) at.story l.sound
 
@@ -300,11 +327,24 @@ module _ (script : List ℕ) (es : List Entry) (log : Log) (d : DatabaseData) (l
         let P : DatabaseData → Type 0 = λ z. IsLegalDatabase z × (z.catalogue ≡ d.catalogue) in
         (stories.kept Notes P (λ s t e r notes good. (stays_sound s t e r good.0 notes, catalogue_stays s t e r good.0 notes ∙ good.1)) origin at.state (take kept es) (take kept log) at.story (l.sound, refl)).1
 
-    pub says_after : (x : Expression) (r : Asked) → IsDatabase d → (text : List ℕ) (t : Types d.catalogue text x) → places ≡ reads x → Says d.catalogue (over copies (stored_relvars d.stored)) x r → SaysAfter script es kept x r
+    -- those that the query reads and that changed since have copies
+    abbrev AreRead : Expression → Type 0
+    AreRead x = places ≡ filter (is_changed_in (drop kept log)) (reads x)
+
+    at_place_of : (x : Expression) → AreRead x → (n : ℕ) → Contains (reads x) n → is_changed_in (drop kept log) n ≡ true → Contains places n
+    at_place_of x read n there changed =
+        subst (λ (ns : List ℕ). Contains ns n) (sym read)
+        (in_contains (filter (is_changed_in (drop kept log)) (reads x)) n (filter_in (is_changed_in (drop kept log)) (reads x) n (contains_in (reads x) n there) changed))
+
+    pub says_after : (x : Expression) (r : Asked) → IsDatabase d → (text : List ℕ) (t : Types d.catalogue text x) → AreRead x → Says d.catalogue (over copies (stored_relvars d.stored)) x r → SaysAfter script es kept x r
     says_after x r is text t read says =
-        let have = subst (λ (ns : List ℕ). HaveCopies d.catalogue ns copies) read at.all in
         let those = reads_those d.catalogue (all_typed d.catalogue is.defined) x t.types.under in
-        let alike = means_over d is at.state was_sound.0 was_of copies at.copied x (query_tree d.catalogue text x t) (λ n h. (those.members n).1 h) have in
+        let agree = λ (n : ℕ) (h : ReadsRelvar d.catalogue.origins x.tree n). sees d is at.state was_sound.0 was_of copies at.copied n
+        (λ none. ⊎_elim
+        (λ changed. let had = at.all n (at_place_of x read n ((those.members n).1 h) changed) h.1 in absurd (none had.0 had.1))
+        (λ never. at.others n never)
+        (either_way (is_changed_in (drop kept log) n))) in
+        let alike = means_over d is at.state was_sound.0 was_of copies at.copied x (query_tree d.catalogue text x t) agree in
         let there = alike ∙ ap (λ (c : CatalogueData). tree_means c (stored_relvars at.state.stored) x.tree no_attrs) (sym was_of) in
         record {
           state = at.state;
@@ -313,6 +353,6 @@ module _ (script : List ℕ) (es : List Entry) (log : Log) (d : DatabaseData) (l
           says = subst (SaysValue r) there says;
         }
 
-    pub says_back : {E : Type 0} (x : Expression) (r : Result Asked E) → IsDatabase d → (text : List ℕ) (t : Types d.catalogue text x) → places ≡ reads x → IfOk r (Says d.catalogue (over copies (stored_relvars d.stored)) x) → IfOk r (SaysAfter script es kept x)
+    pub says_back : {E : Type 0} (x : Expression) (r : Result Asked E) → IsDatabase d → (text : List ℕ) (t : Types d.catalogue text x) → AreRead x → IfOk r (Says d.catalogue (over copies (stored_relvars d.stored)) x) → IfOk r (SaysAfter script es kept x)
     says_back x (Ok r) is text t read says = says_after x r is text t read says
     says_back x (Err e) is text t read says = tt

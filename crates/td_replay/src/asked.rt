@@ -8,7 +8,7 @@ ghost use Rattle.td_replay.specs.ForProofs.Asked.{Answers, TellsNamed};
 ghost use Rattle.td_replay.specs.ForProofs.Past.{Says, SaysAfter, TellsQuery, Types};
 ghost use Rattle.td_replay.specs.ForProofs.Told.{IsLogged, Log};
 
-use crate::past::{Past, copied, undo_behind};
+use crate::past::{Past, changed_in, copied, undo_behind};
 use crate::told::{Told, tell_all};
 use std::alloc::{AllocError, Global};
 use td_eval::{Lookup, value};
@@ -77,7 +77,7 @@ pub(crate) fn ask(alloc: Global, database: &Database, text: &str) -> Result<Aske
 }
 
 /// What the query means over the relvars that the first entries leave: what they have, with what came later taken back
-/// in copies of those that the query reads. It runs nothing.
+/// in copies of those that the query reads and that changed since. It runs nothing.
 pub(crate) fn ask_back(
     alloc: Global,
     told: &Told,
@@ -89,9 +89,11 @@ pub(crate) fn ask_back(
     ensures { (script : List ℕ) (es : List entry.Entry) → IsLogged script es told.now.log.items told.now.engine → kept ≤ length es → IfOk result (SaysAfter script es kept query.now) }
 {
     let database = told.engine.database();
-    let places = reads(alloc, query)?;
+    let relvars = reads(alloc, query)?;
+    let (_, behind) = told.log.split_at(kept);
+    let places = changed_in(alloc, behind, &relvars)?;
     let mut copies = copied(alloc, database, &places)?;
-    undo_behind(alloc, &mut copies, &told.log, kept)?;
+    undo_behind(alloc, database, &mut copies, &told.log, kept)?;
     let past = Past {
         database,
         copies: &copies,

@@ -1,6 +1,7 @@
 //! What base relvars had just after an earlier entry.
 
 ghost use Rattle.std.specs.Prelude.{◌≡◌, ◌≤◌, ℕ, List, IfOk, OnOk, length};
+ghost use Rattle.std.specs.List.{filter};
 ghost use Rattle.td_relations.specs.Deltas.{inverse_of};
 ghost use Rattle.td_relvars.specs.Changed.{change, undone};
 ghost use Rattle.td_stamps.specs.declared.entry.Entry.{Entry};
@@ -14,7 +15,7 @@ use td_algebra::{KeyIndex, Stop};
 use td_assign::Ran;
 use td_eval::Lookup;
 use td_relations::{Delta, Relation};
-use td_relvars::Database;
+use td_relvars::{Base, Database};
 use td_stamps::Stamp;
 
 /// The relvars of a database, but some by copies of what they had before.
@@ -22,7 +23,7 @@ use td_stamps::Stamp;
 pub(crate) struct Past<'a> {
     pub database: &'a Database,
     /// By their places; none of a relvar that is seen as it is.
-    pub copies: &'a [Option<Relation>],
+    pub copies: &'a [Option<Base>],
 }
 
 impl Lookup for Past<'_> {
@@ -30,18 +31,49 @@ impl Lookup for Past<'_> {
 
     fn lent(&self, relvar: usize) -> Result<&Relation, Stop> {
         match self.copies.get(relvar) {
-            Some(Some(relation)) => Ok(relation),
+            Some(Some(copy)) => Ok(copy.relation()),
             _ => self.database.lent(relvar),
         }
     }
 
     fn indexes(&self, relvar: usize) -> &[KeyIndex] {
         match self.copies.get(relvar) {
-            Some(Some(_)) => &[],
+            Some(Some(copy)) => copy.indexes(),
             Some(None) => self.database.indexes(relvar),
             None => self.database.indexes(relvar),
         }
     }
+}
+
+// Whether the changes have one of what is at the place.
+fn is_changed(delta: &[(usize, Delta)], relvar: usize) -> bool
+    ensures { result ≡ spec.is_changed delta.now relvar }
+{
+    delta.iter().any(|change| change.0 == relvar)
+}
+
+// Whether one of the statements changed it.
+fn is_changed_in(log: &[(Stamp, Ran)], relvar: usize) -> bool
+    ensures { result ≡ spec.is_changed_in log.now relvar }
+{
+    log.iter().any(|record| is_changed(&record.1.delta, relvar))
+}
+
+/// Those of these relvars that one of the statements changed. It costs a look at their changes for each relvar.
+pub(crate) fn changed_in(
+    alloc: Global,
+    log: &[(Stamp, Ran)],
+    relvars: &[usize],
+) -> Result<Vec<usize>, AllocError>
+    ensures { IfOk result (λ v. v.items ≡ filter (spec.is_changed_in log.now) relvars.now) }
+{
+    let mut changed = Vec::new(alloc);
+    for relvar in relvars {
+        if is_changed_in(log, *relvar) {
+            changed.push(*relvar)?;
+        }
+    }
+    Ok(changed)
 }
 
 // A copy of what the base relvar at the place has, whose tuples are shared, if it is listed.
@@ -50,24 +82,25 @@ fn copy_if(
     database: &Database,
     places: &[usize],
     place: usize,
-) -> Result<Option<Relation>, AllocError>
+) -> Result<Option<Base>, AllocError>
     ensures { IfOk result (IsCopyIf places.now database.now.stored place) }
 {
     if !places.contains(&place) {
         return Ok(None);
     }
     match database.base_at(place) {
-        Some(base) => Ok(Some(base.copy_relation(alloc)?)),
+        Some(base) => Ok(Some(base.copy_with_keys(alloc)?)),
         None => Ok(None),
     }
 }
 
-/// A copy of each of these base relvars, by its place. It costs their sizes.
+/// A copy of each of these base relvars, by its place. It costs their sizes, once more for each key by which one of them
+/// is kept.
 pub(crate) fn copied(
     alloc: Global,
     database: &Database,
     places: &[usize],
-) -> Result<Vec<Option<Relation>>, AllocError>
+) -> Result<Vec<Option<Base>>, AllocError>
     ensures copied { IfOk result (λ v. AreCopies v.items database.now.stored) }
     ensures all { IfOk result (λ v. HaveCopies database.now.catalogue places.now v.items) }
 {
@@ -82,7 +115,8 @@ pub(crate) fn copied(
 // Takes the change of a relvar back in its copy, if there is one.
 fn change_back(
     alloc: Global,
-    copies: &mut Vec<Option<Relation>>,
+    database: &Database,
+    copies: &mut Vec<Option<Base>>,
     relvar: usize,
     delta: &Delta,
 ) -> Result<(), AllocError>
@@ -93,7 +127,7 @@ fn change_back(
         return Ok(());
     }
     match &mut copies[relvar] {
-        Some(relation) => delta.undo(alloc, relation),
+        Some(copy) => database.change_back_copy(alloc, relvar, copy, delta),
         None => Ok(()),
     }
 }
@@ -101,14 +135,15 @@ fn change_back(
 // Takes the changes of one statement back.
 fn undo(
     alloc: Global,
-    copies: &mut Vec<Option<Relation>>,
+    database: &Database,
+    copies: &mut Vec<Option<Base>>,
     delta: &[(usize, Delta)],
 ) -> Result<(), AllocError>
     requires { FitCopies copies.old.items delta.now }
     ensures { OnOk result (copies.new.items ≡ undone delta.now copies.old.items) }
 {
     for (relvar, made) in delta {
-        change_back(alloc, copies, *relvar, made)?;
+        change_back(alloc, database, copies, *relvar, made)?;
     }
     Ok(())
 }
@@ -117,18 +152,19 @@ fn undo(
 /// and a look at those of others.
 pub(crate) fn undo_behind(
     alloc: Global,
-    copies: &mut Vec<Option<Relation>>,
+    database: &Database,
+    copies: &mut Vec<Option<Base>>,
     log: &[(Stamp, Ran)],
     kept: usize,
 ) -> Result<(), AllocError>
     requires kept { kept ≤ length log.now }
-    requires now { (o : DatabaseData) × (es : List Entry) × (places : List ℕ) × IsLegalDatabase o × (length es ≡ length log.now) × AreAt o es log.now places (length log.now) copies.old.items }
-    ensures { (o : DatabaseData) (es : List Entry) (places : List ℕ) → IsLegalDatabase o → length es ≡ length log.now → AreAt o es log.now places (length log.now) copies.old.items → OnOk result (AreAt o es log.now places kept copies.new.items) }
+    requires now { (o d : DatabaseData) × (es : List Entry) × (places : List ℕ) × IsLegalDatabase o × (length es ≡ length log.now) × AreAt o d es log.now places (length log.now) copies.old.items }
+    ensures { (o d : DatabaseData) (es : List Entry) (places : List ℕ) → IsLegalDatabase o → length es ≡ length log.now → AreAt o d es log.now places (length log.now) copies.old.items → OnOk result (AreAt o d es log.now places kept copies.new.items) }
 {
     let mut left = log.len();
     while left > kept {
         left -= 1;
-        undo(alloc, copies, &log[left].1.delta)?;
+        undo(alloc, database, copies, &log[left].1.delta)?;
     }
     Ok(())
 }

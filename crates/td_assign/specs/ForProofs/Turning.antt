@@ -21,7 +21,7 @@ use Rattle.td_story.specs.declared.failure.Failure.{Failure}
 use Rattle.td_story.specs.declared.outcome.Outcome.{Outcome}
 use Rattle.td_story.specs.declared.outcome.Outcome.TheVariants.{Done}
 use Rattle.td_relvars.specs.Changed.{CanChange, change, changed, with_change}
-use Rattle.td_relvars.specs.Parts.{put_part}
+use Rattle.td_relvars.specs.Ways.{CanGoBack, WayBackData}
 use Rattle.td_assign.specs.ForProofs.Given.{Stands, assigned_by}
 
 -- the relvar has a relation, of whose heading the tuples are
@@ -115,9 +115,7 @@ IsTried d changes (Ok None) e = (n : ℕ) × (x : DeltaData) × (changes ≡ (n,
 IsTried d changes (Ok (Some f)) e = (n : ℕ) × (x : DeltaData) × (changes ≡ (n, x) ∷ []) × IsReport d.catalogue (failing_turned d n x) (Some f) × (e ≡ d)
 IsTried d changes (Err f) e = e ≡ d
 
--- the change led from d to e, and back; so does what was copied of d
-pub record CameFrom (d : DatabaseData) (p : ℕ × DeltaData) (part : List (ℕ × RowsData)) (e : DatabaseData) : Type 0 where
-  pub can_back : CanChange e p.0 (inverse_of p.1)
+-- the change led from d to e, and back; by the way too
+pub record CameFrom (d : DatabaseData) (p : ℕ × DeltaData) (way : WayBackData) (e : DatabaseData) : Type 0 where
+  pub can_go : CanGoBack e p.0 p.1 way
   pub back : with_change p.0 (inverse_of p.1) e ≡ d
-  pub fits : All (λ (q : ℕ × RowsData). Belongs e.catalogue q.0 q.1) part
-  pub restored : record e { stored = put_part part e.stored } ≡ d

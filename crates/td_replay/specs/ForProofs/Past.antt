@@ -1,6 +1,6 @@
 -- Copies of what some base relvars have, while changes are taken back in them.
-use Rattle.std.specs.Prelude.{◌≡◌, ◌≤◌, ◌+◌, ℕ, true, List, length, take, Option, Some, Result, Ok, Err, slice_get}
-use Rattle.std.specs.List.{Contains}
+use Rattle.std.specs.Prelude.{◌≡◌, ◌==◌, ◌≤◌, ◌+◌, ℕ, Bool, true, false, List, drop, length, take, Option, Some, Result, Ok, Err, slice_get}
+use Rattle.std.specs.List.{Contains, list_any}
 use Rattle.td_values.specs.Data.{no_attrs}
 use Rattle.td_values.specs.Rows.{RowsData}
 use Rattle.td_relations.specs.Deltas.{DeltaData}
@@ -11,6 +11,7 @@ use Rattle.td_headings.specs.Catalogues.{CatalogueData}
 use Rattle.td_headings.specs.Expressions.{IsExpression, no_tuple}
 use Rattle.td_headings.specs.Reached.{is_base}
 use Rattle.td_algebra.specs.declared.errors.Stop.{Stop}
+use Rattle.td_assign.specs.declared.ran.Ran.{Ran}
 use Rattle.td_meaning.specs.Mean.{Relvars}
 use Rattle.td_stamps.specs.declared.entry.Entry.{Entry}
 use Rattle.td_stamps.specs.Entries.{stamp_of}
@@ -58,12 +59,22 @@ FitsCopy copies p = (r : RowsData) → stored_relvars copies p.0 ≡ Ok r → p.
 abbrev pub FitCopies : Stored → List (ℕ × DeltaData) → Type 0
 FitCopies copies ds = (p : ℕ × DeltaData) → Contains ds p → FitsCopy copies p
 
--- the copies of these relvars are of what they had at the end of the first entries
-pub record AreAt (o : DatabaseData) (es : List Entry) (log : Log) (places : List ℕ) (n : ℕ) (copies : Stored) : Type 0 where
+-- the changes have one of what is at the place
+abbrev pub is_changed : List (ℕ × DeltaData) → ℕ → Bool
+is_changed ds n = list_any (λ (p : ℕ × DeltaData). p.0 == n) ds
+
+-- one of the statements changed it
+abbrev pub is_changed_in : Log → ℕ → Bool
+is_changed_in log n = list_any (λ (p : Stamp × Ran). is_changed p.1.delta.items n) log
+
+-- the copies of these relvars are of what they had at the end of the first n entries; what the others did not change is
+-- as it is now
+pub record AreAt (o now : DatabaseData) (es : List Entry) (log : Log) (places : List ℕ) (n : ℕ) (copies : Stored) : Type 0 where
   pub state : DatabaseData
   pub story : Story Notes o (take n es) (take n log) state
   pub copied : AreCopies copies state.stored
   pub all : HaveCopies o.catalogue places copies
+  pub others : (m : ℕ) → is_changed_in (drop n log) m ≡ false → stored_relvars now.stored m ≡ stored_relvars state.stored m
 
 -- the text is this query
 pub record Types (c : CatalogueData) (text : List ℕ) (x : Expression) : Type 0 where

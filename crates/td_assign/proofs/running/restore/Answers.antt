@@ -1,8 +1,10 @@
-use Rattle.std.proofs.Common.{ℕ, sym, subst}
-use Rattle.std.specs.List.{All}
-use Rattle.td_values.specs.Rows.{RowsData}
-use Rattle.td_story.specs.Databases.{Belongs, DatabaseData}
+use Rattle.std.proofs.Common.{sym, subst}
+use Rattle.td_story.specs.Databases.{DatabaseData}
+use Rattle.td_relvars.specs.Ways.{CanGoBack}
 use Rattle.td_assign.proofs.running.restore.Goals as goal
 
-pub put_back-requires : goal.put_back-requires
-put_back-requires c = subst (λ (e : DatabaseData). All (λ (q : ℕ × RowsData). Belongs e.catalogue q.0 q.1) c.args.part) (sym c.in-Err.ensures.err) c.requires.1.fits
+pub change_back-requires : goal.change_back-requires
+change_back-requires c = c.requires.1.can_go.change
+
+pub go_back-requires : goal.go_back-requires
+go_back-requires c = subst (λ (e : DatabaseData). CanGoBack e c.args.change.now.0 c.args.change.now.1 c.args.way) (sym c.in-Err.ensures.err) c.requires.1.can_go

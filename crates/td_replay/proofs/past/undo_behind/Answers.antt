@@ -10,7 +10,7 @@ nobody : Entry
 nobody = record { site = 0; seq = 0; clock = 0; dialect = 0; text = [] }
 
 pub loop-left-init : goal.loop-left-init
-loop-left-init c = record { within = omega arith; kept = c.requires.kept; at = λ o es places good each at. at }
+loop-left-init c = record { within = omega arith; kept = c.requires.kept; at = λ o d es places good each at. at }
 
 pub undo-requires : goal.undo-requires
 undo-requires c =
@@ -21,8 +21,8 @@ undo-requires c =
     let more = c.loop-left-test.true in
     let within = l.invariant.within in
     let next : l.left ≡ i + 1 = omega (arith, more) in
-    let at = subst (λ (n : ℕ). AreAt q.0 q.1 log q.2 n l.copies.items) next (l.invariant.at q.0 q.1 q.2 q.3 q.4 q.5) in
-    subst (FitCopies l.copies.items) (sym c.deref.ensures.value) (fits_at q.0 q.3 q.1 log q.2 i l.copies.items q.4 (omega (arith, more, within)) c.index-log-left.result nobody at)
+    let at = subst (λ (n : ℕ). AreAt q.0 q.1 q.2 log q.3 n l.copies.items) next (l.invariant.at q.0 q.1 q.2 q.3 q.4 q.5 q.6) in
+    subst (FitCopies l.copies.items) (sym c.deref.ensures.value) (fits_at q.0 q.4 q.2 log q.3 i l.copies.items q.5 (omega (arith, more, within)) c.index-log-left.result nobody q.1 at)
 
 pub loop-left-preserved : goal.loop-left-preserved
 loop-left-preserved c =
@@ -38,8 +38,8 @@ loop-left-preserved c =
     record {
       within = omega (arith, within);
       kept = omega (arith, more);
-      at = λ o es places good each first.
-          let at = subst (λ (n : ℕ). AreAt o es log places n l.copies.items) next (l.invariant.at o es places good each first) in
-          let here : AreAt o es log places i new = one_less o good es log places i l.copies.items each (omega (arith, more, within)) p nobody at new is in
+      at = λ o d es places good each first.
+          let at = subst (λ (n : ℕ). AreAt o d es log places n l.copies.items) next (l.invariant.at o d es places good each first) in
+          let here : AreAt o d es log places i new = one_less o good es log places i l.copies.items each (omega (arith, more, within)) p nobody d at new is in
           here;
     }

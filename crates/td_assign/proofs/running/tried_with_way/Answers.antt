@@ -3,7 +3,10 @@ use Rattle.td_headings.specs.Catalogues.{CatalogueData}
 use Rattle.td_story.specs.Databases.{stored_relvars}
 use Rattle.td_story.specs.Stored.{AreStored}
 use Rattle.td_assign.proofs.Turning.{came_from, can_first, first_passed, tried_goes, tried_stays}
-use Rattle.td_assign.proofs.running.tried_with_copy.Goals as goal
+use Rattle.td_assign.proofs.running.tried_with_way.Goals as goal
+
+pub way_back-requires : goal.way_back-requires
+way_back-requires c = can_first c.args.database.now c.args.changes.now c.relvars_fit.ensures c.requires.one c.index-changes-0.result c.index-changes-0.is
 
 pub change-requires : goal.change-requires
 change-requires c = can_first c.args.database.now c.args.changes.now c.relvars_fit.ensures c.requires.one c.index-changes-0.result c.index-changes-0.is
@@ -21,13 +24,13 @@ first_failure_after-requires-clause-before c =
 pub restore-requires : goal.restore-requires
 restore-requires c = (
   c.args.database.now,
-  came_from c.args.database.now c.args.changes.now c.relvars_fit.ensures c.requires.one c.index-changes-0.result c.index-changes-0.is c.change.new.self c.in_ok-change.ensures.ok c.in_ok-part.part c.in_ok-part.ensures,
+  came_from c.args.database.now c.args.changes.now c.relvars_fit.ensures c.requires.one c.index-changes-0.result c.index-changes-0.is c.change.new.self c.in_ok-change.ensures.ok c.in_ok-way.way c.in_ok-way.ensures,
 )
 
 pub restore-requires-in-Err : goal.restore-requires-in-Err
 restore-requires-in-Err c = (
   c.args.database.now,
-  came_from c.args.database.now c.args.changes.now c.relvars_fit.ensures c.requires.one c.index-changes-0.result c.index-changes-0.is c.change.new.self c.in_ok-change.ensures.ok c.in_ok-part.part c.in_ok-part.ensures,
+  came_from c.args.database.now c.args.changes.now c.relvars_fit.ensures c.requires.one c.index-changes-0.result c.index-changes-0.is c.change.new.self c.in_ok-change.ensures.ok c.in_ok-way.way c.in_ok-way.ensures,
 )
 
 pub returns-in-Ok-None : goal.returns-in-Ok-None
@@ -41,11 +44,11 @@ returns-in-Ok-Some c =
     tried_goes d c.args.changes.now c.relvars_fit.ensures c.requires.one c.index-changes-0.result c.index-changes-0.is c.change.new.self c.in_ok-change.ensures.ok
     (Unit {0}) c.catalogue.result.now c.in-Ok-Some.field-0 c.in-Ok-Some.failure c.restore.new.database c.catalogue.ensures.same c.in-Ok-Some.field-0-is
     (c.restore.ensures d
-    (came_from d c.args.changes.now c.relvars_fit.ensures c.requires.one c.index-changes-0.result c.index-changes-0.is c.change.new.self c.in_ok-change.ensures.ok c.in_ok-part.part c.in_ok-part.ensures))
+    (came_from d c.args.changes.now c.relvars_fit.ensures c.requires.one c.index-changes-0.result c.index-changes-0.is c.change.new.self c.in_ok-change.ensures.ok c.in_ok-way.way c.in_ok-way.ensures))
     c.in-Ok-Some.ensures
 
 pub returns-in-Err : goal.returns-in-Err
 returns-in-Err c =
     let d = c.args.database.now in
     c.restore-in-Err.ensures d
-    (came_from d c.args.changes.now c.relvars_fit.ensures c.requires.one c.index-changes-0.result c.index-changes-0.is c.change.new.self c.in_ok-change.ensures.ok c.in_ok-part.part c.in_ok-part.ensures)
+    (came_from d c.args.changes.now c.relvars_fit.ensures c.requires.one c.index-changes-0.result c.index-changes-0.is c.change.new.self c.in_ok-change.ensures.ok c.in_ok-way.way c.in_ok-way.ensures)

@@ -1,0 +1,16 @@
+use Rattle.std.proofs.Common.{Ok, sym, subst, ◌∙◌}
+use Rattle.td_values.specs.Rows.{RowsData}
+use Rattle.td_relations.specs.Deltas.{IsApplied, applied, inverse_of}
+use Rattle.td_relations.specs.Sets.{body}
+use Rattle.td_relations.proofs.Members.{relation_of_is}
+use Rattle.td_relvars.proofs.Places.{is_changed}
+use Rattle.td_relvars.proofs.base.Base.go_back.Goals as goal
+
+pub go_back-requires-clause-way : goal.go_back-requires-clause-way
+go_back-requires-clause-way c =
+    let k = c.requires.way in
+    let x = c.args.delta.now in
+    (k.0, k.1, subst (λ (q : RowsData). IsApplied k.0 x q) (sym (c.self.view_is ∙ k.2)) (relation_of_is k.0.heading (applied (body k.0) x)))
+
+pub returns : goal.returns
+returns c = is_changed {E = Unit {0}} (Ok tt) c.self.inside.relation c.args.self.now c.go_back.new.relation (inverse_of c.args.delta.now) c.self.view_is c.go_back.ensures.back
