@@ -1,15 +1,23 @@
 -- What becomes of a constraint that was true before changes.
-use Rattle.std.proofs.Common.{◌≡◌, ℕ, inl, inr, Bool, true, false, [], ◌∷◌, Option, None, Some, MatchOption, Ok, slice_get, refl, sym, ap, ◌∙◌, subst, true≢false}
+use Rattle.std.proofs.Common.{◌≡◌, ⊎_elim, ℕ, List, length, inl, inr, Bool, true, false, [], ◌∷◌, Option, None, Some, MatchOption, Ok, slice_get, refl, sym, ap, ◌∙◌, subst, true≢false}
 use Rattle.std.specs.Borrow.{Bor}
-use Rattle.std.specs.List.{list_any}
+use Rattle.std.specs.List.{All, Contains, filter, list_any}
 use Rattle.std.specs.FinSet as set
 use Rattle.td_values.specs.Data.{Attrs}
+use Rattle.td_values.specs.Headings.{Header}
 use Rattle.td_values.specs.Order.{attrs_order}
+use Rattle.td_values.specs.Proving.Total.{attrs_tied}
+use Rattle.td_values.proofs.Walks.{is_tied}
 use Rattle.td_values.specs.Rows.{RowsData}
+use Rattle.td_tuples.specs.Parts.{cut, names_of}
 use Rattle.td_relations.specs.Deltas.{DeltaData}
 use Rattle.td_relations.specs.Sets.{Has, body}
 use Rattle.td_trees.specs.declared.expression.Expression.{Expression}
-use Rattle.td_algebra.proofs.Lists.{contains_in, in_contains}
+use Rattle.td_algebra.proofs.Lists.{In, all_in, contains_in, in_contains, in_filter}
+use Rattle.td_algebra.proofs.Made.{has_in}
+use Rattle.td_algebra.proofs.Pairs.{entry_of}
+use Rattle.td_algebra.specs.KeyIndexes.{IsKeyIndex, KeyIndexData}
+use Rattle.td_algebra.specs.Keys.{shares_part}
 use Rattle.td_headings.specs.Catalogues.{CatalogueData}
 use Rattle.td_headings.specs.Definitions.{Defined}
 use Rattle.td_headings.specs.Expressions.{reads}
@@ -17,11 +25,15 @@ use Rattle.td_headings.specs.Reached.{is_base}
 use Rattle.td_meaning.specs.Mean.{Relvars}
 use Rattle.td_growth.specs.Growth.{AgreeBeside, Gains, IsWatched}
 use Rattle.td_growth.specs.Safety.{IsSafe}
-use Rattle.td_growth.proofs.Narrowing.{differences_are_gains, growth_keeps_safe, losses_keep_watched, narrowed_is_stored, watched_by_inserts}
+use Rattle.td_growth.proofs.KeptParts.{kept_parts_keep_references}
+use Rattle.td_growth.proofs.Narrowing.{differences_are_gains, growth_keeps_safe, losses_keep_watched, narrowed_is_stored, not_lost, ok_same, watched_by_inserts}
+use Rattle.td_growth.specs.References.{KeepsParts, Refers}
 use Rattle.td_story.specs.Differences.{AreDifferences, Differs}
+use Rattle.td_story.specs.Stored.{AreStored}
 use Rattle.td_story.specs.Trees.{IsIn}
 use Rattle.td_constraints.specs.ForProofs.Changed.{Changes, ConstraintBefore, is_changed}
 use Rattle.td_constraints.specs.ForProofs.Gaining.{AreWays, IsNarrowed, IsWay, truth_over}
+use Rattle.td_constraints.specs.ForProofs.Leaving.{HasPartIn, LeavesParts}
 use Rattle.td_constraints.specs.declared.ways.Way.{Way}
 use Rattle.td_constraints.specs.declared.ways.Way.TheVariants.{Stays, Over, Whole}
 use Rattle.td_constraints.proofs.After.{still_true, untouched}
@@ -45,11 +57,11 @@ module _ (c : CatalogueData) (x : Expression) (n : ℕ) (d : DeltaData) (base : 
     gains = differences_are_gains.gains before now n d differs
 
   pub safe_stays : (r : RowsData) → r ≡ d.deleted → body r ≡ set.empty → IsSafe c n x.tree → IsWay c x one Stays
-  safe_stays r is none safe before now a held =
+  safe_stays r is none safe before now stored a held =
       growth_keeps_safe c before now n [] x.tree base (beside before now a) (differences_are_gains.grows before now n d (differs before now a) (empty_has d.deleted (ap body (sym is) ∙ none))) safe held
 
   pub watched_stays : (r : RowsData) → r ≡ d.inserted → body r ≡ set.empty → IsWatched c n x.tree → IsWay c x one Stays
-  watched_stays r is none watched before now a held =
+  watched_stays r is none watched before now stored a held =
       losses_keep_watched c before now n [] x.tree base (beside before now a) (differences_are_gains.shrinks before now n d (differs before now a) (empty_has d.inserted (ap body (sym is) ∙ none))) watched held
 
   pub watched_over : (i : Bor RowsData) → i.now ≡ d.inserted → IsWatched c n x.tree → IsWay c x one (Over n i)
@@ -60,9 +72,43 @@ module _ (c : CatalogueData) (x : Expression) (n : ℕ) (d : DeltaData) (base : 
         stored = λ stored. narrowed_is_stored c before now n d.inserted stored (gains before now a);
       })
 
+  -- what is taken out leaves its parts
+  kept_parts : (names : List (List ℕ)) → LeavesParts names d → (before now : Relvars) → AreDifferences before now one → KeepsParts before now n names
+  kept_parts names leaves before now a =
+      let differ = differs before now a in
+      let gained = gains before now a in
+      record {
+        before = differ.before;
+        after = differ.after;
+        was = differ.was;
+        is = differ.is;
+        one_heading = differ.one_heading;
+        kept = λ t has. ⊎_elim
+            (λ there. (t, there, refl))
+            (λ lost. let left = leaves t lost in (left.0, subst (λ (r : RowsData). Has r left.0) (ok_same gained.after differ.after (sym gained.is ∙ differ.is)) (gained.new left.0 left.1), left.2))
+            (not_lost differ.before.heading differ.before differ.after d.deleted differ.difference.deleted t has);
+      }
+
+  pub reference_stays : (h : Header) → Refers c n h x.tree → LeavesParts (names_of h) d → IsWay c x one Stays
+  reference_stays h refers leaves before now stored a held =
+      kept_parts_keep_references c before now n h [] x.tree base (beside before now a) stored (kept_parts (names_of h) leaves before now a) refers held
+
+-- ---- what an index finds
+pub some_found : (p : Attrs → Bool) (xs ys : List Attrs) → ys ≡ filter p xs → (length ys ≡ 0 → ⊥) → (u : Attrs) × Contains xs u × (p u ≡ true)
+some_found p xs [] is some = absurd (some refl)
+some_found p xs (u ∷ us) is some = let k = in_filter p xs u (subst (In u) is (inl refl)) in (u, in_contains xs u k.0, k.1)
+
+pub shared_part : (names : List (List ℕ)) (t u : Attrs) → shares_part names t u ≡ true → cut names u ≡ cut names t
+shared_part names t u e = attrs_tied (cut names u) (cut names t) (is_tied (attrs_order (cut names u) (cut names t)) e)
+
+pub leaves : (names : List (List ℕ)) (d : DeltaData) (x : KeyIndexData) → IsKeyIndex names d.inserted x → (ts : List Attrs) → ts ≡ d.deleted.tuples → All (HasPartIn x) ts → LeavesParts names d
+leaves names d x is ts same found t has =
+    let one = all_in (HasPartIn x) ts found t (subst (In t) (sym same) (has_in d.deleted t has)) in
+    (one.0, entry_of d.inserted x.tuples is.tuples one.0 (contains_in x.tuples one.0 one.1), shared_part names t one.0 (subst (λ (ns : List (List ℕ)). shares_part ns t one.0 ≡ true) is.key one.2))
+
 -- ---- after any
 pub untouched_stays : (c : CatalogueData) (x : Expression) (changes : Changes) (b : Bool) → Defined c → IsIn c x → b ≡ list_any (is_changed changes) (reads x) → b ≡ false → IsWay c x changes Stays
-untouched_stays c x changes b defined is told none before now a held =
+untouched_stays c x changes b defined is told none before now stored a held =
     still_true c x now changes defined is (record { before = before; held = held; differences = a }) (untouched changes x b told none)
 
 pub known_way : (c : CatalogueData) (x : Expression) (o : Option (Bor Changes)) (cs : Bor Changes) (w : Way) → o ≡ Some cs → IsWay c x cs.now w → AreWays c x o w
@@ -76,17 +122,17 @@ module _ (c : CatalogueData) (x : Expression) (now : Relvars) where
   abbrev Known : Option (Bor Changes) → Type 0
   Known o = MatchOption o (Unit {0}) (λ cs. ConstraintBefore c now cs.now x)
 
-  stays_so : (o : Option (Bor Changes)) → AreWays c x o Stays → Known o → truth_over c x now ≡ Ok true
-  stays_so None h known = let no_way : Stays ≡ Whole = h in cc
-  stays_so (Some cs) h known = h known.before now known.differences known.held
+  stays_so : AreStored c now → (o : Option (Bor Changes)) → AreWays c x o Stays → Known o → truth_over c x now ≡ Ok true
+  stays_so stored None h known = let no_way : Stays ≡ Whole = h in cc
+  stays_so stored (Some cs) h known = h known.before now stored known.differences known.held
 
   over_so : (n : ℕ) (i : Bor RowsData) (o : Option (Bor Changes)) → AreWays c x o (Over n i) → Known o → IsNarrowed c x n i.now now
   over_so n i None h known = absurd (over_not_whole n i h)
   over_so n i (Some cs) h known = h known.before now known.differences known.held
 
   module _ (o : Option (Bor Changes)) (w : Way) (h : AreWays c x o w) (known : Known o) where
-    pub stays : w ≡ Stays → truth_over c x now ≡ Ok true
-    stays is = stays_so o (subst (AreWays c x o) is h) known
+    pub stays : AreStored c now → w ≡ Stays → truth_over c x now ≡ Ok true
+    stays stored is = stays_so stored o (subst (AreWays c x o) is h) known
 
     pub over : (n : ℕ) (i : Bor RowsData) → w ≡ Over n i → IsNarrowed c x n i.now now
     over n i is = over_so n i o (subst (AreWays c x o) is h) known

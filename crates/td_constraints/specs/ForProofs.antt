@@ -2,4 +2,5 @@
 pub mod Tested
 pub mod Changed
 pub mod Gaining
+pub mod Leaving
 pub mod Found

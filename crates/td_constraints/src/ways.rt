@@ -1,19 +1,22 @@
 //! How a constraint that was true before changes is judged after them.
 
 ghost use Rattle.std.specs.Prelude.{◌≡◌, ◌∷◌, [], true, IfOk, slice_get};
-ghost use Rattle.std.specs.List.{list_any};
+ghost use Rattle.std.specs.List.{All, list_any};
 ghost use Rattle.td_headings.specs.Reached.{is_base};
 ghost use Rattle.td_growth.specs.Growth.{narrowed};
 ghost use Rattle.td_story.specs.Trees.{IsIn};
 ghost use Rattle.td_constraints.specs.ForProofs.Changed as spec;
 ghost use Rattle.td_constraints.specs.ForProofs.Gaining.{AreWays, IsWay};
+ghost use Rattle.td_constraints.specs.ForProofs.Leaving.{HasPartIn, LeavesParts};
+ghost use Rattle.td_tuples.specs.Parts.{Fits, names_of};
 
 use std::alloc::{AllocError, Global};
 use td_algebra::{KeyIndex, Stop};
 use td_eval::Lookup;
-use td_growth::{is_safe, is_watched};
-use td_headings::{Catalogue, Origin, TypedExpr, reads};
+use td_growth::{is_base_relvar, is_safe, is_watched, referring};
+use td_headings::{Catalogue, TypedExpr, reads};
 use td_relations::{Delta, Relation};
+use td_values::{Heading, Name, Tuple};
 
 /// The relvars after changes, but of one what it gained.
 #[derive(Drop)]
@@ -66,10 +69,61 @@ fn is_any_changed(changes: &[(usize, Delta)], relvars: &[usize]) -> bool
     relvars.iter().any(|relvar| is_changed(changes, *relvar))
 }
 
-fn is_base_relvar(catalogue: &Catalogue, relvar: usize) -> bool
-    ensures { result ≡ true → is_base (slice_get catalogue.now.origins relvar) ≡ true }
+// The names of the heading, shared.
+fn names_in(alloc: Global, heading: &Heading) -> Result<Vec<Name>, AllocError>
+    ensures { IfOk result (λ v. v.items ≡ names_of heading.now) }
 {
-    matches!(catalogue.origin(relvar), Some(Origin::Base(_, _)))
+    let fields = heading.fields();
+    let mut names = Vec::with_capacity(alloc, fields.len())?;
+    for field in fields {
+        names.push(field.0.copy()?)?;
+    }
+    Ok(names)
+}
+
+// Whether each of the tuples has its part at the key in the index.
+fn have_parts(index: &KeyIndex, tuples: &[Tuple]) -> bool
+    requires { All (Fits index.now.heading) tuples.now }
+    ensures { result ≡ true → All (HasPartIn index.now) tuples.now }
+{
+    for tuple in tuples {
+        if index.with_key_of(tuple).is_empty() {
+            return false;
+        }
+    }
+    true
+}
+
+// Whether each tuple that the change takes out leaves its part at the heading's names to one that it puts in. For n and
+// m tuples it costs a sort of m and n searches.
+fn leaves_parts(alloc: Global, heading: &Heading, delta: &Delta) -> Result<bool, AllocError>
+    ensures { IfOk result (λ b. b ≡ true → LeavesParts (names_of heading.now) delta.now) }
+{
+    delta.headings_agree();
+    delta.deleted().rows_fit();
+    let names = names_in(alloc, heading)?;
+    let index = KeyIndex::new(alloc, delta.inserted(), &names)?;
+    Ok(have_parts(&index, delta.deleted().tuples()))
+}
+
+// How a reference to the relvar is judged after one change.
+fn way_of_reference<'a>(
+    alloc: Global,
+    catalogue: &Catalogue,
+    change: &'a (usize, Delta),
+    expr: &TypedExpr,
+) -> Result<Way<'a>, AllocError>
+    requires { is_base (slice_get catalogue.now.origins change.now.0) ≡ true }
+    ensures { IfOk result (IsWay catalogue.now expr.now (change.now ∷ [])) }
+{
+    let Some(heading) = referring(catalogue, expr, change.0) else {
+        return Ok(Way::Whole);
+    };
+    if leaves_parts(alloc, heading, &change.1)? {
+        Ok(Way::Stays)
+    } else {
+        Ok(Way::Whole)
+    }
 }
 
 // How it is judged after one change.
@@ -89,7 +143,7 @@ fn way_after<'a>(
         return Ok(Way::Stays);
     }
     if !is_watched(alloc, catalogue, expr, relvar)? {
-        return Ok(Way::Whole);
+        return way_of_reference(alloc, catalogue, change, expr);
     }
     if change.1.inserted().is_empty() {
         return Ok(Way::Stays);

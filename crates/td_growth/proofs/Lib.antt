@@ -13,3 +13,4 @@ pub mod Widening
 pub mod Deciding
 pub mod Judging
 pub mod Narrowing
+pub mod KeptParts

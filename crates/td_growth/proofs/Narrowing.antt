@@ -47,7 +47,7 @@ stays_as_it_is : (x : Result RowsData Stop) → Grown IsGrown x x x
 stays_as_it_is (Ok a) = record { old_heading = refl; new_heading = refl; either = λ t h. inl h; new = λ t h. h }
 stays_as_it_is (Err e) = tt
 
-ok_same : (a b : RowsData) → ◌≡◌ {A = Result RowsData Stop} (Ok a) (Ok b) → a ≡ b
+pub ok_same : (a b : RowsData) → ◌≡◌ {A = Result RowsData Stop} (Ok a) (Ok b) → a ≡ b
 ok_same a b e = cc
 
 in_range : {A : Type 0} (o : Option Origin) → is_base o ≡ true → ((x : Origin) → o ≡ Some x → A) → A
@@ -125,13 +125,13 @@ judged_by_reads c r s x u a = ap (λ (m : Meaning). and_then (m (within no_attrs
 
 -- now, but at n as it was
 module _ (old now : Relvars) (n : ℕ) where
-  abbrev before_it : Relvars
+  abbrev pub before_it : Relvars
   before_it m = if m == n then old n else now m
 
-  as_it_was : before_it n ≡ old n
+  pub as_it_was : before_it n ≡ old n
   as_it_was = ap (λ b. if b then old n else now n) (eq-eqb n n refl)
 
-  else_now : (m : ℕ) → (m ≡ n → ⊥) → now m ≡ before_it m
+  pub else_now : (m : ℕ) → (m ≡ n → ⊥) → now m ≡ before_it m
   else_now m apart = sym (ap (λ b. if b then old n else now m) (ne_eqb m n apart))
 
   as_before : (c : CatalogueData) (u : Typed) → AgreeBeside c u n old now → AgreeOn c u old before_it
@@ -141,7 +141,7 @@ module _ (old now : Relvars) (n : ℕ) where
       (λ apart. a m apart read ∙ else_now m apart)
       (cases_eq m n)
 
-  judged_before : (c : CatalogueData) (x : List ℕ) (u : Typed) → AgreeBeside c u n old now → judgement c old (test.Constraint x u) ≡ Ok true → judgement c before_it (test.Constraint x u) ≡ Ok true
+  pub judged_before : (c : CatalogueData) (x : List ℕ) (u : Typed) → AgreeBeside c u n old now → judgement c old (test.Constraint x u) ≡ Ok true → judgement c before_it (test.Constraint x u) ≡ Ok true
   judged_before c x u a e = sym (judged_by_reads c old before_it x u (as_before c u a)) ∙ e
 
 pub watched_by_inserts : WatchedByInserts
@@ -184,7 +184,7 @@ losses_keep_watched c old now n x u base a g h e =
 
 -- ---- differences
 -- what the one has and the difference has not, the other has
-not_lost : (h : Header) (r s d : RowsData) → IsRelation h (set.difference (body r) (body s)) d → (t : Attrs) → Has r t → ◌⊎◌ (Has s t) (Has d t)
+pub not_lost : (h : Header) (r s d : RowsData) → IsRelation h (set.difference (body r) (body s)) d → (t : Attrs) → Has r t → ◌⊎◌ (Has s t) (Has d t)
 not_lost h r s d is t has = by (set.contains (body s) t) refl
   where
     by : (b : Bool) → set.contains (body s) t ≡ b → ◌⊎◌ (Has s t) (Has d t)

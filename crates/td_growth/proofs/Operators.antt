@@ -25,7 +25,7 @@ use Rattle.td_algebra.proofs.Made.{has_in, in_has, made}
 use Rattle.td_growth.proofs.Answers.{Grown}
 use Rattle.td_growth.proofs.Walks.{IsGrown, IsMade, Made, Walks, all_made, walked}
 
-listed_is : (h : Header) (P : Attrs → Type 0) (xs : List Attrs) → ((t : Attrs) → In t xs → P t) → ((t : Attrs) → P t → In t xs) → IsRelationOf h P (relation_from h xs)
+pub listed_is : (h : Header) (P : Attrs → Type 0) (xs : List Attrs) → ((t : Attrs) → In t xs → P t) → ((t : Attrs) → P t → In t xs) → IsRelationOf h P (relation_from h xs)
 listed_is h P xs only all = made h h P xs (relation_from h xs) (relation_of_is h (tuple_set xs)) refl only all
 
 unless_by : {A : Type 0} (R S : Stop → Type 0) (P Q : A → Type 0) (o : Result A Stop) → ((e : Stop) → R e → S e) → ((e : Stop) → S e → R e) → ((x : A) → P x → Q x) → UnlessRaised R P o → UnlessRaised S Q o

@@ -106,7 +106,7 @@ along : {x y p q : Result Datum Stop} → x ≡ p → y ≡ q → WiderAnswer p 
 along {x} {y} {p} {q} d e h = subst (λ w. WiderAnswer w y) (sym d) (subst (λ w. WiderAnswer p w) (sym e) h)
 
 -- ---- nothing that is not matched
-nothing_left : (r q : RowsData) → ((t : Attrs) → Has q t → Has r t) → is_nothing r.tuples ≡ true → is_nothing q.tuples ≡ true
+pub nothing_left : (r q : RowsData) → ((t : Attrs) → Has q t → Has r t) → is_nothing r.tuples ≡ true → is_nothing q.tuples ≡ true
 nothing_left r q there e = by q.tuples refl
   where
     by : (ts : List Attrs) → q.tuples ≡ ts → is_nothing ts ≡ true
@@ -119,13 +119,13 @@ fewer_left a s w g t h =
     let p = (minus_is a (matching_of a w)).only t h in
     (minus_is a (matching_of a s)).all t (p.0, λ m. p.1 ((matching_it w w s g a).new t m))
 
-abbrev unmatched : Result RowsData Stop → Result RowsData Stop → Result Datum Stop
+abbrev pub unmatched : Result RowsData Stop → Result RowsData Stop → Result Datum Stop
 unmatched x y = and_then (operands.both x y) (λ (p : RowsData × RowsData). as_value (not_matching_of p.0 p.1))
 
-abbrev is_empty : Result Datum Stop → Result Bool Stop
+abbrev pub is_empty : Result Datum Stop → Result Bool Stop
 is_empty x = truth_then (and_then x (operate_on unary.IsEmpty))
 
-emptied : (r : RowsData) → is_empty (as_value r) ≡ Ok (is_nothing r.tuples)
+pub emptied : (r : RowsData) → is_empty (as_value r) ≡ Ok (is_nothing r.tuples)
 emptied r = ap (λ x. truth_then (emptiness x)) (rows_back r)
 
 still_matched : (x y z : Result RowsData Stop) → AreGrown z z y → is_empty (unmatched x y) ≡ Ok true → is_empty (unmatched x z) ≡ Ok true

@@ -1,2 +1,3 @@
 -- Words that only proofs and private functions use.
 pub mod Deciding
+pub mod Referring

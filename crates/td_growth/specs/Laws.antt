@@ -1,7 +1,9 @@
 -- The laws of gains.
 use Rattle.std.specs.Prelude.{◌≡◌, ℕ, true, List, Ok, slice_get}
 use Rattle.td_values.specs.Data.{Attrs}
+use Rattle.td_values.specs.Headings.{Header}
 use Rattle.td_values.specs.Rows.{RowsData}
+use Rattle.td_tuples.specs.Parts.{names_of}
 use Rattle.td_relations.specs.Sets.{Has}
 use Rattle.td_relations.specs.Deltas.{DeltaData}
 use Rattle.td_trees.specs.declared.tree.Typed.{Typed}
@@ -13,6 +15,7 @@ use Rattle.td_story.specs.Differences.{Differs}
 use Rattle.td_story.specs.Stored.{AreStored}
 use Rattle.td_story.specs.Tests.{judgement}
 use Rattle.td_growth.specs.Growth.{AgreeBeside, AgreeOn, Gains, Grows, IsWatched, narrowed}
+use Rattle.td_growth.specs.References.{KeepsParts, Refers}
 use Rattle.td_growth.specs.Safety.{IsSafe}
 
 -- a watched constraint that was true is now what it is over what the relvar gained: true, false, or an error
@@ -34,6 +37,13 @@ abbrev pub GrowthKeepsSafe : Type 0
 GrowthKeepsSafe =
     (c : CatalogueData) (old now : Relvars) (n : ℕ) (x : List ℕ) (u : Typed)
     → is_base (slice_get c.origins n) ≡ true → AgreeBeside c u n old now → Grows old now n → IsSafe c n u
+    → judgement c old (test.Constraint x u) ≡ Ok true → judgement c now (test.Constraint x u) ≡ Ok true
+
+-- a reference stays true where each tuple that the relvar had has one with its part at the names of what refers to it
+abbrev pub KeptPartsKeepReferences : Type 0
+KeptPartsKeepReferences =
+    (c : CatalogueData) (old now : Relvars) (n : ℕ) (h : Header) (x : List ℕ) (u : Typed)
+    → is_base (slice_get c.origins n) ≡ true → AgreeBeside c u n old now → AreStored c now → KeepsParts old now n (names_of h) → Refers c n h u
     → judgement c old (test.Constraint x u) ≡ Ok true → judgement c now (test.Constraint x u) ≡ Ok true
 
 -- relvars that agree on what it reads give a constraint one judgement

@@ -1,6 +1,6 @@
 //! The laws of gains.
 ghost use Rattle.td_growth.specs.Laws.{DifferencesAreGains, GrowthKeepsSafe, JudgedByReads, LossesKeepWatched};
-ghost use Rattle.td_growth.specs.Laws.{NarrowedIsStored, WatchedByInserts};
+ghost use Rattle.td_growth.specs.Laws.{KeptPartsKeepReferences, NarrowedIsStored, WatchedByInserts};
 
 /// A watched constraint that was true before a base relvar gained tuples is now what it is over these alone.
 pub fn watched_by_inserts()
@@ -15,6 +15,11 @@ pub fn losses_keep_watched()
 /// A safe constraint stays true where the relvar lost no tuple.
 pub fn growth_keeps_safe()
     ensures { GrowthKeepsSafe }
+{}
+
+/// A reference stays true where each tuple that the relvar had has one with its part at what refers to it.
+pub fn kept_parts_keep_references()
+    ensures { KeptPartsKeepReferences }
 {}
 
 /// Relvars that agree on what it reads give a constraint one judgement.

@@ -2,8 +2,10 @@
 #![tactic(auto)]
 
 pub mod laws;
+mod references;
 mod safety;
 mod watching;
 
+pub use references::{is_base_relvar, referring};
 pub use safety::is_safe;
 pub use watching::is_watched;

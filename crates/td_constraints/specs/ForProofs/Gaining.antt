@@ -28,7 +28,7 @@ pub record IsNarrowed (c : CatalogueData) (x : Expression) (n : ℕ) (i : RowsDa
 
 -- this is what it is after such changes where it was true before them
 abbrev pub IsWay : CatalogueData → Expression → Changes → Way → Type 0
-IsWay c x changes Stays = (before now : Relvars) → AreDifferences before now changes → truth_over c x before ≡ Ok true → truth_over c x now ≡ Ok true
+IsWay c x changes Stays = (before now : Relvars) → AreStored c now → AreDifferences before now changes → truth_over c x before ≡ Ok true → truth_over c x now ≡ Ok true
 IsWay c x changes (Over n i) = (before now : Relvars) → AreDifferences before now changes → truth_over c x before ≡ Ok true → IsNarrowed c x n i.now now
 IsWay c x changes Whole = Unit {0}
 

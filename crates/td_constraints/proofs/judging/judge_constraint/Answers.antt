@@ -15,7 +15,7 @@ truth-requires-clause-bases g c =
 
 pub returns-in-Stays : goal.returns-in-Stays
 returns-in-Stays g c =
-    stays c.args.catalogue.now c.args.expr.now (g.L.Lookup.relvars c.args.lookup.now) c.args.changes c.in_ok-way_of.field-0 c.in_ok-way_of.ensures c.requires.before c.in-Stays.is
+    stays c.args.catalogue.now c.args.expr.now (g.L.Lookup.relvars c.args.lookup.now) c.args.changes c.in_ok-way_of.field-0 c.in_ok-way_of.ensures c.requires.before c.requires.stored c.in-Stays.is
 
 pub returns-in-Over : goal.returns-in-Over
 returns-in-Over g c =
