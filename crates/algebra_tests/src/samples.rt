@@ -5,7 +5,7 @@ use td_algebra::{
     Fault, Item, Stop, Summary, aggregate, extend, restrict, summarize, summarize_by,
 };
 use td_relations::Relation;
-use td_values::{Heading, Kind, Name, TdType, Tuple, TupleBuilder, TypeKind, Value, fits, show};
+use td_values::{Heading, Kind, Name, Raise, TdType, Tuple, TupleBuilder, TypeKind, Value, fits, show};
 
 pub type Result<T> = std::result::Result<T, Fail>;
 
@@ -13,11 +13,11 @@ pub type Answer<T> = std::result::Result<T, Fault>;
 
 const STOPS: [Stop; 6] = [
     Stop::Untyped,
-    Stop::Overflow,
-    Stop::Divide,
-    Stop::Empty,
-    Stop::Selector,
-    Stop::Cardinality,
+    Stop::Error(Raise::Overflow),
+    Stop::Error(Raise::Divide),
+    Stop::Error(Raise::Empty),
+    Stop::Error(Raise::Selector),
+    Stop::Error(Raise::Cardinality),
 ];
 
 /// A term on tuples of integers, whose places are in name order.
@@ -48,11 +48,11 @@ pub fn number(tuple: &Tuple, place: usize) -> i64 {
 
 fn divided(number: i64, by: i64) -> Answer<i64> {
     if by == 0 {
-        return Err(Fault::Raised(Stop::Divide));
+        return Err(Fault::Raised(Stop::Error(Raise::Divide)));
     }
     match number.checked_div(by) {
         Some(n) => Ok(n),
-        None => Err(Fault::Raised(Stop::Overflow)),
+        None => Err(Fault::Raised(Stop::Error(Raise::Overflow))),
     }
 }
 
@@ -63,7 +63,7 @@ fn stopped(number: i64, stop: usize) -> Answer<i64> {
     if number == 0 {
         return Err(Fault::Raised(STOPS[stop.min(5)]));
     }
-    Err(Fault::Raised(Stop::Cardinality))
+    Err(Fault::Raised(Stop::Error(Raise::Cardinality)))
 }
 
 fn number_of(term: &Term, tuple: &Tuple) -> Answer<i64> {

@@ -19,7 +19,8 @@ use Rattle.td_tuples.proofs.SideBySide.{cut-beside_first, cut-beside_second, cut
 use Rattle.td_algebra.specs.declared.errors.Fault.{Fault}
 use Rattle.td_algebra.specs.declared.errors.Fault.TheVariants.{Raised, OutOfMemory}
 use Rattle.td_algebra.specs.declared.errors.Stop.{Stop}
-use Rattle.td_algebra.specs.declared.errors.Stop.TheVariants.{Untyped, Overflow, Divide, Empty, Selector, Cardinality}
+use Rattle.td_values.specs.declared.raises.Raise.TheVariants.{Overflow, Divide, Empty, Selector, Cardinality}
+use Rattle.td_algebra.specs.declared.errors.Stop.TheVariants.{Untyped, Error}
 use Rattle.td_tuples.specs.declared.items.Item.{Item}
 use Rattle.td_tuples.specs.declared.items.Summary.{Summary}
 use Rattle.td_algebra.specs.Closures.{HasColumns, IsBinary, Closed}
@@ -34,7 +35,7 @@ use Rattle.td_algebra.specs.ForProofs.Opened.{Opened, tuples_at}
 use Rattle.td_algebra.specs.Operators.{United, Common, Remaining, Projected, Renamed, Joined, Matching, NotMatching, Composed}
 use Rattle.td_algebra.specs.Raising.{Answers, Unless, UnlessRaised, all_of, and_then}
 use Rattle.td_algebra.specs.Restricting.{Restricted, RaisedIn, select}
-use Rattle.td_algebra.specs.Stops.{number_of}
+use Rattle.td_algebra.specs.Stops.{stop_number}
 use Rattle.td_algebra.specs.Summaries.{over_groups}
 use Rattle.td_algebra.proofs.Chains.{through_fit, through_made}
 use Rattle.td_algebra.proofs.Closing.{IsClosedOver, begun, stepped, has_end, closed}
@@ -269,21 +270,21 @@ module _ (r : RowsData) (b : IsBinary r.heading) (rows : AreRows r.heading r.tup
 
 abbrev stop_at : ℕ → Stop
 stop_at zero = Untyped
-stop_at (suc zero) = Overflow
-stop_at (suc (suc zero)) = Divide
-stop_at (suc (suc (suc zero))) = Empty
-stop_at (suc (suc (suc (suc zero)))) = Selector
-stop_at (suc (suc (suc (suc (suc n))))) = Cardinality
+stop_at (suc zero) = Error Overflow
+stop_at (suc (suc zero)) = Error Divide
+stop_at (suc (suc (suc zero))) = Error Empty
+stop_at (suc (suc (suc (suc zero)))) = Error Selector
+stop_at (suc (suc (suc (suc (suc n))))) = Error Cardinality
 
-back : (e : Stop) → stop_at (number_of e) ≡ e
+back : (e : Stop) → stop_at (stop_number e) ≡ e
 back Untyped = refl
-back Overflow = refl
-back Divide = refl
-back Empty = refl
-back Selector = refl
-back Cardinality = refl
+back (Error Overflow) = refl
+back (Error Divide) = refl
+back (Error Empty) = refl
+back (Error Selector) = refl
+back (Error Cardinality) = refl
 
-pub same_stop : (e f : Stop) → number_of e ≡ number_of f → e ≡ f
+pub same_stop : (e f : Stop) → stop_number e ≡ stop_number f → e ≡ f
 same_stop e f h = sym (back e) ∙ ap stop_at h ∙ back f
 
 abbrev told : {A : Type 0} → Result A Stop → Result A Fault

@@ -3,7 +3,7 @@ use Rattle.std.proofs.Common.{◌≡◌, ◌↔◌, ◌≤◌, ℕ, Bool, true, 
 use Rattle.std.specs.FinSet as set
 use Rattle.std.specs.List.{Contains}
 use Rattle.td_algebra.specs.declared.errors.Stop.{Stop}
-use Rattle.td_algebra.specs.Stops.{number_of}
+use Rattle.td_algebra.specs.Stops.{stop_number}
 use Rattle.td_values.specs.Data.{Ty, Datum, Attrs}
 use Rattle.td_values.specs.Order.{ty_order}
 use Rattle.td_values.specs.Proving.Total.{ty_tied, ty_order_total}
@@ -56,12 +56,12 @@ module _ {E : Type 0} (m : Meaning E) (items : List (Item E)) where
       let (found, least) = subst (Tells (field_at m t) items) all (tells (field_at m t) items) in
       found
 
-  seen_by : (i : Item E) (t : Attrs) (f : Stop) (r : Result (List (List ℕ × Datum)) Stop) → fields_at m items t ≡ r → Tells (field_at m t) items r → Contains items i → field_at m t i ≡ Err f → (e : Stop) × (fields_at m items t ≡ Err e) × (number_of e ≤ number_of f)
+  seen_by : (i : Item E) (t : Attrs) (f : Stop) (r : Result (List (List ℕ × Datum)) Stop) → fields_at m items t ≡ r → Tells (field_at m t) items r → Contains items i → field_at m t i ≡ Err f → (e : Stop) × (fields_at m items t ≡ Err e) × (stop_number e ≤ stop_number f)
   seen_by i t f (Ok fs) is none there raises = absurd (none i there f raises)
   seen_by i t f (Err e) is (found, least) there raises = (e, is, least i there f raises)
 
   -- where an item raises, the tuple has that error or a lesser one
-  raise_seen : (i : Item E) (t : Attrs) (f : Stop) → Contains items i → field_at m t i ≡ Err f → (e : Stop) × (extended_at m items t ≡ Err e) × (number_of e ≤ number_of f)
+  raise_seen : (i : Item E) (t : Attrs) (f : Stop) → Contains items i → field_at m t i ≡ Err f → (e : Stop) × (extended_at m items t ≡ Err e) × (stop_number e ≤ stop_number f)
   raise_seen i t f there raises =
       let (e, is, least) = seen_by i t f (fields_at m items t) refl (tells (field_at m t) items) there raises in
       (e, err_to (λ fs. beside (tuple_of fs) t) (fields_at m items t) e is, least)

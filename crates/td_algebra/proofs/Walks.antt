@@ -7,17 +7,17 @@ use Rattle.std.proofs.lemmas.List.Elements.{All-push, All-get_or}
 use Rattle.td_algebra.specs.declared.errors.Fault.{Fault}
 use Rattle.td_algebra.specs.declared.errors.Fault.TheVariants.{Raised, OutOfMemory}
 use Rattle.td_algebra.specs.declared.errors.Stop.{Stop}
-use Rattle.td_algebra.specs.Stops.{number_of, lesser}
+use Rattle.td_algebra.specs.Stops.{stop_number, lesser}
 use Rattle.td_algebra.specs.Raising.{Answers, AnswersBy, and_all, alone, all_of}
 use Rattle.td_algebra.specs.ForProofs.Gathered.{meaning_of}
 
-first : (e f : Stop) → nat_le (number_of e) (number_of f) ≡ true → lesser e f ≡ e
+first : (e f : Stop) → nat_le (stop_number e) (stop_number f) ≡ true → lesser e f ≡ e
 first e f h = rw h refl
 
-second : (e f : Stop) → nat_le (number_of e) (number_of f) ≡ false → lesser e f ≡ f
+second : (e f : Stop) → nat_le (stop_number e) (stop_number f) ≡ false → lesser e f ≡ f
 second e f h = rw h refl
 
-lesser_by : (e f g : Stop) (x y z : Bool) → nat_le (number_of e) (number_of f) ≡ x → nat_le (number_of f) (number_of g) ≡ y → nat_le (number_of e) (number_of g) ≡ z → lesser (lesser e f) g ≡ lesser e (lesser f g)
+lesser_by : (e f g : Stop) (x y z : Bool) → nat_le (stop_number e) (stop_number f) ≡ x → nat_le (stop_number f) (stop_number g) ≡ y → nat_le (stop_number e) (stop_number g) ≡ z → lesser (lesser e f) g ≡ lesser e (lesser f g)
 lesser_by e f g true true true ex ey ez = ap (λ k. lesser k g) (first e f ex) ∙ first e g ez ∙ sym (ap (lesser e) (first f g ey) ∙ first e f ex)
 lesser_by e f g true true false ex ey ez = absurd (grind (arith, nat_tests, ex, ey, ez))
 lesser_by e f g true false z ex ey ez = ap (λ k. lesser k g) (first e f ex) ∙ sym (ap (lesser e) (second f g ey))
@@ -26,23 +26,23 @@ lesser_by e f g false false true ex ey ez = absurd (grind (arith, nat_tests, ex,
 lesser_by e f g false false false ex ey ez = ap (λ k. lesser k g) (second e f ex) ∙ second f g ey ∙ sym (ap (lesser e) (second f g ey) ∙ second e g ez)
 
 lesser_assoc : (e f g : Stop) → lesser (lesser e f) g ≡ lesser e (lesser f g)
-lesser_assoc e f g = lesser_by e f g (nat_le (number_of e) (number_of f)) (nat_le (number_of f) (number_of g)) (nat_le (number_of e) (number_of g)) refl refl refl
+lesser_assoc e f g = lesser_by e f g (nat_le (stop_number e) (stop_number f)) (nat_le (stop_number f) (stop_number g)) (nat_le (stop_number e) (stop_number g)) refl refl refl
 
 lesser_either_by : (P : Stop → Type 0) (e f : Stop) (b : Bool) → P e → P f → P (if b then e else f)
 lesser_either_by P e f true p q = p
 lesser_either_by P e f false p q = q
 
 lesser_either : (P : Stop → Type 0) (e f : Stop) → P e → P f → P (lesser e f)
-lesser_either P e f p q = lesser_either_by P e f (nat_le (number_of e) (number_of f)) p q
+lesser_either P e f p q = lesser_either_by P e f (nat_le (stop_number e) (stop_number f)) p q
 
-below_by : (e f : Stop) (b : Bool) → nat_le (number_of e) (number_of f) ≡ b → (number_of (if b then e else f) ≤ number_of e) × (number_of (if b then e else f) ≤ number_of f)
+below_by : (e f : Stop) (b : Bool) → nat_le (stop_number e) (stop_number f) ≡ b → (stop_number (if b then e else f) ≤ stop_number e) × (stop_number (if b then e else f) ≤ stop_number f)
 below_by e f true h = (omega arith, grind (arith, nat_tests, h))
 below_by e f false h = (grind (arith, nat_tests, h), omega arith)
 
-lesser_below : (e f : Stop) → (number_of (lesser e f) ≤ number_of e) × (number_of (lesser e f) ≤ number_of f)
-lesser_below e f = below_by e f (nat_le (number_of e) (number_of f)) refl
+lesser_below : (e f : Stop) → (stop_number (lesser e f) ≤ stop_number e) × (stop_number (lesser e f) ≤ stop_number f)
+lesser_below e f = below_by e f (nat_le (stop_number e) (stop_number f)) refl
 
-below_too : (e g f : Stop) → number_of g ≤ number_of f → number_of (lesser e g) ≤ number_of f
+below_too : (e g f : Stop) → stop_number g ≤ stop_number f → stop_number (lesser e g) ≤ stop_number f
 below_too e g f h = let l = (lesser_below e g).1 in omega (arith, l, h)
 
 pub and_all_assoc : {A : Type 0} (a b c : Result (List A) Stop) → and_all (and_all a b) c ≡ and_all a (and_all b c)
@@ -95,7 +95,7 @@ module _ {X A : Type 0} (m : X → Result A Stop) where
   -- none raises, or this is the least that is raised
   abbrev pub Tells : List X → Result (List A) Stop → Type 0
   Tells xs (Ok ys) = (x : X) → Contains xs x → (f : Stop) → m x ≡ Err f → ⊥
-  Tells xs (Err e) = ((x : X) × Contains xs x × (m x ≡ Err e)) × ((x : X) → Contains xs x → (f : Stop) → m x ≡ Err f → number_of e ≤ number_of f)
+  Tells xs (Err e) = ((x : X) × Contains xs x × (m x ≡ Err e)) × ((x : X) → Contains xs x → (f : Stop) → m x ≡ Err f → stop_number e ≤ stop_number f)
 
   not_both : (x z : X) (y : A) (f : Stop) → m x ≡ Ok y → x ≡ z → m z ≡ Err f → ⊥
   not_both x z y f is same raises = let g : m x ≡ Err f = ap m same ∙ raises in absurd (grind (arith, is, g))
@@ -111,11 +111,11 @@ module _ {X A : Type 0} (m : X → Result A Stop) where
   )
   tells_by x xs (Err e) (Ok ys) is none = (
     (x, contains_first x xs x refl, is),
-    λ z there f raises. ⊎_elim (λ same. subst (λ g. number_of e ≤ number_of g) (one_error x z e f is same raises) (omega arith)) (λ c. absurd (none z c f raises)) (contains_cases x xs z there),
+    λ z there f raises. ⊎_elim (λ same. subst (λ g. stop_number e ≤ stop_number g) (one_error x z e f is same raises) (omega arith)) (λ c. absurd (none z c f raises)) (contains_cases x xs z there),
   )
   tells_by x xs (Err e) (Err g) is (found, least) = (
     lesser_either (λ h. (z : X) × Contains (x ∷ xs) z × (m z ≡ Err h)) e g (x, contains_first x xs x refl, is) (found.0, contains_later x xs found.0 found.1, found.2),
-    λ z there f raises. ⊎_elim (λ same. subst (λ h. number_of (lesser e g) ≤ number_of h) (one_error x z e f is same raises) (lesser_below e g).0) (λ c. below_too e g f (least z c f raises)) (contains_cases x xs z there),
+    λ z there f raises. ⊎_elim (λ same. subst (λ h. stop_number (lesser e g) ≤ stop_number h) (one_error x z e f is same raises) (lesser_below e g).0) (λ c. below_too e g f (least z c f raises)) (contains_cases x xs z there),
   )
 
   pub tells : (xs : List X) → Tells xs (all_of m xs)

@@ -1,7 +1,7 @@
 -- Functions on tuples: their answers, and the least of the errors that they raise.
 use Rattle.std.specs.Prelude.{◌≡◌, ◌≤◌, List, [], ◌∷◌, ◌++◌, Result, Ok, Err}
 use Rattle.td_algebra.specs.declared.errors.Stop.{Stop}
-use Rattle.td_algebra.specs.Stops.{number_of, lesser}
+use Rattle.td_algebra.specs.Stops.{stop_number, lesser}
 use Rattle.td_algebra.specs.declared.errors.Fault.{Fault}
 use Rattle.td_algebra.specs.declared.errors.Fault.TheVariants.{Raised, OutOfMemory}
 
@@ -17,13 +17,13 @@ Answers r m = AnswersBy (λ a. a) r m
 -- the answer where no error is raised, and else the least one; memory may be wanted
 abbrev pub Unless : {B : Type 0} → (Stop → Type 0) → (B → Type 0) → Result B Fault → Type 0
 Unless Raises P (Ok b) = ((e : Stop) → Raises e → ⊥) × P b
-Unless Raises P (Err (Raised e)) = Raises e × ((f : Stop) → Raises f → number_of e ≤ number_of f)
+Unless Raises P (Err (Raised e)) = Raises e × ((f : Stop) → Raises f → stop_number e ≤ stop_number f)
 Unless Raises P (Err OutOfMemory) = Unit {0}
 
 -- the same of an answer for which no memory is taken
 abbrev pub UnlessRaised : {B : Type 0} → (Stop → Type 0) → (B → Type 0) → Result B Stop → Type 0
 UnlessRaised Raises P (Ok b) = ((e : Stop) → Raises e → ⊥) × P b
-UnlessRaised Raises P (Err e) = Raises e × ((f : Stop) → Raises f → number_of e ≤ number_of f)
+UnlessRaised Raises P (Err e) = Raises e × ((f : Stop) → Raises f → stop_number e ≤ stop_number f)
 
 -- the answers of both, or the least error among theirs
 abbrev pub and_all : {A : Type 0} → Result (List A) Stop → Result (List A) Stop → Result (List A) Stop

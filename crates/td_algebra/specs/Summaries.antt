@@ -4,7 +4,8 @@ use Rattle.std.specs.Borrow.{Bor}
 use Rattle.std.specs.List.{All, Contains, filter, fold, list_all, list_any}
 use Rattle.std.specs.Ordering.{eq_by_cmp, is_gt, is_lt}
 use Rattle.td_algebra.specs.declared.errors.Stop.{Stop}
-use Rattle.td_algebra.specs.declared.errors.Stop.TheVariants.{Overflow, Empty}
+use Rattle.td_values.specs.declared.raises.Raise.TheVariants.{Overflow, Empty}
+use Rattle.td_algebra.specs.declared.errors.Stop.TheVariants.{Error}
 use Rattle.td_values.specs.Data.{Datum, boolean, integer, Attrs}
 use Rattle.td_values.specs.Headings.{Header}
 use Rattle.td_values.specs.Order.{order, attrs_order}
@@ -34,7 +35,7 @@ in_64_bits n = int_le (neg_ℤ (pos (2 ^ 63))) n && int_lt n (pos (2 ^ 63))
 
 -- the sum, if it is within 64 bits
 abbrev pub sum_of : List Datum → Result Datum Stop
-sum_of ds = if in_64_bits (whole_sum ds) then Ok (integer (whole_sum ds)) else Err Overflow
+sum_of ds = if in_64_bits (whole_sum ds) then Ok (integer (whole_sum ds)) else Err (Error Overflow)
 
 -- the greater and the lesser of two values
 abbrev pub greater : Datum → Datum → Datum
@@ -45,7 +46,7 @@ lesser_of d e = if is_lt (order e d) then e else d
 
 -- the greatest and the least of these, of which there is one at least
 abbrev pub most : (Datum → Datum → Datum) → List Datum → Result Datum Stop
-most better [] = Err Empty
+most better [] = Err (Error Empty)
 most better (d ∷ ds) = Ok (fold better d ds)
 
 abbrev pub is_true : Datum → Bool

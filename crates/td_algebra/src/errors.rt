@@ -3,6 +3,7 @@ ghost use Rattle.std.specs.Prelude.{◌≡◌};
 ghost use Rattle.td_algebra.specs.Stops as spec;
 
 use std::alloc::AllocError;
+use td_values::Raise;
 use thiserror::Error;
 
 /// Why a function of tuples has no value: it has no meaning there, as where a value is of a wrong type, or it raises
@@ -11,30 +12,18 @@ use thiserror::Error;
 pub enum Stop {
     #[error("untyped")]
     Untyped,
-    #[error("overflow")]
-    Overflow,
-    #[error("divide")]
-    Divide,
-    #[error("empty")]
-    Empty,
-    #[error("selector")]
-    Selector,
-    #[error("cardinality")]
-    Cardinality,
+    #[error("{0}")]
+    Error(Raise),
 }
 
 impl Stop {
     /// Its number: 0 for no meaning, and 1 to 5. Where several stand for tuples and items, the least number does.
     pub fn number(self) -> u8
-        ensures { result ≡ spec.number_of self }
+        ensures { result ≡ spec.stop_number self }
     {
         match self {
             Stop::Untyped => 0,
-            Stop::Overflow => 1,
-            Stop::Divide => 2,
-            Stop::Empty => 3,
-            Stop::Selector => 4,
-            Stop::Cardinality => 5,
+            Stop::Error(raise) => raise.number(),
         }
     }
 

@@ -15,7 +15,7 @@ use crate::gathered::Gathered;
 use std::alloc::{AllocError, Global};
 use td_relations::Relation;
 use td_tuples::Summary;
-use td_values::{Kind, Tuple, Value, compare, copy};
+use td_values::{Kind, Raise, Tuple, Value, compare, copy};
 
 fn integer_value(n: i64) -> Value
     ensures { result ≡ integer n }
@@ -66,7 +66,7 @@ fn sum_of(values: &[Value]) -> Result<Value, Fault>
 {
     match i64::try_from(whole_sum(values)) {
         Ok(n) => Ok(integer_value(n)),
-        Err(_) => Err(Fault::Raised(Stop::Overflow)),
+        Err(_) => Err(Fault::Raised(Stop::Error(Raise::Overflow))),
     }
 }
 
@@ -86,7 +86,7 @@ fn greatest(alloc: Global, values: &[Value]) -> Result<Value, Fault>
     ensures { Answers result (spec.most spec.greater values.now) }
 {
     match values.split_first() {
-        None => Err(Fault::Raised(Stop::Empty)),
+        None => Err(Fault::Raised(Stop::Error(Raise::Empty))),
         Some((first, rest)) => {
             let mut best = first;
             for value in rest {
@@ -101,7 +101,7 @@ fn least(alloc: Global, values: &[Value]) -> Result<Value, Fault>
     ensures { Answers result (spec.most spec.lesser_of values.now) }
 {
     match values.split_first() {
-        None => Err(Fault::Raised(Stop::Empty)),
+        None => Err(Fault::Raised(Stop::Error(Raise::Empty))),
         Some((first, rest)) => {
             let mut best = first;
             for value in rest {

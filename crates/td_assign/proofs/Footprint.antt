@@ -15,6 +15,7 @@ use Rattle.td_trees.specs.declared.expression.Expression.{Expression}
 use Rattle.td_relations.specs.Deltas.{DeltaData}
 use Rattle.td_algebra.specs.Raising.{and_then}
 use Rattle.td_algebra.specs.declared.errors.Stop.{Stop}
+use Rattle.td_values.specs.declared.raises.Raise.TheVariants as raise
 use Rattle.td_algebra.specs.declared.errors.Stop.TheVariants as stop
 use Rattle.td_headings.specs.Catalogues.{CatalogueData}
 use Rattle.td_headings.specs.Definitions.{Defined}
@@ -56,31 +57,31 @@ abbrev number : Result Bool Stop → ℕ
 number (Ok true) = 0
 number (Ok false) = 1
 number (Err stop.Untyped) = 2
-number (Err stop.Overflow) = 3
-number (Err stop.Divide) = 4
-number (Err stop.Empty) = 5
-number (Err stop.Selector) = 6
-number (Err stop.Cardinality) = 7
+number (Err (stop.Error raise.Overflow)) = 3
+number (Err (stop.Error raise.Divide)) = 4
+number (Err (stop.Error raise.Empty)) = 5
+number (Err (stop.Error raise.Selector)) = 6
+number (Err (stop.Error raise.Cardinality)) = 7
 
 abbrev numbered : ℕ → Result Bool Stop
 numbered zero = Ok true
 numbered (suc zero) = Ok false
 numbered (suc (suc zero)) = Err stop.Untyped
-numbered (suc (suc (suc zero))) = Err stop.Overflow
-numbered (suc (suc (suc (suc zero)))) = Err stop.Divide
-numbered (suc (suc (suc (suc (suc zero))))) = Err stop.Empty
-numbered (suc (suc (suc (suc (suc (suc zero)))))) = Err stop.Selector
-numbered n = Err stop.Cardinality
+numbered (suc (suc (suc zero))) = Err (stop.Error raise.Overflow)
+numbered (suc (suc (suc (suc zero)))) = Err (stop.Error raise.Divide)
+numbered (suc (suc (suc (suc (suc zero))))) = Err (stop.Error raise.Empty)
+numbered (suc (suc (suc (suc (suc (suc zero)))))) = Err (stop.Error raise.Selector)
+numbered n = Err (stop.Error raise.Cardinality)
 
 and_back : (m : Result Bool Stop) → numbered (number m) ≡ m
 and_back (Ok true) = refl
 and_back (Ok false) = refl
 and_back (Err stop.Untyped) = refl
-and_back (Err stop.Overflow) = refl
-and_back (Err stop.Divide) = refl
-and_back (Err stop.Empty) = refl
-and_back (Err stop.Selector) = refl
-and_back (Err stop.Cardinality) = refl
+and_back (Err (stop.Error raise.Overflow)) = refl
+and_back (Err (stop.Error raise.Divide)) = refl
+and_back (Err (stop.Error raise.Empty)) = refl
+and_back (Err (stop.Error raise.Selector)) = refl
+and_back (Err (stop.Error raise.Cardinality)) = refl
 
 by_cases : (P : Type 0) (m n : Result Bool Stop) → (P → m ≡ n) → ((P → ⊥) → m ≡ n) → m ≡ n
 by_cases P m n if_so if_not =

@@ -29,7 +29,7 @@ use Rattle.td_headings.proofs.ReadLemmas.{reads_those}
 use Rattle.td_headings.proofs.WellTyped.{all_typed}
 use Rattle.td_story.proofs.Unique.{one_text}
 use Rattle.td_story.specs.Footprints.{InFootprint, IsInFootprint, IsTargetOfText, TestReads, by_condition, by_source, by_test, target}
-use Rattle.td_story.specs.Steps.{IsRead, IsUnread}
+use Rattle.td_story.specs.Steps.{IsRead, IsUnreadText}
 use Rattle.td_assign.specs.ForProofs.Names.{AreNames, Gathers, ReadsWith, condition_reads}
 use Rattle.td_assign.specs.declared.names.Names.{Names}
 
@@ -226,14 +226,14 @@ module _ (c : CatalogueData) where
     targets_read x p places ts =
         those_alike (IsTarget x) (IsTargetOfText c dialect text) places (λ n. (λ h. record { statement = x; reads = p; target = h }, λ t. target_moves t.statement x t.reads p n t.target)) ts
 
-    targets_unread : IsUnread c dialect text → (places : List ℕ) → places ≡ [] → AreThose (IsTargetOfText c dialect text) places
+    targets_unread : IsUnreadText c dialect text → (places : List ℕ) → places ≡ [] → AreThose (IsTargetOfText c dialect text) places
     targets_unread unread places none = subst (AreThose (IsTargetOfText c dialect text)) (sym none) (none_of (IsTargetOfText c dialect text) (λ n t. unread t.statement t.reads))
 
     pub footprint_told : {E Z : Type 0} (x : TypedStatement) → IsRead c dialect text x → (m : Result (Vec ℕ Z) E) → IfOk m (λ v. AreThose (InFootprint c x) v.items) → IfOk m (λ v. AreThose (IsInFootprint c dialect text) v.items)
     footprint_told x p (Ok v) ns = those_alike (InFootprint c x) (IsInFootprint c dialect text) v.items (λ n. (λ h. record { statement = x; reads = p; within = h }, λ t. place_moves t.statement x t.reads p n t.within)) ns
     footprint_told x p (Err e) ns = tt
 
-    pub footprint_unread : IsUnread c dialect text → (places : List ℕ) → places ≡ [] → AreThose (IsInFootprint c dialect text) places
+    pub footprint_unread : IsUnreadText c dialect text → (places : List ℕ) → places ≡ [] → AreThose (IsInFootprint c dialect text) places
     footprint_unread unread places none = subst (AreThose (IsInFootprint c dialect text)) (sym none) (none_of (IsInFootprint c dialect text) (λ n t. unread t.statement t.reads))
 
     pub names_read : (x : TypedStatement) → IsRead c dialect text x → (v : Names) → AreThose (IsTarget x) v.targets.items → AreThose (InFootprint c x) v.footprint.items → AreNames c dialect text v
@@ -242,7 +242,7 @@ module _ (c : CatalogueData) where
       footprint = those_alike (InFootprint c x) (IsInFootprint c dialect text) v.footprint.items (λ n. (λ h. record { statement = x; reads = p; within = h }, λ t. place_moves t.statement x t.reads p n t.within)) ns;
     }
 
-    pub names_unread : IsUnread c dialect text → (v : Names) → v.targets.items ≡ [] → v.footprint.items ≡ [] → AreNames c dialect text v
+    pub names_unread : IsUnreadText c dialect text → (v : Names) → v.targets.items ≡ [] → v.footprint.items ≡ [] → AreNames c dialect text v
     names_unread unread v ts ns = record {
       targets = targets_unread unread v.targets.items ts;
       footprint = footprint_unread unread v.footprint.items ns;

@@ -39,7 +39,7 @@ use Rattle.td_assign.specs.ForProofs.Given.{AreAssigned, AreChanges, IsAssigned,
 use Rattle.td_story.specs.declared.failure.Failure.{Failure}
 use Rattle.td_story.specs.declared.failure.Failure.TheVariants as failure
 use Rattle.td_assign.specs.ForProofs.Prepared.{AreAssignedTo, IsJudged, IsMade, IsPrepared, MayChange, Refuses, by_assignments, by_error, by_source, by_test, chosen_by, failing_after}
-use Rattle.td_story.specs.Steps.{IsRead, IsUnread, Steps, TellsTest, done, given_by, raised, refused}
+use Rattle.td_story.specs.Steps.{IsRead, IsUnreadText, Steps, TellsTest, done, given_by, raised, refused}
 use Rattle.td_assign.specs.declared.changes.Change.{Change}
 use Rattle.td_story.specs.declared.outcome.Outcome.{Outcome}
 use Rattle.td_story.specs.declared.outcome.Outcome.TheVariants as outcome
@@ -50,10 +50,10 @@ use Rattle.td_story.proofs.Unique.{one_text}
 
 -- ---- no reading, or no typing
 module _ (c : CatalogueData) (dialect : ℕ) (text : List ℕ) where
-  pub without_reading : ((s : Statement) → ¬ grammar.IsStatementIn dialect text s) → IsUnread c dialect text
+  pub without_reading : ((s : Statement) → ¬ grammar.IsStatementIn dialect text s) → IsUnreadText c dialect text
   without_reading none x p = none p.statement p.reads
 
-  pub without_typing : (s : Statement) → grammar.IsStatementIn dialect text s → TypesNoStatement c s → IsUnread c dialect text
+  pub without_typing : (s : Statement) → grammar.IsStatementIn dialect text s → TypesNoStatement c s → IsUnreadText c dialect text
   without_typing s reads never x p = never x (subst (λ t. typed.TypesStatement c t x) (one_text dialect text p.statement s p.reads reads) p.types)
 
 all_assigned : (c : CatalogueData) (as' : List Action) (xs : List TypedAssignment) → AreAssignments c as' xs → All (IsAssigned c) xs
@@ -171,12 +171,12 @@ module _ (d : DatabaseData) (cs : List Change) where
   pub none_fails : (o : Option TestFailure) → o ≡ None → IsReport d.catalogue (failing_after d cs) o → failing_after d cs ≡ None
   none_fails o is h = passes d.catalogue (failing_after d cs) (subst (IsReport d.catalogue (failing_after d cs)) is h)
 
-module _ (c k : CatalogueData) (dialect : ℕ) (text : List ℕ) (o : Option TypedStatement) (same : k ≡ c) (h : MatchOption o (IsUnread k dialect text) (IsRead k dialect text)) where
+module _ (c k : CatalogueData) (dialect : ℕ) (text : List ℕ) (o : Option TypedStatement) (same : k ≡ c) (h : MatchOption o (IsUnreadText k dialect text) (IsRead k dialect text)) where
   pub read_is : (x : TypedStatement) → o ≡ Some x → IsRead c dialect text x
-  read_is x is = subst (λ (z : CatalogueData). IsRead z dialect text x) same (subst (λ q. MatchOption q (IsUnread k dialect text) (IsRead k dialect text)) is h)
+  read_is x is = subst (λ (z : CatalogueData). IsRead z dialect text x) same (subst (λ q. MatchOption q (IsUnreadText k dialect text) (IsRead k dialect text)) is h)
 
-  pub unread_is : o ≡ None → IsUnread c dialect text
-  unread_is is = subst (λ (z : CatalogueData). IsUnread z dialect text) same (subst (λ q. MatchOption q (IsUnread k dialect text) (IsRead k dialect text)) is h)
+  pub unread_is : o ≡ None → IsUnreadText c dialect text
+  unread_is is = subst (λ (z : CatalogueData). IsUnreadText z dialect text) same (subst (λ q. MatchOption q (IsUnreadText k dialect text) (IsRead k dialect text)) is h)
 
 -- ---- what follows from each step
 pub judged : {E : Type 0} (d : DatabaseData) (xs : List TypedAssignment) (cs : List Change) → assigned_by d xs ≡ Ok (given_to cs) → (m : Result Prepared E) → IfOk m (IsJudged d cs) → IfOk m (AreAssignedTo d xs)

@@ -18,7 +18,7 @@ ghost use Rattle.td_assign.specs.ForProofs.Names.{AreNames};
 ghost use Rattle.td_assign.specs.ForProofs.Prepared.{AreAssignedTo, IsJudged, IsMade, IsPrepared};
 ghost use Rattle.td_assign.specs.ForProofs.Lists.{given_to};
 ghost use Rattle.td_story.specs.Steps as spec;
-ghost use Rattle.td_story.specs.Steps.{IsRead, IsUnread, Steps};
+ghost use Rattle.td_story.specs.Steps.{IsRead, IsUnreadText, Steps};
 
 use crate::changes::Change;
 use crate::choices::chosen;
@@ -44,7 +44,7 @@ fn read(
     text: &str,
     dialect: u8,
 ) -> Result<Option<TypedStatement>, AllocError>
-    ensures { IfOk result (λ o. MatchOption o (IsUnread catalogue.now dialect text.now) (IsRead catalogue.now dialect text.now)) }
+    ensures { IfOk result (λ o. MatchOption o (IsUnreadText catalogue.now dialect text.now) (IsRead catalogue.now dialect text.now)) }
 {
     let statement = match read_statement_in(alloc, text, dialect) {
         Ok(statement) => statement,

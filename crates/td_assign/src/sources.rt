@@ -13,8 +13,9 @@ ghost use Rattle.td_story.specs.Sources.{source_means, sources};
 use crate::changes::{Change, give};
 use crate::seen::Seen;
 use std::alloc::{AllocError, Global};
+use td_eval::lacking;
 use td_headings::TypedAssignment;
-use td_relations::{Delta, Relation, minus};
+use td_relations::{Delta, Relation};
 use td_relvars::Database;
 use td_story::Failure;
 
@@ -113,10 +114,10 @@ fn growth_by(
     match database.base_at(target) {
         Some(base) => {
             let before = base.relation();
-            let inserted = minus(alloc, more, before)?;
+            let inserted = lacking(alloc, more, before)?;
             before.rows_fit();
             inserted.rows_fit();
-            let deleted = Relation::empty(alloc, more.heading().copy()?);
+            let deleted = Relation::empty(alloc, inserted.heading().copy()?);
             Ok(Delta::of(inserted, deleted))
         }
         None => unreachable!(),

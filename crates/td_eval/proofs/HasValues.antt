@@ -18,6 +18,7 @@ use Rattle.td_kinds.specs.Written.{kind_columns, names}
 use Rattle.td_kinds.specs.declared.schema.Representation.{Representation}
 use Rattle.td_algebra.specs.Raising.{and_then}
 use Rattle.td_algebra.specs.declared.errors.Stop.{Stop}
+use Rattle.td_values.specs.declared.raises.Raise.TheVariants as raise
 use Rattle.td_algebra.specs.declared.errors.Stop.TheVariants as stop
 use Rattle.td_headings.specs.Catalogues.{CatalogueData}
 use Rattle.td_headings.specs.Definitions.{Defined}
@@ -32,7 +33,7 @@ use Rattle.td_meaning.specs.Mean.{Meaning, Relvars, Selection, rows_in, truth_in
 use Rattle.td_meaning.specs.Selections.{admits, components, no_relvars, none_selected, selected}
 use Rattle.td_soundness.specs.Meanings.{GivesValue, GivesRelation, IsTupleOver, IsError, Selects}
 use Rattle.td_soundness.specs.Values.{AreComponentsOf, AreValues}
-use Rattle.td_soundness.proofs.Errors.{overflow_is}
+use Rattle.td_soundness.proofs.Errors.{error_is}
 use Rattle.td_soundness.proofs.Scoped.{within_are}
 use Rattle.td_soundness.proofs.Sound.{gives}
 use Rattle.td_story.specs.Meanings.{no_names}
@@ -44,9 +45,6 @@ use Rattle.td_eval.proofs.Placed.{names_earlier, selects_earlier}
 use Rattle.td_eval.proofs.Selected.{each_makes, standing}
 use Rattle.td_eval.proofs.TypeNames.{types_named}
 use Rattle.td_eval.proofs.Virtuals.{each_is, stays}
-
-selector_raised : IsError stop.Selector
-selector_raised e = cc
 
 none_is_some : {A : Type 0} (a : A) → None ≡ Some a → ⊥
 none_is_some a h = cc
@@ -61,7 +59,7 @@ below_same b other f n lt = sym (ap (λ t. cond t (f n) other) (lt-ltb n b lt))
 -- ---- what a selector makes of components of its types
 made : (s : SchemaData) (n : ℕ) (r : Representation) (ds : List Datum) → type_named s r.possrep.ty ≡ Some (n, r) → AreComponentsOf r (items_of ds) → AreValues s (items_of ds) → (a : Result Bool Stop) → GivesTruth a → GivesValue s (kind.User r.possrep.ty) (and_then a (λ b. if b then Ok (user r.possrep (items_of ds)) else Err stop.Selector))
 made s n r ds is fit are (Ok true) h = (refl, ((n, r, is, refl, fit), are))
-made s n r ds is fit are (Ok false) h = selector_raised
+made s n r ds is fit are (Ok false) h = error_is raise.Selector
 made s n r ds is fit are (Err e) h = h
 
 module _ (c : CatalogueData) (defined : Defined c) where
@@ -77,13 +75,13 @@ module _ (c : CatalogueData) (defined : Defined c) where
 
   module _ (n : ℕ) (before : (m : ℕ) → m < n → SelectsAt m) where
     abbrev never : List Datum → Result Datum Stop
-    never ds = Err stop.Overflow
+    never ds = Err (stop.Error raise.Overflow)
 
     abbrev earlier : Selection
     earlier = below n never choice
 
     earlier_selects : Selects s earlier
-    earlier_selects m r ds is fit are = cond_both (ltb m n) (choice m) never (λ (f : List Datum → Result Datum Stop). GivesValue s (kind.User r.possrep.ty) (f ds)) (λ t. before m (ltb-true m n t) r ds is fit are) (λ t. overflow_is)
+    earlier_selects m r ds is fit are = cond_both (ltb m n) (choice m) never (λ (f : List Datum → Result Datum Stop). GivesValue s (kind.User r.possrep.ty) (f ds)) (λ t. before m (ltb-true m n t) r ds is fit are) (λ t. error_is raise.Overflow)
 
     limit_gives : (r : Representation) (ds : List Datum) (u : Option Typed) → slice_get s.possreps n ≡ Some r → slice_get c.limits n ≡ Some u → AreComponentsOf r (items_of ds) → AreValues s (items_of ds) → GivesTruth (admits choice u (components (names r.components) ds))
     unfolding admits truth_in
@@ -122,13 +120,13 @@ module _ (c : CatalogueData) (defined : Defined c) where
 
     module _ (n : ℕ) (before : (m : ℕ) → m < n → HasAt m) where
       abbrev nowhere : Result RowsData Stop
-      nowhere = Err stop.Overflow
+      nowhere = Err (stop.Error raise.Overflow)
 
       abbrev before_it : Relvars
       before_it = below n nowhere had
 
       before_has : (m : ℕ) (v : Named Header) → slice_get s.relvars m ≡ Some v → GivesRelation s v.value (before_it m)
-      before_has m v is = cond_both (ltb m n) (had m) nowhere (GivesRelation s v.value) (λ t. before m (ltb-true m n t) v is) (λ t. overflow_is)
+      before_has m v is = cond_both (ltb m n) (had m) nowhere (GivesRelation s v.value) (λ t. before m (ltb-true m n t) v is) (λ t. error_is raise.Overflow)
 
       rows_have : (v : Named Header) (e : Typed) → IsTree c no_tuple e (kind.Relation v.value) → ((w : ℕ) → Contains (named_relvars e) w → w < n) → GivesRelation s v.value (rows_in (mean.mean had choice e) no_names)
       unfolding rows_in

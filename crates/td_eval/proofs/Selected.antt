@@ -7,6 +7,7 @@ use Rattle.std.specs.Ordering.{nat_cmp}
 use Rattle.std.proofs.lemmas.Map.Keys.{sorted_tail}
 use Rattle.td_values.specs.Data.{user, items_of}
 use Rattle.td_algebra.specs.Raising.{and_then}
+use Rattle.td_values.specs.declared.raises.Raise.TheVariants as raise
 use Rattle.td_algebra.specs.declared.errors.Stop.TheVariants as stop
 use Rattle.td_trees.specs.declared.expression.Selector.{Selector}
 use Rattle.td_trees.specs.declared.tree.Typed.{Typed}
@@ -38,7 +39,7 @@ module _ (p q : Selection) where
 
   pub selected_alike : (s : Selector) → ((w : ℕ) → Contains (possreps_within s.limit) w → p w ≡ q w) → selected p s ≡ selected q s
   unfolding selected
-  selected_alike s same = λ i ds. and_then (admits_alike s.limit (components s.components ds) same i) (λ b. if b then Ok (user s.possrep (items_of ds)) else Err stop.Selector)
+  selected_alike s same = λ i ds. and_then (admits_alike s.limit (components s.components ds) same i) (λ b. if b then Ok (user s.possrep (items_of ds)) else Err (stop.Error raise.Selector))
 
 -- ---- the selectors at ascending places
 abbrev maybe : Selection → Option Selector → Selection

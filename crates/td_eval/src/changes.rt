@@ -21,6 +21,7 @@ ghost use Rattle.td_eval.specs.ForProofs.Forms.{TellsForm, form_means};
 use crate::evaluation::{add_virtuals, known_bases, leased};
 use crate::forms::{Change, Form, form_of};
 use crate::lookup::Lookup;
+use crate::naming::lacking;
 use crate::valued::raise_of;
 use std::alloc::{AllocError, Global};
 use td_algebra::{Fault, Stop};
@@ -50,7 +51,7 @@ fn replaced(
     requires heading { more.now.heading ≡ relation.now.heading }
     ensures { IfOk result (IsDifference relation.now (union_of (minus_of relation.now gone.now) more.now)) }
 {
-    let inserted = minus(alloc, more, relation)?;
+    let inserted = lacking(alloc, more, relation)?;
     let deleted = minus(alloc, gone, more)?;
     Ok(Delta::of(inserted, deleted))
 }

@@ -7,10 +7,12 @@ mod evaluation;
 mod forms;
 pub mod laws;
 pub mod lookup;
+mod naming;
 pub mod valued;
 
 pub use addition::added;
 pub use changes::changed;
 pub use evaluation::eval;
 pub use lookup::Lookup;
+pub use naming::lacking;
 pub use valued::{relation, truth, value};

@@ -25,11 +25,7 @@ pub(crate) fn raise_of(stop: Stop) -> Raise
 {
     match stop {
         Stop::Untyped => unreachable!(),
-        Stop::Overflow => Raise::Overflow,
-        Stop::Divide => Raise::Divide,
-        Stop::Empty => Raise::Empty,
-        Stop::Selector => Raise::Selector,
-        Stop::Cardinality => Raise::Cardinality,
+        Stop::Error(raise) => raise,
     }
 }
 

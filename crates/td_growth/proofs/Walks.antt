@@ -5,9 +5,8 @@ use Rattle.td_values.specs.Headings.{Header}
 use Rattle.td_values.specs.Rows.{RowsData}
 use Rattle.td_relations.specs.Sets.{Has, IsRelationOf}
 use Rattle.td_algebra.specs.Raising.{UnlessRaised}
-use Rattle.td_algebra.specs.Stops.{number_of}
+use Rattle.td_algebra.proofs.Bridges.{same_stop}
 use Rattle.td_algebra.specs.declared.errors.Stop.{Stop}
-use Rattle.td_algebra.specs.declared.errors.Stop.TheVariants.{Untyped, Overflow, Divide, Empty, Selector, Cardinality}
 use Rattle.td_growth.proofs.Answers.{Grown}
 
 -- w gained the tuples of b: it has them, and no others that a has not; it may lack some of a
@@ -16,26 +15,6 @@ pub record IsGrown (a w b : RowsData) : Type 0 where
   pub new_heading : b.heading ≡ w.heading
   pub either : (t : Attrs) → Has w t → Has a t ⊎ Has b t
   pub new : (t : Attrs) → Has b t → Has w t
-
--- ---- errors by their numbers
-abbrev stop_at : ℕ → Stop
-stop_at zero = Untyped
-stop_at (suc zero) = Overflow
-stop_at (suc (suc zero)) = Divide
-stop_at (suc (suc (suc zero))) = Empty
-stop_at (suc (suc (suc (suc zero)))) = Selector
-stop_at (suc (suc (suc (suc (suc n))))) = Cardinality
-
-back : (e : Stop) → stop_at (number_of e) ≡ e
-back Untyped = refl
-back Overflow = refl
-back Divide = refl
-back Empty = refl
-back Selector = refl
-back Cardinality = refl
-
-same_stop : (e f : Stop) → number_of e ≡ number_of f → e ≡ f
-same_stop e f h = sym (back e) ∙ ap stop_at h ∙ back f
 
 -- ---- relations of tuples that are each made of one
 module _ (k : Header → Header) (Q : Header → Attrs → Attrs → Type 0) where

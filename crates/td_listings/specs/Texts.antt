@@ -9,6 +9,7 @@ use Rattle.td_values.specs.Shown.{shown}
 use Rattle.td_values.specs.declared.raises.Raise.{Raise}
 use Rattle.td_syntax.specs.declared.tree.Named.{Named}
 use Rattle.td_algebra.specs.declared.errors.Stop.{Stop}
+use Rattle.td_values.specs.declared.raises.Raise.TheVariants as raise
 use Rattle.td_algebra.specs.declared.errors.Stop.TheVariants as stop
 use Rattle.td_story.specs.Raises.{stop_of}
 use Rattle.td_story.specs.Trees.{all_relvars}
@@ -26,17 +27,18 @@ use Rattle.td_stamps.specs.declared.entry.Stamp.{Stamp}
 abbrev pub shown_stamp : Stamp → List ℕ
 shown_stamp s = decimal s.clock ++ codes "." ++ decimal s.site
 
--- an error is told by its word; what has no meaning is no error of the language, and has none
+-- an error is told by its word
+abbrev pub shown_raise : Raise → List ℕ
+shown_raise raise.Overflow = codes "overflow"
+shown_raise raise.Divide = codes "divide"
+shown_raise raise.Empty = codes "empty"
+shown_raise raise.Selector = codes "selector"
+shown_raise raise.Cardinality = codes "cardinality"
+
+-- what has no meaning is no error of the language, and has no word
 abbrev pub shown_stop : Stop → List ℕ
 shown_stop stop.Untyped = []
-shown_stop stop.Overflow = codes "overflow"
-shown_stop stop.Divide = codes "divide"
-shown_stop stop.Empty = codes "empty"
-shown_stop stop.Selector = codes "selector"
-shown_stop stop.Cardinality = codes "cardinality"
-
-abbrev pub shown_raise : Raise → List ℕ
-shown_raise e = shown_stop (stop_of e)
+shown_stop (stop.Error e) = shown_raise e
 
 -- why a statement is refused; one that is done has no reason
 abbrev pub reason : Outcome → Option (List ℕ)

@@ -32,7 +32,8 @@ use Rattle.td_syntax.specs.declared.tree.Expr.TheVariants as e
 use Rattle.td_trees.specs.declared.tree.Typed.{Typed}
 use Rattle.td_trees.specs.declared.tree.Typed.TheVariants as t
 use Rattle.td_trees.specs.declared.tree.Typing.{Typing}
-use Rattle.td_algebra.specs.declared.errors.Stop.TheVariants.{Overflow, Untyped}
+use Rattle.td_values.specs.declared.raises.Raise.TheVariants.{Overflow}
+use Rattle.td_algebra.specs.declared.errors.Stop.TheVariants.{Error, Untyped}
 use Rattle.td_algebra.specs.Functions.{relation_from}
 use Rattle.td_algebra.specs.Nested.{tuple_list}
 use Rattle.td_algebra.specs.Raising.{and_then}
@@ -109,7 +110,7 @@ module _ (s : SchemaData) (relvars : Relvars) (selection : Selection) (scope : S
   unfolding mean_by
   negated n small =
       by_form (t.Unary unary.Negate (t.Integer (pos (suc n)))) (mean_by (operate_on unary.Negate) (m (t.Integer (pos (suc n))))) (integer (negsuc n)) (forms.of_unary relvars selection unary.Negate (t.Integer (pos (suc n))))
-      ((λ i. and_then (number (pos (suc n)) i) (operate_on unary.Negate)) ∙ ap (λ b. if b then Ok (integer (negsuc n)) else Err Overflow) small)
+      ((λ i. and_then (number (pos (suc n)) i) (operate_on unary.Negate)) ∙ ap (λ b. if b then Ok (integer (negsuc n)) else Err (Error Overflow)) small)
 
   least : m (t.Binary binary.Subtract (t.Unary unary.Negate (t.Integer (pos 9223372036854775807))) (t.Integer (pos 1))) env ≡ Ok (integer (negsuc 9223372036854775807))
   unfolding mean_both of_integers

@@ -18,62 +18,63 @@ use Rattle.td_trees.specs.declared.tree.Typed.TheViews.{roll-Typed}
 use Rattle.td_trees.specs.declared.tree.Typed.TheFolds.{fold-roll-Typed, ind-Typed}
 use Rattle.td_trees.specs.declared.tree.Typed.TheShapes.{former-Typed-Summarize-2-at-13}
 use Rattle.td_algebra.specs.declared.errors.Stop.{Stop}
-use Rattle.td_algebra.specs.declared.errors.Stop.TheVariants.{Untyped, Overflow, Divide, Empty, Selector, Cardinality}
+use Rattle.td_values.specs.declared.raises.Raise.TheVariants.{Overflow, Divide, Empty, Selector, Cardinality}
+use Rattle.td_algebra.specs.declared.errors.Stop.TheVariants.{Untyped, Error}
 use Rattle.td_algebra.specs.Extending.{extended_at, field_at, typed_field}
 use Rattle.td_algebra.specs.Functions.{restricted, extended, summarized}
 use Rattle.td_algebra.specs.Raising.{all_of, alone, and_all, and_then}
 use Rattle.td_algebra.specs.Summaries.{fold_of, group_of, over_groups, summary_over}
-use Rattle.td_meaning.specs.Laws.{AreFewer, Stays}
+use Rattle.td_meaning.specs.Laws.{AreFewer, IsUntypedOrSame}
 use Rattle.td_meaning.specs.Mean.{Meaning, Names, Relvars, Selection, mean, mean_step, at, given, groups_at, introduced, mean_aggregate, mean_and, mean_binary, mean_both, mean_by, mean_extend, mean_if, mean_local, mean_or, mean_relation, mean_relvar, mean_select, mean_summarize, mean_tuple, mean_where, mean_with, named_at, or_else, rows_in, same_text, truth_at, truth_in, value_at, within}
 use Rattle.td_operators.specs.Operators.{as_value, in_turn, operate}
 use Rattle.td_operators.specs.Values.{known, rows_of, truth_of}
 
 -- ---- answers
-stays_then : {A B : Type 0} (w v : Result A Stop) (f g : A → Result B Stop) → Stays w v → ((a : A) → Stays (f a) (g a)) → Stays (and_then w f) (and_then v g)
+stays_then : {A B : Type 0} (w v : Result A Stop) (f g : A → Result B Stop) → IsUntypedOrSame w v → ((a : A) → IsUntypedOrSame (f a) (g a)) → IsUntypedOrSame (and_then w f) (and_then v g)
 stays_then w v f g (inl e) each = inl (ap (λ x. and_then x f) e)
-stays_then (Ok a) v f g (inr e) each = subst (λ x. Stays (f a) (and_then x g)) e (each a)
+stays_then (Ok a) v f g (inr e) each = subst (λ x. IsUntypedOrSame (f a) (and_then x g)) e (each a)
 stays_then (Err s) v f g (inr e) each = inr (ap (λ x. and_then x g) e)
 
 wanting_behind : {A : Type 0} (w : Result A Stop) (rest : Result (List A) Stop) → rest ≡ Err Untyped → and_all (alone w) rest ≡ Err Untyped
 wanting_behind (Ok a) rest e = ap (and_all (alone (Ok a))) e
 wanting_behind (Err Untyped) rest e = ap (and_all (Err Untyped)) e
-wanting_behind (Err Overflow) rest e = ap (and_all (Err Overflow)) e
-wanting_behind (Err Divide) rest e = ap (and_all (Err Divide)) e
-wanting_behind (Err Empty) rest e = ap (and_all (Err Empty)) e
-wanting_behind (Err Selector) rest e = ap (and_all (Err Selector)) e
-wanting_behind (Err Cardinality) rest e = ap (and_all (Err Cardinality)) e
+wanting_behind (Err (Error Overflow)) rest e = ap (and_all (Err (Error Overflow))) e
+wanting_behind (Err (Error Divide)) rest e = ap (and_all (Err (Error Divide))) e
+wanting_behind (Err (Error Empty)) rest e = ap (and_all (Err (Error Empty))) e
+wanting_behind (Err (Error Selector)) rest e = ap (and_all (Err (Error Selector))) e
+wanting_behind (Err (Error Cardinality)) rest e = ap (and_all (Err (Error Cardinality))) e
 
 wanting_first : {A : Type 0} (w : Result A Stop) (rest : Result (List A) Stop) → w ≡ Err Untyped → and_all (alone w) rest ≡ Err Untyped
 wanting_first w (Ok rest) e = ap (λ x. and_all (alone x) (Ok rest)) e
 wanting_first w (Err Untyped) e = ap (λ x. and_all (alone x) (Err Untyped)) e
-wanting_first w (Err Overflow) e = ap (λ x. and_all (alone x) (Err Overflow)) e
-wanting_first w (Err Divide) e = ap (λ x. and_all (alone x) (Err Divide)) e
-wanting_first w (Err Empty) e = ap (λ x. and_all (alone x) (Err Empty)) e
-wanting_first w (Err Selector) e = ap (λ x. and_all (alone x) (Err Selector)) e
-wanting_first w (Err Cardinality) e = ap (λ x. and_all (alone x) (Err Cardinality)) e
+wanting_first w (Err (Error Overflow)) e = ap (λ x. and_all (alone x) (Err (Error Overflow))) e
+wanting_first w (Err (Error Divide)) e = ap (λ x. and_all (alone x) (Err (Error Divide))) e
+wanting_first w (Err (Error Empty)) e = ap (λ x. and_all (alone x) (Err (Error Empty))) e
+wanting_first w (Err (Error Selector)) e = ap (λ x. and_all (alone x) (Err (Error Selector))) e
+wanting_first w (Err (Error Cardinality)) e = ap (λ x. and_all (alone x) (Err (Error Cardinality))) e
 
-stays_beside : {A : Type 0} (w v : Result A Stop) (r s : Result (List A) Stop) → Stays w v → Stays r s → Stays (and_all (alone w) r) (and_all (alone v) s)
+stays_beside : {A : Type 0} (w v : Result A Stop) (r s : Result (List A) Stop) → IsUntypedOrSame w v → IsUntypedOrSame r s → IsUntypedOrSame (and_all (alone w) r) (and_all (alone v) s)
 stays_beside w v r s (inl e) later = inl (wanting_first w r e)
 stays_beside w v r s (inr e) (inl d) = inl (wanting_behind w r d)
 stays_beside w v r s (inr e) (inr d) = inr (λ i. and_all (alone (e i)) (d i))
 
-stays_all : {X A : Type 0} (xs : List X) (f g : X → Result A Stop) → ((x : X) → Stays (f x) (g x)) → Stays (all_of f xs) (all_of g xs)
+stays_all : {X A : Type 0} (xs : List X) (f g : X → Result A Stop) → ((x : X) → IsUntypedOrSame (f x) (g x)) → IsUntypedOrSame (all_of f xs) (all_of g xs)
 stays_all [] f g each = inr refl
 stays_all (x ∷ xs) f g each = stays_beside (f x) (g x) (all_of f xs) (all_of g xs) (each x) (stays_all xs f g each)
 
-module _ {P X A : Type 0} (see : P → X) (f g : X → Result A Stop) (each : (p : P) → Stays (f (see p)) (g (see p))) where
-  stays_seen : (ps : List P) → Stays (all_of f (map see ps)) (all_of g (map see ps))
+module _ {P X A : Type 0} (see : P → X) (f g : X → Result A Stop) (each : (p : P) → IsUntypedOrSame (f (see p)) (g (see p))) where
+  stays_seen : (ps : List P) → IsUntypedOrSame (all_of f (map see ps)) (all_of g (map see ps))
   stays_seen [] = inr refl
   stays_seen (p ∷ ps) = stays_beside (f (see p)) (g (see p)) (all_of f (map see ps)) (all_of g (map see ps)) (each p) (stays_seen ps)
 
-  stays_in_turn : (ps : List P) → Stays (in_turn f (map see ps)) (in_turn g (map see ps))
+  stays_in_turn : (ps : List P) → IsUntypedOrSame (in_turn f (map see ps)) (in_turn g (map see ps))
   stays_in_turn [] = inr refl
   stays_in_turn (p ∷ ps) =
       stays_then (f (see p)) (g (see p)) (λ a. and_then (in_turn f (map see ps)) (λ rest. Ok (a ∷ rest))) (λ a. and_then (in_turn g (map see ps)) (λ rest. Ok (a ∷ rest))) (each p)
       (λ a. stays_then (in_turn f (map see ps)) (in_turn g (map see ps)) (λ rest. Ok (a ∷ rest)) (λ rest. Ok (a ∷ rest)) (stays_in_turn ps) (λ rest. inr refl))
 
 -- ---- names
-stays_known : (o p : Option Datum) → (o ≡ None) ⊎ (o ≡ p) → Stays (known o) (known p)
+stays_known : (o p : Option Datum) → (o ≡ None) ⊎ (o ≡ p) → IsUntypedOrSame (known o) (known p)
 stays_known o p (inl e) = inl (ap known e)
 stays_known o p (inr e) = inr (ap known e)
 
@@ -88,13 +89,13 @@ fewer_given : (n : List ℕ) (d : Datum) (few names : Names) → AreFewer few na
 fewer_given n d few names h x = elim (same_text n x) as (λ b. (cond b (Some d) (few x) ≡ None) ⊎ (cond b (Some d) (few x) ≡ cond b (Some d) (names x))) [ true ↦ inr refl | false ↦ h x ]
 
 abbrev Steady : Meaning → Type 0
-Steady m = (few names : Names) → AreFewer few names → Stays (m few) (m names)
+Steady m = (few names : Names) → AreFewer few names → IsUntypedOrSame (m few) (m names)
 
-steady_truth : (m : Meaning) → Steady m → (few names : Names) → AreFewer few names → Stays (truth_in m few) (truth_in m names)
+steady_truth : (m : Meaning) → Steady m → (few names : Names) → AreFewer few names → IsUntypedOrSame (truth_in m few) (truth_in m names)
 unfolding truth_in
 steady_truth m h few names are = stays_then (m few) (m names) truth_of truth_of (h few names are) (λ d. inr refl)
 
-steady_rows : (m : Meaning) → Steady m → (few names : Names) → AreFewer few names → Stays (rows_in m few) (rows_in m names)
+steady_rows : (m : Meaning) → Steady m → (few names : Names) → AreFewer few names → IsUntypedOrSame (rows_in m few) (rows_in m names)
 unfolding rows_in
 steady_rows m h few names are = stays_then (m few) (m names) rows_of rows_of (h few names are) (λ d. inr refl)
 
@@ -116,16 +117,16 @@ unfolding mean_both
 steady_both o a b ha hb few names are = stays_then (a few) (a names) (λ d. and_then (b few) (operate o d)) (λ d. and_then (b names) (operate o d)) (ha few names are) (λ d. stays_then (b few) (b names) (operate o d) (operate o d) (hb few names are) (λ e. inr refl))
 
 module _ (a b : Meaning) (ha : Steady a) (hb : Steady b) where
-  second : (few names : Names) → AreFewer few names → Stays (and_then (truth_in b few) (λ u. Ok (boolean u))) (and_then (truth_in b names) (λ u. Ok (boolean u)))
+  second : (few names : Names) → AreFewer few names → IsUntypedOrSame (and_then (truth_in b few) (λ u. Ok (boolean u))) (and_then (truth_in b names) (λ u. Ok (boolean u)))
   second few names are = stays_then (truth_in b few) (truth_in b names) (λ u. Ok (boolean u)) (λ u. Ok (boolean u)) (steady_truth b hb few names are) (λ u. inr refl)
 
   steady_and : Steady (mean_and a b)
   unfolding mean_and
-  steady_and few names are = stays_then (truth_in a few) (truth_in a names) _ _ (steady_truth a ha few names are) (λ t. elim t as (λ t. Stays (cond t (and_then (truth_in b few) (λ u. Ok (boolean u))) (Ok (boolean false))) (cond t (and_then (truth_in b names) (λ u. Ok (boolean u))) (Ok (boolean false)))) [ true ↦ second few names are | false ↦ inr refl ])
+  steady_and few names are = stays_then (truth_in a few) (truth_in a names) _ _ (steady_truth a ha few names are) (λ t. elim t as (λ t. IsUntypedOrSame (cond t (and_then (truth_in b few) (λ u. Ok (boolean u))) (Ok (boolean false))) (cond t (and_then (truth_in b names) (λ u. Ok (boolean u))) (Ok (boolean false)))) [ true ↦ second few names are | false ↦ inr refl ])
 
   steady_or : Steady (mean_or a b)
   unfolding mean_or
-  steady_or few names are = stays_then (truth_in a few) (truth_in a names) _ _ (steady_truth a ha few names are) (λ t. elim t as (λ t. Stays (cond t (Ok (boolean true)) (and_then (truth_in b few) (λ u. Ok (boolean u)))) (cond t (Ok (boolean true)) (and_then (truth_in b names) (λ u. Ok (boolean u))))) [ true ↦ inr refl | false ↦ second few names are ])
+  steady_or few names are = stays_then (truth_in a few) (truth_in a names) _ _ (steady_truth a ha few names are) (λ t. elim t as (λ t. IsUntypedOrSame (cond t (Ok (boolean true)) (and_then (truth_in b few) (λ u. Ok (boolean u)))) (cond t (Ok (boolean true)) (and_then (truth_in b names) (λ u. Ok (boolean u))))) [ true ↦ inr refl | false ↦ second few names are ])
 
 steady_binary : (o : BinaryOperator) (a b : Meaning) → Steady a → Steady b → Steady (mean_binary o a b)
 steady_binary binary.And a b ha hb = steady_and a b ha hb
@@ -134,23 +135,23 @@ steady_binary o a b ha hb = steady_both o a b ha hb
 
 steady_if : (c a b : Meaning) → Steady c → Steady a → Steady b → Steady (mean_if c a b)
 unfolding mean_if
-steady_if c a b hc ha hb few names are = stays_then (truth_in c few) (truth_in c names) _ _ (steady_truth c hc few names are) (λ t. elim t as (λ t. Stays (cond t (a few) (b few)) (cond t (a names) (b names))) [ true ↦ ha few names are | false ↦ hb few names are ])
+steady_if c a b hc ha hb few names are = stays_then (truth_in c few) (truth_in c names) _ _ (steady_truth c hc few names are) (λ t. elim t as (λ t. IsUntypedOrSame (cond t (a few) (b few)) (cond t (a names) (b names))) [ true ↦ ha few names are | false ↦ hb few names are ])
 
 -- ---- terms at tuples
 module _ (few names : Names) (are : AreFewer few names) where
-  value_stays : (m : Meaning) → Steady m → (t : Attrs) → Stays (value_at few m t) (value_at names m t)
+  value_stays : (m : Meaning) → Steady m → (t : Attrs) → IsUntypedOrSame (value_at few m t) (value_at names m t)
   unfolding value_at
   value_stays m h t = h (within t few) (within t names) (fewer_within t few names are)
 
-  truth_stays : (m : Meaning) → Steady m → (t : Attrs) → Stays (truth_at m few t) (truth_at m names t)
+  truth_stays : (m : Meaning) → Steady m → (t : Attrs) → IsUntypedOrSame (truth_at m few t) (truth_at m names t)
   unfolding truth_at
   truth_stays m h t = steady_truth m h (within t few) (within t names) (fewer_within t few names are)
 
-  restricted_stays : (m : Meaning) → Steady m → (r : RowsData) → Stays (restricted (truth_at m few) r) (restricted (truth_at m names) r)
+  restricted_stays : (m : Meaning) → Steady m → (r : RowsData) → IsUntypedOrSame (restricted (truth_at m few) r) (restricted (truth_at m names) r)
   unfolding restricted
   restricted_stays m h r = stays_then (all_of (truth_at m few) r.tuples) (all_of (truth_at m names) r.tuples) _ _ (stays_all r.tuples (truth_at m few) (truth_at m names) (truth_stays m h)) (λ bs. inr refl)
 
-  term_stays : (s : Summary Meaning) (m : Meaning) (ts : List Attrs) → Steady m → Stays (and_then (all_of (value_at few m) ts) (fold_of s)) (and_then (all_of (value_at names m) ts) (fold_of s))
+  term_stays : (s : Summary Meaning) (m : Meaning) (ts : List Attrs) → Steady m → IsUntypedOrSame (and_then (all_of (value_at few m) ts) (fold_of s)) (and_then (all_of (value_at names m) ts) (fold_of s))
   term_stays s m ts h = stays_then (all_of (value_at few m) ts) (all_of (value_at names m) ts) (fold_of s) (fold_of s) (stays_all ts (value_at few m) (value_at names m) (value_stays m h)) (λ ds. inr refl)
 
 steady_where : (r c : Meaning) → Steady r → Steady c → Steady (mean_where r c)
@@ -183,12 +184,12 @@ module _ (relvars : Relvars) (selection : Selection) where
   summary_means = former-Typed-Summarize-2-at-13.map Typed Meaning means
 
   -- ---- lists
-  list_stays : (all : List Part) (few names : Names) → AreFewer few names → Stays (in_turn (at few) (map means (map tree all))) (in_turn (at names) (map means (map tree all)))
+  list_stays : (all : List Part) (few names : Names) → AreFewer few names → IsUntypedOrSame (in_turn (at few) (map means (map tree all))) (in_turn (at names) (map means (map tree all)))
   unfolding at
   list_stays [] few names are = inr refl
   list_stays (a ∷ all) few names are = stays_then (means a.0 few) (means a.0 names) _ _ (a.1 few names are) (λ d. stays_then (in_turn (at few) (map means (map tree all))) (in_turn (at names) (map means (map tree all))) (λ rest. Ok (d ∷ rest)) (λ rest. Ok (d ∷ rest)) (list_stays all few names are) (λ rest. inr refl))
 
-  fields_stay : (all : List (Item Part)) (few names : Names) → AreFewer few names → Stays (in_turn (named_at few) (map (with_term means) (map (with_term tree) all))) (in_turn (named_at names) (map (with_term means) (map (with_term tree) all)))
+  fields_stay : (all : List (Item Part)) (few names : Names) → AreFewer few names → IsUntypedOrSame (in_turn (named_at few) (map (with_term means) (map (with_term tree) all))) (in_turn (named_at names) (map (with_term means) (map (with_term tree) all)))
   unfolding named_at
   fields_stay [] few names are = inr refl
   fields_stay (a ∷ all) few names are =
@@ -213,14 +214,14 @@ module _ (relvars : Relvars) (selection : Selection) where
   in_two (Ok a) f g = refl
   in_two (Err e) f g = refl
 
-  with_stays : (all : List (Named Part)) (body : Part) (few names : Names) → AreFewer few names → Stays (and_then (introduced (map (with_value means) (map (with_value tree) all)) few) (means body.0)) (and_then (introduced (map (with_value means) (map (with_value tree) all)) names) (means body.0))
+  with_stays : (all : List (Named Part)) (body : Part) (few names : Names) → AreFewer few names → IsUntypedOrSame (and_then (introduced (map (with_value means) (map (with_value tree) all)) few) (means body.0)) (and_then (introduced (map (with_value means) (map (with_value tree) all)) names) (means body.0))
   unfolding introduced
   with_stays [] body few names are = body.1 few names are
   with_stays (x ∷ all) body few names are =
       let rest = introduced (map (with_value means) (map (with_value tree) all)) in
       let each = stays_then (means x.value.0 few) (means x.value.0 names) (λ d. and_then (rest (given x.name d few)) (means body.0)) (λ d. and_then (rest (given x.name d names)) (means body.0)) (x.value.1 few names are) (λ d. with_stays all body (given x.name d few) (given x.name d names) (fewer_given x.name d few names are)) in
-      subst (λ w. Stays w (and_then (and_then (means x.value.0 names) (λ d. rest (given x.name d names))) (means body.0))) (sym (in_two (means x.value.0 few) (λ d. rest (given x.name d few)) (means body.0)))
-      (subst (λ v. Stays (and_then (means x.value.0 few) (λ d. and_then (rest (given x.name d few)) (means body.0))) v) (sym (in_two (means x.value.0 names) (λ d. rest (given x.name d names)) (means body.0))) each)
+      subst (λ w. IsUntypedOrSame w (and_then (and_then (means x.value.0 names) (λ d. rest (given x.name d names))) (means body.0))) (sym (in_two (means x.value.0 few) (λ d. rest (given x.name d few)) (means body.0)))
+      (subst (λ v. IsUntypedOrSame (and_then (means x.value.0 few) (λ d. and_then (rest (given x.name d few)) (means body.0))) v) (sym (in_two (means x.value.0 names) (λ d. rest (given x.name d names)) (means body.0))) each)
 
   steady_with : (all : List (Named Part)) (body : Part) → Steady (mean_with (map (with_value means) (map (with_value tree) all)) (means body.0))
   unfolding mean_with
@@ -228,14 +229,14 @@ module _ (relvars : Relvars) (selection : Selection) where
 
   -- ---- over tuples
   module _ (few names : Names) (are : AreFewer few names) where
-    field_stays : (t : Attrs) (i : Item Part) → Stays (field_at (value_at few) t (with_term means (with_term tree i))) (field_at (value_at names) t (with_term means (with_term tree i)))
+    field_stays : (t : Attrs) (i : Item Part) → IsUntypedOrSame (field_at (value_at few) t (with_term means (with_term tree i))) (field_at (value_at names) t (with_term means (with_term tree i)))
     field_stays t i = stays_then (value_at few (meant i.term) t) (value_at names (meant i.term) t) (typed_field i.name i.ty) (typed_field i.name i.ty) (value_stays few names are (meant i.term) i.term.1 t) (λ d. inr refl)
 
-    all_fields : (all : List (Item Part)) (t : Attrs) → Stays (all_of (field_at (value_at few) t) (map (with_term means) (map (with_term tree) all))) (all_of (field_at (value_at names) t) (map (with_term means) (map (with_term tree) all)))
+    all_fields : (all : List (Item Part)) (t : Attrs) → IsUntypedOrSame (all_of (field_at (value_at few) t) (map (with_term means) (map (with_term tree) all))) (all_of (field_at (value_at names) t) (map (with_term means) (map (with_term tree) all)))
     all_fields [] t = inr refl
     all_fields (i ∷ all) t = stays_beside (field_at (value_at few) t (with_term means (with_term tree i))) (field_at (value_at names) t (with_term means (with_term tree i))) (all_of (field_at (value_at few) t) (map (with_term means) (map (with_term tree) all))) (all_of (field_at (value_at names) t) (map (with_term means) (map (with_term tree) all))) (field_stays t i) (all_fields all t)
 
-    extended_stays : (all : List (Item Part)) (r : RowsData) → Stays (extended (value_at few) (map (with_term means) (map (with_term tree) all)) r) (extended (value_at names) (map (with_term means) (map (with_term tree) all)) r)
+    extended_stays : (all : List (Item Part)) (r : RowsData) → IsUntypedOrSame (extended (value_at few) (map (with_term means) (map (with_term tree) all)) r) (extended (value_at names) (map (with_term means) (map (with_term tree) all)) r)
     unfolding extended
     extended_stays all r =
         let items = map (with_term means) (map (with_term tree) all) in
@@ -244,7 +245,7 @@ module _ (relvars : Relvars) (selection : Selection) where
         (λ t. stays_then (all_of (field_at (value_at few) t) items) (all_of (field_at (value_at names) t) items) _ _ (all_fields all t) (λ fs. inr refl)))
         (λ us. inr refl)
 
-    summary_stays : (n : List ℕ) (ty : Ty) (s : Summary Part) (ts : List Attrs) → Stays (summary_over (value_at few) ts (summary_means (summary_trees (record { name = n; ty = ty; term = s }))).term) (summary_over (value_at names) ts (summary_means (summary_trees (record { name = n; ty = ty; term = s }))).term)
+    summary_stays : (n : List ℕ) (ty : Ty) (s : Summary Part) (ts : List Attrs) → IsUntypedOrSame (summary_over (value_at few) ts (summary_means (summary_trees (record { name = n; ty = ty; term = s }))).term) (summary_over (value_at names) ts (summary_means (summary_trees (record { name = n; ty = ty; term = s }))).term)
     summary_stays n ty summary.Count ts = inr refl
     summary_stays n ty (summary.Sum a) ts = term_stays few names are (summary.Sum (meant a)) (meant a) ts a.1
     summary_stays n ty (summary.Max a) ts = term_stays few names are (summary.Max (meant a)) (meant a) ts a.1
@@ -252,14 +253,14 @@ module _ (relvars : Relvars) (selection : Selection) where
     summary_stays n ty (summary.And a) ts = term_stays few names are (summary.And (meant a)) (meant a) ts a.1
     summary_stays n ty (summary.Or a) ts = term_stays few names are (summary.Or (meant a)) (meant a) ts a.1
 
-    group_stays : (r : RowsData) (h : Header) (t : Attrs) (i : Item (Summary Part)) → Stays (field_at (over_groups (value_at few) r h) t (summary_means (summary_trees i))) (field_at (over_groups (value_at names) r h) t (summary_means (summary_trees i)))
+    group_stays : (r : RowsData) (h : Header) (t : Attrs) (i : Item (Summary Part)) → IsUntypedOrSame (field_at (over_groups (value_at few) r h) t (summary_means (summary_trees i))) (field_at (over_groups (value_at names) r h) t (summary_means (summary_trees i)))
     group_stays r h t i = stays_then (summary_over (value_at few) (group_of r h t) (summary_means (summary_trees i)).term) (summary_over (value_at names) (group_of r h t) (summary_means (summary_trees i)).term) (typed_field i.name i.ty) (typed_field i.name i.ty) (summary_stays i.name i.ty i.term (group_of r h t)) (λ d. inr refl)
 
-    all_groups : (r : RowsData) (h : Header) (all : List (Item (Summary Part))) (t : Attrs) → Stays (all_of (field_at (over_groups (value_at few) r h) t) (map summary_means (map summary_trees all))) (all_of (field_at (over_groups (value_at names) r h) t) (map summary_means (map summary_trees all)))
+    all_groups : (r : RowsData) (h : Header) (all : List (Item (Summary Part))) (t : Attrs) → IsUntypedOrSame (all_of (field_at (over_groups (value_at few) r h) t) (map summary_means (map summary_trees all))) (all_of (field_at (over_groups (value_at names) r h) t) (map summary_means (map summary_trees all)))
     all_groups r h [] t = inr refl
     all_groups r h (i ∷ all) t = stays_beside (field_at (over_groups (value_at few) r h) t (summary_means (summary_trees i))) (field_at (over_groups (value_at names) r h) t (summary_means (summary_trees i))) (all_of (field_at (over_groups (value_at few) r h) t) (map summary_means (map summary_trees all))) (all_of (field_at (over_groups (value_at names) r h) t) (map summary_means (map summary_trees all))) (group_stays r h t i) (all_groups r h all t)
 
-    summarized_stays : (all : List (Item (Summary Part))) (r per : RowsData) → Stays (summarized (value_at few) (map summary_means (map summary_trees all)) r per) (summarized (value_at names) (map summary_means (map summary_trees all)) r per)
+    summarized_stays : (all : List (Item (Summary Part))) (r per : RowsData) → IsUntypedOrSame (summarized (value_at few) (map summary_means (map summary_trees all)) r per) (summarized (value_at names) (map summary_means (map summary_trees all)) r per)
     unfolding summarized extended
     summarized_stays all r per =
         let items = map summary_means (map summary_trees all) in
@@ -270,15 +271,15 @@ module _ (relvars : Relvars) (selection : Selection) where
         (λ t. stays_then (all_of (field_at f t) items) (all_of (field_at g t) items) _ _ (all_groups r per.heading all t) (λ fs. inr refl)))
         (λ us. inr refl)
 
-    per_stays : (a : Part) (ts : RowsData) → Stays (groups_at (groups.Per (means a.0)) few ts) (groups_at (groups.Per (means a.0)) names ts)
+    per_stays : (a : Part) (ts : RowsData) → IsUntypedOrSame (groups_at (groups.Per (means a.0)) few ts) (groups_at (groups.Per (means a.0)) names ts)
     unfolding groups_at
     per_stays a ts = steady_rows (means a.0) a.1 few names are
 
-    whole_stays : (ts : RowsData) → Stays (groups_at groups.Whole few ts) (groups_at groups.Whole names ts)
+    whole_stays : (ts : RowsData) → IsUntypedOrSame (groups_at groups.Whole few ts) (groups_at groups.Whole names ts)
     unfolding groups_at
     whole_stays ts = inr refl
 
-    by_stays : (xs : List (List ℕ)) (ts : RowsData) → Stays (groups_at (groups.By xs) few ts) (groups_at (groups.By xs) names ts)
+    by_stays : (xs : List (List ℕ)) (ts : RowsData) → IsUntypedOrSame (groups_at (groups.By xs) few ts) (groups_at (groups.By xs) names ts)
     unfolding groups_at
     by_stays xs ts = inr refl
 
@@ -286,13 +287,13 @@ module _ (relvars : Relvars) (selection : Selection) where
   unfolding mean_extend
   steady_extend a all few names are = stays_then (rows_in (means a.0) few) (rows_in (means a.0) names) _ _ (steady_rows (means a.0) a.1 few names are) (λ ts. stays_then (extended (value_at few) (map (with_term means) (map (with_term tree) all)) ts) (extended (value_at names) (map (with_term means) (map (with_term tree) all)) ts) as_value as_value (extended_stays few names are all ts) (λ us. inr refl))
 
-  steady_summarize : (a : Part) (g : TypedGroups Meaning) (all : List (Item (Summary Part))) → ((few names : Names) → AreFewer few names → (ts : RowsData) → Stays (groups_at g few ts) (groups_at g names ts)) → Steady (mean_summarize (means a.0) g (map summary_means (map summary_trees all)))
+  steady_summarize : (a : Part) (g : TypedGroups Meaning) (all : List (Item (Summary Part))) → ((few names : Names) → AreFewer few names → (ts : RowsData) → IsUntypedOrSame (groups_at g few ts) (groups_at g names ts)) → Steady (mean_summarize (means a.0) g (map summary_means (map summary_trees all)))
   unfolding mean_summarize
   steady_summarize a g all hg few names are = stays_then (rows_in (means a.0) few) (rows_in (means a.0) names) _ _ (steady_rows (means a.0) a.1 few names are)
       (λ ts. stays_then (groups_at g few ts) (groups_at g names ts) _ _ (hg few names are ts)
       (λ us. stays_then (summarized (value_at few) (map summary_means (map summary_trees all)) ts us) (summarized (value_at names) (map summary_means (map summary_trees all)) ts us) as_value as_value (summarized_stays few names are all ts us) (λ vs. inr refl)))
 
-  steady_aggregate : (a : Part) (s : Summary Meaning) → ((few names : Names) → AreFewer few names → (ts : List Attrs) → Stays (summary_over (value_at few) ts s) (summary_over (value_at names) ts s)) → Steady (mean_aggregate (means a.0) s)
+  steady_aggregate : (a : Part) (s : Summary Meaning) → ((few names : Names) → AreFewer few names → (ts : List Attrs) → IsUntypedOrSame (summary_over (value_at few) ts s) (summary_over (value_at names) ts s)) → Steady (mean_aggregate (means a.0) s)
   unfolding mean_aggregate
   steady_aggregate a s hs few names are = stays_then (rows_in (means a.0) few) (rows_in (means a.0) names) _ _ (steady_rows (means a.0) a.1 few names are) (λ ts. hs few names are ts.tuples)
 

@@ -11,7 +11,8 @@ use Rattle.td_algebra.specs.declared.errors.Fault.{Fault}
 use Rattle.td_algebra.specs.declared.errors.Fault.TheVariants.{Raised}
 use Rattle.td_algebra.specs.declared.errors.Stop.{Stop}
 use Rattle.td_algebra.specs.Raising.{Answers}
-use Rattle.td_algebra.specs.declared.errors.Stop.TheVariants.{Untyped, Overflow}
+use Rattle.td_values.specs.declared.raises.Raise.TheVariants.{Overflow}
+use Rattle.td_algebra.specs.declared.errors.Stop.TheVariants.{Untyped, Error}
 use Rattle.td_meaning.specs.ForProofs.Right.{AreRight, IsRight}
 use Rattle.td_meaning.specs.Mean.{Names}
 use Rattle.td_meaning.specs.Seen.{mean_in, relvars_at}
@@ -45,7 +46,7 @@ told (Ok d) = Unit {0}
 told (Err e) = ⊥
 
 stop_of : Result Datum Stop → Stop
-stop_of (Ok d) = Overflow
+stop_of (Ok d) = Error Overflow
 stop_of (Err e) = e
 
 pub value_means : (env : Environment) (a : Typed) (d : Datum) → mean_in env a (λ x. None) ≡ Ok d → (names : Names) → mean_in env a names ≡ Ok d

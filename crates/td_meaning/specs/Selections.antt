@@ -5,6 +5,7 @@ use Rattle.td_values.specs.Data.{Datum, user, items_of}
 use Rattle.td_trees.specs.declared.expression.Selector.{Selector}
 use Rattle.td_trees.specs.declared.tree.Typed.{Typed}
 use Rattle.td_algebra.specs.declared.errors.Stop.{Stop}
+use Rattle.td_values.specs.declared.raises.Raise.TheVariants as raise
 use Rattle.td_algebra.specs.declared.errors.Stop.TheVariants as stop
 use Rattle.td_algebra.specs.Raising.{and_then}
 use Rattle.td_meaning.specs.Mean.{Names, Relvars, Selection, mean, same_text, truth_in}
@@ -25,7 +26,7 @@ admits earlier (Some e) names = truth_in (mean no_relvars earlier e) names
 
 -- where the CONSTRAINT is false, selection raises; where it raises, that error stands
 unfoldable pub selected : Selection → Selector → List Datum → Result Datum Stop
-selected earlier s ds = and_then (admits earlier s.limit (components s.components ds)) (λ b. if b then Ok (user s.possrep (items_of ds)) else Err stop.Selector)
+selected earlier s ds = and_then (admits earlier s.limit (components s.components ds)) (λ b. if b then Ok (user s.possrep (items_of ds)) else Err (stop.Error raise.Selector))
 
 abbrev pub none_selected : Selection
 none_selected n ds = Err stop.Untyped

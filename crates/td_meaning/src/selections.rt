@@ -18,7 +18,7 @@ use td_algebra::{Fault, Stop};
 use td_trees::expression::Selector;
 use td_trees::tree::Typed;
 use td_tuples::Shared;
-use td_values::{Items, Kind, Value};
+use td_values::{Items, Kind, Raise, Value};
 
 // The last selector at the place, and those before it. It looks at them one by one, from the end.
 fn selector_at(selectors: &[Selector], place: usize) -> Option<(&[Selector], &Selector)>
@@ -82,7 +82,7 @@ impl Evaluator<'_> {
         if self.admits(earlier, &selector.limit, &scope)? {
             Ok(user_value(self.alloc, selector, values)?)
         } else {
-            Err(Fault::Raised(Stop::Selector))
+            Err(Fault::Raised(Stop::Error(Raise::Selector)))
         }
     }
 

@@ -18,7 +18,8 @@ use Rattle.td_syntax.specs.declared.tree.Nesting.TheVariants as nesting
 use Rattle.td_syntax.specs.declared.tree.UnaryOperator.{UnaryOperator}
 use Rattle.td_syntax.specs.declared.tree.UnaryOperator.TheVariants as unary
 use Rattle.td_algebra.specs.declared.errors.Stop.{Stop}
-use Rattle.td_algebra.specs.declared.errors.Stop.TheVariants.{Untyped, Overflow, Divide, Cardinality}
+use Rattle.td_values.specs.declared.raises.Raise.TheVariants.{Overflow, Divide, Cardinality}
+use Rattle.td_algebra.specs.declared.errors.Stop.TheVariants.{Untyped, Error}
 use Rattle.td_algebra.specs.Functions.{union_of, intersect_of, minus_of, project_of, rename_of, join_of, matching_of, not_matching_of, compose_of, grouping_of, wrap_of, ungroup_of, unwrap_of, tclose_of, relation_from}
 use Rattle.td_algebra.specs.Nested.{relation_value}
 use Rattle.td_algebra.specs.Raising.{and_then}
@@ -32,12 +33,12 @@ as_value r = Ok (relation_value r)
 
 -- an integer, if it is within 64 bits
 abbrev pub within_64_bits : ℤ → Result Datum Stop
-within_64_bits n = if in_64_bits n then Ok (integer n) else Err Overflow
+within_64_bits n = if in_64_bits n then Ok (integer n) else Err (Error Overflow)
 
 -- the tuple of a relation that has one
 abbrev pub only_tuple : List Attrs → Result Datum Stop
 only_tuple (t ∷ []) = Ok (tuple t)
-only_tuple ts = Err Cardinality
+only_tuple ts = Err (Error Cardinality)
 
 -- two attributes of one type
 abbrev pub is_pair : List (List ℕ × Ty) → Bool
@@ -109,7 +110,7 @@ decided o a b = Err Untyped
 
 -- the quotient, cut off towards zero
 abbrev pub quotient : ℤ → ℤ → Result Datum Stop
-quotient m n = if int_eq n (pos 0) then Err Divide else within_64_bits (int_div m n)
+quotient m n = if int_eq n (pos 0) then Err (Error Divide) else within_64_bits (int_div m n)
 
 -- of two integers
 abbrev pub calculated : BinaryOperator → ℤ → ℤ → Result Datum Stop

@@ -23,14 +23,14 @@ use td_algebra::{Fault, Stop, is_binary, is_relation_valued, is_tuple_valued};
 use td_relations::Relation;
 use td_syntax::tree::{Nesting, UnaryOperator};
 use td_tuples::is_in;
-use td_values::{Heading, Name, Tuple, Value, copy};
+use td_values::{Heading, Name, Raise, Tuple, Value, copy};
 
 fn negated(n: i64) -> Result<Value, Fault>
     ensures { Answers result (spec.within_64_bits (neg_ℤ n)) }
 {
     match n.checked_neg() {
         Some(m) => Ok(integer_value(m)),
-        None => Err(Fault::Raised(Stop::Overflow)),
+        None => Err(Fault::Raised(Stop::Error(Raise::Overflow))),
     }
 }
 
@@ -56,7 +56,7 @@ fn only_tuple(tuples: &[Tuple]) -> Result<Value, Fault>
 {
     match tuples {
         [tuple] => Ok(tuple_value(tuple.copy()?)),
-        _ => Err(Fault::Raised(Stop::Cardinality)),
+        _ => Err(Fault::Raised(Stop::Error(Raise::Cardinality))),
     }
 }
 

@@ -20,7 +20,7 @@ use std::alloc::{AllocError, Global};
 use td_algebra::{Fault, KeyIndex, Stop};
 use td_relations::{Relation, is_subset};
 use td_syntax::tree::BinaryOperator;
-use td_values::{Heading, Kind, Text, Tuple, Value, equal, equal_headings};
+use td_values::{Heading, Kind, Raise, Text, Tuple, Value, equal, equal_headings};
 
 // ---- truth values, integers, texts
 
@@ -48,11 +48,11 @@ fn quotient(m: i64, n: i64) -> Result<Value, Fault>
     ensures { Answers result (spec.quotient m n) }
 {
     if n == 0 {
-        return Err(Fault::Raised(Stop::Divide));
+        return Err(Fault::Raised(Stop::Error(Raise::Divide)));
     }
     match m.checked_div(n) {
         Some(q) => Ok(integer_value(q)),
-        None => Err(Fault::Raised(Stop::Overflow)),
+        None => Err(Fault::Raised(Stop::Error(Raise::Overflow))),
     }
 }
 
@@ -61,7 +61,7 @@ fn sum(m: i64, n: i64) -> Result<Value, Fault>
 {
     match m.checked_add(n) {
         Some(sum) => Ok(integer_value(sum)),
-        None => Err(Fault::Raised(Stop::Overflow)),
+        None => Err(Fault::Raised(Stop::Error(Raise::Overflow))),
     }
 }
 
@@ -70,7 +70,7 @@ fn difference(m: i64, n: i64) -> Result<Value, Fault>
 {
     match m.checked_sub(n) {
         Some(difference) => Ok(integer_value(difference)),
-        None => Err(Fault::Raised(Stop::Overflow)),
+        None => Err(Fault::Raised(Stop::Error(Raise::Overflow))),
     }
 }
 
@@ -79,7 +79,7 @@ fn product(m: i64, n: i64) -> Result<Value, Fault>
 {
     match m.checked_mul(n) {
         Some(product) => Ok(integer_value(product)),
-        None => Err(Fault::Raised(Stop::Overflow)),
+        None => Err(Fault::Raised(Stop::Error(Raise::Overflow))),
     }
 }
 

@@ -13,7 +13,7 @@ use Rattle.td_stamps.specs.Story.{Story, nothing_ran, next_ran}
 use Rattle.td_stamps.proofs.Stories as stories
 use Rattle.td_story.specs.Databases.{DatabaseData}
 use Rattle.td_story.specs.Scripts.{IsScriptOf, OpensOn}
-use Rattle.td_story.specs.Steps.{IsRead, IsUnread, Steps, TellsTest, unread, raised, refused, done}
+use Rattle.td_story.specs.Steps.{IsRead, IsUnreadText, Steps, TellsTest, unread, raised, refused, done}
 use Rattle.td_story.specs.declared.outcome.Outcome.{Outcome}
 use Rattle.td_story.specs.declared.outcome.Outcome.TheVariants as outcome
 use Rattle.td_story.specs.Stories.{IsStory, StepsEntry}
@@ -38,7 +38,7 @@ never_unread : (c : CatalogueData) (t : Test) (o : Option Stop) → TellsTest c 
 never_unread c t None h = h
 never_unread c t (Some e) h = h
 
-pub unread_is : (d e : DatabaseData) (dialect : ℕ) (text : List ℕ) (o : Outcome) → Steps d dialect text o e → o ≡ outcome.Unread → IsUnread d.catalogue dialect text
+pub unread_is : (d e : DatabaseData) (dialect : ℕ) (text : List ℕ) (o : Outcome) → Steps d dialect text o e → o ≡ outcome.Unread → IsUnreadText d.catalogue dialect text
 unread_is d e dialect text o (unread h) is = h
 unread_is d e dialect text o (raised p h) is = cc
 unread_is d e dialect text o (refused {t = t} {o = m} p h i j) is = absurd (never_unread d.catalogue t m (subst (TellsTest d.catalogue t m) is j))

@@ -2,7 +2,7 @@
 
 ghost use Rattle.std.specs.Prelude.{◌≤◌, length};
 ghost use Rattle.td_story.specs.Calls.{written};
-ghost use Rattle.td_story.specs.Steps.{IsUnread};
+ghost use Rattle.td_story.specs.Steps.{IsUnreadText};
 ghost use Rattle.td_replay.specs.ForProofs.Judged.{IsRefusal, Judges};
 
 use std::alloc::Global;
@@ -30,7 +30,7 @@ pub(crate) fn judge(alloc: Global, catalogue: &Catalogue, text: &str) -> Result<
 
 /// Why a text that is none is no statement of the catalogue.
 pub(crate) fn refusal(alloc: Global, catalogue: &Catalogue, text: &str) -> IssueError
-    requires unread { IsUnread catalogue.now written text.now }
+    requires unread { IsUnreadText catalogue.now written text.now }
     requires short { length text.now ≤ 8192 }
     ensures { IsRefusal catalogue.now text.now result }
 {

@@ -13,4 +13,3 @@ mod told;
 
 pub use plain::PlainSite;
 pub use site::Site;
-pub use state::MOST_ENTRIES;

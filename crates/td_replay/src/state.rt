@@ -22,13 +22,10 @@ use std::marker::Model;
 use td_grammar::LATEST;
 use td_stamps::{Entry, Held, NextError, PrepareError, Stamp};
 use td_story::{
-    Answer, AskError, Asked, IssueError, Issued, MOST_BYTES, Meter, OpenError, Outcome, PastError,
-    TakeError, Taken, TellError, ValueError,
+    Answer, AskError, Asked, IssueError, Issued, MOST_BYTES, MOST_ENTRIES, Meter, OpenError,
+    Outcome, PastError, TakeError, Taken, TellError, ValueError,
 };
 use td_values::{Name, Text};
-
-/// The greatest limit of a site.
-pub const MOST_ENTRIES: usize = 100_000;
 
 // How many entries there are up to that of this stamp, which is sought from the end on.
 fn kept_to(entries: &[Entry], at: Stamp) -> Option<usize>

@@ -6,10 +6,7 @@ use std::alloc::{AllocError, Global};
 use std::str;
 use td_inputs::script_front;
 use td_places::Reading;
-use td_story::{BrokenTest, OpenError, ScriptError};
-
-/// The most bytes of a script.
-pub const SCRIPT_BYTES: usize = td_frames::SCRIPT_BYTES as usize;
+use td_story::{BrokenTest, OpenError, SCRIPT_BYTES, ScriptError};
 
 /// A script, and the lines behind its `.begin`.
 #[derive(Drop)]

@@ -3,6 +3,7 @@
 use clap::builder::ValueParser;
 use clap::{Arg, ArgAction, Command, Error};
 use std::alloc::{AllocError, Global};
+use td_story::MOST_ENTRIES;
 
 const TYPED: &str = "\
 SCRIPT has the definitions. Then what is typed is read: a text that ends in ; is a
@@ -27,7 +28,7 @@ fn command<'a>(alloc: Global) -> Result<Command<'a>, AllocError> {
         .value_name("L")
         .help("The most statements that the site may hold, 1 to 100000")
         .action(ArgAction::Set)
-        .value_parser(ValueParser::unsigned(1, 100_000))
+        .value_parser(ValueParser::unsigned(1, MOST_ENTRIES as u64))
         .default_value("10000");
     let journal = Arg::new(alloc, "journal")
         .long("journal")

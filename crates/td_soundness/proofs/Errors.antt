@@ -1,25 +1,17 @@
 -- Answers of which something holds, or errors of the language.
 use Rattle.std.proofs.Common.{Bool, true, false, if◌then◌else◌, List, [], ◌∷◌, Result, Ok, Err, inl, inr, nat_le, refl, sym, subst}
+use Rattle.td_values.specs.declared.raises.Raise.{Raise}
 use Rattle.td_algebra.specs.declared.errors.Stop.{Stop}
-use Rattle.td_algebra.specs.declared.errors.Stop.TheVariants.{Overflow, Divide, Empty, Cardinality}
+use Rattle.td_algebra.specs.declared.errors.Stop.TheVariants.{Error}
 use Rattle.td_algebra.specs.Raising.{all_of, alone, and_all, and_then}
-use Rattle.td_algebra.specs.Stops.{lesser, number_of}
+use Rattle.td_algebra.specs.Stops.{lesser, stop_number}
 use Rattle.td_algebra.proofs.Lists.{In}
 use Rattle.td_operators.specs.Operators.{in_turn}
 use Rattle.td_operators.specs.Values.{both}
 use Rattle.td_soundness.specs.Meanings.{IsError, OrError}
 
-pub overflow_is : IsError Overflow
-overflow_is e = cc
-
-pub divide_is : IsError Divide
-divide_is e = cc
-
-pub empty_is : IsError Empty
-empty_is e = cc
-
-pub cardinality_is : IsError Cardinality
-cardinality_is e = cc
+pub error_is : (e : Raise) → IsError (Error e)
+error_is e h = cc
 
 -- what goes on with a value, and keeps an error
 pub goes_on : {A B : Type 0} (P : A → Type 0) (Q : B → Type 0) (f : A → Result B Stop) (r : Result A Stop) → OrError P r → ((a : A) → P a → OrError Q (f a)) → OrError Q (and_then r f)
@@ -53,7 +45,7 @@ either_is true e f p q = p
 either_is false e f p q = q
 
 pub lesser_is : (e f : Stop) → IsError e → IsError f → IsError (lesser e f)
-lesser_is e f p q = either_is (nat_le (number_of e) (number_of f)) e f p q
+lesser_is e f p q = either_is (nat_le (stop_number e) (stop_number f)) e f p q
 
 one_more : {A : Type 0} (P : A → Type 0) (a : Result A Stop) (b : Result (List A) Stop) → OrError P a → OrError (Each P) b → OrError (Each P) (and_all (alone a) b)
 one_more P (Ok x) (Ok xs) p q = with_first P x xs p q

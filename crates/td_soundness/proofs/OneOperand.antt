@@ -17,7 +17,8 @@ use Rattle.td_syntax.specs.declared.tree.UnaryOperator.TheVariants as unary
 use Rattle.td_tuples.specs.Parts.{is_in, cut, columns_in}
 use Rattle.td_tuples.specs.Renamings.{renamed_columns}
 use Rattle.td_tuples.proofs.ByName.{fits_get}
-use Rattle.td_algebra.specs.declared.errors.Stop.TheVariants.{Untyped, Overflow}
+use Rattle.td_values.specs.declared.raises.Raise.TheVariants.{Overflow, Cardinality}
+use Rattle.td_algebra.specs.declared.errors.Stop.TheVariants.{Untyped, Error}
 use Rattle.td_algebra.specs.Functions.{project_of, rename_of, tclose_of}
 use Rattle.td_algebra.specs.Raising as raising
 use Rattle.td_algebra.proofs.Lists.{In}
@@ -35,7 +36,7 @@ use Rattle.td_operators.specs.Values.{truth_of, integer_of, tuple_in, rows_of, i
 use Rattle.td_typing.proofs.KindLemmas as kinds
 use Rattle.td_soundness.specs.Values.{IsValue, AreValues, AreComponentsOf, HasPossrep}
 use Rattle.td_soundness.specs.Meanings.{GivesValue, HasKind, IsTupleOver, IsRelationOver}
-use Rattle.td_soundness.proofs.Errors.{goes_on, overflow_is, cardinality_is}
+use Rattle.td_soundness.proofs.Errors.{goes_on, error_is}
 use Rattle.td_soundness.proofs.Attributes.{value_at, has_part}
 use Rattle.td_soundness.proofs.Closing.{closure_is}
 use Rattle.td_soundness.proofs.Nesting.{nested_is, unnested_is}
@@ -77,9 +78,9 @@ module _ (s : SchemaData) where
   pub as_relation : (h : Header) (r : RowsData) → IsRelationOver s h r → GivesValue s (kind.Relation h) (as_value r)
   as_relation h r is = relation_has s h r is
 
-  pub in_64_bits_gives : (b : Bool) (n : ℤ) → GivesValue s kind.Integer (if b then Ok (integer n) else Err Overflow)
+  pub in_64_bits_gives : (b : Bool) (n : ℤ) → GivesValue s kind.Integer (if b then Ok (integer n) else Err (Error Overflow))
   in_64_bits_gives true n = (refl, tt)
-  in_64_bits_gives false n = overflow_is
+  in_64_bits_gives false n = error_is Overflow
 
   -- ---- unary operators
   not_gives : (d : Datum) → HasKind s kind.Boolean d → GivesValue s kind.Boolean (operate_on unary.Not d)
@@ -97,9 +98,9 @@ module _ (s : SchemaData) where
       closed_if (is_pair (by_name.entries r.heading)) h r (ap (λ g. is_pair (by_name.entries g)) is.heading ∙ pair_tests (by_name.entries h) ∙ pairs) is)
 
   only_gives : (h : Header) (ts : List Attrs) → ((t : Attrs) (us : List Attrs) → ts ≡ t ∷ us → IsTupleOver s h t) → GivesValue s (kind.Tuple h) (only_tuple ts)
-  only_gives h [] each = cardinality_is
+  only_gives h [] each = error_is Cardinality
   only_gives h (t ∷ []) each = tuple_has s h t (each t [] refl)
-  only_gives h (t ∷ u ∷ us) each = cardinality_is
+  only_gives h (t ∷ u ∷ us) each = error_is Cardinality
 
   tuple_from_gives : (h : Header) (d : Datum) → HasKind s (kind.Relation h) d → GivesValue s (kind.Tuple h) (operate_on unary.TupleFrom d)
   tuple_from_gives h d has = goes_on (IsRelationOver s h) (HasKind s (kind.Tuple h)) (λ r. only_tuple r.tuples) (rows_of d) (rows_given s h d has) (λ r is.

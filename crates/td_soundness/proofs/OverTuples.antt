@@ -9,6 +9,7 @@ use Rattle.td_values.specs.Order.{order, attrs_order, text_cmp, ty_order}
 use Rattle.td_values.specs.Rows.{RowsData}
 use Rattle.td_values.specs.Whole.{type_of}
 use Rattle.td_values.specs.declared.TypeKind.{TypeKind}
+use Rattle.td_values.specs.declared.raises.Raise.TheVariants.{Empty}
 use Rattle.td_syntax.specs.declared.tree.Aggregate.{Aggregate}
 use Rattle.td_syntax.specs.declared.tree.Aggregate.TheVariants as aggregate
 use Rattle.td_tuples.specs.Items.{column_of, columns_of, extended_columns}
@@ -32,7 +33,7 @@ use Rattle.td_typing.specs.Trees.{summary_of}
 use Rattle.td_typing.proofs.KindLemmas as kinds
 use Rattle.td_soundness.specs.Values.{IsValue}
 use Rattle.td_soundness.specs.Meanings.{OrError, GivesValue, HasKind, IsTupleOver, IsRelationOver, GivesRelation}
-use Rattle.td_soundness.proofs.Errors.{Each, goes_on, with_first, all_are, lesser_is, empty_is}
+use Rattle.td_soundness.proofs.Errors.{Each, goes_on, with_first, all_are, lesser_is, error_is}
 use Rattle.td_soundness.proofs.Attributes.{AreListed, has_beside, has_fields}
 use Rattle.td_soundness.proofs.OneOperand.{in_64_bits_gives}
 use Rattle.td_soundness.proofs.Relations.{of_list}
@@ -125,7 +126,7 @@ module _ (s : SchemaData) where
     best_has d (e ∷ es) has each = best_has (better d e) es (keeps d e has (each e (inl refl))) (λ x m. each x (inr m))
 
     most_gives : (ds : List Datum) → Each (HasKind s k) ds → GivesValue s k (most better ds)
-    most_gives [] each = empty_is
+    most_gives [] each = error_is Empty
     most_gives (d ∷ ds) each = best_has d ds (each d (inl refl)) (λ x m. each x (inr m))
 
   module _ {E : Type 0} (m : Meaning E) (v : E) (ts : List Attrs) where

@@ -12,7 +12,8 @@ use Rattle.td_relations.specs.Sets.{body}
 use Rattle.td_syntax.specs.declared.tree.BinaryOperator.{BinaryOperator}
 use Rattle.td_syntax.specs.declared.tree.BinaryOperator.TheVariants as binary
 use Rattle.td_tuples.specs.Unions.{joined, composed_columns}
-use Rattle.td_algebra.specs.declared.errors.Stop.TheVariants.{Untyped, Overflow, Divide}
+use Rattle.td_values.specs.declared.raises.Raise.TheVariants.{Overflow, Divide}
+use Rattle.td_algebra.specs.declared.errors.Stop.TheVariants.{Untyped, Error}
 use Rattle.td_algebra.specs.Functions.{union_of, intersect_of, minus_of}
 use Rattle.td_algebra.specs.Raising.{and_then}
 use Rattle.td_algebra.specs.Summaries.{in_64_bits}
@@ -22,7 +23,7 @@ use Rattle.td_kinds.specs.Schemas.{SchemaData}
 use Rattle.td_operators.specs.Operators.{if_alike, related, decided, calculated, of_truths, of_integers, of_relations, concatenated, same, member, is_subset, is_proper_subset, of_alike, less, at_most, operate, as_value}
 use Rattle.td_operators.specs.Values.{truth_of, integer_of, text_of, tuple_in, rows_of, both}
 use Rattle.td_soundness.specs.Meanings.{OrError, GivesValue, HasKind, IsTupleOver, IsRelationOver, GivesRelation}
-use Rattle.td_soundness.proofs.Errors.{goes_on, both_are, divide_is}
+use Rattle.td_soundness.proofs.Errors.{goes_on, both_are, error_is}
 use Rattle.td_soundness.proofs.OneOperand.{of_kind, as_relation, in_64_bits_gives}
 use Rattle.td_soundness.proofs.Relations.{moved, union_is, intersection_is, difference_is, matching_is, not_matching_is, join_is, composition_is}
 use Rattle.td_soundness.proofs.Shapes as shapes
@@ -45,8 +46,8 @@ module _ (s : SchemaData) where
       (both_are (Whatever {A = ℤ}) (Whatever {A = ℤ}) (integer_of d) (integer_of e) (integer_given s d p) (integer_given s e q))
       (λ x any. each x.0 x.1)
 
-  divided : (b : Bool) (m n : ℤ) → GivesValue s kind.Integer (if b then Err Divide else (if in_64_bits (int_div m n) then Ok (integer (int_div m n)) else Err Overflow))
-  divided true m n = divide_is
+  divided : (b : Bool) (m n : ℤ) → GivesValue s kind.Integer (if b then Err (Error Divide) else (if in_64_bits (int_div m n) then Ok (integer (int_div m n)) else Err (Error Overflow)))
+  divided true m n = error_is Divide
   divided false m n = in_64_bits_gives s (in_64_bits (int_div m n)) (int_div m n)
 
   texts_give : (d e : Datum) → HasKind s kind.Char d → HasKind s kind.Char e → GivesValue s kind.Char (concatenated d e)

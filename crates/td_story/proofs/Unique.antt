@@ -48,21 +48,10 @@ some_none a h = cc
 -- ---- an error is told in one way
 abbrev back : Stop → Raise
 back Stop.Untyped = raise.Overflow
-back Stop.Overflow = raise.Overflow
-back Stop.Divide = raise.Divide
-back Stop.Empty = raise.Empty
-back Stop.Selector = raise.Selector
-back Stop.Cardinality = raise.Cardinality
-
-and_back : (e : Raise) → back (stop_of e) ≡ e
-and_back raise.Overflow = refl
-and_back raise.Divide = refl
-and_back raise.Empty = refl
-and_back raise.Selector = refl
-and_back raise.Cardinality = refl
+back (Stop.Error e) = e
 
 one_raise : (e f : Raise) → stop_of e ≡ stop_of f → e ≡ f
-one_raise e f h = sym (and_back e) ∙ ap back h ∙ and_back f
+one_raise e f h = ap back h
 
 -- ---- a text is one statement
 pub one_text : (dialect : ℕ) (text : List ℕ) (s t : Statement) → grammar.IsStatementIn dialect text s → grammar.IsStatementIn dialect text t → s ≡ t

@@ -24,8 +24,8 @@ pub record IsRead (c : CatalogueData) (dialect : ℕ) (text : List ℕ) (x : Typ
   pub reads : grammar.IsStatementIn dialect text statement
   pub types : typed.TypesStatement c statement x
 
-abbrev pub IsUnread : CatalogueData → ℕ → List ℕ → Type 0
-IsUnread c dialect text = (x : TypedStatement) → IsRead c dialect text x → ⊥
+abbrev pub IsUnreadText : CatalogueData → ℕ → List ℕ → Type 0
+IsUnreadText c dialect text = (x : TypedStatement) → IsRead c dialect text x → ⊥
 
 -- the database with what its targets are given
 abbrev pub with_all : DatabaseData → Given → DatabaseData
@@ -51,7 +51,7 @@ TellsTest c t o outcome = ⊥
 -- targets replaced, the first test that is false or raises decides. Only where none does, the database changes.
 pub data Steps (d : DatabaseData) (dialect : ℕ) (text : List ℕ) : Outcome → DatabaseData → Type 0 where
   unread :
-      IsUnread d.catalogue dialect text
+      IsUnreadText d.catalogue dialect text
       → Steps d dialect text Unread d
   raised : {x : TypedStatement} {e : Raise}
       → IsRead d.catalogue dialect text x

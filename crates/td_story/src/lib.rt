@@ -23,4 +23,4 @@ pub use outcome::Outcome;
 pub use refusal::{
     AskError, IssueError, NotOpen, OpenError, PastError, TakeError, TellError, ValueError,
 };
-pub use replica::{MOST_BYTES, Opens, Replica};
+pub use replica::{MOST_BYTES, MOST_ENTRIES, Opens, Replica, SCRIPT_BYTES};

@@ -19,7 +19,13 @@ use td_stamps::{Entry, Held, Stamp};
 use td_values::Name;
 
 /// The most bytes that the text of a statement or a query has. A longer one is refused before anything takes memory.
-pub const MOST_BYTES: usize = 8192;
+pub const MOST_BYTES: usize = td_grammar::reader::STATEMENT_BYTES;
+
+/// The most bytes that a script has.
+pub const SCRIPT_BYTES: usize = td_grammar::reader::SCRIPT_BYTES;
+
+/// The most entries that a site can be asked to hold.
+pub const MOST_ENTRIES: usize = 100_000;
 
 /// A site that holds a set of entries and tells what running it once, in stamp order, from what its script opens gives.
 pub trait Replica {

@@ -8,9 +8,7 @@ ghost use Rattle.td_devices.specs.Views.{input_of};
 
 use std::alloc::{AllocError, Global};
 use td_devices::{LineError, RawLine, Source, content, read_line};
-
-/// The most bytes of a script.
-pub const SCRIPT_BYTES: usize = 65_536;
+use td_story::SCRIPT_BYTES;
 
 /// The lines before `.begin`.
 #[derive(Drop)]

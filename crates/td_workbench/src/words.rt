@@ -7,6 +7,7 @@ use crate::opening::Options;
 use clap::builder::ValueParser;
 use clap::{Arg, ArgAction, Command, Error};
 use std::alloc::{AllocError, Global};
+use td_story::MOST_ENTRIES;
 
 // The forms of lines, for the help.
 const LINES: &str = "\
@@ -43,7 +44,7 @@ fn command<'a>(alloc: Global) -> Result<Command<'a>, AllocError> {
         .value_name("L")
         .help("The most statements that a site may hold, 1 to 100000")
         .action(ArgAction::Set)
-        .value_parser(ValueParser::unsigned(1, 100_000))
+        .value_parser(ValueParser::unsigned(1, MOST_ENTRIES as u64))
         .default_value("10000");
     let journal = Arg::new(alloc, "journal")
         .long("journal")
@@ -83,7 +84,7 @@ pub fn read_words<'a>(alloc: Global, words: &'a [String]) -> Result<Words<'a>, E
         limit: matches
             .get_one::<usize>("limit")
             .unwrap_or(10_000)
-            .clamp(1, 100_000),
+            .clamp(1, MOST_ENTRIES),
     };
     Ok(Words {
         options,

@@ -3,7 +3,7 @@ use Rattle.std.specs.Prelude.{List, Option, None, Some, Result, Ok, Err}
 use Rattle.td_algebra.specs.declared.errors.Fault.{Fault}
 use Rattle.td_algebra.specs.declared.errors.Fault.TheVariants.{Raised, OutOfMemory}
 use Rattle.td_algebra.specs.declared.errors.Stop.{Stop}
-use Rattle.td_algebra.specs.declared.errors.Stop.TheVariants.{Overflow}
+use Rattle.td_algebra.specs.declared.errors.Stop.TheVariants.{Untyped}
 
 -- what was gathered
 abbrev pub so_far : {A : Type 0} → List A → Option Stop → Result (List A) Stop
@@ -14,4 +14,4 @@ so_far xs (Some e) = Err e
 abbrev pub meaning_of : {A : Type 0} → Result A Fault → Result A Stop
 meaning_of (Ok a) = Ok a
 meaning_of (Err (Raised e)) = Err e
-meaning_of (Err OutOfMemory) = Err Overflow
+meaning_of (Err OutOfMemory) = Err Untyped

@@ -10,7 +10,7 @@ use Rattle.td_stamps.specs.Sets.{Holding}
 use Rattle.td_stamps.specs.Story.{Story}
 use Rattle.td_story.specs.Databases.{DatabaseData}
 use Rattle.td_story.specs.Scripts.{OpensOn}
-use Rattle.td_story.specs.Steps.{IsRead, IsUnread}
+use Rattle.td_story.specs.Steps.{IsRead, IsUnreadText}
 use Rattle.td_story.specs.declared.outcome.Outcome.{Outcome}
 use Rattle.td_story.specs.Calls.{entry_of}
 use Rattle.td_story.specs.Seen.{Seen}
@@ -58,7 +58,7 @@ pub record TellsOutcome (d : DatabaseData) (log : Log) (e : Entry) (o : Outcome)
 
 abbrev pub TellsNext : DatabaseData → Log → Entry → Result (Option Outcome) AllocError → DatabaseData → Log → Type 0
 TellsNext d log e (Ok (Some o)) after longer = TellsOutcome d log e o after longer
-TellsNext d log e (Ok None) after longer = (after ≡ d) × (longer ≡ log) × IsUnread d.catalogue e.dialect e.text
+TellsNext d log e (Ok None) after longer = (after ≡ d) × (longer ≡ log) × IsUnreadText d.catalogue e.dialect e.text
 TellsNext d log e (Err x) after longer = (after ≡ d) × (longer ≡ log)
 
 -- it is held, likewise

@@ -6,8 +6,8 @@ use Rattle.td_relvars.proofs.Stores.{looked_up}
 use Rattle.td_assign.proofs.Turning.{apart_from_none, growth_is, of_target}
 use Rattle.td_assign.proofs.sources.growth_by.Goals as goal
 
-pub minus-requires : goal.minus-requires
-minus-requires c =
+pub lacking-requires : goal.lacking-requires
+lacking-requires c =
     let d = c.args.database.now in
     let n = c.args.target in
     let before = c.relation-before.result.now in
@@ -18,7 +18,7 @@ of-requires c =
     let i = c.in_ok-inserted-in-Some.inserted in
     let e = c.empty-deleted.result in
     record {
-      heading = c.in_ok-inserted-in-Some.ensures.heading ∙ sym (c.empty-deleted.ensures.heading ∙ c.in_ok-copy-in-Some.ensures ∙ c.heading.ensures);
+      heading = sym (c.empty-deleted.ensures.heading ∙ c.in_ok-copy-in-Some.ensures ∙ c.heading.ensures);
       apart = apart_from_none i e c.empty-deleted.ensures.members;
     }
 
@@ -29,6 +29,6 @@ returns c =
     let s = c.args.more.now in
     let before = c.relation-before.result.now in
     let e = c.empty-deleted.result in
-    let heading = c.in_ok-copy-in-Some.ensures ∙ c.heading.ensures in
+    let heading = c.in_ok-copy-in-Some.ensures ∙ c.heading.ensures ∙ c.in_ok-inserted-in-Some.ensures.heading in
     growth_is d n s before c.requires (looked_up (slice_get d.stored n) before (sym c.in-Some.ensures ∙ ap Some (sym c.relation-before.ensures)))
     c.in_ok-inserted-in-Some.inserted e c.of.result c.rows_fit.ensures c.rows_fit-in-Some.ensures c.in_ok-inserted-in-Some.ensures (subst (λ (h : Header). IsRelation h set.empty e) heading c.empty-deleted.ensures) c.of.ensures

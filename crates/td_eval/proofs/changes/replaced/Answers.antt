@@ -8,8 +8,8 @@ use Rattle.td_eval.proofs.Exact.{replaced_differs}
 use Rattle.td_eval.proofs.Selecting.{apart, chosen_heading, chosen_there}
 use Rattle.td_eval.proofs.changes.replaced.Goals as goal
 
-pub minus-requires-2 : goal.minus-requires-2
-minus-requires-2 c = chosen_heading c.requires.gone.0 c.args.relation.now c.args.gone.now c.requires.gone.1 ∙ sym c.requires.heading
+pub minus-requires : goal.minus-requires
+minus-requires c = chosen_heading c.requires.gone.0 c.args.relation.now c.args.gone.now c.requires.gone.1 ∙ sym c.requires.heading
 
 pub of-requires : goal.of-requires
 of-requires c =

@@ -2,7 +2,7 @@ use Rattle.std.proofs.Common.{◌≡◌, ℕ, true, List, Ok, Err, refl, sym, ap
 use Rattle.td_headings.specs.Catalogues.{CatalogueData}
 use Rattle.td_stamps.specs.Sets.{Holding}
 use Rattle.td_story.specs.Databases.{DatabaseData}
-use Rattle.td_story.specs.Steps.{IsUnread}
+use Rattle.td_story.specs.Steps.{IsUnreadText}
 use Rattle.td_story.specs.Calls.{Issues, IssuesEntry, entry_of, written}
 use Rattle.td_replay.specs.ForProofs.Judged.{IsRefusal}
 use Rattle.td_replay.specs.ForProofs.Told.{IsLogged, outcomes_of}
@@ -49,8 +49,8 @@ refusal-requires-clause-unread c =
     let known = next_is_known s text e next in
     let ran = rw c.in-Ok-None.field-0-is at c.in-Ok-None.ensures.ran in
     let same = c.catalogue.ensures.same ∙ ap (λ (z : DatabaseData). z.catalogue) (c.database.ensures.same ∙ ran.0) in
-    subst (λ (k : CatalogueData). IsUnread k written text) (sym same)
-    (subst (λ (n : ℕ). IsUnread i.told.engine.catalogue n text) known.dialect_is (subst (λ (t : List ℕ). IsUnread i.told.engine.catalogue e.dialect t) known.text_is ran.2))
+    subst (λ (k : CatalogueData). IsUnreadText k written text) (sym same)
+    (subst (λ (n : ℕ). IsUnreadText i.told.engine.catalogue n text) known.dialect_is (subst (λ (t : List ℕ). IsUnreadText i.told.engine.catalogue e.dialect t) known.text_is ran.2))
 
 pub returns-in-Ok-None-clause-issues : goal.returns-in-Ok-None-clause-issues
 returns-in-Ok-None-clause-issues c =
