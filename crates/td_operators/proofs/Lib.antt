@@ -1,5 +1,6 @@
 -- The proofs of the crate.
 pub mod KindLemmas
 pub mod Decided
+pub mod WithinParts
 pub mod Dee
 pub mod Turns

@@ -3,3 +3,4 @@ pub mod Leases
 pub mod Lent
 pub mod Kinds
 pub mod Turns
+pub mod Within

@@ -2,6 +2,7 @@
 #![tactic(auto)]
 
 mod comparisons;
+mod inclusions;
 pub mod operand;
 mod operators;
 mod pairs;
@@ -10,6 +11,7 @@ mod relations;
 mod tuples;
 
 pub use comparisons::holds;
+pub use inclusions::{has_parts, is_within_part};
 pub use operand::{Lease, Operand, rows_of};
 pub use operators::{
     attribute_at, component_at, nested, operate_on, part_at, unnested, with_new_names,

@@ -66,7 +66,7 @@ fn count(tuples: &[Tuple]) -> Value
     integer_value(tuples.len() as i64)
 }
 
-fn is_empty(tuples: &[Tuple]) -> bool
+pub(crate) fn is_empty(tuples: &[Tuple]) -> bool
     ensures { result ≡ (length tuples.now == 0) }
 {
     tuples.is_empty()

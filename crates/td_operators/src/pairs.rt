@@ -261,7 +261,7 @@ fn related_by_kept(
     Ok(None)
 }
 
-fn related_to(
+pub(crate) fn related_to(
     alloc: Global,
     operator: BinaryOperator,
     r: &Relation,
