@@ -7,9 +7,9 @@ use td_growth::{is_safe, is_watched};
 use td_headings::{Catalogue, TypedExpr, type_expr};
 use td_story::catalogue_of;
 
-type Result<T> = std::result::Result<T, Fail>;
+pub(crate) type Result<T> = std::result::Result<T, Fail>;
 
-const SUPPLIERS: &str = "
+pub(crate) const SUPPLIERS: &str = "
 VAR S BASE RELATION { SNO CHAR, STATUS INTEGER, CITY CHAR } KEY { SNO };
 VAR SP BASE RELATION { SNO CHAR, PNO CHAR, QTY INTEGER } KEY { SNO, PNO };
 VAR LS VIRTUAL ( S WHERE CITY = 'London' );

@@ -1,5 +1,5 @@
 -- What becomes of a constraint that was true before changes.
-use Rattle.std.proofs.Common.{◌≡◌, ⊎_elim, ℕ, List, length, inl, inr, Bool, true, false, [], ◌∷◌, Option, None, Some, MatchOption, Ok, slice_get, refl, sym, ap, ◌∙◌, subst, true≢false}
+use Rattle.std.proofs.Common.{◌≡◌, ⊎_elim, ℕ, List, length, inl, inr, Bool, true, false, [], ◌∷◌, Option, None, Some, MatchOption, Result, Ok, slice_get, refl, sym, ap, ◌∙◌, subst, true≢false}
 use Rattle.std.specs.Borrow.{Bor}
 use Rattle.std.specs.List.{All, Contains, filter, list_any}
 use Rattle.std.specs.FinSet as set
@@ -9,10 +9,14 @@ use Rattle.td_values.specs.Order.{attrs_order}
 use Rattle.td_values.specs.Proving.Total.{attrs_tied}
 use Rattle.td_values.proofs.Walks.{is_tied}
 use Rattle.td_values.specs.Rows.{RowsData}
-use Rattle.td_tuples.specs.Parts.{cut, names_of}
+use Rattle.td_tuples.specs.Parts.{columns_in, cut}
 use Rattle.td_relations.specs.Deltas.{DeltaData}
 use Rattle.td_relations.specs.Sets.{Has, body}
+use Rattle.td_relations.proofs.Predicates.{of_difference}
 use Rattle.td_trees.specs.declared.expression.Expression.{Expression}
+use Rattle.td_algebra.specs.Functions.{matching_of, not_matching_of, project_of}
+use Rattle.td_algebra.specs.declared.errors.Stop.{Stop}
+use Rattle.td_algebra.proofs.Bridges.{project_is}
 use Rattle.td_algebra.proofs.Lists.{In, all_in, contains_in, in_contains, in_filter}
 use Rattle.td_algebra.proofs.Made.{has_in}
 use Rattle.td_algebra.proofs.Pairs.{entry_of}
@@ -25,18 +29,31 @@ use Rattle.td_headings.specs.Reached.{is_base}
 use Rattle.td_meaning.specs.Mean.{Relvars}
 use Rattle.td_growth.specs.Growth.{AgreeBeside, Gains, IsWatched}
 use Rattle.td_growth.specs.Safety.{IsSafe}
+use Rattle.td_eval.proofs.HasValues.{relvars_have_relations}
 use Rattle.td_growth.proofs.KeptParts.{kept_parts_keep_references}
+use Rattle.td_growth.proofs.LostParts.{lost_parts_are_judged}
 use Rattle.td_growth.proofs.Narrowing.{differences_are_gains, growth_keeps_safe, losses_keep_watched, narrowed_is_stored, not_lost, ok_same, watched_by_inserts}
-use Rattle.td_growth.specs.References.{KeepsParts, Refers}
+use Rattle.td_growth.specs.Laws.{has_none}
+use Rattle.td_growth.specs.References.{AreHeaded, GivesUp, KeepsParts, RefersBy}
 use Rattle.td_story.specs.Differences.{AreDifferences, Differs}
 use Rattle.td_story.specs.Stored.{AreStored}
-use Rattle.td_story.specs.Trees.{IsIn}
+use Rattle.td_soundness.specs.Meanings.{GivesRelation}
+use Rattle.td_story.specs.Trees.{IsIn, all_relvars}
 use Rattle.td_constraints.specs.ForProofs.Changed.{Changes, ConstraintBefore, is_changed}
-use Rattle.td_constraints.specs.ForProofs.Gaining.{AreWays, IsNarrowed, IsWay, truth_over}
-use Rattle.td_constraints.specs.ForProofs.Leaving.{HasPartIn, LeavesParts}
+use Rattle.td_constraints.specs.ForProofs.Gaining.{AreWays, IsLost, IsNarrowed, IsWay, truth_over}
+use Rattle.td_constraints.specs.ForProofs.Leaving.{HasPartIn, KeepsReferences, LeavesParts}
+use Rattle.td_constraints.specs.declared.losses.Losses.{Losses}
 use Rattle.td_constraints.specs.declared.ways.Way.{Way}
-use Rattle.td_constraints.specs.declared.ways.Way.TheVariants.{Stays, Over, Whole}
+use Rattle.td_constraints.specs.declared.ways.Way.TheVariants.{Stays, Over, Lost, Whole}
 use Rattle.td_constraints.proofs.After.{still_true, untouched}
+use Rattle.td_constraints.proofs.Judged.{are_bases}
+
+-- ---- what relvars have is of their headings
+rows_headed : (c : CatalogueData) (h : Header) (x : Result RowsData Stop) (r : RowsData) → GivesRelation c.schema h x → x ≡ Ok r → r.heading ≡ h
+rows_headed c h x r gives is = (subst (GivesRelation c.schema h) is gives).heading
+
+are_headed : (c : CatalogueData) (now : Relvars) → Defined c → AreStored c now → AreHeaded c now
+are_headed c now defined stored m v r at is = rows_headed c v.value (all_relvars c now m) r (relvars_have_relations c now m v defined (are_bases c now stored) at) is
 
 -- ---- after one change
 empty_has : (r : RowsData) → body r ≡ set.empty → (t : Attrs) → Has r t → ⊥
@@ -89,9 +106,41 @@ module _ (c : CatalogueData) (x : Expression) (n : ℕ) (d : DeltaData) (base : 
             (not_lost differ.before.heading differ.before differ.after d.deleted differ.difference.deleted t has);
       }
 
-  pub reference_stays : (h : Header) → Refers c n h x.tree → LeavesParts (names_of h) d → IsWay c x one Stays
-  reference_stays h refers leaves before now stored a held =
-      kept_parts_keep_references c before now n h [] x.tree base (beside before now a) stored (kept_parts (names_of h) leaves before now a) refers held
+  pub references_stay : Defined c → KeepsReferences c (n, d) x → IsWay c x one Stays
+  references_stay defined keeps before now stored a held =
+      kept_parts_keep_references c before now n keeps.names [] x.tree base (beside before now a) (are_headed c now defined stored) (kept_parts keeps.names keeps.leaves before now a) keeps.refers held
+
+  -- what is taken out gives its parts up
+  gives_up : (names : List (List ℕ)) (before now : Relvars) → AreDifferences before now one → GivesUp before now n names (project_of names d.deleted)
+  gives_up names before now a =
+      let differ = differs before now a in
+      let out = of_difference differ.before.heading differ.before differ.after d.deleted differ.difference.deleted in
+      let parts = project_is names d.deleted in
+      record {
+        before = differ.before;
+        after = differ.after;
+        was = differ.was;
+        is = differ.is;
+        one_heading = differ.one_heading;
+        was_rows = differ.was_rows;
+        heading = parts.heading ∙ ap (columns_in names) out.heading;
+        either = λ t has. ⊎_elim (λ there. inl (t, there, refl)) (λ gone. inr (parts.all (cut names t) (t, gone, refl))) (not_lost differ.before.heading differ.before differ.after d.deleted differ.difference.deleted t has);
+        only = λ p has. let from = parts.only p has in (from.0, (out.only from.0 from.1).0, from.2);
+      }
+
+  pub losses_tell : (l : Losses) (m : ℕ) (names : List (List ℕ)) → l.referred ≡ n → l.referring ≡ m → l.parts ≡ project_of names d.deleted → RefersBy c n m names x.tree → IsWay c x one (Lost l)
+  losses_tell l m names at from parts refers before now stored a held =
+      let in_one = stored m refers.one refers.base refers.one_there in
+      let in_other = stored n refers.other base refers.other_there in
+      record {
+        one = in_one.0;
+        other = in_other.0;
+        one_is = ap now from ∙ in_one.1;
+        other_is = ap now at ∙ in_other.1;
+        told =
+            lost_parts_are_judged c before now n m names (project_of names d.deleted) in_one.0 in_other.0 [] x.tree base (beside before now a) stored (gives_up names before now a) refers in_one.1 in_other.1 held
+            ∙ ap (λ ps. Ok (has_none (matching_of (not_matching_of ps in_other.0) in_one.0))) (sym parts);
+      }
 
 -- ---- what an index finds
 pub some_found : (p : Attrs → Bool) (xs ys : List Attrs) → ys ≡ filter p xs → (length ys ≡ 0 → ⊥) → (u : Attrs) × Contains xs u × (p u ≡ true)
@@ -115,6 +164,9 @@ pub known_way : (c : CatalogueData) (x : Expression) (o : Option (Bor Changes)) 
 known_way c x o cs w is h = subst (λ o. AreWays c x o w) (sym is) h
 
 -- ---- what is told of the constraint
+lost_not_whole : (l : Losses) → Lost l ≡ Whole → ⊥
+lost_not_whole l none = cc
+
 over_not_whole : (n : ℕ) (i : Bor RowsData) → Over n i ≡ Whole → ⊥
 over_not_whole n i no_way = cc
 
@@ -130,9 +182,16 @@ module _ (c : CatalogueData) (x : Expression) (now : Relvars) where
   over_so n i None h known = absurd (over_not_whole n i h)
   over_so n i (Some cs) h known = h known.before now known.differences known.held
 
+  lost_so : AreStored c now → (l : Losses) (o : Option (Bor Changes)) → AreWays c x o (Lost l) → Known o → IsLost c x l now
+  lost_so stored l None h known = absurd (lost_not_whole l h)
+  lost_so stored l (Some cs) h known = h known.before now stored known.differences known.held
+
   module _ (o : Option (Bor Changes)) (w : Way) (h : AreWays c x o w) (known : Known o) where
     pub stays : AreStored c now → w ≡ Stays → truth_over c x now ≡ Ok true
     stays stored is = stays_so stored o (subst (AreWays c x o) is h) known
 
     pub over : (n : ℕ) (i : Bor RowsData) → w ≡ Over n i → IsNarrowed c x n i.now now
     over n i is = over_so n i o (subst (AreWays c x o) is h) known
+
+    pub lost : AreStored c now → (l : Losses) → w ≡ Lost l → IsLost c x l now
+    lost stored l is = lost_so stored l o (subst (AreWays c x o) is h) known

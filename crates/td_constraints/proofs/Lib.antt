@@ -8,3 +8,4 @@ pub mod TreeReads
 pub mod After
 pub mod Gaining
 pub mod Found
+pub mod Losing

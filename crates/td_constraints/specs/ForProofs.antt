@@ -3,4 +3,5 @@ pub mod Tested
 pub mod Changed
 pub mod Gaining
 pub mod Leaving
+pub mod Losing
 pub mod Found

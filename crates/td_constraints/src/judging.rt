@@ -19,6 +19,7 @@ ghost use Rattle.td_story.specs.Tests as spec;
 ghost use Rattle.td_story.specs.Tests.{failing, judgement, or_behind};
 
 use crate::keyed::tell_apart_by;
+use crate::losses::{none_is_missed, stored};
 use crate::ways::{Narrowed, Way, way_of};
 use std::alloc::{AllocError, Global};
 use td_algebra::{KeyIndex, tell_apart, tell_apart_from};
@@ -34,17 +35,6 @@ fn is_key(alloc: Global, relation: &Relation, key: &[Name]) -> Result<bool, Allo
 {
     relation.rows_fit();
     tell_apart(alloc, relation, key)
-}
-
-// What a relvar has, of which it is known to be a relation.
-fn stored<L: Lookup>(lookup: &L, relvar: usize) -> &Relation
-    requires { HasRelation (L.relvars lookup.now relvar) }
-    ensures { L.relvars lookup.now relvar ≡ Ok result.now }
-{
-    match lookup.lent(relvar) {
-        Ok(relation) => relation,
-        Err(_) => unreachable!(),
-    }
 }
 
 // How the relvar was changed, if it was.
@@ -158,6 +148,10 @@ fn judge_constraint<L: Lookup>(
             };
             truth(alloc, catalogue, expr, &narrowed)
         }
+        Way::Lost(losses) => match none_is_missed(alloc, lookup, &losses) {
+            Ok(is_true) => Ok(is_true),
+            Err(_) => Err(Failure::OutOfMemory),
+        },
         Way::Whole => truth(alloc, catalogue, expr, lookup),
     }
 }
@@ -284,8 +278,9 @@ pub fn first_failure<L: Lookup>(
 /// The same, after these changes of relvars of which every test was true: it makes only the tests that read a relvar
 /// which was changed. A key costs a search for each tuple that was put in where the look-up lends the relvar's tuples
 /// by it, and else what `tell_apart_from` of td_algebra does. A constraint costs its evaluation: over the tuples that
-/// were put in alone, where one relvar was changed and `is_watched` of td_growth says so, and nothing where that or
-/// `is_safe` says that none of it is left to judge.
+/// were put in alone, where one relvar was changed and `is_watched` of td_growth says so; over the values that were
+/// deleted alone, where `sole_reference` says that one base relvar refers to another by them; and nothing where these,
+/// `is_safe` or `referring` say that none of it is left to judge.
 pub fn first_failure_after<L: Lookup>(
     alloc: Global,
     catalogue: &Catalogue,

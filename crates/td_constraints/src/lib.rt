@@ -4,6 +4,7 @@
 mod judging;
 mod keyed;
 pub mod laws;
+mod losses;
 mod ways;
 
 pub use judging::{first_failure, first_failure_after};

@@ -7,16 +7,17 @@ ghost use Rattle.td_growth.specs.Growth.{narrowed};
 ghost use Rattle.td_story.specs.Trees.{IsIn};
 ghost use Rattle.td_constraints.specs.ForProofs.Changed as spec;
 ghost use Rattle.td_constraints.specs.ForProofs.Gaining.{AreWays, IsWay};
-ghost use Rattle.td_constraints.specs.ForProofs.Leaving.{HasPartIn, LeavesParts};
-ghost use Rattle.td_tuples.specs.Parts.{Fits, names_of};
+ghost use Rattle.td_constraints.specs.ForProofs.Leaving.{HasPartIn, KeepsReferences, LeavesParts};
+ghost use Rattle.td_tuples.specs.Parts.{Fits};
 
+use crate::losses::{Losses, parts_of};
 use std::alloc::{AllocError, Global};
 use td_algebra::{KeyIndex, Stop};
 use td_eval::Lookup;
-use td_growth::{is_base_relvar, is_safe, is_watched, referring};
+use td_growth::{is_base_relvar, is_safe, is_watched, referring, sole_reference};
 use td_headings::{Catalogue, TypedExpr, reads};
 use td_relations::{Delta, Relation};
-use td_values::{Heading, Name, Tuple};
+use td_values::{Name, Tuple};
 
 /// The relvars after changes, but of one what it gained.
 #[derive(Drop)]
@@ -53,6 +54,8 @@ pub(crate) enum Way<'a> {
     Stays,
     /// Over what the relvar at the place gained.
     Over(usize, &'a Relation),
+    /// Over the tuples of the relvar that refers with a part that was lost.
+    Lost(Losses),
     /// Over all that the relvars have.
     Whole,
 }
@@ -69,18 +72,6 @@ fn is_any_changed(changes: &[(usize, Delta)], relvars: &[usize]) -> bool
     relvars.iter().any(|relvar| is_changed(changes, *relvar))
 }
 
-// The names of the heading, shared.
-fn names_in(alloc: Global, heading: &Heading) -> Result<Vec<Name>, AllocError>
-    ensures { IfOk result (λ v. v.items ≡ names_of heading.now) }
-{
-    let fields = heading.fields();
-    let mut names = Vec::with_capacity(alloc, fields.len())?;
-    for field in fields {
-        names.push(field.0.copy()?)?;
-    }
-    Ok(names)
-}
-
 // Whether each of the tuples has its part at the key in the index.
 fn have_parts(index: &KeyIndex, tuples: &[Tuple]) -> bool
     requires { All (Fits index.now.heading) tuples.now }
@@ -94,19 +85,55 @@ fn have_parts(index: &KeyIndex, tuples: &[Tuple]) -> bool
     true
 }
 
-// Whether each tuple that the change takes out leaves its part at the heading's names to one that it puts in. For n and
-// m tuples it costs a sort of m and n searches.
-fn leaves_parts(alloc: Global, heading: &Heading, delta: &Delta) -> Result<bool, AllocError>
-    ensures { IfOk result (λ b. b ≡ true → LeavesParts (names_of heading.now) delta.now) }
+// Whether each tuple that the change takes out leaves its part at the names to one that it puts in. For n and m tuples
+// it costs a sort of m and n searches.
+fn leaves_parts(alloc: Global, names: &[Name], delta: &Delta) -> Result<bool, AllocError>
+    ensures { IfOk result (λ b. b ≡ true → LeavesParts names.now delta.now) }
 {
     delta.headings_agree();
     delta.deleted().rows_fit();
-    let names = names_in(alloc, heading)?;
-    let index = KeyIndex::new(alloc, delta.inserted(), &names)?;
+    let index = KeyIndex::new(alloc, delta.inserted(), names)?;
     Ok(have_parts(&index, delta.deleted().tuples()))
 }
 
-// How a reference to the relvar is judged after one change.
+// Whether it refers to the relvar by names at which each tuple that the change takes out leaves its part to another one.
+fn keeps_references(
+    alloc: Global,
+    catalogue: &Catalogue,
+    change: &(usize, Delta),
+    expr: &TypedExpr,
+) -> Result<bool, AllocError>
+    ensures { IfOk result (λ b. b ≡ true → KeepsReferences catalogue.now change.now expr.now) }
+{
+    let Some(names) = referring(alloc, catalogue, expr, change.0)? else {
+        return Ok(false);
+    };
+    let keeps = leaves_parts(alloc, &names, &change.1)?;
+    Ok(keeps)
+}
+
+// How a reference of one base relvar to the one that changed is judged.
+fn way_of_losses<'a>(
+    alloc: Global,
+    catalogue: &Catalogue,
+    change: &'a (usize, Delta),
+    expr: &TypedExpr,
+) -> Result<Way<'a>, AllocError>
+    requires { is_base (slice_get catalogue.now.origins change.now.0) ≡ true }
+    ensures { IfOk result (IsWay catalogue.now expr.now (change.now ∷ [])) }
+{
+    let Some(reference) = sole_reference(alloc, catalogue, expr, change.0)? else {
+        return Ok(Way::Whole);
+    };
+    let parts = parts_of(alloc, &reference.names, &change.1)?;
+    Ok(Way::Lost(Losses {
+        referred: change.0,
+        referring: reference.relvar,
+        parts,
+    }))
+}
+
+// How a constraint that may refer to the relvar is judged after one change.
 fn way_of_reference<'a>(
     alloc: Global,
     catalogue: &Catalogue,
@@ -116,14 +143,11 @@ fn way_of_reference<'a>(
     requires { is_base (slice_get catalogue.now.origins change.now.0) ≡ true }
     ensures { IfOk result (IsWay catalogue.now expr.now (change.now ∷ [])) }
 {
-    let Some(heading) = referring(catalogue, expr, change.0) else {
-        return Ok(Way::Whole);
-    };
-    if leaves_parts(alloc, heading, &change.1)? {
-        Ok(Way::Stays)
-    } else {
-        Ok(Way::Whole)
+    catalogue.was_defined();
+    if keeps_references(alloc, catalogue, change, expr)? {
+        return Ok(Way::Stays);
     }
+    way_of_losses(alloc, catalogue, change, expr)
 }
 
 // How it is judged after one change.

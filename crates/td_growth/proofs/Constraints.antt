@@ -74,7 +74,7 @@ unfolding truth_in mean_by
 empty_watched f g h names grown e = by_values (f names) (g names) (h names) grown e
 
 -- ---- subsets
-same_truth : (a b : Bool) → (a ≡ true → b ≡ true) → (b ≡ true → a ≡ true) → a ≡ b
+pub same_truth : (a b : Bool) → (a ≡ true → b ≡ true) → (b ≡ true → a ≡ true) → a ≡ b
 same_truth true b there back = sym (there refl)
 same_truth false true there back = back refl
 same_truth false false there back = refl

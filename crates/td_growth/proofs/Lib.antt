@@ -13,4 +13,7 @@ pub mod Widening
 pub mod Deciding
 pub mod Judging
 pub mod Narrowing
+pub mod SharedParts
 pub mod KeptParts
+pub mod LostParts
+pub mod Naming

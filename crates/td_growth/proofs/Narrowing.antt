@@ -61,7 +61,7 @@ module _ (c : CatalogueData) (n : ℕ) (base : is_base (slice_get c.origins n) �
       let lt = slice_get_within c.origins n o is in
       unread (start (subst (λ l. Contains l n) (sym (named_itself n)) (0, omega arith, refl)) (omega (arith, lt, length-map c.origins relvars_of_origin)), base))
 
-  apart_from_it : (m : ℕ) → IsUnread c n (tree.Relvar m) → m ≡ n → ⊥
+  pub apart_from_it : (m : ℕ) → IsUnread c n (tree.Relvar m) → m ≡ n → ⊥
   apart_from_it m unread same = it_is_read (subst (λ k. IsUnread c n (tree.Relvar k)) same unread)
 
 module _ (old now : Relvars) (n : ℕ) (i : RowsData) (g : Gains old now n i) where

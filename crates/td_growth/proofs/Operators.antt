@@ -28,6 +28,15 @@ use Rattle.td_growth.proofs.Walks.{IsGrown, IsMade, Made, Walks, all_made, walke
 pub listed_is : (h : Header) (P : Attrs → Type 0) (xs : List Attrs) → ((t : Attrs) → In t xs → P t) → ((t : Attrs) → P t → In t xs) → IsRelationOf h P (relation_from h xs)
 listed_is h P xs only all = made h h P xs (relation_from h xs) (relation_of_is h (tuple_set xs)) refl only all
 
+-- the tuples of a that one of b matches
+pub matching_members : (a b : RowsData) → IsRelationOf a.heading (λ t. Has a t × (is_matched a.heading b.heading b.tuples t ≡ true)) (matching_of a b)
+unfolding matching_of
+matching_members a b =
+    let found : Attrs → Bool = is_matched a.heading b.heading b.tuples in
+    listed_is a.heading (λ t. Has a t × (found t ≡ true)) (filter found a.tuples)
+    (λ t m. let k = in_filter found a.tuples t m in (in_has a t k.0, k.1))
+    (λ t p. filter_in found a.tuples t (has_in a t p.0) p.1)
+
 unless_by : {A : Type 0} (R S : Stop → Type 0) (P Q : A → Type 0) (o : Result A Stop) → ((e : Stop) → R e → S e) → ((e : Stop) → S e → R e) → ((x : A) → P x → Q x) → UnlessRaised R P o → UnlessRaised S Q o
 unless_by R S P Q (Ok x) there back moved u = ((λ e s. u.0 e (back e s)), moved x u.1)
 unless_by R S P Q (Err e) there back moved u = (there e u.0, λ f s. u.1 f (back f s))
@@ -108,12 +117,7 @@ module _ (a w b : RowsData) (g : IsGrown a w b) where
     Matched h t = is_matched h s.heading s.tuples t ≡ true
 
     matched_is : (r : RowsData) → IsRelationOf r.heading (λ t. Has r t × Matched r.heading t) (matching_of r s)
-    unfolding matching_of
-    matched_is r =
-        let test : Attrs → Bool = is_matched r.heading s.heading s.tuples in
-        listed_is r.heading (λ t. Has r t × Matched r.heading t) (filter test r.tuples)
-        (λ t m. let k = in_filter test r.tuples t m in (in_has r t k.0, k.1))
-        (λ t p. filter_in test r.tuples t (has_in r t p.0) p.1)
+    matched_is r = matching_members r s
 
     matched_made : (r : RowsData) → IsMade itself (Kept Matched) r (matching_of r s)
     matched_made r = kept_made Matched r (matching_of r s) (matched_is r)

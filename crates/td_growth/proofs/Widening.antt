@@ -49,10 +49,10 @@ Wider (Ok a) (Ok w) = IsWider a w
 Wider (Ok a) (Err e) = ⊥
 Wider (Err e) y = Unit {0}
 
-abbrev WiderValue : Datum → Datum → Type 0
+abbrev pub WiderValue : Datum → Datum → Type 0
 WiderValue d e = GrownValue e e d
 
-abbrev WiderAnswer : Result Datum Stop → Result Datum Stop → Type 0
+abbrev pub WiderAnswer : Result Datum Stop → Result Datum Stop → Type 0
 WiderAnswer (Ok d) (Ok e) = WiderValue d e
 WiderAnswer (Ok d) (Err f) = ⊥
 WiderAnswer (Err e) y = Unit {0}
@@ -102,7 +102,7 @@ relvar_wider : (r s : Relvars) (m : ℕ) (names : Names) → Wider (r m) (s m) �
 unfolding mean_relvar
 relvar_wider r s m names h = as_values (r m) (s m) h
 
-along : {x y p q : Result Datum Stop} → x ≡ p → y ≡ q → WiderAnswer p q → WiderAnswer x y
+pub along : {x y p q : Result Datum Stop} → x ≡ p → y ≡ q → WiderAnswer p q → WiderAnswer x y
 along {x} {y} {p} {q} d e h = subst (λ w. WiderAnswer w y) (sym d) (subst (λ w. WiderAnswer p w) (sym e) h)
 
 -- ---- nothing that is not matched
@@ -210,19 +210,19 @@ around_then x (Ok v) (Err f) g e = absurd g
 around_then x (Err f) z g e = cc
 
 module _ (m f g : Meaning) (names : Names) (h : WiderAnswer (f names) (g names)) where
-  matched_true : truth_in (mean_by (operate_on unary.IsEmpty) (mean_both binary.NotMatching m f)) names ≡ Ok true → truth_in (mean_by (operate_on unary.IsEmpty) (mean_both binary.NotMatching m g)) names ≡ Ok true
+  pub matched_true : truth_in (mean_by (operate_on unary.IsEmpty) (mean_both binary.NotMatching m f)) names ≡ Ok true → truth_in (mean_by (operate_on unary.IsEmpty) (mean_both binary.NotMatching m g)) names ≡ Ok true
   unfolding truth_in mean_by mean_both
   matched_true e = matched_then (m names) (f names) (g names) h e
 
-  within_true : truth_in (mean_both binary.AtMost m f) names ≡ Ok true → truth_in (mean_both binary.AtMost m g) names ≡ Ok true
+  pub within_true : truth_in (mean_both binary.AtMost m f) names ≡ Ok true → truth_in (mean_both binary.AtMost m g) names ≡ Ok true
   unfolding truth_in mean_both
   within_true e = within_then (m names) (f names) (g names) h e
 
-  around_true : truth_in (mean_both binary.AtLeast f m) names ≡ Ok true → truth_in (mean_both binary.AtLeast g m) names ≡ Ok true
+  pub around_true : truth_in (mean_both binary.AtLeast f m) names ≡ Ok true → truth_in (mean_both binary.AtLeast g m) names ≡ Ok true
   unfolding truth_in mean_both
   around_true e = around_then (m names) (f names) (g names) h e
 
-both_hold : (f g : Meaning) (names : Names) → truth_in f names ≡ Ok true → truth_in g names ≡ Ok true → truth_in (mean_and f g) names ≡ Ok true
+pub both_hold : (f g : Meaning) (names : Names) → truth_in f names ≡ Ok true → truth_in g names ≡ Ok true → truth_in (mean_and f g) names ≡ Ok true
 unfolding truth_in mean_and
 both_hold f g names d e = λ i. truth_then (and_of (d i) (e i))
 

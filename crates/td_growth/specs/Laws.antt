@@ -1,12 +1,11 @@
 -- The laws of gains.
-use Rattle.std.specs.Prelude.{◌≡◌, ℕ, true, List, Ok, slice_get}
+use Rattle.std.specs.Prelude.{◌≡◌, ◌==◌, ℕ, Bool, true, List, Ok, length, slice_get}
 use Rattle.td_values.specs.Data.{Attrs}
-use Rattle.td_values.specs.Headings.{Header}
 use Rattle.td_values.specs.Rows.{RowsData}
-use Rattle.td_tuples.specs.Parts.{names_of}
 use Rattle.td_relations.specs.Sets.{Has}
 use Rattle.td_relations.specs.Deltas.{DeltaData}
 use Rattle.td_trees.specs.declared.tree.Typed.{Typed}
+use Rattle.td_algebra.specs.Functions.{matching_of, not_matching_of}
 use Rattle.td_headings.specs.Catalogues.{CatalogueData}
 use Rattle.td_headings.specs.Reached.{is_base}
 use Rattle.td_headings.specs.declared.defined.Test.TheVariants as test
@@ -15,8 +14,12 @@ use Rattle.td_story.specs.Differences.{Differs}
 use Rattle.td_story.specs.Stored.{AreStored}
 use Rattle.td_story.specs.Tests.{judgement}
 use Rattle.td_growth.specs.Growth.{AgreeBeside, AgreeOn, Gains, Grows, IsWatched, narrowed}
-use Rattle.td_growth.specs.References.{KeepsParts, Refers}
+use Rattle.td_growth.specs.References.{AreHeaded, GivesUp, KeepsParts, Refers, RefersBy}
 use Rattle.td_growth.specs.Safety.{IsSafe}
+
+-- it has no tuple
+abbrev pub has_none : RowsData → Bool
+has_none r = length r.tuples == 0
 
 -- a watched constraint that was true is now what it is over what the relvar gained: true, false, or an error
 abbrev pub WatchedByInserts : Type 0
@@ -39,12 +42,22 @@ GrowthKeepsSafe =
     → is_base (slice_get c.origins n) ≡ true → AgreeBeside c u n old now → Grows old now n → IsSafe c n u
     → judgement c old (test.Constraint x u) ≡ Ok true → judgement c now (test.Constraint x u) ≡ Ok true
 
--- a reference stays true where each tuple that the relvar had has one with its part at the names of what refers to it
+-- a reference stays true where each tuple that the relvar had has one with its part at the names by which it is referred
+-- to
 abbrev pub KeptPartsKeepReferences : Type 0
 KeptPartsKeepReferences =
-    (c : CatalogueData) (old now : Relvars) (n : ℕ) (h : Header) (x : List ℕ) (u : Typed)
-    → is_base (slice_get c.origins n) ≡ true → AgreeBeside c u n old now → AreStored c now → KeepsParts old now n (names_of h) → Refers c n h u
+    (c : CatalogueData) (old now : Relvars) (n : ℕ) (names : List (List ℕ)) (x : List ℕ) (u : Typed)
+    → is_base (slice_get c.origins n) ≡ true → AgreeBeside c u n old now → AreHeaded c now → KeepsParts old now n names → Refers c n names u
     → judgement c old (test.Constraint x u) ≡ Ok true → judgement c now (test.Constraint x u) ≡ Ok true
+
+-- a reference of one base relvar that was true is now whether none of its tuples has a part that was given up and stands
+-- in no tuple now
+abbrev pub LostPartsAreJudged : Type 0
+LostPartsAreJudged =
+    (c : CatalogueData) (old now : Relvars) (n m : ℕ) (names : List (List ℕ)) (parts r s : RowsData) (x : List ℕ) (u : Typed)
+    → is_base (slice_get c.origins n) ≡ true → AgreeBeside c u n old now → AreStored c now → GivesUp old now n names parts → RefersBy c n m names u
+    → now m ≡ Ok r → now n ≡ Ok s
+    → judgement c old (test.Constraint x u) ≡ Ok true → judgement c now (test.Constraint x u) ≡ Ok (has_none (matching_of (not_matching_of parts s) r))
 
 -- relvars that agree on what it reads give a constraint one judgement
 abbrev pub JudgedByReads : Type 0

@@ -1,6 +1,6 @@
 //! The laws of gains.
 ghost use Rattle.td_growth.specs.Laws.{DifferencesAreGains, GrowthKeepsSafe, JudgedByReads, LossesKeepWatched};
-ghost use Rattle.td_growth.specs.Laws.{KeptPartsKeepReferences, NarrowedIsStored, WatchedByInserts};
+ghost use Rattle.td_growth.specs.Laws.{KeptPartsKeepReferences, LostPartsAreJudged, NarrowedIsStored, WatchedByInserts};
 
 /// A watched constraint that was true before a base relvar gained tuples is now what it is over these alone.
 pub fn watched_by_inserts()
@@ -17,9 +17,14 @@ pub fn growth_keeps_safe()
     ensures { GrowthKeepsSafe }
 {}
 
-/// A reference stays true where each tuple that the relvar had has one with its part at what refers to it.
+/// A reference stays true where each tuple that the relvar had has one with its part at the names that are referred to.
 pub fn kept_parts_keep_references()
     ensures { KeptPartsKeepReferences }
+{}
+
+/// A reference of one base relvar that was true is whether none of its tuples has a part that was lost.
+pub fn lost_parts_are_judged()
+    ensures { LostPartsAreJudged }
 {}
 
 /// Relvars that agree on what it reads give a constraint one judgement.

@@ -6,6 +6,6 @@ mod references;
 mod safety;
 mod watching;
 
-pub use references::{is_base_relvar, referring};
+pub use references::{Reference, is_base_relvar, referring, sole_reference};
 pub use safety::is_safe;
 pub use watching::is_watched;

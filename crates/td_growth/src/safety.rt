@@ -14,7 +14,7 @@ use td_syntax::tree::{BinaryOperator, UnaryOperator};
 use td_trees::expression::VirtualUnder;
 use td_trees::tree::Typed;
 
-fn is_emptiness(operator: UnaryOperator) -> bool
+pub(crate) fn is_emptiness(operator: UnaryOperator) -> bool
     ensures { result ≡ spec.is_emptiness operator }
 {
     match operator {
@@ -23,7 +23,7 @@ fn is_emptiness(operator: UnaryOperator) -> bool
     }
 }
 
-fn is_not_matching(operator: BinaryOperator) -> bool
+pub(crate) fn is_not_matching(operator: BinaryOperator) -> bool
     ensures { result ≡ spec.is_not_matching operator }
 {
     match operator {

@@ -88,3 +88,7 @@ is_not_matching o = false
 -- which relvars are known to, by their places
 abbrev pub AreWide : CatalogueData → ℕ → List Bool → Type 0
 AreWide c n bs = (m : ℕ) → slice_index_or bs m false ≡ true → Widens c n (tree.Relvar m)
+
+abbrev pub is_minus : BinaryOperator → Bool
+is_minus binary.Minus = true
+is_minus o = false

@@ -1,7 +1,7 @@
-use Rattle.td_constraints.proofs.Gaining.{reference_stays}
+use Rattle.td_constraints.proofs.Gaining.{references_stay}
 use Rattle.td_constraints.proofs.ways.way_of_reference.Goals as goal
 
 pub returns-then-branch : goal.returns-then-branch
 returns-then-branch c =
     let x = c.args.change.now in
-    reference_stays c.args.catalogue.now c.args.expr.now x.0 x.1 c.requires c.in-Some.heading.now c.in-Some.ensures (c.in_ok-leaves_parts.ensures c.if-branch.true)
+    references_stay c.args.catalogue.now c.args.expr.now x.0 x.1 c.requires c.was_defined.ensures (c.in_ok-keeps_references.ensures c.if-branch.true)
