@@ -31,3 +31,6 @@ pub mod Matchings
 pub mod Shared
 pub mod GroupParts
 pub mod Beside
+pub mod FirstNames
+pub mod Keyed
+pub mod Beyond

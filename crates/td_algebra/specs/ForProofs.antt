@@ -1,5 +1,6 @@
 pub mod Places
 pub mod Index
+pub mod Fronts
 pub mod Steps
 pub mod Opened
 pub mod Links

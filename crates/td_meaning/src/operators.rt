@@ -1,20 +1,31 @@
 //! Operators and their operands.
 
+ghost use Rattle.std.specs.Prelude.{◌≡◌, ◌<◌, IfSome};
 ghost use Rattle.td_algebra.specs.Raising.{Answers};
+ghost use Rattle.td_meaning.specs.ForProofs.Levels.{levels};
 ghost use Rattle.td_meaning.specs.Mean as spec;
+ghost use Rattle.td_meaning.specs.Mean.{Names};
+ghost use Rattle.td_syntax.specs.declared.tree.BinaryOperator.TheVariants as binary;
 ghost use Rattle.td_operators.specs.Operators as operators;
 ghost use Rattle.td_meaning.specs.Seen.{mean_in, visible};
 
 use crate::evaluator::Evaluator;
 use crate::scope::Scope;
-use td_algebra::Fault;
+use td_algebra::{Fault, Stop};
 use td_operators::{
-    attribute_at, component_at, nested, operate, operate_on, part_at, truth_value, unnested,
-    with_new_names,
+    attribute_at, component_at, has_parts, is_within_part, nested, operate, operate_on, part_at,
+    truth_value, unnested, with_new_names,
 };
 use td_syntax::tree::{BinaryOperator, Nesting, UnaryOperator};
 use td_trees::tree::Typed;
 use td_values::{Name, Value};
+
+/// The part at some names of what another expression means, which need not be made.
+#[derive(Clone, Copy)]
+struct PartOf<'t> {
+    whole: &'t Typed,
+    names: &'t [Name],
+}
 
 impl Evaluator<'_> {
     #[cycle(evaluation)]
@@ -145,6 +156,79 @@ impl Evaluator<'_> {
         operate(self.alloc, operator, u, v)
     }
 
+    // The part that the expression is of another one, if it is to be made yet.
+    fn part_of<'t>(&self, tree: &'t Typed) -> Option<PartOf<'t>>
+        ensures means { IfSome result (λ p. (names : Names) → mean_in self.now.env.now tree.now names ≡ spec.mean_by (operators.part_at p.names.now) (mean_in self.now.env.now p.whole.now) names) }
+        ensures lower { IfSome result (λ p. levels p.whole.now < levels tree.now) }
+    {
+        match tree {
+            Typed::Project(a, names) => match self.known(tree) {
+                Some(_) => None,
+                None => Some(PartOf {
+                    whole: a.get(),
+                    names: names.as_slice(),
+                }),
+            },
+            _ => None,
+        }
+    }
+
+    #[cycle(evaluation)]
+    #[tactic(auto, unfolding(crate::specs::Mean::mean_both, crate::specs::Mean::mean_by))]
+    fn within_part(
+        &self,
+        a: &Typed,
+        whole: &Typed,
+        names: &[Name],
+        scope: &Scope,
+    ) -> Result<Value, Fault>
+        ensures { Answers result (spec.mean_both binary.AtMost (mean_in self.now.env.now a.now) (spec.mean_by (operators.part_at names.now) (mean_in self.now.env.now whole.now)) (visible scope.now)) }
+    {
+        let inner = self.operand(a, &*scope)?;
+        let around = self.operand(whole, &*scope)?;
+        is_within_part(self.alloc, inner, names, around)
+    }
+
+    // The whole comes first, and whether it has parts: their errors stand before those of the other side.
+    #[cycle(evaluation)]
+    #[tactic(auto, unfolding(crate::specs::Mean::mean_both, crate::specs::Mean::mean_by))]
+    fn around_part(
+        &self,
+        whole: &Typed,
+        names: &[Name],
+        b: &Typed,
+        scope: &Scope,
+    ) -> Result<Value, Fault>
+        ensures { Answers result (spec.mean_both binary.AtLeast (spec.mean_by (operators.part_at names.now) (mean_in self.now.env.now whole.now)) (mean_in self.now.env.now b.now) (visible scope.now)) }
+    {
+        let around = self.operand(whole, &*scope)?;
+        if !has_parts(&around) {
+            return Err(Fault::Raised(Stop::Untyped));
+        }
+        let inner = self.operand(b, &*scope)?;
+        is_within_part(self.alloc, inner, names, around)
+    }
+
+    #[cycle(evaluation)]
+    fn at_most(&self, a: &Typed, b: &Typed, scope: &Scope) -> Result<Value, Fault>
+        ensures { Answers result (spec.mean_both binary.AtMost (mean_in self.now.env.now a.now) (mean_in self.now.env.now b.now) (visible scope.now)) }
+    {
+        match self.part_of(b) {
+            Some(part) => self.within_part(a, part.whole, part.names, scope),
+            None => self.two(BinaryOperator::AtMost, a, b, scope),
+        }
+    }
+
+    #[cycle(evaluation)]
+    fn at_least(&self, a: &Typed, b: &Typed, scope: &Scope) -> Result<Value, Fault>
+        ensures { Answers result (spec.mean_both binary.AtLeast (mean_in self.now.env.now a.now) (mean_in self.now.env.now b.now) (visible scope.now)) }
+    {
+        match self.part_of(a) {
+            Some(part) => self.around_part(part.whole, part.names, b, scope),
+            None => self.two(BinaryOperator::AtLeast, a, b, scope),
+        }
+    }
+
     #[cycle(evaluation)]
     pub(crate) fn binary(
         &self,
@@ -158,6 +242,8 @@ impl Evaluator<'_> {
         match operator {
             BinaryOperator::And => self.both(a, b, scope),
             BinaryOperator::Or => self.either(a, b, scope),
+            BinaryOperator::AtMost => self.at_most(a, b, scope),
+            BinaryOperator::AtLeast => self.at_least(a, b, scope),
             _ => self.two(operator, a, b, scope),
         }
     }

@@ -18,7 +18,6 @@ use crate::pairs::{operate, related_to};
 use crate::parts::truth_value;
 use std::alloc::{AllocError, Global};
 use td_algebra::{Fault, Stop};
-use td_relations::Relation;
 use td_syntax::tree::BinaryOperator;
 use td_tuples::columns_in;
 use td_values::{Heading, Kind, Name, Value, equal_headings};
@@ -45,14 +44,19 @@ fn is_of_part(
 }
 
 // Where it has the part's heading, it is within the part where none of its tuples lacks one of the whole that has it.
-fn is_within(alloc: Global, r: &Relation, names: &[Name], whole: &Lease<'_>) -> Result<Value, Fault>
+fn is_within(
+    alloc: Global,
+    r: &Lease<'_>,
+    names: &[Name],
+    whole: &Lease<'_>,
+) -> Result<Value, Fault>
     ensures { Answers result (spec.if_alike r.now (project_of names.now whole.now) (boolean (spec.is_subset r.now (project_of names.now whole.now)))) }
 {
-    let alike = is_of_part(alloc, r.heading(), names, whole.get().heading())?;
+    let alike = is_of_part(alloc, r.get().heading(), names, whole.get().heading())?;
     if !alike {
         return Err(Fault::Raised(Stop::Untyped));
     }
-    r.rows_fit();
+    r.get().rows_fit();
     whole.get().rows_fit();
     let others = related_to(alloc, BinaryOperator::NotMatching, r, whole)?;
     Ok(truth_value(is_empty(others.tuples())))
@@ -69,7 +73,7 @@ fn are_within(
 {
     let s = rows_of(whole)?;
     let r = rows_of(u)?;
-    is_within(alloc, r.get(), names, &s)
+    is_within(alloc, &r, names, &s)
 }
 
 fn is_other(operand: &Operand<'_>) -> bool

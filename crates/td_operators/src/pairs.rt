@@ -13,8 +13,9 @@ use crate::operand::{
 };
 use crate::parts::{integer_value, relation_value, text_value, truth_value};
 use crate::relations::{
-    compose_of, intersect_of, join_of, matching_of, matching_of_indexed, minus_of, not_matching_of,
-    not_matching_of_indexed, union_of,
+    compose_by_first, compose_by_second, compose_of, intersect_of, join_by_first, join_by_second,
+    join_of, matching_by_first, matching_of, matching_of_indexed, minus_of, not_matching_by_first,
+    not_matching_of, not_matching_of_indexed, union_of,
 };
 use std::alloc::{AllocError, Global};
 use td_algebra::{Fault, KeyIndex, Stop};
@@ -226,7 +227,8 @@ fn related(
     }
 }
 
-// The same of MATCHING and NOT MATCHING by an index of the second relation, where it is by the names that both have.
+// The same of joins and matches by an index of the second relation, where the names that both have are the first of its
+// key.
 fn related_by(
     alloc: Global,
     operator: BinaryOperator,
@@ -238,13 +240,47 @@ fn related_by(
     ensures { IfOk result (λ o. IfSome o (λ n. spec.related operator r.now s.now ≡ Ok n)) }
 {
     match operator {
+        BinaryOperator::Join => join_by_second(alloc, r, s, index),
+        BinaryOperator::Compose => compose_by_second(alloc, r, s, index),
         BinaryOperator::Matching => matching_of_indexed(alloc, r, s, index),
         BinaryOperator::NotMatching => not_matching_of_indexed(alloc, r, s, index),
         _ => Ok(None),
     }
 }
 
-// The same by one of those that are kept.
+// The same by an index of the first.
+fn related_from(
+    alloc: Global,
+    operator: BinaryOperator,
+    r: &Relation,
+    s: &Relation,
+    index: &KeyIndex,
+) -> Result<Option<Relation>, AllocError>
+    requires { IsKeyIndex index.now.key r.now index.now }
+    ensures { IfOk result (λ o. IfSome o (λ n. spec.related operator r.now s.now ≡ Ok n)) }
+{
+    match operator {
+        BinaryOperator::Join => join_by_first(alloc, r, s, index),
+        BinaryOperator::Compose => compose_by_first(alloc, r, s, index),
+        BinaryOperator::Matching => matching_by_first(alloc, r, s, index),
+        BinaryOperator::NotMatching => not_matching_by_first(alloc, r, s, index),
+        _ => Ok(None),
+    }
+}
+
+// Whether the tuples of the second may well be sought in the first. Where those of the first that match are asked for,
+// what is found is sorted, so the second has to be much smaller.
+fn seeks_in_first(operator: BinaryOperator, first: usize, second: usize) -> bool {
+    match operator {
+        BinaryOperator::Join => true,
+        BinaryOperator::Compose => true,
+        BinaryOperator::Matching => second <= first / 16,
+        BinaryOperator::NotMatching => second <= first / 16,
+        _ => false,
+    }
+}
+
+// The same by one of those that are kept of the second.
 fn related_by_kept(
     alloc: Global,
     operator: BinaryOperator,
@@ -261,17 +297,61 @@ fn related_by_kept(
     Ok(None)
 }
 
+// The same by one of those of the first.
+fn related_from_kept(
+    alloc: Global,
+    operator: BinaryOperator,
+    r: &Lease<'_>,
+    s: &Relation,
+) -> Result<Option<Relation>, AllocError>
+    ensures { IfOk result (λ o. IfSome o (λ n. spec.related operator r.now s.now ≡ Ok n)) }
+{
+    if !seeks_in_first(operator, r.get().len(), s.len()) {
+        return Ok(None);
+    }
+    for index in r.indexes() {
+        if let Some(made) = related_from(alloc, operator, r.get(), s, index)? {
+            return Ok(Some(made));
+        }
+    }
+    Ok(None)
+}
+
+// The tuples of the smaller relation are sought in the larger one where that is kept by such a key, and else the other
+// way round.
+fn related_by_any(
+    alloc: Global,
+    operator: BinaryOperator,
+    r: &Lease<'_>,
+    s: &Lease<'_>,
+) -> Result<Option<Relation>, AllocError>
+    ensures { IfOk result (λ o. IfSome o (λ n. spec.related operator r.now s.now ≡ Ok n)) }
+{
+    if s.get().len() < r.get().len() {
+        match related_from_kept(alloc, operator, r, s.get())? {
+            Some(made) => Ok(Some(made)),
+            None => related_by_kept(alloc, operator, r.get(), s),
+        }
+    } else {
+        match related_by_kept(alloc, operator, r.get(), s)? {
+            Some(made) => Ok(Some(made)),
+            None => related_from_kept(alloc, operator, r, s.get()),
+        }
+    }
+}
+
+/// What an operator makes of two relations, by an index that is kept of one of them where that serves.
 pub(crate) fn related_to(
     alloc: Global,
     operator: BinaryOperator,
-    r: &Relation,
+    r: &Lease<'_>,
     s: &Lease<'_>,
 ) -> Result<Relation, Fault>
     ensures { Answers result (spec.related operator r.now s.now) }
 {
-    match related_by_kept(alloc, operator, r, s)? {
+    match related_by_any(alloc, operator, r, s)? {
         Some(made) => Ok(made),
-        None => related(alloc, operator, r, s.get()),
+        None => related(alloc, operator, r.get(), s.get()),
     }
 }
 
@@ -286,7 +366,7 @@ fn of_relations(
 {
     let r = rows_of(u)?;
     let s = rows_of(v)?;
-    Ok(relation_value(related_to(alloc, operator, r.get(), &s)?))
+    Ok(relation_value(related_to(alloc, operator, &r, &s)?))
 }
 
 #[tactic(auto, unfolding(crate::specs::Operators::member))]

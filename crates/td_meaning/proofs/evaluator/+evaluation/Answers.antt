@@ -1,16 +1,18 @@
-use Rattle.std.proofs.Common.{◌+◌, ℕ, Bool, List, Vec, Global, drop, rules, get_or, Ok, sym, ap, ◌∙◌, subst, arith}
+use Rattle.std.proofs.Common.{◌+◌, ℕ, Bool, Result, List, Vec, Global, drop, rules, get_or, Ok, sym, ap, ◌∙◌, subst, arith}
 use Rattle.td_values.specs.Data.{Datum}
 use Rattle.td_values.specs.Rows.{RowsData}
 use Rattle.td_syntax.specs.declared.tree.Named.{Named}
 use Rattle.td_algebra.specs.Functions.{extended, project_of, restricted}
-use Rattle.td_algebra.specs.Raising.{Answers, AnswersBy}
+use Rattle.td_algebra.specs.Raising.{Answers, AnswersBy, and_then}
+use Rattle.td_algebra.specs.declared.errors.Stop.{Stop}
 use Rattle.td_algebra.proofs.Bridges.{restricts_to, extends_to, summarizes_to}
 use Rattle.td_meaning.specs.declared.scope.Held.{Held}
 use Rattle.td_operators.specs.ForProofs.Lent.{operand_value}
 use Rattle.td_meaning.specs.ForProofs.Over.{terms, list_meant, items_meant, all_meant, over_aggregate, over_extend, over_summarize, summarized_over}
 use Rattle.td_operators.specs.ForProofs.Turns.{turn}
-use Rattle.td_meaning.specs.Mean.{at, named_at, introduced, truth_at, truth_in, rows_in, mean, mean_by, mean_binary, mean_where, mean_if, mean_with}
-use Rattle.td_operators.specs.Operators.{in_turn, operate_on, attribute_at, part_at, with_new_names, nested, unnested}
+use Rattle.td_meaning.specs.Mean.{at, named_at, introduced, truth_at, truth_in, rows_in, mean, mean_both, mean_by, mean_binary, mean_where, mean_if, mean_with}
+use Rattle.td_syntax.specs.declared.tree.BinaryOperator.TheVariants as binary
+use Rattle.td_operators.specs.Operators.{in_turn, operate, operate_on, attribute_at, part_at, with_new_names, nested, unnested}
 use Rattle.td_tuples.specs.Parts.{Fits}
 use Rattle.td_meaning.specs.ForProofs.Checks.{AreChecks, all_hold, check_holds}
 use Rattle.td_meaning.specs.ForProofs.Right.{AreRight}
@@ -403,3 +405,29 @@ Evaluator::prepared-add_parts-requires t c = (omega (arith, c.decreases), subst 
 
 pub Evaluator::add_parts-parts_beside-requires : goal.Evaluator::add_parts-parts_beside-requires
 Evaluator::add_parts-parts_beside-requires t c = subst (AreRight c.args.self.now.env.now) (sym c.as_slice.ensures.value) c.loop.invariant
+
+-- ---- parts that are not made
+
+pub Evaluator::around_part-returns-in_err-inner : goal.Evaluator::around_part-returns-in_err-inner
+unfolding mean_both mean_by
+Evaluator::around_part-returns-in_err-inner t c =
+    let m = mean_in c.args.self.now.env.now in
+    let names = visible c.args.scope.now in
+    let part = c.has_parts.ensures.has c.if-not-has_parts.false c.args.names.now in
+    let rest : Datum → Result Datum Stop = λ d. and_then (m c.args.b.now names) (operate binary.AtLeast d) in
+    let known = ap (λ w. and_then (and_then w (part_at c.args.names.now)) rest) c.in_ok-around.ensures ∙ ap (λ w. and_then w rest) part.1 in
+    subst (Answers c.from_residual-in_err-inner.result) (sym known) (search rules)
+
+pub Evaluator::at_least-returns-in-Some : goal.Evaluator::at_least-returns-in-Some
+unfolding mean_both
+Evaluator::at_least-returns-in-Some t c =
+    let m = mean_in c.args.self.now.env.now in
+    let names = visible c.args.scope.now in
+    subst (λ w. Answers c.around_part.result (and_then w (λ d. and_then (m c.args.b.now names) (operate binary.AtLeast d)))) (sym (c.in-Some.ensures.means names)) c.around_part.ensures
+
+pub Evaluator::at_most-returns-in-Some : goal.Evaluator::at_most-returns-in-Some
+unfolding mean_both
+Evaluator::at_most-returns-in-Some t c =
+    let m = mean_in c.args.self.now.env.now in
+    let names = visible c.args.scope.now in
+    subst (λ w. Answers c.within_part.result (and_then (m c.args.a.now names) (λ d. and_then w (operate binary.AtMost d)))) (sym (c.in-Some.ensures.means names)) c.within_part.ensures

@@ -55,6 +55,18 @@ decreases-Evaluator::either l = 12 * max (levels l.a.now) (levels l.b.now) + 3 +
 abbrev pub decreases-Evaluator::two : goal.decreases-Evaluator::two
 decreases-Evaluator::two l = 12 * max (levels l.a.now) (levels l.b.now) + 2 + weight l.self.now.env.now.selectors.now
 
+abbrev pub decreases-Evaluator::within_part : goal.decreases-Evaluator::within_part
+decreases-Evaluator::within_part l = 12 * max (levels l.a.now) (levels l.whole.now) + 2 + weight l.self.now.env.now.selectors.now
+
+abbrev pub decreases-Evaluator::around_part : goal.decreases-Evaluator::around_part
+decreases-Evaluator::around_part l = 12 * max (levels l.whole.now) (levels l.b.now) + 2 + weight l.self.now.env.now.selectors.now
+
+abbrev pub decreases-Evaluator::at_most : goal.decreases-Evaluator::at_most
+decreases-Evaluator::at_most l = 12 * max (levels l.a.now) (levels l.b.now) + 3 + weight l.self.now.env.now.selectors.now
+
+abbrev pub decreases-Evaluator::at_least : goal.decreases-Evaluator::at_least
+decreases-Evaluator::at_least l = 12 * max (levels l.a.now) (levels l.b.now) + 3 + weight l.self.now.env.now.selectors.now
+
 abbrev pub decreases-Evaluator::binary : goal.decreases-Evaluator::binary
 decreases-Evaluator::binary l = 12 * max (levels l.a.now) (levels l.b.now) + 4 + weight l.self.now.env.now.selectors.now
 
