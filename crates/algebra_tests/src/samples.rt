@@ -5,7 +5,9 @@ use td_algebra::{
     Fault, Item, Stop, Summary, aggregate, extend, restrict, summarize, summarize_by,
 };
 use td_relations::Relation;
-use td_values::{Heading, Kind, Name, Raise, TdType, Tuple, TupleBuilder, TypeKind, Value, fits, show};
+use td_values::{
+    Heading, Kind, Name, Raise, TdType, Tuple, TupleBuilder, TypeKind, Value, fits, show,
+};
 
 pub type Result<T> = std::result::Result<T, Fail>;
 
