@@ -57,7 +57,7 @@ below_same : {A : Type 0} (b : ℕ) (other : A) (f : ℕ → A) (n : ℕ) → n 
 below_same b other f n lt = sym (ap (λ t. cond t (f n) other) (lt-ltb n b lt))
 
 -- ---- what a selector makes of components of its types
-made : (s : SchemaData) (n : ℕ) (r : Representation) (ds : List Datum) → type_named s r.possrep.ty ≡ Some (n, r) → AreComponentsOf r (items_of ds) → AreValues s (items_of ds) → (a : Result Bool Stop) → GivesTruth a → GivesValue s (kind.User r.possrep.ty) (and_then a (λ b. if b then Ok (user r.possrep (items_of ds)) else Err stop.Selector))
+made : (s : SchemaData) (n : ℕ) (r : Representation) (ds : List Datum) → type_named s r.possrep.ty ≡ Some (n, r) → AreComponentsOf r (items_of ds) → AreValues s (items_of ds) → (a : Result Bool Stop) → GivesTruth a → GivesValue s (kind.User r.possrep.ty) (and_then a (λ b. if b then Ok (user r.possrep (items_of ds)) else Err (stop.Error raise.Selector)))
 made s n r ds is fit are (Ok true) h = (refl, ((n, r, is, refl, fit), are))
 made s n r ds is fit are (Ok false) h = error_is raise.Selector
 made s n r ds is fit are (Err e) h = h
