@@ -11,7 +11,7 @@ use Rattle.td_algebra.specs.Operators.{Matching, NotMatching}
 use Rattle.td_algebra.specs.declared.errors.Stop.{Stop}
 use Rattle.td_algebra.proofs.Bridges.{matches_to, not_matches_to}
 use Rattle.td_algebra.proofs.Lists.{In}
-use Rattle.td_algebra.proofs.Made.{has_in, in_has}
+use Rattle.td_algebra.proofs.Made.{in_has}
 use Rattle.td_eval.specs.Keyed.{IsByKey}
 use Rattle.td_growth.specs.Laws.{has_none}
 use Rattle.td_growth.proofs.Operators.{matching_members}

@@ -1,7 +1,6 @@
 -- References to a relvar whose tuples leave their parts behind.
-use Rattle.std.proofs.Common.{◌≡◌, ◌==◌, inl, ℕ, Bool, true, false, cond, if◌then◌else◌, List, [], ◌∷◌, Option, Some, None, Result, Ok, Err, refl, ap, sym, ◌∙◌, subst, true≢false, ne_eqb}
+use Rattle.std.proofs.Common.{◌≡◌, inl, ℕ, Bool, true, false, cond, if◌then◌else◌, List, Some, Result, Ok, Err, refl, ap, sym, ◌∙◌, subst, true≢false}
 use Rattle.std.specs.Prelude.{slice_get}
-use Rattle.std.specs.List.{cons_option, filter_map}
 use Rattle.td_values.specs.Data.{Attrs, Datum, boolean, integer, char, user, tuple, relation, no_attrs, attr}
 use Rattle.td_values.specs.Headings.{Header}
 use Rattle.td_values.specs.Rows.{RowsData}
@@ -27,7 +26,7 @@ use Rattle.td_algebra.proofs.PlacedParts.{same_key}
 use Rattle.td_headings.specs.Catalogues.{CatalogueData}
 use Rattle.td_headings.specs.Reached.{is_base}
 use Rattle.td_headings.specs.declared.defined.Test.TheVariants as test
-use Rattle.td_meaning.specs.Mean.{Meaning, Names, Relvars, Selection, mean, mean_and, mean_binary, mean_both, mean_by, mean_relvar, mean_where, rows_in, truth_at, truth_in, within}
+use Rattle.td_meaning.specs.Mean.{Meaning, Names, Relvars, Selection, mean, mean_binary, mean_both, mean_by, mean_relvar, mean_where, rows_in, truth_at, truth_in, within}
 use Rattle.td_meaning.proofs.Forms as forms
 use Rattle.td_operators.specs.Operators.{as_value, of_relations, operate, operate_on, part_at, related, same_heading}
 use Rattle.td_operators.specs.Values as operands
@@ -38,7 +37,7 @@ use Rattle.td_story.specs.Trees.{all_relvars, places, selection_of}
 use Rattle.td_growth.specs.Growth.{IsUnread}
 use Rattle.td_growth.specs.Laws.{KeptPartsKeepReferences}
 use Rattle.td_growth.specs.References.{AreAmong, HasNames, Refers, SaysWithin, relvar, project, where_, left, matched, without, at_most, at_least, whole, part, unread, both, has_left_heading}
-use Rattle.td_growth.proofs.Constraints.{and_true, is_nothing, true_of, truth_then}
+use Rattle.td_growth.proofs.Constraints.{and_true, is_nothing, true_of}
 use Rattle.td_growth.proofs.Narrowing.{apart_from_it, as_it_was, before_it, else_now, judged_before}
 use Rattle.td_growth.proofs.Operators.{matching_members}
 use Rattle.td_growth.proofs.SharedParts.{equal_parts, in_columns, second_true}

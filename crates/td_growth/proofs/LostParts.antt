@@ -36,7 +36,6 @@ use Rattle.td_operators.specs.Values.{rows_of}
 use Rattle.td_soundness.specs.Meanings.{IsRelationOver, IsTupleOver}
 use Rattle.td_soundness.proofs.Tables.{one_heading}
 use Rattle.td_story.specs.Meanings.{no_names, with_virtual, with_virtuals}
-use Rattle.td_story.specs.Stored.{AreStored}
 use Rattle.td_story.specs.Tests.{judgement}
 use Rattle.td_story.specs.Trees.{all_relvars, places, selection_of}
 use Rattle.td_growth.specs.Laws.{LostPartsAreJudged, has_none}

@@ -2,23 +2,19 @@
 -- other.
 use Rattle.std.proofs.Common.{◌≡◌, ◌⊎◌, ⊎_elim, ◌&&◌, ℕ, Bool, true, false, cond, List, Option, Some, None, is_some, refl, ap, sym, ◌∙◌, subst, true≢false}
 use Rattle.std.specs.FinMap as by_name
-use Rattle.std.specs.FinSet as set
-use Rattle.std.specs.List.{filter}
 use Rattle.std.specs.Ordering.{eq_by_cmp}
-use Rattle.td_values.specs.Attributes.{attribute_of}
-use Rattle.td_values.specs.Data.{Attrs, Ty, no_attrs, attr}
+use Rattle.td_values.specs.Data.{Attrs, no_attrs, attr}
 use Rattle.td_values.specs.Headings.{Header}
 use Rattle.td_values.specs.Order.{attrs_order}
-use Rattle.td_values.specs.Proving.Total.{attrs_order_total}
 use Rattle.td_values.specs.Rows.{RowsData}
 use Rattle.td_tuples.specs.Parts.{Fits, columns_in, cut, is_in, names_of, where_name}
 use Rattle.td_tuples.proofs.ByName.{fits_named, fits_sorted, same_part, whole_part}
 use Rattle.td_tuples.proofs.Lists.{in_keys, same_name}
-use Rattle.td_relations.specs.Sets.{Has, IsRelationOf, body}
+use Rattle.td_relations.specs.Sets.{Has}
 use Rattle.td_algebra.specs.ForProofs.Index.{has_part, is_matched}
-use Rattle.td_algebra.specs.Functions.{matching_of, minus_of, not_matching_of, project_of}
+use Rattle.td_algebra.specs.Functions.{matching_of, not_matching_of, project_of}
 use Rattle.td_algebra.proofs.Bridges.{minus_is, project_is}
-use Rattle.td_algebra.proofs.Lists.{In, any_in, in_any}
+use Rattle.td_algebra.proofs.Lists.{any_in, in_any}
 use Rattle.td_algebra.proofs.Made.{has_in, in_has}
 use Rattle.td_algebra.proofs.PlacedParts.{itself, same_key}
 use Rattle.td_growth.proofs.Operators.{matching_members}

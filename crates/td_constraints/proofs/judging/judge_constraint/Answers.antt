@@ -1,4 +1,4 @@
-use Rattle.std.proofs.Common.{Result, Ok, sym, ap, ◌∙◌, subst}
+use Rattle.std.proofs.Common.{Ok, sym, ap, ◌∙◌, subst}
 use Rattle.td_story.specs.Raises.{Tells}
 use Rattle.td_constraints.proofs.Gaining.{lost, over, stays}
 use Rattle.td_constraints.proofs.Judged.{are_bases}
