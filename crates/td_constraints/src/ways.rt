@@ -96,7 +96,7 @@ fn leaves_parts(alloc: Global, names: &[Name], delta: &Delta) -> Result<bool, Al
     Ok(have_parts(&index, delta.deleted().tuples()))
 }
 
-// Whether it refers to the relvar by names at which each tuple that the change takes out leaves its part to another one.
+// Whether it refers to the relvar by names at which each tuple that the change takes out leaves its part to another.
 fn keeps_references(
     alloc: Global,
     catalogue: &Catalogue,

@@ -386,8 +386,8 @@ fn refers(
 }
 
 /// The names by which the constraint refers to the relvar, if it reads nothing else of it: where each tuple that the
-/// relvar loses leaves its values at these names to another one, it stays true. It costs the sizes of the expression and
-/// of those of the virtual relvars under it, and the number of relvars.
+/// relvar loses leaves its values at these names to another one, it stays true. It costs the sizes of the expression
+/// and of those of the virtual relvars under it, and the number of relvars.
 pub fn referring(
     alloc: Global,
     catalogue: &Catalogue,
