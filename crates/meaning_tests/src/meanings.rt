@@ -20,6 +20,7 @@ type Result<T> = std::result::Result<T, Fail>;
 fn shown(alloc: Global, selectors: &[Selector], tree: &Typed) -> Result<String> {
     let env = Environment {
         relvars: &[],
+        waiting: &[],
         selectors,
     };
     match eval(alloc, &env, tree, &Scope::Nothing) {

@@ -1,5 +1,5 @@
 -- What is known of the relvars under an expression gives it its meaning.
-use Rattle.std.proofs.Common.{◌≡◌, ◌==◌, ⊎_elim, ℕ, zero, suc, ◌<◌, Bool, true, List, [], ◌∷◌, ◌++◌, map, length, drop, get_or, Option, Some, None, if◌then◌else◌, Result, Err, refl, ap, sym, ◌∙◌, subst, arith, true≢false, eq-eqb, ne_eqb}
+use Rattle.std.proofs.Common.{◌≡◌, ◌==◌, ⊎_elim, ℕ, zero, suc, ◌<◌, Bool, true, List, [], ◌∷◌, ◌++◌, map, length, take, drop, get_or, Option, Some, None, if◌then◌else◌, Result, Err, refl, ap, sym, ◌∙◌, subst, arith, true≢false, eq-eqb, ne_eqb}
 use Rattle.std.specs.Prelude.{slice_get}
 use Rattle.std.specs.List.{Contains, filter_map, cons_option}
 use Rattle.std.specs.List.Sorted.{IsStrictlySortedBy}
@@ -33,11 +33,11 @@ use Rattle.td_headings.specs.declared.defined.Origin.TheVariants as origin
 use Rattle.td_headings.proofs.ReadLemmas.{reads_those}
 use Rattle.td_headings.proofs.WellTyped.{all_typed}
 use Rattle.td_meaning.specs.Mean.{Meaning, Relvars, Selection, mean, rows_in, within}
-use Rattle.td_meaning.specs.Seen.{relvars_at}
+use Rattle.td_meaning.specs.Seen.{one_known_more, relvars_at, virtual_known, virtuals_known}
 use Rattle.td_meaning.specs.Selections.{selection}
 use Rattle.td_meaning.specs.declared.environment.Known.{Known}
 use Rattle.td_story.specs.Meanings.{no_names, with_virtual, with_virtuals, means}
-use Rattle.td_eval.specs.ForProofs.Environments.{base_known, bases_known, virtual_known, one_more, virtuals_known, all_known}
+use Rattle.td_eval.specs.ForProofs.Environments.{base_known, bases_known, all_known}
 use Rattle.td_eval.proofs.Named.{named_agree}
 use Rattle.td_eval.proofs.Placed.{named_defined, names_earlier}
 
@@ -161,26 +161,26 @@ module _ (c : CatalogueData) (defined : Defined c) (x : Expression) (tree : IsTr
           let lt = names_earlier c defined m v is w h in
           either m ms w q (λ e. absurd (omega (arith, lt, e))) (λ p. let gt = later m ms w sorted p in absurd (omega (arith, lt, gt)))))
 
-      at_new : relvars_at (one_more selected ks new) m ≡ with_virtual selected r new m
+      at_new : relvars_at (one_known_more selected ks new) m ≡ with_virtual selected r new m
       at_new =
           last_found ks (virtual_known selected ks new) (λ h. not_stored (a.stands m h (0, omega arith, refl)))
           ∙ ap (λ f. rows_in f no_names) alike
           ∙ sym (ap (λ b. if b then rows_in (mean r selected v) no_names else r m) (eq-eqb m m refl))
 
-      at_other : (n : ℕ) → (m ≡ n → ⊥) → Contains all_places n → (Contains ms n → stored n ≡ true) → relvars_at (one_more selected ks new) n ≡ with_virtual selected r new n
+      at_other : (n : ℕ) → (m ≡ n → ⊥) → Contains all_places n → (Contains ms n → stored n ≡ true) → relvars_at (one_known_more selected ks new) n ≡ with_virtual selected r new n
       at_other n apart h f =
           others_stay ks (virtual_known selected ks new) n (λ e. apart (sym e))
           ∙ a.same n h (λ q. either m ms n q (λ e. absurd (apart (sym e))) f)
           ∙ sym (ap (λ b. if b then rows_in (mean r selected v) no_names else r n) (ne_eqb m n apart))
 
-      added : Agrees ms (one_more selected ks new) (with_virtual selected r new)
+      added : Agrees ms (one_known_more selected ks new) (with_virtual selected r new)
       added = record {
         stands = λ n p q.
             ⊎_elim
             (λ old. a.stands n old (further m ms n q))
             (λ e. let gt = later m ms n sorted q in absurd (omega (arith, gt, e)))
             (Contains-push_cases (places ks) m n (subst (λ l. Contains l n) (map-append place_of ks (virtual_known selected ks new ∷ [])) p));
-        same = λ n h f. ⊎_elim (λ e. subst (λ k. relvars_at (one_more selected ks new) k ≡ with_virtual selected r new k) e at_new) (λ apart. at_other n apart h f) (cases_eq m n);
+        same = λ n h f. ⊎_elim (λ e. subst (λ k. relvars_at (one_known_more selected ks new) k ≡ with_virtual selected r new k) e at_new) (λ apart. at_other n apart h f) (cases_eq m n);
       }
 
   abbrev Follows : List VirtualUnder → List Known → Relvars → ℕ → Type 0
@@ -192,7 +192,7 @@ module _ (c : CatalogueData) (defined : Defined c) (x : Expression) (tree : IsTr
       let no : None ≡ Some (get_or c.origins m (origin.Base [] None)) = sym is ∙ some in
       cc
   next_place m ms ks r n sorted there a rest (Some (origin.Base keys e)) is = rest ks r (skipped m ms ks r sorted a (ap is_base is))
-  next_place m ms ks r n sorted there a rest (Some (origin.Virtual v)) is = rest (one_more selected ks (new m ms ks r sorted a v there is)) (with_virtual selected r (new m ms ks r sorted a v there is)) (added m ms ks r sorted a v there is)
+  next_place m ms ks r n sorted there a rest (Some (origin.Virtual v)) is = rest (one_known_more selected ks (new m ms ks r sorted a v there is)) (with_virtual selected r (new m ms ks r sorted a v there is)) (added m ms ks r sorted a v there is)
 
   known_same : (ns : List ℕ) → IsStrictlySortedBy nat_cmp ns → ((n : ℕ) → Contains ns n → Contains all_places n) → (ks : List Known) (r : Relvars) → Agrees ns ks r → (n : ℕ) → Contains all_places n → Follows (filter_map (virtual_at c) ns) ks r n
   known_same [] sorted part ks r a n h = a.same n h (none_there n)
@@ -229,34 +229,38 @@ by_reads x r s t typed same =
     ∙ as_known x typed s)
 
 -- ---- what the program puts together
-pub next_virtual : (s : Selection) (vs : List VirtualUnder) (i : ℕ) (v : VirtualUnder) (ks : List Known) → i < length vs → v ≡ get_or vs i v → virtuals_known s (drop i vs) ks ≡ virtuals_known s (drop (suc i) vs) (one_more s ks v)
+pub next_virtual : (s : Selection) (vs : List VirtualUnder) (i : ℕ) (v : VirtualUnder) (ks : List Known) → i < length vs → v ≡ get_or vs i v → virtuals_known s (drop i vs) ks ≡ virtuals_known s (drop (suc i) vs) (one_known_more s ks v)
 next_virtual s [] i v ks lt is = absurd (omega (arith, lt))
-next_virtual s (w ∷ vs) zero v ks lt is = ap (λ u. virtuals_known s vs (one_more s ks u)) (sym is)
+next_virtual s (w ∷ vs) zero v ks lt is = ap (λ u. virtuals_known s vs (one_known_more s ks u)) (sym is)
 next_virtual s (w ∷ vs) (suc i) v ks lt is = next_virtual s vs i v ks (omega (arith, lt)) is
 
-module _ (x y : Expression) (same : y ≡ x) (r : Relvars) (ss : List Selector) (bs : List BaseUnder) (vs : List VirtualUnder) (ks js ds : List Known) (s_is : ss ≡ y.selectors) (b_is : bs ≡ y.bases) (k_is : ks ≡ bases_known r bs) (v_is : vs ≡ y.virtuals) (j_is : js ≡ virtuals_known (selection ss) vs ks) (d_is : ds ≡ js) where
+-- those that are evaluated before, and those that wait behind them, are all
+pub all_behind : (s : Selection) (vs : List VirtualUnder) (i : ℕ) (ks : List Known) → virtuals_known s (drop i vs) (virtuals_known s (take i vs) ks) ≡ virtuals_known s vs ks
+all_behind s [] zero ks = refl
+all_behind s [] (suc i) ks = refl
+all_behind s (v ∷ vs) zero ks = refl
+all_behind s (v ∷ vs) (suc i) ks = all_behind s vs i (one_known_more s ks v)
+
+module _ (x y : Expression) (same : y ≡ x) (r : Relvars) (ss : List Selector) (vs : List VirtualUnder) (ks ds : List Known) (s_is : ss ≡ y.selectors) (k_is : virtuals_known (selection y.selectors) vs ks ≡ all_known y r) (d_is : ds ≡ ks) where
   selectors_are : ss ≡ x.selectors
   selectors_are = s_is ∙ ap (λ (e : Expression). e.selectors) same
 
-  all_are : ds ≡ all_known x r
-  all_are =
-      let vs_is : vs ≡ x.virtuals = v_is ∙ ap (λ (e : Expression). e.virtuals) same in
-      let ks_is : ks ≡ bases_known r x.bases = k_is ∙ ap (bases_known r) (b_is ∙ ap (λ (e : Expression). e.bases) same) in
-      d_is ∙ j_is ∙ (λ i. virtuals_known (selection (selectors_are i)) (vs_is i) (ks_is i))
+  all_are : virtuals_known (selection ss) vs ds ≡ all_known x r
+  all_are = (λ i. virtuals_known (selection (s_is i)) vs (d_is i)) ∙ k_is ∙ ap (λ (e : Expression). all_known e r) same
 
   -- what expressions mean over them
-  pub means_known : mean (relvars_at ds) (selection ss) ≡ mean (relvars_at (all_known x r)) (selection x.selectors)
+  pub means_known : mean (relvars_at (virtuals_known (selection ss) vs ds)) (selection ss) ≡ mean (relvars_at (all_known x r)) (selection x.selectors)
   means_known = λ i. mean (relvars_at (all_are i)) (selection (selectors_are i))
 
   -- a part of the tree
-  pub part_known : (v : Typed) → mean (relvars_at ds) (selection ss) v ≡ mean (relvars_at (all_known x r)) (selection x.selectors) v
+  pub part_known : (v : Typed) → mean (relvars_at (virtuals_known (selection ss) vs ds)) (selection ss) v ≡ mean (relvars_at (all_known x r)) (selection x.selectors) v
   part_known v = λ i. mean (relvars_at (all_are i)) (selection (selectors_are i)) v
 
-  pub part_evaluated : (w : Result RowsData Fault) (v : Typed) → Answers w (rows_in (mean (relvars_at ds) (selection ss) v) no_names) → Answers w (rows_in (mean (relvars_at (all_known x r)) (selection x.selectors) v) no_names)
+  pub part_evaluated : (w : Result RowsData Fault) (v : Typed) → Answers w (rows_in (mean (relvars_at (virtuals_known (selection ss) vs ds)) (selection ss) v) no_names) → Answers w (rows_in (mean (relvars_at (all_known x r)) (selection x.selectors) v) no_names)
   part_evaluated w v h = subst (λ (m : Meaning). Answers w (rows_in m no_names)) (part_known v) h
 
-pub evaluated : (x y : Expression) (typed : IsTyped x) (same : y ≡ x) (r : Relvars) (t : Attrs) (ss : List Selector) (bs : List BaseUnder) (vs : List VirtualUnder) (ks js ds : List Known) (u : Typed) (w : Result Datum Fault) → ss ≡ y.selectors → bs ≡ y.bases → ks ≡ bases_known r bs → vs ≡ y.virtuals → js ≡ virtuals_known (selection ss) vs ks → ds ≡ js → u ≡ y.tree → Answers w (mean (relvars_at ds) (selection ss) u (within t no_names)) → Answers w (means x r t)
-evaluated x y typed same r t ss bs vs ks js ds u w s_is b_is k_is v_is j_is d_is u_is h =
-    let tree_is : u ≡ x.tree = u_is ∙ ap (λ (e : Expression). e.tree) same in
-    let known = part_known x y same r ss bs vs ks js ds s_is b_is k_is v_is j_is d_is u ∙ ap (mean (relvars_at (all_known x r)) (selection x.selectors)) tree_is in
-    subst (Answers w) (ap (λ (m : Meaning). m (within t no_names)) (known ∙ as_known x typed r)) h
+  pub evaluated : IsTyped x → (t : Attrs) (u : Typed) (w : Result Datum Fault) → u ≡ y.tree → Answers w (mean (relvars_at (virtuals_known (selection ss) vs ds)) (selection ss) u (within t no_names)) → Answers w (means x r t)
+  evaluated typed t u w u_is h =
+      let tree_is : u ≡ x.tree = u_is ∙ ap (λ (e : Expression). e.tree) same in
+      let known = part_known u ∙ ap (mean (relvars_at (all_known x r)) (selection x.selectors)) tree_is in
+      subst (Answers w) (ap (λ (m : Meaning). m (within t no_names)) (known ∙ as_known x typed r)) h

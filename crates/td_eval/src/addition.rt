@@ -16,7 +16,7 @@ ghost use Rattle.td_story.specs.Trees.{AreBases, IsIn, tree_means};
 ghost use Rattle.td_eval.specs.Added.{TellsAdded};
 ghost use Rattle.td_eval.specs.ForProofs.Environments.{all_known};
 
-use crate::evaluation::{add_virtuals, known_bases, rows};
+use crate::evaluation::{known_relvars, rows};
 use crate::forms::is_relvar;
 use crate::lookup::Lookup;
 use crate::valued::raise_of;
@@ -55,12 +55,11 @@ fn rows_of_part<L: Lookup>(
     ensures { Answers result (rows_in (mean (relvars_at (all_known expr.now (L.relvars lookup.now))) (selection expr.now.selectors) part.now) no_names) }
 {
     let expression = expr.get();
-    let selectors = expression.selectors.as_slice();
-    let mut known = known_bases(alloc, lookup, expression.bases.as_slice())?;
-    add_virtuals(alloc, &mut known, selectors, expression.virtuals.as_slice())?;
+    let (known, waiting) = known_relvars(alloc, lookup, expression)?;
     let env = Environment {
         relvars: &known,
-        selectors,
+        waiting,
+        selectors: expression.selectors.as_slice(),
     };
     rows(alloc, &env, part)
 }

@@ -18,7 +18,7 @@ ghost use Rattle.td_eval.specs.ForProofs.Environments.{all_known};
 ghost use Rattle.td_eval.specs.declared.forms.Form.TheVariants.{Changed};
 ghost use Rattle.td_eval.specs.ForProofs.Forms.{TellsForm, form_means};
 
-use crate::evaluation::{add_virtuals, known_bases, leased};
+use crate::evaluation::{known_relvars, leased};
 use crate::forms::{Change, Form, form_of};
 use crate::lookup::Lookup;
 use crate::naming::lacking;
@@ -102,12 +102,11 @@ fn change_by_part<L: Lookup>(
     ensures { TellsForm tuples.now (form_means (mean (relvars_at (all_known expr.now (L.relvars lookup.now))) (selection expr.now.selectors)) tuples.now form.now) result }
 {
     let expression = expr.get();
-    let selectors = expression.selectors.as_slice();
-    let mut known = known_bases(alloc, lookup, expression.bases.as_slice())?;
-    add_virtuals(alloc, &mut known, selectors, expression.virtuals.as_slice())?;
+    let (known, waiting) = known_relvars(alloc, lookup, expression)?;
     let env = Environment {
         relvars: &known,
-        selectors,
+        waiting,
+        selectors: expression.selectors.as_slice(),
     };
     exchange(alloc, &env, tuples, form)
 }

@@ -1,12 +1,12 @@
 //! Evaluation.
 
-ghost use Rattle.std.specs.Prelude.{◌≡◌, IfOk, MatchResult, OnOk};
+ghost use Rattle.std.specs.Prelude.{◌≡◌, ◌≤◌, length, IfOk, MatchResult, OnOk};
 ghost use Rattle.td_algebra.specs.Raising.{Answers};
 ghost use Rattle.td_meaning.specs.Mean.{rows_in};
-ghost use Rattle.td_meaning.specs.Seen.{mean_in};
+ghost use Rattle.td_meaning.specs.Seen.{mean_in, virtual_known, virtuals_known};
 ghost use Rattle.td_meaning.specs.Selections.{selection};
 ghost use Rattle.td_operators.specs.Values as spec;
-ghost use Rattle.td_eval.specs.ForProofs.Environments.{Keeps, base_known, bases_known, one_more, virtual_known, virtuals_known};
+ghost use Rattle.td_eval.specs.ForProofs.Environments.{Keeps, all_known, base_known, bases_known};
 ghost use Rattle.td_story.specs.Meanings.{means, no_names};
 
 use crate::lookup::Lookup;
@@ -16,8 +16,9 @@ use td_headings::TypedExpr;
 use td_meaning::{Environment, Known, Scope};
 use td_operators::Lease;
 use td_relations::Relation;
-use td_trees::expression::{BaseUnder, Selector, VirtualUnder};
+use td_trees::expression::{BaseUnder, Expression, Selector, VirtualUnder};
 use td_trees::tree::Typed;
+use td_trees::{add_mentions, relvars_in};
 use td_values::{Kind, Tuple, Value};
 
 // The answer, with the error that it may be.
@@ -51,7 +52,7 @@ fn known_base<'a, L: Lookup>(lookup: &'a L, base: &BaseUnder) -> Known<'a>
 }
 
 // Each base relvar is looked up once, and lent.
-pub(crate) fn known_bases<'a, L: Lookup>(
+fn known_bases<'a, L: Lookup>(
     alloc: Global,
     lookup: &'a L,
     bases: &[BaseUnder],
@@ -89,7 +90,11 @@ fn known_virtual<'a>(
 ) -> Result<Known<'a>, AllocError>
     ensures { IfOk result (λ k. k ≡ virtual_known (selection selectors.now) relvars.now under.now) }
 {
-    let env = Environment { relvars, selectors };
+    let env = Environment {
+        relvars,
+        waiting: &[],
+        selectors,
+    };
     let value = kept(rows(alloc, &env, under.tree.get()))?;
     Ok(Known {
         place: under.place,
@@ -98,7 +103,7 @@ fn known_virtual<'a>(
 }
 
 // Each virtual relvar is evaluated once, over those before it. What it raises is kept: it may not be needed.
-pub(crate) fn add_virtuals<'a>(
+fn add_virtuals<'a>(
     alloc: Global,
     known: &mut Vec<Known<'a>>,
     selectors: &[Selector],
@@ -113,8 +118,63 @@ pub(crate) fn add_virtuals<'a>(
     Ok(())
 }
 
+// The places of the relvars that the expression and the virtual relvars under it name, as often as they are named, in
+// order.
+fn named(alloc: Global, expression: &Expression) -> Result<Vec<usize>, AllocError> {
+    let mut mentions = Vec::new(alloc);
+    add_mentions(&mut mentions, expression.tree.get())?;
+    for under in expression.virtuals.as_slice() {
+        add_mentions(&mut mentions, under.tree.get())?;
+    }
+    let mut places = relvars_in(alloc, &mentions)?;
+    places.sort_unstable();
+    Ok(places)
+}
+
+// Whether the place stands there twice, among places in order.
+fn stands_twice(places: &[usize], place: usize) -> bool {
+    let at = places.partition_point(|other| *other < place);
+    at + 1 < places.len() && places[at + 1] == place
+}
+
+// How many of the virtual relvars are evaluated before the expression: those up to the last one that is named twice.
+fn needed_before(alloc: Global, expression: &Expression) -> Result<usize, AllocError>
+    ensures { IfOk result (λ n. n ≤ length expression.now.virtuals) }
+{
+    let virtuals = expression.virtuals.as_slice();
+    if virtuals.is_empty() {
+        return Ok(0);
+    }
+    let places = named(alloc, expression)?;
+    for at in (0..virtuals.len()).rev() {
+        if stands_twice(&places, virtuals[at].place) {
+            return Ok(at + 1);
+        }
+    }
+    Ok(0)
+}
+
+/// What is known of the relvars under an expression before it is evaluated, and the virtual ones that wait. Each base
+/// relvar is looked up once, and lent. A virtual relvar that is named once waits for where the expression comes to it,
+/// with those behind it; one that is named more than once is evaluated once, before.
+pub(crate) fn known_relvars<'a, 'x, L: Lookup>(
+    alloc: Global,
+    lookup: &'a L,
+    expression: &'x Expression,
+) -> Result<(Vec<Known<'a>>, &'x [VirtualUnder]), AllocError>
+    ensures { IfOk result (λ p. virtuals_known (selection expression.now.selectors) p.1.now p.0.items ≡ all_known expression.now (L.relvars lookup.now)) }
+{
+    let virtuals = expression.virtuals.as_slice();
+    let mut known = known_bases(alloc, lookup, expression.bases.as_slice())?;
+    let at = needed_before(alloc, expression)?;
+    let (before, waiting) = virtuals.split_at(at);
+    add_virtuals(alloc, &mut known, expression.selectors.as_slice(), before)?;
+    Ok((known, waiting))
+}
+
 /// The value of the expression within the tuple, or the error that it raises. Each base relvar that it reads is looked
-/// up once and lent, which takes no memory for its tuples, and each virtual relvar under it is evaluated once.
+/// up once and lent, which takes no memory for its tuples. A virtual relvar under it is evaluated once, before it, or,
+/// where it is named once, where the expression comes to it.
 pub fn eval<L: Lookup>(
     alloc: Global,
     expr: &TypedExpr,
@@ -124,12 +184,11 @@ pub fn eval<L: Lookup>(
     ensures { Answers result (means expr.now (L.relvars lookup.now) tuple.now) }
 {
     let expression = expr.get();
-    let selectors = expression.selectors.as_slice();
-    let mut known = known_bases(alloc, lookup, expression.bases.as_slice())?;
-    add_virtuals(alloc, &mut known, selectors, expression.virtuals.as_slice())?;
+    let (known, waiting) = known_relvars(alloc, lookup, expression)?;
     let env = Environment {
         relvars: &known,
-        selectors,
+        waiting,
+        selectors: expression.selectors.as_slice(),
     };
     let scope = Scope::Within(tuple, &Scope::Nothing);
     td_meaning::eval(alloc, &env, expression.tree.get(), &scope)

@@ -30,7 +30,7 @@ use Rattle.td_typing.proofs.Sound.{sound}
 use Rattle.td_typing.proofs.Complete.{complete}
 use Rattle.td_headings.specs.Catalogues.{CatalogueData}
 use Rattle.td_headings.specs.Definitions.{names_of_relvars, represented, with_type, with_relvar, key_tests, is_constraint, with_constraint, TypesLimit, no_limit, limit, TypesOpening, empty, init, headed_init, AreKeys, no_keys, next_key, Defines, type_, base, virtual, constraint}
-use Rattle.td_headings.specs.ForProofs.After.{Value, truth_of, value_of, limit_after, limits_after, value_after, condition_after, beside, opening_after, keys_after, relvar_after, possrep_after, type_after, base_after, virtual_after, constraint_after, after}
+use Rattle.td_headings.specs.ForProofs.After.{Value, truth_of, value_of, limit_after, limits_after, value_after, condition_after, beside, opening_after, keys_after, relvar_after, possrep_after, type_after, base_after, virtual_after, named_after, constraint_after, after}
 use Rattle.td_headings.specs.declared.defined.Origin.TheVariants as origin
 
 -- ---- steps
@@ -212,7 +212,7 @@ module _ (c d : CatalogueData) where
       (virtual (there_is_none (relvar_named c.schema n) t.0) (value_is c a p.0 p.1))
 
   constraint_is : (n : Name) (a : Expr) → constraint_after c n a ≡ Some d → Defines c (definition.Constraint n a) d
-  unfolding constraint_after
+  unfolding constraint_after named_after
   constraint_is n a h =
       let p = inverted (condition_after c.schema a) (λ u. where_true (not (list_any (is_constraint n) c.tests)) (with_constraint c n u)) d h in
       let t = tested (not (list_any (is_constraint n) c.tests)) (with_constraint c n p.0) d p.2 in
@@ -229,7 +229,7 @@ none_is : {A : Type 0} (o : Option A) → o ≡ None → is_none o ≡ true
 none_is o h = ap is_none h
 
 pub is_after : {c d : CatalogueData} {x : Definition} → Defines c x d → after c x ≡ Some d
-unfolding type_after possrep_after base_after virtual_after constraint_after relvar_after
+unfolding type_after possrep_after base_after virtual_after constraint_after named_after relvar_after
 is_after {c} (type_ {n} {m} {xs} {a} {ks} {u} t p b e l) =
     let o = unwrap_or m n in
     goes (components_written c.schema xs) ks (λ ls. where_some (limits_after c.schema ls a) (λ v. possrep_after c (represented n o ls) v)) e

@@ -1,5 +1,6 @@
 pub mod Deciding
 pub mod Placed
+pub mod TestNames
 pub mod Ascending
 pub mod NoTuple
 pub mod WellTyped

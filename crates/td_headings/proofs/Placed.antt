@@ -1,5 +1,5 @@
 -- What is put behind the others, by the fields of a catalogue.
-use Rattle.std.proofs.Common.{◌≡◌, ℕ, Bool, true, false, List, [], ◌∷◌, ◌++◌, map, length, Option, Some, None, is_none, Result, Ok, Err, refl, sym, ap, ◌∙◌}
+use Rattle.std.proofs.Common.{◌≡◌, ℕ, Bool, true, false, not, List, [], ◌∷◌, ◌++◌, map, length, Option, Some, None, is_none, Result, Ok, Err, refl, sym, ap, ◌∙◌}
 use Rattle.td_values.specs.Headings.{Header}
 use Rattle.td_syntax.specs.declared.tree.Attributes.{Attributes}
 use Rattle.td_syntax.specs.declared.script.Opening.{Opening}
@@ -8,13 +8,14 @@ use Rattle.td_kinds.specs.declared.error.TypeError.TheVariants.{IllTyped, OutOfM
 use Rattle.td_kinds.specs.Kinds.{Name}
 use Rattle.td_kinds.specs.Results.{Fails, where_some, where_true}
 use Rattle.std.specs.Result.{OnOk}
+use Rattle.std.specs.List.{list_any}
 use Rattle.td_kinds.specs.declared.schema.Representation.{Representation}
 use Rattle.td_kinds.specs.Schemas.{SchemaData, relvar_named}
 use Rattle.td_kinds.specs.ForProofs.Additions.{relvar_added, may_add, type_added}
 use Rattle.td_trees.specs.declared.tree.Typed.{Typed}
 use Rattle.td_headings.specs.Catalogues.{CatalogueData}
-use Rattle.td_headings.specs.Definitions.{with_relvar, with_type, key_tests}
-use Rattle.td_headings.specs.ForProofs.After.{opening_after, keys_after, relvar_after, possrep_after, base_after}
+use Rattle.td_headings.specs.Definitions.{is_constraint, with_constraint, with_relvar, with_type, key_tests}
+use Rattle.td_headings.specs.ForProofs.After.{opening_after, keys_after, relvar_after, possrep_after, named_after, base_after}
 use Rattle.td_headings.specs.ForProofs.Changes.{Changes}
 use Rattle.td_headings.specs.declared.defined.Origin.{Origin}
 use Rattle.td_headings.specs.declared.defined.Origin.TheVariants as origin
@@ -86,6 +87,23 @@ module _ (s : SchemaData) (limits : List (Option Typed)) (origins : List Origin)
 
   pub still_typed : (t : SchemaData) (ls : List (Option Typed)) → t ≡ s → ls ≡ limits → record { schema = t; limits = ls; origins = origins; tests = tests } ≡ c
   still_typed t ls p q = (λ i. record { schema = p i; limits = q i; origins = origins; tests = tests }) ∙ seen
+
+module _ (s : SchemaData) (limits : List (Option Typed)) (origins : List Origin) (tests : List Test) (c : CatalogueData) (seen : record { schema = s; limits = limits; origins = origins; tests = tests } ≡ c) (n : Name) (u : Typed) where
+  name_put : (b : Bool) → list_any (is_constraint n) tests ≡ b → named_after c n u ≡ where_true (not b) (record { schema = s; limits = limits; origins = origins; tests = tests ++ test.Constraint n u ∷ [] })
+  unfolding named_after
+  name_put b e =
+      ap (λ (d : CatalogueData). where_true (not (list_any (is_constraint n) d.tests)) (with_constraint d n u)) (sym seen)
+      ∙ ap (λ t. where_true (not t) (record { schema = s; limits = limits; origins = origins; tests = tests ++ test.Constraint n u ∷ [] })) e
+
+  pub name_taken : (us : List Test) → list_any (is_constraint n) tests ≡ false → us ≡ tests ++ test.Constraint n u ∷ [] → named_after c n u ≡ Some (record { schema = s; limits = limits; origins = origins; tests = us })
+  name_taken us e q = name_put false e ∙ ap (λ ts. Some (record { schema = s; limits = limits; origins = origins; tests = ts })) (sym q)
+
+  pub name_refused : (e : TypeError) → (◌≡◌ {A = Result (Unit {0}) TypeError} (Err e) (Err IllTyped) → list_any (is_constraint n) tests ≡ true) → Fails e (named_after c n u)
+  name_refused OutOfMemory f = tt
+  name_refused IllTyped f = name_put true (f refl)
+
+  pub still_named : (us : List Test) → us ≡ tests → record { schema = s; limits = limits; origins = origins; tests = us } ≡ c
+  still_named us r = (λ i. record { schema = s; limits = limits; origins = origins; tests = r i }) ∙ seen
 
 -- ---- what a change tells
 pub taken : {A : Type 0} (old new : A) (o : Option A) (P : Type 0) (r : Result (Unit {0}) TypeError) → Changes old o r new → (o ≡ Some new → P) → OnOk r P

@@ -3,4 +3,5 @@ pub mod After
 pub mod Changes
 pub mod Codes
 pub mod Sources
+pub mod TestNames
 pub mod WellTyped

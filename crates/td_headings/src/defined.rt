@@ -1,16 +1,16 @@
 //! What a script has defined, definition by definition.
 
 ghost use Rattle.std.specs.Prelude.{◌≡◌, ◌++◌, ◌∷◌, [], Err, IfOk, None, Some, OnErr, OnOk, map};
-ghost use Rattle.std.specs.List.{list_any};
-ghost use Rattle.td_kinds.specs.ForProofs.Additions.{relvar_added, type_added};
+ghost use Rattle.td_kinds.specs.ForProofs.Additions.{type_added};
 ghost use Rattle.td_kinds.specs.declared.error.TypeError.TheVariants as type_error;
 ghost use Rattle.td_headings.specs.Catalogues as spec;
-ghost use Rattle.td_headings.specs.Definitions as definitions;
 ghost use Rattle.td_headings.specs.ForProofs.After as after;
 ghost use Rattle.td_headings.specs.ForProofs.Changes.{Changes};
+ghost use Rattle.td_headings.specs.ForProofs.TestNames.{constraint_names};
 ghost use Rattle.td_headings.specs.declared.defined.Test.TheVariants as test;
 
 use crate::opening::{condition, keys_of, limits, opened, value};
+use crate::test_list::TestList;
 use sqlite_items::{Boxed, Items};
 use std::alloc::{AllocError, Global};
 use std::marker::Model;
@@ -48,7 +48,7 @@ pub struct Definitions {
     schema: Schema,
     limits: Vec<Option<Shared<Typed>>>,
     origins: Vec<Origin>,
-    tests: Vec<Test>,
+    tests: TestList,
 }
 
 impl Model for Definitions {
@@ -59,37 +59,7 @@ impl Model for Definitions {
 
     ghost coded = { catalogue_code };
 
-    ghost view = { λ c. record { schema = c.schema; limits = c.limits.items; origins = c.origins.items; tests = c.tests.items } };
-}
-
-// All that can fail comes first.
-fn add_relvar(
-    schema: &mut Schema,
-    origins: &mut Vec<Origin>,
-    tests: &mut Vec<Test>,
-    name: Name,
-    heading: Heading,
-    origin: Origin,
-    more: Vec<Test>,
-) -> Result<(), TypeError>
-    ensures schema { OnOk result (relvar_added schema.old name heading ≡ Some schema.new) }
-    ensures origins { OnOk result (origins.new.items ≡ origins.old.items ++ origin ∷ []) }
-    ensures tests { OnOk result (tests.new.items ≡ tests.old.items ++ more.items) }
-    ensures ill_typed { result ≡ Err type_error.IllTyped → relvar_added schema.old name heading ≡ None }
-    ensures same_schema { OnErr result (schema.new ≡ schema.old) }
-    ensures same_origins { OnErr result (origins.new.items ≡ origins.old.items) }
-    ensures same_tests { OnErr result (tests.new.items ≡ tests.old.items) }
-{
-    let mut more = more;
-    origins.reserve(1)?;
-    tests.reserve(more.len())?;
-    match schema.add_relvar(name, heading) {
-        Ok(()) => {}
-        Err(error) => return Err(error),
-    }
-    origins.push(origin).unwrap();
-    tests.append(&mut more).unwrap();
-    Ok(())
+    ghost view = { λ c. record { schema = c.schema; limits = c.limits.items; origins = c.origins.items; tests = c.tests } };
 }
 
 // All that can fail comes first.
@@ -114,21 +84,6 @@ fn add_type(
     Ok(())
 }
 
-fn is_constraint(name: &Name, test: &Test) -> bool
-    ensures { result ≡ definitions.is_constraint name.now test.now }
-{
-    match test {
-        Test::Constraint(other, _) => other == name,
-        Test::Key(_, _) => false,
-    }
-}
-
-fn is_constraint_among(tests: &[Test], name: &Name) -> bool
-    ensures { result ≡ list_any (definitions.is_constraint name.now) tests.now }
-{
-    tests.iter().any(|test| is_constraint(name, test))
-}
-
 fn key_tests(alloc: Global, place: usize, keys: &[Items<Name>]) -> Result<Vec<Test>, AllocError>
     ensures { IfOk result (λ v. v.items ≡ map (test.Key place) keys.now) }
 {
@@ -148,7 +103,7 @@ impl Definitions {
             schema: Schema::new(alloc),
             limits: Vec::new(alloc),
             origins: Vec::new(alloc),
-            tests: Vec::new(alloc),
+            tests: TestList::new(alloc),
         }
     }
 
@@ -177,7 +132,7 @@ impl Definitions {
     pub fn tests(&self) -> &[Test]
         ensures { result.now ≡ self.now.tests }
     {
-        &self.tests
+        self.tests.as_slice()
     }
 
     fn put_relvar(
@@ -185,18 +140,18 @@ impl Definitions {
         name: Name,
         heading: Heading,
         origin: Origin,
-        tests: Vec<Test>,
+        keys: Vec<Test>,
     ) -> Result<(), TypeError>
-        ensures { Changes self.old (after.relvar_after self.old name heading origin tests.items) result self.new }
+        requires { constraint_names keys.items ≡ [] }
+        ensures { Changes self.old (after.relvar_after self.old name heading origin keys.items) result self.new }
     {
-        match add_relvar(
+        match self.tests.add_relvar(
             &mut self.schema,
             &mut self.origins,
-            &mut self.tests,
             name,
             heading,
             origin,
-            tests,
+            keys,
         ) {
             Ok(()) => {}
             Err(error) => return Err(error),
@@ -241,13 +196,16 @@ impl Definitions {
         ensures { Changes self.old (after.constraint_after self.old name.now expr.now) result self.new }
     {
         let tree = condition(alloc, &self.schema, expr)?;
-        if is_constraint_among(&self.tests, name) {
-            return Err(TypeError::IllTyped);
-        }
         let name = name.copy()?;
-        match self.tests.push(Test::Constraint(name, tree)) {
+        self.put_constraint(name, tree)
+    }
+
+    fn put_constraint(&mut self, name: Name, tree: Shared<Typed>) -> Result<(), TypeError>
+        ensures { Changes self.old (after.named_after self.old name tree) result self.new }
+    {
+        match self.tests.add_constraint(name, tree) {
             Ok(()) => {}
-            Err(_) => return Err(TypeError::OutOfMemory),
+            Err(error) => return Err(error),
         }
         Ok(())
     }

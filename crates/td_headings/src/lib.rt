@@ -9,6 +9,7 @@ mod opening;
 mod reach;
 mod sources;
 pub mod statement;
+mod test_list;
 pub mod typed;
 
 pub use catalogue::Catalogue;

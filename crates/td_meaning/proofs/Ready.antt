@@ -29,7 +29,7 @@ use Rattle.td_meaning.specs.declared.environment.Environment.{Environment}
 use Rattle.td_meaning.specs.ForProofs.Checks.{AddsChecks, IsCheck, all_hold, and_also, check_holds, check_levels, comparison, deepest_check}
 use Rattle.td_meaning.specs.ForProofs.Over.{Means}
 use Rattle.td_meaning.specs.Mean.{Meaning, Names, mean_and, mean_binary, mean_both, mean_local, or_else, truth_in, within}
-use Rattle.td_meaning.specs.Seen.{mean_in, relvars_at}
+use Rattle.td_meaning.specs.Seen.{mean_in, relvars_there}
 use Rattle.td_meaning.specs.Selections.{selection}
 use Rattle.td_meaning.proofs.Forms.{of_binary, of_local}
 
@@ -117,7 +117,7 @@ module _ (env : Environment) (names : Names) where
   means = mean_in env
 
   is_binary : (o : BinaryOperator) (a b : Typed) → means (t.Binary o a b) ≡ mean_binary o (means a) (means b)
-  is_binary o a b = of_binary (relvars_at env.relvars.now) (selection env.selectors.now) o a b
+  is_binary o a b = of_binary (relvars_there env) (selection env.selectors.now) o a b
 
   pub adds_one : (h : Header) (a : Typed) (c : Check) (old new : List Check) → IsCheck means names h a c → new ≡ old ++ c ∷ [] → AddsChecks means names h a old new
   adds_one h a c old new is same = λ u f. ap (all_hold means names u) same ∙ hold_pushed means names u old c ∙ ap (and_also (all_hold means names u old)) (is u f)
@@ -135,7 +135,7 @@ module _ (env : Environment) (names : Names) where
   -- ---- a name, and a part as it is
   pub local_is : (a : Typed) (n : List ℕ) (u : Attrs) → a ≡ t.Local n → means a (within u names) ≡ known (within u names n)
   unfolding mean_local
-  local_is a n u is = ap (λ x. means x (within u names)) is ∙ ap (λ x. x (within u names)) (of_local (relvars_at env.relvars.now) (selection env.selectors.now) n)
+  local_is a n u is = ap (λ x. means x (within u names)) is ∙ ap (λ x. x (within u names)) (of_local (relvars_there env) (selection env.selectors.now) n)
 
   -- ---- a comparison
   pub compares : (h : Header) (e a b : Typed) (o : BinaryOperator) (c : Check) (v w : Attrs → Result Datum Stop) → e ≡ t.Binary o a b → ((x y : Meaning) → mean_binary o x y ≡ mean_both o x y)

@@ -15,7 +15,7 @@ use Rattle.td_values.specs.declared.raises.Raise.TheVariants.{Overflow}
 use Rattle.td_algebra.specs.declared.errors.Stop.TheVariants.{Untyped, Error}
 use Rattle.td_meaning.specs.ForProofs.Right.{AreRight, IsRight}
 use Rattle.td_meaning.specs.Mean.{Names}
-use Rattle.td_meaning.specs.Seen.{mean_in, relvars_at}
+use Rattle.td_meaning.specs.Seen.{mean_in, relvars_there}
 use Rattle.td_meaning.specs.Selections.{selection}
 use Rattle.td_meaning.proofs.Fewer.{steady}
 
@@ -39,7 +39,7 @@ right_in_slice env o v ps right is same = subst (AreRight env) (sym same) (subst
 closed_means : (env : Environment) (a : Typed) (w : Result Datum Stop) → mean_in env a (λ x. None) ≡ w → (w ≡ Err Untyped → ⊥) → (names : Names) → mean_in env a names ≡ w
 closed_means env a w is typed names =
     ⊎_elim (λ wants. absurd (typed (sym is ∙ wants))) (λ same. sym same ∙ is)
-    (steady (relvars_at env.relvars.now) (selection env.selectors.now) a (λ x. None) names (λ x. inl refl))
+    (steady (relvars_there env) (selection env.selectors.now) a (λ x. None) names (λ x. inl refl))
 
 told : Result Datum Stop → Type 0
 told (Ok d) = Unit {0}

@@ -5,7 +5,7 @@ ghost use Rattle.td_meaning.specs.ForProofs.Levels.{groups_levels, item_levels, 
 ghost use Rattle.td_meaning.specs.ForProofs.Right.{deepest_in};
 ghost use Rattle.td_meaning.specs.ForProofs.Terms.{terms_levels};
 
-use crate::environment::relvar_at;
+use crate::environment::{relvar_known, waits};
 use crate::evaluator::Evaluator;
 use crate::parts::heading_known;
 use sqlite_items::Boxed;
@@ -90,18 +90,23 @@ impl Bound<'_> {
     }
 }
 
+fn heading_found<'a>(evaluator: &'a Evaluator<'_>, tree: &Typed) -> Option<&'a Heading> {
+    match evaluator.known(tree) {
+        Some(value) => heading_known(value),
+        None => None,
+    }
+}
+
 // The heading of the relation that the expression means, where it is there to be seen.
 fn heading_of<'a>(evaluator: &'a Evaluator<'_>, tree: &Typed) -> Option<&'a Heading> {
     match tree {
-        Typed::Relvar(place) => match relvar_at(evaluator.env.relvars, *place) {
-            Ok(lease) => Some(lease.get().heading()),
-            Err(_) => None,
+        Typed::Relvar(place) => match relvar_known(evaluator.env, *place) {
+            Some(Ok(lease)) => Some(lease.get().heading()),
+            Some(Err(_)) => None,
+            None => heading_found(evaluator, tree),
         },
         Typed::Where(r, _) => heading_of(evaluator, r.get()),
-        _ => match evaluator.known(tree) {
-            Some(value) => heading_known(value),
-            None => None,
-        },
+        _ => heading_found(evaluator, tree),
     }
 }
 
@@ -317,6 +322,14 @@ fn of_parts<'t>(
     }
 }
 
+// A relvar is lent where it stands, but one that waits.
+fn is_worth_keeping(evaluator: &Evaluator<'_>, tree: &Typed) -> bool {
+    match tree {
+        Typed::Relvar(place) => waits(evaluator.env, *place),
+        _ => true,
+    }
+}
+
 // Adds the greatest parts of the expression that name nothing around it and are worth keeping.
 #[cycle(survey)]
 fn survey<'t>(
@@ -331,7 +344,7 @@ fn survey<'t>(
     let reach = of_parts(evaluator, found, tree, bound)?;
     if reach.is_dear && bound.place() < reach.outermost {
         found.truncate(mark);
-        if !matches!(tree, Typed::Relvar(_)) && evaluator.known(tree).is_none() {
+        if is_worth_keeping(evaluator, tree) && evaluator.known(tree).is_none() {
             found.push(tree)?;
         }
     }

@@ -1,11 +1,13 @@
 //! What evaluation is given beside an expression.
 
+ghost use Rattle.std.specs.Prelude.{◌≡◌, true, false, MatchOption};
 ghost use Rattle.td_algebra.specs.Raising.{AnswersBy};
-ghost use Rattle.td_meaning.specs.Seen.{relvars_at};
+ghost use Rattle.td_meaning.specs.ForProofs.Waiting.{IsWaiting, is_known, is_waiting};
+ghost use Rattle.td_meaning.specs.Seen.{relvars_at, relvars_there};
 
 use td_algebra::{Fault, Stop};
 use td_operators::Lease;
-use td_trees::expression::Selector;
+use td_trees::expression::{Selector, VirtualUnder};
 
 /// What a relvar has, by its place in order of definition: a relation, which may be lent, or what its expression
 /// raises.
@@ -19,6 +21,9 @@ pub struct Known<'a> {
 #[derive(Clone, Copy)]
 pub struct Environment<'a> {
     pub relvars: &'a [Known<'a>],
+    /// Virtual relvars that are evaluated where the expression comes to them, and each time that it does. Each sees
+    /// those before it, and what is known.
+    pub waiting: &'a [VirtualUnder],
     /// Each sees those before it.
     pub selectors: &'a [Selector],
 }
@@ -32,14 +37,44 @@ fn lease_of<'a>(known: &'a Known<'_>) -> Result<&'a Lease<'a>, Fault>
     }
 }
 
-// What the relvar at the place has. It looks at the relvars one by one.
-pub(crate) fn relvar_at<'a>(relvars: &'a [Known<'_>], place: usize) -> Result<&'a Lease<'a>, Fault>
-    ensures { AnswersBy (λ r. r.now) result (relvars_at relvars.now place) }
+// What the one at the place has.
+fn relvar_at<'a>(relvars: &'a [Known<'_>], place: usize) -> Option<Result<&'a Lease<'a>, Fault>>
+    ensures { MatchOption result (is_known place relvars.now ≡ false) (λ r. (is_known place relvars.now ≡ true) × AnswersBy (λ r. r.now) r (relvars_at relvars.now place)) }
 {
     for known in relvars {
         if known.place == place {
-            return lease_of(known);
+            return Some(lease_of(known));
         }
     }
-    Err(Fault::Raised(Stop::Untyped))
+    None
+}
+
+/// What the relvar at the place has, if it is known. It looks at the relvars one by one.
+pub(crate) fn relvar_known<'a>(
+    env: &'a Environment<'_>,
+    place: usize,
+) -> Option<Result<&'a Lease<'a>, Fault>>
+    ensures { MatchOption result (is_known place env.now.relvars.now ≡ false) (λ r. AnswersBy (λ r. r.now) r (relvars_there env.now place)) }
+{
+    relvar_at(env.relvars, place)
+}
+
+/// The virtual relvar at the place, if it waits, and those before it. It looks at them one by one.
+pub(crate) fn virtual_at(
+    waiting: &[VirtualUnder],
+    place: usize,
+) -> Option<(&[VirtualUnder], &VirtualUnder)>
+    ensures { MatchOption result (is_waiting place waiting.now ≡ false) (λ f. IsWaiting waiting.now place f.0.now f.1.now) }
+{
+    for at in 0..waiting.len() {
+        if waiting[at].place == place {
+            return Some((&waiting[..at], &waiting[at]));
+        }
+    }
+    None
+}
+
+/// Whether the relvar at the place waits for its evaluation.
+pub(crate) fn waits(env: &Environment<'_>, place: usize) -> bool {
+    env.waiting.iter().any(|under| under.place == place)
 }

@@ -34,16 +34,13 @@ impl<'a> Evaluator<'a> {
         }
     }
 
-    /// What is known of the expression. What takes no evaluation is not sought.
+    /// What is known of the expression. What takes no evaluation is not sought, as a relvar where none waits.
     pub(crate) fn known(&self, tree: &Typed) -> Option<&'a Result<Held, Stop>>
         ensures { IfSome result (λ v. (names : Names) → mean_in self.now.env.now tree.now names ≡ known_value v.now) }
     {
         match tree {
-            Typed::Integer(_)
-            | Typed::Text(_)
-            | Typed::Truth(_)
-            | Typed::Local(_)
-            | Typed::Relvar(_) => None,
+            Typed::Integer(_) | Typed::Text(_) | Typed::Truth(_) | Typed::Local(_) => None,
+            Typed::Relvar(_) if self.env.waiting.is_empty() => None,
             _ => find(self.parts, tree),
         }
     }

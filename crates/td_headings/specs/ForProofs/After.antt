@@ -83,8 +83,12 @@ base_after c n o as' =
 unfoldable pub virtual_after : CatalogueData → Name → Expr → Option CatalogueData
 virtual_after c n a = where_some (value_after c.schema a) (λ v. relvar_after c n v.1 (origin.Virtual v.0) [])
 
+-- with a constraint whose name is new
+unfoldable pub named_after : CatalogueData → Name → Typed → Option CatalogueData
+named_after c n u = where_true (not (list_any (is_constraint n) c.tests)) (with_constraint c n u)
+
 unfoldable pub constraint_after : CatalogueData → Name → Expr → Option CatalogueData
-constraint_after c n a = where_some (condition_after c.schema a) (λ u. where_true (not (list_any (is_constraint n) c.tests)) (with_constraint c n u))
+constraint_after c n a = where_some (condition_after c.schema a) (named_after c n)
 
 abbrev pub after : CatalogueData → Definition → Option CatalogueData
 after c (definition.Type n m xs a) = type_after c n (unwrap_or m n) xs a

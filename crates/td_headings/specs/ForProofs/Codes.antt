@@ -17,5 +17,8 @@ abbrev pub catalogue_code : Coded CatalogueData
 catalogue_code =
     code_by (SchemaData × (List (Option Typed) × (List Origin × List Test))) (coded× schema_code (coded× (coded_list (coded_option typed.the_row.coded)) (coded× (coded_list origin.the_row.coded) (coded_list test.the_row.coded)))) (λ c. (c.schema, (c.limits, (c.origins, c.tests)))) (λ p. record { schema = p.0; limits = p.1.0; origins = p.1.1.0; tests = p.1.1.1 }) (λ _. refl)
 
+abbrev pub tests_code : Coded (List Test)
+tests_code = coded_list test.the_row.coded
+
 abbrev pub expression_code : Coded Expression
 expression_code = the_row.coded

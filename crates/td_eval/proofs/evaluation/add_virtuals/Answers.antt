@@ -1,6 +1,6 @@
 use Rattle.std.proofs.Common.{◌≡◌, ◌+◌, suc, ◌++◌, [], ◌∷◌, drop, sym, ap, ◌∙◌, arith}
 use Rattle.td_meaning.specs.Selections.{selection}
-use Rattle.td_eval.specs.ForProofs.Environments.{one_more, virtual_known, virtuals_known}
+use Rattle.td_meaning.specs.Seen.{one_known_more, virtual_known, virtuals_known}
 use Rattle.td_eval.proofs.Known.{next_virtual}
 use Rattle.td_eval.proofs.evaluation.add_virtuals.Goals as goal
 
@@ -14,5 +14,5 @@ loop-under-preserved c =
     let new = c.in_ok-push.ensures.items ∙ ap (λ k. c.loop-under.known.items ++ k ∷ []) next in
     c.loop-under.invariant
     ∙ next_virtual s vs i c.under-item.result c.loop-under.known.items c.loop-under-test.true c.under-item.is
-    ∙ ap (λ k. virtuals_known s (drop k vs) (one_more s c.loop-under.known.items c.under-item.result)) at
+    ∙ ap (λ k. virtuals_known s (drop k vs) (one_known_more s c.loop-under.known.items c.under-item.result)) at
     ∙ ap (λ ks. virtuals_known s (drop (i + 1) vs) ks) (sym new)

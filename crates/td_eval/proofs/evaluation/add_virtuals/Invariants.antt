@@ -1,6 +1,6 @@
 use Rattle.std.proofs.Common.{◌≡◌, drop}
 use Rattle.td_meaning.specs.Selections.{selection}
-use Rattle.td_eval.specs.ForProofs.Environments.{virtuals_known}
+use Rattle.td_meaning.specs.Seen.{virtuals_known}
 use Rattle.td_eval.proofs.evaluation.add_virtuals.Given as goal
 
 abbrev pub invariant-loop-under : goal.invariant-loop-under

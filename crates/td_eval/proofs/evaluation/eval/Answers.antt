@@ -2,7 +2,4 @@ use Rattle.td_eval.proofs.Known.{evaluated}
 use Rattle.td_eval.proofs.evaluation.eval.Goals as goal
 
 pub returns : goal.returns
-returns g c =
-    evaluated c.args.expr.now c.get-expression.result.now c.get-expression.ensures.typed c.get-expression.ensures.same (g.L.Lookup.relvars c.args.lookup.now) c.args.tuple.now
-    c.as_slice-selectors.result.now c.as_slice.result.now c.as_slice-2.result.now c.in_ok-known.known.items c.add_virtuals.new.known.items c.deref.result.now c.get.result.now c.eval.result
-    c.as_slice-selectors.ensures c.as_slice.ensures c.in_ok-known.ensures c.as_slice-2.ensures c.in_ok-add_virtuals.ensures c.deref.ensures.value c.get.ensures c.eval.ensures
+returns g c = ?

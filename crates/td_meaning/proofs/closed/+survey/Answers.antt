@@ -24,8 +24,8 @@ of_names-loop-i-preserved t c = omega (arith, c.loop-i.invariant, c.in_ok-next.e
 pub survey-returns-in_ok-push : goal.survey-returns-in_ok-push
 survey-returns-in_ok-push t c = omega (arith, ap deepest_in c.in_ok-push.ensures.items, one_more_deep c.truncate.new.self.items c.args.tree, ap deepest_in c.truncate.ensures.items, front_is_no_deeper c.len-mark.result c.of_parts.new.found.items, c.in_ok-reach.ensures)
 
-pub survey-returns-else-not-matches : goal.survey-returns-else-not-matches
-survey-returns-else-not-matches t c = omega (arith, ap deepest_in c.truncate.ensures.items, front_is_no_deeper c.len-mark.result c.of_parts.new.found.items, c.in_ok-reach.ensures)
+pub survey-returns-else-is_worth_keeping : goal.survey-returns-else-is_worth_keeping
+survey-returns-else-is_worth_keeping t c = omega (arith, ap deepest_in c.truncate.ensures.items, front_is_no_deeper c.len-mark.result c.of_parts.new.found.items, c.in_ok-reach.ensures)
 
 pub of_terms-returns-in_ok-second-in-Extend : goal.of_terms-returns-in_ok-second-in-Extend
 of_terms-returns-in_ok-second-in-Extend t c = omega (arith, ap levels c.in-Extend.is, of_extend c.in-Extend.r c.in-Extend.items, ap levels c.get-in-Extend.ensures, ap item_levels c.as_slice.ensures, c.in_ok-first-in-Extend.ensures, c.in_ok-second-in-Extend.ensures)

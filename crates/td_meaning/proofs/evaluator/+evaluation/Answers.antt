@@ -1,4 +1,4 @@
-use Rattle.std.proofs.Common.{◌+◌, ℕ, Bool, Result, List, Vec, Global, drop, rules, get_or, Ok, sym, ap, ◌∙◌, subst, arith}
+use Rattle.std.proofs.Common.{◌+◌, ℕ, Bool, None, Result, List, Vec, Global, drop, rules, get_or, Ok, sym, ap, ◌∙◌, subst, arith}
 use Rattle.td_values.specs.Data.{Datum}
 use Rattle.td_values.specs.Rows.{RowsData}
 use Rattle.td_syntax.specs.declared.tree.Named.{Named}
@@ -10,19 +10,20 @@ use Rattle.td_meaning.specs.declared.scope.Held.{Held}
 use Rattle.td_operators.specs.ForProofs.Lent.{operand_value}
 use Rattle.td_meaning.specs.ForProofs.Over.{terms, list_meant, items_meant, all_meant, over_aggregate, over_extend, over_summarize, summarized_over}
 use Rattle.td_operators.specs.ForProofs.Turns.{turn}
-use Rattle.td_meaning.specs.Mean.{at, named_at, introduced, truth_at, truth_in, rows_in, mean, mean_both, mean_by, mean_binary, mean_where, mean_if, mean_with}
+use Rattle.td_meaning.specs.Mean.{at, named_at, introduced, truth_at, truth_in, rows_in, mean, mean_both, mean_by, mean_binary, mean_relvar, mean_where, mean_if, mean_with}
 use Rattle.td_syntax.specs.declared.tree.BinaryOperator.TheVariants as binary
-use Rattle.td_operators.specs.Operators.{in_turn, operate, operate_on, attribute_at, part_at, with_new_names, nested, unnested}
+use Rattle.td_operators.specs.Operators.{as_value, in_turn, operate, operate_on, attribute_at, part_at, with_new_names, nested, unnested}
 use Rattle.td_tuples.specs.Parts.{Fits}
 use Rattle.td_meaning.specs.ForProofs.Checks.{AreChecks, all_hold, check_holds}
 use Rattle.td_meaning.specs.ForProofs.Right.{AreRight}
 use Rattle.td_meaning.proofs.Deepest.{in_deepest}
 use Rattle.td_meaning.proofs.Ready.{check_within, hold_goes, hold_stops}
 use Rattle.td_meaning.proofs.Rightness.{error_means, right_in_slice, told_error, value_means}
-use Rattle.td_meaning.specs.Seen.{held_value, all_given, mean_in, relvars_at, visible}
+use Rattle.td_meaning.specs.Seen.{held_value, all_given, mean_in, relvars_there, visible}
 use Rattle.td_meaning.specs.Selections.{admits, no_relvars, selection}
 use Rattle.td_meaning.proofs.Falls.{in_list, in_items, in_named, term_within, summary_within, of_term, select_falls, relation_falls, tuple_falls, extend_falls, with_falls, summarize_falls}
 use Rattle.td_meaning.proofs.Forms.{of_relvar, of_unary, of_binary, of_from, of_project, of_where, of_rename, of_nest, of_unnest, of_aggregate, of_if, of_extend, of_summarize, of_with}
+use Rattle.td_meaning.proofs.Waiting.{nowhere}
 use Rattle.td_meaning.proofs.Walks.{value_goes, value_stops, field_goes, field_stops, name_goes, name_stops, one_more_given, fails, made_over, stops_over}
 use Rattle.td_operators.proofs.Turns.{turn_begins}
 use Rattle.td_meaning.proofs.evaluator.+evaluation.Goals as goal
@@ -227,7 +228,7 @@ Evaluator::all_hold-returns-in_err-holds_at t c =
     search (rules, h)
 
 pub Evaluator::admits-returns-in-Some : goal.Evaluator::admits-returns-in-Some
-unfolding admits
+unfolding admits relvars_there
 Evaluator::admits-returns-in-Some t c =
     let names = visible c.args.scope.now in
     let earlier = selection c.args.earlier.now in
@@ -280,91 +281,88 @@ Evaluator::summarization-returns-in_err-summarized_by t c =
 pub Evaluator::by_form-returns-in-Relvar : goal.Evaluator::by_form-returns-in-Relvar
 Evaluator::by_form-returns-in-Relvar t c =
     let names = visible c.args.scope.now in
-    let is = ap (mean_in c.args.self.now.env.now) c.in-Relvar.is ∙ of_relvar (relvars_at c.args.self.now.env.now.relvars.now) (selection c.args.self.now.env.now.selectors.now) c.in-Relvar.place in
+    let is = ap (mean_in c.args.self.now.env.now) c.in-Relvar.is ∙ of_relvar (relvars_there c.args.self.now.env.now) (selection c.args.self.now.env.now.selectors.now) c.in-Relvar.place in
     subst (λ f. Answers c.relvar.result (f names)) (sym is) (c.relvar.ensures names)
 
 pub Evaluator::operand-returns-in-Relvar : goal.Evaluator::operand-returns-in-Relvar
-Evaluator::operand-returns-in-Relvar t c =
-    let names = visible c.args.scope.now in
-    let is = ap (mean_in c.args.self.now.env.now) c.in-Relvar.is ∙ of_relvar (relvars_at c.args.self.now.env.now.relvars.now) (selection c.args.self.now.env.now.selectors.now) c.in-Relvar.place in
-    subst (λ f. AnswersBy operand_value c.relvar_operand.result (f names)) (sym is) (c.relvar_operand.ensures names)
+Evaluator::operand-returns-in-Relvar t c = c.relvar_operand.ensures (visible c.args.scope.now)
 
 pub Evaluator::by_form-returns-in-Unary : goal.Evaluator::by_form-returns-in-Unary
 Evaluator::by_form-returns-in-Unary t c =
     let m = mean_in c.args.self.now.env.now in
-    let is = ap m c.in-Unary.is ∙ of_unary (relvars_at c.args.self.now.env.now.relvars.now) (selection c.args.self.now.env.now.selectors.now) c.in-Unary.operator c.in-Unary.a ∙ ap (λ a. mean_by (operate_on c.in-Unary.operator) (m a)) (sym c.get-in-Unary.ensures) in
+    let is = ap m c.in-Unary.is ∙ of_unary (relvars_there c.args.self.now.env.now) (selection c.args.self.now.env.now.selectors.now) c.in-Unary.operator c.in-Unary.a ∙ ap (λ a. mean_by (operate_on c.in-Unary.operator) (m a)) (sym c.get-in-Unary.ensures) in
     subst (λ f. Answers c.unary.result (f (visible c.args.scope.now))) (sym is) c.unary.ensures
 
 pub Evaluator::by_form-returns-in-Binary : goal.Evaluator::by_form-returns-in-Binary
 Evaluator::by_form-returns-in-Binary t c =
     let m = mean_in c.args.self.now.env.now in
-    let is = ap m c.in-Binary.is ∙ of_binary (relvars_at c.args.self.now.env.now.relvars.now) (selection c.args.self.now.env.now.selectors.now) c.in-Binary.operator c.in-Binary.a c.in-Binary.b ∙ (λ i. mean_binary c.in-Binary.operator (m (sym c.get-in-Binary.ensures i)) (m (sym c.get-in-Binary-2.ensures i))) in
+    let is = ap m c.in-Binary.is ∙ of_binary (relvars_there c.args.self.now.env.now) (selection c.args.self.now.env.now.selectors.now) c.in-Binary.operator c.in-Binary.a c.in-Binary.b ∙ (λ i. mean_binary c.in-Binary.operator (m (sym c.get-in-Binary.ensures i)) (m (sym c.get-in-Binary-2.ensures i))) in
     subst (λ f. Answers c.binary.result (f (visible c.args.scope.now))) (sym is) c.binary.ensures
 
 pub Evaluator::by_form-returns-in-From : goal.Evaluator::by_form-returns-in-From
 Evaluator::by_form-returns-in-From t c =
     let m = mean_in c.args.self.now.env.now in
-    let is = ap m c.in-From.is ∙ of_from (relvars_at c.args.self.now.env.now.relvars.now) (selection c.args.self.now.env.now.selectors.now) c.in-From.name c.in-From.a ∙ ap (λ a. mean_by (attribute_at c.in-From.name) (m a)) (sym c.get-in-From.ensures) in
+    let is = ap m c.in-From.is ∙ of_from (relvars_there c.args.self.now.env.now) (selection c.args.self.now.env.now.selectors.now) c.in-From.name c.in-From.a ∙ ap (λ a. mean_by (attribute_at c.in-From.name) (m a)) (sym c.get-in-From.ensures) in
     subst (λ f. Answers c.attribute.result (f (visible c.args.scope.now))) (sym is) c.attribute.ensures
 
 pub Evaluator::by_form-returns-in-Project : goal.Evaluator::by_form-returns-in-Project
 Evaluator::by_form-returns-in-Project t c =
     let m = mean_in c.args.self.now.env.now in
-    let is = ap m c.in-Project.is ∙ of_project (relvars_at c.args.self.now.env.now.relvars.now) (selection c.args.self.now.env.now.selectors.now) c.in-Project.a c.in-Project.names ∙ (λ i. mean_by (part_at (sym c.as_slice-in-Project.ensures i)) (m (sym c.get-in-Project.ensures i))) in
+    let is = ap m c.in-Project.is ∙ of_project (relvars_there c.args.self.now.env.now) (selection c.args.self.now.env.now.selectors.now) c.in-Project.a c.in-Project.names ∙ (λ i. mean_by (part_at (sym c.as_slice-in-Project.ensures i)) (m (sym c.get-in-Project.ensures i))) in
     subst (λ f. Answers c.projection.result (f (visible c.args.scope.now))) (sym is) c.projection.ensures
 
 pub Evaluator::by_form-returns-in-Where : goal.Evaluator::by_form-returns-in-Where
 Evaluator::by_form-returns-in-Where t c =
     let m = mean_in c.args.self.now.env.now in
-    let is = ap m c.in-Where.is ∙ of_where (relvars_at c.args.self.now.env.now.relvars.now) (selection c.args.self.now.env.now.selectors.now) c.in-Where.r c.in-Where.c ∙ (λ i. mean_where (m (sym c.get-in-Where.ensures i)) (m (sym c.get-in-Where-2.ensures i))) in
+    let is = ap m c.in-Where.is ∙ of_where (relvars_there c.args.self.now.env.now) (selection c.args.self.now.env.now.selectors.now) c.in-Where.r c.in-Where.c ∙ (λ i. mean_where (m (sym c.get-in-Where.ensures i)) (m (sym c.get-in-Where-2.ensures i))) in
     subst (λ f. Answers c.restriction.result (f (visible c.args.scope.now))) (sym is) c.restriction.ensures
 
 pub Evaluator::by_form-returns-in-Rename : goal.Evaluator::by_form-returns-in-Rename
 Evaluator::by_form-returns-in-Rename t c =
     let m = mean_in c.args.self.now.env.now in
-    let is = ap m c.in-Rename.is ∙ of_rename (relvars_at c.args.self.now.env.now.relvars.now) (selection c.args.self.now.env.now.selectors.now) c.in-Rename.a c.in-Rename.items ∙ (λ i. mean_by (with_new_names (sym c.as_slice-in-Rename.ensures i)) (m (sym c.get-in-Rename.ensures i))) in
+    let is = ap m c.in-Rename.is ∙ of_rename (relvars_there c.args.self.now.env.now) (selection c.args.self.now.env.now.selectors.now) c.in-Rename.a c.in-Rename.items ∙ (λ i. mean_by (with_new_names (sym c.as_slice-in-Rename.ensures i)) (m (sym c.get-in-Rename.ensures i))) in
     subst (λ f. Answers c.renaming.result (f (visible c.args.scope.now))) (sym is) c.renaming.ensures
 
 pub Evaluator::by_form-returns-in-Nest : goal.Evaluator::by_form-returns-in-Nest
 Evaluator::by_form-returns-in-Nest t c =
     let m = mean_in c.args.self.now.env.now in
-    let is = ap m c.in-Nest.is ∙ of_nest (relvars_at c.args.self.now.env.now.relvars.now) (selection c.args.self.now.env.now.selectors.now) c.in-Nest.operator c.in-Nest.a c.in-Nest.names c.in-Nest.name ∙ (λ i. mean_by (nested c.in-Nest.operator (sym c.as_slice-in-Nest.ensures i) c.in-Nest.name) (m (sym c.get-in-Nest.ensures i))) in
+    let is = ap m c.in-Nest.is ∙ of_nest (relvars_there c.args.self.now.env.now) (selection c.args.self.now.env.now.selectors.now) c.in-Nest.operator c.in-Nest.a c.in-Nest.names c.in-Nest.name ∙ (λ i. mean_by (nested c.in-Nest.operator (sym c.as_slice-in-Nest.ensures i) c.in-Nest.name) (m (sym c.get-in-Nest.ensures i))) in
     subst (λ f. Answers c.nesting.result (f (visible c.args.scope.now))) (sym is) c.nesting.ensures
 
 pub Evaluator::by_form-returns-in-Unnest : goal.Evaluator::by_form-returns-in-Unnest
 Evaluator::by_form-returns-in-Unnest t c =
     let m = mean_in c.args.self.now.env.now in
-    let is = ap m c.in-Unnest.is ∙ of_unnest (relvars_at c.args.self.now.env.now.relvars.now) (selection c.args.self.now.env.now.selectors.now) c.in-Unnest.operator c.in-Unnest.a c.in-Unnest.name ∙ ap (λ a. mean_by (unnested c.in-Unnest.operator c.in-Unnest.name) (m a)) (sym c.get-in-Unnest.ensures) in
+    let is = ap m c.in-Unnest.is ∙ of_unnest (relvars_there c.args.self.now.env.now) (selection c.args.self.now.env.now.selectors.now) c.in-Unnest.operator c.in-Unnest.a c.in-Unnest.name ∙ ap (λ a. mean_by (unnested c.in-Unnest.operator c.in-Unnest.name) (m a)) (sym c.get-in-Unnest.ensures) in
     subst (λ f. Answers c.unnesting.result (f (visible c.args.scope.now))) (sym is) c.unnesting.ensures
 
 pub Evaluator::by_form-returns-in-Aggregate : goal.Evaluator::by_form-returns-in-Aggregate
 Evaluator::by_form-returns-in-Aggregate t c =
     let m = mean_in c.args.self.now.env.now in
-    let is = ap m c.in-Aggregate.is ∙ of_aggregate (relvars_at c.args.self.now.env.now.relvars.now) (selection c.args.self.now.env.now.selectors.now) c.in-Aggregate.r c.in-Aggregate.summary ∙ ap (λ r. over_aggregate m r c.in-Aggregate.summary) (sym c.get-in-Aggregate.ensures) in
+    let is = ap m c.in-Aggregate.is ∙ of_aggregate (relvars_there c.args.self.now.env.now) (selection c.args.self.now.env.now.selectors.now) c.in-Aggregate.r c.in-Aggregate.summary ∙ ap (λ r. over_aggregate m r c.in-Aggregate.summary) (sym c.get-in-Aggregate.ensures) in
     subst (λ f. Answers c.aggregation.result (f (visible c.args.scope.now))) (sym is) c.aggregation.ensures
 
 pub Evaluator::by_form-returns-in-If : goal.Evaluator::by_form-returns-in-If
 Evaluator::by_form-returns-in-If t c =
     let m = mean_in c.args.self.now.env.now in
-    let is = ap m c.in-If.is ∙ of_if (relvars_at c.args.self.now.env.now.relvars.now) (selection c.args.self.now.env.now.selectors.now) c.in-If.c c.in-If.a c.in-If.b ∙ (λ i. mean_if (m (sym c.get-in-If.ensures i)) (m (sym c.get-in-If-2.ensures i)) (m (sym c.get-in-If-3.ensures i))) in
+    let is = ap m c.in-If.is ∙ of_if (relvars_there c.args.self.now.env.now) (selection c.args.self.now.env.now.selectors.now) c.in-If.c c.in-If.a c.in-If.b ∙ (λ i. mean_if (m (sym c.get-in-If.ensures i)) (m (sym c.get-in-If-2.ensures i)) (m (sym c.get-in-If-3.ensures i))) in
     subst (λ f. Answers c.choice.result (f (visible c.args.scope.now))) (sym is) c.choice.ensures
 
 pub Evaluator::by_form-returns-in-Extend : goal.Evaluator::by_form-returns-in-Extend
 Evaluator::by_form-returns-in-Extend t c =
     let m = mean_in c.args.self.now.env.now in
-    let is = ap m c.in-Extend.is ∙ of_extend (relvars_at c.args.self.now.env.now.relvars.now) (selection c.args.self.now.env.now.selectors.now) c.in-Extend.r c.in-Extend.items ∙ (λ i. over_extend m (sym c.get-in-Extend.ensures i) (sym c.as_slice-in-Extend.ensures i)) in
+    let is = ap m c.in-Extend.is ∙ of_extend (relvars_there c.args.self.now.env.now) (selection c.args.self.now.env.now.selectors.now) c.in-Extend.r c.in-Extend.items ∙ (λ i. over_extend m (sym c.get-in-Extend.ensures i) (sym c.as_slice-in-Extend.ensures i)) in
     subst (λ f. Answers c.extension.result (f (visible c.args.scope.now))) (sym is) c.extension.ensures
 
 pub Evaluator::by_form-returns-in-Summarize : goal.Evaluator::by_form-returns-in-Summarize
 Evaluator::by_form-returns-in-Summarize t c =
     let m = mean_in c.args.self.now.env.now in
-    let is = ap m c.in-Summarize.is ∙ of_summarize (relvars_at c.args.self.now.env.now.relvars.now) (selection c.args.self.now.env.now.selectors.now) c.in-Summarize.r c.in-Summarize.by c.in-Summarize.items ∙ (λ i. over_summarize m (sym c.get-in-Summarize.ensures i) c.in-Summarize.by (sym c.as_slice-in-Summarize.ensures i)) in
+    let is = ap m c.in-Summarize.is ∙ of_summarize (relvars_there c.args.self.now.env.now) (selection c.args.self.now.env.now.selectors.now) c.in-Summarize.r c.in-Summarize.by c.in-Summarize.items ∙ (λ i. over_summarize m (sym c.get-in-Summarize.ensures i) c.in-Summarize.by (sym c.as_slice-in-Summarize.ensures i)) in
     subst (λ f. Answers c.summarization.result (f (visible c.args.scope.now))) (sym is) c.summarization.ensures
 
 pub Evaluator::by_form-returns-in-With : goal.Evaluator::by_form-returns-in-With
 Evaluator::by_form-returns-in-With t c =
     let m = mean_in c.args.self.now.env.now in
-    let is = ap m c.in-With.is ∙ of_with (relvars_at c.args.self.now.env.now.relvars.now) (selection c.args.self.now.env.now.selectors.now) c.in-With.xs c.in-With.body ∙ (λ i. mean_with (all_meant m (sym c.as_slice-in-With.ensures i)) (m (sym c.get-in-With.ensures i))) in
+    let is = ap m c.in-With.is ∙ of_with (relvars_there c.args.self.now.env.now) (selection c.args.self.now.env.now.selectors.now) c.in-With.xs c.in-With.body ∙ (λ i. mean_with (all_meant m (sym c.as_slice-in-With.ensures i)) (m (sym c.get-in-With.ensures i))) in
     subst (λ f. Answers c.with.result (f (visible c.args.scope.now))) (sym is) c.with.ensures
 
 -- ---- what is known
@@ -431,3 +429,31 @@ Evaluator::at_most-returns-in-Some t c =
     let m = mean_in c.args.self.now.env.now in
     let names = visible c.args.scope.now in
     subst (λ w. Answers c.within_part.result (and_then (m c.args.a.now names) (λ d. and_then w (operate binary.AtMost d)))) (sym (c.in-Some.ensures.means names)) c.within_part.ensures
+
+pub Evaluator::evaluated-returns : goal.Evaluator::evaluated-returns
+unfolding rows_in relvars_there
+Evaluator::evaluated-returns t c =
+    c.relation.ensures _ (subst (λ e. Answers c.evaluate.result (mean_in e c.args.tree.now (λ x. None))) c.of.ensures c.evaluate.ensures)
+
+pub Evaluator::virtual_relvar-returns-in-None : goal.Evaluator::virtual_relvar-returns-in-None
+unfolding mean_relvar relvars_there
+Evaluator::virtual_relvar-returns-in-None t c = λ names.
+    let e = c.args.self.now.env.now in
+    ap (λ r. and_then r as_value) (nowhere c.args.place (selection e.selectors.now) e.waiting.now e.relvars.now c.requires c.in-None.ensures)
+
+pub Evaluator::virtual_operand-returns-in-Some : goal.Evaluator::virtual_operand-returns-in-Some
+Evaluator::virtual_operand-returns-in-Some t c = λ names.
+    subst (AnswersBy operand_value c.operand_known.result) (sym (c.in-Some.ensures names)) c.operand_known.ensures
+
+pub Evaluator::virtual_operand-returns-in-None : goal.Evaluator::virtual_operand-returns-in-None
+Evaluator::virtual_operand-returns-in-None t c = λ names.
+    let e = c.args.self.now.env.now in
+    let is = ap (mean_in e) c.requires.tree ∙ of_relvar (relvars_there e) (selection e.selectors.now) c.args.place in
+    subst (λ f. AnswersBy operand_value c.made.result (f names)) (sym is) (c.made.ensures (mean_relvar (relvars_there e) c.args.place names) (c.virtual_relvar.ensures names))
+
+pub Evaluator::relvar_operand-returns-in-Some : goal.Evaluator::relvar_operand-returns-in-Some
+unfolding mean_relvar
+Evaluator::relvar_operand-returns-in-Some t c = λ names.
+    let e = c.args.self.now.env.now in
+    let is = ap (mean_in e) c.requires ∙ of_relvar (relvars_there e) (selection e.selectors.now) c.args.place in
+    subst (λ f. AnswersBy operand_value c.lent.result (f names)) (sym is) (c.lent.ensures (relvars_there e c.args.place) c.in-Some.ensures)

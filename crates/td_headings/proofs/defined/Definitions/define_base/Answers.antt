@@ -3,8 +3,13 @@ use Rattle.td_headings.specs.Catalogues.{CatalogueData}
 use Rattle.td_headings.specs.ForProofs.After.{opening_after}
 use Rattle.td_headings.specs.ForProofs.Changes.{Changes}
 use Rattle.td_headings.specs.declared.defined.Test.TheVariants as test
+use Rattle.td_headings.specs.ForProofs.TestNames.{constraint_names}
 use Rattle.td_headings.proofs.Placed.{base_put}
+use Rattle.td_headings.proofs.TestNames.{keys_have_none}
 use Rattle.td_headings.proofs.defined.Definitions.define_base.Goals as goal
+
+pub put_relvar-requires : goal.put_relvar-requires
+put_relvar-requires c = ap constraint_names c.in_ok-tests.ensures ∙ keys_have_none (length c.as_slice-place.result.now) c.as_slice.result.now
 
 pub returns : goal.returns
 returns c =
