@@ -15,4 +15,13 @@ VAR FEW VIRTUAL ( SHARES WHERE C < 5 );
 1? IS_EMPTY ( RELATION { A INTEGER } { } WHERE A < COUNT ( SHARES ) )
 
 1? MAX ( R, A + COUNT ( LATER ) ) /* a virtual relvar that is named at each tuple */
+1? COUNT ( R WHERE A < COUNT ( LATER ) )
+1? COUNT ( R WHERE IF A = 9 THEN IS_EMPTY ( SHARES ) ELSE TRUE END IF )
+1? COUNT ( R WHERE IF A = 2 THEN IS_EMPTY ( SHARES ) ELSE TRUE END IF )
+1? COUNT ( ( R WHERE A = 1 ) WHERE IS_EMPTY ( SHARES ) )
+1? COUNT ( ( R WHERE A = 9 ) WHERE IS_EMPTY ( SHARES ) )
+
+1? COUNT ( LATER ) + COUNT ( LATER JOIN R ) /* one that is named twice, and by two names */
+1? WITH LATER AS L : COUNT ( L ) + COUNT ( L JOIN R )
+1? IF COUNT ( LATER ) = 2 THEN COUNT ( LATER { B } ) ELSE COUNT ( FEW ) + COUNT ( SHARES ) END IF
 .quit

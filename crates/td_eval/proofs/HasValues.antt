@@ -31,7 +31,7 @@ use Rattle.td_headings.proofs.WellTyped.{all_typed}
 use Rattle.td_meaning.specs.Mean as mean
 use Rattle.td_meaning.specs.Mean.{Meaning, Relvars, Selection, rows_in, truth_in}
 use Rattle.td_meaning.specs.Selections.{admits, components, no_relvars, none_selected, selected}
-use Rattle.td_soundness.specs.Meanings.{GivesValue, GivesRelation, IsTupleOver, IsError, Selects}
+use Rattle.td_soundness.specs.Meanings.{GivesValue, GivesRelation, IsTupleOver, Selects}
 use Rattle.td_soundness.specs.Values.{AreComponentsOf, AreValues}
 use Rattle.td_soundness.proofs.Errors.{error_is}
 use Rattle.td_soundness.proofs.Scoped.{within_are}

@@ -82,6 +82,7 @@ pub(crate) fn rows(alloc: Global, env: &Environment, tree: &Typed) -> Result<Rel
     relation_of(td_meaning::eval(alloc, env, tree, &Scope::Nothing)?)
 }
 
+#[tactic(auto, unfolding(td_meaning::specs::Seen::relvars_there))]
 fn known_virtual<'a>(
     alloc: Global,
     relvars: &[Known<'_>],

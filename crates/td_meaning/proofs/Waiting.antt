@@ -1,6 +1,5 @@
 -- Virtual relvars that wait, among those that are known.
-use Rattle.std.proofs.Common.{◌≡◌, ◌==◌, ◌≤◌, ◌+◌, ◌*◌, ◌<◌, ◌++◌, ◌||◌, ℕ, Bool, true, false, List, [], ◌∷◌, length, take, drop, get_or, if◌then◌else◌, Option, None, Some, MatchOption, Result, Err, refl, sym, ap, ◌∙◌, subst, arith, suc}
-use Rattle.std.specs.List.{list_any}
+use Rattle.std.proofs.Common.{◌≡◌, ◌==◌, ◌≤◌, ◌+◌, ◌*◌, ◌<◌, ◌++◌, ◌||◌, ℕ, Bool, true, false, List, [], ◌∷◌, length, take, drop, get_or, if◌then◌else◌, Option, None, Some, MatchOption, Result, Err, refl, sym, ap, ◌∙◌, subst, arith}
 use Rattle.std.proofs.lemmas.List.{take-append-drop, drop_more}
 use Rattle.std.proofs.lemmas.List.Folds.{list_any-append, list_any_more}
 use Rattle.td_values.specs.Rows.{RowsData}

@@ -1,7 +1,6 @@
 use Rattle.std.proofs.Common.{◌≡◌, Result, Ok, Err, MatchResult, sym, ap}
 use Rattle.td_values.specs.Rows.{RowsData}
 use Rattle.td_algebra.specs.declared.errors.Stop.{Stop}
-use Rattle.td_meaning.specs.declared.environment.Known.{Known}
 use Rattle.td_eval.proofs.evaluation.known_base.Goals as goal
 
 as_told : (m r : Result RowsData Stop) → MatchResult r (λ x. m ≡ Ok x) (λ e. m ≡ Err e) → r ≡ m

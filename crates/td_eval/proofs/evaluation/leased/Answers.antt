@@ -1,5 +1,4 @@
 use Rattle.std.proofs.Common.{◌≡◌, Result, Ok, sym, ◌∙◌, subst}
-use Rattle.std.specs.List.{All}
 use Rattle.std.proofs.lemmas.List.Elements.{All-weaker}
 use Rattle.td_values.specs.Rows.{RowsData}
 use Rattle.td_algebra.specs.KeyIndexes.{KeyIndexData, IsKeyIndex}
