@@ -66,6 +66,15 @@ def virtual():
     yield Deep(f"relations in relations, {250 * last} levels", script, lines, "1.1 done\nTRUE\n1\n")
 
 
+def waiting():
+    """A chain of virtual relvars of 255 levels each, which are evaluated where the one behind them names them."""
+    chosen = [wrapped("IF 1=2 THEN R ELSE ", " END IF", 254, it) for it in ("R", "V1", "V2", "V3", "V4", "V5", "V6")]
+    virtual_relvars = [f"VAR V{n} VIRTUAL({it});\n" for n, it in enumerate(chosen[:-1], 1)]
+    script = "".join(["VAR R BASE RELATION { A INTEGER } KEY { A };\n", *virtual_relvars])
+    lines = ["1: INSERT R RELATION { TUPLE { A 1 } };", f"1? COUNT ( {chosen[-1]} )"]
+    yield Deep("virtual relvars of 255 levels, one within another", script, lines, "1.1 done\n1\n")
+
+
 # so many relations are in a type, one in another, and the type before in the innermost: as many as a statement's
 # brackets suffice to make
 IN_TYPE = 29
@@ -112,6 +121,7 @@ def stored():
 def inputs():
     yield from nested()
     yield from virtual()
+    yield from waiting()
     yield from stored()
 
 

@@ -21,6 +21,10 @@ use td_trees::tree::Typed;
 use td_trees::{add_mentions, relvars_in};
 use td_values::{Kind, Tuple, Value};
 
+// Those that wait may be evaluated one within another, each as deep as expressions have levels: as many as the stack has
+// ample room for.
+const MOST_WAITING: usize = 4;
+
 // The answer, with the error that it may be.
 fn kept<'a>(answer: Result<Relation, Fault>) -> Result<Result<Lease<'a>, Stop>, AllocError>
     ensures { Keeps answer result }
@@ -138,7 +142,8 @@ fn stands_twice(places: &[usize], place: usize) -> bool {
     at + 1 < places.len() && places[at + 1] == place
 }
 
-// How many of the virtual relvars are evaluated before the expression: those up to the last one that is named twice.
+// How many of the virtual relvars are evaluated before the expression: those up to the last one that is named twice, and
+// as many as leave no more to wait than may be evaluated one within another.
 fn needed_before(alloc: Global, expression: &Expression) -> Result<usize, AllocError>
     ensures { IfOk result (λ n. n ≤ length expression.now.virtuals) }
 {
@@ -147,17 +152,19 @@ fn needed_before(alloc: Global, expression: &Expression) -> Result<usize, AllocE
         return Ok(0);
     }
     let places = named(alloc, expression)?;
-    for at in (0..virtuals.len()).rev() {
+    let least = virtuals.len().saturating_sub(MOST_WAITING);
+    for at in (least..virtuals.len()).rev() {
         if stands_twice(&places, virtuals[at].place) {
             return Ok(at + 1);
         }
     }
-    Ok(0)
+    Ok(least)
 }
 
 /// What is known of the relvars under an expression before it is evaluated, and the virtual ones that wait. Each base
-/// relvar is looked up once, and lent. A virtual relvar that is named once waits for where the expression comes to it,
-/// with those behind it; one that is named more than once is evaluated once, before.
+/// relvar is looked up once, and lent. A virtual relvar that is named once waits for where the expression comes to it, if
+/// it is one of the last four in order of definition; one that is named more than once is evaluated once, before, with
+/// those defined before it.
 pub(crate) fn known_relvars<'a, 'x, L: Lookup>(
     alloc: Global,
     lookup: &'a L,
@@ -175,7 +182,7 @@ pub(crate) fn known_relvars<'a, 'x, L: Lookup>(
 
 /// The value of the expression within the tuple, or the error that it raises. Each base relvar that it reads is looked
 /// up once and lent, which takes no memory for its tuples. A virtual relvar under it is evaluated once, before it, or,
-/// where it is named once, where the expression comes to it.
+/// where it is named once and one of the last four, where the expression comes to it.
 pub fn eval<L: Lookup>(
     alloc: Global,
     expr: &TypedExpr,

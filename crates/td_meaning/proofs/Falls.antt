@@ -1,6 +1,6 @@
 -- The measures of the recursion: an item of a list is no deeper than the list, and a list less deep than the form it is
 -- in.
-use Rattle.std.proofs.Common.{◌≡◌, ◌≤◌, ◌<◌, ◌+◌, ◌*◌, ℕ, zero, suc, max, List, [], ◌∷◌, length, get_or, ap, ◌∙◌, arith}
+use Rattle.std.proofs.Common.{◌≡◌, ◌≤◌, ◌<◌, ◌+◌, ◌*◌, ℕ, zero, suc, max, List, [], ◌∷◌, length, get_or, Option, None, Some, IfSome, ap, ◌∙◌, arith}
 use Rattle.td_values.specs.Headings.{Header}
 use Rattle.td_syntax.specs.declared.tree.Named.{Named}
 use Rattle.td_tuples.specs.declared.items.Item.{Item}
@@ -58,6 +58,20 @@ of_term P (summary.Max e) h = h e (omega arith)
 of_term P (summary.Min e) h = h e (omega arith)
 of_term P (summary.And e) h = h e (omega arith)
 of_term P (summary.Or e) h = h e (omega arith)
+
+-- what follows of its term from what holds of it
+pub of_those : (P Q : Typed → Type 0) (s : Summary Typed) → ((e : Typed) → P e → Q e) → OfTerm P s → OfTerm Q s
+of_those P Q summary.Count f h = tt
+of_those P Q (summary.Sum e) f h = f e h
+of_those P Q (summary.Max e) f h = f e h
+of_those P Q (summary.Min e) f h = f e h
+of_those P Q (summary.And e) f h = f e h
+of_those P Q (summary.Or e) f h = f e h
+
+-- what holds of it by what there may be
+pub of_term_if : {X : Type 0} (o : Option X) (s : Summary Typed) (P : X → Typed → Type 0) → IfSome o (λ x. OfTerm (P x) s) → OfTerm (λ e. IfSome o (λ x. P x e)) s
+of_term_if None s P h = of_term (λ e. Unit {0}) s (λ e le. tt)
+of_term_if (Some x) s P h = h
 
 -- ---- a form with a list, as its parts are handed on
 pub select_falls : (a : Typed) (n : ℕ) (xs ys : List Typed) → a ≡ t.Select n xs → ys ≡ xs → 12 * list_levels ys + 5 < 12 * levels a

@@ -3,6 +3,7 @@
 ghost use Rattle.std.specs.Prelude.{◌≡◌, ◌≤◌, ◌++◌, ◌∷◌, [], max, IfOk, IfSome, IsTrue, Ok, OnOk};
 ghost use Rattle.std.specs.Option.{option_copied};
 ghost use Rattle.td_algebra.specs.Raising.{Answers};
+ghost use Rattle.td_algebra.specs.Summaries.{OfTerm};
 ghost use Rattle.td_meaning.specs.ForProofs.Checks.{AddsChecks, AreChecks, IsCheck, IsSide, check_levels, comparison, deepest_check, side_value};
 ghost use Rattle.td_meaning.specs.ForProofs.Levels.{levels};
 ghost use Rattle.td_meaning.specs.ForProofs.Right.{known_value};
@@ -22,6 +23,7 @@ use td_algebra::{Fault, Stop, place_in};
 use td_operators::{holds, integer_value, text_value, truth_value};
 use td_syntax::tree::BinaryOperator;
 use td_trees::tree::Typed;
+use td_tuples::Summary;
 use td_values::{Heading, Name, Tuple, Value, copy};
 
 /// What is compared: an attribute of the tuple, by its place, or a value that is one at all tuples.
@@ -217,6 +219,35 @@ fn value_at<'a>(side: &'a Side, tuple: &'a Tuple) -> Option<&'a Value>
             None => None,
         },
         Side::Value(value) => Some(value.get()),
+    }
+}
+
+/// The side's value at the tuple, copied.
+pub(crate) fn side_at(alloc: Global, side: &Side, tuple: &Tuple) -> Result<Value, Fault>
+    ensures { Answers result (side_value tuple.now side.now) }
+{
+    match value_at(side, tuple) {
+        Some(value) => Ok(copy(alloc, value)?),
+        None => Err(Fault::Raised(Stop::Untyped)),
+    }
+}
+
+/// The term of a summary as a side, if it has one, at the tuples of a heading.
+pub(crate) fn side_of_summary(
+    evaluator: &Evaluator<'_>,
+    scope: &Scope,
+    heading: &Heading,
+    summary: &Summary<Boxed<Typed>>,
+) -> Result<Option<Side>, AllocError>
+    ensures { IfOk result (λ o. IfSome o (λ s. OfTerm (λ a. IsSide (mean_in evaluator.now.env.now) (visible scope.now) heading.now a s) summary.now)) }
+{
+    match summary {
+        Summary::Count => Ok(None),
+        Summary::Sum(term)
+        | Summary::Max(term)
+        | Summary::Min(term)
+        | Summary::And(term)
+        | Summary::Or(term) => side_of(evaluator, scope, heading, term.get()),
     }
 }
 

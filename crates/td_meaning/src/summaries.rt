@@ -1,13 +1,18 @@
 //! Aggregates and summaries of tuples.
 
+ghost use Rattle.std.specs.Prelude.{IfSome};
 ghost use Rattle.td_algebra.specs.Functions as functions;
 ghost use Rattle.td_algebra.specs.Raising.{Answers};
-ghost use Rattle.td_algebra.specs.Summaries.{summary_over};
+ghost use Rattle.td_algebra.specs.Summaries.{OfTerm, summary_over};
+ghost use Rattle.td_meaning.specs.ForProofs.Checks.{IsSide};
 ghost use Rattle.td_meaning.specs.ForProofs.Over as over;
 ghost use Rattle.td_meaning.specs.ForProofs.Over.{terms};
 ghost use Rattle.td_meaning.specs.Seen.{mean_in, visible};
+ghost use Rattle.td_tuples.specs.Parts.{Fits};
+ghost use Rattle.td_values.specs.Headings.{Header};
 
 use crate::closed::Terms;
+use crate::conditions::{Side, side_at, side_of_summary};
 use crate::evaluator::Evaluator;
 use crate::scope::Scope;
 use sqlite_items::Boxed;
@@ -19,8 +24,47 @@ use td_tuples::{Item, Summary};
 use td_values::{Name, Tuple, Value};
 
 impl Evaluator<'_> {
+    // The term's value at the tuple, by its side where it has one: an attribute is not sought by its name then.
     #[cycle(evaluation)]
     #[tactic(auto, unfolding(crate::specs::ForProofs::Over::terms))]
+    fn at_tuple(
+        &self,
+        side: &Option<Side>,
+        term: &Typed,
+        t: &Tuple,
+        scope: &Scope,
+    ) -> Result<Value, Fault>
+        ensures { (h : Header) → Fits h t.now → IfSome side.now (IsSide (mean_in self.now.env.now) (visible scope.now) h term.now) → Answers result (terms (mean_in self.now.env.now) (visible scope.now) term.now t.now) }
+    {
+        match side {
+            Some(side) => side_at(self.alloc, side, t),
+            None => self.evaluate(term, &Scope::Within(t, &*scope)),
+        }
+    }
+
+    #[cycle(evaluation)]
+    fn aggregated_at(
+        &self,
+        side: &Option<Side>,
+        ts: &Relation,
+        summary: &Summary<Boxed<Typed>>,
+        scope: &Scope,
+    ) -> Result<Value, Fault>
+        requires { IfSome side.now (λ s. OfTerm (λ a. IsSide (mean_in self.now.env.now) (visible scope.now) ts.now.heading a s) summary.now) }
+        ensures { Answers result (summary_over (terms (mean_in self.now.env.now) (visible scope.now)) ts.now.tuples summary.now) }
+    {
+        ts.rows_fit();
+        aggregate(
+            self.alloc,
+            ts,
+            summary,
+            &|e: &Boxed<Typed>, t: &Tuple| -> Result<Value, Fault>
+                ensures { (h : Header) → Fits h t.now → IfSome side.entry.now (IsSide (mean_in self.entry.now.env.now) (visible scope.entry.now) h e.now) → Answers result (terms (mean_in self.entry.now.env.now) (visible scope.entry.now) e.now t.now) }
+            { self.at_tuple(side, e.get(), t, scope) },
+        )
+    }
+
+    #[cycle(evaluation)]
     fn aggregated(
         &self,
         ts: &Relation,
@@ -29,14 +73,8 @@ impl Evaluator<'_> {
     ) -> Result<Value, Fault>
         ensures { Answers result (summary_over (terms (mean_in self.now.env.now) (visible scope.now)) ts.now.tuples summary.now) }
     {
-        aggregate(
-            self.alloc,
-            ts,
-            summary,
-            &|e: &Boxed<Typed>, t: &Tuple| -> Result<Value, Fault>
-                ensures { Answers result (terms (mean_in self.entry.now.env.now) (visible scope.entry.now) e.now t.now) }
-            { self.evaluate(e.get(), &Scope::Within(t, &*scope)) },
-        )
+        let side = side_of_summary(&*self, &*scope, ts.heading(), summary)?;
+        self.aggregated_at(&side, ts, summary, scope)
     }
 
     #[cycle(evaluation)]

@@ -1,4 +1,4 @@
-use Rattle.std.proofs.Common.{◌+◌, ℕ, Bool, None, Result, List, Vec, Global, drop, rules, get_or, Ok, sym, ap, ◌∙◌, subst, arith}
+use Rattle.std.proofs.Common.{◌+◌, ℕ, Bool, None, IfSome, Result, List, Vec, Global, drop, rules, get_or, Ok, sym, ap, ◌∙◌, subst, arith}
 use Rattle.td_values.specs.Data.{Datum}
 use Rattle.td_values.specs.Rows.{RowsData}
 use Rattle.td_syntax.specs.declared.tree.Named.{Named}
@@ -14,14 +14,15 @@ use Rattle.td_meaning.specs.Mean.{at, named_at, introduced, truth_at, truth_in, 
 use Rattle.td_syntax.specs.declared.tree.BinaryOperator.TheVariants as binary
 use Rattle.td_operators.specs.Operators.{as_value, in_turn, operate, operate_on, attribute_at, part_at, with_new_names, nested, unnested}
 use Rattle.td_tuples.specs.Parts.{Fits}
-use Rattle.td_meaning.specs.ForProofs.Checks.{AreChecks, all_hold, check_holds}
+use Rattle.td_algebra.specs.Summaries.{OfTerm}
+use Rattle.td_meaning.specs.ForProofs.Checks.{AreChecks, IsSide, all_hold, check_holds}
 use Rattle.td_meaning.specs.ForProofs.Right.{AreRight}
 use Rattle.td_meaning.proofs.Deepest.{in_deepest}
 use Rattle.td_meaning.proofs.Ready.{check_within, hold_goes, hold_stops}
 use Rattle.td_meaning.proofs.Rightness.{error_means, right_in_slice, told_error, value_means}
 use Rattle.td_meaning.specs.Seen.{held_value, all_given, mean_in, relvars_there, visible}
 use Rattle.td_meaning.specs.Selections.{admits, no_relvars, selection}
-use Rattle.td_meaning.proofs.Falls.{in_list, in_items, in_named, term_within, summary_within, of_term, select_falls, relation_falls, tuple_falls, extend_falls, with_falls, summarize_falls}
+use Rattle.td_meaning.proofs.Falls.{in_list, in_items, in_named, term_within, summary_within, of_term, of_term_if, of_those, select_falls, relation_falls, tuple_falls, extend_falls, with_falls, summarize_falls}
 use Rattle.td_meaning.proofs.Forms.{of_relvar, of_unary, of_binary, of_from, of_project, of_where, of_rename, of_nest, of_unnest, of_aggregate, of_if, of_extend, of_summarize, of_with}
 use Rattle.td_meaning.proofs.Waiting.{nowhere}
 use Rattle.td_meaning.proofs.Walks.{value_goes, value_stops, field_goes, field_stops, name_goes, name_stops, one_more_given, fails, made_over, stops_over}
@@ -95,6 +96,25 @@ Evaluator::summarized_in_runs-returns t c =
     let m = terms (mean_in c.args.self.now.env.now) (visible c.args.scope.now) in
     summarizes_to m c.args.items.now c.args.ts.now (project_of c.args.names.now c.args.ts.now) c.summarize_by.result (c.summarize_by.ensures m (λ k d lt i x among. of_term _ (get_or c.args.items.now i x).term (λ e le p q a is_term is_tuple gave.
     subst (λ e. Answers a (m e (get_or c.args.ts.now.tuples k d))) is_term (subst (λ u. Answers a (m p.now u)) is_tuple gave))))
+
+pub Evaluator::aggregated_at-returns : goal.Evaluator::aggregated_at-returns
+Evaluator::aggregated_at-returns t c =
+    let m = mean_in c.args.self.now.env.now in
+    let names = visible c.args.scope.now in
+    let h = c.args.ts.now.heading in
+    let side = c.args.side.now in
+    let summary = c.args.summary.now in
+    let sides = of_term_if side summary (λ s e. IsSide m names h e s) c.requires in
+    c.aggregate.ensures (terms m names) (λ k d lt. of_those (λ e. IfSome side (λ s. IsSide m names h e s)) _ summary (λ e is_side p q a is_term is_tuple gave.
+    let fit = subst (Fits h) (sym is_tuple) (c.rows_fit.ensures.fit k d lt) in
+    let there = subst (λ x. IfSome side (λ s. IsSide m names h x s)) (sym is_term) is_side in
+    subst (λ x. Answers a (terms m names x (get_or c.args.ts.now.tuples k d))) is_term (subst (λ u. Answers a (terms m names p.now u)) is_tuple (gave h fit there))) sides)
+
+pub Evaluator::aggregated-aggregated_at-requires : goal.Evaluator::aggregated-aggregated_at-requires
+Evaluator::aggregated-aggregated_at-requires t c =
+    let m = mean_in c.args.self.now.env.now in
+    let names = visible c.args.scope.now in
+    (omega (arith, c.decreases), subst (λ h. IfSome c.in_ok-side.side (λ s. OfTerm (λ e. IsSide m names h e s) c.args.summary.now)) c.heading.ensures c.in_ok-side.ensures)
 
 -- ---- measures
 

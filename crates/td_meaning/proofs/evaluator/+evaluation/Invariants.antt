@@ -124,11 +124,17 @@ invariant-Evaluator::all_hold-loop-check l =
 abbrev pub decreases-Evaluator::restriction : goal.decreases-Evaluator::restriction
 decreases-Evaluator::restriction l = 12 * max (levels l.r.now) (levels l.c.now) + 9 + load l.self.now.env.now
 
-abbrev pub decreases-Evaluator::aggregated-aggregate : goal.decreases-Evaluator::aggregated-aggregate
-decreases-Evaluator::aggregated-aggregate l = 12 * levels l.e.now + 2 + load l.self.now.env.now
+abbrev pub decreases-Evaluator::at_tuple : goal.decreases-Evaluator::at_tuple
+decreases-Evaluator::at_tuple l = 12 * levels l.term.now + 2 + load l.self.now.env.now
+
+abbrev pub decreases-Evaluator::aggregated_at-aggregate : goal.decreases-Evaluator::aggregated_at-aggregate
+decreases-Evaluator::aggregated_at-aggregate l = 12 * levels l.e.now + 3 + load l.self.now.env.now
+
+abbrev pub decreases-Evaluator::aggregated_at : goal.decreases-Evaluator::aggregated_at
+decreases-Evaluator::aggregated_at l = 12 * summary_levels l.summary.now + 4 + load l.self.now.env.now
 
 abbrev pub decreases-Evaluator::aggregated : goal.decreases-Evaluator::aggregated
-decreases-Evaluator::aggregated l = 12 * summary_levels l.summary.now + 4 + load l.self.now.env.now
+decreases-Evaluator::aggregated l = 12 * summary_levels l.summary.now + 5 + load l.self.now.env.now
 
 abbrev pub decreases-Evaluator::aggregation : goal.decreases-Evaluator::aggregation
 decreases-Evaluator::aggregation l = 12 * max (levels l.r.now) (summary_levels l.summary.now) + 8 + load l.self.now.env.now
