@@ -49,3 +49,27 @@ def sum_once(rt):
         return here.sums[crate]
 
     rt.rtlib.Crate.stamp = stamp
+
+
+def begins_alone(rt):
+    """Has rt ci begin with the crate that the longest chain of others waits for, and with nothing beside it, so that it gets all processors; returns whether this rt lets it."""
+    found = getattr(rt, "in_lanes", None)
+    if found is None or [*inspect.signature(found).parameters] != ["tasks"]:
+        return False
+
+    def in_lanes(tasks):
+        behind = dict.fromkeys(tasks, 0)
+        # (a task comes after those that it waits for)
+        for key in reversed([*tasks]):
+            waits, lines, *_ = tasks[key]
+            behind[key] += lines
+            for it in waits:
+                behind[it] = max(behind[it], behind[key])
+        first = max((it for it in tasks if it[1] == "proof" and not tasks[it][0]), key=behind.get, default=None)
+        if first is None:
+            return found(tasks)
+        others = {it: ([*waits, first] if not waits else waits, *rest) for it, (waits, *rest) in tasks.items() if it != first}
+        return found({first: tasks[first], **others})
+
+    rt.in_lanes = in_lanes
+    return True
