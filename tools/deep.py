@@ -68,7 +68,7 @@ def virtual():
 
 def waiting():
     """A chain of virtual relvars of 255 levels each, which are evaluated where the one behind them names them."""
-    chosen = [wrapped("IF 1=2 THEN R ELSE ", " END IF", 254, it) for it in ("R", "V1", "V2", "V3", "V4", "V5", "V6")]
+    chosen = [wrapped("IF 1=2 THEN R ELSE ", " END IF", 253, it) for it in ("R", "V1", "V2", "V3", "V4", "V5", "V6")]
     virtual_relvars = [f"VAR V{n} VIRTUAL({it});\n" for n, it in enumerate(chosen[:-1], 1)]
     script = "".join(["VAR R BASE RELATION { A INTEGER } KEY { A };\n", *virtual_relvars])
     lines = ["1: INSERT R RELATION { TUPLE { A 1 } };", f"1? COUNT ( {chosen[-1]} )"]
