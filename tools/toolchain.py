@@ -52,7 +52,10 @@ def sum_once(rt):
 
 
 def begins_alone(rt):
-    """Has rt ci begin with the crate that the longest chain of others waits for, and with nothing beside it, so that it gets all processors; returns whether this rt lets it."""
+    """Has rt ci begin with the crate that the longest chain of others waits for, alone, so that it gets all processors.
+
+    Returns whether this rt lets it. A task has what it waits for in front, and then its work in lines.
+    """
     found = getattr(rt, "in_lanes", None)
     if found is None or [*inspect.signature(found).parameters] != ["tasks"]:
         return False
