@@ -24,4 +24,11 @@ VAR FEW VIRTUAL ( SHARES WHERE C < 5 );
 1? COUNT ( LATER ) + COUNT ( LATER JOIN R ) /* one that is named twice, and by two names */
 1? WITH LATER AS L : COUNT ( L ) + COUNT ( L JOIN R )
 1? IF COUNT ( LATER ) = 2 THEN COUNT ( LATER { B } ) ELSE COUNT ( FEW ) + COUNT ( SHARES ) END IF
+
+1? IF COUNT ( LATER ) = 3 THEN COUNT ( SHARES ) + COUNT ( SHARES ) ELSE COUNT ( LATER ) END IF /* one that is named twice where no branch comes to it, and where one does */
+1? COUNT ( LATER ) = 2 OR COUNT ( FEW ) = COUNT ( FEW ) + COUNT ( SHARES )
+1? COUNT ( LATER ) = 2 AND ( COUNT ( FEW ) = 0 OR IS_EMPTY ( FEW ) )
+1? COUNT ( R WHERE A < COUNT ( LATER ) + COUNT ( LATER ) OR IS_EMPTY ( SHARES UNION SHARES ) )
+1? COUNT ( R WHERE A > COUNT ( LATER ) OR COUNT ( SHARES ) + COUNT ( SHARES ) = 0 )
+1? IF 1 = 2 THEN COUNT ( FEW ) ELSE IF 1 = 2 THEN COUNT ( FEW ) ELSE COUNT ( LATER { B } ) END IF END IF
 .quit

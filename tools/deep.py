@@ -66,8 +66,8 @@ def virtual():
     yield Deep(f"relations in relations, {250 * last} levels", script, lines, "1.1 done\nTRUE\n1\n")
 
 
-def waiting():
-    """A chain of virtual relvars of 255 levels each, which are evaluated where the one behind them names them."""
+def in_branches():
+    """A chain of virtual relvars of 255 levels each, of which each names the one before it."""
     chosen = [wrapped("IF 1=2 THEN R ELSE ", " END IF", 253, it) for it in ("R", "V1", "V2", "V3", "V4", "V5", "V6")]
     virtual_relvars = [f"VAR V{n} VIRTUAL({it});\n" for n, it in enumerate(chosen[:-1], 1)]
     script = "".join(["VAR R BASE RELATION { A INTEGER } KEY { A };\n", *virtual_relvars])
@@ -121,7 +121,7 @@ def stored():
 def inputs():
     yield from nested()
     yield from virtual()
-    yield from waiting()
+    yield from in_branches()
     yield from stored()
 
 

@@ -51,28 +51,46 @@ def sum_once(rt):
     rt.rtlib.Crate.stamp = stamp
 
 
-def begins_alone(rt):
-    """Has rt ci begin with the crate that the longest chain of others waits for, alone, so that it gets all processors.
+# What rt reckons a check to need in memory is nearly twice what the crates of this repository were seen to take: 1 to 2
+# GB of 5, and 3.5 of 6 where a program is compiled. By its figures a lane in four had nothing to do for want of memory.
+SEEN = 0.6
+# What a second job adds, of what the first one needs.
+SECOND = 0.6
+# Compiling a program with the code of all crates below takes as long as proving so many lines.
+PROGRAM = 1500
 
-    Returns whether this rt lets it. A task has what it waits for in front, and then its work in lines.
+
+def hurries(rt):
+    """Has rt ci hurry the longest chain of crates, of which each waits for the one before it.
+
+    It begins with the first of them, alone, so that this one gets all processors, and proves each later one at two jobs
+    at least, where it would take one processor while others are ready. Returns whether this rt lets it. A task has what
+    it waits for in front, then its work in lines, its memory, and a call that gets how many jobs it may use.
     """
     found = getattr(rt, "in_lanes", None)
     if found is None or [*inspect.signature(found).parameters] != ["tasks"]:
         return False
 
     def in_lanes(tasks):
-        behind = dict.fromkeys(tasks, 0)
+        is_proof = {it: it[1] == "proof" for it in tasks}
+        work = {it: lines + PROGRAM * (is_proof[it] and os.path.exists(f"crates/{it[0]}/src/main.rt")) for it, (_, lines, *_) in tasks.items()}
+        ahead, behind = dict.fromkeys(tasks, 0), dict.fromkeys(tasks, 0)
         # (a task comes after those that it waits for)
-        for key in reversed([*tasks]):
-            waits, lines, *_ = tasks[key]
-            behind[key] += lines
-            for it in waits:
-                behind[it] = max(behind[it], behind[key])
-        first = max((it for it in tasks if it[1] == "proof" and not tasks[it][0]), key=behind.get, default=None)
-        if first is None:
-            return found(tasks)
-        others = {it: ([*waits, first] if not waits else waits, *rest) for it, (waits, *rest) in tasks.items() if it != first}
-        return found({first: tasks[first], **others})
+        for it, (waits, *_) in tasks.items():
+            ahead[it] = max((ahead[other] + work[other] for other in waits), default=0)
+        for it in reversed([*tasks]):
+            behind[it] += work[it]
+            for other in tasks[it][0]:
+                behind[other] = max(behind[other], behind[it])
+        first = max((it for it in tasks if is_proof[it] and not tasks[it][0]), key=behind.get, default=None)
+        longest = max((ahead[it] + behind[it] for it in tasks if is_proof[it]), default=0)
+        led = {}
+        for it, (waits, _, needs, call) in tasks.items():
+            needs *= SEEN
+            if is_proof[it] and ahead[it] + behind[it] >= 0.95 * longest:
+                needs, call = (1 + SECOND) * needs, lambda given, jobs, call=call: call(given, max(jobs, 2))
+            led[it] = (waits or [first] * (it != first), work[it], needs, call)
+        return found({it: led[it] for it in sorted(led, key=lambda it: it != first)})
 
     rt.in_lanes = in_lanes
     return True

@@ -46,7 +46,7 @@ fn shown(alloc: Global, catalogue: &Catalogue, stored: &Stored, query: &str) -> 
     match value(alloc, &expr, stored) {
         Ok(value) => Ok(show(alloc, &value)?),
         Err(Fault::Raised(stop)) => Ok(format!(in alloc; "{stop}")?),
-        Err(Fault::OutOfMemory) => Err(AllocError)?,
+        Err(Fault::OutOfMemory | Fault::Wanting(_)) => Err(AllocError)?,
     }
 }
 

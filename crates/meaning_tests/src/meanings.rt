@@ -20,13 +20,13 @@ type Result<T> = std::result::Result<T, Fail>;
 fn shown(alloc: Global, selectors: &[Selector], tree: &Typed) -> Result<String> {
     let env = Environment {
         relvars: &[],
-        waiting: &[],
+        virtuals: &[],
         selectors,
     };
-    match eval(alloc, &env, tree, &Scope::Nothing) {
+    match eval(alloc, &env, &[], tree, &Scope::Nothing) {
         Ok(value) => Ok(show(alloc, &value)?),
         Err(Fault::Raised(stop)) => Ok(format!(in alloc; "{stop}")?),
-        Err(Fault::OutOfMemory) => Err(AllocError)?,
+        Err(Fault::OutOfMemory | Fault::Wanting(_)) => Err(AllocError)?,
     }
 }
 

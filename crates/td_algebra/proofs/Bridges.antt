@@ -17,7 +17,7 @@ use Rattle.td_tuples.specs.Unions.{beside, joined, with_attribute, composed_colu
 use Rattle.td_tuples.proofs.ByName.{fits-beside}
 use Rattle.td_tuples.proofs.SideBySide.{cut-beside_first, cut-beside_second, cut_agree, beside-cut}
 use Rattle.td_algebra.specs.declared.errors.Fault.{Fault}
-use Rattle.td_algebra.specs.declared.errors.Fault.TheVariants.{Raised, OutOfMemory}
+use Rattle.td_algebra.specs.declared.errors.Fault.TheVariants.{Raised, OutOfMemory, Wanting}
 use Rattle.td_algebra.specs.declared.errors.Stop.{Stop}
 use Rattle.td_values.specs.declared.raises.Raise.TheVariants.{Overflow, Divide, Empty, Selector, Cardinality}
 use Rattle.td_algebra.specs.declared.errors.Stop.TheVariants.{Untyped, Error}
@@ -301,9 +301,11 @@ module _ (R : Stop → Type 0) (h : Header) (P : Attrs → Type 0) where
   answers (Ok r) (Ok s) x u = ap Ok (one_relation h P r s x.1 u.1)
   answers (Ok r) (Err (Raised e)) x u = absurd (x.0 e u.0)
   answers (Ok r) (Err OutOfMemory) x u = tt
+  answers (Ok r) (Err (Wanting n)) x u = tt
   answers (Err e) (Ok s) x u = absurd (u.0 e x.0)
   answers (Err e) (Err (Raised f)) x u = ap Err (same_stop e f (omega (arith, x.1 f u.0, u.1 e x.0)))
   answers (Err e) (Err OutOfMemory) x u = tt
+  answers (Err e) (Err (Wanting n)) x u = tt
 
 module _ (m : Attrs → Result Bool Stop) (r : RowsData) where
   by_walk : (w : Result (List Bool) Stop) → all_of m r.tuples ≡ w → Unless (RaisedIn m r) (IsRelationOf r.heading (Restricted m r)) (told (and_then w (λ bs. Ok (relation_from r.heading (select r.tuples bs)))))

@@ -18,7 +18,7 @@ use Rattle.td_relations.proofs.Members.{has_listed}
 use Rattle.td_relations.proofs.Predicates.{by_list}
 use Rattle.td_tuples.specs.Unions.{beside, tuple_of}
 use Rattle.td_algebra.specs.declared.errors.Fault.{Fault}
-use Rattle.td_algebra.specs.declared.errors.Fault.TheVariants.{Raised, OutOfMemory}
+use Rattle.td_algebra.specs.declared.errors.Fault.TheVariants.{Raised, OutOfMemory, Wanting}
 use Rattle.td_tuples.specs.declared.items.Item.{Item}
 use Rattle.td_algebra.specs.Raising.{AnswersBy, Unless, all_of, and_then}
 use Rattle.td_algebra.specs.Extending.{Meaning, field_at, fields_at, extended_at, Extended, RaisedBy}
@@ -69,6 +69,7 @@ module _ {E : Type 0} (m : Meaning E) (items : List (Item E)) where
   module _ (r : RowsData) where
     pub extension_fails : {V : Type 0} (see : V → List Attrs) (P : RowsData → Type 0) (f : Fault) → AnswersBy see (Err f) (all_of (extended_at m items) r.tuples) → Unless (RaisedBy m items r) P (Err f)
     extension_fails see P OutOfMemory all = tt
+    extension_fails see P (Wanting n) all = tt
     extension_fails see P (Raised e) all =
         let (found, least) = subst (Tells (extended_at m items) r.tuples) all (tells (extended_at m items) r.tuples) in
         let (i, there, raises) = raised_at found.0 e found.2 in (

@@ -15,7 +15,7 @@ use Rattle.td_relations.specs.Sets.{IsRelation, IsRelationOf}
 use Rattle.td_relations.proofs.Members.{has_listed}
 use Rattle.td_relations.proofs.Predicates.{by_list}
 use Rattle.td_algebra.specs.declared.errors.Fault.{Fault}
-use Rattle.td_algebra.specs.declared.errors.Fault.TheVariants.{Raised, OutOfMemory}
+use Rattle.td_algebra.specs.declared.errors.Fault.TheVariants.{Raised, OutOfMemory, Wanting}
 use Rattle.td_algebra.specs.Raising.{AnswersBy, Unless, all_of}
 use Rattle.td_algebra.specs.Restricting.{Restricted, RaisedIn, select}
 use Rattle.td_algebra.proofs.Walks.{Tells, tells, ok_split, contains_cases, contains_first, contains_later}
@@ -122,6 +122,7 @@ module _ {A : Type 0} (m : Attrs → Result A Stop) (r : RowsData) where
   -- want of memory, or the least error that is raised
   pub walk_fails : {B : Type 0} (see : B → List A) (P : RowsData → Type 0) (f : Fault) → AnswersBy see (Err f) (all_of m r.tuples) → Unless (RaisedIn m r) P (Err f)
   walk_fails see P OutOfMemory all = tt
+  walk_fails see P (Wanting n) all = tt
   walk_fails see P (Raised e) all =
       let (found, least) = subst (Tells m r.tuples) all (tells m r.tuples) in
       ((found.0, (has_listed r found.0).1 found.1, found.2), λ f raised. let (t, there, raises) = raised_in f raised in least t there f raises)

@@ -5,7 +5,7 @@ use Rattle.std.proofs.lemmas.Bool.Decides.{nat_tests}
 use Rattle.std.proofs.lemmas.List.{drop_more, drop_all, map-append}
 use Rattle.std.proofs.lemmas.List.Elements.{All-push, All-get_or}
 use Rattle.td_algebra.specs.declared.errors.Fault.{Fault}
-use Rattle.td_algebra.specs.declared.errors.Fault.TheVariants.{Raised, OutOfMemory}
+use Rattle.td_algebra.specs.declared.errors.Fault.TheVariants.{Raised, OutOfMemory, Wanting}
 use Rattle.td_algebra.specs.declared.errors.Stop.{Stop}
 use Rattle.td_algebra.specs.Stops.{stop_number, lesser}
 use Rattle.td_algebra.specs.Raising.{Answers, AnswersBy, and_all, alone, all_of}
@@ -128,22 +128,27 @@ pub says_meaning : {A : Type 0} (a : Result A Fault) → Answers a (meaning_of a
 says_meaning (Ok x) = refl
 says_meaning (Err (Raised e)) = refl
 says_meaning (Err OutOfMemory) = tt
+says_meaning (Err (Wanting n)) = tt
 
 pub listed_more : {A B : Type 0} (f : A → B) (cs : List B) (c : B) (s : Result (List A) Stop) (a : Result A Fault) → IfOk s (λ xs. map f xs ≡ cs) → IfOk a (λ x. f x ≡ c) → IfOk (and_all s (alone (meaning_of a))) (λ xs. map f xs ≡ cs ++ c ∷ [])
 listed_more f cs c (Ok xs) (Ok x) so is = map-append f xs (x ∷ []) ∙ (λ i. so i ++ is i ∷ [])
 listed_more f cs c (Ok xs) (Err (Raised e)) so is = tt
 listed_more f cs c (Ok xs) (Err OutOfMemory) so is = tt
+listed_more f cs c (Ok xs) (Err (Wanting n)) so is = tt
 listed_more f cs c (Err d) (Ok x) so is = tt
 listed_more f cs c (Err d) (Err (Raised e)) so is = tt
 listed_more f cs c (Err d) (Err OutOfMemory) so is = tt
+listed_more f cs c (Err d) (Err (Wanting n)) so is = tt
 
 pub each_more : {A : Type 0} (P : A → Type 0) (s : Result (List A) Stop) (a : Result A Fault) → IfOk s (All P) → IfOk a P → IfOk (and_all s (alone (meaning_of a))) (All P)
 each_more P (Ok xs) (Ok x) so is = All-push P xs x so is
 each_more P (Ok xs) (Err (Raised e)) so is = tt
 each_more P (Ok xs) (Err OutOfMemory) so is = tt
+each_more P (Ok xs) (Err (Wanting n)) so is = tt
 each_more P (Err d) (Ok x) so is = tt
 each_more P (Err d) (Err (Raised e)) so is = tt
 each_more P (Err d) (Err OutOfMemory) so is = tt
+each_more P (Err d) (Err (Wanting n)) so is = tt
 
 pub all_more_at : {X A : Type 0} (m : X → Result A Stop) (s : Result (List A) Stop) (xs : List X) (i : ℕ) (x : X) → i < length xs → x ≡ get_or xs i x
     → and_all s (all_of m (drop i xs)) ≡ and_all (and_all s (alone (m x))) (all_of m (drop (i + 1) xs))

@@ -46,6 +46,9 @@ pub enum Fault {
     Raised(Stop),
     #[error("out of memory")]
     OutOfMemory,
+    /// What the function came to is not known yet: whoever handed it in knows it by this number, and may ask again.
+    #[error("not known yet: {0}")]
+    Wanting(usize),
 }
 
 impl From<AllocError> for Fault {

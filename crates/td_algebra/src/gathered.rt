@@ -1,12 +1,12 @@
 //! The answers of a function at each of a list, or the least error among them.
-ghost use Rattle.std.specs.Prelude.{◌≡◌, ◌⊎◌, [], Result, IfOk};
+ghost use Rattle.std.specs.Prelude.{◌≡◌, [], Result, IfErr, IfOk};
 ghost use Rattle.std.specs.Fn.{FnReturnsAt, FnOnceTakesAt};
 ghost use Rattle.std.specs.List.{All};
 ghost use Rattle.td_values.specs.Data.{Attrs};
 ghost use Rattle.td_algebra.specs.declared.errors.Stop.{Stop};
 ghost use Rattle.td_algebra.specs.declared.errors.Fault.{Fault};
 ghost use Rattle.td_algebra.specs.Raising.{Answers, AnswersBy, and_all, alone, all_of};
-ghost use Rattle.td_algebra.specs.ForProofs.Gathered.{so_far};
+ghost use Rattle.td_algebra.specs.ForProofs.Gathered.{GivesUp, so_far};
 
 use crate::errors::{Fault, Stop};
 use std::alloc::Global;
@@ -33,7 +33,7 @@ impl<A: Drop> Gathered<A> {
     /// One more answer. After an error only lesser ones matter.
     pub(crate) fn note(&mut self, answer: Result<A, Fault>) -> Result<(), Fault>
         ensures noted { (m : Result A Stop) → Answers answer m → IfOk result (λ _. so_far self.new.answers.items self.new.least ≡ and_all (so_far self.old.answers.items self.old.least) (alone m)) }
-        ensures fault { (result ≡ Result.Ok tt) ⊎ (result ≡ Result.Err Fault.OutOfMemory) }
+        ensures fault { IfErr result GivesUp }
     {
         match answer {
             Ok(value) => {
@@ -49,14 +49,14 @@ impl<A: Drop> Gathered<A> {
                 };
                 Ok(())
             }
-            Err(Fault::OutOfMemory) => Err(Fault::OutOfMemory),
+            Err(fault) => Err(fault),
         }
     }
 
     /// The answers, or the least error.
     pub(crate) fn finish(self) -> Result<Vec<A>, Fault>
         ensures whole { AnswersBy (λ v. v.items) result (so_far self.answers.items self.least) }
-        ensures memory { result ≡ Result.Err Fault.OutOfMemory → ⊥ }
+        ensures memory { IfErr result (λ f. GivesUp f → ⊥) }
     {
         match self.least {
             None => Ok(self.answers),

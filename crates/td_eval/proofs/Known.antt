@@ -1,5 +1,5 @@
 -- What is known of the relvars under an expression gives it its meaning.
-use Rattle.std.proofs.Common.{◌≡◌, ◌==◌, ⊎_elim, ℕ, zero, suc, ◌<◌, Bool, true, List, [], ◌∷◌, ◌++◌, map, length, take, drop, get_or, Option, Some, None, if◌then◌else◌, Result, Err, refl, ap, sym, ◌∙◌, subst, arith, true≢false, eq-eqb, ne_eqb}
+use Rattle.std.proofs.Common.{◌≡◌, ◌==◌, ⊎_elim, ℕ, ◌<◌, Bool, true, List, [], ◌∷◌, ◌++◌, map, length, get_or, Option, Some, None, if◌then◌else◌, Result, Err, refl, ap, sym, ◌∙◌, subst, arith, true≢false, eq-eqb, ne_eqb}
 use Rattle.std.specs.Prelude.{slice_get}
 use Rattle.std.specs.List.{Contains, filter_map, cons_option}
 use Rattle.std.specs.List.Sorted.{IsStrictlySortedBy}
@@ -11,17 +11,14 @@ use Rattle.std.proofs.lemmas.List.{get_or-map, length-map, map-append}
 use Rattle.std.proofs.lemmas.List.Elements.{All-from_recursion, Contains-append_right, Contains-append_cases, Contains-push_cases}
 use Rattle.std.proofs.lemmas.Map.Keys.{sorted_head, sorted_tail}
 use Rattle.std.proofs.lemmas.Option.{slice_get_within, slice_get-get_or, get_or_from_slice_get}
-use Rattle.td_values.specs.Data.{Datum, Attrs}
+use Rattle.td_values.specs.Data.{Attrs}
 use Rattle.td_values.specs.Rows.{RowsData}
 use Rattle.td_links.specs.Links.{LeadsOn, start, onward}
 use Rattle.td_links.proofs.Walks.{the_one}
 use Rattle.td_trees.specs.declared.expression.BaseUnder.{BaseUnder}
 use Rattle.td_trees.specs.declared.expression.Expression.{Expression}
-use Rattle.td_trees.specs.declared.expression.Selector.{Selector}
 use Rattle.td_trees.specs.declared.expression.VirtualUnder.{VirtualUnder}
 use Rattle.td_trees.specs.declared.tree.Typed.{Typed}
-use Rattle.td_algebra.specs.Raising.{Answers}
-use Rattle.td_algebra.specs.declared.errors.Fault.{Fault}
 use Rattle.td_algebra.specs.declared.errors.Stop.{Stop}
 use Rattle.td_algebra.specs.declared.errors.Stop.TheVariants.{Untyped}
 use Rattle.td_headings.specs.Catalogues.{CatalogueData}
@@ -32,7 +29,7 @@ use Rattle.td_headings.specs.declared.defined.Origin.{Origin}
 use Rattle.td_headings.specs.declared.defined.Origin.TheVariants as origin
 use Rattle.td_headings.proofs.ReadLemmas.{reads_those}
 use Rattle.td_headings.proofs.WellTyped.{all_typed}
-use Rattle.td_meaning.specs.Mean.{Meaning, Relvars, Selection, mean, rows_in, within}
+use Rattle.td_meaning.specs.Mean.{Relvars, Selection, mean, rows_in, within}
 use Rattle.td_meaning.specs.Seen.{one_known_more, relvars_at, virtual_known, virtuals_known}
 use Rattle.td_meaning.specs.Selections.{selection}
 use Rattle.td_meaning.specs.declared.environment.Known.{Known}
@@ -227,40 +224,3 @@ by_reads x r s t typed same =
     (sym (as_known x typed r)
     ∙ ap (λ ks. mean (relvars_at (virtuals_known (selection x.selectors) x.virtuals ks)) (selection x.selectors) x.tree) (same_known r s x.bases same)
     ∙ as_known x typed s)
-
--- ---- what the program puts together
-pub next_virtual : (s : Selection) (vs : List VirtualUnder) (i : ℕ) (v : VirtualUnder) (ks : List Known) → i < length vs → v ≡ get_or vs i v → virtuals_known s (drop i vs) ks ≡ virtuals_known s (drop (suc i) vs) (one_known_more s ks v)
-next_virtual s [] i v ks lt is = absurd (omega (arith, lt))
-next_virtual s (w ∷ vs) zero v ks lt is = ap (λ u. virtuals_known s vs (one_known_more s ks u)) (sym is)
-next_virtual s (w ∷ vs) (suc i) v ks lt is = next_virtual s vs i v ks (omega (arith, lt)) is
-
--- those that are evaluated before, and those that wait behind them, are all
-pub all_behind : (s : Selection) (vs : List VirtualUnder) (i : ℕ) (ks : List Known) → virtuals_known s (drop i vs) (virtuals_known s (take i vs) ks) ≡ virtuals_known s vs ks
-all_behind s [] zero ks = refl
-all_behind s [] (suc i) ks = refl
-all_behind s (v ∷ vs) zero ks = refl
-all_behind s (v ∷ vs) (suc i) ks = all_behind s vs i (one_known_more s ks v)
-
-module _ (x y : Expression) (same : y ≡ x) (r : Relvars) (ss : List Selector) (vs : List VirtualUnder) (ks ds : List Known) (s_is : ss ≡ y.selectors) (k_is : virtuals_known (selection y.selectors) vs ks ≡ all_known y r) (d_is : ds ≡ ks) where
-  selectors_are : ss ≡ x.selectors
-  selectors_are = s_is ∙ ap (λ (e : Expression). e.selectors) same
-
-  all_are : virtuals_known (selection ss) vs ds ≡ all_known x r
-  all_are = (λ i. virtuals_known (selection (s_is i)) vs (d_is i)) ∙ k_is ∙ ap (λ (e : Expression). all_known e r) same
-
-  -- what expressions mean over them
-  pub means_known : mean (relvars_at (virtuals_known (selection ss) vs ds)) (selection ss) ≡ mean (relvars_at (all_known x r)) (selection x.selectors)
-  means_known = λ i. mean (relvars_at (all_are i)) (selection (selectors_are i))
-
-  -- a part of the tree
-  pub part_known : (v : Typed) → mean (relvars_at (virtuals_known (selection ss) vs ds)) (selection ss) v ≡ mean (relvars_at (all_known x r)) (selection x.selectors) v
-  part_known v = λ i. mean (relvars_at (all_are i)) (selection (selectors_are i)) v
-
-  pub part_evaluated : (w : Result RowsData Fault) (v : Typed) → Answers w (rows_in (mean (relvars_at (virtuals_known (selection ss) vs ds)) (selection ss) v) no_names) → Answers w (rows_in (mean (relvars_at (all_known x r)) (selection x.selectors) v) no_names)
-  part_evaluated w v h = subst (λ (m : Meaning). Answers w (rows_in m no_names)) (part_known v) h
-
-  pub evaluated : IsTyped x → (t : Attrs) (u : Typed) (w : Result Datum Fault) → u ≡ y.tree → Answers w (mean (relvars_at (virtuals_known (selection ss) vs ds)) (selection ss) u (within t no_names)) → Answers w (means x r t)
-  evaluated typed t u w u_is h =
-      let tree_is : u ≡ x.tree = u_is ∙ ap (λ (e : Expression). e.tree) same in
-      let known = part_known u ∙ ap (mean (relvars_at (all_known x r)) (selection x.selectors)) tree_is in
-      subst (Answers w) (ap (λ (m : Meaning). m (within t no_names)) (known ∙ as_known x typed r)) h

@@ -3,6 +3,7 @@ pub mod Named
 pub mod Placed
 pub mod Known
 pub mod Virtuals
+pub mod Settled
 pub mod Selected
 pub mod AllThere
 pub mod OfTypes

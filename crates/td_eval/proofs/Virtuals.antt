@@ -21,7 +21,7 @@ use Rattle.td_eval.proofs.Named.{named_agree}
 use Rattle.td_eval.proofs.Placed.{names_earlier}
 use Rattle.td_eval.proofs.Known.{further, later, those}
 
-head_or_tail : {A P : Type 0} (x : A) (xs : List A) (y : A) → Contains (x ∷ xs) y → (x ≡ y → P) → (Contains xs y → P) → P
+pub head_or_tail : {A P : Type 0} (x : A) (xs : List A) (y : A) → Contains (x ∷ xs) y → (x ≡ y → P) → (Contains xs y → P) → P
 head_or_tail x xs y (zero, lt, is) here there = here is
 head_or_tail x xs y (suc k, lt, is) here there = there (k, omega (arith, lt), is)
 

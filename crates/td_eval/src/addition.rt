@@ -16,14 +16,14 @@ ghost use Rattle.td_story.specs.Trees.{AreBases, IsIn, tree_means};
 ghost use Rattle.td_eval.specs.Added.{TellsAdded};
 ghost use Rattle.td_eval.specs.ForProofs.Environments.{all_known};
 
-use crate::evaluation::{known_relvars, rows};
+use crate::evaluation::{relation_of, value_of_part};
 use crate::forms::is_relvar;
 use crate::lookup::Lookup;
 use crate::valued::raise_of;
 use std::alloc::Global;
 use td_algebra::Fault;
 use td_headings::{Catalogue, TypedExpr};
-use td_meaning::Environment;
+use td_meaning::Scope;
 use td_relations::Relation;
 use td_story::Failure;
 use td_syntax::tree::BinaryOperator;
@@ -46,6 +46,7 @@ fn united_with(tree: &Typed, relvar: usize) -> Option<&Typed>
 }
 
 // The relation that this part of the expression has.
+#[tactic(auto, unfolding(td_meaning::specs::Mean::rows_in))]
 fn rows_of_part<L: Lookup>(
     alloc: Global,
     expr: &TypedExpr,
@@ -54,14 +55,7 @@ fn rows_of_part<L: Lookup>(
 ) -> Result<Relation, Fault>
     ensures { Answers result (rows_in (mean (relvars_at (all_known expr.now (L.relvars lookup.now))) (selection expr.now.selectors) part.now) no_names) }
 {
-    let expression = expr.get();
-    let (known, waiting) = known_relvars(alloc, lookup, expression)?;
-    let env = Environment {
-        relvars: &known,
-        waiting,
-        selectors: expression.selectors.as_slice(),
-    };
-    rows(alloc, &env, part)
+    relation_of(value_of_part(alloc, expr, lookup, part, &Scope::Nothing)?)
 }
 
 /// What an expression of the catalogue adds to the base relvar at the place, where it is that relvar united with more:
@@ -86,6 +80,6 @@ pub fn added<L: Lookup>(
     match rows_of_part(alloc, expr, lookup, part) {
         Ok(more) => Ok(Some(more)),
         Err(Fault::Raised(stop)) => Err(Failure::Raised(raise_of(stop))),
-        Err(Fault::OutOfMemory) => Err(Failure::OutOfMemory),
+        Err(Fault::OutOfMemory | Fault::Wanting(_)) => Err(Failure::OutOfMemory),
     }
 }

@@ -8,25 +8,27 @@ ghost use Rattle.td_algebra.specs.Raising.{and_then};
 ghost use Rattle.td_algebra.specs.declared.errors.Stop.{Stop};
 ghost use Rattle.td_headings.specs.Reached.{is_base};
 ghost use Rattle.td_meaning.specs.Mean.{mean};
+ghost use Rattle.td_meaning.specs.Parts.{AreRight};
 ghost use Rattle.td_meaning.specs.Seen.{mean_in, relvars_at};
 ghost use Rattle.td_meaning.specs.Selections.{selection};
 ghost use Rattle.td_operators.specs.Values as spec;
 ghost use Rattle.td_story.specs.Trees.{AreBases, IsIn, tree_means};
 ghost use Rattle.td_relations.specs.Deltas.{IsDifference};
 ghost use Rattle.td_eval.specs.Changed.{TellsChanged};
-ghost use Rattle.td_eval.specs.ForProofs.Environments.{all_known};
+ghost use Rattle.td_eval.specs.ForProofs.Environments.{MeanTheirs, all_known};
 ghost use Rattle.td_eval.specs.declared.forms.Form.TheVariants.{Changed};
 ghost use Rattle.td_eval.specs.ForProofs.Forms.{TellsForm, form_means};
 
-use crate::evaluation::{known_relvars, leased};
+use crate::evaluation::{environment, known_bases, leased};
 use crate::forms::{Change, Form, form_of};
 use crate::lookup::Lookup;
 use crate::naming::lacking;
+use crate::settling::{Findings, Virtuals, names_of, settle};
 use crate::valued::raise_of;
 use std::alloc::{AllocError, Global};
 use td_algebra::{Fault, Stop};
 use td_headings::{Catalogue, TypedExpr};
-use td_meaning::{Environment, Scope, extend_all, select};
+use td_meaning::{Environment, Part, Scope, extend_all, select};
 use td_operators::Lease;
 use td_relations::{Delta, Relation, minus};
 use td_story::Failure;
@@ -60,13 +62,15 @@ fn replaced(
 fn update(
     alloc: Global,
     env: &Environment,
+    parts: &[Part],
     tuples: &Lease<'_>,
     change: &Change,
 ) -> Result<Delta, Fault>
+    requires { AreRight env.now parts.now }
     ensures { TellsForm tuples.now (form_means (mean_in env.now) tuples.now (Changed change.now)) result }
 {
-    let gone = select(alloc, env, tuples, change.condition, &Scope::Nothing)?;
-    let more = extend_all(alloc, env, &gone, change.items, &Scope::Nothing)?;
+    let gone = select(alloc, env, parts, tuples, change.condition, &Scope::Nothing)?;
+    let more = extend_all(alloc, env, parts, &gone, change.items, &Scope::Nothing)?;
     if !more.same_heading(tuples.get()) {
         return Err(Fault::Raised(Stop::Untyped));
     }
@@ -77,21 +81,44 @@ fn update(
 fn exchange(
     alloc: Global,
     env: &Environment,
+    parts: &[Part],
     tuples: &Lease<'_>,
     form: &Form,
 ) -> Result<Delta, Fault>
+    requires { AreRight env.now parts.now }
     ensures { TellsForm tuples.now (form_means (mean_in env.now) tuples.now form.now) result }
 {
     match form {
         Form::Less(condition) => {
-            let gone = select(alloc, env, tuples, condition, &Scope::Nothing)?;
+            let gone = select(alloc, env, parts, tuples, condition, &Scope::Nothing)?;
             Ok(without(alloc, tuples.get(), gone)?)
         }
-        Form::Changed(change) => update(alloc, env, tuples, change),
+        Form::Changed(change) => update(alloc, env, parts, tuples, change),
     }
 }
 
-// The same of a part of the expression, over what its relvars have.
+// The same over what relvars have, of which the virtual ones are found where the condition or an item comes to them.
+fn exchange_over(
+    alloc: Global,
+    env: &Environment,
+    virtuals: Virtuals<'_>,
+    tuples: &Lease<'_>,
+    form: &Form,
+) -> Result<Delta, Fault>
+    requires { MeanTheirs env.now }
+    ensures { TellsForm tuples.now (form_means (mean_in env.now) tuples.now form.now) result }
+{
+    let mut findings = Findings::new(alloc, virtuals.names.len())?;
+    for _ in 0..virtuals.names.len() {
+        match exchange(alloc, env, &findings.parts, tuples, form) {
+            Err(Fault::Wanting(place)) => settle(alloc, env, &mut findings, virtuals, place)?,
+            answer => return answer,
+        }
+    }
+    exchange(alloc, env, &findings.parts, tuples, form)
+}
+
+// The same of a part of the expression.
 fn change_by_part<L: Lookup>(
     alloc: Global,
     expr: &TypedExpr,
@@ -102,13 +129,14 @@ fn change_by_part<L: Lookup>(
     ensures { TellsForm tuples.now (form_means (mean (relvars_at (all_known expr.now (L.relvars lookup.now))) (selection expr.now.selectors)) tuples.now form.now) result }
 {
     let expression = expr.get();
-    let (known, waiting) = known_relvars(alloc, lookup, expression)?;
-    let env = Environment {
-        relvars: &known,
-        waiting,
-        selectors: expression.selectors.as_slice(),
+    let known = known_bases(alloc, lookup, expression.bases.as_slice())?;
+    let names = names_of(alloc, expression.virtuals.as_slice())?;
+    let env = environment(&known, expression);
+    let virtuals = Virtuals {
+        under: expression.virtuals.as_slice(),
+        names: &names,
     };
-    exchange(alloc, &env, tuples, form)
+    exchange_over(alloc, &env, virtuals, tuples, form)
 }
 
 /// What an expression of the catalogue changes of the base relvar at the place, where it is that relvar without the
@@ -138,6 +166,6 @@ pub fn changed<L: Lookup>(
     match change_by_part(alloc, expr, lookup, &tuples, &form) {
         Ok(delta) => Ok(Some(delta)),
         Err(Fault::Raised(stop)) => Err(Failure::Raised(raise_of(stop))),
-        Err(Fault::OutOfMemory) => Err(Failure::OutOfMemory),
+        Err(Fault::OutOfMemory | Fault::Wanting(_)) => Err(Failure::OutOfMemory),
     }
 }

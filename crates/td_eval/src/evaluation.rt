@@ -1,40 +1,25 @@
 //! Evaluation.
 
-ghost use Rattle.std.specs.Prelude.{◌≡◌, ◌≤◌, length, IfOk, MatchResult, OnOk};
+ghost use Rattle.std.specs.Prelude.{◌≡◌, IfOk, MatchResult};
 ghost use Rattle.td_algebra.specs.Raising.{Answers};
-ghost use Rattle.td_meaning.specs.Mean.{rows_in};
-ghost use Rattle.td_meaning.specs.Seen.{mean_in, virtual_known, virtuals_known};
+ghost use Rattle.td_meaning.specs.Mean.{mean};
+ghost use Rattle.td_meaning.specs.Seen.{mean_in, relvars_at, visible};
 ghost use Rattle.td_meaning.specs.Selections.{selection};
 ghost use Rattle.td_operators.specs.Values as spec;
-ghost use Rattle.td_eval.specs.ForProofs.Environments.{Keeps, all_known, base_known, bases_known};
-ghost use Rattle.td_story.specs.Meanings.{means, no_names};
+ghost use Rattle.td_eval.specs.ForProofs.Environments.{MeanTheirs, all_known, base_known, bases_known};
+ghost use Rattle.td_story.specs.Meanings.{means};
 
 use crate::lookup::Lookup;
+use crate::settling::{Findings, Virtuals, names_of, settle, settle_first};
 use std::alloc::{AllocError, Global};
 use td_algebra::{Fault, Stop};
 use td_headings::TypedExpr;
 use td_meaning::{Environment, Known, Scope};
 use td_operators::Lease;
 use td_relations::Relation;
-use td_trees::expression::{BaseUnder, Expression, Selector, VirtualUnder};
+use td_trees::expression::{BaseUnder, Expression};
 use td_trees::tree::Typed;
-use td_trees::{add_mentions, relvars_in};
 use td_values::{Kind, Tuple, Value};
-
-// Those that wait may be evaluated one within another, each as deep as expressions have levels: as many as the stack has
-// ample room for.
-const MOST_WAITING: usize = 4;
-
-// The answer, with the error that it may be.
-fn kept<'a>(answer: Result<Relation, Fault>) -> Result<Result<Lease<'a>, Stop>, AllocError>
-    ensures { Keeps answer result }
-{
-    match answer {
-        Ok(relation) => Ok(Ok(Lease::own(relation))),
-        Err(Fault::Raised(stop)) => Ok(Err(stop)),
-        Err(Fault::OutOfMemory) => Err(AllocError),
-    }
-}
 
 // What the base relvar at the place has, with what the look-up keeps beside it.
 pub(crate) fn leased<L: Lookup>(lookup: &L, relvar: usize) -> Result<Lease<'_>, Stop>
@@ -55,8 +40,8 @@ fn known_base<'a, L: Lookup>(lookup: &'a L, base: &BaseUnder) -> Known<'a>
     }
 }
 
-// Each base relvar is looked up once, and lent.
-fn known_bases<'a, L: Lookup>(
+/// What these base relvars have. Each is looked up once, and lent.
+pub(crate) fn known_bases<'a, L: Lookup>(
     alloc: Global,
     lookup: &'a L,
     bases: &[BaseUnder],
@@ -70,7 +55,8 @@ fn known_bases<'a, L: Lookup>(
     Ok(known)
 }
 
-fn relation_of(value: Value) -> Result<Relation, Fault>
+/// The relation, where it is one.
+pub(crate) fn relation_of(value: Value) -> Result<Relation, Fault>
     ensures { Answers result (spec.rows_of value) }
 {
     match value.kind {
@@ -79,110 +65,63 @@ fn relation_of(value: Value) -> Result<Relation, Fault>
     }
 }
 
-#[tactic(auto, unfolding(td_meaning::specs::Mean::rows_in))]
-pub(crate) fn rows(alloc: Global, env: &Environment, tree: &Typed) -> Result<Relation, Fault>
-    ensures { Answers result (rows_in (mean_in env.now tree.now) no_names) }
+/// What base relvars have, and the virtual ones under the expression.
+pub(crate) fn environment<'a>(known: &'a [Known<'a>], expression: &'a Expression) -> Environment<'a>
+    ensures { (result.relvars.now ≡ known.now) × (result.virtuals.now ≡ expression.now.virtuals) × (result.selectors.now ≡ expression.now.selectors) }
 {
-    relation_of(td_meaning::eval(alloc, env, tree, &Scope::Nothing)?)
+    Environment {
+        relvars: known,
+        virtuals: expression.virtuals.as_slice(),
+        selectors: expression.selectors.as_slice(),
+    }
 }
 
-#[tactic(auto, unfolding(td_meaning::specs::Seen::relvars_there))]
-fn known_virtual<'a>(
+// The value of a part of the expression over these, with these names in scope.
+fn value_over<'a>(
     alloc: Global,
-    relvars: &[Known<'_>],
-    selectors: &[Selector],
-    under: &VirtualUnder,
-) -> Result<Known<'a>, AllocError>
-    ensures { IfOk result (λ k. k ≡ virtual_known (selection selectors.now) relvars.now under.now) }
+    env: &Environment,
+    virtuals: Virtuals<'a>,
+    part: &'a Typed,
+    scope: &Scope,
+) -> Result<Value, Fault>
+    requires { MeanTheirs env.now }
+    ensures { Answers result (mean_in env.now part.now (visible scope.now)) }
 {
-    let env = Environment {
-        relvars,
-        waiting: &[],
-        selectors,
-    };
-    let value = kept(rows(alloc, &env, under.tree.get()))?;
-    Ok(Known {
-        place: under.place,
-        value,
-    })
-}
-
-// Each virtual relvar is evaluated once, over those before it. What it raises is kept: it may not be needed.
-fn add_virtuals<'a>(
-    alloc: Global,
-    known: &mut Vec<Known<'a>>,
-    selectors: &[Selector],
-    virtuals: &[VirtualUnder],
-) -> Result<(), AllocError>
-    ensures { OnOk result (known.new.items ≡ virtuals_known (selection selectors.now) virtuals.now known.old.items) }
-{
-    for under in virtuals {
-        let next = known_virtual(alloc, known, selectors, under)?;
-        known.push(next)?;
-    }
-    Ok(())
-}
-
-// The places of the relvars that the expression and the virtual relvars under it name, as often as they are named, in
-// order.
-fn named(alloc: Global, expression: &Expression) -> Result<Vec<usize>, AllocError> {
-    let mut mentions = Vec::new(alloc);
-    add_mentions(&mut mentions, expression.tree.get())?;
-    for under in expression.virtuals.as_slice() {
-        add_mentions(&mut mentions, under.tree.get())?;
-    }
-    let mut places = relvars_in(alloc, &mentions)?;
-    places.sort_unstable();
-    Ok(places)
-}
-
-// Whether the place stands there twice, among places in order.
-fn stands_twice(places: &[usize], place: usize) -> bool {
-    let at = places.partition_point(|other| *other < place);
-    at + 1 < places.len() && places[at + 1] == place
-}
-
-// How many of the virtual relvars are evaluated before the expression: those up to the last one that is named twice, and
-// as many as leave no more to wait than may be evaluated one within another.
-fn needed_before(alloc: Global, expression: &Expression) -> Result<usize, AllocError>
-    ensures { IfOk result (λ n. n ≤ length expression.now.virtuals) }
-{
-    let virtuals = expression.virtuals.as_slice();
-    if virtuals.is_empty() {
-        return Ok(0);
-    }
-    let places = named(alloc, expression)?;
-    let least = virtuals.len().saturating_sub(MOST_WAITING);
-    for at in (least..virtuals.len()).rev() {
-        if stands_twice(&places, virtuals[at].place) {
-            return Ok(at + 1);
+    let mut findings = Findings::new(alloc, virtuals.names.len())?;
+    settle_first(alloc, env, &mut findings, virtuals, part)?;
+    for _ in 0..virtuals.names.len() {
+        match td_meaning::eval(alloc, env, &findings.parts, part, scope) {
+            Err(Fault::Wanting(place)) => settle(alloc, env, &mut findings, virtuals, place)?,
+            answer => return answer,
         }
     }
-    Ok(least)
+    td_meaning::eval(alloc, env, &findings.parts, part, scope)
 }
 
-/// What is known of the relvars under an expression before it is evaluated, and the virtual ones that wait. Each base
-/// relvar is looked up once, and lent. A virtual relvar that is named once waits for where the expression comes to it, if
-/// it is one of the last four in order of definition; one that is named more than once is evaluated once, before, with
-/// those defined before it.
-pub(crate) fn known_relvars<'a, 'x, L: Lookup>(
+/// The value of a part of the expression over what relvars have, with these names in scope.
+pub(crate) fn value_of_part<L: Lookup>(
     alloc: Global,
-    lookup: &'a L,
-    expression: &'x Expression,
-) -> Result<(Vec<Known<'a>>, &'x [VirtualUnder]), AllocError>
-    ensures { IfOk result (λ p. virtuals_known (selection expression.now.selectors) p.1.now p.0.items ≡ all_known expression.now (L.relvars lookup.now)) }
+    expr: &TypedExpr,
+    lookup: &L,
+    part: &Typed,
+    scope: &Scope,
+) -> Result<Value, Fault>
+    ensures { Answers result (mean (relvars_at (all_known expr.now (L.relvars lookup.now))) (selection expr.now.selectors) part.now (visible scope.now)) }
 {
-    let virtuals = expression.virtuals.as_slice();
-    let mut known = known_bases(alloc, lookup, expression.bases.as_slice())?;
-    let at = needed_before(alloc, expression)?;
-    let (before, waiting) = virtuals.split_at(at);
-    add_virtuals(alloc, &mut known, expression.selectors.as_slice(), before)?;
-    Ok((known, waiting))
+    let expression = expr.get();
+    let known = known_bases(alloc, lookup, expression.bases.as_slice())?;
+    let names = names_of(alloc, expression.virtuals.as_slice())?;
+    let env = environment(&known, expression);
+    let virtuals = Virtuals {
+        under: expression.virtuals.as_slice(),
+        names: &names,
+    };
+    value_over(alloc, &env, virtuals, part, scope)
 }
 
 /// The value of the expression within the tuple, or the error that it raises. Each base relvar that it reads is looked
-/// up once and lent, which takes no memory for its tuples. A virtual relvar under it is evaluated once, before it, or,
-/// where it is named once and one of the last four, where the expression comes to it.
+/// up once and lent, which takes no memory for its tuples. A virtual relvar under it is evaluated once, and only where
+/// the expression comes to it; what stands before it in an operand or a branch may be evaluated anew behind it.
 pub fn eval<L: Lookup>(
     alloc: Global,
     expr: &TypedExpr,
@@ -191,13 +130,6 @@ pub fn eval<L: Lookup>(
 ) -> Result<Value, Fault>
     ensures { Answers result (means expr.now (L.relvars lookup.now) tuple.now) }
 {
-    let expression = expr.get();
-    let (known, waiting) = known_relvars(alloc, lookup, expression)?;
-    let env = Environment {
-        relvars: &known,
-        waiting,
-        selectors: expression.selectors.as_slice(),
-    };
     let scope = Scope::Within(tuple, &Scope::Nothing);
-    td_meaning::eval(alloc, &env, expression.tree.get(), &scope)
+    value_of_part(alloc, expr, lookup, expr.get().tree.get(), &scope)
 }

@@ -3,11 +3,13 @@
 
 mod addition;
 mod changes;
+mod deciding;
 mod evaluation;
 mod forms;
 pub mod laws;
 pub mod lookup;
 mod naming;
+mod settling;
 pub mod valued;
 
 pub use addition::added;

@@ -10,4 +10,4 @@ pub mod Rightness
 pub mod Deepest
 pub mod Ready
 pub mod Pinning
-pub mod Waiting
+pub mod Behind

@@ -13,8 +13,8 @@ use Rattle.td_algebra.specs.declared.errors.Stop.{Stop}
 use Rattle.td_algebra.specs.Raising.{Answers}
 use Rattle.td_values.specs.declared.raises.Raise.TheVariants.{Overflow}
 use Rattle.td_algebra.specs.declared.errors.Stop.TheVariants.{Untyped, Error}
-use Rattle.td_meaning.specs.ForProofs.Right.{AreRight, IsRight}
 use Rattle.td_meaning.specs.Mean.{Names}
+use Rattle.td_meaning.specs.Parts.{AreRight, IsRight}
 use Rattle.td_meaning.specs.Seen.{mean_in, relvars_there}
 use Rattle.td_meaning.specs.Selections.{selection}
 use Rattle.td_meaning.proofs.Fewer.{steady}

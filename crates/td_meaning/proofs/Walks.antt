@@ -7,7 +7,7 @@ use Rattle.td_syntax.specs.declared.tree.Named.{Named}
 use Rattle.td_tuples.specs.declared.items.Item.{Item}
 use Rattle.td_trees.specs.declared.tree.Typed.{Typed}
 use Rattle.td_algebra.specs.declared.errors.Fault.{Fault}
-use Rattle.td_algebra.specs.declared.errors.Fault.TheVariants.{Raised, OutOfMemory}
+use Rattle.td_algebra.specs.declared.errors.Fault.TheVariants.{Raised, OutOfMemory, Wanting}
 use Rattle.td_algebra.specs.declared.errors.Stop.{Stop}
 use Rattle.td_algebra.specs.Nested.{relation_value}
 use Rattle.td_algebra.specs.Raising.{Answers, AnswersBy, and_then}
@@ -22,6 +22,7 @@ use Rattle.td_meaning.specs.Seen.{all_given, held_value}
 -- an error that was answered within, as the answer
 pub fails : {A B V : Type 0} (see : V → B) (fault : Fault) (w : Result A Stop) (all : Result B Stop) → ((e : Stop) → w ≡ Err e → all ≡ Err e) → Answers {A = A} (Err fault) w → AnswersBy see (Err fault) all
 fails see OutOfMemory w all stops h = tt
+fails see (Wanting n) w all stops h = tt
 fails see (Raised e) w all stops h = stops e h
 
 module _ (m : Means) (names : Names) where

@@ -4,7 +4,7 @@ pub mod Over
 pub mod Standing
 pub mod Latest
 pub mod Found
-pub mod Waiting
+pub mod Places
 pub mod Right
 pub mod Terms
 pub mod Checks

@@ -2,5 +2,6 @@
 pub mod Mean
 pub mod Selections
 pub mod Seen
+pub mod Parts
 pub mod Laws
 pub mod ForProofs

@@ -47,9 +47,9 @@ visible (Within' t p outer) = within t.now (visible outer)
 visible (Given' ns p outer) = all_given ns.now (visible outer)
 visible (Components ns ds) = components ns.now ds.now
 
--- what each relvar has there, one that waits for its evaluation too
+-- what each relvar has there, a virtual one too
 unfoldable pub relvars_there : Environment → Relvars
-relvars_there env = relvars_at (virtuals_known (selection env.selectors.now) env.waiting.now env.relvars.now)
+relvars_there env = relvars_at (virtuals_known (selection env.selectors.now) env.virtuals.now env.relvars.now)
 
 -- what an expression means there
 abbrev pub mean_in : Environment → Typed → Meaning

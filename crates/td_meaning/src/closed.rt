@@ -5,12 +5,12 @@ ghost use Rattle.td_meaning.specs.ForProofs.Levels.{groups_levels, item_levels, 
 ghost use Rattle.td_meaning.specs.ForProofs.Right.{deepest_in};
 ghost use Rattle.td_meaning.specs.ForProofs.Terms.{terms_levels};
 
-use crate::environment::{relvar_known, waits};
+use crate::environment::relvar_known;
 use crate::evaluator::Evaluator;
 use crate::parts::heading_known;
 use sqlite_items::Boxed;
 use std::alloc::AllocError;
-use td_syntax::tree::{BinaryOperator, Named};
+use td_syntax::tree::Named;
 use td_trees::tree::{Typed, TypedGroups};
 use td_tuples::{Item, Summary};
 use td_values::{Heading, Name};
@@ -322,10 +322,10 @@ fn of_parts<'t>(
     }
 }
 
-// A relvar is lent where it stands, but one that waits.
-fn is_worth_keeping(evaluator: &Evaluator<'_>, tree: &Typed) -> bool {
+// A relvar is lent where it stands.
+fn is_worth_keeping(tree: &Typed) -> bool {
     match tree {
-        Typed::Relvar(place) => waits(evaluator.env, *place),
+        Typed::Relvar(_) => false,
         _ => true,
     }
 }
@@ -344,7 +344,7 @@ fn survey<'t>(
     let reach = of_parts(evaluator, found, tree, bound)?;
     if reach.is_dear && bound.place() < reach.outermost {
         found.truncate(mark);
-        if is_worth_keeping(evaluator, tree) && evaluator.known(tree).is_none() {
+        if is_worth_keeping(tree) && evaluator.known(tree).is_none() {
             found.push(tree)?;
         }
     }

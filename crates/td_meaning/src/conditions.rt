@@ -6,7 +6,7 @@ ghost use Rattle.td_algebra.specs.Raising.{Answers};
 ghost use Rattle.td_algebra.specs.Summaries.{OfTerm};
 ghost use Rattle.td_meaning.specs.ForProofs.Checks.{AddsChecks, AreChecks, IsCheck, IsSide, check_levels, comparison, deepest_check, side_value};
 ghost use Rattle.td_meaning.specs.ForProofs.Levels.{levels};
-ghost use Rattle.td_meaning.specs.ForProofs.Right.{known_value};
+ghost use Rattle.td_meaning.specs.Parts.{known_value};
 ghost use Rattle.td_meaning.specs.ForProofs.Standing.{meant_value};
 ghost use Rattle.td_meaning.specs.Mean.{Meaning, mean_binary, mean_both, within};
 ghost use Rattle.td_meaning.specs.Seen.{mean_in, visible};

@@ -2,7 +2,8 @@
 
 ghost use Rattle.std.specs.Prelude.{◌≡◌, true, false, MatchOption};
 ghost use Rattle.td_algebra.specs.Raising.{AnswersBy};
-ghost use Rattle.td_meaning.specs.ForProofs.Waiting.{IsWaiting, is_known, is_waiting};
+ghost use Rattle.td_meaning.specs.ForProofs.Places as spec;
+ghost use Rattle.td_meaning.specs.ForProofs.Places.{is_known};
 ghost use Rattle.td_meaning.specs.Seen.{relvars_at, relvars_there};
 
 use td_algebra::{Fault, Stop};
@@ -21,9 +22,9 @@ pub struct Known<'a> {
 #[derive(Clone, Copy)]
 pub struct Environment<'a> {
     pub relvars: &'a [Known<'a>],
-    /// Virtual relvars that are evaluated where the expression comes to them, and each time that it does. Each sees
-    /// those before it, and what is known.
-    pub waiting: &'a [VirtualUnder],
+    /// Each means its expression over those before it and what is known. What one has is found among the parts whose
+    /// values are known; where an expression comes to another one, its place is wanted.
+    pub virtuals: &'a [VirtualUnder],
     /// Each sees those before it.
     pub selectors: &'a [Selector],
 }
@@ -59,22 +60,9 @@ pub(crate) fn relvar_known<'a>(
     relvar_at(env.relvars, place)
 }
 
-/// The virtual relvar at the place, if it waits, and those before it. It looks at them one by one.
-pub(crate) fn virtual_at(
-    waiting: &[VirtualUnder],
-    place: usize,
-) -> Option<(&[VirtualUnder], &VirtualUnder)>
-    ensures { MatchOption result (is_waiting place waiting.now ≡ false) (λ f. IsWaiting waiting.now place f.0.now f.1.now) }
+/// Whether a virtual relvar is at the place. It looks at them one by one.
+pub(crate) fn is_virtual(env: &Environment<'_>, place: usize) -> bool
+    ensures { result ≡ spec.is_virtual place env.now.virtuals.now }
 {
-    for at in 0..waiting.len() {
-        if waiting[at].place == place {
-            return Some((&waiting[..at], &waiting[at]));
-        }
-    }
-    None
-}
-
-/// Whether the relvar at the place waits for its evaluation.
-pub(crate) fn waits(env: &Environment<'_>, place: usize) -> bool {
-    env.waiting.iter().any(|under| under.place == place)
+    env.virtuals.iter().any(|under| under.place == place)
 }

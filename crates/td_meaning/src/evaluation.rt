@@ -4,11 +4,12 @@ ghost use Rattle.td_algebra.specs.Functions as functions;
 ghost use Rattle.td_algebra.specs.Raising.{Answers};
 ghost use Rattle.td_meaning.specs.ForProofs.Over.{terms};
 ghost use Rattle.td_meaning.specs.Mean.{truth_at};
+ghost use Rattle.td_meaning.specs.Parts.{AreRight};
 ghost use Rattle.td_meaning.specs.Seen.{mean_in, visible};
 
 use crate::environment::Environment;
 use crate::evaluator::Evaluator;
-use crate::parts::value_known;
+use crate::parts::{Part, put_if, value_known};
 use crate::scope::Scope;
 use sqlite_items::Boxed;
 use std::alloc::Global;
@@ -67,13 +68,35 @@ impl Evaluator<'_> {
     }
 }
 
+/// Puts the value of the expression, or the error that it raises, among the parts, where it names nothing around it.
+pub fn keep<'a>(
+    alloc: Global,
+    env: &Environment,
+    parts: &mut Vec<Part<'a>>,
+    tree: &'a Typed,
+) -> Result<(), Fault>
+    requires { AreRight env.now parts.old.items }
+    ensures { AreRight env.now parts.new.items }
+{
+    let evaluator = Evaluator::beside(alloc, env, parts.as_slice());
+    let value = evaluator.closed_value(tree)?;
+    Ok(put_if(alloc, parts, tree, value)?)
+}
+
 /// The value of an expression, or the least error that its rules let stand. What typing rules out is answered by
-/// `Untyped`. The recursion nests as deep as the expression has levels, and those of the CONSTRAINTs of selectors under
-/// it.
-pub fn eval(alloc: Global, env: &Environment, tree: &Typed, scope: &Scope) -> Result<Value, Fault>
+/// `Untyped`, and `Wanting` with its place where the expression comes to a virtual relvar that is not among the parts.
+/// The recursion nests as deep as the expression has levels, and those of the CONSTRAINTs of selectors under it.
+pub fn eval(
+    alloc: Global,
+    env: &Environment,
+    parts: &[Part],
+    tree: &Typed,
+    scope: &Scope,
+) -> Result<Value, Fault>
+    requires { AreRight env.now parts.now }
     ensures { Answers result (mean_in env.now tree.now (visible scope.now)) }
 {
-    Evaluator::of(alloc, env).evaluate(tree, scope)
+    Evaluator::beside(alloc, env, parts).evaluate(tree, scope)
 }
 
 /// The tuples of which the condition is true, or the least error that it raises at one. Its parts that name nothing
@@ -83,24 +106,28 @@ pub fn eval(alloc: Global, env: &Environment, tree: &Typed, scope: &Scope) -> Re
 pub fn select(
     alloc: Global,
     env: &Environment,
+    parts: &[Part],
     ts: &Lease<'_>,
     condition: &Typed,
     scope: &Scope,
 ) -> Result<Relation, Fault>
+    requires { AreRight env.now parts.now }
     ensures { Answers result (functions.restricted (truth_at (mean_in env.now condition.now) (visible scope.now)) ts.now) }
 {
-    Evaluator::of(alloc, env).restricted_by(ts, condition, scope)
+    Evaluator::beside(alloc, env, parts).restricted_by(ts, condition, scope)
 }
 
 /// The tuples with the items' values, as EXTEND gives them: the values that have names of attributes in place of these.
 pub fn extend_all(
     alloc: Global,
     env: &Environment,
+    parts: &[Part],
     ts: &Relation,
     items: &[Item<Boxed<Typed>>],
     scope: &Scope,
 ) -> Result<Relation, Fault>
+    requires { AreRight env.now parts.now }
     ensures { Answers result (functions.extended (terms (mean_in env.now) (visible scope.now)) items.now ts.now) }
 {
-    Evaluator::of(alloc, env).extended_by(ts, items, scope)
+    Evaluator::beside(alloc, env, parts).extended_by(ts, items, scope)
 }

@@ -1,8 +1,9 @@
 //! The evaluator.
 
 ghost use Rattle.std.specs.Prelude.{◌≡◌, IfSome};
-ghost use Rattle.td_meaning.specs.ForProofs.Right.{AreRight, AreRight-prop, known_value};
+ghost use Rattle.td_meaning.specs.ForProofs.Right.{AreRight-prop};
 ghost use Rattle.td_meaning.specs.Mean.{Names};
+ghost use Rattle.td_meaning.specs.Parts.{AreRight, known_value};
 ghost use Rattle.td_meaning.specs.Seen.{mean_in};
 
 use crate::environment::Environment;
@@ -34,13 +35,25 @@ impl<'a> Evaluator<'a> {
         }
     }
 
-    /// What is known of the expression. What takes no evaluation is not sought, as a relvar where none waits.
+    /// Where the values of these parts are known.
+    pub(crate) fn beside(
+        alloc: Global,
+        env: &'a Environment<'a>,
+        parts: &'a [Part<'a>],
+    ) -> Evaluator<'a>
+        requires { AreRight env.now parts.now }
+        ensures { result.env.now ≡ env.now }
+    {
+        Evaluator { alloc, env, parts }
+    }
+
+    /// What is known of the expression. What takes no evaluation is not sought, as a relvar where none is virtual.
     pub(crate) fn known(&self, tree: &Typed) -> Option<&'a Result<Held, Stop>>
         ensures { IfSome result (λ v. (names : Names) → mean_in self.now.env.now tree.now names ≡ known_value v.now) }
     {
         match tree {
             Typed::Integer(_) | Typed::Text(_) | Typed::Truth(_) | Typed::Local(_) => None,
-            Typed::Relvar(_) if self.env.waiting.is_empty() => None,
+            Typed::Relvar(_) if self.env.virtuals.is_empty() => None,
             _ => find(self.parts, tree),
         }
     }

@@ -14,12 +14,13 @@ mod naming;
 mod once;
 mod operands;
 mod operators;
-mod parts;
+pub mod parts;
 mod restrictions;
 pub mod scope;
 mod selections;
 mod summaries;
 
 pub use environment::{Environment, Known};
-pub use evaluation::{eval, extend_all, select};
+pub use evaluation::{eval, extend_all, keep, select};
+pub use parts::{Part, put};
 pub use scope::{Held, Scope};

@@ -1,23 +1,24 @@
 //! What is evaluated once, and not at each tuple.
 
 ghost use Rattle.std.specs.Prelude.{◌≡◌, ◌≤◌, IfOk, IfSome, OnOk};
-ghost use Rattle.td_meaning.specs.ForProofs.Right.{AreRight, deepest_in, known_value};
+ghost use Rattle.td_meaning.specs.ForProofs.Right.{deepest_in};
 ghost use Rattle.td_meaning.specs.ForProofs.Terms.{terms_levels};
 ghost use Rattle.td_meaning.specs.Mean.{Names};
+ghost use Rattle.td_meaning.specs.Parts.{AreRight, known_value};
 ghost use Rattle.td_meaning.specs.Seen.{mean_in};
 
 use crate::closed::{Terms, closed_parts};
 use crate::evaluator::Evaluator;
-use crate::parts::{Part, copied, put};
+use crate::parts::{Part, copied, put_if};
 use crate::scope::{Held, Scope, hold};
 use std::alloc::AllocError;
 use td_algebra::{Fault, Stop};
 use td_trees::tree::Typed;
 
 impl Evaluator<'_> {
-    // What the expression means wherever it stands, if it names nothing that is around it.
+    /// What the expression means wherever it stands, if it names nothing that is around it.
     #[cycle(evaluation)]
-    fn closed_value(&self, tree: &Typed) -> Result<Option<Result<Held, Stop>>, AllocError>
+    pub(crate) fn closed_value(&self, tree: &Typed) -> Result<Option<Result<Held, Stop>>, Fault>
         ensures { IfOk result (λ v. IfSome v (λ w. (names : Names) → mean_in self.now.env.now tree.now names ≡ known_value w)) }
     {
         match self.evaluate(tree, &Scope::Nothing) {
@@ -26,7 +27,7 @@ impl Evaluator<'_> {
                 Stop::Untyped => Ok(None),
                 _ => Ok(Some(Err(stop))),
             },
-            Err(Fault::OutOfMemory) => Err(AllocError),
+            Err(fault) => Err(fault),
         }
     }
 
@@ -46,19 +47,21 @@ impl Evaluator<'_> {
         closed_parts(&around, terms)
     }
 
+    // Where it comes to a virtual relvar that is not known, the part may not be needed.
     #[cycle(evaluation)]
     fn keep<'a>(&self, parts: &mut Vec<Part<'a>>, tree: &'a Typed) -> Result<(), AllocError>
         requires { AreRight self.now.env.now parts.old.items }
-        ensures { OnOk result (AreRight self.now.env.now parts.new.items) }
+        ensures { AreRight self.now.env.now parts.new.items }
     {
         let around = Evaluator {
             alloc: self.alloc,
             env: &*self.env,
             parts: parts.as_slice(),
         };
-        match around.closed_value(tree)? {
-            Some(value) => put(self.alloc, parts, tree, value),
-            None => Ok(()),
+        match around.closed_value(tree) {
+            Ok(value) => put_if(self.alloc, parts, tree, value),
+            Err(Fault::OutOfMemory) => Err(AllocError),
+            Err(_) => Ok(()),
         }
     }
 

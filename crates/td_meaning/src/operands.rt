@@ -1,50 +1,27 @@
 //! Names, relvars and operands.
 
-ghost use Rattle.std.specs.Prelude.{◌≡◌, false, None, Result};
+ghost use Rattle.std.specs.Prelude.{◌≡◌, false, Result};
 ghost use Rattle.td_values.specs.Data.{Datum};
 ghost use Rattle.td_values.specs.Rows.{RowsData};
 ghost use Rattle.td_algebra.specs.Raising.{Answers, AnswersBy, and_then};
 ghost use Rattle.td_algebra.specs.declared.errors.Stop.{Stop};
 ghost use Rattle.td_operators.specs.ForProofs.Lent.{operand_value};
 ghost use Rattle.td_operators.specs.Operators.{as_value};
-ghost use Rattle.td_operators.specs.Values as values;
 ghost use Rattle.td_trees.specs.declared.tree.Typed.TheVariants as t;
-ghost use Rattle.td_meaning.specs.ForProofs.Waiting.{is_known};
+ghost use Rattle.td_meaning.specs.ForProofs.Places.{is_known};
 ghost use Rattle.td_meaning.specs.Mean as spec;
 ghost use Rattle.td_meaning.specs.Mean.{Names};
-ghost use Rattle.td_meaning.specs.Seen.{mean_in, relvars_at, relvars_there, virtuals_known, visible};
-ghost use Rattle.td_meaning.specs.Selections.{selection};
+ghost use Rattle.td_meaning.specs.Seen.{mean_in, relvars_there, visible};
 
-use crate::environment::{Environment, relvar_known, virtual_at};
+use crate::environment::{Environment, is_virtual, relvar_known};
 use crate::evaluator::Evaluator;
 use crate::parts::operand_known;
 use crate::scope::{Scope, operand_meant, value_meant};
 use std::alloc::Global;
 use td_algebra::{Fault, Stop};
 use td_operators::{Lease, Operand, relation_value, rows_of, truth_of};
-use td_relations::Relation;
-use td_trees::expression::VirtualUnder;
 use td_trees::tree::Typed;
-use td_values::{Kind, Name, Value};
-
-// The answer, where it is a relation.
-fn relation(answer: Result<Value, Fault>) -> Result<Value, Fault>
-    ensures { (m : Result Datum Stop) → Answers answer m → Answers result (and_then (and_then m values.rows_of) as_value) }
-{
-    match answer {
-        Ok(value) => relation_in(value),
-        Err(fault) => Err(fault),
-    }
-}
-
-fn relation_in(value: Value) -> Result<Value, Fault>
-    ensures { Answers result (and_then (values.rows_of value) as_value) }
-{
-    match value.kind {
-        Kind::Relation(rows) => Ok(relation_value(Relation::of(rows))),
-        _ => Err(Fault::Raised(Stop::Untyped)),
-    }
-}
+use td_values::{Name, Value};
 
 fn copied(alloc: Global, known: Result<&Lease<'_>, Fault>) -> Result<Value, Fault>
     ensures { (m : Result RowsData Stop) → AnswersBy (λ r. r.now) known.entry m → Answers result (and_then m as_value) }
@@ -73,6 +50,19 @@ fn made<'a>(answer: Result<Value, Fault>) -> Result<Operand<'a>, Fault>
     }
 }
 
+// Of a relvar that is not known: a virtual one may be made known.
+#[tactic(auto, unfolding(crate::specs::Mean::mean_relvar, crate::specs::Seen::relvars_there))]
+fn unknown(env: &Environment<'_>, place: usize) -> Result<Value, Fault>
+    requires { is_known place env.now.relvars.now ≡ false }
+    ensures { (names : Names) → Answers result (spec.mean_relvar (relvars_there env.now) place names) }
+{
+    if is_virtual(env, place) {
+        Err(Fault::Wanting(place))
+    } else {
+        Err(Fault::Raised(Stop::Untyped))
+    }
+}
+
 impl Evaluator<'_> {
     #[tactic(auto, unfolding(crate::specs::Mean::mean_local))]
     pub(crate) fn local(&self, name: &Name, scope: &Scope) -> Result<Value, Fault>
@@ -84,41 +74,13 @@ impl Evaluator<'_> {
         }
     }
 
-    // What a virtual relvar with this expression has, behind these that wait.
-    #[cycle(evaluation)]
-    #[tactic(auto, unfolding(crate::specs::Mean::rows_in))]
-    fn evaluated(&self, earlier: &[VirtualUnder], tree: &Typed) -> Result<Value, Fault>
-        ensures { Answers result (and_then (spec.rows_in (spec.mean (relvars_at (virtuals_known (selection self.now.env.now.selectors.now) earlier.now self.now.env.now.relvars.now)) (selection self.now.env.now.selectors.now) tree.now) (λ x. None)) as_value) }
-    {
-        let env = Environment {
-            relvars: &*self.env.relvars,
-            waiting: earlier,
-            selectors: &*self.env.selectors,
-        };
-        relation(Evaluator::of(self.alloc, &env).evaluate(tree, &Scope::Nothing))
-    }
-
-    // What the virtual relvar at the place has, where it is not known.
-    #[cycle(evaluation)]
-    #[tactic(auto, unfolding(crate::specs::Mean::mean_relvar, crate::specs::Seen::relvars_there))]
-    fn virtual_relvar(&self, place: usize) -> Result<Value, Fault>
-        requires { is_known place self.now.env.now.relvars.now ≡ false }
-        ensures { (names : Names) → Answers result (spec.mean_relvar (relvars_there self.now.env.now) place names) }
-    {
-        match virtual_at(self.env.waiting, place) {
-            Some((earlier, under)) => self.evaluated(earlier, under.tree.get()),
-            None => Err(Fault::Raised(Stop::Untyped)),
-        }
-    }
-
-    #[cycle(evaluation)]
     #[tactic(auto, unfolding(crate::specs::Mean::mean_relvar))]
     pub(crate) fn relvar(&self, place: usize) -> Result<Value, Fault>
         ensures { (names : Names) → Answers result (spec.mean_relvar (relvars_there self.now.env.now) place names) }
     {
         match relvar_known(self.env, place) {
             Some(known) => copied(self.alloc, known),
-            None => self.virtual_relvar(place),
+            None => unknown(self.env, place),
         }
     }
 
@@ -132,7 +94,7 @@ impl Evaluator<'_> {
         }
     }
 
-    #[cycle(evaluation)]
+    // A virtual relvar is known as a part.
     fn virtual_operand<'a>(&'a self, tree: &Typed, place: usize) -> Result<Operand<'a>, Fault>
         requires tree { tree.now ≡ t.Relvar place }
         requires unknown { is_known place self.now.env.now.relvars.now ≡ false }
@@ -140,12 +102,11 @@ impl Evaluator<'_> {
     {
         match self.known(tree) {
             Some(value) => operand_known(self.alloc, value),
-            None => made(self.virtual_relvar(place)),
+            None => made(unknown(self.env, place)),
         }
     }
 
-    // The relvar at the place, which the expression names: lent where it is known.
-    #[cycle(evaluation)]
+    // The relvar at the place, which the expression names, lent.
     fn relvar_operand<'a>(&'a self, tree: &Typed, place: usize) -> Result<Operand<'a>, Fault>
         requires { tree.now ≡ t.Relvar place }
         ensures { (names : Names) → AnswersBy operand_value result (mean_in self.now.env.now tree.now names) }

@@ -1,10 +1,10 @@
 //! Expressions whose values are known.
 
-ghost use Rattle.std.specs.Prelude.{◌≡◌, IfOk, IfSome, OnOk};
+ghost use Rattle.std.specs.Prelude.{◌≡◌, IfOk, IfSome};
 ghost use Rattle.td_algebra.specs.Raising.{Answers, AnswersBy};
 ghost use Rattle.td_operators.specs.ForProofs.Lent.{operand_value};
-ghost use Rattle.td_meaning.specs.ForProofs.Right.{AreRight, IsRight, known_value};
 ghost use Rattle.td_meaning.specs.Mean.{Names};
+ghost use Rattle.td_meaning.specs.Parts.{AreRight, known_value};
 ghost use Rattle.td_meaning.specs.Seen.{mean_in};
 ghost use Rattle.td_meaning.specs.declared.environment.Environment.{Environment};
 
@@ -19,7 +19,7 @@ use td_values::{Heading, Value};
 
 /// An expression that names nothing around it, and its value or the error that it raises.
 #[derive(Drop)]
-pub(crate) struct Part<'a> {
+pub struct Part<'a> {
     pub tree: &'a Typed,
     pub value: Shared<Result<Held, Stop>>,
 }
@@ -62,14 +62,14 @@ pub(crate) fn find<'a>(parts: &'a [Part<'a>], tree: &Typed) -> Option<&'a Result
     }
 }
 
-/// Puts a part where its expression belongs.
-pub(crate) fn put<'a>(
+/// Puts a part where its expression belongs, in the order of expressions, in which parts are sought.
+pub fn put<'a>(
     alloc: Global,
     parts: &mut Vec<Part<'a>>,
     tree: &'a Typed,
     value: Result<Held, Stop>,
 ) -> Result<(), AllocError>
-    ensures { (env : Environment) → AreRight env parts.old.items → ((names : Names) → mean_in env tree.now names ≡ known_value value) → OnOk result (AreRight env parts.new.items) }
+    ensures { (env : Environment) → AreRight env parts.old.items → ((names : Names) → mean_in env tree.now names ≡ known_value value) → AreRight env parts.new.items }
 {
     let at = match parts.binary_search_by(|part| compare(part.tree, tree)) {
         Ok(at) | Err(at) => at,
@@ -77,6 +77,21 @@ pub(crate) fn put<'a>(
     let value = Shared::new(alloc, value)?;
     parts.insert(at, Part { tree, value })?;
     Ok(())
+}
+
+/// The same of a value, if there is one.
+pub(crate) fn put_if<'a>(
+    alloc: Global,
+    parts: &mut Vec<Part<'a>>,
+    tree: &'a Typed,
+    value: Option<Result<Held, Stop>>,
+) -> Result<(), AllocError>
+    ensures { (env : Environment) → AreRight env parts.old.items → IfSome value (λ v. (names : Names) → mean_in env tree.now names ≡ known_value v) → AreRight env parts.new.items }
+{
+    match value {
+        Some(value) => put(alloc, parts, tree, value),
+        None => Ok(()),
+    }
 }
 
 fn copy<'a>(part: &'a Part<'_>) -> Result<Part<'a>, AllocError>

@@ -61,7 +61,7 @@ impl Evaluator<'_> {
             Some(tree) => {
                 let env = Environment {
                     relvars: &[],
-                    waiting: &[],
+                    virtuals: &[],
                     selectors: earlier,
                 };
                 Evaluator::of(self.alloc, &env).truth(tree.get(), scope)

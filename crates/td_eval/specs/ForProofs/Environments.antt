@@ -1,15 +1,15 @@
 -- What is known of the relvars under an expression.
-use Rattle.std.specs.Prelude.{◌≡◌, List, map, Result, IfOk}
+use Rattle.std.specs.Prelude.{◌≡◌, List, map}
+use Rattle.std.specs.List.{Contains}
 use Rattle.td_trees.specs.declared.expression.BaseUnder.{BaseUnder}
 use Rattle.td_trees.specs.declared.expression.Expression.{Expression}
-use Rattle.td_values.specs.Rows.{RowsData}
-use Rattle.td_algebra.specs.Raising.{Answers}
-use Rattle.td_algebra.specs.declared.errors.Fault.{Fault}
-use Rattle.td_algebra.specs.declared.errors.Stop.{Stop}
-use Rattle.td_meaning.specs.Mean.{Relvars}
-use Rattle.td_meaning.specs.Seen.{virtuals_known}
+use Rattle.td_trees.specs.declared.expression.VirtualUnder.{VirtualUnder}
+use Rattle.td_meaning.specs.Mean.{Relvars, rows_in}
+use Rattle.td_meaning.specs.Seen.{mean_in, relvars_there, virtuals_known}
 use Rattle.td_meaning.specs.Selections.{selection}
+use Rattle.td_meaning.specs.declared.environment.Environment.{Environment}
 use Rattle.td_meaning.specs.declared.environment.Known.{Known}
+use Rattle.td_story.specs.Meanings.{no_names}
 
 -- what the base relvars have
 abbrev pub base_known : Relvars → BaseUnder → Known
@@ -22,6 +22,6 @@ bases_known relvars bs = map (base_known relvars) bs
 abbrev pub all_known : Expression → Relvars → List Known
 all_known x relvars = virtuals_known (selection x.selectors) x.virtuals (bases_known relvars x.bases)
 
--- whatever the answer says is kept
-abbrev pub Keeps : {E : Type 0} → Result RowsData Fault → Result (Result RowsData Stop) E → Type 0
-Keeps answer kept = IfOk kept (λ v. (m : Result RowsData Stop) → Answers answer m → v ≡ m)
+-- each virtual relvar means its expression over them all, with no name in scope
+abbrev pub MeanTheirs : Environment → Type 0
+MeanTheirs env = (v : VirtualUnder) → Contains env.virtuals.now v → relvars_there env v.place ≡ rows_in (mean_in env v.tree) no_names

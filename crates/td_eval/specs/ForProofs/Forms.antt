@@ -10,7 +10,7 @@ use Rattle.td_tuples.specs.declared.items.Item.{Item}
 use Rattle.td_algebra.specs.Functions.{extended, minus_of, restricted, union_of}
 use Rattle.td_algebra.specs.Raising.{and_then}
 use Rattle.td_algebra.specs.declared.errors.Fault.{Fault}
-use Rattle.td_algebra.specs.declared.errors.Fault.TheVariants.{Raised, OutOfMemory}
+use Rattle.td_algebra.specs.declared.errors.Fault.TheVariants.{Raised, OutOfMemory, Wanting}
 use Rattle.td_algebra.specs.declared.errors.Stop.{Stop}
 use Rattle.td_meaning.specs.ForProofs.Over.{terms}
 use Rattle.td_meaning.specs.Mean.{Meaning, truth_at}
@@ -49,3 +49,4 @@ abbrev pub TellsForm : RowsData → Result RowsData Stop → Result DeltaData Fa
 TellsForm r m (Ok d) = (m ≡ Ok (after r d)) × IsDifference r (after r d) d
 TellsForm r m (Err (Raised e)) = m ≡ Err e
 TellsForm r m (Err OutOfMemory) = Unit {0}
+TellsForm r m (Err (Wanting n)) = Unit {0}

@@ -1,8 +1,7 @@
--- Parts of expressions, and what they mean wherever they stand.
-use Rattle.std.specs.Prelude.{◌≡◌, ℕ, max, List, [], ◌∷◌, Result, Ok, Err}
+-- That the values of parts are right is a proposition, and how deep parts are.
+use Rattle.std.specs.Prelude.{ℕ, max, List, [], ◌∷◌, Result}
 use Rattle.std.specs.Borrow.{Bor}
 use Rattle.std.specs.Coded.{Coded-set, Π_prop, coded_result}
-use Rattle.std.specs.List.{Contains}
 use Rattle.td_values.specs.Data.{Datum}
 use Rattle.td_values.specs.Proving.Code.{datum_code}
 use Rattle.td_algebra.specs.contracts.errors.Stop as stop
@@ -10,21 +9,9 @@ use Rattle.td_trees.specs.declared.tree.Typed.{Typed}
 use Rattle.td_algebra.specs.declared.errors.Stop.{Stop}
 use Rattle.td_meaning.specs.declared.environment.Environment.{Environment}
 use Rattle.td_meaning.specs.declared.parts.Part.{Part}
-use Rattle.td_meaning.specs.declared.scope.Held.{Held}
 use Rattle.td_meaning.specs.ForProofs.Levels.{levels}
-use Rattle.td_meaning.specs.Mean.{Names}
-use Rattle.td_meaning.specs.Seen.{held_value, mean_in}
-
-abbrev pub known_value : Result Held Stop → Result Datum Stop
-known_value (Ok h) = Ok (held_value h)
-known_value (Err e) = Err e
-
--- the part means this, whatever the names around it stand for
-abbrev pub IsRight : Environment → Part → Type 0
-IsRight env p = (names : Names) → mean_in env p.tree.now names ≡ known_value p.value
-
-abbrev pub AreRight : Environment → List Part → Type 0
-AreRight env ps = (p : Part) → Contains ps p → IsRight env p
+use Rattle.td_meaning.specs.Parts.{AreRight, known_value}
+use Rattle.td_meaning.specs.Seen.{mean_in}
 
 pub answers_set : IsSet (Result Datum Stop)
 answers_set = Coded-set (coded_result datum_code stop.the_row.coded)

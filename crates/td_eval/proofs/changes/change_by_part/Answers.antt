@@ -1,17 +1,30 @@
-use Rattle.std.proofs.Common.{subst}
+use Rattle.std.proofs.Common.{ap, ◌∙◌, subst}
+use Rattle.td_trees.specs.declared.expression.Expression.{Expression}
 use Rattle.td_trees.specs.declared.tree.Typed.{Typed}
 use Rattle.td_meaning.specs.Mean.{Meaning}
-use Rattle.td_meaning.specs.Seen.{relvars_there}
+use Rattle.td_eval.specs.ForProofs.Environments.{bases_known}
 use Rattle.td_eval.specs.ForProofs.Forms.{TellsForm, form_means}
-use Rattle.td_eval.proofs.Known.{means_known}
+use Rattle.td_eval.proofs.Settled.{mean_is, theirs}
 use Rattle.td_eval.proofs.changes.change_by_part.Goals as goal
 
+pub exchange_over-requires : goal.exchange_over-requires
+exchange_over-requires g c =
+    let x = c.args.expr.now in
+    let r = g.L.Lookup.relvars c.args.lookup.now in
+    let same = c.get-expression.ensures.same in
+    let bases = c.environment-env.ensures.0 ∙ c.deref.ensures.value ∙ c.in_ok-known.ensures ∙ ap (bases_known r) c.as_slice.ensures ∙ ap (λ (y : Expression). bases_known r y.bases) same in
+    let virtuals = c.environment-env.ensures.1 ∙ ap (λ (y : Expression). y.virtuals) same in
+    let selectors = c.environment-env.ensures.2 ∙ ap (λ (y : Expression). y.selectors) same in
+    theirs x r c.environment-env.result bases virtuals selectors c.get-expression.ensures.typed
+
 pub returns : goal.returns
-unfolding relvars_there
 returns g c =
-    let r = c.args.tuples.now in
-    subst (λ (m : Typed → Meaning). TellsForm r (form_means m r c.args.form.now) c.exchange.result)
-    (means_known c.args.expr.now c.get-expression.result.now c.get-expression.ensures.same (g.L.Lookup.relvars c.args.lookup.now)
-    c.as_slice.result.now c.in_ok-known.waiting.now c.in_ok-known.known.items c.deref.result.now
-    c.as_slice.ensures c.in_ok-known.ensures c.deref.ensures.value)
-    c.exchange.ensures
+    let x = c.args.expr.now in
+    let r = g.L.Lookup.relvars c.args.lookup.now in
+    let same = c.get-expression.ensures.same in
+    let bases = c.environment-env.ensures.0 ∙ c.deref.ensures.value ∙ c.in_ok-known.ensures ∙ ap (bases_known r) c.as_slice.ensures ∙ ap (λ (y : Expression). bases_known r y.bases) same in
+    let virtuals = c.environment-env.ensures.1 ∙ ap (λ (y : Expression). y.virtuals) same in
+    let selectors = c.environment-env.ensures.2 ∙ ap (λ (y : Expression). y.selectors) same in
+    let q = c.args.tuples.now in
+    subst (λ (m : Typed → Meaning). TellsForm q (form_means m q c.args.form.now) c.exchange_over.result)
+    (mean_is x r c.environment-env.result bases virtuals selectors) c.exchange_over.ensures

@@ -3,7 +3,7 @@ use Rattle.td_values.specs.Data.{Attrs}
 use Rattle.td_operators.specs.Values.{known}
 use Rattle.td_tuples.specs.Parts.{Fits}
 use Rattle.td_meaning.specs.ForProofs.Checks.{IsSide, side_value}
-use Rattle.td_meaning.specs.ForProofs.Right.{known_value}
+use Rattle.td_meaning.specs.Parts.{known_value}
 use Rattle.td_meaning.specs.Mean.{within}
 use Rattle.td_meaning.specs.Seen.{mean_in, visible}
 use Rattle.td_meaning.proofs.Ready.{local_is, side_weaker}

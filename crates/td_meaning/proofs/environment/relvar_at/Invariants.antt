@@ -1,5 +1,5 @@
 use Rattle.std.proofs.Common.{◌≡◌, drop}
-use Rattle.td_meaning.specs.ForProofs.Waiting.{is_known}
+use Rattle.td_meaning.specs.ForProofs.Places.{is_known}
 use Rattle.td_meaning.specs.Seen.{relvars_at}
 use Rattle.td_meaning.proofs.environment.relvar_at.Given as goal
 

@@ -1,4 +1,4 @@
-use Rattle.std.proofs.Common.{◌+◌, ℕ, Bool, None, IfSome, Result, List, Vec, Global, drop, rules, get_or, Ok, sym, ap, ◌∙◌, subst, arith}
+use Rattle.std.proofs.Common.{◌+◌, ℕ, Bool, IfSome, Result, List, Vec, Global, drop, rules, get_or, Ok, sym, ap, ◌∙◌, subst, arith}
 use Rattle.td_values.specs.Data.{Datum}
 use Rattle.td_values.specs.Rows.{RowsData}
 use Rattle.td_syntax.specs.declared.tree.Named.{Named}
@@ -10,13 +10,13 @@ use Rattle.td_meaning.specs.declared.scope.Held.{Held}
 use Rattle.td_operators.specs.ForProofs.Lent.{operand_value}
 use Rattle.td_meaning.specs.ForProofs.Over.{terms, list_meant, items_meant, all_meant, over_aggregate, over_extend, over_summarize, summarized_over}
 use Rattle.td_operators.specs.ForProofs.Turns.{turn}
-use Rattle.td_meaning.specs.Mean.{at, named_at, introduced, truth_at, truth_in, rows_in, mean, mean_both, mean_by, mean_binary, mean_relvar, mean_where, mean_if, mean_with}
+use Rattle.td_meaning.specs.Mean.{at, named_at, introduced, truth_at, truth_in, rows_in, mean, mean_both, mean_by, mean_binary, mean_where, mean_if, mean_with}
 use Rattle.td_syntax.specs.declared.tree.BinaryOperator.TheVariants as binary
-use Rattle.td_operators.specs.Operators.{as_value, in_turn, operate, operate_on, attribute_at, part_at, with_new_names, nested, unnested}
+use Rattle.td_operators.specs.Operators.{in_turn, operate, operate_on, attribute_at, part_at, with_new_names, nested, unnested}
 use Rattle.td_tuples.specs.Parts.{Fits}
 use Rattle.td_algebra.specs.Summaries.{OfTerm}
 use Rattle.td_meaning.specs.ForProofs.Checks.{AreChecks, IsSide, all_hold, check_holds}
-use Rattle.td_meaning.specs.ForProofs.Right.{AreRight}
+use Rattle.td_meaning.specs.Parts.{AreRight}
 use Rattle.td_meaning.proofs.Deepest.{in_deepest}
 use Rattle.td_meaning.proofs.Ready.{check_within, hold_goes, hold_stops}
 use Rattle.td_meaning.proofs.Rightness.{error_means, right_in_slice, told_error, value_means}
@@ -24,7 +24,6 @@ use Rattle.td_meaning.specs.Seen.{held_value, all_given, mean_in, relvars_there,
 use Rattle.td_meaning.specs.Selections.{admits, no_relvars, selection}
 use Rattle.td_meaning.proofs.Falls.{in_list, in_items, in_named, term_within, summary_within, of_term, of_term_if, of_those, select_falls, relation_falls, tuple_falls, extend_falls, with_falls, summarize_falls}
 use Rattle.td_meaning.proofs.Forms.{of_relvar, of_unary, of_binary, of_from, of_project, of_where, of_rename, of_nest, of_unnest, of_aggregate, of_if, of_extend, of_summarize, of_with}
-use Rattle.td_meaning.proofs.Waiting.{nowhere}
 use Rattle.td_meaning.proofs.Walks.{value_goes, value_stops, field_goes, field_stops, name_goes, name_stops, one_more_given, fails, made_over, stops_over}
 use Rattle.td_operators.proofs.Turns.{turn_begins}
 use Rattle.td_meaning.proofs.evaluator.+evaluation.Goals as goal
@@ -415,6 +414,9 @@ Evaluator::operand-returns-in-Some t c = subst (λ m. AnswersBy operand_value c.
 pub Evaluator::keep-invariant_of-around : goal.Evaluator::keep-invariant_of-around
 Evaluator::keep-invariant_of-around t c = record { right = subst (AreRight c.args.self.now.env.now) (sym c.as_slice.ensures.value) c.requires }
 
+pub Evaluator::keep-returns-in-Ok : goal.Evaluator::keep-returns-in-Ok
+Evaluator::keep-returns-in-Ok t c = c.put_if.ensures c.args.self.now.env.now c.requires c.in-Ok.ensures
+
 pub Evaluator::keep_all-keep-requires : goal.Evaluator::keep_all-keep-requires
 Evaluator::keep_all-keep-requires t c = (omega (arith, c.decreases, in_deepest c.args.trees.now c.loop-tree.tree-index c.tree-item.result c.loop-tree-test.true c.tree-item.is), c.loop-tree.invariant)
 
@@ -449,31 +451,3 @@ Evaluator::at_most-returns-in-Some t c =
     let m = mean_in c.args.self.now.env.now in
     let names = visible c.args.scope.now in
     subst (λ w. Answers c.within_part.result (and_then (m c.args.a.now names) (λ d. and_then w (operate binary.AtMost d)))) (sym (c.in-Some.ensures.means names)) c.within_part.ensures
-
-pub Evaluator::evaluated-returns : goal.Evaluator::evaluated-returns
-unfolding rows_in relvars_there
-Evaluator::evaluated-returns t c =
-    c.relation.ensures _ (subst (λ e. Answers c.evaluate.result (mean_in e c.args.tree.now (λ x. None))) c.of.ensures c.evaluate.ensures)
-
-pub Evaluator::virtual_relvar-returns-in-None : goal.Evaluator::virtual_relvar-returns-in-None
-unfolding mean_relvar relvars_there
-Evaluator::virtual_relvar-returns-in-None t c = λ names.
-    let e = c.args.self.now.env.now in
-    ap (λ r. and_then r as_value) (nowhere c.args.place (selection e.selectors.now) e.waiting.now e.relvars.now c.requires c.in-None.ensures)
-
-pub Evaluator::virtual_operand-returns-in-Some : goal.Evaluator::virtual_operand-returns-in-Some
-Evaluator::virtual_operand-returns-in-Some t c = λ names.
-    subst (AnswersBy operand_value c.operand_known.result) (sym (c.in-Some.ensures names)) c.operand_known.ensures
-
-pub Evaluator::virtual_operand-returns-in-None : goal.Evaluator::virtual_operand-returns-in-None
-Evaluator::virtual_operand-returns-in-None t c = λ names.
-    let e = c.args.self.now.env.now in
-    let is = ap (mean_in e) c.requires.tree ∙ of_relvar (relvars_there e) (selection e.selectors.now) c.args.place in
-    subst (λ f. AnswersBy operand_value c.made.result (f names)) (sym is) (c.made.ensures (mean_relvar (relvars_there e) c.args.place names) (c.virtual_relvar.ensures names))
-
-pub Evaluator::relvar_operand-returns-in-Some : goal.Evaluator::relvar_operand-returns-in-Some
-unfolding mean_relvar
-Evaluator::relvar_operand-returns-in-Some t c = λ names.
-    let e = c.args.self.now.env.now in
-    let is = ap (mean_in e) c.requires ∙ of_relvar (relvars_there e) (selection e.selectors.now) c.args.place in
-    subst (λ f. AnswersBy operand_value c.lent.result (f names)) (sym is) (c.lent.ensures (relvars_there e c.args.place) c.in-Some.ensures)

@@ -1,84 +1,84 @@
 use Rattle.std.proofs.Common.{◌≡◌, ◌+◌, ◌*◌, max, drop}
 use Rattle.td_meaning.specs.ForProofs.Checks.{all_hold, check_levels, deepest_check}
 use Rattle.td_meaning.specs.ForProofs.Levels.{levels, list_levels, item_levels, named_levels, summary_levels, summaries_levels, groups_levels, limit_levels, weight}
-use Rattle.td_meaning.specs.ForProofs.Right.{AreRight, deepest_in}
+use Rattle.td_meaning.specs.ForProofs.Right.{deepest_in}
 use Rattle.td_meaning.specs.ForProofs.Terms.{terms_levels}
-use Rattle.td_meaning.specs.ForProofs.Waiting.{load, waiting_weight}
 use Rattle.td_meaning.specs.ForProofs.Over.{list_meant, items_meant, all_meant}
 use Rattle.td_operators.specs.ForProofs.Turns.{turn}
 use Rattle.td_meaning.specs.Mean.{at, named_at, introduced}
 use Rattle.td_operators.specs.Operators.{in_turn}
+use Rattle.td_meaning.specs.Parts.{AreRight}
 use Rattle.td_meaning.specs.Seen.{all_given, mean_in, visible}
 use Rattle.td_meaning.proofs.evaluator.+evaluation.Given as goal
 
 abbrev pub decreases-Evaluator::by_form : goal.decreases-Evaluator::by_form
-decreases-Evaluator::by_form l = 12 * levels l.tree.now + load l.self.now.env.now
+decreases-Evaluator::by_form l = 12 * levels l.tree.now + weight l.self.now.env.now.selectors.now
 
 abbrev pub decreases-Evaluator::evaluate : goal.decreases-Evaluator::evaluate
-decreases-Evaluator::evaluate l = 12 * levels l.tree.now + 1 + load l.self.now.env.now
+decreases-Evaluator::evaluate l = 12 * levels l.tree.now + 1 + weight l.self.now.env.now.selectors.now
 
 abbrev pub decreases-Evaluator::operand : goal.decreases-Evaluator::operand
-decreases-Evaluator::operand l = 12 * levels l.tree.now + 1 + load l.self.now.env.now
+decreases-Evaluator::operand l = 12 * levels l.tree.now + 1 + weight l.self.now.env.now.selectors.now
 
 abbrev pub decreases-Evaluator::rows : goal.decreases-Evaluator::rows
-decreases-Evaluator::rows l = 12 * levels l.a.now + 2 + load l.self.now.env.now
+decreases-Evaluator::rows l = 12 * levels l.a.now + 2 + weight l.self.now.env.now.selectors.now
 
 abbrev pub decreases-Evaluator::truth : goal.decreases-Evaluator::truth
-decreases-Evaluator::truth l = 12 * levels l.a.now + 2 + load l.self.now.env.now
+decreases-Evaluator::truth l = 12 * levels l.a.now + 2 + weight l.self.now.env.now.selectors.now
 
 abbrev pub decreases-Evaluator::unary : goal.decreases-Evaluator::unary
-decreases-Evaluator::unary l = 12 * levels l.a.now + 2 + load l.self.now.env.now
+decreases-Evaluator::unary l = 12 * levels l.a.now + 2 + weight l.self.now.env.now.selectors.now
 
 abbrev pub decreases-Evaluator::component : goal.decreases-Evaluator::component
-decreases-Evaluator::component l = 12 * levels l.a.now + 2 + load l.self.now.env.now
+decreases-Evaluator::component l = 12 * levels l.a.now + 2 + weight l.self.now.env.now.selectors.now
 
 abbrev pub decreases-Evaluator::attribute : goal.decreases-Evaluator::attribute
-decreases-Evaluator::attribute l = 12 * levels l.a.now + 2 + load l.self.now.env.now
+decreases-Evaluator::attribute l = 12 * levels l.a.now + 2 + weight l.self.now.env.now.selectors.now
 
 abbrev pub decreases-Evaluator::projection : goal.decreases-Evaluator::projection
-decreases-Evaluator::projection l = 12 * levels l.a.now + 2 + load l.self.now.env.now
+decreases-Evaluator::projection l = 12 * levels l.a.now + 2 + weight l.self.now.env.now.selectors.now
 
 abbrev pub decreases-Evaluator::renaming : goal.decreases-Evaluator::renaming
-decreases-Evaluator::renaming l = 12 * levels l.a.now + 2 + load l.self.now.env.now
+decreases-Evaluator::renaming l = 12 * levels l.a.now + 2 + weight l.self.now.env.now.selectors.now
 
 abbrev pub decreases-Evaluator::nesting : goal.decreases-Evaluator::nesting
-decreases-Evaluator::nesting l = 12 * levels l.a.now + 2 + load l.self.now.env.now
+decreases-Evaluator::nesting l = 12 * levels l.a.now + 2 + weight l.self.now.env.now.selectors.now
 
 abbrev pub decreases-Evaluator::unnesting : goal.decreases-Evaluator::unnesting
-decreases-Evaluator::unnesting l = 12 * levels l.a.now + 2 + load l.self.now.env.now
+decreases-Evaluator::unnesting l = 12 * levels l.a.now + 2 + weight l.self.now.env.now.selectors.now
 
 abbrev pub decreases-Evaluator::both : goal.decreases-Evaluator::both
-decreases-Evaluator::both l = 12 * max (levels l.a.now) (levels l.b.now) + 3 + load l.self.now.env.now
+decreases-Evaluator::both l = 12 * max (levels l.a.now) (levels l.b.now) + 3 + weight l.self.now.env.now.selectors.now
 
 abbrev pub decreases-Evaluator::either : goal.decreases-Evaluator::either
-decreases-Evaluator::either l = 12 * max (levels l.a.now) (levels l.b.now) + 3 + load l.self.now.env.now
+decreases-Evaluator::either l = 12 * max (levels l.a.now) (levels l.b.now) + 3 + weight l.self.now.env.now.selectors.now
 
 abbrev pub decreases-Evaluator::two : goal.decreases-Evaluator::two
-decreases-Evaluator::two l = 12 * max (levels l.a.now) (levels l.b.now) + 2 + load l.self.now.env.now
+decreases-Evaluator::two l = 12 * max (levels l.a.now) (levels l.b.now) + 2 + weight l.self.now.env.now.selectors.now
 
 abbrev pub decreases-Evaluator::within_part : goal.decreases-Evaluator::within_part
-decreases-Evaluator::within_part l = 12 * max (levels l.a.now) (levels l.whole.now) + 2 + load l.self.now.env.now
+decreases-Evaluator::within_part l = 12 * max (levels l.a.now) (levels l.whole.now) + 2 + weight l.self.now.env.now.selectors.now
 
 abbrev pub decreases-Evaluator::around_part : goal.decreases-Evaluator::around_part
-decreases-Evaluator::around_part l = 12 * max (levels l.whole.now) (levels l.b.now) + 2 + load l.self.now.env.now
+decreases-Evaluator::around_part l = 12 * max (levels l.whole.now) (levels l.b.now) + 2 + weight l.self.now.env.now.selectors.now
 
 abbrev pub decreases-Evaluator::at_most : goal.decreases-Evaluator::at_most
-decreases-Evaluator::at_most l = 12 * max (levels l.a.now) (levels l.b.now) + 3 + load l.self.now.env.now
+decreases-Evaluator::at_most l = 12 * max (levels l.a.now) (levels l.b.now) + 3 + weight l.self.now.env.now.selectors.now
 
 abbrev pub decreases-Evaluator::at_least : goal.decreases-Evaluator::at_least
-decreases-Evaluator::at_least l = 12 * max (levels l.a.now) (levels l.b.now) + 3 + load l.self.now.env.now
+decreases-Evaluator::at_least l = 12 * max (levels l.a.now) (levels l.b.now) + 3 + weight l.self.now.env.now.selectors.now
 
 abbrev pub decreases-Evaluator::binary : goal.decreases-Evaluator::binary
-decreases-Evaluator::binary l = 12 * max (levels l.a.now) (levels l.b.now) + 4 + load l.self.now.env.now
+decreases-Evaluator::binary l = 12 * max (levels l.a.now) (levels l.b.now) + 4 + weight l.self.now.env.now.selectors.now
 
 abbrev pub decreases-Evaluator::choice : goal.decreases-Evaluator::choice
-decreases-Evaluator::choice l = 12 * max (levels l.c.now) (max (levels l.a.now) (levels l.b.now)) + 3 + load l.self.now.env.now
+decreases-Evaluator::choice l = 12 * max (levels l.c.now) (max (levels l.a.now) (levels l.b.now)) + 3 + weight l.self.now.env.now.selectors.now
 
 abbrev pub decreases-Evaluator::values : goal.decreases-Evaluator::values
-decreases-Evaluator::values l = 12 * list_levels l.trees.now + 2 + load l.self.now.env.now
+decreases-Evaluator::values l = 12 * list_levels l.trees.now + 2 + weight l.self.now.env.now.selectors.now
 
 abbrev pub decreases-Evaluator::relation : goal.decreases-Evaluator::relation
-decreases-Evaluator::relation l = 12 * list_levels l.trees.now + 3 + load l.self.now.env.now
+decreases-Evaluator::relation l = 12 * list_levels l.trees.now + 3 + weight l.self.now.env.now.selectors.now
 
 abbrev pub decreases-Evaluator::admits : goal.decreases-Evaluator::admits
 decreases-Evaluator::admits l = 12 * limit_levels l.limit.now + 3 + weight l.earlier.now
@@ -87,34 +87,34 @@ abbrev pub decreases-Evaluator::selected : goal.decreases-Evaluator::selected
 decreases-Evaluator::selected l = 12 * limit_levels l.selector.now.limit + 4 + weight l.earlier.now
 
 abbrev pub decreases-Evaluator::selection : goal.decreases-Evaluator::selection
-decreases-Evaluator::selection l = 12 * list_levels l.trees.now + 5 + load l.self.now.env.now
+decreases-Evaluator::selection l = 12 * list_levels l.trees.now + 5 + weight l.self.now.env.now.selectors.now
 
 abbrev pub decreases-Evaluator::fields : goal.decreases-Evaluator::fields
-decreases-Evaluator::fields l = 12 * item_levels l.items.now + 2 + load l.self.now.env.now
+decreases-Evaluator::fields l = 12 * item_levels l.items.now + 2 + weight l.self.now.env.now.selectors.now
 
 abbrev pub decreases-Evaluator::tuple : goal.decreases-Evaluator::tuple
-decreases-Evaluator::tuple l = 12 * item_levels l.items.now + 3 + load l.self.now.env.now
+decreases-Evaluator::tuple l = 12 * item_levels l.items.now + 3 + weight l.self.now.env.now.selectors.now
 
 abbrev pub decreases-Evaluator::introduced : goal.decreases-Evaluator::introduced
-decreases-Evaluator::introduced l = 12 * named_levels l.xs.now + 2 + load l.self.now.env.now
+decreases-Evaluator::introduced l = 12 * named_levels l.xs.now + 2 + weight l.self.now.env.now.selectors.now
 
 abbrev pub decreases-Evaluator::with : goal.decreases-Evaluator::with
-decreases-Evaluator::with l = 12 * max (named_levels l.xs.now) (levels l.body.now) + 3 + load l.self.now.env.now
+decreases-Evaluator::with l = 12 * max (named_levels l.xs.now) (levels l.body.now) + 3 + weight l.self.now.env.now.selectors.now
 
 abbrev pub decreases-Evaluator::holds_at : goal.decreases-Evaluator::holds_at
-decreases-Evaluator::holds_at l = 12 * check_levels l.check.now + 3 + load l.self.now.env.now
+decreases-Evaluator::holds_at l = 12 * check_levels l.check.now + 3 + weight l.self.now.env.now.selectors.now
 
 abbrev pub decreases-Evaluator::all_hold : goal.decreases-Evaluator::all_hold
-decreases-Evaluator::all_hold l = 12 * deepest_check l.checks.now + 4 + load l.self.now.env.now
+decreases-Evaluator::all_hold l = 12 * deepest_check l.checks.now + 4 + weight l.self.now.env.now.selectors.now
 
 abbrev pub decreases-Evaluator::restricted_to-restrict : goal.decreases-Evaluator::restricted_to-restrict
-decreases-Evaluator::restricted_to-restrict l = 12 * deepest_check l.checks.now + 5 + load l.self.now.env.now
+decreases-Evaluator::restricted_to-restrict l = 12 * deepest_check l.checks.now + 5 + weight l.self.now.env.now.selectors.now
 
 abbrev pub decreases-Evaluator::restricted_to : goal.decreases-Evaluator::restricted_to
-decreases-Evaluator::restricted_to l = 12 * deepest_check l.checks.now + 6 + load l.self.now.env.now
+decreases-Evaluator::restricted_to l = 12 * deepest_check l.checks.now + 6 + weight l.self.now.env.now.selectors.now
 
 abbrev pub decreases-Evaluator::restricted : goal.decreases-Evaluator::restricted
-decreases-Evaluator::restricted l = 12 * levels l.c.now + 7 + load l.self.now.env.now
+decreases-Evaluator::restricted l = 12 * levels l.c.now + 7 + weight l.self.now.env.now.selectors.now
 
 abbrev pub invariant-Evaluator::all_hold-loop-check : goal.invariant-Evaluator::all_hold-loop-check
 invariant-Evaluator::all_hold-loop-check l =
@@ -122,49 +122,49 @@ invariant-Evaluator::all_hold-loop-check l =
     ≡ all_hold (mean_in l.self.env.now) (visible l.scope) l.t (drop l.check-index l.checks)
 
 abbrev pub decreases-Evaluator::restriction : goal.decreases-Evaluator::restriction
-decreases-Evaluator::restriction l = 12 * max (levels l.r.now) (levels l.c.now) + 9 + load l.self.now.env.now
+decreases-Evaluator::restriction l = 12 * max (levels l.r.now) (levels l.c.now) + 9 + weight l.self.now.env.now.selectors.now
 
 abbrev pub decreases-Evaluator::at_tuple : goal.decreases-Evaluator::at_tuple
-decreases-Evaluator::at_tuple l = 12 * levels l.term.now + 2 + load l.self.now.env.now
+decreases-Evaluator::at_tuple l = 12 * levels l.term.now + 2 + weight l.self.now.env.now.selectors.now
 
 abbrev pub decreases-Evaluator::aggregated_at-aggregate : goal.decreases-Evaluator::aggregated_at-aggregate
-decreases-Evaluator::aggregated_at-aggregate l = 12 * levels l.e.now + 3 + load l.self.now.env.now
+decreases-Evaluator::aggregated_at-aggregate l = 12 * levels l.e.now + 3 + weight l.self.now.env.now.selectors.now
 
 abbrev pub decreases-Evaluator::aggregated_at : goal.decreases-Evaluator::aggregated_at
-decreases-Evaluator::aggregated_at l = 12 * summary_levels l.summary.now + 4 + load l.self.now.env.now
+decreases-Evaluator::aggregated_at l = 12 * summary_levels l.summary.now + 4 + weight l.self.now.env.now.selectors.now
 
 abbrev pub decreases-Evaluator::aggregated : goal.decreases-Evaluator::aggregated
-decreases-Evaluator::aggregated l = 12 * summary_levels l.summary.now + 5 + load l.self.now.env.now
+decreases-Evaluator::aggregated l = 12 * summary_levels l.summary.now + 5 + weight l.self.now.env.now.selectors.now
 
 abbrev pub decreases-Evaluator::aggregation : goal.decreases-Evaluator::aggregation
-decreases-Evaluator::aggregation l = 12 * max (levels l.r.now) (summary_levels l.summary.now) + 8 + load l.self.now.env.now
+decreases-Evaluator::aggregation l = 12 * max (levels l.r.now) (summary_levels l.summary.now) + 8 + weight l.self.now.env.now.selectors.now
 
 abbrev pub decreases-Evaluator::extended-extend : goal.decreases-Evaluator::extended-extend
-decreases-Evaluator::extended-extend l = 12 * levels l.e.now + 2 + load l.self.now.env.now
+decreases-Evaluator::extended-extend l = 12 * levels l.e.now + 2 + weight l.self.now.env.now.selectors.now
 
 abbrev pub decreases-Evaluator::extended : goal.decreases-Evaluator::extended
-decreases-Evaluator::extended l = 12 * item_levels l.items.now + 4 + load l.self.now.env.now
+decreases-Evaluator::extended l = 12 * item_levels l.items.now + 4 + weight l.self.now.env.now.selectors.now
 
 abbrev pub decreases-Evaluator::extension : goal.decreases-Evaluator::extension
-decreases-Evaluator::extension l = 12 * max (levels l.r.now) (item_levels l.items.now) + 8 + load l.self.now.env.now
+decreases-Evaluator::extension l = 12 * max (levels l.r.now) (item_levels l.items.now) + 8 + weight l.self.now.env.now.selectors.now
 
 abbrev pub decreases-Evaluator::summarized-summarize : goal.decreases-Evaluator::summarized-summarize
-decreases-Evaluator::summarized-summarize l = 12 * levels l.e.now + 2 + load l.self.now.env.now
+decreases-Evaluator::summarized-summarize l = 12 * levels l.e.now + 2 + weight l.self.now.env.now.selectors.now
 
 abbrev pub decreases-Evaluator::summarized : goal.decreases-Evaluator::summarized
-decreases-Evaluator::summarized l = 12 * summaries_levels l.items.now + 4 + load l.self.now.env.now
+decreases-Evaluator::summarized l = 12 * summaries_levels l.items.now + 4 + weight l.self.now.env.now.selectors.now
 
 abbrev pub decreases-Evaluator::summarized_in_runs-summarize_by : goal.decreases-Evaluator::summarized_in_runs-summarize_by
-decreases-Evaluator::summarized_in_runs-summarize_by l = 12 * levels l.e.now + 2 + load l.self.now.env.now
+decreases-Evaluator::summarized_in_runs-summarize_by l = 12 * levels l.e.now + 2 + weight l.self.now.env.now.selectors.now
 
 abbrev pub decreases-Evaluator::summarized_in_runs : goal.decreases-Evaluator::summarized_in_runs
-decreases-Evaluator::summarized_in_runs l = 12 * summaries_levels l.items.now + 4 + load l.self.now.env.now
+decreases-Evaluator::summarized_in_runs l = 12 * summaries_levels l.items.now + 4 + weight l.self.now.env.now.selectors.now
 
 abbrev pub decreases-Evaluator::groups_summarized : goal.decreases-Evaluator::groups_summarized
-decreases-Evaluator::groups_summarized l = 12 * max (groups_levels l.groups.now) (summaries_levels l.items.now) + 5 + load l.self.now.env.now
+decreases-Evaluator::groups_summarized l = 12 * max (groups_levels l.groups.now) (summaries_levels l.items.now) + 5 + weight l.self.now.env.now.selectors.now
 
 abbrev pub decreases-Evaluator::summarization : goal.decreases-Evaluator::summarization
-decreases-Evaluator::summarization l = 12 * max (levels l.r.now) (max (groups_levels l.by.now) (summaries_levels l.items.now)) + 8 + load l.self.now.env.now
+decreases-Evaluator::summarization l = 12 * max (levels l.r.now) (max (groups_levels l.by.now) (summaries_levels l.items.now)) + 8 + weight l.self.now.env.now.selectors.now
 
 abbrev pub invariant-Evaluator::values-loop-tree : goal.invariant-Evaluator::values-loop-tree
 invariant-Evaluator::values-loop-tree l =
@@ -182,49 +182,34 @@ invariant-Evaluator::introduced-loop-x l =
     ≡ introduced (all_meant (mean_in l.self.env.now) (drop l.x-index l.xs)) (all_given l.found (visible l.scope))
 
 abbrev pub decreases-Evaluator::restricted_by : goal.decreases-Evaluator::restricted_by
-decreases-Evaluator::restricted_by l = 12 * levels l.c.now + 8 + load l.self.now.env.now
+decreases-Evaluator::restricted_by l = 12 * levels l.c.now + 8 + weight l.self.now.env.now.selectors.now
 
 abbrev pub decreases-Evaluator::aggregated_by : goal.decreases-Evaluator::aggregated_by
-decreases-Evaluator::aggregated_by l = 12 * summary_levels l.summary.now + 7 + load l.self.now.env.now
+decreases-Evaluator::aggregated_by l = 12 * summary_levels l.summary.now + 7 + weight l.self.now.env.now.selectors.now
 
 abbrev pub decreases-Evaluator::extended_by : goal.decreases-Evaluator::extended_by
-decreases-Evaluator::extended_by l = 12 * item_levels l.items.now + 7 + load l.self.now.env.now
+decreases-Evaluator::extended_by l = 12 * item_levels l.items.now + 7 + weight l.self.now.env.now.selectors.now
 
 abbrev pub decreases-Evaluator::summarized_by : goal.decreases-Evaluator::summarized_by
-decreases-Evaluator::summarized_by l = 12 * max (groups_levels l.groups.now) (summaries_levels l.items.now) + 7 + load l.self.now.env.now
+decreases-Evaluator::summarized_by l = 12 * max (groups_levels l.groups.now) (summaries_levels l.items.now) + 7 + weight l.self.now.env.now.selectors.now
 
 abbrev pub decreases-Evaluator::closed_value : goal.decreases-Evaluator::closed_value
-decreases-Evaluator::closed_value l = 12 * levels l.tree.now + 2 + load l.self.now.env.now
+decreases-Evaluator::closed_value l = 12 * levels l.tree.now + 2 + weight l.self.now.env.now.selectors.now
 
 abbrev pub decreases-Evaluator::keep : goal.decreases-Evaluator::keep
-decreases-Evaluator::keep l = 12 * levels l.tree.now + 3 + load l.self.now.env.now
+decreases-Evaluator::keep l = 12 * levels l.tree.now + 3 + weight l.self.now.env.now.selectors.now
 
 abbrev pub decreases-Evaluator::keep_all : goal.decreases-Evaluator::keep_all
-decreases-Evaluator::keep_all l = 12 * deepest_in l.trees.now + 4 + load l.self.now.env.now
+decreases-Evaluator::keep_all l = 12 * deepest_in l.trees.now + 4 + weight l.self.now.env.now.selectors.now
 
 abbrev pub decreases-Evaluator::add_parts : goal.decreases-Evaluator::add_parts
-decreases-Evaluator::add_parts l = 12 * terms_levels l.terms + 5 + load l.self.now.env.now
+decreases-Evaluator::add_parts l = 12 * terms_levels l.terms + 5 + weight l.self.now.env.now.selectors.now
 
 abbrev pub decreases-Evaluator::prepared : goal.decreases-Evaluator::prepared
-decreases-Evaluator::prepared l = 12 * terms_levels l.terms + 6 + load l.self.now.env.now
+decreases-Evaluator::prepared l = 12 * terms_levels l.terms + 6 + weight l.self.now.env.now.selectors.now
 
 abbrev pub invariant-Evaluator::keep_all-loop-tree : goal.invariant-Evaluator::keep_all-loop-tree
 invariant-Evaluator::keep_all-loop-tree l = AreRight l.self.env.now l.parts.items
 
 abbrev pub invariant-Evaluator::add_parts-loop : goal.invariant-Evaluator::add_parts-loop
 invariant-Evaluator::add_parts-loop l = AreRight l.self.env.now l.parts.items
-
-abbrev pub decreases-Evaluator::evaluated : goal.decreases-Evaluator::evaluated
-decreases-Evaluator::evaluated l = 12 * levels l.tree.now + 2 + (waiting_weight l.earlier.now + weight l.self.now.env.now.selectors.now)
-
-abbrev pub decreases-Evaluator::virtual_relvar : goal.decreases-Evaluator::virtual_relvar
-decreases-Evaluator::virtual_relvar l = 10 + load l.self.now.env.now
-
-abbrev pub decreases-Evaluator::relvar : goal.decreases-Evaluator::relvar
-decreases-Evaluator::relvar l = 11 + load l.self.now.env.now
-
-abbrev pub decreases-Evaluator::virtual_operand : goal.decreases-Evaluator::virtual_operand
-decreases-Evaluator::virtual_operand l = 11 + load l.self.now.env.now
-
-abbrev pub decreases-Evaluator::relvar_operand : goal.decreases-Evaluator::relvar_operand
-decreases-Evaluator::relvar_operand l = 12 + load l.self.now.env.now

@@ -1,5 +1,5 @@
 use Rattle.std.proofs.Common.{subst, sym, ap, ◌∙◌}
-use Rattle.td_meaning.specs.ForProofs.Right.{AreRight, known_value}
+use Rattle.td_meaning.specs.Parts.{AreRight, known_value}
 use Rattle.td_meaning.proofs.Rightness.{right_with}
 use Rattle.td_meaning.proofs.parts.put.Goals as goal
 
