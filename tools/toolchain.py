@@ -52,7 +52,7 @@ def sum_once(rt):
 
 
 # What rt reckons a check to need in memory is nearly twice what the crates of this repository were seen to take: 1 to 2
-# GB of 5, and 3.5 of 6 where a program is compiled. By its figures a lane in four had nothing to do for want of memory.
+# GB of 5, and 3.5 of 6 where a program is compiled. By its figures no more than three of the upper crates have room.
 SEEN = 0.6
 # What a second job adds, of what the first one needs.
 SECOND = 0.6
