@@ -1,4 +1,4 @@
-//! Worked examples, whose answers come from the definitions of the operators.
+//! Each operator once, with an answer that comes from its definition; the others are shown by examples.
 use crate::samples::{Result, add, names, shown};
 use std::alloc::Global;
 use td_algebra::{
@@ -7,9 +7,7 @@ use td_algebra::{
     unwrap, wrap,
 };
 use td_relations::Relation;
-use td_values::{
-    Heading, Items, Kind, Name, Possrep, TdType, Text, Tuple, TupleBuilder, TypeKind, Value,
-};
+use td_values::{Heading, Kind, Name, TdType, Text, Tuple, TupleBuilder, TypeKind, Value};
 
 // The heading of CHAR attributes.
 fn heading(alloc: Global, columns: &[&str]) -> Result<Heading> {
@@ -62,45 +60,18 @@ fn shipments(alloc: Global) -> Result<Relation> {
 enum Operand {
     Suppliers,
     Shipments,
-    /// No attributes and no tuple.
-    Dum,
-    /// No attributes and one tuple.
-    Dee,
     OneAndTwo,
     TwoAndThree,
-    Letters,
-    Lettered,
-    Nested,
-    NestedOne,
-    User,
 }
 
 fn made(alloc: Global, operand: Operand) -> Result<Relation> {
     match operand {
         Operand::Suppliers => suppliers(alloc),
         Operand::Shipments => shipments(alloc),
-        Operand::Dum => table(alloc, &[], &[]),
-        Operand::Dee => table(alloc, &[], &[&[]]),
         Operand::OneAndTwo => table(alloc, &["A"], &[&["1"], &["2"]]),
         Operand::TwoAndThree => table(alloc, &["A"], &[&["2"], &["3"]]),
-        Operand::Letters => table(alloc, &["B"], &[&["x"], &["y"]]),
-        Operand::Lettered => table(alloc, &["A", "B"], &[&["2", "x"], &["2", "y"], &["3", "x"]]),
-        Operand::Nested => nested(alloc, &[("1", &[&["x"], &["y"]]), ("2", &[&["x"]])]),
-        Operand::NestedOne => nested(alloc, &[("1", &[&["y"], &["x"]])]),
-        Operand::User => user_values(alloc),
     }
 }
-
-/// What dee and dum are shown as.
-const DEE: &str = "RELATION { } { TUPLE { } }";
-
-const DUM: &str = "RELATION { } { }";
-
-const SUPPLIERS: &str =
-    "RELATION { CITY CHAR, SNO CHAR } { TUPLE { CITY 'London', SNO 'S1' }, TUPLE { CITY 'Paris', SNO 'S2' } }";
-
-const SHIPMENTS: &str =
-    "RELATION { PNO CHAR, SNO CHAR } { TUPLE { PNO 'P1', SNO 'S1' }, TUPLE { PNO 'P2', SNO 'S1' } }";
 
 /// What is answered in place of a result whose operands have two headings.
 const TWO_HEADINGS: &str = "two headings";
@@ -162,7 +133,7 @@ fn answer(alloc: Global, case: Case) -> Result<String> {
     told(alloc, of_pair(alloc, case.pair, &a, &b)?)
 }
 
-const MERGES: [Case; 6] = [
+const CASES: [Case; 7] = [
     Case {
         pair: Pair::Union,
         first: Operand::OneAndTwo,
@@ -182,29 +153,35 @@ const MERGES: [Case; 6] = [
         want: "RELATION { A CHAR } { TUPLE { A '1' } }",
     },
     Case {
-        pair: Pair::Union,
-        first: Operand::Dum,
-        second: Operand::Dee,
-        want: DEE,
+        pair: Pair::Join,
+        first: Operand::Suppliers,
+        second: Operand::Shipments,
+        want: "RELATION { CITY CHAR, PNO CHAR, SNO CHAR } { TUPLE { CITY 'London', PNO 'P1', SNO 'S1' }, TUPLE { CITY 'London', PNO 'P2', SNO 'S1' } }",
     },
     Case {
-        pair: Pair::Intersect,
-        first: Operand::Dum,
-        second: Operand::Dee,
-        want: DUM,
+        pair: Pair::Matching,
+        first: Operand::Suppliers,
+        second: Operand::Shipments,
+        want: "RELATION { CITY CHAR, SNO CHAR } { TUPLE { CITY 'London', SNO 'S1' } }",
     },
     Case {
-        pair: Pair::Minus,
-        first: Operand::Dee,
-        second: Operand::Dum,
-        want: DEE,
+        pair: Pair::NotMatching,
+        first: Operand::Suppliers,
+        second: Operand::Shipments,
+        want: "RELATION { CITY CHAR, SNO CHAR } { TUPLE { CITY 'Paris', SNO 'S2' } }",
+    },
+    Case {
+        pair: Pair::Compose,
+        first: Operand::Suppliers,
+        second: Operand::Shipments,
+        want: "RELATION { CITY CHAR, PNO CHAR } { TUPLE { CITY 'London', PNO 'P1' }, TUPLE { CITY 'London', PNO 'P2' } }",
     },
 ];
 
 #[test]
-fn merges(rt: HostRuntime) -> Result<()> {
-    for i in 0..6usize {
-        assert!(rt; answer(rt.alloc(), MERGES[i])?.as_str() == MERGES[i].want);
+fn operators_of_two_relations(rt: HostRuntime) -> Result<()> {
+    for i in 0..7usize {
+        assert!(rt; answer(rt.alloc(), CASES[i])?.as_str() == CASES[i].want);
     }
     Ok(())
 }
@@ -218,7 +195,6 @@ fn projected(alloc: Global, on: &[&str]) -> Result<String> {
 fn projections(rt: HostRuntime) -> Result<()> {
     let want = "RELATION { SNO CHAR } { TUPLE { SNO 'S1' } }";
     assert!(rt; projected(rt.alloc(), &["SNO"])?.as_str() == want);
-    assert!(rt; projected(rt.alloc(), &[])?.as_str() == DEE);
     Ok(())
 }
 
@@ -273,7 +249,7 @@ fn exchanged(alloc: Global) -> Result<String> {
 }
 
 fn no_names_replaced(alloc: Global) -> Result<String> {
-    let dee = made(alloc, Operand::Dee)?;
+    let dee = table(alloc, &[], &[&[]])?;
     shown(alloc, rename(alloc, &dee, &[])?)
 }
 
@@ -281,141 +257,7 @@ fn no_names_replaced(alloc: Global) -> Result<String> {
 fn names_are_replaced_at_once(rt: HostRuntime) -> Result<()> {
     let want = "RELATION { A CHAR, B CHAR, C CHAR } { TUPLE { A '2', B '1', C '3' } }";
     assert!(rt; exchanged(rt.alloc())?.as_str() == want);
-    assert!(rt; no_names_replaced(rt.alloc())?.as_str() == DEE);
-    Ok(())
-}
-
-/// With some attributes in common, all and none; with dum and dee; of relations in attributes, and of values without
-/// components.
-const JOINS: [Case; 8] = [
-    Case {
-        pair: Pair::Join,
-        first: Operand::Suppliers,
-        second: Operand::Shipments,
-        want: "RELATION { CITY CHAR, PNO CHAR, SNO CHAR } { TUPLE { CITY 'London', PNO 'P1', SNO 'S1' }, TUPLE { CITY 'London', PNO 'P2', SNO 'S1' } }",
-    },
-    Case {
-        pair: Pair::Join,
-        first: Operand::OneAndTwo,
-        second: Operand::TwoAndThree,
-        want: "RELATION { A CHAR } { TUPLE { A '2' } }",
-    },
-    Case {
-        pair: Pair::Join,
-        first: Operand::OneAndTwo,
-        second: Operand::Letters,
-        want: "RELATION { A CHAR, B CHAR } { TUPLE { A '1', B 'x' }, TUPLE { A '1', B 'y' }, TUPLE { A '2', B 'x' }, TUPLE { A '2', B 'y' } }",
-    },
-    Case {
-        pair: Pair::Join,
-        first: Operand::Dum,
-        second: Operand::Shipments,
-        want: "RELATION { PNO CHAR, SNO CHAR } { }",
-    },
-    Case {
-        pair: Pair::Join,
-        first: Operand::Shipments,
-        second: Operand::Dee,
-        want: SHIPMENTS,
-    },
-    Case {
-        pair: Pair::Join,
-        first: Operand::Nested,
-        second: Operand::NestedOne,
-        want: "RELATION { A CHAR, C RELATION { B CHAR } } { TUPLE { A '1', C RELATION { B CHAR } { TUPLE { B 'x' }, TUPLE { B 'y' } } } }",
-    },
-    Case {
-        pair: Pair::Join,
-        first: Operand::OneAndTwo,
-        second: Operand::Lettered,
-        want: "RELATION { A CHAR, B CHAR } { TUPLE { A '2', B 'x' }, TUPLE { A '2', B 'y' } }",
-    },
-    Case {
-        pair: Pair::Join,
-        first: Operand::User,
-        second: Operand::User,
-        want: "RELATION { A T } { TUPLE { A P ( ) } }",
-    },
-];
-
-#[test]
-fn joins(rt: HostRuntime) -> Result<()> {
-    for i in 0..8usize {
-        assert!(rt; answer(rt.alloc(), JOINS[i])?.as_str() == JOINS[i].want);
-    }
-    Ok(())
-}
-
-/// Suppliers that ship, those that do not, and their cities with the parts; all match dee, and none dum. The last four
-/// have fewer tuples than what they match.
-const MATCHES: [Case; 10] = [
-    Case {
-        pair: Pair::Matching,
-        first: Operand::Suppliers,
-        second: Operand::Shipments,
-        want: "RELATION { CITY CHAR, SNO CHAR } { TUPLE { CITY 'London', SNO 'S1' } }",
-    },
-    Case {
-        pair: Pair::NotMatching,
-        first: Operand::Suppliers,
-        second: Operand::Shipments,
-        want: "RELATION { CITY CHAR, SNO CHAR } { TUPLE { CITY 'Paris', SNO 'S2' } }",
-    },
-    Case {
-        pair: Pair::Compose,
-        first: Operand::Suppliers,
-        second: Operand::Shipments,
-        want: "RELATION { CITY CHAR, PNO CHAR } { TUPLE { CITY 'London', PNO 'P1' }, TUPLE { CITY 'London', PNO 'P2' } }",
-    },
-    Case {
-        pair: Pair::Matching,
-        first: Operand::Suppliers,
-        second: Operand::Dee,
-        want: SUPPLIERS,
-    },
-    Case {
-        pair: Pair::NotMatching,
-        first: Operand::Suppliers,
-        second: Operand::Dum,
-        want: SUPPLIERS,
-    },
-    Case {
-        pair: Pair::Compose,
-        first: Operand::Suppliers,
-        second: Operand::Dee,
-        want: SUPPLIERS,
-    },
-    Case {
-        pair: Pair::Matching,
-        first: Operand::OneAndTwo,
-        second: Operand::Lettered,
-        want: "RELATION { A CHAR } { TUPLE { A '2' } }",
-    },
-    Case {
-        pair: Pair::NotMatching,
-        first: Operand::OneAndTwo,
-        second: Operand::Lettered,
-        want: "RELATION { A CHAR } { TUPLE { A '1' } }",
-    },
-    Case {
-        pair: Pair::Matching,
-        first: Operand::Dee,
-        second: Operand::Lettered,
-        want: DEE,
-    },
-    Case {
-        pair: Pair::NotMatching,
-        first: Operand::Dee,
-        second: Operand::Lettered,
-        want: DUM,
-    },
-];
-
-#[test]
-fn matches(rt: HostRuntime) -> Result<()> {
-    for i in 0..10usize {
-        assert!(rt; answer(rt.alloc(), MATCHES[i])?.as_str() == MATCHES[i].want);
-    }
+    assert!(rt; no_names_replaced(rt.alloc())?.as_str() == "RELATION { } { TUPLE { } }");
     Ok(())
 }
 
@@ -458,18 +300,11 @@ fn shipments_grouped(alloc: Global) -> Result<String> {
     there_and_back(alloc, parts, "PS")
 }
 
-fn dee_grouped(alloc: Global) -> Result<String> {
-    let dee = made(alloc, Operand::Dee)?;
-    shown(alloc, grouped(alloc, &dee, &[], "G")?)
-}
-
 #[test]
 fn groups(rt: HostRuntime) -> Result<()> {
     let want =
         "RELATION { PNO CHAR, SNO CHAR } { TUPLE { PNO 'P1', SNO 'S1' }, TUPLE { PNO 'P2', SNO 'S1' } } RELATION { PS RELATION { PNO CHAR }, SNO CHAR } { TUPLE { PS RELATION { PNO CHAR } { TUPLE { PNO 'P1' }, TUPLE { PNO 'P2' } }, SNO 'S1' } }";
     assert!(rt; shipments_grouped(rt.alloc())?.as_str() == want);
-    let lone = "RELATION { G RELATION { } } { TUPLE { G RELATION { } { TUPLE { } } } }";
-    assert!(rt; dee_grouped(rt.alloc())?.as_str() == lone);
     Ok(())
 }
 
@@ -478,63 +313,11 @@ fn shipments_wrapped(alloc: Global) -> Result<String> {
     there_and_back(alloc, parts, "W")
 }
 
-fn dee_wrapped(alloc: Global) -> Result<String> {
-    let dee = made(alloc, Operand::Dee)?;
-    shown(alloc, wrapped(alloc, &dee, &[], "W")?)
-}
-
 #[test]
 fn wraps(rt: HostRuntime) -> Result<()> {
     let want =
         "RELATION { PNO CHAR, SNO CHAR } { TUPLE { PNO 'P1', SNO 'S1' }, TUPLE { PNO 'P2', SNO 'S1' } } RELATION { SNO CHAR, W TUPLE { PNO CHAR } } { TUPLE { SNO 'S1', W TUPLE { PNO 'P1' } }, TUPLE { SNO 'S1', W TUPLE { PNO 'P2' } } }";
     assert!(rt; shipments_wrapped(rt.alloc())?.as_str() == want);
-    let lone = "RELATION { W TUPLE { } } { TUPLE { W TUPLE { } } }";
-    assert!(rt; dee_wrapped(rt.alloc())?.as_str() == lone);
-    Ok(())
-}
-
-// TUPLE { A 1, C RELATION { .. } .. }, where the inner relation has these values of B.
-fn nested_tuple(alloc: Global, a: &str, bs: &[&[&str]]) -> Result<Tuple> {
-    let (at, within) = (Name::new(alloc, "A")?, Name::new(alloc, "C")?);
-    let text = Text::from_str(alloc, a)?;
-    let inner = table(alloc, &["B"], bs)?;
-    let mut builder = TupleBuilder::new(alloc);
-    builder.insert(at, text_value(text))?;
-    let kind = Kind::Relation(inner.into_rows());
-    builder.insert(within, Value { kind })?;
-    Ok(builder.build(alloc)?)
-}
-
-fn nested_heading(alloc: Global) -> Result<Heading> {
-    let mut nested = heading(alloc, &["A"])?;
-    let name = Name::new(alloc, "C")?;
-    let inner = heading(alloc, &["B"])?;
-    let kind = TypeKind::Relation(inner);
-    nested.insert(alloc, name, TdType { kind })?;
-    Ok(nested)
-}
-
-// The relation of such tuples.
-fn nested(alloc: Global, rows: &[(&str, &[&[&str]])]) -> Result<Relation> {
-    let mut relation = Relation::empty(alloc, nested_heading(alloc)?);
-    for (a, bs) in rows {
-        let t = nested_tuple(alloc, a, bs)?;
-        add(&mut relation, t)?;
-    }
-    Ok(relation)
-}
-
-// How many tuples there are with an empty group and one that isn't, and what is left of them.
-fn vanished(alloc: Global) -> Result<String> {
-    let r = nested(alloc, &[("1", &[]), ("2", &[&["7"]])])?;
-    let rest = opened(alloc, &r, "C")?;
-    Ok(format!(in alloc; "{} {rest}", r.len())?)
-}
-
-#[test]
-fn a_tuple_with_an_empty_group_vanishes(rt: HostRuntime) -> Result<()> {
-    let want = "2 RELATION { A CHAR, B CHAR } { TUPLE { A '2', B '7' } }";
-    assert!(rt; vanished(rt.alloc())?.as_str() == want);
     Ok(())
 }
 
@@ -554,42 +337,6 @@ fn closures(rt: HostRuntime) -> Result<()> {
     let found = closed(rt.alloc(), &[&["1", "2"], &["2", "3"], &["3", "4"]])?;
     assert!(rt; found.as_str() == chain);
     Ok(())
-}
-
-#[test]
-fn closures_of_circles(rt: HostRuntime) -> Result<()> {
-    let circle =
-        "RELATION { X CHAR, Y CHAR } { TUPLE { X '1', Y '1' }, TUPLE { X '1', Y '2' }, TUPLE { X '2', Y '1' }, TUPLE { X '2', Y '2' } }";
-    let found = closed(rt.alloc(), &[&["1", "2"], &["2", "1"]])?;
-    assert!(rt; found.as_str() == circle);
-    Ok(())
-}
-
-fn user_heading(alloc: Global) -> Result<Heading> {
-    let mut heading = Heading::new(alloc)?;
-    let at = Name::new(alloc, "A")?;
-    let user = Name::new(alloc, "T")?;
-    let kind = TypeKind::User(user);
-    heading.insert(alloc, at, TdType { kind })?;
-    Ok(heading)
-}
-
-fn user_tuple(alloc: Global) -> Result<Tuple> {
-    let at = Name::new(alloc, "A")?;
-    let ty = Name::new(alloc, "T")?;
-    let possrep = Possrep::new(alloc, ty, Name::new(alloc, "P")?)?;
-    let none = Items::new(alloc, Vec::new(alloc))?;
-    let mut builder = TupleBuilder::new(alloc);
-    let kind = Kind::User(possrep, none);
-    builder.insert(at, Value { kind })?;
-    Ok(builder.build(alloc)?)
-}
-
-// The relation over { A T } of one value of the type T, which has no components.
-fn user_values(alloc: Global) -> Result<Relation> {
-    let mut relation = Relation::empty(alloc, user_heading(alloc)?);
-    add(&mut relation, user_tuple(alloc)?)?;
-    Ok(relation)
 }
 
 // Whether A is relation-valued and tuple-valued, and whether the heading is binary.

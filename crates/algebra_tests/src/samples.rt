@@ -27,10 +27,6 @@ const STOPS: [Stop; 6] = [
 pub enum Term {
     /// The number at the place.
     Number(usize),
-    /// A hundred divided by it: at 0 it raises Divide.
-    Share(usize),
-    /// The least integer divided by it: at 0 it raises Divide, at -1 Overflow.
-    LeastShare(usize),
     /// Whether it is more than a hundred.
     IsLarge(usize),
     /// The first number, which is below 0; at 0 it raises the stop of this number, and above it the last one.
@@ -48,16 +44,6 @@ pub fn number(tuple: &Tuple, place: usize) -> i64 {
     }
 }
 
-fn divided(number: i64, by: i64) -> Answer<i64> {
-    if by == 0 {
-        return Err(Fault::Raised(Stop::Error(Raise::Divide)));
-    }
-    match number.checked_div(by) {
-        Some(n) => Ok(n),
-        None => Err(Fault::Raised(Stop::Error(Raise::Overflow))),
-    }
-}
-
 fn stopped(number: i64, stop: usize) -> Answer<i64> {
     if number < 0 {
         return Ok(number);
@@ -71,8 +57,6 @@ fn stopped(number: i64, stop: usize) -> Answer<i64> {
 fn number_of(term: &Term, tuple: &Tuple) -> Answer<i64> {
     match *term {
         Term::Number(place) | Term::IsLarge(place) => Ok(number(tuple, place)),
-        Term::Share(place) => divided(100, number(tuple, place)),
-        Term::LeastShare(place) => divided(i64::MIN, number(tuple, place)),
         Term::Stops(stop) => stopped(number(tuple, 0), stop),
     }
 }

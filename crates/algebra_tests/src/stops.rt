@@ -1,6 +1,8 @@
 //! Each stop through each operator that asks a function of tuples, by the rule that the least number stands and that
 //! only tuples that are asked count.
-use crate::samples::{Result, Term, aggregated, extended, item, relation, restricted, summarized};
+use crate::samples::{
+    Result, Term, aggregated, extended, item, relation, restricted, summarized, summarized_by,
+};
 use std::alloc::Global;
 use td_algebra::{Item, Summary};
 use td_relations::Relation;
@@ -57,6 +59,11 @@ fn with_greatest(alloc: Global, is_empty: bool, first: usize) -> Result<String> 
     summarized(alloc, numbers(alloc, THREE)?, per(alloc, is_empty)?, items)
 }
 
+// The same of all of them.
+fn with_greatest_of_all(alloc: Global, first: usize) -> Result<String> {
+    summarized_by(alloc, numbers(alloc, THREE)?, &[], greatest(alloc, first)?)
+}
+
 #[test]
 fn each_stop_stands_in_restrict(rt: HostRuntime) -> Result<()> {
     for first in 0..6usize {
@@ -84,6 +91,8 @@ fn each_stop_stands_in_summarize(rt: HostRuntime) -> Result<()> {
         assert!(rt; told.as_str() == STOPS[first]);
         let per_none = with_greatest(rt.alloc(), true, first)?;
         assert!(rt; per_none.as_str() == "RELATION { M INTEGER, N INTEGER } { }");
+        let of_all = with_greatest_of_all(rt.alloc(), first)?;
+        assert!(rt; of_all.as_str() == STOPS[first]);
     }
     Ok(())
 }
@@ -109,5 +118,8 @@ fn summaries_have_their_values(rt: HostRuntime) -> Result<()> {
     assert!(rt; summary(rt.alloc(), Summary::Sum(term))?.as_str() == "8");
     assert!(rt; summary(rt.alloc(), Summary::Max(term))?.as_str() == "5");
     assert!(rt; summary(rt.alloc(), Summary::Min(term))?.as_str() == "-3");
+    let is_large = Term::IsLarge(0);
+    assert!(rt; summary(rt.alloc(), Summary::And(is_large))?.as_str() == "FALSE");
+    assert!(rt; summary(rt.alloc(), Summary::Or(is_large))?.as_str() == "FALSE");
     Ok(())
 }

@@ -1,11 +1,12 @@
 //! The answers of sites as texts.
 
 use std::alloc::Global;
+use std::fmt::Display;
 use std::test::Fail;
 use td_relations::Relation;
 use td_stamps::{Stamp, Vector};
 use td_story::{
-    Answer, AskError, Asked, IssueError, Issued, Outcome, PastError, TakeError, Taken, TellError,
+    Answer, AskError, Asked, IssueError, Issued, Outcome, PastError, Replica, Taken, TellError,
     ValueError,
 };
 use td_values::{Kind, Value, show};
@@ -36,7 +37,11 @@ pub fn issued(alloc: Global, answer: std::result::Result<Issued, IssueError>) ->
     }
 }
 
-pub fn taken(alloc: Global, answer: std::result::Result<Taken, TakeError>) -> Result<String> {
+/// The counts of what was taken, or why nothing was.
+pub fn taken<E: Display + Drop>(
+    alloc: Global,
+    answer: std::result::Result<Taken, E>,
+) -> Result<String> {
     match answer {
         Ok(taken) => Ok(format!(in alloc; "fresh {} known {}", taken.fresh, taken.known)?),
         Err(error) => Ok(format!(in alloc; "{error}")?),
@@ -98,11 +103,19 @@ pub fn listed(
     Ok(text)
 }
 
-pub fn counted(alloc: Global, vector: &Vector) -> Result<String> {
+fn counted(alloc: Global, vector: &Vector) -> Result<String> {
     let mut text = String::new(alloc);
     for (site, number) in vector.entries(alloc)? {
         let part = format!(in alloc; "{site}:{number} ")?;
         text.push_str(part.as_str())?;
     }
     Ok(text)
+}
+
+/// The version vector of the site.
+pub fn vector<R: Replica>(alloc: Global, site: &R) -> Result<String> {
+    match site.held() {
+        Ok(held) => counted(alloc, &held.vector(alloc)?),
+        Err(error) => Ok(format!(in alloc; "{error}")?),
+    }
 }

@@ -1,13 +1,20 @@
-//! What sites answer, expected from the rules of replication and of the language.
+//! What sites answer, how they meet, keep journals and are linked to other programs, expected from the rules of
+//! replication and of the language, and from docs/FORMATS.md.
 //!
-//! These tests stand apart from the crate that they call, since a crate is proved once more for the tests in it.
+//! These tests stand apart from the crates that they call, since a crate is proved once more for the tests in it.
 #![tactic(auto)]
 
 #[cfg(test)]
 mod answers;
 #[cfg(test)]
-mod counts;
+mod calls;
 #[cfg(test)]
-mod site;
+mod entries;
 #[cfg(test)]
-mod worked;
+mod fakes;
+#[cfg(test)]
+mod journals;
+#[cfg(test)]
+mod links;
+#[cfg(test)]
+mod meetings;

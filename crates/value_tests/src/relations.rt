@@ -1,4 +1,4 @@
-//! Worked examples, whose answers come from the definitions of relations as sets and of shown values.
+//! Worked examples, whose answers come from the definition of relations as sets.
 ghost use Rattle.std.specs.Prelude.{◌≡◌, IfOk};
 ghost use Rattle.std.specs.List.{All};
 ghost use Rattle.td_values.specs.Headings.{header_fields};
@@ -8,15 +8,13 @@ use std::alloc::Global;
 use std::test::Fail;
 use td_relations::{Delta, Relation, intersect, minus, union};
 use td_values::{
-    Heading, Kind, Name, TdType, Tuple, TupleBuilder, TypeKind, Value, fits, show, show_tuple_into,
+    Heading, Kind, Name, TdType, Tuple, TupleBuilder, TypeKind, Value, fits, show_tuple_into,
 };
 
 type Result<T> = std::result::Result<T, Fail>;
 
-/// The names of one attribute, and of none.
+/// The name of the one attribute.
 const ONE: &[&str] = &["A"];
-
-const NONE: &[&str] = &[];
 
 // The heading of INTEGER attributes with these names.
 fn heading(alloc: Global, names: &[&str]) -> Result<Heading> {
@@ -71,58 +69,32 @@ fn show_into(out: &mut String, title: &str, relation: &Relation) -> Result<()> {
     Ok(())
 }
 
-// The relation's tuples, and a line's end.
-fn told(alloc: Global, relation: &Relation) -> Result<String> {
+// What two relations have together, in common, and the first one alone.
+fn merged(alloc: Global, a: &Relation, b: &Relation) -> Result<String>
+    requires { a.now.heading ≡ b.now.heading }
+{
     let mut out = String::new(alloc);
-    show_into(&mut out, "gives", relation)?;
+    show_into(&mut out, "all", &union(alloc, a, b)?)?;
+    show_into(&mut out, "both", &intersect(alloc, a, b)?)?;
+    show_into(&mut out, "first", &minus(alloc, a, b)?)?;
     Ok(out)
 }
 
-// What the merges of the relations of these rows give.
-fn united(alloc: Global, names: &[&str], a: &[&[i64]], b: &[&[i64]]) -> Result<String> {
-    let heading = heading(alloc, names)?;
-    let a = relation(alloc, &heading, names, a)?;
-    let b = relation(alloc, &heading, names, b)?;
-    told(alloc, &union(alloc, &a, &b)?)
-}
-
-fn common(alloc: Global, names: &[&str], a: &[&[i64]], b: &[&[i64]]) -> Result<String> {
-    let heading = heading(alloc, names)?;
-    let a = relation(alloc, &heading, names, a)?;
-    let b = relation(alloc, &heading, names, b)?;
-    told(alloc, &intersect(alloc, &a, &b)?)
-}
-
-fn remaining(alloc: Global, names: &[&str], a: &[&[i64]], b: &[&[i64]]) -> Result<String> {
-    let heading = heading(alloc, names)?;
-    let a = relation(alloc, &heading, names, a)?;
-    let b = relation(alloc, &heading, names, b)?;
-    told(alloc, &minus(alloc, &a, &b)?)
+fn merged_rows(alloc: Global, a: &[&[i64]], b: &[&[i64]]) -> Result<String> {
+    let heading = heading(alloc, ONE)?;
+    let a = relation(alloc, &heading, ONE, a)?;
+    let b = relation(alloc, &heading, ONE, b)?;
+    merged(alloc, &a, &b)
 }
 
 #[test]
 fn merges_by_hand(rt: HostRuntime) -> Result<()> {
-    let first: &[&[i64]] = &[&[1], &[2], &[4]];
-    let second: &[&[i64]] = &[&[5], &[2], &[3]];
-    let all = "gives TUPLE { A 1 } TUPLE { A 2 } TUPLE { A 3 } TUPLE { A 4 } TUPLE { A 5 }\n";
-    assert!(rt; united(rt.alloc(), ONE, first, second)?.as_str() == all);
-    assert!(rt; united(rt.alloc(), ONE, second, first)?.as_str() == all);
-    assert!(rt; common(rt.alloc(), ONE, first, second)?.as_str() == "gives TUPLE { A 2 }\n");
-    let first_alone = "gives TUPLE { A 1 } TUPLE { A 4 }\n";
-    assert!(rt; remaining(rt.alloc(), ONE, first, second)?.as_str() == first_alone);
-    let second_alone = "gives TUPLE { A 3 } TUPLE { A 5 }\n";
-    assert!(rt; remaining(rt.alloc(), ONE, second, first)?.as_str() == second_alone);
-    Ok(())
-}
-
-// TABLE_DEE and TABLE_DUM have no attributes, and one tuple or none.
-#[test]
-fn dee_and_dum_are_merged(rt: HostRuntime) -> Result<()> {
-    let (dee, dum) = ("gives TUPLE { }\n", "gives\n");
-    assert!(rt; united(rt.alloc(), NONE, &[], &[&[]])?.as_str() == dee);
-    assert!(rt; common(rt.alloc(), NONE, &[], &[&[]])?.as_str() == dum);
-    assert!(rt; remaining(rt.alloc(), NONE, &[&[]], &[])?.as_str() == dee);
-    assert!(rt; remaining(rt.alloc(), NONE, &[&[]], &[&[]])?.as_str() == dum);
+    let found = merged_rows(rt.alloc(), &[&[1], &[2], &[4]], &[&[5], &[2], &[3]])?;
+    let want = "all TUPLE { A 1 } TUPLE { A 2 } TUPLE { A 3 } TUPLE { A 4 } TUPLE { A 5 }
+both TUPLE { A 2 }
+first TUPLE { A 1 } TUPLE { A 4 }
+";
+    assert!(rt; found.as_str() == want, "{found}");
     Ok(())
 }
 
@@ -232,38 +204,7 @@ fn deltas_by_hand(rt: HostRuntime) -> Result<()> {
     Ok(())
 }
 
-fn shown(alloc: Global, relation: Relation) -> Result<String> {
-    let kind = Kind::Relation(relation.into_rows());
-    Ok(show(alloc, &Value { kind })?)
-}
-
-fn relation_shown(alloc: Global, names: &[&str], rows: &[&[i64]]) -> Result<String> {
-    let heading = heading(alloc, names)?;
-    shown(alloc, relation(alloc, &heading, names, rows)?)
-}
-
-#[test]
-fn relations_are_shown(rt: HostRuntime) -> Result<()> {
-    let two = relation_shown(rt.alloc(), ONE, &[&[2], &[1]])?;
-    assert!(rt; two.as_str() == "RELATION { A INTEGER } { TUPLE { A 1 }, TUPLE { A 2 } }");
-    let dee = relation_shown(rt.alloc(), NONE, &[&[]])?;
-    assert!(rt; dee.as_str() == "RELATION { } { TUPLE { } }");
-    let dum = relation_shown(rt.alloc(), NONE, &[])?;
-    assert!(rt; dum.as_str() == "RELATION { } { }");
-    Ok(())
-}
-
-// The tuple whose attribute R is the relation of these rows.
-fn nested_tuple(alloc: Global, rows: &[&[i64]]) -> Result<Tuple> {
-    let name = Name::new(alloc, "R")?;
-    let inner = numbers(alloc, rows)?;
-    let mut builder = TupleBuilder::new(alloc);
-    let kind = Kind::Relation(inner.into_rows());
-    builder.insert(name, Value { kind })?;
-    Ok(builder.build(alloc)?)
-}
-
-// The heading of such tuples.
+// The heading of tuples whose attribute R is such a relation.
 fn nested_heading(alloc: Global) -> Result<Heading> {
     let name = Name::new(alloc, "R")?;
     let inner = heading(alloc, ONE)?;
@@ -271,24 +212,6 @@ fn nested_heading(alloc: Global) -> Result<Heading> {
     let kind = TypeKind::Relation(inner);
     heading.insert(alloc, name, TdType { kind })?;
     Ok(heading)
-}
-
-// Relations that are values of an attribute are one value where they are one set.
-fn nested(alloc: Global) -> Result<Relation> {
-    let mut nested = Relation::empty(alloc, nested_heading(alloc)?);
-    add(&mut nested, nested_tuple(alloc, &[&[2], &[2]])?)?;
-    add(&mut nested, nested_tuple(alloc, &[&[1], &[2]])?)?;
-    add(&mut nested, nested_tuple(alloc, &[&[2], &[1]])?)?;
-    Ok(nested)
-}
-
-#[test]
-fn nested_relations_are_values(rt: HostRuntime) -> Result<()> {
-    let text = shown(rt.alloc(), nested(rt.alloc())?)?;
-    let want =
-        "RELATION { R RELATION { A INTEGER } } { TUPLE { R RELATION { A INTEGER } { TUPLE { A 1 }, TUPLE { A 2 } } }, TUPLE { R RELATION { A INTEGER } { TUPLE { A 2 } } } }";
-    assert!(rt; text.as_str() == want);
-    Ok(())
 }
 
 #[test]

@@ -8,7 +8,7 @@ use std::hash::{DefaultHasher, Hash, Hasher};
 use td_values::{
     Heading, Items, Kind, Name, NameError, Possrep, Rows, TdType, Text, Tuple, TupleBuilder,
     TypeKind, Value, compare, compare_alike, copy, equal, equal_headings, equal_kinds, equal_types,
-    fits, has_type, search_alike, show, show_tuple_into, show_type, sort_alike,
+    fits, has_type, search_alike, show, show_type, sort_alike,
 };
 
 type Result<T> = std::result::Result<T, NameError>;
@@ -163,19 +163,6 @@ fn values_are_shown(rt: HostRuntime) -> Result<()> {
     Ok(())
 }
 
-#[test]
-fn tuples_and_types_are_shown(rt: HostRuntime) -> Result<()> {
-    let alloc = rt.alloc();
-    let mut out = String::new(alloc);
-    show_tuple_into(&mut out, &supplier(alloc, "S1", 20)?)?;
-    assert!(rt; out.as_str() == "TUPLE { S# 'S1', STATUS 20 }");
-    let ty = TdType {
-        kind: TypeKind::Relation(supplier_heading(alloc)?),
-    };
-    assert!(rt; show_type(alloc, &ty.copy()?)?.as_str() == "RELATION { S# CHAR, STATUS INTEGER }");
-    Ok(())
-}
-
 // The tuple alone, where it has the heading.
 fn fitting(
     alloc: Global,
@@ -199,76 +186,16 @@ fn relation_of(alloc: Global, heading: Heading, tuple: Tuple) -> Result<Value> {
     })
 }
 
-// A quantity: its type is QTY, whose possible representation Q2 has an integer.
-fn quantity(alloc: Global, n: i64) -> Result<Value> {
-    let components = vec![in alloc; integer(n)].map_err(AllocError::from)?;
-    Ok(Value {
-        kind: Kind::User(possrep(alloc, "QTY", "Q2")?, Items::new(alloc, components)?),
-    })
-}
-
-fn quantities(alloc: Global, n: i64) -> Result<Value> {
-    let mut heading = Heading::new(alloc)?;
-    let kind = TypeKind::User(name(alloc, "QTY")?);
-    heading.insert(alloc, name(alloc, "A")?, TdType { kind })?;
-    let mut builder = TupleBuilder::new(alloc);
-    builder.insert(name(alloc, "A")?, quantity(alloc, n)?)?;
-    relation_of(alloc, heading, builder.build(alloc)?)
-}
-
 #[test]
-fn a_type_and_its_possrep_have_two_names(rt: HostRuntime) -> Result<()> {
+fn relations_and_types_are_shown(rt: HostRuntime) -> Result<()> {
     let alloc = rt.alloc();
-    let shown = "RELATION { A QTY } { TUPLE { A Q2 ( 5 ) } }";
-    assert!(rt; is_shown(alloc, quantities(alloc, 5)?, shown)?);
-    assert!(rt; ascend(quantities(alloc, 5)?, quantities(alloc, 6)?));
-    assert!(rt; equals_its_copy(alloc, quantities(alloc, 5)?)?);
-    Ok(())
-}
-
-fn empty_tuple(alloc: Global) -> Result<Tuple> {
-    Ok(TupleBuilder::new(alloc).build(alloc)?)
-}
-
-fn value_of(kind: Kind) -> Value {
-    Value { kind }
-}
-
-#[test]
-fn empty_braces_are_shown(rt: HostRuntime) -> Result<()> {
-    let alloc = rt.alloc();
-    let none = Items::new(alloc, Vec::new(alloc))?;
-    let user = value_of(Kind::User(possrep(alloc, "T", "T")?, none));
-    assert!(rt; is_shown(alloc, user, "T ( )")?);
-    assert!(rt;
-        is_shown(
-            alloc,
-            value_of(Kind::Tuple(empty_tuple(alloc)?)),
-            "TUPLE { }"
-        )?
-    );
-    let dee = relation_of(alloc, Heading::new(alloc)?, empty_tuple(alloc)?)?;
-    assert!(rt; is_shown(alloc, dee, "RELATION { } { TUPLE { } }")?);
-    let dum = relation_of(alloc, Heading::new(alloc)?, supplier(alloc, "S1", 20)?)?;
-    assert!(rt; is_shown(alloc, dum, "RELATION { } { }")?);
-    Ok(())
-}
-
-// A tuple of one attribute.
-fn tuple_of(alloc: Global, at: &str, value: Value) -> Result<Value> {
-    let mut builder = TupleBuilder::new(alloc);
-    builder.insert(name(alloc, at)?, value)?;
-    Ok(value_of(Kind::Tuple(builder.build(alloc)?)))
-}
-
-#[test]
-fn values_in_values_are_shown(rt: HostRuntime) -> Result<()> {
-    let alloc = rt.alloc();
-    let inner = tuple_of(alloc, "B", integer(i64::MIN))?;
-    let shown = "TUPLE { A TUPLE { B (-9223372036854775807 - 1) } }";
-    assert!(rt; is_shown(alloc, tuple_of(alloc, "A", inner)?, shown)?);
-    let shown = "TUPLE { R RELATION { A QTY } { TUPLE { A Q2 ( 5 ) } } }";
-    assert!(rt; is_shown(alloc, tuple_of(alloc, "R", quantities(alloc, 5)?)?, shown)?);
+    let relation = relation_of(alloc, supplier_heading(alloc)?, supplier(alloc, "S1", 20)?)?;
+    let shown = "RELATION { S# CHAR, STATUS INTEGER } { TUPLE { S# 'S1', STATUS 20 } }";
+    assert!(rt; is_shown(alloc, relation, shown)?);
+    let ty = TdType {
+        kind: TypeKind::Relation(supplier_heading(alloc)?),
+    };
+    assert!(rt; show_type(alloc, &ty.copy()?)?.as_str() == "RELATION { S# CHAR, STATUS INTEGER }");
     Ok(())
 }
 
@@ -286,16 +213,6 @@ fn supplier_value(alloc: Global, number: &str, status: i64) -> Result<Value> {
     })
 }
 
-// Whether each of these texts comes before the next one.
-fn are_ascending(alloc: Global, texts: &[&str]) -> Result<bool> {
-    for i in 1..texts.len() {
-        if !ascend(text(alloc, texts[i - 1])?, text(alloc, texts[i])?) {
-            return Ok(false);
-        }
-    }
-    Ok(true)
-}
-
 // Whether a text is the same however it is made.
 fn is_one_text(alloc: Global, s: &str) -> Result<bool> {
     let text = Text::new(alloc, String::from_str(alloc, s)?)?;
@@ -305,9 +222,9 @@ fn is_one_text(alloc: Global, s: &str) -> Result<bool> {
 
 // Up to sixteen bytes stand in the value: texts around that, and with a character that ends there or goes on behind.
 #[test]
-fn texts_are_in_code_point_order(rt: HostRuntime) -> Result<()> {
+fn texts_are_their_characters(rt: HostRuntime) -> Result<()> {
     let alloc = rt.alloc();
-    let texts = [
+    for s in [
         "",
         "Z",
         "aaaaaaaaaaaaaaa",
@@ -321,9 +238,7 @@ fn texts_are_in_code_point_order(rt: HostRuntime) -> Result<()> {
         "é",
         "\u{ffff}",
         "\u{10000}",
-    ];
-    assert!(rt; are_ascending(alloc, &texts)?);
-    for s in texts {
+    ] {
         assert!(rt; is_one_text(alloc, s)?);
     }
     Ok(())
@@ -399,18 +314,41 @@ fn hash_of(name: &Name) -> u64 {
     state.finish()
 }
 
+// Whether the heading equals the supplier's, and the other one does not.
+fn is_alone(alloc: Global, heading: &Heading, other: &Heading) -> Result<bool> {
+    let supplier = supplier_heading(alloc)?;
+    Ok(equal_headings(heading, &supplier) && !equal_headings(other, &supplier))
+}
+
+// Whether the kind equals its copy, and the other one does not.
+fn differs_in_kind(kind: &TypeKind, other: &TypeKind) -> Result<bool> {
+    let is_own = equal_kinds(kind, &kind.copy()?);
+    Ok(is_own && !equal_kinds(kind, other))
+}
+
+#[test]
+fn headings_are_compared(rt: HostRuntime) -> Result<()> {
+    let small = supplier_heading(rt.alloc())?;
+    let large = larger_heading(rt.alloc())?;
+    assert!(rt; is_alone(rt.alloc(), &small, &large)?);
+    Ok(())
+}
+
 #[test]
 fn types_are_compared(rt: HostRuntime) -> Result<()> {
-    let alloc = rt.alloc();
-    let (small, large) = (supplier_heading(alloc)?, larger_heading(alloc)?);
-    assert!(rt;
-        equal_headings(&small, &supplier_heading(alloc)?) && !equal_headings(&small, &large)
-    );
-    let (tuple, relation) = (TypeKind::Tuple(small.copy()?), TypeKind::Relation(small));
-    assert!(rt; equal_kinds(&tuple, &tuple.copy()?) && !equal_kinds(&tuple, &relation));
+    let tuple = TypeKind::Tuple(supplier_heading(rt.alloc())?);
+    let relation = TypeKind::Relation(supplier_heading(rt.alloc())?);
+    assert!(rt; differs_in_kind(&tuple, &relation)?);
     assert!(rt;
         equal_types(&char_type(), &char_type()) && !equal_types(&char_type(), &integer_type())
     );
-    assert!(rt; hash_of(&name(alloc, "A")?) == hash_of(&name(alloc, "A")?));
+    Ok(())
+}
+
+#[test]
+fn equal_names_have_one_hash(rt: HostRuntime) -> Result<()> {
+    let first = hash_of(&name(rt.alloc(), "A")?);
+    let second = hash_of(&name(rt.alloc(), "A")?);
+    assert!(rt; first == second);
     Ok(())
 }

@@ -1,0 +1,4 @@
+//! What typed trees mention and mean, expected from the rules.
+
+mod meanings;
+mod mentions;

@@ -1,0 +1,5 @@
+//! Calls on one site.
+
+mod counts;
+mod site;
+mod worked;

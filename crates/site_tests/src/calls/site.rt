@@ -1,0 +1,117 @@
+//! What a site answers to calls, a line for each.
+
+use crate::answers::{Result, issued, listed, replied, replied_at, taken, told, vector};
+use crate::entries::{Written, batch_in};
+use std::alloc::Global;
+use td_replay::{PlainSite, Site};
+use td_stamps::Stamp;
+use td_story::{Meter, OpenError, Opens, Replica};
+use td_values::Name;
+
+/// A call on a site.
+#[derive(Clone, Copy)]
+pub enum Call<'a> {
+    Issue(&'a str),
+    Take(&'a [Written<'a>]),
+    /// As `Take`, of entries of the first dialect.
+    TakeOld(&'a [Written<'a>]),
+    Ask(&'a str),
+    /// At the clock of the site.
+    AskAt(u64, u16, &'a str),
+    ValueOf(&'a str),
+    Outcomes,
+    Vector,
+}
+
+fn take<R: Replica>(
+    alloc: Global,
+    site: &mut R,
+    meter: &mut Meter,
+    written: &[Written],
+    dialect: u8,
+) -> Result<String> {
+    let batch = batch_in(alloc, written, dialect)?;
+    taken(alloc, site.take(alloc, batch.as_slice(), meter))
+}
+
+fn value_of<R: Replica>(alloc: Global, site: &R, name: &str) -> Result<String> {
+    let name = Name::new(alloc, name)?;
+    told(alloc, site.value_of(alloc, &name))
+}
+
+fn answered<R: Replica>(
+    alloc: Global,
+    site: &mut R,
+    meter: &mut Meter,
+    call: Call,
+) -> Result<String> {
+    match call {
+        Call::Issue(text) => issued(alloc, site.issue(alloc, text, meter)),
+        Call::Take(written) => take(alloc, site, meter, written, 2),
+        Call::TakeOld(written) => take(alloc, site, meter, written, 1),
+        Call::Ask(text) => replied(alloc, site.ask(alloc, text)),
+        Call::AskAt(past, number, text) => {
+            let at = Stamp {
+                clock: past,
+                site: number,
+            };
+            replied_at(alloc, site.ask_at(alloc, text, at, meter))
+        }
+        Call::ValueOf(name) => value_of(alloc, site, name),
+        Call::Outcomes => listed(alloc, site.outcomes(alloc)),
+        Call::Vector => vector(alloc, site),
+    }
+}
+
+// The first call that the site does not answer as it stands there, with its answer.
+fn unlike_at<R: Replica>(
+    alloc: Global,
+    site: &mut R,
+    meter: &mut Meter,
+    calls: &[(Call, &str)],
+) -> Result<String> {
+    for (n, (call, expected)) in calls.iter().enumerate() {
+        let found = answered(alloc, site, meter, *call)?;
+        if found.as_str() != *expected {
+            return Ok(format!(in alloc; "{n}: {found}")?);
+        }
+    }
+    Ok(String::new(alloc))
+}
+
+fn unlike_of<R: Opens + Drop>(
+    alloc: Global,
+    meter: &mut Meter,
+    opening: (&str, u16, usize),
+    calls: &[(Call, &str)],
+) -> Result<String> {
+    let (script, number, limit) = opening;
+    match R::open_script(alloc, script, number, limit) {
+        Ok(mut site) => unlike_at(alloc, &mut site, meter, calls),
+        Err(error) => refused(alloc, error),
+    }
+}
+
+/// Of a site of this script, number and limit, the first call that is not answered as it stands there, with its answer:
+/// first of one that rolls back and replays, and then of a plain one.
+pub fn unlike(
+    alloc: Global,
+    meter: &mut Meter,
+    opening: (&str, u16, usize),
+    calls: &[(Call, &str)],
+) -> Result<String> {
+    let found = unlike_of::<Site>(alloc, meter, opening, calls)?;
+    if !found.is_empty() {
+        return Ok(found);
+    }
+    unlike_of::<PlainSite>(alloc, meter, opening, calls)
+}
+
+fn refused(alloc: Global, error: OpenError) -> Result<String> {
+    let text = match error {
+        OpenError::BadSite => "bad site",
+        OpenError::BadLimit => "bad limit",
+        OpenError::Script(_) => "bad script",
+    };
+    Ok(String::from_str(alloc, text)?)
+}

@@ -1,0 +1,136 @@
+//! What keepers write, and what they tell where their writer fails.
+
+use crate::answers;
+use crate::answers::Result;
+use crate::entries::{SCRIPT, entry};
+use crate::fakes::Narrow;
+use crate::journals::bytes::JOURNAL;
+use crate::journals::reopening::reopened;
+use std::alloc::Global;
+use td_devices::Device;
+use td_journal::{Keeper, StartError};
+use td_replay::Site;
+use td_stamps::Entry;
+use td_story::{Meter, Opens, Replica};
+
+type Kept<'a> = Keeper<Site, Device<&'a mut Narrow>>;
+
+// The entries of these numbers of the journal.
+fn batch(alloc: Global, numbers: &[u32]) -> Result<Vec<Entry>> {
+    let mut batch = Vec::new(alloc);
+    for n in numbers {
+        batch.push(entry(alloc, 2, *n, 4 + u64::from(*n), 1, "DELETE R;")?)?;
+    }
+    Ok(batch)
+}
+
+fn taken(alloc: Global, keeper: &mut Kept, meter: &mut Meter, numbers: &[u32]) -> Result<String> {
+    let batch = batch(alloc, numbers)?;
+    answers::taken(alloc, keeper.take(alloc, batch.as_slice(), meter))
+}
+
+fn asked(keeper: &Kept, alloc: Global) -> &'static str {
+    match keeper.ask(alloc, "R") {
+        Ok(_) => "answered",
+        Err(_) => "not answered",
+    }
+}
+
+// What a keeper tells of two batches, and whether it is open and answers then.
+fn told_by(alloc: Global, mut keeper: Kept, meter: &mut Meter) -> Result<String> {
+    let first = taken(alloc, &mut keeper, meter, &[1, 1, 2])?;
+    let second = taken(alloc, &mut keeper, meter, &[2, 1])?;
+    let open = keeper.is_open();
+    Ok(format!(in alloc; "{first}; {second}; open {open}, {}", asked(&keeper, alloc))?)
+}
+
+fn kept(alloc: Global, meter: &mut Meter, writer: &mut Narrow) -> Result<String> {
+    let Ok(site) = Site::open_script(alloc, SCRIPT, 2, 10_000) else {
+        return Ok(String::from_str(alloc, "the site is not opened")?);
+    };
+    match Keeper::start(site, Device::new(writer)) {
+        Ok(keeper) => told_by(alloc, keeper, meter),
+        Err(refused) => {
+            let error: StartError = refused.error;
+            Ok(format!(in alloc; "{error}")?)
+        }
+    }
+}
+
+// What is to be told where the writer has room for so many bytes.
+fn expected(room: usize) -> &'static str {
+    match room {
+        0..=54 => "the journal cannot be written",
+        55..=108 => {
+            "the journal cannot be written; the site's journal failed; open false, not answered"
+        }
+        _ => "fresh 2 known 1; fresh 0 known 2; open true, answered",
+    }
+}
+
+#[test]
+fn a_keeper_writes_before_it_answers(rt: HostRuntime) -> Result<()> {
+    let mut meter = Meter::new(&rt);
+    for room in 0..=JOURNAL.len() {
+        let mut writer = Narrow::new(rt.alloc(), room);
+        let told = kept(rt.alloc(), &mut meter, &mut writer)?;
+        assert!(rt; told.as_str() == expected(room), "{room}: {told}");
+        assert!(rt;
+            writer.taken.as_slice() == &JOURNAL[..room],
+            "{room}: other bytes"
+        );
+        let flushes = if room < 55 {
+            0
+        } else if room < 109 {
+            1
+        } else {
+            2
+        };
+        assert!(rt;
+            writer.flushes == flushes,
+            "{room}: {} flushes",
+            writer.flushes
+        );
+    }
+    Ok(())
+}
+
+// What a keeper tells of an issued statement where the writer has room for so many bytes, and what is reopened then.
+fn issued(alloc: Global, meter: &mut Meter, room: usize) -> Result<String> {
+    let mut writer = Narrow::new(alloc, room);
+    let told = issued_by(alloc, meter, &mut writer)?;
+    let back = reopened(alloc, meter, writer.taken.as_slice(), 10_000, false)?;
+    Ok(format!(in alloc; "{told}; {back}")?)
+}
+
+fn issued_by(alloc: Global, meter: &mut Meter, writer: &mut Narrow) -> Result<&'static str> {
+    let Ok(site) = Site::open_script(alloc, SCRIPT, 2, 10_000) else {
+        return Ok("the site is not opened");
+    };
+    let Ok(mut keeper) = Keeper::start(site, Device::new(writer)) else {
+        return Ok("not started");
+    };
+    match keeper.issue(alloc, "DELETE R;", meter) {
+        Ok(_) => Ok("issued"),
+        Err(_) => Ok(if keeper.is_open() {
+            "refused"
+        } else {
+            "failed"
+        }),
+    }
+}
+
+#[test]
+fn a_failed_statement_is_not_there_again(rt: HostRuntime) -> Result<()> {
+    let mut meter = Meter::new(&rt);
+    for (room, expected) in [
+        (54, "not started; held 0, whole 0, version 2"),
+        (55, "failed; held 0, whole 55, version 2"),
+        (81, "failed; held 0, whole 55, version 2"),
+        (82, "issued; held 1, whole 82, version 2"),
+    ] {
+        let told = issued(rt.alloc(), &mut meter, room)?;
+        assert!(rt; told.as_str() == expected, "{room}: {told}");
+    }
+    Ok(())
+}

@@ -1,0 +1,80 @@
+//! What a site answers in one step of a meeting.
+
+use crate::answers::{Result, taken, vector};
+use crate::entries::{SCRIPT, Written, batch};
+use crate::fakes::{Given, Narrow};
+use std::alloc::Global;
+use td_devices::{Channel, Device, Pair};
+use td_meeting::{MeetingError, answer, finish, greet, settle};
+use td_replay::Site;
+use td_story::{Meter, Opens, Replica};
+
+/// A site: its number, how many entries it may hold, and those that it holds.
+#[derive(Clone, Copy)]
+pub struct Start<'a> {
+    pub site: u16,
+    pub limit: usize,
+    pub held: &'a [Written<'a>],
+}
+
+#[derive(Clone, Copy)]
+pub enum Step {
+    Greet,
+    Answer,
+    Settle,
+    Finish,
+}
+
+fn done(alloc: Global, answer: std::result::Result<(), MeetingError>) -> Result<String> {
+    match answer {
+        Ok(()) => Ok(String::from_str(alloc, "done")?),
+        Err(error) => Ok(format!(in alloc; "{error}")?),
+    }
+}
+
+fn said<R: Replica, C: Channel>(
+    alloc: Global,
+    site: &mut R,
+    meter: &mut Meter,
+    step: Step,
+    link: &mut C,
+) -> Result<String> {
+    match step {
+        Step::Greet => done(alloc, greet(alloc, site, link)),
+        Step::Answer => done(alloc, answer(alloc, site, link)),
+        Step::Settle => taken(alloc, settle(alloc, site, link, meter)),
+        Step::Finish => taken(alloc, finish(alloc, site, link, meter)),
+    }
+}
+
+// What an open site with these entries says, and its version vector then.
+fn told_by<R: Replica>(
+    alloc: Global,
+    site: &mut R,
+    meter: &mut Meter,
+    held: &[Written],
+    step: Step,
+    link: Pair<Given, &mut Narrow>,
+) -> Result<String> {
+    let batch = batch(alloc, held)?;
+    if site.take(alloc, batch.as_slice(), meter).is_err() {
+        return Ok(String::from_str(alloc, "the entries are not held")?);
+    }
+    let said = said(alloc, site, meter, step, &mut Device::link(link))?;
+    let vector = vector(alloc, site)?;
+    Ok(format!(in alloc; "{said}; {vector}")?)
+}
+
+/// What a site of the script says in a step, and its version vector then.
+pub fn told(
+    alloc: Global,
+    meter: &mut Meter,
+    start: Start,
+    step: Step,
+    link: Pair<Given, &mut Narrow>,
+) -> Result<String> {
+    match Site::open_script(alloc, SCRIPT, start.site, start.limit) {
+        Ok(mut site) => told_by(alloc, &mut site, meter, start.held, step, link),
+        Err(_) => Ok(String::from_str(alloc, "the site is not opened")?),
+    }
+}
