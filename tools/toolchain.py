@@ -11,18 +11,21 @@ sys.dont_write_bytecode = True
 
 
 def path_of_rt():
-    return os.path.realpath(shutil.which("rt") or sys.exit(f"{os.path.basename(sys.argv[0])}: there is no rt on the PATH"))
+    path = shutil.which("rt") or sys.exit(f"{os.path.basename(sys.argv[0])}: there is no rt on the PATH")
+    return os.path.realpath(path)
 
 
 def load(used=()):
-    """Returns rt as a module, or stops where it lacks a name that is used, or a function has other parameters there than those given."""
+    """Returns rt as a module, or stops where it lacks a name that is used, or a function has other parameters there."""
     rt = types.ModuleType("rt")
     rt.__file__ = path_of_rt()
     importlib.machinery.SourceFileLoader("rt", rt.__file__).exec_module(rt)
     for name, parameters in dict(used).items():
         found = getattr(rt, name, None)
         if found is None or parameters is not None and [*inspect.signature(found).parameters] != parameters:
-            sys.exit(f"{os.path.basename(sys.argv[0])}: {rt.__file__} has no {name}({', '.join(parameters or [])}): this script was written for another rt")
+            wanted = f"{name}({', '.join(parameters or [])})"
+            here = os.path.basename(sys.argv[0])
+            sys.exit(f"{here}: {rt.__file__} has no {wanted}: this script was written for another rt")
     if sums_every_way(rt):
         sum_once(rt)
     return rt
@@ -54,8 +57,8 @@ def sum_once(rt):
 # What rt reckons a check to need in memory is nearly twice what the crates of this repository were seen to take: 1 to 2
 # GB of 5, and 3.5 of 6 where a program is compiled. By its figures no more than three of the upper crates have room.
 SEEN = 0.6
-# What a second job adds, of what the first one needs.
-SECOND = 0.6
+# What each job beyond the first adds, of what the first one needs.
+FURTHER = 0.6
 # Compiling a program with the code of all crates below takes as long as proving so many lines.
 PROGRAM = 1500
 
@@ -64,8 +67,9 @@ def hurries(rt):
     """Has rt ci hurry the longest chain of crates, of which each waits for the one before it.
 
     It begins with the first of them, alone, so that this one gets all processors, and proves each later one at two jobs
-    at least, where it would take one processor while others are ready. Returns whether this rt lets it. A task has what
-    it waits for in front, then its work in lines, its memory, and a call that gets how many jobs it may use.
+    at least, where it would take one processor while others are ready. What edits of a crate begin with, which comes
+    last, gets all processors. Returns whether this rt lets it. A task has what it waits for in front, then its work in
+    lines, its memory, and a call that gets how many jobs it may use.
     """
     found = getattr(rt, "in_lanes", None)
     if found is None or [*inspect.signature(found).parameters] != ["tasks"]:
@@ -73,7 +77,8 @@ def hurries(rt):
 
     def in_lanes(tasks):
         is_proof = {it: it[1] == "proof" for it in tasks}
-        work = {it: lines + PROGRAM * (is_proof[it] and os.path.exists(f"crates/{it[0]}/src/main.rt")) for it, (_, lines, *_) in tasks.items()}
+        is_program = {it: is_proof[it] and os.path.exists(f"crates/{it[0]}/src/main.rt") for it in tasks}
+        work = {it: lines + PROGRAM * is_program[it] for it, (_, lines, *_) in tasks.items()}
         ahead, behind = dict.fromkeys(tasks, 0), dict.fromkeys(tasks, 0)
         # (a task comes after those that it waits for)
         for it, (waits, *_) in tasks.items():
@@ -86,10 +91,11 @@ def hurries(rt):
         longest = max((ahead[it] + behind[it] for it in tasks if is_proof[it]), default=0)
         led = {}
         for it, (waits, _, needs, call) in tasks.items():
-            needs *= SEEN
-            if is_proof[it] and ahead[it] + behind[it] >= 0.95 * longest:
-                needs, call = (1 + SECOND) * needs, lambda given, jobs, call=call: call(given, max(jobs, 2))
-            led[it] = (waits or [first] * (it != first), work[it], needs, call)
+            is_of_longest = is_proof[it] and ahead[it] + behind[it] >= 0.95 * longest
+            least = rt.processors() if it[1] == "seed" else 2 if is_of_longest else 1
+            needs *= SEEN * (1 + FURTHER * (least - 1))
+            called = lambda given, jobs, call=call, least=least: call(given, max(jobs, least))
+            led[it] = (waits or [first] * (it != first), work[it], needs, called)
         return found({it: led[it] for it in sorted(led, key=lambda it: it != first)})
 
     rt.in_lanes = in_lanes
