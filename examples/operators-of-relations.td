@@ -7,6 +7,8 @@ VAR TWO BASE INIT ( RELATION { TUPLE { A '2' }, TUPLE { A '3' } } ) KEY { A };
 VAR LETTERS BASE INIT ( RELATION { TUPLE { B 'x' }, TUPLE { B 'y' } } ) KEY { B };
 VAR LETTERED BASE INIT ( RELATION { TUPLE { A '2', B 'x' }, TUPLE { A '2', B 'y' }, TUPLE { A '3', B 'x' } } ) KEY { A, B };
 VAR NESTED VIRTUAL ( RELATION { TUPLE { A '1', C LETTERS }, TUPLE { A '2', C RELATION { TUPLE { B 'x' } } } } );
+VAR DIGITS BASE INIT ( RELATION { TUPLE { A 0 }, TUPLE { A 1 }, TUPLE { A 2 }, TUPLE { A 3 }, TUPLE { A 4 }, TUPLE { A 5 }, TUPLE { A 6 }, TUPLE { A 7 }, TUPLE { A 8 }, TUPLE { A 9 } } ) KEY { A };
+VAR CHAIN VIRTUAL ( ( EXTEND ( DIGITS JOIN ( DIGITS RENAME ( A AS B ) ) ) ADD ( A * 10 + B AS X, A * 10 + B + 1 AS Y ) ) { X, Y } );
 VAR SUPPLIERS BASE INIT ( RELATION { TUPLE { SNO 1 }, TUPLE { SNO 2 } } ) KEY { SNO };
 .begin
 1: INSERT S RELATION { TUPLE { SNO 'S1', CITY 'London' }, TUPLE { SNO 'S2', CITY 'Paris' } };
@@ -49,6 +51,9 @@ VAR SUPPLIERS BASE INIT ( RELATION { TUPLE { SNO 1 }, TUPLE { SNO 2 } } ) KEY { 
 1? TCLOSE RELATION { TUPLE { X '1', Y '2' }, TUPLE { X '2', Y '1' } }
 1? TCLOSE RELATION { X INTEGER, Y INTEGER } { }
 1? TCLOSE RELATION { TUPLE { X 0, Y 1 } }
+1? COUNT ( TCLOSE ( CHAIN WHERE X < 2 ) )
+1? COUNT ( TCLOSE CHAIN ) /* a chain of n pairs has n ( n + 1 ) / 2 pairs of ends */
+1? TUPLE { X 0, Y 100 } IN ( TCLOSE CHAIN )
 
 1? RELATION { A INTEGER } { } WHERE 100 / A > 20
 1? RELATION { TUPLE { A 1 }, TUPLE { A 4 }, TUPLE { A 5 } } WHERE 100 / A > 20
