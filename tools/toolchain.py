@@ -4,8 +4,10 @@ import inspect
 import os
 import shutil
 import sys
+import tempfile
 import threading
 import types
+from collections import Counter
 
 sys.dont_write_bytecode = True
 
@@ -100,3 +102,47 @@ def hurries(rt):
 
     rt.in_lanes = in_lanes
     return True
+
+
+# Runs a command, and then adds a line to a file: what the command is for, its crate and its processor seconds. It ends
+# as the command does, and stands in the group of processes that rt stops.
+COUNTED = """
+import os, sys
+file, *command = sys.argv[1:]
+child = os.fork()
+if not child:
+    os.execvp(command[0], command)
+_, status, used = os.wait4(child, 0)
+kind = "edits" if "/rt-edit-" in os.getcwd() else "tests" if "--test" in command else "proof"
+at = command.index("--crate-name") if "--crate-name" in command else -1
+with open(file, "a") as it:
+    it.write(f"{kind} {command[at + 1] if at >= 0 else '-'} {used.ru_utime + used.ru_stime:.2f}\\n")
+code = os.waitstatus_to_exitcode(status)
+if code < 0:
+    os.kill(os.getpid(), -code)
+sys.exit(code)
+"""
+
+
+class Seconds:
+    """The processor seconds, with those of the system, of the checks and builds that rt starts, by crate."""
+
+    KINDS = ("proof", "tests", "edits")
+
+    def __init__(self, rt):
+        self.made, self.file = rt.rtlib.guarded, tempfile.NamedTemporaryFile("r", prefix="seconds-")
+        rt.rtlib.guarded = lambda: [*self.made(), sys.executable, "-ISc", COUNTED, self.file.name]
+
+    def tell(self, most):
+        """Prints the dearest crates: what proving and compiling one took, its tests and its edits."""
+        taken = Counter()
+        for line in self.file:
+            kind, crate, seconds = line.split()
+            taken[crate, kind] += float(seconds)
+        crates = {crate for crate, _ in taken}
+        whole = {it: sum(taken[it, kind] for kind in self.KINDS) for it in crates}
+        print(f"{'processor seconds of':<20}" + "".join(f"{it:>8}" for it in (*self.KINDS, "all")))
+        for it in sorted(crates, key=whole.get, reverse=True)[:most]:
+            print(f"{it:<20}" + "".join(f"{taken[it, kind]:8.0f}" for kind in self.KINDS) + f"{whole[it]:8.0f}")
+        sums = [sum(taken[it, kind] for it in crates) for kind in self.KINDS]
+        print(f"{'all ' + str(len(crates)):<20}" + "".join(f"{it:8.0f}" for it in (*sums, sum(sums))), flush=True)
