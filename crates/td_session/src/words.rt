@@ -8,7 +8,10 @@ use td_story::MOST_ENTRIES;
 const TYPED: &str = "\
 SCRIPT has the definitions. Then what is typed is read: a text that ends in ; is a
 statement, and else a query. A line that begins with a dot is a command; .help lists
-them, and .quit ends the program.";
+them, and .quit ends the program.
+
+td_shell check SCRIPT, or td_check SCRIPT, tells each mistake in the definitions, with
+its line and column, and runs nothing.";
 
 fn command<'a>(alloc: Global) -> Result<Command<'a>, AllocError> {
     let script = Arg::new(alloc, "script")

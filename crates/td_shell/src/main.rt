@@ -1,4 +1,5 @@
-//! A person at one site of Ketsarimo, in memory or with a journal in a file.
+//! A person at one site of Ketsarimo, in memory or with a journal in a file; and, by the name td_check or a first word
+//! `check`, what is wrong with a script.
 #![tactic(auto)]
 
 use std::env;
@@ -10,6 +11,28 @@ use td_replay::Site;
 use td_session::program;
 use td_sockets::TcpLinks;
 use td_story::Meter;
+
+/// The name by which the program checks a script.
+const CHECKER: &str = "td_check";
+
+/// The word by which it does so under any other name.
+const CHECK: &str = "check";
+
+fn is_checker(program: &str) -> bool {
+    match program.strip_suffix(CHECKER) {
+        Some(folder) => folder.is_empty() || folder.ends_with('/'),
+        None => false,
+    }
+}
+
+// The words for the check of a script, where the words ask for that.
+fn check_words(words: &[String]) -> Option<&[String]> {
+    match words {
+        [program, rest @ ..] if is_checker(program.as_str()) => Some(rest),
+        [_, word, rest @ ..] if word.as_str() == CHECK => Some(rest),
+        _ => None,
+    }
+}
 
 // A word that is no UTF-8 is refused as the command line library refuses words.
 fn refused(rt: &HostRuntime) -> ExitCode {
@@ -27,13 +50,17 @@ fn main(rt: HostRuntime) -> ExitCode {
     let Ok(words) = words.collect::<Vec<String>>(alloc) else {
         return ExitCode::FAILURE;
     };
+    let mut sink = Device::new(rt.stdout());
+    let mut faults = Device::new(rt.stderr());
+    if let Some(words) = check_words(&words) {
+        let status = td_check::program(words, &rt, &mut sink, &mut faults);
+        return ExitCode::from(status);
+    }
     let is_terminal = rt.stdin().is_terminal();
     let Ok(reader) = BufReader::new(alloc, rt.reader()) else {
         return ExitCode::FAILURE;
     };
     let mut source = Device::new(reader);
-    let mut sink = Device::new(rt.stdout());
-    let mut faults = Device::new(rt.stderr());
     let mut meter = Meter::new(&rt);
     let status = program::<Site, _, _, _, _, _, _>(
         alloc,

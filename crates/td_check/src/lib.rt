@@ -1,0 +1,79 @@
+//! Checks a script of definitions, and tells the place of each mistake: the shell's program has it for a mode.
+#![tactic(auto)]
+
+mod definitions;
+mod names;
+mod pieces;
+mod report;
+mod script;
+
+use definitions::check_definitions;
+use report::Report;
+use script::script_in;
+use std::alloc::{AllocError, Global};
+use std::fs;
+use std::rt::Files;
+use td_devices::{Sink, put};
+
+const USAGE: &str = "\
+Usage: td_check SCRIPT, or td_shell check SCRIPT
+Tells each definition of a script that is refused, by FILE:LINE:COLUMN, with the line and a caret under the place.
+A script ends at a line .begin, if it has one; the lines behind it are not judged, and nothing is evaluated.
+The status is 0 where nothing is refused, 1 where something is, and 2 where the file can't be read.
+";
+
+// The exit status where the words are refused, the file cannot be read, or nothing can be told.
+const UNCHECKED: u8 = 2;
+
+// What is told of the file, and whether something is refused.
+fn told_of(alloc: Global, file: &str, bytes: &[u8]) -> Result<(String, bool), AllocError> {
+    let mut report = Report::new(alloc, file);
+    if let Some((script, from)) = script_in(&mut report, bytes)? {
+        check_definitions(&mut report, script, from)?;
+    }
+    let told = report.end()?;
+    Ok((told, report.is_bad()))
+}
+
+// Tells why nothing is checked. Where that fails too, the status is all that tells.
+fn refused<F: Sink>(faults: &mut F, why: &str) -> u8 {
+    let _told = put(faults, why.as_bytes());
+    UNCHECKED
+}
+
+fn check<H: Files + AllocGlobal, K: Sink, F: Sink>(
+    host: &H,
+    file: &str,
+    sink: &mut K,
+    faults: &mut F,
+) -> u8 {
+    let Ok(bytes) = fs::read(host, file) else {
+        return refused(faults, "the file can't be read\n");
+    };
+    let Ok((told, is_bad)) = told_of(host.alloc(), file, &bytes) else {
+        return refused(faults, "there was not enough memory\n");
+    };
+    match put(sink, told.as_bytes()) {
+        Ok(()) => u8::from(is_bad),
+        Err(_) => refused(faults, "standard output failed\n"),
+    }
+}
+
+/// Checks the script in the file that the words name, which are those behind the program's name, and tells what it
+/// finds. The answer is the exit status: 0 where nothing is refused, and after help; 1 where something is; 2 where the
+/// words are wrong, the file cannot be read, memory is wanting or standard output fails.
+pub fn program<H: Files + AllocGlobal, K: Sink, F: Sink>(
+    words: &[String],
+    host: &H,
+    sink: &mut K,
+    faults: &mut F,
+) -> u8 {
+    match words {
+        [file] if file.as_str() == "--help" => match put(sink, USAGE.as_bytes()) {
+            Ok(()) => 0,
+            Err(_) => UNCHECKED,
+        },
+        [file] => check(host, file.as_str(), sink, faults),
+        _ => refused(faults, USAGE),
+    }
+}
