@@ -2,137 +2,165 @@
 
 ghost use Rattle.std.specs.Prelude.{None};
 
+use crate::companions::{make_new, name_beside, open_there, settle_folder, stands_under};
 use crate::file::FileJournal;
+use crate::found::Found;
 use crate::renewal::FileRenewal;
+use crate::seen;
+use crate::seen::Seen;
 use crate::synced::Synced;
-use std::alloc::{AllocError, Global};
+use std::alloc::Global;
+use std::cell::Cell;
 use std::fs;
-use std::fs::{File, OpenOptions};
-use std::os::unix::fs::MetadataExt;
-use std::path::Path;
+use std::fs::File;
+use std::io::ErrorKind;
 use std::rt::Files;
 use td_devices::{Device, Failed};
 use td_journal::{Journals, StoreError};
 
-/// Journals in files of the names that they stand under. A file that is not there is made. It is opened without being
-/// cut, and locked: another program that opens it is refused for as long as this one has it open. One that is made anew
-/// is written to the file of this name followed by `.new`, which then takes the other one's place.
+/// Journals in files of the names that they stand under. A file that is not there is made, for its owner alone. It is
+/// opened without being cut, and locked: another program that opens it is refused for as long as this one has it open.
+/// What is cut off it is kept in a file of this name followed by `.cut`, and up to which length it is on the disk stands
+/// in that followed by `.seen`. One that is made anew is written to the file of this name followed by `.new`, which then
+/// takes the other one's place.
 #[derive(Drop)]
 pub struct FileJournals<'a, R> {
     files: &'a R,
-}
-
-// The name of the file beside.
-fn name_beside(alloc: Global, name: &str) -> Result<String, AllocError> {
-    let mut beside = String::new(alloc);
-    beside.push_str(name)?;
-    beside.push_str(".new")?;
-    Ok(beside)
+    found: Cell<Option<Found>>,
 }
 
 impl<'a, R: Files<File = File>> FileJournals<'a, R> {
     /// The files of this system.
     pub fn new(files: &'a R) -> Self {
-        FileJournals { files }
-    }
-
-    // Hands the folder of a file that may be new to the disk, on file systems that can.
-    fn settle_folder(&self, name: &str) {
-        let folder = match Path::new(name).parent() {
-            Some(folder) if !folder.as_str().is_empty() => folder,
-            _ => Path::new("."),
-        };
-        if let Ok(folder) = File::open(self.files, folder) {
-            let _told = folder.sync_all();
+        FileJournals {
+            files,
+            found: Cell::new(None),
         }
     }
 
-    // Whether the file still stands under this name: another program may have put a new one in its place.
-    fn stands_under(&self, name: &str, file: &File) -> bool {
-        match (file.metadata(), fs::metadata(self.files, name)) {
-            (Ok(it), Ok(there)) => it.ino() == there.ino() && it.dev() == there.dev(),
-            _ => false,
+    /// What was found of the journal that was opened last and that a site goes on with.
+    pub fn found(&self) -> Option<Found> {
+        self.found.get()
+    }
+
+    // Opens a file that is there, or makes it, and tells whether it did. What is no file is not opened.
+    fn open_or_make(&self, name: &str) -> Result<(File, bool), Failed> {
+        match make_new(self.files, name) {
+            Ok(file) => return Ok((file, true)),
+            Err(error) if error.kind() == ErrorKind::AlreadyExists => {}
+            Err(_) => return Err(Failed),
+        }
+        match fs::metadata(self.files, name) {
+            Ok(it) if it.is_file() => {}
+            _ => return Err(Failed),
+        }
+        match open_there(self.files, name) {
+            Ok(file) => Ok((file, false)),
+            Err(_) => Err(Failed),
         }
     }
 
-    // Opens a file, and takes its lock, which lasts for as long as it is open.
-    fn open_locked(&self, name: &str) -> Result<File, StoreError> {
-        let opened = OpenOptions::new()
-            .read(true)
-            .write(true)
-            .create(true)
-            .open(self.files, name);
-        let Ok(file) = opened else {
-            return Err(StoreError::JournalFile);
+    // Opens a journal's file, takes its lock, which lasts for as long as it is open, and has its folder on the disk.
+    fn open_locked(&self, name: &str) -> Result<(File, bool), Failed> {
+        let (file, is_new) = self.open_or_make(name)?;
+        if file.try_lock().is_err() || !stands_under(self.files, name, &file) {
+            return Err(Failed);
+        }
+        settle_folder(self.files, name)?;
+        Ok((file, is_new))
+    }
+
+    // Makes the file in which a journal is made anew, in place of one that an earlier program may have left. (Whoever
+    // makes one has the journal's lock.) Nobody can do more with it than with the journal, which stands under no link.
+    fn make_beside(&self, name: &str, beside: &str) -> Result<File, Failed> {
+        let Ok(old) = fs::symlink_metadata(self.files, name) else {
+            return Err(Failed);
         };
-        if file.try_lock().is_err() || !self.stands_under(name, &file) {
-            return Err(StoreError::JournalFile);
+        if !old.is_file() {
+            return Err(Failed);
+        }
+        match fs::remove_file(self.files, beside) {
+            Ok(()) => {}
+            Err(error) if error.kind() == ErrorKind::NotFound => {}
+            Err(_) => return Err(Failed),
+        }
+        let Ok(file) = make_new(self.files, beside) else {
+            return Err(Failed);
+        };
+        if file.try_lock().is_err() || file.set_permissions(old.permissions()).is_err() {
+            return Err(Failed);
         }
         Ok(file)
     }
-
-    // Leaves nothing in a file, and lets nobody do more with it than with the one of this name.
-    fn clear(&self, name: &str, file: &File) -> Result<(), Failed> {
-        let Ok(old) = fs::metadata(self.files, name) else {
-            return Err(Failed);
-        };
-        if file.set_permissions(old.permissions()).is_err() || file.set_len(0).is_err() {
-            return Err(Failed);
-        }
-        Ok(())
-    }
 }
 
-impl<R: Files<File = File>> Journals for FileJournals<'_, R> {
-    type Journal = FileJournal;
+impl<'a, R: Files<File = File> + Drop> Journals for FileJournals<'a, R> {
+    type Journal = FileJournal<'a, R>;
 
-    type Writer = Device<Synced>;
+    type Writer = Device<Synced<'a, R>>;
 
-    type Renewal = FileRenewal;
+    type Renewal = FileRenewal<'a, R>;
 
     ghost kept = { λ _ _. None };
 
     ghost fails = { λ _ _. Unit {0} };
 
-    fn open(&self, alloc: Global, name: &str) -> Result<FileJournal, StoreError> {
-        match self.open_locked(name) {
-            Ok(file) => {
-                self.settle_folder(name);
-                FileJournal::new(alloc, file)
-            }
-            Err(error) => Err(error),
-        }
-    }
-
-    fn cut(&self, journal: FileJournal, whole: u64) -> Result<Device<Synced>, Failed> {
-        journal.cut(whole)
-    }
-
-    fn renew(&self, alloc: Global, name: &str) -> Result<FileRenewal, StoreError> {
-        let (Ok(beside), Ok(own)) = (name_beside(alloc, name), String::from_str(alloc, name)) else {
+    fn open(&self, alloc: Global, name: &str) -> Result<FileJournal<'a, R>, StoreError> {
+        let Ok(beside) = name_beside(alloc, name, seen::ENDING) else {
             return Err(StoreError::OutOfMemory);
         };
-        let file = match self.open_locked(beside.as_str()) {
-            Ok(file) => file,
-            Err(error) => return Err(error),
+        let Ok((file, is_new)) = self.open_locked(name) else {
+            return Err(StoreError::JournalFile);
         };
-        match self.clear(name, &file) {
-            Ok(()) => Ok(FileRenewal::new(beside, own, file)),
-            Err(Failed) => Err(StoreError::JournalFile),
+        match Seen::open(self.files, beside.as_str()) {
+            Ok(seen) => FileJournal::new(alloc, self.files, name, file, is_new, seen),
+            Err(_) => Err(StoreError::JournalFile),
         }
+    }
+
+    fn cut(
+        &self,
+        journal: FileJournal<'a, R>,
+        whole: u64,
+    ) -> Result<Device<Synced<'a, R>>, Failed> {
+        let (writer, found) = journal.cut(whole)?;
+        self.found.set(Some(found));
+        Ok(writer)
+    }
+
+    fn renew(
+        &self,
+        alloc: Global,
+        name: &str,
+        journal: &mut FileJournal<'a, R>,
+        whole: u64,
+    ) -> Result<FileRenewal<'a, R>, StoreError> {
+        let (Ok(beside), Ok(own), Ok(under)) = (
+            name_beside(alloc, name, ".new"),
+            String::from_str(alloc, name),
+            name_beside(alloc, name, ".new"),
+        ) else {
+            return Err(StoreError::OutOfMemory);
+        };
+        let (Ok(file), Ok(found)) = (
+            self.make_beside(name, beside.as_str()),
+            journal.keep_rest(whole),
+        ) else {
+            return Err(StoreError::JournalFile);
+        };
+        let Ok(written) = file.try_clone() else {
+            return Err(StoreError::JournalFile);
+        };
+        self.found.set(Some(found));
+        let writer = Device::new(Synced::new(self.files, under, written, None, 0));
+        Ok(FileRenewal::new(self.files, beside, own, file, writer))
     }
 
     fn replace(
         &self,
-        journal: FileJournal,
-        renewal: FileRenewal,
-    ) -> Result<Device<Synced>, Failed> {
-        if fs::rename(self.files, renewal.beside(), renewal.name()).is_err() {
-            return Err(Failed);
-        }
-        self.settle_folder(renewal.name());
-        // Its lock goes only now that the new file stands there, which is locked.
-        drop(journal);
-        Ok(renewal.into_writer())
+        journal: FileJournal<'a, R>,
+        renewal: FileRenewal<'a, R>,
+    ) -> Result<Device<Synced<'a, R>>, Failed> {
+        renewal.replace(journal)
     }
 }

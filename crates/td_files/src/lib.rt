@@ -1,12 +1,17 @@
 //! Journals that stand in files, each of which is locked for as long as it is open.
 #![tactic(auto)]
 
+mod companions;
+mod damage;
 mod file;
+mod found;
 mod journals;
 mod renewal;
+mod seen;
 mod synced;
 
 pub use file::FileJournal;
+pub use found::{Cut, Found};
 pub use journals::FileJournals;
 pub use renewal::FileRenewal;
 pub use synced::Synced;

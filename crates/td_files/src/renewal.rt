@@ -2,51 +2,77 @@
 
 ghost use Rattle.std.specs.Prelude.{None};
 
+use crate::companions::settle_folder;
+use crate::file::FileJournal;
 use crate::synced::Synced;
+use std::fs;
 use std::fs::File;
+use std::rt::Files;
 use td_devices::{Device, Failed, Sink};
 
 /// A file beside a journal's, open and locked, with nothing in it at first. What is written to it is known to no
 /// contract.
 #[derive(Drop)]
-pub struct FileRenewal {
+pub struct FileRenewal<'a, R> {
+    files: &'a R,
     beside: String,
     name: String,
-    writer: Device<Synced>,
+    file: File,
+    writer: Device<Synced<'a, R>>,
 }
 
-impl FileRenewal {
-    /// A file that is empty and locked, which was opened beside the one of this name.
-    pub(crate) fn new(beside: String, name: String, file: File) -> FileRenewal {
+impl<'a, R: Files<File = File>> FileRenewal<'a, R> {
+    /// A file that is empty and locked, which was made under the name beside that of a journal.
+    pub(crate) fn new(
+        files: &'a R,
+        beside: String,
+        name: String,
+        file: File,
+        writer: Device<Synced<'a, R>>,
+    ) -> FileRenewal<'a, R> {
         FileRenewal {
+            files,
             beside,
             name,
-            writer: Device::new(Synced::new(file)),
+            file,
+            writer,
         }
     }
 
-    /// The name under which it was opened.
-    pub(crate) fn beside(&self) -> &str {
-        self.beside.as_str()
+    // Puts the file in the journal's place, handed to the disk, and gives its length.
+    fn rename(&self) -> Result<u64, Failed> {
+        let Ok(metadata) = self.file.metadata() else {
+            return Err(Failed);
+        };
+        if fs::rename(self.files, self.beside.as_str(), self.name.as_str()).is_err() {
+            return Err(Failed);
+        }
+        settle_folder(self.files, self.name.as_str())?;
+        Ok(metadata.len())
     }
 
-    /// The name that it is to take.
-    pub(crate) fn name(&self) -> &str {
-        self.name.as_str()
-    }
-
-    /// What is written goes on behind what was written.
-    pub(crate) fn into_writer(self) -> Device<Synced> {
+    /// The file in the journal's place, whose lock goes only now that the new file, which is locked, stands there: what
+    /// is written goes on behind what was written.
+    pub(crate) fn replace(
+        self,
+        journal: FileJournal<'a, R>,
+    ) -> Result<Device<Synced<'a, R>>, Failed> {
+        let length = self.rename()?;
+        let mut seen = journal.into_seen();
         let FileRenewal {
+            files,
             beside: _,
-            name: _,
-            writer,
+            name,
+            file,
+            writer: _,
         } = self;
-        writer
+        let noted = seen.length();
+        seen.go_on(length, noted);
+        Ok(Device::new(Synced::new(files, name, file, Some(seen), length)))
     }
 }
 
-impl Sink for FileRenewal {
+impl<R: Files> Sink for FileRenewal<'_, R> {
     ghost held = { λ _. None };
 
     ghost aside = { λ _. None };

@@ -56,8 +56,15 @@ pub trait Journals {
     fn cut(&self, journal: Self::Journal, whole: u64) -> Result<Self::Writer, Failed>
         ensures { MatchResult result (λ w. IsCutTo whole (Self.Journal.beside journal) (Self.Writer.held w)) (λ _. fails self.now store_error.JournalFile) };
 
-    /// Begins a journal beside that of this name, with nothing in it. Nobody else opens it until it is let go.
-    fn renew(&self, alloc: Global, name: &str) -> Result<Self::Renewal, StoreError>
+    /// Begins a journal beside that of this name, with nothing in it, of which so many bytes are to go over into it.
+    /// Nobody else opens it until it is let go.
+    fn renew(
+        &self,
+        alloc: Global,
+        name: &str,
+        journal: &mut Self::Journal,
+        whole: u64,
+    ) -> Result<Self::Renewal, StoreError>
         ensures { MatchResult result (λ n. IsCutTo 0 (kept self.now name.now) (Self.Renewal.held n)) (λ e. fails self.now e) };
 
     /// Puts a journal that was written beside another one, and handed on, in that one's place, which is let go behind
@@ -125,7 +132,8 @@ fn make_anew<R: Opens + Drop, J: Journals>(
     alloc: Global,
     journals: &J,
     name: &str,
-    journal: J::Journal,
+    mut journal: J::Journal,
+    whole: u64,
     replica: R,
 ) -> Result<Keeper<R, J::Writer>, StoreError>
     ensures { MatchResult result
@@ -133,7 +141,7 @@ fn make_anew<R: Opens + Drop, J: Journals>(
         × ((k.replica ≡ replica) × (k.is_open ≡ true)))
         (λ e. GoesOnNot (J.fails journals.now) e) }
 {
-    let mut renewal = match journals.renew(alloc, name) {
+    let mut renewal = match journals.renew(alloc, name, &mut journal, whole) {
         Ok(renewal) => renewal,
         Err(error) => return Err(error),
     };
@@ -167,7 +175,7 @@ fn keep_reopened<R: Opens + Drop, J: Journals>(
         version,
     } = reopened;
     match version {
-        Version::First => make_anew(alloc, journals, name, journal, replica),
+        Version::First => make_anew(alloc, journals, name, journal, whole, replica),
         Version::Second => go_on(journals, journal, whole, replica),
     }
 }
