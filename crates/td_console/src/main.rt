@@ -5,7 +5,7 @@ use std::env;
 use std::io::{BufReader, ErrorKind};
 use std::process::ExitCode;
 use td_devices::Device;
-use td_files::FileJournals;
+use td_files::{FileJournals, Notes};
 use td_replay::Site;
 use td_sockets::TcpLinks;
 use td_story::Meter;
@@ -33,11 +33,12 @@ fn main(rt: HostRuntime) -> ExitCode {
     let mut source = Device::new(reader);
     let mut sink = Device::new(rt.stdout());
     let mut faults = Device::new(rt.stderr());
+    let notes = Notes::new();
     let mut meter = Meter::new(&rt);
     let status = program::<Site, _, _, _, _, _>(
         alloc,
         &words,
-        &FileJournals::new(&rt),
+        &FileJournals::new(&rt, &notes),
         &mut TcpLinks::new(&rt),
         &mut meter,
         &mut source,

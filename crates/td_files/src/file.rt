@@ -5,6 +5,7 @@ ghost use Rattle.std.specs.Prelude.{None};
 use crate::companions::{make_new, name_beside, settle_folder};
 use crate::damage::{WINDOW, have_frame_behind};
 use crate::found::{Cut, Found};
+use crate::notes::Notes;
 use crate::seen::Seen;
 use crate::synced::Synced;
 use std::alloc::{AllocError, Global};
@@ -27,6 +28,7 @@ const MOST_CUTS: u32 = 9_999;
 pub struct FileJournal<'a, R> {
     alloc: Global,
     files: &'a R,
+    notes: &'a Notes,
     name: String,
     is_new: bool,
     file: File,
@@ -48,6 +50,7 @@ impl<'a, R: Files<File = File>> FileJournal<'a, R> {
     pub(crate) fn new(
         alloc: Global,
         files: &'a R,
+        notes: &'a Notes,
         name: &str,
         file: File,
         is_new: bool,
@@ -67,6 +70,7 @@ impl<'a, R: Files<File = File>> FileJournal<'a, R> {
         Ok(FileJournal {
             alloc,
             files,
+            notes,
             name,
             is_new,
             file,
@@ -164,8 +168,8 @@ impl<'a, R: Files<File = File>> FileJournal<'a, R> {
         self.file.sync_data()
     }
 
-    /// The file with so many of its bytes, which are on the disk, written behind these; and what was found of it.
-    pub(crate) fn cut(mut self, whole: u64) -> Result<(Device<Synced<'a, R>>, Found), Failed> {
+    /// The file with so many of its bytes, which are on the disk, written behind these.
+    pub(crate) fn cut(mut self, whole: u64) -> Result<Device<Synced<'a, R>>, Failed> {
         let found = self.keep_rest(whole)?;
         if self.leave(whole).is_err() {
             return Err(Failed);
@@ -173,6 +177,7 @@ impl<'a, R: Files<File = File>> FileJournal<'a, R> {
         let FileJournal {
             alloc: _,
             files,
+            notes,
             name,
             is_new: _,
             file,
@@ -182,8 +187,9 @@ impl<'a, R: Files<File = File>> FileJournal<'a, R> {
             window: _,
         } = self;
         seen.go_on(found.whole, found.seen);
-        let writer = Synced::new(files, name, file, Some(seen), whole);
-        Ok((Device::new(writer), found))
+        let writer = Synced::new(files, notes, name, file, Some(seen), whole);
+        notes.find(found);
+        Ok(Device::new(writer))
     }
 
     /// The file beside it that has its length.
@@ -191,6 +197,7 @@ impl<'a, R: Files<File = File>> FileJournal<'a, R> {
         let FileJournal {
             alloc: _,
             files: _,
+            notes: _,
             name: _,
             is_new: _,
             file: _,

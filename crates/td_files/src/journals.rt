@@ -4,13 +4,12 @@ ghost use Rattle.std.specs.Prelude.{None};
 
 use crate::companions::{make_new, name_beside, open_there, settle_folder, stands_under};
 use crate::file::FileJournal;
-use crate::found::Found;
+use crate::notes::Notes;
 use crate::renewal::FileRenewal;
 use crate::seen;
 use crate::seen::Seen;
 use crate::synced::Synced;
 use std::alloc::Global;
-use std::cell::Cell;
 use std::fs;
 use std::fs::File;
 use std::io::ErrorKind;
@@ -26,21 +25,13 @@ use td_journal::{Journals, StoreError};
 #[derive(Drop)]
 pub struct FileJournals<'a, R> {
     files: &'a R,
-    found: Cell<Option<Found>>,
+    notes: &'a Notes,
 }
 
 impl<'a, R: Files<File = File>> FileJournals<'a, R> {
-    /// The files of this system.
-    pub fn new(files: &'a R) -> Self {
-        FileJournals {
-            files,
-            found: Cell::new(None),
-        }
-    }
-
-    /// What was found of the journal that was opened last and that a site goes on with.
-    pub fn found(&self) -> Option<Found> {
-        self.found.get()
+    /// The files of this system, which tell in the notes what they find.
+    pub fn new(files: &'a R, notes: &'a Notes) -> Self {
+        FileJournals { files, notes }
     }
 
     // Opens a file that is there, or makes it, and tells whether it did. What is no file is not opened.
@@ -113,7 +104,7 @@ impl<'a, R: Files<File = File> + Drop> Journals for FileJournals<'a, R> {
             return Err(StoreError::JournalFile);
         };
         match Seen::open(self.files, beside.as_str()) {
-            Ok(seen) => FileJournal::new(alloc, self.files, name, file, is_new, seen),
+            Ok(seen) => FileJournal::new(alloc, self.files, self.notes, name, file, is_new, seen),
             Err(_) => Err(StoreError::JournalFile),
         }
     }
@@ -123,9 +114,7 @@ impl<'a, R: Files<File = File> + Drop> Journals for FileJournals<'a, R> {
         journal: FileJournal<'a, R>,
         whole: u64,
     ) -> Result<Device<Synced<'a, R>>, Failed> {
-        let (writer, found) = journal.cut(whole)?;
-        self.found.set(Some(found));
-        Ok(writer)
+        journal.cut(whole)
     }
 
     fn renew(
@@ -151,9 +140,10 @@ impl<'a, R: Files<File = File> + Drop> Journals for FileJournals<'a, R> {
         let Ok(written) = file.try_clone() else {
             return Err(StoreError::JournalFile);
         };
-        self.found.set(Some(found));
-        let writer = Device::new(Synced::new(self.files, under, written, None, 0));
-        Ok(FileRenewal::new(self.files, beside, own, file, writer))
+        self.notes.find(found);
+        let writer = Synced::new(self.files, self.notes, under, written, None, 0);
+        let writer = Device::new(writer);
+        Ok(FileRenewal::new(self.files, self.notes, beside, own, file, writer))
     }
 
     fn replace(

@@ -4,6 +4,7 @@ ghost use Rattle.std.specs.Prelude.{None};
 
 use crate::companions::settle_folder;
 use crate::file::FileJournal;
+use crate::notes::Notes;
 use crate::synced::Synced;
 use std::fs;
 use std::fs::File;
@@ -15,6 +16,7 @@ use td_devices::{Device, Failed, Sink};
 #[derive(Drop)]
 pub struct FileRenewal<'a, R> {
     files: &'a R,
+    notes: &'a Notes,
     beside: String,
     name: String,
     file: File,
@@ -25,6 +27,7 @@ impl<'a, R: Files<File = File>> FileRenewal<'a, R> {
     /// A file that is empty and locked, which was made under the name beside that of a journal.
     pub(crate) fn new(
         files: &'a R,
+        notes: &'a Notes,
         beside: String,
         name: String,
         file: File,
@@ -32,6 +35,7 @@ impl<'a, R: Files<File = File>> FileRenewal<'a, R> {
     ) -> FileRenewal<'a, R> {
         FileRenewal {
             files,
+            notes,
             beside,
             name,
             file,
@@ -61,6 +65,7 @@ impl<'a, R: Files<File = File>> FileRenewal<'a, R> {
         let mut seen = journal.into_seen();
         let FileRenewal {
             files,
+            notes,
             beside: _,
             name,
             file,
@@ -68,7 +73,7 @@ impl<'a, R: Files<File = File>> FileRenewal<'a, R> {
         } = self;
         let noted = seen.length();
         seen.go_on(length, noted);
-        Ok(Device::new(Synced::new(files, name, file, Some(seen), length)))
+        Ok(Device::new(Synced::new(files, notes, name, file, Some(seen), length)))
     }
 }
 

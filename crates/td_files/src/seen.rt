@@ -50,19 +50,18 @@ impl Seen {
     /// what stays noted until it has as much again: so it is found again at the next start that bytes are gone.
     pub(crate) fn go_on(&mut self, length: u64, noted: Option<u64>) {
         self.least = noted.unwrap_or(0);
-        self.note(length);
+        self.note(length, false);
     }
 
-    /// Notes a length, and takes no memory for it. It is not handed to the disk, and a failure is passed over: a length
-    /// that is less than the journal's serves too.
-    pub(crate) fn note(&self, length: u64) {
-        if length >= self.least {
+    /// Notes a length, also one that is less than what was noted where that is let go. It takes no memory, is not handed
+    /// to the disk, and a failure is passed over: a length that is less than the journal's serves too.
+    pub(crate) fn note(&self, length: u64, is_let_go: bool) {
+        if length >= self.least || is_let_go {
             let _written = self.write(length);
         }
     }
 
-    /// Notes a length, also one that is less than what was noted.
-    pub(crate) fn write(&self, length: u64) -> io::Result<()> {
+    fn write(&self, length: u64) -> io::Result<()> {
         let mut text = *b"00000000000000000000\n";
         let mut rest = length;
         for digit in text[..DIGITS].iter_mut().rev() {

@@ -1,6 +1,7 @@
 //! A file whose flushes reach the disk.
 
 use crate::companions::stands_under;
+use crate::notes::{Failure, Notes};
 use crate::seen::Seen;
 use std::fs::File;
 use std::io;
@@ -12,6 +13,7 @@ use std::rt::Files;
 #[derive(Drop)]
 pub struct Synced<'a, R> {
     files: &'a R,
+    notes: &'a Notes,
     name: String,
     file: File,
     seen: Option<Seen>,
@@ -23,6 +25,7 @@ impl<'a, R> Synced<'a, R> {
     /// each flush, where there is a file for that.
     pub(crate) fn new(
         files: &'a R,
+        notes: &'a Notes,
         name: String,
         file: File,
         seen: Option<Seen>,
@@ -30,6 +33,7 @@ impl<'a, R> Synced<'a, R> {
     ) -> Synced<'a, R> {
         Synced {
             files,
+            notes,
             name,
             file,
             seen,
@@ -38,20 +42,39 @@ impl<'a, R> Synced<'a, R> {
     }
 }
 
+impl<R: Files> Synced<'_, R> {
+    fn sync(&self) -> Result<(), Failure> {
+        if let Err(error) = self.file.sync_data() {
+            return Err(Failure::of(error.kind()));
+        }
+        if !stands_under(self.files, self.name.as_str(), &self.file) {
+            return Err(Failure::Moved);
+        }
+        Ok(())
+    }
+}
+
 impl<R: Files> Write for Synced<'_, R> {
     fn write(&mut self, bytes: &[u8]) -> io::Result<usize> {
-        let count = self.file.write(bytes)?;
-        self.length = self.length.saturating_add(count as u64);
-        Ok(count)
+        match self.file.write(bytes) {
+            Ok(count) => {
+                self.length = self.length.saturating_add(count as u64);
+                Ok(count)
+            }
+            Err(error) => {
+                self.notes.fail(Failure::of(error.kind()));
+                Err(error)
+            }
+        }
     }
 
     fn flush(&mut self) -> io::Result<()> {
-        self.file.sync_data()?;
-        if !stands_under(self.files, self.name.as_str(), &self.file) {
-            return Err(Error::from(ErrorKind::NotFound));
+        if let Err(failure) = self.sync() {
+            self.notes.fail(failure);
+            return Err(Error::from(ErrorKind::Other));
         }
         if let Some(seen) = &self.seen {
-            seen.note(self.length);
+            seen.note(self.length, self.notes.is_let_go());
         }
         Ok(())
     }

@@ -6,7 +6,7 @@ use std::env;
 use std::io::{BufReader, ErrorKind, IsTerminal};
 use std::process::ExitCode;
 use td_devices::Device;
-use td_files::FileJournals;
+use td_files::{FileJournals, Notes};
 use td_replay::Site;
 use td_session::program;
 use td_sockets::TcpLinks;
@@ -61,12 +61,13 @@ fn main(rt: HostRuntime) -> ExitCode {
         return ExitCode::FAILURE;
     };
     let mut source = Device::new(reader);
+    let notes = Notes::new();
     let mut meter = Meter::new(&rt);
     let status = program::<Site, _, _, _, _, _, _>(
         alloc,
         &words,
         &rt,
-        &FileJournals::new(&rt),
+        &FileJournals::new(&rt, &notes),
         &mut TcpLinks::new(&rt),
         &mut meter,
         is_terminal,
