@@ -1,5 +1,7 @@
 //! What a line with a dot in front says.
 
+use crate::entries::ENTRY;
+
 /// How the relations that queries give are shown.
 #[derive(Clone, Copy, Debug, PartialEq, Eq)]
 pub enum Mode {
@@ -16,14 +18,22 @@ pub enum Command<'a> {
     /// The definition of a name, or all of them.
     Schema(Option<&'a str>),
     Log,
+    /// The statements that have no effect, those issued here alone where so asked.
+    Refused {
+        is_own: bool,
+    },
     Listing,
     Vector,
+    /// What is held in a few digits, that of one site alone up to a number where so asked.
+    Digest(Option<(u16, u32)>),
     Read(&'a str),
     Import {
         file: &'a str,
         relvar: &'a str,
     },
     Dump(&'a str),
+    /// A statement of a dump, as it is written behind the word.
+    Entry(&'a str),
     Serve(&'a str),
     Call(&'a str),
     /// A query, asked just after the statement of this stamp.
@@ -115,6 +125,41 @@ fn call_in(rest: &str) -> Command<'_> {
     }
 }
 
+fn refused_in(rest: &str) -> Command<'static> {
+    match rest {
+        "" => Command::Refused { is_own: false },
+        "here" => Command::Refused { is_own: true },
+        _ => Command::Misused(".refused [here]"),
+    }
+}
+
+// Whether a number is written as stamps and sites are: digits, with no zero in front of others.
+fn is_plain_number(text: &str) -> bool {
+    let digits = text.as_bytes();
+    !digits.is_empty()
+        && digits.iter().all(u8::is_ascii_digit)
+        && (digits.len() == 1 || !text.starts_with('0'))
+}
+
+fn digest_in(rest: &str) -> Command<'static> {
+    let misused = Command::Misused(".digest [SITE NUMBER]");
+    if rest.is_empty() {
+        return Command::Digest(None);
+    }
+    let Some((site, number)) = rest.split_once(' ') else {
+        return misused;
+    };
+    let number = number.trim_ascii();
+    if !is_plain_number(site) || !is_plain_number(number) {
+        return misused;
+    }
+    match (site.parse::<u16>(), number.parse::<u32>()) {
+        (Ok(site), Ok(number)) => Command::Digest(Some((site, number))),
+        _ => misused,
+    }
+}
+
+// A stamp whose numbers do not fit is that of no statement, as behind an `@` in a line for programs.
 fn at_in(rest: &str) -> Command<'_> {
     let misused = Command::Misused(".at CLOCK.SITE QUERY");
     let Some((stamp, query)) = rest.split_once(' ') else {
@@ -123,13 +168,17 @@ fn at_in(rest: &str) -> Command<'_> {
     let Some((clock, site)) = stamp.split_once('.') else {
         return misused;
     };
-    match (clock.parse::<u64>(), site.parse::<u16>()) {
-        (Ok(clock), Ok(site)) => Command::At {
-            clock,
-            site,
-            query: query.trim_ascii(),
-        },
-        _ => misused,
+    if !is_plain_number(clock) || !is_plain_number(site) {
+        return misused;
+    }
+    let (clock, site) = match (clock.parse::<u64>(), site.parse::<u16>()) {
+        (Ok(clock), Ok(site)) => (clock, site),
+        _ => (0, 0),
+    };
+    Command::At {
+        clock,
+        site,
+        query: query.trim_ascii(),
     }
 }
 
@@ -143,11 +192,14 @@ pub fn command_of(line: &str) -> Command<'_> {
         ".tables" => without_words(Command::Tables, rest, ".tables"),
         ".schema" => schema_in(rest),
         ".log" => without_words(Command::Log, rest, ".log"),
+        ".refused" => refused_in(rest),
+        ".digest" => digest_in(rest),
         ".listing" => without_words(Command::Listing, rest, ".listing"),
         ".vector" => without_words(Command::Vector, rest, ".vector"),
         ".read" => read_in(rest),
         ".import" => import_in(rest),
         ".dump" => dump_in(rest),
+        ENTRY => Command::Entry(rest),
         ".serve" => serve_in(rest),
         ".call" => call_in(rest),
         ".at" => at_in(rest),

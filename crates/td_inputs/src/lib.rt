@@ -4,8 +4,10 @@
 pub mod commands;
 mod conditions;
 pub mod definitions;
+pub mod entries;
 pub mod scan;
 
 pub use commands::{Command, Mode, command_of};
 pub use definitions::{Defined, defined_by, definition_at, script_front};
+pub use entries::{DumpedEntry, entry_in, push_entry};
 pub use scan::{Scan, Standing};

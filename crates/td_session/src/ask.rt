@@ -1,10 +1,11 @@
 //! Queries that are asked.
 
 use crate::places::fault_text;
-use crate::wording::{BROKEN, UNCHANGED, raise_words};
+use crate::wording::{BROKEN, UNCHANGED};
 use std::alloc::{AllocError, Global};
 use td_inputs::Mode;
 use td_listings::relation_table as csv_table;
+use td_notices::raise_words;
 use td_places::Reading;
 use td_relations::Relation;
 use td_stamps::Stamp;

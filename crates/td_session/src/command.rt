@@ -5,19 +5,23 @@ ghost use Rattle.td_journal.specs.Reopening.{IsNew};
 
 use crate::ended::Ended;
 use crate::inputs::Inputs;
+use crate::journals::unfit_words;
 use crate::open::{Script, no_script_words, script_in, unopened_words};
 use crate::shell::{Shell, converse};
 use crate::words::{Words, read_words};
 use clap::Error;
 use clap::error::ErrorKind;
-use std::alloc::Global;
+use std::alloc::{AllocError, Global};
 use std::fs;
+use std::fs::File;
 use std::rt::Files;
 use std::time::Clock;
 use td_answers::Links;
 use td_devices::{Sink, Source, put};
+use td_files::Notes;
 use td_journal::{Journals, StoreError, keep_journal};
 use td_listings::script_catalogue;
+use td_notices::{journal_text, lack_words, room_text};
 use td_story::{Meter, Opens, Replica};
 
 // The exit status where words are refused, or the script's file cannot be read.
@@ -69,9 +73,40 @@ fn first_lines<R: Replica>(alloc: Global, site: &R, behind: Vec<u8>) -> Result<I
     Ok(inputs)
 }
 
+// Tells what was found of the journal, and how much room is left. Nothing hangs on whether that is seen.
+fn tell_start<R: Replica, F: Sink>(
+    alloc: Global,
+    name: Option<&str>,
+    notes: &Notes,
+    site: &R,
+    faults: &mut F,
+) -> Result<(), AllocError> {
+    let journal = journal_text(alloc, name, notes.found(), site)?;
+    complain(faults, journal.as_str());
+    let room = room_text(alloc, site)?;
+    complain(faults, room.as_str());
+    Ok(())
+}
+
+// Whether the journal has less than it had once, and the site is not to go on with that as it is: this is told.
+fn lacks_statements<F: Sink>(words: &Words<'_>, notes: &Notes, faults: &mut F) -> bool {
+    let is_short = match notes.found() {
+        Some(found) => found.is_short(),
+        None => false,
+    };
+    if is_short && words.forgets {
+        notes.let_go();
+    }
+    if is_short && !words.forgets {
+        complain(faults, lack_words());
+        return true;
+    }
+    false
+}
+
 fn converse_at<
     R: Replica + Drop,
-    H: Files + Clock + AllocGlobal,
+    H: Files<File = File> + Clock + AllocGlobal + Clone + Drop,
     L: Links,
     S: Source,
     K: Sink,
@@ -81,6 +116,9 @@ fn converse_at<
     host: &H,
     links: &mut L,
     meter: &mut Meter,
+    words: &Words<'_>,
+    name: Option<&str>,
+    notes: &Notes,
     site: R,
     behind: Vec<u8>,
     is_terminal: bool,
@@ -89,8 +127,10 @@ fn converse_at<
     faults: &mut F,
 ) -> Result<(), Ended> {
     let catalogue = script_catalogue(alloc, &site)?;
+    tell_start(alloc, name, notes, &site, faults)?;
+    let lacks = lacks_statements(words, notes, faults);
     let mut inputs = first_lines(alloc, &site, behind)?;
-    let mut shell = Shell::new(alloc, host, links, meter, site, catalogue);
+    let mut shell = Shell::new(alloc, host, links, meter, notes, site, catalogue, lacks);
     converse(&mut shell, &mut inputs, is_terminal, source, sink, faults)
 }
 
@@ -141,7 +181,7 @@ fn open_new<R: Opens, F: Sink>(
 fn start<
     R: Opens + Drop,
     J: Journals,
-    H: Files + Clock + AllocGlobal,
+    H: Files<File = File> + Clock + AllocGlobal + Clone + Drop,
     L: Links,
     S: Source,
     K: Sink,
@@ -152,6 +192,7 @@ fn start<
     script: Script,
     host: &H,
     journals: &J,
+    notes: &Notes,
     links: &mut L,
     meter: &mut Meter,
     is_terminal: bool,
@@ -170,6 +211,9 @@ fn start<
             host,
             links,
             meter,
+            words,
+            None,
+            notes,
             site,
             behind,
             is_terminal,
@@ -183,6 +227,14 @@ fn start<
     let Ok(name) = format!(in alloc; "{prefix}{number}.tdj") else {
         return end(Err(Ended::OutOfMemory), faults);
     };
+    match unfit_words(alloc, host, words, name.as_str()) {
+        Ok(None) => {}
+        Ok(Some(text)) => {
+            complain(faults, text.as_str());
+            return BAD_JOURNAL;
+        }
+        Err(_) => return end(Err(Ended::OutOfMemory), faults),
+    }
     match keep_journal(alloc, journals, &name, site, meter) {
         Ok(site) => {
             let ended = converse_at(
@@ -190,6 +242,9 @@ fn start<
                 host,
                 links,
                 meter,
+                words,
+                Some(name.as_str()),
+                notes,
                 site,
                 behind,
                 is_terminal,
@@ -210,7 +265,7 @@ fn start<
 pub fn program<
     R: Opens + Drop,
     J: Journals,
-    H: Files + Clock + AllocGlobal,
+    H: Files<File = File> + Clock + AllocGlobal + Clone + Drop,
     L: Links,
     S: Source,
     K: Sink,
@@ -220,6 +275,7 @@ pub fn program<
     words: &[String],
     host: &H,
     journals: &J,
+    notes: &Notes,
     links: &mut L,
     meter: &mut Meter,
     is_terminal: bool,
@@ -244,6 +300,7 @@ pub fn program<
             script,
             host,
             journals,
+            notes,
             links,
             meter,
             is_terminal,

@@ -1,44 +1,131 @@
 //! A site as a script that makes it again.
 
-use crate::wording::BROKEN;
+use crate::issue::issue;
+use crate::new_file::{NotWritten, write_new};
+use crate::wording::{BROKEN, UNCHANGED};
 use std::alloc::{AllocError, Global};
-use std::fs;
+use std::fs::File;
 use std::rt::Files;
-use td_stamps::Entry;
-use td_story::Replica;
+use td_files::Notes;
+use td_grammar::{ReadError, read_statement_in};
+use td_inputs::{DumpedEntry, entry_in, push_entry};
+use td_stamps::{Entry, Stamp};
+use td_story::{Meter, Outcome, Replica, TellError};
 
-// A statement in one line: the end of a line means what a blank does, since no literal has one.
-fn push_statement(out: &mut String, entry: &Entry) -> Result<(), AllocError> {
-    for c in entry.text.as_str().chars() {
-        out.push(if c == '\n' { ' ' } else { c })?;
-    }
-    out.push_str("\n")
+/// What the names of journals and of the files beside them have in them, and no dump's.
+const OF_JOURNALS: &str = ".tdj";
+
+/// The most bytes of a line of a dump: a text of which each character is written by two.
+pub const ENTRY_BYTES: usize = 32_768;
+
+/// A site as a text, and how many of its statements that has and lacks.
+#[derive(Drop)]
+struct Dump {
+    text: String,
+    kept: usize,
+    left_out: usize,
 }
 
-fn dump_text(alloc: Global, script: &str, entries: &[Entry]) -> Result<String, AllocError> {
-    let mut out = String::from_str(alloc, script)?;
-    out.push_str(".begin\n")?;
-    for entry in entries {
-        push_statement(&mut out, entry)?;
+// The script, and behind it a line for each statement. One that has no reading in its dialect is left out: it had no
+// effect, and in another dialect it might have one.
+fn dump_of(
+    alloc: Global,
+    script: &str,
+    entries: &[Entry],
+    outcomes: &[(Stamp, Outcome)],
+) -> Result<Dump, AllocError> {
+    let mut dump = Dump {
+        text: String::from_str(alloc, script)?,
+        kept: 0,
+        left_out: 0,
+    };
+    dump.text.push_str(".begin\n")?;
+    for (entry, (_, outcome)) in entries.iter().zip(outcomes) {
+        if matches!(outcome, Outcome::Unread) {
+            dump.left_out = dump.left_out.saturating_add(1);
+        } else {
+            push_entry(&mut dump.text, entry.dialect, entry.text.as_str())?;
+            dump.kept = dump.kept.saturating_add(1);
+        }
     }
-    Ok(out)
+    Ok(dump)
 }
 
-/// Writes the script, and behind it each statement that the site holds, in the order of stamps. A statement that was
-/// refused is among them: it is a part of what the site lists. A file of this name is replaced.
-pub fn dump<R: Replica, H: Files>(
+fn dumped_words(alloc: Global, file: &str, dump: &Dump) -> Result<String, AllocError> {
+    let kept = dump.kept;
+    let left_out = dump.left_out;
+    if left_out == 0 {
+        return format!(in alloc; "dumped the script and {kept} statements to {file}\n");
+    }
+    format!(in alloc;
+        "dumped the script and {kept} statements to {file}; {left_out} that are no statements of the script are left out\n"
+    )
+}
+
+/// Why a text is not written to a new file.
+pub fn unwritten_words(alloc: Global, file: &str, error: NotWritten) -> Result<String, AllocError> {
+    match error {
+        NotWritten::IsThere => format!(in alloc;
+            "fault file: {file} is there already, and is not written over; name another file\n"
+        ),
+        NotWritten::Failed => format!(in alloc; "fault file: {file} cannot be written\n"),
+    }
+}
+
+/// Writes the script, and behind it each statement that the site holds, in the order of stamps, to a file that is not
+/// there yet. A statement that was refused is among them: it is a part of what the site lists.
+pub fn dump<R: Replica, H: Files<File = File>>(
     alloc: Global,
     host: &H,
     site: &R,
     file: &str,
 ) -> Result<String, AllocError> {
+    if file.contains(OF_JOURNALS) {
+        return format!(in alloc;
+            "fault file: {file} is a name for journals; a dump goes to another one\n"
+        );
+    }
     let Ok(held) = site.held() else {
         return String::from_str(alloc, BROKEN);
     };
-    let text = dump_text(alloc, site.script(), held.entries())?;
-    let count = held.len();
-    match fs::write(host, file, text) {
-        Ok(()) => format!(in alloc; "dumped the script and {count} statements\n"),
-        Err(_) => format!(in alloc; "fault file: {file} cannot be written\n"),
+    let outcomes = match site.outcomes(alloc) {
+        Ok(outcomes) => outcomes,
+        Err(TellError::Broken) => return String::from_str(alloc, BROKEN),
+        Err(TellError::OutOfMemory) => return String::from_str(alloc, UNCHANGED),
+    };
+    let dump = dump_of(alloc, site.script(), held.entries(), &outcomes)?;
+    match write_new(alloc, host, file, dump.text.as_bytes())? {
+        Ok(()) => dumped_words(alloc, file, &dump),
+        Err(error) => unwritten_words(alloc, file, error),
     }
+}
+
+// Whether the text is a statement of the dialect that it is told to be of.
+fn is_of_dialect(alloc: Global, entry: &DumpedEntry) -> Result<bool, AllocError> {
+    match read_statement_in(alloc, entry.text.as_str(), entry.dialect) {
+        Ok(_) => Ok(true),
+        Err(ReadError::Syntax) => Ok(false),
+        Err(ReadError::OutOfMemory) => Err(AllocError),
+    }
+}
+
+/// Issues the statement of a line of a dump.
+pub fn issue_entry<R: Replica>(
+    alloc: Global,
+    site: &mut R,
+    words: &str,
+    meter: &mut Meter,
+    notes: &Notes,
+) -> Result<String, AllocError> {
+    let Some(entry) = entry_in(alloc, words)? else {
+        return String::from_str(
+            alloc,
+            "fault command: a line of a dump is written so: .entry DIALECT 'TEXT'\n",
+        );
+    };
+    if !is_of_dialect(alloc, &entry)? {
+        let dialect = entry.dialect;
+        return format!(in alloc; "fault syntax: this is no statement of dialect {dialect}\n");
+    }
+    issue(alloc, site, entry.text.as_str(), meter, notes)
 }

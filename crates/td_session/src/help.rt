@@ -10,7 +10,9 @@ and what begins with IF until each IF has its END IF. An empty line ends it too.
   .schema [NAME]     the definitions, or that of a name
   .listing           each relvar with its tuples, and the refused statements
   .log               each statement with what became of it
+  .refused [here]    the statements that have no effect; those issued here alone
   .vector            up to which number each site's statements are here
+  .digest [SITE N]   what is held in a few digits, to compare with another site's
   .at CLOCK.SITE Q   asks a query as it was just after that statement
   .import FILE R     inserts the rows of a CSV file, whose first line names the columns
   .read FILE         reads lines from a file as if they were typed

@@ -5,6 +5,7 @@ use crate::issue::{not_issued, push_issued};
 use crate::relvars::relvar_named;
 use std::alloc::{AllocError, Global};
 use td_devices::{Sink, put};
+use td_files::Notes;
 use td_headings::{Catalogue, Origin};
 use td_imports::{ImportFault, Row, check_keys, insertion_of, read_rows};
 use td_listings::show_stamp;
@@ -20,6 +21,13 @@ const ROWS_TOLD: usize = 1_000;
 struct Target<'a> {
     relvar: &'a Name,
     heading: &'a Heading,
+}
+
+/// Why an import stops, and at how many rows.
+#[derive(Drop)]
+struct Stop {
+    why: String,
+    count: usize,
 }
 
 /// How far an import is.
@@ -133,14 +141,20 @@ fn insert_some<R: Replica>(
     rows: &[Row],
     progress: &mut Progress,
     meter: &mut Meter,
-) -> Result<Option<String>, AllocError> {
+    notes: &Notes,
+) -> Result<Option<Stop>, AllocError> {
     let insertion = insertion_of(alloc, target.relvar, target.heading, rows, MOST_BYTES)?;
+    let count = insertion.count;
     let issued = match site.issue(alloc, insertion.text.as_str(), meter) {
         Ok(issued) => issued,
-        Err(error) => return Ok(Some(not_issued(alloc, insertion.text.as_str(), error)?)),
+        Err(error) => {
+            let why = not_issued(alloc, insertion.text.as_str(), error, notes)?;
+            return Ok(Some(Stop { why, count }));
+        }
     };
     if !matches!(&issued.outcome, Outcome::Done) {
-        return Ok(Some(refused(alloc, &issued)?));
+        let why = refused(alloc, &issued)?;
+        return Ok(Some(Stop { why, count }));
     }
     progress.rows = progress.rows.saturating_add(insertion.count);
     progress.statements = progress.statements.saturating_add(1);
@@ -157,6 +171,7 @@ fn insert_all<R: Replica, F: Sink>(
     target: Target<'_>,
     rows: &[Row],
     meter: &mut Meter,
+    notes: &Notes,
     faults: &mut F,
 ) -> Result<String, AllocError> {
     let mut progress = Progress {
@@ -173,12 +188,13 @@ fn insert_all<R: Replica, F: Sink>(
         if left.is_empty() {
             break;
         }
-        if let Some(why) = insert_some(alloc, site, target, left, &mut progress, meter)? {
+        let stop = insert_some(alloc, site, target, left, &mut progress, meter, notes)?;
+        if let Some(Stop { why, count }) = stop {
             return stopped(
                 alloc,
                 &progress,
                 rows.len(),
-                left,
+                left.get(..count).unwrap_or(left),
                 why.as_str().trim_ascii_end(),
             );
         }
@@ -196,6 +212,7 @@ pub fn import<R: Replica, F: Sink>(
     name: &str,
     file: &[u8],
     meter: &mut Meter,
+    notes: &Notes,
     faults: &mut F,
 ) -> Result<String, Ended> {
     let Some((place, relvar, heading)) = relvar_named(catalogue, name) else {
@@ -216,5 +233,5 @@ pub fn import<R: Replica, F: Sink>(
     if rows.is_empty() {
         return Ok(String::from_str(alloc, "the file has no rows, and nothing is imported\n")?);
     }
-    Ok(insert_all(alloc, site, target, &rows, meter, faults)?)
+    Ok(insert_all(alloc, site, target, &rows, meter, notes, faults)?)
 }

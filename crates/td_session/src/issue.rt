@@ -1,9 +1,11 @@
 //! Statements that are issued.
 
 use crate::places::fault_text;
-use crate::wording::{BROKEN, UNCHANGED, push_outcome};
+use crate::wording::{BROKEN, UNCHANGED};
 use std::alloc::{AllocError, Global};
+use td_files::Notes;
 use td_listings::show_stamp;
+use td_notices::{failure_words, push_outcome};
 use td_places::Reading;
 use td_story::{IssueError, Issued, MOST_BYTES, Meter, Replica};
 
@@ -35,8 +37,21 @@ fn unread(alloc: Global, text: &str) -> Result<String, AllocError> {
     )
 }
 
+/// What is said where what the site accepts is not on the disk.
+pub fn journal_words(alloc: Global, notes: &Notes) -> Result<String, AllocError> {
+    let why = failure_words(notes.failure());
+    format!(in alloc;
+        "fault journal: the journal cannot be written: {why}. This is not kept, and all before it stands. Mend that, end the program and start it again\n"
+    )
+}
+
 /// Why a statement is not issued.
-pub fn not_issued(alloc: Global, text: &str, error: IssueError) -> Result<String, AllocError> {
+pub fn not_issued(
+    alloc: Global,
+    text: &str,
+    error: IssueError,
+    notes: &Notes,
+) -> Result<String, AllocError> {
     let words = match error {
         IssueError::Syntax => return unread(alloc, text),
         IssueError::Broken => BROKEN,
@@ -46,9 +61,7 @@ pub fn not_issued(alloc: Global, text: &str, error: IssueError) -> Result<String
         IssueError::ClockEnd => "fault clock: this site has no numbers left\n",
         IssueError::Full => "fault full: this site holds as many statements as its limit says\n",
         IssueError::OutOfMemory => UNCHANGED,
-        IssueError::JournalWrite => {
-            "fault journal: the journal cannot be written; end the program, and see whether the disk is full\n"
-        }
+        IssueError::JournalWrite => return journal_words(alloc, notes),
     };
     String::from_str(alloc, words)
 }
@@ -66,6 +79,7 @@ pub fn issue<R: Replica>(
     site: &mut R,
     text: &str,
     meter: &mut Meter,
+    notes: &Notes,
 ) -> Result<String, AllocError> {
     // Behind the call nothing may fail for want of room: the site has taken the statement then.
     let mut out = String::with_capacity(alloc, 256)?;
@@ -75,6 +89,6 @@ pub fn issue<R: Replica>(
             out.push_str("\n")?;
             Ok(out)
         }
-        Err(error) => not_issued(alloc, text, error),
+        Err(error) => not_issued(alloc, text, error, notes),
     }
 }

@@ -1,13 +1,16 @@
 //! Meetings with sites of other programs.
 
+use crate::issue::journal_words;
 use crate::wording::{BROKEN, NO_MEMORY, UNCHANGED};
 use std::alloc::{AllocError, Global};
 use std::net::SocketAddr;
 use td_answers::{LinkError, Links};
 use td_devices::{Device, Sink, put};
+use td_files::Notes;
 use td_frames::FrameError;
 use td_meeting::{MeetingError, answer, finish, greet, settle};
-use td_story::{Meter, Replica, TakeError, Taken};
+use td_notices::{Told, room_text};
+use td_story::{Meter, Replica, TakeError, Taken, TellError};
 
 const NO_ADDRESS: &str =
     "fault address: an address is numbers and a port, as 127.0.0.1:7001 or [::1]:7001\n";
@@ -47,26 +50,24 @@ fn frame_words(alloc: Global, error: FrameError, taken: usize) -> Result<String,
     String::from_str(alloc, words)
 }
 
-fn take_words(alloc: Global, error: TakeError) -> Result<String, AllocError> {
+fn take_words(alloc: Global, error: TakeError, notes: &Notes) -> Result<String, AllocError> {
     let words = match error {
         TakeError::Broken => BROKEN,
         TakeError::BadEntry =>
             "fault entry: the other site sent what no site sends; nothing of it is kept\n",
         TakeError::Clash { site, seq } => {
             return format!(in alloc;
-                "fault clash: there are two statements {seq} of site {site}; was a journal copied?\n"
+                "fault clash: statement {seq} of site {site} is another one here than there: a journal was copied, forgotten or brought back; compare .digest. Nothing of it is kept\n"
             );
         }
         TakeError::Full => "fault full: this site would hold more statements than its limit says\n",
         TakeError::OutOfMemory => UNCHANGED,
-        TakeError::JournalWrite => {
-            "fault journal: the journal cannot be written; end the program, and see whether the disk is full\n"
-        }
+        TakeError::JournalWrite => return journal_words(alloc, notes),
     };
     String::from_str(alloc, words)
 }
 
-fn not_met(alloc: Global, error: MeetingError) -> Result<String, AllocError> {
+fn not_met(alloc: Global, error: MeetingError, notes: &Notes) -> Result<String, AllocError> {
     let words = match error {
         MeetingError::Broken => BROKEN,
         MeetingError::OutOfMemory => NO_MEMORY,
@@ -80,22 +81,73 @@ fn not_met(alloc: Global, error: MeetingError) -> Result<String, AllocError> {
                 taken,
             );
         }
-        MeetingError::Take(error) => return take_words(alloc, error),
+        MeetingError::Take(error) => return take_words(alloc, error, notes),
     };
     String::from_str(alloc, words)
 }
 
-fn met(alloc: Global, told: Result<Taken, MeetingError>) -> Result<String, AllocError> {
-    match told {
-        Ok(Taken { fresh: 1, known: _ }) => String::from_str(
-            alloc,
-            "met: 1 statement was new here\n",
-        ),
-        Ok(Taken { fresh, known: _ }) => format!(in alloc;
-            "met: {fresh} statements were new here\n"
-        ),
-        Err(error) => not_met(alloc, error),
+/// What is said of a meeting, and whether it came to its end.
+#[derive(Drop)]
+pub struct Meeting {
+    pub text: String,
+    pub is_done: bool,
+}
+
+fn not_begun(text: Result<String, AllocError>) -> Result<Meeting, AllocError> {
+    Ok(Meeting {
+        text: text?,
+        is_done: false,
+    })
+}
+
+fn met_words(alloc: Global, fresh: usize) -> Result<String, AllocError> {
+    if fresh == 1 {
+        return String::from_str(alloc, "met: 1 statement was new here\n");
     }
+    format!(in alloc; "met: {fresh} statements were new here\n")
+}
+
+// What a site told before a meeting, or why nothing is begun.
+fn told_before<R: Replica>(alloc: Global, site: &R) -> Result<Told, &'static str> {
+    match Told::by(alloc, site) {
+        Ok(told) => Ok(told),
+        Err(TellError::Broken) => Err(BROKEN),
+        Err(TellError::OutOfMemory) => Err(UNCHANGED),
+    }
+}
+
+// The line of a meeting with what is told otherwise now, and what else there is to say behind it.
+fn with_changes<R: Replica>(
+    alloc: Global,
+    site: &R,
+    before: &Told,
+    line: &str,
+) -> Result<String, AllocError> {
+    let (changes, own) = match before.compare(alloc, site) {
+        Ok(found) => found,
+        Err(_) => (String::new(alloc), String::new(alloc)),
+    };
+    let mut out = String::from_str(alloc, line.trim_ascii_end())?;
+    out.push_str(changes.as_str())?;
+    out.push_str("\n")?;
+    out.push_str(own.as_str())?;
+    out.push_str(room_text(alloc, site)?.as_str())?;
+    Ok(out)
+}
+
+fn met<R: Replica>(
+    alloc: Global,
+    site: &R,
+    before: &Told,
+    told: Result<Taken, MeetingError>,
+    notes: &Notes,
+) -> Result<Meeting, AllocError> {
+    let (line, is_done) = match told {
+        Ok(Taken { fresh, known: _ }) => (met_words(alloc, fresh)?, true),
+        Err(error) => (not_met(alloc, error, notes)?, false),
+    };
+    let text = with_changes(alloc, site, before, line.as_str())?;
+    Ok(Meeting { text, is_done })
 }
 
 /// Waits at the address for one site, and meets it. That it waits is told on the output of faults.
@@ -105,21 +157,27 @@ pub fn serve<R: Replica, L: Links, F: Sink>(
     links: &mut L,
     word: &str,
     meter: &mut Meter,
+    notes: &Notes,
     faults: &mut F,
-) -> Result<String, AllocError> {
+) -> Result<Meeting, AllocError> {
     let Ok(address) = word.parse::<SocketAddr>() else {
-        return String::from_str(alloc, NO_ADDRESS);
+        return not_begun(String::from_str(alloc, NO_ADDRESS));
+    };
+    let before = match told_before(alloc, site) {
+        Ok(before) => before,
+        Err(words) => return not_begun(String::from_str(alloc, words)),
     };
     let line = format!(in alloc; "waiting at {word} for another site\n")?;
     let _told = put(faults, line.as_bytes());
     let mut link = match links.serve(alloc, address) {
         Ok(link) => Device::link(link),
-        Err(error) => return not_linked(alloc, error),
+        Err(error) => return not_begun(not_linked(alloc, error)),
     };
-    match answer(alloc, site, &mut link) {
-        Ok(()) => met(alloc, finish(alloc, site, &mut link, meter)),
-        Err(error) => not_met(alloc, error),
+    if let Err(error) = answer(alloc, site, &mut link) {
+        return not_begun(not_met(alloc, error, notes));
     }
+    let taken = finish(alloc, site, &mut link, meter);
+    met(alloc, site, &before, taken, notes)
 }
 
 /// Meets the site that serves at the address.
@@ -129,16 +187,22 @@ pub fn call<R: Replica, L: Links>(
     links: &mut L,
     address: &str,
     meter: &mut Meter,
-) -> Result<String, AllocError> {
+    notes: &Notes,
+) -> Result<Meeting, AllocError> {
     let Ok(address) = address.parse::<SocketAddr>() else {
-        return String::from_str(alloc, NO_ADDRESS);
+        return not_begun(String::from_str(alloc, NO_ADDRESS));
+    };
+    let before = match told_before(alloc, site) {
+        Ok(before) => before,
+        Err(words) => return not_begun(String::from_str(alloc, words)),
     };
     let mut link = match links.call(alloc, address) {
         Ok(link) => Device::link(link),
-        Err(error) => return not_linked(alloc, error),
+        Err(error) => return not_begun(not_linked(alloc, error)),
     };
-    match greet(alloc, site, &mut link) {
-        Ok(()) => met(alloc, settle(alloc, site, &mut link, meter)),
-        Err(error) => not_met(alloc, error),
+    if let Err(error) = greet(alloc, site, &mut link) {
+        return not_begun(not_met(alloc, error, notes));
     }
+    let taken = settle(alloc, site, &mut link, meter);
+    met(alloc, site, &before, taken, notes)
 }

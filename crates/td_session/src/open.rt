@@ -1,10 +1,10 @@
 //! A script, read from a file, and the site that it opens.
 
 use crate::places::fault_text;
-use crate::wording::raise_words;
 use std::alloc::{AllocError, Global};
 use std::str;
 use td_inputs::script_front;
+use td_notices::raise_words;
 use td_places::Reading;
 use td_story::{BrokenTest, OpenError, SCRIPT_BYTES, ScriptError};
 

@@ -1,10 +1,11 @@
 //! The relvars of a site, and the definitions of its script.
 
-use crate::wording::{BROKEN, raise_words};
+use crate::wording::BROKEN;
 use std::alloc::{AllocError, Global};
 use std::str;
 use td_headings::{Catalogue, Origin};
 use td_inputs::{defined_by, definition_at};
+use td_notices::raise_words;
 use td_story::{Answer, Replica, ValueError};
 use td_tables::{Column, Side, laid_out};
 use td_values::{Heading, Name, TdType, TypeKind, show_type};

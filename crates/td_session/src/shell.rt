@@ -1,26 +1,29 @@
 //! The conversation at one site.
 
 use crate::ask::{ask, ask_at};
-use crate::dump::dump;
+use crate::dump::{ENTRY_BYTES, dump, issue_entry};
 use crate::ended::Ended;
 use crate::help::HELP;
 use crate::import::import;
 use crate::inputs::{Inputs, Next};
 use crate::issue::issue;
-use crate::lists::{log, vector};
-use crate::meet::{call, serve};
+use crate::lists::{digest, log, refused, vector};
+use crate::meet::{Meeting, call, serve};
 use crate::relvars::{relvars, schema};
 use crate::timing::{begin, took};
 use crate::wording::NO_MEMORY;
 use std::alloc::{AllocError, Global};
+use std::fs::File;
 use std::rt::Files;
 use std::time::Clock;
 use std::{fs, str};
 use td_answers::Links;
 use td_devices::{Sink, Source, put};
+use td_files::Notes;
 use td_headings::Catalogue;
 use td_inputs::{Command, Mode, Scan, Standing, command_of};
 use td_listings::{ListingError, listing};
+use td_notices::lack_words;
 use td_stamps::Stamp;
 use td_story::{MOST_BYTES, Meter, Replica};
 
@@ -31,8 +34,11 @@ pub struct Shell<'a, R: Drop, H, L> {
     host: &'a H,
     links: &'a mut L,
     meter: &'a mut Meter,
+    notes: &'a Notes,
     site: R,
     catalogue: Catalogue,
+    // Whether the site issues nothing until it has met another one.
+    lacks_statements: bool,
     mode: Mode,
     is_timed: bool,
     text: String,
@@ -54,23 +60,32 @@ const NO_UTF8: &str = "fault line: the line is no UTF-8\n";
 const NESTED_FILES: &str =
     "fault file: 16 files are being read within one another, and no more can be\n";
 
-impl<'a, R: Replica + Drop, H: Files + Clock + AllocGlobal, L: Links> Shell<'a, R, H, L> {
+impl<'a, R: Replica + Drop, H: Files<File = File> + Clock + AllocGlobal, L: Links> Shell<
+    'a,
+    R,
+    H,
+    L,
+> {
     /// A conversation at the site of this script's catalogue, in which nothing was said yet.
     pub fn new(
         alloc: Global,
         host: &'a H,
         links: &'a mut L,
         meter: &'a mut Meter,
+        notes: &'a Notes,
         site: R,
         catalogue: Catalogue,
+        lacks_statements: bool,
     ) -> Self {
         Shell {
             alloc,
             host,
             links,
             meter,
+            notes,
             site,
             catalogue,
+            lacks_statements,
             mode: Mode::Table,
             is_timed: false,
             text: String::new(alloc),
@@ -101,9 +116,67 @@ impl<'a, R: Replica + Drop, H: Files + Clock + AllocGlobal, L: Links> Shell<'a, 
         self.text.push_str(line)
     }
 
+    // A statement of a dump, which stands in files alone.
+    fn issue_entry(&mut self, words: &str, inputs: &Inputs) -> Result<String, AllocError> {
+        if inputs.is_typed() {
+            return String::from_str(
+                self.alloc,
+                "fault command: .entry stands in the files that .dump writes, and is not typed\n",
+            );
+        }
+        if self.lacks_statements {
+            return self.lack_text();
+        }
+        if words.len() > ENTRY_BYTES {
+            return String::from_str(self.alloc, TOO_LONG);
+        }
+        issue_entry(self.alloc, &mut self.site, words, self.meter, self.notes)
+    }
+
+    fn lack_text(&self) -> Result<String, AllocError> {
+        let words = lack_words();
+        format!(in self.alloc; "fault journal: {words}")
+    }
+
+    // A meeting may have brought what the journal lacks.
+    fn after_meeting(&mut self, meeting: Meeting) -> String {
+        let Meeting { text, is_done } = meeting;
+        if is_done {
+            self.lacks_statements = false;
+            self.notes.let_go();
+        }
+        text
+    }
+
+    fn serve<F: Sink>(&mut self, address: &str, faults: &mut F) -> Result<String, AllocError> {
+        let meeting = serve(
+            self.alloc,
+            &mut self.site,
+            self.links,
+            address,
+            self.meter,
+            self.notes,
+            faults,
+        )?;
+        Ok(self.after_meeting(meeting))
+    }
+
+    fn call(&mut self, address: &str) -> Result<String, AllocError> {
+        let meeting = call(
+            self.alloc,
+            &mut self.site,
+            self.links,
+            address,
+            self.meter,
+            self.notes,
+        )?;
+        Ok(self.after_meeting(meeting))
+    }
+
     fn answer_text(&mut self, standing: Standing, text: &str) -> Result<String, AllocError> {
         match standing {
-            Standing::Statement => issue(self.alloc, &mut self.site, text, self.meter),
+            Standing::Statement if self.lacks_statements => self.lack_text(),
+            Standing::Statement => issue(self.alloc, &mut self.site, text, self.meter, self.notes),
             Standing::Query => ask(self.alloc, &self.site, text, self.mode),
             Standing::Empty | Standing::Open => Ok(String::new(self.alloc)),
         }
@@ -156,6 +229,9 @@ impl<'a, R: Replica + Drop, H: Files + Clock + AllocGlobal, L: Links> Shell<'a, 
         faults: &mut F,
     ) -> Result<String, AllocError> {
         let alloc = self.alloc;
+        if self.lacks_statements {
+            return self.lack_text();
+        }
         let Ok(bytes) = fs::read(self.host, file) else {
             return format!(in alloc; "fault file: {file} cannot be read\n");
         };
@@ -166,6 +242,7 @@ impl<'a, R: Replica + Drop, H: Files + Clock + AllocGlobal, L: Links> Shell<'a, 
             relvar,
             &bytes,
             self.meter,
+            self.notes,
             faults,
         ) {
             Ok(text) => Ok(text),
@@ -195,19 +272,15 @@ impl<'a, R: Replica + Drop, H: Files + Clock + AllocGlobal, L: Links> Shell<'a, 
             Command::Tables => relvars(alloc, &self.catalogue, &self.site),
             Command::Schema(name) => schema(alloc, self.site.script(), name),
             Command::Log => log(alloc, &self.site),
+            Command::Refused { is_own } => refused(alloc, &self.site, is_own),
             Command::Vector => vector(alloc, &self.site),
+            Command::Digest(of) => digest(alloc, &self.site, of),
             Command::Read(file) => self.read(inputs, file),
             Command::Import { file, relvar } => self.import(file, relvar, faults),
             Command::Dump(file) => dump(alloc, self.host, &self.site, file),
-            Command::Serve(address) => serve(
-                alloc,
-                &mut self.site,
-                self.links,
-                address,
-                self.meter,
-                faults,
-            ),
-            Command::Call(address) => call(alloc, &mut self.site, self.links, address, self.meter),
+            Command::Entry(words) => self.issue_entry(words, inputs),
+            Command::Serve(address) => self.serve(address, faults),
+            Command::Call(address) => self.call(address),
             Command::At { clock, site, query } => {
                 let at = Stamp { clock, site };
                 ask_at(alloc, &self.site, query, at, self.mode, self.meter)
@@ -299,7 +372,7 @@ impl<'a, R: Replica + Drop, H: Files + Clock + AllocGlobal, L: Links> Shell<'a, 
 /// line is read. At a terminal a prompt stands in front of each line that is typed.
 pub fn converse<
     R: Replica + Drop,
-    H: Files + Clock + AllocGlobal,
+    H: Files<File = File> + Clock + AllocGlobal,
     L: Links,
     S: Source,
     K: Sink,

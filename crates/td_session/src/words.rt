@@ -38,6 +38,14 @@ fn command<'a>(alloc: Global) -> Result<Command<'a>, AllocError> {
         .value_name("PREFIX")
         .help("Keeps the site's statements in the file PREFIX, its number, .tdj")
         .action(ArgAction::Set);
+    let new = Arg::new(alloc, "new")
+        .long("new")
+        .help("Begins a journal where none is")
+        .action(ArgAction::SetTrue);
+    let forget = Arg::new(alloc, "forget")
+        .long("forget")
+        .help("Goes on with a journal that lost statements, without meeting another site first")
+        .action(ArgAction::SetTrue);
     Command::new(alloc, "td_shell")
         .version("1.0")
         .about("A person at one site of a replicated relational database")
@@ -45,7 +53,9 @@ fn command<'a>(alloc: Global) -> Result<Command<'a>, AllocError> {
         .arg(script)?
         .arg(site)?
         .arg(limit)?
-        .arg(journal)
+        .arg(journal)?
+        .arg(new)?
+        .arg(forget)
 }
 
 /// What the words of the program ask for.
@@ -59,6 +69,10 @@ pub struct Words<'a> {
     pub limit: usize,
     /// What the name of its journal begins with, if it keeps one.
     pub journal: Option<&'a str>,
+    /// Whether a journal is to be begun, and none to be gone on with.
+    pub is_new: bool,
+    /// Whether it goes on with a journal that has less than it had once.
+    pub forgets: bool,
 }
 
 /// What the words ask for, the first of which names the program.
@@ -69,5 +83,7 @@ pub fn read_words<'a>(alloc: Global, words: &'a [String]) -> Result<Words<'a>, E
         site: matches.get_one::<u16>("site").unwrap_or(1),
         limit: matches.get_one::<usize>("limit").unwrap_or(10_000),
         journal: matches.get_str("journal"),
+        is_new: matches.get_flag("new"),
+        forgets: matches.get_flag("forget"),
     })
 }

@@ -68,6 +68,7 @@ fn main(rt: HostRuntime) -> ExitCode {
         &words,
         &rt,
         &FileJournals::new(&rt, &notes),
+        &notes,
         &mut TcpLinks::new(&rt),
         &mut meter,
         is_terminal,

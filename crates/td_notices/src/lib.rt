@@ -1,0 +1,15 @@
+//! What a person is told beside answers: of a site's journal, of what a meeting changed, of what became of statements, and
+//! of the room that is left.
+#![tactic(auto)]
+
+mod digest;
+mod journal;
+mod meeting;
+mod outcomes;
+mod room;
+
+pub use digest::digest_text;
+pub use journal::{failure_words, journal_text, lack_words};
+pub use meeting::Told;
+pub use outcomes::{push_outcome, raise_words, refused_text};
+pub use room::room_text;

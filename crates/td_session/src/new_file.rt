@@ -1,0 +1,74 @@
+//! Files that are written whole, and never over others.
+
+use std::alloc::{AllocError, Global};
+use std::fs::{File, OpenOptions};
+use std::io::{ErrorKind, Write};
+use std::os::unix::fs::OpenOptionsExt;
+use std::rt::Files;
+use std::{fs, io};
+
+/// The rights of a file that is made: its owner alone reads and writes it.
+const OWN: u32 = 0o600;
+
+/// Why a file is not written.
+#[derive(Clone, Copy, Debug, PartialEq, Eq)]
+pub enum NotWritten {
+    /// There is one of this name already.
+    IsThere,
+    Failed,
+}
+
+// Writes a file that is not there yet, and hands it to the disk.
+fn write_part<H: Files<File = File>>(host: &H, part: &str, bytes: &[u8]) -> io::Result<()> {
+    let mut file = OpenOptions::new()
+        .write(true)
+        .create_new(true)
+        .mode(OWN)
+        .open(host, part)?;
+    file.write_all(bytes)?;
+    file.sync_all()
+}
+
+// Gives the file its name, unless another one has that.
+fn give_name<H: Files<File = File>>(host: &H, part: &str, name: &str) -> Result<(), NotWritten> {
+    match fs::hard_link(host, part, name) {
+        Ok(()) => {
+            let _removed = fs::remove_file(host, part);
+            return Ok(());
+        }
+        Err(error) if error.kind() == ErrorKind::AlreadyExists => return Err(NotWritten::IsThere),
+        Err(_) => {}
+    }
+    // (a file system that has no second names for a file)
+    if fs::symlink_metadata(host, name).is_ok() {
+        return Err(NotWritten::IsThere);
+    }
+    match fs::rename(host, part, name) {
+        Ok(()) => Ok(()),
+        Err(_) => Err(NotWritten::Failed),
+    }
+}
+
+/// Writes the bytes to a file that is not there yet, not even as a link: first beside it, and then under its name.
+pub fn write_new<H: Files<File = File>>(
+    alloc: Global,
+    host: &H,
+    name: &str,
+    bytes: &[u8],
+) -> Result<Result<(), NotWritten>, AllocError> {
+    if fs::symlink_metadata(host, name).is_ok() {
+        return Ok(Err(NotWritten::IsThere));
+    }
+    let part = format!(in alloc; "{name}.part")?;
+    if fs::symlink_metadata(host, part.as_str()).is_ok() {
+        return Ok(Err(NotWritten::Failed));
+    }
+    let written = match write_part(host, part.as_str(), bytes) {
+        Ok(()) => give_name(host, part.as_str(), name),
+        Err(_) => Err(NotWritten::Failed),
+    };
+    if written.is_err() {
+        let _removed = fs::remove_file(host, part.as_str());
+    }
+    Ok(written)
+}
