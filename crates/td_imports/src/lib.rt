@@ -5,6 +5,7 @@ pub mod cells;
 pub mod columns;
 pub mod error;
 pub mod keys;
+mod lines;
 pub mod rows;
 pub mod statements;
 

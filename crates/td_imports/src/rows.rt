@@ -3,6 +3,7 @@
 use crate::cells::{Unread, value_in};
 use crate::columns::{check_types, columns_of, told};
 use crate::error::{CellFault, ImportFault};
+use crate::lines::Lines;
 use crate::statements::is_short;
 use csv::{ByteRecord, Error, ErrorKind, ReaderBuilder};
 use std::alloc::Global;
@@ -22,9 +23,9 @@ fn unreadable(error: &Error) -> ImportFault {
     }
 }
 
-fn line_of(record: &ByteRecord) -> u64 {
+fn line_of(lines: &mut Lines<'_>, record: &ByteRecord) -> u64 {
     match record.position() {
-        Some(position) => position.line(),
+        Some(position) => lines.line_behind(position.byte()),
         None => 0,
     }
 }
@@ -61,9 +62,9 @@ fn row_in(
     alloc: Global,
     heading: &Heading,
     columns: &[usize],
+    line: u64,
     record: &ByteRecord,
 ) -> Result<Row, ImportFault> {
-    let line = line_of(record);
     let mut literals = Vec::with_capacity(alloc, columns.len())?;
     for (field, column) in heading.fields().iter().zip(columns) {
         let cell = record.get(*column).unwrap_or(b"".as_slice());
@@ -77,18 +78,19 @@ fn checked_row(
     relvar: &Name,
     heading: &Heading,
     columns: &[usize],
+    line: u64,
     record: &ByteRecord,
     wanted: usize,
     most_bytes: usize,
 ) -> Result<Row, ImportFault> {
     if record.len() != wanted {
         return Err(ImportFault::CellCount {
-            line: line_of(record),
+            line,
             count: record.len(),
             wanted,
         });
     }
-    let row = row_in(alloc, heading, columns, record)?;
+    let row = row_in(alloc, heading, columns, line, record)?;
     if !is_short(relvar, heading, &row, most_bytes) {
         return Err(ImportFault::TooLong { line: row.line });
     }
@@ -116,17 +118,20 @@ pub fn read_rows(
         None => return Err(ImportFault::NoHeader),
     };
     let columns = columns_of(alloc, heading, &titles)?;
+    let mut lines = Lines::new(file);
     let mut rows = Vec::new(alloc);
     for record in records {
         let record = match record {
             Ok(record) => record,
             Err(error) => return Err(unreadable(&error)),
         };
+        let line = line_of(&mut lines, &record);
         rows.push(checked_row(
             alloc,
             relvar,
             heading,
             &columns,
+            line,
             &record,
             titles.len(),
             most_bytes,

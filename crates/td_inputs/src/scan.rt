@@ -169,9 +169,9 @@ impl Scan {
         self.ended()
     }
 
-    /// What the text is where no line follows.
+    /// What the text is where no line follows. A comment without its end is no blank: the text is one that has no reading.
     pub fn ended(&self) -> Standing {
-        if self.last.is_none() {
+        if self.last.is_none() && self.place != Place::Comment {
             return Standing::Empty;
         }
         if self.last == Some(b';') || self.is_like_statement() {

@@ -1,9 +1,10 @@
 //! Links over TCP, with limits of time.
 
+use crate::paced::Paced;
 use std::alloc::Global;
 use std::io;
 use std::net::{Net, SocketAddr, TcpListener, TcpStream};
-use std::time::Duration;
+use std::time::{Clock, Duration};
 use td_answers::{LinkError, Links};
 
 // For how many seconds the other site may be silent while it is called, in one read, or in one write.
@@ -20,14 +21,17 @@ fn limited(stream: TcpStream) -> io::Result<TcpStream> {
     Ok(stream)
 }
 
-fn link(opened: io::Result<TcpStream>) -> Result<TcpStream, LinkError> {
-    opened.and_then(limited).map_err(|_| LinkError::NetFault)
+fn link<C: Clock + Drop>(opened: io::Result<TcpStream>, clock: C) -> Result<Paced<C>, LinkError> {
+    match opened.and_then(limited) {
+        Ok(stream) => Ok(Paced::new(stream, clock)),
+        Err(_) => Err(LinkError::NetFault),
+    }
 }
 
 /// Waits for a connection at the listener, with no limit, and takes one. A read or a write of it that waits for more
-/// than 30 seconds fails.
-pub fn accept_on(listener: &TcpListener) -> Result<TcpStream, LinkError> {
-    link(listener.accept().map(|(stream, _)| stream))
+/// than 30 seconds fails, and so do those of one that is slower than the floor of `Paced`.
+pub fn accept_on<C: Clock + Drop>(listener: &TcpListener, clock: C) -> Result<Paced<C>, LinkError> {
+    link(listener.accept().map(|(stream, _)| stream), clock)
 }
 
 /// Opens links over TCP.
@@ -43,8 +47,9 @@ impl<N> TcpLinks<N> {
     }
 }
 
-impl<N: Net<Listener = TcpListener, Stream = TcpStream>> Links for TcpLinks<N> {
-    type Link = TcpStream;
+impl<N: Net<Listener = TcpListener, Stream = TcpStream> + Clock + Copy + Drop> Links
+    for TcpLinks<N> {
+    type Link = Paced<N>;
 
     ghost use Rattle.std.specs.Prelude.{◌≡◌};
 
@@ -53,15 +58,16 @@ impl<N: Net<Listener = TcpListener, Stream = TcpStream>> Links for TcpLinks<N> {
     ghost calls = { λ s _ t. t ≡ s };
 
     /// Binds the address, and goes on as `accept_on`.
-    fn serve(&mut self, _alloc: Global, address: SocketAddr) -> Result<TcpStream, LinkError> {
+    fn serve(&mut self, _alloc: Global, address: SocketAddr) -> Result<Paced<N>, LinkError> {
         match TcpListener::bind(&self.net, address) {
-            Ok(listener) => accept_on(&listener),
+            Ok(listener) => accept_on(&listener, self.net),
             Err(_) => Err(LinkError::NetFault),
         }
     }
 
     /// Connects to the address, within 30 seconds.
-    fn call(&mut self, _alloc: Global, address: SocketAddr) -> Result<TcpStream, LinkError> {
-        link(TcpStream::connect_timeout(&self.net, &address, most_silence()))
+    fn call(&mut self, _alloc: Global, address: SocketAddr) -> Result<Paced<N>, LinkError> {
+        let opened = TcpStream::connect_timeout(&self.net, &address, most_silence());
+        link(opened, self.net)
     }
 }
