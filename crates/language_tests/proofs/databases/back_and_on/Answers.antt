@@ -4,8 +4,8 @@ use Rattle.td_story.specs.Databases.{DatabaseData}
 use Rattle.td_relvars.specs.Changed.{undone}
 use Rattle.td_assign.specs.Redoing.{CanRedo, CanUndo}
 use Rattle.td_grammar.specs.Statements.{latest}
-use Rattle.evaluation_tests.proofs.Both.{both_ways}
-use Rattle.evaluation_tests.proofs.changes.back_and_on.Goals as goal
+use Rattle.language_tests.proofs.Both.{both_ways}
+use Rattle.language_tests.proofs.databases.back_and_on.Goals as goal
 
 pub undo-requires-clause-fits : goal.undo-requires-clause-fits
 undo-requires-clause-fits c =

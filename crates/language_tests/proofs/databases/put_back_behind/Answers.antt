@@ -7,7 +7,7 @@ use Rattle.td_story.specs.Databases.{Belongs}
 use Rattle.td_relvars.specs.Parts.{part_of}
 use Rattle.td_relvars.proofs.Copies.{part_belongs}
 use Rattle.td_assign.proofs.Stepping.{step_keeps_database}
-use Rattle.evaluation_tests.proofs.changes.put_back_behind.Goals as goal
+use Rattle.language_tests.proofs.databases.put_back_behind.Goals as goal
 
 pub put_back-requires : goal.put_back-requires
 put_back-requires c =
