@@ -6,7 +6,7 @@ use Rattle.std.proofs.lemmas.List.Sorted.{All-permutation}
 use Rattle.td_values.specs.Headings.{header_fields}
 use Rattle.td_values.specs.Whole.{heading_of}
 use Rattle.td_values.proofs.AlikeLemmas.{alike_by}
-use Rattle.value_tests.proofs.values.place_among.Goals as goal
+use Rattle.algebra_tests.proofs.values.place_among.Goals as goal
 
 pub loop-t-preserved : goal.loop-t-preserved
 loop-t-preserved c =
