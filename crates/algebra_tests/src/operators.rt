@@ -10,7 +10,7 @@ use td_values::{Kind, Name, Raise, TdType, Tuple, TypeKind, Value, show};
 
 type Answer<T> = std::result::Result<T, Fault>;
 
-/// A term: the tuple's first number, which is below 0; at 0 it is untyped, and above it the last of the errors is raised.
+/// A term: the first number, which is below 0; at 0 it is untyped, and above it the last of the errors is raised.
 #[derive(Clone, Copy)]
 struct Stops;
 

@@ -1,5 +1,5 @@
-//! What texts of the language are read as, where they go wrong, what is typed and meant by them, how scripts are
-//! opened, queries evaluated and statements run: what only calls can tell. What else there is of it is shown by examples.
+//! What texts of the language are read as, where they go wrong, what is typed and meant by them, and how statements are
+//! run and constraints judged: what only calls can tell. What else there is of it is shown by examples.
 //!
 //! These tests stand apart from the crates that they call, since a crate is proved once more for the tests in it.
 #![tactic(auto)]
