@@ -14,26 +14,26 @@ fn index(alloc: Global, key: &[&str]) -> Result<KeyIndex> {
     Ok(KeyIndex::new(alloc, &r, &key)?)
 }
 
-// The tuples of the index and of its copy, and how many there are.
-fn told(alloc: Global, index: &KeyIndex) -> Result<String> {
-    let copy = index.copy(alloc)?;
-    let copied = firsts(alloc, copy.tuples())?;
-    let own = firsts(alloc, index.tuples())?;
-    Ok(format!(in alloc; "{own}| {copied}| {}", index.len())?)
-}
-
 fn is_by(alloc: Global, index: &KeyIndex, key: &[&str]) -> Result<bool> {
     let key = names(alloc, key)?;
     Ok(index.is_of(&key))
 }
 
+// The tuples of the index, how many there are, and whether it is by B and A, and by A and B.
+fn told(alloc: Global, index: &KeyIndex) -> Result<String> {
+    let tuples = firsts(alloc, index.tuples())?;
+    let as_written = is_by(alloc, index, &["B", "A"])?;
+    let exchanged = is_by(alloc, index, &["A", "B"])?;
+    Ok(format!(in alloc; "{tuples}| {} {as_written} {exchanged}", index.len())?)
+}
+
 #[test]
 fn tuples_stand_by_the_key(rt: HostRuntime) -> Result<()> {
     let index = index(rt.alloc(), &["B", "A"])?;
-    let told = told(rt.alloc(), &index)?;
-    assert!(rt; told.as_str() == "2 3 4 1 | 2 3 4 1 | 4", "{told}");
-    assert!(rt; is_by(rt.alloc(), &index, &["B", "A"])?);
-    assert!(rt; !is_by(rt.alloc(), &index, &["A", "B"])?);
+    let own = told(rt.alloc(), &index)?;
+    assert!(rt; own.as_str() == "2 3 4 1 | 4 true false", "{own}");
+    let copied = told(rt.alloc(), &index.copy(rt.alloc())?)?;
+    assert!(rt; copied.as_str() == "2 3 4 1 | 4 true false", "{copied}");
     Ok(())
 }
 
@@ -46,12 +46,20 @@ fn found(alloc: Global, index: &KeyIndex, row: &[i64]) -> Result<String> {
     firsts(alloc, index.with_key_of(&sought))
 }
 
+fn all_found(alloc: Global, index: &KeyIndex, rows: &[&[i64]]) -> Result<String> {
+    let mut text = String::new(alloc);
+    for row in rows {
+        text.push_str(found(alloc, index, row)?.as_str())?;
+        text.push_str("| ")?;
+    }
+    Ok(text)
+}
+
 #[test]
 fn tuples_are_found_by_a_key(rt: HostRuntime) -> Result<()> {
     let index = index(rt.alloc(), &["B"])?;
-    assert!(rt; found(rt.alloc(), &index, &[0, 7])?.as_str() == "2 3 ");
-    assert!(rt; found(rt.alloc(), &index, &[1, 9])?.as_str() == "1 ");
-    assert!(rt; found(rt.alloc(), &index, &[1, 5])?.as_str() == "");
+    let found = all_found(rt.alloc(), &index, &[&[0, 7], &[1, 9], &[1, 5]])?;
+    assert!(rt; found.as_str() == "2 3 | 1 | | ", "{found}");
     Ok(())
 }
 

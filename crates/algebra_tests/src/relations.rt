@@ -27,16 +27,25 @@ fn changed(alloc: Global, r: &mut Relation, n: i64, adds: bool) -> Result<(bool,
     Ok((was, r.insert(t)?))
 }
 
+// What becomes of each number that is put in or taken out, and what is there at the end.
+fn all_changed(alloc: Global, r: &mut Relation, changes: &[(i64, bool)]) -> Result<String> {
+    let mut out = String::new(alloc);
+    for (n, adds) in changes {
+        let (was, is_changed) = changed(alloc, &mut *r, *n, *adds)?;
+        write!(&mut out, "{was} {is_changed}, ")?;
+    }
+    out.push_str(firsts(alloc, r.tuples())?.as_str())?;
+    Ok(out)
+}
+
 #[test]
 fn a_relation_is_a_set(rt: HostRuntime) -> Result<()> {
-    let alloc = rt.alloc();
-    let heading = heading(alloc, COLUMNS)?;
-    let mut r = numbers(alloc, &heading, &[&[3], &[1], &[2], &[3], &[1]])?;
-    assert!(rt; changed(alloc, &mut r, 2, true)? == (true, false));
-    assert!(rt; changed(alloc, &mut r, 0, true)? == (false, true));
-    assert!(rt; changed(alloc, &mut r, 1, false)? == (true, true));
-    assert!(rt; changed(alloc, &mut r, 1, false)? == (false, false));
-    assert!(rt; firsts(alloc, r.tuples())?.as_str() == "0 2 3 ");
+    let heading = heading(rt.alloc(), COLUMNS)?;
+    let mut r = numbers(rt.alloc(), &heading, &[&[3], &[1], &[2], &[3], &[1]])?;
+    let changes = [(2, true), (0, true), (1, false), (1, false)];
+    let found = all_changed(rt.alloc(), &mut r, &changes)?;
+    let want = "true false, false true, true true, false false, 0 2 3 ";
+    assert!(rt; found.as_str() == want, "{found}");
     Ok(())
 }
 

@@ -71,10 +71,25 @@ fn supplier_heading(alloc: Global) -> Result<Heading> {
     Ok(heading)
 }
 
-// Whether the first heading has two columns, and the second one these and CITY.
+// Whether the first heading has two columns, and the second one these and another.
 fn has_one_more(before: &Heading, heading: &Heading) -> bool {
     let counts = before.len() == 2 && !before.is_empty() && heading.fields().len() == 3;
     counts && heading.at(3).is_none() && !equal_headings(before, heading)
+}
+
+// Puts S# INTEGER and CITY CHAR into the second heading, which equals the first one: whether it does, whether each is
+// new, and whether there is one more then.
+fn put_both(alloc: Global, before: &Heading, heading: &mut Heading) -> Result<String> {
+    let is_equal = equal_headings(before, &*heading);
+    let again = put_integer(alloc, &mut *heading, "S#")?;
+    let city = put_char(alloc, &mut *heading, "CITY")?;
+    let more = has_one_more(before, &*heading);
+    Ok(format!(in alloc; "{is_equal} {again} {city} {more}")?)
+}
+
+fn shown(alloc: Global, heading: Heading) -> Result<String> {
+    let kind = TypeKind::Tuple(heading);
+    Ok(show_type(alloc, &TdType { kind })?)
 }
 
 #[test]
@@ -82,12 +97,9 @@ fn a_known_name_keeps_its_type(rt: HostRuntime) -> Result<()> {
     let alloc = rt.alloc();
     let before = supplier_heading(alloc)?;
     let mut heading = before.copy()?;
-    assert!(rt; equal_headings(&before, &heading));
-    assert!(rt; !put_integer(alloc, &mut heading, "S#")?);
-    assert!(rt; put_char(alloc, &mut heading, "CITY")?);
-    assert!(rt; has_one_more(&before, &heading));
-    let kind = TypeKind::Tuple(heading);
-    let shown = show_type(alloc, &TdType { kind })?;
+    let told = put_both(alloc, &before, &mut heading)?;
+    assert!(rt; told.as_str() == "true false true true", "{told}");
+    let shown = shown(alloc, heading)?;
     assert!(rt;
         shown.as_str() == "TUPLE { CITY CHAR, S# CHAR, STATUS INTEGER }",
         "{shown}"

@@ -169,15 +169,32 @@ fn typed(alloc: Global, catalogue: &Catalogue, text: &str) -> Result<TypedExpr> 
     Ok(type_expr(alloc, catalogue, expr.get())?)
 }
 
+// What is asked of an expression.
+fn of_expr(
+    alloc: Global,
+    catalogue: &Catalogue,
+    question: Question,
+    expr: &TypedExpr,
+) -> Result<String> {
+    match question {
+        Question::Growth(_) => growth(alloc, catalogue, expr),
+        Question::References(_) => references(alloc, catalogue, expr),
+        Question::Value(_) => shown(alloc, expr),
+        _ => under(alloc, expr),
+    }
+}
+
 fn answer(alloc: Global, catalogue: &Catalogue, question: Question) -> Result<String> {
     match question {
         Question::Counts => counts(alloc, catalogue),
         Question::Targets(text) => assigned(alloc, catalogue, text),
-        Question::Under(text) => under(alloc, &typed(alloc, catalogue, text)?),
         Question::Stored(place) => stored(alloc, catalogue, place),
-        Question::Growth(text) => growth(alloc, catalogue, &typed(alloc, catalogue, text)?),
-        Question::References(text) => references(alloc, catalogue, &typed(alloc, catalogue, text)?),
-        Question::Value(text) => shown(alloc, &typed(alloc, catalogue, text)?),
+        Question::Under(text)
+        | Question::Growth(text)
+        | Question::References(text)
+        | Question::Value(text) => {
+            of_expr(alloc, catalogue, question, &typed(alloc, catalogue, text)?)
+        }
     }
 }
 
