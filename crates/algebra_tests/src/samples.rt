@@ -54,8 +54,8 @@ pub fn tuple(alloc: Global, columns: &[&str], row: &[i64]) -> Result<Tuple> {
     Ok(builder.build(alloc)?)
 }
 
-// The tuples of these rows that have the heading.
-fn fitting(
+/// The tuples of these rows that have the heading.
+pub fn fitting(
     alloc: Global,
     heading: &Heading,
     columns: &[&str],

@@ -1,11 +1,11 @@
 //! Names, headings, types and lists of tuples, as the language's definition has them.
 
-use crate::samples::Result;
+use crate::samples::{Result, fitting, heading, tuple};
 use std::alloc::Global;
 use std::hash::{DefaultHasher, Hash, Hasher};
 use td_values::{
-    Heading, Kind, Name, NameError, TdType, Text, Tuple, TupleBuilder, TypeKind, Value,
-    equal_headings, equal_kinds, equal_types, fits, search_alike, show_type, sort_alike,
+    Heading, Name, NameError, TdType, Tuple, TypeKind, equal_headings, equal_kinds, equal_types,
+    fits, search_alike, show_type, sort_alike,
 };
 
 #[test]
@@ -115,8 +115,8 @@ fn differs_in_kind(kind: &TypeKind, other: &TypeKind) -> Result<bool> {
 
 #[test]
 fn types_are_compared(rt: HostRuntime) -> Result<()> {
-    let tuple = TypeKind::Tuple(supplier_heading(rt.alloc())?);
-    let relation = TypeKind::Relation(supplier_heading(rt.alloc())?);
+    let tuple = TypeKind::Tuple(heading(rt.alloc(), &["A"])?);
+    let relation = TypeKind::Relation(heading(rt.alloc(), &["A"])?);
     assert!(rt; differs_in_kind(&tuple, &relation)?);
     let char_type = TdType {
         kind: TypeKind::Char,
@@ -126,27 +126,6 @@ fn types_are_compared(rt: HostRuntime) -> Result<()> {
     };
     assert!(rt; equal_types(&char_type, &char_type) && !equal_types(&char_type, &integer_type));
     Ok(())
-}
-
-// A supplier's number and status.
-fn supplier(alloc: Global, number: &str, status: i64) -> Result<Tuple> {
-    let mut builder = TupleBuilder::new(alloc);
-    let name = Name::new(alloc, "STATUS")?;
-    let kind = Kind::Integer(status);
-    builder.insert(name, Value { kind })?;
-    let name = Name::new(alloc, "S#")?;
-    let text = Text::from_str(alloc, number)?;
-    let kind = Kind::Char(text);
-    builder.insert(name, Value { kind })?;
-    Ok(builder.build(alloc)?)
-}
-
-fn suppliers(alloc: Global, all: &[(&str, i64)]) -> Result<Vec<Tuple>> {
-    let mut tuples = Vec::new(alloc);
-    for (number, status) in all {
-        tuples.push(supplier(alloc, number, *status)?)?;
-    }
-    Ok(tuples)
 }
 
 // The place of the tuple among the sorted tuples, where all have the heading.
@@ -165,10 +144,15 @@ fn place_among(heading: &Heading, mut tuples: Vec<Tuple>, tuple: &Tuple) -> Opti
 
 #[test]
 fn tuples_of_one_heading_are_sorted(rt: HostRuntime) -> Result<()> {
-    let alloc = rt.alloc();
-    let heading = supplier_heading(alloc)?;
-    let sought = supplier(alloc, "S2", 10)?;
-    let tuples = suppliers(alloc, &[("S2", 5), ("S2", 10), ("S1", 20)])?;
+    let columns: &[&str] = &["NUMBER", "STATUS"];
+    let heading = heading(rt.alloc(), columns)?;
+    let sought = tuple(rt.alloc(), columns, &[2, 10])?;
+    let tuples = fitting(
+        rt.alloc(),
+        &heading,
+        columns,
+        &[&[2, 5], &[2, 10], &[1, 20]],
+    )?;
     assert!(rt; place_among(&heading, tuples, &sought) == Some(2));
     Ok(())
 }

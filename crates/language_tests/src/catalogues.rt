@@ -39,7 +39,7 @@ enum Question {
 }
 
 /// No relvars.
-#[derive(Clone, Copy)]
+#[derive(Drop)]
 struct Nothing;
 
 impl Lookup for Nothing {
