@@ -43,7 +43,7 @@ enum Question {
 struct Nothing;
 
 impl Lookup for Nothing {
-    ghost relvars = { λ s n. Err Untyped };
+    ghost relvars = { λ _ _. Err Untyped };
 
     fn lent(&self, _relvar: usize) -> std::result::Result<&Relation, Stop> {
         Err(Stop::Untyped)
