@@ -88,4 +88,14 @@ VAR SUPPLIERS BASE INIT ( RELATION { TUPLE { SNO 1 }, TUPLE { SNO 2 } } ) KEY { 
 1? SUMMARIZE RELATION { TUPLE { PNO 1, QTY 200, SNO 1 }, TUPLE { PNO 2, QTY 50, SNO 1 }, TUPLE { PNO 1, QTY 200, SNO 2 } } PER ( SUPPLIERS ) ADD ( AND ( QTY > 100 ) AS T )
 1? SUMMARIZE RELATION { TUPLE { PNO 1, QTY 50, SNO 1 }, TUPLE { PNO 2, QTY 300, SNO 1 } } PER ( SUPPLIERS ) ADD ( OR ( QTY > 100 ) AS T )
 1? SUMMARIZE RELATION { TUPLE { PNO 1, QTY 50, SNO 1 }, TUPLE { PNO 2, QTY 70, SNO 1 }, TUPLE { PNO 1, QTY 200, SNO 2 } } PER ( SUPPLIERS ) ADD ( OR ( QTY > 100 ) AS T )
+
+1? EXTEND RELATION { TUPLE { A 3, B 4, C 5 } } : { B := 1, D := 2 } /* new attributes stand beside the old ones, and in place of those of their names */
+1? EXTEND RELATION { TUPLE { B 'x', C 5 } } : { A := 1, B := 2 }
+1? EXTEND RELATION { TUPLE { B 1 } } ADD ( 2 AS A )
+1? EXTEND RELATION { TUPLE { B 1 } } : { B := 3 }
+1? EXTEND RELATION { B INTEGER } { } ADD ( 'x' AS A )
+1? EXTEND RELATION { B INTEGER } { } : { B := 'x' }
+1? TUPLE { A 1, B 2, C 3 } { C, A }
+1? TUPLE { A 1, B 2, C 3 } { }
+1? RELATION { TUPLE { A 1, B 2, C 3 } } RENAME ( A AS B, B AS A )
 .quit

@@ -115,4 +115,7 @@
 1? A B
 1? A
 1? A ;
+
+1? SUMMARIZE R PER S : { N := COUNT ( ) } /* a list of summaries in braces; a text of nothing */
+1? 
 .quit

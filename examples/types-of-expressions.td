@@ -281,4 +281,24 @@ VAR H BASE RELATION { K CHAR, T TUPLE { C INTEGER }, V TUPLE { K INTEGER } } KEY
 1? SUMMARIZE S ADD ( SUM ( STATUS ) AS C )
 1? SUMMARIZE W ADD ( OR ( B ) AS C )
 1? SUMMARIZE W ADD ( MIN ( A ) AS C )
+
+1? 1 || 'x' /* what each form takes, once more */
+1? EXTEND RELATION { TUPLE { A 1 } } ADD ( 'x' AS B )
+1? L { X }
+1? L JOIN L
+1? L { ALL BUT }
+1? EXTEND L ADD ( 1 AS Z )
+1? RELATION { C TUPLE { A INTEGER } } { } UNWRAP ( C )
+1? STATUS FROM TUPLE { STATUS 20, S# 'S1' } + 0
+1? S# FROM TUPLE { STATUS 20, S# 'S1' } + 0
+1? TUPLE { STATUS 20, S# 'S1' } IN RELATION { S# CHAR, STATUS INTEGER } { }
+1? TUPLE { STATUS 20, S# 'S1' } IN RELATION { S# CHAR, STATUS INTEGER, CITY CHAR } { }
+1? TUPLE { STATUS 20, S# 'S1' } = TUPLE { STATUS 20, S# 'S1', CITY 'Paris' }
+
+1? RELATION { A CHAR } { } UNGROUP A /* values of other kinds are not opened, and a closure has two attributes */
+1? RELATION { A CHAR } { } UNWRAP A
+1? TCLOSE RELATION { A CHAR } { }
+1? RELATION { A CHAR, B CHAR } { } UNGROUP A
+1? RELATION { A CHAR, B CHAR } { } UNWRAP A
+1? TCLOSE RELATION { A CHAR, B CHAR } { }
 .quit

@@ -25,4 +25,29 @@ TYPE POINT POSSREP { X INTEGER, Y INTEGER };
 1? TABLE_DUM INTERSECT TABLE_DEE
 1? TABLE_DEE MINUS TABLE_DUM
 1? TABLE_DEE MINUS TABLE_DEE
+
+1? '' || '' = '' /* a text is the same however it is made */
+1? 'Z' || '' = 'Z'
+1? 'aaaaaaa' || 'aaaaaaaa' = 'aaaaaaaaaaaaaaa'
+1? 'aaaaaaaa' || 'aaaaaaaa' = 'aaaaaaaaaaaaaaaa'
+1? 'aaaaaaaa' || 'aaaaaaaaa' = 'aaaaaaaaaaaaaaaaa'
+1? 'aaaaaaaaaaaaaaa' || 'é' = 'aaaaaaaaaaaaaaaé'
+1? 'aaaaaaaaaaaaaa' || 'é' = 'aaaaaaaaaaaaaaé'
+1? 'aaaaaaaaaaaaaaé' || 'a' = 'aaaaaaaaaaaaaaéa'
+1? 'aaaaaaaaaaaaa' || '𐀀' = 'aaaaaaaaaaaaa𐀀'
+1? 'aaaaaaaaaaaa' || '𐀀' = 'aaaaaaaaaaaa𐀀'
+1? '' || 'é' = 'é'
+1? '' || '￿' = '￿'
+1? '' || '𐀀' = '𐀀'
+
+1? RELATION { STATUS INTEGER, S# CHAR, CITY CHAR } { } /* attributes stand in the order of their names, tuples and numbers in that of their values */
+1? RELATION { STATUS INTEGER, S# CHAR, CITY CHAR } { } { STATU }
+1? RELATION { STATUS INTEGER, S# CHAR } { }
+1? RELATION { TUPLE { STATUS 20, S# 'S1' } }
+1? RELATION { TUPLE { STATUS 10, S# 'S2' }, TUPLE { STATUS 20, S# 'S1' } }
+1? TUPLE { STATUS 10, S# 'S2' } = TUPLE { STATUS 20, S# 'S1' }
+1? WITH TUPLE { STATUS 20, S# 'S1' } AS T : T = T
+1? RELATION { TUPLE { A 0 }, TUPLE { A -1 } }
+1? -1 < 0
+1? -1 = 0
 .quit

@@ -61,4 +61,7 @@ TYPE T POSSREP { A INTEGER CONSTRAINT 3 < 10 / A };
 
 1? COUNT ( R WRAP ( { B } AS W ) ) /* wrapped tuples are unwrapped again */
 1? ( R WRAP ( { B } AS W ) ) UNWRAP ( W ) = R
+
+1? 7 / 2 /* a division, and a value of a type of one component */
+1? T ( 2 )
 .quit

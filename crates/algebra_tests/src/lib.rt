@@ -1,7 +1,7 @@
-//! That each operator answers, each stop stands in each operator that asks a function of tuples, and tuples are found by
-//! a key. What operators make of relations, and which errors stand, is shown by examples.
+//! Names, values, headings, tuples and relations; tokens; operators; indexes by a key: what only calls can tell. What
+//! else there is of them is shown by examples.
 //!
-//! These tests stand apart from the crate that they call, since a crate is proved once more for the tests in it.
+//! These tests stand apart from the crates that they call, since a crate is proved once more for the tests in it.
 #![tactic(auto)]
 
 #[cfg(test)]
@@ -9,6 +9,12 @@ mod key_indexes;
 #[cfg(test)]
 mod operators;
 #[cfg(test)]
+mod relations;
+#[cfg(test)]
 mod samples;
 #[cfg(test)]
-mod stops;
+mod tokens;
+#[cfg(test)]
+mod tuples;
+#[cfg(test)]
+mod values;

@@ -1,83 +1,15 @@
-//! What the tests make: relations of integers, terms on their tuples, and answers as texts.
+//! What the tests make: names, headings, tuples and relations of integers; and answers as texts.
+ghost use Rattle.std.specs.Prelude.{◌≡◌, IfOk};
+ghost use Rattle.std.specs.List.{All};
+ghost use Rattle.td_values.specs.Headings.{header_fields};
+ghost use Rattle.td_values.specs.Whole.{heading_of};
+
 use std::alloc::Global;
 use std::test::Fail;
-use td_algebra::{
-    Fault, Item, Stop, Summary, aggregate, extend, restrict, summarize, summarize_by,
-};
 use td_relations::Relation;
-use td_values::{
-    Heading, Kind, Name, Raise, TdType, Tuple, TupleBuilder, TypeKind, Value, fits, show,
-};
+use td_values::{Heading, Kind, Name, TdType, Tuple, TupleBuilder, TypeKind, Value, fits, show};
 
 pub type Result<T> = std::result::Result<T, Fail>;
-
-pub type Answer<T> = std::result::Result<T, Fault>;
-
-const STOPS: [Stop; 6] = [
-    Stop::Untyped,
-    Stop::Error(Raise::Overflow),
-    Stop::Error(Raise::Divide),
-    Stop::Error(Raise::Empty),
-    Stop::Error(Raise::Selector),
-    Stop::Error(Raise::Cardinality),
-];
-
-/// A term on tuples of integers, whose places are in name order.
-#[derive(Clone, Copy)]
-pub enum Term {
-    /// The number at the place.
-    Number(usize),
-    /// Whether it is more than a hundred.
-    IsLarge(usize),
-    /// The first number, which is below 0; at 0 it raises the stop of this number, and above it the last one.
-    Stops(usize),
-}
-
-/// The number at a place of the tuple, of which the places are in name order; 0 where there is none.
-pub fn number(tuple: &Tuple, place: usize) -> i64 {
-    match tuple.attributes().get(place) {
-        Some((_, value)) => match &value.kind {
-            Kind::Integer(n) => *n,
-            _ => 0,
-        },
-        None => 0,
-    }
-}
-
-fn stopped(number: i64, stop: usize) -> Answer<i64> {
-    if number < 0 {
-        return Ok(number);
-    }
-    if number == 0 {
-        return Err(Fault::Raised(STOPS[stop.min(5)]));
-    }
-    Err(Fault::Raised(Stop::Error(Raise::Cardinality)))
-}
-
-fn number_of(term: &Term, tuple: &Tuple) -> Answer<i64> {
-    match *term {
-        Term::Number(place) | Term::IsLarge(place) => Ok(number(tuple, place)),
-        Term::Stops(stop) => stopped(number(tuple, 0), stop),
-    }
-}
-
-fn integer(n: i64) -> Value {
-    let kind = Kind::Integer(n);
-    Value { kind }
-}
-
-fn boolean(b: bool) -> Value {
-    let kind = Kind::Boolean(b);
-    Value { kind }
-}
-
-fn value(term: &Term, tuple: &Tuple) -> Answer<Value> {
-    let n = number_of(term, tuple)?;
-    match *term {
-        Term::IsLarge(_) => Ok(boolean(n > 100)),
-        _ => Ok(integer(n)),
-    }
-}
 
 /// The names.
 pub fn names(alloc: Global, texts: &[&str]) -> Result<Vec<Name>> {
@@ -89,55 +21,75 @@ pub fn names(alloc: Global, texts: &[&str]) -> Result<Vec<Name>> {
     Ok(names)
 }
 
-fn heading(alloc: Global, names: &[Name]) -> Result<Heading> {
+/// A becomes B, and B becomes A.
+pub fn exchange(alloc: Global) -> Result<Vec<(Name, Name)>> {
+    let mut items = Vec::new(alloc);
+    for (from, to) in [("A", "B"), ("B", "A")] {
+        let from = Name::new(alloc, from)?;
+        let to = Name::new(alloc, to)?;
+        items.push((from, to))?;
+    }
+    Ok(items)
+}
+
+/// The heading of INTEGER attributes with these names.
+pub fn heading(alloc: Global, columns: &[&str]) -> Result<Heading> {
     let mut heading = Heading::new(alloc)?;
-    for name in names {
-        let name = name.copy()?;
+    for column in columns {
+        let name = Name::new(alloc, column)?;
         let kind = TypeKind::Integer;
         heading.insert(alloc, name, TdType { kind })?;
     }
     Ok(heading)
 }
 
-/// The relation over INTEGER attributes with no tuple.
-pub fn empty(alloc: Global, names: &[Name]) -> Result<Relation> {
-    Ok(Relation::empty(alloc, heading(alloc, names)?))
-}
-
 /// The tuple of these numbers.
-pub fn tuple(alloc: Global, names: &[Name], row: &[i64]) -> Result<Tuple> {
+pub fn tuple(alloc: Global, columns: &[&str], row: &[i64]) -> Result<Tuple> {
     let mut builder = TupleBuilder::new(alloc);
-    for (name, n) in names.iter().zip(row) {
-        let name = name.copy()?;
-        builder.insert(name, integer(*n))?;
+    for (column, n) in columns.iter().zip(row) {
+        let name = Name::new(alloc, column)?;
+        let kind = Kind::Integer(*n);
+        builder.insert(name, Value { kind })?;
     }
     Ok(builder.build(alloc)?)
 }
 
-/// Adds the tuple, if it has the relation's heading.
-pub fn add(relation: &mut Relation, tuple: Tuple) -> Result<()> {
-    if fits(&tuple, relation.heading()) {
-        relation.insert(tuple)?;
+/// The tuples of these rows that have the heading.
+pub fn fitting(
+    alloc: Global,
+    heading: &Heading,
+    columns: &[&str],
+    rows: &[&[i64]],
+) -> Result<Vec<Tuple>>
+    ensures { IfOk result (λ v. All (λ t. heading_of t ≡ header_fields heading.now) v.items) }
+{
+    let mut tuples = Vec::new(alloc);
+    for row in rows {
+        let t = tuple(alloc, columns, row)?;
+        if fits(&t, heading) {
+            tuples.push(t)?;
+        }
     }
-    Ok(())
+    Ok(tuples)
+}
+
+/// The relation of these rows that have the heading.
+pub fn relation_of(
+    alloc: Global,
+    heading: &Heading,
+    columns: &[&str],
+    rows: &[&[i64]],
+) -> Result<Relation>
+    ensures { IfOk result (λ r. r.heading ≡ heading.now) }
+{
+    let tuples = fitting(alloc, heading, columns, rows)?;
+    Ok(Relation::from_tuples(heading.copy()?, tuples))
 }
 
 /// The relation of these rows of integers.
 pub fn relation(alloc: Global, columns: &[&str], rows: &[&[i64]]) -> Result<Relation> {
-    let names = names(alloc, columns)?;
-    let mut relation = empty(alloc, &names)?;
-    for row in rows {
-        let t = tuple(alloc, &names, row)?;
-        add(&mut relation, t)?;
-    }
-    Ok(relation)
-}
-
-/// The new attribute of this name and type.
-pub fn item<T: Drop>(alloc: Global, name: &str, kind: TypeKind, term: T) -> Result<Item<T>> {
-    let name = Name::new(alloc, name)?;
-    let ty = TdType { kind };
-    Ok(Item { name, ty, term })
+    let heading = heading(alloc, columns)?;
+    relation_of(alloc, &heading, columns, rows)
 }
 
 /// The relation, as a text.
@@ -146,52 +98,22 @@ pub fn shown(alloc: Global, relation: Relation) -> Result<String> {
     Ok(show(alloc, &Value { kind })?)
 }
 
-// What is answered, as a text.
-fn told(alloc: Global, answer: Answer<Relation>) -> Result<String> {
-    match answer {
-        Ok(relation) => shown(alloc, relation),
-        Err(fault) => Ok(format!(in alloc; "{fault}")?),
+/// The number at the tuple's first place; 0 where there is none.
+pub fn first(tuple: &Tuple) -> i64 {
+    match tuple.attributes().first() {
+        Some((_, value)) => match &value.kind {
+            Kind::Integer(n) => *n,
+            _ => 0,
+        },
+        None => 0,
     }
 }
 
-/// The tuples at which the term is more than 20.
-pub fn restricted(alloc: Global, relation: Relation, term: Term) -> Result<String> {
-    let kept = restrict(alloc, &relation, |t: &Tuple| -> Answer<bool> {
-        Ok(number_of(&term, t)? > 20)
-    });
-    told(alloc, kept)
-}
-
-/// The tuples with these attributes.
-pub fn extended(alloc: Global, relation: Relation, items: Vec<Item<Term>>) -> Result<String> {
-    told(alloc, extend(alloc, &relation, &items, &value))
-}
-
-/// The tuples of the second relation with these summaries.
-pub fn summarized(
-    alloc: Global,
-    relation: Relation,
-    per: Relation,
-    items: Vec<Item<Summary<Term>>>,
-) -> Result<String> {
-    told(alloc, summarize(alloc, &relation, &per, &items, &value))
-}
-
-/// The relation's parts at these names with these summaries.
-pub fn summarized_by(
-    alloc: Global,
-    relation: Relation,
-    by: &[&str],
-    items: Vec<Item<Summary<Term>>>,
-) -> Result<String> {
-    let by = names(alloc, by)?;
-    told(alloc, summarize_by(alloc, &relation, &by, &items, &value))
-}
-
-/// The summary of the relation.
-pub fn aggregated(alloc: Global, relation: Relation, summary: Summary<Term>) -> Result<String> {
-    match aggregate(alloc, &relation, &summary, &value) {
-        Ok(value) => Ok(show(alloc, &value)?),
-        Err(fault) => Ok(format!(in alloc; "{fault}")?),
+/// The tuples' first numbers, each with a blank behind it.
+pub fn firsts(alloc: Global, tuples: &[Tuple]) -> Result<String> {
+    let mut text = String::new(alloc);
+    for tuple in tuples {
+        text.push_str(format!(in alloc; "{} ", first(tuple))?.as_str())?;
     }
+    Ok(text)
 }

@@ -1,17 +1,17 @@
-//! What texts of the language are read as, where they go wrong, and what is typed and meant by them, where no example
-//! tells it; and that each call answers. What else is read, typed and meant is shown by examples.
+//! What texts of the language are read as, where they go wrong, what is typed and meant by them, and how statements are
+//! run and constraints judged: what only calls can tell. What else there is of it is shown by examples.
 //!
 //! These tests stand apart from the crates that they call, since a crate is proved once more for the tests in it.
 #![tactic(auto)]
 
 #[cfg(test)]
-mod grammar;
+mod catalogues;
 #[cfg(test)]
-mod headings;
-#[cfg(test)]
-mod kinds;
+mod databases;
 #[cfg(test)]
 mod places;
+#[cfg(test)]
+mod readings;
 #[cfg(test)]
 mod trees;
 

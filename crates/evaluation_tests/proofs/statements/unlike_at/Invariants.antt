@@ -1,5 +1,0 @@
-use Rattle.td_story.specs.Databases.{IsLegal}
-use Rattle.evaluation_tests.proofs.statements.unlike_at.Given as goal
-
-abbrev pub invariant-loop-n : goal.invariant-loop-n
-invariant-loop-n l = IsLegal l.database

@@ -1,0 +1,5 @@
+use Rattle.td_story.specs.Databases.{IsLegal}
+use Rattle.language_tests.proofs.databases.unlike_at.Given as goal
+
+abbrev pub invariant-loop-n : goal.invariant-loop-n
+invariant-loop-n l = IsLegal l.database

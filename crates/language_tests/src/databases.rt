@@ -1,0 +1,231 @@
+//! Statements that are run over a database, taken back and made again; and copies of relvars that are put back.
+
+ghost use Rattle.td_story.specs.Databases.{IsLegal};
+
+use crate::Result;
+use std::alloc::{AllocError, Global};
+use td_assign::{Ran, redo, run, undo};
+use td_grammar::LATEST;
+use td_relations::Relation;
+use td_relvars::{Database, open_script};
+use td_story::{Answer, Meter, Outcome, RelvarError};
+use td_values::{Kind, Name, Value, show};
+
+/// What a step does: runs a statement, or asks what a relvar has.
+#[derive(Clone, Copy)]
+enum Step<'a> {
+    Run(&'a str),
+    Held(&'a str),
+}
+
+/// What is done with a database.
+#[derive(Clone, Copy)]
+enum Task<'a> {
+    /// Each step, with its answer.
+    Steps(&'a [(Step<'a>, &'a str)]),
+    /// The statement is run, taken back and made again.
+    BackAndOn(&'a str),
+    /// The statement is run, and then a copy of these relvars put back that was made before.
+    PutBackBehind(&'a [usize], &'a str),
+}
+
+fn shown(alloc: Global, relation: Relation) -> Result<String> {
+    let kind = Kind::Relation(relation.into_rows());
+    Ok(show(alloc, &Value { kind })?)
+}
+
+// What the relvar of this name has.
+fn held(alloc: Global, database: &Database, name: &str) -> Result<String> {
+    let name = Name::new(alloc, name)?;
+    match database.value_of(alloc, &name) {
+        Ok(Answer::Relation(relation)) => shown(alloc, relation),
+        Ok(Answer::Raised(raise)) => Ok(format!(in alloc; "raised {raise}")?),
+        Err(RelvarError::Unknown) => Ok(String::from_str(alloc, "unknown")?),
+        Err(RelvarError::OutOfMemory) => Err(AllocError)?,
+    }
+}
+
+// What became of the statement, and how many relvars it changed.
+fn told(alloc: Global, ran: &Ran) -> Result<String> {
+    let outcome = match &ran.outcome {
+        Outcome::Done => "done",
+        Outcome::Unread => "unread",
+        Outcome::Raised(_) => "raised",
+        Outcome::BreaksKey(_) | Outcome::BreaksConstraint(_) => "broken",
+    };
+    Ok(format!(in alloc; "{outcome} {}", ran.delta.len())?)
+}
+
+fn answered(alloc: Global, database: &mut Database, meter: &mut Meter, step: Step) -> Result<String>
+    requires { IsLegal database.old }
+    ensures { IsLegal database.new }
+{
+    match step {
+        Step::Run(text) => told(alloc, &run(alloc, &mut *database, text, LATEST, meter)?),
+        Step::Held(name) => held(alloc, &*database, name),
+    }
+}
+
+// The first step whose answer is not as it stands there, with the answer.
+fn unlike_at(
+    alloc: Global,
+    database: &mut Database,
+    meter: &mut Meter,
+    steps: &[(Step, &str)],
+) -> Result<String>
+    requires { IsLegal database.old }
+{
+    for n in 0..steps.len() {
+        let (step, expected) = &steps[n];
+        let found = answered(alloc, &mut *database, &mut *meter, *step)?;
+        if found.as_str() != *expected {
+            return Ok(format!(in alloc; "{n}: {found}")?);
+        }
+    }
+    Ok(String::new(alloc))
+}
+
+fn named(alloc: Global, ran: &Ran) -> Result<String> {
+    let (targets, footprint) = (&ran.targets, &ran.footprint);
+    let changed = ran.delta.len();
+    Ok(format!(in alloc;
+        "targets {}, footprint {}, changed {changed}",
+        targets.len(),
+        footprint.len()
+    )?)
+}
+
+// What S has after the statement, after that was taken back, and after it was made again.
+fn back_and_on(
+    alloc: Global,
+    database: &mut Database,
+    meter: &mut Meter,
+    text: &str,
+) -> Result<String>
+    requires { IsLegal database.old }
+{
+    database.relvars_fit();
+    let ran = run(alloc, &mut *database, text, LATEST, meter)?;
+    let after = held(alloc, &*database, "S")?;
+    undo(alloc, &mut *database, &ran.delta)?;
+    let undone = held(alloc, &*database, "S")?;
+    redo(alloc, &mut *database, &ran.delta)?;
+    let redone = held(alloc, &*database, "S")?;
+    let names = named(alloc, &ran)?;
+    Ok(format!(in alloc; "{after}\n{undone}\n{redone}\n{names}")?)
+}
+
+// What S has where a copy of these relvars was put back after the statement.
+fn put_back_behind(
+    alloc: Global,
+    database: &mut Database,
+    meter: &mut Meter,
+    relvars: &[usize],
+    text: &str,
+) -> Result<String>
+    requires { IsLegal database.old }
+{
+    database.relvars_fit();
+    let part = database.copy_of(alloc, relvars)?;
+    let _ran = run(alloc, &mut *database, text, LATEST, meter)?;
+    database.put_back(part);
+    held(alloc, &*database, "S")
+}
+
+fn done(alloc: Global, database: &mut Database, meter: &mut Meter, task: Task) -> Result<String>
+    requires { IsLegal database.old }
+{
+    match task {
+        Task::Steps(steps) => unlike_at(alloc, database, meter, steps),
+        Task::BackAndOn(text) => back_and_on(alloc, database, meter, text),
+        Task::PutBackBehind(relvars, text) => {
+            put_back_behind(alloc, database, meter, relvars, text)
+        }
+    }
+}
+
+// The same with the database that the script opens.
+fn done_over(alloc: Global, meter: &mut Meter, script: &str, task: Task) -> Result<String> {
+    match open_script(alloc, script) {
+        Ok(mut database) => done(alloc, &mut database, meter, task),
+        Err(_) => Ok(String::from_str(alloc, "not opened")?),
+    }
+}
+
+#[test]
+fn statements(rt: HostRuntime) -> Result<()> {
+    let script = "
+VAR S BASE RELATION { SNO CHAR, STATUS INTEGER } KEY { SNO };
+VAR SP BASE RELATION { SNO CHAR, PNO CHAR } KEY { SNO, PNO };
+VAR SHARES VIRTUAL ( EXTEND S ADD ( 100 / STATUS AS SHARE ) );
+CONSTRAINT C1 IS_EMPTY ( SP NOT MATCHING S );
+";
+    let steps: &[(Step, &str)] = &[
+        (
+            Step::Run(
+                "INSERT SP RELATION { TUPLE { SNO 'S1', PNO 'P1' } }, INSERT S RELATION { TUPLE { SNO 'S1', STATUS 20 } };",
+            ),
+            "done 2",
+        ),
+        (
+            Step::Held("SHARES"),
+            "RELATION { SHARE INTEGER, SNO CHAR, STATUS INTEGER } { TUPLE { SHARE 5, SNO 'S1', STATUS 20 } }",
+        ),
+        (Step::Run("DELETE S;"), "broken 0"),
+        (
+            Step::Held("S"),
+            "RELATION { SNO CHAR, STATUS INTEGER } { TUPLE { SNO 'S1', STATUS 20 } }",
+        ),
+        // a target that changes back is none that changed
+        (Step::Run("DELETE SP, UPDATE S ( STATUS := 0 );"), "done 2"),
+        (
+            Step::Run("UPDATE S ( STATUS := 1 ), UPDATE S ( STATUS := 0 );"),
+            "done 0",
+        ),
+        (Step::Held("SHARES"), "raised divide"),
+        (Step::Run("S := S WHERE 1 / STATUS = 1;"), "raised 0"),
+        // what has no reading, and what is ill typed
+        (Step::Run("INSERT S;"), "unread 0"),
+        (Step::Run("INSERT SHARES S;"), "unread 0"),
+        (Step::Run("INSERT Q X;"), "unread 0"),
+        (Step::Held("NOSUCH"), "unknown"),
+    ];
+    let mut meter = Meter::new(&rt);
+    let unlike = done_over(rt.alloc(), &mut meter, script, Task::Steps(steps))?;
+    assert!(rt; unlike.as_str() == "", "{unlike}");
+    Ok(())
+}
+
+const SCRIPT: &str = "
+VAR S BASE INIT ( RELATION { TUPLE { SNO 'S1', STATUS 20 }, TUPLE { SNO 'S2', STATUS 10 } } ) KEY { SNO };
+VAR LS VIRTUAL ( S WHERE STATUS < 20 );
+VAR MOST BASE RELATION { N INTEGER } KEY { };
+CONSTRAINT C IS_EMPTY ( MOST WHERE N < COUNT ( LS ) );
+";
+
+const UPDATE: &str =
+    "UPDATE S WHERE SNO = 'S1' ( STATUS := 30 ), DELETE S WHERE SNO = 'S2', MOST := RELATION { TUPLE { N 5 } };";
+
+#[test]
+fn statements_are_taken_back_and_made_again(rt: HostRuntime) -> Result<()> {
+    let mut meter = Meter::new(&rt);
+    let found = done_over(rt.alloc(), &mut meter, SCRIPT, Task::BackAndOn(UPDATE))?;
+    let expected = "RELATION { SNO CHAR, STATUS INTEGER } { TUPLE { SNO 'S1', STATUS 30 } }
+RELATION { SNO CHAR, STATUS INTEGER } { TUPLE { SNO 'S1', STATUS 20 }, TUPLE { SNO 'S2', STATUS 10 } }
+RELATION { SNO CHAR, STATUS INTEGER } { TUPLE { SNO 'S1', STATUS 30 } }
+targets 2, footprint 2, changed 2";
+    assert!(rt; found.as_str() == expected, "{found}");
+    Ok(())
+}
+
+// A place out of range, a virtual relvar and a repeated place do no harm.
+#[test]
+fn copies_are_put_back(rt: HostRuntime) -> Result<()> {
+    let mut meter = Meter::new(&rt);
+    let task = Task::PutBackBehind(&[0, 1, 7, 0], UPDATE);
+    let found = done_over(rt.alloc(), &mut meter, SCRIPT, task)?;
+    let before =
+        "RELATION { SNO CHAR, STATUS INTEGER } { TUPLE { SNO 'S1', STATUS 20 }, TUPLE { SNO 'S2', STATUS 10 } }";
+    assert!(rt; found.as_str() == before, "{found}");
+    Ok(())
+}

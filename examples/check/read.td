@@ -1,0 +1,4 @@
+VAR S BASE RELATION { A CHAR } KEY { A };
+VAR T BASE RELATION { CITY CHAR } KEY { CITY };
+VAR V VIRTUAL ( T WHERE CITY = 'Zürich' /* Zürich */ );
+VAR W VIRTUAL ( S WHERE A = 'it''s' );
