@@ -1,12 +1,11 @@
 //! Meetings of two sites in memory.
 
 use crate::answers::{Result, vector};
-use crate::entries::{SCRIPT, Written, batch, entry};
+use crate::entries::{SCRIPT, Written, batch};
 use crate::meetings::steps::Start;
 use std::alloc::Global;
 use td_meeting::meet;
 use td_replay::{PlainSite, Site};
-use td_stamps::Entry;
 use td_story::{Meter, Opens, Replica};
 
 /// The same definitions, but for a space.
@@ -168,70 +167,5 @@ fn sites_meet_in_memory(rt: HostRuntime) -> Result<()> {
         let found = met(rt.alloc(), &mut meter, &case)?;
         assert!(rt; found.as_str() == case.told, "{n}: {found}");
     }
-    Ok(())
-}
-
-// The text with spaces behind it, of so many bytes in all.
-fn padded(alloc: Global, text: &str, length: usize) -> Result<String> {
-    let mut padded = String::from_str(alloc, text)?;
-    for _ in text.len()..length {
-        padded.push(' ')?;
-    }
-    Ok(padded)
-}
-
-// So many entries of site 2, of the longest text.
-fn long_batch(alloc: Global, count: u32) -> Result<Vec<Entry>> {
-    let text = padded(alloc, "DELETE R;", 8_192)?;
-    let mut batch = Vec::new(alloc);
-    for n in 0..count {
-        let clock = u64::from(n) + 1;
-        batch.push(entry(alloc, 2, n + 1, clock, 2, text.as_str())?)?;
-    }
-    Ok(batch)
-}
-
-// What two sites say when they meet of which the second holds so many long entries.
-fn said_of_long<A: Replica, B: Replica>(
-    alloc: Global,
-    meter: &mut Meter,
-    first: &mut A,
-    second: &mut B,
-    count: u32,
-) -> Result<String> {
-    let batch = long_batch(alloc, count)?;
-    match second.take(alloc, batch.as_slice(), meter) {
-        Ok(_) => said(alloc, meter, first, second),
-        Err(_) => Ok(String::from_str(alloc, "the entries are not held")?),
-    }
-}
-
-fn with_long_second<A: Replica>(
-    alloc: Global,
-    meter: &mut Meter,
-    first: &mut A,
-    script: &str,
-    count: u32,
-) -> Result<String> {
-    match PlainSite::open_script(alloc, script, 2, 100) {
-        Ok(mut second) => said_of_long(alloc, meter, first, &mut second, count),
-        Err(_) => Ok(String::from_str(alloc, "the second site is not opened")?),
-    }
-}
-
-fn met_of_long(alloc: Global, meter: &mut Meter, script: &str, count: u32) -> Result<String> {
-    match Site::open_script(alloc, script, 1, 100) {
-        Ok(mut first) => with_long_second(alloc, meter, &mut first, script, count),
-        Err(_) => Ok(String::from_str(alloc, "the first site is not opened")?),
-    }
-}
-
-#[test]
-fn sites_of_the_longest_script_meet(rt: HostRuntime) -> Result<()> {
-    let mut meter = Meter::new(&rt);
-    let script = padded(rt.alloc(), SCRIPT, 65_536)?;
-    let found = met_of_long(rt.alloc(), &mut meter, script.as_str(), 25)?;
-    assert!(rt; script.len() == 65_536);
-    assert!(rt; found.as_str() == "fresh 25 0; 2:25 ; 2:25 ", "{found}");
     Ok(())
 }
