@@ -1,7 +1,7 @@
 //! The worked examples of sites.
 
-use crate::answers::Result;
 use crate::calls::site::{Call, unlike};
+use std::test::Fail;
 use td_story::Meter;
 
 const SUPPLIERS: &str = "VAR S BASE RELATION { SNO CHAR, STATUS INTEGER, CITY CHAR } KEY { SNO };";
@@ -149,7 +149,7 @@ const CASES: &[Case] = &[
 ];
 
 #[test]
-fn calls_are_answered(rt: HostRuntime) -> Result<()> {
+fn calls_are_answered(rt: HostRuntime) -> Result<(), Fail> {
     let mut meter = Meter::new(&rt);
     for case in CASES {
         let unlike = unlike(rt.alloc(), &mut meter, case.opening, case.calls)?;
@@ -159,7 +159,7 @@ fn calls_are_answered(rt: HostRuntime) -> Result<()> {
 }
 
 #[test]
-fn bad_sites_and_limits(rt: HostRuntime) -> Result<()> {
+fn bad_sites_and_limits(rt: HostRuntime) -> Result<(), Fail> {
     let mut meter = Meter::new(&rt);
     let table: [(u16, usize, &str); 6] = [
         (0, 1, "bad site"),

@@ -1,9 +1,10 @@
 //! Meetings of two sites in memory.
 
-use crate::answers::{Result, vector};
+use crate::answers::vector;
 use crate::entries::{SCRIPT, Written, batch};
 use crate::meetings::steps::Start;
-use std::alloc::Global;
+use std::alloc::{AllocError, Global};
+use std::test::Fail;
 use td_meeting::meet;
 use td_replay::{PlainSite, Site};
 use td_story::{Meter, Opens, Replica};
@@ -28,14 +29,14 @@ fn said<A: Replica, B: Replica>(
     meter: &mut Meter,
     first: &mut A,
     second: &mut B,
-) -> Result<String> {
+) -> Result<String, AllocError> {
     let met = match meet(alloc, first, second, meter) {
         Ok(met) => format!(in alloc; "fresh {} {}", met.first, met.second)?,
         Err(refusal) => format!(in alloc; "{refusal}")?,
     };
     let one = vector(alloc, first)?;
     let other = vector(alloc, second)?;
-    Ok(format!(in alloc; "{met}; {one}; {other}")?)
+    format!(in alloc; "{met}; {one}; {other}")
 }
 
 fn holds<R: Replica>(
@@ -43,7 +44,7 @@ fn holds<R: Replica>(
     meter: &mut Meter,
     site: &mut R,
     held: &[Written],
-) -> Result<bool> {
+) -> Result<bool, AllocError> {
     let batch = batch(alloc, held)?;
     Ok(site.take(alloc, batch.as_slice(), meter).is_ok())
 }
@@ -54,13 +55,13 @@ fn with_entries<A: Replica, B: Replica>(
     first: &mut A,
     second: &mut B,
     case: &Case,
-) -> Result<String> {
+) -> Result<String, AllocError> {
     if holds(alloc, meter, first, case.first.held)?
         && holds(alloc, meter, second, case.second.held)?
     {
         return said(alloc, meter, first, second);
     }
-    Ok(String::from_str(alloc, "the entries are not held")?)
+    String::from_str(alloc, "the entries are not held")
 }
 
 fn with_second<A: Replica>(
@@ -68,19 +69,19 @@ fn with_second<A: Replica>(
     meter: &mut Meter,
     first: &mut A,
     case: &Case,
-) -> Result<String> {
+) -> Result<String, AllocError> {
     let Start { site, limit, .. } = case.second;
     match PlainSite::open_script(alloc, case.script, site, limit) {
         Ok(mut second) => with_entries(alloc, meter, first, &mut second, case),
-        Err(_) => Ok(String::from_str(alloc, "the second site is not opened")?),
+        Err(_) => String::from_str(alloc, "the second site is not opened"),
     }
 }
 
-fn met(alloc: Global, meter: &mut Meter, case: &Case) -> Result<String> {
+fn met(alloc: Global, meter: &mut Meter, case: &Case) -> Result<String, AllocError> {
     let Start { site, limit, .. } = case.first;
     match Site::open_script(alloc, SCRIPT, site, limit) {
         Ok(mut first) => with_second(alloc, meter, &mut first, case),
-        Err(_) => Ok(String::from_str(alloc, "the first site is not opened")?),
+        Err(_) => String::from_str(alloc, "the first site is not opened"),
     }
 }
 
@@ -89,7 +90,7 @@ fn site<'a>(site: u16, limit: usize, held: &'a [Written<'a>]) -> Start<'a> {
 }
 
 #[test]
-fn sites_meet_in_memory(rt: HostRuntime) -> Result<()> {
+fn sites_meet_in_memory(rt: HostRuntime) -> Result<(), Fail> {
     let mut meter = Meter::new(&rt);
     let gap: &[Written] = &[(2, 1, 1, "INSERT Q X;"), (2, 3, 3, "DELETE R;")];
     let whole: &[Written] = &[

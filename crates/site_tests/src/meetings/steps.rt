@@ -1,9 +1,9 @@
 //! What a site answers in one step of a meeting.
 
-use crate::answers::{Result, taken, vector};
+use crate::answers::{taken, vector};
 use crate::entries::{SCRIPT, Written, batch};
 use crate::fakes::{Given, Narrow};
-use std::alloc::Global;
+use std::alloc::{AllocError, Global};
 use td_devices::{Channel, Device, Pair};
 use td_meeting::{MeetingError, answer, finish, greet, settle};
 use td_replay::Site;
@@ -25,10 +25,10 @@ pub enum Step {
     Finish,
 }
 
-fn done(alloc: Global, answer: std::result::Result<(), MeetingError>) -> Result<String> {
+fn done(alloc: Global, answer: Result<(), MeetingError>) -> Result<String, AllocError> {
     match answer {
-        Ok(()) => Ok(String::from_str(alloc, "done")?),
-        Err(error) => Ok(format!(in alloc; "{error}")?),
+        Ok(()) => String::from_str(alloc, "done"),
+        Err(error) => format!(in alloc; "{error}"),
     }
 }
 
@@ -38,7 +38,7 @@ fn said<R: Replica, C: Channel>(
     meter: &mut Meter,
     step: Step,
     link: &mut C,
-) -> Result<String> {
+) -> Result<String, AllocError> {
     match step {
         Step::Greet => done(alloc, greet(alloc, site, link)),
         Step::Answer => done(alloc, answer(alloc, site, link)),
@@ -55,14 +55,14 @@ fn told_by<R: Replica>(
     held: &[Written],
     step: Step,
     link: Pair<Given, &mut Narrow>,
-) -> Result<String> {
+) -> Result<String, AllocError> {
     let batch = batch(alloc, held)?;
     if site.take(alloc, batch.as_slice(), meter).is_err() {
-        return Ok(String::from_str(alloc, "the entries are not held")?);
+        return String::from_str(alloc, "the entries are not held");
     }
     let said = said(alloc, site, meter, step, &mut Device::link(link))?;
     let vector = vector(alloc, site)?;
-    Ok(format!(in alloc; "{said}; {vector}")?)
+    format!(in alloc; "{said}; {vector}")
 }
 
 /// What a site of the script says in a step, and its version vector then.
@@ -72,9 +72,9 @@ pub fn told(
     start: Start,
     step: Step,
     link: Pair<Given, &mut Narrow>,
-) -> Result<String> {
+) -> Result<String, AllocError> {
     match Site::open_script(alloc, SCRIPT, start.site, start.limit) {
         Ok(mut site) => told_by(alloc, &mut site, meter, start.held, step, link),
-        Err(_) => Ok(String::from_str(alloc, "the site is not opened")?),
+        Err(_) => String::from_str(alloc, "the site is not opened"),
     }
 }

@@ -1,6 +1,5 @@
 //! Worked meetings: what each step says and writes.
 
-use crate::answers::Result;
 use crate::entries::Written;
 use crate::fakes::{Given, Narrow};
 use crate::meetings::bytes::{
@@ -8,7 +7,8 @@ use crate::meetings::bytes::{
     GREETING_WITH_ONE, OWN_ENTRY,
 };
 use crate::meetings::steps::{Start, Step, told};
-use std::alloc::Global;
+use std::alloc::{AllocError, Global};
+use std::test::Fail;
 use td_devices::Pair;
 use td_story::Meter;
 
@@ -32,7 +32,12 @@ struct Table<'a> {
 }
 
 // What is unlike the case, if anything is.
-fn unlike_one(alloc: Global, meter: &mut Meter, table: &Table, case: &Case) -> Result<String> {
+fn unlike_one(
+    alloc: Global,
+    meter: &mut Meter,
+    table: &Table,
+    case: &Case,
+) -> Result<String, AllocError> {
     let room = if table.fails {
         case.written.len().saturating_sub(1)
     } else {
@@ -65,15 +70,15 @@ fn unlike_one(alloc: Global, meter: &mut Meter, table: &Table, case: &Case) -> R
     }
     let written = writer.taken.len();
     let flushes = writer.flushes;
-    Ok(format!(in alloc; "{found}; written {written}, flushes {flushes}")?)
+    format!(in alloc; "{found}; written {written}, flushes {flushes}")
 }
 
 // The first case that is not met, with what was found.
-fn unlike(alloc: Global, meter: &mut Meter, table: &Table) -> Result<String> {
+fn unlike(alloc: Global, meter: &mut Meter, table: &Table) -> Result<String, AllocError> {
     for (n, case) in table.cases.iter().enumerate() {
         let found = unlike_one(alloc, meter, table, case)?;
         if !found.is_empty() {
-            return Ok(format!(in alloc; "{n}: {found}")?);
+            return format!(in alloc; "{n}: {found}");
         }
     }
     Ok(String::new(alloc))
@@ -343,7 +348,7 @@ const TABLES: &[Table] = &[
 ];
 
 #[test]
-fn the_steps_of_a_meeting(rt: HostRuntime) -> Result<()> {
+fn the_steps_of_a_meeting(rt: HostRuntime) -> Result<(), Fail> {
     let mut meter = Meter::new(&rt);
     for table in TABLES {
         let unlike = unlike(rt.alloc(), &mut meter, table)?;
