@@ -2,7 +2,7 @@
 
 use crate::answers::vector;
 use crate::entries::{SCRIPT, Written, batch};
-use crate::meetings::steps::Start;
+use crate::meetings::steps::{NARROW, NEW, NEW_SECOND, SECOND, Start, WITH_ONE};
 use std::alloc::{AllocError, Global};
 use std::test::Fail;
 use td_meeting::meet;
@@ -12,10 +12,46 @@ use td_story::{Meter, Opens, Replica};
 /// The same definitions, but for a space.
 const OTHER_SCRIPT: &str = "VAR R BASE RELATION { A INTEGER } KEY { A } ;";
 
-const TWO: &[Written] = &[(2, 1, 5, "DELETE R;"), (2, 2, 6, "DELETE R;")];
+/// The first site with the first and the third entry of a second one.
+const WITH_GAP: Start = Start {
+    site: 1,
+    limit: 10_000,
+    held: &[(2, 1, 1, "INSERT Q X;"), (2, 3, 3, "DELETE R;")],
+};
+
+/// A third site with all three.
+const THIRD: Start = Start {
+    site: 3,
+    limit: 10_000,
+    held: &[
+        (2, 1, 1, "INSERT Q X;"),
+        (2, 2, 2, "DELETE R;"),
+        (2, 3, 3, "DELETE R;"),
+    ],
+};
+
+/// The first site with an entry of its own.
+const OWN: Start = Start {
+    site: 1,
+    limit: 10_000,
+    held: &[(1, 1, 3, "DELETE R;")],
+};
+
+/// The first site with an entry that clashes with the second one's second.
+const CLASHING: Start = Start {
+    site: 1,
+    limit: 10_000,
+    held: &[(2, 2, 5, "DELETE R;")],
+};
+
+/// The second site with room for no more than its two entries.
+const FULL: Start = Start {
+    site: 2,
+    limit: 2,
+    held: &[(2, 1, 5, "DELETE R;"), (2, 2, 6, "DELETE R;")],
+};
 
 /// Two sites, the second of this script, and what they say when they meet.
-#[derive(Clone, Copy)]
 struct Case<'a> {
     script: &'a str,
     first: Start<'a>,
@@ -85,87 +121,68 @@ fn met(alloc: Global, meter: &mut Meter, case: &Case) -> Result<String, AllocErr
     }
 }
 
-fn site<'a>(site: u16, limit: usize, held: &'a [Written<'a>]) -> Start<'a> {
-    Start { site, limit, held }
-}
+const CASES: &[Case] = &[
+    Case {
+        script: SCRIPT,
+        first: NEW,
+        second: SECOND,
+        told: "fresh 2 0; 2:2 ; 2:2 ",
+    },
+    Case {
+        script: SCRIPT,
+        first: WITH_ONE,
+        second: SECOND,
+        told: "fresh 1 0; 2:2 ; 2:2 ",
+    },
+    Case {
+        script: SCRIPT,
+        first: WITH_GAP,
+        second: THIRD,
+        told: "fresh 1 0; 2:3 ; 2:3 ",
+    },
+    Case {
+        script: SCRIPT,
+        first: OWN,
+        second: SECOND,
+        told: "fresh 2 1; 1:1 2:2 ; 1:1 2:2 ",
+    },
+    Case {
+        script: OTHER_SCRIPT,
+        first: NEW,
+        second: SECOND,
+        told: "the other site started from another script; fresh entries that the first site took: 0; ; 2:2 ",
+    },
+    Case {
+        script: SCRIPT,
+        first: NEW_SECOND,
+        second: SECOND,
+        told: "the other site has the same number; fresh entries that the first site took: 0; ; 2:2 ",
+    },
+    Case {
+        script: SCRIPT,
+        first: NARROW,
+        second: SECOND,
+        told: "the site has no room for the batch; fresh entries that the first site took: 0; ; 2:2 ",
+    },
+    Case {
+        script: SCRIPT,
+        first: OWN,
+        second: FULL,
+        told: "the site has no room for the batch; fresh entries that the first site took: 2; 1:1 2:2 ; 2:2 ",
+    },
+    Case {
+        script: SCRIPT,
+        first: CLASHING,
+        second: SECOND,
+        told: "an entry claims the place of another one: site 2, sequence number 1; fresh entries that the first site took: 0; ; 2:2 ",
+    },
+];
 
 #[test]
 fn sites_meet_in_memory(rt: HostRuntime) -> Result<(), Fail> {
     let mut meter = Meter::new(&rt);
-    let gap: &[Written] = &[(2, 1, 1, "INSERT Q X;"), (2, 3, 3, "DELETE R;")];
-    let whole: &[Written] = &[
-        (2, 1, 1, "INSERT Q X;"),
-        (2, 2, 2, "DELETE R;"),
-        (2, 3, 3, "DELETE R;"),
-    ];
-    let own: &[Written] = &[(1, 1, 3, "DELETE R;")];
-    let other: &[Written] = &[(2, 2, 5, "DELETE R;")];
-    for (n, (script, first, second, told)) in [
-        (
-            SCRIPT,
-            site(1, 9, &[]),
-            site(2, 9, TWO),
-            "fresh 2 0; 2:2 ; 2:2 ",
-        ),
-        (
-            SCRIPT,
-            site(1, 9, &TWO[..1]),
-            site(2, 9, TWO),
-            "fresh 1 0; 2:2 ; 2:2 ",
-        ),
-        (
-            SCRIPT,
-            site(1, 9, gap),
-            site(3, 9, whole),
-            "fresh 1 0; 2:3 ; 2:3 ",
-        ),
-        (
-            SCRIPT,
-            site(1, 9, own),
-            site(2, 9, TWO),
-            "fresh 2 1; 1:1 2:2 ; 1:1 2:2 ",
-        ),
-        (
-            OTHER_SCRIPT,
-            site(1, 9, &[]),
-            site(2, 9, TWO),
-            "the other site started from another script; fresh entries that the first site took: 0; ; 2:2 ",
-        ),
-        (
-            SCRIPT,
-            site(2, 9, &[]),
-            site(2, 9, TWO),
-            "the other site has the same number; fresh entries that the first site took: 0; ; 2:2 ",
-        ),
-        (
-            SCRIPT,
-            site(1, 1, &[]),
-            site(2, 9, TWO),
-            "the site has no room for the batch; fresh entries that the first site took: 0; ; 2:2 ",
-        ),
-        (
-            SCRIPT,
-            site(1, 9, own),
-            site(2, 2, TWO),
-            "the site has no room for the batch; fresh entries that the first site took: 2; 1:1 2:2 ; 2:2 ",
-        ),
-        (
-            SCRIPT,
-            site(1, 9, other),
-            site(2, 9, TWO),
-            "an entry claims the place of another one: site 2, sequence number 1; fresh entries that the first site took: 0; ; 2:2 ",
-        ),
-    ]
-    .into_iter()
-    .enumerate()
-    {
-        let case = Case {
-            script,
-            first,
-            second,
-            told,
-        };
-        let found = met(rt.alloc(), &mut meter, &case)?;
+    for (n, case) in CASES.iter().enumerate() {
+        let found = met(rt.alloc(), &mut meter, case)?;
         assert!(rt; found.as_str() == case.told, "{n}: {found}");
     }
     Ok(())

@@ -17,6 +17,57 @@ pub struct Start<'a> {
     pub held: &'a [Written<'a>],
 }
 
+const TWO: &[Written] = &[(2, 1, 5, "DELETE R;"), (2, 2, 6, "DELETE R;")];
+
+/// The first site, of ample room, which holds nothing.
+pub const NEW: Start = Start {
+    site: 1,
+    limit: 10_000,
+    held: &[],
+};
+
+/// The first site with an entry of the second one's.
+pub const WITH_ONE: Start = Start {
+    site: 1,
+    limit: 10_000,
+    held: &[(2, 1, 5, "DELETE R;")],
+};
+
+/// The first site with that entry, and one of its own.
+pub const WITH_OWN: Start = Start {
+    site: 1,
+    limit: 10_000,
+    held: &[(1, 1, 3, "DELETE R;"), (2, 1, 5, "DELETE R;")],
+};
+
+/// The first site with an entry that clashes with one of the second one's.
+pub const WITH_ANOTHER: Start = Start {
+    site: 1,
+    limit: 10_000,
+    held: &[(2, 1, 7, "DELETE R;")],
+};
+
+/// The first site with room for one entry.
+pub const NARROW: Start = Start {
+    site: 1,
+    limit: 1,
+    held: &[],
+};
+
+/// The second site, which holds nothing.
+pub const NEW_SECOND: Start = Start {
+    site: 2,
+    limit: 10_000,
+    held: &[],
+};
+
+/// The second site with both entries.
+pub const SECOND: Start = Start {
+    site: 2,
+    limit: 10_000,
+    held: TWO,
+};
+
 #[derive(Clone, Copy)]
 pub enum Step {
     Greet,

@@ -1,12 +1,13 @@
 //! Worked meetings: what each step says and writes.
 
-use crate::entries::Written;
 use crate::fakes::{Given, Narrow};
 use crate::meetings::bytes::{
     ANSWER, ANSWER_WITH_NUMBER_0, ANSWER_WITH_ONE, ANSWER_WITHOUT_END, BAD_LETTER, GREETING,
     GREETING_WITH_ONE, OWN_ENTRY,
 };
-use crate::meetings::steps::{Start, Step, told};
+use crate::meetings::steps::{
+    NARROW, NEW, NEW_SECOND, SECOND, Start, Step, WITH_ANOTHER, WITH_ONE, WITH_OWN, told,
+};
 use std::alloc::{AllocError, Global};
 use std::test::Fail;
 use td_devices::Pair;
@@ -83,57 +84,6 @@ fn unlike(alloc: Global, meter: &mut Meter, table: &Table) -> Result<String, All
     }
     Ok(String::new(alloc))
 }
-
-const TWO: &[Written] = &[(2, 1, 5, "DELETE R;"), (2, 2, 6, "DELETE R;")];
-
-/// A first site of ample room that holds nothing.
-const NEW: Start = Start {
-    site: 1,
-    limit: 10_000,
-    held: &[],
-};
-
-/// The first site with an entry of the second one's.
-const WITH_ONE: Start = Start {
-    site: 1,
-    limit: 10_000,
-    held: &[(2, 1, 5, "DELETE R;")],
-};
-
-/// With that, and one of its own.
-const WITH_OWN: Start = Start {
-    site: 1,
-    limit: 10_000,
-    held: &[(1, 1, 3, "DELETE R;"), (2, 1, 5, "DELETE R;")],
-};
-
-/// With an entry that clashes with one of the second site's.
-const WITH_ANOTHER: Start = Start {
-    site: 1,
-    limit: 10_000,
-    held: &[(2, 1, 7, "DELETE R;")],
-};
-
-/// With room for one entry.
-const NARROW: Start = Start {
-    site: 1,
-    limit: 1,
-    held: &[],
-};
-
-/// A second site that holds nothing.
-const NEW_SECOND: Start = Start {
-    site: 2,
-    limit: 10_000,
-    held: &[],
-};
-
-/// The second site with both entries.
-const SECOND: Start = Start {
-    site: 2,
-    limit: 10_000,
-    held: TWO,
-};
 
 const STEPS: &[Case] = &[
     Case {
