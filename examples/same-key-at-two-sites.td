@@ -5,4 +5,5 @@ VAR S BASE RELATION { SNO CHAR, STATUS INTEGER, CITY CHAR } KEY { SNO };
 .meet 1 2
 .listing 1
 .listing 2
+.log 2
 .quit

@@ -1,8 +1,7 @@
 //! The answers of sites as texts.
 
-use std::alloc::Global;
+use std::alloc::{AllocError, Global};
 use std::fmt::Display;
-use std::test::Fail;
 use td_relations::Relation;
 use td_stamps::{Stamp, Vector};
 use td_story::{
@@ -11,78 +10,80 @@ use td_story::{
 };
 use td_values::{Kind, Value, show};
 
-pub type Result<T> = std::result::Result<T, Fail>;
-
-fn named(alloc: Global, outcome: &Outcome) -> Result<String> {
+fn named(alloc: Global, outcome: &Outcome) -> Result<String, AllocError> {
     match outcome {
-        Outcome::Done => Ok(String::from_str(alloc, "done")?),
-        Outcome::Unread => Ok(String::from_str(alloc, "unread")?),
-        Outcome::Raised(raise) => Ok(format!(in alloc; "raised {raise}")?),
-        Outcome::BreaksKey(relvar) => Ok(format!(in alloc; "breaks key {}", relvar.as_str())?),
+        Outcome::Done => String::from_str(alloc, "done"),
+        Outcome::Unread => String::from_str(alloc, "unread"),
+        Outcome::Raised(raise) => format!(in alloc; "raised {raise}"),
+        Outcome::BreaksKey(relvar) => format!(in alloc; "breaks key {}", relvar.as_str()),
         Outcome::BreaksConstraint(name) => {
-            Ok(format!(in alloc; "breaks constraint {}", name.as_str())?)
+            format!(in alloc; "breaks constraint {}", name.as_str())
         }
     }
 }
 
-fn stamped(alloc: Global, stamp: Stamp, outcome: &Outcome) -> Result<String> {
+fn stamped(alloc: Global, stamp: Stamp, outcome: &Outcome) -> Result<String, AllocError> {
     let named = named(alloc, outcome)?;
-    Ok(format!(in alloc; "{}.{} {named}", stamp.clock, stamp.site)?)
+    format!(in alloc; "{}.{} {named}", stamp.clock, stamp.site)
 }
 
-pub fn issued(alloc: Global, answer: std::result::Result<Issued, IssueError>) -> Result<String> {
+pub fn issued(alloc: Global, answer: Result<Issued, IssueError>) -> Result<String, AllocError> {
     match answer {
         Ok(issued) => stamped(alloc, issued.stamp, &issued.outcome),
-        Err(error) => Ok(format!(in alloc; "{error}")?),
+        Err(error) => format!(in alloc; "{error}"),
     }
 }
 
 /// The counts of what was taken, or why nothing was.
 pub fn taken<E: Display + Drop>(
     alloc: Global,
-    answer: std::result::Result<Taken, E>,
-) -> Result<String> {
+    answer: Result<Taken, E>,
+) -> Result<String, AllocError> {
     match answer {
-        Ok(taken) => Ok(format!(in alloc; "fresh {} known {}", taken.fresh, taken.known)?),
-        Err(error) => Ok(format!(in alloc; "{error}")?),
+        Ok(taken) => format!(in alloc; "fresh {} known {}", taken.fresh, taken.known),
+        Err(error) => format!(in alloc; "{error}"),
     }
 }
 
-fn asked(alloc: Global, asked: Asked) -> Result<String> {
+fn asked(alloc: Global, asked: Asked) -> Result<String, AllocError> {
     match asked {
-        Asked::Value(value) => Ok(show(alloc, &value)?),
-        Asked::Raised(raise) => Ok(format!(in alloc; "raised {raise}")?),
+        Asked::Value(value) => show(alloc, &value),
+        Asked::Raised(raise) => format!(in alloc; "raised {raise}"),
     }
 }
 
-pub fn replied(alloc: Global, answer: std::result::Result<Asked, AskError>) -> Result<String> {
+pub fn replied(alloc: Global, answer: Result<Asked, AskError>) -> Result<String, AllocError> {
     match answer {
         Ok(answer) => asked(alloc, answer),
-        Err(error) => Ok(format!(in alloc; "{error}")?),
+        Err(error) => format!(in alloc; "{error}"),
     }
 }
 
-pub fn replied_at(alloc: Global, answer: std::result::Result<Asked, PastError>) -> Result<String> {
+pub fn replied_at(alloc: Global, answer: Result<Asked, PastError>) -> Result<String, AllocError> {
     match answer {
         Ok(answer) => asked(alloc, answer),
-        Err(error) => Ok(format!(in alloc; "{error}")?),
+        Err(error) => format!(in alloc; "{error}"),
     }
 }
 
-fn shown(alloc: Global, relation: Relation) -> Result<String> {
+fn shown(alloc: Global, relation: Relation) -> Result<String, AllocError> {
     let kind = Kind::Relation(relation.into_rows());
-    Ok(show(alloc, &Value { kind })?)
+    show(alloc, &Value { kind })
 }
 
-pub fn told(alloc: Global, answer: std::result::Result<Answer, ValueError>) -> Result<String> {
+pub fn told(alloc: Global, answer: Result<Answer, ValueError>) -> Result<String, AllocError> {
     match answer {
         Ok(Answer::Relation(relation)) => shown(alloc, relation),
-        Ok(Answer::Raised(raise)) => Ok(format!(in alloc; "raised {raise}")?),
-        Err(error) => Ok(format!(in alloc; "{error}")?),
+        Ok(Answer::Raised(raise)) => format!(in alloc; "raised {raise}"),
+        Err(error) => format!(in alloc; "{error}"),
     }
 }
 
-fn add_outcomes(alloc: Global, text: &mut String, outcomes: &[(Stamp, Outcome)]) -> Result<()> {
+fn add_outcomes(
+    alloc: Global,
+    text: &mut String,
+    outcomes: &[(Stamp, Outcome)],
+) -> Result<(), AllocError> {
     for (stamp, outcome) in outcomes {
         let line = stamped(alloc, *stamp, outcome)?;
         text.push_str(line.as_str())?;
@@ -93,17 +94,17 @@ fn add_outcomes(alloc: Global, text: &mut String, outcomes: &[(Stamp, Outcome)])
 
 pub fn listed(
     alloc: Global,
-    answer: std::result::Result<Vec<(Stamp, Outcome)>, TellError>,
-) -> Result<String> {
+    answer: Result<Vec<(Stamp, Outcome)>, TellError>,
+) -> Result<String, AllocError> {
     let mut text = String::new(alloc);
     match answer {
         Ok(outcomes) => add_outcomes(alloc, &mut text, outcomes.as_slice())?,
-        Err(error) => return Ok(format!(in alloc; "{error}")?),
+        Err(error) => return format!(in alloc; "{error}"),
     }
     Ok(text)
 }
 
-fn counted(alloc: Global, vector: &Vector) -> Result<String> {
+fn counted(alloc: Global, vector: &Vector) -> Result<String, AllocError> {
     let mut text = String::new(alloc);
     for (site, number) in vector.entries(alloc)? {
         let part = format!(in alloc; "{site}:{number} ")?;
@@ -113,9 +114,9 @@ fn counted(alloc: Global, vector: &Vector) -> Result<String> {
 }
 
 /// The version vector of the site.
-pub fn vector<R: Replica>(alloc: Global, site: &R) -> Result<String> {
+pub fn vector<R: Replica>(alloc: Global, site: &R) -> Result<String, AllocError> {
     match site.held() {
         Ok(held) => counted(alloc, &held.vector(alloc)?),
-        Err(error) => Ok(format!(in alloc; "{error}")?),
+        Err(error) => format!(in alloc; "{error}"),
     }
 }

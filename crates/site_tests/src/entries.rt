@@ -2,8 +2,7 @@
 
 ghost use Rattle.std.specs.Prelude.{◌≡◌, IfOk};
 
-use crate::answers::Result;
-use std::alloc::Global;
+use std::alloc::{AllocError, Global};
 use td_stamps::Entry;
 use td_values::Text;
 
@@ -20,7 +19,7 @@ pub fn entry(
     clock: u64,
     dialect: u8,
     text: &str,
-) -> Result<Entry>
+) -> Result<Entry, AllocError>
     ensures { IfOk result (λ e. e ≡ record { site = site; seq = seq; clock = clock; dialect = dialect; text = text.now }) }
 {
     let text = Text::from_str(alloc, text)?;
@@ -34,7 +33,7 @@ pub fn entry(
 }
 
 /// These entries, in this dialect.
-pub fn batch_in(alloc: Global, written: &[Written], dialect: u8) -> Result<Vec<Entry>> {
+pub fn batch_in(alloc: Global, written: &[Written], dialect: u8) -> Result<Vec<Entry>, AllocError> {
     let mut batch = Vec::new(alloc);
     for (site, seq, clock, text) in written {
         batch.push(entry(alloc, *site, *seq, *clock, dialect, text)?)?;
@@ -43,6 +42,6 @@ pub fn batch_in(alloc: Global, written: &[Written], dialect: u8) -> Result<Vec<E
 }
 
 /// These entries, in the latest dialect.
-pub fn batch(alloc: Global, written: &[Written]) -> Result<Vec<Entry>> {
+pub fn batch(alloc: Global, written: &[Written]) -> Result<Vec<Entry>, AllocError> {
     batch_in(alloc, written, 2)
 }

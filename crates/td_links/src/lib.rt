@@ -9,9 +9,6 @@ ghost use Rattle.td_links.specs.Links.{ReachedFrom, with_link};
 use std::alloc::{AllocError, Global};
 use std::marker::Model;
 
-#[cfg(test)]
-mod tests;
-
 /// Links between places, which are counted from 0.
 pub trait Leads {
     ghost links: { Self → List (List ℕ) };

@@ -1,12 +1,8 @@
 //! Readers and writers that behave as they are told.
 
-ghost use Rattle.std.specs.Prelude.{None};
-
 use std::alloc::Global;
 use std::io;
 use std::io::{ErrorKind, Read, Write};
-use td_devices::{Device, Failed, Source};
-use td_journal::{Journals, StoreError};
 
 /// The first bytes of a text.
 pub fn front(text: &str, bytes: usize) -> &[u8] {
@@ -83,94 +79,5 @@ impl Write for SlowWriter {
         }
         self.flushes += 1;
         Ok(())
-    }
-}
-
-/// Has one journal, under one name, and opens no other.
-pub struct Shelf {
-    pub name: &'static str,
-    pub bytes: &'static [u8],
-    /// How many of its bytes are to stand whole, where it is to be gone on with; or none, where it is to be made anew.
-    pub whole: Option<u64>,
-}
-
-/// A journal of a shelf.
-#[derive(Drop)]
-pub struct Book {
-    reader: Device<&'static [u8]>,
-    alloc: Global,
-}
-
-impl Source for Book {
-    ghost left = { λ _. None };
-
-    ghost beside = { λ _. None };
-
-    ghost failures = { λ b. b.reader.failures };
-
-    fn read_some(&mut self, buf: &mut [u8]) -> Result<usize, Failed> {
-        self.reader.read_some(buf)
-    }
-}
-
-/// Takes what it is given, and says nothing of it.
-#[derive(Drop)]
-pub struct Taken {
-    taken: Vec<u8>,
-}
-
-impl Write for Taken {
-    fn write(&mut self, buf: &[u8]) -> io::Result<usize> {
-        self.taken.write(buf)
-    }
-
-    fn flush(&mut self) -> io::Result<()> {
-        self.taken.flush()
-    }
-}
-
-impl Journals for Shelf {
-    type Journal = Book;
-
-    type Writer = Device<Taken>;
-
-    type Renewal = Device<Taken>;
-
-    ghost kept = { λ _ _. None };
-
-    ghost fails = { λ _ _. Unit {0} };
-
-    fn open(&self, alloc: Global, name: &str) -> Result<Book, StoreError> {
-        if name != self.name {
-            return Err(StoreError::JournalFile);
-        }
-        Ok(Book {
-            reader: Device::new(self.bytes),
-            alloc,
-        })
-    }
-
-    fn cut(&self, journal: Book, whole: u64) -> Result<Device<Taken>, Failed> {
-        if self.whole != Some(whole) {
-            return Err(Failed);
-        }
-        let Book { reader: _, alloc } = journal;
-        Ok(Device::new(Taken {
-            taken: Vec::new(alloc),
-        }))
-    }
-
-    fn renew(&self, alloc: Global, name: &str) -> Result<Device<Taken>, StoreError> {
-        if name != self.name || self.whole.is_some() {
-            return Err(StoreError::JournalFile);
-        }
-        Ok(Device::new(Taken {
-            taken: Vec::new(alloc),
-        }))
-    }
-
-    fn replace(&self, journal: Book, renewal: Device<Taken>) -> Result<Device<Taken>, Failed> {
-        drop(journal);
-        Ok(renewal)
     }
 }

@@ -1,21 +1,12 @@
-//! Whole runs over memory, with the texts that the language's description has for them.
+//! Whole runs over memory: sites that are handed in, and streams that fail. What the program answers is shown by
+//! examples.
 #![tactic(auto)]
 
 #[cfg(test)]
-mod examples;
-#[cfg(test)]
 mod fakes;
-#[cfg(test)]
-mod faults;
-#[cfg(test)]
-mod limits;
-#[cfg(test)]
-mod runs;
 #[cfg(test)]
 mod sites;
 #[cfg(test)]
 mod streams;
 #[cfg(test)]
 mod texts;
-#[cfg(test)]
-mod words;

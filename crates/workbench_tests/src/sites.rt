@@ -70,6 +70,27 @@ held 1
 }
 
 #[test]
+fn no_links(rt: HostRuntime) -> Result<(), Fail> {
+    let lines = ".call 7 127.0.0.1:7001
+
+.listing 7
+.serve 9 [::1]:7001
+
+.listing 9
+";
+    let want = "fault net
+relvar S 0
+held 0
+fault net
+relvar S 0
+held 0
+";
+    let found = answers(&rt, lines)?;
+    assert!(rt; found.as_slice() == want.as_bytes());
+    Ok(())
+}
+
+#[test]
 fn no_sites_at_all(rt: HostRuntime) -> Result<(), Fail> {
     let mut meter = Meter::new(&rt);
     let mut sites: [Site; 0] = [];

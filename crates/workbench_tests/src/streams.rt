@@ -1,12 +1,60 @@
 //! Readers and writers that are interrupted or fail.
 
 use crate::fakes::{Full, SlowReader, SlowWriter, front};
-use crate::runs::{Ran, TWO, TWO_SITES_MEET, TWO_SITES_MET};
+use std::alloc::AllocError;
+use std::test::Fail;
 use td_answers::NoLinks;
 use td_devices::Device;
+use td_files::{FileJournals, Notes};
 use td_replay::Site;
 use td_story::Meter;
-use td_workbench::{Ended, run_program};
+use td_workbench::{Ended, Options, program, run_program};
+
+/// Two sites insert apart and meet.
+const TWO_SITES_MEET: &str =
+    "VAR S BASE RELATION { SNO CHAR, STATUS INTEGER, CITY CHAR } KEY { SNO };
+.begin
+1: INSERT S RELATION { TUPLE { SNO 'S1', STATUS 20, CITY 'London' } };
+2: INSERT S RELATION { TUPLE { SNO 'S2', STATUS 10, CITY 'Paris' } };
+.meet 1 2
+.listing 1
+.listing 2
+.csv 1 S
+.vector 1
+.quit
+";
+
+const TWO_SITES_MET: &str = "ready 2
+1.1 done
+1.2 done
+met 1 2 fresh 1 1
+relvar S 2
+TUPLE { CITY 'London', SNO 'S1', STATUS 20 }
+TUPLE { CITY 'Paris', SNO 'S2', STATUS 10 }
+held 2
+relvar S 2
+TUPLE { CITY 'London', SNO 'S1', STATUS 20 }
+TUPLE { CITY 'Paris', SNO 'S2', STATUS 10 }
+held 2
+CITY,SNO,STATUS
+London,S1,20
+Paris,S2,10
+vector 1:1 2:1
+";
+
+/// The sites 1 and 2.
+const TWO: Options = Options {
+    sites: 2,
+    first: 1,
+    limit: 10_000,
+};
+
+/// How a run ended, and what it wrote.
+#[derive(Drop)]
+struct Ran {
+    end: Result<bool, Ended>,
+    output: Vec<u8>,
+}
 
 /// Where `.begin`, and each line behind it up to `.quit`, ends in what two sites that meet read, and its answer in what
 /// they write.
@@ -65,7 +113,10 @@ fn readers_that_fail_at_each_byte(rt: HostRuntime) {
     }
     for fails in [true, false] {
         let found = read_to(&rt, TWO_SITES_MEET.len(), fails);
-        assert!(rt; found.is(true, TWO_SITES_MET), "{fails}");
+        assert!(rt;
+            found.end == Ok(true) && found.output.as_slice() == TWO_SITES_MET.as_bytes(),
+            "{fails}"
+        );
     }
 }
 
@@ -115,4 +166,48 @@ fn each_answer_is_flushed(rt: HostRuntime) {
             "{most}"
         );
     }
+}
+
+// The statuses where the input fails behind `.begin`, and where the output takes no more than three bytes.
+fn broken(rt: &HostRuntime) -> Result<(u8, u8), AllocError> {
+    let mut words = Vec::new(rt.alloc());
+    words.push(String::from_str(rt.alloc(), "td_console")?)?;
+    let notes = Notes::new();
+    let journals = FileJournals::new(rt, &notes);
+    let mut meter = Meter::new(rt);
+    let mut output = Vec::new(rt.alloc());
+    let mut faults = Vec::new(rt.alloc());
+    let mut failing = Device::new(SlowReader {
+        rest: b".begin\n",
+        fails: true,
+        is_interrupted: false,
+    });
+    let unread = program::<Site, _, _, _, _, _>(
+        rt.alloc(),
+        &words,
+        &journals,
+        &mut NoLinks,
+        &mut meter,
+        &mut failing,
+        &mut Device::new(&mut output),
+        &mut Device::new(&mut faults),
+    );
+    let mut full = Device::new(SlowWriter::new(rt.alloc(), 3, Full::Fails, 100));
+    let unwritten = program::<Site, _, _, _, _, _>(
+        rt.alloc(),
+        &words,
+        &journals,
+        &mut NoLinks,
+        &mut meter,
+        &mut Device::new(&b".begin\n"[..]),
+        &mut full,
+        &mut Device::new(&mut faults),
+    );
+    Ok((unread, unwritten))
+}
+
+#[test]
+fn streams_that_fail_end_with_status_1(rt: HostRuntime) -> Result<(), Fail> {
+    assert!(rt; broken(&rt)? == (1, 1));
+    Ok(())
 }

@@ -1,9 +1,10 @@
 //! How many statements a late entry makes a site run.
 
-use crate::answers::{Result, listed};
+use crate::answers::listed;
 use crate::calls::worked::SHIPMENTS;
 use crate::entries::{Written, batch};
-use std::alloc::Global;
+use std::alloc::{AllocError, Global};
+use std::test::Fail;
 use td_replay::{PlainSite, Site};
 use td_story::{Meter, Opens, Replica};
 
@@ -31,7 +32,7 @@ fn after_both<R: Replica>(
     meter: &mut Meter,
     held: &[Written],
     late: Written,
-) -> Result<(String, u64)> {
+) -> Result<(String, u64), AllocError> {
     let first = batch(alloc, held)?;
     let second = batch(alloc, &[late])?;
     let held = site.take(alloc, first.as_slice(), meter).is_ok();
@@ -49,7 +50,7 @@ fn after<R: Opens + Drop>(
     meter: &mut Meter,
     held: &[Written],
     late: Written,
-) -> Result<(String, u64)> {
+) -> Result<(String, u64), AllocError> {
     match R::open_script(alloc, SHIPMENTS, 3, 10_000) {
         Ok(mut site) => after_both(alloc, &mut site, meter, held, late),
         Err(_) => Ok((String::from_str(alloc, "not opened")?, 0)),
@@ -58,7 +59,12 @@ fn after<R: Opens + Drop>(
 
 // Whether the outcomes behind a late statement are these, at a plain site too, and how many statements it made the site
 // run that is no plain one.
-fn told(rt: &HostRuntime, held: &[Written], late: Written, outcomes: &str) -> Result<(bool, u64)> {
+fn told(
+    rt: &HostRuntime,
+    held: &[Written],
+    late: Written,
+    outcomes: &str,
+) -> Result<(bool, u64), AllocError> {
     let mut meter = Meter::new(rt);
     let (found, runs) = after::<Site>(rt.alloc(), &mut meter, held, late)?;
     let (plain, _) = after::<PlainSite>(rt.alloc(), &mut meter, held, late)?;
@@ -67,7 +73,7 @@ fn told(rt: &HostRuntime, held: &[Written], late: Written, outcomes: &str) -> Re
 }
 
 #[test]
-fn late_statements_run_what_they_touch(rt: HostRuntime) -> Result<()> {
+fn late_statements_run_what_they_touch(rt: HostRuntime) -> Result<(), Fail> {
     for (text, most, outcomes) in [
         (
             "DELETE MOST;",
@@ -97,7 +103,7 @@ fn late_statements_run_what_they_touch(rt: HostRuntime) -> Result<()> {
 }
 
 // A statement that counts so many tuples, written out, to come to 5.
-fn dear(alloc: Global, tuples: u32) -> Result<String> {
+fn dear(alloc: Global, tuples: u32) -> Result<String, AllocError> {
     let mut text = String::from_str(
         alloc,
         "MOST := EXTEND TABLE_DEE ADD ( COUNT ( RELATION { TUPLE { N 1 }",
@@ -112,7 +118,7 @@ fn dear(alloc: Global, tuples: u32) -> Result<String> {
 }
 
 #[test]
-fn untouched_statements_are_not_run(rt: HostRuntime) -> Result<()> {
+fn untouched_statements_are_not_run(rt: HostRuntime) -> Result<(), Fail> {
     let dear = dear(rt.alloc(), 300)?;
     for text in ["MOST := RELATION { TUPLE { N 5 } };", dear.as_str()] {
         let late = (2, 1, 1, "DELETE SP;");

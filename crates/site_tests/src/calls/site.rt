@@ -1,8 +1,8 @@
 //! What a site answers to calls, a line for each.
 
-use crate::answers::{Result, issued, listed, replied, replied_at, taken, told, vector};
+use crate::answers::{issued, listed, replied, replied_at, taken, told, vector};
 use crate::entries::{Written, batch_in};
-use std::alloc::Global;
+use std::alloc::{AllocError, Global};
 use td_replay::{PlainSite, Site};
 use td_stamps::Stamp;
 use td_story::{Meter, OpenError, Opens, Replica};
@@ -29,14 +29,16 @@ fn take<R: Replica>(
     meter: &mut Meter,
     written: &[Written],
     dialect: u8,
-) -> Result<String> {
+) -> Result<String, AllocError> {
     let batch = batch_in(alloc, written, dialect)?;
     taken(alloc, site.take(alloc, batch.as_slice(), meter))
 }
 
-fn value_of<R: Replica>(alloc: Global, site: &R, name: &str) -> Result<String> {
-    let name = Name::new(alloc, name)?;
-    told(alloc, site.value_of(alloc, &name))
+fn value_of<R: Replica>(alloc: Global, site: &R, name: &str) -> Result<String, AllocError> {
+    match Name::new(alloc, name) {
+        Ok(name) => told(alloc, site.value_of(alloc, &name)),
+        Err(_) => String::from_str(alloc, "no name"),
+    }
 }
 
 fn answered<R: Replica>(
@@ -44,7 +46,7 @@ fn answered<R: Replica>(
     site: &mut R,
     meter: &mut Meter,
     call: Call,
-) -> Result<String> {
+) -> Result<String, AllocError> {
     match call {
         Call::Issue(text) => issued(alloc, site.issue(alloc, text, meter)),
         Call::Take(written) => take(alloc, site, meter, written, 2),
@@ -69,11 +71,11 @@ fn unlike_at<R: Replica>(
     site: &mut R,
     meter: &mut Meter,
     calls: &[(Call, &str)],
-) -> Result<String> {
+) -> Result<String, AllocError> {
     for (n, (call, expected)) in calls.iter().enumerate() {
         let found = answered(alloc, site, meter, *call)?;
         if found.as_str() != *expected {
-            return Ok(format!(in alloc; "{n}: {found}")?);
+            return format!(in alloc; "{n}: {found}");
         }
     }
     Ok(String::new(alloc))
@@ -84,7 +86,7 @@ fn unlike_of<R: Opens + Drop>(
     meter: &mut Meter,
     opening: (&str, u16, usize),
     calls: &[(Call, &str)],
-) -> Result<String> {
+) -> Result<String, AllocError> {
     let (script, number, limit) = opening;
     match R::open_script(alloc, script, number, limit) {
         Ok(mut site) => unlike_at(alloc, &mut site, meter, calls),
@@ -99,7 +101,7 @@ pub fn unlike(
     meter: &mut Meter,
     opening: (&str, u16, usize),
     calls: &[(Call, &str)],
-) -> Result<String> {
+) -> Result<String, AllocError> {
     let found = unlike_of::<Site>(alloc, meter, opening, calls)?;
     if !found.is_empty() {
         return Ok(found);
@@ -107,11 +109,11 @@ pub fn unlike(
     unlike_of::<PlainSite>(alloc, meter, opening, calls)
 }
 
-fn refused(alloc: Global, error: OpenError) -> Result<String> {
+fn refused(alloc: Global, error: OpenError) -> Result<String, AllocError> {
     let text = match error {
         OpenError::BadSite => "bad site",
         OpenError::BadLimit => "bad limit",
         OpenError::Script(_) => "bad script",
     };
-    Ok(String::from_str(alloc, text)?)
+    String::from_str(alloc, text)
 }

@@ -1,7 +1,6 @@
 //! The bytes of journals.
 
-use crate::answers::Result;
-use std::alloc::Global;
+use std::alloc::{AllocError, Global};
 
 /// The journal of site 2, which has accepted two entries of dialect 1: a header of 55 bytes, and two frames of 27.
 pub const JOURNAL: &[u8] =
@@ -16,7 +15,12 @@ E\x00\x02\x00\x00\x00\x01\x00\x00\x00\x00\x00\x00\x00\x05\x00\x09DELETE R;\
 E\x00\x02\x00\x00\x00\x02\x00\x00\x00\x00\x00\x00\x00\x06\x00\x09DELETE R;";
 
 /// These bytes with another one at this place.
-pub fn changed(alloc: Global, bytes: &[u8], place: usize, other: u8) -> Result<Vec<u8>> {
+pub fn changed(
+    alloc: Global,
+    bytes: &[u8],
+    place: usize,
+    other: u8,
+) -> Result<Vec<u8>, AllocError> {
     let mut all = Vec::new(alloc);
     for (at, byte) in bytes.iter().enumerate() {
         all.push(if at == place { other } else { *byte })?;

@@ -1,12 +1,12 @@
 //! What keepers write, and what they tell where their writer fails.
 
 use crate::answers;
-use crate::answers::Result;
 use crate::entries::{SCRIPT, entry};
 use crate::fakes::Narrow;
 use crate::journals::bytes::JOURNAL;
 use crate::journals::reopening::reopened;
-use std::alloc::Global;
+use std::alloc::{AllocError, Global};
+use std::test::Fail;
 use td_devices::Device;
 use td_journal::{Keeper, StartError};
 use td_replay::Site;
@@ -16,7 +16,7 @@ use td_story::{Meter, Opens, Replica};
 type Kept<'a> = Keeper<Site, Device<&'a mut Narrow>>;
 
 // The entries of these numbers of the journal.
-fn batch(alloc: Global, numbers: &[u32]) -> Result<Vec<Entry>> {
+fn batch(alloc: Global, numbers: &[u32]) -> Result<Vec<Entry>, AllocError> {
     let mut batch = Vec::new(alloc);
     for n in numbers {
         batch.push(entry(alloc, 2, *n, 4 + u64::from(*n), 1, "DELETE R;")?)?;
@@ -24,7 +24,12 @@ fn batch(alloc: Global, numbers: &[u32]) -> Result<Vec<Entry>> {
     Ok(batch)
 }
 
-fn taken(alloc: Global, keeper: &mut Kept, meter: &mut Meter, numbers: &[u32]) -> Result<String> {
+fn taken(
+    alloc: Global,
+    keeper: &mut Kept,
+    meter: &mut Meter,
+    numbers: &[u32],
+) -> Result<String, AllocError> {
     let batch = batch(alloc, numbers)?;
     answers::taken(alloc, keeper.take(alloc, batch.as_slice(), meter))
 }
@@ -37,22 +42,22 @@ fn asked(keeper: &Kept, alloc: Global) -> &'static str {
 }
 
 // What a keeper tells of two batches, and whether it is open and answers then.
-fn told_by(alloc: Global, mut keeper: Kept, meter: &mut Meter) -> Result<String> {
+fn told_by(alloc: Global, mut keeper: Kept, meter: &mut Meter) -> Result<String, AllocError> {
     let first = taken(alloc, &mut keeper, meter, &[1, 1, 2])?;
     let second = taken(alloc, &mut keeper, meter, &[2, 1])?;
     let open = keeper.is_open();
-    Ok(format!(in alloc; "{first}; {second}; open {open}, {}", asked(&keeper, alloc))?)
+    format!(in alloc; "{first}; {second}; open {open}, {}", asked(&keeper, alloc))
 }
 
-fn kept(alloc: Global, meter: &mut Meter, writer: &mut Narrow) -> Result<String> {
+fn kept(alloc: Global, meter: &mut Meter, writer: &mut Narrow) -> Result<String, AllocError> {
     let Ok(site) = Site::open_script(alloc, SCRIPT, 2, 10_000) else {
-        return Ok(String::from_str(alloc, "the site is not opened")?);
+        return String::from_str(alloc, "the site is not opened");
     };
     match Keeper::start(site, Device::new(writer)) {
         Ok(keeper) => told_by(alloc, keeper, meter),
         Err(refused) => {
             let error: StartError = refused.error;
-            Ok(format!(in alloc; "{error}")?)
+            format!(in alloc; "{error}")
         }
     }
 }
@@ -69,7 +74,7 @@ fn expected(room: usize) -> &'static str {
 }
 
 #[test]
-fn a_keeper_writes_before_it_answers(rt: HostRuntime) -> Result<()> {
+fn a_keeper_writes_before_it_answers(rt: HostRuntime) -> Result<(), Fail> {
     let mut meter = Meter::new(&rt);
     for room in 0..=JOURNAL.len() {
         let mut writer = Narrow::new(rt.alloc(), room);
@@ -96,14 +101,18 @@ fn a_keeper_writes_before_it_answers(rt: HostRuntime) -> Result<()> {
 }
 
 // What a keeper tells of an issued statement where the writer has room for so many bytes, and what is reopened then.
-fn issued(alloc: Global, meter: &mut Meter, room: usize) -> Result<String> {
+fn issued(alloc: Global, meter: &mut Meter, room: usize) -> Result<String, AllocError> {
     let mut writer = Narrow::new(alloc, room);
     let told = issued_by(alloc, meter, &mut writer)?;
     let back = reopened(alloc, meter, writer.taken.as_slice(), 10_000, false)?;
-    Ok(format!(in alloc; "{told}; {back}")?)
+    format!(in alloc; "{told}; {back}")
 }
 
-fn issued_by(alloc: Global, meter: &mut Meter, writer: &mut Narrow) -> Result<&'static str> {
+fn issued_by(
+    alloc: Global,
+    meter: &mut Meter,
+    writer: &mut Narrow,
+) -> Result<&'static str, AllocError> {
     let Ok(site) = Site::open_script(alloc, SCRIPT, 2, 10_000) else {
         return Ok("the site is not opened");
     };
@@ -121,7 +130,7 @@ fn issued_by(alloc: Global, meter: &mut Meter, writer: &mut Narrow) -> Result<&'
 }
 
 #[test]
-fn a_failed_statement_is_not_there_again(rt: HostRuntime) -> Result<()> {
+fn a_failed_statement_is_not_there_again(rt: HostRuntime) -> Result<(), Fail> {
     let mut meter = Meter::new(&rt);
     for (room, expected) in [
         (54, "not started; held 0, whole 0, version 2"),

@@ -1,10 +1,10 @@
 //! Journals that are read.
 
-use crate::answers::Result;
 use crate::entries::SCRIPT;
 use crate::fakes::Given;
 use crate::journals::bytes::{JOURNAL, OLD, changed};
-use std::alloc::Global;
+use std::alloc::{AllocError, Global};
+use std::test::Fail;
 use td_devices::Device;
 use td_frames::Version;
 use td_journal::{ReopenError, Reopened, reopen};
@@ -18,22 +18,22 @@ fn number_of(version: Version) -> u8 {
     }
 }
 
-fn shown<R: Replica>(alloc: Global, back: &Reopened<R>) -> Result<String> {
+fn shown<R: Replica>(alloc: Global, back: &Reopened<R>) -> Result<String, AllocError> {
     let held = match back.replica.held() {
         Ok(held) => held.len(),
         Err(_) => usize::MAX,
     };
     let version = number_of(back.version);
-    Ok(format!(in alloc; "held {held}, whole {}, version {version}", back.whole)?)
+    format!(in alloc; "held {held}, whole {}, version {version}", back.whole)
 }
 
-fn reason(alloc: Global, error: &ReopenError) -> Result<String> {
+fn reason(alloc: Global, error: &ReopenError) -> Result<String, AllocError> {
     match error {
-        ReopenError::Open(_) => Ok(String::from_str(alloc, "the site is not opened")?),
-        ReopenError::OutOfMemory => Ok(String::from_str(alloc, "out of memory")?),
-        ReopenError::ReadFault => Ok(String::from_str(alloc, "the reader failed")?),
-        ReopenError::Refused(error) => Ok(format!(in alloc; "{error}")?),
-        ReopenError::Take(error) => Ok(format!(in alloc; "{error}")?),
+        ReopenError::Open(_) => String::from_str(alloc, "the site is not opened"),
+        ReopenError::OutOfMemory => String::from_str(alloc, "out of memory"),
+        ReopenError::ReadFault => String::from_str(alloc, "the reader failed"),
+        ReopenError::Refused(error) => format!(in alloc; "{error}"),
+        ReopenError::Take(error) => format!(in alloc; "{error}"),
     }
 }
 
@@ -45,7 +45,7 @@ pub fn reopened(
     bytes: &[u8],
     limit: usize,
     fails: bool,
-) -> Result<String> {
+) -> Result<String, AllocError> {
     let mut source = Device::new(Given {
         bytes,
         most: 7,
@@ -80,7 +80,7 @@ fn expected_of_old(cut: usize) -> &'static str {
 }
 
 #[test]
-fn a_cut_journal_has_its_whole_frames(rt: HostRuntime) -> Result<()> {
+fn a_cut_journal_has_its_whole_frames(rt: HostRuntime) -> Result<(), Fail> {
     let mut meter = Meter::new(&rt);
     for cut in 0..=JOURNAL.len() {
         let found = reopened(rt.alloc(), &mut meter, &JOURNAL[..cut], 10_000, false)?;
@@ -90,7 +90,7 @@ fn a_cut_journal_has_its_whole_frames(rt: HostRuntime) -> Result<()> {
 }
 
 #[test]
-fn a_cut_journal_of_version_1_has_its_whole_frames(rt: HostRuntime) -> Result<()> {
+fn a_cut_journal_of_version_1_has_its_whole_frames(rt: HostRuntime) -> Result<(), Fail> {
     let mut meter = Meter::new(&rt);
     for cut in 0..=OLD.len() {
         let found = reopened(rt.alloc(), &mut meter, &OLD[..cut], 10_000, false)?;
@@ -100,7 +100,7 @@ fn a_cut_journal_of_version_1_has_its_whole_frames(rt: HostRuntime) -> Result<()
 }
 
 #[test]
-fn a_reader_that_fails_is_told(rt: HostRuntime) -> Result<()> {
+fn a_reader_that_fails_is_told(rt: HostRuntime) -> Result<(), Fail> {
     let mut meter = Meter::new(&rt);
     for cut in [0, 4, 5, 30, 55, 60, 109] {
         let found = reopened(rt.alloc(), &mut meter, &JOURNAL[..cut], 10_000, true)?;
@@ -160,20 +160,25 @@ const OLD_DAMAGED: &[Damage] = &[
     (107, 0, 107, 1, "the site has no room for the batch"),
 ];
 
-fn unlike(alloc: Global, meter: &mut Meter, journal: &[u8], damaged: &[Damage]) -> Result<String> {
+fn unlike(
+    alloc: Global,
+    meter: &mut Meter,
+    journal: &[u8],
+    damaged: &[Damage],
+) -> Result<String, AllocError> {
     for (place, byte, cut, limit, told) in damaged {
         let bytes = changed(alloc, journal, *place, *byte)?;
         let front = bytes.get(..*cut).unwrap_or(journal);
         let found = reopened(alloc, meter, front, *limit, false)?;
         if found.as_str() != *told {
-            return Ok(format!(in alloc; "{place}, {cut}: {found}")?);
+            return format!(in alloc; "{place}, {cut}: {found}");
         }
     }
     Ok(String::new(alloc))
 }
 
 #[test]
-fn a_damaged_journal_is_refused_by_its_first_field(rt: HostRuntime) -> Result<()> {
+fn a_damaged_journal_is_refused_by_its_first_field(rt: HostRuntime) -> Result<(), Fail> {
     let mut meter = Meter::new(&rt);
     let found = unlike(rt.alloc(), &mut meter, JOURNAL, DAMAGED)?;
     assert!(rt; found.is_empty(), "{found}");

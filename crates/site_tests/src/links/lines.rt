@@ -1,8 +1,7 @@
 //! What a site answers a line.
 
-use crate::answers::Result;
 use crate::entries::SCRIPT;
-use std::alloc::Global;
+use std::alloc::{AllocError, Global};
 use td_answers::{Links, Reply, answer};
 use td_listings::script_catalogue;
 use td_replay::Site;
@@ -15,13 +14,13 @@ fn said<R: Replica + Drop, L: Links>(
     links: &mut L,
     meter: &mut Meter,
     line: &str,
-) -> Result<String> {
+) -> Result<String, AllocError> {
     let catalogue = script_catalogue(alloc, &site)?;
     let mut sites = Vec::new(alloc);
     sites.push(site)?;
     match answer(alloc, &catalogue, &mut sites, links, meter, line.as_bytes()) {
         Reply::Text(text) => Ok(text),
-        Reply::Fixed(text) => Ok(String::from_str(alloc, text)?),
+        Reply::Fixed(text) => String::from_str(alloc, text),
         Reply::Table(_) | Reply::Quit => Ok(String::new(alloc)),
     }
 }
@@ -32,9 +31,9 @@ pub fn told<L: Links>(
     links: &mut L,
     meter: &mut Meter,
     line: &str,
-) -> Result<String> {
+) -> Result<String, AllocError> {
     match Site::open_script(alloc, SCRIPT, 1, 10_000) {
         Ok(site) => said(alloc, site, links, meter, line),
-        Err(_) => Ok(String::from_str(alloc, "the site is not opened")?),
+        Err(_) => String::from_str(alloc, "the site is not opened"),
     }
 }

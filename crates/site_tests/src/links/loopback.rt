@@ -1,11 +1,11 @@
 //! Links over loopback, in one process.
 
-use crate::answers::Result;
 use crate::entries::SCRIPT;
 use crate::links::lines::told;
 use crate::meetings::ANSWER;
 use std::alloc::Global;
 use std::net::{TcpListener, TcpStream};
+use std::test::Fail;
 use td_answers::Links;
 use td_devices::{Channel, Device};
 use td_meeting::{answer, finish, greet, settle};
@@ -21,7 +21,7 @@ fn met<A: Replica, B: Replica, C: Channel>(
     second: &mut B,
     near: &mut C,
     far: &mut C,
-) -> Result<(usize, usize)> {
+) -> Result<(usize, usize), Fail> {
     greet(alloc, first, near)?;
     answer(alloc, second, far)?;
     let gains = settle(alloc, first, near, meter)?;
@@ -37,7 +37,7 @@ fn met_by<A: Replica, B: Replica>(
     second: &mut B,
     near: TcpStream,
     far: TcpStream,
-) -> Result<(usize, usize)> {
+) -> Result<(usize, usize), Fail> {
     finish(alloc, second, &mut Device::new(&ANSWER[63..]), meter)?;
     met(
         alloc,
@@ -55,7 +55,7 @@ fn met_with_first<A: Replica>(
     first: &mut A,
     near: TcpStream,
     far: TcpStream,
-) -> Result<(usize, usize)> {
+) -> Result<(usize, usize), Fail> {
     match Site::open_script(alloc, SCRIPT, 2, 10_000) {
         Ok(mut second) => met_by(alloc, meter, first, &mut second, near, far),
         Err(_) => Ok((0, 0)),
@@ -67,7 +67,7 @@ fn met_over(
     meter: &mut Meter,
     near: TcpStream,
     far: TcpStream,
-) -> Result<(usize, usize)> {
+) -> Result<(usize, usize), Fail> {
     match Site::open_script(alloc, SCRIPT, 1, 10_000) {
         Ok(mut first) => met_with_first(alloc, meter, &mut first, near, far),
         Err(_) => Ok((0, 0)),
@@ -75,7 +75,7 @@ fn met_over(
 }
 
 #[test]
-fn sites_meet_over_loopback(rt: HostRuntime) -> Result<()> {
+fn sites_meet_over_loopback(rt: HostRuntime) -> Result<(), Fail> {
     let mut meter = Meter::new(&rt);
     let listener = TcpListener::bind(&rt, "127.0.0.1:0")?;
     let near = TcpLinks::new(&rt).call(rt.alloc(), listener.local_addr()?)?;
@@ -86,7 +86,7 @@ fn sites_meet_over_loopback(rt: HostRuntime) -> Result<()> {
 }
 
 #[test]
-fn no_link_is_opened(rt: HostRuntime) -> Result<()> {
+fn no_link_is_opened(rt: HostRuntime) -> Result<(), Fail> {
     let alloc = rt.alloc();
     let mut meter = Meter::new(&rt);
     let listener = TcpListener::bind(&rt, "127.0.0.1:0")?;

@@ -1,13 +1,13 @@
 //! A connection in memory.
 
-use crate::answers::Result;
 use crate::links::lines::told;
 use crate::meetings::ANSWER;
-use std::alloc::Global;
+use std::alloc::{AllocError, Global};
 use std::cell::Cell;
 use std::io;
 use std::io::Write;
 use std::net::SocketAddr;
+use std::test::Fail;
 use td_answers::{LinkError, Links};
 use td_devices::Pair;
 use td_story::Meter;
@@ -57,25 +57,22 @@ impl<'a> Links for Memory<'a> {
 
     ghost calls = { λ _ _ _. Unit {0} };
 
-    fn serve(
-        &mut self,
-        _alloc: Global,
-        _address: SocketAddr,
-    ) -> std::result::Result<Connection<'a>, LinkError> {
+    fn serve(&mut self, _alloc: Global, _address: SocketAddr) -> Result<Connection<'a>, LinkError> {
         Ok(self.open())
     }
 
-    fn call(
-        &mut self,
-        _alloc: Global,
-        _address: SocketAddr,
-    ) -> std::result::Result<Connection<'a>, LinkError> {
+    fn call(&mut self, _alloc: Global, _address: SocketAddr) -> Result<Connection<'a>, LinkError> {
         Ok(self.open())
     }
 }
 
 // What a site answers the line over a connection of these bytes, and how many bytes it writes.
-fn over(alloc: Global, meter: &mut Meter, line: &str, bytes: &[u8]) -> Result<(String, usize)> {
+fn over(
+    alloc: Global,
+    meter: &mut Meter,
+    line: &str,
+    bytes: &[u8],
+) -> Result<(String, usize), AllocError> {
     let written = Cell::new(0);
     let mut links = Memory {
         bytes,
@@ -86,7 +83,7 @@ fn over(alloc: Global, meter: &mut Meter, line: &str, bytes: &[u8]) -> Result<(S
 }
 
 #[test]
-fn a_connection_in_memory(rt: HostRuntime) -> Result<()> {
+fn a_connection_in_memory(rt: HostRuntime) -> Result<(), Fail> {
     let mut meter = Meter::new(&rt);
     for (line, bytes, wanted, written) in [
         (".call 1 127.0.0.1:7001", 118, "called 1 fresh 2\n", 58),

@@ -1,15 +1,20 @@
 //! An answer that is cut, or whose reader fails, before each of its bytes.
 
-use crate::answers::Result;
 use crate::fakes::{Given, Narrow};
 use crate::meetings::bytes::ANSWER;
 use crate::meetings::steps::{Start, Step, told};
-use std::alloc::Global;
+use std::alloc::{AllocError, Global};
+use std::test::Fail;
 use td_devices::Pair;
 use td_story::Meter;
 
 // What a new site says that settles on these bytes, and how many bytes it writes.
-fn settled(alloc: Global, meter: &mut Meter, bytes: &[u8], fails: bool) -> Result<(String, usize)> {
+fn settled(
+    alloc: Global,
+    meter: &mut Meter,
+    bytes: &[u8],
+    fails: bool,
+) -> Result<(String, usize), AllocError> {
     let mut writer = Narrow::new(alloc, 9);
     let reader = Given {
         bytes,
@@ -32,7 +37,7 @@ fn settled(alloc: Global, meter: &mut Meter, bytes: &[u8], fails: bool) -> Resul
 }
 
 // What it is to say where so many entries were whole.
-fn expected(alloc: Global, whole: usize, fails: bool) -> Result<String> {
+fn expected(alloc: Global, whole: usize, fails: bool) -> Result<String, AllocError> {
     let reason = if fails {
         "the reader failed"
     } else {
@@ -43,11 +48,11 @@ fn expected(alloc: Global, whole: usize, fails: bool) -> Result<String> {
         1 => "2:1 ",
         _ => "2:2 ",
     };
-    Ok(format!(in alloc; "{reason}; fresh entries taken before: {whole}; {vector}")?)
+    format!(in alloc; "{reason}; fresh entries taken before: {whole}; {vector}")
 }
 
 #[test]
-fn whole_entries_before_a_cut_are_taken(rt: HostRuntime) -> Result<()> {
+fn whole_entries_before_a_cut_are_taken(rt: HostRuntime) -> Result<(), Fail> {
     let mut meter = Meter::new(&rt);
     for fails in [false, true] {
         for cut in 0..ANSWER.len() {

@@ -1,21 +1,57 @@
 //! Meetings of two sites in memory.
 
-use crate::answers::{Result, vector};
-use crate::entries::{SCRIPT, Written, batch, entry};
-use crate::meetings::steps::Start;
-use std::alloc::Global;
+use crate::answers::vector;
+use crate::entries::{SCRIPT, Written, batch};
+use crate::meetings::steps::{NARROW, NEW, NEW_SECOND, SECOND, Start, WITH_ONE};
+use std::alloc::{AllocError, Global};
+use std::test::Fail;
 use td_meeting::meet;
 use td_replay::{PlainSite, Site};
-use td_stamps::Entry;
 use td_story::{Meter, Opens, Replica};
 
 /// The same definitions, but for a space.
 const OTHER_SCRIPT: &str = "VAR R BASE RELATION { A INTEGER } KEY { A } ;";
 
-const TWO: &[Written] = &[(2, 1, 5, "DELETE R;"), (2, 2, 6, "DELETE R;")];
+/// The first site with the first and the third entry of a second one.
+const WITH_GAP: Start = Start {
+    site: 1,
+    limit: 10_000,
+    held: &[(2, 1, 1, "INSERT Q X;"), (2, 3, 3, "DELETE R;")],
+};
+
+/// A third site with all three.
+const THIRD: Start = Start {
+    site: 3,
+    limit: 10_000,
+    held: &[
+        (2, 1, 1, "INSERT Q X;"),
+        (2, 2, 2, "DELETE R;"),
+        (2, 3, 3, "DELETE R;"),
+    ],
+};
+
+/// The first site with an entry of its own.
+const OWN: Start = Start {
+    site: 1,
+    limit: 10_000,
+    held: &[(1, 1, 3, "DELETE R;")],
+};
+
+/// The first site with an entry that clashes with the second one's second.
+const CLASHING: Start = Start {
+    site: 1,
+    limit: 10_000,
+    held: &[(2, 2, 5, "DELETE R;")],
+};
+
+/// The second site with room for no more than its two entries.
+const FULL: Start = Start {
+    site: 2,
+    limit: 2,
+    held: &[(2, 1, 5, "DELETE R;"), (2, 2, 6, "DELETE R;")],
+};
 
 /// Two sites, the second of this script, and what they say when they meet.
-#[derive(Clone, Copy)]
 struct Case<'a> {
     script: &'a str,
     first: Start<'a>,
@@ -29,14 +65,14 @@ fn said<A: Replica, B: Replica>(
     meter: &mut Meter,
     first: &mut A,
     second: &mut B,
-) -> Result<String> {
+) -> Result<String, AllocError> {
     let met = match meet(alloc, first, second, meter) {
         Ok(met) => format!(in alloc; "fresh {} {}", met.first, met.second)?,
         Err(refusal) => format!(in alloc; "{refusal}")?,
     };
     let one = vector(alloc, first)?;
     let other = vector(alloc, second)?;
-    Ok(format!(in alloc; "{met}; {one}; {other}")?)
+    format!(in alloc; "{met}; {one}; {other}")
 }
 
 fn holds<R: Replica>(
@@ -44,7 +80,7 @@ fn holds<R: Replica>(
     meter: &mut Meter,
     site: &mut R,
     held: &[Written],
-) -> Result<bool> {
+) -> Result<bool, AllocError> {
     let batch = batch(alloc, held)?;
     Ok(site.take(alloc, batch.as_slice(), meter).is_ok())
 }
@@ -55,13 +91,13 @@ fn with_entries<A: Replica, B: Replica>(
     first: &mut A,
     second: &mut B,
     case: &Case,
-) -> Result<String> {
+) -> Result<String, AllocError> {
     if holds(alloc, meter, first, case.first.held)?
         && holds(alloc, meter, second, case.second.held)?
     {
         return said(alloc, meter, first, second);
     }
-    Ok(String::from_str(alloc, "the entries are not held")?)
+    String::from_str(alloc, "the entries are not held")
 }
 
 fn with_second<A: Replica>(
@@ -69,169 +105,85 @@ fn with_second<A: Replica>(
     meter: &mut Meter,
     first: &mut A,
     case: &Case,
-) -> Result<String> {
+) -> Result<String, AllocError> {
     let Start { site, limit, .. } = case.second;
     match PlainSite::open_script(alloc, case.script, site, limit) {
         Ok(mut second) => with_entries(alloc, meter, first, &mut second, case),
-        Err(_) => Ok(String::from_str(alloc, "the second site is not opened")?),
+        Err(_) => String::from_str(alloc, "the second site is not opened"),
     }
 }
 
-fn met(alloc: Global, meter: &mut Meter, case: &Case) -> Result<String> {
+fn met(alloc: Global, meter: &mut Meter, case: &Case) -> Result<String, AllocError> {
     let Start { site, limit, .. } = case.first;
     match Site::open_script(alloc, SCRIPT, site, limit) {
         Ok(mut first) => with_second(alloc, meter, &mut first, case),
-        Err(_) => Ok(String::from_str(alloc, "the first site is not opened")?),
+        Err(_) => String::from_str(alloc, "the first site is not opened"),
     }
 }
 
-fn site<'a>(site: u16, limit: usize, held: &'a [Written<'a>]) -> Start<'a> {
-    Start { site, limit, held }
-}
+const CASES: &[Case] = &[
+    Case {
+        script: SCRIPT,
+        first: NEW,
+        second: SECOND,
+        told: "fresh 2 0; 2:2 ; 2:2 ",
+    },
+    Case {
+        script: SCRIPT,
+        first: WITH_ONE,
+        second: SECOND,
+        told: "fresh 1 0; 2:2 ; 2:2 ",
+    },
+    Case {
+        script: SCRIPT,
+        first: WITH_GAP,
+        second: THIRD,
+        told: "fresh 1 0; 2:3 ; 2:3 ",
+    },
+    Case {
+        script: SCRIPT,
+        first: OWN,
+        second: SECOND,
+        told: "fresh 2 1; 1:1 2:2 ; 1:1 2:2 ",
+    },
+    Case {
+        script: OTHER_SCRIPT,
+        first: NEW,
+        second: SECOND,
+        told: "the other site started from another script; fresh entries that the first site took: 0; ; 2:2 ",
+    },
+    Case {
+        script: SCRIPT,
+        first: NEW_SECOND,
+        second: SECOND,
+        told: "the other site has the same number; fresh entries that the first site took: 0; ; 2:2 ",
+    },
+    Case {
+        script: SCRIPT,
+        first: NARROW,
+        second: SECOND,
+        told: "the site has no room for the batch; fresh entries that the first site took: 0; ; 2:2 ",
+    },
+    Case {
+        script: SCRIPT,
+        first: OWN,
+        second: FULL,
+        told: "the site has no room for the batch; fresh entries that the first site took: 2; 1:1 2:2 ; 2:2 ",
+    },
+    Case {
+        script: SCRIPT,
+        first: CLASHING,
+        second: SECOND,
+        told: "an entry claims the place of another one: site 2, sequence number 1; fresh entries that the first site took: 0; ; 2:2 ",
+    },
+];
 
 #[test]
-fn sites_meet_in_memory(rt: HostRuntime) -> Result<()> {
+fn sites_meet_in_memory(rt: HostRuntime) -> Result<(), Fail> {
     let mut meter = Meter::new(&rt);
-    let gap: &[Written] = &[(2, 1, 1, "INSERT Q X;"), (2, 3, 3, "DELETE R;")];
-    let whole: &[Written] = &[
-        (2, 1, 1, "INSERT Q X;"),
-        (2, 2, 2, "DELETE R;"),
-        (2, 3, 3, "DELETE R;"),
-    ];
-    let own: &[Written] = &[(1, 1, 3, "DELETE R;")];
-    let other: &[Written] = &[(2, 2, 5, "DELETE R;")];
-    for (n, (script, first, second, told)) in [
-        (
-            SCRIPT,
-            site(1, 9, &[]),
-            site(2, 9, TWO),
-            "fresh 2 0; 2:2 ; 2:2 ",
-        ),
-        (
-            SCRIPT,
-            site(1, 9, &TWO[..1]),
-            site(2, 9, TWO),
-            "fresh 1 0; 2:2 ; 2:2 ",
-        ),
-        (
-            SCRIPT,
-            site(1, 9, gap),
-            site(3, 9, whole),
-            "fresh 1 0; 2:3 ; 2:3 ",
-        ),
-        (
-            SCRIPT,
-            site(1, 9, own),
-            site(2, 9, TWO),
-            "fresh 2 1; 1:1 2:2 ; 1:1 2:2 ",
-        ),
-        (
-            OTHER_SCRIPT,
-            site(1, 9, &[]),
-            site(2, 9, TWO),
-            "the other site started from another script; fresh entries that the first site took: 0; ; 2:2 ",
-        ),
-        (
-            SCRIPT,
-            site(2, 9, &[]),
-            site(2, 9, TWO),
-            "the other site has the same number; fresh entries that the first site took: 0; ; 2:2 ",
-        ),
-        (
-            SCRIPT,
-            site(1, 1, &[]),
-            site(2, 9, TWO),
-            "the site has no room for the batch; fresh entries that the first site took: 0; ; 2:2 ",
-        ),
-        (
-            SCRIPT,
-            site(1, 9, own),
-            site(2, 2, TWO),
-            "the site has no room for the batch; fresh entries that the first site took: 2; 1:1 2:2 ; 2:2 ",
-        ),
-        (
-            SCRIPT,
-            site(1, 9, other),
-            site(2, 9, TWO),
-            "an entry claims the place of another one: site 2, sequence number 1; fresh entries that the first site took: 0; ; 2:2 ",
-        ),
-    ]
-    .into_iter()
-    .enumerate()
-    {
-        let case = Case {
-            script,
-            first,
-            second,
-            told,
-        };
-        let found = met(rt.alloc(), &mut meter, &case)?;
+    for (n, case) in CASES.iter().enumerate() {
+        let found = met(rt.alloc(), &mut meter, case)?;
         assert!(rt; found.as_str() == case.told, "{n}: {found}");
     }
-    Ok(())
-}
-
-// The text with spaces behind it, of so many bytes in all.
-fn padded(alloc: Global, text: &str, length: usize) -> Result<String> {
-    let mut padded = String::from_str(alloc, text)?;
-    for _ in text.len()..length {
-        padded.push(' ')?;
-    }
-    Ok(padded)
-}
-
-// So many entries of site 2, of the longest text.
-fn long_batch(alloc: Global, count: u32) -> Result<Vec<Entry>> {
-    let text = padded(alloc, "DELETE R;", 8_192)?;
-    let mut batch = Vec::new(alloc);
-    for n in 0..count {
-        let clock = u64::from(n) + 1;
-        batch.push(entry(alloc, 2, n + 1, clock, 2, text.as_str())?)?;
-    }
-    Ok(batch)
-}
-
-// What two sites say when they meet of which the second holds so many long entries.
-fn said_of_long<A: Replica, B: Replica>(
-    alloc: Global,
-    meter: &mut Meter,
-    first: &mut A,
-    second: &mut B,
-    count: u32,
-) -> Result<String> {
-    let batch = long_batch(alloc, count)?;
-    match second.take(alloc, batch.as_slice(), meter) {
-        Ok(_) => said(alloc, meter, first, second),
-        Err(_) => Ok(String::from_str(alloc, "the entries are not held")?),
-    }
-}
-
-fn with_long_second<A: Replica>(
-    alloc: Global,
-    meter: &mut Meter,
-    first: &mut A,
-    script: &str,
-    count: u32,
-) -> Result<String> {
-    match PlainSite::open_script(alloc, script, 2, 100) {
-        Ok(mut second) => said_of_long(alloc, meter, first, &mut second, count),
-        Err(_) => Ok(String::from_str(alloc, "the second site is not opened")?),
-    }
-}
-
-fn met_of_long(alloc: Global, meter: &mut Meter, script: &str, count: u32) -> Result<String> {
-    match Site::open_script(alloc, script, 1, 100) {
-        Ok(mut first) => with_long_second(alloc, meter, &mut first, script, count),
-        Err(_) => Ok(String::from_str(alloc, "the first site is not opened")?),
-    }
-}
-
-#[test]
-fn sites_of_the_longest_script_meet(rt: HostRuntime) -> Result<()> {
-    let mut meter = Meter::new(&rt);
-    let script = padded(rt.alloc(), SCRIPT, 65_536)?;
-    let found = met_of_long(rt.alloc(), &mut meter, script.as_str(), 25)?;
-    assert!(rt; script.len() == 65_536);
-    assert!(rt; found.as_str() == "fresh 25 0; 2:25 ; 2:25 ", "{found}");
     Ok(())
 }

@@ -1,9 +1,9 @@
 //! What a site answers in one step of a meeting.
 
-use crate::answers::{Result, taken, vector};
+use crate::answers::{taken, vector};
 use crate::entries::{SCRIPT, Written, batch};
 use crate::fakes::{Given, Narrow};
-use std::alloc::Global;
+use std::alloc::{AllocError, Global};
 use td_devices::{Channel, Device, Pair};
 use td_meeting::{MeetingError, answer, finish, greet, settle};
 use td_replay::Site;
@@ -17,6 +17,57 @@ pub struct Start<'a> {
     pub held: &'a [Written<'a>],
 }
 
+const TWO: &[Written] = &[(2, 1, 5, "DELETE R;"), (2, 2, 6, "DELETE R;")];
+
+/// The first site, of ample room, which holds nothing.
+pub const NEW: Start = Start {
+    site: 1,
+    limit: 10_000,
+    held: &[],
+};
+
+/// The first site with an entry of the second one's.
+pub const WITH_ONE: Start = Start {
+    site: 1,
+    limit: 10_000,
+    held: &[(2, 1, 5, "DELETE R;")],
+};
+
+/// The first site with that entry, and one of its own.
+pub const WITH_OWN: Start = Start {
+    site: 1,
+    limit: 10_000,
+    held: &[(1, 1, 3, "DELETE R;"), (2, 1, 5, "DELETE R;")],
+};
+
+/// The first site with an entry that clashes with one of the second one's.
+pub const WITH_ANOTHER: Start = Start {
+    site: 1,
+    limit: 10_000,
+    held: &[(2, 1, 7, "DELETE R;")],
+};
+
+/// The first site with room for one entry.
+pub const NARROW: Start = Start {
+    site: 1,
+    limit: 1,
+    held: &[],
+};
+
+/// The second site, which holds nothing.
+pub const NEW_SECOND: Start = Start {
+    site: 2,
+    limit: 10_000,
+    held: &[],
+};
+
+/// The second site with both entries.
+pub const SECOND: Start = Start {
+    site: 2,
+    limit: 10_000,
+    held: TWO,
+};
+
 #[derive(Clone, Copy)]
 pub enum Step {
     Greet,
@@ -25,10 +76,10 @@ pub enum Step {
     Finish,
 }
 
-fn done(alloc: Global, answer: std::result::Result<(), MeetingError>) -> Result<String> {
+fn done(alloc: Global, answer: Result<(), MeetingError>) -> Result<String, AllocError> {
     match answer {
-        Ok(()) => Ok(String::from_str(alloc, "done")?),
-        Err(error) => Ok(format!(in alloc; "{error}")?),
+        Ok(()) => String::from_str(alloc, "done"),
+        Err(error) => format!(in alloc; "{error}"),
     }
 }
 
@@ -38,7 +89,7 @@ fn said<R: Replica, C: Channel>(
     meter: &mut Meter,
     step: Step,
     link: &mut C,
-) -> Result<String> {
+) -> Result<String, AllocError> {
     match step {
         Step::Greet => done(alloc, greet(alloc, site, link)),
         Step::Answer => done(alloc, answer(alloc, site, link)),
@@ -55,14 +106,14 @@ fn told_by<R: Replica>(
     held: &[Written],
     step: Step,
     link: Pair<Given, &mut Narrow>,
-) -> Result<String> {
+) -> Result<String, AllocError> {
     let batch = batch(alloc, held)?;
     if site.take(alloc, batch.as_slice(), meter).is_err() {
-        return Ok(String::from_str(alloc, "the entries are not held")?);
+        return String::from_str(alloc, "the entries are not held");
     }
     let said = said(alloc, site, meter, step, &mut Device::link(link))?;
     let vector = vector(alloc, site)?;
-    Ok(format!(in alloc; "{said}; {vector}")?)
+    format!(in alloc; "{said}; {vector}")
 }
 
 /// What a site of the script says in a step, and its version vector then.
@@ -72,9 +123,9 @@ pub fn told(
     start: Start,
     step: Step,
     link: Pair<Given, &mut Narrow>,
-) -> Result<String> {
+) -> Result<String, AllocError> {
     match Site::open_script(alloc, SCRIPT, start.site, start.limit) {
         Ok(mut site) => told_by(alloc, &mut site, meter, start.held, step, link),
-        Err(_) => Ok(String::from_str(alloc, "the site is not opened")?),
+        Err(_) => String::from_str(alloc, "the site is not opened"),
     }
 }

@@ -1,41 +1,60 @@
 //! Worked meetings: what each step says and writes.
 
-use crate::answers::Result;
-use crate::entries::Written;
 use crate::fakes::{Given, Narrow};
 use crate::meetings::bytes::{
-    ANSWER, ANSWER_WITH_NUMBER_0, ANSWER_WITH_ONE, BAD_LETTER, GREETING, GREETING_WITH_ONE,
-    OWN_ENTRY,
+    ANSWER, ANSWER_WITH_NUMBER_0, ANSWER_WITH_ONE, ANSWER_WITHOUT_END, BAD_LETTER, GREETING,
+    GREETING_WITH_ONE, OWN_ENTRY,
 };
-use crate::meetings::steps::{Start, Step, told};
-use std::alloc::Global;
+use crate::meetings::steps::{
+    NARROW, NEW, NEW_SECOND, SECOND, Start, Step, WITH_ANOTHER, WITH_ONE, WITH_OWN, told,
+};
+use std::alloc::{AllocError, Global};
+use std::test::Fail;
 use td_devices::Pair;
 use td_story::Meter;
 
-/// A step of a site: the bytes that it is given, what it says, what it writes in the room that it has, and how often it
-/// flushes.
-#[derive(Clone, Copy)]
+/// A step of a site: the bytes that it is given, what it says, and what it is to write.
 struct Case<'a> {
     start: Start<'a>,
     step: Step,
     given: &'a [u8],
     told: &'a str,
-    room: usize,
     written: &'a [u8],
-    flushes: u32,
 }
 
-/// How many bytes come a read, and how many interruptions before it.
-type Pace = (usize, u32);
+/// Steps over links of one kind: how many bytes come a read, how many interruptions before it, and whether the writer
+/// fails at the last byte.
+struct Table<'a> {
+    name: &'a str,
+    most: usize,
+    interruptions: u32,
+    fails: bool,
+    cases: &'a [Case<'a>],
+}
 
 // What is unlike the case, if anything is.
-fn unlike_one(alloc: Global, meter: &mut Meter, pace: Pace, case: &Case) -> Result<String> {
-    let (most, interruptions) = pace;
-    let mut writer = Narrow::new(alloc, case.room);
+fn unlike_one(
+    alloc: Global,
+    meter: &mut Meter,
+    table: &Table,
+    case: &Case,
+) -> Result<String, AllocError> {
+    let room = if table.fails {
+        case.written.len().saturating_sub(1)
+    } else {
+        1_000
+    };
+    let wanted = case.written.get(..room).unwrap_or(case.written);
+    let wanted_flushes = if table.fails || wanted.is_empty() {
+        0
+    } else {
+        1
+    };
+    let mut writer = Narrow::new(alloc, room);
     let reader = Given {
         bytes: case.given,
-        most,
-        interruptions,
+        most: table.most,
+        interruptions: table.interruptions,
         interrupted: 0,
         fails: false,
     };
@@ -45,296 +64,245 @@ fn unlike_one(alloc: Global, meter: &mut Meter, pace: Pace, case: &Case) -> Resu
     };
     let found = told(alloc, meter, case.start, case.step, link)?;
     if found.as_str() == case.told
-        && writer.taken.as_slice() == case.written
-        && writer.flushes == case.flushes
+        && writer.taken.as_slice() == wanted
+        && writer.flushes == wanted_flushes
     {
         return Ok(String::new(alloc));
     }
     let written = writer.taken.len();
     let flushes = writer.flushes;
-    Ok(format!(in alloc; "{found}; written {written}, flushes {flushes}")?)
+    format!(in alloc; "{found}; written {written}, flushes {flushes}")
 }
 
 // The first case that is not met, with what was found.
-fn unlike(alloc: Global, meter: &mut Meter, pace: Pace, cases: &[Case]) -> Result<String> {
-    for (n, case) in cases.iter().enumerate() {
-        let found = unlike_one(alloc, meter, pace, case)?;
+fn unlike(alloc: Global, meter: &mut Meter, table: &Table) -> Result<String, AllocError> {
+    for (n, case) in table.cases.iter().enumerate() {
+        let found = unlike_one(alloc, meter, table, case)?;
         if !found.is_empty() {
-            return Ok(format!(in alloc; "{n}: {found}")?);
+            return format!(in alloc; "{n}: {found}");
         }
     }
     Ok(String::new(alloc))
 }
 
-// A site of ample room for entries.
-fn site<'a>(site: u16, held: &'a [Written<'a>]) -> Start<'a> {
-    Start {
-        site,
-        limit: 10_000,
-        held,
-    }
-}
-
-// A step that writes all that it is to write.
-fn steps<'a>(
-    start: Start<'a>,
-    step: Step,
-    given: &'a [u8],
-    told: &'a str,
-    written: &'a [u8],
-) -> Case<'a> {
+const STEPS: &[Case] = &[
     Case {
-        start,
-        step,
-        given,
-        told,
-        room: 1_000,
-        written,
-        flushes: if written.is_empty() { 0 } else { 1 },
-    }
-}
-
-// A step whose writer has no more room than for what is written.
-fn breaks_off<'a>(
-    start: Start<'a>,
-    step: Step,
-    given: &'a [u8],
-    told: &'a str,
-    written: &'a [u8],
-) -> Case<'a> {
+        start: NEW,
+        step: Step::Greet,
+        given: b"",
+        told: "done; ",
+        written: GREETING,
+    },
     Case {
-        start,
-        step,
-        given,
-        told,
-        room: written.len(),
-        written,
-        flushes: 0,
+        start: SECOND,
+        step: Step::Answer,
+        given: GREETING,
+        told: "done; 2:2 ",
+        written: ANSWER,
+    },
+    Case {
+        start: NEW,
+        step: Step::Settle,
+        given: ANSWER,
+        told: "fresh 2 known 0; 2:2 ",
+        written: b"Z",
+    },
+    Case {
+        start: SECOND,
+        step: Step::Finish,
+        given: b"Z",
+        told: "fresh 0 known 0; 2:2 ",
+        written: b"",
+    },
+    // the first site has an entry of the second's, or one of its own
+    Case {
+        start: WITH_ONE,
+        step: Step::Greet,
+        given: b"",
+        told: "done; 2:1 ",
+        written: GREETING_WITH_ONE,
+    },
+    Case {
+        start: SECOND,
+        step: Step::Answer,
+        given: GREETING_WITH_ONE,
+        told: "done; 2:2 ",
+        written: ANSWER_WITH_ONE,
+    },
+    Case {
+        start: WITH_OWN,
+        step: Step::Settle,
+        given: ANSWER,
+        told: "fresh 1 known 1; 1:1 2:2 ",
+        written: OWN_ENTRY,
+    },
+    Case {
+        start: SECOND,
+        step: Step::Finish,
+        given: OWN_ENTRY,
+        told: "fresh 1 known 0; 1:1 2:2 ",
+        written: b"",
+    },
+];
+
+/// Greetings and entries that are refused.
+const REFUSALS: &[Case] = &[
+    Case {
+        start: NEW,
+        step: Step::Settle,
+        given: b"HTDC\x02",
+        told: "the stream begins with no greeting; fresh entries taken before: 0; ",
+        written: b"",
+    },
+    Case {
+        start: NEW,
+        step: Step::Settle,
+        given: b"HTDB\x01\x00\x00",
+        told: "the greeting is of another version; fresh entries taken before: 0; ",
+        written: b"",
+    },
+    Case {
+        start: SECOND,
+        step: Step::Answer,
+        given: b"HTDB\x02\x00\x00",
+        told: "a field has a value that no frame has; fresh entries taken before: 0; 2:2 ",
+        written: b"",
+    },
+    Case {
+        start: NEW,
+        step: Step::Settle,
+        given: b"HTDB\x02\x00\x02\x00\x00\x00\x01V\x00\x00Z",
+        told: "the other site started from another script; ",
+        written: b"",
+    },
+    Case {
+        start: SECOND,
+        step: Step::Answer,
+        given: b"HTDB\x02\x00\x02\x00\x00\x00\x01V\x00\x00",
+        told: "the other site started from another script; 2:2 ",
+        written: b"",
+    },
+    Case {
+        start: NEW,
+        step: Step::Answer,
+        given: GREETING,
+        told: "the other site has the same number; ",
+        written: b"",
+    },
+    Case {
+        start: NEW_SECOND,
+        step: Step::Settle,
+        given: ANSWER,
+        told: "the other site has the same number; ",
+        written: b"",
+    },
+    Case {
+        start: NEW,
+        step: Step::Finish,
+        given: BAD_LETTER,
+        told: "a field has a value that no frame has; fresh entries taken before: 0; ",
+        written: b"",
+    },
+    Case {
+        start: NEW,
+        step: Step::Settle,
+        given: ANSWER_WITH_NUMBER_0,
+        told: "an entry is out of its ranges; ",
+        written: b"",
+    },
+    Case {
+        start: WITH_ANOTHER,
+        step: Step::Settle,
+        given: ANSWER,
+        told: "an entry claims the place of another one: site 2, sequence number 1; 2:1 ",
+        written: b"",
+    },
+    Case {
+        start: NARROW,
+        step: Step::Settle,
+        given: ANSWER,
+        told: "the site has no room for the batch; ",
+        written: b"",
+    },
+    // both entries are whole, and the end is not there
+    Case {
+        start: NARROW,
+        step: Step::Settle,
+        given: ANSWER_WITHOUT_END,
+        told: "the site has no room for the batch; ",
+        written: b"",
+    },
+];
+
+const BREAKS: &[Case] = &[
+    Case {
+        start: NEW,
+        step: Step::Greet,
+        given: b"",
+        told: "the writer failed; fresh entries taken before: 0; ",
+        written: GREETING,
+    },
+    Case {
+        start: SECOND,
+        step: Step::Answer,
+        given: GREETING,
+        told: "the writer failed; fresh entries taken before: 0; 2:2 ",
+        written: ANSWER,
+    },
+    Case {
+        start: WITH_ONE,
+        step: Step::Settle,
+        given: ANSWER,
+        told: "the writer failed; fresh entries taken before: 1; 2:2 ",
+        written: b"Z",
+    },
+    Case {
+        start: NEW,
+        step: Step::Settle,
+        given: ANSWER,
+        told: "the writer failed; fresh entries taken before: 2; 2:2 ",
+        written: b"Z",
+    },
+];
+
+const TABLES: &[Table] = &[
+    Table {
+        name: "as the bytes come",
+        most: usize::MAX,
+        interruptions: 0,
+        fails: false,
+        cases: STEPS,
+    },
+    // as many interruptions before each byte as a device bears
+    Table {
+        name: "byte by byte",
+        most: 1,
+        interruptions: 999,
+        fails: false,
+        cases: STEPS,
+    },
+    Table {
+        name: "what is refused",
+        most: usize::MAX,
+        interruptions: 0,
+        fails: false,
+        cases: REFUSALS,
+    },
+    Table {
+        name: "writers that fail",
+        most: usize::MAX,
+        interruptions: 0,
+        fails: true,
+        cases: BREAKS,
+    },
+];
+
+#[test]
+fn the_steps_of_a_meeting(rt: HostRuntime) -> Result<(), Fail> {
+    let mut meter = Meter::new(&rt);
+    for table in TABLES {
+        let unlike = unlike(rt.alloc(), &mut meter, table)?;
+        assert!(rt; unlike.is_empty(), "{}: {unlike}", table.name);
     }
-}
-
-const TWO: &[Written] = &[(2, 1, 5, "DELETE R;"), (2, 2, 6, "DELETE R;")];
-
-// The bytes as they come, and one by one with as many interruptions before each as a device bears.
-const PACES: [Pace; 2] = [(usize::MAX, 0), (1, 999)];
-
-#[test]
-fn the_steps_of_a_meeting(rt: HostRuntime) -> Result<()> {
-    let mut meter = Meter::new(&rt);
-    for pace in PACES {
-        let unlike = unlike(
-            rt.alloc(),
-            &mut meter,
-            pace,
-            &[
-                steps(site(1, &[]), Step::Greet, b"", "done; ", GREETING),
-                steps(site(2, TWO), Step::Answer, GREETING, "done; 2:2 ", ANSWER),
-                steps(
-                    site(1, &[]),
-                    Step::Settle,
-                    ANSWER,
-                    "fresh 2 known 0; 2:2 ",
-                    b"Z",
-                ),
-                steps(
-                    site(2, TWO),
-                    Step::Finish,
-                    b"Z",
-                    "fresh 0 known 0; 2:2 ",
-                    b"",
-                ),
-                // the first site has an entry of the second's, or one of its own
-                steps(
-                    site(1, &[(2, 1, 5, "DELETE R;")]),
-                    Step::Greet,
-                    b"",
-                    "done; 2:1 ",
-                    GREETING_WITH_ONE,
-                ),
-                steps(
-                    site(2, TWO),
-                    Step::Answer,
-                    GREETING_WITH_ONE,
-                    "done; 2:2 ",
-                    ANSWER_WITH_ONE,
-                ),
-                steps(
-                    site(1, &[(1, 1, 3, "DELETE R;"), (2, 1, 5, "DELETE R;")]),
-                    Step::Settle,
-                    ANSWER,
-                    "fresh 1 known 1; 1:1 2:2 ",
-                    OWN_ENTRY,
-                ),
-                steps(
-                    site(2, TWO),
-                    Step::Finish,
-                    OWN_ENTRY,
-                    "fresh 1 known 0; 1:1 2:2 ",
-                    b"",
-                ),
-            ],
-        )?;
-        assert!(rt; unlike.as_str() == "", "{unlike}");
-    }
-    Ok(())
-}
-
-#[test]
-fn greetings_are_refused(rt: HostRuntime) -> Result<()> {
-    let mut meter = Meter::new(&rt);
-    let unlike = unlike(
-        rt.alloc(),
-        &mut meter,
-        (usize::MAX, 0),
-        &[
-            steps(
-                site(1, &[]),
-                Step::Settle,
-                b"HTDC\x02",
-                "the stream begins with no greeting; fresh entries taken before: 0; ",
-                b"",
-            ),
-            steps(
-                site(1, &[]),
-                Step::Settle,
-                b"HTDB\x01\x00\x00",
-                "the greeting is of another version; fresh entries taken before: 0; ",
-                b"",
-            ),
-            steps(
-                site(2, TWO),
-                Step::Answer,
-                b"HTDB\x02\x00\x00",
-                "a field has a value that no frame has; fresh entries taken before: 0; 2:2 ",
-                b"",
-            ),
-            steps(
-                site(1, &[]),
-                Step::Settle,
-                b"HTDB\x02\x00\x02\x00\x00\x00\x01V\x00\x00Z",
-                "the other site started from another script; ",
-                b"",
-            ),
-            steps(
-                site(2, TWO),
-                Step::Answer,
-                b"HTDB\x02\x00\x02\x00\x00\x00\x01V\x00\x00",
-                "the other site started from another script; 2:2 ",
-                b"",
-            ),
-            steps(
-                site(1, &[]),
-                Step::Answer,
-                GREETING,
-                "the other site has the same number; ",
-                b"",
-            ),
-            steps(
-                site(2, &[]),
-                Step::Settle,
-                ANSWER,
-                "the other site has the same number; ",
-                b"",
-            ),
-        ],
-    )?;
-    assert!(rt; unlike.as_str() == "", "{unlike}");
-    Ok(())
-}
-
-#[test]
-fn entries_are_refused(rt: HostRuntime) -> Result<()> {
-    let mut meter = Meter::new(&rt);
-    let narrow = Start {
-        site: 1,
-        limit: 1,
-        held: &[],
-    };
-    let unlike = unlike(
-        rt.alloc(),
-        &mut meter,
-        (usize::MAX, 0),
-        &[
-            steps(
-                site(1, &[]),
-                Step::Finish,
-                BAD_LETTER,
-                "a field has a value that no frame has; fresh entries taken before: 0; ",
-                b"",
-            ),
-            steps(
-                site(1, &[]),
-                Step::Settle,
-                ANSWER_WITH_NUMBER_0,
-                "an entry is out of its ranges; ",
-                b"",
-            ),
-            steps(
-                site(1, &[(2, 1, 7, "DELETE R;")]),
-                Step::Settle,
-                ANSWER,
-                "an entry claims the place of another one: site 2, sequence number 1; 2:1 ",
-                b"",
-            ),
-            steps(
-                narrow,
-                Step::Settle,
-                ANSWER,
-                "the site has no room for the batch; ",
-                b"",
-            ),
-            // both entries are whole, and the end is not there
-            steps(
-                narrow,
-                Step::Settle,
-                &ANSWER[..117],
-                "the site has no room for the batch; ",
-                b"",
-            ),
-        ],
-    )?;
-    assert!(rt; unlike.as_str() == "", "{unlike}");
-    Ok(())
-}
-
-#[test]
-fn writers_fail(rt: HostRuntime) -> Result<()> {
-    let mut meter = Meter::new(&rt);
-    let unlike = unlike(
-        rt.alloc(),
-        &mut meter,
-        (usize::MAX, 0),
-        &[
-            breaks_off(
-                site(1, &[]),
-                Step::Greet,
-                b"",
-                "the writer failed; fresh entries taken before: 0; ",
-                &GREETING[..56],
-            ),
-            breaks_off(
-                site(2, TWO),
-                Step::Answer,
-                GREETING,
-                "the writer failed; fresh entries taken before: 0; 2:2 ",
-                &ANSWER[..117],
-            ),
-            breaks_off(
-                site(1, &[(2, 1, 5, "DELETE R;")]),
-                Step::Settle,
-                ANSWER,
-                "the writer failed; fresh entries taken before: 1; 2:2 ",
-                b"",
-            ),
-            breaks_off(
-                site(1, &[]),
-                Step::Settle,
-                ANSWER,
-                "the writer failed; fresh entries taken before: 2; 2:2 ",
-                b"",
-            ),
-        ],
-    )?;
-    assert!(rt; unlike.as_str() == "", "{unlike}");
     Ok(())
 }

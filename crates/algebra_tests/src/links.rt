@@ -1,8 +1,8 @@
-//! What no contract says: that there are answers.
+//! Walks along links: what no contract says, that there are answers.
 
-use crate::{Leads, Links, reached, reached_by, unmarked};
 use std::alloc::{AllocError, Global};
 use std::test::Fail;
+use td_links::{Leads, Links, reached, reached_by, unmarked};
 
 // Whether each place that is reached is come to once, and a link to no place is passed over.
 fn is_walked(alloc: Global) -> Result<bool, AllocError> {
