@@ -4,10 +4,10 @@ use crate::entries::SCRIPT;
 use crate::links::lines::told;
 use crate::meetings::ANSWER;
 use std::alloc::Global;
-use std::net::{TcpListener, TcpStream};
+use std::net::TcpListener;
 use std::test::Fail;
 use td_answers::Links;
-use td_devices::{Channel, Device};
+use td_devices::{Channel, Device, Link};
 use td_meeting::{answer, finish, greet, settle};
 use td_replay::Site;
 use td_sockets::{TcpLinks, accept_on};
@@ -30,13 +30,13 @@ fn met<A: Replica, B: Replica, C: Channel>(
 }
 
 // The second site takes two entries from memory before.
-fn met_by<A: Replica, B: Replica>(
+fn met_by<A: Replica, B: Replica, L: Link + Drop>(
     alloc: Global,
     meter: &mut Meter,
     first: &mut A,
     second: &mut B,
-    near: TcpStream,
-    far: TcpStream,
+    near: L,
+    far: L,
 ) -> Result<(usize, usize), Fail> {
     finish(alloc, second, &mut Device::new(&ANSWER[63..]), meter)?;
     met(
@@ -49,12 +49,12 @@ fn met_by<A: Replica, B: Replica>(
     )
 }
 
-fn met_with_first<A: Replica>(
+fn met_with_first<A: Replica, L: Link + Drop>(
     alloc: Global,
     meter: &mut Meter,
     first: &mut A,
-    near: TcpStream,
-    far: TcpStream,
+    near: L,
+    far: L,
 ) -> Result<(usize, usize), Fail> {
     match Site::open_script(alloc, SCRIPT, 2, 10_000) {
         Ok(mut second) => met_by(alloc, meter, first, &mut second, near, far),
@@ -62,11 +62,11 @@ fn met_with_first<A: Replica>(
     }
 }
 
-fn met_over(
+fn met_over<L: Link + Drop>(
     alloc: Global,
     meter: &mut Meter,
-    near: TcpStream,
-    far: TcpStream,
+    near: L,
+    far: L,
 ) -> Result<(usize, usize), Fail> {
     match Site::open_script(alloc, SCRIPT, 1, 10_000) {
         Ok(mut first) => met_with_first(alloc, meter, &mut first, near, far),
@@ -79,7 +79,7 @@ fn sites_meet_over_loopback(rt: HostRuntime) -> Result<(), Fail> {
     let mut meter = Meter::new(&rt);
     let listener = TcpListener::bind(&rt, "127.0.0.1:0")?;
     let near = TcpLinks::new(&rt).call(rt.alloc(), listener.local_addr()?)?;
-    let far = accept_on(&listener)?;
+    let far = accept_on(&listener, &rt)?;
     let (gains, gives) = met_over(rt.alloc(), &mut meter, near, far)?;
     assert!(rt; gains == 2 && gives == 0, "{gains} {gives}");
     Ok(())
