@@ -1,8 +1,8 @@
 //! A site's journal, begun and read again.
 
-use crate::MOST_WRITTEN;
-use crate::examples::SCRIPT;
-use crate::shown::{tell_journal, tell_site};
+use super::MOST_WRITTEN;
+use super::examples::SCRIPT;
+use super::shown::{tell_journal, tell_site};
 use anyhow::{Result, bail};
 use td_devices::Device;
 use td_journal::{Keeper, ReopenError, Reopened, reopen};

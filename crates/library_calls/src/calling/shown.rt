@@ -1,6 +1,6 @@
 //! What sites show, and what calls gave, on standard output.
 
-use crate::calls::Ended;
+use super::calls::Ended;
 use anyhow::{Result, bail};
 use std::alloc::Global;
 use td_devices::Device;

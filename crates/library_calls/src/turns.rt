@@ -1,7 +1,6 @@
-//! What the benchmarks share: turns that are timed, and sizes that words say.
+//! Calls that are timed: turns, the least of which counts, and what is told of them.
 
 use anyhow::Result;
-use std::alloc::Global;
 use std::time::Duration;
 
 /// Something that is timed again and again.
@@ -19,7 +18,7 @@ pub fn least_time<T: Turn>(rt: &HostRuntime, turns: u32, turn: &T) -> Result<(Du
     Ok((least, count))
 }
 
-/// Tells the count and the nanoseconds of a benchmark at a size, each in a line of its own.
+/// Tells the count and the nanoseconds of calls at a size, each in a line of its own.
 pub fn tell(
     rt: &HostRuntime,
     name: &str,
@@ -34,16 +33,4 @@ pub fn tell(
 /// The ratio of two times.
 pub fn ratio(many: Duration, few: Duration) -> f64 {
     many.as_secs_f64() / few.as_secs_f64()
-}
-
-/// The sizes that the words say, or these where there is no word.
-pub fn sizes(alloc: Global, words: &[String], small: &[u32]) -> Result<Vec<u32>> {
-    let mut sizes = Vec::new(alloc);
-    if words.is_empty() {
-        sizes.extend_from_slice(small)?;
-    }
-    for word in words {
-        sizes.push(word.as_str().parse::<u32>()?)?;
-    }
-    Ok(sizes)
 }

@@ -1,12 +1,12 @@
-//! One call on a site, told with what the sites show before and after it: it is run where memory is refused.
+//! One call on two sites, told with what the sites show before and after it: it is run where memory is refused.
 //!
-//! The words of the command line are a kind of site (`plain`, `site` or `keeper`), the name of an example, and a call:
-//! `issue`, `take`, `ask`, `value_of`, `outcomes`, `greet`, `answer`, `settle`, `finish`, `meet`, `start` or `reopen`.
-//! Standard output has what the two sites of the example show, a line `call`, what the call gave, and what the sites
-//! show then; behind a call that wanted memory a line `again`, what the same call gives then, and what the sites show.
-//! The line behind `call` is written before anything else is done, so whoever refuses memory can have it refused from
-//! some place in the call up to its end. The status is 1 where memory was wanted for anything but the call.
-#![tactic(auto)]
+//! The words are a kind of site (`plain`, `site` or `keeper`), the name of an example, and a call: `issue`, `take`,
+//! `ask`, `ask_at`, `value_of`, `outcomes`, `greet`, `answer`, `settle`, `finish`, `meet`, `start` or `reopen`; without
+//! words a meeting of sites. Standard output has what the two sites of the example show, a line `call`, what the call
+//! gave, and what the sites show then; behind a call that wanted memory a line `again`, what the same call gives then,
+//! and what the sites show. The line behind `call` is written before anything else is done, so whoever refuses memory
+//! can have it refused from some place in the call up to its end. The status is 1 where memory was wanted for anything
+//! but the call.
 
 mod calls;
 mod examples;
@@ -20,7 +20,6 @@ use examples::{Example, example_named};
 use journals::{reopen_from, start_of};
 use scene::{Scene, opened, take_all};
 use shown::tell_journal;
-use std::env;
 use td_devices::Device;
 use td_journal::Keeper;
 use td_replay::{PlainSite, Site};
@@ -37,7 +36,7 @@ struct Task<'a> {
 }
 
 // The sites are of one kind, and the second one's journal opens another kind.
-fn run<R: Replica + Drop, O: Opens + Drop>(
+fn run_over<R: Replica + Drop, O: Opens + Drop>(
     rt: &HostRuntime,
     task: Task,
     mut first: R,
@@ -63,7 +62,7 @@ fn run<R: Replica + Drop, O: Opens + Drop>(
 fn run_opened<O: Opens + Drop>(rt: &HostRuntime, task: Task) -> Result<()> {
     let first = opened::<O>(rt.alloc(), task.example.first)?;
     let second = opened::<O>(rt.alloc(), task.example.second)?;
-    run::<O, O>(rt, task, first, second)
+    run_over::<O, O>(rt, task, first, second)
 }
 
 fn kept<'a>(
@@ -83,25 +82,28 @@ fn run_kept(rt: &HostRuntime, task: Task) -> Result<()> {
     let mut second_journal = Vec::with_capacity(rt.alloc(), MOST_WRITTEN)?;
     let first = kept(rt, task.example.first, &mut first_journal)?;
     let second = kept(rt, task.example.second, &mut second_journal)?;
-    run::<_, Site>(rt, task, first, second)?;
+    run_over::<_, Site>(rt, task, first, second)?;
     tell_journal(rt, task.example.first, &first_journal)?;
     tell_journal(rt, task.example.second, &second_journal)
 }
 
-fn main(rt: HostRuntime) -> Result<()> {
-    let words = env::args(&rt)?.collect::<Vec<String>>(rt.alloc())?;
-    let [_, kind, example, call] = words.as_slice() else {
-        bail!("the words are a kind of site, an example and a call");
-    };
-    let (Some(example), Some(call)) = (example_named(example.as_str()), call_named(call.as_str()))
-    else {
+fn run_named(rt: &HostRuntime, kind: &str, example: &str, call: &str) -> Result<()> {
+    let (Some(example), Some(call)) = (example_named(example), call_named(call)) else {
         bail!("there is no such example or call");
     };
     let task = Task { example, call };
-    match kind.as_str() {
-        "plain" => run_opened::<PlainSite>(&rt, task),
-        "site" => run_opened::<Site>(&rt, task),
-        "keeper" => run_kept(&rt, task),
+    match kind {
+        "plain" => run_opened::<PlainSite>(rt, task),
+        "site" => run_opened::<Site>(rt, task),
+        "keeper" => run_kept(rt, task),
         _ => bail!("there is no such kind of site"),
+    }
+}
+
+pub fn run(rt: &HostRuntime, words: &[String]) -> Result<()> {
+    match words {
+        [] => run_named(rt, "site", "refused here, done after the meeting", "meet"),
+        [kind, example, call] => run_named(rt, kind.as_str(), example.as_str(), call.as_str()),
+        _ => bail!("the words are a kind of site, an example and a call"),
     }
 }

@@ -1,11 +1,11 @@
 //! Two sites, and a call on one of them or on both.
 
-use crate::MOST_WRITTEN;
-use crate::calls::{
+use super::MOST_WRITTEN;
+use super::calls::{
     Call, Ended, asked, asked_at, issued, met, received, sent, taken, told, valued,
 };
-use crate::examples::{Example, QUERY, RELVAR, SCRIPT, Written};
-use crate::shown::{tell_end, tell_site};
+use super::examples::{Example, QUERY, RELVAR, SCRIPT, Written};
+use super::shown::{tell_end, tell_site};
 use anyhow::{Result, bail};
 use std::alloc::Global;
 use std::mem;
