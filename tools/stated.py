@@ -1,6 +1,6 @@
 """The examples of tools/refuse, with what each site shows, worked out by the rules of docs/LANGUAGE.md.
 
-Each is the example of its name in docs/EXAMPLES.md, and that of its name in crates/memory_runs.
+Each is the example of its name in docs/EXAMPLES.md, and that of its name in crates/library_calls, `call`.
 """
 import struct
 from typing import NamedTuple

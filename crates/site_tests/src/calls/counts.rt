@@ -57,8 +57,8 @@ fn after<R: Opens + Drop>(
     }
 }
 
-// Whether the outcomes behind a late statement are these, at a plain site too, and how many statements it made the site
-// run that is no plain one.
+// Whether the outcomes behind a late statement are these, at a plain site too, which runs all anew; and how many
+// statements it made the site run that is no plain one.
 fn told(
     rt: &HostRuntime,
     held: &[Written],
@@ -67,14 +67,15 @@ fn told(
 ) -> Result<(bool, u64), AllocError> {
     let mut meter = Meter::new(rt);
     let (found, runs) = after::<Site>(rt.alloc(), &mut meter, held, late)?;
-    let (plain, _) = after::<PlainSite>(rt.alloc(), &mut meter, held, late)?;
-    let are_these = found.as_str() == outcomes && plain.as_str() == outcomes;
+    let (plain, all) = after::<PlainSite>(rt.alloc(), &mut meter, held, late)?;
+    let are_all = all == (held.len() as u64).saturating_add(1);
+    let are_these = found.as_str() == outcomes && plain.as_str() == outcomes && are_all;
     Ok((are_these, runs))
 }
 
 #[test]
 fn late_statements_run_what_they_touch(rt: HostRuntime) -> Result<(), Fail> {
-    for (text, most, outcomes) in [
+    for (text, wanted, outcomes) in [
         (
             "DELETE MOST;",
             2,
@@ -97,7 +98,7 @@ fn late_statements_run_what_they_touch(rt: HostRuntime) -> Result<(), Fail> {
         ),
     ] {
         let (are_these, runs) = told(&rt, HELD, (2, 1, 2, text), outcomes)?;
-        assert!(rt; are_these && runs <= most, "{text} runs {runs}");
+        assert!(rt; are_these && runs == wanted, "{text} runs {runs}");
     }
     Ok(())
 }
@@ -123,7 +124,7 @@ fn untouched_statements_are_not_run(rt: HostRuntime) -> Result<(), Fail> {
     for text in ["MOST := RELATION { TUPLE { N 5 } };", dear.as_str()] {
         let late = (2, 1, 1, "DELETE SP;");
         let (are_these, runs) = told(&rt, &[(1, 1, 2, text)], late, "1.2 done; 2.1 done; ")?;
-        assert!(rt; are_these && runs <= 1, "{text} runs {runs}");
+        assert!(rt; are_these && runs == 1, "{text} runs {runs}");
     }
     Ok(())
 }
