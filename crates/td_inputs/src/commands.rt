@@ -32,6 +32,10 @@ pub enum Command<'a> {
         relvar: &'a str,
     },
     Dump(&'a str),
+    /// What the base relvars have, as a script to this file.
+    DumpTables(&'a str),
+    /// What the base relvars have, as CSV files in this folder.
+    Export(&'a str),
     /// A statement of a dump, as it is written behind the word.
     Entry(&'a str),
     Serve(&'a str),
@@ -105,9 +109,19 @@ fn read_in(rest: &str) -> Command<'_> {
 }
 
 fn dump_in(rest: &str) -> Command<'_> {
+    let misused = Command::Misused(".dump [--tables] FILE");
+    let (word, file) = rest.split_once(' ').unwrap_or((rest, ""));
+    match (word, file.trim_ascii()) {
+        ("" | "--tables", "") => misused,
+        ("--tables", file) => Command::DumpTables(file),
+        _ => Command::Dump(rest),
+    }
+}
+
+fn export_in(rest: &str) -> Command<'_> {
     match rest {
-        "" => Command::Misused(".dump FILE"),
-        file => Command::Dump(file),
+        "" => Command::Misused(".export FOLDER"),
+        folder => Command::Export(folder),
     }
 }
 
@@ -199,6 +213,7 @@ pub fn command_of(line: &str) -> Command<'_> {
         ".read" => read_in(rest),
         ".import" => import_in(rest),
         ".dump" => dump_in(rest),
+        ".export" => export_in(rest),
         ENTRY => Command::Entry(rest),
         ".serve" => serve_in(rest),
         ".call" => call_in(rest),

@@ -50,7 +50,7 @@ fn words_of(change: Change) -> &'static str {
 }
 
 // The statements of which something else is told now. Both lists are in the order of stamps.
-fn changed<'a>(
+fn changes_between<'a>(
     alloc: Global,
     before: &[(Stamp, Outcome)],
     after: &'a [(Stamp, Outcome)],
@@ -151,7 +151,7 @@ fn changes_in(
     before: &[(Stamp, Outcome)],
     after: &[(Stamp, Outcome)],
 ) -> Result<String, AllocError> {
-    let all = changed(alloc, before, after)?;
+    let all = changes_between(alloc, before, after)?;
     let mut out = String::new(alloc);
     for change in CHANGES {
         push_changed(&mut out, &all, site, change)?;

@@ -106,6 +106,7 @@ fn lacks_statements<F: Sink>(words: &Words<'_>, notes: &Notes, faults: &mut F) -
 
 fn converse_at<
     R: Replica + Drop,
+    O: Opens + Drop,
     H: Files<File = File> + Clock + AllocGlobal + Clone + Drop,
     L: Links,
     S: Source,
@@ -130,7 +131,9 @@ fn converse_at<
     tell_start(alloc, name, notes, &site, faults)?;
     let lacks = lacks_statements(words, notes, faults);
     let mut inputs = first_lines(alloc, &site, behind)?;
-    let mut shell = Shell::new(alloc, host, links, meter, notes, site, catalogue, lacks);
+    let mut shell: Shell<'_, R, O, H, L> = Shell::new(
+        alloc, host, links, meter, notes, site, catalogue, lacks,
+    );
     converse(&mut shell, &mut inputs, is_terminal, source, sink, faults)
 }
 
@@ -206,7 +209,7 @@ fn start<
         Err(status) => return status,
     };
     let Some(prefix) = words.journal else {
-        let ended = converse_at(
+        let ended = converse_at::<_, R, _, _, _, _, _>(
             alloc,
             host,
             links,
@@ -237,7 +240,7 @@ fn start<
     }
     match keep_journal(alloc, journals, &name, site, meter) {
         Ok(site) => {
-            let ended = converse_at(
+            let ended = converse_at::<_, R, _, _, _, _, _>(
                 alloc,
                 host,
                 links,

@@ -62,6 +62,11 @@ fn dumped_words(alloc: Global, file: &str, dump: &Dump) -> Result<String, AllocE
     )
 }
 
+/// Whether a name is one of a journal, or of a file beside one.
+pub fn is_of_journals(file: &str) -> bool {
+    file.contains(OF_JOURNALS)
+}
+
 /// Why a text is not written to a new file.
 pub fn unwritten_words(alloc: Global, file: &str, error: NotWritten) -> Result<String, AllocError> {
     match error {
@@ -80,7 +85,7 @@ pub fn dump<R: Replica, H: Files<File = File>>(
     site: &R,
     file: &str,
 ) -> Result<String, AllocError> {
-    if file.contains(OF_JOURNALS) {
+    if is_of_journals(file) {
         return format!(in alloc;
             "fault file: {file} is a name for journals; a dump goes to another one\n"
         );

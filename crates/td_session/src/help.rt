@@ -16,7 +16,9 @@ and what begins with IF until each IF has its END IF. An empty line ends it too.
   .at CLOCK.SITE Q   asks a query as it was just after that statement
   .import FILE R     inserts the rows of a CSV file, whose first line names the columns
   .read FILE         reads lines from a file as if they were typed
-  .dump FILE         writes a script that makes this site's tables again
+  .dump FILE         writes a script that makes this site again, statement by statement
+  .dump --tables FILE  writes one that makes its tables again, without the history
+  .export FOLDER     writes a CSV file for each base relvar
   .serve ADDRESS     waits at an address for another site, and meets it
   .call ADDRESS      meets the site that serves at an address (as 127.0.0.1:7001)
   .mode WORD         shows relations as a table, as csv or as a literal

@@ -3,6 +3,7 @@
 use crate::ended::Ended;
 use crate::issue::{not_issued, push_issued};
 use crate::relvars::relvar_named;
+use crate::wording::counted;
 use std::alloc::{AllocError, Global};
 use td_devices::{Sink, put};
 use td_files::Notes;
@@ -87,13 +88,6 @@ fn refused(alloc: Global, issued: &Issued) -> Result<String, AllocError> {
     let mut out = String::new(alloc);
     push_issued(&mut out, issued)?;
     Ok(out)
-}
-
-fn counted(alloc: Global, count: usize, what: &str) -> Result<String, AllocError> {
-    if count == 1 {
-        return format!(in alloc; "1 {what}");
-    }
-    format!(in alloc; "{count} {what}s")
 }
 
 fn push_stamps(out: &mut String, progress: &Progress) -> Result<(), AllocError> {

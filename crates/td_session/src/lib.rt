@@ -18,6 +18,7 @@ pub mod open;
 mod places;
 mod relvars;
 mod shell;
+mod tables;
 mod timing;
 mod wording;
 pub mod words;

@@ -10,10 +10,12 @@ use crate::issue::issue;
 use crate::lists::{digest, log, refused, vector};
 use crate::meet::{Meeting, call, serve};
 use crate::relvars::{relvars, schema};
+use crate::tables::{dump_tables, export};
 use crate::timing::{begin, took};
 use crate::wording::NO_MEMORY;
 use std::alloc::{AllocError, Global};
 use std::fs::File;
+use std::marker::PhantomData;
 use std::rt::Files;
 use std::time::Clock;
 use std::{fs, str};
@@ -25,11 +27,11 @@ use td_inputs::{Command, Mode, Scan, Standing, command_of};
 use td_listings::{ListingError, listing};
 use td_notices::lack_words;
 use td_stamps::Stamp;
-use td_story::{MOST_BYTES, Meter, Replica};
+use td_story::{MOST_BYTES, Meter, Opens, Replica};
 
 /// A site and what a conversation at it needs.
 #[derive(Drop)]
-pub struct Shell<'a, R: Drop, H, L> {
+pub struct Shell<'a, R: Drop, O, H, L> {
     alloc: Global,
     host: &'a H,
     links: &'a mut L,
@@ -44,6 +46,8 @@ pub struct Shell<'a, R: Drop, H, L> {
     text: String,
     scan: Scan,
     is_too_long: bool,
+    /// The kind of site at which a dump is tried.
+    opens: PhantomData<O>,
 }
 
 // What follows an answer.
@@ -60,12 +64,13 @@ const NO_UTF8: &str = "fault line: the line is no UTF-8\n";
 const NESTED_FILES: &str =
     "fault file: 16 files are being read within one another, and no more can be\n";
 
-impl<'a, R: Replica + Drop, H: Files<File = File> + Clock + AllocGlobal, L: Links> Shell<
+impl<
     'a,
-    R,
-    H,
-    L,
-> {
+    R: Replica + Drop,
+    O: Opens + Drop,
+    H: Files<File = File> + Clock + AllocGlobal,
+    L: Links,
+> Shell<'a, R, O, H, L> {
     /// A conversation at the site of this script's catalogue, in which nothing was said yet.
     pub fn new(
         alloc: Global,
@@ -91,6 +96,7 @@ impl<'a, R: Replica + Drop, H: Files<File = File> + Clock + AllocGlobal, L: Link
             text: String::new(alloc),
             scan: Scan::new(),
             is_too_long: false,
+            opens: PhantomData,
         }
     }
 
@@ -278,6 +284,17 @@ impl<'a, R: Replica + Drop, H: Files<File = File> + Clock + AllocGlobal, L: Link
             Command::Read(file) => self.read(inputs, file),
             Command::Import { file, relvar } => self.import(file, relvar, faults),
             Command::Dump(file) => dump(alloc, self.host, &self.site, file),
+            Command::DumpTables(file) => dump_tables::<O, _, _>(
+                alloc,
+                self.host,
+                &self.catalogue,
+                &self.site,
+                file,
+                self.meter,
+            ),
+            Command::Export(folder) => {
+                export(alloc, self.host, &self.catalogue, &self.site, folder)
+            }
             Command::Entry(words) => self.issue_entry(words, inputs),
             Command::Serve(address) => self.serve(address, faults),
             Command::Call(address) => self.call(address),
@@ -372,13 +389,14 @@ impl<'a, R: Replica + Drop, H: Files<File = File> + Clock + AllocGlobal, L: Link
 /// line is read. At a terminal a prompt stands in front of each line that is typed.
 pub fn converse<
     R: Replica + Drop,
+    O: Opens + Drop,
     H: Files<File = File> + Clock + AllocGlobal,
     L: Links,
     S: Source,
     K: Sink,
     F: Sink,
 >(
-    shell: &mut Shell<'_, R, H, L>,
+    shell: &mut Shell<'_, R, O, H, L>,
     inputs: &mut Inputs,
     is_terminal: bool,
     source: &mut S,

@@ -1,5 +1,7 @@
 //! What several answers say.
 
+use std::alloc::{AllocError, Global};
+
 /// What is said where an answer has no memory.
 pub const NO_MEMORY: &str = "fault memory: there is not enough memory for an answer\n";
 
@@ -9,3 +11,11 @@ pub const UNCHANGED: &str = "fault memory: there is not enough memory, and nothi
 /// What is said of a site whose journal failed.
 pub const BROKEN: &str =
     "fault broken: the journal of this site has failed; end the program and start it again\n";
+
+/// So many of something, whose word takes an s where there is not one.
+pub fn counted(alloc: Global, count: usize, what: &str) -> Result<String, AllocError> {
+    if count == 1 {
+        return format!(in alloc; "1 {what}");
+    }
+    format!(in alloc; "{count} {what}s")
+}

@@ -1,0 +1,9 @@
+//! What the base relvars of a site have, as statements that insert it at a new site of the script.
+#![tactic(auto)]
+
+mod insertions;
+mod tables;
+mod trial;
+
+pub use tables::{Insertion, Tables, Untold, tables_of};
+pub use trial::{Trial, refused_insertions};
