@@ -27,15 +27,22 @@ fn push_digest(out: &mut String, digest: &[u8; 32]) -> Result<(), AllocError> {
     out.push_str("\n")
 }
 
-// A line for the entries of one site, in the order of their numbers.
-fn push_site(out: &mut String, site: u16, entries: &[&Entry]) -> Result<(), AllocError> {
+// A line for the entries of one site at these places, in the order of their numbers.
+fn push_site(
+    out: &mut String,
+    site: u16,
+    entries: &[Entry],
+    places: &[(u16, usize)],
+) -> Result<(), AllocError> {
     let mut hasher = Sha256::new();
     let mut last = 0;
-    for entry in entries {
-        feed(&mut hasher, entry);
-        last = entry.seq;
+    for (_, place) in places {
+        if let Some(entry) = entries.get(*place) {
+            feed(&mut hasher, entry);
+            last = entry.seq;
+        }
     }
-    let count = entries.len();
+    let count = places.len();
     let what = if count == 1 {
         "statement"
     } else {
@@ -48,6 +55,27 @@ fn push_site(out: &mut String, site: u16, entries: &[&Entry]) -> Result<(), Allo
     push_digest(out, &hasher.finalize())
 }
 
+// The site and the place of each entry that is asked for, by sites, and those of one site by places, which is the order
+// of their numbers.
+fn places_of(
+    alloc: Global,
+    entries: &[Entry],
+    of: Option<(u16, u32)>,
+) -> Result<Vec<(u16, usize)>, AllocError> {
+    let mut places = Vec::with_capacity(alloc, entries.len())?;
+    for (place, entry) in entries.iter().enumerate() {
+        let is_asked = match of {
+            Some((site, most)) => entry.site == site && entry.seq <= most,
+            None => true,
+        };
+        if is_asked {
+            places.push((entry.site, place))?;
+        }
+    }
+    places.sort_unstable();
+    Ok(places)
+}
+
 /// For each site of which statements are held, how many, up to which number, and a SHA-256 over their frames in the order
 /// of their numbers; for one site alone, and up to a number, where these are given. It sorts what is held by its sites.
 pub fn digest_text(
@@ -55,28 +83,16 @@ pub fn digest_text(
     held: &Held,
     of: Option<(u16, u32)>,
 ) -> Result<String, AllocError> {
-    let mut entries = Vec::with_capacity(alloc, held.len())?;
-    for entry in held.entries() {
-        let is_asked = match of {
-            Some((site, most)) => entry.site == site && entry.seq <= most,
-            None => true,
-        };
-        if is_asked {
-            entries.push(entry)?;
-        }
-    }
-    // (of one site the order of stamps is that of numbers, and the sort keeps it)
-    entries.sort_by_key(|entry| entry.site)?;
+    let places = places_of(alloc, held.entries(), of)?;
     let mut out = String::new(alloc);
-    let mut rest = entries.as_slice();
-    for _ in 0..entries.len() {
-        let Some(first) = rest.first() else {
+    let mut rest = places.as_slice();
+    for _ in 0..places.len() {
+        let Some((site, _)) = rest.first() else {
             break;
         };
-        let site = first.site;
-        let count = rest.iter().take_while(|entry| entry.site == site).count();
+        let count = rest.iter().take_while(|place| place.0 == *site).count();
         let (own, others) = rest.split_at_checked(count).unwrap_or((rest, &[]));
-        push_site(&mut out, site, own)?;
+        push_site(&mut out, *site, held.entries(), own)?;
         rest = others;
     }
     Ok(out)
