@@ -20,7 +20,7 @@ pub const ENTRY_BYTES: usize = 32_768;
 
 /// A site as a text, and how many of its statements that has and lacks.
 #[derive(Drop)]
-struct Dump {
+struct History {
     text: String,
     kept: usize,
     left_out: usize,
@@ -33,8 +33,8 @@ fn dump_of(
     script: &str,
     entries: &[Entry],
     outcomes: &[(Stamp, Outcome)],
-) -> Result<Dump, AllocError> {
-    let mut dump = Dump {
+) -> Result<History, AllocError> {
+    let mut dump = History {
         text: String::from_str(alloc, script)?,
         kept: 0,
         left_out: 0,
@@ -51,7 +51,7 @@ fn dump_of(
     Ok(dump)
 }
 
-fn dumped_words(alloc: Global, file: &str, dump: &Dump) -> Result<String, AllocError> {
+fn dumped_words(alloc: Global, file: &str, dump: &History) -> Result<String, AllocError> {
     let kept = dump.kept;
     let left_out = dump.left_out;
     if left_out == 0 {
