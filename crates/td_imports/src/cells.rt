@@ -58,8 +58,8 @@ fn boolean_in(cell: &[u8]) -> Result<Kind, Unread> {
     Err(Unread::Fault(CellFault::NoBoolean))
 }
 
-/// Whether cells have values of this type.
-pub fn is_taken(kind: &TypeKind) -> bool {
+/// Whether cells of this type have values that are written without their types.
+pub fn is_plain(kind: &TypeKind) -> bool {
     matches!(kind, TypeKind::Char | TypeKind::Integer | TypeKind::Boolean)
 }
 

@@ -1,10 +1,9 @@
 //! Which column has the cells of which attribute.
 
-use crate::cells::is_taken;
 use crate::error::ImportFault;
 use csv::ByteRecord;
 use std::alloc::{AllocError, Global};
-use td_values::{Heading, Name, TdType, show_type};
+use td_values::{Heading, Name, TdType};
 
 /// The bytes as a text to be told, with a blank for each character that would move the cursor.
 pub(crate) fn told(alloc: Global, bytes: &[u8]) -> Result<String, AllocError> {
@@ -57,21 +56,6 @@ fn check_titles(alloc: Global, heading: &Heading, titles: &ByteRecord) -> Result
     for at in 0..titles.len() {
         if let Some(title) = titles.get(at) {
             check_title(alloc, heading.fields(), title)?;
-        }
-    }
-    Ok(())
-}
-
-/// Refuses a heading with other types than an import takes.
-pub fn check_types(alloc: Global, heading: &Heading) -> Result<(), ImportFault> {
-    if heading.is_empty() {
-        return Err(ImportFault::NoAttributes);
-    }
-    for (name, ty) in heading.fields() {
-        if !is_taken(&ty.kind) {
-            let name = String::from_str(alloc, name.as_str())?;
-            let type_text = show_type(alloc, ty)?;
-            return Err(ImportFault::OtherType { name, type_text });
         }
     }
     Ok(())

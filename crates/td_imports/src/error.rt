@@ -16,6 +16,8 @@ pub enum CellFault {
     NoUtf8,
     #[error("has an end of a line or a NUL in it, which no CHAR has")]
     NoText,
+    #[error("is no value of its type, just as the language writes it")]
+    NoLiteral,
 }
 
 /// Why a file of comma-separated values is not imported. Lines are counted from 1, and a row has the line in which it
@@ -26,11 +28,6 @@ pub enum ImportFault {
     OutOfMemory,
     #[error("the relvar has no attributes")]
     NoAttributes,
-    #[error("attribute {name} has the type {type_text}; an import takes CHAR, INTEGER and BOOLEAN")]
-    OtherType {
-        name: String,
-        type_text: String,
-    },
     #[error("the file is empty; its first line is to name the columns")]
     NoHeader,
     #[error("line 1 names the column {name}, and the relvar has no such attribute")]

@@ -1,12 +1,14 @@
 //! The rows of a file, each read and checked.
 
-use crate::cells::{Unread, value_in};
-use crate::columns::{check_types, columns_of, told};
+use crate::cells::{Unread, is_plain, value_in};
+use crate::columns::{columns_of, told};
 use crate::error::{CellFault, ImportFault};
 use crate::lines::Lines;
+use crate::literals::Literals;
 use crate::statements::is_short;
 use csv::{ByteRecord, Error, ErrorKind, ReaderBuilder};
-use std::alloc::Global;
+use std::alloc::{AllocError, Global};
+use std::str;
 use td_values::{Heading, Name, TdType, show};
 
 /// A row: the line in which it begins, and its values as the language writes them, in the order of the heading.
@@ -45,12 +47,34 @@ fn cell_fault(
     })
 }
 
-fn literal_in(
+// The cell of a type that the language writes in a way of its own, if it is written so.
+fn written_in<L: Literals>(
     alloc: Global,
+    literals: &L,
+    ty: &TdType,
+    cell: &[u8],
+) -> Result<Option<String>, AllocError> {
+    match str::from_utf8(cell.trim_ascii()) {
+        Ok(text) if literals.is_literal(alloc, text, ty)? => Ok(Some(String::from_str(
+            alloc, text,
+        )?)),
+        _ => Ok(None),
+    }
+}
+
+fn literal_in<L: Literals>(
+    alloc: Global,
+    literals: &L,
     field: &(Name, TdType),
     line: u64,
     cell: &[u8],
 ) -> Result<String, ImportFault> {
+    if !is_plain(&field.1.kind) {
+        return match written_in(alloc, literals, &field.1, cell)? {
+            Some(text) => Ok(text),
+            None => Err(cell_fault(alloc, line, &field.0, cell, CellFault::NoLiteral)?),
+        };
+    }
     match value_in(alloc, &field.1.kind, cell) {
         Ok(value) => Ok(show(alloc, &value)?),
         Err(Unread::OutOfMemory) => Err(ImportFault::OutOfMemory),
@@ -58,23 +82,28 @@ fn literal_in(
     }
 }
 
-fn row_in(
+fn row_in<L: Literals>(
     alloc: Global,
+    literals: &L,
     heading: &Heading,
     columns: &[usize],
     line: u64,
     record: &ByteRecord,
 ) -> Result<Row, ImportFault> {
-    let mut literals = Vec::with_capacity(alloc, columns.len())?;
+    let mut texts = Vec::with_capacity(alloc, columns.len())?;
     for (field, column) in heading.fields().iter().zip(columns) {
         let cell = record.get(*column).unwrap_or(b"".as_slice());
-        literals.push(literal_in(alloc, field, line, cell)?)?;
+        texts.push(literal_in(alloc, literals, field, line, cell)?)?;
     }
-    Ok(Row { line, literals })
+    Ok(Row {
+        line,
+        literals: texts,
+    })
 }
 
-fn checked_row(
+fn checked_row<L: Literals>(
     alloc: Global,
+    literals: &L,
     relvar: &Name,
     heading: &Heading,
     columns: &[usize],
@@ -90,7 +119,7 @@ fn checked_row(
             wanted,
         });
     }
-    let row = row_in(alloc, heading, columns, line, record)?;
+    let row = row_in(alloc, literals, heading, columns, line, record)?;
     if !is_short(relvar, heading, &row, most_bytes) {
         return Err(ImportFault::TooLong { line: row.line });
     }
@@ -99,14 +128,17 @@ fn checked_row(
 
 /// The rows of a file for a relvar of this heading. Its first line names the columns, in any order. Each row is one
 /// tuple, whose INSERT has at most so many bytes. All of them are kept in memory; it costs the length of the file.
-pub fn read_rows(
+pub fn read_rows<L: Literals>(
     alloc: Global,
+    literals: &L,
     relvar: &Name,
     heading: &Heading,
     file: &[u8],
     most_bytes: usize,
 ) -> Result<Vec<Row>, ImportFault> {
-    check_types(alloc, heading)?;
+    if heading.is_empty() {
+        return Err(ImportFault::NoAttributes);
+    }
     let reader = ReaderBuilder::new()
         .has_headers(false)
         .flexible(true)
@@ -128,6 +160,7 @@ pub fn read_rows(
         let line = line_of(&mut lines, &record);
         rows.push(checked_row(
             alloc,
+            literals,
             relvar,
             heading,
             &columns,

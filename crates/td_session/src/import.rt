@@ -8,11 +8,11 @@ use std::alloc::{AllocError, Global};
 use td_devices::{Sink, put};
 use td_files::Notes;
 use td_headings::{Catalogue, Origin};
-use td_imports::{ImportFault, Row, check_keys, insertion_of, read_rows};
+use td_imports::{ImportFault, Literals, Row, check_keys, insertion_of, read_rows};
 use td_listings::show_stamp;
 use td_stamps::Stamp;
-use td_story::{Issued, MOST_BYTES, Meter, Outcome, Replica};
-use td_values::{Heading, Name};
+use td_story::{AskError, Asked, Issued, MOST_BYTES, Meter, Outcome, Replica};
+use td_values::{Heading, Name, TdType, Value, show, show_type};
 
 // From how many rows on it is told how far an import is, and after how many each time.
 const ROWS_TOLD: usize = 1_000;
@@ -45,13 +45,55 @@ fn fault_words(alloc: Global, fault: ImportFault) -> Result<String, AllocError> 
     format!(in alloc; "fault import: {words}; nothing is imported\n")
 }
 
-fn checked_rows(
+/// The literals of a site's script.
+#[derive(Clone, Copy, Drop)]
+struct SiteLiterals<'a, R> {
+    site: &'a R,
+}
+
+impl<R: Replica> SiteLiterals<'_, R> {
+    // The value of a query, if it has one.
+    fn value(&self, alloc: Global, text: &str) -> Result<Option<Value>, AllocError> {
+        match self.site.ask(alloc, text) {
+            Ok(Asked::Value(value)) => Ok(Some(value)),
+            Err(AskError::OutOfMemory) => Err(AllocError),
+            _ => Ok(None),
+        }
+    }
+}
+
+impl<R: Replica> Literals for SiteLiterals<'_, R> {
+    // A text that is shown as it stands is a literal, and one that has a place in a relation of its type is of the type.
+    fn is_literal(&self, alloc: Global, text: &str, ty: &TdType) -> Result<bool, AllocError> {
+        let is_shown = match self.value(alloc, text)? {
+            Some(value) => show(alloc, &value)?.as_str() == text,
+            None => false,
+        };
+        if !is_shown {
+            return Ok(false);
+        }
+        let ty = show_type(alloc, ty)?;
+        let relation = format!(in alloc; "RELATION {{ A {ty} }} {{ TUPLE {{ A {text} }} }}")?;
+        Ok(self.value(alloc, relation.as_str())?.is_some())
+    }
+}
+
+fn checked_rows<R: Replica>(
     alloc: Global,
+    site: &R,
     target: Target<'_>,
     origin: Option<&Origin>,
     file: &[u8],
 ) -> Result<Vec<Row>, ImportFault> {
-    let rows = read_rows(alloc, target.relvar, target.heading, file, MOST_BYTES)?;
+    let literals = SiteLiterals { site };
+    let rows = read_rows(
+        alloc,
+        &literals,
+        target.relvar,
+        target.heading,
+        file,
+        MOST_BYTES,
+    )?;
     if let Some(Origin::Base(keys, _opening)) = origin {
         for key in keys.as_slice() {
             check_keys(alloc, target.heading, key.as_slice(), &rows)?;
@@ -219,7 +261,7 @@ pub fn import<R: Replica, F: Sink>(
         )?);
     }
     let target = Target { relvar, heading };
-    let rows = match checked_rows(alloc, target, origin, file) {
+    let rows = match checked_rows(alloc, site, target, origin, file) {
         Ok(rows) => rows,
         Err(ImportFault::OutOfMemory) => return Err(Ended::OutOfMemory),
         Err(fault) => return Ok(fault_words(alloc, fault)?),
