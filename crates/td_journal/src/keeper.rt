@@ -15,7 +15,9 @@ use crate::frames::{all_framed, send_journal};
 use crate::journal::Journal;
 use std::alloc::Global;
 use std::marker::Model;
+use td_changes::{ChangedError, Changes};
 use td_devices::{Failed, Sink};
+use td_relations::Delta;
 use td_stamps::{Entry, Held, Stamp};
 use td_story::{
     Answer, AskError, Asked, IssueError, Issued, Meter, NotOpen, Outcome, PastError, Replica,
@@ -250,5 +252,14 @@ impl<R: Replica, W: Sink> Replica for Keeper<R, W> {
 
     fn script(&self) -> &str {
         self.replica.script()
+    }
+}
+
+impl<R: Changes, W: Sink> Changes for Keeper<R, W> {
+    fn changed_by(&self, at: Stamp) -> Result<&[(usize, Delta)], ChangedError> {
+        if !self.is_open {
+            return Err(ChangedError::Broken);
+        }
+        self.replica.changed_by(at)
     }
 }

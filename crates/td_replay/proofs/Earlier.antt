@@ -1,12 +1,18 @@
 -- What a site is asked at a past place, from what its log tells.
-use Rattle.std.proofs.Common.{◌≡◌, ◌≤◌, ◌<◌, ◌+◌, ◌-◌, ◌==◌, ◌&&◌, Bool, true≢false, eqb-true, eq-eqb, ℕ, zero, suc, true, false, List, [], ◌∷◌, ◌++◌, drop, take, get_or, length, Ok, Err, refl, sym, ap, ◌∙◌, subst, arith}
-use Rattle.std.proofs.lemmas.List.{drop_all, take-append-drop, take_more}
-use Rattle.std.proofs.lemmas.Option.{get_or_from_slice_get, slice_get_read, slice_get_within}
+use Rattle.std.proofs.Common.{◌≡◌, ◌≤◌, ◌<◌, ◌+◌, ◌-◌, ◌==◌, ◌&&◌, Bool, true≢false, eq-eqb, ltb, ℕ, zero, suc, true, false, inl, inr, List, [], ◌∷◌, ◌++◌, drop, take, get_or, length, Ok, Err, refl, sym, ap, ◌∙◌, subst, arith}
+use Rattle.std.specs.List.Sorted.{IsPartitionPoint}
+use Rattle.std.proofs.lemmas.Bool.{cases_Bool}
+use Rattle.std.proofs.lemmas.Bool.Decides.{nat_tests}
+use Rattle.std.proofs.lemmas.List.{take-append-drop, take_more}
+use Rattle.std.proofs.lemmas.Option.{get_or_from_slice_get, slice_get_within}
 use Rattle.td_headings.specs.Expressions.{IsExpression, no_tuple}
 use Rattle.td_headings.specs.Catalogues.{CatalogueData}
 use Rattle.td_trees.specs.declared.expression.Expression.{Expression}
-use Rattle.td_assign.proofs.Differing.{left_at}
-use Rattle.td_stamps.specs.Entries.{stamp_of}
+use Rattle.td_stamps.specs.Entries.{before, stamp_of}
+use Rattle.td_stamps.specs.Sets.{ascends, is_set}
+use Rattle.td_stamps.proofs.EntryLemmas.{before-irrefl}
+use Rattle.td_stamps.proofs.Places.{all_at, set_ascends}
+use Rattle.td_stamps.proofs.SetLemmas.{first_holds, rest_holds}
 use Rattle.td_stamps.specs.declared.entry.Entry.{Entry}
 use Rattle.td_stamps.specs.declared.entry.Stamp.{Stamp}
 use Rattle.td_story.specs.Past.{AsksAt, EndsAt, HasNoPlace, IsQueryOf}
@@ -16,49 +22,48 @@ use Rattle.td_story.specs.declared.answer.Asked.{Asked}
 use Rattle.td_story.specs.declared.refusal.AskError.{AskError}
 use Rattle.td_story.specs.declared.refusal.AskError.TheVariants as ask_error
 use Rattle.td_story.proofs.OneOpening.{one_catalogue}
-use Rattle.td_replay.specs.ForProofs.Past.{EndsWith, SaysAfter, TellsQuery, Types, as_past}
+use Rattle.td_replay.specs.ForProofs.Past.{EndsWith, SaysAfter, TellsQuery, Types, as_past, entry_at}
 use Rattle.td_replay.proofs.Telling.{story_catalogue}
 
--- ---- the entry of a stamp, sought from the end on
-pub none_behind : (at : Stamp) (es : List Entry) (n : ℕ) → length es ≤ n → HasNoPlace at (drop n es)
-none_behind at es n le e there =
-    let none = ap (λ (fs : List Entry). length fs) (drop_all n es le) in
-    let lt = there.1 in
-    absurd (omega (arith, none, lt))
+-- ---- the entry of a stamp, sought by halves
+-- by index, the earlier comes before the later
+ascends_at : (xs : List Entry) → ascends xs ≡ true → (i j : ℕ) (d : Entry) → i < j → j < length xs → before (get_or xs i d) (get_or xs j d) ≡ true
+ascends_at [] up i j d lt within = absurd (omega arith)
+ascends_at (x ∷ xs) up i zero d lt within = absurd (omega arith)
+ascends_at (x ∷ xs) up zero (suc j) d lt within = all_at (before x) xs (first_holds _ _ up) j d (omega arith)
+ascends_at (x ∷ xs) up (suc i) (suc j) d lt within = ascends_at xs (rest_holds _ _ up) i j d (omega arith) (omega arith)
 
-apart_both : (at : Stamp) (y : Entry) (ys : List Entry) → HasNoPlace at ys → (stamp_of y ≡ at → ⊥) → HasNoPlace at (y ∷ ys)
-apart_both at y ys none apart e (zero, lt, is) = λ same. apart (ap stamp_of is ∙ same)
-apart_both at y ys none apart e (suc k, lt, is) = none e (k, omega (arith, lt), is)
+not_before : (at : Stamp) (e : Entry) → stamp_of e ≡ at → before e (entry_at at) ≡ false
+not_before at e same = subst (λ (s : Stamp). before e (entry_at s) ≡ false) same (before-irrefl e)
 
-pub none_from : (at : Stamp) (es : List Entry) (i : ℕ) (e : Entry) → i < length es → e ≡ get_or es i e → HasNoPlace at (drop (i + 1) es) → (stamp_of e ≡ at → ⊥) → HasNoPlace at (drop i es)
-none_from at es i e within is none apart = subst (HasNoPlace at) (sym (left_at es i e within is)) (apart_both at e (drop (i + 1) es) none apart)
+-- in a set only the first that is not before the stamp can have it
+module _ (at : Stamp) (es : List Entry) (i : ℕ) (set : is_set es ≡ true) (point : IsPartitionPoint (λ e. before e (entry_at at) ≡ true) (λ e. before e (entry_at at) ≡ false) es i) where
+  pub nowhere_else : (i < length es → (d : Entry) → stamp_of (get_or es i d) ≡ at → ⊥) → HasNoPlace at es
+  nowhere_else none e there same =
+      let k = there.0 in
+      let within = there.1 in
+      let stamp : stamp_of (get_or es k e) ≡ at = ap stamp_of there.2 ∙ same in
+      let off = not_before at (get_or es k e) stamp in
+      elim (cases_Bool (ltb k i)) [
+        | inl less ↦ absurd (true≢false (sym (point.0 k e (omega arith) (grind (arith, nat_tests))) ∙ off))
+        | inr not_less ↦ elim (cases_Bool (ltb i k)) [
+          | inl later ↦
+              let up = ascends_at es (set_ascends es set) i k e (grind (arith, nat_tests)) within in
+              let lower = subst (λ (s : Stamp). before (get_or es i e) (entry_at s) ≡ true) stamp up in
+              let here : i < length es = grind (arith, nat_tests) in
+              absurd (true≢false (sym lower ∙ point.1 i e (omega arith) here))
+          | inr not_later ↦
+              let here : k ≡ i = grind (arith, nat_tests) in
+              none (subst (λ (n : ℕ). n < length es) here within) e (subst (λ (n : ℕ). stamp_of (get_or es n e) ≡ at) here stamp)
+        ]
+      ]
 
 -- stamps are one where both numbers are
 pub stamps_equal : (s t : Stamp) → s ≡ t → (s.clock == t.clock) && (s.site == t.site) ≡ true
 stamps_equal s t h = ap (λ (b : Bool). b && (s.site == t.site)) (eq-eqb s.clock t.clock (ap (λ (z : Stamp). z.clock) h)) ∙ eq-eqb s.site t.site (ap (λ (z : Stamp). z.site) h)
 
-both_true : (a b : Bool) → a && b ≡ true → (a ≡ true) × (b ≡ true)
-both_true true b h = (refl, h)
-both_true false b h = cc
-
-pub equal_stamps : (s t : Stamp) → (s.clock == t.clock) && (s.site == t.site) ≡ true → s ≡ t
-equal_stamps s t h =
-    let both = both_true (s.clock == t.clock) (s.site == t.site) h in
-    let clock = eqb-true s.clock t.clock both.0 in
-    let site = eqb-true s.site t.site both.1 in
-    λ i. record { clock = clock i; site = site i }
-
 pub apart_stamps : (s t : Stamp) (b : Bool) → b ≡ false → b ≡ (s.clock == t.clock) && (s.site == t.site) → s ≡ t → ⊥
 apart_stamps s t b not is h = true≢false (sym (stamps_equal s t h) ∙ sym is ∙ not)
-
-pub ends_with : (at : Stamp) (es : List Entry) (n : ℕ) (e : Entry) → 0 < n → n ≤ length es → e ≡ get_or es (n - 1) e → stamp_of e ≡ at → EndsWith at es n
-ends_with at es n e some within is stamp = record {
-  place = n - 1;
-  entry = e;
-  count = omega (arith, some);
-  there = slice_get_read es (length es) (n - 1) e refl (omega (arith, some, within)) is;
-  stamp = stamp;
-}
 
 -- ---- what is told of a query
 module _ (s : Seen) (c : CatalogueData) (live : s.live ≡ true) (defines : IsScriptOf s.script c) (text : List ℕ) (at : Stamp) where

@@ -8,3 +8,4 @@ pub mod Counting
 pub mod Anew
 pub mod Copies
 pub mod Earlier
+pub mod Changing

@@ -6,12 +6,15 @@ ghost use Rattle.td_story.specs.Calls.{Issues, Takes};
 ghost use Rattle.td_story.specs.Past.{AsksAt};
 ghost use Rattle.td_story.specs.Seen.{always_open};
 ghost use Rattle.td_story.specs.declared.refusal.IssueError.TheVariants as issue_error;
+ghost use Rattle.td_story.specs.declared.refusal.TakeError.{TakeError};
 ghost use Rattle.td_story.specs.declared.refusal.TakeError.TheVariants as take_error;
 
 use crate::state::State;
 use crate::told::Way;
 use std::alloc::Global;
 use std::marker::Model;
+use td_changes::{ChangedError, Changes};
+use td_relations::Delta;
 use td_stamps::{Entry, Held, Stamp};
 use td_story::{
     Answer, AskError, Asked, IssueError, Issued, Meter, NotOpen, OpenError, Opens, Outcome,
@@ -56,6 +59,7 @@ impl Replica for PlainSite {
         ensures takes { Takes (always_open self.old) batch.now result (always_open self.new) }
         ensures journal { result ≡ Err take_error.JournalWrite → ⊥ }
         ensures meter { meter.new.count ≤ meter.old.count + length (union self.old.entries batch.now) }
+        ensures unrun { (e : TakeError) → result ≡ Err e → (e ≡ take_error.OutOfMemory → ⊥) → meter.new.count ≡ meter.old.count }
     {
         self.state.take(alloc, batch, Way::Anew, meter)
     }
@@ -100,6 +104,12 @@ impl Replica for PlainSite {
 
     fn script(&self) -> &str {
         self.state.script()
+    }
+}
+
+impl Changes for PlainSite {
+    fn changed_by(&self, at: Stamp) -> Result<&[(usize, Delta)], ChangedError> {
+        self.state.changed_by(at)
     }
 }
 

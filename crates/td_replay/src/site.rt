@@ -7,6 +7,7 @@ ghost use Rattle.td_story.specs.Calls.{Issues, Takes};
 ghost use Rattle.td_story.specs.Past.{AsksAt};
 ghost use Rattle.td_story.specs.Seen.{always_open};
 ghost use Rattle.td_story.specs.declared.refusal.IssueError.TheVariants as issue_error;
+ghost use Rattle.td_story.specs.declared.refusal.TakeError.{TakeError};
 ghost use Rattle.td_story.specs.declared.refusal.TakeError.TheVariants as take_error;
 ghost use Rattle.td_replay.specs.Counted.{RunsIn};
 
@@ -14,6 +15,8 @@ use crate::state::State;
 use crate::told::Way;
 use std::alloc::Global;
 use std::marker::Model;
+use td_changes::{ChangedError, Changes};
+use td_relations::Delta;
 use td_stamps::{Entry, Held, Stamp};
 use td_story::{
     Answer, AskError, Asked, IssueError, Issued, Meter, NotOpen, OpenError, Opens, Outcome,
@@ -64,6 +67,7 @@ impl Replica for Site {
         ensures journal { result ≡ Err take_error.JournalWrite → ⊥ }
         ensures meter { meter.new.count ≤ meter.old.count + length (union self.old.entries batch.now) }
         ensures counted { (n : ℕ) → RunsIn (always_open self.old) batch.now n → meter.new.count ≤ meter.old.count + n }
+        ensures unrun { (e : TakeError) → result ≡ Err e → (e ≡ take_error.OutOfMemory → ⊥) → meter.new.count ≡ meter.old.count }
     {
         self.state.take(alloc, batch, Way::Replay, meter)
     }
@@ -108,6 +112,12 @@ impl Replica for Site {
 
     fn script(&self) -> &str {
         self.state.script()
+    }
+}
+
+impl Changes for Site {
+    fn changed_by(&self, at: Stamp) -> Result<&[(usize, Delta)], ChangedError> {
+        self.state.changed_by(at)
     }
 }
 

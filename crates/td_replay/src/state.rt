@@ -1,16 +1,20 @@
 //! What a site keeps, and what both kinds of sites do.
 
-ghost use Rattle.std.specs.Prelude.{◌≡◌, ◌≤◌, ◌+◌, ℕ, Err, IfOk, IsOk, MatchOption, MatchResult, Ok, OnErr, OnOk, length, true};
-ghost use Rattle.td_stamps.specs.Sets.{union};
+ghost use Rattle.std.specs.Prelude.{◌≡◌, ◌≤◌, ◌+◌, ℕ, Err, IfOk, IsOk, MatchOption, MatchResult, Ok, OnErr, OnOk, false, length, true};
+ghost use Rattle.std.specs.List.Sorted.{IsPartitionPoint};
+ghost use Rattle.td_changes.specs.Changes.{TellsChanges};
+ghost use Rattle.td_stamps.specs.Entries.{before};
+ghost use Rattle.td_stamps.specs.Sets.{is_set, union};
 ghost use Rattle.td_story.specs.Calls.{Asks, Issues, Takes, TellsOutcomes, TellsValue, entry_of};
 ghost use Rattle.td_story.specs.NewSites.{OpensSite};
 ghost use Rattle.td_story.specs.Past.{AsksAt, HasNoPlace};
 ghost use Rattle.td_story.specs.Seen.{IsSound, always_open, holding};
 ghost use Rattle.td_story.specs.declared.refusal.IssueError.TheVariants as issue_error;
+ghost use Rattle.td_story.specs.declared.refusal.TakeError.{TakeError};
 ghost use Rattle.td_story.specs.declared.refusal.TakeError.TheVariants as take_error;
 ghost use Rattle.td_replay.specs.Counted.{RunsIn};
 ghost use Rattle.td_replay.specs.declared.told.Way.TheVariants as by;
-ghost use Rattle.td_replay.specs.ForProofs.Past.{EndsWith, as_past};
+ghost use Rattle.td_replay.specs.ForProofs.Past.{EndsWith, as_past, entry_at};
 ghost use Rattle.td_replay.specs.ForProofs.Told.{Numbers};
 
 use crate::asked;
@@ -19,7 +23,9 @@ use crate::judged::{judge, refusal};
 use crate::told::{Told, Way, add_last, outcomes};
 use std::alloc::Global;
 use std::marker::Model;
+use td_changes::ChangedError;
 use td_grammar::LATEST;
+use td_relations::Delta;
 use td_stamps::{Entry, Held, NextError, PrepareError, Stamp};
 use td_story::{
     Answer, AskError, Asked, IssueError, Issued, MOST_BYTES, MOST_ENTRIES, Meter, OpenError,
@@ -27,17 +33,32 @@ use td_story::{
 };
 use td_values::{Name, Text};
 
-// How many entries there are up to that of this stamp, which is sought from the end on.
+fn is_before(entry: &Entry, at: Stamp) -> bool
+    ensures { result ≡ before entry.now (entry_at at) }
+{
+    entry.clock < at.clock || entry.clock == at.clock && entry.site < at.site
+}
+
+// How many entries come before this stamp, by a binary search.
+fn count_before(entries: &[Entry], at: Stamp) -> usize
+    requires { is_set entries.now ≡ true }
+    ensures bound { result ≤ length entries.now }
+    ensures place { IsPartitionPoint (λ e. before e (entry_at at) ≡ true) (λ e. before e (entry_at at) ≡ false) entries.now result }
+{
+    entries.partition_point(|entry| is_before(entry, at))
+}
+
+// How many entries there are up to that of this stamp.
 fn kept_to(entries: &[Entry], at: Stamp) -> Option<usize>
+    requires { is_set entries.now ≡ true }
     ensures { MatchOption result (HasNoPlace at entries.now) (EndsWith at entries.now) }
 {
-    let mut left = entries.len();
-    while left > 0 {
-        let kept = left;
-        left -= 1;
-        if entries[left].stamp() == at {
-            return Some(kept);
-        }
+    let place = count_before(entries, at);
+    if place >= entries.len() {
+        return None;
+    }
+    if entries[place].stamp() == at {
+        return Some(place + 1);
     }
     None
 }
@@ -210,6 +231,7 @@ impl State {
         ensures journal { result ≡ Err take_error.JournalWrite → ⊥ }
         ensures few { meter.new.count ≤ meter.old.count + length (union self.old.entries batch.now) }
         ensures counted { way ≡ by.Replay → (n : ℕ) → RunsIn (always_open self.old) batch.now n → meter.new.count ≤ meter.old.count + n }
+        ensures unrun { (e : TakeError) → result ≡ Err e → (e ≡ take_error.OutOfMemory → ⊥) → meter.new.count ≡ meter.old.count }
     {
         let prepared = match self.held.prepare(alloc, batch) {
             Ok(prepared) => prepared,
@@ -280,6 +302,18 @@ impl State {
             Ok(asked) => Ok(asked),
             Err(_) => Err(PastError::OutOfMemory),
         }
+    }
+
+    /// What the entry of this stamp changed, as its run is kept.
+    pub fn changed_by(&self, at: Stamp) -> Result<&[(usize, Delta)], ChangedError>
+        ensures { MatchResult result
+            (λ changes. TellsChanges (always_open self.now) at (Ok changes.now))
+            (λ error. TellsChanges (always_open self.now) at (Err error)) }
+    {
+        let Some(kept) = kept_to(self.held.entries(), at) else {
+            return Err(ChangedError::NoPlace);
+        };
+        Ok(self.told.log[kept - 1].1.delta.as_slice())
     }
 
     pub fn value_of(&self, alloc: Global, name: &Name) -> Result<Answer, ValueError>

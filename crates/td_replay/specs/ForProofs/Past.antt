@@ -1,5 +1,5 @@
 -- Copies of what some base relvars have, while changes are taken back in them.
-use Rattle.std.specs.Prelude.{◌≡◌, ◌==◌, ◌≤◌, ◌+◌, ℕ, Bool, true, false, List, drop, length, take, Option, Some, Result, Ok, Err, slice_get}
+use Rattle.std.specs.Prelude.{◌≡◌, ◌==◌, ◌≤◌, ◌+◌, ℕ, Bool, true, false, List, [], drop, length, take, Option, Some, Result, Ok, Err, slice_get}
 use Rattle.std.specs.List.{Contains, list_any}
 use Rattle.td_values.specs.Data.{no_attrs}
 use Rattle.td_values.specs.Rows.{RowsData}
@@ -108,6 +108,10 @@ pub record EndsWith (at : Stamp) (es : List Entry) (n : ℕ) : Type 0 where
   pub count : n ≡ place + 1
   pub there : slice_get es place ≡ Some entry
   pub stamp : stamp_of entry ≡ at
+
+-- an entry of the stamp, by which the others are sought
+abbrev pub entry_at : Stamp → Entry
+entry_at s = record { site = s.site; seq = 0; clock = s.clock; dialect = 0; text = [] }
 
 abbrev pub as_past : AskError → PastError
 as_past ask_error.Broken = past_error.Broken

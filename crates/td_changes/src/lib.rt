@@ -1,0 +1,32 @@
+//! What statements changed: a trait of sites beside `Replica`.
+#![tactic(auto)]
+
+ghost use Rattle.std.specs.Prelude.{Err, MatchResult, Ok};
+ghost use Rattle.td_changes.specs.Changes.{TellsChanges};
+
+pub mod laws;
+
+use td_relations::Delta;
+use td_stamps::Stamp;
+use td_story::Replica;
+use thiserror::Error;
+
+/// Why the changes of a statement are not told.
+#[derive(Clone, Copy, Debug, Drop, PartialEq, Eq, Error)]
+pub enum ChangedError {
+    #[error("the site's journal failed")]
+    Broken,
+    #[error("no entry has this stamp")]
+    NoPlace,
+}
+
+/// A site that tells what its statements changed.
+pub trait Changes: Replica {
+    /// What the statement of this stamp changed at its place, by what is held now: the change of each base relvar that
+    /// differs, by its place in the script's order of definition, and of no other. An entry that comes later and stands
+    /// before it may change that, at each site alike.
+    fn changed_by(&self, at: Stamp) -> Result<&[(usize, Delta)], ChangedError>
+        ensures { MatchResult result
+            (λ changes. TellsChanges (Self.seen self.now) at (Ok changes.now))
+            (λ error. TellsChanges (Self.seen self.now) at (Err error)) };
+}
