@@ -2,7 +2,7 @@
 
 ghost use Rattle.std.specs.Prelude.{None};
 
-use crate::companions::{make_new, name_beside, settle_folder};
+use crate::companions::{make_new, settle_folder};
 use crate::damage::{WINDOW, have_frame_behind};
 use crate::found::{Cut, Found};
 use crate::notes::Notes;

@@ -25,7 +25,8 @@ pub struct Found {
 }
 
 impl Found {
-    /// Whether the journal once had more than it has now: it was damaged, or an older copy took its place.
+    /// Whether the journal once had more than it has now: it was damaged or removed, or an older
+    /// copy took its place.
     pub fn is_short(&self) -> bool {
         match self.seen {
             Some(length) => self.whole < length,

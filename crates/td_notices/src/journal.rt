@@ -66,7 +66,7 @@ fn short_text(alloc: Global, name: &str, found: &Found) -> Result<String, AllocE
     };
     let whole = found.whole;
     format!(in alloc;
-        "journal {name}: LACKS STATEMENTS. {seen} bytes of it were on the disk once, and {whole} are whole now: it was damaged, or an older copy took its place\n"
+        "journal {name}: LACKS STATEMENTS. {seen} bytes of it were on the disk once, and {whole} are whole now: it was damaged or removed, or an older copy took its place\n"
     )
 }
 
@@ -83,10 +83,11 @@ pub fn journal_text<R: Replica>(
     let Some(found) = found else {
         return held_text(alloc, name, site);
     };
-    if found.is_new {
-        return format!(in alloc; "journal {name}: begun, empty\n");
-    }
-    let mut out = held_text(alloc, name, site)?;
+    let mut out = if found.is_new {
+        format!(in alloc; "journal {name}: begun, empty\n")?
+    } else {
+        held_text(alloc, name, site)?
+    };
     if let Some(cut) = &found.cut {
         out.push_str(cut_text(alloc, name, &found, cut)?.as_str())?;
     }

@@ -2,14 +2,17 @@
 //! of the room that is left.
 #![tactic(auto)]
 
+mod changes;
 mod digest;
 mod journal;
 mod meeting;
 mod outcomes;
+mod redone;
 mod room;
 
+pub use changes::push_change_count;
 pub use digest::digest_text;
 pub use journal::{failure_words, journal_text, lack_words};
-pub use meeting::Told;
+pub use meeting::{Retold, Told};
 pub use outcomes::{push_outcome, raise_words, refused_text};
 pub use room::room_text;

@@ -1,60 +1,73 @@
 //! What a meeting changed of what a site told before.
 
 use crate::outcomes::{are_same, is_refused, push_stamped};
+use crate::redone::{DoneHere, done_here, push_redone, redone_since};
 use std::alloc::{AllocError, Global};
+use td_changes::Changes;
+use td_headings::Catalogue;
 use td_stamps::Stamp;
-use td_story::{Outcome, Replica, TellError};
+use td_story::{Outcome, TellError};
 
 /// The most statements that are named.
-const MOST_NAMED: usize = 10;
+pub(crate) const MOST_NAMED: usize = 10;
 
 /// What a site tells of its statements, before a meeting.
 #[derive(Drop)]
 pub struct Told {
     site: u16,
     outcomes: Vec<(Stamp, Outcome)>,
+    done: Vec<DoneHere>,
 }
 
-// What becomes of a statement of which something else is told now.
+/// What a site tells otherwise after a meeting.
+#[derive(Drop)]
+pub struct Retold {
+    /// For the end of the meeting's line.
+    pub line_end: String,
+    /// Lines behind it.
+    pub lines: String,
+}
+
+// What becomes of a statement with another outcome now.
 #[derive(Clone, Copy, PartialEq, Eq)]
-enum Change {
+enum Turn {
     Refused,
     Done,
-    Otherwise,
+    OtherReason,
 }
 
-const CHANGES: [Change; 3] = [Change::Refused, Change::Done, Change::Otherwise];
+const TURNS: [Turn; 3] = [Turn::Refused, Turn::Done, Turn::OtherReason];
 
-// A statement of which something else is told now.
+// A statement with another outcome now.
 #[derive(Clone, Copy, Drop)]
-struct Changed<'a> {
+struct Turned<'a> {
     stamp: Stamp,
-    change: Change,
+    turn: Turn,
     outcome: &'a Outcome,
 }
 
-fn change_of(before: &Outcome, after: &Outcome) -> Change {
+fn turn_of(before: &Outcome, after: &Outcome) -> Turn {
     match (is_refused(before), is_refused(after)) {
-        (false, _) => Change::Refused,
-        (true, false) => Change::Done,
-        (true, true) => Change::Otherwise,
+        (false, _) => Turn::Refused,
+        (true, false) => Turn::Done,
+        (true, true) => Turn::OtherReason,
     }
 }
 
-fn words_of(change: Change) -> &'static str {
-    match change {
-        Change::Refused => "refused now",
-        Change::Done => "done now",
-        Change::Otherwise => "refused for another reason now",
+fn words_of(turn: Turn) -> &'static str {
+    match turn {
+        Turn::Refused => "refused now",
+        Turn::Done => "done now",
+        Turn::OtherReason => "refused for another reason now",
     }
 }
 
-// The statements of which something else is told now. Both lists are in the order of stamps.
-fn changes_between<'a>(
+// The statements with another outcome now. Both lists are in the order of stamps.
+fn turned_between<'a>(
     alloc: Global,
     before: &[(Stamp, Outcome)],
     after: &'a [(Stamp, Outcome)],
-) -> Result<Vec<Changed<'a>>, AllocError> {
+) -> Result<Vec<Turned<'a>>, AllocError> {
     let mut found = Vec::new(alloc);
     let mut old = before.iter();
     let mut next = old.next();
@@ -63,9 +76,9 @@ fn changes_between<'a>(
             && known == stamp
         {
             if !are_same(told, outcome) {
-                found.push(Changed {
+                found.push(Turned {
                     stamp: *stamp,
-                    change: change_of(told, outcome),
+                    turn: turn_of(told, outcome),
                     outcome,
                 })?;
             }
@@ -87,15 +100,15 @@ fn is_or_are(count: usize) -> &'static str {
 }
 
 // Appends those issued at the site to which this happened, where there are any.
-fn push_changed(
+fn push_turned(
     out: &mut String,
-    all: &[Changed<'_>],
+    all: &[Turned<'_>],
     site: u16,
-    change: Change,
+    turn: Turn,
 ) -> Result<(), AllocError> {
     let mut count: usize = 0;
     for it in all {
-        if it.stamp.site == site && it.change == change {
+        if it.stamp.site == site && it.turn == turn {
             count = count.saturating_add(1);
         }
     }
@@ -103,9 +116,9 @@ fn push_changed(
         return Ok(());
     }
     let are = is_or_are(count);
-    let words = words_of(change);
+    let words = words_of(turn);
     write!(out, "; of those issued here {count} {are} {words}: ")?;
-    push_named(out, all, site, change)?;
+    push_named(out, all, site, turn)?;
     if count > MOST_NAMED {
         let more = count.saturating_sub(MOST_NAMED);
         write!(out, " and {more} more")?;
@@ -116,13 +129,13 @@ fn push_changed(
 // Appends the first of them, with commas between.
 fn push_named(
     out: &mut String,
-    all: &[Changed<'_>],
+    all: &[Turned<'_>],
     site: u16,
-    change: Change,
+    turn: Turn,
 ) -> Result<(), AllocError> {
     let mut named: usize = 0;
     for it in all {
-        if it.stamp.site == site && it.change == change && named < MOST_NAMED {
+        if it.stamp.site == site && it.turn == turn && named < MOST_NAMED {
             if named > 0 {
                 out.push_str(", ")?;
             }
@@ -133,7 +146,7 @@ fn push_named(
     Ok(())
 }
 
-fn push_others(out: &mut String, all: &[Changed<'_>], site: u16) -> Result<(), AllocError> {
+fn push_others(out: &mut String, all: &[Turned<'_>], site: u16) -> Result<(), AllocError> {
     let count = all.iter().filter(|it| it.stamp.site != site).count();
     if count > 0 {
         let are = is_or_are(count);
@@ -145,16 +158,16 @@ fn push_others(out: &mut String, all: &[Changed<'_>], site: u16) -> Result<(), A
     Ok(())
 }
 
-fn changes_in(
+fn turns_in(
     alloc: Global,
     site: u16,
     before: &[(Stamp, Outcome)],
     after: &[(Stamp, Outcome)],
 ) -> Result<String, AllocError> {
-    let all = changes_between(alloc, before, after)?;
+    let all = turned_between(alloc, before, after)?;
     let mut out = String::new(alloc);
-    for change in CHANGES {
-        push_changed(&mut out, &all, site, change)?;
+    for turn in TURNS {
+        push_turned(&mut out, &all, site, turn)?;
     }
     push_others(&mut out, &all, site)?;
     Ok(out)
@@ -176,35 +189,58 @@ fn own_words(alloc: Global, count: usize) -> Result<String, AllocError> {
 }
 
 impl Told {
-    /// What the site tells now.
-    pub fn by<R: Replica>(alloc: Global, site: &R) -> Result<Told, TellError> {
-        match site.outcomes(alloc) {
-            Ok(outcomes) => Ok(Told {
-                site: site.site(),
-                outcomes,
-            }),
-            Err(error) => Err(error),
-        }
-    }
-
-    /// What the site tells otherwise now, for the end of a line, or an empty text; and a line of its own where
-    /// statements of the site itself came in, or an empty text. Each costs a walk along what is held.
-    pub fn compare<R: Replica>(
-        &self,
-        alloc: Global,
-        site: &R,
-    ) -> Result<(String, String), TellError> {
-        let now = match site.outcomes(alloc) {
+    /// What the site tells now. It holds a copy of what each statement that was issued there changed.
+    pub fn by<R: Changes>(alloc: Global, site: &R) -> Result<Told, TellError> {
+        let outcomes = match site.outcomes(alloc) {
             Ok(outcomes) => outcomes,
             Err(error) => return Err(error),
         };
-        let came = count_of(&now, self.site).saturating_sub(count_of(&self.outcomes, self.site));
-        match (
-            changes_in(alloc, self.site, &self.outcomes, &now),
-            own_words(alloc, came),
-        ) {
-            (Ok(changes), Ok(own)) => Ok((changes, own)),
-            _ => Err(TellError::OutOfMemory),
+        match done_here(alloc, site, &outcomes) {
+            Ok(done) => Ok(Told {
+                site: site.site(),
+                outcomes,
+                done,
+            }),
+            Err(_) => Err(TellError::OutOfMemory),
+        }
+    }
+
+    // The difference to what is told now.
+    fn retold(
+        &self,
+        alloc: Global,
+        catalogue: &Catalogue,
+        now: &Told,
+    ) -> Result<Retold, AllocError> {
+        let came = count_of(&now.outcomes, self.site).saturating_sub(count_of(
+            &self.outcomes,
+            self.site,
+        ));
+        let mut retold = Retold {
+            line_end: turns_in(alloc, self.site, &self.outcomes, &now.outcomes)?,
+            lines: String::new(alloc),
+        };
+        let found = redone_since(alloc, &self.done, &now.done)?;
+        push_redone(&mut retold, catalogue, &self.done, &now.done, &found)?;
+        retold.lines.push_str(own_words(alloc, came)?.as_str())?;
+        Ok(retold)
+    }
+
+    /// What the site tells otherwise now. It costs two walks along what is held, and along what the statements that were
+    /// issued there changed.
+    pub fn compare<R: Changes>(
+        &self,
+        alloc: Global,
+        catalogue: &Catalogue,
+        site: &R,
+    ) -> Result<Retold, TellError> {
+        let now = match Told::by(alloc, site) {
+            Ok(now) => now,
+            Err(error) => return Err(error),
+        };
+        match self.retold(alloc, catalogue, &now) {
+            Ok(retold) => Ok(retold),
+            Err(_) => Err(TellError::OutOfMemory),
         }
     }
 }

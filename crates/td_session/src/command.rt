@@ -17,6 +17,7 @@ use std::fs::File;
 use std::rt::Files;
 use std::time::Clock;
 use td_answers::Links;
+use td_changes::Changes;
 use td_devices::{Sink, Source, put};
 use td_files::Notes;
 use td_journal::{Journals, StoreError, keep_journal};
@@ -105,7 +106,7 @@ fn lacks_statements<F: Sink>(words: &Words<'_>, notes: &Notes, faults: &mut F) -
 }
 
 fn converse_at<
-    R: Replica + Drop,
+    R: Changes + Drop,
     O: Opens + Drop,
     H: Files<File = File> + Clock + AllocGlobal + Clone + Drop,
     L: Links,
@@ -182,7 +183,7 @@ fn open_new<R: Opens, F: Sink>(
 
 // Opens the site of the script and has it come back from its journal, where it keeps one, and answers what is typed.
 fn start<
-    R: Opens + Drop,
+    R: Opens + Changes + Drop,
     J: Journals,
     H: Files<File = File> + Clock + AllocGlobal + Clone + Drop,
     L: Links,
@@ -266,7 +267,7 @@ fn start<
 /// fails, and want of memory that ends the program; 2 for words that are refused and a script that cannot be read; 3
 /// where the journal of the site cannot be used.
 pub fn program<
-    R: Opens + Drop,
+    R: Opens + Changes + Drop,
     J: Journals,
     H: Files<File = File> + Clock + AllocGlobal + Clone + Drop,
     L: Links,

@@ -6,6 +6,7 @@ use crate::wording::{BROKEN, UNCHANGED};
 use std::alloc::{AllocError, Global};
 use std::fs::File;
 use std::rt::Files;
+use td_changes::Changes;
 use td_files::Notes;
 use td_grammar::{ReadError, read_statement_in};
 use td_inputs::{DumpedEntry, entry_in, push_entry};
@@ -73,6 +74,9 @@ pub fn unwritten_words(alloc: Global, file: &str, error: NotWritten) -> Result<S
         NotWritten::IsThere => format!(in alloc;
             "fault file: {file} is there already, and is not written over; name another file\n"
         ),
+        NotWritten::PartIsThere => format!(in alloc;
+            "fault file: {file}.part is there, which is written first and then named {file}; remove it, or name another file\n"
+        ),
         NotWritten::Failed => format!(in alloc; "fault file: {file} cannot be written\n"),
     }
 }
@@ -115,7 +119,7 @@ fn is_of_dialect(alloc: Global, entry: &DumpedEntry) -> Result<bool, AllocError>
 }
 
 /// Issues the statement of a line of a dump.
-pub fn issue_entry<R: Replica>(
+pub fn issue_entry<R: Changes>(
     alloc: Global,
     site: &mut R,
     words: &str,

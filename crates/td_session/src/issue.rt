@@ -3,11 +3,12 @@
 use crate::places::fault_text;
 use crate::wording::{BROKEN, UNCHANGED};
 use std::alloc::{AllocError, Global};
+use td_changes::Changes;
 use td_files::Notes;
 use td_listings::show_stamp;
-use td_notices::{failure_words, push_outcome};
+use td_notices::{failure_words, push_change_count, push_outcome};
 use td_places::Reading;
-use td_story::{IssueError, Issued, MOST_BYTES, Meter, Replica};
+use td_story::{IssueError, Issued, MOST_BYTES, Meter, Outcome};
 
 // The words that begin a definition.
 const DEFINITIONS: [&[u8]; 3] = [b"VAR", b"TYPE", b"CONSTRAINT"];
@@ -73,8 +74,22 @@ pub fn push_issued(out: &mut String, issued: &Issued) -> Result<(), AllocError> 
     push_outcome(out, &issued.outcome)
 }
 
-/// Issues a statement and tells what became of it.
-pub fn issue<R: Replica>(
+// Appends how many tuples a statement changed that is done.
+fn push_changes_of<R: Changes>(
+    out: &mut String,
+    site: &R,
+    issued: &Issued,
+) -> Result<(), AllocError> {
+    if matches!(&issued.outcome, Outcome::Done)
+        && let Ok(changes) = site.changed_by(issued.stamp)
+    {
+        push_change_count(out, changes)?;
+    }
+    Ok(())
+}
+
+/// Issues a statement and tells what became of it, and how many tuples it changed.
+pub fn issue<R: Changes>(
     alloc: Global,
     site: &mut R,
     text: &str,
@@ -86,6 +101,7 @@ pub fn issue<R: Replica>(
     match site.issue(alloc, text, meter) {
         Ok(issued) => {
             push_issued(&mut out, &issued)?;
+            push_changes_of(&mut out, site, &issued)?;
             out.push_str("\n")?;
             Ok(out)
         }

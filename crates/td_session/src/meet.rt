@@ -5,12 +5,14 @@ use crate::wording::{BROKEN, NO_MEMORY, UNCHANGED};
 use std::alloc::{AllocError, Global};
 use std::net::SocketAddr;
 use td_answers::{LinkError, Links};
+use td_changes::Changes;
 use td_devices::{Device, Sink, put};
 use td_files::Notes;
 use td_frames::FrameError;
+use td_headings::Catalogue;
 use td_meeting::{MeetingError, answer, finish, greet, settle};
-use td_notices::{Told, room_text};
-use td_story::{Meter, Replica, TakeError, Taken, TellError};
+use td_notices::{Retold, Told, room_text};
+use td_story::{Meter, TakeError, Taken, TellError};
 
 const NO_ADDRESS: &str =
     "fault address: an address is numbers and a port, as 127.0.0.1:7001 or [::1]:7001\n";
@@ -108,7 +110,7 @@ fn met_words(alloc: Global, fresh: usize) -> Result<String, AllocError> {
 }
 
 // What a site told before a meeting, or why nothing is begun.
-fn told_before<R: Replica>(alloc: Global, site: &R) -> Result<Told, &'static str> {
+fn told_before<R: Changes>(alloc: Global, site: &R) -> Result<Told, &'static str> {
     match Told::by(alloc, site) {
         Ok(told) => Ok(told),
         Err(TellError::Broken) => Err(BROKEN),
@@ -117,26 +119,29 @@ fn told_before<R: Replica>(alloc: Global, site: &R) -> Result<Told, &'static str
 }
 
 // The line of a meeting with what is told otherwise now, and what else there is to say behind it.
-fn with_changes<R: Replica>(
+fn with_changes<R: Changes>(
     alloc: Global,
+    catalogue: &Catalogue,
     site: &R,
     before: &Told,
     line: &str,
 ) -> Result<String, AllocError> {
-    let (changes, own) = match before.compare(alloc, site) {
-        Ok(found) => found,
-        Err(_) => (String::new(alloc), String::new(alloc)),
-    };
     let mut out = String::from_str(alloc, line.trim_ascii_end())?;
-    out.push_str(changes.as_str())?;
-    out.push_str("\n")?;
-    out.push_str(own.as_str())?;
+    match before.compare(alloc, catalogue, site) {
+        Ok(Retold { line_end, lines }) => {
+            out.push_str(line_end.as_str())?;
+            out.push_str("\n")?;
+            out.push_str(lines.as_str())?;
+        }
+        Err(_) => out.push_str("\n")?,
+    }
     out.push_str(room_text(alloc, site)?.as_str())?;
     Ok(out)
 }
 
-fn met<R: Replica>(
+fn met<R: Changes>(
     alloc: Global,
+    catalogue: &Catalogue,
     site: &R,
     before: &Told,
     told: Result<Taken, MeetingError>,
@@ -146,13 +151,14 @@ fn met<R: Replica>(
         Ok(Taken { fresh, known: _ }) => (met_words(alloc, fresh)?, true),
         Err(error) => (not_met(alloc, error, notes)?, false),
     };
-    let text = with_changes(alloc, site, before, line.as_str())?;
+    let text = with_changes(alloc, catalogue, site, before, line.as_str())?;
     Ok(Meeting { text, is_done })
 }
 
 /// Waits at the address for one site, and meets it. That it waits is told on the output of faults.
-pub fn serve<R: Replica, L: Links, F: Sink>(
+pub fn serve<R: Changes, L: Links, F: Sink>(
     alloc: Global,
+    catalogue: &Catalogue,
     site: &mut R,
     links: &mut L,
     word: &str,
@@ -177,12 +183,13 @@ pub fn serve<R: Replica, L: Links, F: Sink>(
         return not_begun(not_met(alloc, error, notes));
     }
     let taken = finish(alloc, site, &mut link, meter);
-    met(alloc, site, &before, taken, notes)
+    met(alloc, catalogue, site, &before, taken, notes)
 }
 
 /// Meets the site that serves at the address.
-pub fn call<R: Replica, L: Links>(
+pub fn call<R: Changes, L: Links>(
     alloc: Global,
+    catalogue: &Catalogue,
     site: &mut R,
     links: &mut L,
     address: &str,
@@ -204,5 +211,5 @@ pub fn call<R: Replica, L: Links>(
         return not_begun(not_met(alloc, error, notes));
     }
     let taken = settle(alloc, site, &mut link, meter);
-    met(alloc, site, &before, taken, notes)
+    met(alloc, catalogue, site, &before, taken, notes)
 }

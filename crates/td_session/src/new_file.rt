@@ -15,6 +15,8 @@ const OWN: u32 = 0o600;
 pub enum NotWritten {
     /// There is one of this name already.
     IsThere,
+    /// There is one with `.part` behind the name already, as a stop may leave it.
+    PartIsThere,
     Failed,
 }
 
@@ -61,7 +63,7 @@ pub fn write_new<H: Files<File = File>>(
     }
     let part = format!(in alloc; "{name}.part")?;
     if fs::symlink_metadata(host, part.as_str()).is_ok() {
-        return Ok(Err(NotWritten::Failed));
+        return Ok(Err(NotWritten::PartIsThere));
     }
     let written = match write_part(host, part.as_str(), bytes) {
         Ok(()) => give_name(host, part.as_str(), name),

@@ -20,6 +20,7 @@ use std::rt::Files;
 use std::time::Clock;
 use std::{fs, str};
 use td_answers::Links;
+use td_changes::Changes;
 use td_devices::{Sink, Source, put};
 use td_files::Notes;
 use td_headings::Catalogue;
@@ -27,7 +28,7 @@ use td_inputs::{Command, Mode, Scan, Standing, command_of};
 use td_listings::{ListingError, listing};
 use td_notices::lack_words;
 use td_stamps::Stamp;
-use td_story::{MOST_BYTES, Meter, Opens, Replica};
+use td_story::{MOST_BYTES, Meter, Opens};
 
 /// A site and what a conversation at it needs.
 #[derive(Drop)]
@@ -66,7 +67,7 @@ const NESTED_FILES: &str =
 
 impl<
     'a,
-    R: Replica + Drop,
+    R: Changes + Drop,
     O: Opens + Drop,
     H: Files<File = File> + Clock + AllocGlobal,
     L: Links,
@@ -157,6 +158,7 @@ impl<
     fn serve<F: Sink>(&mut self, address: &str, faults: &mut F) -> Result<String, AllocError> {
         let meeting = serve(
             self.alloc,
+            &self.catalogue,
             &mut self.site,
             self.links,
             address,
@@ -170,6 +172,7 @@ impl<
     fn call(&mut self, address: &str) -> Result<String, AllocError> {
         let meeting = call(
             self.alloc,
+            &self.catalogue,
             &mut self.site,
             self.links,
             address,
@@ -388,7 +391,7 @@ impl<
 /// Answers line after line, up to `.quit` or the end of the input. Each answer is written and flushed before the next
 /// line is read. At a terminal a prompt stands in front of each line that is typed.
 pub fn converse<
-    R: Replica + Drop,
+    R: Changes + Drop,
     O: Opens + Drop,
     H: Files<File = File> + Clock + AllocGlobal,
     L: Links,
