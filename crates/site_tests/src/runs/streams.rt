@@ -1,6 +1,6 @@
 //! Readers and writers that are interrupted or fail.
 
-use crate::fakes::{Full, SlowReader, SlowWriter, front};
+use super::fakes::{Full, SlowReader, SlowWriter, front};
 use std::alloc::AllocError;
 use std::test::Fail;
 use td_answers::NoLinks;

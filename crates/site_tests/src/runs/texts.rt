@@ -1,6 +1,6 @@
 //! Texts of a site that are written to a writer of one's own: whole and flushed once, or a front of them.
 
-use crate::fakes::{Full, SlowWriter, front};
+use super::fakes::{Full, SlowWriter, front};
 use std::alloc::{AllocError, Global};
 use std::test::Fail;
 use td_devices::Device;
