@@ -1,8 +1,11 @@
 """The toolchain's rt, which is a script and no library, as a module of the scripts beside this one."""
+import difflib
 import importlib.machinery
 import inspect
 import os
+import re
 import shutil
+import subprocess
 import sys
 import tempfile
 import threading
@@ -56,22 +59,18 @@ def sum_once(rt):
     rt.rtlib.Crate.stamp = stamp
 
 
-# What rt reckons a check to need in memory is nearly twice what the crates of this repository were seen to take: 1 to 2
-# GB of 5, and 3.5 of 6 where a program is compiled. By its figures no more than three of the upper crates have room.
-SEEN = 0.6
-# What each job beyond the first adds, of what the first one needs.
-FURTHER = 0.6
 # Compiling a program with the code of all crates below takes as long as proving so many lines.
 PROGRAM = 1500
 
 
-def hurries(rt):
-    """Has rt ci hurry the longest chain of crates, of which each waits for the one before it.
+def spares(rt):
+    """Has rt ci spare processors: each crate is proved by one process, whatever is idle.
 
-    It begins with the first of them, alone, so that this one gets all processors, and proves each later one at two jobs
-    at least, where it would take one processor while others are ready. What edits of a crate begin with, which comes
-    last, gets all processors. Returns whether this rt lets it. A task has what it waits for in front, then its work in
-    lines, its memory, and a call that gets how many jobs it may use.
+    A second process loads the libraries below once more and checks again what both need: a crate takes a quarter to a
+    half more processor seconds with two, and twice as many with four. Only the crate that nearly all others wait for
+    begins alone, with all processors. As many run as there are processors, whatever memory rt reckons for them: a crate
+    was seen to take 1 to 2 GB, and 3.5 where a program is compiled. Returns whether this rt lets it. A task has what it
+    waits for in front, then its work in lines, its memory, and a call that gets how many jobs it may use.
     """
     found = getattr(rt, "in_lanes", None)
     if found is None or [*inspect.signature(found).parameters] != ["tasks"]:
@@ -81,26 +80,105 @@ def hurries(rt):
         is_proof = {it: it[1] == "proof" for it in tasks}
         is_program = {it: is_proof[it] and os.path.exists(f"crates/{it[0]}/src/main.rt") for it in tasks}
         work = {it: lines + PROGRAM * is_program[it] for it, (_, lines, *_) in tasks.items()}
-        ahead, behind = dict.fromkeys(tasks, 0), dict.fromkeys(tasks, 0)
+        behind = dict.fromkeys(tasks, 0)
         # (a task comes after those that it waits for)
-        for it, (waits, *_) in tasks.items():
-            ahead[it] = max((ahead[other] + work[other] for other in waits), default=0)
         for it in reversed([*tasks]):
             behind[it] += work[it]
             for other in tasks[it][0]:
                 behind[other] = max(behind[other], behind[it])
         first = max((it for it in tasks if is_proof[it] and not tasks[it][0]), key=behind.get, default=None)
-        longest = max((ahead[it] + behind[it] for it in tasks if is_proof[it]), default=0)
         led = {}
         for it, (waits, _, needs, call) in tasks.items():
-            is_of_longest = is_proof[it] and ahead[it] + behind[it] >= 0.95 * longest
-            least = rt.processors() if it[1] == "seed" else 2 if is_of_longest else 1
-            needs *= SEEN * (1 + FURTHER * (least - 1))
-            called = lambda given, jobs, call=call, least=least: call(given, max(jobs, least))
-            led[it] = (waits or [first] * (it != first), work[it], needs, called)
+            if it == first:
+                call = lambda given, jobs, call=call: call(given, rt.processors())
+            led[it] = (waits or [first] * (it != first), work[it], needs, call)
+        # (so many lanes, and one job in each)
+        os.environ.setdefault("RT_JOBS", str(rt.processors()))
         return found({it: led[it] for it in sorted(led, key=lambda it: it != first)})
 
     rt.in_lanes = in_lanes
+    return True
+
+
+def without_generics(text):
+    """Returns a text with nothing of what stands between < and >."""
+    kept, depth = [], 0
+    for at, letter in enumerate(text):
+        depth += letter == "<"
+        if not depth:
+            kept.append(letter)
+        # (the > of an arrow closes nothing)
+        depth -= letter == ">" and depth > 0 and text[at - 1] not in "-="
+    return "".join(kept)
+
+
+def function_at(lines, at):
+    """Returns the path below its module, as a check prints it, of the function that begins last up to this line."""
+    for number in range(at, -1, -1):
+        found = re.match(r"( {4})?(?:pub(?:\([a-z]+\))? )?fn (\w+)", lines[number])
+        if found and not found[1]:
+            return found[2]
+        if found:
+            start = max((it for it in range(number) if lines[it].startswith("impl")), default=None)
+            if start is None:
+                return None
+            header = without_generics(" ".join(lines[start:number]).partition("{")[0].removeprefix("impl"))
+            # (the impl of a trait is named by its type and the trait)
+            trait, _, of = header.partition(" for ")
+            owner = re.findall(r"\w+", of or trait)[-1] + (re.findall(r"\w+", trait)[-1] if of else "")
+            return f"{owner}::{found[2]}"
+    return None
+
+
+def functions_of(crate, texts):
+    """Returns the functions of a crate that these texts change, or none where one changes anything else of it."""
+    names = set()
+    for path, text in texts.items():
+        module = re.fullmatch(r"src/(.+?)(?:/mod)?\.rt", path)
+        if module is None:
+            return []
+        with open(f"{crate.folder}/{path}", encoding="utf-8") as it:
+            was = it.read().splitlines()
+        for kind, start, *_ in difflib.SequenceMatcher(None, was, text.splitlines(), False).get_opcodes():
+            name = None if kind == "equal" else function_at(was, start)
+            if kind != "equal" and name is None:
+                return []
+            if name is not None:
+                names.add(name if module[1] in ("lib", "main") else f"{module[1].replace('/', '::')}::{name}")
+    return sorted(names)
+
+
+def tries_by_function(rt):
+    """Has rt ci try an edit by a check of the functions that it changes, and of what these call.
+
+    One of them that is not proved is a function of the crate that is not proved, so the edit is refused. Where they are
+    all proved, or the edit changes anything else, the whole crate is checked from nothing. So no check of the crate as
+    it stands is made to begin with: it was proved in the same run. Returns whether this rt lets it.
+    """
+    wanted = {"checked": ["crate", "texts", "flags", "kept"], "seeded": ["crate", "flags", "start"]}
+    for name, parameters in wanted.items():
+        found = getattr(rt, name, None)
+        if found is None or [*inspect.signature(found).parameters] != parameters:
+            return False
+    made = rt.checked
+
+    def checked(crate, texts, flags, kept):
+        if not texts:
+            return subprocess.CompletedProcess([], 0, stdout="")
+        only = [word for name in functions_of(crate, texts) for word in ("--only", name)]
+        if only:
+            ran = made(crate, texts, [*flags, *only], None)
+            if ran.returncode == 1 and re.search(r"^only=\d+ proved=\d+$", ran.stdout, re.M):
+                return subprocess.CompletedProcess(ran.args, 1, stdout=f"{ran.stdout.rstrip()}\nlogic=not-proved\n")
+        return made(crate, texts, flags, None)
+
+    def seeded(crate, flags, start=None):
+        room = tempfile.mkdtemp(prefix=f"rt-edits-{os.getpid()}-")
+        rt.SEEDS.append(room)
+        os.mkdir(f"{room}/seed")
+        return room
+
+    rt.checked, rt.seeded = checked, seeded
     return True
 
 

@@ -186,18 +186,39 @@ fn measure_changes(rt: &HostRuntime, suppliers: &Table<'_>, size: u32) -> Result
     tell_change(rt, "apply_many", size, &Change { before, after })
 }
 
+// What is timed of relations of this size.
+fn measure_size(
+    rt: &HostRuntime,
+    suppliers: &Table<'_>,
+    shipments: &Table<'_>,
+    names: &OperandNames,
+    size: u32,
+) -> Result<()> {
+    tell_making(rt, suppliers, size)?;
+    measure_changes(rt, suppliers, size)?;
+    measure_sets(rt, suppliers, names, size)?;
+    measure_joins(rt, suppliers, shipments, names, size)?;
+    measure_opening(rt, suppliers, names, size)
+}
+
+fn measure(
+    rt: &HostRuntime,
+    all: &Names,
+    suppliers: &Table<'_>,
+    shipments: &Table<'_>,
+    names: &OperandNames,
+) -> Result<()> {
+    for size in [1_000, 10_000] {
+        measure_size(rt, suppliers, shipments, names, size)?;
+    }
+    measure_closure(rt, all, names)
+}
+
 pub fn run(rt: &HostRuntime) -> Result<()> {
     let alloc = rt.alloc();
     let all = Names::new(alloc)?;
     let names = all.taken(alloc)?;
     let suppliers = Table::new(alloc, &all, Subject::Supplier)?;
     let shipments = Table::new(alloc, &all, Subject::Shipment)?;
-    for size in [1_000, 10_000] {
-        tell_making(rt, &suppliers, size)?;
-        measure_changes(rt, &suppliers, size)?;
-        measure_sets(rt, &suppliers, &names, size)?;
-        measure_joins(rt, &suppliers, &shipments, &names, size)?;
-        measure_opening(rt, &suppliers, &names, size)?;
-    }
-    measure_closure(rt, &all, &names)
+    measure(rt, &all, &suppliers, &shipments, &names)
 }
