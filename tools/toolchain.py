@@ -9,6 +9,7 @@ import subprocess
 import sys
 import tempfile
 import threading
+import time
 import types
 from collections import Counter
 
@@ -64,37 +65,53 @@ PROGRAM = 1500
 
 
 def spares(rt):
-    """Has rt ci spare processors: each crate is proved by one process, whatever is idle.
+    """Has rt ci spare processors: a crate is proved by one process, also where others are idle.
 
     A second process loads the libraries below once more and checks again what both need: a crate takes a quarter to a
-    half more processor seconds with two, and twice as many with four. Only the crate that nearly all others wait for
-    begins alone, with all processors. As many run as there are processors, whatever memory rt reckons for them: a crate
-    was seen to take 1 to 2 GB, and 3.5 where a program is compiled. Returns whether this rt lets it. A task has what it
-    waits for in front, then its work in lines, its memory, and a call that gets how many jobs it may use.
+    half more processor seconds with two. Only the longest chain of crates, of which each waits for the one before it,
+    has two where a processor is idle. As many crates are proved at once as there are processors, whatever memory rt
+    reckons for them: one was seen to take 1 to 2 GB, and 3.5 where a program is compiled. Returns whether this rt lets
+    it. A task has what it waits for in front, then its work in lines, its memory, and a call that gets how many jobs it
+    may use.
     """
     found = getattr(rt, "in_lanes", None)
     if found is None or [*inspect.signature(found).parameters] != ["tasks"]:
         return False
+    running, alone = Counter(), threading.Lock()
+
+    def led(call, is_of_longest):
+        def called(given, jobs):
+            with alone:
+                running["now"] += 1
+            try:
+                if is_of_longest:
+                    # (what is begun beside it)
+                    time.sleep(1)
+                return call(given, 2 if is_of_longest and running["now"] < rt.processors() else 1)
+            finally:
+                with alone:
+                    running["now"] -= 1
+
+        return called
 
     def in_lanes(tasks):
-        is_proof = {it: it[1] == "proof" for it in tasks}
-        is_program = {it: is_proof[it] and os.path.exists(f"crates/{it[0]}/src/main.rt") for it in tasks}
+        is_program = {it: it[1] == "proof" and os.path.exists(f"crates/{it[0]}/src/main.rt") for it in tasks}
         work = {it: lines + PROGRAM * is_program[it] for it, (_, lines, *_) in tasks.items()}
-        behind = dict.fromkeys(tasks, 0)
+        ahead, behind = dict.fromkeys(tasks, 0), dict.fromkeys(tasks, 0)
         # (a task comes after those that it waits for)
+        for it, (waits, *_) in tasks.items():
+            ahead[it] = max((ahead[other] + work[other] for other in waits), default=0)
         for it in reversed([*tasks]):
             behind[it] += work[it]
             for other in tasks[it][0]:
                 behind[other] = max(behind[other], behind[it])
-        first = max((it for it in tasks if is_proof[it] and not tasks[it][0]), key=behind.get, default=None)
-        led = {}
-        for it, (waits, _, needs, call) in tasks.items():
-            if it == first:
-                call = lambda given, jobs, call=call: call(given, rt.processors())
-            led[it] = (waits or [first] * (it != first), work[it], needs, call)
+        longest = max((ahead[it] + behind[it] for it in tasks), default=0)
         # (so many lanes, and one job in each)
         os.environ.setdefault("RT_JOBS", str(rt.processors()))
-        return found({it: led[it] for it in sorted(led, key=lambda it: it != first)})
+        return found({
+            it: (waits, work[it], needs, led(call, ahead[it] + behind[it] >= 0.95 * longest))
+            for it, (waits, _, needs, call) in tasks.items()
+        })
 
     rt.in_lanes = in_lanes
     return True
