@@ -1,0 +1,45 @@
+-- Sites that hold the same set answer alike.
+use Rattle.std.proofs.Common.{◌≡◌, ℕ, List, Ok, sym, subst}
+use Rattle.td_stamps.specs.Vectors.{IsVector}
+use Rattle.td_stamps.specs.declared.entry.Entry.{Entry}
+use Rattle.td_stamps.specs.declared.entry.Stamp.{Stamp}
+use Rattle.td_stamps.proofs.Gaps.{vector_is_one}
+use Rattle.td_stamps.proofs.Merges.{same_set}
+use Rattle.td_story.specs.Answers.{TellsRelvar}
+use Rattle.td_story.specs.Databases.{DatabaseData}
+use Rattle.td_story.specs.Laws.{HoldTheSame}
+use Rattle.td_story.specs.Seen.{Seen}
+use Rattle.td_story.specs.Stories.{IsStory}
+use Rattle.td_story.specs.declared.outcome.Outcome.{Outcome}
+use Rattle.td_story.proofs.Agreeing.{sites_agree, story_is_one}
+use Rattle.td_agreement.specs.Laws.{AnswersAgree, PastAnswersAgree, ValuesAgree, VectorsAgree}
+use Rattle.td_agreement.proofs.Fronts.{one_front}
+use Rattle.td_agreement.proofs.Meanings.{asks_one, tells_one}
+
+one_set : (s t : Seen) → HoldTheSame s t → s.entries ≡ t.entries
+one_set s t same = same_set s.entries t.entries same.one_set same.other_set same.members
+
+pub answers_agree : AnswersAgree
+answers_agree s t same text r q p o =
+    asks_one s t text r q p o (sites_agree s t same p.leaves.0 o.leaves.0 p.database o.database p.leaves.1 o.leaves.1).1
+
+-- one script and one front leave one database
+one_left :
+    (script other : List ℕ) (es fs : List Entry) (os ps : List (Stamp × Outcome)) (d e : DatabaseData) → script ≡ other → es ≡ fs → IsStory script es os d
+    → IsStory other fs ps e → d ≡ e
+one_left script other es fs os ps d e scripts entries told asked =
+    let here = subst (λ (gs : List Entry). IsStory other gs os d) entries (subst (λ (t : List ℕ). IsStory t es os d) scripts told) in
+    (story_is_one other fs os ps d e here asked).1
+
+pub past_answers_agree : PastAnswersAgree
+past_answers_agree s t same text at r q (front, ends, p) (other, stops, o) =
+    let one = one_front at s.entries t.entries front other same.one_set (one_set s t same) ends stops in
+    asks_one _ _ text r q p o (one_left s.script t.script front other p.leaves.0 o.leaves.0 p.database o.database same.script one p.leaves.1 o.leaves.1)
+
+pub values_agree : ValuesAgree
+values_agree s t same x a b p q =
+    let one = (sites_agree s t same p.2.0 q.2.0 p.1 q.1 p.2.1 q.2.1).1 in
+    tells_one p.1 x a b p.3 (subst (λ (d : DatabaseData). TellsRelvar d x (Ok b)) (sym one) q.3)
+
+pub vectors_agree : VectorsAgree
+vectors_agree s t same v w p q = vector_is_one t.entries v w (subst (λ (es : List Entry). IsVector es v) (one_set s t same) p) q

@@ -1,0 +1,4 @@
+-- The proofs of the crate.
+pub mod Fronts
+pub mod Meanings
+pub mod Agreeing

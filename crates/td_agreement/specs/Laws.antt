@@ -1,0 +1,27 @@
+-- Sites of one script that hold the same set of entries answer alike, whatever their numbers and limits.
+use Rattle.std.specs.Prelude.{◌≡◌, ℕ, List, Ok}
+use Rattle.td_stamps.specs.Vectors.{IsVector, VersionVector}
+use Rattle.td_stamps.specs.declared.entry.Stamp.{Stamp}
+use Rattle.td_story.specs.Calls.{Asks, TellsValue}
+use Rattle.td_story.specs.Laws.{HoldTheSame}
+use Rattle.td_story.specs.Past.{AsksAt}
+use Rattle.td_story.specs.Seen.{Seen}
+use Rattle.td_story.specs.declared.answer.Answer.{Answer}
+use Rattle.td_story.specs.declared.answer.Asked.{Asked}
+
+-- a query
+abbrev pub AnswersAgree : Type 0
+AnswersAgree = (s t : Seen) → HoldTheSame s t → (text : List ℕ) (r q : Asked) → Asks s text (Ok r) → Asks t text (Ok q) → r ≡ q
+
+-- the same just after the entry of a stamp
+abbrev pub PastAnswersAgree : Type 0
+PastAnswersAgree =
+    (s t : Seen) → HoldTheSame s t → (text : List ℕ) (at : Stamp) (r q : Asked) → AsksAt s text at (Ok r) → AsksAt t text at (Ok q) → r ≡ q
+
+-- what a relvar has
+abbrev pub ValuesAgree : Type 0
+ValuesAgree = (s t : Seen) → HoldTheSame s t → (name : List ℕ) (a b : Answer) → TellsValue s name (Ok a) → TellsValue t name (Ok b) → a ≡ b
+
+-- up to which number each site's entries are held
+abbrev pub VectorsAgree : Type 0
+VectorsAgree = (s t : Seen) → HoldTheSame s t → (v w : VersionVector) → IsVector s.entries v → IsVector t.entries w → v ≡ w
