@@ -1,10 +1,13 @@
--- Sites that hold the same set answer alike.
-use Rattle.std.proofs.Common.{◌≡◌, ℕ, List, Ok, sym, subst}
+-- Sites that hold the same set answer alike, and an exchange leaves one set.
+use Rattle.std.proofs.Common.{◌≡◌, ℕ, List, Ok, sym, subst, ◌∙◌}
+use Rattle.td_meeting.proofs.Unions.{adds_nothing, free_then}
+use Rattle.td_stamps.specs.Entries.{in_range}
+use Rattle.td_stamps.specs.Sets.{union}
 use Rattle.td_stamps.specs.Vectors.{IsVector}
 use Rattle.td_stamps.specs.declared.entry.Entry.{Entry}
 use Rattle.td_stamps.specs.declared.entry.Stamp.{Stamp}
-use Rattle.td_stamps.proofs.Gaps.{vector_is_one}
-use Rattle.td_stamps.proofs.Merges.{same_set}
+use Rattle.td_stamps.proofs.Gaps.{after_completes, vector_is_one}
+use Rattle.td_stamps.proofs.Merges.{merged, same_set}
 use Rattle.td_story.specs.Answers.{TellsRelvar}
 use Rattle.td_story.specs.Databases.{DatabaseData}
 use Rattle.td_story.specs.Laws.{HoldTheSame}
@@ -12,7 +15,7 @@ use Rattle.td_story.specs.Seen.{Seen}
 use Rattle.td_story.specs.Stories.{IsStory}
 use Rattle.td_story.specs.declared.outcome.Outcome.{Outcome}
 use Rattle.td_story.proofs.Agreeing.{sites_agree, story_is_one}
-use Rattle.td_agreement.specs.Laws.{AnswersAgree, PastAnswersAgree, ValuesAgree, VectorsAgree}
+use Rattle.td_agreement.specs.Laws.{AnswersAgree, ExchangeIsMerge, PastAnswersAgree, ValuesAgree, VectorsAgree}
 use Rattle.td_agreement.proofs.Fronts.{one_front}
 use Rattle.td_agreement.proofs.Meanings.{asks_one, tells_one}
 
@@ -43,3 +46,9 @@ values_agree s t same x a b p q =
 
 pub vectors_agree : VectorsAgree
 vectors_agree s t same v w p q = vector_is_one t.entries v w (subst (λ (es : List Entry). IsVector es v) (one_set s t same) p) q
+
+pub exchange_is_merge : ExchangeIsMerge
+exchange_is_merge a b v w set_a set_b ranges_a ranges_b free is_v is_w =
+    let ranges = (merged a b set_a free).all in_range ranges_a ranges_b in
+    let second = after_completes b (union a b) w set_b ranges (free_then a b set_a set_b free) (λ site. (is_w.numbers site).all) in
+    (after_completes a b v set_a ranges_b free (λ site. (is_v.numbers site).all), second ∙ adds_nothing a b set_a set_b free)
