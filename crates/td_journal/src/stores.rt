@@ -2,11 +2,12 @@
 
 ghost use Rattle.std.specs.Prelude.{◌≡◌, ◌≢◌, ℕ, List, Option, MatchResult, true};
 ghost use Rattle.std.specs.Io.KnownBytes.{Keeps};
+ghost use Rattle.td_devices.specs.Counted.{counted};
 ghost use Rattle.td_devices.specs.Views.{output_of};
 ghost use Rattle.td_journal.specs.Reopening.{IsNew};
-ghost use Rattle.td_journal.specs.ForProofs.Behind.{IsBehind};
-ghost use Rattle.td_journal.specs.Stores.{BeginsNot, GoesOn, GoesOnNot, IsCutTo, IsGoneOnWith, IsMadeAnew, KeepsNot};
-ghost use Rattle.td_frames.specs.declared.version.Version.TheVariants.{Second};
+ghost use Rattle.td_journal.specs.ForProofs.Behind.{BeginsNone, IsBehind};
+ghost use Rattle.td_journal.specs.Stores.{GoesOn, GoesOnNot, IsCutTo, IsGoneOnWith, IsMadeAnew, KeepsNot};
+ghost use Rattle.td_frames.specs.declared.version.Version.TheVariants.{First, Second};
 ghost use Rattle.td_journal.specs.declared.reopening.ReopenError.TheVariants as reopen_error;
 ghost use Rattle.td_journal.specs.declared.stores.StoreError.TheVariants as store_error;
 
@@ -43,14 +44,17 @@ pub trait Journals {
     /// What the journal of a name has, where that is known.
     ghost kept: { Self → List ℕ → Option (List ℕ) };
 
-    /// A journal could not be opened, cut or replaced, for this cause. Only these calls tell this of any journals, so
-    /// what a caller tells by it says that one of them did.
+    /// A journal could not be opened, read, cut or replaced, for this cause. Only these calls and a failure that was
+    /// counted tell this of any journals, so what a caller tells by it says that one of them did.
     ghost fails: { Self → StoreError → Type 0 };
 
     /// Opens the journal of this name, which has nothing where it is new. Nobody else opens it until it is let go.
     fn open(&self, alloc: Global, name: &str) -> Result<Self::Journal, StoreError>
         ensures kept { MatchResult result (λ j. Self.Journal.left j ≡ kept self.now name.now) (λ e. fails self.now e) }
-        ensures all { MatchResult result (λ j. Self.Journal.beside j ≡ kept self.now name.now) (λ _. Unit {0}) };
+        ensures all { MatchResult result (λ j. Self.Journal.beside j ≡ kept self.now name.now) (λ _. Unit {0}) }
+        ensures reads { MatchResult result
+            (λ j. (read : Self.Journal) → Self.Journal.failures read ≡ counted (Self.Journal.failures j) → fails self.now store_error.JournalFile)
+            (λ _. Unit {0}) };
 
     /// Keeps so many bytes of the journal and drops those behind them: what is written then stands behind these.
     fn cut(&self, journal: Self::Journal, whole: u64) -> Result<Self::Writer, Failed>
@@ -98,7 +102,7 @@ fn keeper_behind<R: Opens + Drop, W: Sink + Drop>(
     ensures { MatchResult result
         (λ k. IsBehind whole (R.seen replica) (output_of W.Sink writer) (output_of W.Sink k.writer)
         × ((k.replica ≡ replica) × (k.is_open ≡ true)))
-        (λ e. BeginsNot × (e ≡ store_error.JournalFile)) }
+        (λ e. BeginsNone whole (R.seen replica) (output_of W.Sink writer) × (e ≡ store_error.JournalFile)) }
 {
     if whole > 0 {
         return Ok(Keeper::resume(replica, writer));
@@ -119,7 +123,7 @@ fn go_on<R: Opens + Drop, J: Journals>(
     ensures { MatchResult result
         (λ k. IsGoneOnWith Second whole (J.Journal.beside journal) (R.seen k.replica) (output_of J.Writer.Sink k.writer)
         × ((k.replica ≡ replica) × (k.is_open ≡ true)))
-        (λ e. GoesOnNot (J.fails journals.now) e) }
+        (λ e. GoesOnNot (J.fails journals.now) Second whole (J.Journal.beside journal) (R.seen replica) e) }
 {
     match journals.cut(journal, whole) {
         Ok(writer) => keeper_behind(whole, replica, writer),
@@ -139,7 +143,7 @@ fn make_anew<R: Opens + Drop, J: Journals>(
     ensures { MatchResult result
         (λ k. IsMadeAnew (J.kept journals.now name.now) (R.seen k.replica) (output_of J.Writer.Sink k.writer)
         × ((k.replica ≡ replica) × (k.is_open ≡ true)))
-        (λ e. GoesOnNot (J.fails journals.now) e) }
+        (λ e. GoesOnNot (J.fails journals.now) First whole (J.kept journals.now name.now) (R.seen replica) e) }
 {
     let mut renewal = match journals.renew(alloc, name, &mut journal, whole) {
         Ok(renewal) => renewal,
@@ -167,7 +171,7 @@ fn keep_reopened<R: Opens + Drop, J: Journals>(
     ensures { MatchResult result
         (λ k. IsGoneOnWith reopened.version reopened.whole (J.kept journals.now name.now) (R.seen k.replica) (output_of J.Writer.Sink k.writer)
         × ((k.replica ≡ reopened.replica) × (k.is_open ≡ true)))
-        (λ e. GoesOnNot (J.fails journals.now) e) }
+        (λ e. GoesOnNot (J.fails journals.now) reopened.version reopened.whole (J.kept journals.now name.now) (R.seen reopened.replica) e) }
 {
     let Reopened {
         replica,

@@ -1,11 +1,13 @@
 //! A meeting of two sites in memory.
 
-ghost use Rattle.std.specs.Prelude.{◌≡◌, true, Ok, Err, MatchResult, OnOk};
+ghost use Rattle.std.specs.Prelude.{◌≡◌, ◌⊎◌, true, Ok, Err, MatchResult, OnOk};
 ghost use Rattle.td_story.specs.Seen.{IsSound};
 ghost use Rattle.td_meeting.specs.ForProofs.Carried.{AnswersIn, HearsIn, IsAnswer, ReceivesIn, SettlesIn};
 ghost use Rattle.td_meeting.specs.Meetings.{AreOpen, AreTwo, Judges, Meets};
 ghost use Rattle.td_meeting.specs.Writing.{Greets};
-ghost use Rattle.td_meeting.specs.declared.error.MeetingError.TheVariants.{OutOfMemory};
+ghost use Rattle.td_meeting.specs.declared.error.MeetingError.TheVariants as meeting_error;
+ghost use Rattle.td_meeting.specs.declared.meeting.MeetingRefusal.{MeetingRefusal};
+ghost use Rattle.td_story.specs.declared.refusal.TakeError.TheVariants as take_error;
 
 use crate::error::MeetingError;
 use crate::hearing::hear;
@@ -61,7 +63,7 @@ pub fn judge<A: Replica, B: Replica>(first: &A, second: &B) -> Result<(), Meetin
 
 fn greeting_of<R: Replica>(alloc: Global, site: &R) -> Result<Vec<u8>, MeetingError>
     requires { (R.seen site.now).live ≡ true }
-    ensures { MatchResult result (λ v. Greets (R.seen site.now) v.items) (λ e. e ≡ OutOfMemory) }
+    ensures { MatchResult result (λ v. Greets (R.seen site.now) v.items) (λ e. e ≡ meeting_error.OutOfMemory) }
 {
     let mut written = Outgoing::new(alloc);
     match greet(alloc, site, &mut written) {
@@ -76,7 +78,8 @@ fn hear_in<R: Replica>(
     site: &R,
     bytes: &mut Incoming,
 ) -> Result<Greeting, MeetingError>
-    ensures { HearsIn (R.seen site.now) bytes.old.rest.now result bytes.new.rest.now }
+    ensures heard { HearsIn (R.seen site.now) bytes.old.rest.now result bytes.new.rest.now }
+    ensures untaken { result ≡ Err (meeting_error.Take take_error.JournalWrite) → ⊥ }
 {
     hear(alloc, site, bytes)
 }
@@ -91,6 +94,7 @@ fn receive_in<R: Replica>(
     requires { (R.seen site.old).live ≡ true }
     ensures received { ReceivesIn (R.seen site.old) bytes.old.rest.now result (R.seen site.new) }
     ensures live { OnOk result ((R.seen site.new).live ≡ true) }
+    ensures journal { result ≡ Err (meeting_error.Take take_error.JournalWrite) → R.failed site.old site.new }
 {
     receive(alloc, site, bytes, meter)
 }
@@ -98,7 +102,8 @@ fn receive_in<R: Replica>(
 // Answers a greeting that is there whole.
 fn answer_in<R: Replica>(alloc: Global, site: &R, bytes: &[u8]) -> Result<Vec<u8>, MeetingError>
     requires { (R.seen site.now).live ≡ true }
-    ensures { MatchResult result (λ v. AnswersIn (R.seen site.now) bytes.now (Ok v.items)) (λ e. AnswersIn (R.seen site.now) bytes.now (Err e)) }
+    ensures answered { MatchResult result (λ v. AnswersIn (R.seen site.now) bytes.now (Ok v.items)) (λ e. AnswersIn (R.seen site.now) bytes.now (Err e)) }
+    ensures untaken { result ≡ Err (meeting_error.Take take_error.JournalWrite) → ⊥ }
 {
     let greeting = match hear_in(alloc, site, &mut Incoming::new(bytes)) {
         Ok(greeting) => greeting,
@@ -119,8 +124,9 @@ fn settle_in<R: Replica>(
     meter: &mut Meter,
 ) -> Result<(Taken, Vec<u8>), MeetingRefusal>
     requires { (R.seen site.old).live ≡ true }
-    ensures { MatchResult result (λ x. SettlesIn (R.seen site.old) bytes.now (Ok (x.0, x.1.items)) (R.seen site.new))
+    ensures settled { MatchResult result (λ x. SettlesIn (R.seen site.old) bytes.now (Ok (x.0, x.1.items)) (R.seen site.new))
         (λ e. SettlesIn (R.seen site.old) bytes.now (Err e) (R.seen site.new)) }
+    ensures journal { (r : MeetingRefusal) → result ≡ Err r → r.error ≡ meeting_error.Take take_error.JournalWrite → R.failed site.old site.new }
 {
     let mut incoming = Incoming::new(bytes);
     let greeting = match hear_in(alloc, site, &mut incoming) {
@@ -153,7 +159,9 @@ fn exchange<A: Replica, B: Replica>(
     requires two { AreTwo (A.seen first.old) (B.seen second.old) }
     requires sound { IsSound (A.seen first.old) × IsSound (B.seen second.old) }
     requires answer { IsAnswer (A.seen first.old) (B.seen second.old) answer.now }
-    ensures { Meets (A.seen first.old) (B.seen second.old) result (A.seen first.new) (B.seen second.new) }
+    ensures meets { Meets (A.seen first.old) (B.seen second.old) result (A.seen first.new) (B.seen second.new) }
+    ensures journal { (r : MeetingRefusal) → result ≡ Err r → r.error ≡ meeting_error.Take take_error.JournalWrite
+        → A.failed first.old first.new ⊎ B.failed second.old second.new }
 {
     let (gains, entries) = match settle_in(alloc, first, answer, meter) {
         Ok(settled) => settled,
@@ -179,7 +187,9 @@ pub fn meet<A: Replica, B: Replica>(
     second: &mut B,
     meter: &mut Meter,
 ) -> Result<Met, MeetingRefusal>
-    ensures { Meets (A.seen first.old) (B.seen second.old) result (A.seen first.new) (B.seen second.new) }
+    ensures meets { Meets (A.seen first.old) (B.seen second.old) result (A.seen first.new) (B.seen second.new) }
+    ensures journal { (r : MeetingRefusal) → result ≡ Err r → r.error ≡ meeting_error.Take take_error.JournalWrite
+        → A.failed first.old first.new ⊎ B.failed second.old second.new }
 {
     match judge(first, second) {
         Ok(()) => {}

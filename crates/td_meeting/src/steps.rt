@@ -1,6 +1,9 @@
 //! The four steps of a meeting.
 
+ghost use Rattle.std.specs.Prelude.{◌≡◌, Err};
 ghost use Rattle.std.specs.Io.KnownBytes.{Keeps};
+ghost use Rattle.td_story.specs.declared.refusal.TakeError.TheVariants as take_error;
+ghost use Rattle.td_meeting.specs.declared.error.MeetingError.TheVariants as meeting_error;
 ghost use Rattle.td_meeting.specs.Steps.{Answered, Finished, Greeted, Settled, link_of, side_of};
 
 use crate::error::MeetingError;
@@ -57,7 +60,8 @@ pub fn settle<R: Replica, C: Channel>(
     link: &mut C,
     meter: &mut Meter,
 ) -> Result<Taken, MeetingError>
-    ensures { Settled (R.seen site.old) (link_of C.Source C.Sink link.old) result (link_of C.Source C.Sink link.new) (R.seen site.new) }
+    ensures settled { Settled (R.seen site.old) (link_of C.Source C.Sink link.old) result (link_of C.Source C.Sink link.new) (R.seen site.new) }
+    ensures journal { result ≡ Err (meeting_error.Take take_error.JournalWrite) → R.failed site.old site.new }
 {
     if !site.is_open() {
         return Err(MeetingError::Broken);
@@ -85,6 +89,7 @@ pub fn finish<R: Replica, S: Source>(
 ) -> Result<Taken, MeetingError>
     ensures finished { Finished (R.seen site.old) (S.left source.old) (S.left source.new) (S.failures source.old) (S.failures source.new) result (R.seen site.new) }
     ensures beside { Keeps (S.beside source.old) (S.beside source.new) }
+    ensures journal { result ≡ Err (meeting_error.Take take_error.JournalWrite) → R.failed site.old site.new }
 {
     if !site.is_open() {
         return Err(MeetingError::Broken);

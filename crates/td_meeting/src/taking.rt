@@ -1,10 +1,12 @@
 //! The entries that the other site sent, read and taken.
 
-ghost use Rattle.std.specs.Prelude.{◌≡◌, List, true, IfErr, IfOk};
+ghost use Rattle.std.specs.Prelude.{◌≡◌, Err, List, true, IfErr, IfOk};
 ghost use Rattle.std.specs.Io.KnownBytes.{Keeps};
 ghost use Rattle.td_story.specs.Calls.{TakesBatch};
 ghost use Rattle.td_stamps.specs.declared.entry.Entry.{Entry};
 ghost use Rattle.td_meeting.specs.ForProofs.Parts as proofs;
+ghost use Rattle.td_story.specs.declared.refusal.TakeError.TheVariants as take_error;
+ghost use Rattle.td_meeting.specs.declared.error.MeetingError.TheVariants as meeting_error;
 ghost use Rattle.td_meeting.specs.Reading.{ReadsStream, Unreceived};
 
 use crate::error::MeetingError;
@@ -34,6 +36,7 @@ fn take_all<R: Replica>(
     requires { (R.seen site.old).live ≡ true }
     ensures ok { IfOk result (λ t. TakesBatch (R.seen site.old) batch.now t (R.seen site.new)) }
     ensures err { IfErr result (λ e. proofs.Untaken (R.seen site.old) batch.now e (R.seen site.new)) }
+    ensures journal { result ≡ Err (meeting_error.Take take_error.JournalWrite) → R.failed site.old site.new }
 {
     match site.take(alloc, batch, meter) {
         Ok(taken) => Ok(taken),
@@ -50,7 +53,8 @@ fn take_front<R: Replica>(
     meter: &mut Meter,
 ) -> MeetingError
     requires { (R.seen site.old).live ≡ true }
-    ensures { proofs.TakesShort (R.seen site.old) batch.now error result (R.seen site.new) }
+    ensures short { proofs.TakesShort (R.seen site.old) batch.now error result (R.seen site.new) }
+    ensures journal { result ≡ meeting_error.Take take_error.JournalWrite → R.failed site.old site.new }
 {
     match take_all(alloc, site, batch, meter) {
         Ok(taken) => MeetingError::Frame {
@@ -69,7 +73,8 @@ fn stopped<R: Replica>(
     meter: &mut Meter,
 ) -> MeetingError
     requires { (R.seen site.old).live ≡ true }
-    ensures { proofs.StopsAt (R.seen site.old) batch.now error result (R.seen site.new) }
+    ensures stops { proofs.StopsAt (R.seen site.old) batch.now error result (R.seen site.new) }
+    ensures journal { result ≡ meeting_error.Take take_error.JournalWrite → R.failed site.old site.new }
 {
     match error {
         FrameError::OutOfMemory => MeetingError::OutOfMemory,
@@ -91,6 +96,7 @@ pub(crate) fn receive<R: Replica, S: Source>(
         × (S.failures source.new ≡ S.failures source.old)) }
     ensures err { IfErr result (λ e. Unreceived (R.seen site.old) e (S.left source.old) (S.left source.new) (S.failures source.old) (S.failures source.new) (R.seen site.new)) }
     ensures beside { Keeps (S.beside source.old) (S.beside source.new) }
+    ensures journal { result ≡ Err (meeting_error.Take take_error.JournalWrite) → R.failed site.old site.new }
 {
     let (batch, ending) = read_entries(alloc, source, Version::Second, MOST_ENTRIES);
     match ending {

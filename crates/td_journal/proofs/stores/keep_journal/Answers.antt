@@ -19,4 +19,5 @@ returns-in-Ok-take_journal-clause-kept g c =
 pub returns-in-Err-take_journal-clause-kept : goal.returns-in-Err-take_journal-clause-kept
 returns-in-Err-take_journal-clause-kept g c =
     not_kept (g.J.Journals.fails c.args.journals.now) (g.J.Journals.kept c.args.journals.now c.args.name.now) (input_of g.J.Journal.Source c.in-Ok.journal) (input_of g.J.Journal.Source c.take_journal.new.source)
-    (g.R.Replica.seen c.args.replica) c.in-Err-take_journal.error c.not_reopened.result c.in-Ok.ensures.kept c.in-Err-take_journal.ensures.taken c.not_reopened.ensures.wanting c.not_reopened.ensures.refused
+    (g.R.Replica.seen c.args.replica) c.in-Err-take_journal.error c.not_reopened.result c.in-Ok.ensures.kept c.in-Err-take_journal.ensures.taken
+    (c.in-Ok.ensures.reads c.take_journal.new.source) c.not_reopened.ensures.wanting c.not_reopened.ensures.refused

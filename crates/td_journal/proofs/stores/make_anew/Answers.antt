@@ -1,14 +1,20 @@
-use Rattle.std.proofs.Common.{inr, ap, ◌∙◌}
+use Rattle.std.proofs.Common.{inl, inr, refl, ap, ◌∙◌}
 use Rattle.td_devices.specs.Views.{output_of}
 use Rattle.td_journal.specs.Views.{KeeperData}
-use Rattle.td_journal.proofs.Stored.{anew, not_started}
+use Rattle.td_journal.proofs.Stored.{anew, not_written}
 use Rattle.td_journal.proofs.stores.make_anew.Goals as goal
 
 pub returns-in-Err-put_journal : goal.returns-in-Err-put_journal
 returns-in-Err-put_journal g c =
     let old = output_of g.J.Renewal.Sink c.in-Ok.renewal in
     let new = output_of g.J.Renewal.Sink c.put_journal.new.writer in
-    inr (not_started (g.R.Replica.seen c.args.replica) c.in-Err-put_journal.field-0 old new (g.met.R.Opens.stays_open c.args.replica) c.in-Err-put_journal.ensures)
+    inr (record {
+      begins = inl refl;
+      cut = old;
+      empty = c.in-Ok.ensures;
+      written = new;
+      fails = not_written (g.R.Replica.seen c.args.replica) c.in-Err-put_journal.field-0 old new (g.met.R.Opens.stays_open c.args.replica) c.in-Err-put_journal.ensures;
+    })
 
 pub returns-in-Ok-replace : goal.returns-in-Ok-replace
 returns-in-Ok-replace g c =

@@ -9,4 +9,4 @@ returns-in-Ok-clause-err g c =
 pub returns-clause-err : goal.returns-clause-err
 returns-clause-err g c =
     let (bytes, consumed, told) = c.read_entries-batch.ensures.told in
-    stops_told _ _ _ _ _ c.read_entries-batch.result.0.items c.as_slice-in-Err.result.now _ bytes c.in-Err.error c.read_entries-batch.result.1 c.stopped.result consumed told c.in-Err.is c.as_slice-in-Err.ensures.value c.stopped.ensures
+    stops_told _ _ _ _ _ c.read_entries-batch.result.0.items c.as_slice-in-Err.result.now _ bytes c.in-Err.error c.read_entries-batch.result.1 c.stopped.result consumed told c.in-Err.is c.as_slice-in-Err.ensures.value c.stopped.ensures.stops
