@@ -13,12 +13,7 @@
 #include <string.h>
 #include <unistd.h>
 
-#define NEXT(name)                                                                     \
-    ({                                                                                 \
-        static typeof(&name) next;                                                     \
-        if (next == NULL) next = (typeof(&name))dlsym(RTLD_NEXT, #name);               \
-        next;                                                                          \
-    })
+#include "next.h"
 
 static void tell(const char *line) {
     const char *told = getenv("CALLS_TOLD");

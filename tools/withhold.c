@@ -24,12 +24,7 @@
 #include <sys/wait.h>
 #include <unistd.h>
 
-#define NEXT(name)                                                                     \
-    ({                                                                                 \
-        static typeof(&name) next;                                                     \
-        if (next == NULL) next = (typeof(&name))dlsym(RTLD_NEXT, #name);               \
-        next;                                                                          \
-    })
+#include "next.h"
 
 static char what, until;
 static long from, count;
