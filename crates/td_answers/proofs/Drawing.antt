@@ -37,7 +37,7 @@ set_either (z ∷ xs) zero (suc b) x y two = refl
 set_either (z ∷ xs) (suc a) zero x y two = refl
 set_either (z ∷ xs) (suc a) (suc b) x y two = ap (λ l. z ∷ l) (set_either xs a b x y (λ e. two (ap suc e)))
 
-at_back : {X : Type 0} (xs : List X) (b : ℕ) (d : X) → get_or (drop b xs) 0 d ≡ get_or xs b d
+pub at_back : {X : Type 0} (xs : List X) (b : ℕ) (d : X) → get_or (drop b xs) 0 d ≡ get_or xs b d
 at_back xs b d = get_or-drop b xs 0 d ∙ ap (λ (n : ℕ). get_or xs n d) (omega arith)
 
 module _ {R : Type 0} (seen : R → Seen) where

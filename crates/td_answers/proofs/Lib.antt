@@ -1,5 +1,7 @@
 pub mod Placing
 pub mod Drawing
+pub mod Staying
+pub mod Failing
 pub mod Scripts
 pub mod Linked
 pub mod Kept

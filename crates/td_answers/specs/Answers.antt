@@ -131,7 +131,7 @@ pub record TellsTable (c : CatalogueData) (x : List ℕ) (s : Seen) (text : List
 
 -- met n m fresh A B
 abbrev pub met_line : ℕ → ℕ → Met → List ℕ
-met_line n m met = codes "met " ++ decimal n ++ codes " " ++ decimal m ++ codes " fresh " ++ decimal met.first ++ codes " " ++ decimal met.second ++ codes "\n"
+met_line n m met = codes "met " ++ decimal n ++ codes " " ++ decimal m ++ codes " fresh " ++ decimal met.fresh_a ++ codes " " ++ decimal met.fresh_b ++ codes "\n"
 
 abbrev pub meet_answer : ℕ → ℕ → Result Met MeetingRefusal → List ℕ
 meet_answer n m (Ok met) = met_line n m met
@@ -148,6 +148,14 @@ MeetAnswered n m old (Some two) text new =
     (after : Seen) × (other : Seen) × TellsMet n m two.0.1 two.1.1 text after other × (new ≡ slice_set (slice_set old two.0.0 after) two.1.0 other)
 
 -- ---- the lines
+
+-- an entry may be taken, and so written to a journal
+abbrev pub MayTakeEntries : Line → Type 0
+MayTakeEntries (issue n t) = Unit {0}
+MayTakeEntries (meet n m) = Unit {0}
+MayTakeEntries (serve n address) = Unit {0}
+MayTakeEntries (call n address) = Unit {0}
+MayTakeEntries line = ⊥
 
 abbrev pub LineAnswered : CatalogueData → Sites → Line → List ℕ → Sites → Type 0
 LineAnswered c old nothing text new = (text ≡ []) × (new ≡ old)

@@ -1,5 +1,5 @@
 -- The sites of a workbench: what each is seen as, in their order.
-use Rattle.std.specs.Prelude.{◌≡◌, ℕ, suc, ◌==◌, if◌then◌else◌, List, [], ◌∷◌, codes, Option, Some, None, option_map}
+use Rattle.std.specs.Prelude.{◌≡◌, ◌⊎◌, ℕ, suc, ◌==◌, if◌then◌else◌, List, [], ◌∷◌, codes, Option, Some, None, option_map}
 use Rattle.std.specs.List.{AllByRecursion}
 use Rattle.td_headings.specs.Catalogues.{CatalogueData}
 use Rattle.td_story.specs.Scripts.{IsScriptOf}
@@ -40,6 +40,19 @@ AreOfOneScript ss = (script : List ℕ) × AllByRecursion (λ s. s.script ≡ sc
 -- the catalogue is that of each site's script
 abbrev pub AreOfScript : CatalogueData → Sites → Type 0
 AreOfScript c ss = AllByRecursion (λ s. IsScriptOf s.script c) ss
+
+-- what holds of a site before holds of the one that stands at its place after
+abbrev pub EachStays : {R : Type 0} → (R → Type 0) → List R → List R → Type 0
+EachStays P [] [] = Unit {0}
+EachStays P [] (y ∷ ys) = ⊥
+EachStays P (x ∷ xs) [] = ⊥
+EachStays P (x ∷ xs) (y ∷ ys) = (P x → P y) × EachStays P xs ys
+
+-- this holds of a site and the one that stands at its place after
+abbrev pub IsBetween : {R : Type 0} → (R → R → Type 0) → List R → List R → Type 0
+IsBetween P [] ys = ⊥
+IsBetween P (x ∷ xs) [] = ⊥
+IsBetween P (x ∷ xs) (y ∷ ys) = P x y ⊎ IsBetween P xs ys
 
 -- where a site is not there
 abbrev pub TellsNoSite : Sites → List ℕ → Sites → Type 0

@@ -3,10 +3,10 @@
 ghost use Rattle.std.specs.Prelude.{◌≡◌, IfOk, codes, map};
 ghost use Rattle.td_lines.specs.Lines.{line_of};
 ghost use Rattle.td_answers.specs.Asking.{AreAsked, AreAskedAt};
-ghost use Rattle.td_answers.specs.Answers.{IssueAnswered, MeetAnswered, TellsAsked, TellsListing, TellsLog, TellsPast, TellsTable, TellsVector};
+ghost use Rattle.td_answers.specs.Answers.{IssueAnswered, MayTakeEntries, MeetAnswered, TellsAsked, TellsListing, TellsLog, TellsPast, TellsTable, TellsVector};
 ghost use Rattle.td_answers.specs.Linked.{CallsOver, LinkAnswered, ServesOver};
 ghost use Rattle.td_answers.specs.Replies.{Replies, words};
-ghost use Rattle.td_answers.specs.Sites.{AreOfOneScript, AreOfScript, site_of, sites_of};
+ghost use Rattle.td_answers.specs.Sites.{AreOfOneScript, AreOfScript, EachStays, IsBetween, site_of, sites_of};
 ghost use Rattle.td_answers.specs.ForProofs.Said.{Says, TellsIn};
 
 use crate::links::Links;
@@ -44,7 +44,9 @@ fn issue_in<R: Replica>(
     text: &str,
     meter: &mut Meter,
 ) -> Reply
-    ensures { Says (λ words. IssueAnswered text.now (map R.seen sites.old) (site_of number (map R.seen sites.old)) words (map R.seen sites.new)) result }
+    ensures answered { Says (λ words. IssueAnswered text.now (map R.seen sites.old) (site_of number (map R.seen sites.old)) words (map R.seen sites.new)) result }
+    ensures journal { Says (λ text. text ≡ codes "fault journal\n" → IsBetween R.failed sites.old sites.new) result }
+    ensures journaled { EachStays R.journaled sites.old sites.new }
 {
     match place_of(sites, number) {
         Some(at) => telling::issue(alloc, &mut sites[at], text, meter),
@@ -84,7 +86,9 @@ fn meet_in<R: Replica>(
     second: u32,
     meter: &mut Meter,
 ) -> Reply
-    ensures { Says (λ words. MeetAnswered first second (map R.seen sites.old) (sites_of first second (map R.seen sites.old)) words (map R.seen sites.new)) result }
+    ensures answered { Says (λ words. MeetAnswered first second (map R.seen sites.old) (sites_of first second (map R.seen sites.old)) words (map R.seen sites.new)) result }
+    ensures journal { Says (λ text. text ≡ codes "fault journal\n" → IsBetween R.failed sites.old sites.new) result }
+    ensures journaled { EachStays R.journaled sites.old sites.new }
 {
     match (place_of(sites, first), place_of(sites, second)) {
         (Some(a), Some(b)) if a != b => meet_at(alloc, sites, (first, second), a, b, meter),
@@ -146,6 +150,8 @@ fn serve_in<R: Replica, L: Links>(
 ) -> Reply
     ensures answered { Says (λ words. LinkAnswered ServesOver (codes "served") number address.now (map R.seen sites.old) (site_of number (map R.seen sites.old)) words (map R.seen sites.new)) result }
     ensures asked { Says (λ words. AreAskedAt L.serves address.now (site_of number (map R.seen sites.old)) words links.old links.new) result }
+    ensures journal { Says (λ text. text ≡ codes "fault journal\n" → IsBetween R.failed sites.old sites.new) result }
+    ensures journaled { EachStays R.journaled sites.old sites.new }
 {
     match place_of(sites, number) {
         Some(at) => linking::serve(alloc, &mut sites[at], links, number, address, meter),
@@ -163,6 +169,8 @@ fn call_in<R: Replica, L: Links>(
 ) -> Reply
     ensures answered { Says (λ words. LinkAnswered CallsOver (codes "called") number address.now (map R.seen sites.old) (site_of number (map R.seen sites.old)) words (map R.seen sites.new)) result }
     ensures asked { Says (λ words. AreAskedAt L.calls address.now (site_of number (map R.seen sites.old)) words links.old links.new) result }
+    ensures journal { Says (λ text. text ≡ codes "fault journal\n" → IsBetween R.failed sites.old sites.new) result }
+    ensures journaled { EachStays R.journaled sites.old sites.new }
 {
     match place_of(sites, number) {
         Some(at) => linking::call(alloc, &mut sites[at], links, number, address, meter),
@@ -181,6 +189,8 @@ fn reply_to<R: Replica, L: Links>(
     requires { AreOfScript catalogue.now (map R.seen sites.old) }
     ensures replies { Replies catalogue.now (map R.seen sites.old) (line_of line.now) result (map R.seen sites.new) }
     ensures asked { AreAsked L.serves L.calls (map R.seen sites.old) (line_of line.now) (words result) links.old links.new }
+    ensures journal { MayTakeEntries (line_of line.now) → words result ≡ codes "fault journal\n" → IsBetween R.failed sites.old sites.new }
+    ensures journaled { EachStays R.journaled sites.old sites.new }
 {
     match command_of(line) {
         Command::Nothing => Reply::Fixed(""),
@@ -219,6 +229,8 @@ pub fn answer<R: Replica, L: Links>(
     ensures replies { Replies catalogue.now (map R.seen sites.old) (line_of line.now) result (map R.seen sites.new) }
     ensures kept { AreOfScript catalogue.now (map R.seen sites.new) }
     ensures asked { AreAsked L.serves L.calls (map R.seen sites.old) (line_of line.now) (words result) links.old links.new }
+    ensures journal { MayTakeEntries (line_of line.now) → words result ≡ codes "fault journal\n" → IsBetween R.failed sites.old sites.new }
+    ensures journaled { EachStays R.journaled sites.old sites.new }
 {
     reply_to(alloc, catalogue, sites, links, meter, line)
 }

@@ -1,11 +1,13 @@
 //! Meetings with sites of other programs.
 
-ghost use Rattle.std.specs.Prelude.{◌≡◌, ◌≤◌, MatchResult, codes, length};
+ghost use Rattle.std.specs.Prelude.{◌≡◌, ◌≤◌, Err, MatchResult, codes, length};
 ghost use Rattle.td_answers.specs.Faults as spec;
 ghost use Rattle.td_answers.specs.Linked.{CallsOver, ServesOver, linked_answer};
 ghost use Rattle.td_answers.specs.ForProofs.Opened.{IsAddress, IsOverNew, IsUnready, TellsAndAsks};
 ghost use Rattle.td_answers.specs.ForProofs.Said.{IsBlank, Says};
 ghost use Rattle.td_meeting.specs.Steps.{link_of};
+ghost use Rattle.td_meeting.specs.declared.error.MeetingError.TheVariants as meeting_error;
+ghost use Rattle.td_story.specs.declared.refusal.TakeError.TheVariants as take_error;
 
 use crate::links::{LinkError, Links};
 use crate::meeting::meeting_fault;
@@ -46,7 +48,9 @@ fn serve_over<R: Replica, C: Channel>(
     link: &mut C,
     meter: &mut Meter,
 ) -> Result<Taken, MeetingError>
-    ensures { ServesOver (R.seen site.old) (link_of C.Source C.Sink link.old) result (link_of C.Source C.Sink link.new) (R.seen site.new) }
+    ensures served { ServesOver (R.seen site.old) (link_of C.Source C.Sink link.old) result (link_of C.Source C.Sink link.new) (R.seen site.new) }
+    ensures journal { result ≡ Err (meeting_error.Take take_error.JournalWrite) → R.failed site.old site.new }
+    ensures journaled { R.journaled site.old → R.journaled site.new }
 {
     match answer(alloc, site, link) {
         Ok(()) => finish(alloc, site, link, meter),
@@ -61,7 +65,9 @@ fn call_over<R: Replica, C: Channel>(
     link: &mut C,
     meter: &mut Meter,
 ) -> Result<Taken, MeetingError>
-    ensures { CallsOver (R.seen site.old) (link_of C.Source C.Sink link.old) result (link_of C.Source C.Sink link.new) (R.seen site.new) }
+    ensures called { CallsOver (R.seen site.old) (link_of C.Source C.Sink link.old) result (link_of C.Source C.Sink link.new) (R.seen site.new) }
+    ensures journal { result ≡ Err (meeting_error.Take take_error.JournalWrite) → R.failed site.old site.new }
+    ensures journaled { R.journaled site.old → R.journaled site.new }
 {
     match greet(alloc, site, link) {
         Ok(()) => settle(alloc, site, link, meter),
@@ -76,7 +82,9 @@ fn served<R: Replica, L: Link + Drop>(
     link: L,
     meter: &mut Meter,
 ) -> Result<Taken, MeetingError>
-    ensures { IsOverNew ServesOver (R.seen site.old) result (R.seen site.new) }
+    ensures served { IsOverNew ServesOver (R.seen site.old) result (R.seen site.new) }
+    ensures journal { result ≡ Err (meeting_error.Take take_error.JournalWrite) → R.failed site.old site.new }
+    ensures journaled { R.journaled site.old → R.journaled site.new }
 {
     let mut link = Device::link(link);
     serve_over(alloc, site, &mut link, meter)
@@ -89,7 +97,9 @@ fn called<R: Replica, L: Link + Drop>(
     link: L,
     meter: &mut Meter,
 ) -> Result<Taken, MeetingError>
-    ensures { IsOverNew CallsOver (R.seen site.old) result (R.seen site.new) }
+    ensures called { IsOverNew CallsOver (R.seen site.old) result (R.seen site.new) }
+    ensures journal { result ≡ Err (meeting_error.Take take_error.JournalWrite) → R.failed site.old site.new }
+    ensures journaled { R.journaled site.old → R.journaled site.new }
 {
     let mut link = Device::link(link);
     call_over(alloc, site, &mut link, meter)
@@ -116,7 +126,9 @@ pub(crate) fn serve<R: Replica, L: Links>(
     address: &str,
     meter: &mut Meter,
 ) -> Reply
-    ensures { Says (λ words. TellsAndAsks ServesOver L.serves (codes "served") number address.now (R.seen site.old) words (R.seen site.new) links.old links.new) result }
+    ensures answered { Says (λ words. TellsAndAsks ServesOver L.serves (codes "served") number address.now (R.seen site.old) words (R.seen site.new) links.old links.new) result }
+    ensures journal { Says (λ text. text ≡ codes "fault journal\n" → R.failed site.old site.new) result }
+    ensures journaled { R.journaled site.old → R.journaled site.new }
 {
     let (address, line) = match ready(alloc, address) {
         Ok(ready) => ready,
@@ -137,7 +149,9 @@ pub(crate) fn call<R: Replica, L: Links>(
     address: &str,
     meter: &mut Meter,
 ) -> Reply
-    ensures { Says (λ words. TellsAndAsks CallsOver L.calls (codes "called") number address.now (R.seen site.old) words (R.seen site.new) links.old links.new) result }
+    ensures answered { Says (λ words. TellsAndAsks CallsOver L.calls (codes "called") number address.now (R.seen site.old) words (R.seen site.new) links.old links.new) result }
+    ensures journal { Says (λ text. text ≡ codes "fault journal\n" → R.failed site.old site.new) result }
+    ensures journaled { R.journaled site.old → R.journaled site.new }
 {
     let (address, line) = match ready(alloc, address) {
         Ok(ready) => ready,

@@ -1,6 +1,6 @@
 //! What one site answers.
 
-ghost use Rattle.std.specs.Prelude.{◌≡◌, Ok, Err, IfOk, MatchResult, string_bytes};
+ghost use Rattle.std.specs.Prelude.{◌≡◌, Ok, Err, IfOk, MatchResult, codes, string_bytes};
 ghost use Rattle.td_story.specs.Scripts.{IsScriptOf};
 ghost use Rattle.td_story.specs.declared.answer.Asked.TheVariants as told;
 ghost use Rattle.td_answers.specs.Answers as spec;
@@ -19,7 +19,9 @@ use td_values::{Value, show};
 
 /// Issues a statement. The room for its line is taken first, but for a text that is too long, which wants none.
 pub(crate) fn issue<R: Replica>(alloc: Global, site: &mut R, text: &str, meter: &mut Meter) -> Reply
-    ensures { Says (λ words. TellsIssued text.now (R.seen site.old) words (R.seen site.new)) result }
+    ensures answered { Says (λ words. TellsIssued text.now (R.seen site.old) words (R.seen site.new)) result }
+    ensures journal { Says (λ text. text ≡ codes "fault journal\n" → R.failed site.old site.new) result }
+    ensures journaled { R.journaled site.old → R.journaled site.new }
 {
     if !site.is_open() {
         return Reply::Fixed("fault broken\n");

@@ -171,9 +171,9 @@ pub(crate) fn met_line(mut line: String, numbers: (u32, u32), met: Met) -> Strin
     ensures { string_bytes result ≡ answers.met_line numbers.0 numbers.1 met }
 {
     put_met(&mut line, numbers.0, numbers.1);
-    put_number(&mut line, met.first as u64);
+    put_number(&mut line, met.fresh_a as u64);
     put(&mut line, " ");
-    put_number(&mut line, met.second as u64);
+    put_number(&mut line, met.fresh_b as u64);
     put(&mut line, "\n");
     line
 }

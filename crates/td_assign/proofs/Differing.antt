@@ -114,7 +114,10 @@ module _ (old : Relvars) (all : List Change) (ds : List (ℕ × DeltaData)) (f :
       let x = k.0 in
       let by_ = k.3 in
       subst (λ n. Differs old (replaced (given_to all) old) n p.1) k.2
-      (record { before = by_.0; after = x.relation; was = by_.1; is = ap (λ o. or_old o (old x.target)) k.1; one_heading = by_.2.one_heading; was_rows = by_.2.was_rows; is_rows = by_.2.is_rows; apart = by_.2.apart; difference = by_.2.difference })
+      (record {
+        change = record { before = by_.0; after = x.relation; was = by_.1; is = ap (λ o. or_old o (old x.target)) k.1; one_heading = by_.2.one_heading; was_rows = by_.2.was_rows; is_rows = by_.2.is_rows; difference = by_.2.difference };
+        apart = by_.2.apart;
+      })
 
   stays_at : (n : ℕ) (r : RowsData) → ((d : DeltaData) → Contains ds (n, d) → ⊥) → Settled old ds [] n r → Ok r ≡ old n
   stays_at n r never (has h) = sym h

@@ -214,7 +214,7 @@ module _ (r s : Relvars) (ds : List (ℕ × DeltaData)) where
   none_differ : AreDifferences r r ds → AreDifferences s s ds
   none_differ a = record {
     once = a.once;
-    only = λ p there. let q = a.only p there in absurd (q.apart (ok_same q.before q.after (sym q.was ∙ q.is)));
+    only = λ p there. let q = (a.only p there).change in absurd ((a.only p there).apart (ok_same q.before q.after (sym q.was ∙ q.is)));
     all = λ n never. refl;
   }
 
@@ -257,10 +257,14 @@ module _ (d : DatabaseData) (stored : Stored) (dialect : ℕ) (text : List ℕ) 
       module _ (ds : List (ℕ × DeltaData)) (a : AreDifferences (stored_relvars d.stored) (stored_relvars (with_given g d.stored)) ds) where
         differs : (q : ℕ × DeltaData) → Contains ds q → Differs (stored_relvars stored) (stored_relvars (with_given g stored)) q.0 q.1
         differs q there =
-            let o = a.only q there in
+            let apart = (a.only q there).apart in
+            let o = (a.only q there).change in
             ⊎_elim
-            (λ h. record { before = o.before; after = o.after; was = sym (agree_at q.0 (target h)) ∙ o.was; is = sym (agree_after q.0 (target h)) ∙ o.is; one_heading = o.one_heading; was_rows = o.was_rows; is_rows = o.is_rows; apart = o.apart; difference = o.difference })
-            (λ stays. absurd (o.apart (ok_same o.before o.after (sym o.was ∙ sym (stays d.stored) ∙ o.is))))
+            (λ h. record {
+              change = record { before = o.before; after = o.after; was = sym (agree_at q.0 (target h)) ∙ o.was; is = sym (agree_after q.0 (target h)) ∙ o.is; one_heading = o.one_heading; was_rows = o.was_rows; is_rows = o.is_rows; difference = o.difference };
+              apart = apart;
+            })
+            (λ stays. absurd (apart (ok_same o.before o.after (sym o.was ∙ sym (stays d.stored) ∙ o.is))))
             (changed q.0)
 
         stays_there : (n : ℕ) → stored_relvars (with_given g d.stored) n ≡ stored_relvars d.stored n → stored_relvars (with_given g stored) n ≡ stored_relvars stored n

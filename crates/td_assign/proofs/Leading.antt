@@ -51,7 +51,7 @@ module _ (old new : Relvars) (ds : Changes) (a : AreDifferences old new ds) wher
   leads_on = record {
     once = a.once;
     only = λ p h.
-        let q = a.only p h in
+        let q = (a.only p h).change in
         let r = q.before in
         let d = q.difference in
         let is : changed r p.1 ≡ q.after =
@@ -65,7 +65,7 @@ module _ (old new : Relvars) (ds : Changes) (a : AreDifferences old new ds) wher
   leads_back = record {
     once = inverses_once ds a.once;
     only = λ p h.
-        let q = a.only (p.0, inverse_of p.1) (from_inverses ds p h) in
+        let q = (a.only (p.0, inverse_of p.1) (from_inverses ds p h)).change in
         let r = q.after in
         let d = q.difference in
         let is : changed r p.1 ≡ q.before =

@@ -34,7 +34,8 @@ use Rattle.td_story.specs.Trees.{IsIn}
 use Rattle.td_relations.specs.Deltas.{DeltaData}
 use Rattle.td_constraints.specs.Changes.{PassedBefore}
 use Rattle.td_assign.specs.ForProofs.Lists.{given_to}
-use Rattle.td_story.specs.Differences.{AreDifferences}
+use Rattle.td_story.specs.Differences.{AreDifferences, LeadOver}
+use Rattle.td_story.proofs.Leading.{differences_lead}
 use Rattle.td_assign.specs.ForProofs.Given.{AreAssigned, AreChanges, IsAssigned, Stands, assigned_by}
 use Rattle.td_story.specs.declared.failure.Failure.{Failure}
 use Rattle.td_story.specs.declared.failure.Failure.TheVariants as failure
@@ -158,9 +159,9 @@ module _ (d : DatabaseData) (cs : List Change) where
       subst (λ (z : CatalogueData). PassedBefore z (replaced (given_to ys) (stored_relvars d.stored)) zs) (sym same) (record {
         before = stored_relvars d.stored;
         legal = legal;
-        differences =
-            subst (AreDifferences (stored_relvars d.stored) (replaced (given_to ys) (stored_relvars d.stored))) (sym listed)
-            (subst (λ r. AreDifferences (stored_relvars d.stored) r ds) (sym (ap (λ (us : List Change). replaced (given_to us) (stored_relvars d.stored)) seen ∙ all_replaced d.catalogue cs are d.stored is)) h);
+        lead =
+            subst (LeadOver (stored_relvars d.stored) (replaced (given_to ys) (stored_relvars d.stored))) (sym listed)
+            (subst (λ r. LeadOver (stored_relvars d.stored) r ds) (sym (ap (λ (us : List Change). replaced (given_to us) (stored_relvars d.stored)) seen ∙ all_replaced d.catalogue cs are d.stored is)) (differences_lead _ _ ds h));
       })
 
   pub refused_by : (o : Option TestFailure) (f : TestFailure) (out : Outcome) → o ≡ Some f → IsReport d.catalogue (failing_after d cs) o → ((c : CatalogueData) (t : Test) (e : Option Stop) → IsReport c (Some (t, e)) (Some f) → TellsTest c t e out) → IsJudged d cs (Refused out)

@@ -1,6 +1,6 @@
 -- A relvar that is changed where it stands: the change that an assignment makes, what it leaves, and the way back.
 use Rattle.std.proofs.Common.{◌≡◌, ◌<◌, ◌≤◌, length, ℕ, zero, suc, ◌==◌, ◌↔◌, Bool, true, false, IsTrue, not, ◌&&◌, ◌||◌, if◌then◌else◌, List, [], ◌∷◌, Option, None, Some, slice_get, get_or, Result, Ok, Err, refl, ap, sym, ◌∙◌, subst, arith, true≢false}
-use Rattle.std.specs.List.{All, Contains}
+use Rattle.std.specs.List.{Contains}
 use Rattle.std.specs.FinSet as set
 use Rattle.std.proofs.lemmas.List.Elements.{All-cons}
 use Rattle.td_values.specs.Data.{Attrs, no_attrs}
@@ -22,8 +22,9 @@ use Rattle.td_headings.specs.declared.statement.TypedAssignment.{TypedAssignment
 use Rattle.td_headings.specs.declared.statement.TypedStatement.{TypedStatement}
 use Rattle.td_meaning.specs.Mean.{Relvars}
 use Rattle.td_operators.specs.Values.{rows_of}
-use Rattle.td_story.specs.Databases.{Belongs, DatabaseData, IsDatabase, IsLegal, Stored, put, stored_relvars}
+use Rattle.td_story.specs.Databases.{DatabaseData, IsDatabase, IsLegal, Stored, put, stored_relvars}
 use Rattle.td_story.specs.Differences.{AreDifferences, Differs}
+use Rattle.td_story.proofs.Leading.{differences_lead}
 use Rattle.td_story.specs.Given.{gives, nothing_given, seen, with_given}
 use Rattle.td_story.specs.Reports.{IsReport}
 use Rattle.td_story.specs.Steps.{IsRead, Steps, TellsTest, done, given_by, refused}
@@ -157,15 +158,17 @@ module _ (d : DatabaseData) (n : ℕ) (x : DeltaData) (g : IsExact d n x) where
 
   pub one_differs : ChangesSome x → Differs (stored_relvars d.stored) (stored_relvars (change n x d.stored)) n x
   one_differs some = record {
-    before = was;
-    after = is_now;
-    was = g.has;
-    is = change_there n x d.stored was g.has;
-    one_heading = refl;
-    was_rows = g.rows;
-    is_rows = rows_new;
+    change = record {
+      before = was;
+      after = is_now;
+      was = g.has;
+      is = change_there n x d.stored was g.has;
+      one_heading = refl;
+      was_rows = g.rows;
+      is_rows = rows_new;
+      difference = g.difference;
+    };
     apart = apart some;
-    difference = g.difference;
   }
 
   pub differences : ChangesSome x → AreDifferences (stored_relvars d.stored) (stored_relvars (change n x d.stored)) ((n, x) ∷ [])
@@ -217,7 +220,7 @@ module _ (d : DatabaseData) (n : ℕ) (x : DeltaData) (is : IsDatabase d) (m : M
     back = both_ways.back
 
     pub passed : IsLegal d → PassedBefore d.catalogue (stored_relvars (change n x d.stored)) changes
-    passed legal = record { before = stored_relvars d.stored; legal = legal; differences = differences d n x m.exact some }
+    passed legal = record { before = stored_relvars d.stored; legal = legal; lead = differences_lead _ _ changes (differences d n x m.exact some) }
 
 -- ---- what the step of the statement is
 module _ (d : DatabaseData) (dialect : ℕ) (text : List ℕ) (z : TypedStatement) (p : IsRead d.catalogue dialect text z) (n : ℕ) (x : DeltaData) (is : IsDatabase d) (turns : MakesTurn d z n x) where

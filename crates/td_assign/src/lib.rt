@@ -15,4 +15,5 @@ mod undoing;
 pub use changes::Change;
 pub use ran::Ran;
 pub use running::{footprint_of, run};
+pub use td_story::{Meter, Outcome};
 pub use undoing::{redo, undo};

@@ -1,7 +1,6 @@
 -- What a statement changed is one, but for the order in which it is told.
-use Rattle.std.proofs.Common.{◌≡◌, ℕ, Bool, true, false, ◌&&◌, ◌||◌, ◌==◌, nat_lt, List, [], ◌∷◌, ◌++◌, Result, Ok, ◌⊎◌, inl, inr, ⊎_elim, refl, sym, ap, ◌∙◌, subst}
-use mathlib.Core.Bool.{false≢true}
-use Rattle.std.specs.List.{Contains, list_all}
+use Rattle.std.proofs.Common.{◌≡◌, ℕ, true, List, [], ◌∷◌, ◌++◌, Result, Ok, ◌⊎◌, inl, inr, ⊎_elim, sym, ap, ◌∙◌, subst}
+use Rattle.std.specs.List.{Contains}
 use Rattle.std.proofs.lemmas.Bool.{cases_eq}
 use Rattle.td_values.specs.Rows.{RowsData}
 use Rattle.td_relations.specs.Deltas.{DeltaData, IsDifference}
@@ -9,45 +8,17 @@ use Rattle.td_relations.proofs.Members.{relation_is}
 use Rattle.td_algebra.specs.declared.errors.Stop.{Stop}
 use Rattle.td_algebra.proofs.Lists.{In, contains_in, in_contains}
 use Rattle.td_meaning.specs.Mean.{Relvars}
-use Rattle.td_stamps.specs.Entries.{before, stamp_of}
-use Rattle.td_stamps.specs.Sets.{apart, is_set}
+use Rattle.td_stamps.specs.Sets.{is_set}
 use Rattle.td_stamps.specs.declared.entry.Entry.{Entry}
 use Rattle.td_stamps.specs.declared.entry.Stamp.{Stamp}
-use Rattle.td_stamps.proofs.EntryLemmas.{before-irrefl}
 use Rattle.td_stamps.proofs.Merges.{same_set}
-use Rattle.td_stamps.proofs.SetLemmas.{first_holds, rest_holds}
 use Rattle.td_story.specs.Databases.{DatabaseData, stored_relvars}
 use Rattle.td_story.specs.Differences.{AreDifferences, Differs}
 use Rattle.td_story.specs.Stories.{IsStory}
 use Rattle.td_story.specs.declared.outcome.Outcome.{Outcome}
 use Rattle.td_story.proofs.Agreeing.{story_is_one}
+use Rattle.td_story.proofs.Places.{one_place}
 use Rattle.td_changes.specs.Laws.{ChangesAgree}
-
--- ---- the entry of a stamp stands at one place of a set
-middle_holds : (p : Entry → Bool) (xs ys : List Entry) (e : Entry) → list_all p (xs ++ e ∷ ys) ≡ true → p e ≡ true
-middle_holds p [] ys e all = first_holds _ _ all
-middle_holds p (x ∷ xs) ys e all = middle_holds p xs ys e (rest_holds _ _ all)
-
-never_tied : {P : Type 0} (x y : Entry) → apart x y ≡ true → stamp_of x ≡ stamp_of y → P
-never_tied x y h same =
-    let is_before : Stamp → Bool = λ s. nat_lt x.clock s.clock || ((x.clock == s.clock) && nat_lt x.site s.site) in
-    absurd (false≢true (sym (before-irrefl x) ∙ ap is_before same ∙ first_holds (before x y) _ h))
-
-one_place :
-    (xs ys : List Entry) (x y : Entry) (us vs : List Entry) → is_set (xs ++ x ∷ us) ≡ true → (xs ++ x ∷ us) ≡ (ys ++ y ∷ vs) → stamp_of x ≡ stamp_of y
-    → (xs ≡ ys) × (x ≡ y)
-one_place [] [] x y us vs set is same = (refl, cc)
-one_place [] (z ∷ ys) x y us vs set is same =
-    let rest : us ≡ ys ++ y ∷ vs = cc in
-    never_tied x y (middle_holds (apart x) ys vs y (subst (λ (l : List Entry). list_all (apart x) l ≡ true) rest (first_holds _ _ set))) same
-one_place (z ∷ xs) [] x y us vs set is same =
-    let first : z ≡ y = cc in
-    never_tied z x (middle_holds (apart z) xs us x (first_holds _ _ set)) (ap stamp_of first ∙ sym same)
-one_place (z ∷ xs) (w ∷ ys) x y us vs set is same =
-    let first : z ≡ w = cc in
-    let rest : xs ++ x ∷ us ≡ ys ++ y ∷ vs = cc in
-    let found = one_place xs ys x y us vs (rest_holds _ _ set) rest same in
-    ((λ i. first i ∷ found.0 i), found.1)
 
 -- ---- the differences of two states are one, but for their order
 ok_same : (a b : RowsData) → ◌≡◌ {A = Result RowsData Stop} (Ok a) (Ok b) → a ≡ b
@@ -60,7 +31,9 @@ one_difference old new x y p q =
     λ i. record { inserted = inserted i; deleted = deleted i }
 
 differs_once : (old new : Relvars) (n : ℕ) (x y : DeltaData) → Differs old new n x → Differs old new n y → x ≡ y
-differs_once old new n x y p q =
+differs_once old new n x y one other =
+    let p = one.change in
+    let q = other.change in
     let before : p.before ≡ q.before = ok_same p.before q.before (sym p.was ∙ q.was) in
     let after : p.after ≡ q.after = ok_same p.after q.after (sym p.is ∙ q.is) in
     let here = subst (λ (r : RowsData). IsDifference r q.after x) before (subst (λ (r : RowsData). IsDifference p.before r x) after p.difference) in
@@ -89,7 +62,8 @@ agree old new xs ys a b x there =
     subst (λ (d : DeltaData). Contains ys (x.0, d)) (sym same) other)
     (λ none.
     let stays = b.all x.0 (λ d h. none (d, contains_in ys (x.0, d) h)) in
-    absurd (differs.apart (ok_same differs.before differs.after (sym differs.was ∙ sym stays ∙ differs.is))))
+    let change = differs.change in
+    absurd (differs.apart (ok_same change.before change.after (sym change.was ∙ sym stays ∙ change.is))))
     (listed ys x.0)
 
 -- ---- of two sites

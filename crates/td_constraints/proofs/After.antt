@@ -22,7 +22,7 @@ use Rattle.td_headings.specs.declared.defined.Test.TheVariants as test
 use Rattle.td_headings.proofs.ReadLemmas.{reads_those}
 use Rattle.td_headings.proofs.WellTyped.{all_typed}
 use Rattle.td_meaning.specs.Mean.{Relvars}
-use Rattle.td_story.specs.Differences.{Differs}
+use Rattle.td_story.specs.Differences.{ChangesBy}
 use Rattle.td_story.specs.Tests.{is_key}
 use Rattle.td_story.specs.Trees.{IsIn, tree_means}
 use Rattle.td_constraints.specs.Changes.{PassedBefore}
@@ -37,7 +37,7 @@ use Rattle.td_constraints.proofs.TreeReads.{trees_alike}
 pub still_true : (c : CatalogueData) (x : Expression) (now : Relvars) (changes : Changes) → Defined c → IsIn c x → ConstraintBefore c now changes x → IsUntouched changes x → and_then (tree_means c now x.tree no_attrs) truth_of ≡ Ok true
 still_true c x now changes defined is b never =
     let those = reads_those c (all_typed c defined) x is.under in
-    ap (λ m. and_then m truth_of) (trees_alike c defined x.tree x.kind is.tree now b.before (λ n h. b.differences.all n (λ d there. never n ((those.members n).1 h) (d, there))))
+    ap (λ m. and_then m truth_of) (trees_alike c defined x.tree x.kind is.tree now b.before (λ n h. b.lead.all n (λ d there. never n ((those.members n).1 h) (d, there))))
     ∙ b.held
 
 -- ---- keys
@@ -50,11 +50,11 @@ module _ (key : List (List ℕ)) (changes : Changes) (n : ℕ) (r : RowsData) (k
 
   pub key_stays : (IsChanged changes n → ⊥) → true ≡ is_key key r.tuples
   key_stays never =
-      sym (ok_same (is_key key r.tuples) true (sym (ap Test k.is) ∙ ap Test (k.known.differences.all n (λ d h. never (d, h))) ∙ k.known.held))
+      sym (ok_same (is_key key r.tuples) true (sym (ap Test k.is) ∙ ap Test (k.known.lead.all n (λ d h. never (d, h))) ∙ k.known.held))
 
   pub key_told : (d : DeltaData) (b : Bool) → Contains changes (n, d) → IsTrue b ↔ TellApartFrom key d.inserted r → b ≡ is_key key r.tuples
   key_told d b there says =
-      let w : Differs k.known.before k.now n d = k.known.differences.only (n, d) there in
+      let w : ChangesBy k.known.before k.now n d = k.known.lead.only (n, d) there in
       let same : w.after ≡ r = ok_same w.after r (sym w.is ∙ k.is) in
       let held : is_key key w.before.tuples ≡ true = ok_same (is_key key w.before.tuples) true (sym (ap Test w.was) ∙ k.known.held) in
       let apart : TellApart key w.before = (keys_apart key w.before w.was_rows.ascending).0 held in
@@ -64,7 +64,7 @@ module _ (key : List (List ℕ)) (changes : Changes) (n : ℕ) (r : RowsData) (k
 
   pub heading_told : (d : DeltaData) → Contains changes (n, d) → d.inserted.heading ≡ r.heading
   heading_told d there =
-      let w : Differs k.known.before k.now n d = k.known.differences.only (n, d) there in
+      let w : ChangesBy k.known.before k.now n d = k.known.lead.only (n, d) there in
       w.difference.inserted.heading ∙ w.one_heading ∙ ap (λ (q : RowsData). q.heading) (ok_same w.after r (sym w.is ∙ k.is))
 
 -- ---- which relvars were changed
@@ -118,12 +118,12 @@ module _ (c : CatalogueData) (now : Relvars) (place : ℕ) where
 
   pub key_before : (n : ℕ) (key : List (List ℕ)) → StandsAt c place (test.Key n key) → (o : Option (Bor Changes)) → If (PassedBefore c now) o → If (λ cs. KeyBefore now cs n key) o
   key_before n key at None h = tt
-  key_before n key at (Some cs) h = record { before = h.before; held = h.legal (test.Key n key) (stands_in c.tests place (test.Key n key) at); differences = h.differences }
+  key_before n key at (Some cs) h = record { before = h.before; held = h.legal (test.Key n key) (stands_in c.tests place (test.Key n key) at); lead = h.lead }
 
   pub constraint_before : (name : List ℕ) (u : Typed) (x : Expression) → StandsAt c place (test.Constraint name u) → x.tree ≡ u → (o : Option (Bor Changes)) → If (PassedBefore c now) o → If (λ cs. ConstraintBefore c now cs x) o
   constraint_before name u x at is None h = tt
   constraint_before name u x at is (Some cs) h = record {
     before = h.before;
     held = ap (λ v. and_then (tree_means c h.before v no_attrs) truth_of) is ∙ h.legal (test.Constraint name u) (stands_in c.tests place (test.Constraint name u) at);
-    differences = h.differences;
+    lead = h.lead;
   }

@@ -35,7 +35,7 @@ use Rattle.td_growth.proofs.LostParts.{lost_parts_are_judged}
 use Rattle.td_growth.proofs.Narrowing.{differences_are_gains, growth_keeps_safe, losses_keep_watched, narrowed_is_stored, not_lost, ok_same, watched_by_inserts}
 use Rattle.td_growth.specs.Laws.{has_none}
 use Rattle.td_growth.specs.References.{AreHeaded, GivesUp, KeepsParts, RefersBy}
-use Rattle.td_story.specs.Differences.{AreDifferences, Differs}
+use Rattle.td_story.specs.Differences.{ChangesBy, LeadOver}
 use Rattle.td_story.specs.Stored.{AreStored}
 use Rattle.td_soundness.specs.Meanings.{GivesRelation}
 use Rattle.td_story.specs.Trees.{IsIn, all_relvars}
@@ -63,8 +63,8 @@ module _ (c : CatalogueData) (x : Expression) (n : ℕ) (d : DeltaData) (base : 
   abbrev one : Changes
   one = (n, d) ∷ []
 
-  module _ (before now : Relvars) (a : AreDifferences before now one) where
-    differs : Differs before now n d
+  module _ (before now : Relvars) (a : LeadOver before now one) where
+    differs : ChangesBy before now n d
     differs = a.only (n, d) (in_contains one (n, d) (inl refl))
 
     beside : AgreeBeside c x.tree n before now
@@ -90,7 +90,7 @@ module _ (c : CatalogueData) (x : Expression) (n : ℕ) (d : DeltaData) (base : 
       })
 
   -- what is taken out leaves its parts
-  kept_parts : (names : List (List ℕ)) → LeavesParts names d → (before now : Relvars) → AreDifferences before now one → KeepsParts before now n names
+  kept_parts : (names : List (List ℕ)) → LeavesParts names d → (before now : Relvars) → LeadOver before now one → KeepsParts before now n names
   kept_parts names leaves before now a =
       let differ = differs before now a in
       let gained = gains before now a in
@@ -111,7 +111,7 @@ module _ (c : CatalogueData) (x : Expression) (n : ℕ) (d : DeltaData) (base : 
       kept_parts_keep_references c before now n keeps.names [] x.tree base (beside before now a) (are_headed c now defined stored) (kept_parts keeps.names keeps.leaves before now a) keeps.refers held
 
   -- what is taken out gives its parts up
-  gives_up : (names : List (List ℕ)) (before now : Relvars) → AreDifferences before now one → GivesUp before now n names (project_of names d.deleted)
+  gives_up : (names : List (List ℕ)) (before now : Relvars) → LeadOver before now one → GivesUp before now n names (project_of names d.deleted)
   gives_up names before now a =
       let differ = differs before now a in
       let out = of_difference differ.before.heading differ.before differ.after d.deleted differ.difference.deleted in
@@ -158,7 +158,7 @@ leaves names d x is ts same found t has =
 -- ---- after any
 pub untouched_stays : (c : CatalogueData) (x : Expression) (changes : Changes) (b : Bool) → Defined c → IsIn c x → b ≡ list_any (is_changed changes) (reads x) → b ≡ false → IsWay c x changes Stays
 untouched_stays c x changes b defined is told none before now stored a held =
-    still_true c x now changes defined is (record { before = before; held = held; differences = a }) (untouched changes x b told none)
+    still_true c x now changes defined is (record { before = before; held = held; lead = a }) (untouched changes x b told none)
 
 pub known_way : (c : CatalogueData) (x : Expression) (o : Option (Bor Changes)) (cs : Bor Changes) (w : Way) → o ≡ Some cs → IsWay c x cs.now w → AreWays c x o w
 known_way c x o cs w is h = subst (λ o. AreWays c x o w) (sym is) h
@@ -176,15 +176,15 @@ module _ (c : CatalogueData) (x : Expression) (now : Relvars) where
 
   stays_so : AreStored c now → (o : Option (Bor Changes)) → AreWays c x o Stays → Known o → truth_over c x now ≡ Ok true
   stays_so stored None h known = let no_way : Stays ≡ Whole = h in cc
-  stays_so stored (Some cs) h known = h known.before now stored known.differences known.held
+  stays_so stored (Some cs) h known = h known.before now stored known.lead known.held
 
   over_so : (n : ℕ) (i : Bor RowsData) (o : Option (Bor Changes)) → AreWays c x o (Over n i) → Known o → IsNarrowed c x n i.now now
   over_so n i None h known = absurd (over_not_whole n i h)
-  over_so n i (Some cs) h known = h known.before now known.differences known.held
+  over_so n i (Some cs) h known = h known.before now known.lead known.held
 
   lost_so : AreStored c now → (l : Losses) (o : Option (Bor Changes)) → AreWays c x o (Lost l) → Known o → IsLost c x l now
   lost_so stored l None h known = absurd (lost_not_whole l h)
-  lost_so stored l (Some cs) h known = h known.before now stored known.differences known.held
+  lost_so stored l (Some cs) h known = h known.before now stored known.lead known.held
 
   module _ (o : Option (Bor Changes)) (w : Way) (h : AreWays c x o w) (known : Known o) where
     pub stays : AreStored c now → w ≡ Stays → truth_over c x now ≡ Ok true

@@ -8,3 +8,4 @@ mod losses;
 mod ways;
 
 pub use judging::{first_failure, first_failure_after};
+pub use td_story::TestFailure as Failure;

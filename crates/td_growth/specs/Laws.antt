@@ -10,7 +10,7 @@ use Rattle.td_headings.specs.Catalogues.{CatalogueData}
 use Rattle.td_headings.specs.Reached.{is_base}
 use Rattle.td_headings.specs.declared.defined.Test.TheVariants as test
 use Rattle.td_meaning.specs.Mean.{Relvars}
-use Rattle.td_story.specs.Differences.{Differs}
+use Rattle.td_story.specs.Differences.{ChangesBy}
 use Rattle.td_story.specs.Stored.{AreStored}
 use Rattle.td_story.specs.Tests.{judgement}
 use Rattle.td_growth.specs.Growth.{AgreeBeside, AgreeOn, Gains, Grows, IsWatched, narrowed}
@@ -63,11 +63,11 @@ LostPartsAreJudged =
 abbrev pub JudgedByReads : Type 0
 JudgedByReads = (c : CatalogueData) (r s : Relvars) (x : List ℕ) (u : Typed) → AgreeOn c u r s → judgement c r (test.Constraint x u) ≡ judgement c s (test.Constraint x u)
 
--- a relvar that differs gained what is inserted; it lost no tuple where none is deleted, and the other way round
+-- a relvar that changed gained what is inserted; it lost no tuple where none is deleted, and the other way round
 pub record DifferencesAreGains : Type 0 where
-  pub gains : (old now : Relvars) (n : ℕ) (d : DeltaData) → Differs old now n d → Gains old now n d.inserted
-  pub grows : (old now : Relvars) (n : ℕ) (d : DeltaData) → Differs old now n d → ((t : Attrs) → Has d.deleted t → ⊥) → Grows old now n
-  pub shrinks : (old now : Relvars) (n : ℕ) (d : DeltaData) → Differs old now n d → ((t : Attrs) → Has d.inserted t → ⊥) → Grows now old n
+  pub gains : (old now : Relvars) (n : ℕ) (d : DeltaData) → ChangesBy old now n d → Gains old now n d.inserted
+  pub grows : (old now : Relvars) (n : ℕ) (d : DeltaData) → ChangesBy old now n d → ((t : Attrs) → Has d.deleted t → ⊥) → Grows old now n
+  pub shrinks : (old now : Relvars) (n : ℕ) (d : DeltaData) → ChangesBy old now n d → ((t : Attrs) → Has d.inserted t → ⊥) → Grows now old n
 
 -- where the relvars have their headings they have them with what one gained alone, too
 abbrev pub NarrowedIsStored : Type 0

@@ -5,6 +5,7 @@ pub mod Cut
 pub mod Checked
 pub mod Kept
 pub mod Grown
+pub mod Journaled
 pub mod ComesBack
 pub mod Stored
 pub mod KeptOn

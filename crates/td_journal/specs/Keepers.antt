@@ -2,7 +2,8 @@
 -- which it accepted them; all in the second version of the formats.
 use Rattle.std.specs.Prelude.{◌≡◌, ◌≤◌, ℕ, true, List, [], length, take, Some, Result, Ok, Err}
 use Rattle.std.specs.List.{AllByRecursion}
-use Rattle.td_devices.specs.Views.{Input, Output}
+use Rattle.td_devices.specs.Views.{Input, Output, output_of}
+use Rattle.td_devices.specs.declared.streams.Sink as sink
 use Rattle.td_stamps.specs.Sets.{union}
 use Rattle.td_stamps.specs.declared.entry.Entry.{Entry}
 use Rattle.td_frames.specs.Spelling.{HasFrame}
@@ -10,6 +11,7 @@ use Rattle.td_frames.specs.declared.version.Version.{Version}
 use Rattle.td_frames.specs.declared.version.Version.TheVariants.{Second}
 use Rattle.td_story.specs.Calls.{Issues, Takes}
 use Rattle.td_story.specs.Seen.{Seen, IsSound}
+use Rattle.td_story.specs.declared.replica.Replica as replica
 use Rattle.td_story.specs.declared.answer.Issued.{Issued}
 use Rattle.td_story.specs.declared.answer.Taken.{Taken}
 use Rattle.td_story.specs.declared.refusal.IssueError.{IssueError}
@@ -21,6 +23,7 @@ use Rattle.td_journal.specs.Laws.{left_of}
 use Rattle.td_journal.specs.Reading.{journal_at}
 use Rattle.td_journal.specs.Reopening.{ReopensSite}
 use Rattle.td_journal.specs.Spelling.{header, journal}
+use Rattle.td_journal.specs.Views.{KeeperData, seen_of}
 
 -- these bytes are the journal, of this version, of what the site holds
 pub record IsJournalOf (v : Version) (s : Seen) (bytes : List ℕ) : Type 0 where
@@ -33,6 +36,13 @@ pub record IsJournalOf (v : Version) (s : Seen) (bytes : List ℕ) : Type 0 wher
 -- of the version that is written
 abbrev pub IsJournal : Seen → List ℕ → Type 0
 IsJournal s bytes = IsJournalOf Second s bytes
+
+-- while a site is open, its writer is known to hold its journal
+abbrev pub IsJournaled : Seen → Output → Type 0
+IsJournaled s w = s.live ≡ true → (bytes : List ℕ) × (w.held ≡ Some bytes) × IsJournal s bytes
+
+abbrev pub KeepsJournal : {R W : Type 0} → replica.Ghosts R → sink.Ghosts W → KeeperData R W → Type 0
+KeepsJournal site writer k = IsJournaled (seen_of site k) (output_of writer k.writer)
 
 -- what a writer that held nothing holds is the journal of the site that was started
 abbrev pub StartsJournal : Type 0

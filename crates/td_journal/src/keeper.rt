@@ -1,10 +1,11 @@
 //! A site that writes what it accepts to a journal.
 
-ghost use Rattle.std.specs.Prelude.{◌≡◌, ◌<◌, ◌^◌, ◌∷◌, ◌++◌, [], List, Err, MatchResult, true};
+ghost use Rattle.std.specs.Prelude.{◌≡◌, ◌<◌, ◌^◌, ◌∷◌, ◌++◌, [], ℕ, List, Err, MatchResult, Some, true};
 ghost use Rattle.std.specs.List.{list_all};
 ghost use Rattle.td_devices.specs.Views.{output_of};
 ghost use Rattle.td_stamps.specs.Entries.{in_range};
 ghost use Rattle.td_stamps.specs.declared.entry.Entry.{Entry};
+ghost use Rattle.td_journal.specs.Keepers.{IsJournal, KeepsJournal};
 ghost use Rattle.td_journal.specs.Keeping.{JournalsBatch, JournalsIssue, Starts, StartsNot};
 ghost use Rattle.td_journal.specs.Views.{JournalFails, seen_of};
 ghost use Rattle.td_story.specs.Calls.{Issues, Takes};
@@ -87,7 +88,7 @@ impl<R: Replica, W: Sink> Keeper<R, W> {
         ensures same { MatchResult result (λ k. (k.replica ≡ replica) × (k.is_open ≡ true)) (λ e. e.replica ≡ replica) }
     {
         match put_journal(&replica, &mut writer) {
-            Ok(()) => Ok(Keeper::resume(replica, writer)),
+            Ok(()) => Ok(Keeper::over(replica, writer)),
             Err(error) => Err(NotStarted {
                 error,
                 replica,
@@ -99,6 +100,14 @@ impl<R: Replica, W: Sink> Keeper<R, W> {
     /// Goes on with a journal: the writer holds that of this site, whole and of the second version, and writes behind
     /// it. This itself writes nothing.
     pub fn resume(replica: R, writer: W) -> Keeper<R, W>
+        requires { (bytes : List ℕ) → W.held writer ≡ Some bytes → IsJournal (R.seen replica) bytes }
+        ensures { result ≡ record { replica = replica; writer = writer; is_open = true } }
+    {
+        Keeper::over(replica, writer)
+    }
+
+    // A keeper that writes behind what the writer holds.
+    pub(crate) fn over(replica: R, writer: W) -> Keeper<R, W>
         ensures { result ≡ record { replica = replica; writer = writer; is_open = true } }
     {
         Keeper {
@@ -107,35 +116,14 @@ impl<R: Replica, W: Sink> Keeper<R, W> {
             is_open: true,
         }
     }
-}
 
-// The site's number, for which 16 bits suffice.
-fn number_of<R: Replica>(replica: &R) -> u16
-    ensures number { result ≡ (R.seen replica.now).site }
-    ensures fits { (R.seen replica.now).site < 2 ^ 16 }
-{
-    replica.site()
-}
-
-// The last one alone.
-fn last_of(entries: &[Entry]) -> &[Entry]
-    requires { list_all in_range entries.now ≡ true }
-    ensures ranges { list_all in_range result.now ≡ true }
-    ensures last { (xs : List Entry) (e : Entry) → entries.now ≡ xs ++ e ∷ [] → result.now ≡ e ∷ [] }
-{
-    if entries.is_empty() {
-        return entries;
-    }
-    let (_, last) = entries.split_at(entries.len() - 1);
-    last
-}
-
-impl<R: Replica, W: Sink> Replica for Keeper<R, W> {
-    ghost seen = { λ k. seen_of R.Replica k };
-
-    ghost failed = { λ old new. JournalFails R.Replica W.Sink old new };
-
-    fn issue(&mut self, alloc: Global, text: &str, meter: &mut Meter) -> Result<Issued, IssueError>
+    // Issues a statement within, and writes its frame.
+    fn issue_and_write(
+        &mut self,
+        alloc: Global,
+        text: &str,
+        meter: &mut Meter,
+    ) -> Result<Issued, IssueError>
         ensures issues { Issues (seen_of R.Replica self.old) text.now result (seen_of R.Replica self.new) }
         ensures journal { result ≡ Err issue_error.JournalWrite → JournalFails R.Replica W.Sink self.old self.new }
         ensures written { JournalsIssue (seen_of R.Replica self.old) result (seen_of R.Replica self.new)
@@ -162,7 +150,8 @@ impl<R: Replica, W: Sink> Replica for Keeper<R, W> {
         }
     }
 
-    fn take(
+    // Takes a batch within, and writes the frames of what is fresh of it.
+    fn take_and_write(
         &mut self,
         alloc: Global,
         batch: &[Entry],
@@ -199,6 +188,62 @@ impl<R: Replica, W: Sink> Replica for Keeper<R, W> {
                 Err(TakeError::JournalWrite)
             }
         }
+    }
+}
+
+// The site's number, for which 16 bits suffice.
+fn number_of<R: Replica>(replica: &R) -> u16
+    ensures number { result ≡ (R.seen replica.now).site }
+    ensures fits { (R.seen replica.now).site < 2 ^ 16 }
+{
+    replica.site()
+}
+
+// The last one alone.
+fn last_of(entries: &[Entry]) -> &[Entry]
+    requires { list_all in_range entries.now ≡ true }
+    ensures ranges { list_all in_range result.now ≡ true }
+    ensures last { (xs : List Entry) (e : Entry) → entries.now ≡ xs ++ e ∷ [] → result.now ≡ e ∷ [] }
+{
+    if entries.is_empty() {
+        return entries;
+    }
+    let (_, last) = entries.split_at(entries.len() - 1);
+    last
+}
+
+impl<R: Replica, W: Sink> Replica for Keeper<R, W> {
+    ghost seen = { λ k. seen_of R.Replica k };
+
+    ghost failed = { λ old new. JournalFails R.Replica W.Sink old new };
+
+    ghost journaled = { λ k. KeepsJournal R.Replica W.Sink k };
+
+    fn issue(&mut self, alloc: Global, text: &str, meter: &mut Meter) -> Result<Issued, IssueError>
+        ensures issues { Issues (seen_of R.Replica self.old) text.now result (seen_of R.Replica self.new) }
+        ensures journal { result ≡ Err issue_error.JournalWrite → JournalFails R.Replica W.Sink self.old self.new }
+        ensures journaled { KeepsJournal R.Replica W.Sink self.old → KeepsJournal R.Replica W.Sink self.new }
+        ensures written { JournalsIssue (seen_of R.Replica self.old) result (seen_of R.Replica self.new)
+            (output_of W.Sink self.old.writer) (output_of W.Sink self.new.writer) }
+    {
+        self.issue_and_write(alloc, text, meter)
+    }
+
+    fn take(
+        &mut self,
+        alloc: Global,
+        batch: &[Entry],
+        meter: &mut Meter,
+    ) -> Result<Taken, TakeError>
+        ensures takes { Takes (seen_of R.Replica self.old) batch.now result (seen_of R.Replica self.new) }
+        ensures journal { result ≡ Err take_error.JournalWrite → JournalFails R.Replica W.Sink self.old self.new }
+        ensures journaled { KeepsJournal R.Replica W.Sink self.old → KeepsJournal R.Replica W.Sink self.new }
+        ensures written { JournalsBatch (seen_of R.Replica self.old) batch.now result
+            (output_of W.Sink self.old.writer) (output_of W.Sink self.new.writer) }
+    {
+        // By its number, the site is sound.
+        let _site = self.site();
+        self.take_and_write(alloc, batch, meter)
     }
 
     fn ask(&self, alloc: Global, text: &str) -> Result<Asked, AskError> {

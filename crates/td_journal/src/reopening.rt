@@ -13,17 +13,23 @@ use std::alloc::Global;
 use td_devices::Source;
 use td_frames::Version;
 use td_story::{Meter, OpenError, Opens, TakeError};
+use thiserror::Error;
 
 /// Why a site is not reopened.
-#[derive(Drop)]
+#[derive(Debug, Drop, Error)]
 pub enum ReopenError {
     /// It would not be opened anew.
+    #[error("{0}")]
     Open(OpenError),
+    #[error("out of memory")]
     OutOfMemory,
+    #[error("the reader failed")]
     ReadFault,
     /// The bytes are not its journal.
+    #[error("{0}")]
     Refused(JournalError),
     /// It cannot take what the journal says.
+    #[error("what the journal says is refused: {0}")]
     Take(TakeError),
 }
 

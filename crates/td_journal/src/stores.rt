@@ -105,7 +105,7 @@ fn keeper_behind<R: Opens + Drop, W: Sink + Drop>(
         (λ e. BeginsNone whole (R.seen replica) (output_of W.Sink writer) × (e ≡ store_error.JournalFile)) }
 {
     if whole > 0 {
-        return Ok(Keeper::resume(replica, writer));
+        return Ok(Keeper::over(replica, writer));
     }
     match Keeper::start(replica, writer) {
         Ok(keeper) => Ok(keeper),
@@ -154,7 +154,7 @@ fn make_anew<R: Opens + Drop, J: Journals>(
         Err(_) => return Err(StoreError::JournalFile),
     }
     match journals.replace(journal, renewal) {
-        Ok(writer) => Ok(Keeper::resume(replica, writer)),
+        Ok(writer) => Ok(Keeper::over(replica, writer)),
         Err(Failed) => Err(StoreError::JournalFile),
     }
 }

@@ -80,7 +80,9 @@ Stream = List Entry × Result (List ℕ) Miss
 whole_err : (es fs : List Entry) (rest : List ℕ) (m : Miss) → ◌≡◌ {A = Stream} (es, Ok rest) (fs, Err m) → ⊥
 whole_err es fs rest m e = let ends = ap (λ (p : Stream). p.1) e in absurd cc
 
-pub same_entries : (left rest : List ℕ) (es fs : List Entry) (bytes : List ℕ) → left ≡ bytes ++ rest → entries_at Second most_entries bytes ≡ (fs, Ok []) → entries_at Second most_entries left ≡ (es, Ok []) → fs ≡ es
+pub same_entries :
+    {ending : Result (List ℕ) Miss} (left rest : List ℕ) (es fs : List Entry) (bytes : List ℕ) → left ≡ bytes ++ rest → entries_at Second most_entries bytes ≡ (fs, Ok [])
+    → entries_at Second most_entries left ≡ (es, ending) → fs ≡ es
 same_entries left rest es fs bytes split read is = ap (λ (p : Stream). p.0) (sym (stream_reads Second most_entries bytes rest [] fs read) ∙ ap (entries_at Second most_entries) (sym split) ∙ is)
 
 cut_not : (left rest bytes : List ℕ) (es fs : List Entry) → left ≡ bytes ++ rest → rest ≡ [] → entries_at Second most_entries bytes ≡ (fs, Err short) → entries_at Second most_entries left ≡ (es, Ok []) → ⊥

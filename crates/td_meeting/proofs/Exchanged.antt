@@ -1,5 +1,5 @@
 -- A meeting in memory: what one site wrote is what the other one reads.
-use Rattle.std.proofs.Common.{◌≡◌, ◌≤◌, ℕ, suc, Bool, true, false, cond, inl, inr, List, [], ◌∷◌, ◌++◌, length, Result, Ok, Err, IsOk, refl, sym, ap, subst, ◌∙◌, append-nil, arith}
+use Rattle.std.proofs.Common.{◌≡◌, ◌≤◌, ℕ, suc, Bool, true, false, cond, inl, inr, List, [], ◌∷◌, ◌++◌, length, Result, Ok, Err, IsOk, refl, sym, ap, subst, ◌∙◌, append-nil, append_assoc, arith}
 use Rattle.std.specs.List.{filter}
 use Rattle.std.proofs.lemmas.Bool.Decides.{nat_tests}
 use Rattle.td_stamps.specs.Sets.{union}
@@ -49,8 +49,13 @@ within_most n is = grind (arith, nat_tests)
 few_held : (s : Seen) (v : VersionVector) → is_limit s.limit ≡ true → length s.entries ≤ s.limit → length (after_vector v s.entries) ≤ most_entries
 few_held s v limit within = let most = within_most s.limit limit in let some = fewer (lacks v) s.entries in omega (arith, most, some, within)
 
+pub sends_read_before :
+    (s : Seen) (v : VersionVector) (more : List ℕ) → AreSent s v → length (after_vector v s.entries) ≤ most_entries
+    → entries_at Second most_entries (sends s v ++ more) ≡ (after_vector v s.entries, Ok more)
+sends_read_before s v more sent few = stream_again Second most_entries (after_vector v s.entries) more few sent
+
 sends_read : (s : Seen) (v : VersionVector) → AreSent s v → length (after_vector v s.entries) ≤ most_entries → entries_at Second most_entries (sends s v) ≡ (after_vector v s.entries, Ok [])
-sends_read s v sent few = ap (entries_at Second most_entries) (sym (append-nil (sends s v))) ∙ stream_again Second most_entries (after_vector v s.entries) [] few sent
+sends_read s v sent few = ap (entries_at Second most_entries) (sym (append-nil (sends s v))) ∙ sends_read_before s v [] sent few
 
 -- ---- a greeting that is not answered
 
@@ -102,10 +107,22 @@ settles_untaken s left bytes rest x e r after same is hears receives = λ g more
 -- ---- the last two steps
 
 -- what the first site reads
-pub found : (s t : Seen) (bytes : List ℕ) (answer : IsAnswer s t bytes) → greeting_at bytes ≡ Ok (greeting_of t answer.greets.vector, sends t answer.vector)
+found : (s t : Seen) (bytes : List ℕ) (answer : IsAnswer s t bytes) → greeting_at bytes ≡ Ok (greeting_of t answer.greets.vector, sends t answer.vector)
 found s t bytes answer = ap greeting_at answer.whole ∙ greets_read t answer.own (sends t answer.vector) answer.greets
 
-pub whole_stream : (s t : Seen) (bytes : List ℕ) (answer : IsAnswer s t bytes) → IsSound t → entries_at Second most_entries (sends t answer.vector) ≡ (after_vector answer.vector t.entries, Ok [])
+pub found_before :
+    (s t : Seen) (bytes more : List ℕ) (answer : IsAnswer s t bytes)
+    → greeting_at (bytes ++ more) ≡ Ok (greeting_of t answer.greets.vector, sends t answer.vector ++ more)
+found_before s t bytes more answer =
+    ap (λ (l : List ℕ). greeting_at (l ++ more)) answer.whole ∙ ap greeting_at (append_assoc answer.own (sends t answer.vector) more)
+    ∙ greets_read t answer.own (sends t answer.vector ++ more) answer.greets
+
+pub stream_before :
+    (s t : Seen) (bytes more : List ℕ) (answer : IsAnswer s t bytes) → IsSound t
+    → entries_at Second most_entries (sends t answer.vector ++ more) ≡ (after_vector answer.vector t.entries, Ok more)
+stream_before s t bytes more answer sound = sends_read_before t answer.vector more answer.sent (few_held t answer.vector sound.limit sound.within)
+
+whole_stream : (s t : Seen) (bytes : List ℕ) (answer : IsAnswer s t bytes) → IsSound t → entries_at Second most_entries (sends t answer.vector) ≡ (after_vector answer.vector t.entries, Ok [])
 whole_stream s t bytes answer sound = sends_read t answer.vector answer.sent (few_held t answer.vector sound.limit sound.within)
 
 module _ (s t : Seen) (bytes : List ℕ) (answer : IsAnswer s t bytes) (both : AreOpen s t) (two : AreTwo s t) where
@@ -156,7 +173,7 @@ module _ (s t : Seen) (bytes : List ℕ) (answer : IsAnswer s t bytes) (both : A
       takes = takes;
     }
 
-    pub meets_whole : (gives : Taken) (other : Seen) → ReceivesIn t out (Ok gives) other → MeetsWhole s t (record { first = gains.fresh; second = gives.fresh }) after other
+    pub meets_whole : (gives : Taken) (other : Seen) → ReceivesIn t out (Ok gives) other → MeetsWhole s t (record { fresh_a = gains.fresh; fresh_b = gives.fresh }) after other
     meets_whole gives other told = record {
       two = two;
       gains = gains;

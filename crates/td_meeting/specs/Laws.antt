@@ -1,5 +1,5 @@
 -- The laws of meetings.
-use Rattle.std.specs.Prelude.{◌≡◌, ℕ, Bool, List, [], ◌++◌, Option, Some, Ok}
+use Rattle.std.specs.Prelude.{◌≡◌, ℕ, Bool, List, ◌++◌, Option, Some, Ok}
 use Rattle.td_stamps.specs.Sets.{NoClash, union}
 use Rattle.td_story.specs.Seen.{Seen, IsSound}
 use Rattle.td_story.specs.declared.answer.Taken.{Taken}
@@ -17,26 +17,36 @@ MeetingLeavesUnion =
 abbrev pub link : Option (List ℕ) → List ℕ → ℕ → Bool → LinkData
 link left held failures is_flushed = record { left = left; held = Some held; failures = failures; is_flushed = is_flushed }
 
--- Two sites meet by the four steps, with no other call between them: what each step wrote came to the other site, by
--- any links, and each step ended well.
+-- Two sites meet by the four steps, with no other call between them, over a link of each: what a step wrote to the one
+-- came to the other, by whatever way and whatever follows it there, and each step ended well. The links may have been
+-- written to before.
 pub record MeetBySteps (s t : Seen) (gains gives : Taken) (after other : Seen) : Type 0 where
   pub greeting : List ℕ
   pub answer : List ℕ
   pub back : List ℕ
+  pub first_held : List ℕ
+  pub second_held : List ℕ
+  pub behind_greeting : List ℕ
+  pub behind_answer : List ℕ
+  pub behind_back : List ℕ
   pub left_to_first : Option (List ℕ)
   pub rest_to_first : Option (List ℕ)
-  pub behind : List ℕ
-  pub beyond : List ℕ
-  pub last : List ℕ
+  pub unread_by_first : List ℕ
+  pub unread_by_second : List ℕ
+  pub left_at_last : List ℕ
   pub counts : ℕ → ℕ
   pub flushed : ℕ → Bool
-  pub greeted : Greeted s (link left_to_first [] (counts 0) (flushed 0)) (Ok tt) (link rest_to_first greeting (counts 1) (flushed 1))
-  pub answered : Answered t (link (Some greeting) [] (counts 2) (flushed 2)) (Ok tt) (link (Some behind) answer (counts 3) (flushed 3))
-  pub settled : Settled s (link (Some answer) [] (counts 4) (flushed 4)) (Ok gains) (link (Some beyond) back (counts 5) (flushed 5)) after
-  pub finished : Finished t (Some back) (Some last) (counts 6) (counts 7) (Ok gives) other
+  pub greeted : Greeted s (link left_to_first first_held (counts 0) (flushed 0)) (Ok tt) (link rest_to_first (first_held ++ greeting) (counts 1) (flushed 1))
+  pub answered :
+      Answered t (link (Some (greeting ++ behind_greeting)) second_held (counts 2) (flushed 2)) (Ok tt)
+      (link (Some unread_by_second) (second_held ++ answer) (counts 3) (flushed 3))
+  pub settled :
+      Settled s (link (Some (answer ++ behind_answer)) (first_held ++ greeting) (counts 4) (flushed 4)) (Ok gains)
+      (link (Some unread_by_first) ((first_held ++ greeting) ++ back) (counts 5) (flushed 5)) after
+  pub finished : Finished t (Some (back ++ behind_back)) (Some left_at_last) (counts 6) (counts 7) (Ok gives) other
 
 -- which leaves what a meeting in memory does
 abbrev pub StepsLeaveExchange : Type 0
 StepsLeaveExchange =
     (s t : Seen) (gains gives : Taken) (after other : Seen) → IsSound s → IsSound t → MeetBySteps s t gains gives after other
-    → MeetsWhole s t (record { first = gains.fresh; second = gives.fresh }) after other
+    → MeetsWhole s t (record { fresh_a = gains.fresh; fresh_b = gives.fresh }) after other

@@ -50,8 +50,8 @@ pub record MeetsWhole (s t : Seen) (met : Met) (after other : Seen) : Type 0 whe
   pub gives : Taken
   pub first : TakesFrom s t (Ok gains) after
   pub second : TakesFrom t after (Ok gives) other
-  pub first_fresh : met.first ≡ gains.fresh
-  pub second_fresh : met.second ≡ gives.fresh
+  pub first_fresh : met.fresh_a ≡ gains.fresh
+  pub second_fresh : met.fresh_b ≡ gives.fresh
 
 -- nothing is taken
 abbrev pub Stay : Seen → Seen → ℕ → Seen → Seen → Type 0

@@ -7,7 +7,8 @@ pub fn meeting_leaves_union()
     ensures { MeetingLeavesUnion }
 {}
 
-/// Four steps whose bytes came to the other site leave what a meeting in memory does, whatever the links.
+/// Four steps whose bytes came to the other site, each over a link of its own, leave what a meeting in memory does,
+/// whatever the links.
 pub fn steps_leave_exchange()
     ensures { StepsLeaveExchange }
 {}

@@ -21,11 +21,11 @@ use td_frames::Greeting;
 use td_story::{Meter, Replica, Taken};
 use thiserror::Error;
 
-/// How many entries were fresh to each site of a meeting.
+/// How many entries were fresh to the first site of a meeting, and to the second.
 #[derive(Clone, Copy, PartialEq, Eq)]
 pub struct Met {
-    pub first: usize,
-    pub second: usize,
+    pub fresh_a: usize,
+    pub fresh_b: usize,
 }
 
 /// Why a meeting in memory stops, and how many fresh entries the first site took before.
@@ -95,6 +95,7 @@ fn receive_in<R: Replica>(
     ensures received { ReceivesIn (R.seen site.old) bytes.old.rest.now result (R.seen site.new) }
     ensures live { OnOk result ((R.seen site.new).live ≡ true) }
     ensures journal { result ≡ Err (meeting_error.Take take_error.JournalWrite) → R.failed site.old site.new }
+    ensures journaled { R.journaled site.old → R.journaled site.new }
 {
     receive(alloc, site, bytes, meter)
 }
@@ -127,6 +128,7 @@ fn settle_in<R: Replica>(
     ensures settled { MatchResult result (λ x. SettlesIn (R.seen site.old) bytes.now (Ok (x.0, x.1.items)) (R.seen site.new))
         (λ e. SettlesIn (R.seen site.old) bytes.now (Err e) (R.seen site.new)) }
     ensures journal { (r : MeetingRefusal) → result ≡ Err r → r.error ≡ meeting_error.Take take_error.JournalWrite → R.failed site.old site.new }
+    ensures journaled { R.journaled site.old → R.journaled site.new }
 {
     let mut incoming = Incoming::new(bytes);
     let greeting = match hear_in(alloc, site, &mut incoming) {
@@ -162,6 +164,8 @@ fn exchange<A: Replica, B: Replica>(
     ensures meets { Meets (A.seen first.old) (B.seen second.old) result (A.seen first.new) (B.seen second.new) }
     ensures journal { (r : MeetingRefusal) → result ≡ Err r → r.error ≡ meeting_error.Take take_error.JournalWrite
         → A.failed first.old first.new ⊎ B.failed second.old second.new }
+    ensures first { A.journaled first.old → A.journaled first.new }
+    ensures second { B.journaled second.old → B.journaled second.new }
 {
     let (gains, entries) = match settle_in(alloc, first, answer, meter) {
         Ok(settled) => settled,
@@ -169,8 +173,8 @@ fn exchange<A: Replica, B: Replica>(
     };
     match receive_in(alloc, second, &mut Incoming::new(&entries), meter) {
         Ok(gives) => Ok(Met {
-            first: gains.fresh,
-            second: gives.fresh,
+            fresh_a: gains.fresh,
+            fresh_b: gives.fresh,
         }),
         Err(error) => Err(MeetingRefusal {
             error,
@@ -190,6 +194,8 @@ pub fn meet<A: Replica, B: Replica>(
     ensures meets { Meets (A.seen first.old) (B.seen second.old) result (A.seen first.new) (B.seen second.new) }
     ensures journal { (r : MeetingRefusal) → result ≡ Err r → r.error ≡ meeting_error.Take take_error.JournalWrite
         → A.failed first.old first.new ⊎ B.failed second.old second.new }
+    ensures first { A.journaled first.old → A.journaled first.new }
+    ensures second { B.journaled second.old → B.journaled second.new }
 {
     match judge(first, second) {
         Ok(()) => {}

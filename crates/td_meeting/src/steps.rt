@@ -62,6 +62,7 @@ pub fn settle<R: Replica, C: Channel>(
 ) -> Result<Taken, MeetingError>
     ensures settled { Settled (R.seen site.old) (link_of C.Source C.Sink link.old) result (link_of C.Source C.Sink link.new) (R.seen site.new) }
     ensures journal { result ≡ Err (meeting_error.Take take_error.JournalWrite) → R.failed site.old site.new }
+    ensures journaled { R.journaled site.old → R.journaled site.new }
 {
     if !site.is_open() {
         return Err(MeetingError::Broken);
@@ -90,6 +91,7 @@ pub fn finish<R: Replica, S: Source>(
     ensures finished { Finished (R.seen site.old) (S.left source.old) (S.left source.new) (S.failures source.old) (S.failures source.new) result (R.seen site.new) }
     ensures beside { Keeps (S.beside source.old) (S.beside source.new) }
     ensures journal { result ≡ Err (meeting_error.Take take_error.JournalWrite) → R.failed site.old site.new }
+    ensures journaled { R.journaled site.old → R.journaled site.new }
 {
     if !site.is_open() {
         return Err(MeetingError::Broken);

@@ -37,6 +37,7 @@ fn take_all<R: Replica>(
     ensures ok { IfOk result (λ t. TakesBatch (R.seen site.old) batch.now t (R.seen site.new)) }
     ensures err { IfErr result (λ e. proofs.Untaken (R.seen site.old) batch.now e (R.seen site.new)) }
     ensures journal { result ≡ Err (meeting_error.Take take_error.JournalWrite) → R.failed site.old site.new }
+    ensures journaled { R.journaled site.old → R.journaled site.new }
 {
     match site.take(alloc, batch, meter) {
         Ok(taken) => Ok(taken),
@@ -55,6 +56,7 @@ fn take_front<R: Replica>(
     requires { (R.seen site.old).live ≡ true }
     ensures short { proofs.TakesShort (R.seen site.old) batch.now error result (R.seen site.new) }
     ensures journal { result ≡ meeting_error.Take take_error.JournalWrite → R.failed site.old site.new }
+    ensures journaled { R.journaled site.old → R.journaled site.new }
 {
     match take_all(alloc, site, batch, meter) {
         Ok(taken) => MeetingError::Frame {
@@ -75,6 +77,7 @@ fn stopped<R: Replica>(
     requires { (R.seen site.old).live ≡ true }
     ensures stops { proofs.StopsAt (R.seen site.old) batch.now error result (R.seen site.new) }
     ensures journal { result ≡ meeting_error.Take take_error.JournalWrite → R.failed site.old site.new }
+    ensures journaled { R.journaled site.old → R.journaled site.new }
 {
     match error {
         FrameError::OutOfMemory => MeetingError::OutOfMemory,
@@ -97,6 +100,7 @@ pub(crate) fn receive<R: Replica, S: Source>(
     ensures err { IfErr result (λ e. Unreceived (R.seen site.old) e (S.left source.old) (S.left source.new) (S.failures source.old) (S.failures source.new) (R.seen site.new)) }
     ensures beside { Keeps (S.beside source.old) (S.beside source.new) }
     ensures journal { result ≡ Err (meeting_error.Take take_error.JournalWrite) → R.failed site.old site.new }
+    ensures journaled { R.journaled site.old → R.journaled site.new }
 {
     let (batch, ending) = read_entries(alloc, source, Version::Second, MOST_ENTRIES);
     match ending {

@@ -14,4 +14,5 @@ pub use base::Base;
 pub use database::Database;
 pub use opening::open_script;
 pub use parts::Part;
+pub use td_story::{Answer, BrokenTest, RelvarError, ScriptError};
 pub use ways::WayBack;

@@ -13,3 +13,7 @@ mod told;
 
 pub use plain::PlainSite;
 pub use site::Site;
+pub use td_story::{
+    Answer, AskError, Asked, IssueError, Issued, Meter, NotOpen, OpenError, Opens, Outcome,
+    PastError, Replica, TakeError, Taken, TellError, ValueError,
+};

@@ -42,6 +42,8 @@ impl Replica for PlainSite {
 
     ghost failed = { λ _ _. ⊥ };
 
+    ghost journaled = { λ _. Unit {0} };
+
     fn issue(&mut self, alloc: Global, text: &str, meter: &mut Meter) -> Result<Issued, IssueError>
         ensures issues { Issues (always_open self.old) text.now result (always_open self.new) }
         ensures journal { result ≡ Err issue_error.JournalWrite → ⊥ }

@@ -4,3 +4,5 @@ pub mod OneOpening
 pub mod Unique
 pub mod Legal
 pub mod Agreeing
+pub mod Leading
+pub mod Places

@@ -20,15 +20,19 @@ pub enum CatalogueError {
 }
 
 /// Why a script opens no database.
-#[derive(Drop)]
+#[derive(Debug, Drop, Error)]
 pub enum ScriptError {
-    /// The text is no script.
+    #[error("the text is no script")]
     Syntax,
+    #[error("a definition is ill typed")]
     IllTyped,
     /// What a relvar is to hold at first raises this error.
+    #[error("what a relvar is to hold at first raises: {0}")]
     OpeningRaised(Raise),
     /// This test is the first that is false of the opening relvars, or raises.
+    #[error("{0} is not true of the opening relvars")]
     OpeningBroken(BrokenTest),
+    #[error("out of memory")]
     OutOfMemory,
 }
 

@@ -4,13 +4,14 @@ use crate::error::ScriptError;
 use thiserror::Error;
 
 /// Why a site is not opened.
-#[derive(Drop)]
+#[derive(Debug, Drop, Error)]
 pub enum OpenError {
-    /// 0 is no site.
+    #[error("0 is no site")]
     BadSite,
-    /// A limit is 1 to 100,000.
+    #[error("a limit is 1 to 100,000")]
     BadLimit,
     /// What the script is refused for.
+    #[error("{0}")]
     Script(ScriptError),
 }
 

@@ -34,10 +34,14 @@ pub trait Replica {
     /// Whether a journal of the site has counted a failure between these two states: never, where it has no journal.
     ghost failed: { Self → Self → Type 0 };
 
+    /// What the site holds is known to stand in its journal, as long as it is open: it is so, where it has none.
+    ghost journaled: { Self → Type 0 };
+
     /// Adds the site's next entry, with this text, and tells what became of it.
     fn issue(&mut self, alloc: Global, text: &str, meter: &mut Meter) -> Result<Issued, IssueError>
         ensures issues { Issues (seen self.old) text.now result (seen self.new) }
-        ensures journal { result ≡ Err issue_error.JournalWrite → failed self.old self.new };
+        ensures journal { result ≡ Err issue_error.JournalWrite → failed self.old self.new }
+        ensures journaled { journaled self.old → journaled self.new };
 
     /// Adds the entries that are not held yet.
     fn take(
@@ -47,7 +51,8 @@ pub trait Replica {
         meter: &mut Meter,
     ) -> Result<Taken, TakeError>
         ensures takes { Takes (seen self.old) batch.now result (seen self.new) }
-        ensures journal { result ≡ Err take_error.JournalWrite → failed self.old self.new };
+        ensures journal { result ≡ Err take_error.JournalWrite → failed self.old self.new }
+        ensures journaled { journaled self.old → journaled self.new };
 
     /// What a query means over the relvars.
     fn ask(&self, alloc: Global, text: &str) -> Result<Asked, AskError>

@@ -8,8 +8,9 @@ use Rattle.td_story.specs.Scripts.{IsScriptOf}
 use Rattle.td_story.specs.Seen.{Seen}
 use Rattle.td_journal.specs.Stores.{GoesOn}
 use Rattle.td_journal.specs.Views.{kept}
+use Rattle.td_answers.specs.Asking.{LinkRequest}
 use Rattle.td_answers.specs.Sites.{Sites, AreOfScript}
-use Rattle.td_workbench.specs.Journals.{AnyWay, ComeBack, ComesBack, JournaledEnds, KeepsOneNot, KeepsSomeNot, Kept}
+use Rattle.td_workbench.specs.Journals.{AnyWay, ComeBack, JournaledEnds, KeeperSites, KeepsOneNot, KeepsSomeNot, Kept, journal_name, with_links}
 use Rattle.td_workbench.specs.Programs.{EndsBy}
 use Rattle.td_workbench.specs.Scripts.{IsAccepted}
 use Rattle.td_workbench.specs.Streams.{most_reads}
@@ -21,22 +22,31 @@ use Rattle.td_workbench.specs.declared.opening.Options.{Options}
 use Rattle.td_workbench.specs.declared.run.Ended.{Ended}
 use Rattle.td_workbench.proofs.Starting.{says_alone}
 
-pub come_back_more : (journals : Kept) (prefix : List ℕ) (ss ts : Sites) (s t : Seen) → ComeBack journals prefix ss ts → ComesBack journals prefix s t → ComeBack journals prefix (ss ++ s ∷ []) (ts ++ t ∷ [])
-come_back_more journals prefix [] [] s t all one = (one, tt)
-come_back_more journals prefix [] (y ∷ ts) s t all one = absurd all
-come_back_more journals prefix (x ∷ ss) [] s t all one = absurd all
-come_back_more journals prefix (x ∷ ss) (y ∷ ts) s t all one = (all.0, come_back_more journals prefix ss ts s t all.1 one)
+module _ {S : Type 0} (k : KeeperSites S) (journals : Kept) (prefix : List ℕ) where
+  pub come_back_more :
+      (ss : Sites) (ts : List S) (s : Seen) (t : S) → ComeBack k journals prefix ss ts → GoesOn (journals (journal_name prefix s.site)) s (k.seen t) (k.written t)
+      → ComeBack k journals prefix (ss ++ s ∷ []) (ts ++ t ∷ [])
+  come_back_more [] [] s t all one = (one, tt)
+  come_back_more [] (y ∷ ts) s t all one = absurd all
+  come_back_more (x ∷ ss) [] s t all one = absurd all
+  come_back_more (x ∷ ss) (y ∷ ts) s t all one = (all.0, come_back_more ss ts s t all.1 one)
 
--- they are of the same script
-script_stays : (kept : Option (List ℕ)) (s after : Seen) (w : Output) → GoesOn kept s after w → after.script ≡ s.script
-script_stays kept s after w g = ap (λ (x : Seen). x.script) g.reopens.holds
+  -- they are of the same script
+  script_stays : (kept : Option (List ℕ)) (s after : Seen) (w : Output) → GoesOn kept s after w → after.script ≡ s.script
+  script_stays kept s after w g = ap (λ (x : Seen). x.script) g.reopens.holds
 
-pub of_script_kept : (journals : Kept) (prefix : List ℕ) (c : CatalogueData) (ss ts : Sites) → ComeBack journals prefix ss ts → AreOfScript c ss → AreOfScript c ts
-of_script_kept journals prefix c [] [] all are = tt
-of_script_kept journals prefix c [] (t ∷ ts) all are = absurd all
-of_script_kept journals prefix c (s ∷ ss) [] all are = absurd all
-of_script_kept journals prefix c (s ∷ ss) (t ∷ ts) all are =
-    (subst (λ (x : List ℕ). IsScriptOf x c) (sym (script_stays _ s t all.0.0 all.0.1)) are.0, of_script_kept journals prefix c ss ts all.1 are.1)
+  pub of_script_kept : (c : CatalogueData) (ss : Sites) (ts : List S) → ComeBack k journals prefix ss ts → AreOfScript c ss → AreOfScript c (map k.seen ts)
+  of_script_kept c [] [] all are = tt
+  of_script_kept c [] (t ∷ ts) all are = absurd all
+  of_script_kept c (s ∷ ss) [] all are = absurd all
+  of_script_kept c (s ∷ ss) (t ∷ ts) all are =
+      (subst (λ (x : List ℕ). IsScriptOf x c) (sym (script_stays _ s (k.seen t) (k.written t) all.0)) are.0, of_script_kept c ss ts all.1 are.1)
+
+  pub some_not :
+      (Fails : StoreError → Type 0) (sites before : Sites) (back : List S) (s : Seen) (rest : Sites) (e : Stopped)
+      → sites ≡ before ++ s ∷ rest → ComeBack k journals prefix before back → KeepsOneNot journals Fails prefix s e → KeepsSomeNot k journals Fails prefix sites e
+  some_not Fails sites before back s rest (Run e) is came not = not
+  some_not Fails sites before back s rest (JournalFile name) is came not = (before, back, s, rest, is, came, not)
 
 -- a keeper that is open is seen as its site
 pub seen_within : (is_open : Bool) (s : Seen) → is_open ≡ true → s ≡ kept is_open s
@@ -47,27 +57,23 @@ pub all_at : {R : Type 0} (P : Seen → Type 0) (seen : R → Seen) (ys : List R
 all_at P seen [] x rest all = all.0
 all_at P seen (y ∷ ys) x rest all = all_at P seen ys x rest all.1
 
-pub some_not : (journals : Kept) (Fails : StoreError → Type 0) (prefix : List ℕ) (sites before back : Sites) (s : Seen) (rest : Sites) (e : Stopped)
-    → sites ≡ before ++ s ∷ rest → ComeBack journals prefix before back → KeepsOneNot journals Fails prefix s e → KeepsSomeNot journals Fails prefix sites e
-some_not journals Fails prefix sites before back s rest (Run e) is came not = not
-some_not journals Fails prefix sites before back s rest (JournalFile name) is came not = (before, back, s, rest, is, came, not)
-
 -- ---- the program
 
-run_ends : (journals : Kept) (Fails : StoreError → Type 0) (prefix : List ℕ) (options : Options) (from left : Input) (w after : Output) (r : Result Bool Ended)
-    → EndsBy (ComeBack journals prefix) AnyWay options from w r left after → JournaledEnds journals Fails prefix options from w (run_of r) left after
-run_ends journals Fails prefix options from left w after (Ok accepted) ends = ends
-run_ends journals Fails prefix options from left w after (Err e) ends = inl ends
+module _ {S L : Type 0} (k : KeeperSites S) (serves calls : LinkRequest L) (journals : Kept) (Fails : StoreError → Type 0) (prefix : List ℕ) (options : Options) (old new : L) where
+  run_ends : (from left : Input) (w after : Output) (r : Result Bool Ended)
+      → EndsBy (with_links k serves calls) (ComeBack k journals prefix) AnyWay options old from w r new left after → JournaledEnds k serves calls journals Fails prefix options old from w (run_of r) new left after
+  run_ends from left w after (Ok accepted) ends = ends
+  run_ends from left w after (Err e) ends = inl ends
 
-pub as_run : (journals : Kept) (Fails : StoreError → Type 0) (prefix : List ℕ) (options : Options) (from left : Input) (w after : Output) (r : Result Bool Ended) (end : Result Bool Stopped)
-    → end ≡ run_of r → EndsBy (ComeBack journals prefix) AnyWay options from w r left after → JournaledEnds journals Fails prefix options from w end left after
-as_run journals Fails prefix options from left w after r end is ends =
-    subst (λ (x : Result Bool Stopped). JournaledEnds journals Fails prefix options from w x left after) (sym is) (run_ends journals Fails prefix options from left w after r ends)
+  pub as_run : (from left : Input) (w after : Output) (r : Result Bool Ended) (end : Result Bool Stopped)
+      → end ≡ run_of r → EndsBy (with_links k serves calls) (ComeBack k journals prefix) AnyWay options old from w r new left after → JournaledEnds k serves calls journals Fails prefix options old from w end new left after
+  as_run from left w after r end is ends =
+      subst (λ (x : Result Bool Stopped). JournaledEnds k serves calls journals Fails prefix options old from w x new left after) (sym is) (run_ends from left w after r ends)
 
 module _ (now : ℕ) (from mid : Input) (bytes : Option (List ℕ)) (is_last : Bool) (has : HasScript most_reads now from mid bytes is_last) where
-  pub not_kept : (journals : Kept) (Fails : StoreError → Type 0) (prefix : List ℕ) (options : Options) (opens : Sites) (w : Output) (e : Stopped)
-      → IsAccepted options has.text opens → KeepsSomeNot journals Fails prefix opens e → JournaledEnds journals Fails prefix options from w (Err e) mid w
-  not_kept journals Fails prefix options opens w (Run e) accepted cause =
-      inr (record { bytes = has.bytes; script = has.text; read = has.read; says = says_alone now from mid bytes is_last has; opened = opens; accepted = accepted; cause = cause; untold = refl })
-  not_kept journals Fails prefix options opens w (JournalFile name) accepted cause =
-      record { bytes = has.bytes; script = has.text; read = has.read; says = says_alone now from mid bytes is_last has; opened = opens; accepted = accepted; cause = cause; untold = refl }
+  pub not_kept : {S L : Type 0} (k : KeeperSites S) (serves calls : LinkRequest L) (journals : Kept) (Fails : StoreError → Type 0) (prefix : List ℕ) (options : Options) (links : L) (opens : Sites) (w : Output) (e : Stopped)
+      → IsAccepted options has.text opens → KeepsSomeNot k journals Fails prefix opens e → JournaledEnds k serves calls journals Fails prefix options links from w (Err e) links mid w
+  not_kept k serves calls journals Fails prefix options links opens w (Run e) accepted cause =
+      inr (record { bytes = has.bytes; script = has.text; read = has.read; says = says_alone now from mid bytes is_last has; opened = opens; accepted = accepted; cause = cause; unasked = refl; untold = refl })
+  not_kept k serves calls journals Fails prefix options links opens w (JournalFile name) accepted cause =
+      record { bytes = has.bytes; script = has.text; read = has.read; says = says_alone now from mid bytes is_last has; opened = opens; accepted = accepted; cause = cause; unasked = refl; untold = refl }

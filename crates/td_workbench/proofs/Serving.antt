@@ -1,14 +1,11 @@
 -- A run over lines, and what was served before it.
 use Rattle.std.proofs.Common.{◌≡◌, ◌≤◌, inl, inr, ℕ, ◌+◌, ◌-◌, List, [], ◌∷◌, ◌++◌, length, Option, Result, Ok, Err, refl, sym, ap, ◌∙◌, subst, append_assoc, append-nil, arith, length-append}
 use Rattle.std.proofs.KnownBytes.{Appends-nil, Appends-trans, Consumes-nil, Consumes-trans}
-use Rattle.td_headings.specs.Catalogues.{CatalogueData}
 use Rattle.td_devices.specs.Counted.{counted}
 use Rattle.td_devices.specs.Lines.{raw_lines, IsWholeLine}
 use Rattle.td_devices.specs.Views.{Input, Output}
-use Rattle.td_answers.specs.Sites.{Sites}
-use Rattle.td_answers.specs.Answers.{LineAnswered}
 use Rattle.td_workbench.specs.Streams.{ReadsBytes, ReadsNoMore, WritesText}
-use Rattle.td_workbench.specs.Runs.{said, DoesNotQuit, Printed, Served, Quits, RunsOut, BreaksOff, Reaches, Ends}
+use Rattle.td_workbench.specs.Runs.{said, DoesNotQuit, LineStep, Printed, Served, Quits, RunsOut, BreaksOff, Reaches, Ends}
 use Rattle.td_workbench.specs.ForProofs.Serving.{Serves}
 use Rattle.td_workbench.specs.declared.run.Ended.{Ended}
 use Rattle.td_workbench.specs.declared.run.Ended.TheVariants.{OutOfMemory, ReadFault, WriteFault}
@@ -38,61 +35,63 @@ no_more_spare spare other bs from left fewer (took, inr none) = (took, inr (none
 
 -- ---- what is printed
 
-pub printed_append : (c : CatalogueData) (old : Sites) (ls : List (List ℕ)) (t : List ℕ) (mid : Sites) (ks : List (List ℕ)) (u : List ℕ) (new : Sites) → Printed c old ls t mid → Printed c mid ks u new → Printed c old (ls ++ ks) (t ++ u) new
-printed_append c old [] t mid ks u new (none, same) next =
-    subst (λ (s : Sites). Printed c s ks (t ++ u) new) same (subst (λ (v : List ℕ). Printed c mid ks v new) (sym (ap (λ (v : List ℕ). v ++ u) none)) next)
-printed_append c old (l ∷ ls) t mid ks u new (step, first, rest, answered, others, split) next =
-    (step, first, rest ++ u, answered, printed_append c step ls rest mid ks u new others next, ap (λ (v : List ℕ). v ++ u) split ∙ append_assoc first rest u)
+pub printed_append : {X : Type 0} (step : LineStep X) (old : X) (ls : List (List ℕ)) (t : List ℕ) (mid : X) (ks : List (List ℕ)) (u : List ℕ) (new : X) → Printed step old ls t mid → Printed step mid ks u new → Printed step old (ls ++ ks) (t ++ u) new
+printed_append step old [] t mid ks u new (none, same) next =
+    subst (λ (s : X). Printed step s ks (t ++ u) new) same (subst (λ (v : List ℕ). Printed step mid ks v new) (sym (ap (λ (v : List ℕ). v ++ u) none)) next)
+printed_append step old (l ∷ ls) t mid ks u new (then, first, rest, answered, others, split) next =
+    (then, first, rest ++ u, answered, printed_append step then ls rest mid ks u new others next, ap (λ (v : List ℕ). v ++ u) split ∙ append_assoc first rest u)
 
-pub printed_one : (c : CatalogueData) (old : Sites) (l : List ℕ) (t : List ℕ) (new : Sites) → LineAnswered c old (said l) t new → Printed c old (l ∷ []) t new
-printed_one c old l t new answered = (new, t, [], answered, (refl, refl), sym (append-nil t))
+pub printed_one : {X : Type 0} (step : LineStep X) (old : X) (l : List ℕ) (t : List ℕ) (new : X) → step old (said l) t new → Printed step old (l ∷ []) t new
+printed_one step old l t new answered = (new, t, [], answered, (refl, refl), sym (append-nil t))
 
-pub served_none : (c : CatalogueData) (old : Sites) → Served c old [] [] old
-served_none c old = record { whole = tt; go_on = tt; printed = (refl, refl) }
+pub served_none : {X : Type 0} (step : LineStep X) (old : X) → Served step old [] [] old
+served_none step old = record { whole = tt; go_on = tt; printed = (refl, refl) }
 
-pub served_append : (c : CatalogueData) (old : Sites) (ls : List (List ℕ)) (t : List ℕ) (mid : Sites) (ks : List (List ℕ)) (u : List ℕ) (new : Sites) → Served c old ls t mid → Served c mid ks u new → Served c old (ls ++ ks) (t ++ u) new
-served_append c old ls t mid ks u new s next = record {
+pub served_append : {X : Type 0} (step : LineStep X) (old : X) (ls : List (List ℕ)) (t : List ℕ) (mid : X) (ks : List (List ℕ)) (u : List ℕ) (new : X) → Served step old ls t mid → Served step mid ks u new → Served step old (ls ++ ks) (t ++ u) new
+served_append step old ls t mid ks u new s next = record {
   whole = all_append IsWholeLine ls ks s.whole next.whole;
   go_on = all_append DoesNotQuit ls ks s.go_on next.go_on;
-  printed = printed_append c old ls t mid ks u new s.printed next.printed;
+  printed = printed_append step old ls t mid ks u new s.printed next.printed;
 }
 
-pub served_one : (c : CatalogueData) (old : Sites) (l : List ℕ) (t : List ℕ) (new : Sites) → IsWholeLine l → DoesNotQuit l → LineAnswered c old (said l) t new → Served c old (l ∷ []) t new
-served_one c old l t new whole on answered = record { whole = (whole, tt); go_on = (on, tt); printed = printed_one c old l t new answered }
+pub served_one : {X : Type 0} (step : LineStep X) (old : X) (l : List ℕ) (t : List ℕ) (new : X) → IsWholeLine l → DoesNotQuit l → step old (said l) t new → Served step old (l ∷ []) t new
+served_one step old l t new whole on answered = record { whole = (whole, tt); go_on = (on, tt); printed = printed_one step old l t new answered }
 
 -- ---- ways to end, behind lines that were served
 
 more_lines : (ls ks before : List (List ℕ)) (rest : List (List ℕ)) → ks ≡ before ++ rest → ls ++ ks ≡ (ls ++ before) ++ rest
 more_lines ls ks before rest is = ap (λ (xs : List (List ℕ)). ls ++ xs) is ∙ sym (append_assoc ls before rest)
 
-module _ (c : CatalogueData) (old : Sites) (ls : List (List ℕ)) (t : List ℕ) (mid : Sites) (s : Served c old ls t mid) where
-  quits_behind : (ks : List (List ℕ)) (left : Option (List ℕ)) (u : List ℕ) (new : Sites) → Quits c mid ks left u new → Quits c old (ls ++ ks) left (t ++ u) new
+module _ {X : Type 0} (step : LineStep X) (old : X) (ls : List (List ℕ)) (t : List ℕ) (mid : X) (s : Served step old ls t mid) where
+  quits_behind : (ks : List (List ℕ)) (left : Option (List ℕ)) (u : List ℕ) (new : X) → Quits step mid ks left u new → Quits step old (ls ++ ks) left (t ++ u) new
   quits_behind ks left u new q = record {
     before = ls ++ q.before;
     last = q.last;
+    mid = q.mid;
     lines = more_lines ls ks q.before (q.last ∷ []) q.lines;
     read_out = q.read_out;
     quits = q.quits;
-    served = served_append c old ls t mid q.before u new s q.served;
+    served = served_append step old ls t mid q.before u q.mid s q.served;
+    answered = q.answered;
   }
 
-  runs_out_behind : (ks : List (List ℕ)) (left : Option (List ℕ)) (u : List ℕ) (new : Sites) → RunsOut c mid ks left u new → RunsOut c old (ls ++ ks) left (t ++ u) new
+  runs_out_behind : (ks : List (List ℕ)) (left : Option (List ℕ)) (u : List ℕ) (new : X) → RunsOut step mid ks left u new → RunsOut step old (ls ++ ks) left (t ++ u) new
   runs_out_behind ks left u new q = record {
     at_end = q.at_end;
     go_on = all_append DoesNotQuit ls ks s.go_on q.go_on;
-    printed = printed_append c old ls t mid ks u new s.printed q.printed;
+    printed = printed_append step old ls t mid ks u new s.printed q.printed;
   }
 
-  breaks_behind : (ks : List (List ℕ)) (IsPart : List ℕ → Type 0) (u : List ℕ) (new : Sites) → BreaksOff c mid ks IsPart u new → BreaksOff c old (ls ++ ks) IsPart (t ++ u) new
+  breaks_behind : (ks : List (List ℕ)) (IsPart : List ℕ → Type 0) (u : List ℕ) (new : X) → BreaksOff step mid ks IsPart u new → BreaksOff step old (ls ++ ks) IsPart (t ++ u) new
   breaks_behind ks IsPart u new q = record {
     before = ls ++ q.before;
     part = q.part;
     lines = more_lines ls ks q.before (raw_lines q.part) q.lines;
     is_part = q.is_part;
-    served = served_append c old ls t mid q.before u new s q.served;
+    served = served_append step old ls t mid q.before u new s q.served;
   }
 
-  reaches_behind : (ks : List (List ℕ)) (left : Option (List ℕ)) (u answer : List ℕ) (new : Sites) → Reaches c mid ks left u answer new → Reaches c old (ls ++ ks) left (t ++ u) answer new
+  reaches_behind : (ks : List (List ℕ)) (left : Option (List ℕ)) (u answer : List ℕ) (new : X) → Reaches step mid ks left u answer new → Reaches step old (ls ++ ks) left (t ++ u) answer new
   reaches_behind ks left u answer new q = record {
     before = ls ++ q.before;
     last = q.last;
@@ -100,12 +99,12 @@ module _ (c : CatalogueData) (old : Sites) (ls : List (List ℕ)) (t : List ℕ)
     lines = more_lines ls ks q.before (q.last ∷ []) q.lines;
     read_out = q.read_out;
     goes_on = q.goes_on;
-    served = served_append c old ls t mid q.before u q.mid s q.served;
+    served = served_append step old ls t mid q.before u q.mid s q.served;
     answered = q.answered;
   }
 
-  pub ends_behind : (ks : List (List ℕ)) (spare : ℕ) (bs more : List ℕ) (from at left : Input) (w half after : Output) (r : Result (Unit {0}) Ended) (new : Sites)
-      → ReadsBytes bs from at → WritesText t w half → Ends c mid ks spare more at half r new left after → Ends c old (ls ++ ks) spare (bs ++ more) from w r new left after
+  pub ends_behind : (ks : List (List ℕ)) (spare : ℕ) (bs more : List ℕ) (from at left : Input) (w half after : Output) (r : Result (Unit {0}) Ended) (new : X)
+      → ReadsBytes bs from at → WritesText t w half → Ends step mid ks spare more at half r new left after → Ends step old (ls ++ ks) spare (bs ++ more) from w r new left after
   ends_behind ks spare bs more from at left w half after (Ok x) new read wrote (took, u, why, puts) = (
     reads_trans from at left bs more read took,
     t ++ u,
@@ -120,54 +119,54 @@ module _ (c : CatalogueData) (old : Sites) (ls : List (List ℕ)) (t : List ℕ)
       (reads_trans from at left bs more read took, t ++ u, answer, then, reaches_behind ks left.left u answer new why, whole_trans w half then t u wrote puts, front)
 
 -- the reads that are left are told only where there are none
-pub ends_spare : (c : CatalogueData) (old : Sites) (ks : List (List ℕ)) (spare other : ℕ) (bs : List ℕ) (from left : Input) (w after : Output) (r : Result (Unit {0}) Ended) (new : Sites)
-    → (spare ≡ 0 → other ≡ 0) → Ends c old ks spare bs from w r new left after → Ends c old ks other bs from w r new left after
-ends_spare c old ks spare other bs from left w after (Ok x) new fewer ends = ends
-ends_spare c old ks spare other bs from left w after (Err ReadFault) new fewer (took, text, why, wrote) = (no_more_spare spare other bs from left fewer took, text, why, wrote)
-ends_spare c old ks spare other bs from left w after (Err OutOfMemory) new fewer ends = ends
-ends_spare c old ks spare other bs from left w after (Err WriteFault) new fewer ends = ends
+pub ends_spare : {X : Type 0} (step : LineStep X) (old : X) (ks : List (List ℕ)) (spare other : ℕ) (bs : List ℕ) (from left : Input) (w after : Output) (r : Result (Unit {0}) Ended) (new : X)
+    → (spare ≡ 0 → other ≡ 0) → Ends step old ks spare bs from w r new left after → Ends step old ks other bs from w r new left after
+ends_spare step old ks spare other bs from left w after (Ok x) new fewer ends = ends
+ends_spare step old ks spare other bs from left w after (Err ReadFault) new fewer (took, text, why, wrote) = (no_more_spare spare other bs from left fewer took, text, why, wrote)
+ends_spare step old ks spare other bs from left w after (Err OutOfMemory) new fewer ends = ends
+ends_spare step old ks spare other bs from left w after (Err WriteFault) new fewer ends = ends
 
 -- ---- the loop over lines
 
 -- what was done so far, by the reads that were made
-pub record Done (c : CatalogueData) (old : Sites) (reads now : ℕ) (from at : Input) (w half : Output) (mid : Sites) : Type 0 where
+pub record Done {X : Type 0} (step : LineStep X) (old : X) (reads now : ℕ) (from at : Input) (w half : Output) (mid : X) : Type 0 where
   pub lines : List (List ℕ)
   pub text : List ℕ
-  pub served : Served c old lines text mid
+  pub served : Served step old lines text mid
   pub read : ReadsBytes (joined lines) from at
   pub wrote : WritesText text w half
   pub spent : now + length (joined lines) ≡ reads
 
-pub done_none : (c : CatalogueData) (old : Sites) (reads : ℕ) (from : Input) (w : Output) → Done c old reads reads from from w w old
-done_none c old reads from w = record {
+pub done_none : {X : Type 0} (step : LineStep X) (old : X) (reads : ℕ) (from : Input) (w : Output) → Done step old reads reads from from w w old
+done_none step old reads from w = record {
   lines = [];
   text = [];
-  served = served_none c old;
+  served = served_none step old;
   read = subst (λ (bs : List ℕ). ReadsBytes bs from from) (sym joined_none) (reads_nothing from);
   wrote = writes_nothing w;
   spent = subst (λ (bs : List ℕ). reads + length bs ≡ reads) (sym joined_none) (omega arith);
 }
 
-pub done_more : (c : CatalogueData) (old : Sites) (reads now then : ℕ) (from at left : Input) (w half after : Output) (mid new : Sites) (raw t : List ℕ)
-    → Done c old reads now from at w half mid → ReadsBytes raw at left → now - then ≡ length raw + 0 → then ≤ now → Served c mid (raw ∷ []) t new → WritesText t half after
-    → Done c old reads then from left w after new
-done_more c old reads now then from at left w half after mid new raw t d took count fewer served wrote = record {
+pub done_more : {X : Type 0} (step : LineStep X) (old : X) (reads now then : ℕ) (from at left : Input) (w half after : Output) (mid new : X) (raw t : List ℕ)
+    → Done step old reads now from at w half mid → ReadsBytes raw at left → now - then ≡ length raw + 0 → then ≤ now → Served step mid (raw ∷ []) t new → WritesText t half after
+    → Done step old reads then from left w after new
+done_more step old reads now then from at left w half after mid new raw t d took count fewer served wrote = record {
   lines = d.lines ++ raw ∷ [];
   text = d.text ++ t;
-  served = served_append c old d.lines d.text mid (raw ∷ []) t new d.served served;
+  served = served_append step old d.lines d.text mid (raw ∷ []) t new d.served served;
   read = subst (λ (bs : List ℕ). ReadsBytes bs from left) (sym (joined_last d.lines raw)) (reads_trans from at left (joined d.lines) raw d.read took);
   wrote = whole_trans w half after d.text t d.wrote wrote;
   spent = subst (λ (bs : List ℕ). then + length bs ≡ reads) (sym (joined_last d.lines raw)) (omega (arith, length-append (joined d.lines) raw, d.spent, count, fewer));
 }
 
-pub serves_behind : (c : CatalogueData) (old : Sites) (reads now : ℕ) (from at left : Input) (w half after : Output) (mid new : Sites) (r : Result (Unit {0}) Ended)
-    → Done c old reads now from at w half mid → Serves c mid now at half r new left after → Serves c old reads from w r new left after
-serves_behind c old reads now from at left w half after mid new r d s =
+pub serves_behind : {X : Type 0} (step : LineStep X) (old : X) (reads now : ℕ) (from at left : Input) (w half after : Output) (mid new : X) (r : Result (Unit {0}) Ended)
+    → Done step old reads now from at w half mid → Serves step mid now at half r new left after → Serves step old reads from w r new left after
+serves_behind step old reads now from at left w half after mid new r d s =
     let more : List ℕ = s.bytes in
     record {
       bytes = joined d.lines ++ more;
-      ends = ends_spare c old (raw_lines (joined d.lines ++ more)) (now - length more) (reads - length (joined d.lines ++ more)) (joined d.lines ++ more) from left w after r new
+      ends = ends_spare step old (raw_lines (joined d.lines ++ more)) (now - length more) (reads - length (joined d.lines ++ more)) (joined d.lines ++ more) from left w after r new
           (λ none. omega (arith, length-append (joined d.lines) more, d.spent, none))
-          (subst (λ (ks : List (List ℕ)). Ends c old ks (now - length more) (joined d.lines ++ more) from w r new left after) (sym (raw_whole d.lines more d.served.whole))
-          (ends_behind c old d.lines d.text mid d.served (raw_lines more) (now - length more) (joined d.lines) more from at left w half after r new d.read d.wrote s.ends));
+          (subst (λ (ks : List (List ℕ)). Ends step old ks (now - length more) (joined d.lines ++ more) from w r new left after) (sym (raw_whole d.lines more d.served.whole))
+          (ends_behind step old d.lines d.text mid d.served (raw_lines more) (now - length more) (joined d.lines) more from at left w half after r new d.read d.wrote s.ends));
     }

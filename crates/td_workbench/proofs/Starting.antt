@@ -19,10 +19,10 @@ use Rattle.td_story.specs.Seen.{Seen, is_limit}
 use Rattle.td_journal.specs.Reopening.{IsNew}
 use Rattle.td_answers.specs.Sites.{Sites, AreOfScript}
 use Rattle.td_workbench.specs.Streams.{ReadsBytes, reads_left, most_reads, WritesText}
-use Rattle.td_workbench.specs.Runs.{Ends, RunsOut}
+use Rattle.td_workbench.specs.Runs.{AnswersLine, Ends, LineStep, RunsOut, State, Workbench}
 use Rattle.td_workbench.specs.Scripts.{IsAccepted, IsRefusedScript, Says, TellsFault, new_sites, ready, script_fault}
-use Rattle.td_workbench.specs.Programs.{AreAllOpen, EndsBy, InRange, ProgramRuns, ProgramStops}
-use Rattle.td_workbench.specs.ForProofs.Opening.{AreSeen, BehindEnds, OpensAll, MayTell, PutsFault, ReadyBehind, ReadyEnds, TellsMade, TellsRefusal}
+use Rattle.td_workbench.specs.Programs.{EndsBy, InRange, ProgramRuns, ProgramStops}
+use Rattle.td_workbench.specs.ForProofs.Opening.{AreThen, BehindEnds, OpensAll, MayTell, PutsFault, ReadyBehind, ReadyEnds, TellsMade, TellsRefusal}
 use Rattle.td_workbench.specs.ForProofs.Reading.{HasScript}
 use Rattle.td_workbench.specs.ForProofs.Serving.{Serves}
 use Rattle.td_workbench.specs.declared.opening.Options.{Options}
@@ -56,15 +56,12 @@ pub all_open : {R : Type 0} (seen : R → Seen) → ((s : R) → (seen s).live �
 all_open seen stays [] = tt
 all_open seen stays (s ∷ rs) = (stays s, all_open seen stays rs)
 
-pub seen_open : {R : Type 0} (seen : R → Seen) → ((s : R) → (seen s).live ≡ true) → (ss : Sites) → AreSeen seen ss → AreAllOpen ss
-seen_open seen stays ss (rs, is) = subst AreAllOpen (sym is) (all_open seen stays rs)
-
 -- the lines behind the script were run
-pub behind_ran : {R : Type 0} (seen : R → Seen) (is_last : Bool) (c : CatalogueData) (old ss new : List R) (reads : ℕ) (from left : Input) (w after : Output) (r : Result (Unit {0}) Ended)
-    → is_last ≡ false → ss ≡ old → Serves c (map seen ss) reads from w r (map seen new) left after → BehindEnds (AreSeen seen) is_last c (map seen old) reads from w r left after
-behind_ran seen true c old ss new reads from left w after r other same serves = absurd (true≢false other)
-behind_ran seen false c old ss new reads from left w after r other same serves =
-    (map seen new, (new, refl), subst (λ xs. Serves c (map seen xs) reads from w r (map seen new) left after) same serves)
+pub behind_ran :
+    {X : Type 0} (step : LineStep X) (End : X → Type 0) (is_last : Bool) (old begun new : X) (reads : ℕ) (from left : Input) (w after : Output) (r : Result (Unit {0}) Ended)
+    → is_last ≡ false → begun ≡ old → End new → Serves step begun reads from w r new left after → BehindEnds step End is_last old reads from w r left after
+behind_ran step End true old begun new reads from left w after r other same end serves = absurd (true≢false other)
+behind_ran step End false old begun new reads from left w after r other same end serves = (new, end, subst (λ x. Serves step x reads from w r new left after) same serves)
 
 pub limits : (options : Options) → InRange options → is_limit options.limit ≡ true
 limits options range = rw (le-leb 1 options.limit range.some_limit) (rw (le-leb options.limit 100000 range.low_limit) refl)
@@ -112,11 +109,13 @@ pub told_made : (e : ScriptError) (t : Result (String Global) AllocError) (r : R
 told_made e (Ok text) r w after is puts = (e, inl refl, subst (λ (t : List ℕ). PutsFault t r w after) is puts)
 told_made e (Err x) r w after is puts = (OutOfMemory, inr refl, puts)
 
-module _ (Begin : Sites → Sites → Type 0) (Stay : Sites → Type 0) (options : Options) where
-  pub fault_told : (bytes text : List ℕ) (from left : Input) (w after : Output) (r : Result Bool Ended) → ReadsBytes bytes from left → TellsFault bytes left.left text → PutsFault text r w after → EndsBy Begin Stay options from w r left after
+module _ {S L : Type 0} (b : Workbench S L) (Begin : Sites → List S → Type 0) (End : List S → Type 0) (options : Options) (links : L) where
+  pub fault_told :
+      (bytes text : List ℕ) (from left : Input) (w after : Output) (r : Result Bool Ended) → ReadsBytes bytes from left → TellsFault bytes left.left text → PutsFault text r w after
+      → EndsBy b Begin End options links from w r links left after
   fault_told bytes text from left w after (Ok true) read tells puts = absurd puts
-  fault_told bytes text from left w after (Ok false) read tells puts = (bytes, read, text, tells, puts)
-  fault_told bytes text from left w after (Err ended.WriteFault) read tells puts = inr (bytes, read, text, inl tells, puts)
+  fault_told bytes text from left w after (Ok false) read tells puts = (bytes, read, text, tells, puts, refl)
+  fault_told bytes text from left w after (Err ended.WriteFault) read tells puts = inr ((bytes, read, text, inl tells, puts), refl)
   fault_told bytes text from left w after (Err ended.ReadFault) read tells puts = absurd puts
   fault_told bytes text from left w after (Err ended.OutOfMemory) read tells puts = absurd puts
 
@@ -135,30 +134,41 @@ module _ (now : ℕ) (from mid : Input) (kept : Option (List ℕ)) (is_last : Bo
   pub says_alone : Says has.bytes has.text []
   says_alone = subst (λ (bs : List ℕ). Says bs has.text []) (append-nil has.bytes) (has.leads [] (λ last. refl))
 
-  module _ (Begin : Sites → Sites → Type 0) (Stay : Sites → Type 0) (options : Options) where
-    pub refused_told : (e : ScriptError) (r : Result Bool Ended) (w after : Output) → IsRefusedScript has.text e → TellsRefusal e r w after → EndsBy Begin Stay options from w r mid after
+  module _ {S L : Type 0} (b : Workbench S L) (Begin : Sites → List S → Type 0) (End : List S → Type 0) (options : Options) (links : L) where
+    pub refused_told : (e : ScriptError) (r : Result Bool Ended) (w after : Output) → IsRefusedScript has.text e → TellsRefusal e r w after → EndsBy b Begin End options links from w r links mid after
     refused_told e r w after is (told, may, puts) =
-        fault_told Begin Stay options has.bytes (script_fault told) from mid w after r has.read (inr (inl (has.text, told, says_alone, may_refuse has.text e told is may, refl))) puts
+        fault_told b Begin End options links has.bytes (script_fault told) from mid w after r has.read (inr (inl (has.text, told, says_alone, may_refuse has.text e told is may, refl))) puts
 
-    ready_untold : (sites : Sites) (text : List ℕ) (left : Input) (w after : Output) (e : Ended) → IsAccepted options has.text sites → text ≡ ready options.sites → e ≡ ended.WriteFault → left ≡ mid → WritesFront text w after
-        → ProgramStops options from w e left after
-    ready_untold sites text left w after e accepted is fault unread front =
-        subst (λ (x : Ended). ProgramStops options from w x left after) (sym fault)
-        (subst (λ (x : Input). ProgramStops options from w ended.WriteFault x after) (sym unread) (has.bytes, has.read, text, inr (has.text, sites, says_alone, accepted, is), front))
+  ready_untold :
+      (options : Options) (sites : Sites) (text : List ℕ) (left : Input) (w after : Output) (e : Ended) → IsAccepted options has.text sites → text ≡ ready options.sites → e ≡ ended.WriteFault → left ≡ mid
+      → WritesFront text w after → ProgramStops options from w e left after
+  ready_untold options sites text left w after e accepted is fault unread front =
+      subst (λ (x : Ended). ProgramStops options from w x left after) (sym fault)
+      (subst (λ (x : Input). ProgramStops options from w ended.WriteFault x after) (sym unread) (has.bytes, has.read, text, inr (has.text, sites, says_alone, accepted, is), front))
 
--- ---- the lines behind an accepted script, over sites of some kind
+-- ---- the lines behind an accepted script, over sites of some kind, which end as any of them do
 
-module _ (Begin : Sites → Sites → Type 0) (Stay Kind : Sites → Type 0) (stays : (ss : Sites) → Kind ss → Stay ss) (options : Options) where
-  runs_behind : (now : ℕ) (from mid left : Input) (kept : Option (List ℕ)) (is_last : Bool) (w told after : Output) (c : CatalogueData) (opens old : Sites) (r : Result (Unit {0}) Ended)
-      → (has : HasScript most_reads now from mid kept is_last) → IsAccepted options has.text opens → Begin opens old → Kind old → AreOfScript c old → WritesText (ready options.sites) w told
-      → BehindEnds Kind is_last c old now mid told r left after → ProgramRuns Begin Stay options from w r left after
-  runs_behind now from mid left kept true w told after c opens old r has accepted begin kind of wrote (is, unread, unwritten) =
-      let over : RunsOut c old [] mid.left [] old = record { at_end = has.at_end refl; go_on = tt; printed = (refl, refl) } in
-      let ends : Ends c old [] (reads_left has.bytes) has.bytes from told (Ok tt) old mid told = (has.read, [], inr over, writes_nothing told) in
-      let runs : ProgramRuns Begin Stay options from w (Ok tt) mid told = record { bytes = has.bytes; script = has.text; raws = []; says = says_alone now from mid kept true has; opened = opens; accepted = accepted; old = old; begin = begin; catalogue = c; of_script = of; told = told; ready_told = wrote; new = old; stay = stays old kind; ends = ends } in
-      subst (λ (x : Result (Unit {0}) Ended). ProgramRuns Begin Stay options from w x left after) (sym is) (subst (λ (x : Input). ProgramRuns Begin Stay options from w (Ok tt) x after) (sym unread) (subst (λ (x : Output). ProgramRuns Begin Stay options from w (Ok tt) mid x) (sym unwritten) runs))
-  runs_behind now from mid left kept false w told after c opens old r has accepted begin kind of wrote (new, more_kind, serves) =
+module _ {S L : Type 0} (b : Workbench S L) (Begin : Sites → List S → Type 0) (End : List S → Type 0) (all_end : (sites : List S) → End sites) (options : Options) (old new : L) where
+  runs_behind :
+      (now : ℕ) (from mid left : Input) (kept : Option (List ℕ)) (is_last : Bool) (w told after : Output) (c : CatalogueData) (opens : Sites) (begun : List S) (r : Result (Unit {0}) Ended)
+      → (has : HasScript most_reads now from mid kept is_last) → IsAccepted options has.text opens → Begin opens begun → AreOfScript c (map b.seen begun) → WritesText (ready options.sites) w told
+      → BehindEnds (AnswersLine b c) (AreThen new) is_last (begun, old) now mid told r left after → ProgramRuns b Begin End options old from w r new left after
+  runs_behind now from mid left kept true w told after c opens begun r has accepted begin of wrote (is, unread, unwritten, same) =
+      let state : State S L = (begun, old) in
+      let over : RunsOut (AnswersLine b c) state [] mid.left [] state = record { at_end = has.at_end refl; go_on = tt; printed = (refl, refl) } in
+      let run : Ends (AnswersLine b c) state [] (reads_left has.bytes) has.bytes from told (Ok tt) state mid told = (has.read, [], inr over, writes_nothing told) in
+      let runs : ProgramRuns b Begin End options old from w (Ok tt) old mid told =
+      record { bytes = has.bytes; script = has.text; raws = []; says = says_alone now from mid kept true has; opened = opens; accepted = accepted; begun = begun; begin = begin; catalogue = c; of_script = of; told = told; ready_told = wrote; ended = begun; end = all_end begun; ends = run } in
+      subst (λ (n : L). ProgramRuns b Begin End options old from w r n left after) same
+      (subst (λ (x : Result (Unit {0}) Ended). ProgramRuns b Begin End options old from w x old left after) (sym is)
+      (subst (λ (x : Input). ProgramRuns b Begin End options old from w (Ok tt) old x after) (sym unread) (subst (λ (x : Output). ProgramRuns b Begin End options old from w (Ok tt) old mid x) (sym unwritten) runs)))
+  runs_behind now from mid left kept false w told after c opens begun r has accepted begin of wrote ((sites, then), same, serves) =
       let more : List ℕ = serves.bytes in
+      let state : State S L = (begun, old) in
+      let ran =
+      ends_spare (AnswersLine b c) state (raw_lines more) (now - length more) (reads_left (has.bytes ++ more)) (has.bytes ++ more) from left told after r (sites, then)
+      (λ none. omega (arith, length-append has.bytes more, has.spent refl, none))
+      (ends_behind (AnswersLine b c) state [] [] state (served_none (AnswersLine b c) state) (raw_lines more) (now - length more) has.bytes more from mid left told told after r (sites, then) has.read (writes_nothing told) serves.ends) in
       record {
         bytes = has.bytes ++ more;
         script = has.text;
@@ -166,30 +176,31 @@ module _ (Begin : Sites → Sites → Type 0) (Stay Kind : Sites → Type 0) (st
         says = has.leads more (λ last. absurd (false≢true last));
         opened = opens;
         accepted = accepted;
-        old = old;
+        begun = begun;
         begin = begin;
         catalogue = c;
         of_script = of;
         told = told;
         ready_told = wrote;
-        new = new;
-        stay = stays new more_kind;
-        ends = ends_spare c old (raw_lines more) (now - length more) (reads_left (has.bytes ++ more)) (has.bytes ++ more) from left told after r new
-            (λ none. omega (arith, length-append has.bytes more, has.spent refl, none))
-            (ends_behind c old [] [] old (served_none c old) (raw_lines more) (now - length more) has.bytes more from mid left told told after r new has.read (writes_nothing told) serves.ends);
+        ended = sites;
+        end = all_end sites;
+        ends = subst (λ (n : L). Ends (AnswersLine b c) state (raw_lines more) (reads_left (has.bytes ++ more)) (has.bytes ++ more) from told r (sites, n) left after) same ran;
       }
 
-  ready_behind : (now : ℕ) (from mid left : Input) (kept : Option (List ℕ)) (is_last : Bool) (w after : Output) (text : List ℕ) (c : CatalogueData) (opens old : Sites) (r : Result (Unit {0}) Ended)
-      → (has : HasScript most_reads now from mid kept is_last) → IsAccepted options has.text opens → Begin opens old → Kind old → AreOfScript c old → text ≡ ready options.sites
-      → ReadyBehind Kind is_last text c old now mid w r left after → ProgramRuns Begin Stay options from w r left after
-  ready_behind now from mid left kept is_last w after text c opens old r has accepted begin kind of is (told, wrote, behind) =
-      runs_behind now from mid left kept is_last w told after c opens old r has accepted begin kind of (subst (λ (t : List ℕ). WritesText t w told) is wrote) behind
+  ready_behind :
+      (now : ℕ) (from mid left : Input) (kept : Option (List ℕ)) (is_last : Bool) (w after : Output) (text : List ℕ) (c : CatalogueData) (opens : Sites) (begun : List S) (r : Result (Unit {0}) Ended)
+      → (has : HasScript most_reads now from mid kept is_last) → IsAccepted options has.text opens → Begin opens begun → AreOfScript c (map b.seen begun) → text ≡ ready options.sites
+      → ReadyBehind (AnswersLine b c) (AreThen new) is_last text (begun, old) now mid w r left after → ProgramRuns b Begin End options old from w r new left after
+  ready_behind now from mid left kept is_last w after text c opens begun r has accepted begin of is (told, wrote, behind) =
+      runs_behind now from mid left kept is_last w told after c opens begun r has accepted begin of (subst (λ (t : List ℕ). WritesText t w told) is wrote) behind
 
-  pub ready_ends : (now : ℕ) (from mid left : Input) (kept : Option (List ℕ)) (is_last : Bool) (w after : Output) (text : List ℕ) (c : CatalogueData) (opens old : Sites) (r : Result Bool Ended)
-      → (has : HasScript most_reads now from mid kept is_last) → IsAccepted options has.text opens → Begin opens old → Kind old → AreOfScript c old → text ≡ ready options.sites
-      → ReadyEnds Kind is_last text c old now mid w r left after → EndsBy Begin Stay options from w r left after
-  ready_ends now from mid left kept is_last w after text c opens old (Ok true) has accepted begin kind of is behind = ready_behind now from mid left kept is_last w after text c opens old (Ok tt) has accepted begin kind of is behind
-  ready_ends now from mid left kept is_last w after text c opens old (Ok false) has accepted begin kind of is behind = absurd behind
-  ready_ends now from mid left kept is_last w after text c opens old (Err e) has accepted begin kind of is (inl behind) = inl (ready_behind now from mid left kept is_last w after text c opens old (Err e) has accepted begin kind of is behind)
-  ready_ends now from mid left kept is_last w after text c opens old (Err e) has accepted begin kind of is (inr (fault, unread, front)) =
-      inr (ready_untold now from mid kept is_last has Begin Stay options opens text left w after e accepted is fault unread front)
+  pub ready_ends :
+      (now : ℕ) (from mid left : Input) (kept : Option (List ℕ)) (is_last : Bool) (w after : Output) (text : List ℕ) (c : CatalogueData) (opens : Sites) (begun : List S) (r : Result Bool Ended)
+      → (has : HasScript most_reads now from mid kept is_last) → IsAccepted options has.text opens → Begin opens begun → AreOfScript c (map b.seen begun) → text ≡ ready options.sites
+      → ReadyEnds (AnswersLine b c) (AreThen new) is_last text (begun, old) now mid w r left after → EndsBy b Begin End options old from w r new left after
+  ready_ends now from mid left kept is_last w after text c opens begun (Ok true) has accepted begin of is behind = ready_behind now from mid left kept is_last w after text c opens begun (Ok tt) has accepted begin of is behind
+  ready_ends now from mid left kept is_last w after text c opens begun (Ok false) has accepted begin of is behind = absurd behind
+  ready_ends now from mid left kept is_last w after text c opens begun (Err e) has accepted begin of is (inl behind) =
+      inl (ready_behind now from mid left kept is_last w after text c opens begun (Err e) has accepted begin of is behind)
+  ready_ends now from mid left kept is_last w after text c opens begun (Err e) has accepted begin of is (inr (fault, unread, front, same)) =
+      inr (ready_untold now from mid kept is_last has options opens text left w after e accepted is fault unread front, sym same)

@@ -3,8 +3,10 @@ use Rattle.std.specs.Prelude.{◌≡◌, ◌⊎◌, ℕ, Bool, true, false, List
 use Rattle.td_devices.specs.Views.{Input, Output}
 use Rattle.td_listings.specs.Writings.{WritesFront}
 use Rattle.td_journal.specs.declared.stores.StoreError.{StoreError}
-use Rattle.td_workbench.specs.Journals.{JournaledEnds, Kept}
+use Rattle.td_answers.specs.Asking.{LinkRequest}
+use Rattle.td_workbench.specs.Journals.{JournaledEnds, KeeperSites, Kept}
 use Rattle.td_workbench.specs.Programs.{InRange, ProgramEnds}
+use Rattle.td_workbench.specs.Runs.{Workbench}
 use Rattle.td_workbench.specs.Streams.{WritesText}
 use Rattle.td_workbench.specs.declared.journaled.Stopped.{Stopped}
 use Rattle.td_workbench.specs.declared.journaled.Stopped.TheVariants.{JournalFile, Run}
@@ -24,13 +26,13 @@ pub record Standard : Type 0 where
   pub faults : Output
 
 -- the words gave options, and the program was run by them
-pub record RunsBy (status : ℕ) (old new : Standard) : Type 0 where
+pub record RunsBy {S L : Type 0} (b : Workbench S L) (status : ℕ) (old : L) (before : Standard) (new : L) (after : Standard) : Type 0 where
   pub options : Options
   pub in_range : InRange options
   pub result : Result Bool Ended
-  pub ends : ProgramEnds options old.input old.output result new.input new.output
+  pub ends : ProgramEnds b options old before.input before.output result new after.input after.output
   pub status_is : status ≡ status_of result
-  pub no_faults : new.faults ≡ old.faults
+  pub no_faults : after.faults ≡ before.faults
 
 -- what is told of a journal that failed
 abbrev pub journal_fault : List ℕ → List ℕ
@@ -47,13 +49,13 @@ TellsStopped (Err (Run e)) status f told = (status ≡ status_of (Err e)) × (to
 TellsStopped (Err (JournalFile name)) status f told = TellsJournal (string_bytes name) status f told
 
 -- the words gave options and where journals stand, and the program was run by them
-pub record RunsJournaled (kept : Kept) (Fails : StoreError → Type 0) (status : ℕ) (old new : Standard) : Type 0 where
+pub record RunsJournaled {K L : Type 0} (k : KeeperSites K) (serves calls : LinkRequest L) (kept : Kept) (Fails : StoreError → Type 0) (status : ℕ) (old : L) (before : Standard) (new : L) (after : Standard) : Type 0 where
   pub options : Options
   pub in_range : InRange options
   pub prefix : List ℕ
   pub result : Result Bool Stopped
-  pub ends : JournaledEnds kept Fails prefix options old.input old.output result new.input new.output
-  pub told : TellsStopped result status old.faults new.faults
+  pub ends : JournaledEnds k serves calls kept Fails prefix options old before.input before.output result new after.input after.output
+  pub told : TellsStopped result status before.faults after.faults
 
 -- help or the version was written, or a front of it
 abbrev pub PutsHelp : List ℕ → ℕ → Output → Output → Type 0
@@ -71,10 +73,11 @@ TellsWords status w f after told =
     ⊎ (((text : List ℕ) × PutsRefusal text status f told × (after ≡ w))
     ⊎ ((status ≡ 1) × (after ≡ w) × (told ≡ f)))
 
--- the words gave no options, and nothing was read
-abbrev pub RunsNot : ℕ → Standard → Standard → Type 0
-RunsNot status old new = TellsWords status old.output old.faults new.output new.faults × (new.input ≡ old.input)
+-- the words gave no options; nothing was read, and no link was asked for
+abbrev pub RunsNot : {L : Type 0} → ℕ → L → Standard → L → Standard → Type 0
+RunsNot status old before new after = TellsWords status before.output before.faults after.output after.faults × (after.input ≡ before.input) × (new ≡ old)
 
--- of journals that had this, where it is known, and one of which may have failed
-abbrev pub Exits : Kept → (StoreError → Type 0) → ℕ → Standard → Standard → Type 0
-Exits kept Fails status old new = RunsBy status old new ⊎ (RunsJournaled kept Fails status old new ⊎ RunsNot status old new)
+-- over sites in memory, or over keepers, of journals that had this, where it is known, and one of which may have failed
+abbrev pub Exits : {S K L : Type 0} → Workbench S L → KeeperSites K → Kept → (StoreError → Type 0) → ℕ → L → Standard → L → Standard → Type 0
+Exits b k kept Fails status old before new after =
+    RunsBy b status old before new after ⊎ (RunsJournaled k b.serves b.calls kept Fails status old before new after ⊎ RunsNot status old before new after)

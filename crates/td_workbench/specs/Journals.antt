@@ -1,12 +1,19 @@
 -- The program over sites that keep journals: behind the script, and before the lines, each site comes back from its own.
 use Rattle.std.specs.Prelude.{◌≡◌, ◌⊎◌, ℕ, Bool, List, [], ◌∷◌, ◌++◌, codes, decimal, Option, Result, Ok, Err, string_bytes}
 use Rattle.td_devices.specs.Views.{Input, Output}
+use Rattle.td_devices.specs.declared.streams.Sink as sink
+use Rattle.td_devices.specs.Views.{output_of}
 use Rattle.td_journal.specs.declared.stores.StoreError.{StoreError}
 use Rattle.td_story.specs.Seen.{Seen}
+use Rattle.td_story.specs.declared.replica.Replica as replica
+use Rattle.td_journal.specs.Keepers.{KeepsJournal}
 use Rattle.td_journal.specs.Stores.{GoesOn, KeepsNot}
+use Rattle.td_journal.specs.Views.{JournalFails, KeeperData, seen_of}
 use Rattle.td_journal.specs.declared.stores.StoreError.TheVariants as store_error
+use Rattle.td_answers.specs.Asking.{LinkRequest}
 use Rattle.td_answers.specs.Sites.{Sites}
 use Rattle.td_workbench.specs.Programs.{EndsBy}
+use Rattle.td_workbench.specs.Runs.{Workbench}
 use Rattle.td_workbench.specs.Scripts.{IsAccepted, Says}
 use Rattle.td_workbench.specs.Streams.{ReadsBytes}
 use Rattle.td_workbench.specs.declared.journaled.Stopped.{Stopped}
@@ -22,16 +29,27 @@ Kept = List ℕ → Option (List ℕ)
 abbrev pub journal_name : List ℕ → ℕ → List ℕ
 journal_name prefix site = prefix ++ decimal site ++ codes ".tdj"
 
--- a site that was opened has come back from its journal, and goes on with it
-abbrev pub ComesBack : Kept → List ℕ → Seen → Seen → Type 0
-ComesBack kept prefix s after = (w : Output) × GoesOn (kept (journal_name prefix s.site)) s after w
+-- what sites that keep journals are seen as, what the writer of each journal holds, whether it has failed between two
+-- states, and whether it is known to hold the journal
+pub record KeeperSites (S : Type 0) : Type 1 where
+  pub seen : S → Seen
+  pub written : S → Output
+  pub failed : S → S → Type 0
+  pub journaled : S → Type 0
 
--- each of them has
-abbrev pub ComeBack : Kept → List ℕ → Sites → Sites → Type 0
-ComeBack kept prefix [] [] = Unit {0}
-ComeBack kept prefix [] (t ∷ ts) = ⊥
-ComeBack kept prefix (s ∷ ss) [] = ⊥
-ComeBack kept prefix (s ∷ ss) (t ∷ ts) = ComesBack kept prefix s t × ComeBack kept prefix ss ts
+-- these are keepers, whose writers are those that journals give out
+abbrev pub keepers : {R W : Type 0} → replica.Ghosts R → sink.Ghosts W → KeeperSites (KeeperData R W)
+keepers site writer = record { seen = seen_of site; written = λ k. output_of writer k.writer; failed = JournalFails site writer; journaled = KeepsJournal site writer }
+
+abbrev pub with_links : {S L : Type 0} → KeeperSites S → LinkRequest L → LinkRequest L → Workbench S L
+with_links k serves calls = record { seen = k.seen; failed = k.failed; journaled = k.journaled; serves = serves; calls = calls }
+
+-- each site that was opened has come back from its journal, and goes on with it
+abbrev pub ComeBack : {S : Type 0} → KeeperSites S → Kept → List ℕ → Sites → List S → Type 0
+ComeBack k kept prefix [] [] = Unit {0}
+ComeBack k kept prefix [] (t ∷ ts) = ⊥
+ComeBack k kept prefix (s ∷ ss) [] = ⊥
+ComeBack k kept prefix (s ∷ ss) (t ∷ ts) = GoesOn (kept (journal_name prefix s.site)) s (k.seen t) (k.written t) × ComeBack k kept prefix ss ts
 
 -- Why a site does not go on with its journal: for want of memory, or since its journal is refused.
 abbrev pub KeepsOneNot : Kept → (StoreError → Type 0) → List ℕ → Seen → Stopped → Type 0
@@ -40,29 +58,32 @@ KeepsOneNot kept Fails prefix s (JournalFile name) =
     (string_bytes name ≡ journal_name prefix s.site) × KeepsNot Fails (kept (journal_name prefix s.site)) s store_error.JournalFile
 
 -- Why one of them does not, behind those that came back; or that there was no memory for all.
-abbrev pub KeepsSomeNot : Kept → (StoreError → Type 0) → List ℕ → Sites → Stopped → Type 0
-KeepsSomeNot kept Fails prefix sites (Run e) = e ≡ OutOfMemory
-KeepsSomeNot kept Fails prefix sites (JournalFile name) =
-    (before : Sites) × (back : Sites) × (s : Seen) × (rest : Sites) × (sites ≡ before ++ s ∷ rest) × ComeBack kept prefix before back
+abbrev pub KeepsSomeNot : {S : Type 0} → KeeperSites S → Kept → (StoreError → Type 0) → List ℕ → Sites → Stopped → Type 0
+KeepsSomeNot k kept Fails prefix sites (Run e) = e ≡ OutOfMemory
+KeepsSomeNot {S} k kept Fails prefix sites (JournalFile name) =
+    (before : Sites) × (back : List S) × (s : Seen) × (rest : Sites) × (sites ≡ before ++ s ∷ rest) × ComeBack k kept prefix before back
     × KeepsOneNot kept Fails prefix s (JournalFile name)
 
--- the script was accepted, but not all of its sites came back; nothing was told, and nothing behind the script was read
-pub record ComeBackNot (kept : Kept) (Fails : StoreError → Type 0) (prefix : List ℕ) (options : Options) (from : Input) (w : Output) (e : Stopped) (left : Input) (after : Output) : Type 0 where
+-- the script was accepted, but not all of its sites came back; nothing was told, nothing behind the script was read, and
+-- no link was asked for
+pub record ComeBackNot {S L : Type 0} (k : KeeperSites S) (kept : Kept) (Fails : StoreError → Type 0) (prefix : List ℕ) (options : Options) (old : L) (from : Input) (w : Output) (e : Stopped) (new : L) (left : Input) (after : Output) : Type 0 where
   pub bytes : List ℕ
   pub script : List ℕ
   pub read : ReadsBytes bytes from left
   pub says : Says bytes script []
   pub opened : Sites
   pub accepted : IsAccepted options script opened
-  pub cause : KeepsSomeNot kept Fails prefix opened e
+  pub cause : KeepsSomeNot k kept Fails prefix opened e
+  pub unasked : new ≡ old
   pub untold : after ≡ w
 
--- sites that come back from their journals; one whose journal fails is not open from then on
-abbrev pub AnyWay : Sites → Type 0
+-- a site whose journal fails is not open from then on
+abbrev pub AnyWay : {S : Type 0} → List S → Type 0
 AnyWay sites = Unit {0}
 
-abbrev pub JournaledEnds : Kept → (StoreError → Type 0) → List ℕ → Options → Input → Output → Result Bool Stopped → Input → Output → Type 0
-JournaledEnds kept Fails prefix options from w (Ok accepted) left after = EndsBy (ComeBack kept prefix) AnyWay options from w (Ok accepted) left after
-JournaledEnds kept Fails prefix options from w (Err (Run e)) left after =
-    EndsBy (ComeBack kept prefix) AnyWay options from w (Err e) left after ⊎ ComeBackNot kept Fails prefix options from w (Run e) left after
-JournaledEnds kept Fails prefix options from w (Err (JournalFile name)) left after = ComeBackNot kept Fails prefix options from w (JournalFile name) left after
+abbrev pub JournaledEnds : {S L : Type 0} → KeeperSites S → LinkRequest L → LinkRequest L → Kept → (StoreError → Type 0) → List ℕ → Options → L → Input → Output → Result Bool Stopped → L → Input → Output → Type 0
+JournaledEnds k serves calls kept Fails prefix options old from w (Ok accepted) new left after =
+    EndsBy (with_links k serves calls) (ComeBack k kept prefix) AnyWay options old from w (Ok accepted) new left after
+JournaledEnds k serves calls kept Fails prefix options old from w (Err (Run e)) new left after =
+    EndsBy (with_links k serves calls) (ComeBack k kept prefix) AnyWay options old from w (Err e) new left after ⊎ ComeBackNot k kept Fails prefix options old from w (Run e) new left after
+JournaledEnds k serves calls kept Fails prefix options old from w (Err (JournalFile name)) new left after = ComeBackNot k kept Fails prefix options old from w (JournalFile name) new left after

@@ -2,6 +2,8 @@
 
 ghost use Rattle.std.specs.Prelude.{◌≡◌, IfOk, string_bytes};
 ghost use Rattle.td_devices.specs.Views.{input_of, output_of};
+ghost use Rattle.td_workbench.specs.Journals.{keepers};
+ghost use Rattle.td_workbench.specs.Runs.{over};
 ghost use Rattle.td_workbench.specs.Exits.{Exits, PutsHelp, PutsRefusal, TellsJournal, TellsStopped, TellsWords, journal_fault, status_of};
 
 use crate::journaled::{Stopped, run_journaled};
@@ -108,7 +110,7 @@ pub fn program<R: Opens + Drop, J: Journals, L: Links, S: Source, K: Sink, F: Si
     sink: &mut K,
     faults: &mut F,
 ) -> u8
-    ensures { Exits (J.kept journals.now) (J.fails journals.now) result (record { input = input_of S.Source source.old; output = output_of K.Sink sink.old; faults = output_of F.Sink faults.old }) (record { input = input_of S.Source source.new; output = output_of K.Sink sink.new; faults = output_of F.Sink faults.new }) }
+    ensures { Exits (over R.seen R.failed R.journaled L.serves L.calls) (keepers R.Replica J.Writer.Sink) (J.kept journals.now) (J.fails journals.now) result links.old (record { input = input_of S.Source source.old; output = output_of K.Sink sink.old; faults = output_of F.Sink faults.old }) links.new (record { input = input_of S.Source source.new; output = output_of K.Sink sink.new; faults = output_of F.Sink faults.new }) }
 {
     let words = match read_words(alloc, words) {
         Ok(words) => words,

@@ -4,9 +4,10 @@ ghost use Rattle.std.specs.Prelude.{◌≡◌, IfOk, MatchResult, map, string_by
 ghost use Rattle.std.specs.List.{AllByRecursion};
 ghost use Rattle.td_devices.specs.Views.{input_of, output_of};
 ghost use Rattle.td_journal.specs.Reopening.{IsNew};
+ghost use Rattle.td_journal.specs.Stores.{GoesOn};
 ghost use Rattle.td_journal.specs.Views.{seen_of};
 ghost use Rattle.td_workbench.specs.ForProofs.Journaled.{StartsJournaled, run_of};
-ghost use Rattle.td_workbench.specs.Journals.{ComeBack, ComesBack, JournaledEnds, KeepsOneNot, KeepsSomeNot, journal_name};
+ghost use Rattle.td_workbench.specs.Journals.{ComeBack, JournaledEnds, KeepsOneNot, KeepsSomeNot, journal_name, keepers};
 ghost use Rattle.td_workbench.specs.Programs.{InRange};
 
 use crate::opening::{Opened, Options, open};
@@ -21,12 +22,15 @@ use td_devices::{Sink, Source};
 use td_journal::{Journals, Keeper, StoreError, keep_journal};
 use td_listings::show_number;
 use td_story::{Meter, Opens};
+use thiserror::Error;
 
 /// Why a run over journals ended before its input did.
-#[derive(Drop)]
+#[derive(Debug, Drop, Error)]
 pub enum Stopped {
+    #[error("{0}")]
     Run(Ended),
     /// The journal of this name cannot be opened, read, cut or begun.
+    #[error("the journal {0} cannot be opened, read, cut or begun")]
     JournalFile(String),
 }
 
@@ -50,7 +54,7 @@ fn keep_site<R: Opens + Drop, J: Journals>(
 ) -> Result<Keeper<R, J::Writer>, Stopped>
     requires { IsNew (R.seen site) }
     ensures { MatchResult result
-        (λ k. ComesBack (J.kept journals.now) prefix.now (R.seen site) (seen_of R.Replica k))
+        (λ k. GoesOn (J.kept journals.now (journal_name prefix.now (R.seen site).site)) (R.seen site) (seen_of R.Replica k) (output_of J.Writer.Sink k.writer))
         (λ e. KeepsOneNot (J.kept journals.now) (J.fails journals.now) prefix.now (R.seen site) e) }
 {
     let Ok(name) = journal_name(alloc, prefix, site.site()) else {
@@ -73,8 +77,8 @@ fn keep_sites<R: Opens + Drop, J: Journals>(
 ) -> Result<Vec<Keeper<R, J::Writer>>, Stopped>
     requires { AllByRecursion IsNew (map R.seen sites.items) }
     ensures { MatchResult result
-        (λ v. ComeBack (J.kept journals.now) prefix.now (map R.seen sites.items) (map (seen_of R.Replica) v.items))
-        (λ e. KeepsSomeNot (J.kept journals.now) (J.fails journals.now) prefix.now (map R.seen sites.items) e) }
+        (λ v. ComeBack (keepers R.Replica J.Writer.Sink) (J.kept journals.now) prefix.now (map R.seen sites.items) v.items)
+        (λ e. KeepsSomeNot (keepers R.Replica J.Writer.Sink) (J.kept journals.now) (J.fails journals.now) prefix.now (map R.seen sites.items) e) }
 {
     let mut keepers = Vec::new(alloc);
     for site in sites {
@@ -100,9 +104,9 @@ fn keep_opened<R: Opens + Drop, J: Journals>(
 ) -> Result<Opened<Keeper<R, J::Writer>>, Stopped>
     requires { AllByRecursion IsNew (map R.seen opened.sites.items) }
     ensures { MatchResult result
-        (λ o. ComeBack (J.kept journals.now) prefix.now (map R.seen opened.sites.items) (map (seen_of R.Replica) o.sites.items)
+        (λ o. ComeBack (keepers R.Replica J.Writer.Sink) (J.kept journals.now) prefix.now (map R.seen opened.sites.items) o.sites.items
         × (o.catalogue ≡ opened.catalogue) × (string_bytes o.ready ≡ string_bytes opened.ready))
-        (λ e. KeepsSomeNot (J.kept journals.now) (J.fails journals.now) prefix.now (map R.seen opened.sites.items) e) }
+        (λ e. KeepsSomeNot (keepers R.Replica J.Writer.Sink) (J.kept journals.now) (J.fails journals.now) prefix.now (map R.seen opened.sites.items) e) }
 {
     let Opened {
         sites,
@@ -142,7 +146,7 @@ fn start<R: Opens + Drop, J: Journals, L: Links, S: Source, K: Sink>(
     reads: &mut u64,
 ) -> Result<bool, Stopped>
     requires { InRange options.now }
-    ensures { StartsJournaled (J.kept journals.now) (J.fails journals.now) prefix.now options.now script.now reads.old (input_of S.Source source.old) (output_of K.Sink sink.old) result (input_of S.Source source.new) (output_of K.Sink sink.new) }
+    ensures { StartsJournaled (keepers R.Replica J.Writer.Sink) L.serves L.calls (J.kept journals.now) (J.fails journals.now) prefix.now options.now script.now reads.old links.old (input_of S.Source source.old) (output_of K.Sink sink.old) result links.new (input_of S.Source source.new) (output_of K.Sink sink.new) }
 {
     let opened = match open::<R>(alloc, options, script) {
         Ok(opened) => opened,
@@ -178,7 +182,7 @@ pub fn run_journaled<R: Opens + Drop, J: Journals, L: Links, S: Source, K: Sink>
     sink: &mut K,
 ) -> Result<bool, Stopped>
     requires { InRange options.now }
-    ensures { JournaledEnds (J.kept journals.now) (J.fails journals.now) prefix.now options.now (input_of S.Source source.old) (output_of K.Sink sink.old) result (input_of S.Source source.new) (output_of K.Sink sink.new) }
+    ensures { JournaledEnds (keepers R.Replica J.Writer.Sink) L.serves L.calls (J.kept journals.now) (J.fails journals.now) prefix.now options.now links.old (input_of S.Source source.old) (output_of K.Sink sink.old) result links.new (input_of S.Source source.new) (output_of K.Sink sink.new) }
 {
     let mut reads = u64::MAX;
     match read_script(alloc, source, &mut reads) {

@@ -17,3 +17,5 @@ pub use journaled::{Stopped, run_journaled};
 pub use opening::Options;
 pub use programs::run_program;
 pub use run::{Ended, workbench};
+pub use td_answers::{Links, NoLinks};
+pub use td_listings::{export, listing};

@@ -4,8 +4,9 @@ ghost use Rattle.std.specs.Prelude.{◌≡◌, map, string_bytes, true};
 ghost use Rattle.std.specs.Io.KnownBytes.{IsAtEnd};
 ghost use Rattle.td_devices.specs.Views.{input_of, output_of};
 ghost use Rattle.td_answers.specs.Sites.{AreOfScript};
-ghost use Rattle.td_workbench.specs.ForProofs.Opening.{AreSeen, BehindEnds, ReadyEnds, StartEnds};
+ghost use Rattle.td_workbench.specs.ForProofs.Opening.{AreThen, BehindEnds, ReadyEnds, StartEnds};
 ghost use Rattle.td_workbench.specs.Programs.{InRange, ProgramEnds};
+ghost use Rattle.td_workbench.specs.Runs.{AnswersLine, over};
 
 use crate::opening::{Opened, Options, open};
 use crate::refusal::refuse;
@@ -29,7 +30,7 @@ fn answer_behind<R: Replica + Drop, L: Links, S: Source, K: Sink>(
     reads: &mut u64,
 ) -> Result<(), Ended>
     requires { AreOfScript opened.catalogue (map R.seen opened.sites.items) }
-    ensures { BehindEnds (AreSeen R.seen) is_last opened.catalogue (map R.seen opened.sites.items) reads.old (input_of S.Source source.old) (output_of K.Sink sink.old) result (input_of S.Source source.new) (output_of K.Sink sink.new) }
+    ensures { BehindEnds (AnswersLine (over R.seen R.failed R.journaled L.serves L.calls) opened.catalogue) (AreThen links.new) is_last (opened.sites.items, links.old) reads.old (input_of S.Source source.old) (output_of K.Sink sink.old) result (input_of S.Source source.new) (output_of K.Sink sink.new) }
 {
     if is_last {
         return Ok(());
@@ -58,7 +59,7 @@ pub(crate) fn tell_and_answer<R: Replica + Drop, L: Links, S: Source, K: Sink>(
     reads: &mut u64,
 ) -> Result<bool, Ended>
     requires { AreOfScript opened.catalogue (map R.seen opened.sites.items) }
-    ensures { ReadyEnds (AreSeen R.seen) is_last (string_bytes opened.ready) opened.catalogue (map R.seen opened.sites.items) reads.old (input_of S.Source source.old) (output_of K.Sink sink.old) result (input_of S.Source source.new) (output_of K.Sink sink.new) }
+    ensures { ReadyEnds (AnswersLine (over R.seen R.failed R.journaled L.serves L.calls) opened.catalogue) (AreThen links.new) is_last (string_bytes opened.ready) (opened.sites.items, links.old) reads.old (input_of S.Source source.old) (output_of K.Sink sink.old) result (input_of S.Source source.new) (output_of K.Sink sink.new) }
 {
     match put(sink, opened.ready.as_bytes()) {
         Ok(()) => {}
@@ -82,7 +83,7 @@ fn start<R: Opens + Drop, L: Links, S: Source, K: Sink>(
     reads: &mut u64,
 ) -> Result<bool, Ended>
     requires { InRange options.now }
-    ensures { StartEnds options.now script.now reads.old (input_of S.Source source.old) (output_of K.Sink sink.old) result (input_of S.Source source.new) (output_of K.Sink sink.new) }
+    ensures { StartEnds (over R.seen R.failed R.journaled L.serves L.calls) options.now script.now reads.old links.old (input_of S.Source source.old) (output_of K.Sink sink.old) result links.new (input_of S.Source source.new) (output_of K.Sink sink.new) }
 {
     match open::<R>(alloc, options, script) {
         Ok(opened) => tell_and_answer(
@@ -111,7 +112,7 @@ pub fn run_program<R: Opens + Drop, L: Links, S: Source, K: Sink>(
     sink: &mut K,
 ) -> Result<bool, Ended>
     requires { InRange options.now }
-    ensures { ProgramEnds options.now (input_of S.Source source.old) (output_of K.Sink sink.old) result (input_of S.Source source.new) (output_of K.Sink sink.new) }
+    ensures { ProgramEnds (over R.seen R.failed R.journaled L.serves L.calls) options.now links.old (input_of S.Source source.old) (output_of K.Sink sink.old) result links.new (input_of S.Source source.new) (output_of K.Sink sink.new) }
 {
     let mut reads = u64::MAX;
     match read_script(alloc, source, &mut reads) {

@@ -3,7 +3,7 @@
 ghost use Rattle.std.specs.Prelude.{◌≡◌, ◌==◌, ◌&&◌, length, List, ℕ, Option, map, option_map, Ok};
 ghost use Rattle.td_answers.specs.Sites.{AreOfOneScript, AreOfScript};
 ghost use Rattle.td_workbench.specs.ForProofs.Serving.{LineEnds, ReadEnds, Serves, ended_by};
-ghost use Rattle.td_workbench.specs.Runs.{WorkbenchEnds, said};
+ghost use Rattle.td_workbench.specs.Runs.{AnswersLine, WorkbenchEnds, over, said};
 ghost use Rattle.td_devices.specs.Lines.{IsKept, TellsLine};
 ghost use Rattle.td_lines.specs.Lines.{line_of};
 ghost use Rattle.td_devices.specs.Views.{input_of, output_of};
@@ -62,7 +62,7 @@ fn answer_line<R: Replica, L: Links, K: Sink>(
     sink: &mut K,
 ) -> Result<bool, Failed>
     requires { AreOfScript catalogue.now (map R.seen sites.old) }
-    ensures ends { LineEnds catalogue.now (map R.seen sites.old) (line_of line.now) result (map R.seen sites.new) (output_of K.Sink sink.old) (output_of K.Sink sink.new) }
+    ensures ends { LineEnds (AnswersLine (over R.seen R.failed R.journaled L.serves L.calls) catalogue.now) (sites.old, links.old) (line_of line.now) result (sites.new, links.new) (output_of K.Sink sink.old) (output_of K.Sink sink.new) }
     ensures kept { AreOfScript catalogue.now (map R.seen sites.new) }
 {
     match answer(alloc, catalogue, sites, links, meter, line) {
@@ -84,7 +84,7 @@ fn answer_read<R: Replica, L: Links, K: Sink>(
     sink: &mut K,
 ) -> Result<bool, Failed>
     requires { AreOfScript catalogue.now (map R.seen sites.old) }
-    ensures ends { (raw : List ℕ) (left : Option (List ℕ)) → TellsLine 16384 raw left (Ok line.now) → ReadEnds catalogue.now (map R.seen sites.old) raw line.now.is_last left result (map R.seen sites.new) (output_of K.Sink sink.old) (output_of K.Sink sink.new) }
+    ensures ends { (raw : List ℕ) (left : Option (List ℕ)) → TellsLine 16384 raw left (Ok line.now) → ReadEnds (AnswersLine (over R.seen R.failed R.journaled L.serves L.calls) catalogue.now) (sites.old, links.old) raw line.now.is_last left result (sites.new, links.new) (output_of K.Sink sink.old) (output_of K.Sink sink.new) }
     ensures kept { AreOfScript catalogue.now (map R.seen sites.new) }
 {
     if is_nothing(line) {
@@ -118,7 +118,7 @@ pub fn serve<R: Replica, L: Links, S: Source, K: Sink>(
     reads: &mut u64,
 ) -> Result<(), Ended>
     requires { AreOfScript catalogue.now (map R.seen sites.old) }
-    ensures { Serves catalogue.now (map R.seen sites.old) reads.old (input_of S.Source source.old) (output_of K.Sink sink.old) result (map R.seen sites.new) (input_of S.Source source.new) (output_of K.Sink sink.new) }
+    ensures { Serves (AnswersLine (over R.seen R.failed R.journaled L.serves L.calls) catalogue.now) (sites.old, links.old) reads.old (input_of S.Source source.old) (output_of K.Sink sink.old) result (sites.new, links.new) (input_of S.Source source.new) (output_of K.Sink sink.new) }
 {
     while *reads > 0 {
         let line = match read_line(alloc, source, reads, LINE_BYTES) {
@@ -146,7 +146,7 @@ pub fn workbench<R: Replica, L: Links, S: Source, K: Sink>(
     sink: &mut K,
 ) -> Result<(), Ended>
     requires { AreOfOneScript (map R.seen sites.old) }
-    ensures { WorkbenchEnds (map R.seen sites.old) (input_of S.Source source.old) (output_of K.Sink sink.old) result (map R.seen sites.new) (input_of S.Source source.new) (output_of K.Sink sink.new) }
+    ensures { WorkbenchEnds (over R.seen R.failed R.journaled L.serves L.calls) (sites.old, links.old) (input_of S.Source source.old) (output_of K.Sink sink.old) result (sites.new, links.new) (input_of S.Source source.new) (output_of K.Sink sink.new) }
 {
     let catalogue = match catalogue_for(alloc, sites) {
         Ok(catalogue) => catalogue,

@@ -20,11 +20,13 @@ pub struct Script {
 }
 
 /// Why no script was read.
-#[derive(Clone, Copy, PartialEq, Eq)]
+#[derive(Clone, Copy, Debug, Drop, PartialEq, Eq, Error)]
 pub enum Unready {
-    /// The input has no line `.begin`.
+    #[error("the input has no line .begin")]
     End,
+    #[error("out of memory")]
     OutOfMemory,
+    #[error("the reader failed")]
     ReadFault,
 }
 

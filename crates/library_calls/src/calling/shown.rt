@@ -59,7 +59,7 @@ fn given_text(alloc: Global, ended: Ended) -> Result<String> {
         Ended::Taken(taken) => {
             Ok(format!(in alloc; "fresh {} known {}\n", taken.fresh, taken.known)?)
         }
-        Ended::Met(met) => Ok(format!(in alloc; "fresh {} {}\n", met.first, met.second)?),
+        Ended::Met(met) => Ok(format!(in alloc; "fresh {} {}\n", met.fresh_a, met.fresh_b)?),
         Ended::Asked(Asked::Value(value)) => Ok(format!(in alloc; "{}\n", show(alloc, &value)?)?),
         Ended::Valued(Answer::Relation(relation)) => Ok(format!(in alloc;
             "{}\n",

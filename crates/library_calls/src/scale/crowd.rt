@@ -115,7 +115,7 @@ fn meet_once(
         &crowd[second],
     )?);
     let met = meet_at(alloc, crowd, first, second, meter)?;
-    let fresh = (met.first as u64).saturating_add(met.second as u64);
+    let fresh = (met.fresh_a as u64).saturating_add(met.fresh_b as u64);
     Ok(
         greetings
             .saturating_add(entries_of(fresh, text))

@@ -67,7 +67,7 @@ fn said<A: Replica, B: Replica>(
     second: &mut B,
 ) -> Result<String, AllocError> {
     let met = match meet(alloc, first, second, meter) {
-        Ok(met) => format!(in alloc; "fresh {} {}", met.first, met.second)?,
+        Ok(met) => format!(in alloc; "fresh {} {}", met.fresh_a, met.fresh_b)?,
         Err(refusal) => format!(in alloc; "{refusal}")?,
     };
     let one = vector(alloc, first)?;

@@ -10,7 +10,7 @@ use Rattle.td_operators.specs.Values.{truth_of}
 use Rattle.td_headings.specs.Catalogues.{CatalogueData}
 use Rattle.td_headings.specs.Expressions.{reads}
 use Rattle.td_meaning.specs.Mean.{Relvars}
-use Rattle.td_story.specs.Differences.{AreDifferences}
+use Rattle.td_story.specs.Differences.{LeadOver}
 use Rattle.td_story.specs.Tests.{is_key}
 use Rattle.td_story.specs.Trees.{tree_means}
 
@@ -37,7 +37,7 @@ IsUntouched changes x = (n : ℕ) → Contains (reads x) n → IsChanged changes
 pub record KeyBefore (now : Relvars) (changes : Changes) (n : ℕ) (key : List (List ℕ)) : Type 0 where
   pub before : Relvars
   pub held : and_then (before n) (λ r. Ok (is_key key r.tuples)) ≡ Ok true
-  pub differences : AreDifferences before now changes
+  pub lead : LeadOver before now changes
 
 -- the same, told of the relation that the relvar has now
 pub record KeyOf (changes : Changes) (n : ℕ) (key : List (List ℕ)) (r : RowsData) : Type 0 where
@@ -49,4 +49,4 @@ pub record KeyOf (changes : Changes) (n : ℕ) (key : List (List ℕ)) (r : Rows
 pub record ConstraintBefore (c : CatalogueData) (now : Relvars) (changes : Changes) (x : Expression) : Type 0 where
   pub before : Relvars
   pub held : and_then (tree_means c before x.tree no_attrs) truth_of ≡ Ok true
-  pub differences : AreDifferences before now changes
+  pub lead : LeadOver before now changes

@@ -12,7 +12,7 @@ use Rattle.td_headings.specs.Catalogues.{CatalogueData}
 use Rattle.td_meaning.specs.Mean.{Relvars}
 use Rattle.td_growth.specs.Growth.{narrowed}
 use Rattle.td_growth.specs.Laws.{has_none}
-use Rattle.td_story.specs.Differences.{AreDifferences}
+use Rattle.td_story.specs.Differences.{LeadOver}
 use Rattle.td_story.specs.Stored.{AreStored}
 use Rattle.td_story.specs.Trees.{tree_means}
 use Rattle.td_constraints.specs.ForProofs.Changed.{Changes}
@@ -39,9 +39,9 @@ pub record IsLost (c : CatalogueData) (x : Expression) (l : Losses) (now : Relva
 
 -- this is what it is after such changes where it was true before them
 abbrev pub IsWay : CatalogueData → Expression → Changes → Way → Type 0
-IsWay c x changes Stays = (before now : Relvars) → AreStored c now → AreDifferences before now changes → truth_over c x before ≡ Ok true → truth_over c x now ≡ Ok true
-IsWay c x changes (Over n i) = (before now : Relvars) → AreDifferences before now changes → truth_over c x before ≡ Ok true → IsNarrowed c x n i.now now
-IsWay c x changes (Lost l) = (before now : Relvars) → AreStored c now → AreDifferences before now changes → truth_over c x before ≡ Ok true → IsLost c x l now
+IsWay c x changes Stays = (before now : Relvars) → AreStored c now → LeadOver before now changes → truth_over c x before ≡ Ok true → truth_over c x now ≡ Ok true
+IsWay c x changes (Over n i) = (before now : Relvars) → LeadOver before now changes → truth_over c x before ≡ Ok true → IsNarrowed c x n i.now now
+IsWay c x changes (Lost l) = (before now : Relvars) → AreStored c now → LeadOver before now changes → truth_over c x before ≡ Ok true → IsLost c x l now
 IsWay c x changes Whole = Unit {0}
 
 -- where no changes are known, all is judged

@@ -2,7 +2,8 @@
 use Rattle.std.specs.Prelude.{ℕ, Bool, List, option_map, Result, Ok, Err}
 use Rattle.td_devices.specs.Views.{Input, Output}
 use Rattle.td_journal.specs.declared.stores.StoreError.{StoreError}
-use Rattle.td_workbench.specs.Journals.{JournaledEnds, Kept}
+use Rattle.td_answers.specs.Asking.{LinkRequest}
+use Rattle.td_workbench.specs.Journals.{JournaledEnds, KeeperSites, Kept}
 use Rattle.td_workbench.specs.Streams.{most_reads}
 use Rattle.td_workbench.specs.ForProofs.Reading.{HasScript}
 use Rattle.td_workbench.specs.declared.journaled.Stopped.{Stopped}
@@ -16,7 +17,7 @@ run_of (Ok accepted) = Ok accepted
 run_of (Err e) = Err (Run e)
 
 -- what the program ends in, whatever was read before
-abbrev pub StartsJournaled : Kept → (StoreError → Type 0) → List ℕ → Options → Script → ℕ → Input → Output → Result Bool Stopped → Input → Output → Type 0
-StartsJournaled kept Fails prefix options script reads mid w r left after =
+abbrev pub StartsJournaled : {S L : Type 0} → KeeperSites S → LinkRequest L → LinkRequest L → Kept → (StoreError → Type 0) → List ℕ → Options → Script → ℕ → L → Input → Output → Result Bool Stopped → L → Input → Output → Type 0
+StartsJournaled k serves calls kept Fails prefix options script reads old mid w r new left after =
     (from : Input) → HasScript most_reads reads from mid (option_map (λ v. v.items) script.bytes) script.is_last
-    → JournaledEnds kept Fails prefix options from w r left after
+    → JournaledEnds k serves calls kept Fails prefix options old from w r new left after

@@ -1,6 +1,5 @@
 -- What answering one line comes to, and what a run comes to by so many reads.
 use Rattle.std.specs.Prelude.{◌≡◌, ◌⊎◌, ℕ, ◌-◌, Bool, true, false, List, [], length, Option, Result, Ok, Err}
-use Rattle.td_headings.specs.Catalogues.{CatalogueData}
 use Rattle.td_devices.specs.Lines.{raw_lines, IsWholeLine}
 use Rattle.td_devices.specs.declared.lines.LineError.{LineError}
 use Rattle.td_devices.specs.declared.lines.LineError.TheVariants as line_error
@@ -8,10 +7,8 @@ use Rattle.td_devices.specs.declared.streams.Failed.{Failed}
 use Rattle.td_lines.specs.Lines.{Line, quit, is_quit}
 use Rattle.td_devices.specs.Views.{Input, Output}
 use Rattle.td_listings.specs.Writings.{WritesFront}
-use Rattle.td_answers.specs.Sites.{Sites}
-use Rattle.td_answers.specs.Answers.{LineAnswered}
 use Rattle.td_workbench.specs.Streams.{WritesText}
-use Rattle.td_workbench.specs.Runs.{said, DoesNotQuit, Quits, RunsOut, Reaches, Ends}
+use Rattle.td_workbench.specs.Runs.{said, DoesNotQuit, Quits, RunsOut, Reaches, Ends, LineStep}
 use Rattle.td_workbench.specs.declared.run.Ended.{Ended}
 use Rattle.td_workbench.specs.declared.run.Ended.TheVariants as ended
 
@@ -21,21 +18,21 @@ Puts text (Ok quits) w after = (quits ≡ false) × WritesText text w after
 Puts text (Err e) w after = WritesFront text w after
 
 -- true says that the line is `.quit`
-abbrev pub LineEnds : CatalogueData → Sites → Line → Result Bool Failed → Sites → Output → Output → Type 0
-LineEnds c old line (Ok true) new w after = (line ≡ quit) × (new ≡ old) × (after ≡ w)
-LineEnds c old line (Ok false) new w after = (text : List ℕ) × (is_quit line ≡ false) × LineAnswered c old line text new × WritesText text w after
-LineEnds c old line (Err e) new w after = (text : List ℕ) × (is_quit line ≡ false) × LineAnswered c old line text new × WritesFront text w after
+abbrev pub LineEnds : {X : Type 0} → LineStep X → X → Line → Result Bool Failed → X → Output → Output → Type 0
+LineEnds step old line (Ok true) new w after = (line ≡ quit) × step old quit [] new × (after ≡ w)
+LineEnds step old line (Ok false) new w after = (text : List ℕ) × (is_quit line ≡ false) × step old line text new × WritesText text w after
+LineEnds step old line (Err e) new w after = (text : List ℕ) × (is_quit line ≡ false) × step old line text new × WritesFront text w after
 
 -- true says that the run is over
-abbrev pub ReadEnds : CatalogueData → Sites → List ℕ → Bool → Option (List ℕ) → Result Bool Failed → Sites → Output → Output → Type 0
-ReadEnds c old raw is_last left (Ok true) new w after = (text : List ℕ) × (Quits c old (raw_lines raw) left text new ⊎ RunsOut c old (raw_lines raw) left text new) × WritesText text w after
-ReadEnds c old raw is_last left (Ok false) new w after = (text : List ℕ) × (is_last ≡ false) × IsWholeLine raw × DoesNotQuit raw × LineAnswered c old (said raw) text new × WritesText text w after
-ReadEnds c old raw is_last left (Err e) new w after = (answer : List ℕ) × Reaches c old (raw_lines raw) left [] answer new × WritesFront answer w after
+abbrev pub ReadEnds : {X : Type 0} → LineStep X → X → List ℕ → Bool → Option (List ℕ) → Result Bool Failed → X → Output → Output → Type 0
+ReadEnds step old raw is_last left (Ok true) new w after = (text : List ℕ) × (Quits step old (raw_lines raw) left text new ⊎ RunsOut step old (raw_lines raw) left text new) × WritesText text w after
+ReadEnds step old raw is_last left (Ok false) new w after = (text : List ℕ) × (is_last ≡ false) × IsWholeLine raw × DoesNotQuit raw × step old (said raw) text new × WritesText text w after
+ReadEnds step old raw is_last left (Err e) new w after = (answer : List ℕ) × Reaches step old (raw_lines raw) left [] answer new × WritesFront answer w after
 
 -- a run over lines, by so many reads
-pub record Serves (c : CatalogueData) (old : Sites) (reads : ℕ) (from : Input) (w : Output) (r : Result (Unit {0}) Ended) (new : Sites) (left : Input) (after : Output) : Type 0 where
+pub record Serves {X : Type 0} (step : LineStep X) (old : X) (reads : ℕ) (from : Input) (w : Output) (r : Result (Unit {0}) Ended) (new : X) (left : Input) (after : Output) : Type 0 where
   pub bytes : List ℕ
-  pub ends : Ends c old (raw_lines bytes) (reads - length bytes) bytes from w r new left after
+  pub ends : Ends step old (raw_lines bytes) (reads - length bytes) bytes from w r new left after
 
 abbrev pub ended_by : LineError → Ended
 ended_by line_error.OutOfMemory = ended.OutOfMemory

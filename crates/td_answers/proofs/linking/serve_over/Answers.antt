@@ -3,8 +3,8 @@ use Rattle.std.specs.Io.KnownBytes.{Keeps}
 use Rattle.td_meeting.specs.Steps.{link_of}
 use Rattle.td_answers.proofs.linking.serve_over.Goals as goal
 
-pub returns-in-Ok : goal.returns-in-Ok
-returns-in-Ok g c =
+pub returns-in-Ok-clause-served : goal.returns-in-Ok-clause-served
+returns-in-Ok-clause-served g c =
     let held = g.met.C.Channel.same_held in
     let kept =
     subst (λ (h : Option (List ℕ)). Keeps h (g.C.Sink.held c.finish.new.source)) (held c.answer.new.link)

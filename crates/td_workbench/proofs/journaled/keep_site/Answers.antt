@@ -13,8 +13,6 @@ returns-in-Ok-keep_journal g c =
     let w = output_of g.J.Writer.Sink k.writer in
     let after = g.R.Replica.seen k.replica in
     let journals = g.J.Journals.kept c.args.journals.now in
-    let name = c.deref.ensures ∙ c.in-Ok.ensures ∙ ap (λ (n : ℕ). journal_name c.args.prefix.now n) c.site.ensures.number in (
-      w,
-      subst (λ (t : Seen). GoesOn (journals (journal_name c.args.prefix.now s.site)) s t w) (seen_within k.is_open after c.in-Ok-keep_journal.ensures.open)
-          (subst (λ (l : List ℕ). GoesOn (journals l) s after w) name c.in-Ok-keep_journal.ensures.kept),
-    )
+    let name = c.deref.ensures ∙ c.in-Ok.ensures ∙ ap (λ (n : ℕ). journal_name c.args.prefix.now n) c.site.ensures.number in
+    subst (λ (t : Seen). GoesOn (journals (journal_name c.args.prefix.now s.site)) s t w) (seen_within k.is_open after c.in-Ok-keep_journal.ensures.open)
+    (subst (λ (l : List ℕ). GoesOn (journals l) s after w) name c.in-Ok-keep_journal.ensures.kept)
