@@ -18,8 +18,8 @@ returns-in-Err-put_journal g c =
 
 pub returns-in-Ok-replace : goal.returns-in-Ok-replace
 returns-in-Ok-replace g c =
-    let is = c.resume.ensures in
-    let k = c.resume.result in
+    let is = c.over.ensures in
+    let k = c.over.result in
     let empty = output_of g.J.Renewal.Sink c.in-Ok.renewal in
     let begun = output_of g.J.Renewal.Sink c.put_journal.new.writer in
     let held = ap (λ (x : KeeperData _ _). g.J.Writer.Sink.held x.writer) is ∙ c.in-Ok-replace.ensures in (

@@ -8,4 +8,4 @@ returns-clause-journaled g c =
     let old = c.args.self.now in
     let new = c.take_and_write.new.self in
     take_stays (seen_of g.R.Replica old) (seen_of g.R.Replica new) c.args.batch.now c.take_and_write.result (output_of g.W.Sink old.writer) (output_of g.W.Sink new.writer)
-    c.site.ensures.sound c.take_and_write.ensures.takes c.take_and_write.ensures.written
+    c.site-site.ensures.sound c.take_and_write.ensures.takes c.take_and_write.ensures.written
