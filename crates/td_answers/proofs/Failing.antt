@@ -1,11 +1,10 @@
 -- The text that tells of a failed journal is told for nothing else, where entries are taken.
-use Rattle.std.proofs.Common.{◌≡◌, ◌⊎◌, inl, inr, ◌<◌, ◌≢◌, ◌||◌, eqb, ℕ, zero, suc, Bool, true, false, List, [], ◌∷◌, ◌++◌, codes, decimal, length, get_or, take, drop, Result, Ok, Err, refl, sym, ap, subst, ◌∙◌, arith}
-use Rattle.std.specs.List.{list_any, slice_set}
+use Rattle.std.proofs.Common.{◌≡◌, ◌≢◌, ◌||◌, nat_eq, ℕ, Bool, true, false, List, ◌++◌, codes, decimal, refl, sym, ap, ◌∙◌}
+use Rattle.std.specs.List.{list_any}
 use Rattle.std.specs.Str.{bytes_eq}
 use Rattle.std.proofs.lemmas.Bool.{false≢true}
 use Rattle.std.proofs.lemmas.List.Folds.{list_any-append}
 use Rattle.td_story.specs.declared.answer.Issued.{Issued}
-use Rattle.td_story.specs.declared.answer.Taken.{Taken}
 use Rattle.td_story.specs.declared.refusal.IssueError.{IssueError}
 use Rattle.td_story.specs.declared.refusal.IssueError.TheVariants as issue_error
 use Rattle.td_story.specs.declared.refusal.TakeError.{TakeError}
@@ -15,9 +14,9 @@ use Rattle.td_frames.specs.declared.error.FrameError.TheVariants as frame_error
 use Rattle.td_meeting.specs.declared.error.MeetingError.{MeetingError}
 use Rattle.td_meeting.specs.declared.error.MeetingError.TheVariants as meeting_error
 use Rattle.td_meeting.specs.declared.meeting.Met.{Met}
+use Rattle.td_listings.specs.Texts.{shown_outcome, shown_stamp}
 use Rattle.td_answers.specs.Answers.{issued_line, met_line}
 use Rattle.td_answers.specs.Faults.{frame_fault, issue_fault, link_fault, meeting_fault, take_fault}
-use Rattle.td_answers.specs.Linked.{linked_answer, linked_line}
 use Rattle.td_answers.specs.declared.links.LinkError.{LinkError}
 use Rattle.td_answers.specs.declared.links.LinkError.TheVariants as link_error
 
@@ -38,8 +37,8 @@ issue_alone issue_error.OutOfMemory h = other (codes "fault memory\n") refl h
 issue_alone issue_error.JournalWrite h = refl
 
 -- a stamp has a full stop
-is_stop : ℕ → Bool
-is_stop c = eqb c 46
+abbrev is_stop : ℕ → Bool
+is_stop c = nat_eq c 46
 
 behind : (b : Bool) → (b || true) ≡ true
 behind true = refl
@@ -50,11 +49,13 @@ in_front xs ys has = list_any-append is_stop xs ys ∙ ap (λ b. b || list_any i
 
 pub issued_alone : {P : Type 0} (i : Issued) → issued_line i ≡ journal_text → P
 issued_alone i h =
-    let site = codes "." ++ decimal i.stamp.site in
-    let stamp : list_any is_stop (decimal i.stamp.clock ++ site) ≡ true =
-    list_any-append is_stop (decimal i.stamp.clock) site ∙ behind (list_any is_stop (decimal i.stamp.clock)) in
-    let has : list_any is_stop (issued_line i) ≡ true = in_front (decimal i.stamp.clock ++ site) _ stamp in
-    absurd (false≢true (sym (sym (ap (list_any is_stop) h) ∙ has) ∙ refl))
+    let clock = decimal i.stamp.clock in
+    let stop : list_any is_stop (clock ++ codes ".") ≡ true = list_any-append is_stop clock (codes ".") ∙ behind (list_any is_stop clock) in
+    let stamp = in_front (clock ++ codes ".") (decimal i.stamp.site) stop in
+    let outcome = in_front (shown_stamp i.stamp ++ codes " ") (shown_outcome i.outcome) (in_front (shown_stamp i.stamp) (codes " ") stamp) in
+    let has : list_any is_stop (issued_line i) ≡ true = in_front (shown_stamp i.stamp ++ codes " " ++ shown_outcome i.outcome) (codes "\n") outcome in
+    let none : list_any is_stop journal_text ≡ false = refl in
+    absurd (false≢true (sym none ∙ sym (ap (list_any is_stop) h) ∙ has))
 
 frame_alone : {P : Type 0} (e : FrameError) (n : ℕ) → frame_fault e n ≡ journal_text → P
 frame_alone frame_error.OutOfMemory n h = other (codes "fault memory\n") refl h

@@ -1,9 +1,9 @@
 -- What stays true of sites, and what happens to one of them, place by place.
-use Rattle.std.proofs.Common.{◌≡◌, ◌≢◌, ◌<◌, ℕ, zero, suc, List, [], ◌∷◌, ◌++◌, ◌⊎◌, inl, inr, length, get_or, take, drop, sym, ap, ◌∙◌, subst, arith}
+use Rattle.std.proofs.Common.{◌≡◌, ◌<◌, ℕ, zero, suc, List, [], ◌∷◌, ◌++◌, ◌⊎◌, inl, inr, length, get_or, take, drop, sym, ap, ◌∙◌, subst, arith}
 use Rattle.std.specs.List.{slice_set}
-use Rattle.std.proofs.lemmas.List.{get_or-drop, get_or-take}
+use Rattle.std.proofs.lemmas.List.{get_or-take}
 use Rattle.td_answers.specs.Sites.{EachStays, IsBetween}
-use Rattle.td_answers.proofs.Drawing.{at_back, set_apart, set_either}
+use Rattle.td_answers.proofs.Drawing.{at_back, set_apart}
 
 module _ {R : Type 0} (P : R → Type 0) where
   pub all_stay : (xs : List R) → EachStays P xs xs
