@@ -237,9 +237,9 @@ module _ (o : DatabaseData) (good : IsLegalDatabase o) (es : List Entry) (log : 
 
   pub fits_at : FitCopies copies q.1.delta.items
   fits_at y there r h =
-      let differs = off.step.delta.only y there in
-      let same : r ≡ differs.after = ok_same r differs.after (sym (at.copied y.0 r h) ∙ differs.is) in
-      differs.difference.inserted.heading ∙ differs.one_heading ∙ sym (ap (λ (z : RowsData). z.heading) same)
+      let change = (off.step.delta.only y there).change in
+      let same : r ≡ change.after = ok_same r change.after (sym (at.copied y.0 r h) ∙ change.is) in
+      change.difference.inserted.heading ∙ change.one_heading ∙ sym (ap (λ (z : RowsData). z.heading) same)
 
   here : drop i log ≡ q ∷ drop (i + 1) log
   here = left_at log i q within (same_at log i p q within)

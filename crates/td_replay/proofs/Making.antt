@@ -28,7 +28,7 @@ listed_is_target : (s t : DatabaseData) (e : Entry) (r : Ran) → Notes s e r t 
 listed_is_target s t e r step n never d h =
     let differs = step.delta.only (n, d) h in
     let stays = changes_targets s t e.dialect e.text r.outcome n step.step (λ target. never ((step.targets.members n).1 target)) in
-    differs.apart (ok_same differs.before differs.after (sym differs.was ∙ sym stays ∙ differs.is))
+    differs.apart (ok_same differs.change.before differs.change.after (sym differs.change.was ∙ sym stays ∙ differs.change.is))
   where
     ok_same : (a b : RowsData) → ◌≡◌ {A = Result RowsData Stop} (Ok a) (Ok b) → a ≡ b
     ok_same a b h = cc
