@@ -1,13 +1,14 @@
 /* Preloaded before the C library: tells in which order a program writes files, hands them to the disk and answers.
  *
- * To the file CALLS_TOLD a line is appended for each call that succeeds: `write NAME`, `cut NAME`, `sync NAME` and
- * `rename NAME OTHER` with the names of files, and `answer` for what is written to standard output. With CALLS_LOST no
- * sync is made or told, as by a program that has none.
+ * To the file CALLS_TOLD a line is appended for each call that succeeds: `make NAME`, `write NAME`, `cut NAME`,
+ * `sync NAME` and `rename NAME OTHER` with the names of files, and `answer` for what is written to standard output. With
+ * CALLS_LOST no sync is made or told, as by a program that has none.
  */
 #define _GNU_SOURCE
 #include <dlfcn.h>
 #include <fcntl.h>
 #include <limits.h>
+#include <stdarg.h>
 #include <stdio.h>
 #include <stdlib.h>
 #include <string.h>
@@ -31,6 +32,17 @@ static void tell_of(const char *call, int file) {
     name[size] = 0;
     snprintf(line, sizeof line, "%s %s\n", call, name);
     tell(line);
+}
+
+int open(const char *name, int flags, ...) {
+    va_list rest;
+    va_start(rest, flags);
+    /* (whoever makes no file gives no mode) */
+    mode_t mode = flags & O_CREAT ? va_arg(rest, mode_t) : 0;
+    va_end(rest);
+    int file = NEXT(open)(name, flags, mode);
+    if (file >= 0 && flags & O_EXCL) tell_of("make", file);
+    return file;
 }
 
 static void wrote(int file) {

@@ -1,21 +1,24 @@
-//! Statements that are run over a database, taken back and made again; and copies of relvars that are put back.
+//! Statements that are run over a database, taken back and made again; copies of relvars that are put back; and which
+//! test fails then.
 
 ghost use Rattle.td_story.specs.Databases.{IsLegal};
 
 use crate::Result;
 use std::alloc::{AllocError, Global};
 use td_assign::{Ran, redo, run, undo};
+use td_constraints::{first_failure, first_failure_after};
 use td_grammar::LATEST;
 use td_relations::Relation;
 use td_relvars::{Database, open_script};
-use td_story::{Answer, Meter, Outcome, RelvarError};
+use td_story::{Answer, BrokenTest, Meter, Outcome, RelvarError, TestFailure};
 use td_values::{Kind, Name, Value, show};
 
-/// What a step does: runs a statement, or asks what a relvar has.
+/// What a step does: runs a statement, or asks what a relvar has, or what is stored of it.
 #[derive(Clone, Copy)]
 enum Step<'a> {
     Run(&'a str),
     Held(&'a str),
+    Stored(&'a str),
 }
 
 /// What is done with a database.
@@ -27,6 +30,8 @@ enum Task<'a> {
     BackAndOn(&'a str),
     /// The statement is run, and then a copy of these relvars put back that was made before.
     PutBackBehind(&'a [usize], &'a str),
+    /// The statement is run, and the tests that it makes are made once more.
+    JudgedBehind(&'a str),
 }
 
 fn shown(alloc: Global, relation: Relation) -> Result<String> {
@@ -43,6 +48,36 @@ fn held(alloc: Global, database: &Database, name: &str) -> Result<String> {
         Err(RelvarError::Unknown) => Ok(String::from_str(alloc, "unknown")?),
         Err(RelvarError::OutOfMemory) => Err(AllocError)?,
     }
+}
+
+// A copy of what is stored of the relvar of this name, if it is a base relvar.
+fn stored(alloc: Global, database: &Database, name: &str) -> Result<String> {
+    let name = Name::new(alloc, name)?;
+    match database.base_of(&name) {
+        Some(base) => shown(alloc, base.copy_relation(alloc)?),
+        None => Ok(String::from_str(alloc, "nothing")?),
+    }
+}
+
+// The test that fails, if one does.
+fn failing(alloc: Global, failure: &Option<TestFailure>) -> Result<String> {
+    let Some(failure) = failure else {
+        return Ok(String::from_str(alloc, "no test fails")?);
+    };
+    let name = match &failure.test {
+        BrokenTest::Key(name) | BrokenTest::Constraint(name) => name.as_str(),
+    };
+    let how = if failure.raised.is_some() {
+        "raises"
+    } else {
+        "is false"
+    };
+    Ok(format!(in alloc; "{name} {how}")?)
+}
+
+fn first_failing(alloc: Global, database: &Database) -> Result<String> {
+    let failure = first_failure(alloc, database.catalogue(), database)?;
+    failing(alloc, &failure)
 }
 
 // What became of the statement, and how many relvars it changed.
@@ -63,6 +98,7 @@ fn answered(alloc: Global, database: &mut Database, meter: &mut Meter, step: Ste
     match step {
         Step::Run(text) => told(alloc, &run(alloc, &mut *database, text, LATEST, meter)?),
         Step::Held(name) => held(alloc, &*database, name),
+        Step::Stored(name) => stored(alloc, &*database, name),
     }
 }
 
@@ -115,7 +151,7 @@ fn back_and_on(
     Ok(format!(in alloc; "{after}\n{undone}\n{redone}\n{names}")?)
 }
 
-// What S has where a copy of these relvars was put back after the statement.
+// What S has where a copy of these relvars was put back after the statement, and the test that fails then.
 fn put_back_behind(
     alloc: Global,
     database: &mut Database,
@@ -129,7 +165,24 @@ fn put_back_behind(
     let part = database.copy_of(alloc, relvars)?;
     let _ran = run(alloc, &mut *database, text, LATEST, meter)?;
     database.put_back(part);
-    held(alloc, &*database, "S")
+    let held = held(alloc, &*database, "S")?;
+    let failing = first_failing(alloc, &*database)?;
+    Ok(format!(in alloc; "{held}\n{failing}")?)
+}
+
+// The test that fails, if one does, of those that the statement makes, made once more behind it.
+fn judged_behind(
+    alloc: Global,
+    database: &mut Database,
+    meter: &mut Meter,
+    text: &str,
+) -> Result<String>
+    requires { IsLegal database.old }
+{
+    database.relvars_fit();
+    let ran = run(alloc, &mut *database, text, LATEST, meter)?;
+    let failure = first_failure_after(alloc, database.catalogue(), &*database, &ran.delta)?;
+    failing(alloc, &failure)
 }
 
 fn done(alloc: Global, database: &mut Database, meter: &mut Meter, task: Task) -> Result<String>
@@ -141,6 +194,7 @@ fn done(alloc: Global, database: &mut Database, meter: &mut Meter, task: Task) -
         Task::PutBackBehind(relvars, text) => {
             put_back_behind(alloc, database, meter, relvars, text)
         }
+        Task::JudgedBehind(text) => judged_behind(alloc, database, meter, text),
     }
 }
 
@@ -173,9 +227,10 @@ CONSTRAINT C1 IS_EMPTY ( SP NOT MATCHING S );
         ),
         (Step::Run("DELETE S;"), "broken 0"),
         (
-            Step::Held("S"),
+            Step::Stored("S"),
             "RELATION { SNO CHAR, STATUS INTEGER } { TUPLE { SNO 'S1', STATUS 20 } }",
         ),
+        (Step::Stored("SHARES"), "nothing"),
         // a target that changes back is none that changed
         (Step::Run("DELETE SP, UPDATE S ( STATUS := 0 );"), "done 2"),
         (
@@ -224,8 +279,24 @@ fn copies_are_put_back(rt: HostRuntime) -> Result<()> {
     let mut meter = Meter::new(&rt);
     let task = Task::PutBackBehind(&[0, 1, 7, 0], UPDATE);
     let found = done_over(rt.alloc(), &mut meter, SCRIPT, task)?;
-    let before =
-        "RELATION { SNO CHAR, STATUS INTEGER } { TUPLE { SNO 'S1', STATUS 20 }, TUPLE { SNO 'S2', STATUS 10 } }";
-    assert!(rt; found.as_str() == before, "{found}");
+    let expected =
+        "RELATION { SNO CHAR, STATUS INTEGER } { TUPLE { SNO 'S1', STATUS 20 }, TUPLE { SNO 'S2', STATUS 10 } }
+no test fails";
+    assert!(rt; found.as_str() == expected, "{found}");
+    Ok(())
+}
+
+// A bound that is set while nobody is there, and then S as it was before.
+#[test]
+fn the_first_failure_is_told(rt: HostRuntime) -> Result<()> {
+    let mut meter = Meter::new(&rt);
+    let task = Task::PutBackBehind(&[0], "DELETE S, MOST := RELATION { TUPLE { N 0 } };");
+    let found = done_over(rt.alloc(), &mut meter, SCRIPT, task)?;
+    let expected =
+        "RELATION { SNO CHAR, STATUS INTEGER } { TUPLE { SNO 'S1', STATUS 20 }, TUPLE { SNO 'S2', STATUS 10 } }
+C is false";
+    assert!(rt; found.as_str() == expected, "{found}");
+    let found = done_over(rt.alloc(), &mut meter, SCRIPT, Task::JudgedBehind(UPDATE))?;
+    assert!(rt; found.as_str() == "no test fails", "{found}");
     Ok(())
 }

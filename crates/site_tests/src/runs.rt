@@ -2,6 +2,7 @@
 //! examples.
 
 mod fakes;
+mod journaled;
 mod sites;
 mod streams;
 mod texts;

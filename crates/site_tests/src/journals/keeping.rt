@@ -11,7 +11,7 @@ use td_devices::Device;
 use td_journal::{Keeper, StartError};
 use td_replay::Site;
 use td_stamps::Entry;
-use td_story::{Meter, Opens, Replica};
+use td_story::{IssueError, Meter, Opens, Replica};
 
 type Kept<'a> = Keeper<Site, Device<&'a mut Narrow>>;
 
@@ -100,7 +100,16 @@ fn a_keeper_writes_before_it_answers(rt: HostRuntime) -> Result<(), Fail> {
     Ok(())
 }
 
-// What a keeper tells of an issued statement where the writer has room for so many bytes, and what is reopened then.
+// What a keeper answers one more statement.
+fn said(alloc: Global, keeper: &mut Kept, meter: &mut Meter) -> &'static str {
+    match keeper.issue(alloc, "DELETE R;", meter) {
+        Ok(_) => "issued",
+        Err(IssueError::JournalWrite) => "failed",
+        Err(_) => "refused",
+    }
+}
+
+// What a keeper tells of two statements where the writer has room for so many bytes, and what is reopened then.
 fn issued(alloc: Global, meter: &mut Meter, room: usize) -> Result<String, AllocError> {
     let mut writer = Narrow::new(alloc, room);
     let told = issued_by(alloc, meter, &mut writer)?;
@@ -108,25 +117,16 @@ fn issued(alloc: Global, meter: &mut Meter, room: usize) -> Result<String, Alloc
     format!(in alloc; "{told}; {back}")
 }
 
-fn issued_by(
-    alloc: Global,
-    meter: &mut Meter,
-    writer: &mut Narrow,
-) -> Result<&'static str, AllocError> {
+fn issued_by(alloc: Global, meter: &mut Meter, writer: &mut Narrow) -> Result<String, AllocError> {
     let Ok(site) = Site::open_script(alloc, SCRIPT, 2, 10_000) else {
-        return Ok("the site is not opened");
+        return String::from_str(alloc, "the site is not opened");
     };
     let Ok(mut keeper) = Keeper::start(site, Device::new(writer)) else {
-        return Ok("not started");
+        return String::from_str(alloc, "not started");
     };
-    match keeper.issue(alloc, "DELETE R;", meter) {
-        Ok(_) => Ok("issued"),
-        Err(_) => Ok(if keeper.is_open() {
-            "refused"
-        } else {
-            "failed"
-        }),
-    }
+    let first = said(alloc, &mut keeper, meter);
+    let second = said(alloc, &mut keeper, meter);
+    format!(in alloc; "{first}, {second}, open {}", keeper.is_open())
 }
 
 #[test]
@@ -134,9 +134,26 @@ fn a_failed_statement_is_not_there_again(rt: HostRuntime) -> Result<(), Fail> {
     let mut meter = Meter::new(&rt);
     for (room, expected) in [
         (54, "not started; held 0, whole 0, version 2"),
-        (55, "failed; held 0, whole 55, version 2"),
-        (81, "failed; held 0, whole 55, version 2"),
-        (82, "issued; held 1, whole 82, version 2"),
+        (
+            55,
+            "failed, refused, open false; held 0, whole 55, version 2",
+        ),
+        (
+            81,
+            "failed, refused, open false; held 0, whole 55, version 2",
+        ),
+        (
+            82,
+            "issued, failed, open false; held 1, whole 82, version 2",
+        ),
+        (
+            108,
+            "issued, failed, open false; held 1, whole 82, version 2",
+        ),
+        (
+            109,
+            "issued, issued, open true; held 2, whole 109, version 2",
+        ),
     ] {
         let told = issued(rt.alloc(), &mut meter, room)?;
         assert!(rt; told.as_str() == expected, "{room}: {told}");
