@@ -36,7 +36,7 @@ no_more_spare spare other bs from left fewer (took, inr none) = (took, inr (none
 -- ---- what is printed
 
 pub printed_append : {X : Type 0} (step : LineStep X) (old : X) (ls : List (List ℕ)) (t : List ℕ) (mid : X) (ks : List (List ℕ)) (u : List ℕ) (new : X) → Printed step old ls t mid → Printed step mid ks u new → Printed step old (ls ++ ks) (t ++ u) new
-printed_append step old [] t mid ks u new (none, same) next =
+printed_append {X = X} step old [] t mid ks u new (none, same) next =
     subst (λ (s : X). Printed step s ks (t ++ u) new) same (subst (λ (v : List ℕ). Printed step mid ks v new) (sym (ap (λ (v : List ℕ). v ++ u) none)) next)
 printed_append step old (l ∷ ls) t mid ks u new (then, first, rest, answered, others, split) next =
     (then, first, rest ++ u, answered, printed_append step then ls rest mid ks u new others next, ap (λ (v : List ℕ). v ++ u) split ∙ append_assoc first rest u)

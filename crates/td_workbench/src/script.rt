@@ -9,6 +9,7 @@ ghost use Rattle.td_devices.specs.Views.{input_of};
 use std::alloc::{AllocError, Global};
 use td_devices::{LineError, RawLine, Source, content, read_line};
 use td_story::SCRIPT_BYTES;
+use thiserror::Error;
 
 /// The lines before `.begin`.
 #[derive(Drop)]

@@ -1,4 +1,4 @@
-use Rattle.std.proofs.Common.{refl, map, string_bytes, sym, subst, ◌∙◌}
+use Rattle.std.proofs.Common.{map, string_bytes, sym, subst, ◌∙◌}
 use Rattle.td_headings.specs.Catalogues.{CatalogueData}
 use Rattle.td_answers.specs.Sites.{AreOfScript}
 use Rattle.td_devices.specs.Views.{output_of}

@@ -1,6 +1,6 @@
 use Rattle.std.proofs.Common.{List, refl, ap}
 use Rattle.td_workbench.specs.ForProofs.Opening.{AreThen}
-use Rattle.td_workbench.specs.Runs.{AnswersLine, State, over}
+use Rattle.td_workbench.specs.Runs.{AnswersLine, over}
 use Rattle.td_workbench.proofs.Starting.{behind_ran}
 use Rattle.td_workbench.proofs.programs.answer_behind.Goals as goal
 
