@@ -17,6 +17,7 @@ use Rattle.td_tuples.specs.Unions.{beside, joined, with_attribute, composed_colu
 use Rattle.td_tuples.proofs.ByName.{fits-beside}
 use Rattle.td_tuples.proofs.SideBySide.{cut-beside_first, cut-beside_second, cut_agree, beside-cut}
 use Rattle.td_algebra.specs.declared.errors.Fault.{Fault}
+use Rattle.td_algebra.specs.declared.errors.Never.{Never}
 use Rattle.td_algebra.specs.declared.errors.Fault.TheVariants.{Raised, OutOfMemory, Wanting}
 use Rattle.td_algebra.specs.declared.errors.Stop.{Stop}
 use Rattle.td_values.specs.declared.raises.Raise.TheVariants.{Overflow, Divide, Empty, Selector, Cardinality}
@@ -287,7 +288,7 @@ back (Error Cardinality) = refl
 pub same_stop : (e f : Stop) → stop_number e ≡ stop_number f → e ≡ f
 same_stop e f h = sym (back e) ∙ ap stop_at h ∙ back f
 
-abbrev told : {A : Type 0} → Result A Stop → Result A Fault
+abbrev told : {A : Type 0} → Result A Stop → Result A (Fault Never)
 told (Ok a) = Ok a
 told (Err e) = Err (Raised e)
 
@@ -297,43 +298,43 @@ untold R P (Err e) u = u
 
 -- two answers that are right are one
 module _ (R : Stop → Type 0) (h : Header) (P : Attrs → Type 0) where
-  answers : (w : Result RowsData Stop) (a : Result RowsData Fault) → Unless R (IsRelationOf h P) (told w) → Unless R (IsRelationOf h P) a → Answers a w
+  answers : {W : Type 0} (m : Result RowsData Stop) (a : Result RowsData (Fault W)) → Unless R (IsRelationOf h P) (told m) → Unless R (IsRelationOf h P) a → Answers a m
   answers (Ok r) (Ok s) x u = ap Ok (one_relation h P r s x.1 u.1)
   answers (Ok r) (Err (Raised e)) x u = absurd (x.0 e u.0)
   answers (Ok r) (Err OutOfMemory) x u = tt
-  answers (Ok r) (Err (Wanting n)) x u = tt
+  answers (Ok r) (Err (Wanting w)) x u = tt
   answers (Err e) (Ok s) x u = absurd (u.0 e x.0)
   answers (Err e) (Err (Raised f)) x u = ap Err (same_stop e f (omega (arith, x.1 f u.0, u.1 e x.0)))
   answers (Err e) (Err OutOfMemory) x u = tt
-  answers (Err e) (Err (Wanting n)) x u = tt
+  answers (Err e) (Err (Wanting w)) x u = tt
 
 module _ (m : Attrs → Result Bool Stop) (r : RowsData) where
   by_walk : (w : Result (List Bool) Stop) → all_of m r.tuples ≡ w → Unless (RaisedIn m r) (IsRelationOf r.heading (Restricted m r)) (told (and_then w (λ bs. Ok (relation_from r.heading (select r.tuples bs)))))
   by_walk (Ok bs) is = restricts m r bs (relation_from r.heading (select r.tuples bs)) is (relation_of_is r.heading (tuple_set (select r.tuples bs)))
-  by_walk (Err e) is = walk_fails m r (λ (xs : List Bool). xs) (IsRelationOf r.heading (Restricted m r)) (Raised e) is
+  by_walk (Err e) is = walk_fails m r {W = Never} (λ (xs : List Bool). xs) (IsRelationOf r.heading (Restricted m r)) (Raised e) is
 
   pub restricted_is : UnlessRaised (RaisedIn m r) (IsRelationOf r.heading (Restricted m r)) (restricted m r)
   unfolding restricted
   restricted_is = untold (RaisedIn m r) (IsRelationOf r.heading (Restricted m r)) (restricted m r) (by_walk (all_of m r.tuples) refl)
 
-  pub restricts_to : (a : Result RowsData Fault) → Unless (RaisedIn m r) (IsRelationOf r.heading (Restricted m r)) a → Answers a (restricted m r)
+  pub restricts_to : {W : Type 0} (a : Result RowsData (Fault W)) → Unless (RaisedIn m r) (IsRelationOf r.heading (Restricted m r)) a → Answers a (restricted m r)
   unfolding restricted
   restricts_to a u = answers (RaisedIn m r) r.heading (Restricted m r) (restricted m r) a (by_walk (all_of m r.tuples) refl) u
 
 module _ {E : Type 0} (m : Meaning E) (items : List (Item E)) (r : RowsData) where
   by_items : (w : Result (List Attrs) Stop) → all_of (extended_at m items) r.tuples ≡ w → Unless (RaisedBy m items r) (IsRelationOf (extended_columns items r.heading) (Extended m items r)) (told (and_then w (λ us. Ok (relation_from (extended_columns items r.heading) us))))
   by_items (Ok us) is = extends m items r (extended_columns items r.heading) us (relation_from (extended_columns items r.heading) us) is (relation_of_is (extended_columns items r.heading) (tuple_set us))
-  by_items (Err e) is = extension_fails m items r (λ (xs : List Attrs). xs) (IsRelationOf (extended_columns items r.heading) (Extended m items r)) (Raised e) is
+  by_items (Err e) is = extension_fails m items r {W = Never} (λ (xs : List Attrs). xs) (IsRelationOf (extended_columns items r.heading) (Extended m items r)) (Raised e) is
 
   pub extended_is : UnlessRaised (RaisedBy m items r) (IsRelationOf (extended_columns items r.heading) (Extended m items r)) (extended m items r)
   unfolding extended
   extended_is = untold (RaisedBy m items r) (IsRelationOf (extended_columns items r.heading) (Extended m items r)) (extended m items r) (by_items (all_of (extended_at m items) r.tuples) refl)
 
-  pub extends_to : (a : Result RowsData Fault) → Unless (RaisedBy m items r) (IsRelationOf (extended_columns items r.heading) (Extended m items r)) a → Answers a (extended m items r)
+  pub extends_to : {W : Type 0} (a : Result RowsData (Fault W)) → Unless (RaisedBy m items r) (IsRelationOf (extended_columns items r.heading) (Extended m items r)) a → Answers a (extended m items r)
   unfolding extended
   extends_to a u = answers (RaisedBy m items r) (extended_columns items r.heading) (Extended m items r) (extended m items r) a (by_items (all_of (extended_at m items) r.tuples) refl) u
 
-pub summarizes_to : {E : Type 0} (m : Meaning E) (items : List (Item (Summary E))) (r per : RowsData) (a : Result RowsData Fault)
+pub summarizes_to : {E W : Type 0} (m : Meaning E) (items : List (Item (Summary E))) (r per : RowsData) (a : Result RowsData (Fault W))
     → Unless (RaisedBy (over_groups m r per.heading) items per) (IsRelationOf (extended_columns items per.heading) (Extended (over_groups m r per.heading) items per)) a → Answers a (summarized m items r per)
 unfolding summarized
 summarizes_to m items r per a u = extends_to (over_groups m r per.heading) items per a u

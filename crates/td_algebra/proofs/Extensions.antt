@@ -20,7 +20,7 @@ use Rattle.td_tuples.specs.Unions.{beside, tuple_of}
 use Rattle.td_algebra.specs.declared.errors.Fault.{Fault}
 use Rattle.td_algebra.specs.declared.errors.Fault.TheVariants.{Raised, OutOfMemory, Wanting}
 use Rattle.td_tuples.specs.declared.items.Item.{Item}
-use Rattle.td_algebra.specs.Raising.{AnswersBy, Unless, all_of, and_then}
+use Rattle.td_algebra.specs.Raising.{AnswersBy, Unless, UnlessRaised, all_of, and_then}
 use Rattle.td_algebra.specs.Extending.{Meaning, field_at, fields_at, extended_at, Extended, RaisedBy}
 use Rattle.td_algebra.proofs.Walks.{Tells, tells, answers_from, answers_there}
 
@@ -67,9 +67,9 @@ module _ {E : Type 0} (m : Meaning E) (items : List (Item E)) where
       (e, err_to (λ fs. beside (tuple_of fs) t) (fields_at m items t) e is, least)
 
   module _ (r : RowsData) where
-    pub extension_fails : {V : Type 0} (see : V → List Attrs) (P : RowsData → Type 0) (f : Fault) → AnswersBy see (Err f) (all_of (extended_at m items) r.tuples) → Unless (RaisedBy m items r) P (Err f)
+    pub extension_fails : {V W : Type 0} (see : V → List Attrs) (P : RowsData → Type 0) (f : Fault W) → AnswersBy see (Err f) (all_of (extended_at m items) r.tuples) → Unless (RaisedBy m items r) P (Err f)
     extension_fails see P OutOfMemory all = tt
-    extension_fails see P (Wanting n) all = tt
+    extension_fails see P (Wanting w) all = tt
     extension_fails see P (Raised e) all =
         let (found, least) = subst (Tells (extended_at m items) r.tuples) all (tells (extended_at m items) r.tuples) in
         let (i, there, raises) = raised_at found.0 e found.2 in (
@@ -80,7 +80,7 @@ module _ {E : Type 0} (m : Meaning E) (items : List (Item E)) where
               omega (arith, first, below),
         )
 
-    pub extends : (h : Header) (us : List Attrs) (s : RowsData) → all_of (extended_at m items) r.tuples ≡ Ok us → IsRelation h (set.from_list us) s → Unless (RaisedBy m items r) (IsRelationOf h (Extended m items r)) (Ok s)
+    pub extends : (h : Header) (us : List Attrs) (s : RowsData) → all_of (extended_at m items) r.tuples ≡ Ok us → IsRelation h (set.from_list us) s → UnlessRaised (RaisedBy m items r) (IsRelationOf h (Extended m items r)) (Ok s)
     extends h us s all is = (
       λ e (j, t, in_, has, k).
           let (d, raised, below) = raise_seen j t e in_ k in

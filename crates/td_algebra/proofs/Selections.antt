@@ -16,7 +16,7 @@ use Rattle.td_relations.proofs.Members.{has_listed}
 use Rattle.td_relations.proofs.Predicates.{by_list}
 use Rattle.td_algebra.specs.declared.errors.Fault.{Fault}
 use Rattle.td_algebra.specs.declared.errors.Fault.TheVariants.{Raised, OutOfMemory, Wanting}
-use Rattle.td_algebra.specs.Raising.{AnswersBy, Unless, all_of}
+use Rattle.td_algebra.specs.Raising.{AnswersBy, Unless, UnlessRaised, all_of}
 use Rattle.td_algebra.specs.Restricting.{Restricted, RaisedIn, select}
 use Rattle.td_algebra.proofs.Walks.{Tells, tells, ok_split, contains_cases, contains_first, contains_later}
 
@@ -120,14 +120,14 @@ module _ {A : Type 0} (m : Attrs → Result A Stop) (r : RowsData) where
   none_raised xs all e raised = let (t, there, raises) = raised_in e raised in subst (Tells m r.tuples) all (tells m r.tuples) t there e raises
 
   -- want of memory, or the least error that is raised
-  pub walk_fails : {B : Type 0} (see : B → List A) (P : RowsData → Type 0) (f : Fault) → AnswersBy see (Err f) (all_of m r.tuples) → Unless (RaisedIn m r) P (Err f)
+  pub walk_fails : {B W : Type 0} (see : B → List A) (P : RowsData → Type 0) (f : Fault W) → AnswersBy see (Err f) (all_of m r.tuples) → Unless (RaisedIn m r) P (Err f)
   walk_fails see P OutOfMemory all = tt
-  walk_fails see P (Wanting n) all = tt
+  walk_fails see P (Wanting w) all = tt
   walk_fails see P (Raised e) all =
       let (found, least) = subst (Tells m r.tuples) all (tells m r.tuples) in
       ((found.0, (has_listed r found.0).1 found.1, found.2), λ f raised. let (t, there, raises) = raised_in f raised in least t there f raises)
 
-pub restricts : (m : Attrs → Result Bool Stop) (r : RowsData) (bs : List Bool) (s : RowsData) → all_of m r.tuples ≡ Ok bs → IsRelation r.heading (set.from_list (select r.tuples bs)) s → Unless (RaisedIn m r) (IsRelationOf r.heading (Restricted m r)) (Ok s)
+pub restricts : (m : Attrs → Result Bool Stop) (r : RowsData) (bs : List Bool) (s : RowsData) → all_of m r.tuples ≡ Ok bs → IsRelation r.heading (set.from_list (select r.tuples bs)) s → UnlessRaised (RaisedIn m r) (IsRelationOf r.heading (Restricted m r)) (Ok s)
 restricts m r bs s all is = (
   none_raised m r bs all,
   by_list r.heading (select r.tuples bs) (Restricted m r) s is (λ t. (

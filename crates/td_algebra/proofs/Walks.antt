@@ -124,31 +124,31 @@ module _ {X A : Type 0} (m : X → Result A Stop) where
 
 -- ---- one more answer
 
-pub says_meaning : {A : Type 0} (a : Result A Fault) → Answers a (meaning_of a)
+pub says_meaning : {A W : Type 0} (a : Result A (Fault W)) → Answers a (meaning_of a)
 says_meaning (Ok x) = refl
 says_meaning (Err (Raised e)) = refl
 says_meaning (Err OutOfMemory) = tt
-says_meaning (Err (Wanting n)) = tt
+says_meaning (Err (Wanting w)) = tt
 
-pub listed_more : {A B : Type 0} (f : A → B) (cs : List B) (c : B) (s : Result (List A) Stop) (a : Result A Fault) → IfOk s (λ xs. map f xs ≡ cs) → IfOk a (λ x. f x ≡ c) → IfOk (and_all s (alone (meaning_of a))) (λ xs. map f xs ≡ cs ++ c ∷ [])
+pub listed_more : {A B W : Type 0} (f : A → B) (cs : List B) (c : B) (s : Result (List A) Stop) (a : Result A (Fault W)) → IfOk s (λ xs. map f xs ≡ cs) → IfOk a (λ x. f x ≡ c) → IfOk (and_all s (alone (meaning_of a))) (λ xs. map f xs ≡ cs ++ c ∷ [])
 listed_more f cs c (Ok xs) (Ok x) so is = map-append f xs (x ∷ []) ∙ (λ i. so i ++ is i ∷ [])
 listed_more f cs c (Ok xs) (Err (Raised e)) so is = tt
 listed_more f cs c (Ok xs) (Err OutOfMemory) so is = tt
-listed_more f cs c (Ok xs) (Err (Wanting n)) so is = tt
+listed_more f cs c (Ok xs) (Err (Wanting w)) so is = tt
 listed_more f cs c (Err d) (Ok x) so is = tt
 listed_more f cs c (Err d) (Err (Raised e)) so is = tt
 listed_more f cs c (Err d) (Err OutOfMemory) so is = tt
-listed_more f cs c (Err d) (Err (Wanting n)) so is = tt
+listed_more f cs c (Err d) (Err (Wanting w)) so is = tt
 
-pub each_more : {A : Type 0} (P : A → Type 0) (s : Result (List A) Stop) (a : Result A Fault) → IfOk s (All P) → IfOk a P → IfOk (and_all s (alone (meaning_of a))) (All P)
+pub each_more : {A W : Type 0} (P : A → Type 0) (s : Result (List A) Stop) (a : Result A (Fault W)) → IfOk s (All P) → IfOk a P → IfOk (and_all s (alone (meaning_of a))) (All P)
 each_more P (Ok xs) (Ok x) so is = All-push P xs x so is
 each_more P (Ok xs) (Err (Raised e)) so is = tt
 each_more P (Ok xs) (Err OutOfMemory) so is = tt
-each_more P (Ok xs) (Err (Wanting n)) so is = tt
+each_more P (Ok xs) (Err (Wanting w)) so is = tt
 each_more P (Err d) (Ok x) so is = tt
 each_more P (Err d) (Err (Raised e)) so is = tt
 each_more P (Err d) (Err OutOfMemory) so is = tt
-each_more P (Err d) (Err (Wanting n)) so is = tt
+each_more P (Err d) (Err (Wanting w)) so is = tt
 
 pub all_more_at : {X A : Type 0} (m : X → Result A Stop) (s : Result (List A) Stop) (xs : List X) (i : ℕ) (x : X) → i < length xs → x ≡ get_or xs i x
     → and_all s (all_of m (drop i xs)) ≡ and_all (and_all s (alone (m x))) (all_of m (drop (i + 1) xs))
@@ -158,7 +158,7 @@ pub at_item : {X : Type 0} (P : X → Type 0) (xs : List X) (i : ℕ) (x : X) �
 at_item P xs i x within is all = subst P (sym is) (All-get_or P xs i x within all)
 
 -- what holds of what was gathered holds of what is answered
-pub finished : {A V : Type 0} (see : V → List A) (P : List A → Type 0) (r : Result V Fault) (s : Result (List A) Stop) → AnswersBy see r s → IfOk s P → IfOk r (λ v. P (see v))
+pub finished : {A V W : Type 0} (see : V → List A) (P : List A → Type 0) (r : Result V (Fault W)) (s : Result (List A) Stop) → AnswersBy see r s → IfOk s P → IfOk r (λ v. P (see v))
 finished see P (Ok v) s is so = subst (λ t. IfOk t P) is so
 finished see P (Err f) s is so = tt
 

@@ -48,12 +48,12 @@ abbrev pub TakesBoth : {E : Type 0} → (Bor E → Bor Attrs → Type 0) → E �
 TakesBoth pre e t = (p : _) (q : _) → p.now ≡ e → q.now ≡ t → pre p q
 
 -- what it answers there is the meaning
-abbrev pub Means : {E : Type 0} → (Bor E → Bor Attrs → Result Datum Fault → Type 0) → Meaning E → E → Attrs → Type 0
-Means post m e t = (p : _) (q : _) (a : Result Datum Fault) → p.now ≡ e → q.now ≡ t → post p q a → Answers a (m e t)
+abbrev pub Means : {E W : Type 0} → (Bor E → Bor Attrs → Result Datum (Fault W) → Type 0) → Meaning E → E → Attrs → Type 0
+Means {W = W} post m e t = (p : _) (q : _) (a : Result Datum (Fault W)) → p.now ≡ e → q.now ≡ t → post p q a → Answers a (m e t)
 
 -- the same at the terms of all items
 abbrev pub TakesItems : {E : Type 0} → (Bor E → Bor Attrs → Type 0) → List (Item E) → Attrs → Type 0
 TakesItems pre items t = All (λ i. TakesBoth pre i.term t) items
 
-abbrev pub MeansItems : {E : Type 0} → (Bor E → Bor Attrs → Result Datum Fault → Type 0) → Meaning E → List (Item E) → Attrs → Type 0
+abbrev pub MeansItems : {E W : Type 0} → (Bor E → Bor Attrs → Result Datum (Fault W) → Type 0) → Meaning E → List (Item E) → Attrs → Type 0
 MeansItems post m items t = All (λ i. Means post m i.term t) items

@@ -6,21 +6,21 @@ use Rattle.td_algebra.specs.declared.errors.Fault.{Fault}
 use Rattle.td_algebra.specs.declared.errors.Fault.TheVariants.{Raised, OutOfMemory, Wanting}
 
 -- an answer that says the meaning, a value or an error; memory may be wanted, or what is not known yet
-abbrev pub AnswersBy : {A B : Type 0} → (A → B) → Result A Fault → Result B Stop → Type 0
+abbrev pub AnswersBy : {A B W : Type 0} → (A → B) → Result A (Fault W) → Result B Stop → Type 0
 AnswersBy see (Ok a) m = m ≡ Ok (see a)
 AnswersBy see (Err (Raised e)) m = m ≡ Err e
 AnswersBy see (Err OutOfMemory) m = Unit {0}
-AnswersBy see (Err (Wanting n)) m = Unit {0}
+AnswersBy see (Err (Wanting w)) m = Unit {0}
 
-abbrev pub Answers : {A : Type 0} → Result A Fault → Result A Stop → Type 0
+abbrev pub Answers : {A W : Type 0} → Result A (Fault W) → Result A Stop → Type 0
 Answers r m = AnswersBy (λ a. a) r m
 
 -- the answer where no error is raised, and else the least one; memory may be wanted, or what is not known yet
-abbrev pub Unless : {B : Type 0} → (Stop → Type 0) → (B → Type 0) → Result B Fault → Type 0
+abbrev pub Unless : {B W : Type 0} → (Stop → Type 0) → (B → Type 0) → Result B (Fault W) → Type 0
 Unless Raises P (Ok b) = ((e : Stop) → Raises e → ⊥) × P b
 Unless Raises P (Err (Raised e)) = Raises e × ((f : Stop) → Raises f → stop_number e ≤ stop_number f)
 Unless Raises P (Err OutOfMemory) = Unit {0}
-Unless Raises P (Err (Wanting n)) = Unit {0}
+Unless Raises P (Err (Wanting w)) = Unit {0}
 
 -- the same of an answer for which no memory is taken
 abbrev pub UnlessRaised : {B : Type 0} → (Stop → Type 0) → (B → Type 0) → Result B Stop → Type 0

@@ -91,7 +91,7 @@ OfTerm P s = IfSome (term_of s) P
 abbrev pub TakesTerm : {E : Type 0} → (Bor E → Bor Attrs → Type 0) → Summary E → Attrs → Type 0
 TakesTerm pre s t = OfTerm (λ e. TakesBoth pre e t) s
 
-abbrev pub MeansTerm : {E : Type 0} → (Bor E → Bor Attrs → Result Datum Fault → Type 0) → Meaning E → Summary E → Attrs → Type 0
+abbrev pub MeansTerm : {E W : Type 0} → (Bor E → Bor Attrs → Result Datum (Fault W) → Type 0) → Meaning E → Summary E → Attrs → Type 0
 MeansTerm post m s t = OfTerm (λ e. Means post m e t) s
 
 -- ---- what the greatest and the least are

@@ -39,24 +39,29 @@ impl Stop {
     }
 }
 
-/// Why there is no answer.
+/// What is never wanting: it has no values.
+#[derive(Clone, Copy, Debug, Drop, PartialEq, Eq)]
+pub enum Never {}
+
+/// Why there is no answer: an error, or want of memory. A function that is handed in may give a third cause, that what
+/// it came to is not known yet. Whoever handed it in knows that by this `W`, and may ask again. No operator makes a `W`:
+/// it passes on what the function gave.
 #[derive(Clone, Copy, Debug, Drop, Error, PartialEq, Eq)]
-pub enum Fault {
+pub enum Fault<W = Never> {
     #[error("{0}")]
     Raised(Stop),
     #[error("out of memory")]
     OutOfMemory,
-    /// What the function came to is not known yet: whoever handed it in knows it by this number, and may ask again.
-    #[error("not known yet: {0}")]
-    Wanting(usize),
+    #[error("not known yet")]
+    Wanting(W),
 }
 
-impl From<AllocError> for Fault {
+impl<W> From<AllocError> for Fault<W> {
     ghost use Rattle.td_algebra.specs.declared.errors.Fault.TheVariants.{OutOfMemory};
 
     ghost from_gives = { λ _ f. f ≡ OutOfMemory };
 
-    fn from(_error: AllocError) -> Fault {
+    fn from(_error: AllocError) -> Fault<W> {
         Fault::OutOfMemory
     }
 }

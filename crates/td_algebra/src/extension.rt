@@ -31,7 +31,7 @@ fn is_of(value: &Value, ty: &TdType) -> bool
 }
 
 // The item's name with the value, if that has the item's type.
-fn typed_field<E>(item: &Item<E>, value: Value) -> Result<(Name, Value), Fault>
+fn typed_field<E, W>(item: &Item<E>, value: Value) -> Result<(Name, Value), Fault<W>>
     ensures means { Answers result (spec.typed_field item.now.name item.now.ty value) }
     ensures typed { IfOk result (λ x. (x.0, type_of x.1) ≡ column_of item.now) }
 {
@@ -43,11 +43,11 @@ fn typed_field<E>(item: &Item<E>, value: Value) -> Result<(Name, Value), Fault>
 }
 
 // The item's name with its value on the tuple.
-fn field_at<E, F: Fn(&E, &Tuple) -> Result<Value, Fault>>(
+fn field_at<E, W, F: Fn(&E, &Tuple) -> Result<Value, Fault<W>>>(
     item: &Item<E>,
     tuple: &Tuple,
     f: &F,
-) -> Result<(Name, Value), Fault>
+) -> Result<(Name, Value), Fault<W>>
     requires { TakesBoth (F.pre f.now) item.now.term tuple.now }
     ensures means { (m : Meaning E) → Means (F.post f.now) m item.now.term tuple.now → Answers result (spec.field_at m tuple.now item.now) }
     ensures typed { IfOk result (λ x. (x.0, type_of x.1) ≡ column_of item.now) }
@@ -59,12 +59,12 @@ fn field_at<E, F: Fn(&E, &Tuple) -> Result<Value, Fault>>(
 }
 
 // The names and values of the items on the tuple, or the least error of theirs.
-fn fields_at<E, F: Fn(&E, &Tuple) -> Result<Value, Fault>>(
+fn fields_at<E, W, F: Fn(&E, &Tuple) -> Result<Value, Fault<W>>>(
     alloc: Global,
     items: &[Item<E>],
     tuple: &Tuple,
     f: &F,
-) -> Result<Vec<(Name, Value)>, Fault>
+) -> Result<Vec<(Name, Value)>, Fault<W>>
     requires { TakesItems (F.pre f.now) items.now tuple.now }
     ensures means { (m : Meaning E) → MeansItems (F.post f.now) m items.now tuple.now → AnswersBy (λ v. v.items) result (spec.fields_at m items.now tuple.now) }
     ensures typed { IfOk result (λ v. map (λ x. (x.0, type_of x.1)) v.items ≡ map column_of items.now) }
@@ -77,12 +77,12 @@ fn fields_at<E, F: Fn(&E, &Tuple) -> Result<Value, Fault>>(
 }
 
 // The tuple with the items' values.
-fn extended_at<E, F: Fn(&E, &Tuple) -> Result<Value, Fault>>(
+fn extended_at<E, W, F: Fn(&E, &Tuple) -> Result<Value, Fault<W>>>(
     alloc: Global,
     items: &[Item<E>],
     tuple: &Tuple,
     f: &F,
-) -> Result<Tuple, Fault>
+) -> Result<Tuple, Fault<W>>
     requires { TakesItems (F.pre f.now) items.now tuple.now }
     ensures means { (m : Meaning E) → MeansItems (F.post f.now) m items.now tuple.now → Answers result (spec.extended_at m items.now tuple.now) }
     ensures typed { (h : Header) → Fits h tuple.now → IfOk result (Fits (extended_columns items.now h)) }
@@ -96,12 +96,12 @@ fn extended_at<E, F: Fn(&E, &Tuple) -> Result<Value, Fault>>(
 }
 
 // Each tuple with the items' values, or the least error of all.
-fn extended_all<E, F: Fn(&E, &Tuple) -> Result<Value, Fault>>(
+fn extended_all<E, W, F: Fn(&E, &Tuple) -> Result<Value, Fault<W>>>(
     alloc: Global,
     tuples: &[Tuple],
     items: &[Item<E>],
     f: &F,
-) -> Result<Vec<Tuple>, Fault>
+) -> Result<Vec<Tuple>, Fault<W>>
     requires { All (TakesItems (F.pre f.now) items.now) tuples.now }
     ensures means { (m : Meaning E) → All (MeansItems (F.post f.now) m items.now) tuples.now → AnswersBy (λ v. v.items) result (all_of (spec.extended_at m items.now) tuples.now) }
     ensures typed { (h : Header) → All (Fits h) tuples.now → IfOk result (λ v. All (Fits (extended_columns items.now h)) v.items) }
@@ -116,12 +116,12 @@ fn extended_all<E, F: Fn(&E, &Tuple) -> Result<Value, Fault>>(
 /// Each tuple with the values of the items on it, as new attributes or in place of those of the same names. Every item
 /// sees the old tuple. Of two items of one name the first counts. The function is asked for every item of every tuple
 /// once, also after one that raises. A value of another type than its item's stops with `Untyped`.
-pub fn extend<E, F: Fn(&E, &Tuple) -> Result<Value, Fault>>(
+pub fn extend<E, W, F: Fn(&E, &Tuple) -> Result<Value, Fault<W>>>(
     alloc: Global,
     relation: &Relation,
     items: &[Item<E>],
     f: &F,
-) -> Result<Relation, Fault>
+) -> Result<Relation, Fault<W>>
     requires { All (TakesItems (F.pre f.now) items.now) relation.now.tuples }
     ensures { (m : Meaning E) → All (MeansItems (F.post f.now) m items.now) relation.now.tuples →
         Unless (RaisedBy m items.now relation.now) (IsRelationOf (extended_columns items.now relation.now.heading) (Extended m items.now relation.now)) result }

@@ -31,7 +31,7 @@ impl<A: Drop> Gathered<A> {
     }
 
     /// One more answer. After an error only lesser ones matter.
-    pub(crate) fn note(&mut self, answer: Result<A, Fault>) -> Result<(), Fault>
+    pub(crate) fn note<W>(&mut self, answer: Result<A, Fault<W>>) -> Result<(), Fault<W>>
         ensures noted { (m : Result A Stop) → Answers answer m → IfOk result (λ _. so_far self.new.answers.items self.new.least ≡ and_all (so_far self.old.answers.items self.old.least) (alone m)) }
         ensures fault { IfErr result GivesUp }
     {
@@ -54,7 +54,7 @@ impl<A: Drop> Gathered<A> {
     }
 
     /// The answers, or the least error.
-    pub(crate) fn finish(self) -> Result<Vec<A>, Fault>
+    pub(crate) fn finish<W>(self) -> Result<Vec<A>, Fault<W>>
         ensures whole { AnswersBy (λ v. v.items) result (so_far self.answers.items self.least) }
         ensures memory { IfErr result (λ f. GivesUp f → ⊥) }
     {
@@ -66,11 +66,11 @@ impl<A: Drop> Gathered<A> {
 }
 
 /// The function's answers at all of the tuples, or the least error among theirs.
-pub(crate) fn gather<A: Drop, F: Fn(&Tuple) -> Result<A, Fault>>(
+pub(crate) fn gather<A: Drop, W, F: Fn(&Tuple) -> Result<A, Fault<W>>>(
     alloc: Global,
     tuples: &[Tuple],
     f: F,
-) -> Result<Vec<A>, Fault>
+) -> Result<Vec<A>, Fault<W>>
     requires { All (λ t. FnOnceTakesAt F.FnOnce f t) tuples.now }
     ensures { (m : Attrs → Result A Stop) → All (λ t. (r : _) → FnReturnsAt F.Fn f t r → Answers r (m t)) tuples.now → AnswersBy (λ v. v.items) result (all_of m tuples.now) }
 {

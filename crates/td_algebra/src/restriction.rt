@@ -40,11 +40,11 @@ pub(crate) fn selected(
 
 /// The tuples of which the condition is true. It is asked of every tuple once, in ascending order, also after one
 /// that raises.
-pub fn restrict<F: Fn(&Tuple) -> Result<bool, Fault>>(
+pub fn restrict<W, F: Fn(&Tuple) -> Result<bool, Fault<W>>>(
     alloc: Global,
     relation: &Relation,
     condition: F,
-) -> Result<Relation, Fault>
+) -> Result<Relation, Fault<W>>
     requires { All (λ t. FnOnceTakesAt F.FnOnce condition t) relation.now.tuples }
     ensures { (m : Attrs → Result Bool Stop) → All (λ t. (a : _) → FnReturnsAt F.Fn condition t a → Answers a (m t)) relation.now.tuples →
         Unless (RaisedIn m relation.now) (IsRelationOf relation.now.heading (Restricted m relation.now)) result }

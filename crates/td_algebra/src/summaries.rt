@@ -61,7 +61,7 @@ fn whole_sum(values: &[Value]) -> i128
     sum
 }
 
-fn sum_of(values: &[Value]) -> Result<Value, Fault>
+fn sum_of<W>(values: &[Value]) -> Result<Value, Fault<W>>
     ensures { Answers result (spec.sum_of values.now) }
 {
     match i64::try_from(whole_sum(values)) {
@@ -82,7 +82,7 @@ fn lesser<'a>(a: &'a Value, b: &'a Value) -> &'a Value
     if compare(b, a).is_lt() { b } else { a }
 }
 
-fn greatest(alloc: Global, values: &[Value]) -> Result<Value, Fault>
+fn greatest<W>(alloc: Global, values: &[Value]) -> Result<Value, Fault<W>>
     ensures { Answers result (spec.most spec.greater values.now) }
 {
     match values.split_first() {
@@ -97,7 +97,7 @@ fn greatest(alloc: Global, values: &[Value]) -> Result<Value, Fault>
     }
 }
 
-fn least(alloc: Global, values: &[Value]) -> Result<Value, Fault>
+fn least<W>(alloc: Global, values: &[Value]) -> Result<Value, Fault<W>>
     ensures { Answers result (spec.most spec.lesser_of values.now) }
 {
     match values.split_first() {
@@ -138,7 +138,11 @@ fn term_of<E>(summary: &Summary<E>) -> Option<&E>
 }
 
 // What the summary makes of the values of its term.
-fn fold_values<E>(alloc: Global, summary: &Summary<E>, values: &[Value]) -> Result<Value, Fault>
+fn fold_values<E, W>(
+    alloc: Global,
+    summary: &Summary<E>,
+    values: &[Value],
+) -> Result<Value, Fault<W>>
     ensures { Answers result (spec.fold_of summary.now values.now) }
 {
     match summary {
@@ -152,11 +156,11 @@ fn fold_values<E>(alloc: Global, summary: &Summary<E>, values: &[Value]) -> Resu
 }
 
 // The term's value on the tuple.
-fn value_of<E, F: Fn(&E, &Tuple) -> Result<Value, Fault>>(
+fn value_of<E, W, F: Fn(&E, &Tuple) -> Result<Value, Fault<W>>>(
     f: &F,
     term: &E,
     tuple: &Tuple,
-) -> Result<Value, Fault>
+) -> Result<Value, Fault<W>>
     requires { TakesBoth (F.pre f.now) term.now tuple.now }
     ensures { (m : Meaning E) → Means (F.post f.now) m term.now tuple.now → Answers result (m term.now tuple.now) }
 {
@@ -164,12 +168,12 @@ fn value_of<E, F: Fn(&E, &Tuple) -> Result<Value, Fault>>(
 }
 
 // The term's values on the tuples, or the least error among theirs.
-fn values_at<E, F: Fn(&E, &Tuple) -> Result<Value, Fault>>(
+fn values_at<E, W, F: Fn(&E, &Tuple) -> Result<Value, Fault<W>>>(
     alloc: Global,
     tuples: &[Tuple],
     term: &E,
     f: &F,
-) -> Result<Vec<Value>, Fault>
+) -> Result<Vec<Value>, Fault<W>>
     requires { All (TakesBoth (F.pre f.now) term.now) tuples.now }
     ensures { (m : Meaning E) → All (Means (F.post f.now) m term.now) tuples.now → AnswersBy (λ v. v.items) result (all_of (m term.now) tuples.now) }
 {
@@ -187,12 +191,12 @@ fn number_of(tuples: &[Tuple]) -> Value
 }
 
 // The summary over these tuples.
-pub(crate) fn over_group<E, F: Fn(&E, &Tuple) -> Result<Value, Fault>>(
+pub(crate) fn over_group<E, W, F: Fn(&E, &Tuple) -> Result<Value, Fault<W>>>(
     alloc: Global,
     tuples: &[Tuple],
     summary: &Summary<E>,
     f: &F,
-) -> Result<Value, Fault>
+) -> Result<Value, Fault<W>>
     requires { All (TakesTerm (F.pre f.now) summary.now) tuples.now }
     ensures { (m : Meaning E) → All (MeansTerm (F.post f.now) m summary.now) tuples.now → Answers result (spec.summary_over m tuples.now summary.now) }
 {
@@ -207,12 +211,12 @@ pub(crate) fn over_group<E, F: Fn(&E, &Tuple) -> Result<Value, Fault>>(
 
 /// The summary over all tuples of the relation: of the term's values, in ascending order of the tuples, or the least of
 /// the errors that the function raises, or else what the summary raises. The term is asked of each tuple once.
-pub fn aggregate<E, F: Fn(&E, &Tuple) -> Result<Value, Fault>>(
+pub fn aggregate<E, W, F: Fn(&E, &Tuple) -> Result<Value, Fault<W>>>(
     alloc: Global,
     relation: &Relation,
     summary: &Summary<E>,
     f: &F,
-) -> Result<Value, Fault>
+) -> Result<Value, Fault<W>>
     requires { All (TakesTerm (F.pre f.now) summary.now) relation.now.tuples }
     ensures { (m : Meaning E) → All (MeansTerm (F.post f.now) m summary.now) relation.now.tuples → Answers result (spec.summary_over m relation.now.tuples summary.now) }
 {

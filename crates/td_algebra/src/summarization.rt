@@ -23,13 +23,13 @@ use td_tuples::{Item, Summary, columns_in, cut};
 use td_values::{Heading, Name, Tuple, Value};
 
 // The summary over the tuples that the index has for this one.
-fn over_run<E, F: Fn(&E, &Tuple) -> Result<Value, Fault>>(
+fn over_run<E, W, F: Fn(&E, &Tuple) -> Result<Value, Fault<W>>>(
     alloc: Global,
     index: &TupleIndex,
     tuple: &Tuple,
     summary: &Summary<E>,
     f: &F,
-) -> Result<Value, Fault>
+) -> Result<Value, Fault<W>>
     requires { All (TakesTerm (F.pre f.now) summary.now) index.now.tuples.items }
     ensures { (m : Meaning E) → All (MeansTerm (F.post f.now) m summary.now) index.now.tuples.items → Answers result (summary_over m (found index.now tuple.now) summary.now) }
 {
@@ -37,13 +37,13 @@ fn over_run<E, F: Fn(&E, &Tuple) -> Result<Value, Fault>>(
 }
 
 // Each tuple of the relation with the summaries over what the index has for it, whatever relation's tuples those are.
-fn over_index<E, F: Fn(&E, &Tuple) -> Result<Value, Fault>>(
+fn over_index<E, W, F: Fn(&E, &Tuple) -> Result<Value, Fault<W>>>(
     alloc: Global,
     groups: &TupleIndex,
     per: &Relation,
     items: &[Item<Summary<E>>],
     f: &F,
-) -> Result<Relation, Fault>
+) -> Result<Relation, Fault<W>>
     requires { All (λ t. All (λ i. TakesTerm (F.pre f.now) i.term t) items.now) groups.now.tuples.items }
     ensures { (r : RowsData) → IsIndex r (names_of per.now.heading) per.now (names_of per.now.heading) groups.now → (m : Meaning E) → All (λ t. All (λ i. MeansTerm (F.post f.now) m i.term t) items.now) groups.now.tuples.items →
         Unless (RaisedBy (over_groups m r per.now.heading) items.now per.now)
@@ -53,7 +53,7 @@ fn over_index<E, F: Fn(&E, &Tuple) -> Result<Value, Fault>>(
         alloc,
         per,
         items,
-        &|summary: &Summary<E>, tuple: &Tuple| -> Result<Value, Fault>
+        &|summary: &Summary<E>, tuple: &Tuple| -> Result<Value, Fault<W>>
             requires { All (TakesTerm (F.pre f.now) summary.now) groups.now.tuples.items }
             ensures { (m : Meaning E) → All (MeansTerm (F.post f.entry.now) m summary.now) groups.entry.now.tuples.items → Answers result (summary_over m (found groups.entry.now tuple.now) summary.now) }
         { over_run(alloc, groups, tuple, summary, f) },
@@ -63,13 +63,13 @@ fn over_index<E, F: Fn(&E, &Tuple) -> Result<Value, Fault>>(
 /// Each tuple of the second relation with the summaries over its group, which are the tuples of the first that agree
 /// with it on the second one's names. For n and m tuples it costs of the order of (n + m) log n comparisons, and each
 /// term once on each tuple of a group.
-pub fn summarize<E, F: Fn(&E, &Tuple) -> Result<Value, Fault>>(
+pub fn summarize<E, W, F: Fn(&E, &Tuple) -> Result<Value, Fault<W>>>(
     alloc: Global,
     relation: &Relation,
     per: &Relation,
     items: &[Item<Summary<E>>],
     f: &F,
-) -> Result<Relation, Fault>
+) -> Result<Relation, Fault<W>>
     requires { All (λ t. All (λ i. TakesTerm (F.pre f.now) i.term t) items.now) relation.now.tuples }
     ensures { (m : Meaning E) → All (λ t. All (λ i. MeansTerm (F.post f.now) m i.term t) items.now) relation.now.tuples →
         Unless (RaisedBy (over_groups m relation.now per.now.heading) items.now per.now)
@@ -117,13 +117,13 @@ fn runs(
 /// Each part of the relation's tuples at these names with the summaries over the tuples that have it: as `summarize`
 /// per the projection on the names. It sorts the tuples once, by their values at places, and makes a part for each
 /// group: for n tuples and g groups it costs of the order of n log n comparisons, and each term once on each tuple.
-pub fn summarize_by<E, F: Fn(&E, &Tuple) -> Result<Value, Fault>>(
+pub fn summarize_by<E, W, F: Fn(&E, &Tuple) -> Result<Value, Fault<W>>>(
     alloc: Global,
     relation: &Relation,
     names: &[Name],
     items: &[Item<Summary<E>>],
     f: &F,
-) -> Result<Relation, Fault>
+) -> Result<Relation, Fault<W>>
     requires { All (λ t. All (λ i. TakesTerm (F.pre f.now) i.term t) items.now) relation.now.tuples }
     ensures { (m : Meaning E) → All (λ t. All (λ i. MeansTerm (F.post f.now) m i.term t) items.now) relation.now.tuples →
         let per = project_of names.now relation.now in

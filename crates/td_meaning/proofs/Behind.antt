@@ -8,7 +8,7 @@ use Rattle.td_algebra.specs.declared.errors.Stop.TheVariants.{Untyped}
 use Rattle.td_meaning.specs.declared.environment.Known.{Known}
 use Rattle.td_meaning.specs.ForProofs.Places.{is_known, is_virtual}
 use Rattle.td_meaning.specs.Mean.{Selection}
-use Rattle.td_meaning.specs.Seen.{relvars_at, virtual_known, virtuals_known}
+use Rattle.td_meaning.specs.Seen.{none_virtual, relvars_at, virtual_known, virtuals_known}
 
 none_true : {P : Type 0} → false ≡ true → P
 none_true h = cc
@@ -32,6 +32,11 @@ neither false b h k = k
 or_none : (a : Bool) → (a || false) ≡ a
 or_none true = refl
 or_none false = refl
+
+-- where no relvar is virtual, none is at any place
+pub none_is_virtual : (n : ℕ) (vs : List VirtualUnder) → none_virtual vs ≡ true → is_virtual n vs ≡ false
+none_is_virtual n [] h = refl
+none_is_virtual n (v ∷ vs) h = cc
 
 -- what holds of what there is goes over to what follows from it
 pub through_option : {R : Type 0} (o : Option R) (A : Type 0) (P Q : R → Type 0) → ((r : R) → P r → Q r) → MatchOption o A P → MatchOption o A Q

@@ -57,5 +57,5 @@ pub error_means : (env : Environment) (a : Typed) (e : Stop) → mean_in env a (
 unfolding stop_of
 error_means env a e is typed names = closed_means env a (Err e) is (λ same. typed (ap stop_of same)) names
 
-pub told_error : (f : Fault) (e : Stop) (m : Result Datum Stop) → f ≡ Raised e → Answers {A = Datum} (Err f) m → m ≡ Err e
+pub told_error : {W : Type 0} (f : Fault W) (e : Stop) (m : Result Datum Stop) → f ≡ Raised e → Answers {A = Datum} (Err f) m → m ≡ Err e
 told_error f e m is answers = subst (λ g. Answers {A = Datum} (Err g) m) is answers

@@ -20,7 +20,7 @@ use Rattle.td_operators.specs.Operators.{as_value}
 use Rattle.td_meaning.specs.Seen.{all_given, held_value}
 
 -- an error that was answered within, as the answer
-pub fails : {A B V : Type 0} (see : V → B) (fault : Fault) (w : Result A Stop) (all : Result B Stop) → ((e : Stop) → w ≡ Err e → all ≡ Err e) → Answers {A = A} (Err fault) w → AnswersBy see (Err fault) all
+pub fails : {A B V W : Type 0} (see : V → B) (fault : Fault W) (w : Result A Stop) (all : Result B Stop) → ((e : Stop) → w ≡ Err e → all ≡ Err e) → Answers {A = A} (Err fault) w → AnswersBy see (Err fault) all
 fails see OutOfMemory w all stops h = tt
 fails see (Wanting n) w all stops h = tt
 fails see (Raised e) w all stops h = stops e h

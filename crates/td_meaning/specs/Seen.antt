@@ -1,5 +1,5 @@
 -- What the program's relvars, selectors and names in scope are seen as.
-use Rattle.std.specs.Prelude.{◌==◌, if◌then◌else◌, List, [], ◌∷◌, ◌++◌, None, Err}
+use Rattle.std.specs.Prelude.{◌==◌, Bool, true, false, if◌then◌else◌, List, [], ◌∷◌, ◌++◌, None, Err}
 use Rattle.std.specs.List.{fold}
 use Rattle.td_values.specs.Data.{Datum}
 use Rattle.td_syntax.specs.declared.tree.Named.{Named}
@@ -46,6 +46,11 @@ visible Nothing = λ x. None
 visible (Within' t p outer) = within t.now (visible outer)
 visible (Given' ns p outer) = all_given ns.now (visible outer)
 visible (Components ns ds) = components ns.now ds.now
+
+-- no relvar is virtual
+abbrev pub none_virtual : List VirtualUnder → Bool
+none_virtual [] = true
+none_virtual (v ∷ vs) = false
 
 -- what each relvar has there, a virtual one too
 unfoldable pub relvars_there : Environment → Relvars

@@ -5,11 +5,11 @@ ghost use Rattle.td_meaning.specs.ForProofs.Levels.{groups_levels, item_levels, 
 ghost use Rattle.td_meaning.specs.ForProofs.Right.{deepest_in};
 ghost use Rattle.td_meaning.specs.ForProofs.Terms.{terms_levels};
 
-use crate::environment::relvar_known;
-use crate::evaluator::Evaluator;
-use crate::parts::heading_known;
+use crate::environment::{Environment, relvar_known};
+use crate::parts::{Part, heading_known, part_known};
 use sqlite_items::Boxed;
-use std::alloc::AllocError;
+use std::alloc::{AllocError, Global};
+use td_algebra::Never;
 use td_syntax::tree::Named;
 use td_trees::tree::{Typed, TypedGroups};
 use td_tuples::{Item, Summary};
@@ -25,6 +25,13 @@ enum Bound<'a> {
     Unknown(usize, &'a Bound<'a>),
     /// Names of WITH.
     Given(&'a [Named<Boxed<Typed>>], usize, &'a Bound<'a>),
+}
+
+/// What is known while parts are sought.
+#[derive(Clone, Copy)]
+pub(crate) struct Knowledge<'a> {
+    pub env: &'a Environment<'a>,
+    pub parts: &'a [Part<'a>],
 }
 
 /// How far out an expression names something, and whether it takes more than a look to evaluate it.
@@ -90,30 +97,30 @@ impl Bound<'_> {
     }
 }
 
-fn heading_found<'a>(evaluator: &'a Evaluator<'_>, tree: &Typed) -> Option<&'a Heading> {
-    match evaluator.known(tree) {
+fn heading_found<'a>(knowledge: &'a Knowledge<'_>, tree: &Typed) -> Option<&'a Heading> {
+    match part_known(knowledge.env, knowledge.parts, tree) {
         Some(value) => heading_known(value),
         None => None,
     }
 }
 
 // The heading of the relation that the expression means, where it is there to be seen.
-fn heading_of<'a>(evaluator: &'a Evaluator<'_>, tree: &Typed) -> Option<&'a Heading> {
+fn heading_of<'a>(knowledge: &'a Knowledge<'_>, tree: &Typed) -> Option<&'a Heading> {
     match tree {
-        Typed::Relvar(place) => match relvar_known(evaluator.env, *place) {
+        Typed::Relvar(place) => match relvar_known::<Never>(knowledge.env, *place) {
             Some(Ok(lease)) => Some(lease.get().heading()),
             Some(Err(_)) => None,
-            None => heading_found(evaluator, tree),
+            None => heading_found(knowledge, tree),
         },
-        Typed::Where(r, _) => heading_of(evaluator, r.get()),
-        _ => heading_found(evaluator, tree),
+        Typed::Where(r, _) => heading_of(knowledge, r.get()),
+        _ => heading_found(knowledge, tree),
     }
 }
 
 // What is bound at the tuples of the relation that the expression means.
-fn within<'a>(evaluator: &'a Evaluator<'_>, r: &Typed, outer: &'a Bound<'a>) -> Bound<'a> {
+fn within<'a>(knowledge: &'a Knowledge<'_>, r: &Typed, outer: &'a Bound<'a>) -> Bound<'a> {
     let place = outer.place().saturating_add(1);
-    match heading_of(evaluator, r) {
+    match heading_of(knowledge, r) {
         Some(heading) => Bound::Attributes(heading, place, outer),
         None => Bound::Unknown(place, outer),
     }
@@ -121,7 +128,7 @@ fn within<'a>(evaluator: &'a Evaluator<'_>, r: &Typed, outer: &'a Bound<'a>) -> 
 
 #[cycle(survey)]
 fn of_list<'t>(
-    evaluator: &Evaluator<'_>,
+    knowledge: &Knowledge<'_>,
     found: &mut Vec<&'t Typed>,
     trees: &'t [Boxed<Typed>],
     bound: &Bound<'_>,
@@ -130,7 +137,7 @@ fn of_list<'t>(
 {
     let mut reach = Reach::NOTHING;
     for tree in trees {
-        let next = survey(evaluator, found, tree.get(), bound)?;
+        let next = survey(knowledge, found, tree.get(), bound)?;
         reach = reach.and(next);
     }
     Ok(reach)
@@ -138,7 +145,7 @@ fn of_list<'t>(
 
 #[cycle(survey)]
 fn of_items<'t>(
-    evaluator: &Evaluator<'_>,
+    knowledge: &Knowledge<'_>,
     found: &mut Vec<&'t Typed>,
     items: &'t [Item<Boxed<Typed>>],
     bound: &Bound<'_>,
@@ -147,7 +154,7 @@ fn of_items<'t>(
 {
     let mut reach = Reach::NOTHING;
     for item in items {
-        let next = survey(evaluator, found, item.term.get(), bound)?;
+        let next = survey(knowledge, found, item.term.get(), bound)?;
         reach = reach.and(next);
     }
     Ok(reach)
@@ -155,7 +162,7 @@ fn of_items<'t>(
 
 #[cycle(survey)]
 fn of_summary<'t>(
-    evaluator: &Evaluator<'_>,
+    knowledge: &Knowledge<'_>,
     found: &mut Vec<&'t Typed>,
     summary: &'t Summary<Boxed<Typed>>,
     bound: &Bound<'_>,
@@ -168,13 +175,13 @@ fn of_summary<'t>(
         | Summary::Max(term)
         | Summary::Min(term)
         | Summary::And(term)
-        | Summary::Or(term) => survey(evaluator, found, term.get(), bound),
+        | Summary::Or(term) => survey(knowledge, found, term.get(), bound),
     }
 }
 
 #[cycle(survey)]
 fn of_summaries<'t>(
-    evaluator: &Evaluator<'_>,
+    knowledge: &Knowledge<'_>,
     found: &mut Vec<&'t Typed>,
     items: &'t [Item<Summary<Boxed<Typed>>>],
     bound: &Bound<'_>,
@@ -189,7 +196,7 @@ fn of_summaries<'t>(
             | Summary::Max(term)
             | Summary::Min(term)
             | Summary::And(term)
-            | Summary::Or(term) => survey(evaluator, found, term.get(), bound)?,
+            | Summary::Or(term) => survey(knowledge, found, term.get(), bound)?,
         };
         reach = reach.and(next);
     }
@@ -199,7 +206,7 @@ fn of_summaries<'t>(
 // Each expression sees the names before it.
 #[cycle(survey)]
 fn of_names<'t>(
-    evaluator: &Evaluator<'_>,
+    knowledge: &Knowledge<'_>,
     found: &mut Vec<&'t Typed>,
     xs: &'t [Named<Boxed<Typed>>],
     bound: &Bound<'_>,
@@ -210,7 +217,7 @@ fn of_names<'t>(
     let mut reach = Reach::NOTHING;
     for i in 0..xs.len() {
         let within = Bound::Given(&xs[..i], place, &*bound);
-        let next = survey(evaluator, found, xs[i].value.get(), &within)?;
+        let next = survey(knowledge, found, xs[i].value.get(), &within)?;
         reach = reach.and(next);
     }
     Ok(reach)
@@ -219,7 +226,7 @@ fn of_names<'t>(
 // Of the forms that bind names.
 #[cycle(survey)]
 fn of_terms<'t>(
-    evaluator: &Evaluator<'_>,
+    knowledge: &Knowledge<'_>,
     found: &mut Vec<&'t Typed>,
     tree: &'t Typed,
     bound: &Bound<'_>,
@@ -228,34 +235,34 @@ fn of_terms<'t>(
 {
     match tree {
         Typed::Where(r, c) => {
-            let first = survey(evaluator, found, r.get(), bound)?;
-            let inner = within(&*evaluator, r.get(), &*bound);
-            let second = survey(evaluator, found, c.get(), &inner)?;
+            let first = survey(knowledge, found, r.get(), bound)?;
+            let inner = within(&*knowledge, r.get(), &*bound);
+            let second = survey(knowledge, found, c.get(), &inner)?;
             Ok(first.and(second))
         }
         Typed::Aggregate(r, summary) => {
-            let first = survey(evaluator, found, r.get(), bound)?;
-            let inner = within(&*evaluator, r.get(), &*bound);
-            let second = of_summary(evaluator, found, summary, &inner)?;
+            let first = survey(knowledge, found, r.get(), bound)?;
+            let inner = within(&*knowledge, r.get(), &*bound);
+            let second = of_summary(knowledge, found, summary, &inner)?;
             Ok(first.and(second))
         }
         Typed::Extend(r, items) => {
-            let first = survey(evaluator, found, r.get(), bound)?;
-            let inner = within(&*evaluator, r.get(), &*bound);
-            let second = of_items(evaluator, found, items.as_slice(), &inner)?;
+            let first = survey(knowledge, found, r.get(), bound)?;
+            let inner = within(&*knowledge, r.get(), &*bound);
+            let second = of_items(knowledge, found, items.as_slice(), &inner)?;
             Ok(first.and(second))
         }
         Typed::Summarize(r, groups, items) => {
-            let first = survey(evaluator, found, r.get(), bound)?;
-            let second = of_groups(evaluator, found, groups, bound)?;
-            let inner = within(&*evaluator, r.get(), &*bound);
-            let third = of_summaries(evaluator, found, items.as_slice(), &inner)?;
+            let first = survey(knowledge, found, r.get(), bound)?;
+            let second = of_groups(knowledge, found, groups, bound)?;
+            let inner = within(&*knowledge, r.get(), &*bound);
+            let third = of_summaries(knowledge, found, items.as_slice(), &inner)?;
             Ok(first.and(second).and(third))
         }
         Typed::With(xs, body) => {
-            let first = of_names(evaluator, found, xs.as_slice(), bound)?;
+            let first = of_names(knowledge, found, xs.as_slice(), bound)?;
             let inner = Bound::Given(xs.as_slice(), bound.place().saturating_add(1), &*bound);
-            let second = survey(evaluator, found, body.get(), &inner)?;
+            let second = survey(knowledge, found, body.get(), &inner)?;
             Ok(first.and(second))
         }
         _ => Ok(Reach::NOTHING),
@@ -264,7 +271,7 @@ fn of_terms<'t>(
 
 #[cycle(survey)]
 fn of_groups<'t>(
-    evaluator: &Evaluator<'_>,
+    knowledge: &Knowledge<'_>,
     found: &mut Vec<&'t Typed>,
     groups: &'t TypedGroups<Boxed<Typed>>,
     bound: &Bound<'_>,
@@ -272,14 +279,14 @@ fn of_groups<'t>(
     ensures { OnOk result (deepest_in found.new.items ≤ max (deepest_in found.old.items) (groups_levels groups.now)) }
 {
     match groups {
-        TypedGroups::Per(tree) => survey(evaluator, found, tree.get(), bound),
+        TypedGroups::Per(tree) => survey(knowledge, found, tree.get(), bound),
         TypedGroups::Whole | TypedGroups::By(_) => Ok(Reach::NOTHING),
     }
 }
 
 #[cycle(survey)]
 fn of_parts<'t>(
-    evaluator: &Evaluator<'_>,
+    knowledge: &Knowledge<'_>,
     found: &mut Vec<&'t Typed>,
     tree: &'t Typed,
     bound: &Bound<'_>,
@@ -294,31 +301,31 @@ fn of_parts<'t>(
         }),
         Typed::Relvar(_) => Ok(Reach::DEAR),
         Typed::Select(_, trees) => {
-            Ok(of_list(evaluator, found, trees.as_slice(), bound)?.and(Reach::DEAR))
+            Ok(of_list(knowledge, found, trees.as_slice(), bound)?.and(Reach::DEAR))
         }
         Typed::Relation(_, trees) => {
-            Ok(of_list(evaluator, found, trees.as_slice(), bound)?.and(Reach::DEAR))
+            Ok(of_list(knowledge, found, trees.as_slice(), bound)?.and(Reach::DEAR))
         }
-        Typed::Tuple(items) => of_items(evaluator, found, items.as_slice(), bound),
+        Typed::Tuple(items) => of_items(knowledge, found, items.as_slice(), bound),
         Typed::Component(_, a)
         | Typed::Unary(_, a)
         | Typed::From(_, a)
         | Typed::Project(a, _)
         | Typed::Rename(a, _)
         | Typed::Nest(_, a, _, _)
-        | Typed::Unnest(_, a, _) => survey(evaluator, found, a.get(), bound),
+        | Typed::Unnest(_, a, _) => survey(knowledge, found, a.get(), bound),
         Typed::Binary(_, a, b) => {
-            let first = survey(evaluator, found, a.get(), bound)?;
-            let second = survey(evaluator, found, b.get(), bound)?;
+            let first = survey(knowledge, found, a.get(), bound)?;
+            let second = survey(knowledge, found, b.get(), bound)?;
             Ok(first.and(second))
         }
         Typed::If(c, a, b) => {
-            let first = survey(evaluator, found, c.get(), bound)?;
-            let second = survey(evaluator, found, a.get(), bound)?;
-            let third = survey(evaluator, found, b.get(), bound)?;
+            let first = survey(knowledge, found, c.get(), bound)?;
+            let second = survey(knowledge, found, a.get(), bound)?;
+            let third = survey(knowledge, found, b.get(), bound)?;
             Ok(first.and(second).and(third))
         }
-        _ => of_terms(evaluator, found, tree, bound),
+        _ => of_terms(knowledge, found, tree, bound),
     }
 }
 
@@ -333,7 +340,7 @@ fn is_worth_keeping(tree: &Typed) -> bool {
 // Adds the greatest parts of the expression that name nothing around it and are worth keeping.
 #[cycle(survey)]
 fn survey<'t>(
-    evaluator: &Evaluator<'_>,
+    knowledge: &Knowledge<'_>,
     found: &mut Vec<&'t Typed>,
     tree: &'t Typed,
     bound: &Bound<'_>,
@@ -341,10 +348,10 @@ fn survey<'t>(
     ensures { OnOk result (deepest_in found.new.items ≤ max (deepest_in found.old.items) (levels tree.now)) }
 {
     let mark = found.len();
-    let reach = of_parts(evaluator, found, tree, bound)?;
+    let reach = of_parts(knowledge, found, tree, bound)?;
     if reach.is_dear && bound.place() < reach.outermost {
         found.truncate(mark);
-        if is_worth_keeping(tree) && evaluator.known(tree).is_none() {
+        if is_worth_keeping(tree) && part_known(knowledge.env, knowledge.parts, tree).is_none() {
             found.push(tree)?;
         }
     }
@@ -362,18 +369,19 @@ pub(crate) enum Terms<'t> {
 
 /// The greatest parts of these terms that name nothing around them, but those that a look answers.
 pub(crate) fn closed_parts<'t>(
-    evaluator: &Evaluator<'_>,
+    alloc: Global,
+    knowledge: &Knowledge<'_>,
     terms: Terms<'t>,
 ) -> Result<Vec<&'t Typed>, AllocError>
     ensures { IfOk result (λ v. deepest_in v.items ≤ terms_levels terms.entry) }
 {
-    let mut found = Vec::new(evaluator.alloc);
+    let mut found = Vec::new(alloc);
     let bound = Bound::Nothing;
     match terms {
-        Terms::Condition(tree) => survey(evaluator, &mut found, tree, &bound)?,
-        Terms::Summary(summary) => of_summary(evaluator, &mut found, summary, &bound)?,
-        Terms::Items(items) => of_items(evaluator, &mut found, items, &bound)?,
-        Terms::Summaries(items) => of_summaries(evaluator, &mut found, items, &bound)?,
+        Terms::Condition(tree) => survey(knowledge, &mut found, tree, &bound)?,
+        Terms::Summary(summary) => of_summary(knowledge, &mut found, summary, &bound)?,
+        Terms::Items(items) => of_items(knowledge, &mut found, items, &bound)?,
+        Terms::Summaries(items) => of_summaries(knowledge, &mut found, items, &bound)?,
     };
     Ok(found)
 }

@@ -17,6 +17,7 @@ ghost use Rattle.td_values.specs.Data.{Attrs};
 
 use crate::evaluator::Evaluator;
 use crate::scope::{Held, Meant, Scope, lent};
+use crate::wanting::Wanted;
 use sqlite_items::Boxed;
 use std::alloc::{AllocError, Global};
 use td_algebra::{Fault, Stop, place_in};
@@ -84,8 +85,8 @@ fn side_local(
 }
 
 // The operand as a side, where it is an attribute or its value is known.
-fn side_of(
-    evaluator: &Evaluator<'_>,
+fn side_of<W: Wanted>(
+    evaluator: &Evaluator<'_, W>,
     scope: &Scope,
     heading: &Heading,
     tree: &Typed,
@@ -104,8 +105,8 @@ fn side_of(
     }
 }
 
-fn sides_of(
-    evaluator: &Evaluator<'_>,
+fn sides_of<W: Wanted>(
+    evaluator: &Evaluator<'_, W>,
     scope: &Scope,
     heading: &Heading,
     a: &Typed,
@@ -147,8 +148,8 @@ fn is_comparison(operator: BinaryOperator) -> bool
 }
 
 // The expression as a check: a comparison whose operands are sides, or as it is.
-fn check_of<'a>(
-    evaluator: &Evaluator<'_>,
+fn check_of<'a, W: Wanted>(
+    evaluator: &Evaluator<'_, W>,
     scope: &Scope,
     heading: &Heading,
     tree: &'a Typed,
@@ -176,8 +177,8 @@ fn add_check<'a>(checks: &mut Vec<Check<'a>>, check: Check<'a>) -> Result<(), Al
 
 // Adds the operands of AND in written order.
 #[cycle(conjuncts)]
-fn add_checks<'a>(
-    evaluator: &Evaluator<'_>,
+fn add_checks<'a, W: Wanted>(
+    evaluator: &Evaluator<'_, W>,
     scope: &Scope,
     heading: &Heading,
     tree: &'a Typed,
@@ -196,8 +197,8 @@ fn add_checks<'a>(
 }
 
 /// The condition, ready for the tuples of a heading.
-pub(crate) fn checks_of<'a>(
-    evaluator: &Evaluator<'_>,
+pub(crate) fn checks_of<'a, W: Wanted>(
+    evaluator: &Evaluator<'_, W>,
     scope: &Scope,
     heading: &Heading,
     condition: &'a Typed,
@@ -223,7 +224,7 @@ fn value_at<'a>(side: &'a Side, tuple: &'a Tuple) -> Option<&'a Value>
 }
 
 /// The side's value at the tuple, copied.
-pub(crate) fn side_at(alloc: Global, side: &Side, tuple: &Tuple) -> Result<Value, Fault>
+pub(crate) fn side_at<W>(alloc: Global, side: &Side, tuple: &Tuple) -> Result<Value, Fault<W>>
     ensures { Answers result (side_value tuple.now side.now) }
 {
     match value_at(side, tuple) {
@@ -233,8 +234,8 @@ pub(crate) fn side_at(alloc: Global, side: &Side, tuple: &Tuple) -> Result<Value
 }
 
 /// The term of a summary as a side, if it has one, at the tuples of a heading.
-pub(crate) fn side_of_summary(
-    evaluator: &Evaluator<'_>,
+pub(crate) fn side_of_summary<W: Wanted>(
+    evaluator: &Evaluator<'_, W>,
     scope: &Scope,
     heading: &Heading,
     summary: &Summary<Boxed<Typed>>,
@@ -252,13 +253,13 @@ pub(crate) fn side_of_summary(
 }
 
 /// Whether the comparison is true at the tuple.
-pub(crate) fn compared(
+pub(crate) fn compared<W>(
     alloc: Global,
     operator: BinaryOperator,
     a: &Side,
     b: &Side,
     tuple: &Tuple,
-) -> Result<bool, Fault>
+) -> Result<bool, Fault<W>>
     ensures { Answers result (comparison operator (side_value tuple.now a.now) (side_value tuple.now b.now)) }
 {
     let Some(first) = value_at(a, tuple) else {

@@ -29,7 +29,7 @@ pub struct Environment<'a> {
     pub selectors: &'a [Selector],
 }
 
-fn lease_of<'a>(known: &'a Known<'_>) -> Result<&'a Lease<'a>, Fault>
+fn lease_of<'a, W>(known: &'a Known<'_>) -> Result<&'a Lease<'a>, Fault<W>>
     ensures { AnswersBy (λ r. r.now) result known.now.value }
 {
     match &known.value {
@@ -39,7 +39,10 @@ fn lease_of<'a>(known: &'a Known<'_>) -> Result<&'a Lease<'a>, Fault>
 }
 
 // What the one at the place has.
-fn relvar_at<'a>(relvars: &'a [Known<'_>], place: usize) -> Option<Result<&'a Lease<'a>, Fault>>
+fn relvar_at<'a, W>(
+    relvars: &'a [Known<'_>],
+    place: usize,
+) -> Option<Result<&'a Lease<'a>, Fault<W>>>
     ensures { MatchOption result (is_known place relvars.now ≡ false) (λ r. (is_known place relvars.now ≡ true) × AnswersBy (λ r. r.now) r (relvars_at relvars.now place)) }
 {
     for known in relvars {
@@ -51,10 +54,10 @@ fn relvar_at<'a>(relvars: &'a [Known<'_>], place: usize) -> Option<Result<&'a Le
 }
 
 /// What the relvar at the place has, if it is known. It looks at the relvars one by one.
-pub(crate) fn relvar_known<'a>(
+pub(crate) fn relvar_known<'a, W>(
     env: &'a Environment<'_>,
     place: usize,
-) -> Option<Result<&'a Lease<'a>, Fault>>
+) -> Option<Result<&'a Lease<'a>, Fault<W>>>
     ensures { MatchOption result (is_known place env.now.relvars.now ≡ false) (λ r. AnswersBy (λ r. r.now) r (relvars_there env.now place)) }
 {
     relvar_at(env.relvars, place)

@@ -1,5 +1,6 @@
 //! Evaluation.
 
+ghost use Rattle.std.specs.Prelude.{◌≡◌, true};
 ghost use Rattle.td_algebra.specs.Functions as functions;
 ghost use Rattle.td_algebra.specs.Raising.{Answers};
 ghost use Rattle.td_meaning.specs.ForProofs.Over.{terms};
@@ -11,6 +12,7 @@ use crate::environment::Environment;
 use crate::evaluator::Evaluator;
 use crate::parts::{Part, put_if, value_known};
 use crate::scope::Scope;
+use crate::wanting::Wanted;
 use sqlite_items::Boxed;
 use std::alloc::Global;
 use td_algebra::Fault;
@@ -20,10 +22,10 @@ use td_trees::tree::Typed;
 use td_tuples::Item;
 use td_values::Value;
 
-impl Evaluator<'_> {
+impl<W: Wanted> Evaluator<'_, W> {
     /// The value of an expression, by its form.
     #[cycle(evaluation)]
-    pub(crate) fn by_form(&self, tree: &Typed, scope: &Scope) -> Result<Value, Fault>
+    pub(crate) fn by_form(&self, tree: &Typed, scope: &Scope) -> Result<Value, Fault<W>>
         ensures { Answers result (mean_in self.now.env.now tree.now (visible scope.now)) }
     {
         match tree {
@@ -58,7 +60,7 @@ impl Evaluator<'_> {
 
     /// The value of an expression, found or made.
     #[cycle(evaluation)]
-    pub(crate) fn evaluate(&self, tree: &Typed, scope: &Scope) -> Result<Value, Fault>
+    pub(crate) fn evaluate(&self, tree: &Typed, scope: &Scope) -> Result<Value, Fault<W>>
         ensures { Answers result (mean_in self.now.env.now tree.now (visible scope.now)) }
     {
         match self.known(tree) {
@@ -69,16 +71,17 @@ impl Evaluator<'_> {
 }
 
 /// Puts the value of the expression, or the error that it raises, among the parts, where it names nothing around it.
-pub fn keep<'a>(
+pub fn keep<'a, W: Wanted>(
     alloc: Global,
     env: &Environment,
     parts: &mut Vec<Part<'a>>,
     tree: &'a Typed,
-) -> Result<(), Fault>
-    requires { AreRight env.now parts.old.items }
+) -> Result<(), Fault<W>>
+    requires right { AreRight env.now parts.old.items }
+    requires allowed { W.allows env.now.virtuals.now ≡ true }
     ensures { AreRight env.now parts.new.items }
 {
-    let evaluator = Evaluator::beside(alloc, env, parts.as_slice());
+    let evaluator: Evaluator<'_, W> = Evaluator::beside(alloc, env, parts.as_slice());
     let value = evaluator.closed_value(tree)?;
     Ok(put_if(alloc, parts, tree, value)?)
 }
@@ -86,14 +89,15 @@ pub fn keep<'a>(
 /// The value of an expression, or the least error that its rules let stand. What typing rules out is answered by
 /// `Untyped`, and `Wanting` with its place where the expression comes to a virtual relvar that is not among the parts.
 /// The recursion nests as deep as the expression has levels, and those of the CONSTRAINTs of selectors under it.
-pub fn eval(
+pub fn eval<W: Wanted>(
     alloc: Global,
     env: &Environment,
     parts: &[Part],
     tree: &Typed,
     scope: &Scope,
-) -> Result<Value, Fault>
-    requires { AreRight env.now parts.now }
+) -> Result<Value, Fault<W>>
+    requires right { AreRight env.now parts.now }
+    requires allowed { W.allows env.now.virtuals.now ≡ true }
     ensures { Answers result (mean_in env.now tree.now (visible scope.now)) }
 {
     Evaluator::beside(alloc, env, parts).evaluate(tree, scope)
@@ -103,30 +107,32 @@ pub fn eval(
 /// around it are evaluated once. Where it begins with `A = e` for each name of a key by which the tuples are kept,
 /// joined by AND and each e such a part, a literal or a name around it, it is asked of those alone that have these
 /// values: it is false of all others, and raises nothing there.
-pub fn select(
+pub fn select<W: Wanted>(
     alloc: Global,
     env: &Environment,
     parts: &[Part],
     ts: &Lease<'_>,
     condition: &Typed,
     scope: &Scope,
-) -> Result<Relation, Fault>
-    requires { AreRight env.now parts.now }
+) -> Result<Relation, Fault<W>>
+    requires right { AreRight env.now parts.now }
+    requires allowed { W.allows env.now.virtuals.now ≡ true }
     ensures { Answers result (functions.restricted (truth_at (mean_in env.now condition.now) (visible scope.now)) ts.now) }
 {
     Evaluator::beside(alloc, env, parts).restricted_by(ts, condition, scope)
 }
 
 /// The tuples with the items' values, as EXTEND gives them: the values that have names of attributes in place of these.
-pub fn extend_all(
+pub fn extend_all<W: Wanted>(
     alloc: Global,
     env: &Environment,
     parts: &[Part],
     ts: &Relation,
     items: &[Item<Boxed<Typed>>],
     scope: &Scope,
-) -> Result<Relation, Fault>
-    requires { AreRight env.now parts.now }
+) -> Result<Relation, Fault<W>>
+    requires right { AreRight env.now parts.now }
+    requires allowed { W.allows env.now.virtuals.now ≡ true }
     ensures { Answers result (functions.extended (terms (mean_in env.now) (visible scope.now)) items.now ts.now) }
 {
     Evaluator::beside(alloc, env, parts).extended_by(ts, items, scope)

@@ -1,37 +1,43 @@
 //! The evaluator.
 
-ghost use Rattle.std.specs.Prelude.{◌≡◌, IfSome};
+ghost use Rattle.std.specs.Prelude.{◌≡◌, true, IfSome};
 ghost use Rattle.td_meaning.specs.ForProofs.Right.{AreRight-prop};
 ghost use Rattle.td_meaning.specs.Mean.{Names};
 ghost use Rattle.td_meaning.specs.Parts.{AreRight, known_value};
 ghost use Rattle.td_meaning.specs.Seen.{mean_in};
 
 use crate::environment::Environment;
-use crate::parts::{Part, find};
+use crate::parts::{Part, part_known};
 use crate::scope::Held;
+use crate::wanting::Wanted;
 use std::alloc::Global;
+use std::marker::PhantomData;
 use td_algebra::Stop;
 use td_trees::tree::Typed;
 
 /// Evaluates expressions over relvars and selectors, beside parts of expressions whose values over them are known, in
-/// the order of these.
-#[derive(Clone, Copy)]
-pub(crate) struct Evaluator<'a> {
+/// the order of these. What it may say to be wanting is a `W`.
+#[derive(Drop)]
+pub(crate) struct Evaluator<'a, W: Wanted> {
     pub alloc: Global,
     pub env: &'a Environment<'a>,
     pub parts: &'a [Part<'a>],
+    pub wanted: PhantomData<W>,
     ghost right: { AreRight env.now parts.now } by { AreRight-prop env.now parts.now },
+    ghost allowed: { W.allows env.now.virtuals.now ≡ true },
 }
 
-impl<'a> Evaluator<'a> {
+impl<'a, W: Wanted> Evaluator<'a, W> {
     /// Where nothing is known.
-    pub(crate) fn of(alloc: Global, env: &'a Environment<'a>) -> Evaluator<'a>
+    pub(crate) fn of(alloc: Global, env: &'a Environment<'a>) -> Evaluator<'a, W>
+        requires { W.allows env.now.virtuals.now ≡ true }
         ensures { result.env.now ≡ env.now }
     {
         Evaluator {
             alloc,
             env,
             parts: &[],
+            wanted: PhantomData,
         }
     }
 
@@ -40,21 +46,23 @@ impl<'a> Evaluator<'a> {
         alloc: Global,
         env: &'a Environment<'a>,
         parts: &'a [Part<'a>],
-    ) -> Evaluator<'a>
-        requires { AreRight env.now parts.now }
+    ) -> Evaluator<'a, W>
+        requires right { AreRight env.now parts.now }
+        requires allowed { W.allows env.now.virtuals.now ≡ true }
         ensures { result.env.now ≡ env.now }
     {
-        Evaluator { alloc, env, parts }
+        Evaluator {
+            alloc,
+            env,
+            parts,
+            wanted: PhantomData,
+        }
     }
 
-    /// What is known of the expression. What takes no evaluation is not sought, as a relvar where none is virtual.
+    /// What is known of the expression.
     pub(crate) fn known(&self, tree: &Typed) -> Option<&'a Result<Held, Stop>>
         ensures { IfSome result (λ v. (names : Names) → mean_in self.now.env.now tree.now names ≡ known_value v.now) }
     {
-        match tree {
-            Typed::Integer(_) | Typed::Text(_) | Typed::Truth(_) | Typed::Local(_) => None,
-            Typed::Relvar(_) if self.env.virtuals.is_empty() => None,
-            _ => find(self.parts, tree),
-        }
+        part_known(self.env, self.parts, tree)
     }
 }

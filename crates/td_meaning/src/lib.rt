@@ -19,8 +19,10 @@ mod restrictions;
 pub mod scope;
 mod selections;
 mod summaries;
+mod wanting;
 
 pub use environment::{Environment, Known};
 pub use evaluation::{eval, extend_all, keep, select};
 pub use parts::{Part, put};
 pub use scope::{Held, Scope};
+pub use wanting::Wanted;

@@ -9,6 +9,7 @@ ghost use Rattle.td_meaning.specs.Seen.{mean_in, visible};
 
 use crate::evaluator::Evaluator;
 use crate::scope::Scope;
+use crate::wanting::Wanted;
 use sqlite_items::Boxed;
 use std::alloc::AllocError;
 use td_algebra::Fault;
@@ -32,10 +33,14 @@ fn add_field(found: &mut Vec<(Name, Value)>, name: &Name, value: Value) -> Resul
     Ok(())
 }
 
-impl Evaluator<'_> {
+impl<W: Wanted> Evaluator<'_, W> {
     #[cycle(evaluation)]
     #[tactic(auto, unfolding(crate::specs::Mean::at))]
-    pub(crate) fn values(&self, trees: &[Boxed<Typed>], scope: &Scope) -> Result<Vec<Value>, Fault>
+    pub(crate) fn values(
+        &self,
+        trees: &[Boxed<Typed>],
+        scope: &Scope,
+    ) -> Result<Vec<Value>, Fault<W>>
         ensures { AnswersBy (λ v. v.items) result (operators.in_turn (spec.at (visible scope.now)) (list_meant (mean_in self.now.env.now) trees.now)) }
     {
         let mut found = Vec::new(self.alloc);
@@ -53,7 +58,7 @@ impl Evaluator<'_> {
         heading: &Heading,
         trees: &[Boxed<Typed>],
         scope: &Scope,
-    ) -> Result<Value, Fault>
+    ) -> Result<Value, Fault<W>>
         ensures { Answers result (spec.mean_relation heading.now (list_meant (mean_in self.now.env.now) trees.now) (visible scope.now)) }
     {
         let found = self.values(trees, scope)?;
@@ -66,7 +71,7 @@ impl Evaluator<'_> {
         &self,
         items: &[Item<Boxed<Typed>>],
         scope: &Scope,
-    ) -> Result<Vec<(Name, Value)>, Fault>
+    ) -> Result<Vec<(Name, Value)>, Fault<W>>
         ensures { AnswersBy (λ v. v.items) result (operators.in_turn (spec.named_at (visible scope.now)) (items_meant (mean_in self.now.env.now) items.now)) }
     {
         let mut found = Vec::new(self.alloc);
@@ -79,7 +84,11 @@ impl Evaluator<'_> {
 
     #[cycle(evaluation)]
     #[tactic(auto, unfolding(crate::specs::Mean::mean_tuple))]
-    pub(crate) fn tuple(&self, items: &[Item<Boxed<Typed>>], scope: &Scope) -> Result<Value, Fault>
+    pub(crate) fn tuple(
+        &self,
+        items: &[Item<Boxed<Typed>>],
+        scope: &Scope,
+    ) -> Result<Value, Fault<W>>
         ensures { Answers result (spec.mean_tuple (items_meant (mean_in self.now.env.now) items.now) (visible scope.now)) }
     {
         let found = self.fields(items, scope)?;

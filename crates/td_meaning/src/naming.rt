@@ -8,6 +8,7 @@ ghost use Rattle.td_meaning.specs.Seen.{all_given, held_value, mean_in, visible}
 
 use crate::evaluator::Evaluator;
 use crate::scope::{Held, Scope, hold};
+use crate::wanting::Wanted;
 use sqlite_items::{Boxed, Items};
 use std::alloc::AllocError;
 use td_algebra::Fault;
@@ -24,14 +25,14 @@ fn add_held(found: &mut Items<Named<Held>>, name: &Name, value: Value) -> Result
     Ok(())
 }
 
-impl Evaluator<'_> {
+impl<W: Wanted> Evaluator<'_, W> {
     #[cycle(evaluation)]
     #[tactic(auto, unfolding(crate::specs::Mean::introduced))]
     fn introduced(
         &self,
         xs: &[Named<Boxed<Typed>>],
         scope: &Scope,
-    ) -> Result<Items<Named<Held>>, Fault>
+    ) -> Result<Items<Named<Held>>, Fault<W>>
         ensures { AnswersBy (λ v. all_given v (visible scope.now)) result (spec.introduced (all_meant (mean_in self.now.env.now) xs.now) (visible scope.now)) }
     {
         let mut found = Items::new(self.alloc);
@@ -50,7 +51,7 @@ impl Evaluator<'_> {
         xs: &[Named<Boxed<Typed>>],
         body: &Typed,
         scope: &Scope,
-    ) -> Result<Value, Fault>
+    ) -> Result<Value, Fault<W>>
         ensures { Answers result (spec.mean_with (all_meant (mean_in self.now.env.now) xs.now) (mean_in self.now.env.now body.now) (visible scope.now)) }
     {
         let found = self.introduced(xs, scope)?;

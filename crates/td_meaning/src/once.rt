@@ -7,18 +7,20 @@ ghost use Rattle.td_meaning.specs.Mean.{Names};
 ghost use Rattle.td_meaning.specs.Parts.{AreRight, known_value};
 ghost use Rattle.td_meaning.specs.Seen.{mean_in};
 
-use crate::closed::{Terms, closed_parts};
+use crate::closed::{Knowledge, Terms, closed_parts};
 use crate::evaluator::Evaluator;
 use crate::parts::{Part, copied, put_if};
 use crate::scope::{Held, Scope, hold};
+use crate::wanting::Wanted;
 use std::alloc::AllocError;
+use std::marker::PhantomData;
 use td_algebra::{Fault, Stop};
 use td_trees::tree::Typed;
 
-impl Evaluator<'_> {
+impl<W: Wanted> Evaluator<'_, W> {
     /// What the expression means wherever it stands, if it names nothing that is around it.
     #[cycle(evaluation)]
-    pub(crate) fn closed_value(&self, tree: &Typed) -> Result<Option<Result<Held, Stop>>, Fault>
+    pub(crate) fn closed_value(&self, tree: &Typed) -> Result<Option<Result<Held, Stop>>, Fault<W>>
         ensures { IfOk result (λ v. IfSome v (λ w. (names : Names) → mean_in self.now.env.now tree.now names ≡ known_value w)) }
     {
         match self.evaluate(tree, &Scope::Nothing) {
@@ -36,15 +38,13 @@ impl Evaluator<'_> {
         parts: &[Part<'_>],
         terms: Terms<'a>,
     ) -> Result<Vec<&'a Typed>, AllocError>
-        requires { AreRight self.now.env.now parts.now }
         ensures { IfOk result (λ v. deepest_in v.items ≤ terms_levels terms.entry) }
     {
-        let around = Evaluator {
-            alloc: self.alloc,
+        let knowledge = Knowledge {
             env: &*self.env,
             parts: &*parts,
         };
-        closed_parts(&around, terms)
+        closed_parts(self.alloc, &knowledge, terms)
     }
 
     // Where it comes to a virtual relvar that is not known, the part may not be needed.
@@ -53,10 +53,11 @@ impl Evaluator<'_> {
         requires { AreRight self.now.env.now parts.old.items }
         ensures { AreRight self.now.env.now parts.new.items }
     {
-        let around = Evaluator {
+        let around: Evaluator<'_, W> = Evaluator {
             alloc: self.alloc,
             env: &*self.env,
             parts: parts.as_slice(),
+            wanted: PhantomData,
         };
         match around.closed_value(tree) {
             Ok(value) => put_if(self.alloc, parts, tree, value),
@@ -104,7 +105,7 @@ impl Evaluator<'_> {
     ) -> Result<Option<Vec<Part<'a>>>, AllocError>
         ensures { IfOk result (λ v. IfSome v (λ v. AreRight self.now.env.now v.items)) }
     {
-        if tuples < 2 || closed_parts(self, terms)?.is_empty() {
+        if tuples < 2 || self.parts_beside(self.parts, terms)?.is_empty() {
             return Ok(None);
         }
         let mut parts = copied(self.alloc, self.parts)?;

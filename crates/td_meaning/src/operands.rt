@@ -13,17 +13,18 @@ ghost use Rattle.td_meaning.specs.Mean as spec;
 ghost use Rattle.td_meaning.specs.Mean.{Names};
 ghost use Rattle.td_meaning.specs.Seen.{mean_in, relvars_there, visible};
 
-use crate::environment::{Environment, is_virtual, relvar_known};
+use crate::environment::relvar_known;
 use crate::evaluator::Evaluator;
 use crate::parts::operand_known;
 use crate::scope::{Scope, operand_meant, value_meant};
+use crate::wanting::Wanted;
 use std::alloc::Global;
 use td_algebra::{Fault, Stop};
 use td_operators::{Lease, Operand, relation_value, rows_of, truth_of};
 use td_trees::tree::Typed;
 use td_values::{Name, Value};
 
-fn copied(alloc: Global, known: Result<&Lease<'_>, Fault>) -> Result<Value, Fault>
+fn copied<W>(alloc: Global, known: Result<&Lease<'_>, Fault<W>>) -> Result<Value, Fault<W>>
     ensures { (m : Result RowsData Stop) → AnswersBy (λ r. r.now) known.entry m → Answers result (and_then m as_value) }
 {
     match known {
@@ -32,7 +33,7 @@ fn copied(alloc: Global, known: Result<&Lease<'_>, Fault>) -> Result<Value, Faul
     }
 }
 
-fn lent<'a>(known: Result<&'a Lease<'a>, Fault>) -> Result<Operand<'a>, Fault>
+fn lent<'a, W>(known: Result<&'a Lease<'a>, Fault<W>>) -> Result<Operand<'a>, Fault<W>>
     ensures { (m : Result RowsData Stop) → AnswersBy (λ r. r.now) known.entry m → AnswersBy operand_value result (and_then m as_value) }
 {
     match known {
@@ -41,7 +42,7 @@ fn lent<'a>(known: Result<&'a Lease<'a>, Fault>) -> Result<Operand<'a>, Fault>
     }
 }
 
-fn made<'a>(answer: Result<Value, Fault>) -> Result<Operand<'a>, Fault>
+fn made<'a, W>(answer: Result<Value, Fault<W>>) -> Result<Operand<'a>, Fault<W>>
     ensures { (m : Result Datum Stop) → Answers answer m → AnswersBy operand_value result m }
 {
     match answer {
@@ -50,22 +51,9 @@ fn made<'a>(answer: Result<Value, Fault>) -> Result<Operand<'a>, Fault>
     }
 }
 
-// Of a relvar that is not known: a virtual one may be made known.
-#[tactic(auto, unfolding(crate::specs::Mean::mean_relvar, crate::specs::Seen::relvars_there))]
-fn unknown(env: &Environment<'_>, place: usize) -> Result<Value, Fault>
-    requires { is_known place env.now.relvars.now ≡ false }
-    ensures { (names : Names) → Answers result (spec.mean_relvar (relvars_there env.now) place names) }
-{
-    if is_virtual(env, place) {
-        Err(Fault::Wanting(place))
-    } else {
-        Err(Fault::Raised(Stop::Untyped))
-    }
-}
-
-impl Evaluator<'_> {
+impl<W: Wanted> Evaluator<'_, W> {
     #[tactic(auto, unfolding(crate::specs::Mean::mean_local))]
-    pub(crate) fn local(&self, name: &Name, scope: &Scope) -> Result<Value, Fault>
+    pub(crate) fn local(&self, name: &Name, scope: &Scope) -> Result<Value, Fault<W>>
         ensures { Answers result (spec.mean_local name.now (visible scope.now)) }
     {
         match scope.find(name) {
@@ -75,17 +63,17 @@ impl Evaluator<'_> {
     }
 
     #[tactic(auto, unfolding(crate::specs::Mean::mean_relvar))]
-    pub(crate) fn relvar(&self, place: usize) -> Result<Value, Fault>
+    pub(crate) fn relvar(&self, place: usize) -> Result<Value, Fault<W>>
         ensures { (names : Names) → Answers result (spec.mean_relvar (relvars_there self.now.env.now) place names) }
     {
         match relvar_known(self.env, place) {
             Some(known) => copied(self.alloc, known),
-            None => unknown(self.env, place),
+            None => W::unknown(self.env, place),
         }
     }
 
     #[tactic(auto, unfolding(crate::specs::Mean::mean_local))]
-    fn local_operand<'a>(&self, name: &Name, scope: &'a Scope<'_>) -> Result<Operand<'a>, Fault>
+    fn local_operand<'a>(&self, name: &Name, scope: &'a Scope<'_>) -> Result<Operand<'a>, Fault<W>>
         ensures { AnswersBy operand_value result (spec.mean_local name.now (visible scope.now)) }
     {
         match scope.find(name) {
@@ -95,19 +83,19 @@ impl Evaluator<'_> {
     }
 
     // A virtual relvar is known as a part.
-    fn virtual_operand<'a>(&'a self, tree: &Typed, place: usize) -> Result<Operand<'a>, Fault>
+    fn virtual_operand<'a>(&'a self, tree: &Typed, place: usize) -> Result<Operand<'a>, Fault<W>>
         requires tree { tree.now ≡ t.Relvar place }
         requires unknown { is_known place self.now.env.now.relvars.now ≡ false }
         ensures { (names : Names) → AnswersBy operand_value result (mean_in self.now.env.now tree.now names) }
     {
         match self.known(tree) {
             Some(value) => operand_known(self.alloc, value),
-            None => made(unknown(self.env, place)),
+            None => made(W::unknown(self.env, place)),
         }
     }
 
     // The relvar at the place, which the expression names, lent.
-    fn relvar_operand<'a>(&'a self, tree: &Typed, place: usize) -> Result<Operand<'a>, Fault>
+    fn relvar_operand<'a>(&'a self, tree: &Typed, place: usize) -> Result<Operand<'a>, Fault<W>>
         requires { tree.now ≡ t.Relvar place }
         ensures { (names : Names) → AnswersBy operand_value result (mean_in self.now.env.now tree.now names) }
     {
@@ -123,7 +111,7 @@ impl Evaluator<'_> {
         &'e self,
         tree: &Typed,
         scope: &'a Scope<'_>,
-    ) -> Result<Operand<'a>, Fault>
+    ) -> Result<Operand<'a>, Fault<W>>
         ensures { AnswersBy operand_value result (mean_in self.now.env.now tree.now (visible scope.now)) }
     {
         match tree {
@@ -142,7 +130,7 @@ impl Evaluator<'_> {
         &'e self,
         a: &Typed,
         scope: &'a Scope<'_>,
-    ) -> Result<Lease<'a>, Fault>
+    ) -> Result<Lease<'a>, Fault<W>>
         ensures { Answers result (spec.rows_in (mean_in self.now.env.now a.now) (visible scope.now)) }
     {
         rows_of(self.operand(a, &*scope)?)
@@ -150,7 +138,7 @@ impl Evaluator<'_> {
 
     #[cycle(evaluation)]
     #[tactic(auto, unfolding(crate::specs::Mean::truth_in))]
-    pub(crate) fn truth(&self, a: &Typed, scope: &Scope) -> Result<bool, Fault>
+    pub(crate) fn truth(&self, a: &Typed, scope: &Scope) -> Result<bool, Fault<W>>
         ensures { Answers result (spec.truth_in (mean_in self.now.env.now a.now) (visible scope.now)) }
     {
         truth_of(self.evaluate(a, scope)?)

@@ -11,6 +11,7 @@ ghost use Rattle.td_meaning.specs.Seen.{mean_in, visible};
 
 use crate::evaluator::Evaluator;
 use crate::scope::Scope;
+use crate::wanting::Wanted;
 use td_algebra::{Fault, Stop};
 use td_operators::{
     attribute_at, component_at, has_parts, is_within_part, nested, operate, operate_on, part_at,
@@ -27,7 +28,7 @@ struct PartOf<'t> {
     names: &'t [Name],
 }
 
-impl Evaluator<'_> {
+impl<W: Wanted> Evaluator<'_, W> {
     #[cycle(evaluation)]
     #[tactic(auto, unfolding(crate::specs::Mean::mean_by))]
     pub(crate) fn unary(
@@ -35,7 +36,7 @@ impl Evaluator<'_> {
         operator: UnaryOperator,
         a: &Typed,
         scope: &Scope,
-    ) -> Result<Value, Fault>
+    ) -> Result<Value, Fault<W>>
         ensures { Answers result (spec.mean_by (operators.operate_on operator) (mean_in self.now.env.now a.now) (visible scope.now)) }
     {
         operate_on(self.alloc, operator, self.operand(a, &*scope)?)
@@ -43,7 +44,7 @@ impl Evaluator<'_> {
 
     #[cycle(evaluation)]
     #[tactic(auto, unfolding(crate::specs::Mean::mean_by))]
-    pub(crate) fn component(&self, at: usize, a: &Typed, scope: &Scope) -> Result<Value, Fault>
+    pub(crate) fn component(&self, at: usize, a: &Typed, scope: &Scope) -> Result<Value, Fault<W>>
         ensures { Answers result (spec.mean_by (operators.component_at at) (mean_in self.now.env.now a.now) (visible scope.now)) }
     {
         let a = self.operand(a, &*scope)?;
@@ -52,7 +53,7 @@ impl Evaluator<'_> {
 
     #[cycle(evaluation)]
     #[tactic(auto, unfolding(crate::specs::Mean::mean_by))]
-    pub(crate) fn attribute(&self, name: &Name, a: &Typed, scope: &Scope) -> Result<Value, Fault>
+    pub(crate) fn attribute(&self, name: &Name, a: &Typed, scope: &Scope) -> Result<Value, Fault<W>>
         ensures { Answers result (spec.mean_by (operators.attribute_at name.now) (mean_in self.now.env.now a.now) (visible scope.now)) }
     {
         let a = self.operand(a, &*scope)?;
@@ -66,7 +67,7 @@ impl Evaluator<'_> {
         a: &Typed,
         names: &[Name],
         scope: &Scope,
-    ) -> Result<Value, Fault>
+    ) -> Result<Value, Fault<W>>
         ensures { Answers result (spec.mean_by (operators.part_at names.now) (mean_in self.now.env.now a.now) (visible scope.now)) }
     {
         part_at(self.alloc, names, self.operand(a, &*scope)?)
@@ -79,7 +80,7 @@ impl Evaluator<'_> {
         a: &Typed,
         items: &[(Name, Name)],
         scope: &Scope,
-    ) -> Result<Value, Fault>
+    ) -> Result<Value, Fault<W>>
         ensures { Answers result (spec.mean_by (operators.with_new_names items.now) (mean_in self.now.env.now a.now) (visible scope.now)) }
     {
         with_new_names(self.alloc, items, self.operand(a, &*scope)?)
@@ -94,7 +95,7 @@ impl Evaluator<'_> {
         names: &[Name],
         name: &Name,
         scope: &Scope,
-    ) -> Result<Value, Fault>
+    ) -> Result<Value, Fault<W>>
         ensures { Answers result (spec.mean_by (operators.nested nesting names.now name.now) (mean_in self.now.env.now a.now) (visible scope.now)) }
     {
         nested(self.alloc, nesting, names, name, self.operand(a, &*scope)?)
@@ -108,7 +109,7 @@ impl Evaluator<'_> {
         a: &Typed,
         name: &Name,
         scope: &Scope,
-    ) -> Result<Value, Fault>
+    ) -> Result<Value, Fault<W>>
         ensures { Answers result (spec.mean_by (operators.unnested nesting name.now) (mean_in self.now.env.now a.now) (visible scope.now)) }
     {
         unnested(self.alloc, nesting, name, self.operand(a, &*scope)?)
@@ -116,7 +117,7 @@ impl Evaluator<'_> {
 
     #[cycle(evaluation)]
     #[tactic(auto, unfolding(crate::specs::Mean::mean_and))]
-    fn both(&self, a: &Typed, b: &Typed, scope: &Scope) -> Result<Value, Fault>
+    fn both(&self, a: &Typed, b: &Typed, scope: &Scope) -> Result<Value, Fault<W>>
         ensures { Answers result (spec.mean_and (mean_in self.now.env.now a.now) (mean_in self.now.env.now b.now) (visible scope.now)) }
     {
         if self.truth(a, scope)? {
@@ -129,7 +130,7 @@ impl Evaluator<'_> {
 
     #[cycle(evaluation)]
     #[tactic(auto, unfolding(crate::specs::Mean::mean_or))]
-    fn either(&self, a: &Typed, b: &Typed, scope: &Scope) -> Result<Value, Fault>
+    fn either(&self, a: &Typed, b: &Typed, scope: &Scope) -> Result<Value, Fault<W>>
         ensures { Answers result (spec.mean_or (mean_in self.now.env.now a.now) (mean_in self.now.env.now b.now) (visible scope.now)) }
     {
         if self.truth(a, scope)? {
@@ -148,7 +149,7 @@ impl Evaluator<'_> {
         a: &Typed,
         b: &Typed,
         scope: &Scope,
-    ) -> Result<Value, Fault>
+    ) -> Result<Value, Fault<W>>
         ensures { Answers result (spec.mean_both operator (mean_in self.now.env.now a.now) (mean_in self.now.env.now b.now) (visible scope.now)) }
     {
         let u = self.operand(a, &*scope)?;
@@ -181,7 +182,7 @@ impl Evaluator<'_> {
         whole: &Typed,
         names: &[Name],
         scope: &Scope,
-    ) -> Result<Value, Fault>
+    ) -> Result<Value, Fault<W>>
         ensures { Answers result (spec.mean_both binary.AtMost (mean_in self.now.env.now a.now) (spec.mean_by (operators.part_at names.now) (mean_in self.now.env.now whole.now)) (visible scope.now)) }
     {
         let inner = self.operand(a, &*scope)?;
@@ -198,7 +199,7 @@ impl Evaluator<'_> {
         names: &[Name],
         b: &Typed,
         scope: &Scope,
-    ) -> Result<Value, Fault>
+    ) -> Result<Value, Fault<W>>
         ensures { Answers result (spec.mean_both binary.AtLeast (spec.mean_by (operators.part_at names.now) (mean_in self.now.env.now whole.now)) (mean_in self.now.env.now b.now) (visible scope.now)) }
     {
         let around = self.operand(whole, &*scope)?;
@@ -210,7 +211,7 @@ impl Evaluator<'_> {
     }
 
     #[cycle(evaluation)]
-    fn at_most(&self, a: &Typed, b: &Typed, scope: &Scope) -> Result<Value, Fault>
+    fn at_most(&self, a: &Typed, b: &Typed, scope: &Scope) -> Result<Value, Fault<W>>
         ensures { Answers result (spec.mean_both binary.AtMost (mean_in self.now.env.now a.now) (mean_in self.now.env.now b.now) (visible scope.now)) }
     {
         match self.part_of(b) {
@@ -220,7 +221,7 @@ impl Evaluator<'_> {
     }
 
     #[cycle(evaluation)]
-    fn at_least(&self, a: &Typed, b: &Typed, scope: &Scope) -> Result<Value, Fault>
+    fn at_least(&self, a: &Typed, b: &Typed, scope: &Scope) -> Result<Value, Fault<W>>
         ensures { Answers result (spec.mean_both binary.AtLeast (mean_in self.now.env.now a.now) (mean_in self.now.env.now b.now) (visible scope.now)) }
     {
         match self.part_of(a) {
@@ -236,7 +237,7 @@ impl Evaluator<'_> {
         a: &Typed,
         b: &Typed,
         scope: &Scope,
-    ) -> Result<Value, Fault>
+    ) -> Result<Value, Fault<W>>
         ensures { Answers result (spec.mean_binary operator (mean_in self.now.env.now a.now) (mean_in self.now.env.now b.now) (visible scope.now)) }
     {
         match operator {
@@ -256,7 +257,7 @@ impl Evaluator<'_> {
         a: &Typed,
         b: &Typed,
         scope: &Scope,
-    ) -> Result<Value, Fault>
+    ) -> Result<Value, Fault<W>>
         ensures { Answers result (spec.mean_if (mean_in self.now.env.now c.now) (mean_in self.now.env.now a.now) (mean_in self.now.env.now b.now) (visible scope.now)) }
     {
         if self.truth(c, scope)? {

@@ -8,6 +8,7 @@ ghost use Rattle.td_meaning.specs.Parts.{AreRight, known_value};
 ghost use Rattle.td_meaning.specs.Seen.{mean_in};
 ghost use Rattle.td_meaning.specs.declared.environment.Environment.{Environment};
 
+use crate::environment::Environment;
 use crate::scope::{Held, lent, operand_meant, value_meant};
 use std::alloc::{AllocError, Global};
 use td_algebra::{Fault, Stop};
@@ -25,7 +26,10 @@ pub struct Part<'a> {
 }
 
 /// The value, of which a relation is lent, or the error.
-pub(crate) fn operand_known(alloc: Global, value: &Result<Held, Stop>) -> Result<Operand<'_>, Fault>
+pub(crate) fn operand_known<W>(
+    alloc: Global,
+    value: &Result<Held, Stop>,
+) -> Result<Operand<'_>, Fault<W>>
     ensures { AnswersBy operand_value result (known_value value.now) }
 {
     match value {
@@ -35,7 +39,7 @@ pub(crate) fn operand_known(alloc: Global, value: &Result<Held, Stop>) -> Result
 }
 
 /// The value, copied, or the error.
-pub(crate) fn value_known(alloc: Global, value: &Result<Held, Stop>) -> Result<Value, Fault>
+pub(crate) fn value_known<W>(alloc: Global, value: &Result<Held, Stop>) -> Result<Value, Fault<W>>
     ensures { Answers result (known_value value.now) }
 {
     match value {
@@ -53,12 +57,27 @@ pub(crate) fn heading_known(value: &Result<Held, Stop>) -> Option<&Heading> {
 }
 
 /// What is known of the expression, among parts in the order of their expressions.
-pub(crate) fn find<'a>(parts: &'a [Part<'a>], tree: &Typed) -> Option<&'a Result<Held, Stop>>
+fn find<'a>(parts: &'a [Part<'a>], tree: &Typed) -> Option<&'a Result<Held, Stop>>
     ensures { (env : Environment) → AreRight env parts.now → IfSome result (λ v. (names : Names) → mean_in env tree.now names ≡ known_value v.now) }
 {
     match parts.binary_search_by(|part| compare(part.tree, tree)) {
         Ok(at) if compare(parts[at].tree, tree).is_eq() => Some(parts[at].value.get()),
         _ => None,
+    }
+}
+
+/// The same, where it takes evaluation: nothing else is sought, nor a relvar where none is virtual.
+pub(crate) fn part_known<'a>(
+    env: &Environment<'_>,
+    parts: &'a [Part<'a>],
+    tree: &Typed,
+) -> Option<&'a Result<Held, Stop>>
+    ensures { AreRight env.now parts.now → IfSome result (λ v. (names : Names) → mean_in env.now tree.now names ≡ known_value v.now) }
+{
+    match tree {
+        Typed::Integer(_) | Typed::Text(_) | Typed::Truth(_) | Typed::Local(_) => None,
+        Typed::Relvar(_) if env.virtuals.is_empty() => None,
+        _ => find(parts, tree),
     }
 }
 

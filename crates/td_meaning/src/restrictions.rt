@@ -13,16 +13,18 @@ use crate::conditions::{Check, checks_of, compared};
 use crate::evaluator::Evaluator;
 use crate::keyed::found_by_key;
 use crate::scope::Scope;
+use crate::wanting::Wanted;
+use std::marker::PhantomData;
 use td_algebra::{Fault, restrict};
 use td_operators::{Lease, relation_value};
 use td_relations::Relation;
 use td_trees::tree::Typed;
 use td_values::{Tuple, Value};
 
-impl Evaluator<'_> {
+impl<W: Wanted> Evaluator<'_, W> {
     #[cycle(evaluation)]
     #[tactic(auto, unfolding(crate::specs::ForProofs::Checks::check_holds))]
-    fn holds_at(&self, check: &Check<'_>, t: &Tuple, scope: &Scope) -> Result<bool, Fault>
+    fn holds_at(&self, check: &Check<'_>, t: &Tuple, scope: &Scope) -> Result<bool, Fault<W>>
         ensures { Answers result (check_holds (mean_in self.now.env.now) (visible scope.now) t.now check.now) }
     {
         match check {
@@ -32,7 +34,7 @@ impl Evaluator<'_> {
     }
 
     #[cycle(evaluation)]
-    fn all_hold(&self, checks: &[Check<'_>], t: &Tuple, scope: &Scope) -> Result<bool, Fault>
+    fn all_hold(&self, checks: &[Check<'_>], t: &Tuple, scope: &Scope) -> Result<bool, Fault<W>>
         ensures { Answers result (all_hold (mean_in self.now.env.now) (visible scope.now) t.now checks.now) }
     {
         for check in checks {
@@ -49,21 +51,21 @@ impl Evaluator<'_> {
         ts: &Relation,
         checks: &[Check<'_>],
         scope: &Scope,
-    ) -> Result<Relation, Fault>
+    ) -> Result<Relation, Fault<W>>
         ensures { (c : Typed) → AreChecks (mean_in self.now.env.now) (visible scope.now) ts.now.heading c checks.now → Answers result (functions.restricted (truth_at (mean_in self.now.env.now c) (visible scope.now)) ts.now) }
     {
         ts.rows_fit();
         restrict(
             self.alloc,
             ts,
-            |t: &Tuple| -> Result<bool, Fault>
+            |t: &Tuple| -> Result<bool, Fault<W>>
                 ensures { Answers result (all_hold (mean_in self.entry.now.env.now) (visible scope.entry.now) t.now checks.entry.now) }
             { self.all_hold(checks, t, scope) },
         )
     }
 
     #[cycle(evaluation)]
-    fn restricted(&self, ts: &Lease<'_>, c: &Typed, scope: &Scope) -> Result<Relation, Fault>
+    fn restricted(&self, ts: &Lease<'_>, c: &Typed, scope: &Scope) -> Result<Relation, Fault<W>>
         ensures { Answers result (functions.restricted (truth_at (mean_in self.now.env.now c.now) (visible scope.now)) ts.now) }
     {
         let checks = checks_of(&*self, &*scope, ts.get().heading(), &*c)?;
@@ -79,15 +81,16 @@ impl Evaluator<'_> {
         ts: &Lease<'_>,
         c: &Typed,
         scope: &Scope,
-    ) -> Result<Relation, Fault>
+    ) -> Result<Relation, Fault<W>>
         ensures { Answers result (functions.restricted (truth_at (mean_in self.now.env.now c.now) (visible scope.now)) ts.now) }
     {
         match self.prepared(Terms::Condition(c), ts.get().len())? {
             Some(parts) => {
-                let around = Evaluator {
+                let around: Evaluator<'_, W> = Evaluator {
                     alloc: self.alloc,
                     env: &*self.env,
                     parts: parts.as_slice(),
+                    wanted: PhantomData,
                 };
                 around.restricted(ts, c, scope)
             }
@@ -97,7 +100,7 @@ impl Evaluator<'_> {
 
     #[cycle(evaluation)]
     #[tactic(auto, unfolding(crate::specs::Mean::mean_where))]
-    pub(crate) fn restriction(&self, r: &Typed, c: &Typed, scope: &Scope) -> Result<Value, Fault>
+    pub(crate) fn restriction(&self, r: &Typed, c: &Typed, scope: &Scope) -> Result<Value, Fault<W>>
         ensures { Answers result (spec.mean_where (mean_in self.now.env.now r.now) (mean_in self.now.env.now c.now) (visible scope.now)) }
     {
         let ts = self.rows(r, &*scope)?;

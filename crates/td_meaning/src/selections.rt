@@ -12,6 +12,7 @@ ghost use Rattle.td_values.specs.Data.{items_of, user};
 use crate::environment::Environment;
 use crate::evaluator::Evaluator;
 use crate::scope::Scope;
+use crate::wanting::Wanted;
 use sqlite_items::Boxed;
 use std::alloc::{AllocError, Global};
 use td_algebra::{Fault, Stop};
@@ -45,7 +46,7 @@ fn user_value(alloc: Global, selector: &Selector, values: Vec<Value>) -> Result<
     })
 }
 
-impl Evaluator<'_> {
+impl<W: Wanted> Evaluator<'_, W> {
     #[cycle(evaluation)]
     #[tactic(auto, unfolding(crate::specs::Selections::admits))]
     fn admits(
@@ -53,7 +54,7 @@ impl Evaluator<'_> {
         earlier: &[Selector],
         limit: &Option<Shared<Typed>>,
         scope: &Scope,
-    ) -> Result<bool, Fault>
+    ) -> Result<bool, Fault<W>>
         ensures { Answers result (selections.admits (selections.selection earlier.now) limit.now (visible scope.now)) }
     {
         match limit {
@@ -76,7 +77,7 @@ impl Evaluator<'_> {
         earlier: &[Selector],
         selector: &Selector,
         values: Vec<Value>,
-    ) -> Result<Value, Fault>
+    ) -> Result<Value, Fault<W>>
         ensures { Answers result (selections.selected (selections.selection earlier.now) selector.now values.items) }
     {
         let scope = Scope::Components(selector.components.as_slice(), values.as_slice());
@@ -94,7 +95,7 @@ impl Evaluator<'_> {
         place: usize,
         trees: &[Boxed<Typed>],
         scope: &Scope,
-    ) -> Result<Value, Fault>
+    ) -> Result<Value, Fault<W>>
         ensures { Answers result (spec.mean_select (selections.selection self.now.env.now.selectors.now) place (list_meant (mean_in self.now.env.now) trees.now) (visible scope.now)) }
     {
         let found = self.values(trees, scope)?;

@@ -15,7 +15,9 @@ use crate::closed::Terms;
 use crate::conditions::{Side, side_at, side_of_summary};
 use crate::evaluator::Evaluator;
 use crate::scope::Scope;
+use crate::wanting::Wanted;
 use sqlite_items::Boxed;
+use std::marker::PhantomData;
 use td_algebra::{Fault, aggregate, summarize, summarize_by};
 use td_operators::{relation_value, table_dee};
 use td_relations::Relation;
@@ -23,7 +25,7 @@ use td_trees::tree::{Typed, TypedGroups};
 use td_tuples::{Item, Summary};
 use td_values::{Name, Tuple, Value};
 
-impl Evaluator<'_> {
+impl<W: Wanted> Evaluator<'_, W> {
     // The term's value at the tuple, by its side where it has one: an attribute is not sought by its name then.
     #[cycle(evaluation)]
     #[tactic(auto, unfolding(crate::specs::ForProofs::Over::terms))]
@@ -33,7 +35,7 @@ impl Evaluator<'_> {
         term: &Typed,
         t: &Tuple,
         scope: &Scope,
-    ) -> Result<Value, Fault>
+    ) -> Result<Value, Fault<W>>
         ensures { (h : Header) → Fits h t.now → IfSome side.now (IsSide (mean_in self.now.env.now) (visible scope.now) h term.now) → Answers result (terms (mean_in self.now.env.now) (visible scope.now) term.now t.now) }
     {
         match side {
@@ -49,7 +51,7 @@ impl Evaluator<'_> {
         ts: &Relation,
         summary: &Summary<Boxed<Typed>>,
         scope: &Scope,
-    ) -> Result<Value, Fault>
+    ) -> Result<Value, Fault<W>>
         requires { IfSome side.now (λ s. OfTerm (λ a. IsSide (mean_in self.now.env.now) (visible scope.now) ts.now.heading a s) summary.now) }
         ensures { Answers result (summary_over (terms (mean_in self.now.env.now) (visible scope.now)) ts.now.tuples summary.now) }
     {
@@ -58,7 +60,7 @@ impl Evaluator<'_> {
             self.alloc,
             ts,
             summary,
-            &|e: &Boxed<Typed>, t: &Tuple| -> Result<Value, Fault>
+            &|e: &Boxed<Typed>, t: &Tuple| -> Result<Value, Fault<W>>
                 ensures { (h : Header) → Fits h t.now → IfSome side.entry.now (IsSide (mean_in self.entry.now.env.now) (visible scope.entry.now) h e.now) → Answers result (terms (mean_in self.entry.now.env.now) (visible scope.entry.now) e.now t.now) }
             { self.at_tuple(side, e.get(), t, scope) },
         )
@@ -70,7 +72,7 @@ impl Evaluator<'_> {
         ts: &Relation,
         summary: &Summary<Boxed<Typed>>,
         scope: &Scope,
-    ) -> Result<Value, Fault>
+    ) -> Result<Value, Fault<W>>
         ensures { Answers result (summary_over (terms (mean_in self.now.env.now) (visible scope.now)) ts.now.tuples summary.now) }
     {
         let side = side_of_summary(&*self, &*scope, ts.heading(), summary)?;
@@ -83,15 +85,16 @@ impl Evaluator<'_> {
         ts: &Relation,
         summary: &Summary<Boxed<Typed>>,
         scope: &Scope,
-    ) -> Result<Value, Fault>
+    ) -> Result<Value, Fault<W>>
         ensures { Answers result (summary_over (terms (mean_in self.now.env.now) (visible scope.now)) ts.now.tuples summary.now) }
     {
         match self.prepared(Terms::Summary(summary), ts.len())? {
             Some(parts) => {
-                let around = Evaluator {
+                let around: Evaluator<'_, W> = Evaluator {
                     alloc: self.alloc,
                     env: &*self.env,
                     parts: parts.as_slice(),
+                    wanted: PhantomData,
                 };
                 around.aggregated(ts, summary, scope)
             }
@@ -106,7 +109,7 @@ impl Evaluator<'_> {
         r: &Typed,
         summary: &Summary<Boxed<Typed>>,
         scope: &Scope,
-    ) -> Result<Value, Fault>
+    ) -> Result<Value, Fault<W>>
         ensures { Answers result (over.over_aggregate (mean_in self.now.env.now) r.now summary.now (visible scope.now)) }
     {
         let ts = self.rows(r, &*scope)?;
@@ -121,7 +124,7 @@ impl Evaluator<'_> {
         us: &Relation,
         items: &[Item<Summary<Boxed<Typed>>>],
         scope: &Scope,
-    ) -> Result<Relation, Fault>
+    ) -> Result<Relation, Fault<W>>
         ensures { Answers result (functions.summarized (terms (mean_in self.now.env.now) (visible scope.now)) items.now ts.now us.now) }
     {
         summarize(
@@ -129,7 +132,7 @@ impl Evaluator<'_> {
             ts,
             us,
             items,
-            &|e: &Boxed<Typed>, t: &Tuple| -> Result<Value, Fault>
+            &|e: &Boxed<Typed>, t: &Tuple| -> Result<Value, Fault<W>>
                 ensures { Answers result (terms (mean_in self.entry.now.env.now) (visible scope.entry.now) e.now t.now) }
             { self.evaluate(e.get(), &Scope::Within(t, &*scope)) },
         )
@@ -144,7 +147,7 @@ impl Evaluator<'_> {
         names: &[Name],
         items: &[Item<Summary<Boxed<Typed>>>],
         scope: &Scope,
-    ) -> Result<Relation, Fault>
+    ) -> Result<Relation, Fault<W>>
         ensures { Answers result (functions.summarized (terms (mean_in self.now.env.now) (visible scope.now)) items.now ts.now (functions.project_of names.now ts.now)) }
     {
         summarize_by(
@@ -152,7 +155,7 @@ impl Evaluator<'_> {
             ts,
             names,
             items,
-            &|e: &Boxed<Typed>, t: &Tuple| -> Result<Value, Fault>
+            &|e: &Boxed<Typed>, t: &Tuple| -> Result<Value, Fault<W>>
                 ensures { Answers result (terms (mean_in self.entry.now.env.now) (visible scope.entry.now) e.now t.now) }
             { self.evaluate(e.get(), &Scope::Within(t, &*scope)) },
         )
@@ -166,7 +169,7 @@ impl Evaluator<'_> {
         groups: &TypedGroups<Boxed<Typed>>,
         items: &[Item<Summary<Boxed<Typed>>>],
         scope: &Scope,
-    ) -> Result<Relation, Fault>
+    ) -> Result<Relation, Fault<W>>
         ensures { Answers result (over.summarized_over (mean_in self.now.env.now) groups.now items.now (visible scope.now) ts.now) }
     {
         match groups {
@@ -191,15 +194,16 @@ impl Evaluator<'_> {
         groups: &TypedGroups<Boxed<Typed>>,
         items: &[Item<Summary<Boxed<Typed>>>],
         scope: &Scope,
-    ) -> Result<Relation, Fault>
+    ) -> Result<Relation, Fault<W>>
         ensures { Answers result (over.summarized_over (mean_in self.now.env.now) groups.now items.now (visible scope.now) ts.now) }
     {
         match self.prepared(Terms::Summaries(items), ts.len())? {
             Some(parts) => {
-                let around = Evaluator {
+                let around: Evaluator<'_, W> = Evaluator {
                     alloc: self.alloc,
                     env: &*self.env,
                     parts: parts.as_slice(),
+                    wanted: PhantomData,
                 };
                 around.groups_summarized(ts, groups, items, scope)
             }
@@ -215,7 +219,7 @@ impl Evaluator<'_> {
         by: &TypedGroups<Boxed<Typed>>,
         items: &[Item<Summary<Boxed<Typed>>>],
         scope: &Scope,
-    ) -> Result<Value, Fault>
+    ) -> Result<Value, Fault<W>>
         ensures { Answers result (over.over_summarize (mean_in self.now.env.now) r.now by.now items.now (visible scope.now)) }
     {
         let ts = self.rows(r, &*scope)?;

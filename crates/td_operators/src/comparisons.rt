@@ -59,7 +59,12 @@ fn compared(operator: BinaryOperator, u: &Value, v: &Value) -> Option<bool>
 
 /// The truth of what an operator makes of two values. Comparisons of integers and of texts, and for equality those of
 /// all values, copy neither.
-pub fn holds(alloc: Global, operator: BinaryOperator, u: &Value, v: &Value) -> Result<bool, Fault>
+pub fn holds<W>(
+    alloc: Global,
+    operator: BinaryOperator,
+    u: &Value,
+    v: &Value,
+) -> Result<bool, Fault<W>>
     ensures { Answers result (and_then (spec.operate operator u.now v.now) truth_of) }
 {
     match compared(operator, u, v) {

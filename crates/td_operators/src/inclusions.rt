@@ -44,12 +44,12 @@ fn is_of_part(
 }
 
 // Where it has the part's heading, it is within the part where none of its tuples lacks one of the whole that has it.
-fn is_within(
+fn is_within<W>(
     alloc: Global,
     r: &Lease<'_>,
     names: &[Name],
     whole: &Lease<'_>,
-) -> Result<Value, Fault>
+) -> Result<Value, Fault<W>>
     ensures { Answers result (spec.if_alike r.now (project_of names.now whole.now) (boolean (spec.is_subset r.now (project_of names.now whole.now)))) }
 {
     let alike = is_of_part(alloc, r.get().heading(), names, whole.get().heading())?;
@@ -63,12 +63,12 @@ fn is_within(
 }
 
 #[tactic(auto, unfolding(crate::specs::ForProofs::Within::within_part))]
-fn are_within(
+fn are_within<W>(
     alloc: Global,
     u: Operand<'_>,
     names: &[Name],
     whole: Operand<'_>,
-) -> Result<Value, Fault>
+) -> Result<Value, Fault<W>>
     ensures { Answers result (within_part names.now (operand_value u.entry) (operand_value whole.entry)) }
 {
     let s = rows_of(whole)?;
@@ -102,12 +102,12 @@ pub fn has_parts(operand: &Operand<'_>) -> bool
 
 /// Whether a relation is within another one's part at these names. No part is made and the larger of the two is not
 /// sorted: it costs as NOT MATCHING, a search for each tuple where the other one is kept by a key of these names.
-pub fn is_within_part(
+pub fn is_within_part<W>(
     alloc: Global,
     u: Operand<'_>,
     names: &[Name],
     whole: Operand<'_>,
-) -> Result<Value, Fault>
+) -> Result<Value, Fault<W>>
     ensures { Answers result (and_then (spec.part_at names.now (operand_value whole.entry)) (spec.operate binary.AtMost (operand_value u.entry))) }
 {
     if is_other(&u) && is_other(&whole) {

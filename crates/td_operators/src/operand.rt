@@ -126,7 +126,7 @@ impl<'a> Lease<'a> {
     }
 }
 
-pub(crate) fn truth_of(operand: &Operand) -> Result<bool, Fault>
+pub(crate) fn truth_of<W>(operand: &Operand) -> Result<bool, Fault<W>>
     ensures { Answers result (spec.truth_of (operand_value operand.now)) }
 {
     match operand {
@@ -138,7 +138,7 @@ pub(crate) fn truth_of(operand: &Operand) -> Result<bool, Fault>
     }
 }
 
-pub(crate) fn integer_of(operand: &Operand) -> Result<i64, Fault>
+pub(crate) fn integer_of<W>(operand: &Operand) -> Result<i64, Fault<W>>
     ensures { Answers result (spec.integer_of (operand_value operand.now)) }
 {
     match operand {
@@ -150,7 +150,7 @@ pub(crate) fn integer_of(operand: &Operand) -> Result<i64, Fault>
     }
 }
 
-pub(crate) fn text_of<'a>(operand: &'a Operand) -> Result<&'a Text, Fault>
+pub(crate) fn text_of<'a, W>(operand: &'a Operand) -> Result<&'a Text, Fault<W>>
     ensures { AnswersBy (λ s. s.now) result (spec.text_of (operand_value operand.now)) }
 {
     match operand {
@@ -162,7 +162,7 @@ pub(crate) fn text_of<'a>(operand: &'a Operand) -> Result<&'a Text, Fault>
     }
 }
 
-pub(crate) fn tuple_of<'a>(operand: &'a Operand) -> Result<&'a Tuple, Fault>
+pub(crate) fn tuple_of<'a, W>(operand: &'a Operand) -> Result<&'a Tuple, Fault<W>>
     ensures { AnswersBy (λ t. t.now) result (spec.tuple_in (operand_value operand.now)) }
 {
     match operand {
@@ -174,7 +174,7 @@ pub(crate) fn tuple_of<'a>(operand: &'a Operand) -> Result<&'a Tuple, Fault>
     }
 }
 
-pub(crate) fn components_of<'a>(operand: &'a Operand) -> Result<&'a [Value], Fault>
+pub(crate) fn components_of<'a, W>(operand: &'a Operand) -> Result<&'a [Value], Fault<W>>
     ensures { AnswersBy (λ vs. vs.now) result (spec.components_of (operand_value operand.now)) }
 {
     match operand {
@@ -200,7 +200,7 @@ pub(crate) fn shape_of<'a>(operand: &'a Operand) -> Shape<'a>
     }
 }
 
-fn own_rows<'a>(value: Value) -> Result<Lease<'a>, Fault>
+fn own_rows<'a, W>(value: Value) -> Result<Lease<'a>, Fault<W>>
     ensures { Answers result (spec.rows_of value) }
 {
     match value.kind {
@@ -210,7 +210,7 @@ fn own_rows<'a>(value: Value) -> Result<Lease<'a>, Fault>
 }
 
 /// The relation of the operand. It takes no memory.
-pub fn rows_of<'a>(operand: Operand<'a>) -> Result<Lease<'a>, Fault>
+pub fn rows_of<'a, W>(operand: Operand<'a>) -> Result<Lease<'a>, Fault<W>>
     ensures { Answers result (spec.rows_of (operand_value operand.entry)) }
 {
     match operand {

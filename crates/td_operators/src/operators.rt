@@ -25,7 +25,7 @@ use td_syntax::tree::{Nesting, UnaryOperator};
 use td_tuples::is_in;
 use td_values::{Heading, Name, Raise, Tuple, Value, copy};
 
-fn negated(n: i64) -> Result<Value, Fault>
+fn negated<W>(n: i64) -> Result<Value, Fault<W>>
     ensures { Answers result (spec.within_64_bits (neg_ℤ n)) }
 {
     match n.checked_neg() {
@@ -42,7 +42,7 @@ fn has_pairs(heading: &Heading) -> bool
     is_binary(heading)
 }
 
-fn closed(alloc: Global, r: &Relation) -> Result<Value, Fault>
+fn closed<W>(alloc: Global, r: &Relation) -> Result<Value, Fault<W>>
     ensures { Answers result (spec.closed r.now) }
 {
     if !has_pairs(r.heading()) {
@@ -51,7 +51,7 @@ fn closed(alloc: Global, r: &Relation) -> Result<Value, Fault>
     Ok(relation_value(tclose_of(alloc, r)?))
 }
 
-fn only_tuple(tuples: &[Tuple]) -> Result<Value, Fault>
+fn only_tuple<W>(tuples: &[Tuple]) -> Result<Value, Fault<W>>
     ensures { Answers result (spec.only_tuple tuples.now) }
 {
     match tuples {
@@ -73,11 +73,11 @@ pub(crate) fn is_empty(tuples: &[Tuple]) -> bool
 }
 
 /// What an operator makes of one value.
-pub fn operate_on(
+pub fn operate_on<W>(
     alloc: Global,
     operator: UnaryOperator,
     operand: Operand<'_>,
-) -> Result<Value, Fault>
+) -> Result<Value, Fault<W>>
     ensures { Answers result (spec.operate_on operator (operand_value operand.entry)) }
 {
     match operator {
@@ -103,7 +103,7 @@ pub fn operate_on(
 }
 
 /// The component at the place, from 0.
-pub fn component_at(alloc: Global, at: usize, operand: &Operand<'_>) -> Result<Value, Fault>
+pub fn component_at<W>(alloc: Global, at: usize, operand: &Operand<'_>) -> Result<Value, Fault<W>>
     ensures { Answers result (spec.component_at at (operand_value operand.now)) }
 {
     let values = components_of(operand)?;
@@ -114,7 +114,7 @@ pub fn component_at(alloc: Global, at: usize, operand: &Operand<'_>) -> Result<V
 }
 
 /// The attribute of a tuple.
-pub fn attribute_at(alloc: Global, name: &Name, operand: &Operand<'_>) -> Result<Value, Fault>
+pub fn attribute_at<W>(alloc: Global, name: &Name, operand: &Operand<'_>) -> Result<Value, Fault<W>>
     ensures { Answers result (spec.attribute_at name.now (operand_value operand.now)) }
 {
     let tuple = tuple_of(operand)?;
@@ -138,7 +138,7 @@ fn cut_to(alloc: Global, names: &[Name], tuple: &Tuple) -> Result<Tuple, AllocEr
 }
 
 /// The part of a tuple or of a relation at these names.
-pub fn part_at(alloc: Global, names: &[Name], operand: Operand<'_>) -> Result<Value, Fault>
+pub fn part_at<W>(alloc: Global, names: &[Name], operand: Operand<'_>) -> Result<Value, Fault<W>>
     ensures { Answers result (spec.part_at names.now (operand_value operand.entry)) }
 {
     if let Shape::Tuple(tuple) = shape_of(&operand) {
@@ -149,11 +149,11 @@ pub fn part_at(alloc: Global, names: &[Name], operand: Operand<'_>) -> Result<Va
 }
 
 /// The relation with new names: each item is an old one with its new one.
-pub fn with_new_names(
+pub fn with_new_names<W>(
     alloc: Global,
     items: &[(Name, Name)],
     operand: Operand<'_>,
-) -> Result<Value, Fault>
+) -> Result<Value, Fault<W>>
     ensures { Answers result (spec.with_new_names items.now (operand_value operand.entry)) }
 {
     let rows = rows_of(operand)?;
@@ -176,13 +176,13 @@ fn nested_of(
 }
 
 /// GROUP and WRAP of the attributes at these names.
-pub fn nested(
+pub fn nested<W>(
     alloc: Global,
     nesting: Nesting,
     names: &[Name],
     name: &Name,
     operand: Operand<'_>,
-) -> Result<Value, Fault>
+) -> Result<Value, Fault<W>>
     ensures { Answers result (spec.nested nesting names.now name.now (operand_value operand.entry)) }
 {
     let rows = rows_of(operand)?;
@@ -203,7 +203,7 @@ fn has_tuples(heading: &Heading, name: &Name) -> bool
     is_tuple_valued(heading, name)
 }
 
-fn ungrouped(alloc: Global, name: &Name, r: &Relation) -> Result<Relation, Fault>
+fn ungrouped<W>(alloc: Global, name: &Name, r: &Relation) -> Result<Relation, Fault<W>>
     ensures { Answers result (spec.unnested_of nesting.Group name.now r.now) }
 {
     if !has_relations(r.heading(), name) {
@@ -212,7 +212,7 @@ fn ungrouped(alloc: Global, name: &Name, r: &Relation) -> Result<Relation, Fault
     Ok(ungroup_of(alloc, r, name)?)
 }
 
-fn unwrapped(alloc: Global, name: &Name, r: &Relation) -> Result<Relation, Fault>
+fn unwrapped<W>(alloc: Global, name: &Name, r: &Relation) -> Result<Relation, Fault<W>>
     ensures { Answers result (spec.unnested_of nesting.Wrap name.now r.now) }
 {
     if !has_tuples(r.heading(), name) {
@@ -221,12 +221,12 @@ fn unwrapped(alloc: Global, name: &Name, r: &Relation) -> Result<Relation, Fault
     Ok(unwrap_of(alloc, r, name)?)
 }
 
-fn unnested_of(
+fn unnested_of<W>(
     alloc: Global,
     nesting: Nesting,
     name: &Name,
     r: &Relation,
-) -> Result<Relation, Fault>
+) -> Result<Relation, Fault<W>>
     ensures { Answers result (spec.unnested_of nesting name.now r.now) }
 {
     match nesting {
@@ -236,12 +236,12 @@ fn unnested_of(
 }
 
 /// UNGROUP and UNWRAP of the attribute of this name.
-pub fn unnested(
+pub fn unnested<W>(
     alloc: Global,
     nesting: Nesting,
     name: &Name,
     operand: Operand<'_>,
-) -> Result<Value, Fault>
+) -> Result<Value, Fault<W>>
     ensures { Answers result (spec.unnested nesting name.now (operand_value operand.entry)) }
 {
     let rows = rows_of(operand)?;

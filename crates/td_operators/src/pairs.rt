@@ -25,7 +25,7 @@ use td_values::{Heading, Kind, Raise, Text, Tuple, Value, equal, equal_headings}
 
 // ---- truth values, integers, texts
 
-fn decided(operator: BinaryOperator, a: bool, b: bool) -> Result<Value, Fault>
+fn decided<W>(operator: BinaryOperator, a: bool, b: bool) -> Result<Value, Fault<W>>
     ensures { Answers result (spec.decided operator a b) }
 {
     match operator {
@@ -37,7 +37,11 @@ fn decided(operator: BinaryOperator, a: bool, b: bool) -> Result<Value, Fault>
 }
 
 #[tactic(auto, unfolding(crate::specs::Operators::of_truths))]
-fn of_truths(operator: BinaryOperator, u: &Operand<'_>, v: &Operand<'_>) -> Result<Value, Fault>
+fn of_truths<W>(
+    operator: BinaryOperator,
+    u: &Operand<'_>,
+    v: &Operand<'_>,
+) -> Result<Value, Fault<W>>
     ensures { Answers result (spec.of_truths operator (operand_value u.now) (operand_value v.now)) }
 {
     let a = truth_of(u)?;
@@ -45,7 +49,7 @@ fn of_truths(operator: BinaryOperator, u: &Operand<'_>, v: &Operand<'_>) -> Resu
     decided(operator, a, b)
 }
 
-fn quotient(m: i64, n: i64) -> Result<Value, Fault>
+fn quotient<W>(m: i64, n: i64) -> Result<Value, Fault<W>>
     ensures { Answers result (spec.quotient m n) }
 {
     if n == 0 {
@@ -57,7 +61,7 @@ fn quotient(m: i64, n: i64) -> Result<Value, Fault>
     }
 }
 
-fn sum(m: i64, n: i64) -> Result<Value, Fault>
+fn sum<W>(m: i64, n: i64) -> Result<Value, Fault<W>>
     ensures { Answers result (spec.within_64_bits (m +ℤ n)) }
 {
     match m.checked_add(n) {
@@ -66,7 +70,7 @@ fn sum(m: i64, n: i64) -> Result<Value, Fault>
     }
 }
 
-fn difference(m: i64, n: i64) -> Result<Value, Fault>
+fn difference<W>(m: i64, n: i64) -> Result<Value, Fault<W>>
     ensures { Answers result (spec.within_64_bits (m -ℤ n)) }
 {
     match m.checked_sub(n) {
@@ -75,7 +79,7 @@ fn difference(m: i64, n: i64) -> Result<Value, Fault>
     }
 }
 
-fn product(m: i64, n: i64) -> Result<Value, Fault>
+fn product<W>(m: i64, n: i64) -> Result<Value, Fault<W>>
     ensures { Answers result (spec.within_64_bits (m *ℤ n)) }
 {
     match m.checked_mul(n) {
@@ -84,7 +88,7 @@ fn product(m: i64, n: i64) -> Result<Value, Fault>
     }
 }
 
-fn calculated(operator: BinaryOperator, m: i64, n: i64) -> Result<Value, Fault>
+fn calculated<W>(operator: BinaryOperator, m: i64, n: i64) -> Result<Value, Fault<W>>
     ensures { Answers result (spec.calculated operator m n) }
 {
     match operator {
@@ -97,7 +101,11 @@ fn calculated(operator: BinaryOperator, m: i64, n: i64) -> Result<Value, Fault>
 }
 
 #[tactic(auto, unfolding(crate::specs::Operators::of_integers))]
-fn of_integers(operator: BinaryOperator, u: &Operand<'_>, v: &Operand<'_>) -> Result<Value, Fault>
+fn of_integers<W>(
+    operator: BinaryOperator,
+    u: &Operand<'_>,
+    v: &Operand<'_>,
+) -> Result<Value, Fault<W>>
     ensures { Answers result (spec.of_integers operator (operand_value u.now) (operand_value v.now)) }
 {
     let m = integer_of(u)?;
@@ -115,7 +123,7 @@ fn joined(alloc: Global, s: &Text, t: &Text) -> Result<Text, AllocError>
 }
 
 #[tactic(auto, unfolding(crate::specs::Operators::concatenated))]
-fn concatenated(alloc: Global, u: &Operand<'_>, v: &Operand<'_>) -> Result<Value, Fault>
+fn concatenated<W>(alloc: Global, u: &Operand<'_>, v: &Operand<'_>) -> Result<Value, Fault<W>>
     ensures { Answers result (spec.concatenated (operand_value u.now) (operand_value v.now)) }
 {
     let s = text_of(u)?;
@@ -180,7 +188,7 @@ fn have_one_heading(r: &Relation, s: &Relation) -> bool
     r.same_heading(s)
 }
 
-fn united(alloc: Global, r: &Relation, s: &Relation) -> Result<Relation, Fault>
+fn united<W>(alloc: Global, r: &Relation, s: &Relation) -> Result<Relation, Fault<W>>
     ensures { Answers result (spec.related binary.Union r.now s.now) }
 {
     if !have_one_heading(r, s) {
@@ -189,7 +197,7 @@ fn united(alloc: Global, r: &Relation, s: &Relation) -> Result<Relation, Fault>
     Ok(union_of(alloc, r, s)?)
 }
 
-fn common(alloc: Global, r: &Relation, s: &Relation) -> Result<Relation, Fault>
+fn common<W>(alloc: Global, r: &Relation, s: &Relation) -> Result<Relation, Fault<W>>
     ensures { Answers result (spec.related binary.Intersect r.now s.now) }
 {
     if !have_one_heading(r, s) {
@@ -198,7 +206,7 @@ fn common(alloc: Global, r: &Relation, s: &Relation) -> Result<Relation, Fault>
     Ok(intersect_of(alloc, r, s)?)
 }
 
-fn remaining(alloc: Global, r: &Relation, s: &Relation) -> Result<Relation, Fault>
+fn remaining<W>(alloc: Global, r: &Relation, s: &Relation) -> Result<Relation, Fault<W>>
     ensures { Answers result (spec.related binary.Minus r.now s.now) }
 {
     if !have_one_heading(r, s) {
@@ -207,12 +215,12 @@ fn remaining(alloc: Global, r: &Relation, s: &Relation) -> Result<Relation, Faul
     Ok(minus_of(alloc, r, s)?)
 }
 
-fn related(
+fn related<W>(
     alloc: Global,
     operator: BinaryOperator,
     r: &Relation,
     s: &Relation,
-) -> Result<Relation, Fault>
+) -> Result<Relation, Fault<W>>
     ensures { Answers result (spec.related operator r.now s.now) }
 {
     match operator {
@@ -341,12 +349,12 @@ fn related_by_any(
 }
 
 /// What an operator makes of two relations, by an index that is kept of one of them where that serves.
-pub(crate) fn related_to(
+pub(crate) fn related_to<W>(
     alloc: Global,
     operator: BinaryOperator,
     r: &Lease<'_>,
     s: &Lease<'_>,
-) -> Result<Relation, Fault>
+) -> Result<Relation, Fault<W>>
     ensures { Answers result (spec.related operator r.now s.now) }
 {
     match related_by_any(alloc, operator, r, s)? {
@@ -356,12 +364,12 @@ pub(crate) fn related_to(
 }
 
 #[tactic(auto, unfolding(crate::specs::Operators::of_relations))]
-fn of_relations(
+fn of_relations<W>(
     alloc: Global,
     operator: BinaryOperator,
     u: Operand<'_>,
     v: Operand<'_>,
-) -> Result<Value, Fault>
+) -> Result<Value, Fault<W>>
     ensures { Answers result (spec.of_relations operator (operand_value u.entry) (operand_value v.entry)) }
 {
     let r = rows_of(u)?;
@@ -370,7 +378,7 @@ fn of_relations(
 }
 
 #[tactic(auto, unfolding(crate::specs::Operators::member))]
-fn member(u: Operand<'_>, v: Operand<'_>) -> Result<Value, Fault>
+fn member<W>(u: Operand<'_>, v: Operand<'_>) -> Result<Value, Fault<W>>
     ensures { Answers result (spec.member (operand_value u.entry) (operand_value v.entry)) }
 {
     let tuple = tuple_of(&u)?;
@@ -393,7 +401,7 @@ fn is_proper_part(r: &Relation, s: &Relation) -> bool
 }
 
 #[tactic(auto, unfolding(crate::specs::Operators::of_alike))]
-fn is_less(u: Operand<'_>, v: Operand<'_>) -> Result<Value, Fault>
+fn is_less<W>(u: Operand<'_>, v: Operand<'_>) -> Result<Value, Fault<W>>
     ensures { Answers result (spec.of_alike spec.is_proper_subset (operand_value u.entry) (operand_value v.entry)) }
 {
     let r = rows_of(u)?;
@@ -405,7 +413,7 @@ fn is_less(u: Operand<'_>, v: Operand<'_>) -> Result<Value, Fault>
 }
 
 #[tactic(auto, unfolding(crate::specs::Operators::of_alike))]
-fn is_at_most(u: Operand<'_>, v: Operand<'_>) -> Result<Value, Fault>
+fn is_at_most<W>(u: Operand<'_>, v: Operand<'_>) -> Result<Value, Fault<W>>
     ensures { Answers result (spec.of_alike spec.is_subset (operand_value u.entry) (operand_value v.entry)) }
 {
     let r = rows_of(u)?;
@@ -416,7 +424,7 @@ fn is_at_most(u: Operand<'_>, v: Operand<'_>) -> Result<Value, Fault>
     Ok(truth_value(is_part(r.get(), s.get())))
 }
 
-fn less(u: Operand<'_>, v: Operand<'_>) -> Result<Value, Fault>
+fn less<W>(u: Operand<'_>, v: Operand<'_>) -> Result<Value, Fault<W>>
     ensures { Answers result (spec.less (operand_value u.entry) (operand_value v.entry)) }
 {
     match shape_of(&u) {
@@ -426,7 +434,7 @@ fn less(u: Operand<'_>, v: Operand<'_>) -> Result<Value, Fault>
     }
 }
 
-fn at_most(u: Operand<'_>, v: Operand<'_>) -> Result<Value, Fault>
+fn at_most<W>(u: Operand<'_>, v: Operand<'_>) -> Result<Value, Fault<W>>
     ensures { Answers result (spec.at_most (operand_value u.entry) (operand_value v.entry)) }
 {
     match shape_of(&u) {
@@ -439,12 +447,12 @@ fn at_most(u: Operand<'_>, v: Operand<'_>) -> Result<Value, Fault>
 // ---- all of them
 
 /// What an operator makes of two values.
-pub fn operate(
+pub fn operate<W>(
     alloc: Global,
     operator: BinaryOperator,
     u: Operand<'_>,
     v: Operand<'_>,
-) -> Result<Value, Fault>
+) -> Result<Value, Fault<W>>
     ensures { Answers result (spec.operate operator (operand_value u.entry) (operand_value v.entry)) }
 {
     match operator {

@@ -56,7 +56,7 @@ pub fn relation_value(relation: Relation) -> Value
 }
 
 /// The truth of a value.
-pub fn truth_of(value: Value) -> Result<bool, Fault>
+pub fn truth_of<W>(value: Value) -> Result<bool, Fault<W>>
     ensures { Answers result (spec.truth_of value) }
 {
     match value.kind {

@@ -22,7 +22,7 @@ fn has_heading(heading: &Heading, tuple: &Tuple) -> bool
     fits(tuple, heading)
 }
 
-fn tuple_over(heading: &Heading, value: &Value) -> Result<Tuple, Fault>
+fn tuple_over<W>(heading: &Heading, value: &Value) -> Result<Tuple, Fault<W>>
     ensures answers { Answers result (spec.tuple_over heading.now value.now) }
     ensures fits { IfOk result (Fits heading.now) }
 {
@@ -42,7 +42,11 @@ fn add_tuple(found: &mut Vec<Tuple>, tuple: Tuple) -> Result<(), AllocError>
     Ok(())
 }
 
-fn tuples_over(alloc: Global, heading: &Heading, values: &[Value]) -> Result<Vec<Tuple>, Fault>
+fn tuples_over<W>(
+    alloc: Global,
+    heading: &Heading,
+    values: &[Value],
+) -> Result<Vec<Tuple>, Fault<W>>
     ensures answers { AnswersBy (λ v. v.items) result (spec.in_turn (spec.tuple_over heading.now) values.now) }
     ensures fit { IfOk result (λ v. All (Fits heading.now) v.items) }
 {
@@ -64,7 +68,11 @@ fn relation_from(heading: Heading, tuples: Vec<Tuple>) -> Relation
 }
 
 /// RELATION: a relation by its heading and the values of its tuples. Each must have the heading.
-pub fn relation_over(alloc: Global, heading: &Heading, values: &[Value]) -> Result<Value, Fault>
+pub fn relation_over<W>(
+    alloc: Global,
+    heading: &Heading,
+    values: &[Value],
+) -> Result<Value, Fault<W>>
     ensures { Answers result (spec.relation_over heading.now values.now) }
 {
     let tuples = tuples_over(alloc, heading, values)?;

@@ -11,14 +11,14 @@ so_far xs None = Ok xs
 so_far xs (Some e) = Err e
 
 -- what an answer means; where there is none any error serves
-abbrev pub meaning_of : {A : Type 0} → Result A Fault → Result A Stop
+abbrev pub meaning_of : {A W : Type 0} → Result A (Fault W) → Result A Stop
 meaning_of (Ok a) = Ok a
 meaning_of (Err (Raised e)) = Err e
 meaning_of (Err OutOfMemory) = Err Untyped
-meaning_of (Err (Wanting n)) = Err Untyped
+meaning_of (Err (Wanting w)) = Err Untyped
 
 -- there is no answer
-abbrev pub GivesUp : Fault → Type 0
+abbrev pub GivesUp : {W : Type 0} → Fault W → Type 0
 GivesUp (Raised e) = ⊥
 GivesUp OutOfMemory = Unit {0}
-GivesUp (Wanting n) = Unit {0}
+GivesUp (Wanting w) = Unit {0}

@@ -6,7 +6,7 @@ use Rattle.td_meaning.proofs.Ready.{adds_both, adds_one, deeper}
 use Rattle.td_meaning.proofs.conditions.+conjuncts.Goals as goal
 
 pub returns-in_ok-add_checks-in-Binary-clause-means : goal.returns-in_ok-add_checks-in-Binary-clause-means
-returns-in_ok-add_checks-in-Binary-clause-means t c =
+returns-in_ok-add_checks-in-Binary-clause-means g t c =
     let h = c.args.heading.now in
     let env = c.args.evaluator.now.env.now in
     let names = visible c.args.scope.now in
@@ -20,14 +20,14 @@ returns-in_ok-add_checks-in-Binary-clause-means t c =
     c.add_checks-in-Binary.ensures.means
 
 pub returns-in_ok-check_of-in_default-clause-means : goal.returns-in_ok-check_of-in_default-clause-means
-returns-in_ok-check_of-in_default-clause-means t c =
+returns-in_ok-check_of-in_default-clause-means g t c =
     on_ok_weaker c.add_check.result
     (λ same. adds_one c.args.evaluator.now.env.now (visible c.args.scope.now) c.args.heading.now c.args.tree.now c.in_ok-check_of-in_default.field-0 c.args.checks.now.items c.add_check.new.checks.items
     c.in_ok-check_of-in_default.ensures.means same)
     c.add_check.ensures
 
 pub returns-in_ok-check_of-in_default-clause-levels : goal.returns-in_ok-check_of-in_default-clause-levels
-returns-in_ok-check_of-in_default-clause-levels t c =
+returns-in_ok-check_of-in_default-clause-levels g t c =
     on_ok_weaker c.add_check.result
     (λ same. omega (arith, ap deepest_check same, deeper c.args.checks.now.items c.in_ok-check_of-in_default.field-0, c.in_ok-check_of-in_default.ensures.levels))
     c.add_check.ensures

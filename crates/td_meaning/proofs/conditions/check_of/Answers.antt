@@ -8,7 +8,7 @@ use Rattle.td_meaning.proofs.conditions.check_of.Goals as goal
 
 pub returns-in-Some-clause-means : goal.returns-in-Some-clause-means
 unfolding check_holds
-returns-in-Some-clause-means c =
+returns-in-Some-clause-means g c =
     let h = c.args.heading.now in
     let m = mean_in c.args.evaluator.now.env.now in
     let names = visible c.args.scope.now in
@@ -19,8 +19,8 @@ returns-in-Some-clause-means c =
 
 pub returns-in-None-clause-means : goal.returns-in-None-clause-means
 unfolding check_holds truth_in
-returns-in-None-clause-means c = search rules
+returns-in-None-clause-means g c = search rules
 
 pub returns-in_default-clause-means : goal.returns-in_default-clause-means
 unfolding check_holds truth_in
-returns-in_default-clause-means c = search rules
+returns-in_default-clause-means g c = search rules

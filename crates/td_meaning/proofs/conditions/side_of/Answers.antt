@@ -10,7 +10,7 @@ use Rattle.td_meaning.proofs.Ready.{local_is, side_weaker}
 use Rattle.td_meaning.proofs.conditions.side_of.Goals as goal
 
 pub returns-in-Local : goal.returns-in-Local
-returns-in-Local c =
+returns-in-Local g c =
     let h = c.args.heading.now in
     let n = c.in-Local.name in
     let env = c.args.evaluator.now.env.now in
@@ -19,7 +19,7 @@ returns-in-Local c =
     (λ s is u f. local_is env names c.args.tree.now n u c.in-Local.is ∙ is u f) c.side_local.ensures
 
 pub returns-in-Some : goal.returns-in-Some
-returns-in-Some c =
+returns-in-Some g c =
     let h = c.args.heading.now in
     let env = c.args.evaluator.now.env.now in
     let names = visible c.args.scope.now in

@@ -7,7 +7,7 @@ use Rattle.td_meaning.proofs.environment.relvar_known.Goals as goal
 
 pub returns : goal.returns
 unfolding relvars_there
-returns c =
+returns g c =
     let e = c.args.env.now in
     through_option c.relvar_at.result _ _ _
     (λ r p. subst (AnswersBy (λ l. l.now) r) (sym (known_first c.args.place (selection e.selectors.now) e.virtuals.now e.relvars.now p.0)) p.1)

@@ -5,14 +5,17 @@ use Rattle.td_meaning.specs.Seen.{mean_in}
 use Rattle.td_meaning.proofs.evaluation.keep.Goals as goal
 
 pub beside-evaluator-requires : goal.beside-evaluator-requires
-beside-evaluator-requires c = subst (AreRight c.args.env.now) (sym c.as_slice.ensures.value) c.requires
+beside-evaluator-requires g c = record {
+  right = subst (AreRight c.args.env.now) (sym c.as_slice.ensures.value) c.requires.right;
+  allowed = c.requires.allowed;
+}
 
 pub returns-in_err-put_if : goal.returns-in_err-put_if
-returns-in_err-put_if c =
-    c.put_if.ensures c.args.env.now c.requires
+returns-in_err-put_if g c =
+    c.put_if.ensures c.args.env.now c.requires.right
     (subst (λ e. IfSome c.in_ok-value.value (λ w. (names : Names) → mean_in e c.args.tree.now names ≡ known_value w)) c.beside-evaluator.ensures c.in_ok-value.ensures)
 
 pub returns : goal.returns
-returns c =
-    c.put_if.ensures c.args.env.now c.requires
+returns g c =
+    c.put_if.ensures c.args.env.now c.requires.right
     (subst (λ e. IfSome c.in_ok-value.value (λ w. (names : Names) → mean_in e c.args.tree.now names ≡ known_value w)) c.beside-evaluator.ensures c.in_ok-value.ensures)

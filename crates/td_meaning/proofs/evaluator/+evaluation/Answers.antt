@@ -12,7 +12,7 @@ use Rattle.td_meaning.specs.ForProofs.Over.{terms, list_meant, items_meant, all_
 use Rattle.td_operators.specs.ForProofs.Turns.{turn}
 use Rattle.td_meaning.specs.Mean.{at, named_at, introduced, truth_at, truth_in, rows_in, mean, mean_both, mean_by, mean_binary, mean_where, mean_if, mean_with}
 use Rattle.td_syntax.specs.declared.tree.BinaryOperator.TheVariants as binary
-use Rattle.td_operators.specs.Operators.{in_turn, operate, operate_on, attribute_at, part_at, with_new_names, nested, unnested}
+use Rattle.td_operators.specs.Operators.{component_at, in_turn, operate, operate_on, attribute_at, part_at, with_new_names, nested, unnested}
 use Rattle.td_tuples.specs.Parts.{Fits}
 use Rattle.td_algebra.specs.Summaries.{OfTerm}
 use Rattle.td_meaning.specs.ForProofs.Checks.{AreChecks, IsSide, all_hold, check_holds}
@@ -23,7 +23,7 @@ use Rattle.td_meaning.proofs.Rightness.{error_means, right_in_slice, told_error,
 use Rattle.td_meaning.specs.Seen.{held_value, all_given, mean_in, relvars_there, visible}
 use Rattle.td_meaning.specs.Selections.{admits, no_relvars, selection}
 use Rattle.td_meaning.proofs.Falls.{in_list, in_items, in_named, term_within, summary_within, of_term, of_term_if, of_those, select_falls, relation_falls, tuple_falls, extend_falls, with_falls, summarize_falls}
-use Rattle.td_meaning.proofs.Forms.{of_relvar, of_unary, of_binary, of_from, of_project, of_where, of_rename, of_nest, of_unnest, of_aggregate, of_if, of_extend, of_summarize, of_with}
+use Rattle.td_meaning.proofs.Forms.{of_component, of_relvar, of_unary, of_binary, of_from, of_project, of_where, of_rename, of_nest, of_unnest, of_aggregate, of_if, of_extend, of_summarize, of_with}
 use Rattle.td_meaning.proofs.Walks.{value_goes, value_stops, field_goes, field_stops, name_goes, name_stops, one_more_given, fails, made_over, stops_over}
 use Rattle.td_operators.proofs.Turns.{turn_begins}
 use Rattle.td_meaning.proofs.evaluator.+evaluation.Goals as goal
@@ -32,7 +32,7 @@ use Rattle.td_meaning.proofs.evaluator.+evaluation.Goals as goal
 
 pub Evaluator::restricted_to-returns : goal.Evaluator::restricted_to-returns
 unfolding truth_at
-Evaluator::restricted_to-returns t c = λ a are.
+Evaluator::restricted_to-returns g t c = λ a are.
     let names = visible c.args.scope.now in
     let h = c.args.ts.now.heading in
     let m = truth_at (mean_in c.args.self.now.env.now a) names in
@@ -41,7 +41,7 @@ Evaluator::restricted_to-returns t c = λ a are.
     subst (λ x. Answers r (m x)) gave.shows (subst (Answers r) (are gave.shown.now fit) gave.says.met)))
 
 pub Evaluator::restricted-returns : goal.Evaluator::restricted-returns
-Evaluator::restricted-returns t c =
+Evaluator::restricted-returns g t c =
     let m = mean_in c.args.self.now.env.now in
     let names = visible c.args.scope.now in
     let a = c.args.c.now in
@@ -53,7 +53,7 @@ Evaluator::restricted-returns t c =
 
 pub Evaluator::restricted-returns-in-Some : goal.Evaluator::restricted-returns-in-Some
 unfolding truth_at
-Evaluator::restricted-returns-in-Some t c =
+Evaluator::restricted-returns-in-Some g t c =
     let m = mean_in c.args.self.now.env.now in
     let names = visible c.args.scope.now in
     let a = c.args.c.now in
@@ -67,37 +67,37 @@ Evaluator::restricted-returns-in-Some t c =
     (c.restricted_to.ensures a (subst (λ h. AreChecks m names h a c.as_slice-in-Some.result.now) (sym narrow.heading) here))
 
 pub Evaluator::extended-extend-requires : goal.Evaluator::extended-extend-requires
-Evaluator::extended-extend-requires t c = λ k d lt i x among p q is_term is_tuple.
-    (omega (arith, c.decreases, term_within c.args.items.now i x p.now among is_term), tt)
+Evaluator::extended-extend-requires g t c = λ k d lt i x among p q is_term is_tuple.
+    (omega (arith, c.decreases, term_within c.args.items.now i x p.now among is_term), λ a m. m)
 
 pub Evaluator::extended-returns : goal.Evaluator::extended-returns
-Evaluator::extended-returns t c =
+Evaluator::extended-returns g t c =
     let m = terms (mean_in c.args.self.now.env.now) (visible c.args.scope.now) in
     extends_to m c.args.items.now c.args.ts.now c.extend.result (c.extend.ensures m (λ k d lt i x among p q a is_term is_tuple gave.
     subst (λ e. Answers a (m e (get_or c.args.ts.now.tuples k d))) is_term (subst (λ u. Answers a (m p.now u)) is_tuple gave)))
 
 pub Evaluator::summarized-summarize-requires : goal.Evaluator::summarized-summarize-requires
-Evaluator::summarized-summarize-requires t c = λ k d lt i x among. of_term _ (get_or c.args.items.now i x).term (λ e le p q is_term is_tuple.
-    (omega (arith, c.decreases, summary_within c.args.items.now i x e p.now among le is_term), tt))
+Evaluator::summarized-summarize-requires g t c = λ k d lt i x among. of_term _ (get_or c.args.items.now i x).term (λ e le p q is_term is_tuple.
+    (omega (arith, c.decreases, summary_within c.args.items.now i x e p.now among le is_term), λ a m. m))
 
 pub Evaluator::summarized-returns : goal.Evaluator::summarized-returns
-Evaluator::summarized-returns t c =
+Evaluator::summarized-returns g t c =
     let m = terms (mean_in c.args.self.now.env.now) (visible c.args.scope.now) in
     summarizes_to m c.args.items.now c.args.ts.now c.args.us.now c.summarize.result (c.summarize.ensures m (λ k d lt i x among. of_term _ (get_or c.args.items.now i x).term (λ e le p q a is_term is_tuple gave.
     subst (λ e. Answers a (m e (get_or c.args.ts.now.tuples k d))) is_term (subst (λ u. Answers a (m p.now u)) is_tuple gave))))
 
 pub Evaluator::summarized_in_runs-summarize_by-requires : goal.Evaluator::summarized_in_runs-summarize_by-requires
-Evaluator::summarized_in_runs-summarize_by-requires t c = λ k d lt i x among. of_term _ (get_or c.args.items.now i x).term (λ e le p q is_term is_tuple.
-    (omega (arith, c.decreases, summary_within c.args.items.now i x e p.now among le is_term), tt))
+Evaluator::summarized_in_runs-summarize_by-requires g t c = λ k d lt i x among. of_term _ (get_or c.args.items.now i x).term (λ e le p q is_term is_tuple.
+    (omega (arith, c.decreases, summary_within c.args.items.now i x e p.now among le is_term), λ a m. m))
 
 pub Evaluator::summarized_in_runs-returns : goal.Evaluator::summarized_in_runs-returns
-Evaluator::summarized_in_runs-returns t c =
+Evaluator::summarized_in_runs-returns g t c =
     let m = terms (mean_in c.args.self.now.env.now) (visible c.args.scope.now) in
     summarizes_to m c.args.items.now c.args.ts.now (project_of c.args.names.now c.args.ts.now) c.summarize_by.result (c.summarize_by.ensures m (λ k d lt i x among. of_term _ (get_or c.args.items.now i x).term (λ e le p q a is_term is_tuple gave.
     subst (λ e. Answers a (m e (get_or c.args.ts.now.tuples k d))) is_term (subst (λ u. Answers a (m p.now u)) is_tuple gave))))
 
 pub Evaluator::aggregated_at-returns : goal.Evaluator::aggregated_at-returns
-Evaluator::aggregated_at-returns t c =
+Evaluator::aggregated_at-returns g t c =
     let m = mean_in c.args.self.now.env.now in
     let names = visible c.args.scope.now in
     let h = c.args.ts.now.heading in
@@ -110,53 +110,53 @@ Evaluator::aggregated_at-returns t c =
     subst (λ x. Answers a (terms m names x (get_or c.args.ts.now.tuples k d))) is_term (subst (λ u. Answers a (terms m names p.now u)) is_tuple (gave h fit there))) sides)
 
 pub Evaluator::aggregated-aggregated_at-requires : goal.Evaluator::aggregated-aggregated_at-requires
-Evaluator::aggregated-aggregated_at-requires t c =
+Evaluator::aggregated-aggregated_at-requires g t c =
     let m = mean_in c.args.self.now.env.now in
     let names = visible c.args.scope.now in
-    (omega (arith, c.decreases), subst (λ h. IfSome c.in_ok-side.side (λ s. OfTerm (λ e. IsSide m names h e s) c.args.summary.now)) c.heading.ensures c.in_ok-side.ensures)
+    λ κs within. (omega (arith, c.decreases), (within, subst (λ h. IfSome c.in_ok-side.side (λ s. OfTerm (λ e. IsSide m names h e s) c.args.summary.now)) c.heading.ensures c.in_ok-side.ensures))
 
 -- ---- measures
 
 pub Evaluator::values-evaluate-requires : goal.Evaluator::values-evaluate-requires
-Evaluator::values-evaluate-requires t c = (omega (arith, c.decreases, in_list c.args.trees.now c.loop-tree.tree-index c.tree-item.result _ c.loop-tree-test.true c.tree-item.is c.get.ensures), tt)
+Evaluator::values-evaluate-requires g t c = λ κs within. (omega (arith, c.decreases, in_list c.args.trees.now c.loop-tree.tree-index c.tree-item.result _ c.loop-tree-test.true c.tree-item.is c.get.ensures), within)
 
 pub Evaluator::fields-evaluate-requires : goal.Evaluator::fields-evaluate-requires
-Evaluator::fields-evaluate-requires t c = (omega (arith, c.decreases, in_items c.args.items.now c.loop-item.item-index c.item-item.result _ c.loop-item-test.true c.item-item.is c.get.ensures), tt)
+Evaluator::fields-evaluate-requires g t c = λ κs within. (omega (arith, c.decreases, in_items c.args.items.now c.loop-item.item-index c.item-item.result _ c.loop-item-test.true c.item-item.is c.get.ensures), within)
 
 pub Evaluator::introduced-evaluate-requires : goal.Evaluator::introduced-evaluate-requires
-Evaluator::introduced-evaluate-requires t c = (omega (arith, c.decreases, in_named c.args.xs.now c.loop-x.x-index c.x-item.result _ c.loop-x-test.true c.x-item.is c.get.ensures), tt)
+Evaluator::introduced-evaluate-requires g t c = λ κs within. (omega (arith, c.decreases, in_named c.args.xs.now c.loop-x.x-index c.x-item.result _ c.loop-x-test.true c.x-item.is c.get.ensures), within)
 
 pub Evaluator::all_hold-holds_at-requires : goal.Evaluator::all_hold-holds_at-requires
-Evaluator::all_hold-holds_at-requires t c = (omega (arith, c.decreases, check_within c.args.checks.now c.loop-check.check-index c.check-item.result c.check-item.result c.loop-check-test.true c.check-item.is), tt)
+Evaluator::all_hold-holds_at-requires g t c = λ κs within. (omega (arith, c.decreases, check_within c.args.checks.now c.loop-check.check-index c.check-item.result c.check-item.result c.loop-check-test.true c.check-item.is), within)
 
 pub Evaluator::by_form-selection-requires : goal.Evaluator::by_form-selection-requires
-Evaluator::by_form-selection-requires t c = (omega (arith, c.decreases, select_falls c.args.tree.now c.in-Select.place c.in-Select.trees _ c.in-Select.is c.as_slice.ensures), tt)
+Evaluator::by_form-selection-requires g t c = λ κs within. (omega (arith, c.decreases, select_falls c.args.tree.now c.in-Select.place c.in-Select.trees _ c.in-Select.is c.as_slice.ensures), within)
 
 pub Evaluator::by_form-tuple-requires : goal.Evaluator::by_form-tuple-requires
-Evaluator::by_form-tuple-requires t c = (omega (arith, c.decreases, tuple_falls c.args.tree.now c.in-Tuple.items _ c.in-Tuple.is c.as_slice-in-Tuple.ensures), tt)
+Evaluator::by_form-tuple-requires g t c = λ κs within. (omega (arith, c.decreases, tuple_falls c.args.tree.now c.in-Tuple.items _ c.in-Tuple.is c.as_slice-in-Tuple.ensures), within)
 
 pub Evaluator::by_form-relation-requires : goal.Evaluator::by_form-relation-requires
-Evaluator::by_form-relation-requires t c = (omega (arith, c.decreases, relation_falls c.args.tree.now c.in-Relation.heading c.in-Relation.trees _ c.in-Relation.is c.as_slice-in-Relation.ensures), tt)
+Evaluator::by_form-relation-requires g t c = λ κs within. (omega (arith, c.decreases, relation_falls c.args.tree.now c.in-Relation.heading c.in-Relation.trees _ c.in-Relation.is c.as_slice-in-Relation.ensures), within)
 
 pub Evaluator::by_form-extension-requires : goal.Evaluator::by_form-extension-requires
-Evaluator::by_form-extension-requires t c = (omega (arith, c.decreases, extend_falls c.args.tree.now c.in-Extend.r _ c.in-Extend.items _ c.in-Extend.is c.get-in-Extend.ensures c.as_slice-in-Extend.ensures), tt)
+Evaluator::by_form-extension-requires g t c = λ κs within. (omega (arith, c.decreases, extend_falls c.args.tree.now c.in-Extend.r _ c.in-Extend.items _ c.in-Extend.is c.get-in-Extend.ensures c.as_slice-in-Extend.ensures), within)
 
 pub Evaluator::by_form-summarization-requires : goal.Evaluator::by_form-summarization-requires
-Evaluator::by_form-summarization-requires t c = (omega (arith, c.decreases, summarize_falls c.args.tree.now c.in-Summarize.r _ c.in-Summarize.by c.in-Summarize.items _ c.in-Summarize.is c.get-in-Summarize.ensures c.as_slice-in-Summarize.ensures), tt)
+Evaluator::by_form-summarization-requires g t c = λ κs within. (omega (arith, c.decreases, summarize_falls c.args.tree.now c.in-Summarize.r _ c.in-Summarize.by c.in-Summarize.items _ c.in-Summarize.is c.get-in-Summarize.ensures c.as_slice-in-Summarize.ensures), within)
 
 pub Evaluator::by_form-with-requires : goal.Evaluator::by_form-with-requires
-Evaluator::by_form-with-requires t c = (omega (arith, c.decreases, with_falls c.args.tree.now c.in-With.body _ c.in-With.xs _ c.in-With.is c.get-in-With.ensures c.as_slice-in-With.ensures), tt)
+Evaluator::by_form-with-requires g t c = λ κs within. (omega (arith, c.decreases, with_falls c.args.tree.now c.in-With.body _ c.in-With.xs _ c.in-With.is c.get-in-With.ensures c.as_slice-in-With.ensures), within)
 
 -- ---- lists
 
 pub Evaluator::values-loop-tree-init : goal.Evaluator::values-loop-tree-init
-Evaluator::values-loop-tree-init t c =
+Evaluator::values-loop-tree-init g t c =
     let f = at (visible c.args.scope.now) in
     let ms = list_meant (mean_in c.args.self.now.env.now) c.args.trees.now in
     turn_begins f ms ∙ ap (λ xs. turn f xs ms) (sym c.new-found.ensures.items)
 
 pub Evaluator::values-loop-tree-preserved : goal.Evaluator::values-loop-tree-preserved
-Evaluator::values-loop-tree-preserved t c =
+Evaluator::values-loop-tree-preserved g t c =
     let m = mean_in c.args.self.now.env.now in
     let names = visible c.args.scope.now in
     let xs = c.args.trees.now in
@@ -166,7 +166,7 @@ Evaluator::values-loop-tree-preserved t c =
     ∙ ap (λ ys. turn (at names) ys (list_meant m (drop (i + 1) xs))) (sym c.in_ok-add_value.ensures)
 
 pub Evaluator::values-returns-in_err-value : goal.Evaluator::values-returns-in_err-value
-Evaluator::values-returns-in_err-value t c =
+Evaluator::values-returns-in_err-value g t c =
     let m = mean_in c.args.self.now.env.now in
     let names = visible c.args.scope.now in
     let xs = c.args.trees.now in
@@ -176,13 +176,13 @@ Evaluator::values-returns-in_err-value t c =
     search (rules, h)
 
 pub Evaluator::fields-loop-item-init : goal.Evaluator::fields-loop-item-init
-Evaluator::fields-loop-item-init t c =
+Evaluator::fields-loop-item-init g t c =
     let f = named_at (visible c.args.scope.now) in
     let ms = items_meant (mean_in c.args.self.now.env.now) c.args.items.now in
     turn_begins f ms ∙ ap (λ xs. turn f xs ms) (sym c.new-found.ensures.items)
 
 pub Evaluator::fields-loop-item-preserved : goal.Evaluator::fields-loop-item-preserved
-Evaluator::fields-loop-item-preserved t c =
+Evaluator::fields-loop-item-preserved g t c =
     let m = mean_in c.args.self.now.env.now in
     let names = visible c.args.scope.now in
     let xs = c.args.items.now in
@@ -192,7 +192,7 @@ Evaluator::fields-loop-item-preserved t c =
     ∙ ap (λ ys. turn (named_at names) ys (items_meant m (drop (i + 1) xs))) (sym c.in_ok-add_field.ensures)
 
 pub Evaluator::fields-returns-in_err-value : goal.Evaluator::fields-returns-in_err-value
-Evaluator::fields-returns-in_err-value t c =
+Evaluator::fields-returns-in_err-value g t c =
     let m = mean_in c.args.self.now.env.now in
     let names = visible c.args.scope.now in
     let xs = c.args.items.now in
@@ -202,7 +202,7 @@ Evaluator::fields-returns-in_err-value t c =
     search (rules, h)
 
 pub Evaluator::introduced-loop-x-preserved : goal.Evaluator::introduced-loop-x-preserved
-Evaluator::introduced-loop-x-preserved t c =
+Evaluator::introduced-loop-x-preserved g t c =
     let m = mean_in c.args.self.now.env.now in
     let outer = visible c.args.scope.now in
     let xs = c.args.xs.now in
@@ -215,7 +215,7 @@ Evaluator::introduced-loop-x-preserved t c =
     (sym (one_more_given c.loop-x.found c.add_held.new.found c.x-item.result.name c.in_ok-add_held.ensures.0 c.in_ok-value.value outer c.in_ok-add_held.ensures.1 c.in_ok-add_held.ensures.2))
 
 pub Evaluator::introduced-returns-in_err-value : goal.Evaluator::introduced-returns-in_err-value
-Evaluator::introduced-returns-in_err-value t c =
+Evaluator::introduced-returns-in_err-value g t c =
     let m = mean_in c.args.self.now.env.now in
     let outer = visible c.args.scope.now in
     let xs = c.args.xs.now in
@@ -227,7 +227,7 @@ Evaluator::introduced-returns-in_err-value t c =
     search (rules, h)
 
 pub Evaluator::all_hold-loop-check-preserved : goal.Evaluator::all_hold-loop-check-preserved
-Evaluator::all_hold-loop-check-preserved t c =
+Evaluator::all_hold-loop-check-preserved g t c =
     let m = mean_in c.args.self.now.env.now in
     let names = visible c.args.scope.now in
     let u = c.args.t.now in
@@ -236,7 +236,7 @@ Evaluator::all_hold-loop-check-preserved t c =
     ∙ hold_goes m names u c.args.checks.now c.loop-check.check-index k c.loop-check-test.true c.check-item.is (c.in_ok-holds_at.ensures ∙ ap Ok c.if-not-branch.false)
 
 pub Evaluator::all_hold-returns-in_err-holds_at : goal.Evaluator::all_hold-returns-in_err-holds_at
-Evaluator::all_hold-returns-in_err-holds_at t c =
+Evaluator::all_hold-returns-in_err-holds_at g t c =
     let m = mean_in c.args.self.now.env.now in
     let names = visible c.args.scope.now in
     let u = c.args.t.now in
@@ -246,9 +246,12 @@ Evaluator::all_hold-returns-in_err-holds_at t c =
     c.in_err-holds_at.ensures in
     search (rules, h)
 
+pub Evaluator::admits-of-requires : goal.Evaluator::admits-of-requires
+Evaluator::admits-of-requires g t c = g.met.W.Wanted.allows_none
+
 pub Evaluator::admits-returns-in-Some : goal.Evaluator::admits-returns-in-Some
 unfolding admits relvars_there
-Evaluator::admits-returns-in-Some t c =
+Evaluator::admits-returns-in-Some g t c =
     let names = visible c.args.scope.now in
     let earlier = selection c.args.earlier.now in
     subst (λ l. Answers c.truth.result (admits earlier l names)) (sym c.in-Some.is)
@@ -259,7 +262,7 @@ Evaluator::admits-returns-in-Some t c =
 
 pub Evaluator::extension-returns : goal.Evaluator::extension-returns
 unfolding over_extend
-Evaluator::extension-returns t c =
+Evaluator::extension-returns g t c =
     let m = mean_in c.args.self.now.env.now in
     let names = visible c.args.scope.now in
     made_over (rows_in (m c.args.r.now) names) (extended (terms m names) c.args.items.now) c.in_ok-ts.ts c.get.result.now c.in_ok-ts.ensures c.get.ensures
@@ -267,7 +270,7 @@ Evaluator::extension-returns t c =
 
 pub Evaluator::extension-returns-in_err-extended_by : goal.Evaluator::extension-returns-in_err-extended_by
 unfolding over_extend
-Evaluator::extension-returns-in_err-extended_by t c =
+Evaluator::extension-returns-in_err-extended_by g t c =
     let m = mean_in c.args.self.now.env.now in
     let names = visible c.args.scope.now in
     let f = extended (terms m names) c.args.items.now in
@@ -278,7 +281,7 @@ Evaluator::extension-returns-in_err-extended_by t c =
 
 pub Evaluator::summarization-returns : goal.Evaluator::summarization-returns
 unfolding over_summarize
-Evaluator::summarization-returns t c =
+Evaluator::summarization-returns g t c =
     let m = mean_in c.args.self.now.env.now in
     let names = visible c.args.scope.now in
     made_over (rows_in (m c.args.r.now) names) (summarized_over m c.args.by.now c.args.items.now names) c.in_ok-ts.ts c.get.result.now c.in_ok-ts.ensures c.get.ensures
@@ -286,7 +289,7 @@ Evaluator::summarization-returns t c =
 
 pub Evaluator::summarization-returns-in_err-summarized_by : goal.Evaluator::summarization-returns-in_err-summarized_by
 unfolding over_summarize
-Evaluator::summarization-returns-in_err-summarized_by t c =
+Evaluator::summarization-returns-in_err-summarized_by g t c =
     let m = mean_in c.args.self.now.env.now in
     let names = visible c.args.scope.now in
     let f = summarized_over m c.args.by.now c.args.items.now names in
@@ -298,88 +301,94 @@ Evaluator::summarization-returns-in_err-summarized_by t c =
 -- ---- forms
 
 pub Evaluator::by_form-returns-in-Relvar : goal.Evaluator::by_form-returns-in-Relvar
-Evaluator::by_form-returns-in-Relvar t c =
+Evaluator::by_form-returns-in-Relvar g t c =
     let names = visible c.args.scope.now in
     let is = ap (mean_in c.args.self.now.env.now) c.in-Relvar.is ∙ of_relvar (relvars_there c.args.self.now.env.now) (selection c.args.self.now.env.now.selectors.now) c.in-Relvar.place in
     subst (λ f. Answers c.relvar.result (f names)) (sym is) (c.relvar.ensures names)
 
 pub Evaluator::operand-returns-in-Relvar : goal.Evaluator::operand-returns-in-Relvar
-Evaluator::operand-returns-in-Relvar t c = c.relvar_operand.ensures (visible c.args.scope.now)
+Evaluator::operand-returns-in-Relvar g t c = c.relvar_operand.ensures (visible c.args.scope.now)
 
 pub Evaluator::by_form-returns-in-Unary : goal.Evaluator::by_form-returns-in-Unary
-Evaluator::by_form-returns-in-Unary t c =
+Evaluator::by_form-returns-in-Unary g t c =
     let m = mean_in c.args.self.now.env.now in
     let is = ap m c.in-Unary.is ∙ of_unary (relvars_there c.args.self.now.env.now) (selection c.args.self.now.env.now.selectors.now) c.in-Unary.operator c.in-Unary.a ∙ ap (λ a. mean_by (operate_on c.in-Unary.operator) (m a)) (sym c.get-in-Unary.ensures) in
     subst (λ f. Answers c.unary.result (f (visible c.args.scope.now))) (sym is) c.unary.ensures
 
 pub Evaluator::by_form-returns-in-Binary : goal.Evaluator::by_form-returns-in-Binary
-Evaluator::by_form-returns-in-Binary t c =
+Evaluator::by_form-returns-in-Binary g t c =
     let m = mean_in c.args.self.now.env.now in
     let is = ap m c.in-Binary.is ∙ of_binary (relvars_there c.args.self.now.env.now) (selection c.args.self.now.env.now.selectors.now) c.in-Binary.operator c.in-Binary.a c.in-Binary.b ∙ (λ i. mean_binary c.in-Binary.operator (m (sym c.get-in-Binary.ensures i)) (m (sym c.get-in-Binary-2.ensures i))) in
     subst (λ f. Answers c.binary.result (f (visible c.args.scope.now))) (sym is) c.binary.ensures
 
+pub Evaluator::by_form-returns-in-Component : goal.Evaluator::by_form-returns-in-Component
+Evaluator::by_form-returns-in-Component g t c =
+    let m = mean_in c.args.self.now.env.now in
+    let is = ap m c.in-Component.is ∙ of_component (relvars_there c.args.self.now.env.now) (selection c.args.self.now.env.now.selectors.now) c.in-Component.at c.in-Component.a ∙ ap (λ a. mean_by (component_at c.in-Component.at) (m a)) (sym c.get.ensures) in
+    subst (λ f. Answers c.component.result (f (visible c.args.scope.now))) (sym is) c.component.ensures
+
 pub Evaluator::by_form-returns-in-From : goal.Evaluator::by_form-returns-in-From
-Evaluator::by_form-returns-in-From t c =
+Evaluator::by_form-returns-in-From g t c =
     let m = mean_in c.args.self.now.env.now in
     let is = ap m c.in-From.is ∙ of_from (relvars_there c.args.self.now.env.now) (selection c.args.self.now.env.now.selectors.now) c.in-From.name c.in-From.a ∙ ap (λ a. mean_by (attribute_at c.in-From.name) (m a)) (sym c.get-in-From.ensures) in
     subst (λ f. Answers c.attribute.result (f (visible c.args.scope.now))) (sym is) c.attribute.ensures
 
 pub Evaluator::by_form-returns-in-Project : goal.Evaluator::by_form-returns-in-Project
-Evaluator::by_form-returns-in-Project t c =
+Evaluator::by_form-returns-in-Project g t c =
     let m = mean_in c.args.self.now.env.now in
     let is = ap m c.in-Project.is ∙ of_project (relvars_there c.args.self.now.env.now) (selection c.args.self.now.env.now.selectors.now) c.in-Project.a c.in-Project.names ∙ (λ i. mean_by (part_at (sym c.as_slice-in-Project.ensures i)) (m (sym c.get-in-Project.ensures i))) in
     subst (λ f. Answers c.projection.result (f (visible c.args.scope.now))) (sym is) c.projection.ensures
 
 pub Evaluator::by_form-returns-in-Where : goal.Evaluator::by_form-returns-in-Where
-Evaluator::by_form-returns-in-Where t c =
+Evaluator::by_form-returns-in-Where g t c =
     let m = mean_in c.args.self.now.env.now in
     let is = ap m c.in-Where.is ∙ of_where (relvars_there c.args.self.now.env.now) (selection c.args.self.now.env.now.selectors.now) c.in-Where.r c.in-Where.c ∙ (λ i. mean_where (m (sym c.get-in-Where.ensures i)) (m (sym c.get-in-Where-2.ensures i))) in
     subst (λ f. Answers c.restriction.result (f (visible c.args.scope.now))) (sym is) c.restriction.ensures
 
 pub Evaluator::by_form-returns-in-Rename : goal.Evaluator::by_form-returns-in-Rename
-Evaluator::by_form-returns-in-Rename t c =
+Evaluator::by_form-returns-in-Rename g t c =
     let m = mean_in c.args.self.now.env.now in
     let is = ap m c.in-Rename.is ∙ of_rename (relvars_there c.args.self.now.env.now) (selection c.args.self.now.env.now.selectors.now) c.in-Rename.a c.in-Rename.items ∙ (λ i. mean_by (with_new_names (sym c.as_slice-in-Rename.ensures i)) (m (sym c.get-in-Rename.ensures i))) in
     subst (λ f. Answers c.renaming.result (f (visible c.args.scope.now))) (sym is) c.renaming.ensures
 
 pub Evaluator::by_form-returns-in-Nest : goal.Evaluator::by_form-returns-in-Nest
-Evaluator::by_form-returns-in-Nest t c =
+Evaluator::by_form-returns-in-Nest g t c =
     let m = mean_in c.args.self.now.env.now in
     let is = ap m c.in-Nest.is ∙ of_nest (relvars_there c.args.self.now.env.now) (selection c.args.self.now.env.now.selectors.now) c.in-Nest.operator c.in-Nest.a c.in-Nest.names c.in-Nest.name ∙ (λ i. mean_by (nested c.in-Nest.operator (sym c.as_slice-in-Nest.ensures i) c.in-Nest.name) (m (sym c.get-in-Nest.ensures i))) in
     subst (λ f. Answers c.nesting.result (f (visible c.args.scope.now))) (sym is) c.nesting.ensures
 
 pub Evaluator::by_form-returns-in-Unnest : goal.Evaluator::by_form-returns-in-Unnest
-Evaluator::by_form-returns-in-Unnest t c =
+Evaluator::by_form-returns-in-Unnest g t c =
     let m = mean_in c.args.self.now.env.now in
     let is = ap m c.in-Unnest.is ∙ of_unnest (relvars_there c.args.self.now.env.now) (selection c.args.self.now.env.now.selectors.now) c.in-Unnest.operator c.in-Unnest.a c.in-Unnest.name ∙ ap (λ a. mean_by (unnested c.in-Unnest.operator c.in-Unnest.name) (m a)) (sym c.get-in-Unnest.ensures) in
     subst (λ f. Answers c.unnesting.result (f (visible c.args.scope.now))) (sym is) c.unnesting.ensures
 
 pub Evaluator::by_form-returns-in-Aggregate : goal.Evaluator::by_form-returns-in-Aggregate
-Evaluator::by_form-returns-in-Aggregate t c =
+Evaluator::by_form-returns-in-Aggregate g t c =
     let m = mean_in c.args.self.now.env.now in
     let is = ap m c.in-Aggregate.is ∙ of_aggregate (relvars_there c.args.self.now.env.now) (selection c.args.self.now.env.now.selectors.now) c.in-Aggregate.r c.in-Aggregate.summary ∙ ap (λ r. over_aggregate m r c.in-Aggregate.summary) (sym c.get-in-Aggregate.ensures) in
     subst (λ f. Answers c.aggregation.result (f (visible c.args.scope.now))) (sym is) c.aggregation.ensures
 
 pub Evaluator::by_form-returns-in-If : goal.Evaluator::by_form-returns-in-If
-Evaluator::by_form-returns-in-If t c =
+Evaluator::by_form-returns-in-If g t c =
     let m = mean_in c.args.self.now.env.now in
     let is = ap m c.in-If.is ∙ of_if (relvars_there c.args.self.now.env.now) (selection c.args.self.now.env.now.selectors.now) c.in-If.c c.in-If.a c.in-If.b ∙ (λ i. mean_if (m (sym c.get-in-If.ensures i)) (m (sym c.get-in-If-2.ensures i)) (m (sym c.get-in-If-3.ensures i))) in
     subst (λ f. Answers c.choice.result (f (visible c.args.scope.now))) (sym is) c.choice.ensures
 
 pub Evaluator::by_form-returns-in-Extend : goal.Evaluator::by_form-returns-in-Extend
-Evaluator::by_form-returns-in-Extend t c =
+Evaluator::by_form-returns-in-Extend g t c =
     let m = mean_in c.args.self.now.env.now in
     let is = ap m c.in-Extend.is ∙ of_extend (relvars_there c.args.self.now.env.now) (selection c.args.self.now.env.now.selectors.now) c.in-Extend.r c.in-Extend.items ∙ (λ i. over_extend m (sym c.get-in-Extend.ensures i) (sym c.as_slice-in-Extend.ensures i)) in
     subst (λ f. Answers c.extension.result (f (visible c.args.scope.now))) (sym is) c.extension.ensures
 
 pub Evaluator::by_form-returns-in-Summarize : goal.Evaluator::by_form-returns-in-Summarize
-Evaluator::by_form-returns-in-Summarize t c =
+Evaluator::by_form-returns-in-Summarize g t c =
     let m = mean_in c.args.self.now.env.now in
     let is = ap m c.in-Summarize.is ∙ of_summarize (relvars_there c.args.self.now.env.now) (selection c.args.self.now.env.now.selectors.now) c.in-Summarize.r c.in-Summarize.by c.in-Summarize.items ∙ (λ i. over_summarize m (sym c.get-in-Summarize.ensures i) c.in-Summarize.by (sym c.as_slice-in-Summarize.ensures i)) in
     subst (λ f. Answers c.summarization.result (f (visible c.args.scope.now))) (sym is) c.summarization.ensures
 
 pub Evaluator::by_form-returns-in-With : goal.Evaluator::by_form-returns-in-With
-Evaluator::by_form-returns-in-With t c =
+Evaluator::by_form-returns-in-With g t c =
     let m = mean_in c.args.self.now.env.now in
     let is = ap m c.in-With.is ∙ of_with (relvars_there c.args.self.now.env.now) (selection c.args.self.now.env.now.selectors.now) c.in-With.xs c.in-With.body ∙ (λ i. mean_with (all_meant m (sym c.as_slice-in-With.ensures i)) (m (sym c.get-in-With.ensures i))) in
     subst (λ f. Answers c.with.result (f (visible c.args.scope.now))) (sym is) c.with.ensures
@@ -387,50 +396,47 @@ Evaluator::by_form-returns-in-With t c =
 -- ---- what is known
 
 pub Evaluator::restricted_by-invariant_of-around : goal.Evaluator::restricted_by-invariant_of-around
-Evaluator::restricted_by-invariant_of-around t c = record { right = right_in_slice c.args.self.now.env.now c.in_ok-parts.field-0 c.in-Some.parts c.as_slice.result.now c.in_ok-parts.ensures c.in-Some.is c.as_slice.ensures.value }
+Evaluator::restricted_by-invariant_of-around g t c = record { right = right_in_slice c.args.self.now.env.now c.in_ok-parts.field-0 c.in-Some.parts c.as_slice.result.now c.in_ok-parts.ensures c.in-Some.is c.as_slice.ensures.value; allowed = c.args.self.now.allowed }
 
 pub Evaluator::aggregated_by-invariant_of-around : goal.Evaluator::aggregated_by-invariant_of-around
-Evaluator::aggregated_by-invariant_of-around t c = record { right = right_in_slice c.args.self.now.env.now c.in_ok-parts.field-0 c.in-Some.parts c.as_slice.result.now c.in_ok-parts.ensures c.in-Some.is c.as_slice.ensures.value }
+Evaluator::aggregated_by-invariant_of-around g t c = record { right = right_in_slice c.args.self.now.env.now c.in_ok-parts.field-0 c.in-Some.parts c.as_slice.result.now c.in_ok-parts.ensures c.in-Some.is c.as_slice.ensures.value; allowed = c.args.self.now.allowed }
 
 pub Evaluator::extended_by-invariant_of-around : goal.Evaluator::extended_by-invariant_of-around
-Evaluator::extended_by-invariant_of-around t c = record { right = right_in_slice c.args.self.now.env.now c.in_ok-parts.field-0 c.in-Some.parts c.as_slice.result.now c.in_ok-parts.ensures c.in-Some.is c.as_slice.ensures.value }
+Evaluator::extended_by-invariant_of-around g t c = record { right = right_in_slice c.args.self.now.env.now c.in_ok-parts.field-0 c.in-Some.parts c.as_slice.result.now c.in_ok-parts.ensures c.in-Some.is c.as_slice.ensures.value; allowed = c.args.self.now.allowed }
 
 pub Evaluator::summarized_by-invariant_of-around : goal.Evaluator::summarized_by-invariant_of-around
-Evaluator::summarized_by-invariant_of-around t c = record { right = right_in_slice c.args.self.now.env.now c.in_ok-parts.field-0 c.in-Some.parts c.as_slice.result.now c.in_ok-parts.ensures c.in-Some.is c.as_slice.ensures.value }
+Evaluator::summarized_by-invariant_of-around g t c = record { right = right_in_slice c.args.self.now.env.now c.in_ok-parts.field-0 c.in-Some.parts c.as_slice.result.now c.in_ok-parts.ensures c.in-Some.is c.as_slice.ensures.value; allowed = c.args.self.now.allowed }
 
 pub Evaluator::closed_value-returns-in-Ok : goal.Evaluator::closed_value-returns-in-Ok
-Evaluator::closed_value-returns-in-Ok t c = value_means c.args.self.now.env.now c.args.tree.now (held_value c.hold.result) (c.in-Ok.ensures ∙ ap Ok (sym c.hold.ensures))
+Evaluator::closed_value-returns-in-Ok g t c = value_means c.args.self.now.env.now c.args.tree.now (held_value c.hold.result) (c.in-Ok.ensures ∙ ap Ok (sym c.hold.ensures))
 
 pub Evaluator::closed_value-returns-in_default : goal.Evaluator::closed_value-returns-in_default
-Evaluator::closed_value-returns-in_default t c = error_means c.args.self.now.env.now c.args.tree.now c.in-Err-Raised.stop
+Evaluator::closed_value-returns-in_default g t c = error_means c.args.self.now.env.now c.args.tree.now c.in-Err-Raised.stop
     (told_error c.in-Err-Raised.field-0 c.in-Err-Raised.stop _ (search (rules, c.in-Err-Raised.field-0-is)) c.in-Err-Raised.ensures) c.in_default.not-Untyped
 
 pub Evaluator::evaluate-returns-in-Some : goal.Evaluator::evaluate-returns-in-Some
-Evaluator::evaluate-returns-in-Some t c = subst (λ m. Answers c.value_known.result m) (sym (c.in-Some.ensures (visible c.args.scope.now))) c.value_known.ensures
+Evaluator::evaluate-returns-in-Some g t c = subst (λ m. Answers c.value_known.result m) (sym (c.in-Some.ensures (visible c.args.scope.now))) c.value_known.ensures
 
 pub Evaluator::operand-returns-in-Some : goal.Evaluator::operand-returns-in-Some
-Evaluator::operand-returns-in-Some t c = subst (λ m. AnswersBy operand_value c.operand_known.result m) (sym (c.in-Some.ensures (visible c.args.scope.now))) c.operand_known.ensures
+Evaluator::operand-returns-in-Some g t c = subst (λ m. AnswersBy operand_value c.operand_known.result m) (sym (c.in-Some.ensures (visible c.args.scope.now))) c.operand_known.ensures
 
 pub Evaluator::keep-invariant_of-around : goal.Evaluator::keep-invariant_of-around
-Evaluator::keep-invariant_of-around t c = record { right = subst (AreRight c.args.self.now.env.now) (sym c.as_slice.ensures.value) c.requires }
+Evaluator::keep-invariant_of-around g t c = record { right = subst (AreRight c.args.self.now.env.now) (sym c.as_slice.ensures.value) c.requires; allowed = c.args.self.now.allowed }
 
 pub Evaluator::keep-returns-in-Ok : goal.Evaluator::keep-returns-in-Ok
-Evaluator::keep-returns-in-Ok t c = c.put_if.ensures c.args.self.now.env.now c.requires c.in-Ok.ensures
+Evaluator::keep-returns-in-Ok g t c = c.put_if.ensures c.args.self.now.env.now c.requires c.in-Ok.ensures
 
 pub Evaluator::keep_all-keep-requires : goal.Evaluator::keep_all-keep-requires
-Evaluator::keep_all-keep-requires t c = (omega (arith, c.decreases, in_deepest c.args.trees.now c.loop-tree.tree-index c.tree-item.result c.loop-tree-test.true c.tree-item.is), c.loop-tree.invariant)
+Evaluator::keep_all-keep-requires g t c = λ κs within. (omega (arith, c.decreases, in_deepest c.args.trees.now c.loop-tree.tree-index c.tree-item.result c.loop-tree-test.true c.tree-item.is), (within, c.loop-tree.invariant))
 
 pub Evaluator::prepared-add_parts-requires : goal.Evaluator::prepared-add_parts-requires
-Evaluator::prepared-add_parts-requires t c = (omega (arith, c.decreases), subst (AreRight c.args.self.now.env.now) (sym c.in_ok-parts.ensures) c.args.self.now.right)
-
-pub Evaluator::add_parts-parts_beside-requires : goal.Evaluator::add_parts-parts_beside-requires
-Evaluator::add_parts-parts_beside-requires t c = subst (AreRight c.args.self.now.env.now) (sym c.as_slice.ensures.value) c.loop.invariant
+Evaluator::prepared-add_parts-requires g t c = λ κs within. (omega (arith, c.decreases), (within, subst (AreRight c.args.self.now.env.now) (sym c.in_ok-parts.ensures) c.args.self.now.right))
 
 -- ---- parts that are not made
 
 pub Evaluator::around_part-returns-in_err-inner : goal.Evaluator::around_part-returns-in_err-inner
 unfolding mean_both mean_by
-Evaluator::around_part-returns-in_err-inner t c =
+Evaluator::around_part-returns-in_err-inner g t c =
     let m = mean_in c.args.self.now.env.now in
     let names = visible c.args.scope.now in
     let part = c.has_parts.ensures.has c.if-not-has_parts.false c.args.names.now in
@@ -440,14 +446,14 @@ Evaluator::around_part-returns-in_err-inner t c =
 
 pub Evaluator::at_least-returns-in-Some : goal.Evaluator::at_least-returns-in-Some
 unfolding mean_both
-Evaluator::at_least-returns-in-Some t c =
+Evaluator::at_least-returns-in-Some g t c =
     let m = mean_in c.args.self.now.env.now in
     let names = visible c.args.scope.now in
     subst (λ w. Answers c.around_part.result (and_then w (λ d. and_then (m c.args.b.now names) (operate binary.AtLeast d)))) (sym (c.in-Some.ensures.means names)) c.around_part.ensures
 
 pub Evaluator::at_most-returns-in-Some : goal.Evaluator::at_most-returns-in-Some
 unfolding mean_both
-Evaluator::at_most-returns-in-Some t c =
+Evaluator::at_most-returns-in-Some g t c =
     let m = mean_in c.args.self.now.env.now in
     let names = visible c.args.scope.now in
     subst (λ w. Answers c.within_part.result (and_then (m c.args.a.now names) (λ d. and_then w (operate binary.AtMost d)))) (sym (c.in-Some.ensures.means names)) c.within_part.ensures

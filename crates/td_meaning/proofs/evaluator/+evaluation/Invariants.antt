@@ -12,204 +12,204 @@ use Rattle.td_meaning.specs.Seen.{all_given, mean_in, visible}
 use Rattle.td_meaning.proofs.evaluator.+evaluation.Given as goal
 
 abbrev pub decreases-Evaluator::by_form : goal.decreases-Evaluator::by_form
-decreases-Evaluator::by_form l = 12 * levels l.tree.now + weight l.self.now.env.now.selectors.now
+decreases-Evaluator::by_form g l = 12 * levels l.tree.now + weight l.self.now.env.now.selectors.now
 
 abbrev pub decreases-Evaluator::evaluate : goal.decreases-Evaluator::evaluate
-decreases-Evaluator::evaluate l = 12 * levels l.tree.now + 1 + weight l.self.now.env.now.selectors.now
+decreases-Evaluator::evaluate g l = 12 * levels l.tree.now + 1 + weight l.self.now.env.now.selectors.now
 
 abbrev pub decreases-Evaluator::operand : goal.decreases-Evaluator::operand
-decreases-Evaluator::operand l = 12 * levels l.tree.now + 1 + weight l.self.now.env.now.selectors.now
+decreases-Evaluator::operand g l = 12 * levels l.tree.now + 1 + weight l.self.now.env.now.selectors.now
 
 abbrev pub decreases-Evaluator::rows : goal.decreases-Evaluator::rows
-decreases-Evaluator::rows l = 12 * levels l.a.now + 2 + weight l.self.now.env.now.selectors.now
+decreases-Evaluator::rows g l = 12 * levels l.a.now + 2 + weight l.self.now.env.now.selectors.now
 
 abbrev pub decreases-Evaluator::truth : goal.decreases-Evaluator::truth
-decreases-Evaluator::truth l = 12 * levels l.a.now + 2 + weight l.self.now.env.now.selectors.now
+decreases-Evaluator::truth g l = 12 * levels l.a.now + 2 + weight l.self.now.env.now.selectors.now
 
 abbrev pub decreases-Evaluator::unary : goal.decreases-Evaluator::unary
-decreases-Evaluator::unary l = 12 * levels l.a.now + 2 + weight l.self.now.env.now.selectors.now
+decreases-Evaluator::unary g l = 12 * levels l.a.now + 2 + weight l.self.now.env.now.selectors.now
 
 abbrev pub decreases-Evaluator::component : goal.decreases-Evaluator::component
-decreases-Evaluator::component l = 12 * levels l.a.now + 2 + weight l.self.now.env.now.selectors.now
+decreases-Evaluator::component g l = 12 * levels l.a.now + 2 + weight l.self.now.env.now.selectors.now
 
 abbrev pub decreases-Evaluator::attribute : goal.decreases-Evaluator::attribute
-decreases-Evaluator::attribute l = 12 * levels l.a.now + 2 + weight l.self.now.env.now.selectors.now
+decreases-Evaluator::attribute g l = 12 * levels l.a.now + 2 + weight l.self.now.env.now.selectors.now
 
 abbrev pub decreases-Evaluator::projection : goal.decreases-Evaluator::projection
-decreases-Evaluator::projection l = 12 * levels l.a.now + 2 + weight l.self.now.env.now.selectors.now
+decreases-Evaluator::projection g l = 12 * levels l.a.now + 2 + weight l.self.now.env.now.selectors.now
 
 abbrev pub decreases-Evaluator::renaming : goal.decreases-Evaluator::renaming
-decreases-Evaluator::renaming l = 12 * levels l.a.now + 2 + weight l.self.now.env.now.selectors.now
+decreases-Evaluator::renaming g l = 12 * levels l.a.now + 2 + weight l.self.now.env.now.selectors.now
 
 abbrev pub decreases-Evaluator::nesting : goal.decreases-Evaluator::nesting
-decreases-Evaluator::nesting l = 12 * levels l.a.now + 2 + weight l.self.now.env.now.selectors.now
+decreases-Evaluator::nesting g l = 12 * levels l.a.now + 2 + weight l.self.now.env.now.selectors.now
 
 abbrev pub decreases-Evaluator::unnesting : goal.decreases-Evaluator::unnesting
-decreases-Evaluator::unnesting l = 12 * levels l.a.now + 2 + weight l.self.now.env.now.selectors.now
+decreases-Evaluator::unnesting g l = 12 * levels l.a.now + 2 + weight l.self.now.env.now.selectors.now
 
 abbrev pub decreases-Evaluator::both : goal.decreases-Evaluator::both
-decreases-Evaluator::both l = 12 * max (levels l.a.now) (levels l.b.now) + 3 + weight l.self.now.env.now.selectors.now
+decreases-Evaluator::both g l = 12 * max (levels l.a.now) (levels l.b.now) + 3 + weight l.self.now.env.now.selectors.now
 
 abbrev pub decreases-Evaluator::either : goal.decreases-Evaluator::either
-decreases-Evaluator::either l = 12 * max (levels l.a.now) (levels l.b.now) + 3 + weight l.self.now.env.now.selectors.now
+decreases-Evaluator::either g l = 12 * max (levels l.a.now) (levels l.b.now) + 3 + weight l.self.now.env.now.selectors.now
 
 abbrev pub decreases-Evaluator::two : goal.decreases-Evaluator::two
-decreases-Evaluator::two l = 12 * max (levels l.a.now) (levels l.b.now) + 2 + weight l.self.now.env.now.selectors.now
+decreases-Evaluator::two g l = 12 * max (levels l.a.now) (levels l.b.now) + 2 + weight l.self.now.env.now.selectors.now
 
 abbrev pub decreases-Evaluator::within_part : goal.decreases-Evaluator::within_part
-decreases-Evaluator::within_part l = 12 * max (levels l.a.now) (levels l.whole.now) + 2 + weight l.self.now.env.now.selectors.now
+decreases-Evaluator::within_part g l = 12 * max (levels l.a.now) (levels l.whole.now) + 2 + weight l.self.now.env.now.selectors.now
 
 abbrev pub decreases-Evaluator::around_part : goal.decreases-Evaluator::around_part
-decreases-Evaluator::around_part l = 12 * max (levels l.whole.now) (levels l.b.now) + 2 + weight l.self.now.env.now.selectors.now
+decreases-Evaluator::around_part g l = 12 * max (levels l.whole.now) (levels l.b.now) + 2 + weight l.self.now.env.now.selectors.now
 
 abbrev pub decreases-Evaluator::at_most : goal.decreases-Evaluator::at_most
-decreases-Evaluator::at_most l = 12 * max (levels l.a.now) (levels l.b.now) + 3 + weight l.self.now.env.now.selectors.now
+decreases-Evaluator::at_most g l = 12 * max (levels l.a.now) (levels l.b.now) + 3 + weight l.self.now.env.now.selectors.now
 
 abbrev pub decreases-Evaluator::at_least : goal.decreases-Evaluator::at_least
-decreases-Evaluator::at_least l = 12 * max (levels l.a.now) (levels l.b.now) + 3 + weight l.self.now.env.now.selectors.now
+decreases-Evaluator::at_least g l = 12 * max (levels l.a.now) (levels l.b.now) + 3 + weight l.self.now.env.now.selectors.now
 
 abbrev pub decreases-Evaluator::binary : goal.decreases-Evaluator::binary
-decreases-Evaluator::binary l = 12 * max (levels l.a.now) (levels l.b.now) + 4 + weight l.self.now.env.now.selectors.now
+decreases-Evaluator::binary g l = 12 * max (levels l.a.now) (levels l.b.now) + 4 + weight l.self.now.env.now.selectors.now
 
 abbrev pub decreases-Evaluator::choice : goal.decreases-Evaluator::choice
-decreases-Evaluator::choice l = 12 * max (levels l.c.now) (max (levels l.a.now) (levels l.b.now)) + 3 + weight l.self.now.env.now.selectors.now
+decreases-Evaluator::choice g l = 12 * max (levels l.c.now) (max (levels l.a.now) (levels l.b.now)) + 3 + weight l.self.now.env.now.selectors.now
 
 abbrev pub decreases-Evaluator::values : goal.decreases-Evaluator::values
-decreases-Evaluator::values l = 12 * list_levels l.trees.now + 2 + weight l.self.now.env.now.selectors.now
+decreases-Evaluator::values g l = 12 * list_levels l.trees.now + 2 + weight l.self.now.env.now.selectors.now
 
 abbrev pub decreases-Evaluator::relation : goal.decreases-Evaluator::relation
-decreases-Evaluator::relation l = 12 * list_levels l.trees.now + 3 + weight l.self.now.env.now.selectors.now
+decreases-Evaluator::relation g l = 12 * list_levels l.trees.now + 3 + weight l.self.now.env.now.selectors.now
 
 abbrev pub decreases-Evaluator::admits : goal.decreases-Evaluator::admits
-decreases-Evaluator::admits l = 12 * limit_levels l.limit.now + 3 + weight l.earlier.now
+decreases-Evaluator::admits g l = 12 * limit_levels l.limit.now + 3 + weight l.earlier.now
 
 abbrev pub decreases-Evaluator::selected : goal.decreases-Evaluator::selected
-decreases-Evaluator::selected l = 12 * limit_levels l.selector.now.limit + 4 + weight l.earlier.now
+decreases-Evaluator::selected g l = 12 * limit_levels l.selector.now.limit + 4 + weight l.earlier.now
 
 abbrev pub decreases-Evaluator::selection : goal.decreases-Evaluator::selection
-decreases-Evaluator::selection l = 12 * list_levels l.trees.now + 5 + weight l.self.now.env.now.selectors.now
+decreases-Evaluator::selection g l = 12 * list_levels l.trees.now + 5 + weight l.self.now.env.now.selectors.now
 
 abbrev pub decreases-Evaluator::fields : goal.decreases-Evaluator::fields
-decreases-Evaluator::fields l = 12 * item_levels l.items.now + 2 + weight l.self.now.env.now.selectors.now
+decreases-Evaluator::fields g l = 12 * item_levels l.items.now + 2 + weight l.self.now.env.now.selectors.now
 
 abbrev pub decreases-Evaluator::tuple : goal.decreases-Evaluator::tuple
-decreases-Evaluator::tuple l = 12 * item_levels l.items.now + 3 + weight l.self.now.env.now.selectors.now
+decreases-Evaluator::tuple g l = 12 * item_levels l.items.now + 3 + weight l.self.now.env.now.selectors.now
 
 abbrev pub decreases-Evaluator::introduced : goal.decreases-Evaluator::introduced
-decreases-Evaluator::introduced l = 12 * named_levels l.xs.now + 2 + weight l.self.now.env.now.selectors.now
+decreases-Evaluator::introduced g l = 12 * named_levels l.xs.now + 2 + weight l.self.now.env.now.selectors.now
 
 abbrev pub decreases-Evaluator::with : goal.decreases-Evaluator::with
-decreases-Evaluator::with l = 12 * max (named_levels l.xs.now) (levels l.body.now) + 3 + weight l.self.now.env.now.selectors.now
+decreases-Evaluator::with g l = 12 * max (named_levels l.xs.now) (levels l.body.now) + 3 + weight l.self.now.env.now.selectors.now
 
 abbrev pub decreases-Evaluator::holds_at : goal.decreases-Evaluator::holds_at
-decreases-Evaluator::holds_at l = 12 * check_levels l.check.now + 3 + weight l.self.now.env.now.selectors.now
+decreases-Evaluator::holds_at g l = 12 * check_levels l.check.now + 3 + weight l.self.now.env.now.selectors.now
 
 abbrev pub decreases-Evaluator::all_hold : goal.decreases-Evaluator::all_hold
-decreases-Evaluator::all_hold l = 12 * deepest_check l.checks.now + 4 + weight l.self.now.env.now.selectors.now
+decreases-Evaluator::all_hold g l = 12 * deepest_check l.checks.now + 4 + weight l.self.now.env.now.selectors.now
 
 abbrev pub decreases-Evaluator::restricted_to-restrict : goal.decreases-Evaluator::restricted_to-restrict
-decreases-Evaluator::restricted_to-restrict l = 12 * deepest_check l.checks.now + 5 + weight l.self.now.env.now.selectors.now
+decreases-Evaluator::restricted_to-restrict g l = 12 * deepest_check l.checks.now + 5 + weight l.self.now.env.now.selectors.now
 
 abbrev pub decreases-Evaluator::restricted_to : goal.decreases-Evaluator::restricted_to
-decreases-Evaluator::restricted_to l = 12 * deepest_check l.checks.now + 6 + weight l.self.now.env.now.selectors.now
+decreases-Evaluator::restricted_to g l = 12 * deepest_check l.checks.now + 6 + weight l.self.now.env.now.selectors.now
 
 abbrev pub decreases-Evaluator::restricted : goal.decreases-Evaluator::restricted
-decreases-Evaluator::restricted l = 12 * levels l.c.now + 7 + weight l.self.now.env.now.selectors.now
+decreases-Evaluator::restricted g l = 12 * levels l.c.now + 7 + weight l.self.now.env.now.selectors.now
 
 abbrev pub invariant-Evaluator::all_hold-loop-check : goal.invariant-Evaluator::all_hold-loop-check
-invariant-Evaluator::all_hold-loop-check l =
+invariant-Evaluator::all_hold-loop-check g l =
     all_hold (mean_in l.self.env.now) (visible l.scope) l.t l.checks
     ≡ all_hold (mean_in l.self.env.now) (visible l.scope) l.t (drop l.check-index l.checks)
 
 abbrev pub decreases-Evaluator::restriction : goal.decreases-Evaluator::restriction
-decreases-Evaluator::restriction l = 12 * max (levels l.r.now) (levels l.c.now) + 9 + weight l.self.now.env.now.selectors.now
+decreases-Evaluator::restriction g l = 12 * max (levels l.r.now) (levels l.c.now) + 9 + weight l.self.now.env.now.selectors.now
 
 abbrev pub decreases-Evaluator::at_tuple : goal.decreases-Evaluator::at_tuple
-decreases-Evaluator::at_tuple l = 12 * levels l.term.now + 2 + weight l.self.now.env.now.selectors.now
+decreases-Evaluator::at_tuple g l = 12 * levels l.term.now + 2 + weight l.self.now.env.now.selectors.now
 
 abbrev pub decreases-Evaluator::aggregated_at-aggregate : goal.decreases-Evaluator::aggregated_at-aggregate
-decreases-Evaluator::aggregated_at-aggregate l = 12 * levels l.e.now + 3 + weight l.self.now.env.now.selectors.now
+decreases-Evaluator::aggregated_at-aggregate g l = 12 * levels l.e.now + 3 + weight l.self.now.env.now.selectors.now
 
 abbrev pub decreases-Evaluator::aggregated_at : goal.decreases-Evaluator::aggregated_at
-decreases-Evaluator::aggregated_at l = 12 * summary_levels l.summary.now + 4 + weight l.self.now.env.now.selectors.now
+decreases-Evaluator::aggregated_at g l = 12 * summary_levels l.summary.now + 4 + weight l.self.now.env.now.selectors.now
 
 abbrev pub decreases-Evaluator::aggregated : goal.decreases-Evaluator::aggregated
-decreases-Evaluator::aggregated l = 12 * summary_levels l.summary.now + 5 + weight l.self.now.env.now.selectors.now
+decreases-Evaluator::aggregated g l = 12 * summary_levels l.summary.now + 5 + weight l.self.now.env.now.selectors.now
 
 abbrev pub decreases-Evaluator::aggregation : goal.decreases-Evaluator::aggregation
-decreases-Evaluator::aggregation l = 12 * max (levels l.r.now) (summary_levels l.summary.now) + 8 + weight l.self.now.env.now.selectors.now
+decreases-Evaluator::aggregation g l = 12 * max (levels l.r.now) (summary_levels l.summary.now) + 8 + weight l.self.now.env.now.selectors.now
 
 abbrev pub decreases-Evaluator::extended-extend : goal.decreases-Evaluator::extended-extend
-decreases-Evaluator::extended-extend l = 12 * levels l.e.now + 2 + weight l.self.now.env.now.selectors.now
+decreases-Evaluator::extended-extend g l = 12 * levels l.e.now + 2 + weight l.self.now.env.now.selectors.now
 
 abbrev pub decreases-Evaluator::extended : goal.decreases-Evaluator::extended
-decreases-Evaluator::extended l = 12 * item_levels l.items.now + 4 + weight l.self.now.env.now.selectors.now
+decreases-Evaluator::extended g l = 12 * item_levels l.items.now + 4 + weight l.self.now.env.now.selectors.now
 
 abbrev pub decreases-Evaluator::extension : goal.decreases-Evaluator::extension
-decreases-Evaluator::extension l = 12 * max (levels l.r.now) (item_levels l.items.now) + 8 + weight l.self.now.env.now.selectors.now
+decreases-Evaluator::extension g l = 12 * max (levels l.r.now) (item_levels l.items.now) + 8 + weight l.self.now.env.now.selectors.now
 
 abbrev pub decreases-Evaluator::summarized-summarize : goal.decreases-Evaluator::summarized-summarize
-decreases-Evaluator::summarized-summarize l = 12 * levels l.e.now + 2 + weight l.self.now.env.now.selectors.now
+decreases-Evaluator::summarized-summarize g l = 12 * levels l.e.now + 2 + weight l.self.now.env.now.selectors.now
 
 abbrev pub decreases-Evaluator::summarized : goal.decreases-Evaluator::summarized
-decreases-Evaluator::summarized l = 12 * summaries_levels l.items.now + 4 + weight l.self.now.env.now.selectors.now
+decreases-Evaluator::summarized g l = 12 * summaries_levels l.items.now + 4 + weight l.self.now.env.now.selectors.now
 
 abbrev pub decreases-Evaluator::summarized_in_runs-summarize_by : goal.decreases-Evaluator::summarized_in_runs-summarize_by
-decreases-Evaluator::summarized_in_runs-summarize_by l = 12 * levels l.e.now + 2 + weight l.self.now.env.now.selectors.now
+decreases-Evaluator::summarized_in_runs-summarize_by g l = 12 * levels l.e.now + 2 + weight l.self.now.env.now.selectors.now
 
 abbrev pub decreases-Evaluator::summarized_in_runs : goal.decreases-Evaluator::summarized_in_runs
-decreases-Evaluator::summarized_in_runs l = 12 * summaries_levels l.items.now + 4 + weight l.self.now.env.now.selectors.now
+decreases-Evaluator::summarized_in_runs g l = 12 * summaries_levels l.items.now + 4 + weight l.self.now.env.now.selectors.now
 
 abbrev pub decreases-Evaluator::groups_summarized : goal.decreases-Evaluator::groups_summarized
-decreases-Evaluator::groups_summarized l = 12 * max (groups_levels l.groups.now) (summaries_levels l.items.now) + 5 + weight l.self.now.env.now.selectors.now
+decreases-Evaluator::groups_summarized g l = 12 * max (groups_levels l.groups.now) (summaries_levels l.items.now) + 5 + weight l.self.now.env.now.selectors.now
 
 abbrev pub decreases-Evaluator::summarization : goal.decreases-Evaluator::summarization
-decreases-Evaluator::summarization l = 12 * max (levels l.r.now) (max (groups_levels l.by.now) (summaries_levels l.items.now)) + 8 + weight l.self.now.env.now.selectors.now
+decreases-Evaluator::summarization g l = 12 * max (levels l.r.now) (max (groups_levels l.by.now) (summaries_levels l.items.now)) + 8 + weight l.self.now.env.now.selectors.now
 
 abbrev pub invariant-Evaluator::values-loop-tree : goal.invariant-Evaluator::values-loop-tree
-invariant-Evaluator::values-loop-tree l =
+invariant-Evaluator::values-loop-tree g l =
     in_turn (at (visible l.scope)) (list_meant (mean_in l.self.env.now) l.trees)
     ≡ turn (at (visible l.scope)) l.found.items (list_meant (mean_in l.self.env.now) (drop l.tree-index l.trees))
 
 abbrev pub invariant-Evaluator::fields-loop-item : goal.invariant-Evaluator::fields-loop-item
-invariant-Evaluator::fields-loop-item l =
+invariant-Evaluator::fields-loop-item g l =
     in_turn (named_at (visible l.scope)) (items_meant (mean_in l.self.env.now) l.items)
     ≡ turn (named_at (visible l.scope)) l.found.items (items_meant (mean_in l.self.env.now) (drop l.item-index l.items))
 
 abbrev pub invariant-Evaluator::introduced-loop-x : goal.invariant-Evaluator::introduced-loop-x
-invariant-Evaluator::introduced-loop-x l =
+invariant-Evaluator::introduced-loop-x g l =
     introduced (all_meant (mean_in l.self.env.now) l.xs) (visible l.scope)
     ≡ introduced (all_meant (mean_in l.self.env.now) (drop l.x-index l.xs)) (all_given l.found (visible l.scope))
 
 abbrev pub decreases-Evaluator::restricted_by : goal.decreases-Evaluator::restricted_by
-decreases-Evaluator::restricted_by l = 12 * levels l.c.now + 8 + weight l.self.now.env.now.selectors.now
+decreases-Evaluator::restricted_by g l = 12 * levels l.c.now + 8 + weight l.self.now.env.now.selectors.now
 
 abbrev pub decreases-Evaluator::aggregated_by : goal.decreases-Evaluator::aggregated_by
-decreases-Evaluator::aggregated_by l = 12 * summary_levels l.summary.now + 7 + weight l.self.now.env.now.selectors.now
+decreases-Evaluator::aggregated_by g l = 12 * summary_levels l.summary.now + 7 + weight l.self.now.env.now.selectors.now
 
 abbrev pub decreases-Evaluator::extended_by : goal.decreases-Evaluator::extended_by
-decreases-Evaluator::extended_by l = 12 * item_levels l.items.now + 7 + weight l.self.now.env.now.selectors.now
+decreases-Evaluator::extended_by g l = 12 * item_levels l.items.now + 7 + weight l.self.now.env.now.selectors.now
 
 abbrev pub decreases-Evaluator::summarized_by : goal.decreases-Evaluator::summarized_by
-decreases-Evaluator::summarized_by l = 12 * max (groups_levels l.groups.now) (summaries_levels l.items.now) + 7 + weight l.self.now.env.now.selectors.now
+decreases-Evaluator::summarized_by g l = 12 * max (groups_levels l.groups.now) (summaries_levels l.items.now) + 7 + weight l.self.now.env.now.selectors.now
 
 abbrev pub decreases-Evaluator::closed_value : goal.decreases-Evaluator::closed_value
-decreases-Evaluator::closed_value l = 12 * levels l.tree.now + 2 + weight l.self.now.env.now.selectors.now
+decreases-Evaluator::closed_value g l = 12 * levels l.tree.now + 2 + weight l.self.now.env.now.selectors.now
 
 abbrev pub decreases-Evaluator::keep : goal.decreases-Evaluator::keep
-decreases-Evaluator::keep l = 12 * levels l.tree.now + 3 + weight l.self.now.env.now.selectors.now
+decreases-Evaluator::keep g l = 12 * levels l.tree.now + 3 + weight l.self.now.env.now.selectors.now
 
 abbrev pub decreases-Evaluator::keep_all : goal.decreases-Evaluator::keep_all
-decreases-Evaluator::keep_all l = 12 * deepest_in l.trees.now + 4 + weight l.self.now.env.now.selectors.now
+decreases-Evaluator::keep_all g l = 12 * deepest_in l.trees.now + 4 + weight l.self.now.env.now.selectors.now
 
 abbrev pub decreases-Evaluator::add_parts : goal.decreases-Evaluator::add_parts
-decreases-Evaluator::add_parts l = 12 * terms_levels l.terms + 5 + weight l.self.now.env.now.selectors.now
+decreases-Evaluator::add_parts g l = 12 * terms_levels l.terms + 5 + weight l.self.now.env.now.selectors.now
 
 abbrev pub decreases-Evaluator::prepared : goal.decreases-Evaluator::prepared
-decreases-Evaluator::prepared l = 12 * terms_levels l.terms + 6 + weight l.self.now.env.now.selectors.now
+decreases-Evaluator::prepared g l = 12 * terms_levels l.terms + 6 + weight l.self.now.env.now.selectors.now
 
 abbrev pub invariant-Evaluator::keep_all-loop-tree : goal.invariant-Evaluator::keep_all-loop-tree
-invariant-Evaluator::keep_all-loop-tree l = AreRight l.self.env.now l.parts.items
+invariant-Evaluator::keep_all-loop-tree g l = AreRight l.self.env.now l.parts.items
 
 abbrev pub invariant-Evaluator::add_parts-loop : goal.invariant-Evaluator::add_parts-loop
-invariant-Evaluator::add_parts-loop l = AreRight l.self.env.now l.parts.items
+invariant-Evaluator::add_parts-loop g l = AreRight l.self.env.now l.parts.items

@@ -8,7 +8,7 @@ use Rattle.td_operators.proofs.WithinParts.{unlike_told, within_told}
 use Rattle.td_operators.proofs.inclusions.is_within.Goals as goal
 
 pub returns-then-not-alike : goal.returns-then-not-alike
-returns-then-not-alike c =
+returns-then-not-alike g c =
     let r = c.args.r.now in
     let s = c.args.whole.now in
     let names = c.args.names.now in
@@ -18,7 +18,7 @@ returns-then-not-alike c =
     ((λ i. same_heading (sym mine i) (columns_in names (sym whole i))) ∙ sym c.in_ok-alike.ensures.test ∙ c.if-not-alike.true)
 
 pub returns : goal.returns
-returns c =
+returns g c =
     let r = c.args.r.now in
     let s = c.args.whole.now in
     let names = c.args.names.now in

@@ -6,7 +6,7 @@ use Rattle.td_operators.proofs.KindLemmas.{items_back}
 use Rattle.td_operators.proofs.operand.components_of.Goals as goal
 
 pub returns-in-User : goal.returns-in-User
-returns-in-User c =
+returns-in-User g c =
     ap (λ o. components_of (operand_value o)) c.in-Made.is
     ∙ ap components_of (sym c.value.view_is)
     ∙ ap (λ k. components_of (datum_of k)) c.in-User.is

@@ -7,7 +7,7 @@ use Rattle.td_operators.proofs.Turns.{turn_begins}
 use Rattle.td_operators.proofs.tuples.tuples_over.Goals as goal
 
 pub loop-value-init : goal.loop-value-init
-loop-value-init c =
+loop-value-init g c =
     let f = tuple_over c.args.heading.now in
     record {
       answers = turn_begins f c.args.values.now ∙ ap (λ xs. turn f xs c.args.values.now) (sym c.new-found.ensures.items);

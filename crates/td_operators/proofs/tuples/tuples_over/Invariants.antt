@@ -6,7 +6,7 @@ use Rattle.td_operators.specs.Operators.{in_turn, tuple_over}
 use Rattle.td_operators.proofs.tuples.tuples_over.Given as goal
 
 abbrev pub invariant-loop-value : goal.invariant-loop-value
-invariant-loop-value l = record {
+invariant-loop-value g l = record {
   answers : in_turn (tuple_over l.heading) l.values ≡ turn (tuple_over l.heading) l.found.items (drop l.value-index l.values);
   fit : All (Fits l.heading) l.found.items;
 }

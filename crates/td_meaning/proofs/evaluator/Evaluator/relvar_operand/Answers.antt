@@ -9,7 +9,7 @@ use Rattle.td_meaning.proofs.evaluator.Evaluator.relvar_operand.Goals as goal
 
 pub returns-in-Some : goal.returns-in-Some
 unfolding mean_relvar
-returns-in-Some c = λ names.
+returns-in-Some g c = λ names.
     let e = c.args.self.now.env.now in
     let is = ap (mean_in e) c.requires ∙ of_relvar (relvars_there e) (selection e.selectors.now) c.args.place in
     subst (λ f. AnswersBy operand_value c.lent.result (f names)) (sym is) (c.lent.ensures (relvars_there e c.args.place) c.in-Some.ensures)

@@ -5,10 +5,10 @@ use Rattle.td_meaning.specs.Mean.{mean_relvar}
 use Rattle.td_meaning.specs.Seen.{relvars_there}
 use Rattle.td_meaning.specs.Selections.{selection}
 use Rattle.td_meaning.proofs.Behind.{nowhere}
-use Rattle.td_meaning.proofs.operands.unknown.Goals as goal
+use Rattle.td_meaning.proofs.wanting.UsizeWanted.unknown.Goals as goal
 
 pub returns-else-is_virtual : goal.returns-else-is_virtual
 unfolding mean_relvar relvars_there
 returns-else-is_virtual c = λ names.
     let e = c.args.env.now in
-    ap (λ r. and_then r as_value) (nowhere c.args.place (selection e.selectors.now) e.virtuals.now e.relvars.now c.requires (sym c.is_virtual.ensures ∙ c.if-is_virtual.false))
+    ap (λ r. and_then r as_value) (nowhere c.args.place (selection e.selectors.now) e.virtuals.now e.relvars.now c.requires.unknown (sym c.is_virtual.ensures ∙ c.if-is_virtual.false))
