@@ -160,7 +160,7 @@ fn shown(alloc: Global, expr: &TypedExpr) -> Result<String> {
     match value(alloc, expr) {
         Ok(value) => Ok(show(alloc, &value)?),
         Err(Fault::Raised(stop)) => Ok(format!(in alloc; "{stop}")?),
-        Err(Fault::OutOfMemory | Fault::Wanting(_)) => Err(AllocError)?,
+        Err(Fault::OutOfMemory) => Err(AllocError)?,
     }
 }
 

@@ -7,7 +7,7 @@ use crate::Result;
 use sqlite_items::{Boxed, Items};
 use std::alloc::{AllocError, Global};
 use std::slice;
-use td_algebra::Fault;
+use td_algebra::{Fault, Never};
 use td_meaning::{Environment, Scope, eval};
 use td_syntax::tree::BinaryOperator;
 use td_trees::expression::Selector;
@@ -21,10 +21,10 @@ fn shown(alloc: Global, selectors: &[Selector], tree: &Typed) -> Result<String> 
         virtuals: &[],
         selectors,
     };
-    match eval(alloc, &env, &[], tree, &Scope::Nothing) {
+    match eval::<Never>(alloc, &env, &[], tree, &Scope::Nothing) {
         Ok(value) => Ok(show(alloc, &value)?),
         Err(Fault::Raised(stop)) => Ok(format!(in alloc; "{stop}")?),
-        Err(Fault::OutOfMemory | Fault::Wanting(_)) => Err(AllocError)?,
+        Err(Fault::OutOfMemory) => Err(AllocError)?,
     }
 }
 

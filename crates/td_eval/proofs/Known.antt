@@ -1,5 +1,5 @@
 -- What is known of the relvars under an expression gives it its meaning.
-use Rattle.std.proofs.Common.{◌≡◌, ◌==◌, ⊎_elim, ℕ, ◌<◌, Bool, true, List, [], ◌∷◌, ◌++◌, map, length, get_or, Option, Some, None, if◌then◌else◌, Result, Err, refl, ap, sym, ◌∙◌, subst, arith, true≢false, eq-eqb, ne_eqb}
+use Rattle.std.proofs.Common.{◌≡◌, ◌==◌, ⊎_elim, ℕ, zero, suc, ◌<◌, Bool, true, List, [], ◌∷◌, ◌++◌, map, length, drop, get_or, Option, Some, None, if◌then◌else◌, Result, Err, refl, ap, sym, ◌∙◌, subst, arith, true≢false, eq-eqb, ne_eqb}
 use Rattle.std.specs.Prelude.{slice_get}
 use Rattle.std.specs.List.{Contains, filter_map, cons_option}
 use Rattle.std.specs.List.Sorted.{IsStrictlySortedBy}
@@ -224,3 +224,9 @@ by_reads x r s t typed same =
     (sym (as_known x typed r)
     ∙ ap (λ ks. mean (relvars_at (virtuals_known (selection x.selectors) x.virtuals ks)) (selection x.selectors) x.tree) (same_known r s x.bases same)
     ∙ as_known x typed s)
+
+-- ---- what the program puts together
+pub next_virtual : (s : Selection) (vs : List VirtualUnder) (i : ℕ) (v : VirtualUnder) (ks : List Known) → i < length vs → v ≡ get_or vs i v → virtuals_known s (drop i vs) ks ≡ virtuals_known s (drop (suc i) vs) (one_known_more s ks v)
+next_virtual s [] i v ks lt is = absurd (omega (arith, lt))
+next_virtual s (w ∷ vs) zero v ks lt is = ap (λ u. virtuals_known s vs (one_known_more s ks u)) (sym is)
+next_virtual s (w ∷ vs) (suc i) v ks lt is = next_virtual s vs i v ks (omega (arith, lt)) is

@@ -9,6 +9,7 @@ use Rattle.td_trees.specs.declared.tree.Typed.{Typed}
 use Rattle.td_trees.specs.declared.tree.Typed.TheVariants as t
 use Rattle.td_algebra.specs.Raising.{Answers, and_then}
 use Rattle.td_algebra.specs.declared.errors.Fault.{Fault}
+use Rattle.td_algebra.specs.declared.errors.Never.{Never}
 use Rattle.td_algebra.specs.declared.errors.Stop.{Stop}
 use Rattle.td_headings.specs.Catalogues.{CatalogueData}
 use Rattle.td_headings.specs.Expressions.{IsTyped, virtual_of, virtual_at}
@@ -16,6 +17,7 @@ use Rattle.td_headings.specs.declared.defined.Origin.{Origin}
 use Rattle.td_headings.specs.declared.defined.Origin.TheVariants as origin
 use Rattle.td_meaning.proofs.Forms.{of_relvar}
 use Rattle.td_meaning.specs.Mean.{Meaning, Names, Relvars, mean, mean_relvar, rows_in, within}
+use Rattle.td_meaning.specs.Parts.{AreRight}
 use Rattle.td_meaning.specs.Seen.{mean_in, relvars_at, relvars_there, virtuals_known}
 use Rattle.td_meaning.specs.Selections.{selection}
 use Rattle.td_meaning.specs.declared.environment.Environment.{Environment}
@@ -60,6 +62,19 @@ virtual_means x r v typed h =
     ∙ by_expressions x r v typed h
     ∙ ap (λ (m : Meaning). rows_in m no_names) (sym alike)
 
+-- no part is wrong where there is none
+pub nothing_right : (e : Environment) → AreRight e []
+nothing_right e p h = absurd (omega (arith, h.1))
+
+-- ---- where what all relvars have is known, and no relvar is virtual
+module _ (e f : Environment) (ks : f.relvars.now ≡ virtuals_known (selection e.selectors.now) e.virtuals.now e.relvars.now) (vs : f.virtuals.now ≡ []) (ss : f.selectors.now ≡ e.selectors.now) where
+  all_there : relvars_there f ≡ relvars_there e
+  unfolding relvars_there
+  all_there = λ i. relvars_at (virtuals_known (selection (ss i)) (vs i) (ks i))
+
+  pub all_mean : mean_in f ≡ mean_in e
+  all_mean = λ i. mean (all_there i) (selection (ss i))
+
 -- ---- the environment of an expression
 module _ (x : Expression) (r : Relvars) (e : Environment) (ks : e.relvars.now ≡ bases_known r x.bases) (vs : e.virtuals.now ≡ x.virtuals) (ss : e.selectors.now ≡ x.selectors) where
   there_is : relvars_there e ≡ relvars_at (all_known x r)
@@ -76,7 +91,7 @@ module _ (x : Expression) (r : Relvars) (e : Environment) (ks : e.relvars.now �
       ∙ ap (λ (m : Typed → Meaning). rows_in (m v.tree) no_names) (sym mean_is)
 
 -- all of it gives its value
-pub whole_means : (x : Expression) (r : Relvars) → IsTyped x → (u : Typed) → u ≡ x.tree → (t : Attrs) (w : Result Datum Fault) → Answers w (mean (relvars_at (all_known x r)) (selection x.selectors) u (within t no_names)) → Answers w (means x r t)
+pub whole_means : (x : Expression) (r : Relvars) → IsTyped x → (u : Typed) → u ≡ x.tree → (t : Attrs) (w : Result Datum (Fault Never)) → Answers w (mean (relvars_at (all_known x r)) (selection x.selectors) u (within t no_names)) → Answers w (means x r t)
 whole_means x r typed u is t w h =
     subst (λ (m : Meaning). Answers w (m (within t no_names))) (ap (mean (relvars_at (all_known x r)) (selection x.selectors)) is ∙ as_known x typed r) h
 

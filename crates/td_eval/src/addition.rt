@@ -80,6 +80,6 @@ pub fn added<L: Lookup>(
     match rows_of_part(alloc, expr, lookup, part) {
         Ok(more) => Ok(Some(more)),
         Err(Fault::Raised(stop)) => Err(Failure::Raised(raise_of(stop))),
-        Err(Fault::OutOfMemory | Fault::Wanting(_)) => Err(Failure::OutOfMemory),
+        Err(Fault::OutOfMemory) => Err(Failure::OutOfMemory),
     }
 }

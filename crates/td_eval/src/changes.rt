@@ -23,12 +23,13 @@ use crate::evaluation::{environment, known_bases, leased};
 use crate::forms::{Change, Form, form_of};
 use crate::lookup::Lookup;
 use crate::naming::lacking;
+use crate::relvars::{all_relvars, those};
 use crate::settling::{Findings, Virtuals, names_of, settle};
 use crate::valued::raise_of;
 use std::alloc::{AllocError, Global};
 use td_algebra::{Fault, Stop};
 use td_headings::{Catalogue, TypedExpr};
-use td_meaning::{Environment, Part, Scope, extend_all, select};
+use td_meaning::{Environment, Part, Scope, Wanted, extend_all, select};
 use td_operators::Lease;
 use td_relations::{Delta, Relation, minus};
 use td_story::Failure;
@@ -59,14 +60,15 @@ fn replaced(
 }
 
 // The same of these tuples, changed.
-fn update(
+fn update<W: Wanted>(
     alloc: Global,
     env: &Environment,
     parts: &[Part],
     tuples: &Lease<'_>,
     change: &Change,
-) -> Result<Delta, Fault>
-    requires { AreRight env.now parts.now }
+) -> Result<Delta, Fault<W>>
+    requires right { AreRight env.now parts.now }
+    requires allowed { W.allows env.now.virtuals.now ≡ true }
     ensures { TellsForm tuples.now (form_means (mean_in env.now) tuples.now (Changed change.now)) result }
 {
     let gone = select(alloc, env, parts, tuples, change.condition, &Scope::Nothing)?;
@@ -78,7 +80,41 @@ fn update(
 }
 
 // The change that makes what an expression of this form means of the relation.
-fn exchange(
+fn exchange<W: Wanted>(
+    alloc: Global,
+    env: &Environment,
+    parts: &[Part],
+    tuples: &Lease<'_>,
+    form: &Form,
+) -> Result<Delta, Fault<W>>
+    requires right { AreRight env.now parts.now }
+    requires allowed { W.allows env.now.virtuals.now ≡ true }
+    ensures { TellsForm tuples.now (form_means (mean_in env.now) tuples.now form.now) result }
+{
+    match form {
+        Form::Less(condition) => {
+            let gone = select(alloc, env, parts, tuples, condition, &Scope::Nothing)?;
+            Ok(without(alloc, tuples.get(), gone)?)
+        }
+        Form::Changed(change) => update(alloc, env, parts, tuples, change),
+    }
+}
+
+// The same where what all relvars have is found first: nothing is wanting then.
+fn exchange_over_all(
+    alloc: Global,
+    env: &Environment,
+    tuples: &Lease<'_>,
+    form: &Form,
+) -> Result<Delta, Fault>
+    ensures { TellsForm tuples.now (form_means (mean_in env.now) tuples.now form.now) result }
+{
+    let relvars = all_relvars(alloc, env)?;
+    exchange(alloc, &those(&relvars, env), &[], tuples, form)
+}
+
+// The same where these parts are known, if nothing else is wanting.
+fn last_exchange(
     alloc: Global,
     env: &Environment,
     parts: &[Part],
@@ -88,12 +124,11 @@ fn exchange(
     requires { AreRight env.now parts.now }
     ensures { TellsForm tuples.now (form_means (mean_in env.now) tuples.now form.now) result }
 {
-    match form {
-        Form::Less(condition) => {
-            let gone = select(alloc, env, parts, tuples, condition, &Scope::Nothing)?;
-            Ok(without(alloc, tuples.get(), gone)?)
-        }
-        Form::Changed(change) => update(alloc, env, parts, tuples, change),
+    match exchange::<usize>(alloc, env, parts, tuples, form) {
+        Ok(delta) => Ok(delta),
+        Err(Fault::Raised(stop)) => Err(Fault::Raised(stop)),
+        Err(Fault::OutOfMemory) => Err(Fault::OutOfMemory),
+        Err(Fault::Wanting(_)) => exchange_over_all(alloc, env, tuples, form),
     }
 }
 
@@ -111,11 +146,13 @@ fn exchange_over(
     let mut findings = Findings::new(alloc, virtuals.names.len())?;
     for _ in 0..virtuals.names.len() {
         match exchange(alloc, env, &findings.parts, tuples, form) {
+            Ok(delta) => return Ok(delta),
+            Err(Fault::Raised(stop)) => return Err(Fault::Raised(stop)),
+            Err(Fault::OutOfMemory) => return Err(Fault::OutOfMemory),
             Err(Fault::Wanting(place)) => settle(alloc, env, &mut findings, virtuals, place)?,
-            answer => return answer,
         }
     }
-    exchange(alloc, env, &findings.parts, tuples, form)
+    last_exchange(alloc, env, &findings.parts, tuples, form)
 }
 
 // The same of a part of the expression.
@@ -166,6 +203,6 @@ pub fn changed<L: Lookup>(
     match change_by_part(alloc, expr, lookup, &tuples, &form) {
         Ok(delta) => Ok(Some(delta)),
         Err(Fault::Raised(stop)) => Err(Failure::Raised(raise_of(stop))),
-        Err(Fault::OutOfMemory | Fault::Wanting(_)) => Err(Failure::OutOfMemory),
+        Err(Fault::OutOfMemory) => Err(Failure::OutOfMemory),
     }
 }

@@ -3,6 +3,7 @@
 ghost use Rattle.std.specs.Prelude.{◌≡◌, IfOk, MatchResult};
 ghost use Rattle.td_algebra.specs.Raising.{Answers};
 ghost use Rattle.td_meaning.specs.Mean.{mean};
+ghost use Rattle.td_meaning.specs.Parts.{AreRight};
 ghost use Rattle.td_meaning.specs.Seen.{mean_in, relvars_at, visible};
 ghost use Rattle.td_meaning.specs.Selections.{selection};
 ghost use Rattle.td_operators.specs.Values as spec;
@@ -10,11 +11,12 @@ ghost use Rattle.td_eval.specs.ForProofs.Environments.{MeanTheirs, all_known, ba
 ghost use Rattle.td_story.specs.Meanings.{means};
 
 use crate::lookup::Lookup;
+use crate::relvars::{all_relvars, those};
 use crate::settling::{Findings, Virtuals, names_of, settle, settle_first};
 use std::alloc::{AllocError, Global};
 use td_algebra::{Fault, Stop};
 use td_headings::TypedExpr;
-use td_meaning::{Environment, Known, Scope};
+use td_meaning::{Environment, Known, Part, Scope};
 use td_operators::Lease;
 use td_relations::Relation;
 use td_trees::expression::{BaseUnder, Expression};
@@ -76,7 +78,41 @@ pub(crate) fn environment<'a>(known: &'a [Known<'a>], expression: &'a Expression
     }
 }
 
-// The value of a part of the expression over these, with these names in scope.
+// The value of a part of the expression over these, with these names in scope, where what all relvars have is found
+// first: nothing is wanting then.
+fn value_over_all(
+    alloc: Global,
+    env: &Environment,
+    part: &Typed,
+    scope: &Scope,
+) -> Result<Value, Fault>
+    ensures { Answers result (mean_in env.now part.now (visible scope.now)) }
+{
+    let relvars = all_relvars(alloc, env)?;
+    td_meaning::eval(alloc, &those(&relvars, env), &[], part, scope)
+}
+
+// The same where these parts of it are known, if nothing else is wanting.
+fn last_value(
+    alloc: Global,
+    env: &Environment,
+    parts: &[Part],
+    part: &Typed,
+    scope: &Scope,
+) -> Result<Value, Fault>
+    requires { AreRight env.now parts.now }
+    ensures { Answers result (mean_in env.now part.now (visible scope.now)) }
+{
+    match td_meaning::eval::<usize>(alloc, env, parts, part, scope) {
+        Ok(value) => Ok(value),
+        Err(Fault::Raised(stop)) => Err(Fault::Raised(stop)),
+        Err(Fault::OutOfMemory) => Err(Fault::OutOfMemory),
+        Err(Fault::Wanting(_)) => value_over_all(alloc, env, part, scope),
+    }
+}
+
+// The same, where what it comes to is made known, a virtual relvar a round. Rounds that make none known are followed by
+// the evaluation of all.
 fn value_over<'a>(
     alloc: Global,
     env: &Environment,
@@ -91,11 +127,13 @@ fn value_over<'a>(
     settle_first(alloc, env, &mut findings, virtuals, part)?;
     for _ in 0..virtuals.names.len() {
         match td_meaning::eval(alloc, env, &findings.parts, part, scope) {
+            Ok(value) => return Ok(value),
+            Err(Fault::Raised(stop)) => return Err(Fault::Raised(stop)),
+            Err(Fault::OutOfMemory) => return Err(Fault::OutOfMemory),
             Err(Fault::Wanting(place)) => settle(alloc, env, &mut findings, virtuals, place)?,
-            answer => return answer,
         }
     }
-    td_meaning::eval(alloc, env, &findings.parts, part, scope)
+    last_value(alloc, env, &findings.parts, part, scope)
 }
 
 /// The value of a part of the expression over what relvars have, with these names in scope.

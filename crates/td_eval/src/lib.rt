@@ -9,6 +9,7 @@ mod forms;
 pub mod laws;
 pub mod lookup;
 mod naming;
+mod relvars;
 mod settling;
 pub mod valued;
 

@@ -106,7 +106,7 @@ fn held_relation(value: Value) -> Result<Held, Stop>
 }
 
 // The relation, or the error that is raised.
-fn held(answer: Result<Value, Fault>) -> Result<Result<Held, Stop>, Fault>
+fn held<W>(answer: Result<Value, Fault<W>>) -> Result<Result<Held, Stop>, Fault<W>>
     ensures { IfOk result (λ v. (m : Result Datum Stop) → Answers answer m → known_value v ≡ and_then (and_then m spec.rows_of) as_value) }
 {
     match answer {
@@ -123,7 +123,7 @@ fn keep_virtual<'a>(
     parts: &mut Vec<Part<'a>>,
     name: &'a Typed,
     under: &VirtualUnder,
-) -> Result<(), Fault>
+) -> Result<(), Fault<usize>>
     requires theirs { MeanTheirs env.now }
     requires under { Contains env.now.virtuals.now under.now }
     requires right { AreRight env.now parts.old.items }
@@ -143,7 +143,7 @@ fn settle_virtual<'a>(
     findings: &mut Findings<'a>,
     virtuals: Virtuals<'a>,
     at: usize,
-) -> Result<(), Fault>
+) -> Result<(), Fault<usize>>
     requires theirs { MeanTheirs env.now }
     requires right { AreRight env.now findings.old.parts.items }
     ensures { AreRight env.now findings.new.parts.items }
@@ -162,7 +162,7 @@ fn settle_task<'a>(
     findings: &mut Findings<'a>,
     virtuals: Virtuals<'a>,
     task: Task<'a>,
-) -> Result<(), Fault>
+) -> Result<(), Fault<usize>>
     requires theirs { MeanTheirs env.now }
     requires right { AreRight env.now findings.old.parts.items }
     ensures { AreRight env.now findings.new.parts.items }

@@ -46,8 +46,7 @@ pub fn value<L: Lookup>(
     match eval(alloc, expr, lookup, &no_tuple) {
         Ok(value) => Ok(value),
         Err(Fault::Raised(stop)) => Err(Failure::Raised(raise_of(stop))),
-        // (each virtual relvar that is wanted is made known, so that none is wanted in the end)
-        Err(Fault::OutOfMemory | Fault::Wanting(_)) => Err(Failure::OutOfMemory),
+        Err(Fault::OutOfMemory) => Err(Failure::OutOfMemory),
     }
 }
 

@@ -45,8 +45,8 @@ form_means m r (Less c) = and_then (chosen m c.now r) (λ g. Ok (minus_of r g))
 form_means m r (Changed x) = and_then (chosen m x.condition.now r) (λ g. and_then (renewed m x.items.now g) (λ s. if_alike r s (union_of (minus_of r g) s)))
 
 -- the change that makes it of the relation, or the error that it raises
-abbrev pub TellsForm : RowsData → Result RowsData Stop → Result DeltaData Fault → Type 0
+abbrev pub TellsForm : {W : Type 0} → RowsData → Result RowsData Stop → Result DeltaData (Fault W) → Type 0
 TellsForm r m (Ok d) = (m ≡ Ok (after r d)) × IsDifference r (after r d) d
 TellsForm r m (Err (Raised e)) = m ≡ Err e
 TellsForm r m (Err OutOfMemory) = Unit {0}
-TellsForm r m (Err (Wanting n)) = Unit {0}
+TellsForm r m (Err (Wanting w)) = Unit {0}

@@ -4,7 +4,7 @@ use Rattle.td_eval.proofs.Selecting.{told_untyped, told_update}
 use Rattle.td_eval.proofs.changes.update.Goals as goal
 
 pub returns-then-not-same_heading : goal.returns-then-not-same_heading
-returns-then-not-same_heading c =
+returns-then-not-same_heading g c =
     let m = mean_in c.args.env.now in
     let r = c.args.tuples.now in
     let x = c.args.change.now in
@@ -12,7 +12,7 @@ returns-then-not-same_heading c =
     c.if-not-same_heading.true
 
 pub returns : goal.returns
-returns c =
+returns g c =
     let m = mean_in c.args.env.now in
     let r = c.args.tuples.now in
     let x = c.args.change.now in

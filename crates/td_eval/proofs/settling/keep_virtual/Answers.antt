@@ -1,4 +1,4 @@
-use Rattle.std.proofs.Common.{sym, subst, ap, ◌∙◌}
+use Rattle.std.proofs.Common.{refl, sym, subst, ap, ◌∙◌}
 use Rattle.td_algebra.specs.Raising.{and_then}
 use Rattle.td_meaning.specs.Parts.{AreRight, known_value}
 use Rattle.td_meaning.specs.Seen.{mean_in}
@@ -9,7 +9,10 @@ use Rattle.td_eval.proofs.Settled.{named_means}
 use Rattle.td_eval.proofs.settling.keep_virtual.Goals as goal
 
 pub eval-requires : goal.eval-requires
-eval-requires c = subst (AreRight c.args.env.now) (sym c.deref.ensures.value) c.requires.right
+eval-requires c = record {
+  right = subst (AreRight c.args.env.now) (sym c.deref.ensures.value) c.requires.right;
+  allowed = refl;
+}
 
 pub returns-in_err-put : goal.returns-in_err-put
 returns-in_err-put c =
