@@ -2,7 +2,7 @@
 use Rattle.std.proofs.Common.{◌≡◌, ◌<◌, ℕ, zero, suc, List, [], ◌∷◌, ◌++◌, ◌⊎◌, inl, inr, length, get_or, take, drop, sym, ap, ◌∙◌, subst, arith}
 use Rattle.std.specs.List.{slice_set}
 use Rattle.std.proofs.lemmas.List.{get_or-take}
-use Rattle.td_answers.specs.Sites.{EachStays, IsBetween}
+use Rattle.td_answers.specs.Sites.{EachStays, HappensToOne}
 use Rattle.td_answers.proofs.Drawing.{at_back, set_apart}
 
 module _ {R : Type 0} (P : R → Type 0) where
@@ -43,12 +43,12 @@ module _ {R : Type 0} (P : R → Type 0) where
 
 module _ {R : Type 0} (F : R → R → Type 0) where
   -- it happened to the one that is put at a place
-  pub between_at : (xs : List R) (i : ℕ) (d y : R) → i < length xs → F (get_or xs i d) y → IsBetween F xs (slice_set xs i y)
+  pub between_at : (xs : List R) (i : ℕ) (d y : R) → i < length xs → F (get_or xs i d) y → HappensToOne F xs (slice_set xs i y)
   between_at [] i d y lt f = absurd (omega (arith, lt))
   between_at (x ∷ xs) zero d y lt f = inl f
   between_at (x ∷ xs) (suc i) d y lt f = inr (between_at xs i d y (omega (arith, lt)) f)
 
-  between_two : (xs : List R) (a b : ℕ) (d e x y : R) → a < b → b < length xs → F (get_or xs a d) x ⊎ F (get_or xs b e) y → IsBetween F xs (slice_set (slice_set xs a x) b y)
+  between_two : (xs : List R) (a b : ℕ) (d e x y : R) → a < b → b < length xs → F (get_or xs a d) x ⊎ F (get_or xs b e) y → HappensToOne F xs (slice_set (slice_set xs a x) b y)
   between_two [] a b d e x y lt within f = absurd (omega (arith, within))
   between_two (z ∷ zs) a zero d e x y lt within f = absurd (omega (arith, lt))
   between_two (z ∷ zs) zero (suc b) d e x y lt within (inl f) = inl f
@@ -57,10 +57,10 @@ module _ {R : Type 0} (F : R → R → Type 0) where
 
   pub between_apart :
       (xs front back : List R) (a b : ℕ) (d e x y : R) → front ≡ take b xs → back ≡ drop b xs → a < b → b < length xs → F (get_or front a d) x ⊎ F (get_or back 0 e) y
-      → IsBetween F xs (slice_set front a x ++ slice_set back 0 y)
+      → HappensToOne F xs (slice_set front a x ++ slice_set back 0 y)
   between_apart xs front back a b d e x y is_front is_back lt within f =
       let first = ap (λ l. get_or l a d) is_front ∙ get_or-take b xs a d lt in
       let second = ap (λ l. get_or l 0 e) is_back ∙ at_back xs b e in
       let there = subst (λ (r : R). F r x ⊎ F (get_or xs b e) y) first (subst (λ (r : R). F (get_or front a d) x ⊎ F r y) second f) in
       let whole = ap (λ l. slice_set l a x ++ slice_set back 0 y) is_front ∙ ap (λ l. slice_set (take b xs) a x ++ slice_set l 0 y) is_back ∙ set_apart xs a b x y lt within in
-      subst (IsBetween F xs) (sym whole) (between_two xs a b d e x y lt within there)
+      subst (HappensToOne F xs) (sym whole) (between_two xs a b d e x y lt within there)

@@ -48,11 +48,11 @@ EachStays P [] (y ∷ ys) = ⊥
 EachStays P (x ∷ xs) [] = ⊥
 EachStays P (x ∷ xs) (y ∷ ys) = (P x → P y) × EachStays P xs ys
 
--- this holds of a site and the one that stands at its place after
-abbrev pub IsBetween : {R : Type 0} → (R → R → Type 0) → List R → List R → Type 0
-IsBetween P [] ys = ⊥
-IsBetween P (x ∷ xs) [] = ⊥
-IsBetween P (x ∷ xs) (y ∷ ys) = P x y ⊎ IsBetween P xs ys
+-- this happens between one of the sites and the one that stands at its place after
+abbrev pub HappensToOne : {R : Type 0} → (R → R → Type 0) → List R → List R → Type 0
+HappensToOne P [] ys = ⊥
+HappensToOne P (x ∷ xs) [] = ⊥
+HappensToOne P (x ∷ xs) (y ∷ ys) = P x y ⊎ HappensToOne P xs ys
 
 -- where a site is not there
 abbrev pub TellsNoSite : Sites → List ℕ → Sites → Type 0

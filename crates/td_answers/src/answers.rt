@@ -6,7 +6,7 @@ ghost use Rattle.td_answers.specs.Asking.{AreAsked, AreAskedAt};
 ghost use Rattle.td_answers.specs.Answers.{IssueAnswered, MayTakeEntries, MeetAnswered, TellsAsked, TellsListing, TellsLog, TellsPast, TellsTable, TellsVector};
 ghost use Rattle.td_answers.specs.Linked.{CallsOver, LinkAnswered, ServesOver};
 ghost use Rattle.td_answers.specs.Replies.{Replies, words};
-ghost use Rattle.td_answers.specs.Sites.{AreOfOneScript, AreOfScript, EachStays, IsBetween, site_of, sites_of};
+ghost use Rattle.td_answers.specs.Sites.{AreOfOneScript, AreOfScript, EachStays, HappensToOne, site_of, sites_of};
 ghost use Rattle.td_answers.specs.ForProofs.Said.{Says, TellsIn};
 
 use crate::links::Links;
@@ -45,7 +45,7 @@ fn issue_in<R: Replica>(
     meter: &mut Meter,
 ) -> Reply
     ensures answered { Says (λ words. IssueAnswered text.now (map R.seen sites.old) (site_of number (map R.seen sites.old)) words (map R.seen sites.new)) result }
-    ensures journal { Says (λ text. text ≡ codes "fault journal\n" → IsBetween R.failed sites.old sites.new) result }
+    ensures journal { Says (λ text. text ≡ codes "fault journal\n" → HappensToOne R.failed sites.old sites.new) result }
     ensures journaled { EachStays R.journaled sites.old sites.new }
 {
     match place_of(sites, number) {
@@ -87,7 +87,7 @@ fn meet_in<R: Replica>(
     meter: &mut Meter,
 ) -> Reply
     ensures answered { Says (λ words. MeetAnswered first second (map R.seen sites.old) (sites_of first second (map R.seen sites.old)) words (map R.seen sites.new)) result }
-    ensures journal { Says (λ text. text ≡ codes "fault journal\n" → IsBetween R.failed sites.old sites.new) result }
+    ensures journal { Says (λ text. text ≡ codes "fault journal\n" → HappensToOne R.failed sites.old sites.new) result }
     ensures journaled { EachStays R.journaled sites.old sites.new }
 {
     match (place_of(sites, first), place_of(sites, second)) {
@@ -150,7 +150,7 @@ fn serve_in<R: Replica, L: Links>(
 ) -> Reply
     ensures answered { Says (λ words. LinkAnswered ServesOver (codes "served") number address.now (map R.seen sites.old) (site_of number (map R.seen sites.old)) words (map R.seen sites.new)) result }
     ensures asked { Says (λ words. AreAskedAt L.serves address.now (site_of number (map R.seen sites.old)) words links.old links.new) result }
-    ensures journal { Says (λ text. text ≡ codes "fault journal\n" → IsBetween R.failed sites.old sites.new) result }
+    ensures journal { Says (λ text. text ≡ codes "fault journal\n" → HappensToOne R.failed sites.old sites.new) result }
     ensures journaled { EachStays R.journaled sites.old sites.new }
 {
     match place_of(sites, number) {
@@ -169,7 +169,7 @@ fn call_in<R: Replica, L: Links>(
 ) -> Reply
     ensures answered { Says (λ words. LinkAnswered CallsOver (codes "called") number address.now (map R.seen sites.old) (site_of number (map R.seen sites.old)) words (map R.seen sites.new)) result }
     ensures asked { Says (λ words. AreAskedAt L.calls address.now (site_of number (map R.seen sites.old)) words links.old links.new) result }
-    ensures journal { Says (λ text. text ≡ codes "fault journal\n" → IsBetween R.failed sites.old sites.new) result }
+    ensures journal { Says (λ text. text ≡ codes "fault journal\n" → HappensToOne R.failed sites.old sites.new) result }
     ensures journaled { EachStays R.journaled sites.old sites.new }
 {
     match place_of(sites, number) {
@@ -189,7 +189,7 @@ fn reply_to<R: Replica, L: Links>(
     requires { AreOfScript catalogue.now (map R.seen sites.old) }
     ensures replies { Replies catalogue.now (map R.seen sites.old) (line_of line.now) result (map R.seen sites.new) }
     ensures asked { AreAsked L.serves L.calls (map R.seen sites.old) (line_of line.now) (words result) links.old links.new }
-    ensures journal { MayTakeEntries (line_of line.now) → words result ≡ codes "fault journal\n" → IsBetween R.failed sites.old sites.new }
+    ensures journal { MayTakeEntries (line_of line.now) → words result ≡ codes "fault journal\n" → HappensToOne R.failed sites.old sites.new }
     ensures journaled { EachStays R.journaled sites.old sites.new }
 {
     match command_of(line) {
@@ -229,7 +229,7 @@ pub fn answer<R: Replica, L: Links>(
     ensures replies { Replies catalogue.now (map R.seen sites.old) (line_of line.now) result (map R.seen sites.new) }
     ensures kept { AreOfScript catalogue.now (map R.seen sites.new) }
     ensures asked { AreAsked L.serves L.calls (map R.seen sites.old) (line_of line.now) (words result) links.old links.new }
-    ensures journal { MayTakeEntries (line_of line.now) → words result ≡ codes "fault journal\n" → IsBetween R.failed sites.old sites.new }
+    ensures journal { MayTakeEntries (line_of line.now) → words result ≡ codes "fault journal\n" → HappensToOne R.failed sites.old sites.new }
     ensures journaled { EachStays R.journaled sites.old sites.new }
 {
     reply_to(alloc, catalogue, sites, links, meter, line)

@@ -2,7 +2,7 @@
 
 ghost use Rattle.std.specs.Prelude.{◌≡◌, ◌≢◌, ◌<◌, Err, codes, length, map};
 ghost use Rattle.td_answers.specs.Faults as spec;
-ghost use Rattle.td_answers.specs.Sites.{EachStays, IsBetween};
+ghost use Rattle.td_answers.specs.Sites.{EachStays, HappensToOne};
 ghost use Rattle.td_meeting.specs.declared.error.MeetingError.TheVariants as meeting_error;
 ghost use Rattle.td_meeting.specs.declared.meeting.MeetingRefusal.{MeetingRefusal};
 ghost use Rattle.td_story.specs.declared.refusal.TakeError.TheVariants as take_error;
@@ -41,7 +41,7 @@ fn meeting<R: Replica>(
     requires second { second < length sites.old }
     requires two { first ≢ second }
     ensures meets { MeetsAt (map R.seen sites.old) first second result (map R.seen sites.new) }
-    ensures journal { (r : MeetingRefusal) → result ≡ Err r → r.error ≡ meeting_error.Take take_error.JournalWrite → IsBetween R.failed sites.old sites.new }
+    ensures journal { (r : MeetingRefusal) → result ≡ Err r → r.error ≡ meeting_error.Take take_error.JournalWrite → HappensToOne R.failed sites.old sites.new }
     ensures journaled { EachStays R.journaled sites.old sites.new }
 {
     if first < second {
@@ -110,7 +110,7 @@ pub(crate) fn meet_at<R: Replica>(
     requires second { second < length sites.old }
     requires two { first ≢ second }
     ensures answered { Says (λ words. TellsMetAt numbers (map R.seen sites.old) first second words (map R.seen sites.new)) result }
-    ensures journal { Says (λ text. text ≡ codes "fault journal\n" → IsBetween R.failed sites.old sites.new) result }
+    ensures journal { Says (λ text. text ≡ codes "fault journal\n" → HappensToOne R.failed sites.old sites.new) result }
     ensures journaled { EachStays R.journaled sites.old sites.new }
 {
     match judge(&sites[first], &sites[second]) {

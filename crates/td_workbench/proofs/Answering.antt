@@ -14,7 +14,7 @@ use Rattle.td_headings.specs.Catalogues.{CatalogueData}
 use Rattle.td_answers.specs.Asking.{AreAsked}
 use Rattle.td_answers.specs.Answers.{MayTakeEntries}
 use Rattle.td_answers.specs.Replies.{Replies, words}
-use Rattle.td_answers.specs.Sites.{EachStays, IsBetween}
+use Rattle.td_answers.specs.Sites.{EachStays, HappensToOne}
 use Rattle.td_answers.specs.declared.reply.Reply.{Reply}
 use Rattle.td_answers.specs.declared.reply.Reply.TheVariants as reply
 use Rattle.td_workbench.specs.Runs.{AnswersLine, said, DoesNotQuit, LineStep, RunsOut, State, Workbench}
@@ -34,7 +34,7 @@ answered_by b c old new line text (Err e) w after other told puts = (text, other
 pub line_ends :
     {S L : Type 0} (b : Workbench S L) (c : CatalogueData) (old new : State S L) (line : Line) (answer : Reply) (text : List ℕ) (r : Result Bool Failed) (w after : Output)
     → (answer ≡ reply.Quit → ⊥) → words answer ≡ text → Replies c (map b.seen old.0) line answer (map b.seen new.0) → AreAsked b.serves b.calls (map b.seen old.0) line (words answer) old.1 new.1
-    → (MayTakeEntries line → words answer ≡ codes "fault journal\n" → IsBetween b.failed old.0 new.0) → EachStays b.journaled old.0 new.0 → Puts text r w after
+    → (MayTakeEntries line → words answer ≡ codes "fault journal\n" → HappensToOne b.failed old.0 new.0) → EachStays b.journaled old.0 new.0 → Puts text r w after
     → LineEnds (AnswersLine b c) old line r new w after
 line_ends b c old new line reply.Quit text r w after goes_on is told asked journal journaled puts = absurd (goes_on refl)
 line_ends b c old new line (reply.Text t) text r w after goes_on is told asked journal journaled puts =

@@ -10,7 +10,7 @@ use Rattle.td_devices.specs.Views.{Input, Output}
 use Rattle.td_listings.specs.Writings.{WritesFront}
 use Rattle.td_story.specs.Seen.{Seen}
 use Rattle.td_answers.specs.Asking.{AreAsked, LinkRequest}
-use Rattle.td_answers.specs.Sites.{AreOfScript, EachStays, IsBetween}
+use Rattle.td_answers.specs.Sites.{AreOfScript, EachStays, HappensToOne}
 use Rattle.td_answers.specs.Answers.{LineAnswered, MayTakeEntries}
 use Rattle.td_workbench.specs.Streams.{ReadsBytes, ReadsNoMore, reads_left, WritesText}
 use Rattle.td_workbench.specs.declared.run.Ended.{Ended}
@@ -39,7 +39,7 @@ State S L = List S × L
 pub record AnswersLine {S L : Type 0} (b : Workbench S L) (c : CatalogueData) (old : State S L) (line : Line) (text : List ℕ) (new : State S L) : Type 0 where
   pub answered : LineAnswered c (map b.seen old.0) line text (map b.seen new.0)
   pub asked : AreAsked b.serves b.calls (map b.seen old.0) line text old.1 new.1
-  pub journal : MayTakeEntries line → text ≡ codes "fault journal\n" → IsBetween b.failed old.0 new.0
+  pub journal : MayTakeEntries line → text ≡ codes "fault journal\n" → HappensToOne b.failed old.0 new.0
   pub journaled : EachStays b.journaled old.0 new.0
 
 -- what a line makes of what was there, and the text that is printed for it

@@ -1,6 +1,6 @@
 use Rattle.std.proofs.Common.{◌≡◌, ℕ, List, codes, get_or}
 use Rattle.std.specs.List.{slice_set}
-use Rattle.td_answers.specs.Sites.{IsBetween}
+use Rattle.td_answers.specs.Sites.{HappensToOne}
 use Rattle.td_answers.proofs.Saying.{issues, says_more}
 use Rattle.td_answers.proofs.Staying.{all_stay, between_at, stay_at}
 use Rattle.td_answers.proofs.answers.issue_in.Goals as goal
@@ -24,5 +24,5 @@ returns-in-Some-clause-journal g c =
     let old = get_or c.args.sites.now c.in-Some.at before in
     let new = c.issue.new.site in
     let one : List ℕ → Type 0 = λ text. text ≡ codes "fault journal\n" → failed old new in
-    let some : List ℕ → Type 0 = λ text. text ≡ codes "fault journal\n" → IsBetween failed c.args.sites.now (slice_set c.args.sites.now c.in-Some.at new) in
+    let some : List ℕ → Type 0 = λ text. text ≡ codes "fault journal\n" → HappensToOne failed c.args.sites.now (slice_set c.args.sites.now c.in-Some.at new) in
     says_more one some c.issue.result (λ text told same. between_at failed c.args.sites.now c.in-Some.at before new c.in-Some.ensures.within (told same)) c.issue.ensures.journal
