@@ -6,8 +6,9 @@ ghost use Rattle.td_trees.specs.declared.tree.Typed.TheVariants as t;
 use crate::Result;
 use sqlite_items::{Boxed, Items};
 use std::alloc::{AllocError, Global};
+use std::convert::Infallible;
 use std::slice;
-use td_algebra::{Fault, Never};
+use td_algebra::Fault;
 use td_meaning::{Environment, Scope, eval};
 use td_syntax::tree::BinaryOperator;
 use td_trees::expression::Selector;
@@ -21,7 +22,7 @@ fn shown(alloc: Global, selectors: &[Selector], tree: &Typed) -> Result<String> 
         virtuals: &[],
         selectors,
     };
-    match eval::<Never>(alloc, &env, &[], tree, &Scope::Nothing) {
+    match eval::<Infallible>(alloc, &env, &[], tree, &Scope::Nothing) {
         Ok(value) => Ok(show(alloc, &value)?),
         Err(Fault::Raised(stop)) => Ok(format!(in alloc; "{stop}")?),
         Err(Fault::OutOfMemory) => Err(AllocError)?,

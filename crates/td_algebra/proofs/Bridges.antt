@@ -17,7 +17,7 @@ use Rattle.td_tuples.specs.Unions.{beside, joined, with_attribute, composed_colu
 use Rattle.td_tuples.proofs.ByName.{fits-beside}
 use Rattle.td_tuples.proofs.SideBySide.{cut-beside_first, cut-beside_second, cut_agree, beside-cut}
 use Rattle.td_algebra.specs.declared.errors.Fault.{Fault}
-use Rattle.td_algebra.specs.declared.errors.Never.{Never}
+use Rattle.std.specs.declared.convert.Infallible.{Infallible}
 use Rattle.td_algebra.specs.declared.errors.Fault.TheVariants.{Raised, OutOfMemory, Wanting}
 use Rattle.td_algebra.specs.declared.errors.Stop.{Stop}
 use Rattle.td_values.specs.declared.raises.Raise.TheVariants.{Overflow, Divide, Empty, Selector, Cardinality}
@@ -288,7 +288,7 @@ back (Error Cardinality) = refl
 pub same_stop : (e f : Stop) → stop_number e ≡ stop_number f → e ≡ f
 same_stop e f h = sym (back e) ∙ ap stop_at h ∙ back f
 
-abbrev told : {A : Type 0} → Result A Stop → Result A (Fault Never)
+abbrev told : {A : Type 0} → Result A Stop → Result A (Fault Infallible)
 told (Ok a) = Ok a
 told (Err e) = Err (Raised e)
 
@@ -311,7 +311,7 @@ module _ (R : Stop → Type 0) (h : Header) (P : Attrs → Type 0) where
 module _ (m : Attrs → Result Bool Stop) (r : RowsData) where
   by_walk : (w : Result (List Bool) Stop) → all_of m r.tuples ≡ w → Unless (RaisedIn m r) (IsRelationOf r.heading (Restricted m r)) (told (and_then w (λ bs. Ok (relation_from r.heading (select r.tuples bs)))))
   by_walk (Ok bs) is = restricts m r bs (relation_from r.heading (select r.tuples bs)) is (relation_of_is r.heading (tuple_set (select r.tuples bs)))
-  by_walk (Err e) is = walk_fails m r {W = Never} (λ (xs : List Bool). xs) (IsRelationOf r.heading (Restricted m r)) (Raised e) is
+  by_walk (Err e) is = walk_fails m r {W = Infallible} (λ (xs : List Bool). xs) (IsRelationOf r.heading (Restricted m r)) (Raised e) is
 
   pub restricted_is : UnlessRaised (RaisedIn m r) (IsRelationOf r.heading (Restricted m r)) (restricted m r)
   unfolding restricted
@@ -324,7 +324,7 @@ module _ (m : Attrs → Result Bool Stop) (r : RowsData) where
 module _ {E : Type 0} (m : Meaning E) (items : List (Item E)) (r : RowsData) where
   by_items : (w : Result (List Attrs) Stop) → all_of (extended_at m items) r.tuples ≡ w → Unless (RaisedBy m items r) (IsRelationOf (extended_columns items r.heading) (Extended m items r)) (told (and_then w (λ us. Ok (relation_from (extended_columns items r.heading) us))))
   by_items (Ok us) is = extends m items r (extended_columns items r.heading) us (relation_from (extended_columns items r.heading) us) is (relation_of_is (extended_columns items r.heading) (tuple_set us))
-  by_items (Err e) is = extension_fails m items r {W = Never} (λ (xs : List Attrs). xs) (IsRelationOf (extended_columns items r.heading) (Extended m items r)) (Raised e) is
+  by_items (Err e) is = extension_fails m items r {W = Infallible} (λ (xs : List Attrs). xs) (IsRelationOf (extended_columns items r.heading) (Extended m items r)) (Raised e) is
 
   pub extended_is : UnlessRaised (RaisedBy m items r) (IsRelationOf (extended_columns items r.heading) (Extended m items r)) (extended m items r)
   unfolding extended

@@ -3,6 +3,7 @@ ghost use Rattle.std.specs.Prelude.{◌≡◌};
 ghost use Rattle.td_algebra.specs.Stops as spec;
 
 use std::alloc::AllocError;
+use std::convert::Infallible;
 use td_values::Raise;
 use thiserror::Error;
 
@@ -39,15 +40,11 @@ impl Stop {
     }
 }
 
-/// What is never wanting: it has no values.
-#[derive(Clone, Copy, Debug, Drop, PartialEq, Eq)]
-pub enum Never {}
-
 /// Why there is no answer: an error, or want of memory. A function that is handed in may give a third cause, that what
 /// it came to is not known yet. Whoever handed it in knows that by this `W`, and may ask again. No operator makes a `W`:
 /// it passes on what the function gave.
 #[derive(Clone, Copy, Debug, Drop, Error, PartialEq, Eq)]
-pub enum Fault<W = Never> {
+pub enum Fault<W = Infallible> {
     #[error("{0}")]
     Raised(Stop),
     #[error("out of memory")]

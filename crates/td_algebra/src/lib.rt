@@ -30,7 +30,7 @@ mod uniqueness;
 mod wraps;
 
 pub use closure::{is_binary, tclose};
-pub use errors::{Fault, Never, Stop};
+pub use errors::{Fault, Stop};
 pub use extension::extend;
 pub use groups::group;
 pub use joins::{compose, join};

@@ -18,7 +18,7 @@ use Rattle.td_algebra.specs.Nested.{relation_value}
 use Rattle.td_algebra.specs.Raising.{and_then}
 use Rattle.td_algebra.specs.declared.errors.Fault.TheVariants.{Raised}
 use Rattle.td_algebra.specs.declared.errors.Stop.{Stop}
-use Rattle.td_algebra.specs.declared.errors.Never.{Never}
+use Rattle.std.specs.declared.convert.Infallible.{Infallible}
 use Rattle.td_operators.specs.Operators.{as_value, if_alike, operate, operate_on}
 use Rattle.td_operators.specs.Values.{rows_of, truth_of}
 use Rattle.td_operators.proofs.KindLemmas.{rows_back}
@@ -164,11 +164,11 @@ module _ (c : CatalogueData) (x : Expression) (r : Relvars) (n : ℕ) (f : Form)
   gives : GivesValue c.schema x.kind Meant
   gives = trees_have_values c no_tuple x.tree x.kind r no_attrs defined is.tree are (none_fits, tt)
 
-  pub raised : (e : Stop) → TellsForm {W = Never} q (form_means means q f) (Err (Raised e)) → IsError e
+  pub raised : (e : Stop) → TellsForm {W = Infallible} q (form_means means q f) (Err (Raised e)) → IsError e
   raised e raises = subst (GivesValue c.schema x.kind) (whole ∙ ap (λ w. and_then w as_value) raises) gives
 
-  pub told_error : (e : Raise) (s : Stop) → TellsForm {W = Never} q (form_means means q f) (Err (Raised s)) → stop_of e ≡ s → and_then Meant rows_of ≡ Err (stop_of e)
+  pub told_error : (e : Raise) (s : Stop) → TellsForm {W = Infallible} q (form_means means q f) (Err (Raised s)) → stop_of e ≡ s → and_then Meant rows_of ≡ Err (stop_of e)
   told_error e s raises same = rows ∙ raises ∙ ap Err (sym same)
 
-  pub told_change : (d : DeltaData) → TellsForm {W = Never} q (form_means means q f) (Ok d) → TellsChanged (r n) (and_then Meant rows_of) (Ok (Some d))
+  pub told_change : (d : DeltaData) → TellsForm {W = Infallible} q (form_means means q f) (Ok d) → TellsChanged (r n) (and_then Meant rows_of) (Ok (Some d))
   told_change d told = (q, has, rows ∙ told.0, told.1)

@@ -14,7 +14,7 @@ use Rattle.td_algebra.specs.Functions.{minus_of, restricted, union_of}
 use Rattle.td_algebra.specs.Raising.{and_then}
 use Rattle.td_algebra.specs.declared.errors.Stop.{Stop}
 use Rattle.td_algebra.specs.declared.errors.Stop.TheVariants.{Untyped}
-use Rattle.td_algebra.specs.declared.errors.Never.{Never}
+use Rattle.std.specs.declared.convert.Infallible.{Infallible}
 use Rattle.td_operators.specs.Operators.{if_alike, same_heading}
 use Rattle.td_eval.specs.Changed.{after}
 use Rattle.td_eval.specs.ForProofs.Forms.{TellsForm}
@@ -77,14 +77,14 @@ module _ (r g s : RowsData) (chosen : Result RowsData Stop) (renewed : RowsData 
   pub told_untyped : (b : Bool) → IsTrue b ↔ (s.heading ≡ r.heading) → b ≡ false → Whole ≡ Err Untyped
   told_untyped b says k = whole_is ∙ ap If (heading_false r s b says k)
 
-  pub told_update : (b : Bool) → IsTrue b ↔ (s.heading ≡ r.heading) → b ≡ true → (d : DeltaData) → IsDifference r (union_of (minus_of r g) s) d → TellsForm {W = Never} r Whole (Ok d)
+  pub told_update : (b : Bool) → IsTrue b ↔ (s.heading ≡ r.heading) → b ≡ true → (d : DeltaData) → IsDifference r (union_of (minus_of r g) s) d → TellsForm {W = Infallible} r Whole (Ok d)
   unfolding union_of minus_of
   told_update b says same d differs =
       let n = union_of (minus_of r g) s in
       let led = leads r n d (relation_of_is r.heading (set.union (body (minus_of r g)) (body s))) differs in
       (whole_is ∙ ap If (heading_true r s (says.0 same)) ∙ ap Ok led, subst (λ q. IsDifference r q d) led differs)
 
-pub told_less : (r g : RowsData) (chosen : Result RowsData Stop) → chosen ≡ Ok g → (d : DeltaData) → IsDifference r (minus_of r g) d → TellsForm {W = Never} r (and_then chosen (λ h. Ok (minus_of r h))) (Ok d)
+pub told_less : (r g : RowsData) (chosen : Result RowsData Stop) → chosen ≡ Ok g → (d : DeltaData) → IsDifference r (minus_of r g) d → TellsForm {W = Infallible} r (and_then chosen (λ h. Ok (minus_of r h))) (Ok d)
 unfolding minus_of
 told_less r g chosen is d differs =
     let led = leads r (minus_of r g) d (relation_of_is r.heading (set.difference (body r) (body g))) differs in

@@ -9,7 +9,7 @@ use Rattle.td_trees.specs.declared.tree.Typed.{Typed}
 use Rattle.td_trees.specs.declared.tree.Typed.TheVariants as t
 use Rattle.td_algebra.specs.Raising.{Answers, and_then}
 use Rattle.td_algebra.specs.declared.errors.Fault.{Fault}
-use Rattle.td_algebra.specs.declared.errors.Never.{Never}
+use Rattle.std.specs.declared.convert.Infallible.{Infallible}
 use Rattle.td_algebra.specs.declared.errors.Stop.{Stop}
 use Rattle.td_headings.specs.Catalogues.{CatalogueData}
 use Rattle.td_headings.specs.Expressions.{IsTyped, virtual_of, virtual_at}
@@ -91,7 +91,7 @@ module _ (x : Expression) (r : Relvars) (e : Environment) (ks : e.relvars.now �
       ∙ ap (λ (m : Typed → Meaning). rows_in (m v.tree) no_names) (sym mean_is)
 
 -- all of it gives its value
-pub whole_means : (x : Expression) (r : Relvars) → IsTyped x → (u : Typed) → u ≡ x.tree → (t : Attrs) (w : Result Datum (Fault Never)) → Answers w (mean (relvars_at (all_known x r)) (selection x.selectors) u (within t no_names)) → Answers w (means x r t)
+pub whole_means : (x : Expression) (r : Relvars) → IsTyped x → (u : Typed) → u ≡ x.tree → (t : Attrs) (w : Result Datum (Fault Infallible)) → Answers w (mean (relvars_at (all_known x r)) (selection x.selectors) u (within t no_names)) → Answers w (means x r t)
 whole_means x r typed u is t w h =
     subst (λ (m : Meaning). Answers w (m (within t no_names))) (ap (mean (relvars_at (all_known x r)) (selection x.selectors)) is ∙ as_known x typed r) h
 

@@ -9,7 +9,7 @@ use crate::environment::{Environment, relvar_known};
 use crate::parts::{Part, heading_known, part_known};
 use sqlite_items::Boxed;
 use std::alloc::{AllocError, Global};
-use td_algebra::Never;
+use std::convert::Infallible;
 use td_syntax::tree::Named;
 use td_trees::tree::{Typed, TypedGroups};
 use td_tuples::{Item, Summary};
@@ -107,7 +107,7 @@ fn heading_found<'a>(knowledge: &'a Knowledge<'_>, tree: &Typed) -> Option<&'a H
 // The heading of the relation that the expression means, where it is there to be seen.
 fn heading_of<'a>(knowledge: &'a Knowledge<'_>, tree: &Typed) -> Option<&'a Heading> {
     match tree {
-        Typed::Relvar(place) => match relvar_known::<Never>(knowledge.env, *place) {
+        Typed::Relvar(place) => match relvar_known::<Infallible>(knowledge.env, *place) {
             Some(Ok(lease)) => Some(lease.get().heading()),
             Some(Err(_)) => None,
             None => heading_found(knowledge, tree),

@@ -8,7 +8,8 @@ ghost use Rattle.td_meaning.specs.Seen.{none_virtual, relvars_there};
 ghost use Rattle.td_trees.specs.declared.expression.VirtualUnder.{VirtualUnder};
 
 use crate::environment::{Environment, is_virtual};
-use td_algebra::{Fault, Never, Stop};
+use std::convert::Infallible;
+use td_algebra::{Fault, Stop};
 use td_values::Value;
 
 /// What evaluation may say to be wanting.
@@ -42,7 +43,7 @@ impl Wanted for usize {
 }
 
 /// Nothing, where no relvar is virtual: what has relvars has them all.
-impl Wanted for Never {
+impl Wanted for Infallible {
     ghost allows = { none_virtual };
 
     ghost allows_none = { refl };

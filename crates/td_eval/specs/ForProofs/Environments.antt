@@ -4,7 +4,7 @@ use Rattle.std.specs.List.{Contains}
 use Rattle.td_values.specs.Rows.{RowsData}
 use Rattle.td_algebra.specs.Raising.{Answers}
 use Rattle.td_algebra.specs.declared.errors.Fault.{Fault}
-use Rattle.td_algebra.specs.declared.errors.Never.{Never}
+use Rattle.std.specs.declared.convert.Infallible.{Infallible}
 use Rattle.td_algebra.specs.declared.errors.Stop.{Stop}
 use Rattle.td_trees.specs.declared.expression.BaseUnder.{BaseUnder}
 use Rattle.td_trees.specs.declared.expression.Expression.{Expression}
@@ -32,5 +32,5 @@ abbrev pub MeanTheirs : Environment → Type 0
 MeanTheirs env = (v : VirtualUnder) → Contains env.virtuals.now v → relvars_there env v.place ≡ rows_in (mean_in env v.tree) no_names
 
 -- the answer that is kept, with the error that it may be
-abbrev pub Keeps : {E : Type 0} → Result RowsData (Fault Never) → Result (Result RowsData Stop) E → Type 0
+abbrev pub Keeps : {E : Type 0} → Result RowsData (Fault Infallible) → Result (Result RowsData Stop) E → Type 0
 Keeps answer kept = IfOk kept (λ v. (m : Result RowsData Stop) → Answers answer m → v ≡ m)

@@ -1,5 +1,5 @@
 use Rattle.std.proofs.Common.{Ok, sym, subst}
-use Rattle.td_algebra.specs.declared.errors.Never.{Never}
+use Rattle.std.specs.declared.convert.Infallible.{Infallible}
 use Rattle.td_meaning.specs.Seen.{mean_in}
 use Rattle.td_eval.specs.ForProofs.Forms.{TellsForm, chosen, form_means}
 use Rattle.td_eval.proofs.Selecting.{told_less}
@@ -10,7 +10,7 @@ returns-in_ok-without-in-Less g c =
     let m = mean_in c.args.env.now in
     let r = c.args.tuples.now in
     let d = c.in_ok-without-in-Less.field-0 in
-    subst (λ f. TellsForm {W = Never} r (form_means m r f) (Ok d)) (sym c.in-Less.is)
+    subst (λ f. TellsForm {W = Infallible} r (form_means m r f) (Ok d)) (sym c.in-Less.is)
     (told_less r c.in_ok-gone-in-Less.gone (chosen m c.in-Less.condition.now r) c.in_ok-gone-in-Less.ensures d (rw c.get.ensures at c.in_ok-without-in-Less.ensures))
 
 pub returns-in-Changed : goal.returns-in-Changed

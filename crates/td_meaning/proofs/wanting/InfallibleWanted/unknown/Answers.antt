@@ -5,7 +5,7 @@ use Rattle.td_meaning.specs.Mean.{mean_relvar}
 use Rattle.td_meaning.specs.Seen.{relvars_there}
 use Rattle.td_meaning.specs.Selections.{selection}
 use Rattle.td_meaning.proofs.Behind.{none_is_virtual, nowhere}
-use Rattle.td_meaning.proofs.wanting.NeverWanted.unknown.Goals as goal
+use Rattle.td_meaning.proofs.wanting.InfallibleWanted.unknown.Goals as goal
 
 pub returns : goal.returns
 unfolding mean_relvar relvars_there
