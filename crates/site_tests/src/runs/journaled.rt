@@ -34,27 +34,29 @@ impl Write for Behind<'_> {
     }
 }
 
-/// One journal under its name: what it has, and what stands in its place once it is cut or made anew.
+/// The name of the journal of site 2.
+const NAME: &str = "kept/2.tdj";
+
+/// One journal under this name: what it has, and what stands in its place once it is cut or made anew.
 #[derive(Drop)]
-struct Memory<'a> {
-    name: &'a str,
-    was: &'a [u8],
-    now: &'a RefCell<Vec<u8>>,
+struct Memory<'w, 'n> {
+    was: &'w [u8],
+    now: &'n RefCell<Vec<u8>>,
 }
 
-impl<'a> Journals for Memory<'a> {
-    type Journal = Device<Given<'a>>;
+impl<'w, 'n> Journals for Memory<'w, 'n> {
+    type Journal = Device<Given<'w>>;
 
-    type Writer = Device<Behind<'a>>;
+    type Writer = Device<Behind<'n>>;
 
-    type Renewal = Device<Behind<'a>>;
+    type Renewal = Device<Behind<'n>>;
 
     ghost kept = { λ _ _. None };
 
     ghost fails = { λ _ _. Unit {0} };
 
-    fn open(&self, _alloc: Global, name: &str) -> Result<Device<Given<'a>>, StoreError> {
-        if name != self.name {
+    fn open(&self, _alloc: Global, name: &str) -> Result<Device<Given<'w>>, StoreError> {
+        if name != NAME {
             return Err(StoreError::JournalFile);
         }
         Ok(Device::new(Given {
@@ -66,7 +68,7 @@ impl<'a> Journals for Memory<'a> {
         }))
     }
 
-    fn cut(&self, _journal: Device<Given<'a>>, whole: u64) -> Result<Device<Behind<'a>>, Failed> {
+    fn cut(&self, _journal: Device<Given<'w>>, whole: u64) -> Result<Device<Behind<'n>>, Failed> {
         let front = self.was.get(..whole as usize).unwrap_or(self.was);
         let mut writer = Behind { now: self.now };
         match writer.write(front) {
@@ -79,17 +81,17 @@ impl<'a> Journals for Memory<'a> {
         &self,
         _alloc: Global,
         _name: &str,
-        _journal: &mut Device<Given<'a>>,
+        _journal: &mut Device<Given<'w>>,
         _whole: u64,
-    ) -> Result<Device<Behind<'a>>, StoreError> {
+    ) -> Result<Device<Behind<'n>>, StoreError> {
         Ok(Device::new(Behind { now: self.now }))
     }
 
     fn replace(
         &self,
-        _journal: Device<Given<'a>>,
-        renewal: Device<Behind<'a>>,
-    ) -> Result<Device<Behind<'a>>, Failed> {
+        _journal: Device<Given<'w>>,
+        renewal: Device<Behind<'n>>,
+    ) -> Result<Device<Behind<'n>>, Failed> {
         Ok(renewal)
     }
 }
@@ -142,7 +144,7 @@ E\x00\x02\x00\x00\x00\x02\x00\x00\x00\x00\x00\x00\x00\x06\x02\x00\x09DELETE R;",
     // that of another site
     Case {
         was: b"JTDB\x02\x00\x01\x00\x00\x00\x2dVAR R BASE RELATION { A INTEGER } KEY { A };\n",
-        end: "kept/2.tdj",
+        end: NAME,
         printed: "",
         is: b"",
     },
@@ -164,32 +166,39 @@ fn told(end: &Result<bool, Stopped>) -> &str {
     }
 }
 
-fn is_met(rt: &HostRuntime, case: &Case) -> bool {
+// How a run over the journal ends, which prints to the output.
+fn ran(rt: &HostRuntime, journals: &Memory, output: &mut Vec<u8>) -> Result<bool, Stopped> {
     let mut meter = Meter::new(rt);
-    let now = RefCell::new(Vec::new(rt.alloc()));
-    let journals = Memory {
-        name: "kept/2.tdj",
-        was: case.was,
-        now: &now,
-    };
     let mut source = Device::new(LINES.as_bytes());
-    let mut output = Vec::new(rt.alloc());
-    let mut sink = Device::new(&mut output);
-    let end = run_journaled::<Site, _, _, _, _>(
+    let mut sink = Device::new(output);
+    run_journaled::<Site, _, _, _, _>(
         rt.alloc(),
         &ONE,
-        &journals,
+        journals,
         "kept/",
         &mut NoLinks,
         &mut meter,
         &mut source,
         &mut sink,
-    );
-    let is_there = match now.try_borrow() {
-        Ok(now) => now.as_slice() == case.is,
+    )
+}
+
+fn has(now: &RefCell<Vec<u8>>, bytes: &[u8]) -> bool {
+    match now.try_borrow() {
+        Ok(now) => now.as_slice() == bytes,
         Err(_) => false,
+    }
+}
+
+fn is_met(rt: &HostRuntime, case: &Case) -> bool {
+    let now = RefCell::new(Vec::new(rt.alloc()));
+    let mut output = Vec::new(rt.alloc());
+    let journals = Memory {
+        was: case.was,
+        now: &now,
     };
-    told(&end) == case.end && output.as_slice() == case.printed.as_bytes() && is_there
+    let end = ran(rt, &journals, &mut output);
+    told(&end) == case.end && output.as_slice() == case.printed.as_bytes() && has(&now, case.is)
 }
 
 #[test]
