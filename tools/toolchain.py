@@ -140,9 +140,11 @@ def function_at(lines, at):
             if start is None:
                 return None
             header = without_generics(" ".join(lines[start:number]).partition("{")[0].removeprefix("impl"))
-            # (the impl of a trait is named by its type and the trait)
+            # (the impl of a trait is named by its type, whose first letter is a capital there, and the trait)
             trait, _, of = header.partition(" for ")
-            owner = re.findall(r"\w+", of or trait)[-1] + (re.findall(r"\w+", trait)[-1] if of else "")
+            owner = re.findall(r"\w+", of or trait)[-1]
+            if of:
+                owner = owner[0].upper() + owner[1:] + re.findall(r"\w+", trait)[-1]
             return f"{owner}::{found[2]}"
     return None
 
