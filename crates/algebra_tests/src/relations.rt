@@ -3,7 +3,7 @@ ghost use Rattle.std.specs.Prelude.{◌≡◌, IfOk};
 
 use crate::samples::{Result, firsts, heading, relation_of, tuple};
 use std::alloc::Global;
-use td_relations::{Delta, Relation};
+use td_relations::{Delta, Relation, apply, apply_inverse, difference, inverse};
 use td_values::{Heading, Name, TdType, TypeKind, fits};
 
 const COLUMNS: &[&str] = &["A"];
@@ -55,7 +55,7 @@ fn delta(alloc: Global, heading: &Heading) -> Result<Delta>
 {
     let old = numbers(alloc, heading, &[&[1], &[2]])?;
     let new = numbers(alloc, heading, &[&[2], &[3]])?;
-    Ok(Delta::difference(alloc, &old, &new)?)
+    Ok(difference(alloc, &old, &new)?)
 }
 
 // Its parts, how many attributes it has, and whether it is empty.
@@ -71,12 +71,12 @@ fn there_and_back(alloc: Global, delta: Delta, mut r: Relation, undoes: bool) ->
     requires { delta.inserted.heading ≡ r.heading }
 {
     delta.headings_agree();
-    delta.apply(alloc, &mut r)?;
+    apply(alloc, &mut r, &delta)?;
     let applied = firsts(alloc, r.tuples())?;
     if undoes {
-        delta.undo(alloc, &mut r)?;
+        apply_inverse(alloc, &mut r, &delta)?;
     } else {
-        delta.inverse().apply(alloc, &mut r)?;
+        apply(alloc, &mut r, &inverse(delta))?;
     }
     let back = firsts(alloc, r.tuples())?;
     Ok(format!(in alloc; "{applied}| {back}")?)

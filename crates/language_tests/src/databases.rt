@@ -43,7 +43,7 @@ fn shown(alloc: Global, relation: Relation) -> Result<String> {
 fn held(alloc: Global, database: &Database, name: &str) -> Result<String> {
     let name = Name::new(alloc, name)?;
     match database.value_of(alloc, &name) {
-        Ok(Answer::Relation(relation)) => shown(alloc, relation),
+        Ok(Answer::Value(relation)) => shown(alloc, relation),
         Ok(Answer::Raised(raise)) => Ok(format!(in alloc; "raised {raise}")?),
         Err(RelvarError::Unknown) => Ok(String::from_str(alloc, "unknown")?),
         Err(RelvarError::OutOfMemory) => Err(AllocError)?,

@@ -14,7 +14,7 @@ use operators::{OF_ONE, OF_SETS, OF_TWO, OperandNames, Operator, count};
 use std::time::{Duration, Instant};
 use tables::{Names, Subject, Table};
 use td_algebra::{group, project, wrap};
-use td_relations::{Delta, Relation};
+use td_relations::{Relation, apply, difference};
 
 /// How often each operator is timed at each size.
 const TURNS: u32 = 5;
@@ -84,10 +84,10 @@ fn time_of_change(
     requires { before.now.heading ≡ after.now.heading }
 {
     let alloc = rt.alloc();
-    let delta = Delta::difference(alloc, before, after)?;
+    let delta = difference(alloc, before, after)?;
     let mut changed = before.copy(alloc)?;
     let start = Instant::now(rt)?;
-    delta.apply(alloc, &mut changed)?;
+    apply(alloc, &mut changed, &delta)?;
     Ok((start.elapsed(rt)?, changed.len()))
 }
 

@@ -5,7 +5,7 @@ use std::fmt::Display;
 use td_relations::Relation;
 use td_stamps::{Stamp, Vector};
 use td_story::{
-    Answer, AskError, Asked, IssueError, Issued, Outcome, PastError, Replica, Taken, TellError,
+    Answer, AskError, IssueError, Issued, Outcome, PastError, Replica, Taken, TellError,
     ValueError,
 };
 use td_values::{Kind, Value, show};
@@ -45,21 +45,21 @@ pub fn taken<E: Display + Drop>(
     }
 }
 
-fn asked(alloc: Global, asked: Asked) -> Result<String, AllocError> {
+fn asked(alloc: Global, asked: Answer) -> Result<String, AllocError> {
     match asked {
-        Asked::Value(value) => show(alloc, &value),
-        Asked::Raised(raise) => format!(in alloc; "raised {raise}"),
+        Answer::Value(value) => show(alloc, &value),
+        Answer::Raised(raise) => format!(in alloc; "raised {raise}"),
     }
 }
 
-pub fn replied(alloc: Global, answer: Result<Asked, AskError>) -> Result<String, AllocError> {
+pub fn replied(alloc: Global, answer: Result<Answer, AskError>) -> Result<String, AllocError> {
     match answer {
         Ok(answer) => asked(alloc, answer),
         Err(error) => format!(in alloc; "{error}"),
     }
 }
 
-pub fn replied_at(alloc: Global, answer: Result<Asked, PastError>) -> Result<String, AllocError> {
+pub fn replied_at(alloc: Global, answer: Result<Answer, PastError>) -> Result<String, AllocError> {
     match answer {
         Ok(answer) => asked(alloc, answer),
         Err(error) => format!(in alloc; "{error}"),
@@ -71,9 +71,9 @@ fn shown(alloc: Global, relation: Relation) -> Result<String, AllocError> {
     show(alloc, &Value { kind })
 }
 
-pub fn told(alloc: Global, answer: Result<Answer, ValueError>) -> Result<String, AllocError> {
+pub fn told(alloc: Global, answer: Result<Answer<Relation>, ValueError>) -> Result<String, AllocError> {
     match answer {
-        Ok(Answer::Relation(relation)) => shown(alloc, relation),
+        Ok(Answer::Value(relation)) => shown(alloc, relation),
         Ok(Answer::Raised(raise)) => format!(in alloc; "raised {raise}"),
         Err(error) => format!(in alloc; "{error}"),
     }

@@ -24,8 +24,6 @@ use Rattle.td_story.specs.Seen.{Seen}
 use Rattle.td_story.specs.Trees.{all_relvars, tree_means}
 use Rattle.td_story.specs.declared.answer.Answer.{Answer}
 use Rattle.td_story.specs.declared.answer.Answer.TheVariants as answer
-use Rattle.td_story.specs.declared.answer.Asked.{Asked}
-use Rattle.td_story.specs.declared.answer.Asked.TheVariants as asked
 
 some_same : {A : Type 0} (a b : A) → Some a ≡ Some b → a ≡ b
 some_same a b h = cc
@@ -47,16 +45,16 @@ told_as (Stop.Error e) = e
 one_raise : (e f : Raise) → stop_of e ≡ stop_of f → e ≡ f
 one_raise e f h = ap told_as h
 
-one_asked : (m : Result Datum Stop) (r q : Asked) → SaysValue r m → SaysValue q m → r ≡ q
-one_asked m (asked.Value v) (asked.Value w) p q = ap asked.Value (ok_same v w (sym p ∙ q))
-one_asked m (asked.Value v) (asked.Raised f) p q = ok_err v (stop_of f) (sym p ∙ q)
-one_asked m (asked.Raised e) (asked.Value w) p q = ok_err w (stop_of e) (sym q ∙ p)
-one_asked m (asked.Raised e) (asked.Raised f) p q = ap asked.Raised (one_raise e f (err_same {A = Datum} (stop_of e) (stop_of f) (sym p ∙ q)))
+one_asked : (m : Result Datum Stop) (r q : Answer Datum) → SaysValue r m → SaysValue q m → r ≡ q
+one_asked m (answer.Value v) (answer.Value w) p q = ap answer.Value (ok_same v w (sym p ∙ q))
+one_asked m (answer.Value v) (answer.Raised f) p q = ok_err v (stop_of f) (sym p ∙ q)
+one_asked m (answer.Raised e) (answer.Value w) p q = ok_err w (stop_of e) (sym q ∙ p)
+one_asked m (answer.Raised e) (answer.Raised f) p q = ap answer.Raised (one_raise e f (err_same {A = Datum} (stop_of e) (stop_of f) (sym p ∙ q)))
 
-one_answer : (m : Result RowsData Stop) (a b : Answer) → SaysRelation a m → SaysRelation b m → a ≡ b
-one_answer m (answer.Relation r) (answer.Relation s) p q = ap answer.Relation (ok_same r s (sym p ∙ q))
-one_answer m (answer.Relation r) (answer.Raised f) p q = ok_err r (stop_of f) (sym p ∙ q)
-one_answer m (answer.Raised e) (answer.Relation s) p q = ok_err s (stop_of e) (sym q ∙ p)
+one_answer : (m : Result RowsData Stop) (a b : Answer RowsData) → SaysRelation a m → SaysRelation b m → a ≡ b
+one_answer m (answer.Value r) (answer.Value s) p q = ap answer.Value (ok_same r s (sym p ∙ q))
+one_answer m (answer.Value r) (answer.Raised f) p q = ok_err r (stop_of f) (sym p ∙ q)
+one_answer m (answer.Raised e) (answer.Value s) p q = ok_err s (stop_of e) (sym q ∙ p)
 one_answer m (answer.Raised e) (answer.Raised f) p q = ap answer.Raised (one_raise e f (err_same {A = RowsData} (stop_of e) (stop_of f) (sym p ∙ q)))
 
 -- ---- a text is one query, of one tree
@@ -67,7 +65,7 @@ one_tree : (c : CatalogueData) (a : Expr) (x y : Expression) → IsExpression c 
 one_tree c a x y p q = ap (λ z. z.tree) (some_same (typing x.tree x.kind) (typing y.tree y.kind) (sym (complete c.schema p.types) ∙ complete c.schema q.types))
 
 -- ---- over one database
-pub asks_one : (s t : Seen) (text : List ℕ) (r q : Asked) (p : AsksQuery s text r) (o : AsksQuery t text q) → p.database ≡ o.database → r ≡ q
+pub asks_one : (s t : Seen) (text : List ℕ) (r q : Answer Datum) (p : AsksQuery s text r) (o : AsksQuery t text q) → p.database ≡ o.database → r ≡ q
 asks_one s t text r q p o one =
     let d = p.database in
     let types =
@@ -79,7 +77,7 @@ asks_one s t text r q p o one =
     (subst (λ (e : DatabaseData). SaysValue q (tree_means e.catalogue (stored_relvars e.stored) o.expression.tree no_attrs)) (sym one) o.says) in
     one_asked (tree_means d.catalogue (stored_relvars d.stored) p.expression.tree no_attrs) r q p.says says
 
-pub tells_one : (d : DatabaseData) (x : List ℕ) (a b : Answer) → TellsRelvar d x (Ok a) → TellsRelvar d x (Ok b) → a ≡ b
+pub tells_one : (d : DatabaseData) (x : List ℕ) (a b : Answer RowsData) → TellsRelvar d x (Ok a) → TellsRelvar d x (Ok b) → a ≡ b
 tells_one d x a b p q =
     let same = some_same (p.0, p.1) (q.0, q.1) (sym p.2 ∙ q.2) in
     let place : p.0 ≡ q.0 = ap (λ (z : ℕ × Named Header). z.0) same in

@@ -12,20 +12,21 @@ use Rattle.td_story.specs.Laws.{HoldTheSame}
 use Rattle.td_story.specs.Past.{AsksAt}
 use Rattle.td_story.specs.Seen.{Seen}
 use Rattle.td_story.specs.declared.answer.Answer.{Answer}
-use Rattle.td_story.specs.declared.answer.Asked.{Asked}
+use Rattle.td_values.specs.Data.{Datum}
+use Rattle.td_values.specs.Rows.{RowsData}
 
 -- a query
 abbrev pub AnswersAgree : Type 0
-AnswersAgree = (s t : Seen) → HoldTheSame s t → (text : List ℕ) (r q : Asked) → Asks s text (Ok r) → Asks t text (Ok q) → r ≡ q
+AnswersAgree = (s t : Seen) → HoldTheSame s t → (text : List ℕ) (r q : Answer Datum) → Asks s text (Ok r) → Asks t text (Ok q) → r ≡ q
 
 -- the same just after the entry of a stamp
 abbrev pub PastAnswersAgree : Type 0
 PastAnswersAgree =
-    (s t : Seen) → HoldTheSame s t → (text : List ℕ) (at : Stamp) (r q : Asked) → AsksAt s text at (Ok r) → AsksAt t text at (Ok q) → r ≡ q
+    (s t : Seen) → HoldTheSame s t → (text : List ℕ) (at : Stamp) (r q : Answer Datum) → AsksAt s text at (Ok r) → AsksAt t text at (Ok q) → r ≡ q
 
 -- what a relvar has
 abbrev pub ValuesAgree : Type 0
-ValuesAgree = (s t : Seen) → HoldTheSame s t → (name : List ℕ) (a b : Answer) → TellsValue s name (Ok a) → TellsValue t name (Ok b) → a ≡ b
+ValuesAgree = (s t : Seen) → HoldTheSame s t → (name : List ℕ) (a b : Answer RowsData) → TellsValue s name (Ok a) → TellsValue t name (Ok b) → a ≡ b
 
 -- up to which number each site's entries are held
 abbrev pub VectorsAgree : Type 0

@@ -11,8 +11,8 @@ use Rattle.td_story.specs.Calls.{Asks, Issues}
 use Rattle.td_story.specs.Past.{AsksAt}
 use Rattle.td_story.specs.Seen.{Seen}
 use Rattle.td_story.specs.declared.answer.Issued.{Issued}
-use Rattle.td_story.specs.declared.answer.Asked.{Asked}
-use Rattle.td_story.specs.declared.answer.Asked.TheVariants as asked
+use Rattle.td_story.specs.declared.answer.Answer.{Answer}
+use Rattle.td_story.specs.declared.answer.Answer.TheVariants as answer
 use Rattle.td_story.specs.declared.refusal.AskError.{AskError}
 use Rattle.td_story.specs.declared.refusal.IssueError.{IssueError}
 use Rattle.td_story.specs.declared.refusal.PastError.{PastError}
@@ -28,6 +28,7 @@ use Rattle.td_meeting.specs.declared.meeting.Met.{Met}
 use Rattle.td_meeting.specs.declared.meeting.MeetingRefusal.{MeetingRefusal}
 use Rattle.td_answers.specs.Linked.{CallsOver, LinkAnswered, ServesOver}
 use Rattle.td_answers.specs.Sites.{Sites, Placed, TellsNoSite, site_of, sites_of}
+use Rattle.td_values.specs.Data.{Datum}
 
 -- a site is asked, and no site changes
 abbrev pub SiteAnswered : (Seen → List ℕ → Type 0) → Sites → Option Placed → List ℕ → Sites → Type 0
@@ -56,16 +57,16 @@ IssueAnswered t old (Some p) text new = (after : Seen) × TellsIssued t p.1 text
 -- ---- n? text
 
 -- the shown value, or raised E
-abbrev pub reply_line : Asked → List ℕ
-reply_line (asked.Value v) = shown v ++ codes "\n"
-reply_line (asked.Raised e) = raised_line e
+abbrev pub reply_line : Answer Datum → List ℕ
+reply_line (answer.Value v) = shown v ++ codes "\n"
+reply_line (answer.Raised e) = raised_line e
 
-abbrev pub ask_answer : Result Asked AskError → List ℕ
+abbrev pub ask_answer : Result (Answer Datum) AskError → List ℕ
 ask_answer (Ok r) = reply_line r
 ask_answer (Err e) = ask_fault e
 
 pub record TellsAsked (t : List ℕ) (s : Seen) (text : List ℕ) : Type 0 where
-  pub answer : Result Asked AskError
+  pub answer : Result (Answer Datum) AskError
   pub asks : Asks s t answer
   pub line : text ≡ ask_answer answer
 
@@ -75,12 +76,12 @@ pub record TellsAsked (t : List ℕ) (s : Seen) (text : List ℕ) : Type 0 where
 abbrev pub stamp_at : ℕ × ℕ → Stamp
 stamp_at p = if nat_lt p.1 65536 then record { clock = p.0; site = p.1 } else record { clock = 0; site = 0 }
 
-abbrev pub past_answer : Result Asked PastError → List ℕ
+abbrev pub past_answer : Result (Answer Datum) PastError → List ℕ
 past_answer (Ok r) = reply_line r
 past_answer (Err e) = past_fault e
 
 pub record TellsPast (t : List ℕ) (at : ℕ × ℕ) (s : Seen) (text : List ℕ) : Type 0 where
-  pub answer : Result Asked PastError
+  pub answer : Result (Answer Datum) PastError
   pub asks : AsksAt s t (stamp_at at) answer
   pub line : text ≡ past_answer answer
 

@@ -2,7 +2,7 @@
 
 ghost use Rattle.std.specs.Prelude.{◌≡◌, Ok, Err, IfOk, MatchResult, codes, string_bytes};
 ghost use Rattle.td_story.specs.Scripts.{IsScriptOf};
-ghost use Rattle.td_story.specs.declared.answer.Asked.TheVariants as told;
+ghost use Rattle.td_story.specs.declared.answer.Answer.TheVariants as told;
 ghost use Rattle.td_answers.specs.Answers as spec;
 ghost use Rattle.td_answers.specs.Answers.{CountsEntries, TellsAsked, TellsIssued, TellsListing, TellsLog, TellsPast, TellsTable, TellsVector, reply_line};
 ghost use Rattle.td_answers.specs.ForProofs.Said.{Says};
@@ -14,7 +14,7 @@ use std::alloc::{AllocError, Global};
 use td_headings::Catalogue;
 use td_listings::{ListError, listing_text, log_text, table_text, vector_text};
 use td_stamps::Stamp;
-use td_story::{Asked, MOST_BYTES, Meter, Replica};
+use td_story::{Answer, MOST_BYTES, Meter, Replica};
 use td_values::{Value, show};
 
 /// Issues a statement. The room for its line is taken first, but for a text that is too long, which wants none.
@@ -47,12 +47,12 @@ fn value_line(alloc: Global, value: &Value) -> Result<String, AllocError>
 }
 
 // The line of what a query means.
-fn said(alloc: Global, asked: &Asked) -> Result<Reply, AllocError>
+fn said(alloc: Global, asked: &Answer) -> Result<Reply, AllocError>
     ensures { IfOk result (Says (λ words. words ≡ reply_line asked.now)) }
 {
     match asked {
-        Asked::Value(value) => Ok(Reply::Text(value_line(alloc, value)?)),
-        Asked::Raised(raise) => Ok(Reply::Fixed(raised_line(*raise))),
+        Answer::Value(value) => Ok(Reply::Text(value_line(alloc, value)?)),
+        Answer::Raised(raise) => Ok(Reply::Fixed(raised_line(*raise))),
     }
 }
 

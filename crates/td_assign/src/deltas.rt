@@ -19,7 +19,7 @@ fn turning(alloc: Global, old: &Relation, new: &Relation) -> Result<Option<Delta
 {
     old.rows_fit();
     new.rows_fit();
-    let delta = Delta::difference(alloc, old, new)?;
+    let delta = td_relations::difference(alloc, old, new)?;
     if delta.is_empty() {
         Ok(None)
     } else {

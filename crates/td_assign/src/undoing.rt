@@ -8,7 +8,7 @@ use std::alloc::{AllocError, Global};
 use td_relations::Delta;
 use td_relvars::Database;
 
-/// Makes each change where its relvar stands. It costs as `Delta::apply` of each, however large the relvars are.
+/// Makes each change where its relvar stands. It costs as `td_relations::apply` of each, however large the relvars are.
 pub fn redo(
     alloc: Global,
     database: &mut Database,

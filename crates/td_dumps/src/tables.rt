@@ -93,7 +93,7 @@ fn actions_of<R: Replica>(
     count: &mut usize,
 ) -> Result<Actions, Untold> {
     let relation = match site.value_of(alloc, relvar) {
-        Ok(Answer::Relation(relation)) => relation,
+        Ok(Answer::Value(relation)) => relation,
         Ok(Answer::Raised(_)) | Err(ValueError::Broken | ValueError::Unknown) => {
             return Err(Untold::Broken);
         }

@@ -1,7 +1,8 @@
 //! What a script has defined, each definition well typed after those before it.
 
-ghost use Rattle.std.specs.Prelude.{◌≡◌, Err, OnErr, OnOk, slice_get};
+ghost use Rattle.std.specs.Prelude.{◌≡◌, Err, MatchOption, None, OnErr, OnOk, Some, slice_get};
 ghost use Rattle.std.specs.Option.{option_copied};
+ghost use Rattle.td_kinds.specs.Schemas as schemas;
 ghost use Rattle.td_kinds.specs.declared.error.TypeError.TheVariants as type_error;
 ghost use Rattle.td_headings.specs.Catalogues as spec;
 ghost use Rattle.td_headings.specs.Definitions.{Defined, Defines};
@@ -10,10 +11,11 @@ use crate::defined::{Definitions, Origin, Test};
 use std::alloc::Global;
 use std::marker::Model;
 use td_kinds::error::TypeError;
-use td_kinds::schema::Schema;
+use td_kinds::schema::{Representation, Schema};
 use td_syntax::script::Definition;
 use td_trees::tree::Typed;
 use td_tuples::Shared;
+use td_values::{Heading, Name};
 
 /// What a script has defined: types, relvars, and what must be true after each statement. Each definition is well typed
 /// after those before it.
@@ -58,6 +60,34 @@ impl Catalogue {
         ensures defined { Defined self.now }
     {
         self.definitions.schema()
+    }
+
+    /// The place of the relvar of this name in order of definition, and its heading.
+    pub fn relvar(&self, name: &Name) -> Option<(usize, &Heading)>
+        ensures { MatchOption result (schemas.relvar_named self.now.schema name.now ≡ None) (λ r. schemas.relvar_named self.now.schema name.now ≡ Some (r.0, record { name = name.now; value = r.1.now })) }
+    {
+        self.schema().relvar(name)
+    }
+
+    /// The name and the heading of the relvar at this place in order of definition.
+    pub fn relvar_at(&self, place: usize) -> Option<(&Name, &Heading)>
+        ensures { MatchOption result (slice_get self.now.schema.relvars place ≡ None) (λ r. slice_get self.now.schema.relvars place ≡ Some (record { name = r.0.now; value = r.1.now })) }
+    {
+        self.schema().relvar_at(place)
+    }
+
+    /// The place of the possible representation of this name in order of definition, and it.
+    pub fn possrep(&self, name: &Name) -> Option<(usize, &Representation)>
+        ensures { MatchOption result (schemas.possrep_named self.now.schema name.now ≡ None) (λ r. schemas.possrep_named self.now.schema name.now ≡ Some (r.0, r.1.now)) }
+    {
+        self.schema().possrep(name)
+    }
+
+    /// The possible representation at this place in order of definition.
+    pub fn representation_at(&self, place: usize) -> Option<&Representation>
+        ensures { option_copied result ≡ slice_get self.now.schema.possreps place }
+    {
+        self.schema().representation_at(place)
     }
 
     /// Definitions made it, as they make every catalogue: a call tells the prover so, and costs nothing.

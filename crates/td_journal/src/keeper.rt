@@ -18,11 +18,11 @@ use std::alloc::Global;
 use std::marker::Model;
 use td_changes::{ChangedError, Changes};
 use td_devices::{Failed, Sink};
-use td_relations::Delta;
+use td_relations::{Delta, Relation};
 use td_stamps::{Entry, Held, Stamp};
 use td_story::{
-    Answer, AskError, Asked, IssueError, Issued, Meter, NotOpen, Outcome, PastError, Replica,
-    TakeError, Taken, TellError, ValueError,
+    Answer, AskError, IssueError, Issued, Meter, NotOpen, Outcome, PastError, Replica, TakeError,
+    Taken, TellError, ValueError,
 };
 use td_values::Name;
 use thiserror::Error;
@@ -246,7 +246,7 @@ impl<R: Replica, W: Sink> Replica for Keeper<R, W> {
         self.take_and_write(alloc, batch, meter)
     }
 
-    fn ask(&self, alloc: Global, text: &str) -> Result<Asked, AskError> {
+    fn ask(&self, alloc: Global, text: &str) -> Result<Answer, AskError> {
         if !self.is_open {
             return Err(AskError::Broken);
         }
@@ -259,14 +259,14 @@ impl<R: Replica, W: Sink> Replica for Keeper<R, W> {
         text: &str,
         at: Stamp,
         meter: &mut Meter,
-    ) -> Result<Asked, PastError> {
+    ) -> Result<Answer, PastError> {
         if !self.is_open {
             return Err(PastError::Broken);
         }
         self.replica.ask_at(alloc, text, at, meter)
     }
 
-    fn value_of(&self, alloc: Global, name: &Name) -> Result<Answer, ValueError> {
+    fn value_of(&self, alloc: Global, name: &Name) -> Result<Answer<Relation>, ValueError> {
         if !self.is_open {
             return Err(ValueError::Broken);
         }

@@ -11,7 +11,7 @@ use Rattle.td_story.specs.Databases.{DatabaseData}
 use Rattle.td_story.specs.Scripts.{IsScriptOf}
 use Rattle.td_story.specs.Laws.{ScriptIsOne}
 use Rattle.td_story.specs.declared.answer.Answer.{Answer}
-use Rattle.td_story.specs.declared.answer.Answer.TheVariants.{Relation, Raised}
+use Rattle.td_story.specs.declared.answer.Answer.TheVariants.{Value, Raised}
 use Rattle.td_story.specs.Steps.{Steps, unread, raised, refused, done}
 use Rattle.td_story.specs.declared.outcome.Outcome.{Outcome}
 use Rattle.td_stamps.specs.declared.entry.Entry.{Entry}
@@ -48,18 +48,18 @@ module _ (one_story : StoryIsOne) (one_script : ScriptIsOne) (s : Seen) (c : Cat
   one_database : (d e : DatabaseData) → Leaves s d → Leaves s e → d ≡ e
   one_database d e k l = (one_story s.script s.entries k.0 l.0 d e k.1 l.1).1
 
-  said : (a : Answer) (m : Result RowsData Stop) → SaysRelation a m → m ≡ meant a
-  said (Relation r) m h = h
+  said : (a : Answer RowsData) (m : Result RowsData Stop) → SaysRelation a m → m ≡ meant a
+  said (Value r) m h = h
   said (Raised e) m h = h
 
   -- an answer is what the relvar at its place has
-  pub told : (x : List ℕ) (n : ℕ) (a : Answer) → StandsAt c x n → TellsValue s x (Ok a) → IsValueAt s n a
+  pub told : (x : List ℕ) (n : ℕ) (a : Answer RowsData) → StandsAt c x n → TellsValue s x (Ok a) → IsValueAt s n a
   told x n a stands (live, d, leaves, (m, v, named, says)) e left =
       let at : relvar_named d.catalogue.schema x ≡ Some (n, stands.0) = subst (λ (k : CatalogueData). relvar_named k.schema x ≡ Some (n, stands.0)) (of_catalogue d leaves) stands.1 in
       let place : m ≡ n = ap (λ (p : ℕ × Named Header). p.0) (some_same (m, v) (n, stands.0) (sym named ∙ at)) in
       ap (λ (k : DatabaseData). value_at k n) (one_database e d left leaves) ∙ ap (value_at d) (sym place) ∙ said a (value_at d m) says
 
-  pub was_told : (x : List ℕ) (n : ℕ) (a : Answer) → StandsAt c x n → TellsValue s x (Ok a) → WasToldAt s n a
+  pub was_told : (x : List ℕ) (n : ℕ) (a : Answer RowsData) → StandsAt c x n → TellsValue s x (Ok a) → WasToldAt s n a
   was_told x n a stands (live, d, leaves, h) = (d, leaves, told x n a stands (live, d, leaves, h) d leaves)
 
   -- no other error is told of a relvar that is there

@@ -57,11 +57,11 @@ fn show_raised(out: &mut String, name: &Name, raise: Raise) -> Result<(), AllocE
     out.push_str("\n")
 }
 
-fn show_answer(out: &mut String, name: &Name, answer: &Answer) -> Result<(), AllocError>
+fn show_answer(out: &mut String, name: &Name, answer: &Answer<Relation>) -> Result<(), AllocError>
     ensures { OnOk result (string_bytes out.new ≡ string_bytes out.old ++ spec.relvar_lines name.now (meant answer.now)) }
 {
     match answer {
-        Answer::Relation(relation) => show_relation(out, name, relation),
+        Answer::Value(relation) => show_relation(out, name, relation),
         Answer::Raised(raise) => show_raised(out, name, *raise),
     }
 }
@@ -73,7 +73,7 @@ pub(crate) fn value_at<R: Replica>(
     replica: &R,
     name: &Name,
     place: usize,
-) -> Result<Answer, AllocError>
+) -> Result<Answer<Relation>, AllocError>
     requires open { IsOpenOn (R.seen replica.now) catalogue.now }
     requires stands { StandsAt catalogue.now name.now place }
     ensures value { IfOk result (IsValueAt (R.seen replica.now) place) }

@@ -11,6 +11,7 @@ use crate::listings::value_at;
 use crate::records::relation_table;
 use std::alloc::Global;
 use td_headings::Catalogue;
+use td_relations::Relation;
 use td_story::{Answer, Replica};
 use td_values::{Heading, Name};
 
@@ -35,11 +36,11 @@ fn relvar_of<'a>(catalogue: &'a Catalogue, text: &str) -> Option<(usize, &'a Nam
     None
 }
 
-fn rendered(alloc: Global, answer: &Answer) -> Result<Vec<u8>, TableError>
+fn rendered(alloc: Global, answer: &Answer<Relation>) -> Result<Vec<u8>, TableError>
     ensures { MatchResult result (λ text. Renders answer.now (Ok text.items)) (λ e. Renders answer.now (Err e)) }
 {
     match answer {
-        Answer::Relation(relation) => match relation_table(alloc, relation) {
+        Answer::Value(relation) => match relation_table(alloc, relation) {
             Ok(text) => Ok(text),
             Err(_) => Err(TableError::OutOfMemory),
         },

@@ -20,8 +20,8 @@ const SHARE: usize = 16;
 /// Which tuples are put into a relation, and which are taken out of it, none of them both; all have its heading.
 #[derive(Drop)]
 pub struct Delta {
-    inserted: Relation,
-    deleted: Relation,
+    pub inserted: Relation,
+    pub deleted: Relation,
 }
 
 impl Model for Delta {
@@ -43,16 +43,6 @@ impl Delta {
         ensures { result ≡ record { inserted = inserted; deleted = deleted } }
     {
         Delta { inserted, deleted }
-    }
-
-    /// What turns the old relation into the new one, its tuples shared. For lists of n and m tuples it costs n + m, and
-    /// memory for what differs.
-    pub fn difference(alloc: Global, old: &Relation, new: &Relation) -> Result<Delta, AllocError>
-        requires { old.now.heading ≡ new.now.heading }
-        ensures { IfOk result (IsDifference old.now new.now) }
-    {
-        let (deleted, inserted) = apart(alloc, old, new)?;
-        Ok(Delta { inserted, deleted })
     }
 
     /// The heading of the relations that it changes.
@@ -91,35 +81,49 @@ impl Delta {
     {
         self.inserted.is_empty() && self.deleted.is_empty()
     }
+}
 
-    /// The change that puts in what this one takes out, and the other way round. It takes no memory.
-    pub fn inverse(self) -> Delta
-        ensures { result ≡ inverse_of self }
-    {
-        Delta {
-            inserted: self.deleted,
-            deleted: self.inserted,
-        }
-    }
+/// What turns the old relation into the new one, its tuples shared. For lists of n and m tuples it costs n + m, and
+/// memory for what differs.
+pub fn difference(alloc: Global, old: &Relation, new: &Relation) -> Result<Delta, AllocError>
+    requires { old.now.heading ≡ new.now.heading }
+    ensures { IfOk result (IsDifference old.now new.now) }
+{
+    let (deleted, inserted) = apart(alloc, old, new)?;
+    Ok(Delta { inserted, deleted })
+}
 
-    /// Takes the deleted tuples out and puts the inserted ones in. It costs a search and a shift for each tuple of
-    /// the change, and memory for those put in; where these are many, a walk along the relation and a new list of it.
-    pub fn apply(&self, alloc: Global, relation: &mut Relation) -> Result<(), AllocError>
-        requires { self.now.inserted.heading ≡ relation.old.heading }
-        ensures ok { OnOk result (IsApplied relation.old self.now relation.new) }
-        ensures err { OnErr result (relation.new ≡ relation.old) }
-    {
-        exchange(alloc, relation, &self.deleted, &self.inserted)
+/// The change that puts in what this one takes out, and the other way round. It takes no memory.
+pub fn inverse(delta: Delta) -> Delta
+    ensures { result ≡ inverse_of delta }
+{
+    Delta {
+        inserted: delta.deleted,
+        deleted: delta.inserted,
     }
+}
 
-    /// Applies the inverse. It costs as `apply`.
-    pub fn undo(&self, alloc: Global, relation: &mut Relation) -> Result<(), AllocError>
-        requires { self.now.inserted.heading ≡ relation.old.heading }
-        ensures ok { OnOk result (IsApplied relation.old (inverse_of self.now) relation.new) }
-        ensures err { OnErr result (relation.new ≡ relation.old) }
-    {
-        exchange(alloc, relation, &self.inserted, &self.deleted)
-    }
+/// Takes the deleted tuples out and puts the inserted ones in. It costs a search and a shift for each tuple of
+/// the change, and memory for those put in; where these are many, a walk along the relation and a new list of it.
+pub fn apply(alloc: Global, relation: &mut Relation, delta: &Delta) -> Result<(), AllocError>
+    requires { delta.now.inserted.heading ≡ relation.old.heading }
+    ensures ok { OnOk result (IsApplied relation.old delta.now relation.new) }
+    ensures err { OnErr result (relation.new ≡ relation.old) }
+{
+    exchange(alloc, relation, &delta.deleted, &delta.inserted)
+}
+
+/// Applies the inverse. It costs as `apply`.
+pub fn apply_inverse(
+    alloc: Global,
+    relation: &mut Relation,
+    delta: &Delta,
+) -> Result<(), AllocError>
+    requires { delta.now.inserted.heading ≡ relation.old.heading }
+    ensures ok { OnOk result (IsApplied relation.old (inverse_of delta.now) relation.new) }
+    ensures err { OnErr result (relation.new ≡ relation.old) }
+{
+    exchange(alloc, relation, &delta.inserted, &delta.deleted)
 }
 
 // Whether a change of so many tuples is better made by a walk along a relation of this size than one by one.

@@ -119,7 +119,7 @@ is_stored d x n h is at real =
     let k = is.stored n v real (relvar_there d.catalogue x n v at) in
     record { is_real = real; relation = k.0; has = k.1 }
 
-pub tells : (d : DatabaseData) (x : Name) (n : ℕ) (h : Header) (a : Result Answer RelvarError) → IsRelvar d.catalogue x n h → TellsAt d n a → TellsRelvar d x a
+pub tells : (d : DatabaseData) (x : Name) (n : ℕ) (h : Header) (a : Result (Answer RowsData) RelvarError) → IsRelvar d.catalogue x n h → TellsAt d n a → TellsRelvar d x a
 tells d x n h (Ok a) at told = (n, record { name = x; value = h }, at, told)
 tells d x n h (Err Unknown) at told = absurd told
 tells d x n h (Err OutOfMemory) at told = tt

@@ -11,6 +11,7 @@ use std::alloc::{AllocError, Global};
 use td_eval::relation;
 use td_headings::{Catalogue, Origin, TypedExpr, type_expr};
 use td_kinds::error::TypeError;
+use td_relations::Relation;
 use td_story::{Answer, Failure, RelvarError};
 use td_syntax::tree::Expr;
 use td_values::{Heading, Name};
@@ -41,12 +42,16 @@ fn named(
 }
 
 // What the base relvar at the place has.
-fn base_value(alloc: Global, database: &Database, place: usize) -> Result<Answer, RelvarError>
+fn base_value(
+    alloc: Global,
+    database: &Database,
+    place: usize,
+) -> Result<Answer<Relation>, RelvarError>
     requires { IsStoredAt database.now place }
     ensures { TellsAt database.now place result }
 {
     match database.base_at(place) {
-        Some(base) => Ok(Answer::Relation(base.copy_relation(alloc)?)),
+        Some(base) => Ok(Answer::Value(base.copy_relation(alloc)?)),
         None => unreachable!(),
     }
 }
@@ -58,13 +63,13 @@ fn evaluated(
     name: &Name,
     place: usize,
     heading: &Heading,
-) -> Result<Answer, RelvarError>
+) -> Result<Answer<Relation>, RelvarError>
     requires { IsRelvar database.now.catalogue name.now place heading.now }
     ensures { TellsAt database.now place result }
 {
     let expr = named(alloc, database.catalogue(), name, place, heading)?;
     match relation(alloc, database.catalogue(), heading, &expr, database) {
-        Ok(relation) => Ok(Answer::Relation(relation)),
+        Ok(relation) => Ok(Answer::Value(relation)),
         Err(Failure::Raised(error)) => Ok(Answer::Raised(error)),
         Err(Failure::OutOfMemory) => Err(RelvarError::OutOfMemory),
     }
@@ -73,7 +78,7 @@ fn evaluated(
 impl Database {
     /// What the relvar of this name has, or the error that evaluating it raises. Of a base relvar it is a copy, whose
     /// tuples are shared; a virtual one is evaluated.
-    pub fn value_of(&self, alloc: Global, name: &Name) -> Result<Answer, RelvarError>
+    pub fn value_of(&self, alloc: Global, name: &Name) -> Result<Answer<Relation>, RelvarError>
         ensures { TellsRelvar self.now name.now result }
     {
         let catalogue = self.catalogue();

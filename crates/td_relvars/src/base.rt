@@ -16,7 +16,7 @@ use sqlite_items::Items;
 use std::alloc::{AllocError, Global};
 use std::marker::Model;
 use td_algebra::KeyIndex;
-use td_relations::{Delta, Relation};
+use td_relations::{Delta, Relation, apply, apply_inverse};
 use td_values::{Name, Tuple};
 
 // Takes these tuples out.
@@ -51,7 +51,7 @@ fn change(
     ensures kept { AreOf relation.new by_keys.new }
 {
     relation.rows_fit();
-    delta.apply(alloc, relation)?;
+    apply(alloc, relation, delta)?;
     follow(by_keys, relation.len(), delta.deleted(), delta.inserted());
     count(alloc, by_keys, relation, keys);
     Ok(())
@@ -73,7 +73,7 @@ fn change_back(
 {
     relation.rows_fit();
     delta.headings_agree();
-    delta.undo(alloc, relation)?;
+    apply_inverse(alloc, relation, delta)?;
     follow(by_keys, relation.len(), delta.inserted(), delta.deleted());
     count(alloc, by_keys, relation, keys);
     Ok(())

@@ -284,7 +284,7 @@ impl Database {
         count_reads_at(alloc, &self.catalogue, &mut self.stored, relvars);
     }
 
-    /// Makes the change in the base relvar at the place, where its relation stands. It costs as `Delta::apply`.
+    /// Makes the change in the base relvar at the place, where its relation stands. It costs as `td_relations::apply`.
     pub fn change(&mut self, alloc: Global, relvar: usize, delta: &Delta) -> Result<(), AllocError>
         requires { CanChange self.old relvar delta.now }
         ensures ok { OnOk result (self.new ≡ with_change relvar delta.now self.old) }
@@ -293,7 +293,7 @@ impl Database {
         change_at(alloc, &self.catalogue, &mut self.stored, relvar, delta)
     }
 
-    /// Makes its inverse there. It costs as `Delta::undo`.
+    /// Makes its inverse there. It costs as `td_relations::apply_inverse`.
     pub fn change_back(
         &mut self,
         alloc: Global,

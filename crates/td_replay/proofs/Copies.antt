@@ -4,7 +4,7 @@ use Rattle.std.specs.List.{Contains, filter}
 use Rattle.std.proofs.lemmas.Bool.{cases_eq}
 use Rattle.std.proofs.lemmas.List.{take_all, take_more}
 use Rattle.std.proofs.lemmas.Option.{slice_get_read}
-use Rattle.td_values.specs.Data.{no_attrs}
+use Rattle.td_values.specs.Data.{Datum, no_attrs}
 use Rattle.td_values.specs.Rows.{RowsData}
 use Rattle.td_relations.specs.Deltas.{DeltaData, inverse_of}
 use Rattle.td_algebra.specs.declared.errors.Stop.{Stop}
@@ -36,7 +36,7 @@ use Rattle.td_story.proofs.OneOpening.{one_opening}
 use Rattle.td_story.specs.Calls.{SaysValue}
 use Rattle.td_story.specs.Databases.{DatabaseData, IsDatabase, Stored, at_place, stored_relvars}
 use Rattle.td_story.specs.Trees.{AreBases, IsIn, tree_means}
-use Rattle.td_story.specs.declared.answer.Asked.{Asked}
+use Rattle.td_story.specs.declared.answer.Answer.{Answer}
 use Rattle.td_replay.specs.Noted.{IsLegalDatabase, Notes, opened_by}
 use Rattle.td_replay.specs.ForProofs.Going.{catalogue_stays, stays_sound}
 use Rattle.td_replay.specs.ForProofs.Past.{AreAt, AreCopies, FitCopies, FitsCopy, HaveCopies, IsCopyIf, Says, SaysAfter, Types, is_changed, is_changed_in, or_there, over}
@@ -294,7 +294,7 @@ pub one_catalogue : (script : List ℕ) (es fs : List Entry) (log others : Log) 
 one_catalogue script es fs log others d u l m = ap (λ (z : DatabaseData). z.catalogue) (one_opening script None None (opened_by u.catalogue) (opened_by d.catalogue) m.opens l.opens).0
 
 -- ---- what is told anew
-pub says_anew : {E : Type 0} (script : List ℕ) (es : List Entry) (kept : ℕ) (log : Log) (d : DatabaseData) → IsLogged script (take kept es) log d → (x : Expression) (r : Result Asked E) → IfOk r (Says d.catalogue (stored_relvars d.stored) x) → IfOk r (SaysAfter script es kept x)
+pub says_anew : {E : Type 0} (script : List ℕ) (es : List Entry) (kept : ℕ) (log : Log) (d : DatabaseData) → IsLogged script (take kept es) log d → (x : Expression) (r : Result (Answer Datum) E) → IfOk r (Says d.catalogue (stored_relvars d.stored) x) → IfOk r (SaysAfter script es kept x)
 says_anew script es kept log d l x (Ok r) says = record { state = d; outcomes = outcomes_of log; story = logged_story script (take kept es) log d l; says = says }
 says_anew script es kept log d l x (Err e) says = tt
 
@@ -336,7 +336,7 @@ module _ (script : List ℕ) (es : List Entry) (log : Log) (d : DatabaseData) (l
         subst (λ (ns : List ℕ). Contains ns n) (sym read)
         (in_contains (filter (is_changed_in (drop kept log)) (reads x)) n (filter_in (is_changed_in (drop kept log)) (reads x) n (contains_in (reads x) n there) changed))
 
-    pub says_after : (x : Expression) (r : Asked) → IsDatabase d → (text : List ℕ) (t : Types d.catalogue text x) → AreRead x → Says d.catalogue (over copies (stored_relvars d.stored)) x r → SaysAfter script es kept x r
+    pub says_after : (x : Expression) (r : Answer Datum) → IsDatabase d → (text : List ℕ) (t : Types d.catalogue text x) → AreRead x → Says d.catalogue (over copies (stored_relvars d.stored)) x r → SaysAfter script es kept x r
     says_after x r is text t read says =
         let those = reads_those d.catalogue (all_typed d.catalogue is.defined) x t.types.under in
         let agree = λ (n : ℕ) (h : ReadsRelvar d.catalogue.origins x.tree n). sees d is at.state was_sound.0 was_of copies at.copied n
@@ -353,6 +353,6 @@ module _ (script : List ℕ) (es : List Entry) (log : Log) (d : DatabaseData) (l
           says = subst (SaysValue r) there says;
         }
 
-    pub says_back : {E : Type 0} (x : Expression) (r : Result Asked E) → IsDatabase d → (text : List ℕ) (t : Types d.catalogue text x) → AreRead x → IfOk r (Says d.catalogue (over copies (stored_relvars d.stored)) x) → IfOk r (SaysAfter script es kept x)
+    pub says_back : {E : Type 0} (x : Expression) (r : Result (Answer Datum) E) → IsDatabase d → (text : List ℕ) (t : Types d.catalogue text x) → AreRead x → IfOk r (Says d.catalogue (over copies (stored_relvars d.stored)) x) → IfOk r (SaysAfter script es kept x)
     says_back x (Ok r) is text t read says = says_after x r is text t read says
     says_back x (Err e) is text t read says = tt

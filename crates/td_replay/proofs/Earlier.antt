@@ -18,12 +18,13 @@ use Rattle.td_stamps.specs.declared.entry.Stamp.{Stamp}
 use Rattle.td_story.specs.Past.{AsksAt, EndsAt, HasNoPlace, IsQueryOf}
 use Rattle.td_story.specs.Scripts.{IsScriptOf}
 use Rattle.td_story.specs.Seen.{Seen}
-use Rattle.td_story.specs.declared.answer.Asked.{Asked}
+use Rattle.td_story.specs.declared.answer.Answer.{Answer}
 use Rattle.td_story.specs.declared.refusal.AskError.{AskError}
 use Rattle.td_story.specs.declared.refusal.AskError.TheVariants as ask_error
 use Rattle.td_story.proofs.OneOpening.{one_catalogue}
 use Rattle.td_replay.specs.ForProofs.Past.{EndsWith, SaysAfter, TellsQuery, Types, as_past, entry_at}
 use Rattle.td_replay.proofs.Telling.{story_catalogue}
+use Rattle.td_values.specs.Data.{Datum}
 
 -- ---- the entry of a stamp, sought by halves
 -- by index, the earlier comes before the later
@@ -91,7 +92,7 @@ module _ (s : Seen) (c : CatalogueData) (live : s.live ≡ true) (defines : IsSc
         stamp = p.stamp;
       }
 
-      pub asks_at : (r : Asked) → SaysAfter s.script s.entries n x r → AsksAt s text at (Ok r)
+      pub asks_at : (r : Answer Datum) → SaysAfter s.script s.entries n x r → AsksAt s text at (Ok r)
       asks_at r h =
           let is = one_catalogue s.script c h.state.catalogue defines (story_catalogue s.script (take n s.entries) h.outcomes h.state h.story) in (
             take n s.entries,

@@ -15,9 +15,10 @@ use td_eval::{Lookup, value};
 use td_grammar::{ReadError, read_expr};
 use td_headings::{Catalogue, TypedExpr, reads, type_expr};
 use td_kinds::error::TypeError;
+use td_relations::Relation;
 use td_relvars::Database;
 use td_stamps::Entry;
-use td_story::{Answer, AskError, Asked, Failure, MOST_BYTES, Meter, ValueError};
+use td_story::{Answer, AskError, Failure, MOST_BYTES, Meter, ValueError};
 use td_values::Name;
 
 /// The query that the text is, typed.
@@ -49,20 +50,20 @@ fn evaluated<L: Lookup>(
     catalogue: &Catalogue,
     query: &TypedExpr,
     lookup: &L,
-) -> Result<Asked, AllocError>
+) -> Result<Answer, AllocError>
     requires query { IsIn catalogue.now query.now }
     requires bases { AreBases catalogue.now (L.relvars lookup.now) }
     ensures { IfOk result (Says catalogue.now (L.relvars lookup.now) query.now) }
 {
     match value(alloc, catalogue, query, lookup) {
-        Ok(value) => Ok(Asked::Value(value)),
-        Err(Failure::Raised(raise)) => Ok(Asked::Raised(raise)),
+        Ok(value) => Ok(Answer::Value(value)),
+        Err(Failure::Raised(raise)) => Ok(Answer::Raised(raise)),
         Err(Failure::OutOfMemory) => Err(AllocError),
     }
 }
 
 /// What the query means over the relvars.
-pub(crate) fn ask(alloc: Global, database: &Database, text: &str) -> Result<Asked, AskError>
+pub(crate) fn ask(alloc: Global, database: &Database, text: &str) -> Result<Answer, AskError>
     ensures { Answers database.now text.now result }
 {
     let catalogue = database.catalogue();
@@ -83,7 +84,7 @@ pub(crate) fn ask_back(
     told: &Told,
     query: &TypedExpr,
     kept: usize,
-) -> Result<Asked, AllocError>
+) -> Result<Answer, AllocError>
     requires typed { (text : List ℕ) × Types told.now.engine.catalogue text query.now }
     requires logged { (script : List ℕ) × (es : List entry.Entry) × IsLogged script es told.now.log.items told.now.engine × (kept ≤ length es) }
     ensures { (script : List ℕ) (es : List entry.Entry) → IsLogged script es told.now.log.items told.now.engine → kept ≤ length es → IfOk result (SaysAfter script es kept query.now) }
@@ -109,7 +110,7 @@ pub(crate) fn ask_anew(
     query: &TypedExpr,
     kept: usize,
     meter: &mut Meter,
-) -> Result<Asked, AllocError>
+) -> Result<Answer, AllocError>
     requires kept { kept ≤ length entries.now }
     requires typed { (log : Log) × (d : DatabaseData) × IsLogged script.now entries.now log d × (text : List ℕ) × Types d.catalogue text query.now }
     ensures says { IfOk result (SaysAfter script.now entries.now kept query.now) }
@@ -126,7 +127,7 @@ pub(crate) fn value_of(
     alloc: Global,
     database: &Database,
     name: &Name,
-) -> Result<Answer, ValueError>
+) -> Result<Answer<Relation>, ValueError>
     ensures { TellsNamed database.now name.now result }
 {
     match database.value_of(alloc, name) {

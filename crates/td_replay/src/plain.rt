@@ -14,11 +14,11 @@ use crate::told::Way;
 use std::alloc::Global;
 use std::marker::Model;
 use td_changes::{ChangedError, Changes};
-use td_relations::Delta;
+use td_relations::{Delta, Relation};
 use td_stamps::{Entry, Held, Stamp};
 use td_story::{
-    Answer, AskError, Asked, IssueError, Issued, Meter, NotOpen, OpenError, Opens, Outcome,
-    PastError, Replica, TakeError, Taken, TellError, ValueError,
+    Answer, AskError, IssueError, Issued, Meter, NotOpen, OpenError, Opens, Outcome, PastError,
+    Replica, TakeError, Taken, TellError, ValueError,
 };
 use td_values::Name;
 
@@ -66,7 +66,7 @@ impl Replica for PlainSite {
         self.state.take(alloc, batch, Way::Anew, meter)
     }
 
-    fn ask(&self, alloc: Global, text: &str) -> Result<Asked, AskError> {
+    fn ask(&self, alloc: Global, text: &str) -> Result<Answer, AskError> {
         self.state.ask(alloc, text)
     }
 
@@ -76,14 +76,14 @@ impl Replica for PlainSite {
         text: &str,
         at: Stamp,
         meter: &mut Meter,
-    ) -> Result<Asked, PastError>
+    ) -> Result<Answer, PastError>
         ensures asks { AsksAt (always_open self.now) text.now at result }
         ensures meter { meter.new.count ≤ meter.old.count + length self.now.entries }
     {
         self.state.ask_at(alloc, text, at, Way::Anew, meter)
     }
 
-    fn value_of(&self, alloc: Global, name: &Name) -> Result<Answer, ValueError> {
+    fn value_of(&self, alloc: Global, name: &Name) -> Result<Answer<Relation>, ValueError> {
         self.state.value_of(alloc, name)
     }
 

@@ -25,11 +25,11 @@ use std::alloc::Global;
 use std::marker::Model;
 use td_changes::ChangedError;
 use td_grammar::LATEST;
-use td_relations::Delta;
+use td_relations::{Delta, Relation};
 use td_stamps::{Entry, Held, NextError, PrepareError, Stamp};
 use td_story::{
-    Answer, AskError, Asked, IssueError, Issued, MOST_BYTES, MOST_ENTRIES, Meter, OpenError,
-    Outcome, PastError, TakeError, Taken, TellError, ValueError,
+    Answer, AskError, IssueError, Issued, MOST_BYTES, MOST_ENTRIES, Meter, OpenError, Outcome,
+    PastError, TakeError, Taken, TellError, ValueError,
 };
 use td_values::{Name, Text};
 
@@ -263,7 +263,7 @@ impl State {
         })
     }
 
-    pub fn ask(&self, alloc: Global, text: &str) -> Result<Asked, AskError>
+    pub fn ask(&self, alloc: Global, text: &str) -> Result<Answer, AskError>
         ensures { Asks (always_open self.now) text.now result }
     {
         asked::ask(alloc, self.told.engine.database(), text)
@@ -277,7 +277,7 @@ impl State {
         at: Stamp,
         way: Way,
         meter: &mut Meter,
-    ) -> Result<Asked, PastError>
+    ) -> Result<Answer, PastError>
         ensures asks { AsksAt (always_open self.now) text.now at result }
         ensures few { meter.new.count ≤ meter.old.count + length self.now.entries }
         ensures nothing { way ≡ by.Replay → meter.new.count ≡ meter.old.count }
@@ -316,7 +316,7 @@ impl State {
         Ok(self.told.log[kept - 1].1.delta.as_slice())
     }
 
-    pub fn value_of(&self, alloc: Global, name: &Name) -> Result<Answer, ValueError>
+    pub fn value_of(&self, alloc: Global, name: &Name) -> Result<Answer<Relation>, ValueError>
         ensures { TellsValue (always_open self.now) name.now result }
     {
         asked::value_of(alloc, self.told.engine.database(), name)

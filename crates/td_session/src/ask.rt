@@ -9,7 +9,7 @@ use td_notices::raise_words;
 use td_places::Reading;
 use td_relations::Relation;
 use td_stamps::Stamp;
-use td_story::{AskError, Asked, MOST_BYTES, Meter, PastError, Replica};
+use td_story::{AskError, Answer, MOST_BYTES, Meter, PastError, Replica};
 use td_tables::relation_table;
 use td_values::{Kind, Rows, Value, show};
 
@@ -82,10 +82,10 @@ fn not_asked_at(alloc: Global, text: &str, error: PastError) -> Result<String, A
     }
 }
 
-fn answer(alloc: Global, asked: Asked, mode: Mode) -> Result<String, AllocError> {
+fn answer(alloc: Global, asked: Answer, mode: Mode) -> Result<String, AllocError> {
     match asked {
-        Asked::Value(value) => shown(alloc, value, mode),
-        Asked::Raised(raise) => {
+        Answer::Value(value) => shown(alloc, value, mode),
+        Answer::Raised(raise) => {
             let mut out = String::from_str(alloc, raise_words(raise))?;
             out.push_str("\n")?;
             Ok(out)

@@ -67,7 +67,7 @@ fn heading_text(alloc: Global, heading: &Heading) -> Result<String, AllocError> 
 // How many tuples there are, or why that is not told.
 fn count_text<R: Replica>(alloc: Global, site: &R, name: &Name) -> Result<String, AllocError> {
     match site.value_of(alloc, name) {
-        Ok(Answer::Relation(relation)) => {
+        Ok(Answer::Value(relation)) => {
             let count = relation.tuples().len();
             format!(in alloc; "{count}")
         }

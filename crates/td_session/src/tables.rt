@@ -117,7 +117,7 @@ fn table_text<R: Replica>(
     name: &Name,
 ) -> Result<Option<Vec<u8>>, ValueError> {
     let relation: Relation = match site.value_of(alloc, name) {
-        Ok(Answer::Relation(relation)) => relation,
+        Ok(Answer::Value(relation)) => relation,
         Ok(Answer::Raised(_)) => return Ok(None),
         Err(error) => return Err(error),
     };

@@ -9,17 +9,17 @@ use Rattle.td_story.specs.Raises.{stop_of}
 use Rattle.td_story.specs.Trees.{all_relvars}
 use Rattle.td_story.specs.Databases.{DatabaseData, stored_relvars}
 use Rattle.td_story.specs.declared.answer.Answer.{Answer}
-use Rattle.td_story.specs.declared.answer.Answer.TheVariants.{Relation, Raised}
+use Rattle.td_story.specs.declared.answer.Answer.TheVariants.{Value, Raised}
 use Rattle.td_story.specs.declared.error.RelvarError.{RelvarError}
 use Rattle.td_story.specs.declared.error.RelvarError.TheVariants.{Unknown, OutOfMemory}
 
 -- the answer says what is meant
-abbrev pub SaysRelation : Answer → Result RowsData Stop → Type 0
-SaysRelation (Relation r) m = m ≡ Ok r
+abbrev pub SaysRelation : Answer RowsData → Result RowsData Stop → Type 0
+SaysRelation (Value r) m = m ≡ Ok r
 SaysRelation (Raised e) m = m ≡ Err (stop_of e)
 
 -- its relation, or what evaluating it raises; a name that is no relvar's is unknown
-abbrev pub TellsRelvar : DatabaseData → List ℕ → Result Answer RelvarError → Type 0
+abbrev pub TellsRelvar : DatabaseData → List ℕ → Result (Answer RowsData) RelvarError → Type 0
 TellsRelvar d x (Ok a) = (n : ℕ) × (v : Named Header) × (relvar_named d.catalogue.schema x ≡ Some (n, v)) × SaysRelation a (all_relvars d.catalogue (stored_relvars d.stored) n)
 TellsRelvar d x (Err Unknown) = relvar_named d.catalogue.schema x ≡ None
 TellsRelvar d x (Err OutOfMemory) = Unit {0}

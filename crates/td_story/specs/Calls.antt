@@ -33,8 +33,7 @@ use Rattle.td_story.specs.Steps.{IsRead}
 use Rattle.td_story.specs.declared.outcome.Outcome.{Outcome}
 use Rattle.td_story.specs.Seen.{Seen, AreOutcomes, Leaves, with_entries}
 use Rattle.td_story.specs.declared.answer.Issued.{Issued}
-use Rattle.td_story.specs.declared.answer.Asked.{Asked}
-use Rattle.td_story.specs.declared.answer.Asked.TheVariants as asked
+use Rattle.td_story.specs.declared.answer.Answer.TheVariants as answer
 use Rattle.td_story.specs.declared.answer.Taken.{Taken}
 use Rattle.td_story.specs.declared.refusal.AskError.{AskError}
 use Rattle.td_story.specs.declared.refusal.AskError.TheVariants as ask_error
@@ -46,6 +45,7 @@ use Rattle.td_story.specs.declared.refusal.TellError.{TellError}
 use Rattle.td_story.specs.declared.refusal.TellError.TheVariants as tell_error
 use Rattle.td_story.specs.declared.refusal.ValueError.{ValueError}
 use Rattle.td_story.specs.declared.refusal.ValueError.TheVariants as value_error
+use Rattle.td_values.specs.Rows.{RowsData}
 
 -- an open site stays as it was
 abbrev pub Stays : Seen → Seen → Type 0
@@ -131,11 +131,11 @@ Takes s batch (Err take_error.JournalWrite) after = (n : ℕ) × (check_of s.ent
 
 -- ---- ask: what a query means over the relvars that the story leaves
 
-abbrev pub SaysValue : Asked → Result Datum Stop → Type 0
-SaysValue (asked.Value v) m = m ≡ Ok v
-SaysValue (asked.Raised e) m = m ≡ Err (stop_of e)
+abbrev pub SaysValue : Answer Datum → Result Datum Stop → Type 0
+SaysValue (answer.Value v) m = m ≡ Ok v
+SaysValue (answer.Raised e) m = m ≡ Err (stop_of e)
 
-pub record AsksQuery (s : Seen) (text : List ℕ) (r : Asked) : Type 0 where
+pub record AsksQuery (s : Seen) (text : List ℕ) (r : Answer Datum) : Type 0 where
   pub database : DatabaseData
   pub query : Expr
   pub expression : Expression
@@ -152,7 +152,7 @@ pub record IsIllTypedQuery (script text : List ℕ) : Type 0 where
   pub reads : IsQuery text query
   pub refused : (x : Expression) → IsExpression catalogue no_tuple query x → ⊥
 
-abbrev pub Asks : Seen → List ℕ → Result Asked AskError → Type 0
+abbrev pub Asks : Seen → List ℕ → Result (Answer Datum) AskError → Type 0
 Asks s text (Ok r) = AsksQuery s text r
 Asks s text (Err ask_error.Broken) = s.live ≡ false
 Asks s text (Err ask_error.Syntax) = (s.live ≡ true) × ((e : Expr) → IsQuery text e → ⊥)
@@ -161,7 +161,7 @@ Asks s text (Err ask_error.OutOfMemory) = (s.live ≡ true) × (length text ≤ 
 
 -- ---- value_of: what a relvar has after the story
 
-abbrev pub TellsValue : Seen → List ℕ → Result Answer ValueError → Type 0
+abbrev pub TellsValue : Seen → List ℕ → Result (Answer RowsData) ValueError → Type 0
 TellsValue s x (Ok a) = (s.live ≡ true) × (d : DatabaseData) × Leaves s d × TellsRelvar d x (Ok a)
 TellsValue s x (Err value_error.Broken) = s.live ≡ false
 TellsValue s x (Err value_error.Unknown) = (s.live ≡ true) × (d : DatabaseData) × Leaves s d × TellsRelvar d x (Err relvar_error.Unknown)

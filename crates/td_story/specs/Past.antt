@@ -13,9 +13,10 @@ use Rattle.td_stamps.specs.declared.entry.Stamp.{Stamp}
 use Rattle.td_story.specs.Calls.{AsksQuery, IsIllTypedQuery}
 use Rattle.td_story.specs.Scripts.{IsScriptOf}
 use Rattle.td_story.specs.Seen.{Seen, with_entries}
-use Rattle.td_story.specs.declared.answer.Asked.{Asked}
+use Rattle.td_story.specs.declared.answer.Answer.{Answer}
 use Rattle.td_story.specs.declared.refusal.PastError.{PastError}
 use Rattle.td_story.specs.declared.refusal.PastError.TheVariants as past_error
+use Rattle.td_values.specs.Data.{Datum}
 
 -- a front of the entries, whose last one has the stamp
 pub record EndsAt (at : Stamp) (es front : List Entry) : Type 0 where
@@ -40,7 +41,7 @@ abbrev pub HasNoPlace : Stamp → List Entry → Type 0
 HasNoPlace at es = (e : Entry) → Contains es e → stamp_of e ≡ at → ⊥
 
 -- what the query is answered where the site holds the entries up to that of the stamp, and no other
-abbrev pub AsksAt : Seen → List ℕ → Stamp → Result Asked PastError → Type 0
+abbrev pub AsksAt : Seen → List ℕ → Stamp → Result (Answer Datum) PastError → Type 0
 AsksAt s text at (Ok r) = (front : List Entry) × EndsAt at s.entries front × AsksQuery (with_entries s front) text r
 AsksAt s text at (Err past_error.Broken) = s.live ≡ false
 AsksAt s text at (Err past_error.Syntax) = (s.live ≡ true) × ((e : Expr) → IsQuery text e → ⊥)

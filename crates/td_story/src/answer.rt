@@ -1,14 +1,13 @@
 //! What databases and sites answer.
 
 use crate::outcome::Outcome;
-use td_relations::Relation;
 use td_stamps::Stamp;
 use td_values::{Raise, Value};
 
-/// What a relvar has.
+/// What a query is answered; as `Answer<Relation>`, what a relvar has.
 #[derive(Drop)]
-pub enum Answer {
-    Relation(Relation),
+pub enum Answer<T = Value> {
+    Value(T),
     /// Evaluating it raises this error.
     Raised(Raise),
 }
@@ -26,12 +25,4 @@ pub struct Issued {
 pub struct Taken {
     pub fresh: usize,
     pub known: usize,
-}
-
-/// What a query is answered.
-#[derive(Drop)]
-pub enum Asked {
-    Value(Value),
-    /// Evaluating it raises this error.
-    Raised(Raise),
 }

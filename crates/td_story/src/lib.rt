@@ -13,7 +13,7 @@ pub mod outcome;
 pub mod refusal;
 pub mod replica;
 
-pub use answer::{Answer, Asked, Issued, Taken};
+pub use answer::{Answer, Issued, Taken};
 pub use broken::{BrokenTest, TestFailure};
 pub use catalogue::catalogue_of;
 pub use error::{CatalogueError, RelvarError, ScriptError};

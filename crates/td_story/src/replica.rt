@@ -8,13 +8,14 @@ ghost use Rattle.td_story.specs.Seen.{IsSound, Seen, holding};
 ghost use Rattle.td_story.specs.declared.refusal.IssueError.TheVariants as issue_error;
 ghost use Rattle.td_story.specs.declared.refusal.TakeError.TheVariants as take_error;
 
-use crate::answer::{Answer, Asked, Issued, Taken};
+use crate::answer::{Answer, Issued, Taken};
 use crate::meter::Meter;
 use crate::outcome::Outcome;
 use crate::refusal::{
     AskError, IssueError, NotOpen, OpenError, PastError, TakeError, TellError, ValueError,
 };
 use std::alloc::Global;
+use td_relations::Relation;
 use td_stamps::{Entry, Held, Stamp};
 use td_values::Name;
 
@@ -55,7 +56,7 @@ pub trait Replica {
         ensures journaled { journaled self.old → journaled self.new };
 
     /// What a query means over the relvars.
-    fn ask(&self, alloc: Global, text: &str) -> Result<Asked, AskError>
+    fn ask(&self, alloc: Global, text: &str) -> Result<Answer, AskError>
         ensures { Asks (seen self.now) text.now result };
 
     /// What a query means over the relvars as they were just after the entry of this stamp, by what is held now:
@@ -66,11 +67,11 @@ pub trait Replica {
         text: &str,
         at: Stamp,
         meter: &mut Meter,
-    ) -> Result<Asked, PastError>
+    ) -> Result<Answer, PastError>
         ensures asks { AsksAt (seen self.now) text.now at result };
 
     /// What the relvar of this name has, or the error that evaluating it raises.
-    fn value_of(&self, alloc: Global, name: &Name) -> Result<Answer, ValueError>
+    fn value_of(&self, alloc: Global, name: &Name) -> Result<Answer<Relation>, ValueError>
         ensures { TellsValue (seen self.now) name.now result };
 
     /// Each outcome with its stamp, in stamp order.

@@ -19,3 +19,4 @@ pub use programs::run_program;
 pub use run::{Ended, workbench};
 pub use td_answers::{Links, NoLinks};
 pub use td_listings::{export, listing};
+pub use td_sockets::{TcpLinks, accept_on};

@@ -1,9 +1,10 @@
 //! Calls, and what they end in.
 
 use td_meeting::{MeetingError, MeetingRefusal, Met};
+use td_relations::Relation;
 use td_stamps::Stamp;
 use td_story::{
-    Answer, AskError, Asked, IssueError, Issued, Outcome, PastError, TakeError, Taken, TellError,
+    Answer, AskError, IssueError, Issued, Outcome, PastError, TakeError, Taken, TellError,
     ValueError,
 };
 
@@ -51,8 +52,8 @@ pub fn call_named(name: &str) -> Option<Call> {
 pub enum Ended {
     Issued(Issued),
     Taken(Taken),
-    Asked(Asked),
-    Valued(Answer),
+    Asked(Answer),
+    Valued(Answer<Relation>),
     Told(Vec<(Stamp, Outcome)>),
     Sent,
     Met(Met),
@@ -78,7 +79,7 @@ pub fn taken(answer: Result<Taken, TakeError>) -> Ended {
     }
 }
 
-pub fn asked(answer: Result<Asked, AskError>) -> Ended {
+pub fn asked(answer: Result<Answer, AskError>) -> Ended {
     match answer {
         Ok(asked) => Ended::Asked(asked),
         Err(AskError::OutOfMemory) => Ended::OutOfMemory(0),
@@ -86,7 +87,7 @@ pub fn asked(answer: Result<Asked, AskError>) -> Ended {
     }
 }
 
-pub fn asked_at(answer: Result<Asked, PastError>) -> Ended {
+pub fn asked_at(answer: Result<Answer, PastError>) -> Ended {
     match answer {
         Ok(asked) => Ended::Asked(asked),
         Err(PastError::OutOfMemory) => Ended::OutOfMemory(0),
@@ -94,7 +95,7 @@ pub fn asked_at(answer: Result<Asked, PastError>) -> Ended {
     }
 }
 
-pub fn valued(answer: Result<Answer, ValueError>) -> Ended {
+pub fn valued(answer: Result<Answer<Relation>, ValueError>) -> Ended {
     match answer {
         Ok(answer) => Ended::Valued(answer),
         Err(ValueError::OutOfMemory) => Ended::OutOfMemory(0),

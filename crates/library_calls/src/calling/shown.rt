@@ -7,7 +7,7 @@ use td_devices::Device;
 use td_listings::{listing, log_text, show_outcome, show_stamp};
 use td_relations::Relation;
 use td_stamps::Stamp;
-use td_story::{Answer, Asked, Outcome, Replica};
+use td_story::{Answer, Outcome, Replica};
 use td_values::{Kind, Value, show};
 
 /// Tells a site: its number, whether it is open, its listing and its log.
@@ -60,12 +60,12 @@ fn given_text(alloc: Global, ended: Ended) -> Result<String> {
             Ok(format!(in alloc; "fresh {} known {}\n", taken.fresh, taken.known)?)
         }
         Ended::Met(met) => Ok(format!(in alloc; "fresh {} {}\n", met.fresh_a, met.fresh_b)?),
-        Ended::Asked(Asked::Value(value)) => Ok(format!(in alloc; "{}\n", show(alloc, &value)?)?),
-        Ended::Valued(Answer::Relation(relation)) => Ok(format!(in alloc;
+        Ended::Asked(Answer::Value(value)) => Ok(format!(in alloc; "{}\n", show(alloc, &value)?)?),
+        Ended::Valued(Answer::Value(relation)) => Ok(format!(in alloc;
             "{}\n",
             relation_text(alloc, relation)?
         )?),
-        Ended::Asked(Asked::Raised(raise)) | Ended::Valued(Answer::Raised(raise)) => {
+        Ended::Asked(Answer::Raised(raise)) | Ended::Valued(Answer::Raised(raise)) => {
             Ok(format!(in alloc; "raised {raise}\n")?)
         }
         Ended::OutOfMemory(took) => Ok(format!(in alloc; "first took {took}\n")?),

@@ -10,7 +10,7 @@ use Rattle.td_story.specs.Raises.{stop_of}
 use Rattle.td_story.specs.Databases.{DatabaseData}
 use Rattle.td_story.specs.Scripts.{IsScriptOf}
 use Rattle.td_story.specs.declared.answer.Answer.{Answer}
-use Rattle.td_story.specs.declared.answer.Answer.TheVariants.{Relation, Raised}
+use Rattle.td_story.specs.declared.answer.Answer.TheVariants.{Value, Raised}
 use Rattle.td_story.specs.declared.outcome.Outcome.{Outcome}
 use Rattle.td_story.specs.Seen.{Seen, Leaves}
 use Rattle.td_listings.specs.Texts.{reason, relvars_lines, value_at}
@@ -36,16 +36,16 @@ pub record IsRelvarAt (c : CatalogueData) (x : List ℕ) (n : ℕ) : Type 0 wher
   pub named : relvar_named c.schema x ≡ Some (n, relvar)
 
 -- what an answer says
-abbrev pub meant : Answer → Result RowsData Stop
-meant (Relation r) = Ok r
+abbrev pub meant : Answer RowsData → Result RowsData Stop
+meant (Value r) = Ok r
 meant (Raised e) = Err (stop_of e)
 
 -- it is what the relvar at the place has after the story
-abbrev pub IsValueAt : Seen → ℕ → Answer → Type 0
+abbrev pub IsValueAt : Seen → ℕ → Answer RowsData → Type 0
 IsValueAt s n a = (d : DatabaseData) → Leaves s d → value_at d n ≡ meant a
 
 -- it was told after the story
-abbrev pub WasToldAt : Seen → ℕ → Answer → Type 0
+abbrev pub WasToldAt : Seen → ℕ → Answer RowsData → Type 0
 WasToldAt s n a = (d : DatabaseData) × Leaves s d × (value_at d n ≡ meant a)
 
 -- these are the lines of the relvars after the story

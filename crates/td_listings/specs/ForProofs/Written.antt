@@ -25,7 +25,7 @@ pub record IsFound (c : CatalogueData) (x : List ℕ) (n : ℕ) (name : List ℕ
   pub named : relvar_named c.schema x ≡ Some (n, record { name = name; value = h })
   pub same : name ≡ x
 
-abbrev pub Renders : Answer → Result (List ℕ) TableError → Type 0
+abbrev pub Renders : Answer RowsData → Result (List ℕ) TableError → Type 0
 Renders a (Ok text) = (r : RowsData) × (meant a ≡ Ok r) × (text ≡ table_of r)
 Renders a (Err (Raised e)) = meant a ≡ Err (stop_of e)
 Renders a (Err OutOfMemory) = Unit {0}

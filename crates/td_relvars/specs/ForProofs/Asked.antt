@@ -32,7 +32,7 @@ pub record IsNameOf (c : CatalogueData) (n : ℕ) (h : Header) (x : Expression) 
   pub within : IsIn c x
 
 -- what the relvar at the place has, which is there
-abbrev pub TellsAt : DatabaseData → ℕ → Result Answer RelvarError → Type 0
+abbrev pub TellsAt : DatabaseData → ℕ → Result (Answer RowsData) RelvarError → Type 0
 TellsAt d n (Ok a) = SaysRelation a (all_relvars d.catalogue (stored_relvars d.stored) n)
 TellsAt d n (Err Unknown) = ⊥
 TellsAt d n (Err OutOfMemory) = Unit {0}

@@ -1,6 +1,6 @@
 -- What a database is asked.
 use Rattle.std.specs.Prelude.{◌≤◌, ℕ, List, Result, Ok, Err, length}
-use Rattle.td_values.specs.Data.{no_attrs}
+use Rattle.td_values.specs.Data.{Datum, no_attrs}
 use Rattle.td_syntax.specs.declared.tree.Expr.{Expr}
 use Rattle.td_grammar.specs.Grammar.{IsQuery}
 use Rattle.td_trees.specs.declared.expression.Expression.{Expression}
@@ -12,14 +12,14 @@ use Rattle.td_story.specs.Databases.{DatabaseData, stored_relvars}
 use Rattle.td_story.specs.declared.answer.Answer.{Answer}
 use Rattle.td_story.specs.declared.error.RelvarError.TheVariants as relvar_error
 use Rattle.td_story.specs.Calls.{SaysValue}
-use Rattle.td_story.specs.declared.answer.Asked.{Asked}
 use Rattle.td_story.specs.declared.refusal.AskError.{AskError}
 use Rattle.td_story.specs.declared.refusal.AskError.TheVariants as ask_error
 use Rattle.td_story.specs.declared.refusal.ValueError.{ValueError}
 use Rattle.td_story.specs.declared.refusal.ValueError.TheVariants as value_error
+use Rattle.td_values.specs.Rows.{RowsData}
 
 -- the text is this query, and the reply says what it means
-pub record Means (d : DatabaseData) (text : List ℕ) (r : Asked) : Type 0 where
+pub record Means (d : DatabaseData) (text : List ℕ) (r : Answer Datum) : Type 0 where
   pub query : Expr
   pub expression : Expression
   pub reads : IsQuery text query
@@ -32,14 +32,14 @@ pub record IsIllTyped (c : CatalogueData) (text : List ℕ) : Type 0 where
   pub reads : IsQuery text query
   pub refused : (x : Expression) → IsExpression c no_tuple query x → ⊥
 
-abbrev pub Answers : DatabaseData → List ℕ → Result Asked AskError → Type 0
+abbrev pub Answers : DatabaseData → List ℕ → Result (Answer Datum) AskError → Type 0
 Answers d text (Ok r) = Means d text r
 Answers d text (Err ask_error.Broken) = ⊥
 Answers d text (Err ask_error.Syntax) = (e : Expr) → IsQuery text e → ⊥
 Answers d text (Err ask_error.IllTyped) = IsIllTyped d.catalogue text
 Answers d text (Err ask_error.OutOfMemory) = length text ≤ 8192
 
-abbrev pub TellsNamed : DatabaseData → List ℕ → Result Answer ValueError → Type 0
+abbrev pub TellsNamed : DatabaseData → List ℕ → Result (Answer RowsData) ValueError → Type 0
 TellsNamed d x (Ok a) = TellsRelvar d x (Ok a)
 TellsNamed d x (Err value_error.Broken) = ⊥
 TellsNamed d x (Err value_error.Unknown) = TellsRelvar d x (Err relvar_error.Unknown)

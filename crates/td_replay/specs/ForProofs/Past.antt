@@ -1,7 +1,7 @@
 -- Copies of what some base relvars have, while changes are taken back in them.
 use Rattle.std.specs.Prelude.{◌≡◌, ◌==◌, ◌≤◌, ◌+◌, ℕ, Bool, true, false, List, [], drop, length, take, Option, Some, Result, Ok, Err, slice_get}
 use Rattle.std.specs.List.{Contains, list_any}
-use Rattle.td_values.specs.Data.{no_attrs}
+use Rattle.td_values.specs.Data.{Datum, no_attrs}
 use Rattle.td_values.specs.Rows.{RowsData}
 use Rattle.td_relations.specs.Deltas.{DeltaData}
 use Rattle.td_syntax.specs.declared.tree.Expr.{Expr}
@@ -21,7 +21,7 @@ use Rattle.td_story.specs.Calls.{SaysValue}
 use Rattle.td_story.specs.Databases.{DatabaseData, Stored, stored_relvars}
 use Rattle.td_story.specs.Stories.{IsStory}
 use Rattle.td_story.specs.Trees.{tree_means}
-use Rattle.td_story.specs.declared.answer.Asked.{Asked}
+use Rattle.td_story.specs.declared.answer.Answer.{Answer}
 use Rattle.td_story.specs.declared.refusal.AskError.{AskError}
 use Rattle.td_story.specs.declared.refusal.AskError.TheVariants as ask_error
 use Rattle.td_story.specs.declared.refusal.PastError.{PastError}
@@ -83,7 +83,7 @@ pub record Types (c : CatalogueData) (text : List ℕ) (x : Expression) : Type 0
   pub types : IsExpression c no_tuple query x
 
 -- what the query means over these relvars
-abbrev pub Says : CatalogueData → Relvars → Expression → Asked → Type 0
+abbrev pub Says : CatalogueData → Relvars → Expression → Answer Datum → Type 0
 Says c relvars x r = SaysValue r (tree_means c relvars x.tree no_attrs)
 
 -- the query, or why there is none
@@ -95,7 +95,7 @@ TellsQuery c text (Err ask_error.IllTyped) = IsIllTyped c text
 TellsQuery c text (Err ask_error.OutOfMemory) = length text ≤ 8192
 
 -- what it means over what the first entries leave
-pub record SaysAfter (script : List ℕ) (es : List Entry) (n : ℕ) (x : Expression) (r : Asked) : Type 0 where
+pub record SaysAfter (script : List ℕ) (es : List Entry) (n : ℕ) (x : Expression) (r : Answer Datum) : Type 0 where
   pub state : DatabaseData
   pub outcomes : Outcomes
   pub story : IsStory script (take n es) outcomes state

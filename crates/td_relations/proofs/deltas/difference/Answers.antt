@@ -1,6 +1,6 @@
 use Rattle.std.proofs.Common.{sym, ◌∙◌}
 use Rattle.td_relations.proofs.Merging.{difference_apart}
-use Rattle.td_relations.proofs.deltas.Delta.difference.Goals as goal
+use Rattle.td_relations.proofs.deltas.difference.Goals as goal
 
 pub invariant_of-result : goal.invariant_of-result
 invariant_of-result c =
