@@ -9,7 +9,7 @@ use td_assign::{Ran, redo, run, undo};
 use td_constraints::{first_failure, first_failure_after};
 use td_grammar::LATEST;
 use td_relations::Relation;
-use td_relvars::{Database, open_script};
+use td_relvars::Database;
 use td_story::{Answer, BrokenTest, Meter, Outcome, RelvarError, TestFailure};
 use td_values::{Kind, Name, Value, show};
 
@@ -200,7 +200,7 @@ fn done(alloc: Global, database: &mut Database, meter: &mut Meter, task: Task) -
 
 // The same with the database that the script opens.
 fn done_over(alloc: Global, meter: &mut Meter, script: &str, task: Task) -> Result<String> {
-    match open_script(alloc, script) {
+    match Database::open_script(alloc, script) {
         Ok(mut database) => done(alloc, &mut database, meter, task),
         Err(_) => Ok(String::from_str(alloc, "not opened")?),
     }

@@ -5,8 +5,7 @@ use std::fmt::Display;
 use td_relations::Relation;
 use td_stamps::{Stamp, Vector};
 use td_story::{
-    Answer, AskError, IssueError, Issued, Outcome, PastError, Replica, Taken, TellError,
-    ValueError,
+    Answer, AskError, IssueError, Issued, Outcome, PastError, Replica, Taken, TellError, ValueError,
 };
 use td_values::{Kind, Value, show};
 
@@ -71,7 +70,10 @@ fn shown(alloc: Global, relation: Relation) -> Result<String, AllocError> {
     show(alloc, &Value { kind })
 }
 
-pub fn told(alloc: Global, answer: Result<Answer<Relation>, ValueError>) -> Result<String, AllocError> {
+pub fn told(
+    alloc: Global,
+    answer: Result<Answer<Relation>, ValueError>,
+) -> Result<String, AllocError> {
     match answer {
         Ok(Answer::Value(relation)) => shown(alloc, relation),
         Ok(Answer::Raised(raise)) => format!(in alloc; "raised {raise}"),

@@ -11,3 +11,4 @@ pub mod Leading
 pub mod Naming
 pub mod Stepping
 pub mod Turning
+pub mod PartUndone

@@ -16,4 +16,4 @@ pub use changes::Change;
 pub use ran::Ran;
 pub use running::{footprint_of, run};
 pub use td_story::{Meter, Outcome};
-pub use undoing::{redo, undo};
+pub use undoing::{redo, undo, undo_part};

@@ -2,11 +2,12 @@
 
 ghost use Rattle.std.specs.Prelude.{◌≡◌, OnErr, OnOk};
 ghost use Rattle.td_relvars.specs.Changed.{redone, undone};
+ghost use Rattle.td_relvars.specs.Parts.{FitPart, undone_part};
 ghost use Rattle.td_assign.specs.Redoing.{AreOnce, CanRedo, CanUndo, IsBetween};
 
 use std::alloc::{AllocError, Global};
 use td_relations::Delta;
-use td_relvars::Database;
+use td_relvars::{Database, Part};
 
 /// Makes each change where its relvar stands. It costs as `td_relations::apply` of each, however large the relvars are.
 pub fn redo(
@@ -38,6 +39,18 @@ pub fn undo(
 {
     for (relvar, made) in delta {
         database.change_back(alloc, *relvar, made)?;
+    }
+    Ok(())
+}
+
+/// Takes each change back in the copies of its relvar; one of a relvar that is not copied is passed over. It costs as
+/// `undo` of those that are. Where memory is wanting, the part is only to be dropped.
+pub fn undo_part(alloc: Global, part: &mut Part, delta: &[(usize, Delta)]) -> Result<(), AllocError>
+    requires { FitPart part.old delta.now }
+    ensures { OnOk result (part.new ≡ undone_part delta.now part.old) }
+{
+    for (relvar, made) in delta {
+        part.change_back(alloc, *relvar, made)?;
     }
     Ok(())
 }

@@ -7,4 +7,5 @@ pub mod Places
 pub mod Returning
 pub mod Kept
 pub mod Copies
+pub mod PartLemmas
 pub mod Keyed

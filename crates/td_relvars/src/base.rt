@@ -58,6 +58,26 @@ fn change(
 }
 
 // Makes its inverse.
+fn undo(
+    alloc: Global,
+    relation: &mut Relation,
+    by_keys: &mut ByKeys,
+    delta: &Delta,
+) -> Result<(), AllocError>
+    requires heading { delta.now.deleted.heading ≡ relation.old.heading }
+    requires kept { AreOf relation.old by_keys.old }
+    ensures ok { OnOk result (IsApplied relation.old (inverse_of delta.now) relation.new) }
+    ensures err { OnErr result (relation.new ≡ relation.old) }
+    ensures kept { AreOf relation.new by_keys.new }
+{
+    relation.rows_fit();
+    delta.headings_agree();
+    apply_inverse(alloc, relation, delta)?;
+    follow(by_keys, relation.len(), delta.inserted(), delta.deleted());
+    Ok(())
+}
+
+// The same, and counts it as a change.
 fn change_back(
     alloc: Global,
     relation: &mut Relation,
@@ -71,10 +91,7 @@ fn change_back(
     ensures err { OnErr result (relation.new ≡ relation.old) }
     ensures kept { AreOf relation.new by_keys.new }
 {
-    relation.rows_fit();
-    delta.headings_agree();
-    apply_inverse(alloc, relation, delta)?;
-    follow(by_keys, relation.len(), delta.inserted(), delta.deleted());
+    undo(alloc, relation, by_keys, delta)?;
     count(alloc, by_keys, relation, keys);
     Ok(())
 }
@@ -223,6 +240,20 @@ impl Base {
         ensures err { OnErr result (self.new ≡ self.old) }
     {
         change_back(alloc, &mut self.relation, &mut self.by_keys, keys, delta)
+    }
+
+    /// Makes the inverse, in a copy that is only read: no read or change of it is counted.
+    pub(crate) fn change_back_copy(
+        &mut self,
+        alloc: Global,
+        delta: &Delta,
+    ) -> Result<(), AllocError>
+        requires { delta.now.inserted.heading ≡ self.old.heading }
+        ensures ok { OnOk result (self.new ≡ changed self.old (inverse_of delta.now)) }
+        ensures err { OnErr result (self.new ≡ self.old) }
+    {
+        delta.headings_agree();
+        undo(alloc, &mut self.relation, &mut self.by_keys, delta)
     }
 
     /// Makes the inverse of a change that took nothing out. It takes no memory.

@@ -307,22 +307,6 @@ impl Database {
         change_back_at(alloc, &self.catalogue, &mut self.stored, relvar, delta)
     }
 
-    /// Makes it in a copy of what the base relvar at the place has, or had before some changes. Nothing is changed here.
-    pub fn change_back_copy(
-        &self,
-        alloc: Global,
-        relvar: usize,
-        copy: &mut Base,
-        delta: &Delta,
-    ) -> Result<(), AllocError>
-        requires { delta.now.inserted.heading ≡ copy.old.heading }
-        ensures ok { OnOk result (copy.new ≡ changes.changed copy.old (inverse_of delta.now)) }
-        ensures err { OnErr result (copy.new ≡ copy.old) }
-    {
-        delta.headings_agree();
-        copy.change_back(alloc, keys_of(&self.catalogue, relvar), delta)
-    }
-
     /// Makes the inverse of a change that took nothing out. It takes no memory, and costs a search and a shift for each
     /// tuple that was put in.
     pub fn take_back(&mut self, relvar: usize, delta: &Delta)

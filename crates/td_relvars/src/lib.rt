@@ -5,6 +5,7 @@ mod asking;
 pub mod base;
 mod by_keys;
 pub mod database;
+mod evaluation;
 pub mod laws;
 mod opening;
 pub mod parts;
@@ -12,7 +13,7 @@ pub mod ways;
 
 pub use base::Base;
 pub use database::Database;
-pub use opening::open_script;
+pub use evaluation::value_over;
 pub use parts::Part;
 pub use td_story::{Answer, BrokenTest, RelvarError, ScriptError};
 pub use ways::WayBack;

@@ -84,22 +84,24 @@ fn judged(alloc: Global, database: Database) -> Result<Database, ScriptError>
     }
 }
 
-/// The database that the script opens: its types and relvars, each with what it holds at first, where every test is
-/// true. It costs the reading and typing of the text, the evaluation of each INIT, and the tests.
-pub fn open_script(alloc: Global, text: &str) -> Result<Database, ScriptError>
-    ensures opens { Opens text.now result }
-    ensures legal { IfOk result IsLegal }
-{
-    let catalogue = match catalogue_of(alloc, text) {
-        Ok(catalogue) => catalogue,
-        Err(CatalogueError::Syntax) => return Err(ScriptError::Syntax),
-        Err(CatalogueError::IllTyped) => return Err(ScriptError::IllTyped),
-        Err(CatalogueError::OutOfMemory) => return Err(ScriptError::OutOfMemory),
-    };
-    let database = match opened(alloc, catalogue) {
-        Ok(database) => database,
-        Err(Failure::Raised(error)) => return Err(ScriptError::OpeningRaised(error)),
-        Err(Failure::OutOfMemory) => return Err(ScriptError::OutOfMemory),
-    };
-    judged(alloc, database)
+impl Database {
+    /// The database that the script opens: its types and relvars, each with what it holds at first, where every test is
+    /// true. It costs the reading and typing of the text, the evaluation of each INIT, and the tests.
+    pub fn open_script(alloc: Global, text: &str) -> Result<Database, ScriptError>
+        ensures opens { Opens text.now result }
+        ensures legal { IfOk result IsLegal }
+    {
+        let catalogue = match catalogue_of(alloc, text) {
+            Ok(catalogue) => catalogue,
+            Err(CatalogueError::Syntax) => return Err(ScriptError::Syntax),
+            Err(CatalogueError::IllTyped) => return Err(ScriptError::IllTyped),
+            Err(CatalogueError::OutOfMemory) => return Err(ScriptError::OutOfMemory),
+        };
+        let database = match opened(alloc, catalogue) {
+            Ok(database) => database,
+            Err(Failure::Raised(error)) => return Err(ScriptError::OpeningRaised(error)),
+            Err(Failure::OutOfMemory) => return Err(ScriptError::OutOfMemory),
+        };
+        judged(alloc, database)
+    }
 }

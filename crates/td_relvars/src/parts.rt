@@ -1,16 +1,21 @@
 //! Copies of what some relvars have, and their way back.
 
-ghost use Rattle.std.specs.Prelude.{◌≡◌, ℕ, IfOk};
-ghost use Rattle.std.specs.List.{All};
+ghost use Rattle.std.specs.Prelude.{◌≡◌, ℕ, IfOk, OnOk};
+ghost use Rattle.std.specs.List.{All, Contains};
+ghost use Rattle.std.specs.Option.{option_copied};
 ghost use Rattle.td_values.specs.Rows.{RowsData};
+ghost use Rattle.td_relations.specs.Deltas.{inverse_of};
 ghost use Rattle.td_story.specs.Databases.{Belongs, stored_at};
 ghost use Rattle.td_relvars.specs.Parts as spec;
-ghost use Rattle.td_relvars.specs.Parts.{part_of, put_part};
+ghost use Rattle.td_relvars.specs.Parts.{FitsPart, change_part, changed_if, part_at, part_of, put_part};
 
 use crate::base::Base;
 use crate::database::Database;
 use std::alloc::{AllocError, Global};
 use std::marker::Model;
+use td_headings::Catalogue;
+use td_relations::Delta;
+use td_values::Name;
 
 /// What some base relvars had, by their places.
 #[derive(Drop)]
@@ -30,33 +35,162 @@ impl Model for Part {
     ghost view = { λ p. p.bases.items };
 }
 
+// Takes the change of a relvar back in the copy, where it is one of that relvar.
+fn change_back_copy(
+    alloc: Global,
+    copy: &mut (usize, Base),
+    relvar: usize,
+    delta: &Delta,
+) -> Result<(), AllocError>
+    requires { copy.old.0 ≡ relvar → delta.now.inserted.heading ≡ copy.old.1.heading }
+    ensures { OnOk result (copy.new ≡ changed_if relvar (inverse_of delta.now) copy.old) }
+{
+    if copy.0 == relvar {
+        copy.1.change_back_copy(alloc, delta)?;
+    }
+    Ok(())
+}
+
+// The same in each of the copies.
+fn change_back_copies(
+    alloc: Global,
+    bases: &mut Vec<(usize, Base)>,
+    relvar: usize,
+    delta: &Delta,
+) -> Result<(), AllocError>
+    requires { FitsPart bases.old.items (relvar, delta.now) }
+    ensures { OnOk result (bases.new.items ≡ change_part relvar (inverse_of delta.now) bases.old.items) }
+{
+    for at in 0..bases.len() {
+        change_back_copy(alloc, &mut bases[at], relvar, delta)?;
+    }
+    Ok(())
+}
+
+impl Part {
+    /// What the base relvar at the place had, where it is copied. It takes no memory, and costs a look at each copy.
+    pub fn base_at(&self, relvar: usize) -> Option<&Base>
+        ensures { option_copied result ≡ part_at self.now relvar }
+    {
+        match self.bases.iter().find(|copy| copy.0 == relvar) {
+            Some(copy) => Some(&copy.1),
+            None => None,
+        }
+    }
+
+    /// Takes the change of the relvar at the place back in each copy of it; where none is copied, nothing is done.
+    /// Where memory is wanting, the part is only to be dropped.
+    pub fn change_back(
+        &mut self,
+        alloc: Global,
+        relvar: usize,
+        delta: &Delta,
+    ) -> Result<(), AllocError>
+        requires { FitsPart self.old (relvar, delta.now) }
+        ensures { OnOk result (self.new ≡ change_part relvar (inverse_of delta.now) self.old) }
+    {
+        change_back_copies(alloc, &mut self.bases, relvar, delta)
+    }
+}
+
+/// What is copied of a base relvar: its relation alone, or also its tuples by the keys by which they are kept.
+#[derive(Clone, Copy)]
+enum Copied {
+    Relation,
+    WithKeys,
+}
+
+fn copy_base(alloc: Global, base: &Base, copied: Copied) -> Result<Base, AllocError>
+    ensures { IfOk result (λ b. b ≡ base.now) }
+{
+    match copied {
+        Copied::Relation => base.copy(alloc),
+        Copied::WithKeys => base.copy_with_keys(alloc),
+    }
+}
+
 // What the relvar at the place has, if something is stored there.
 fn copy_at(
     alloc: Global,
     database: &Database,
     relvar: usize,
+    copied: Copied,
 ) -> Result<Option<(usize, Base)>, AllocError>
     ensures { IfOk result (λ o. o ≡ spec.copy_of relvar (stored_at database.now relvar)) }
 {
     match database.base_at(relvar) {
-        Some(base) => Ok(Some((relvar, base.copy(alloc)?))),
+        Some(base) => Ok(Some((relvar, copy_base(alloc, base, copied)?))),
         None => Ok(None),
     }
 }
 
+// What the relvars at these places have.
+fn copies_at(
+    alloc: Global,
+    database: &Database,
+    relvars: &[usize],
+    copied: Copied,
+) -> Result<Vec<(usize, Base)>, AllocError>
+    ensures { IfOk result (λ v. v.items ≡ part_of database.now.stored relvars.now) }
+{
+    let mut bases = Vec::new(alloc);
+    for relvar in relvars {
+        if let Some(copy) = copy_at(alloc, database, *relvar, copied)? {
+            bases.push(copy)?;
+        }
+    }
+    Ok(bases)
+}
+
+// Where the relvar of this name stands, if there is one.
+fn place_named(catalogue: &Catalogue, name: &Name) -> Option<usize>
+    ensures { result ≡ spec.place_named catalogue.now.schema name.now }
+{
+    match catalogue.relvar(name) {
+        Some((place, _)) => Some(place),
+        None => None,
+    }
+}
+
+// Where the relvars of these names stand.
+fn places_of(alloc: Global, catalogue: &Catalogue, names: &[Name]) -> Result<Vec<usize>, AllocError>
+    ensures { IfOk result (λ v. v.items ≡ spec.places_of catalogue.now.schema names.now) }
+{
+    let mut places = Vec::with_capacity(alloc, names.len())?;
+    for name in names {
+        if let Some(place) = place_named(catalogue, name) {
+            places.push(place)?;
+        }
+    }
+    Ok(places)
+}
+
 impl Database {
-    /// Copies of what the base relvars at these places have, whose tuples are shared. A place where nothing is stored
-    /// is passed over, and one that comes twice is copied twice.
-    pub fn copy_of(&self, alloc: Global, relvars: &[usize]) -> Result<Part, AllocError>
+    /// Copies of what the base relvars of these names have, whose tuples are shared, with their tuples by the keys by
+    /// which they are kept. A name of no base relvar is passed over, and one that comes twice is copied twice.
+    pub fn copy_of(&self, alloc: Global, names: &[Name]) -> Result<Part, AllocError>
+        ensures { IfOk result (λ p. p ≡ part_of self.now.stored (spec.places_of self.now.catalogue.schema names.now)) }
+    {
+        let places = places_of(alloc, self.catalogue(), names)?;
+        self.copy_with_keys_at(alloc, &places)
+    }
+
+    /// The same of the base relvars at these places.
+    pub fn copy_with_keys_at(&self, alloc: Global, relvars: &[usize]) -> Result<Part, AllocError>
         ensures { IfOk result (λ p. p ≡ part_of self.now.stored relvars.now) }
     {
-        let mut bases = Vec::new(alloc);
-        for relvar in relvars {
-            if let Some(copy) = copy_at(alloc, self, *relvar)? {
-                bases.push(copy)?;
-            }
-        }
-        Ok(Part { bases })
+        Ok(Part {
+            bases: copies_at(alloc, self, relvars, Copied::WithKeys)?,
+        })
+    }
+
+    /// The same, but for their tuples by keys: a list of shared tuples for each relvar.
+    pub fn copy_at(&self, alloc: Global, relvars: &[usize]) -> Result<Part, AllocError>
+        ensures { IfOk result (λ p. p ≡ part_of self.now.stored relvars.now) }
+    {
+        Ok(Part {
+            bases: copies_at(alloc, self, relvars, Copied::Relation)?,
+        })
     }
 
     /// Puts them back, in place of what these relvars have. It takes no memory.

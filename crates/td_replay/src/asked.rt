@@ -3,22 +3,20 @@
 ghost use Rattle.std.specs.Prelude.{◌≡◌, ◌≤◌, ◌+◌, ℕ, List, IfOk, length};
 ghost use Rattle.td_stamps.specs.declared.entry.Entry as entry;
 ghost use Rattle.td_story.specs.Databases.{DatabaseData};
-ghost use Rattle.td_story.specs.Trees.{AreBases, IsIn};
 ghost use Rattle.td_replay.specs.ForProofs.Asked.{Answers, TellsNamed};
-ghost use Rattle.td_replay.specs.ForProofs.Past.{Says, SaysAfter, TellsQuery, Types};
+ghost use Rattle.td_replay.specs.ForProofs.Past.{SaysAfter, TellsQuery, Types};
 ghost use Rattle.td_replay.specs.ForProofs.Told.{IsLogged, Log};
 
-use crate::past::{Past, changed_in, copied, undo_behind};
+use crate::past::{changed_in, undo_behind};
 use crate::told::{Told, tell_all};
 use std::alloc::{AllocError, Global};
-use td_eval::{Lookup, value};
 use td_grammar::{ReadError, read_expr};
 use td_headings::{Catalogue, TypedExpr, reads, type_expr};
 use td_kinds::error::TypeError;
 use td_relations::Relation;
-use td_relvars::Database;
+use td_relvars::{Database, value_over};
 use td_stamps::Entry;
-use td_story::{Answer, AskError, Failure, MOST_BYTES, Meter, ValueError};
+use td_story::{Answer, AskError, MOST_BYTES, Meter, ValueError};
 use td_values::Name;
 
 /// The query that the text is, typed.
@@ -44,24 +42,6 @@ pub(crate) fn query_of(
     }
 }
 
-// What the query means over these relvars.
-fn evaluated<L: Lookup>(
-    alloc: Global,
-    catalogue: &Catalogue,
-    query: &TypedExpr,
-    lookup: &L,
-) -> Result<Answer, AllocError>
-    requires query { IsIn catalogue.now query.now }
-    requires bases { AreBases catalogue.now (L.relvars lookup.now) }
-    ensures { IfOk result (Says catalogue.now (L.relvars lookup.now) query.now) }
-{
-    match value(alloc, catalogue, query, lookup) {
-        Ok(value) => Ok(Answer::Value(value)),
-        Err(Failure::Raised(raise)) => Ok(Answer::Raised(raise)),
-        Err(Failure::OutOfMemory) => Err(AllocError),
-    }
-}
-
 /// What the query means over the relvars.
 pub(crate) fn ask(alloc: Global, database: &Database, text: &str) -> Result<Answer, AskError>
     ensures { Answers database.now text.now result }
@@ -71,7 +51,7 @@ pub(crate) fn ask(alloc: Global, database: &Database, text: &str) -> Result<Answ
         Ok(query) => query,
         Err(error) => return Err(error),
     };
-    match evaluated(alloc, catalogue, &query, database) {
+    match database.evaluate(alloc, &query) {
         Ok(asked) => Ok(asked),
         Err(_) => Err(AskError::OutOfMemory),
     }
@@ -93,13 +73,9 @@ pub(crate) fn ask_back(
     let relvars = reads(alloc, query)?;
     let (_, behind) = told.log.split_at(kept);
     let places = changed_in(alloc, behind, &relvars)?;
-    let mut copies = copied(alloc, database, &places)?;
-    undo_behind(alloc, database, &mut copies, &told.log, kept)?;
-    let past = Past {
-        database,
-        copies: &copies,
-    };
-    evaluated(alloc, database.catalogue(), query, &past)
+    let mut part = database.copy_with_keys_at(alloc, &places)?;
+    undo_behind(alloc, &mut part, &told.log, kept)?;
+    value_over(alloc, database, &part, query)
 }
 
 /// The same, by running the first entries anew.
@@ -118,8 +94,7 @@ pub(crate) fn ask_anew(
 {
     let (front, _) = entries.split_at(kept);
     let told = tell_all(alloc, script, front, meter)?;
-    let database = told.engine.database();
-    evaluated(alloc, database.catalogue(), query, database)
+    told.engine.database().evaluate(alloc, query)
 }
 
 /// What the relvar of this name has.

@@ -129,7 +129,7 @@ impl Machine for Engine {
     }
 
     fn save(&self, alloc: Global, places: &[usize]) -> Result<Part, AllocError> {
-        self.database.copy_of(alloc, places)
+        self.database.copy_at(alloc, places)
     }
 
     fn put_back(&mut self, part: Part) {

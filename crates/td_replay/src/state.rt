@@ -122,13 +122,13 @@ impl State {
         if limit == 0 || limit > MOST_ENTRIES {
             return Err(OpenError::BadLimit);
         }
-        let database = match td_relvars::open_script(alloc, script) {
+        let database = match Database::open_script(alloc, script) {
             Ok(database) => database,
-            Err(error) => return Err(OpenError::Script(error)),
+            Err(error) => return Err(OpenError::from(error)),
         };
         let script = match Text::from_str(alloc, script) {
             Ok(script) => script,
-            Err(_) => return Err(OpenError::Script(td_story::ScriptError::OutOfMemory)),
+            Err(_) => return Err(OpenError::OutOfMemory),
         };
         Ok(State {
             script,

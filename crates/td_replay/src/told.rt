@@ -15,7 +15,7 @@ ghost use Rattle.td_replay.specs.ForProofs.Told.{HoldsNext, IsAccepted, IsLogged
 use crate::engine::Engine;
 use std::alloc::{AllocError, Global};
 use td_assign::Ran;
-use td_relvars::{Database, open_script};
+use td_relvars::Database;
 use td_rollback::{Machine, retell};
 use td_stamps::{Entry, Held, Stamp};
 use td_story::{Meter, Outcome, ScriptError};
@@ -159,7 +159,7 @@ fn opening(alloc: Global, script: &str) -> Result<Database, AllocError>
     ensures opens { IfOk result (OpensOn script.now None) }
     ensures legal { IfOk result IsLegal }
 {
-    match open_script(alloc, script) {
+    match Database::open_script(alloc, script) {
         Ok(database) => Ok(database),
         Err(error) => match error {
             ScriptError::OutOfMemory => Err(AllocError),

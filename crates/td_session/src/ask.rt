@@ -9,7 +9,7 @@ use td_notices::raise_words;
 use td_places::Reading;
 use td_relations::Relation;
 use td_stamps::Stamp;
-use td_story::{AskError, Answer, MOST_BYTES, Meter, PastError, Replica};
+use td_story::{Answer, AskError, MOST_BYTES, Meter, PastError, Replica};
 use td_tables::relation_table;
 use td_values::{Kind, Rows, Value, show};
 

@@ -11,7 +11,7 @@ use td_headings::{Catalogue, Origin};
 use td_imports::{ImportFault, Literals, Row, check_keys, insertion_of, read_rows};
 use td_listings::show_stamp;
 use td_stamps::Stamp;
-use td_story::{AskError, Answer, Issued, MOST_BYTES, Meter, Outcome, Replica};
+use td_story::{Answer, AskError, Issued, MOST_BYTES, Meter, Outcome, Replica};
 use td_values::{Heading, Name, TdType, Value, show, show_type};
 
 // From how many rows on it is told how far an import is, and after how many each time.

@@ -6,7 +6,7 @@ use std::str;
 use td_inputs::script_front;
 use td_notices::raise_words;
 use td_places::Reading;
-use td_story::{BrokenTest, OpenError, SCRIPT_BYTES, ScriptError};
+use td_story::{BrokenTest, OpenError, SCRIPT_BYTES};
 
 /// A script, and the lines behind its `.begin`.
 #[derive(Drop)]
@@ -75,42 +75,30 @@ fn broken_words(alloc: Global, broken: &BrokenTest) -> Result<String, AllocError
     }
 }
 
-fn refused_words(alloc: Global, script: &str, error: &ScriptError) -> Result<String, AllocError> {
-    match error {
-        ScriptError::Syntax => fault_text(
-            alloc,
-            "fault script syntax: the script is no list of definitions\n",
-            Reading::Script,
-            script,
-        ),
-        ScriptError::IllTyped => String::from_str(
-            alloc,
-            "fault script type: a definition names what is not defined before it, or its types do not fit\n",
-        ),
-        ScriptError::OpeningRaised(raise) => {
-            let words = raise_words(*raise);
-            format!(in alloc; "fault script raised: what a relvar is to hold at first {words}\n")
-        }
-        ScriptError::OpeningBroken(broken) => broken_words(alloc, broken),
-        ScriptError::OutOfMemory => String::from_str(alloc, no_script_words(NoScript::OutOfMemory)),
-    }
-}
-
 /// Why a script opens no site, in words.
 pub fn unopened_words(
     alloc: Global,
     script: &str,
     error: &OpenError,
 ) -> Result<String, AllocError> {
-    match error {
-        OpenError::Script(error) => refused_words(alloc, script, error),
-        OpenError::BadSite => String::from_str(
-            alloc,
-            "fault site: a site's number is 1 to 65535\n",
-        ),
-        OpenError::BadLimit => String::from_str(
-            alloc,
-            "fault limit: a site's limit is 1 to 100000\n",
-        ),
-    }
+    let words = match error {
+        OpenError::Syntax => {
+            let words = "fault script syntax: the script is no list of definitions\n";
+            return fault_text(alloc, words, Reading::Script, script);
+        }
+        OpenError::OpeningRaised(raise) => {
+            let words = raise_words(*raise);
+            return format!(in alloc;
+                "fault script raised: what a relvar is to hold at first {words}\n"
+            );
+        }
+        OpenError::OpeningBroken(broken) => return broken_words(alloc, broken),
+        OpenError::IllTyped => {
+            "fault script type: a definition names what is not defined before it, or its types do not fit\n"
+        }
+        OpenError::BadSite => "fault site: a site's number is 1 to 65535\n",
+        OpenError::BadLimit => "fault limit: a site's limit is 1 to 100000\n",
+        OpenError::OutOfMemory => no_script_words(NoScript::OutOfMemory),
+    };
+    String::from_str(alloc, words)
 }

@@ -4,7 +4,8 @@ use Rattle.td_story.specs.Databases.{DatabaseData}
 use Rattle.td_story.specs.Scripts as scripts
 use Rattle.td_story.specs.Seen.{Seen, is_limit}
 use Rattle.td_story.specs.declared.refusal.OpenError.{OpenError}
-use Rattle.td_story.specs.declared.refusal.OpenError.TheVariants.{BadSite, BadLimit, Script}
+use Rattle.td_story.specs.declared.error.ScriptError.TheVariants as script_error
+use Rattle.td_story.specs.declared.refusal.OpenError.TheVariants.{BadSite, BadLimit, Syntax, IllTyped, OpeningRaised, OpeningBroken, OutOfMemory}
 
 abbrev pub opened : List ℕ → ℕ → ℕ → Seen
 opened script site limit = record { script = script; site = site; limit = limit; entries = []; live = true }
@@ -18,4 +19,8 @@ abbrev pub OpensSite : List ℕ → ℕ → ℕ → Result Seen OpenError → Ty
 OpensSite script site limit (Ok s) = Fit site limit × (d : DatabaseData) × scripts.OpensOn script None d × (s ≡ opened script site limit)
 OpensSite script site limit (Err BadSite) = site ≡ 0
 OpensSite script site limit (Err BadLimit) = (site ≡ 0 → ⊥) × (is_limit limit ≡ false)
-OpensSite script site limit (Err (Script e)) = Fit site limit × scripts.Opens script (Err e)
+OpensSite script site limit (Err Syntax) = Fit site limit × scripts.Opens script (Err script_error.Syntax)
+OpensSite script site limit (Err IllTyped) = Fit site limit × scripts.Opens script (Err script_error.IllTyped)
+OpensSite script site limit (Err (OpeningRaised e)) = Fit site limit × scripts.Opens script (Err (script_error.OpeningRaised e))
+OpensSite script site limit (Err (OpeningBroken b)) = Fit site limit × scripts.Opens script (Err (script_error.OpeningBroken b))
+OpensSite script site limit (Err OutOfMemory) = Fit site limit × scripts.Opens script (Err script_error.OutOfMemory)

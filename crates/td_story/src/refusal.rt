@@ -1,6 +1,12 @@
 //! Why calls are refused: each error's variants stand in the order in which their causes are judged.
 
+ghost use Rattle.std.specs.Prelude.{ℕ, List, Err};
+ghost use Rattle.td_story.specs.NewSites.{Fit, OpensSite};
+ghost use Rattle.td_story.specs.Scripts.{Opens};
+
+use crate::broken::BrokenTest;
 use crate::error::ScriptError;
+use td_values::Raise;
 use thiserror::Error;
 
 /// Why a site is not opened.
@@ -10,9 +16,33 @@ pub enum OpenError {
     BadSite,
     #[error("a limit is 1 to 100,000")]
     BadLimit,
-    /// What the script is refused for.
-    #[error("{0}")]
-    Script(ScriptError),
+    #[error("the text is no script")]
+    Syntax,
+    #[error("a definition is ill typed")]
+    IllTyped,
+    /// What a relvar is to hold at first raises this error.
+    #[error("what a relvar is to hold at first raises: {0}")]
+    OpeningRaised(Raise),
+    /// This test is the first that is false of the opening relvars, or raises.
+    #[error("{0} is not true of the opening relvars")]
+    OpeningBroken(BrokenTest),
+    #[error("out of memory")]
+    OutOfMemory,
+}
+
+/// As its script is refused.
+impl From<ScriptError> for OpenError {
+    ghost from_gives = { λ e refused. (script : List ℕ) (site limit : ℕ) → Fit site limit → Opens script (Err e) → OpensSite script site limit (Err refused) };
+
+    fn from(error: ScriptError) -> OpenError {
+        match error {
+            ScriptError::Syntax => OpenError::Syntax,
+            ScriptError::IllTyped => OpenError::IllTyped,
+            ScriptError::OpeningRaised(raise) => OpenError::OpeningRaised(raise),
+            ScriptError::OpeningBroken(broken) => OpenError::OpeningBroken(broken),
+            ScriptError::OutOfMemory => OpenError::OutOfMemory,
+        }
+    }
 }
 
 /// Why a statement is not issued.

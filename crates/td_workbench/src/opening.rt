@@ -52,7 +52,11 @@ fn open_site<R: Opens + Drop>(
 {
     match R::open_script(alloc, script, site, limit) {
         Ok(site) => Ok(site),
-        Err(OpenError::Script(e)) => Err(e),
+        Err(OpenError::Syntax) => Err(ScriptError::Syntax),
+        Err(OpenError::IllTyped) => Err(ScriptError::IllTyped),
+        Err(OpenError::OpeningRaised(raise)) => Err(ScriptError::OpeningRaised(raise)),
+        Err(OpenError::OpeningBroken(test)) => Err(ScriptError::OpeningBroken(test)),
+        Err(OpenError::OutOfMemory) => Err(ScriptError::OutOfMemory),
         Err(OpenError::BadSite) => unreachable!(),
         Err(OpenError::BadLimit) => unreachable!(),
     }

@@ -6,7 +6,7 @@ use super::shown::{tell_journal, tell_site};
 use anyhow::{Result, bail};
 use td_devices::Device;
 use td_journal::{Keeper, ReopenError, Reopened, reopen};
-use td_story::{Meter, OpenError, Opens, Replica, ScriptError};
+use td_story::{Meter, OpenError, Opens, Replica};
 
 /// Begins the site's journal, which takes no memory.
 pub fn start_of<R: Replica + Drop>(rt: &HostRuntime, site: R) -> Result<()> {
@@ -30,7 +30,7 @@ pub fn start_of<R: Replica + Drop>(rt: &HostRuntime, site: R) -> Result<()> {
 fn is_wanting(error: &ReopenError) -> bool {
     matches!(
         error,
-        ReopenError::OutOfMemory | ReopenError::Open(OpenError::Script(ScriptError::OutOfMemory))
+        ReopenError::OutOfMemory | ReopenError::Open(OpenError::OutOfMemory)
     )
 }
 

@@ -113,7 +113,7 @@ fn refused(alloc: Global, error: OpenError) -> Result<String, AllocError> {
     let text = match error {
         OpenError::BadSite => "bad site",
         OpenError::BadLimit => "bad limit",
-        OpenError::Script(_) => "bad script",
+        _ => "bad script",
     };
     String::from_str(alloc, text)
 }

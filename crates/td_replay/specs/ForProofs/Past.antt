@@ -17,10 +17,10 @@ use Rattle.td_stamps.specs.declared.entry.Entry.{Entry}
 use Rattle.td_stamps.specs.Entries.{stamp_of}
 use Rattle.td_stamps.specs.declared.entry.Stamp.{Stamp}
 use Rattle.td_stamps.specs.Story.{Story}
-use Rattle.td_story.specs.Calls.{SaysValue}
-use Rattle.td_story.specs.Databases.{DatabaseData, Stored, stored_relvars}
+use Rattle.td_story.specs.Databases.{DatabaseData, stored_relvars}
+use Rattle.td_relvars.specs.Evaluated.{Says}
+use Rattle.td_relvars.specs.Parts.{AreCopies, Copies}
 use Rattle.td_story.specs.Stories.{IsStory}
-use Rattle.td_story.specs.Trees.{tree_means}
 use Rattle.td_story.specs.declared.answer.Answer.{Answer}
 use Rattle.td_story.specs.declared.refusal.AskError.{AskError}
 use Rattle.td_story.specs.declared.refusal.AskError.TheVariants as ask_error
@@ -30,34 +30,9 @@ use Rattle.td_replay.specs.Noted.{Notes}
 use Rattle.td_replay.specs.ForProofs.Asked.{IsIllTyped}
 use Rattle.td_replay.specs.ForProofs.Told.{Log, Outcomes}
 
--- a copy, where there is one, or what is there
-abbrev pub or_there : Result RowsData Stop → Result RowsData Stop → Result RowsData Stop
-or_there (Ok r) there = Ok r
-or_there (Err e) there = there
-
--- what relvars have, some of them by their copies
-abbrev pub over : Stored → Relvars → Relvars
-over copies there n = or_there (stored_relvars copies n) (there n)
-
--- each copy is of what is stored
-abbrev pub AreCopies : Stored → Stored → Type 0
-AreCopies copies stored = (n : ℕ) (r : RowsData) → stored_relvars copies n ≡ Ok r → stored_relvars stored n ≡ Ok r
-
--- and each of these base relvars has one
-abbrev pub HaveCopies : CatalogueData → List ℕ → Stored → Type 0
-HaveCopies c places copies = (n : ℕ) → Contains places n → is_base (slice_get c.origins n) ≡ true → (r : RowsData) × (stored_relvars copies n ≡ Ok r)
-
--- what a copy is of, where there is one: of a place that is listed what is stored
-pub record IsCopyIf (places : List ℕ) (stored : Stored) (n : ℕ) (o : Option RowsData) : Type 0 where
-  pub same : (r : RowsData) → o ≡ Some r → stored_relvars stored n ≡ Ok r
-  pub there : Contains places n → (r : RowsData) → stored_relvars stored n ≡ Ok r → o ≡ Some r
-
--- the change is of the copy's heading, if there is one
-abbrev pub FitsCopy : Stored → ℕ × DeltaData → Type 0
-FitsCopy copies p = (r : RowsData) → stored_relvars copies p.0 ≡ Ok r → p.1.inserted.heading ≡ r.heading
-
-abbrev pub FitCopies : Stored → List (ℕ × DeltaData) → Type 0
-FitCopies copies ds = (p : ℕ × DeltaData) → Contains ds p → FitsCopy copies p
+-- each of these base relvars has a copy
+abbrev pub HaveCopies : CatalogueData → List ℕ → Copies → Type 0
+HaveCopies c places copies = (n : ℕ) → Contains places n → is_base (slice_get c.origins n) ≡ true → (r : RowsData) × Contains copies (n, r)
 
 -- the changes have one of what is at the place
 abbrev pub is_changed : List (ℕ × DeltaData) → ℕ → Bool
@@ -69,7 +44,7 @@ is_changed_in log n = list_any (λ (p : Stamp × Ran). is_changed p.1.delta.item
 
 -- the copies of these relvars are of what they had at the end of the first n entries; what the others did not change is
 -- as it is now
-pub record AreAt (o now : DatabaseData) (es : List Entry) (log : Log) (places : List ℕ) (n : ℕ) (copies : Stored) : Type 0 where
+pub record AreAt (o now : DatabaseData) (es : List Entry) (log : Log) (places : List ℕ) (n : ℕ) (copies : Copies) : Type 0 where
   pub state : DatabaseData
   pub story : Story Notes o (take n es) (take n log) state
   pub copied : AreCopies copies state.stored
@@ -81,10 +56,6 @@ pub record Types (c : CatalogueData) (text : List ℕ) (x : Expression) : Type 0
   pub query : Expr
   pub reads : IsQuery text query
   pub types : IsExpression c no_tuple query x
-
--- what the query means over these relvars
-abbrev pub Says : CatalogueData → Relvars → Expression → Answer Datum → Type 0
-Says c relvars x r = SaysValue r (tree_means c relvars x.tree no_attrs)
 
 -- the query, or why there is none
 abbrev pub TellsQuery : CatalogueData → List ℕ → Result Expression AskError → Type 0

@@ -3,16 +3,16 @@ use Rattle.td_headings.specs.Catalogues.{CatalogueData}
 use Rattle.td_stamps.specs.declared.entry.Entry.{Entry}
 use Rattle.td_story.specs.Databases.{DatabaseData, stored_relvars}
 use Rattle.td_story.specs.Trees.{IsIn}
-use Rattle.td_replay.specs.ForProofs.Past.{Says}
+use Rattle.td_relvars.specs.Evaluated.{Says}
 use Rattle.td_replay.specs.ForProofs.Told.{IsLogged}
 use Rattle.td_replay.proofs.Copies.{one_catalogue, query_in, says_anew}
 use Rattle.td_replay.proofs.asked.ask_anew.Goals as goal
 
-pub evaluated-requires-clause-query : goal.evaluated-requires-clause-query
-evaluated-requires-clause-query c =
+pub evaluate-requires : goal.evaluate-requires
+evaluate-requires c =
     let q = c.requires.typed in
     let told = c.in_ok-told.told in
-    let is = c.catalogue.ensures.same ∙ ap (λ (d : DatabaseData). d.catalogue) c.database-database.ensures.same
+    let is = ap (λ (d : DatabaseData). d.catalogue) c.database.ensures.same
     ∙ one_catalogue c.args.script.now c.args.entries.now c.split_at.result.0.now q.0 told.log.items q.1 told.engine q.2 c.in_ok-told.ensures.told in
     subst (λ (z : CatalogueData). IsIn z c.args.query.now) (sym is) (query_in q.1.catalogue q.3 c.args.query.now q.4)
 
@@ -21,6 +21,5 @@ returns-clause-says c =
     let script = c.args.script.now in
     let told = c.in_ok-told.told in
     let l = subst (λ (fs : List Entry). IsLogged script fs told.log.items told.engine) c.split_at.ensures.front c.in_ok-told.ensures.told in
-    let says = subst (λ (z : CatalogueData). IfOk c.evaluated.result (Says z (stored_relvars c.database-database.result.now.stored) c.args.query.now)) c.catalogue.ensures.same c.evaluated.ensures in
-    let here = subst (λ (d : DatabaseData). IfOk c.evaluated.result (Says d.catalogue (stored_relvars d.stored) c.args.query.now)) c.database-database.ensures.same says in
-    says_anew script c.args.entries.now c.args.kept told.log.items told.engine l c.args.query.now c.evaluated.result here
+    let here = subst (λ (d : DatabaseData). IfOk c.evaluate.result (Says d.catalogue (stored_relvars d.stored) c.args.query.now)) c.database.ensures.same c.evaluate.ensures in
+    says_anew script c.args.entries.now c.args.kept told.log.items told.engine l c.args.query.now c.evaluate.result here

@@ -1,5 +1,5 @@
 use Rattle.td_relvars.proofs.Told.{legal}
-use Rattle.td_relvars.proofs.opening.open_script.Goals as goal
+use Rattle.td_relvars.proofs.database.Database.open_script.Goals as goal
 
 pub returns-clause-legal : goal.returns-clause-legal
 returns-clause-legal c = legal c.in-Ok-opened.database c.judged.result c.judged.ensures
