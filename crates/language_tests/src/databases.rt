@@ -29,7 +29,7 @@ enum Task<'a> {
     /// The statement is run, taken back and made again.
     BackAndOn(&'a str),
     /// The statement is run, and then a copy of these relvars put back that was made before.
-    PutBackBehind(&'a [usize], &'a str),
+    PutBackBehind(&'a [&'a str], &'a str),
     /// The statement is run, and the tests that it makes are made once more.
     JudgedBehind(&'a str),
 }
@@ -76,7 +76,7 @@ fn failing(alloc: Global, failure: &Option<TestFailure>) -> Result<String> {
 }
 
 fn first_failing(alloc: Global, database: &Database) -> Result<String> {
-    let failure = first_failure(alloc, database.catalogue(), database)?;
+    let failure = first_failure(alloc, database)?;
     failing(alloc, &failure)
 }
 
@@ -151,18 +151,27 @@ fn back_and_on(
     Ok(format!(in alloc; "{after}\n{undone}\n{redone}\n{names}")?)
 }
 
+fn names(alloc: Global, texts: &[&str]) -> Result<Vec<Name>> {
+    let mut names = Vec::new(alloc);
+    for text in texts {
+        names.push(Name::new(alloc, text)?)?;
+    }
+    Ok(names)
+}
+
 // What S has where a copy of these relvars was put back after the statement, and the test that fails then.
 fn put_back_behind(
     alloc: Global,
     database: &mut Database,
     meter: &mut Meter,
-    relvars: &[usize],
+    relvars: &[&str],
     text: &str,
 ) -> Result<String>
     requires { IsLegal database.old }
 {
     database.relvars_fit();
-    let part = database.copy_of(alloc, relvars)?;
+    let names = names(alloc, relvars)?;
+    let part = database.copy_of(alloc, &names)?;
     let _ran = run(alloc, &mut *database, text, LATEST, meter)?;
     database.put_back(part);
     let held = held(alloc, &*database, "S")?;
@@ -181,7 +190,7 @@ fn judged_behind(
 {
     database.relvars_fit();
     let ran = run(alloc, &mut *database, text, LATEST, meter)?;
-    let failure = first_failure_after(alloc, database.catalogue(), &*database, &ran.delta)?;
+    let failure = first_failure_after(alloc, &*database, &ran.delta)?;
     failing(alloc, &failure)
 }
 
@@ -273,11 +282,11 @@ targets 2, footprint 2, changed 2";
     Ok(())
 }
 
-// A place out of range, a virtual relvar and a repeated place do no harm.
+// A name of no relvar, a virtual relvar and a repeated name do no harm.
 #[test]
 fn copies_are_put_back(rt: HostRuntime) -> Result<()> {
     let mut meter = Meter::new(&rt);
-    let task = Task::PutBackBehind(&[0, 1, 7, 0], UPDATE);
+    let task = Task::PutBackBehind(&["S", "LS", "NOBODY", "S"], UPDATE);
     let found = done_over(rt.alloc(), &mut meter, SCRIPT, task)?;
     let expected =
         "RELATION { SNO CHAR, STATUS INTEGER } { TUPLE { SNO 'S1', STATUS 20 }, TUPLE { SNO 'S2', STATUS 10 } }
@@ -290,7 +299,7 @@ no test fails";
 #[test]
 fn the_first_failure_is_told(rt: HostRuntime) -> Result<()> {
     let mut meter = Meter::new(&rt);
-    let task = Task::PutBackBehind(&[0], "DELETE S, MOST := RELATION { TUPLE { N 0 } };");
+    let task = Task::PutBackBehind(&["S"], "DELETE S, MOST := RELATION { TUPLE { N 0 } };");
     let found = done_over(rt.alloc(), &mut meter, SCRIPT, task)?;
     let expected =
         "RELATION { SNO CHAR, STATUS INTEGER } { TUPLE { SNO 'S1', STATUS 20 }, TUPLE { SNO 'S2', STATUS 10 } }

@@ -40,7 +40,7 @@ use Rattle.td_story.specs.Sources.{given_over, made_where, source_means, sources
 use Rattle.td_story.specs.Steps.{IsRead, Steps, unread, raised, refused, done, failing_with, given_by, with_all}
 use Rattle.td_story.specs.declared.outcome.Outcome.{Outcome}
 use Rattle.td_assign.proofs.Replacing.{given_none}
-use Rattle.td_constraints.proofs.TreeReads.{trees_alike}
+use Rattle.td_integrity.proofs.TreeReads.{trees_alike}
 
 -- ---- elements of lists
 first : {A : Type 0} (x : A) (xs : List A) → Contains (x ∷ xs) x

@@ -32,7 +32,7 @@ use Rattle.td_story.specs.Given.{nothing_given, replaced, with_given}
 use Rattle.td_story.specs.Sources.{made_where, sources}
 use Rattle.td_story.specs.Trees.{IsIn}
 use Rattle.td_relations.specs.Deltas.{DeltaData}
-use Rattle.td_constraints.specs.Changes.{PassedBefore}
+use Rattle.td_integrity.specs.Changes.{PassedBefore}
 use Rattle.td_assign.specs.ForProofs.Lists.{given_to}
 use Rattle.td_story.specs.Differences.{AreDifferences, LeadOver}
 use Rattle.td_story.proofs.Leading.{differences_lead}

@@ -13,7 +13,7 @@ use Rattle.td_headings.specs.Reached.{is_base}
 use Rattle.td_soundness.specs.Meanings.{GivesRelation, IsRelationOver}
 use Rattle.td_story.specs.Trees.{AreBases}
 use Rattle.td_story.specs.Stored.{AreStored}
-use Rattle.td_constraints.proofs.Judged.{are_bases}
+use Rattle.td_integrity.proofs.Judged.{are_bases}
 use Rattle.td_story.specs.Databases.{Belongs, IsDatabase, Stored, at_place, put, stored_relvars}
 use Rattle.td_relvars.proofs.Stores.{base_within}
 use Rattle.td_story.specs.Given.{Given, nothing_given, or_old, or_stored, replaced, seen, with_given}

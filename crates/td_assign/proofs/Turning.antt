@@ -42,8 +42,8 @@ use Rattle.td_relvars.specs.Changed.{CanChange, change, changed, with_change}
 use Rattle.td_relvars.specs.Ways.{LeadsBackAt, WayBackData}
 use Rattle.td_relvars.proofs.Kept.{changed_is}
 use Rattle.td_relvars.proofs.Places.{change_other, change_put, change_there}
-use Rattle.td_constraints.specs.Changes.{PassedBefore}
-use Rattle.td_constraints.proofs.Legal.{legal as all_legal}
+use Rattle.td_integrity.specs.Changes.{PassedBefore}
+use Rattle.td_integrity.proofs.Legal.{legal as all_legal}
 use Rattle.td_assign.specs.Laws.{GoesBothWays}
 use Rattle.td_assign.specs.ForProofs.Given.{IsAssigned, Stands, assigned_by}
 use Rattle.td_assign.specs.ForProofs.Turning.{Adds, CameFrom, Gives, IsTurned, IsGrowth, IsOneTurn, IsTried, MayTurn, TakesNothing, TellsAddition, TellsAlone, ChangesSome, IsExact, failing_turned, goes, means_alone, stays}

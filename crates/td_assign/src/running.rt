@@ -29,7 +29,7 @@ use crate::seen::Replaced;
 use crate::sources;
 use crate::sources::changes;
 use std::alloc::{AllocError, Global};
-use td_constraints::first_failure_after;
+use td_integrity::first_failure_after;
 use td_grammar::{ReadError, read_statement_in};
 use td_headings::{Catalogue, TypedAssignment, TypedStatement, type_statement};
 use td_kinds::error::TypeError;

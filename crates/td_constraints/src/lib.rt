@@ -1,11 +1,36 @@
-//! What must be true of relvars after each statement.
+//! What must be true of a database after each statement: its keys and constraints, in the order of the script.
+//!
+//! td_integrity judges the same over any look-up, so that statements are judged before they change a database.
 #![tactic(auto)]
 
-mod judging;
-mod keyed;
-pub mod laws;
-mod losses;
-mod ways;
+ghost use Rattle.std.specs.Prelude.{IfOk};
+ghost use Rattle.td_story.specs.Databases.{stored_relvars};
+ghost use Rattle.td_story.specs.Reports.{IsReport};
+ghost use Rattle.td_story.specs.Tests.{failing};
+ghost use Rattle.td_integrity.specs.Changes.{PassedBefore};
 
-pub use judging::{first_failure, first_failure_after};
 pub use td_story::TestFailure as Failure;
+
+use std::alloc::{AllocError, Global};
+use td_relations::Delta;
+use td_relvars::Database;
+
+/// The first test that is false or raises. It costs what `td_integrity::first_failure` does.
+pub fn first_failure(alloc: Global, database: &Database) -> Result<Option<Failure>, AllocError>
+    ensures { IfOk result (IsReport database.now.catalogue (failing database.now.catalogue (stored_relvars database.now.stored) database.now.catalogue.tests)) }
+{
+    td_integrity::first_failure(alloc, database.catalogue(), database)
+}
+
+/// The same after these changes of relvars, of which every test was true before them. It costs what
+/// `td_integrity::first_failure_after` does: it makes only the tests that read a relvar which was changed.
+pub fn first_failure_after(
+    alloc: Global,
+    database: &Database,
+    changes: &[(usize, Delta)],
+) -> Result<Option<Failure>, AllocError>
+    requires { PassedBefore database.now.catalogue (stored_relvars database.now.stored) changes.now }
+    ensures { IfOk result (IsReport database.now.catalogue (failing database.now.catalogue (stored_relvars database.now.stored) database.now.catalogue.tests)) }
+{
+    td_integrity::first_failure_after(alloc, database.catalogue(), database, changes)
+}

@@ -16,7 +16,7 @@ use Rattle.td_headings.specs.Reached.{ReadsRelvar, is_base}
 use Rattle.td_headings.specs.declared.defined.Origin.{Origin}
 use Rattle.td_headings.proofs.ReadLemmas.{reads_those}
 use Rattle.td_headings.proofs.WellTyped.{all_typed}
-use Rattle.td_constraints.proofs.TreeReads.{trees_alike}
+use Rattle.td_integrity.proofs.TreeReads.{trees_alike}
 use Rattle.td_relvars.specs.Evaluated.{Says}
 use Rattle.td_relvars.specs.Parts.{AreCopies, Copies, FitPart, or_there, over, part_at, part_of, undone_part}
 use Rattle.td_relvars.proofs.Kept.{base_has}

@@ -1,6 +1,0 @@
-use Rattle.std.proofs.Common.{◌≡◌, drop}
-use Rattle.td_constraints.specs.ForProofs.Changed.{change_to}
-use Rattle.td_constraints.proofs.judging.change_of.Given as goal
-
-abbrev pub invariant-loop-change : goal.invariant-loop-change
-invariant-loop-change l = change_to (drop l.change-index l.changes) l.relvar ≡ change_to l.changes l.relvar

@@ -1,7 +1,0 @@
-use Rattle.std.proofs.Common.{◌≡◌, drop}
-use Rattle.std.specs.List.{list_all}
-use Rattle.td_constraints.specs.ForProofs.Found.{finds_itself}
-use Rattle.td_constraints.proofs.keyed.find_themselves.Given as goal
-
-abbrev pub invariant-loop-tuple : goal.invariant-loop-tuple
-invariant-loop-tuple l = list_all (finds_itself l.index) (drop l.tuple-index l.tuple-items) ≡ list_all (finds_itself l.index) l.tuple-items

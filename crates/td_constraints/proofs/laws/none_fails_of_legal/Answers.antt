@@ -1,5 +1,0 @@
-use Rattle.td_constraints.proofs.Legal.{legal}
-use Rattle.td_constraints.proofs.laws.none_fails_of_legal.Goals as goal
-
-pub returns : goal.returns
-returns c = legal
