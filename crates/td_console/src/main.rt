@@ -37,8 +37,8 @@ fn main(rt: HostRuntime) -> ExitCode {
     let mut meter = Meter::new(&rt);
     let status = program::<Site, _, _, _, _, _>(
         alloc,
-        &words,
         &FileJournals::new(&rt, &notes),
+        &words,
         &mut TcpLinks::new(&rt),
         &mut meter,
         &mut source,

@@ -102,8 +102,8 @@ fn end_journaled<F: Sink>(alloc: Global, end: Result<bool, Stopped>, faults: &mu
 /// that ends the program; 2 for refused words; 3 where the journal of a site cannot be opened, read, cut or begun.
 pub fn program<R: Opens + Drop, J: Journals, L: Links, S: Source, K: Sink, F: Sink>(
     alloc: Global,
-    words: &[String],
     journals: &J,
+    words: &[String],
     links: &mut L,
     meter: &mut Meter,
     source: &mut S,
@@ -121,9 +121,9 @@ pub fn program<R: Opens + Drop, J: Journals, L: Links, S: Source, K: Sink, F: Si
     };
     let end = run_journaled::<R, _, _, _, _>(
         alloc,
-        &words.options,
         journals,
         prefix,
+        &words.options,
         links,
         meter,
         source,

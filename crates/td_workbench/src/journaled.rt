@@ -135,9 +135,9 @@ fn as_run(end: Result<bool, Ended>) -> Result<bool, Stopped>
 // Opens the sites of the script, has them come back from their journals, and answers the lines behind it.
 fn start<R: Opens + Drop, J: Journals, L: Links, S: Source, K: Sink>(
     alloc: Global,
-    options: &Options,
     journals: &J,
     prefix: &str,
+    options: &Options,
     script: &Script,
     links: &mut L,
     meter: &mut Meter,
@@ -173,9 +173,9 @@ fn start<R: Opens + Drop, J: Journals, L: Links, S: Source, K: Sink>(
 /// takes room for the entries of each journal, and runs each entry once.
 pub fn run_journaled<R: Opens + Drop, J: Journals, L: Links, S: Source, K: Sink>(
     alloc: Global,
-    options: &Options,
     journals: &J,
     prefix: &str,
+    options: &Options,
     links: &mut L,
     meter: &mut Meter,
     source: &mut S,
@@ -187,7 +187,7 @@ pub fn run_journaled<R: Opens + Drop, J: Journals, L: Links, S: Source, K: Sink>
     let mut reads = u64::MAX;
     match read_script(alloc, source, &mut reads) {
         Ok(script) => start::<R, _, _, _, _>(
-            alloc, options, journals, prefix, &script, links, meter, source, sink, &mut reads,
+            alloc, journals, prefix, options, &script, links, meter, source, sink, &mut reads,
         ),
         Err(Unready::ReadFault) => Err(Stopped::Run(Ended::ReadFault)),
         Err(Unready::End) => as_run(put_fault(sink, b"fault script end\n".as_slice())),

@@ -173,9 +173,9 @@ fn ran(rt: &HostRuntime, journals: &Memory, output: &mut Vec<u8>) -> Result<bool
     let mut sink = Device::new(output);
     run_journaled::<Site, _, _, _, _>(
         rt.alloc(),
-        &ONE,
         journals,
         "kept/",
+        &ONE,
         &mut NoLinks,
         &mut meter,
         &mut source,

@@ -184,8 +184,8 @@ fn broken(rt: &HostRuntime) -> Result<(u8, u8), AllocError> {
     });
     let unread = program::<Site, _, _, _, _, _>(
         rt.alloc(),
-        &words,
         &journals,
+        &words,
         &mut NoLinks,
         &mut meter,
         &mut failing,
@@ -195,8 +195,8 @@ fn broken(rt: &HostRuntime) -> Result<(u8, u8), AllocError> {
     let mut full = Device::new(SlowWriter::new(rt.alloc(), 3, Full::Fails, 100));
     let unwritten = program::<Site, _, _, _, _, _>(
         rt.alloc(),
-        &words,
         &journals,
+        &words,
         &mut NoLinks,
         &mut meter,
         &mut Device::new(&b".begin\n"[..]),
