@@ -15,5 +15,5 @@ pub use base::Base;
 pub use database::Database;
 pub use evaluation::value_over;
 pub use parts::Part;
-pub use td_story::{Answer, BrokenTest, RelvarError, ScriptError};
+pub use td_story::{Answer, BrokenTest as Test, RelvarError, ScriptError};
 pub use ways::WayBack;
