@@ -56,15 +56,18 @@ impl<'a> Report<'a> {
 
     /// All that was told, with the line that ends it.
     pub fn end(&self) -> Result<String, AllocError> {
-        let (told, definitions, refused) = (&self.told, self.definitions, self.refused);
+        let (told, count, refused) = (&self.told, self.definitions, self.refused);
+        let definitions = if count == 1 {
+            "definition"
+        } else {
+            "definitions"
+        };
         if self.unjudged == 0 {
-            return Ok(format!(in self.alloc;
-                "{told}{definitions} definitions, {refused} refused\n"
-            )?);
+            return Ok(format!(in self.alloc; "{told}{count} {definitions}, {refused} refused\n")?);
         }
         let unjudged = self.unjudged;
         Ok(format!(in self.alloc;
-            "{told}{definitions} definitions, {refused} refused, {unjudged} not judged\n"
+            "{told}{count} {definitions}, {refused} refused, {unjudged} not judged\n"
         )?)
     }
 }
