@@ -8,7 +8,7 @@ use std::process::ExitCode;
 use td_devices::Device;
 use td_files::{FileJournals, Notes};
 use td_replay::Site;
-use td_session::program;
+use td_session::{Shown, program};
 use td_sockets::TcpLinks;
 use td_story::Meter;
 
@@ -50,8 +50,10 @@ fn main(rt: HostRuntime) -> ExitCode {
     let Ok(words) = words.collect::<Vec<String>>(alloc) else {
         return ExitCode::FAILURE;
     };
-    let mut sink = Device::new(rt.stdout());
-    let mut faults = Device::new(rt.stderr());
+    let is_seen = rt.stdout().is_terminal();
+    let mut sink = Device::new(Shown::new(alloc, rt.stdout(), is_seen));
+    let are_faults_seen = rt.stderr().is_terminal();
+    let mut faults = Device::new(Shown::new(alloc, rt.stderr(), are_faults_seen));
     if let Some(words) = check_words(&words) {
         let status = td_check::program(words, &rt, &mut sink, &mut faults);
         return ExitCode::from(status);
