@@ -62,8 +62,16 @@ fn ended_words(ended: Ended) -> &'static str {
 }
 
 // The lines behind the script are for a site that holds nothing yet: one that comes back has had them.
-fn first_lines<R: Replica>(alloc: Global, site: &R, behind: Vec<u8>) -> Result<Inputs, Ended> {
+fn first_lines<R: Replica>(
+    alloc: Global,
+    site: &R,
+    behind: Vec<u8>,
+    typed: &[&str],
+) -> Result<Inputs, Ended> {
     let mut inputs = Inputs::new(alloc);
+    if !typed.is_empty() {
+        inputs.read_texts(typed)?;
+    }
     let is_new = match site.held() {
         Ok(held) => held.len() == 0,
         Err(_) => false,
@@ -127,20 +135,23 @@ fn converse_at<
     source: &mut S,
     sink: &mut K,
     faults: &mut F,
-) -> Result<(), Ended> {
+) -> Result<bool, Ended> {
     let catalogue = script_catalogue(alloc, &site)?;
     tell_start(alloc, name, notes, &site, faults)?;
     let lacks = lacks_statements(words, notes, faults);
-    let mut inputs = first_lines(alloc, &site, behind)?;
+    let mut inputs = first_lines(alloc, &site, behind, &words.typed)?;
+    let is_terminal = is_terminal && words.typed.is_empty();
     let mut shell: Shell<'_, R, O, H, L> = Shell::new(
         alloc, host, links, meter, notes, site, catalogue, lacks,
     );
-    converse(&mut shell, &mut inputs, is_terminal, source, sink, faults)
+    converse(&mut shell, &mut inputs, is_terminal, source, sink, faults)?;
+    Ok(shell.has_faults() && !is_terminal && !words.keeps_going)
 }
 
-fn end<F: Sink>(end: Result<(), Ended>, faults: &mut F) -> u8 {
+// The status, by whether a fault was answered that nobody saw come.
+fn end<F: Sink>(end: Result<bool, Ended>, faults: &mut F) -> u8 {
     match end {
-        Ok(()) => 0,
+        Ok(is_at_fault) => u8::from(is_at_fault),
         Err(ended) => {
             complain(faults, ended_words(ended));
             1
@@ -263,9 +274,9 @@ fn start<
 }
 
 /// Reads the words, the first of which names the program, and the script, and answers what is typed. The answer is the
-/// exit status: 0 at `.quit`, at the end of the input and after help; 1 for a script that is refused, a stream that
-/// fails, and want of memory that ends the program; 2 for words that are refused and a script that cannot be read; 3
-/// where the journal of the site cannot be used.
+/// exit status: 0 at `.quit`, at the end of the input and after help; 1 where a fault was answered and the input is no
+/// terminal, and for a script that is refused, a stream that fails, and want of memory that ends the program; 2 for
+/// words that are refused and a script that cannot be read; 3 where the journal of the site cannot be used.
 pub fn program<
     R: Opens + Changes + Drop,
     J: Journals,

@@ -24,5 +24,6 @@ and what begins with IF until each IF has its END IF. An empty line ends it too.
   .mode WORD         shows relations as a table, as csv or as a literal
   .timer on|off      tells how long each answer takes
   .help              this page
-  .quit              ends the program
+  .quit              ends the program; so does Ctrl-C, and nothing answered is lost
+                     where the site keeps a journal
 ";

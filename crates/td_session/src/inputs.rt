@@ -72,6 +72,17 @@ impl Inputs {
         }
     }
 
+    /// Has these texts come in place of what is typed. An empty line between them ends each.
+    pub fn read_texts(&mut self, texts: &[&str]) -> Result<(), AllocError> {
+        let mut bytes = Vec::new(self.alloc);
+        for text in texts {
+            bytes.extend_from_slice(text.as_bytes())?;
+            bytes.extend_from_slice(b"\n\n".as_slice())?;
+        }
+        self.is_over = true;
+        self.files.push(ReadFile { bytes, at: 0 })
+    }
+
     /// Whether the next line is one that is typed.
     pub fn is_typed(&self) -> bool {
         self.files.is_empty()

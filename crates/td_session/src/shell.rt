@@ -12,7 +12,7 @@ use crate::meet::{Meeting, call, serve};
 use crate::relvars::{relvars, schema};
 use crate::tables::{dump_tables, export};
 use crate::timing::{begin, took};
-use crate::wording::NO_MEMORY;
+use crate::wording::{BROKEN, NO_MEMORY};
 use std::alloc::{AllocError, Global};
 use std::fs::File;
 use std::marker::PhantomData;
@@ -47,6 +47,7 @@ pub struct Shell<'a, R: Drop, O, H, L> {
     text: String,
     scan: Scan,
     is_too_long: bool,
+    has_faults: bool,
     /// The kind of site at which a dump is tried.
     opens: PhantomData<O>,
 }
@@ -97,8 +98,20 @@ impl<
             text: String::new(alloc),
             scan: Scan::new(),
             is_too_long: false,
+            has_faults: false,
             opens: PhantomData,
         }
+    }
+
+    /// Whether a fault was answered, or an import stopped.
+    pub fn has_faults(&self) -> bool {
+        self.has_faults
+    }
+
+    // Writes an answer, and notes whether it tells a fault.
+    fn put<K: Sink>(&mut self, answer: &str, sink: &mut K) -> Result<(), Ended> {
+        self.has_faults = self.has_faults || answer.starts_with("fault ");
+        Ok(put(sink, answer.as_bytes())?)
     }
 
     fn prompt<K: Sink>(&self, sink: &mut K) -> Result<(), Ended> {
@@ -202,10 +215,10 @@ impl<
             return Ok(());
         }
         if is_too_long {
-            return Ok(put(
+            return self.put(
+                "fault syntax: a statement or a query has at most 8192 bytes\n",
                 sink,
-                b"fault syntax: a statement or a query has at most 8192 bytes\n",
-            )?);
+            );
         }
         let begun = begin(self.host, self.is_timed);
         let answer = self.answer_text(standing, text.as_str());
@@ -213,10 +226,14 @@ impl<
         self.say(took(self.alloc, self.host, begun), sink)
     }
 
-    fn say<K: Sink>(&self, answer: Result<String, AllocError>, sink: &mut K) -> Result<(), Ended> {
+    fn say<K: Sink>(
+        &mut self,
+        answer: Result<String, AllocError>,
+        sink: &mut K,
+    ) -> Result<(), Ended> {
         match answer {
-            Ok(text) => Ok(put(sink, text.as_bytes())?),
-            Err(_) => Ok(put(sink, NO_MEMORY.as_bytes())?),
+            Ok(text) => self.put(text.as_str(), sink),
+            Err(_) => self.put(NO_MEMORY, sink),
         }
     }
 
@@ -254,16 +271,19 @@ impl<
             self.notes,
             faults,
         ) {
-            Ok(text) => Ok(text),
+            Ok(text) => {
+                self.has_faults = self.has_faults || !text.starts_with("imported ");
+                Ok(text)
+            }
             Err(_) => Err(AllocError),
         }
     }
 
-    fn list<K: Sink>(&self, sink: &mut K) -> Result<(), Ended> {
+    fn list<K: Sink>(&mut self, sink: &mut K) -> Result<(), Ended> {
         match listing(self.alloc, &self.site, sink) {
             Ok(()) => Ok(()),
-            Err(ListingError::Broken) => Ok(put(sink, crate::wording::BROKEN.as_bytes())?),
-            Err(ListingError::OutOfMemory) => Ok(put(sink, NO_MEMORY.as_bytes())?),
+            Err(ListingError::Broken) => self.put(BROKEN, sink),
+            Err(ListingError::OutOfMemory) => self.put(NO_MEMORY, sink),
             Err(ListingError::WriteFault) => Err(Ended::WriteFault),
         }
     }
@@ -375,9 +395,9 @@ impl<
         match next {
             Next::Line(bytes) => match str::from_utf8(&bytes) {
                 Ok(line) => return self.take_line(line, inputs, sink, faults),
-                Err(_) => put(sink, NO_UTF8.as_bytes())?,
+                Err(_) => self.put(NO_UTF8, sink)?,
             },
-            Next::TooLong => put(sink, TOO_LONG.as_bytes())?,
+            Next::TooLong => self.put(TOO_LONG, sink)?,
             Next::FileEnd => self.finish(sink)?,
             Next::End => {
                 self.finish(sink)?;

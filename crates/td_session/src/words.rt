@@ -38,6 +38,15 @@ fn command<'a>(alloc: Global) -> Result<Command<'a>, AllocError> {
         .value_name("PREFIX")
         .help("Keeps the site's statements in the file PREFIX, its number, .tdj")
         .action(ArgAction::Set);
+    let typed = Arg::new(alloc, "typed")
+        .short('c')
+        .value_name("TEXT")
+        .help("Reads TEXT in place of what is typed; may be given again")
+        .action(ArgAction::Append);
+    let keep_going = Arg::new(alloc, "keep-going")
+        .long("keep-going")
+        .help("Ends with status 0 though a fault was answered")
+        .action(ArgAction::SetTrue);
     let new = Arg::new(alloc, "new")
         .long("new")
         .help("Begins a journal where none is")
@@ -55,11 +64,13 @@ fn command<'a>(alloc: Global) -> Result<Command<'a>, AllocError> {
         .arg(limit)?
         .arg(journal)?
         .arg(new)?
-        .arg(forget)
+        .arg(forget)?
+        .arg(typed)?
+        .arg(keep_going)
 }
 
 /// What the words of the program ask for.
-#[derive(Clone, Copy, Drop)]
+#[derive(Drop)]
 pub struct Words<'a> {
     /// The name of the file that has the script.
     pub script: &'a str,
@@ -73,6 +84,19 @@ pub struct Words<'a> {
     pub is_new: bool,
     /// Whether it goes on with a journal that has less than it had once.
     pub forgets: bool,
+    /// What is read in place of what is typed, if anything is.
+    pub typed: Vec<&'a str>,
+    /// Whether a fault that was answered leaves the exit status as it is.
+    pub keeps_going: bool,
+}
+
+// The texts that are given for what is typed.
+fn typed_texts<'a>(alloc: Global, given: Option<&[&'a str]>) -> Result<Vec<&'a str>, AllocError> {
+    let mut texts = Vec::new(alloc);
+    for text in given.unwrap_or(&[]) {
+        texts.push(*text)?;
+    }
+    Ok(texts)
 }
 
 /// What the words ask for, the first of which names the program.
@@ -85,5 +109,7 @@ pub fn read_words<'a>(alloc: Global, words: &'a [String]) -> Result<Words<'a>, E
         journal: matches.get_str("journal"),
         is_new: matches.get_flag("new"),
         forgets: matches.get_flag("forget"),
+        typed: typed_texts(alloc, matches.get_strs("typed"))?,
+        keeps_going: matches.get_flag("keep-going"),
     })
 }
