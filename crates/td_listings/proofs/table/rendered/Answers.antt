@@ -3,4 +3,4 @@ use Rattle.td_listings.specs.ForProofs.Asked.{meant}
 use Rattle.td_listings.proofs.table.rendered.Goals as goal
 
 pub returns-in-Ok : goal.returns-in-Ok
-returns-in-Ok c = (c.in-Relation.relation, ap meant c.in-Relation.is, c.in-Ok.ensures)
+returns-in-Ok c = (c.in-Value.relation, ap meant c.in-Value.is, c.in-Ok.ensures)
