@@ -81,12 +81,12 @@ flat (Some (Some q)) r h = ap Some (ok_same q r h)
 
 one_copied : (stored : Stored) (n : ℕ) (ps : Copies) → AreCopies ps stored → (o : Option RowsData) → option_flatten (slice_get stored n) ≡ o → AreCopies (cons_option (copy_of n o) ps) stored
 one_copied stored n ps are None e = are
-one_copied stored n ps are (Some r) e p h = in_cases (n, r) p ps h
+one_copied stored n ps are (Some r) e = λ p h. in_cases (n, r) p ps h
     (λ same. subst (λ (q : ℕ × RowsData). stored_relvars stored q.0 ≡ Ok q.1) same (looked_up (slice_get stored n) r e))
     (λ there. are p there)
 
 pub are_copies : (stored : Stored) (ns : List ℕ) → AreCopies (part_of stored ns) stored
-are_copies stored [] p h = none_in p h
+are_copies stored [] = λ p h. none_in p h
 are_copies stored (n ∷ ns) = one_copied stored n (part_of stored ns) (are_copies stored ns) (option_flatten (slice_get stored n)) refl
 
 later_copied : (n : ℕ) (o : Option RowsData) (ps : Copies) (p : ℕ × RowsData) → Contains ps p → Contains (cons_option (copy_of n o) ps) p
