@@ -16,12 +16,14 @@ fn first_token(alloc: Global, text: &str) -> Result<Option<(usize, usize, bool)>
         return Ok(None);
     };
     match tokens.first() {
-        Some(Token {
-            kind,
-            text: _,
-            start,
-            end,
-        }) => Ok(Some((*start, *end, matches!(kind, Kind::Integer(_))))),
+        Some(
+            Token {
+                kind,
+                text: _,
+                start,
+                end,
+            },
+        ) => Ok(Some((*start, *end, matches!(kind, Kind::Integer(_))))),
         None => Ok(None),
     }
 }
@@ -52,7 +54,11 @@ fn read_by(alloc: Global, catalogue: &Catalogue, expr: &Expr) -> Result<Option<u
 }
 
 // How many relvars a statement assigns.
-fn assigned_by(alloc: Global, catalogue: &Catalogue, statement: &Statement) -> Result<Option<usize>> {
+fn assigned_by(
+    alloc: Global,
+    catalogue: &Catalogue,
+    statement: &Statement,
+) -> Result<Option<usize>> {
     let Ok(typed) = type_statement(alloc, catalogue, statement) else {
         return Ok(None);
     };

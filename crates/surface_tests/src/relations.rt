@@ -79,9 +79,11 @@ fn of_names(alloc: Global, r: &Relation, names: &[Name], name: &Name) -> Result<
 
 // Those that ask a function of tuples.
 fn of_functions(alloc: Global, r: &Relation) -> Result<usize> {
-    let kept = restrict(alloc, r, |_tuple: &Tuple| -> std::result::Result<bool, Fault> {
-        Ok(true)
-    });
+    let kept = restrict(
+        alloc,
+        r,
+        |_tuple: &Tuple| -> std::result::Result<bool, Fault> { Ok(true) },
+    );
     match kept {
         Ok(kept) => Ok(kept.len()),
         Err(Fault::Raised(_)) => Ok(1_000),

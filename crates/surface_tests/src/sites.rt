@@ -3,8 +3,8 @@
 use crate::Result;
 use std::alloc::Global;
 use td_meeting::{
-    Journal, Keeper, MeetingError, MeetingRefusal, Met, Pair, Reopened, answer, finish, greet, meet,
-    reopen, settle,
+    Journal, Keeper, MeetingError, MeetingRefusal, Met, Pair, Reopened, answer, finish, greet,
+    meet, reopen, settle,
 };
 use td_replay::{
     Answer, AskError, Device, IssueError, Issued, Meter, OpenError, Opens, Outcome, PlainSite,
@@ -54,8 +54,13 @@ fn held(alloc: Global) -> Result<(bool, bool, usize)> {
         Ok(fresh) => fresh,
         Err(error) => check(error).len(),
     };
-    let is_first = matches!(held.next(1), Ok((1, 1))) && !matches!(held.next(1), Err(NextError::ClockEnd));
-    Ok((known, is_first && after.is_empty() && held.len() == 0, fresh))
+    let is_first = matches!(held.next(1), Ok((1, 1)))
+        && !matches!(held.next(1), Err(NextError::ClockEnd));
+    Ok((
+        known,
+        is_first && after.is_empty() && held.len() == 0,
+        fresh,
+    ))
 }
 
 // What a site is asked.
@@ -63,9 +68,8 @@ fn asked<R: Replica>(alloc: Global, site: &R, name: &Name) -> Result<(bool, usiz
     let value = match site.ask(alloc, "COUNT ( S )") {
         Ok(Answer::Value(_)) => true,
         Ok(Answer::Raised(_)) => false,
-        Err(
-            AskError::Broken | AskError::Syntax | AskError::IllTyped | AskError::OutOfMemory,
-        ) => false,
+        Err(AskError::Broken | AskError::Syntax | AskError::IllTyped | AskError::OutOfMemory) =>
+            false,
     };
     let tuples = match site.value_of(alloc, name) {
         Ok(Answer::Value(relation)) => relation.len(),
@@ -77,11 +81,20 @@ fn asked<R: Replica>(alloc: Global, site: &R, name: &Name) -> Result<(bool, usiz
         Err(_) => 1_000,
     };
     let is_told = site.is_open() && site.site() == 1 && site.script() == SCRIPT;
-    Ok((value && is_told, tuples, outcomes == 1 && site.held().is_ok()))
+    Ok((
+        value && is_told,
+        tuples,
+        outcomes == 1 && site.held().is_ok(),
+    ))
 }
 
 // A meeting over memory.
-fn meeting(alloc: Global, first: &mut Site, second: &mut PlainSite, meter: &mut Meter) -> (usize, usize) {
+fn meeting(
+    alloc: Global,
+    first: &mut Site,
+    second: &mut PlainSite,
+    meter: &mut Meter,
+) -> (usize, usize) {
     match meet(alloc, first, second, meter) {
         Ok(Met { fresh_a, fresh_b }) => (fresh_a, fresh_b),
         Err(MeetingRefusal { error, first_took }) => match error {

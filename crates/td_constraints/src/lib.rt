@@ -9,11 +9,10 @@ ghost use Rattle.td_story.specs.Reports.{IsReport};
 ghost use Rattle.td_story.specs.Tests.{failing};
 ghost use Rattle.td_integrity.specs.Changes.{PassedBefore};
 
-pub use td_story::TestFailure as Failure;
-
 use std::alloc::{AllocError, Global};
 use td_relations::Delta;
 use td_relvars::Database;
+pub use td_story::TestFailure as Failure;
 
 /// The first test that is false or raises. It costs what `td_integrity::first_failure` does.
 pub fn first_failure(alloc: Global, database: &Database) -> Result<Option<Failure>, AllocError>

@@ -10,9 +10,9 @@ ghost use Rattle.td_story.specs.Scripts.{Opens};
 use crate::base::Base;
 use crate::database::Database;
 use std::alloc::Global;
-use td_integrity::first_failure;
 use td_eval::relation;
 use td_headings::{Catalogue, TypedExpr, init_expr};
+use td_integrity::first_failure;
 use td_story::{CatalogueError, Failure, ScriptError, TestFailure, catalogue_of};
 
 // What the INIT of the relvar at the place gives it.
