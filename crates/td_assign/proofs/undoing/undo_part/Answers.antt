@@ -25,7 +25,7 @@ loop-relvar-preserved c =
     let i = l.relvar-index in
     let x : ℕ × DeltaData = c.loop-relvar-item.result in
     let lt = c.loop-relvar-test.true in
-    one_undone old ds (drop (i + 1) ds) x l.part (comes old l.part ds ds i x (omega (arith, lt)) c.loop-relvar-item.is l.invariant) c.change_back.new.part c.in_ok-change_back.ensures
+    one_undone old ds (drop (i + 1) ds) x l.part (comes old l.part ds ds i x (omega (arith, lt)) c.loop-relvar-item.is l.invariant) c.change_back.new.self c.in_ok-change_back.ensures
 
 pub returns : goal.returns
 returns c =

@@ -2,7 +2,8 @@ use Rattle.std.proofs.Common.{subst, sym}
 use Rattle.td_headings.specs.Catalogues.{CatalogueData}
 use Rattle.td_story.specs.Databases.{stored_relvars}
 use Rattle.td_story.specs.Stored.{AreStored}
-use Rattle.language_tests.proofs.databases.first_failing.Goals as goal
+use Rattle.td_constraints.proofs.first_failure.Goals as goal
 
 pub first_failure-requires : goal.first_failure-requires
-first_failure-requires c = subst (λ (k : CatalogueData). AreStored k (stored_relvars c.args.database.now.stored)) (sym c.catalogue.ensures.same) c.catalogue.ensures.database.stored
+first_failure-requires c =
+    subst (λ (k : CatalogueData). AreStored k (stored_relvars c.args.database.now.stored)) (sym c.catalogue.ensures.same) c.catalogue.ensures.database.stored
