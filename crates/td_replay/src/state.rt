@@ -26,6 +26,7 @@ use std::marker::Model;
 use td_changes::ChangedError;
 use td_grammar::LATEST;
 use td_relations::{Delta, Relation};
+use td_relvars::Database;
 use td_stamps::{Entry, Held, NextError, PrepareError, Stamp};
 use td_story::{
     Answer, AskError, IssueError, Issued, MOST_BYTES, MOST_ENTRIES, Meter, OpenError, Outcome,

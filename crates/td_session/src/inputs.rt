@@ -80,7 +80,8 @@ impl Inputs {
             bytes.extend_from_slice(b"\n\n".as_slice())?;
         }
         self.is_over = true;
-        self.files.push(ReadFile { bytes, at: 0 })
+        self.files.push(ReadFile { bytes, at: 0 })?;
+        Ok(())
     }
 
     /// Whether the next line is one that is typed.

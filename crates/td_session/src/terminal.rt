@@ -35,7 +35,7 @@ fn is_obeyed(c: char) -> bool {
     }
 }
 
-fn shown(alloc: Global, text: &str) -> Result<String, AllocError> {
+fn with_code_points(alloc: Global, text: &str) -> Result<String, AllocError> {
     let mut shown = String::with_capacity(alloc, text.len())?;
     for c in text.chars() {
         if is_obeyed(c) {
@@ -57,7 +57,7 @@ impl<W: Write> Write for Shown<W> {
         let Ok(text) = str::from_utf8(bytes) else {
             return Err(io::Error::from(ErrorKind::InvalidData));
         };
-        let Ok(shown) = shown(self.alloc, text) else {
+        let Ok(shown) = with_code_points(self.alloc, text) else {
             return Err(io::Error::from(ErrorKind::OutOfMemory));
         };
         self.inner.write_all(shown.as_bytes())?;

@@ -18,3 +18,9 @@ invariant_of-result c =
     let low : 1 ≤ c.args.limit = omega (arith, c.if-limit-eq0.false) in
     subst (λ (h : Holding). (1 ≤ c.args.site) × (is_limit h.limit ≡ true) × IsLogged c.in-Ok-from_str.script h.entries told.log.items told.engine) (sym c.new.ensures)
     (fits, within c.args.limit low c.if-limit-gt-MOST_ENTRIES.false, kept)
+
+pub returns-in-Err : goal.returns-in-Err
+returns-in-Err c =
+    let low : 1 ≤ c.args.limit = omega (arith, c.if-limit-eq0.false) in
+    let fit = (c.if-site-eq0.false, within c.args.limit low c.if-limit-gt-MOST_ENTRIES.false) in
+    c.from.ensures c.args.script.now c.args.site c.args.limit fit c.in-Err.ensures.opens
