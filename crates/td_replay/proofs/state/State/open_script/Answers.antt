@@ -2,6 +2,7 @@ use Rattle.std.proofs.Common.{◌≡◌, ◌≤◌, ℕ, List, [], true, sym, su
 use Rattle.std.proofs.lemmas.Bool.Decides.{nat_tests}
 use Rattle.td_stamps.specs.Sets.{Holding}
 use Rattle.td_replay.specs.ForProofs.Told.{IsLogged}
+use Rattle.td_story.specs.NewSites.{Fit}
 use Rattle.td_story.specs.Seen.{is_limit}
 use Rattle.td_replay.proofs.state.State.open_script.Goals as goal
 
@@ -22,5 +23,5 @@ invariant_of-result c =
 pub returns-in-Err : goal.returns-in-Err
 returns-in-Err c =
     let low : 1 ≤ c.args.limit = omega (arith, c.if-limit-eq0.false) in
-    let fit = (c.if-site-eq0.false, within c.args.limit low c.if-limit-gt-MOST_ENTRIES.false) in
+    let fit : Fit c.args.site c.args.limit = (c.if-site-eq0.false, within c.args.limit low c.if-limit-gt-MOST_ENTRIES.false) in
     c.from.ensures c.args.script.now c.args.site c.args.limit fit c.in-Err.ensures.opens
