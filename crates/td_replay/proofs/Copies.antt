@@ -1,19 +1,14 @@
 -- Copies of what base relvars had, and the changes of statements taken back in them.
-use Rattle.std.proofs.Common.{◌≡◌, ◌≤◌, ◌<◌, ◌+◌, ◌⊎◌, inl, inr, ⊎_elim, ℕ, zero, suc, List, [], ◌∷◌, ◌++◌, drop, take, get_or, length, length-append, Bool, true, false, true≢false, ◌||◌, ◌==◌, eq-eqb, Option, None, Some, slice_get, slice_set, IfOk, Result, Ok, Err, refl, ap, sym, ◌∙◌, subst, arith}
+use Rattle.std.proofs.Common.{◌≡◌, ◌<◌, ◌+◌, ◌⊎◌, inl, inr, ⊎_elim, ℕ, List, [], ◌∷◌, ◌++◌, drop, take, get_or, length, Bool, true, false, true≢false, ◌||◌, ◌==◌, eq-eqb, Option, None, Some, IfOk, Result, Ok, Err, refl, ap, sym, ◌∙◌, subst, arith}
 use Rattle.std.specs.List.{All, Contains, filter}
-use Rattle.std.proofs.lemmas.Bool.{cases_eq}
 use Rattle.std.proofs.lemmas.List.{take_all, take_more}
-use Rattle.std.proofs.lemmas.Option.{slice_get_read}
 use Rattle.td_values.specs.Data.{Datum, no_attrs}
 use Rattle.td_values.specs.Rows.{RowsData}
-use Rattle.td_relations.specs.Deltas.{DeltaData, inverse_of}
-use Rattle.td_algebra.specs.declared.errors.Stop.{Stop}
-use Rattle.td_soundness.specs.Meanings.{GivesRelation}
+use Rattle.td_relations.specs.Deltas.{DeltaData}
 use Rattle.td_trees.specs.declared.expression.Expression.{Expression}
 use Rattle.td_headings.specs.Catalogues.{CatalogueData}
 use Rattle.td_headings.specs.Expressions.{IsTree, no_tuple, reads}
-use Rattle.td_headings.specs.Reached.{ReadsRelvar, is_base}
-use Rattle.td_headings.specs.declared.defined.Origin.{Origin}
+use Rattle.td_headings.specs.Reached.{ReadsRelvar}
 use Rattle.td_headings.proofs.ReadLemmas.{reads_those}
 use Rattle.td_headings.proofs.WellTyped.{all_typed}
 use Rattle.td_integrity.proofs.TreeReads.{trees_alike}
@@ -27,7 +22,7 @@ use Rattle.td_algebra.proofs.Runs.{same_at}
 use Rattle.td_assign.specs.declared.ran.Ran.{Ran}
 use Rattle.td_assign.proofs.Differing.{left_at}
 use Rattle.td_assign.proofs.Leading.{undone_leads_back}
-use Rattle.td_assign.proofs.Listed.{Changes, first_there, rest_there}
+use Rattle.td_assign.proofs.Listed.{Changes}
 use Rattle.td_stamps.specs.declared.entry.Entry.{Entry}
 use Rattle.td_stamps.specs.declared.entry.Stamp.{Stamp}
 use Rattle.td_stamps.specs.Story.{Story}
@@ -36,7 +31,7 @@ use Rattle.td_rollback.proofs.Ends.{Ended, last_off}
 use Rattle.td_story.proofs.OneOpening.{one_opening}
 use Rattle.td_story.specs.Calls.{SaysValue}
 use Rattle.td_story.specs.Databases.{Belongs, DatabaseData, IsDatabase, stored_relvars}
-use Rattle.td_story.specs.Trees.{AreBases, IsIn, tree_means}
+use Rattle.td_story.specs.Trees.{IsIn, tree_means}
 use Rattle.td_story.specs.declared.answer.Answer.{Answer}
 use Rattle.td_replay.specs.Noted.{IsLegalDatabase, Notes, opened_by}
 use Rattle.td_replay.specs.ForProofs.Going.{catalogue_stays, stays_sound}

@@ -1,7 +1,7 @@
 -- Copies of what some base relvars have, while changes are taken back in them.
-use Rattle.std.specs.Prelude.{◌≡◌, ◌==◌, ◌≤◌, ◌+◌, ℕ, Bool, true, false, List, [], drop, length, take, Option, Some, Result, Ok, Err, slice_get}
+use Rattle.std.specs.Prelude.{◌≡◌, ◌==◌, ◌≤◌, ◌+◌, ℕ, Bool, true, false, List, [], drop, length, take, Some, Result, Ok, Err, slice_get}
 use Rattle.std.specs.List.{Contains, list_any}
-use Rattle.td_values.specs.Data.{Datum, no_attrs}
+use Rattle.td_values.specs.Data.{Datum}
 use Rattle.td_values.specs.Rows.{RowsData}
 use Rattle.td_relations.specs.Deltas.{DeltaData}
 use Rattle.td_syntax.specs.declared.tree.Expr.{Expr}
@@ -10,9 +10,7 @@ use Rattle.td_trees.specs.declared.expression.Expression.{Expression}
 use Rattle.td_headings.specs.Catalogues.{CatalogueData}
 use Rattle.td_headings.specs.Expressions.{IsExpression, no_tuple}
 use Rattle.td_headings.specs.Reached.{is_base}
-use Rattle.td_algebra.specs.declared.errors.Stop.{Stop}
 use Rattle.td_assign.specs.declared.ran.Ran.{Ran}
-use Rattle.td_meaning.specs.Mean.{Relvars}
 use Rattle.td_stamps.specs.declared.entry.Entry.{Entry}
 use Rattle.td_stamps.specs.Entries.{stamp_of}
 use Rattle.td_stamps.specs.declared.entry.Stamp.{Stamp}

@@ -1,12 +1,10 @@
-use Rattle.std.proofs.Common.{◌≡◌, ◌≤◌, IfOk, List, ap, drop, length, sym, subst, ◌∙◌, arith}
+use Rattle.std.proofs.Common.{◌≤◌, IfOk, ap, drop, length, sym, subst, ◌∙◌, arith}
 use Rattle.std.specs.List.{All, filter}
-use Rattle.td_values.specs.Rows.{RowsData}
-use Rattle.td_stamps.specs.declared.entry.Entry.{Entry}
 use Rattle.td_story.specs.Databases.{Belongs, DatabaseData, stored_relvars}
 use Rattle.td_relvars.specs.Evaluated.{Says}
-use Rattle.td_relvars.specs.Parts.{Copies, over, part_of}
+use Rattle.td_relvars.specs.Parts.{over, part_of}
 use Rattle.td_replay.specs.Noted.{opened_by}
-use Rattle.td_replay.specs.ForProofs.Past.{AreAt, is_changed_in}
+use Rattle.td_replay.specs.ForProofs.Past.{is_changed_in}
 use Rattle.td_replay.specs.ForProofs.Told.{IsLogged, Log}
 use Rattle.td_replay.proofs.Copies.{as_many, copied_now, copies_belong, says_back, was_of, was_sound}
 use Rattle.td_replay.proofs.Telling.{logged_sound}
