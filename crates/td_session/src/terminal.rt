@@ -24,8 +24,8 @@ impl<W> Shown<W> {
     }
 }
 
-// Whether a terminal obeys the character: a control character but for the end of a line, a separator of lines, or a mark
-// that turns the direction of text.
+// Whether a terminal obeys the character: a control character but for the end of a line, a separator of lines, or a
+// mark that turns the direction of text.
 fn is_obeyed(c: char) -> bool {
     match c {
         '\n' => false,
