@@ -23,7 +23,7 @@ fn first_token(alloc: Global, text: &str) -> Result<Option<(usize, usize, bool)>
                 start,
                 end,
             },
-        ) => Ok(Some((*start, *end, matches!(kind, Kind::Integer(_))))),
+        ) => Ok(Some((*start, *end, matches!(kind, Kind::Int(_))))),
         None => Ok(None),
     }
 }

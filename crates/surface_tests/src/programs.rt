@@ -3,7 +3,6 @@
 use crate::Result;
 use std::alloc::Global;
 use td_replay::{Device, Meter, Opens, Site};
-use td_values::Name;
 use td_workbench::{
     Links, NoLinks, Options, TcpLinks, accept_on, export, listing, program, run_journaled,
     run_program, workbench,
@@ -13,11 +12,10 @@ const SCRIPT: &str = "VAR S BASE RELATION { N INTEGER } KEY { N };\n";
 
 // The listing of a site, and its relvar S for other programs.
 fn written(alloc: Global, site: &Site) -> Result<(usize, usize)> {
-    let name = Name::new(alloc, "S")?;
     let mut listed = Vec::new(alloc);
     let mut exported = Vec::new(alloc);
     let is_listed = listing(alloc, site, &mut Device::new(&mut listed)).is_ok();
-    let is_exported = export(alloc, site, &name, &mut Device::new(&mut exported)).is_ok();
+    let is_exported = export(alloc, site, "S", &mut Device::new(&mut exported)).is_ok();
     if is_listed && is_exported {
         return Ok((listed.len(), exported.len()));
     }

@@ -113,10 +113,11 @@ fn sites_have_their_calls(rt: HostRuntime) -> Result<()> {
     };
     assert!(rt; refused == "bad site");
     assert!(rt; held(alloc)? == (false, true, 1));
-    let (Ok(mut first), Ok(mut second)) = (
-        Site::open_script(alloc, SCRIPT, 1, 10),
-        PlainSite::open_script(alloc, SCRIPT, 2, 10),
-    ) else {
+    let Ok(mut first) = Site::open_script(alloc, SCRIPT, 1, 10) else {
+        assert!(rt; false);
+        return Ok(());
+    };
+    let Ok(mut second) = PlainSite::open_script(alloc, SCRIPT, 2, 10) else {
         assert!(rt; false);
         return Ok(());
     };
@@ -180,7 +181,7 @@ fn sites_keep_journals(rt: HostRuntime) -> Result<()> {
         assert!(rt; false);
         return Ok(());
     };
-    assert!(rt; whole == bytes.len());
+    assert!(rt; whole == bytes.len() as u64);
     let mut copy = Vec::new(alloc);
     assert!(rt; Keeper::start(replica, Device::new(&mut copy)).is_ok());
     Ok(())

@@ -3,8 +3,8 @@
 use crate::Result;
 use std::alloc::Global;
 use td_values::{
-    Heading, Kind, Name, NameError, Raise, Rows, TdType, Tuple, TypeKind, Value, compare, copy,
-    equal, show, show_type,
+    Heading, Kind, Name, NameError, Raise, TdType, Tuple, TypeKind, Value, compare, copy, equal,
+    show, show_type,
 };
 
 /// The heading of one INTEGER attribute N.
@@ -64,9 +64,6 @@ fn values_have_their_calls(rt: HostRuntime) -> Result<()> {
     let other = copy(alloc, &value)?;
     assert!(rt; equal(&value, &other) && compare(&value, &other).is_eq());
     assert!(rt; show(alloc, &value)?.as_str() == "7");
-    let rows = Rows::new(heading, Vec::new(alloc));
-    let Rows { heading, tuples } = rows;
-    assert!(rt; heading.len() == 1 && tuples.is_empty());
     assert!(rt; number_of(Raise::Divide) == 2);
     Ok(())
 }
