@@ -26,6 +26,7 @@ pub mod Apart
 pub mod Told
 pub mod ByKey
 pub mod KeyLaws
+mod KeyRanks
 pub mod Marks
 pub mod Matchings
 pub mod Shared

@@ -12,6 +12,7 @@ mod gathered;
 mod groups;
 mod index;
 mod joins;
+mod key_changes;
 mod key_index;
 mod keyed_joins;
 mod keys;
