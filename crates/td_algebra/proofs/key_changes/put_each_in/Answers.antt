@@ -27,7 +27,7 @@ loop-tuple-preserved c =
     let one = c.in-Ok.ensures.more in
     record {
       more = IsPermutation-trans all ((t ∷ rest) ++ before) (rest ++ after) (subst (λ (xs : List Attrs). IsPermutation all (xs ++ before)) step c.loop-tuple.invariant.more)
-      (IsPermutation-trans ((t ∷ rest) ++ before) (rest ++ t ∷ before) (rest ++ after) (IsPermutation-sym (rest ++ t ∷ before) ((t ∷ rest) ++ before) (IsPermutation-middle rest t before)) (IsPermutation-append_right rest (t ∷ before) after one));
+          (IsPermutation-trans ((t ∷ rest) ++ before) (rest ++ t ∷ before) (rest ++ after) (IsPermutation-sym (rest ++ t ∷ before) ((t ∷ rest) ++ before) (IsPermutation-middle rest t before)) (IsPermutation-append_right rest (t ∷ before) after one));
       room = omega (arith, ap length step, length_permutation (t ∷ before) after one);
       sorted = c.put_in.ensures.sorted;
     }
