@@ -1,0 +1,2 @@
+-- Words that only proofs use.
+pub mod Keyed

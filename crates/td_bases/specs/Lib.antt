@@ -1,0 +1,4 @@
+-- The definitions of the crate.
+pub mod Bases
+pub mod ForProofs
+pub mod Ways
