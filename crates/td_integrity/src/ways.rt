@@ -30,12 +30,18 @@ pub(crate) struct Narrowed<'a, L> {
 impl<L: Lookup> Lookup for Narrowed<'_, L> {
     ghost relvars = { λ s. narrowed s.relvar s.gained.now (L.relvars s.lookup.now) };
 
+    ghost first_keys = { λ s. L.first_keys s.lookup.now };
+
     fn lent(&self, relvar: usize) -> Result<&Relation, Stop> {
         if relvar == self.relvar {
             Ok(self.gained)
         } else {
             self.lookup.lent(relvar)
         }
+    }
+
+    fn first_key(&self, relvar: usize) -> Option<&[Name]> {
+        self.lookup.first_key(relvar)
     }
 
     fn indexes(&self, relvar: usize) -> &[KeyIndex] {

@@ -8,4 +8,4 @@ pub mod Returning
 pub mod Kept
 pub mod Copies
 pub mod PartLemmas
-pub mod Keyed
+pub mod Bases

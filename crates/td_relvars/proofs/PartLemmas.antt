@@ -6,13 +6,17 @@ use Rattle.std.proofs.lemmas.Bool.{cases_eq}
 use Rattle.td_values.specs.Headings.{Header}
 use Rattle.td_values.specs.Rows.{RowsData}
 use Rattle.td_relations.specs.Deltas.{DeltaData, inverse_of}
+use Rattle.td_bases.specs.Bases.{BaseData}
 use Rattle.td_syntax.specs.declared.tree.Named.{Named}
 use Rattle.td_algebra.proofs.Runs.{same_at}
 use Rattle.td_soundness.specs.Meanings.{GivesRelation, IsRelationOver}
 use Rattle.td_typing.proofs.KindLemmas.{some_same}
+use Rattle.td_headings.specs.Catalogues.{CatalogueData}
 use Rattle.td_story.specs.Databases.{Belongs, DatabaseData, IsDatabase, Stored, at_place, stored_relvars}
 use Rattle.td_story.specs.Trees.{AreBases}
 use Rattle.td_relvars.specs.Changed.{change, changed, undone}
+use Rattle.td_relvars.specs.Keys.{key_at}
+use Rattle.td_relvars.specs.ForProofs.Kept.{copied_keys, copies_of}
 use Rattle.td_relvars.specs.Parts.{AreCopies, Copies, FitsPart, change_part, changed_if, copy_of, or_there, over, part_at, part_of, undone_part}
 use Rattle.td_relvars.proofs.Kept.{belongs}
 use Rattle.td_relvars.proofs.Places.{change_other, change_there, ok_same}
@@ -201,3 +205,14 @@ module _ (d : DatabaseData) (is : IsDatabase d) (ps : Copies) (all : All (λ (p 
           let b = own n r (part_has ps n r h) in
           subst (λ (w : Named Header). IsRelationOver d.catalogue.schema w.value r) (some_same b.relvar v (sym b.there ∙ there)) b.relation
       by None h = bases d is n v base there
+
+-- ---- keys of copies
+module _ (c : CatalogueData) (p : ℕ × BaseData) (ps : List (ℕ × BaseData)) where
+  abbrev Theirs : List (ℕ × BaseData) → Type 0
+  Theirs qs = copied_keys qs ≡ map (λ (q : ℕ × RowsData). key_at c q.0) (copies_of qs)
+
+  pub first_theirs : Theirs (p ∷ ps) → p.1.key ≡ key_at c p.0
+  first_theirs e = cc
+
+  pub other_theirs : Theirs (p ∷ ps) → Theirs ps
+  other_theirs e = cc

@@ -1,12 +1,8 @@
 -- What is stored, place by place, where one relvar changes.
 use Rattle.std.proofs.Common.{◌≡◌, ℕ, zero, suc, pred, [], ◌∷◌, get_or, length, Option, None, Some, Result, Ok, Err, OnOk, refl, ap, sym, ◌∙◌}
 use Rattle.std.specs.Prelude.{slice_set}
-use Rattle.std.specs.FinSet as set
 use Rattle.td_values.specs.Rows.{RowsData}
-use Rattle.td_relations.specs.Deltas.{DeltaData, IsApplied, applied, inverse_of}
-use Rattle.td_relations.specs.Sets.{IsRelation, TupleSet, body}
-use Rattle.td_relations.proofs.Edits.{union_nothing}
-use Rattle.td_relations.proofs.Members.{relation_is}
+use Rattle.td_relations.specs.Deltas.{DeltaData}
 use Rattle.td_algebra.specs.declared.errors.Stop.{Stop}
 use Rattle.td_story.specs.Databases.{Stored, at_place, put, stored_relvars}
 use Rattle.td_relvars.specs.Changed.{change, changed, changed_at}
@@ -80,21 +76,7 @@ stands n [] x q r at is has = nowhere r has
 stands zero (y ∷ ys) x q r at is has = ap (λ z. at_place (Some z)) (sym at ∙ is)
 stands (suc n) (y ∷ ys) x q r at is has = stands n ys x q r at is has
 
--- ---- what a call of td_relations leaves, where it answers
-pub is_changed :
-    {E : Type 0} (a : Result (Unit {0}) E) (r s new : RowsData) (d : DeltaData) → r ≡ s → OnOk a (IsApplied r d new)
-    → OnOk a (new ≡ changed s d)
-is_changed (Ok u) r s new d same is = relation_is r.heading (applied (body r) d) new is ∙ ap (λ q. changed q d) same
-is_changed (Err e) r s new d same is = tt
-
--- a change that took nothing out is taken back by taking out what it put in
-pub nothing_back :
-    (r new : RowsData) (x : DeltaData) → body x.deleted ≡ set.empty
-    → IsRelation r.heading (set.difference (body r) (body x.inserted)) new → IsApplied r (inverse_of x) new
-nothing_back r new x none is =
-    let left : TupleSet = set.difference (body r) (body x.inserted) in
-    record { heading = is.heading; members = is.members ∙ union_nothing left ∙ ap (set.union left) (sym none); ascending = is.ascending }
-
+-- ---- what a change leaves, where it is made
 pub set_changed :
     {E : Type 0} (a : Result (Unit {0}) E) (n : ℕ) (xs : Stored) (r new : RowsData) (d : DeltaData)
     → stored_relvars xs n ≡ Ok r → OnOk a (new ≡ changed r d) → OnOk a (slice_set xs n (Some new) ≡ change n d xs)

@@ -1,13 +1,9 @@
 -- Changes of relvars where they stand, taken back, and made one after the other.
 use Rattle.std.specs.Prelude.{◌≡◌, ℕ, zero, suc, List, [], ◌∷◌, Option, None, Some, Ok}
 use Rattle.td_values.specs.Rows.{RowsData}
-use Rattle.td_relations.specs.Sets.{body, relation_of}
-use Rattle.td_relations.specs.Deltas.{DeltaData, applied, inverse_of}
+use Rattle.td_relations.specs.Deltas.{DeltaData, inverse_of}
+pub use Rattle.td_bases.specs.Bases.{changed}
 use Rattle.td_story.specs.Databases.{Belongs, DatabaseData, Stored, stored_relvars}
-
--- the relation after the change
-abbrev pub changed : RowsData → DeltaData → RowsData
-changed r d = relation_of r.heading (applied (body r) d)
 
 abbrev pub changed_at : Option RowsData → DeltaData → Option RowsData
 changed_at None d = None

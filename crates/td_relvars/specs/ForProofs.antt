@@ -3,4 +3,4 @@ pub mod Empty
 pub mod Asked
 pub mod Opened
 pub mod Standing
-pub mod Keyed
+pub mod Kept

@@ -1,5 +1,6 @@
 -- The definitions of the crate.
 pub mod Changed
+pub mod Keys
 pub mod Parts
 pub mod Evaluated
 pub mod Ways

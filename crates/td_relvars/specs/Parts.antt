@@ -1,14 +1,17 @@
 -- Copies of what some relvars have, and what is stored when they are put back.
-use Rattle.std.specs.Prelude.{◌≡◌, ◌==◌, ℕ, List, [], ◌∷◌, map, Option, None, Some, option_map, Result, Ok, slice_get, if◌then◌else◌}
+use Rattle.std.specs.Prelude.{◌≡◌, ◌==◌, ℕ, List, [], ◌∷◌, map, Option, None, Some, option_map, Result, Ok, slice_get, refl, if◌then◌else◌}
 use Rattle.std.specs.List.{Contains, filter_map, find}
 use Rattle.std.specs.Option.{option_flatten}
-use Rattle.td_values.specs.Rows.{RowsData}
+use Rattle.std.specs.Coded.{Coded, code_by, coded×, coded_list, coded_ℕ}
+use Rattle.td_values.specs.Rows.{RowsData, rows_code}
 use Rattle.td_relations.specs.Deltas.{DeltaData, inverse_of}
 use Rattle.td_kinds.specs.Schemas.{SchemaData, relvar_named}
 use Rattle.td_algebra.specs.declared.errors.Stop.{Stop}
+use Rattle.td_headings.specs.Catalogues.{CatalogueData}
 use Rattle.td_meaning.specs.Mean.{Relvars}
 use Rattle.td_story.specs.Databases.{Stored, put, stored_relvars}
 use Rattle.td_relvars.specs.Changed.{changed}
+use Rattle.td_relvars.specs.Keys.{key_at}
 
 -- what some relvars have, or had, by their places
 abbrev pub Copies : Type 0
@@ -41,6 +44,19 @@ or_there None there = there
 
 abbrev pub over : Copies → Relvars → Relvars
 over ps there n = or_there (part_at ps n) (there n)
+
+-- the copies with the keys by which their tuples are kept
+pub record PartData : Type 0 where
+  pub copies : Copies
+  pub keys : List (List (List ℕ))
+
+-- by which a proof tells parts apart
+abbrev pub part_code : Coded PartData
+part_code = code_by (Copies × List (List (List ℕ))) (coded× (coded_list (coded× coded_ℕ rows_code)) (coded_list (coded_list (coded_list coded_ℕ)))) (λ p. (p.copies, p.keys)) (λ q. record { copies = q.0; keys = q.1 }) (λ _. refl)
+
+-- they are the first keys of their relvars
+abbrev pub AreTheirs : CatalogueData → PartData → Type 0
+AreTheirs c p = p.keys ≡ map (λ (q : ℕ × RowsData). key_at c q.0) p.copies
 
 -- the copies, each one of the relvar at the place with the change
 abbrev pub changed_if : ℕ → DeltaData → ℕ × RowsData → ℕ × RowsData

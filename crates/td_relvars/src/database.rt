@@ -1,7 +1,7 @@
 //! Databases.
 
-ghost use Rattle.std.specs.Prelude.{◌≡◌, ◌<◌, IfOk, Ok, OnErr, OnOk, length, slice_get, slice_set};
-ghost use Rattle.std.specs.Option.{option_copied};
+ghost use Rattle.std.specs.Prelude.{◌≡◌, ◌<◌, IfOk, IfSome, None, Ok, OnErr, OnOk, MatchOption, Some, length, option_map, slice_get, slice_set};
+ghost use Rattle.std.specs.Option.{option_copied, option_flatten};
 ghost use Rattle.std.specs.FinSet as set;
 ghost use Rattle.td_relations.specs.Sets.{body, relation_of};
 ghost use Rattle.td_relations.specs.Deltas.{inverse_of};
@@ -9,19 +9,23 @@ ghost use Rattle.td_values.specs.Rows.{RowsData};
 ghost use Rattle.td_headings.specs.Definitions.{Defined};
 ghost use Rattle.td_story.specs.Databases as spec;
 ghost use Rattle.td_story.specs.Databases.{Belongs, IsDatabase, put, stored_relvars};
+ghost use Rattle.td_bases.specs.Bases.{BaseData};
+ghost use Rattle.td_bases.specs.Ways.{LeadsBack};
 ghost use Rattle.td_relvars.specs.Changed as changes;
 ghost use Rattle.td_relvars.specs.Changed.{CanChange, with_change};
 ghost use Rattle.td_relvars.specs.ForProofs.Standing.{HasOf};
-ghost use Rattle.td_relvars.specs.Ways.{CanGoBack, LeadsBack, LeadsBackAt};
+ghost use Rattle.td_relvars.specs.ForProofs.Kept.{AreFirst, keys_of, rows_of};
+ghost use Rattle.td_relvars.specs.Keys as keys;
+ghost use Rattle.td_relvars.specs.Keys.{key_at};
+ghost use Rattle.td_relvars.specs.Ways.{CanGoBack, LeadsBackAt};
 ghost use Rattle.td_relvars.specs.ForProofs.Empty.{empty_in};
 ghost use Rattle.td_story.specs.Openings as opening;
 
-use crate::base::Base;
-use crate::ways::WayBack;
 use sqlite_items::Items;
 use std::alloc::{AllocError, Global};
 use std::marker::Model;
 use td_algebra::{KeyIndex, Stop};
+use td_bases::{Base, WayBack};
 use td_eval::Lookup;
 use td_headings::{Catalogue, Origin};
 use td_relations::{Delta, Relation};
@@ -45,26 +49,34 @@ impl Drop for Database {
 
 impl Model for Database {
     ghost use Rattle.td_story.specs.Databases.{DatabaseData, IsDatabase, database_code};
+    ghost use Rattle.td_relvars.specs.ForProofs.Kept.{AreFirst, keys_of, rows_of};
 
     ghost Value = { DatabaseData };
 
     ghost coded = { database_code };
 
-    ghost view = { λ d. record { catalogue = d.catalogue; stored = d.stored.items } };
+    ghost view = { λ d. record { catalogue = d.catalogue; stored = rows_of d.stored.items } };
 
-    ghost invariant = { λ d. IsDatabase (record { catalogue = d.catalogue; stored = d.stored.items }) };
+    ghost invariant = { λ d. IsDatabase (record { catalogue = d.catalogue; stored = rows_of d.stored.items }) × AreFirst d.catalogue (keys_of d.stored.items) };
 }
 
 impl Lookup for Database {
+    ghost use Rattle.td_relvars.specs.Keys.{first_key};
     ghost use Rattle.td_story.specs.Databases.{stored_relvars};
 
     ghost relvars = { λ d. stored_relvars d.stored };
+
+    ghost first_keys = { λ d. first_key d.catalogue };
 
     fn lent(&self, relvar: usize) -> Result<&Relation, Stop> {
         match self.base_at(relvar) {
             Some(base) => Ok(base.relation()),
             None => Err(Stop::Untyped),
         }
+    }
+
+    fn first_key(&self, relvar: usize) -> Option<&[Name]> {
+        first_key(&self.catalogue, relvar)
     }
 
     fn indexes(&self, relvar: usize) -> &[KeyIndex] {
@@ -75,26 +87,60 @@ impl Lookup for Database {
     }
 }
 
+// The keys of the base relvar at the place.
+fn keys_of(catalogue: &Catalogue, relvar: usize) -> &[Items<Name>]
+    ensures { slice_get result.now 0 ≡ keys.first_key catalogue.now relvar }
+{
+    match catalogue.origin(relvar) {
+        Some(Origin::Base(keys, _)) => keys.as_slice(),
+        _ => &[],
+    }
+}
+
+/// The first key of the base relvar at the place, its names as they are written.
+pub(crate) fn first_key(catalogue: &Catalogue, relvar: usize) -> Option<&[Name]>
+    ensures { MatchOption result (keys.first_key catalogue.now relvar ≡ None) (λ key. keys.first_key catalogue.now relvar ≡ Some key.now) }
+{
+    match keys_of(catalogue, relvar).first() {
+        Some(key) => Some(key.as_slice()),
+        None => None,
+    }
+}
+
+// The names of it.
+fn key_of(catalogue: &Catalogue, relvar: usize) -> &[Name]
+    ensures { result.now ≡ key_at catalogue.now relvar }
+{
+    match first_key(catalogue, relvar) {
+        Some(key) => key,
+        None => &[],
+    }
+}
+
 // No tuples of the heading.
-fn no_tuples(alloc: Global, heading: &Heading) -> Result<Base, AllocError>
-    ensures { IfOk result (λ b. b ≡ relation_of heading.now set.empty) }
+fn no_tuples(alloc: Global, heading: &Heading, key: &[Name]) -> Result<Base, AllocError>
+    ensures { IfOk result (λ b. b ≡ record { rows = relation_of heading.now set.empty; key = key.now }) }
 {
     let heading = heading.copy()?;
-    Ok(Base::of(Relation::empty(alloc, heading)))
+    Base::by_key(alloc, Relation::empty(alloc, heading), key)
 }
 
 // What the relvar at the place has where it is empty, if it is a base relvar.
 fn empty_at(alloc: Global, catalogue: &Catalogue, place: usize) -> Result<Option<Base>, AllocError>
-    ensures { IfOk result (λ b. b ≡ empty_in (slice_get catalogue.now.origins place) (slice_get catalogue.now.schema.relvars place)) }
+    ensures rows { IfOk result (λ o. option_map (λ (b : BaseData). b.rows) o ≡ empty_in (slice_get catalogue.now.origins place) (slice_get catalogue.now.schema.relvars place)) }
+    ensures key { IfOk result (λ o. IfSome o (λ b. b.key ≡ key_at catalogue.now place)) }
 {
     match (catalogue.origin(place), catalogue.schema().relvar_at(place)) {
-        (Some(Origin::Base(_, _)), Some((_, heading))) => Ok(Some(no_tuples(alloc, heading)?)),
+        (Some(Origin::Base(_, _)), Some((_, heading))) => {
+            Ok(Some(no_tuples(alloc, heading, key_of(catalogue, place))?))
+        }
         _ => Ok(None),
     }
 }
 
 fn all_empty(alloc: Global, catalogue: &Catalogue) -> Result<Vec<Option<Base>>, AllocError>
-    ensures empty { IfOk result (λ s. s.items ≡ opening.all_empty catalogue.now.origins catalogue.now.schema.relvars) }
+    ensures empty { IfOk result (λ s. rows_of s.items ≡ opening.all_empty catalogue.now.origins catalogue.now.schema.relvars) }
+    ensures keys { IfOk result (λ s. AreFirst catalogue.now (keys_of s.items)) }
     ensures defined { Defined catalogue.now }
 {
     let mut stored = Vec::new(alloc);
@@ -110,14 +156,6 @@ fn set_at<T: Drop>(items: &mut Vec<T>, place: usize, item: T)
     ensures { items.new.items ≡ slice_set items.old.items place item }
 {
     items[place] = item;
-}
-
-// The keys of the base relvar at the place.
-fn keys_of(catalogue: &Catalogue, relvar: usize) -> &[Items<Name>] {
-    match catalogue.origin(relvar) {
-        Some(Origin::Base(keys, _)) => keys.as_slice(),
-        _ => &[],
-    }
 }
 
 // Counts a read of what is stored at the place.
@@ -160,8 +198,9 @@ fn change_at(
     relvar: usize,
     delta: &Delta,
 ) -> Result<(), AllocError>
-    requires { HasOf stored.old.items relvar delta.now.inserted.heading }
-    ensures ok { OnOk result (stored.new.items ≡ changes.change relvar delta.now stored.old.items) }
+    requires { HasOf (rows_of stored.old.items) relvar delta.now.inserted.heading }
+    ensures ok { OnOk result (rows_of stored.new.items ≡ changes.change relvar delta.now (rows_of stored.old.items)) }
+    ensures keys { OnOk result (keys_of stored.new.items ≡ keys_of stored.old.items) }
     ensures err { OnErr result (stored.new.items ≡ stored.old.items) }
 {
     match &mut stored[relvar] {
@@ -178,8 +217,9 @@ fn change_back_at(
     relvar: usize,
     delta: &Delta,
 ) -> Result<(), AllocError>
-    requires { HasOf stored.old.items relvar delta.now.deleted.heading }
-    ensures ok { OnOk result (stored.new.items ≡ changes.change relvar (inverse_of delta.now) stored.old.items) }
+    requires { HasOf (rows_of stored.old.items) relvar delta.now.deleted.heading }
+    ensures ok { OnOk result (rows_of stored.new.items ≡ changes.change relvar (inverse_of delta.now) (rows_of stored.old.items)) }
+    ensures keys { OnOk result (keys_of stored.new.items ≡ keys_of stored.old.items) }
     ensures err { OnErr result (stored.new.items ≡ stored.old.items) }
 {
     match &mut stored[relvar] {
@@ -190,9 +230,10 @@ fn change_back_at(
 
 // The same of a change that took nothing out.
 fn take_back_at(stored: &mut Vec<Option<Base>>, relvar: usize, delta: &Delta)
-    requires there { HasOf stored.old.items relvar delta.now.deleted.heading }
+    requires there { HasOf (rows_of stored.old.items) relvar delta.now.deleted.heading }
     requires growth { body delta.now.deleted ≡ set.empty }
-    ensures { stored.new.items ≡ changes.change relvar (inverse_of delta.now) stored.old.items }
+    ensures back { rows_of stored.new.items ≡ changes.change relvar (inverse_of delta.now) (rows_of stored.old.items) }
+    ensures keys { keys_of stored.new.items ≡ keys_of stored.old.items }
 {
     match &mut stored[relvar] {
         Some(base) => base.take_back(delta),
@@ -202,13 +243,24 @@ fn take_back_at(stored: &mut Vec<Option<Base>>, relvar: usize, delta: &Delta)
 
 // The same of any change, by a way that was made before it.
 fn go_back_at(stored: &mut Vec<Option<Base>>, relvar: usize, delta: &Delta, way: WayBack)
-    requires there { HasOf stored.old.items relvar delta.now.deleted.heading }
-    requires way { (r : RowsData) × (stored_relvars stored.old.items relvar ≡ Ok (changes.changed r delta.now)) × LeadsBack r delta.now way }
-    ensures { stored.new.items ≡ changes.change relvar (inverse_of delta.now) stored.old.items }
+    requires there { HasOf (rows_of stored.old.items) relvar delta.now.deleted.heading }
+    requires way { (r : RowsData) × (stored_relvars (rows_of stored.old.items) relvar ≡ Ok (changes.changed r delta.now)) × LeadsBack r delta.now way }
+    ensures back { rows_of stored.new.items ≡ changes.change relvar (inverse_of delta.now) (rows_of stored.old.items) }
+    ensures keys { keys_of stored.new.items ≡ keys_of stored.old.items }
 {
     match &mut stored[relvar] {
         Some(base) => base.go_back(delta, way),
         None => unreachable!(),
+    }
+}
+
+// What is stored at the place.
+fn stored_at(stored: &[Option<Base>], place: usize) -> Option<&Base>
+    ensures { option_copied result ≡ option_flatten (slice_get stored.now place) }
+{
+    match stored.get(place) {
+        Some(Some(base)) => Some(base),
+        _ => None,
     }
 }
 
@@ -240,17 +292,19 @@ impl Database {
 
     /// What the relvar at the place has, if something is stored there.
     pub fn base_at(&self, place: usize) -> Option<&Base>
-        ensures { option_copied result ≡ spec.stored_at self.now place }
+        ensures rows { option_map (λ (b : BaseData). b.rows) (option_copied result) ≡ spec.stored_at self.now place }
+        ensures key { IfSome result (λ b. b.now.key ≡ key_at self.now.catalogue place) }
     {
-        match self.stored.get(place) {
-            Some(Some(base)) => Some(base),
-            _ => None,
+        match stored_at(&self.stored, place) {
+            Some(base) => Some(base),
+            None => None,
         }
     }
 
     /// What the relvar of this name has, if something is stored.
     pub fn base_of(&self, name: &Name) -> Option<&Base>
-        ensures { option_copied result ≡ spec.stored_named self.now name.now }
+        ensures rows { option_map (λ (b : BaseData). b.rows) (option_copied result) ≡ spec.stored_named self.now name.now }
+        ensures key { IfSome result (λ b. b.now.key ≡ keys.key_named self.now.catalogue name.now) }
     {
         match self.catalogue.schema().relvar(name) {
             Some((place, _)) => self.base_at(place),
@@ -258,19 +312,26 @@ impl Database {
         }
     }
 
-    /// The relation, to be what the relvar at the place has. It takes no memory.
-    pub fn make_base(&self, relvar: usize, relation: Relation) -> Base
+    /// The relation, to be what the relvar at the place has: its tuples are kept by the relvar's first key, which costs
+    /// a sort of them.
+    pub fn make_base(
+        &self,
+        alloc: Global,
+        relvar: usize,
+        relation: Relation,
+    ) -> Result<Base, AllocError>
         requires { Belongs self.now.catalogue relvar relation }
-        ensures { result ≡ relation }
+        ensures { IfOk result (λ b. b ≡ record { rows = relation; key = key_at self.now.catalogue relvar }) }
     {
-        Base::of(relation)
+        Base::by_key(alloc, relation, key_of(&self.catalogue, relvar))
     }
 
     /// Puts what the base relvar at the place is to have in place of what it has. It takes no memory.
     pub fn set(&mut self, relvar: usize, base: Base)
-        requires { Belongs self.old.catalogue relvar base }
+        requires belongs { Belongs self.old.catalogue relvar base.rows }
+        requires key { base.key ≡ key_at self.old.catalogue relvar }
         ensures catalogue { self.new.catalogue ≡ self.old.catalogue }
-        ensures stored { self.new.stored ≡ put relvar base self.old.stored }
+        ensures stored { self.new.stored ≡ put relvar base.rows self.old.stored }
     {
         set_at(&mut self.stored, relvar, Some(base));
     }

@@ -6,6 +6,7 @@ ghost use Rattle.td_values.specs.Rows.{RowsData};
 ghost use Rattle.td_story.specs.Databases.{Belongs, stored_relvars};
 ghost use Rattle.td_story.specs.Trees.{AreBases, IsIn};
 ghost use Rattle.td_relvars.specs.Evaluated.{Says};
+ghost use Rattle.td_relvars.specs.Keys as keys;
 ghost use Rattle.td_relvars.specs.Parts.{over};
 
 use crate::database::Database;
@@ -16,6 +17,7 @@ use td_eval::{Lookup, value};
 use td_headings::{Catalogue, TypedExpr};
 use td_relations::Relation;
 use td_story::{Answer, Failure};
+use td_values::Name;
 
 /// The relvars of a database, but some by copies of what they had before.
 #[derive(Drop)]
@@ -25,13 +27,19 @@ struct Past<'a> {
 }
 
 impl Lookup for Past<'_> {
-    ghost relvars = { λ p. over p.part.now (stored_relvars p.database.now.stored) };
+    ghost relvars = { λ p. over p.part.now.copies (stored_relvars p.database.now.stored) };
+
+    ghost first_keys = { λ p. keys.first_key p.database.now.catalogue };
 
     fn lent(&self, relvar: usize) -> Result<&Relation, Stop> {
         match self.part.base_at(relvar) {
             Some(copy) => Ok(copy.relation()),
             None => self.database.lent(relvar),
         }
+    }
+
+    fn first_key(&self, relvar: usize) -> Option<&[Name]> {
+        self.database.first_key(relvar)
     }
 
     fn indexes(&self, relvar: usize) -> &[KeyIndex] {
@@ -78,8 +86,8 @@ pub fn value_over(
     expr: &TypedExpr,
 ) -> Result<Answer, AllocError>
     requires expr { IsIn database.now.catalogue expr.now }
-    requires part { All (λ (p : ℕ × RowsData). Belongs database.now.catalogue p.0 p.1) part.now }
-    ensures { IfOk result (Says database.now.catalogue (over part.now (stored_relvars database.now.stored)) expr.now) }
+    requires part { All (λ (p : ℕ × RowsData). Belongs database.now.catalogue p.0 p.1) part.now.copies }
+    ensures { IfOk result (Says database.now.catalogue (over part.now.copies (stored_relvars database.now.stored)) expr.now) }
 {
     let past = Past { database, part };
     evaluated(alloc, database.catalogue(), expr, &past)

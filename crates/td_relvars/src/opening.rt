@@ -7,12 +7,12 @@ ghost use Rattle.td_relvars.specs.ForProofs.Opened.{Fills, Judges, Leaves, Tells
 ghost use Rattle.td_story.specs.Openings as spec;
 ghost use Rattle.td_story.specs.Scripts.{Opens};
 
-use crate::base::Base;
 use crate::database::Database;
 use std::alloc::Global;
 use td_eval::relation;
 use td_headings::{Catalogue, TypedExpr, init_expr};
 use td_integrity::first_failure;
+use td_relations::Relation;
 use td_story::{CatalogueError, Failure, ScriptError, TestFailure, catalogue_of};
 
 // What the INIT of the relvar at the place gives it.
@@ -21,7 +21,7 @@ fn init_value(
     database: &Database,
     place: usize,
     init: &TypedExpr,
-) -> Result<Base, Failure>
+) -> Result<Relation, Failure>
     requires { expressions.IsInit database.now.catalogue (expressions.init_at database.now.catalogue place) init.now }
     ensures told { TellsInit database.now.catalogue database.now.stored (expressions.init_at database.now.catalogue place) result }
     ensures belongs { IfOk result (Belongs database.now.catalogue place) }
@@ -30,10 +30,7 @@ fn init_value(
     let Some((_, heading)) = catalogue.schema().relvar_at(place) else {
         unreachable!()
     };
-    match relation(alloc, catalogue, heading, init, database) {
-        Ok(relation) => Ok(database.make_base(place, relation)),
-        Err(failure) => Err(failure),
-    }
+    relation(alloc, catalogue, heading, init, database)
 }
 
 // Evaluates the INIT of the relvar at the place, if it has one.
@@ -46,10 +43,12 @@ fn put_init(alloc: Global, database: &mut Database, place: usize) -> Result<(), 
         Ok(None) => return Ok(()),
         Err(_) => return Err(Failure::OutOfMemory),
     };
-    match init_value(alloc, database, place, &init) {
-        Ok(base) => database.set(place, base),
+    let relation = match init_value(alloc, database, place, &init) {
+        Ok(relation) => relation,
         Err(failure) => return Err(failure),
-    }
+    };
+    let base = database.make_base(alloc, place, relation)?;
+    database.set(place, base);
     Ok(())
 }
 

@@ -1,18 +1,21 @@
 //! Copies of what some relvars have, and their way back.
 
-ghost use Rattle.std.specs.Prelude.{◌≡◌, ℕ, IfOk, OnOk};
-ghost use Rattle.std.specs.List.{All, Contains};
+ghost use Rattle.std.specs.Prelude.{◌≡◌, ◌==◌, ℕ, IfOk, IfSome, OnOk, map, option_map};
+ghost use Rattle.std.specs.List.{All, find};
 ghost use Rattle.std.specs.Option.{option_copied};
 ghost use Rattle.td_values.specs.Rows.{RowsData};
 ghost use Rattle.td_relations.specs.Deltas.{inverse_of};
 ghost use Rattle.td_story.specs.Databases.{Belongs, stored_at};
 ghost use Rattle.td_relvars.specs.Parts as spec;
-ghost use Rattle.td_relvars.specs.Parts.{FitsPart, change_part, changed_if, part_at, part_of, put_part};
+ghost use Rattle.td_bases.specs.Bases.{BaseData};
+ghost use Rattle.td_relvars.specs.ForProofs.Kept.{copied_keys, copies_of, rows_copied};
+ghost use Rattle.td_relvars.specs.Keys.{key_at};
+ghost use Rattle.td_relvars.specs.Parts.{AreTheirs, FitsPart, change_part, changed_if, part_at, part_of, put_part};
 
-use crate::base::Base;
 use crate::database::Database;
 use std::alloc::{AllocError, Global};
 use std::marker::Model;
+use td_bases::Base;
 use td_headings::Catalogue;
 use td_relations::Delta;
 use td_values::Name;
@@ -24,15 +27,21 @@ pub struct Part {
 }
 
 impl Model for Part {
-    ghost use Rattle.std.specs.Prelude.{ℕ, List};
-    ghost use Rattle.std.specs.Coded.{coded_list, coded_ℕ, coded×};
-    ghost use Rattle.td_values.specs.Rows.{RowsData, rows_code};
+    ghost use Rattle.td_relvars.specs.ForProofs.Kept.{copied_keys, copies_of};
+    ghost use Rattle.td_relvars.specs.Parts.{PartData, part_code};
 
-    ghost Value = { List (ℕ × RowsData) };
+    ghost Value = { PartData };
 
-    ghost coded = { coded_list (coded× coded_ℕ rows_code) };
+    ghost coded = { part_code };
 
-    ghost view = { λ p. p.bases.items };
+    ghost view = { λ p. record { copies = copies_of p.bases.items; keys = copied_keys p.bases.items } };
+}
+
+// The first copy of the relvar at the place.
+fn copy_of_place(bases: &[(usize, Base)], relvar: usize) -> Option<&(usize, Base)>
+    ensures { option_copied result ≡ find (λ (p : ℕ × BaseData). p.0 == relvar) bases.now }
+{
+    bases.iter().find(|copy| copy.0 == relvar)
 }
 
 // Takes the change of a relvar back in the copy, where it is one of that relvar.
@@ -42,8 +51,9 @@ fn change_back_copy(
     relvar: usize,
     delta: &Delta,
 ) -> Result<(), AllocError>
-    requires { copy.old.0 ≡ relvar → delta.now.inserted.heading ≡ copy.old.1.heading }
-    ensures { OnOk result (copy.new ≡ changed_if relvar (inverse_of delta.now) copy.old) }
+    requires { copy.old.0 ≡ relvar → delta.now.inserted.heading ≡ copy.old.1.rows.heading }
+    ensures rows { OnOk result (rows_copied copy.new ≡ changed_if relvar (inverse_of delta.now) (rows_copied copy.old)) }
+    ensures key { OnOk result (copy.new.1.key ≡ copy.old.1.key) }
 {
     if copy.0 == relvar {
         copy.1.change_back_copy(alloc, delta)?;
@@ -58,8 +68,9 @@ fn change_back_copies(
     relvar: usize,
     delta: &Delta,
 ) -> Result<(), AllocError>
-    requires { FitsPart bases.old.items (relvar, delta.now) }
-    ensures { OnOk result (bases.new.items ≡ change_part relvar (inverse_of delta.now) bases.old.items) }
+    requires { FitsPart (copies_of bases.old.items) (relvar, delta.now) }
+    ensures rows { OnOk result (copies_of bases.new.items ≡ change_part relvar (inverse_of delta.now) (copies_of bases.old.items)) }
+    ensures keys { OnOk result (copied_keys bases.new.items ≡ copied_keys bases.old.items) }
 {
     for at in 0..bases.len() {
         change_back_copy(alloc, &mut bases[at], relvar, delta)?;
@@ -70,9 +81,9 @@ fn change_back_copies(
 impl Part {
     /// What the base relvar at the place had, where it is copied. It takes no memory, and costs a look at each copy.
     pub fn base_at(&self, relvar: usize) -> Option<&Base>
-        ensures { option_copied result ≡ part_at self.now relvar }
+        ensures { option_map (λ (b : BaseData). b.rows) (option_copied result) ≡ part_at self.now.copies relvar }
     {
-        match self.bases.iter().find(|copy| copy.0 == relvar) {
+        match copy_of_place(&self.bases, relvar) {
             Some(copy) => Some(&copy.1),
             None => None,
         }
@@ -86,8 +97,8 @@ impl Part {
         relvar: usize,
         delta: &Delta,
     ) -> Result<(), AllocError>
-        requires { FitsPart self.old (relvar, delta.now) }
-        ensures { OnOk result (self.new ≡ change_part relvar (inverse_of delta.now) self.old) }
+        requires { FitsPart self.old.copies (relvar, delta.now) }
+        ensures { OnOk result (self.new ≡ record self.old { copies = change_part relvar (inverse_of delta.now) self.old.copies }) }
     {
         change_back_copies(alloc, &mut self.bases, relvar, delta)
     }
@@ -116,7 +127,8 @@ fn copy_at(
     relvar: usize,
     copied: Copied,
 ) -> Result<Option<(usize, Base)>, AllocError>
-    ensures { IfOk result (λ o. o ≡ spec.copy_of relvar (stored_at database.now relvar)) }
+    ensures rows { IfOk result (λ o. option_map rows_copied o ≡ spec.copy_of relvar (stored_at database.now relvar)) }
+    ensures key { IfOk result (λ o. IfSome o (λ p. p.1.key ≡ key_at database.now.catalogue p.0)) }
 {
     match database.base_at(relvar) {
         Some(base) => Ok(Some((relvar, copy_base(alloc, base, copied)?))),
@@ -131,7 +143,8 @@ fn copies_at(
     relvars: &[usize],
     copied: Copied,
 ) -> Result<Vec<(usize, Base)>, AllocError>
-    ensures { IfOk result (λ v. v.items ≡ part_of database.now.stored relvars.now) }
+    ensures rows { IfOk result (λ v. copies_of v.items ≡ part_of database.now.stored relvars.now) }
+    ensures keys { IfOk result (λ v. copied_keys v.items ≡ map (λ (p : ℕ × RowsData). key_at database.now.catalogue p.0) (copies_of v.items)) }
 {
     let mut bases = Vec::new(alloc);
     for relvar in relvars {
@@ -169,7 +182,8 @@ impl Database {
     /// Copies of what the base relvars of these names have, whose tuples are shared, with their tuples by the keys by
     /// which they are kept. A name of no base relvar is passed over, and one that comes twice is copied twice.
     pub fn copy_of(&self, alloc: Global, names: &[Name]) -> Result<Part, AllocError>
-        ensures { IfOk result (λ p. p ≡ part_of self.now.stored (spec.places_of self.now.catalogue.schema names.now)) }
+        ensures copies { IfOk result (λ p. p.copies ≡ part_of self.now.stored (spec.places_of self.now.catalogue.schema names.now)) }
+        ensures keys { IfOk result (AreTheirs self.now.catalogue) }
     {
         let places = places_of(alloc, self.catalogue(), names)?;
         self.copy_with_keys_at(alloc, &places)
@@ -177,7 +191,8 @@ impl Database {
 
     /// The same of the base relvars at these places.
     pub fn copy_with_keys_at(&self, alloc: Global, relvars: &[usize]) -> Result<Part, AllocError>
-        ensures { IfOk result (λ p. p ≡ part_of self.now.stored relvars.now) }
+        ensures copies { IfOk result (λ p. p.copies ≡ part_of self.now.stored relvars.now) }
+        ensures keys { IfOk result (AreTheirs self.now.catalogue) }
     {
         Ok(Part {
             bases: copies_at(alloc, self, relvars, Copied::WithKeys)?,
@@ -186,7 +201,8 @@ impl Database {
 
     /// The same, but for their tuples by keys: a list of shared tuples for each relvar.
     pub fn copy_at(&self, alloc: Global, relvars: &[usize]) -> Result<Part, AllocError>
-        ensures { IfOk result (λ p. p ≡ part_of self.now.stored relvars.now) }
+        ensures copies { IfOk result (λ p. p.copies ≡ part_of self.now.stored relvars.now) }
+        ensures keys { IfOk result (AreTheirs self.now.catalogue) }
     {
         Ok(Part {
             bases: copies_at(alloc, self, relvars, Copied::Relation)?,
@@ -195,8 +211,9 @@ impl Database {
 
     /// Puts them back, in place of what these relvars have. It takes no memory.
     pub fn put_back(&mut self, part: Part)
-        requires { All (λ (p : ℕ × RowsData). Belongs self.old.catalogue p.0 p.1) part }
-        ensures { self.new ≡ record self.old { stored = put_part part self.old.stored } }
+        requires belongs { All (λ (p : ℕ × RowsData). Belongs self.old.catalogue p.0 p.1) part.copies }
+        requires keys { AreTheirs self.old.catalogue part }
+        ensures { self.new ≡ record self.old { stored = put_part part.copies self.old.stored } }
     {
         let Part { bases } = part;
         for (relvar, base) in bases {

@@ -1,13 +1,18 @@
-use Rattle.std.proofs.Common.{Ok}
+use Rattle.std.proofs.Common.{Ok, ap}
 use Rattle.td_relations.specs.Deltas.{inverse_of}
-use Rattle.td_relvars.proofs.Places.{set_changed, stands}
+use Rattle.td_bases.specs.Bases.{BaseData}
+use Rattle.td_relvars.proofs.Bases.{base_changed, keys_stay, stands_kept}
 use Rattle.td_relvars.proofs.database.take_back_at.Goals as goal
 
-pub returns : goal.returns
-returns c =
+pub returns-clause-back : goal.returns-clause-back
+returns-clause-back c =
     let n = c.args.relvar in
     let xs = c.args.stored.now.items in
-    let q = c.in-Some.base in
+    let b = c.in-Some.base in
     let k = c.requires.there in
-    let has = stands n xs c.index_mut.result.now q k.relation c.index_mut.ensures.value c.in-Some.is k.has in
-    set_changed {E = Unit {0}} (Ok tt) n xs q c.take_back.new.self (inverse_of c.args.delta.now) has c.take_back.ensures
+    let has = stands_kept n xs c.index_mut.result.now b c.index_mut.ensures.value c.in-Some.is k.relation k.has in
+    base_changed {E = Unit {0}} (Ok tt) n xs b c.take_back.new.self (inverse_of c.args.delta.now) has c.take_back.ensures
+
+pub returns-clause-keys : goal.returns-clause-keys
+returns-clause-keys c =
+    keys_stay c.args.relvar c.args.stored.now.items c.index_mut.result.now c.in-Some.base c.index_mut.ensures.value c.in-Some.is c.take_back.new.self (ap (λ (b : BaseData). b.key) c.take_back.ensures)

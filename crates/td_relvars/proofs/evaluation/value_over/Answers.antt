@@ -9,5 +9,5 @@ use Rattle.td_relvars.proofs.evaluation.value_over.Goals as goal
 pub evaluated-requires-clause-bases : goal.evaluated-requires-clause-bases
 evaluated-requires-clause-bases c =
     let d = c.args.database.now in
-    let ps = c.args.part.now in
+    let ps = c.args.part.now.copies in
     subst (λ (k : CatalogueData). AreBases k (over ps (stored_relvars d.stored))) (sym c.catalogue.ensures.same) (bases_over d c.catalogue.ensures.database ps c.requires.part)

@@ -1,4 +1,4 @@
-use Rattle.std.proofs.Common.{Ok, Err, sym, ap, ◌∙◌, subst, slice_get}
+use Rattle.std.proofs.Common.{Result, Ok, Err, IfOk, sym, ap, ◌∙◌, subst, slice_get}
 use Rattle.td_values.specs.Data.{no_attrs}
 use Rattle.td_values.specs.Rows.{RowsData}
 use Rattle.td_kinds.specs.Schemas.{SchemaData}
@@ -20,42 +20,26 @@ relation-requires-clause-expr c =
     let k = c.catalogue-catalogue.ensures in
     subst (λ (z : CatalogueData). IsIn z x) (sym k.same) (init_in s c.args.place x i k.database.defined)
 
-pub make_base-requires : goal.make_base-requires
-make_base-requires c =
+pub returns-clause-told : goal.returns-clause-told
+returns-clause-told c =
+    let d = c.args.database.now in
+    let x = c.args.init.now in
+    let i = init d.catalogue c.args.place x c.requires in
+    let told = subst (λ (z : CatalogueData). Tells c.relation.result (and_then (tree_means z (stored_relvars d.stored) x.tree no_attrs) rows_of)) c.catalogue-catalogue.ensures.same c.relation.ensures.told in
+    tells_init d.catalogue c.args.place x i d.stored c.relation.result told
+
+each_ok : {A E : Type 0} {P Q : A → Type 0} (a : Result A E) → ((x : A) → P x → Q x) → IfOk a P → IfOk a Q
+each_ok (Ok x) f p = f x p
+each_ok (Err e) f p = tt
+
+pub returns-clause-belongs : goal.returns-clause-belongs
+returns-clause-belongs c =
     let s = c.args.database.now.catalogue in
     let n = c.args.place in
     let x = c.args.init.now in
+    let h = c.in-Some.heading.now in
     let i = init s n x c.requires in
     let k = c.catalogue-catalogue.ensures in
     let known = c.schema.ensures.schema ∙ ap (λ (z : CatalogueData). z.schema) k.same in
     let at = ap (λ (z : SchemaData). slice_get z.relvars n) (sym known) ∙ c.in-Some.ensures in
-    let is = subst (λ (z : CatalogueData). IsRelationOver z.schema c.in-Some.heading.now c.in-Ok.relation) k.same c.in-Ok.ensures.typed in
-    belongs s n x i (record { name = c.in-Some.field-0-0.now; value = c.in-Some.heading.now }) at c.in-Ok.relation is
-
-pub returns-in-Ok-clause-told : goal.returns-in-Ok-clause-told
-returns-in-Ok-clause-told c =
-    let d = c.args.database.now in
-    let x = c.args.init.now in
-    let i = init d.catalogue c.args.place x c.requires in
-    let told = ap (λ (z : CatalogueData). and_then (tree_means z (stored_relvars d.stored) x.tree no_attrs) rows_of) (sym c.catalogue-catalogue.ensures.same) ∙ c.in-Ok.ensures.told ∙ ap Ok (sym c.make_base.ensures) in
-    tells_init d.catalogue c.args.place x i d.stored (Ok c.make_base.result) told
-
-pub returns-in-Ok-clause-belongs : goal.returns-in-Ok-clause-belongs
-returns-in-Ok-clause-belongs c =
-    let s = c.args.database.now.catalogue in
-    let n = c.args.place in
-    let x = c.args.init.now in
-    let i = init s n x c.requires in
-    let k = c.catalogue-catalogue.ensures in
-    let known = c.schema.ensures.schema ∙ ap (λ (z : CatalogueData). z.schema) k.same in
-    let at = ap (λ (z : SchemaData). slice_get z.relvars n) (sym known) ∙ c.in-Some.ensures in
-    let is = subst (λ (z : CatalogueData). IsRelationOver z.schema c.in-Some.heading.now c.in-Ok.relation) k.same c.in-Ok.ensures.typed in
-    subst (Belongs s n) (sym c.make_base.ensures) (belongs s n x i (record { name = c.in-Some.field-0-0.now; value = c.in-Some.heading.now }) at c.in-Ok.relation is)
-
-pub returns-in-Err-clause-told : goal.returns-in-Err-clause-told
-returns-in-Err-clause-told c =
-    let d = c.args.database.now in
-    let x = c.args.init.now in
-    let i = init d.catalogue c.args.place x c.requires in
-    let told = subst (λ (z : CatalogueData). Tells {A = RowsData} (Err c.in-Err.failure) (and_then (tree_means z (stored_relvars d.stored) x.tree no_attrs) rows_of)) c.catalogue-catalogue.ensures.same c.in-Err.ensures.told in
-    tells_init d.catalogue c.args.place x i d.stored (Err c.in-Err.failure) told
+    each_ok c.relation.result (λ r typed. belongs s n x i (record { name = c.in-Some.field-0-0.now; value = h }) at r (subst (λ (z : CatalogueData). IsRelationOver z.schema h r) k.same typed)) c.relation.ensures.typed

@@ -1,6 +1,8 @@
 use Rattle.std.proofs.Common.{sym, subst}
 use Rattle.td_story.specs.Databases.{DatabaseData}
 use Rattle.td_relvars.specs.Changed.{CanChange}
+use Rattle.td_relvars.specs.ForProofs.Kept.{rows_of}
+use Rattle.td_relvars.proofs.Bases.{first_after, rows_kept}
 use Rattle.td_relvars.proofs.Kept.{change_is}
 use Rattle.td_relvars.proofs.database.Database.change.Goals as goal
 
@@ -16,4 +18,8 @@ invariant_of-self c =
     let d = c.args.delta.now in
     let can = subst (λ (z : DatabaseData). CanChange z c.args.relvar d) (sym c.self.view_is) c.requires in
     let e = c.change_at.ensures in
-    change_is s.catalogue s.stored.items c.args.relvar d c.self.invariant can c.change_at.result c.change_at.new.stored.items e.ok e.err
+    let xs = s.stored.items in
+    let ys = c.change_at.new.stored.items in (
+      change_is s.catalogue (rows_of xs) c.args.relvar d c.self.invariant.0 can c.change_at.result (rows_of ys) e.ok (rows_kept c.change_at.result xs ys e.err),
+      first_after s.catalogue xs ys c.change_at.result e.keys e.err c.self.invariant.1,
+    )

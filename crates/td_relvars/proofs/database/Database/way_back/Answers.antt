@@ -1,5 +1,7 @@
 use Rattle.std.proofs.Common.{slice_get, sym, ap, ◌∙◌}
 use Rattle.std.specs.Option.{option_copied}
+use Rattle.std.specs.Prelude.{option_map}
+use Rattle.td_bases.specs.Bases.{BaseData}
 use Rattle.td_relvars.proofs.Returning.{leads_at}
 use Rattle.td_relvars.proofs.Stores.{looked_up}
 use Rattle.td_relvars.proofs.database.Database.way_back.Goals as goal
@@ -8,5 +10,6 @@ pub returns : goal.returns
 returns c =
     let d = c.args.self.now in
     let n = c.args.relvar in
-    let base = c.in-Some.base.now in
-    leads_at d n c.args.delta.now base (looked_up (slice_get d.stored n) base (sym c.base_at.ensures ∙ ap option_copied c.in-Some.is)) c.way_back.result c.way_back.ensures
+    let rows = c.in-Some.base.now.rows in
+    let is = sym c.base_at.ensures.rows ∙ ap (λ o. option_map (λ (b : BaseData). b.rows) (option_copied o)) c.in-Some.is in
+    leads_at d n c.args.delta.now rows (looked_up (slice_get d.stored n) rows is) c.way_back.result c.way_back.ensures
