@@ -1,7 +1,7 @@
 //! What a catalogue tells of texts, expected from the language's rules: what is counted, assigned and read, and how
 //! constraints may be judged.
 
-ghost use Rattle.std.specs.Prelude.{Err};
+ghost use Rattle.std.specs.Prelude.{Err, None};
 ghost use Rattle.td_algebra.specs.declared.errors.Stop.TheVariants.{Untyped};
 
 use crate::Result;
@@ -44,6 +44,12 @@ struct Nothing;
 
 impl Lookup for Nothing {
     ghost relvars = { λ _ _. Err Untyped };
+
+    ghost first_keys = { λ _ _. None };
+
+    fn first_key(&self, _relvar: usize) -> Option<&[Name]> {
+        None
+    }
 
     fn lent(&self, _relvar: usize) -> std::result::Result<&Relation, Stop> {
         Err(Stop::Untyped)

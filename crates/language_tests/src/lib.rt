@@ -9,6 +9,8 @@ mod catalogues;
 #[cfg(test)]
 mod databases;
 #[cfg(test)]
+mod lookups;
+#[cfg(test)]
 mod places;
 #[cfg(test)]
 mod readings;

@@ -1,6 +1,7 @@
 //! Running a statement.
 
-ghost use Rattle.std.specs.Prelude.{◌≡◌, [], IfOk, IsTrue, MatchOption, OnErr, Option, Some};
+ghost use Rattle.std.specs.Prelude.{◌≡◌, [], IfOk, IsTrue, MatchOption, OnErr, OnOk, Option, Some};
+ghost use Rattle.std.specs.List.{All};
 ghost use Rattle.td_story.specs.Reports.{IsReport};
 ghost use Rattle.td_headings.specs.Catalogues.{CatalogueData};
 ghost use Rattle.td_headings.specs.Reached.{AreThose};
@@ -16,7 +17,7 @@ ghost use Rattle.td_assign.specs.ForProofs.Given.{AreAssigned, AreChanges};
 ghost use Rattle.td_assign.specs.ForProofs.Turning.{CameFrom, IsTurned, IsOneTurn, IsTried, MayTurn, TakesNothing};
 ghost use Rattle.td_assign.specs.ForProofs.Names.{AreNames};
 ghost use Rattle.td_assign.specs.ForProofs.Prepared.{AreAssignedTo, IsJudged, IsMade, IsPrepared};
-ghost use Rattle.td_assign.specs.ForProofs.Lists.{given_to};
+ghost use Rattle.td_assign.specs.ForProofs.Lists.{IsKeyed, changes_of, given_to};
 ghost use Rattle.td_story.specs.Steps as spec;
 ghost use Rattle.td_story.specs.Steps.{IsRead, IsUnreadText, Steps};
 
@@ -34,7 +35,7 @@ use td_headings::{Catalogue, TypedAssignment, TypedStatement, type_statement};
 use td_integrity::first_failure_after;
 use td_kinds::error::TypeError;
 use td_relations::Delta;
-use td_relvars::{Database, WayBack};
+use td_relvars::{Base, Database, WayBack};
 use td_story::{BrokenTest, Failure, Meter, Outcome, TestFailure};
 
 // The statement that the text is, typed, if it is one.
@@ -170,15 +171,44 @@ fn prepare(
     }
 }
 
-// The relations move: no memory is taken.
-fn put_all(database: &mut Database, changes: Vec<Change>)
-    requires { AreChanges database.old.catalogue changes.items }
-    ensures { database.new ≡ spec.with_all database.old (given_to changes.items) }
+// What the targets are to have, each with its tuples by its first key.
+fn bases_of(
+    alloc: Global,
+    database: &Database,
+    changes: Vec<Change>,
+) -> Result<Vec<(usize, Base)>, AllocError>
+    requires { AreChanges database.now.catalogue changes.items }
+    ensures changes { IfOk result (λ v. changes_of v.items ≡ changes.items) }
+    ensures keyed { IfOk result (λ v. All (IsKeyed database.now.catalogue) v.items) }
 {
+    let mut bases = Vec::with_capacity(alloc, changes.len())?;
     for change in changes {
-        let base = database.make_base(change.target, change.relation);
-        database.set(change.target, base);
+        let Change { target, relation } = change;
+        bases.push((target, database.make_base(alloc, target, relation)?))?;
     }
+    Ok(bases)
+}
+
+// Puts them in place of what the targets have. It takes no memory.
+fn put_bases(database: &mut Database, bases: Vec<(usize, Base)>)
+    requires changes { AreChanges database.old.catalogue (changes_of bases.items) }
+    requires keyed { All (IsKeyed database.old.catalogue) bases.items }
+    ensures { database.new ≡ spec.with_all database.old (given_to (changes_of bases.items)) }
+{
+    for (target, base) in bases {
+        database.set(target, base);
+    }
+}
+
+// Puts what the targets were given in place of what they have.
+fn put_all(alloc: Global, database: &mut Database, changes: Vec<Change>) -> Result<(), AllocError>
+    requires { AreChanges database.old.catalogue changes.items }
+    ensures ok { OnOk result (database.new ≡ spec.with_all database.old (given_to changes.items)) }
+    ensures err { OnErr result (database.new ≡ database.old) }
+{
+    let bases = bases_of(alloc, database, changes)?;
+    put_bases(database, bases);
+    Ok(())
 }
 
 // Makes the one change, which takes nothing out, and takes it back where a test fails or memory is wanting for them.
@@ -354,7 +384,7 @@ pub fn run(
     database.count_reads(alloc, &names.footprint);
     match prepared {
         Prepared::Changes(changes, delta) => {
-            put_all(database, changes);
+            put_all(alloc, database, changes)?;
             Ok(ran(Outcome::Done, delta, names))
         }
         Prepared::Turn(relvar, delta) => {

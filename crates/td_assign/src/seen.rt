@@ -2,6 +2,7 @@
 
 ghost use Rattle.td_assign.specs.ForProofs.Lists as lists;
 ghost use Rattle.td_story.specs.Given as spec;
+ghost use Rattle.td_relvars.specs.Keys.{first_key};
 ghost use Rattle.td_story.specs.Databases.{stored_relvars};
 
 use crate::changes::{Change, given_to};
@@ -9,6 +10,7 @@ use td_algebra::{KeyIndex, Stop};
 use td_eval::Lookup;
 use td_relations::Relation;
 use td_relvars::Database;
+use td_values::Name;
 
 /// The relvars of a database, but one target with what it was given.
 #[derive(Drop)]
@@ -21,6 +23,8 @@ pub(crate) struct Seen<'a> {
 impl Lookup for Seen<'_> {
     ghost relvars = { λ s. spec.seen (lists.given_to s.changes.now) s.target (stored_relvars s.database.now.stored) };
 
+    ghost first_keys = { λ s. first_key s.database.now.catalogue };
+
     fn lent(&self, relvar: usize) -> Result<&Relation, Stop> {
         if self.target == relvar {
             if let Some(relation) = given_to(self.changes, relvar) {
@@ -28,6 +32,10 @@ impl Lookup for Seen<'_> {
             }
         }
         self.database.lent(relvar)
+    }
+
+    fn first_key(&self, relvar: usize) -> Option<&[Name]> {
+        self.database.first_key(relvar)
     }
 
     fn indexes(&self, relvar: usize) -> &[KeyIndex] {
@@ -51,11 +59,17 @@ pub(crate) struct Replaced<'a> {
 impl Lookup for Replaced<'_> {
     ghost relvars = { λ s. spec.replaced (lists.given_to s.changes.now) (stored_relvars s.database.now.stored) };
 
+    ghost first_keys = { λ s. first_key s.database.now.catalogue };
+
     fn lent(&self, relvar: usize) -> Result<&Relation, Stop> {
         match given_to(self.changes, relvar) {
             Some(relation) => Ok(relation),
             None => self.database.lent(relvar),
         }
+    }
+
+    fn first_key(&self, relvar: usize) -> Option<&[Name]> {
+        self.database.first_key(relvar)
     }
 
     fn indexes(&self, relvar: usize) -> &[KeyIndex] {

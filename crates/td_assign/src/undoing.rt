@@ -46,8 +46,8 @@ pub fn undo(
 /// Takes each change back in the copies of its relvar; one of a relvar that is not copied is passed over. It costs as
 /// `undo` of those that are. Where memory is wanting, the part is only to be dropped.
 pub fn undo_part(alloc: Global, part: &mut Part, delta: &[(usize, Delta)]) -> Result<(), AllocError>
-    requires { FitPart part.old delta.now }
-    ensures { OnOk result (part.new ≡ undone_part delta.now part.old) }
+    requires { FitPart part.old.copies delta.now }
+    ensures { OnOk result (part.new ≡ record part.old { copies = undone_part delta.now part.old.copies }) }
 {
     for (relvar, made) in delta {
         part.change_back(alloc, *relvar, made)?;

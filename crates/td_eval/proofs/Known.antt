@@ -8,7 +8,7 @@ use Rattle.std.specs.declared.cmp.Ordering.TheVariants.{Less}
 use Rattle.std.proofs.lemmas.Bool.{cases_eq}
 use Rattle.std.proofs.lemmas.Cmp.{ranked}
 use Rattle.std.proofs.lemmas.List.{get_or-map, length-map, map-append}
-use Rattle.std.proofs.lemmas.List.Elements.{All-from_recursion, Contains-append_right, Contains-append_cases, Contains-push_cases}
+use Rattle.std.proofs.lemmas.List.Elements.{All-from_recursion, Contains-append_left, Contains-append_right, Contains-append_cases, Contains-push_cases}
 use Rattle.std.proofs.lemmas.Map.Keys.{sorted_head, sorted_tail}
 use Rattle.std.proofs.lemmas.Option.{slice_get_within, slice_get-get_or, get_or_from_slice_get}
 use Rattle.td_values.specs.Data.{Attrs}
@@ -86,9 +86,32 @@ base_found r (b ∷ bs) n h =
     ∙ base_found r bs n (either b.place (places_of bs) n h (λ e. absurd (apart (sym e))) (λ p. p)))
     (cases_eq b.place n)
 
+-- what stands there is found, whatever is put behind
+first_found : (ks : List Known) (k : Known) (n : ℕ) → Contains (places ks) n → relvars_at (ks ++ k ∷ []) n ≡ relvars_at ks n
+first_found [] k n h = none_there n h
+first_found (j ∷ ks) k n h =
+    ⊎_elim
+    (λ e.
+    ap (λ b. if b then j.value else relvars_at (ks ++ k ∷ []) n) (eq-eqb j.place n e)
+    ∙ sym (ap (λ b. if b then j.value else relvars_at ks n) (eq-eqb j.place n e)))
+    (λ apart. ap (if_here n j) (first_found ks k n (either j.place (places ks) n h (λ e. absurd (apart (sym e))) (λ p. p))))
+    (cases_eq j.place n)
+
+still_found : (s : Selection) (vs : List VirtualUnder) (ks : List Known) (n : ℕ) → Contains (places ks) n → relvars_at (virtuals_known s vs ks) n ≡ relvars_at ks n
+still_found s [] ks n h = refl
+still_found s (v ∷ vs) ks n h =
+    let k = virtual_known s ks v in
+    still_found s vs (ks ++ k ∷ []) n (subst (λ l. Contains l n) (sym (map-append place_of ks (k ∷ []))) (Contains-append_left (places ks) (k.place ∷ []) n h))
+    ∙ first_found ks k n h
+
 same_places : (r : Relvars) (bs : List BaseUnder) → places (bases_known r bs) ≡ places_of bs
 same_places r [] = refl
 same_places r (b ∷ bs) = ap (λ l. b.place ∷ l) (same_places r bs)
+
+pub base_stays : (x : Expression) (r : Relvars) (n : ℕ) → Contains (places_of x.bases) n → relvars_at (all_known x r) n ≡ r n
+base_stays x r n h =
+    still_found (selection x.selectors) x.virtuals (bases_known r x.bases) n (subst (λ l. Contains l n) (sym (same_places r x.bases)) h)
+    ∙ base_found r x.bases n h
 
 -- relvars that agree there are known alike
 pub same_known : (r s : Relvars) (bs : List BaseUnder) → ((n : ℕ) → Contains (places_of bs) n → r n ≡ s n) → bases_known r bs ≡ bases_known s bs

@@ -15,3 +15,4 @@ pub mod Rest
 pub mod Exact
 pub mod Selecting
 pub mod Remade
+pub mod ByKey

@@ -10,6 +10,7 @@ ghost use Rattle.td_operators.specs.Values as spec;
 ghost use Rattle.td_eval.specs.ForProofs.Environments.{MeanTheirs, all_known, base_known, bases_known};
 ghost use Rattle.td_story.specs.Meanings.{means};
 
+use crate::by_key::value_by_key;
 use crate::lookup::Lookup;
 use crate::relvars::{all_relvars, those};
 use crate::settling::{Findings, Virtuals, names_of, settle, settle_first};
@@ -159,7 +160,8 @@ pub(crate) fn value_of_part<L: Lookup>(
 
 /// The value of the expression within the tuple, or the error that it raises. Each base relvar that it reads is looked
 /// up once and lent, which takes no memory for its tuples. A virtual relvar under it is evaluated once, and only where
-/// the expression comes to it; what stands before it in an operand or a branch may be evaluated anew behind it.
+/// the expression comes to it; what stands before it in an operand or a branch may be evaluated anew behind it. WHERE
+/// of a base relvar by literals for all names of its first key asks the look-up for these tuples alone.
 pub fn eval<L: Lookup>(
     alloc: Global,
     expr: &TypedExpr,
@@ -168,6 +170,9 @@ pub fn eval<L: Lookup>(
 ) -> Result<Value, Fault>
     ensures { Answers result (means expr.now (L.relvars lookup.now) tuple.now) }
 {
+    if let Some(value) = value_by_key(alloc, expr.get(), lookup)? {
+        return Ok(value);
+    }
     let scope = Scope::Within(tuple, &Scope::Nothing);
     value_of_part(alloc, expr, lookup, expr.get().tree.get(), &scope)
 }

@@ -2,6 +2,7 @@
 #![tactic(auto)]
 
 mod addition;
+mod by_key;
 mod changes;
 mod deciding;
 mod evaluation;

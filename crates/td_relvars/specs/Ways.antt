@@ -2,7 +2,7 @@
 use Rattle.std.specs.Prelude.{◌≡◌, ℕ, Ok}
 use Rattle.td_values.specs.Rows.{RowsData}
 use Rattle.td_relations.specs.Deltas.{DeltaData, inverse_of}
-use Rattle.td_bases.specs.Ways.{LeadsBack, WayBackData}
+pub use Rattle.td_bases.specs.Ways.{LeadsBack, WayBackData}
 use Rattle.td_story.specs.Databases.{DatabaseData, stored_relvars}
 use Rattle.td_relvars.specs.Changed.{CanChange, changed}
 

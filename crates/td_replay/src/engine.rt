@@ -3,7 +3,7 @@
 ghost use Rattle.std.specs.Prelude.{◌≡◌, ℕ, Option, OnOk};
 ghost use Rattle.td_rollback.specs.Labels.{IsCoarser, has_label};
 ghost use Rattle.td_replay.specs.Noted.{AgreeAt, AreClosed, AreTargetsOf, IsClosedPart, IsFootprintOf, IsLegalDatabase, Notes, mix, opened_by};
-ghost use Rattle.td_relvars.specs.Parts.{part_of};
+ghost use Rattle.td_relvars.specs.Parts.{AreTheirs, part_of};
 ghost use Rattle.td_story.specs.Databases.{IsDatabase};
 ghost use Rattle.td_replay.specs.ForProofs.Going.{go};
 ghost use Rattle.td_replay.specs.ForProofs.Mixing.{mixes};
@@ -98,7 +98,7 @@ impl Machine for Engine {
 
     ghost targets_in = { λ r. r.targets.items };
 
-    ghost saved = { λ p ns d. p ≡ part_of d.stored ns };
+    ghost saved = { λ p ns d. (p.copies ≡ part_of d.stored ns) × AreTheirs d.catalogue p };
 
     ghost count = { λ m. m.count };
 

@@ -54,8 +54,8 @@ pub(crate) fn undo_behind(
     kept: usize,
 ) -> Result<(), AllocError>
     requires kept { kept ≤ length log.now }
-    requires now { (o d : DatabaseData) × (es : List Entry) × (places : List ℕ) × IsLegalDatabase o × (length es ≡ length log.now) × AreAt o d es log.now places (length log.now) part.old }
-    ensures { (o d : DatabaseData) (es : List Entry) (places : List ℕ) → IsLegalDatabase o → length es ≡ length log.now → AreAt o d es log.now places (length log.now) part.old → OnOk result (AreAt o d es log.now places kept part.new) }
+    requires now { (o d : DatabaseData) × (es : List Entry) × (places : List ℕ) × IsLegalDatabase o × (length es ≡ length log.now) × AreAt o d es log.now places (length log.now) part.old.copies }
+    ensures { (o d : DatabaseData) (es : List Entry) (places : List ℕ) → IsLegalDatabase o → length es ≡ length log.now → AreAt o d es log.now places (length log.now) part.old.copies → OnOk result (AreAt o d es log.now places kept part.new.copies) }
 {
     let mut left = log.len();
     while left > kept {

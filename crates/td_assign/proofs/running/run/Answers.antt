@@ -9,12 +9,12 @@ use Rattle.td_story.specs.declared.outcome.Outcome.{Outcome}
 use Rattle.td_assign.proofs.Turning.{turned_differences, turned_legal, turned_step}
 use Rattle.td_assign.proofs.running.run.Goals as goal
 
-pub returns-in-Changes-clause-legal : goal.returns-in-Changes-clause-legal
-returns-in-Changes-clause-legal c =
+pub returns-in_ok-put_all-in-Changes-clause-legal : goal.returns-in_ok-put_all-in-Changes-clause-legal
+returns-in_ok-put_all-in-Changes-clause-legal c =
     let d = c.args.database.now in
     let cs = c.in-Changes.changes.items in
     let prepared = rw c.in-Changes.is at c.in_ok-prepared.ensures.prepared in
-    subst IsLegal (sym c.put_all.ensures) (subst (λ (e : DatabaseData). IsLegal (with_all e (given_to cs))) (sym c.count_reads.ensures) (all_pass d.catalogue (stored_relvars (with_given (given_to cs) d.stored)) d.catalogue.tests prepared.1.passes))
+    subst IsLegal (sym c.in_ok-put_all-in-Changes.ensures.ok) (subst (λ (e : DatabaseData). IsLegal (with_all e (given_to cs))) (sym c.count_reads.ensures) (all_pass d.catalogue (stored_relvars (with_given (given_to cs) d.stored)) d.catalogue.tests prepared.1.passes))
 
 pub returns-in_ok-outcome-in-Turn-clause-step : goal.returns-in_ok-outcome-in-Turn-clause-step
 returns-in_ok-outcome-in-Turn-clause-step c =

@@ -11,7 +11,7 @@ lacking-requires c =
     let d = c.args.database.now in
     let n = c.args.target in
     let before = c.relation-before.result.now in
-    of_target d n c.args.more.now before c.requires (looked_up (slice_get d.stored n) before (sym c.in-Some.ensures ∙ ap Some (sym c.relation-before.ensures)))
+    of_target d n c.args.more.now before c.requires (looked_up (slice_get d.stored n) before (sym c.in-Some.ensures.rows ∙ ap Some (sym c.relation-before.ensures)))
 
 pub of-requires : goal.of-requires
 of-requires c =
@@ -30,5 +30,5 @@ returns c =
     let before = c.relation-before.result.now in
     let e = c.empty-deleted.result in
     let heading = c.in_ok-copy-in-Some.ensures ∙ c.heading.ensures ∙ c.in_ok-inserted-in-Some.ensures.heading in
-    growth_is d n s before c.requires (looked_up (slice_get d.stored n) before (sym c.in-Some.ensures ∙ ap Some (sym c.relation-before.ensures)))
+    growth_is d n s before c.requires (looked_up (slice_get d.stored n) before (sym c.in-Some.ensures.rows ∙ ap Some (sym c.relation-before.ensures)))
     c.in_ok-inserted-in-Some.inserted e c.of.result c.rows_fit.ensures c.rows_fit-in-Some.ensures c.in_ok-inserted-in-Some.ensures (subst (λ (h : Header). IsRelation h set.empty e) heading c.empty-deleted.ensures) c.of.ensures

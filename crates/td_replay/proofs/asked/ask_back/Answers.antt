@@ -30,8 +30,8 @@ undo_behind-requires-clause-now c =
     let d = c.args.told.now.engine in
     let l = subst (λ (ps : Log). IsLogged q.0 q.1 ps d) (sym c.deref-4.ensures.value) q.2 in
     let places = c.deref-3.result.now in
-    let is = c.in_ok-part.ensures ∙ ap (λ (z : DatabaseData). part_of z.stored places) c.database-database.ensures.same in
-    (opened_by d.catalogue, d, q.1, places, l.sound, as_many q.0 q.1 c.deref-4.result.now d l, copied_now q.0 q.1 c.deref-4.result.now d l (logged_sound q.0 q.1 c.deref-4.result.now d l).0 places c.in_ok-part.part is)
+    let is = c.in_ok-part.ensures.copies ∙ ap (λ (z : DatabaseData). part_of z.stored places) c.database-database.ensures.same in
+    (opened_by d.catalogue, d, q.1, places, l.sound, as_many q.0 q.1 c.deref-4.result.now d l, copied_now q.0 q.1 c.deref-4.result.now d l (logged_sound q.0 q.1 c.deref-4.result.now d l).0 places c.in_ok-part.part.copies is)
 
 pub value_over-requires-clause-part : goal.value_over-requires-clause-part
 value_over-requires-clause-part c =
@@ -40,10 +40,10 @@ value_over-requires-clause-part c =
     let log = c.deref-4.result.now in
     let l = subst (λ (ps : Log). IsLogged q.0 q.1 ps d) (sym c.deref-4.ensures.value) q.2 in
     let places = c.deref-3.result.now in
-    let is = c.in_ok-part.ensures ∙ ap (λ (z : DatabaseData). part_of z.stored places) c.database-database.ensures.same in
+    let is = c.in_ok-part.ensures.copies ∙ ap (λ (z : DatabaseData). part_of z.stored places) c.database-database.ensures.same in
     let sound = (logged_sound q.0 q.1 log d l).0 in
-    let at = c.in_ok-undo_behind.ensures (opened_by d.catalogue) d q.1 places l.sound (as_many q.0 q.1 log d l) (copied_now q.0 q.1 log d l sound places c.in_ok-part.part is) in
-    let now = c.undo_behind.new.part in
+    let at = c.in_ok-undo_behind.ensures (opened_by d.catalogue) d q.1 places l.sound (as_many q.0 q.1 log d l) (copied_now q.0 q.1 log d l sound places c.in_ok-part.part.copies is) in
+    let now = c.undo_behind.new.part.copies in
     let all = copies_belong d sound at.state (was_sound q.0 q.1 log d l places c.args.kept now at).0 (was_of q.0 q.1 log d l places c.args.kept now at) now at.copied in
     subst (λ (z : DatabaseData). All (λ p. Belongs z.catalogue p.0 p.1) now) (sym c.database-database.ensures.same) all
 
@@ -53,10 +53,10 @@ returns c = λ script es m kept.
     let log = c.deref-4.result.now in
     let l = subst (λ (ps : Log). IsLogged script es ps d) (sym c.deref-4.ensures.value) m in
     let places = c.deref-3.result.now in
-    let is = c.in_ok-part.ensures ∙ ap (λ (z : DatabaseData). part_of z.stored places) c.database-database.ensures.same in
+    let is = c.in_ok-part.ensures.copies ∙ ap (λ (z : DatabaseData). part_of z.stored places) c.database-database.ensures.same in
     let sound = (logged_sound script es log d l).0 in
-    let at = c.in_ok-undo_behind.ensures (opened_by d.catalogue) d es places l.sound (as_many script es log d l) (copied_now script es log d l sound places c.in_ok-part.part is) in
-    let now = c.undo_behind.new.part in
+    let at = c.in_ok-undo_behind.ensures (opened_by d.catalogue) d es places l.sound (as_many script es log d l) (copied_now script es log d l sound places c.in_ok-part.part.copies is) in
+    let now = c.undo_behind.new.part.copies in
     let t = c.requires.typed in
     let x = c.args.query.now in
     let says = subst (λ (z : DatabaseData). IfOk c.value_over.result (Says z.catalogue (over now (stored_relvars z.stored)) x)) c.database-database.ensures.same c.value_over.ensures in

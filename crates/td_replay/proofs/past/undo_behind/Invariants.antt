@@ -9,7 +9,7 @@ abbrev pub invariant-loop-left : goal.invariant-loop-left
 invariant-loop-left l = record {
   within : l.left ≤ length l.log;
   kept : l.kept ≤ l.left;
-  at : (o d : DatabaseData) (es : List Entry) (places : List ℕ) → IsLegalDatabase o → length es ≡ length l.log → AreAt o d es l.log places (length l.log) l.initial.part → AreAt o d es l.log places l.left l.part;
+  at : (o d : DatabaseData) (es : List Entry) (places : List ℕ) → IsLegalDatabase o → length es ≡ length l.log → AreAt o d es l.log places (length l.log) l.initial.part.copies → AreAt o d es l.log places l.left l.part.copies;
 }
 
 abbrev pub decreases-loop-left : goal.decreases-loop-left

@@ -1,0 +1,6 @@
+use Rattle.std.proofs.Common.{◌≡◌, take, true}
+use Rattle.td_eval.specs.ForProofs.ByKey.{all_columns}
+use Rattle.td_eval.proofs.by_key.has_names.Given as goal
+
+abbrev pub invariant-loop-given : goal.invariant-loop-given
+invariant-loop-given l = all_columns (take l.given-index l.values) l.heading ≡ true
