@@ -6,10 +6,11 @@ use crate::Result;
 use std::alloc::Global;
 use td_assign::{Meter, Outcome, redo, run, undo, undo_part};
 use td_constraints::{Failure, first_failure, first_failure_after};
+use td_eval::Lookup;
 use td_grammar::{LATEST, read_expr};
 use td_headings::type_expr;
 use td_relvars::{Answer, Base, Database, Part, RelvarError, ScriptError, Test, value_over};
-use td_values::{Name, Value, show};
+use td_values::{Kind, Name, Tuple, Value, show};
 
 const SCRIPT: &str = "
 VAR S BASE RELATION { N INTEGER } KEY { N };
@@ -63,6 +64,28 @@ fn failure(alloc: Global, database: &Database) -> Result<(bool, bool)> {
     }
 }
 
+// A tuple with this value of N.
+fn numbered(alloc: Global, n: i64) -> Result<Tuple> {
+    let mut attributes = Vec::with_capacity(alloc, 1)?;
+    let kind = Kind::Integer(n);
+    attributes.push((Name::new(alloc, "N")?, Value { kind }))?;
+    Ok(Tuple::of(alloc, attributes)?)
+}
+
+// How many tuples the relvar has with this value of its first key: as it stores them, and by the look-up.
+fn found(alloc: Global, database: &Database, name: &Name, n: i64) -> Result<(usize, usize)> {
+    let values = numbered(alloc, n)?;
+    let stored = match database.base_of(name) {
+        Some(base) if base.has_names_of(&values) => base.with_key(&values).len(),
+        _ => 1_000,
+    };
+    let looked_up = match database.keyed(alloc, 0, &values) {
+        Ok(Some(relation)) => relation.len(),
+        _ => 1_001,
+    };
+    Ok((stored, looked_up))
+}
+
 #[test]
 fn databases_have_their_calls(rt: HostRuntime) -> Result<()> {
     let alloc = rt.alloc();
@@ -84,5 +107,9 @@ fn databases_have_their_calls(rt: HostRuntime) -> Result<()> {
     assert!(rt; sizes(alloc, &database, &name)? == (1, 1));
     assert!(rt; failure(alloc, &database)? == (false, false));
     assert!(rt; part.base_at(0).is_some());
+    assert!(rt; found(alloc, &database, &name, 1)? == (1, 1));
+    assert!(rt; found(alloc, &database, &name, 2)? == (0, 0));
+    let whole = database.value(alloc, 0);
+    assert!(rt; whole.is_ok_and(|relation| relation.len() == 1));
     Ok(())
 }

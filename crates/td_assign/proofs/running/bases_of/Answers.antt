@@ -10,8 +10,15 @@ use Rattle.td_assign.proofs.running.bases_of.Goals as goal
 
 pub loop-change-init : goal.loop-change-init
 loop-change-init c =
-    let seen : c.args.changes.items ≡ into_iter_items c.into_iter-change-iterator.result = search rules in
-    record { made = seen; keyed = λ k d lt. absurd (omega arith); each = subst (All (IsChange c.args.database.now.catalogue)) seen c.requires.each }
+    let k = c.args.database.now.catalogue in
+    let all = into_iter_items c.into_iter-change-iterator.result in
+    let seen : c.args.changes.items ≡ all = search rules in
+    let none : c.in_ok-bases.bases.items ≡ [] = c.in_ok-bases.ensures.items in
+    record {
+      made = seen ∙ ap (λ (ps : List (ℕ × BaseData)). changes_of ps ++ all) (sym none);
+      keyed = subst (All (IsKeyed k)) (sym none) (λ i d lt. absurd (omega (arith, lt)));
+      each = subst (All (IsChange k)) seen c.requires.each;
+    }
 
 pub make_base-requires : goal.make_base-requires
 make_base-requires c = All-head (IsChange c.args.database.now.catalogue) c.in-Some.change (into_iter_items c.next.new.self) (subst (All (IsChange c.args.database.now.catalogue)) c.in-Some.ensures.steps.0 c.loop-change.invariant.each)
