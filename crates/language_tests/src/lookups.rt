@@ -25,9 +25,7 @@ struct Counted<'a> {
 }
 
 impl Counted<'_> {
-    fn of(database: &Database) -> Counted<'_>
-        ensures { result.database.now ≡ database.now }
-    {
+    fn of(database: &Database) -> Counted<'_> {
         Counted {
             database,
             lent: Cell::new(0),
@@ -84,7 +82,7 @@ const SCRIPT: &str = "
     VAR LONDON VIRTUAL ( S WHERE CITY = 'London' );";
 
 // The value of the query, and how often what relvars have was found by a first key, copied and lent.
-fn counted(alloc: Global, database: &Database, text: &str) -> Result<(String, u32, u32, u32)> {
+fn evaluated(alloc: Global, database: &Database, text: &str) -> Result<(String, u32, u32, u32)> {
     let read = read_expr(alloc, text)?;
     let expr = type_expr(alloc, database.catalogue(), read.get())?;
     let lookup = Counted::of(database);
@@ -162,9 +160,12 @@ fn first_keys_are_asked_by(rt: HostRuntime) -> Result<()> {
         return Ok(());
     };
     for (text, value, is_keyed, is_lent) in QUERIES {
-        let (shown, keyed, copied, lent) = counted(alloc, &database, text)?;
-        assert!(rt; shown == *value, "{text} is {shown}");
-        assert!(rt; keyed == u32::from(*is_keyed), "{text} asks {keyed} times by a key");
+        let (shown, keyed, copied, lent) = evaluated(alloc, &database, text)?;
+        assert!(rt; shown.as_str() == *value, "{text} is {shown}");
+        assert!(rt;
+            keyed == u32::from(*is_keyed),
+            "{text} asks {keyed} times by a key"
+        );
         assert!(rt; copied == 0, "{text} copies {copied} relvars");
         assert!(rt; (lent > 0) == *is_lent, "{text} has {lent} relvars lent");
     }
@@ -204,17 +205,28 @@ fn tuples_are_found_by_first_keys(rt: HostRuntime) -> Result<()> {
         return Ok(());
     };
     let one = found(alloc, &database, "S", &values(alloc, &[("SNO", "S2")])?)?;
-    assert!(rt; one == "TUPLE { CITY 'Paris', SNO 'S2', STATUS 10 }", "{one}");
+    assert!(rt;
+        one.as_str() == "TUPLE { CITY 'Paris', SNO 'S2', STATUS 10 }",
+        "{one}"
+    );
     let none = found(alloc, &database, "S", &values(alloc, &[("SNO", "S9")])?)?;
     assert!(rt; none.is_empty(), "{none}");
     let both = values(alloc, &[("PNO", "P1"), ("SNO", "S1")])?;
     let two = found(alloc, &database, "SP", &both)?;
-    assert!(rt; two == "TUPLE { PNO 'P1', QTY 300, SNO 'S1' }", "{two}");
+    assert!(rt;
+        two.as_str() == "TUPLE { PNO 'P1', QTY 300, SNO 'S1' }",
+        "{two}"
+    );
     let part = found(alloc, &database, "SP", &values(alloc, &[("SNO", "S1")])?)?;
-    assert!(rt; part == "not its first key", "{part}");
+    assert!(rt; part.as_str() == "not its first key", "{part}");
     let other = found(alloc, &database, "S", &values(alloc, &[("CITY", "Paris")])?)?;
-    assert!(rt; other == "not its first key", "{other}");
-    let virtual_one = found(alloc, &database, "LONDON", &values(alloc, &[("SNO", "S1")])?)?;
-    assert!(rt; virtual_one == "no base relvar", "{virtual_one}");
+    assert!(rt; other.as_str() == "not its first key", "{other}");
+    let virtual_one = found(
+        alloc,
+        &database,
+        "LONDON",
+        &values(alloc, &[("SNO", "S1")])?,
+    )?;
+    assert!(rt; virtual_one.as_str() == "no base relvar", "{virtual_one}");
     Ok(())
 }
