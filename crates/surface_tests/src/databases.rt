@@ -86,6 +86,19 @@ fn found(alloc: Global, database: &Database, name: &Name, n: i64) -> Result<(usi
     Ok((stored, looked_up))
 }
 
+// Puts what the base relvar has in its place once more, and tells how many tuples that are.
+fn put_again(alloc: Global, database: &mut Database, relvar: usize) -> Result<usize> {
+    database.relvars_fit();
+    let Some(base) = database.base_at(relvar) else {
+        return Ok(0);
+    };
+    let relation = base.copy_relation(alloc)?;
+    let again = database.make_base(alloc, relvar, relation)?;
+    let len = again.len();
+    database.set(relvar, again);
+    Ok(len)
+}
+
 #[test]
 fn databases_have_their_calls(rt: HostRuntime) -> Result<()> {
     let alloc = rt.alloc();
@@ -109,6 +122,7 @@ fn databases_have_their_calls(rt: HostRuntime) -> Result<()> {
     assert!(rt; part.base_at(0).is_some());
     assert!(rt; found(alloc, &database, &name, 1)? == (1, 1));
     assert!(rt; found(alloc, &database, &name, 2)? == (0, 0));
+    assert!(rt; put_again(alloc, &mut database, 0)? == 1);
     let whole = database.value(alloc, 0);
     assert!(rt; whole.is_ok_and(|relation| relation.len() == 1));
     Ok(())
