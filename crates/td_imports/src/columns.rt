@@ -3,15 +3,14 @@
 use crate::error::ImportFault;
 use csv::ByteRecord;
 use std::alloc::{AllocError, Global};
+use td_terminals::push_in_line;
 use td_values::{Heading, Name, TdType};
 
-/// The bytes as a text to be told, with a blank for each character that would move the cursor.
+/// The bytes as a text to be told in one line.
 pub(crate) fn told(alloc: Global, bytes: &[u8]) -> Result<String, AllocError> {
     let text = String::from_utf8_lossy(alloc, bytes)?;
     let mut told = String::with_capacity(alloc, text.len())?;
-    for c in text.as_str().chars() {
-        told.push(if c.is_control() { ' ' } else { c })?;
-    }
+    push_in_line(&mut told, text.as_str())?;
     Ok(told)
 }
 

@@ -4,6 +4,7 @@ use std::alloc::{AllocError, Global};
 use td_listings::show_stamp;
 use td_stamps::{Entry, Stamp};
 use td_story::Outcome;
+use td_terminals::push_statement;
 use td_values::{Name, Raise};
 
 /// What an error of evaluation means.
@@ -72,11 +73,9 @@ pub(crate) fn push_stamped(
     Ok(())
 }
 
-// A statement in one line, with a blank in place of what would move the cursor.
+// A statement in one line.
 fn push_line(out: &mut String, text: &str) -> Result<(), AllocError> {
-    for c in text.chars() {
-        out.push(if c.is_control() { ' ' } else { c })?;
-    }
+    push_statement(out, text)?;
     out.push_str("\n")
 }
 

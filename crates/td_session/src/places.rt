@@ -2,15 +2,8 @@
 
 use std::alloc::{AllocError, Global};
 use td_places::{Reading, place_of_fault};
+use td_terminals::push_statement;
 use unicode_width::UnicodeWidthStr;
-
-// The line as a terminal shows it, with a blank for each character that would move the cursor.
-fn push_line(out: &mut String, line: &str) -> Result<(), AllocError> {
-    for c in line.chars() {
-        out.push(if c.is_control() { ' ' } else { c })?;
-    }
-    out.push_str("\n")
-}
 
 fn push_caret(out: &mut String, column: usize) -> Result<(), AllocError> {
     for _ in 0..column {
@@ -26,10 +19,12 @@ pub fn push_place(out: &mut String, text: &str, at: usize) -> Result<(), AllocEr
     };
     let front = front.rsplit_once('\n').map_or(front, |parts| parts.1);
     let behind = behind.split_once('\n').map_or(behind, |parts| parts.0);
-    let mut line = String::from_str(*out.allocator(), front)?;
+    let mut line = String::new(*out.allocator());
+    push_statement(&mut line, front)?;
     let column = line.as_str().width();
-    line.push_str(behind)?;
-    push_line(out, line.as_str())?;
+    push_statement(&mut line, behind)?;
+    out.push_str(line.as_str())?;
+    out.push_str("\n")?;
     push_caret(out, column)
 }
 

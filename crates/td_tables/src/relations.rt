@@ -2,6 +2,7 @@
 
 use crate::layout::{Column, Side, laid_out};
 use std::alloc::{AllocError, Global};
+use td_terminals::push_in_line;
 use td_values::{Heading, Kind, Name, TdType, Tuple, TypeKind, Value, show};
 
 fn side_of(kind: &TypeKind) -> Side {
@@ -25,12 +26,10 @@ fn columns_of<'a>(
     Ok(columns)
 }
 
-// A text with a blank for each character that would move the cursor, so that a cell stays in its line.
+// A text that stays in its line.
 fn in_line(alloc: Global, text: &str) -> Result<String, AllocError> {
     let mut line = String::with_capacity(alloc, text.len())?;
-    for c in text.chars() {
-        line.push(if c.is_control() { ' ' } else { c })?;
-    }
+    push_in_line(&mut line, text)?;
     Ok(line)
 }
 
