@@ -96,10 +96,11 @@ const SYMBOLS: [(&[u8], Word); 19] = [
     (b"/", Word::Slash),
 ];
 
+// Most words of the table are of another length, which costs a comparison and no call.
 fn same_letters(a: &[u8], b: &[u8]) -> bool
     ensures { result ≡ str_eq_ignore_ascii_case a.now b.now }
 {
-    a.eq_ignore_ascii_case(b)
+    a.len() == b.len() && a.eq_ignore_ascii_case(b)
 }
 
 fn keyword_in(table: &[(&[u8], Word)], letters: &[u8]) -> Option<Word>
