@@ -30,7 +30,7 @@ fn main(rt: HostRuntime) -> ExitCode {
     let Ok(reader) = BufReader::new(alloc, rt.reader()) else {
         return ExitCode::FAILURE;
     };
-    let mut source = Device::new(reader);
+    let mut source = Device::buffered(reader);
     let mut sink = Device::new(rt.stdout());
     let mut faults = Device::new(rt.stderr());
     let notes = Notes::new();

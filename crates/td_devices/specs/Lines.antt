@@ -63,7 +63,7 @@ byteless_reads (Ok line) = if line.is_last then 1 else 0
 byteless_reads (Err ReadFault) = 1
 byteless_reads (Err e) = 0
 
--- reading a line consumed the bytes that it tells of, by one read for each
+-- reading a line consumed the bytes that it tells of, each of which counts as a read
 abbrev pub LineRead : ℕ → Option (List ℕ) → Option (List ℕ) → ℕ → Result RawLine LineError → Type 0
 LineRead most old new reads r = (raw : List ℕ) × Consumes old new raw × TellsLine most raw new r × (reads ≡ length raw + byteless_reads r)
 

@@ -10,6 +10,9 @@ use std::marker::{Model, PhantomData};
 /// The role of a device that only reads, or only writes.
 pub struct Single;
 
+/// The role of a device that reads from a buffer, and so sees the end of a line before it takes it.
+pub struct Buffered;
+
 /// The role of a device that does both.
 pub struct Both;
 
@@ -58,6 +61,17 @@ impl<D, K> Device<D, K> {
 impl<D> Device<D, Single> {
     /// A device that reads or writes, with no failure counted.
     pub fn new(inner: D) -> Self
+        ensures inner { result.inner ≡ inner }
+        ensures failures { result.failures ≡ 0 }
+        ensures flushed { result.is_flushed ≡ true }
+    {
+        Device::begin(inner)
+    }
+}
+
+impl<D> Device<D, Buffered> {
+    /// A device that reads by a buffer, with no failure counted.
+    pub fn buffered(inner: D) -> Self
         ensures inner { result.inner ≡ inner }
         ensures failures { result.failures ≡ 0 }
         ensures flushed { result.is_flushed ≡ true }

@@ -8,7 +8,7 @@ mod link;
 mod pieces;
 mod streams;
 
-pub use device::{Both, Device, Single};
+pub use device::{Both, Buffered, Device, Single};
 pub use lines::{LineError, RawLine, content, read_line};
 pub use link::{Link, Pair};
 pub use pieces::{Short, fill, put, read_byte, write_all};

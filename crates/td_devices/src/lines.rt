@@ -2,13 +2,15 @@
 
 ghost use Rattle.std.specs.Prelude.{◌≡◌, ◌-◌, ◌<◌, ◌≤◌, OnOk, IfOk, option_map, option_and_then};
 ghost use Rattle.std.specs.Io.KnownBytes.{Keeps};
-ghost use Rattle.td_devices.specs.ForProofs.Held.{kept, with_byte};
+ghost use Rattle.td_devices.specs.ForProofs.Held.{kept, with_bytes};
 ghost use Rattle.td_devices.specs.Lines.{HasCause, LineRead, content};
 
-use crate::pieces::read_byte;
 use crate::streams::Source;
 use std::alloc::{AllocError, Global};
 use thiserror::Error;
+
+/// So many bytes of a line are read at once.
+const PART: usize = 256;
 
 /// Why no line was read.
 #[derive(Clone, Copy, Debug, PartialEq, Eq, Drop, Error)]
@@ -30,17 +32,17 @@ pub struct RawLine {
     pub is_last: bool,
 }
 
-// What is kept of a line with one byte more: nothing of one that is too long with any line end.
-fn longer(line: Option<Vec<u8>>, byte: u8, most: usize) -> Result<Option<Vec<u8>>, AllocError>
-    ensures { IfOk result (λ l. option_map (λ v. v.items) l ≡ option_and_then (with_byte most byte) (option_map (λ v. v.items) line)) }
+// What is kept of a line with these bytes more: nothing of one that is too long with any line end.
+fn longer(line: Option<Vec<u8>>, more: &[u8], most: usize) -> Result<Option<Vec<u8>>, AllocError>
+    ensures { IfOk result (λ l. option_map (λ v. v.items) l ≡ option_and_then (with_bytes most more.now) (option_map (λ v. v.items) line)) }
 {
     let Some(mut bytes) = line else {
         return Ok(None);
     };
-    if bytes.len().saturating_sub(most) >= 2 {
+    if bytes.len().saturating_add(more.len()).saturating_sub(most) > 2 {
         return Ok(None);
     }
-    bytes.push(byte)?;
+    bytes.extend_from_slice(more)?;
     Ok(Some(bytes))
 }
 
@@ -57,9 +59,8 @@ fn within(line: Option<Vec<u8>>, most: usize) -> Option<Vec<u8>>
     Some(bytes)
 }
 
-/// Reads a line, a byte a read, by at most `reads` reads, from which those made are taken off. A line that has more
-/// than
-/// `most` bytes without its line end is read to its end and not kept: at most `most + 2` bytes are held.
+/// Reads a line, by at most `reads` reads, from which those made are taken off: each byte counts as one. A line that has
+/// more than `most` bytes without its line end is read to its end and not kept: at most `most + 2` bytes are held.
 pub fn read_line<S: Source>(
     alloc: Global,
     source: &mut S,
@@ -74,23 +75,29 @@ pub fn read_line<S: Source>(
     ensures no_more { reads.new ≤ reads.old }
 {
     let mut line = Some(Vec::new(alloc));
+    let mut part = [0u8; PART];
     while *reads > 0 {
-        *reads -= 1;
-        let byte = match read_byte(source) {
-            Ok(Some(byte)) => byte,
-            Ok(None) => {
+        let room = (*reads).min(PART as u64) as usize;
+        let length = match source.read_of_line(&mut part[..room]) {
+            Ok(0) => {
+                *reads -= 1;
                 return Ok(RawLine {
                     bytes: within(line, most),
                     is_last: true,
                 });
             }
-            Err(_) => return Err(LineError::ReadFault),
+            Ok(length) => length,
+            Err(_) => {
+                *reads -= 1;
+                return Err(LineError::ReadFault);
+            }
         };
-        match longer(line, byte, most) {
+        *reads -= length as u64;
+        match longer(line, &part[..length], most) {
             Ok(more) => line = more,
             Err(_) => return Err(LineError::OutOfMemory),
         }
-        if byte == b'\n' {
+        if part[length - 1] == b'\n' {
             return Ok(RawLine {
                 bytes: within(line, most),
                 is_last: false,

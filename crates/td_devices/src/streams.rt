@@ -1,7 +1,7 @@
 //! What can be read and what can be written, with a count of failures.
 
-ghost use Rattle.std.specs.Prelude.{◌≡◌, ◌<◌, ℕ, Bool, true, List, Option, length, IfOk, OnOk};
-ghost use Rattle.std.specs.Io.{ReadsAtMost, WritesAtMost};
+ghost use Rattle.std.specs.Prelude.{◌≡◌, ◌<◌, ℕ, Bool, true, List, Option, length, take, IfOk, OnOk};
+ghost use Rattle.std.specs.Io.{ReadsAtMost, StopsAt, WritesAtMost};
 ghost use Rattle.std.specs.Io.KnownBytes.{Keeps, ReadConsumes, WriteAppends};
 ghost use Rattle.td_devices.specs.Counted.{Counts};
 
@@ -29,6 +29,19 @@ pub trait Source {
         ensures bytes { ReadConsumes (left self.old) (left self.new) result buf.new }
         ensures beside { Keeps (beside self.old) (beside self.new) }
         ensures count { Counts (failures self.old) (failures self.new) result };
+
+    /// Reads bytes of one line: as `read_some`, but none behind the first LF. Where the source does not show the bytes
+    /// that come next, it is one byte.
+    fn read_of_line(&mut self, buf: &mut [u8]) -> Result<usize, Failed>
+        ensures bound { ReadsAtMost result buf.new }
+        ensures bytes { ReadConsumes (left self.old) (left self.new) result buf.new }
+        ensures line { IfOk result (λ n. StopsAt (take n buf.new) 10) }
+        ensures beside { Keeps (beside self.old) (beside self.new) }
+        ensures count { Counts (failures self.old) (failures self.new) result }
+    {
+        let many = buf.len().min(1);
+        self.read_some(&mut buf[..many])
+    }
 }
 
 /// What can be written, with a count of failures.

@@ -62,7 +62,7 @@ fn main(rt: HostRuntime) -> ExitCode {
     let Ok(reader) = BufReader::new(alloc, rt.reader()) else {
         return ExitCode::FAILURE;
     };
-    let mut source = Device::new(reader);
+    let mut source = Device::buffered(reader);
     let notes = Notes::new();
     let mut meter = Meter::new(&rt);
     let status = program::<Site, _, _, _, _, _, _>(

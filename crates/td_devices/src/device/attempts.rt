@@ -1,13 +1,14 @@
 //! Reading, writing and flushing that goes on after an interruption.
 
-ghost use Rattle.std.specs.Prelude.{◌≡◌, ◌<◌, length, IfOk, OnErr};
-ghost use Rattle.std.specs.Io.{ReadsAtMost, WritesAtMost};
-ghost use Rattle.std.specs.Io.KnownBytes.{Keeps, ReadConsumes, WriteAppends};
+ghost use Rattle.std.specs.Prelude.{◌≡◌, ◌≢◌, ◌<◌, ◌≤◌, ◌-◌, All, length, take, IfOk, OnErr};
+ghost use Rattle.std.specs.Io.{ReadsAtMost, StopsAt, WritesAtMost};
+ghost use Rattle.std.specs.Io.KnownBytes.{Consumes, Keeps, ReadConsumes, WriteAppends};
+ghost use Rattle.std.specs.Io.Buffered.{reader_remaining};
 
 use crate::link::Link;
 use crate::streams::Failed;
 use std::io;
-use std::io::{ErrorKind, Read, Write};
+use std::io::{BufRead, BufReader, ErrorKind, Read, Write};
 
 /// Interruptions in a row that are a failure.
 const MOST_INTERRUPTIONS: u32 = 1_000;
@@ -50,6 +51,69 @@ pub(super) fn read_on<R: Read>(inner: &mut R, buf: &mut [u8]) -> Result<usize, F
     ensures bytes { ReadConsumes (R.remaining inner.old) (R.remaining inner.new) result buf.new }
 {
     persist!(inner.read(buf), n => Ok(n))
+}
+
+// How many bytes there are up to the first LF and with it, of so many at the front.
+fn length_of_line(bytes: &[u8], most: usize) -> usize
+    ensures bound { result ≤ length bytes.now }
+    ensures most { result ≤ most }
+    ensures some { 0 < length bytes.now → 0 < most → 0 < result }
+    ensures before { All (λ b. b ≢ 10) (take (result - 1) bytes.now) }
+{
+    let most = most.min(bytes.len());
+    for at in 0..most {
+        if bytes[at] == b'\n' {
+            return at + 1;
+        }
+    }
+    most
+}
+
+// Takes what the reader's buffer has of the line, as far as there is room.
+fn take_of_line<R: Read>(inner: &mut BufReader<R>, buf: &mut [u8]) -> usize
+    ensures bound { result ≤ length buf.new }
+    ensures bytes { Consumes (reader_remaining R.remaining inner.old) (reader_remaining R.remaining inner.new) (take result buf.new) }
+    ensures before { All (λ b. b ≢ 10) (take (result - 1) buf.new) }
+{
+    let shown = inner.buffer();
+    let length = length_of_line(shown, buf.len());
+    buf[..length].copy_from_slice(&shown[..length]);
+    inner.consume(length);
+    length
+}
+
+// Reads one byte where there is room.
+fn read_one<R: Read>(inner: &mut R, buf: &mut [u8]) -> io::Result<usize>
+    ensures bound { ReadsAtMost result buf.new }
+    ensures one { IfOk result (λ n. n ≤ 1) }
+    ensures bytes { ReadConsumes (R.remaining inner.old) (R.remaining inner.new) result buf.new }
+{
+    let many = buf.len().min(1);
+    inner.read(&mut buf[..many])
+}
+
+// Reads one byte, which may wait for more of the input, and with it what is there then of its line.
+fn read_of_line<R: Read>(inner: &mut BufReader<R>, buf: &mut [u8]) -> io::Result<usize>
+    ensures bound { ReadsAtMost result buf.new }
+    ensures bytes { ReadConsumes (reader_remaining R.remaining inner.old) (reader_remaining R.remaining inner.new) result buf.new }
+    ensures line { IfOk result (λ n. StopsAt (take n buf.new) 10) }
+{
+    let read = read_one(inner, buf)?;
+    if read == 0 || buf[0] == b'\n' {
+        return Ok(read);
+    }
+    Ok(1 + take_of_line(inner, &mut buf[1..]))
+}
+
+pub(super) fn read_of_line_on<R: Read>(
+    inner: &mut BufReader<R>,
+    buf: &mut [u8],
+) -> Result<usize, Failed>
+    ensures bound { ReadsAtMost result buf.new }
+    ensures bytes { ReadConsumes (reader_remaining R.remaining inner.old) (reader_remaining R.remaining inner.new) result buf.new }
+    ensures line { IfOk result (λ n. StopsAt (take n buf.new) 10) }
+{
+    persist!(read_of_line(inner, buf), n => Ok(n))
 }
 
 pub(super) fn write_on<W: Write>(inner: &mut W, bytes: &[u8]) -> Result<usize, Failed>

@@ -1,15 +1,16 @@
 //! What is read and written through a device, in each of its roles.
 
 ghost use Rattle.std.specs.Prelude.{None};
+ghost use Rattle.std.specs.Io.Buffered.{reader_remaining};
 ghost use Rattle.td_devices.specs.Counted.{Counts};
 
 use crate::device::attempts::{
-    flush_on, flush_side_on, read_on, read_side_on, write_on, write_side_on,
+    flush_on, flush_side_on, read_of_line_on, read_on, read_side_on, write_on, write_side_on,
 };
-use crate::device::{Both, Device, Single};
+use crate::device::{Both, Buffered, Device, Single};
 use crate::link::Link;
 use crate::streams::{Channel, Failed, Sink, Source};
-use std::io::{Read, Write};
+use std::io::{BufReader, Read, Write};
 
 // The count after a call that told this.
 fn count_after<T>(failures: u64, told: &Result<T, Failed>) -> u64
@@ -30,6 +31,26 @@ impl<D: Read> Source for Device<D, Single> {
 
     fn read_some(&mut self, buf: &mut [u8]) -> Result<usize, Failed> {
         let told = read_on(&mut self.inner, buf);
+        self.failures = count_after(self.failures, &told);
+        told
+    }
+}
+
+impl<R: Read> Source for Device<BufReader<R>, Buffered> {
+    ghost left = { λ d. reader_remaining R.remaining d.inner };
+
+    ghost beside = { λ _. None };
+
+    ghost failures = { λ d. d.failures };
+
+    fn read_some(&mut self, buf: &mut [u8]) -> Result<usize, Failed> {
+        let read = read_on(&mut self.inner, buf);
+        self.failures = count_after(self.failures, &read);
+        read
+    }
+
+    fn read_of_line(&mut self, buf: &mut [u8]) -> Result<usize, Failed> {
+        let told = read_of_line_on(&mut self.inner, buf);
         self.failures = count_after(self.failures, &told);
         told
     }

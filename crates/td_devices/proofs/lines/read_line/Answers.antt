@@ -1,36 +1,53 @@
-use Rattle.std.proofs.Common.{arith, ℕ, [], ◌∷◌, ◌++◌, ap, ◌∙◌, length-append}
+use Rattle.std.proofs.Common.{◌≡◌, ◌-◌, arith, ℕ, List, ◌++◌, take, drop, length, length-take-le, slice_index, ap, sym, ◌∙◌}
 use Rattle.std.proofs.KnownBytes.{Consumes-trans, Keeps-trans}
-use Rattle.td_devices.proofs.LineEnds.{part_more, one_more, kept_at_end, begun_more, one_read_more}
+use Rattle.td_devices.proofs.LineEnds.{begun_part, kept_at_end, last_of, part_read, read_of_one, read_on, read_whole, reads_more}
 use Rattle.td_devices.proofs.lines.read_line.Goals as goal
 
 pub returns-in-Err-longer-clause-line : goal.returns-in-Err-longer-clause-line
 returns-in-Err-longer-clause-line g c =
     let (raw, read, one, line, count, beside, failures) = c.loop-reads.invariant in
-    let byte = c.in-Ok-Some.byte in
-    (raw ++ byte ∷ [], Consumes-trans _ _ _ _ _ read (rw c.in-Ok-Some.field-0-is at c.in-Ok-Some.ensures.byte), part_more raw byte one, one_read_more _ _ byte raw count c.loop-reads-test.true)
+    let n = c.in-Ok.length in
+    let new = c.read_of_line.new.buf in
+    let p = take n new in
+    let within = c.in-Ok.ensures.bound.0 in
+    let made = reads_more c.args.reads.now c.loop-reads.reads c.min-room.result n raw c.loop-reads.part new count (omega arith) c.read_of_line.auto.buf within in
+    let part = part_read raw p (omega (arith, length-take-le n new within, c.in-Ok.length-test)) c.in-Ok.ensures.line one in
+    (raw ++ p, Consumes-trans _ _ _ _ _ read c.in-Ok.ensures.bytes.0, read_of_one raw p part, made.0)
 
-pub returns-then-byte-eq10-clause-line : goal.returns-then-byte-eq10-clause-line
-returns-then-byte-eq10-clause-line g c =
+pub returns-then-part-length-eq10-clause-line : goal.returns-then-part-length-eq10-clause-line
+returns-then-part-length-eq10-clause-line g c =
     let (raw, read, one, line, count, beside, failures) = c.loop-reads.invariant in
-    let byte = c.in-Ok-Some.byte in
+    let n = c.in-Ok.length in
+    let new = c.read_of_line.new.buf in
+    let p = take n new in
+    let within = c.in-Ok.ensures.bound.0 in
     let most = c.args.most in
-    let begun = begun_more most byte raw _ _ line c.in-Ok.ensures in (
-      raw ++ byte ∷ [],
-      Consumes-trans _ _ _ _ _ read (rw c.in-Ok-Some.field-0-is at c.in-Ok-Some.ensures.byte),
-      (kept_at_end most (raw ++ byte ∷ []) _ _ begun c.within-then-byte-eq10.ensures, (raw, one, ap (λ (b : ℕ). raw ++ b ∷ []) c.if-byte-eq10.true)),
-      one_read_more _ _ byte raw count c.loop-reads-test.true,
+    let made = reads_more c.args.reads.now c.loop-reads.reads c.min-room.result n raw c.loop-reads.part new count (omega arith) c.read_of_line.auto.buf within in
+    let part = part_read raw p (omega (arith, length-take-le n new within, c.in-Ok.length-test)) c.in-Ok.ensures.line one in
+    let begun = begun_part most n new (drop c.min-room.result c.loop-reads.part) raw _ _ within line c.in-Ok-longer.ensures in
+    let end = last_of n new (drop c.min-room.result c.loop-reads.part) (omega (arith, c.in-Ok.length-test)) within ∙ c.if-part-length-eq10.true in (
+      raw ++ p,
+      Consumes-trans _ _ _ _ _ read c.in-Ok.ensures.bytes.0,
+      (kept_at_end most (raw ++ p) _ _ begun c.within-then-part-length-eq10.ensures, read_whole raw p part end),
+      made.0,
     )
 
 pub loop-reads-preserved : goal.loop-reads-preserved
 loop-reads-preserved g c =
     let (raw, read, one, line, count, beside, failures) = c.loop-reads.invariant in
-    let byte = c.in-Ok-Some.byte in
-    let most = c.args.most in (
-      raw ++ byte ∷ [],
-      Consumes-trans _ _ _ _ _ read (rw c.in-Ok-Some.field-0-is at c.in-Ok-Some.ensures.byte),
-      one_more raw byte one c.if-byte-eq10.false,
-      begun_more most byte raw _ _ line c.in-Ok.ensures,
-      omega (arith, length-append raw (byte ∷ [])),
-      Keeps-trans _ _ _ beside c.in-Ok-Some.ensures.beside,
-      c.in-Ok-Some.ensures.count ∙ failures,
+    let n = c.in-Ok.length in
+    let new = c.read_of_line.new.buf in
+    let p = take n new in
+    let within = c.in-Ok.ensures.bound.0 in
+    let most = c.args.most in
+    let made = reads_more c.args.reads.now c.loop-reads.reads c.min-room.result n raw c.loop-reads.part new count (omega arith) c.read_of_line.auto.buf within in
+    let part = part_read raw p (omega (arith, length-take-le n new within, c.in-Ok.length-test)) c.in-Ok.ensures.line one in
+    let end = last_of n new (drop c.min-room.result c.loop-reads.part) (omega (arith, c.in-Ok.length-test)) within in (
+      raw ++ p,
+      Consumes-trans _ _ _ _ _ read c.in-Ok.ensures.bytes.0,
+      read_on raw p part (λ e. c.if-part-length-eq10.false (sym end ∙ e)),
+      begun_part most n new (drop c.min-room.result c.loop-reads.part) raw _ _ within line c.in-Ok-longer.ensures,
+      made.1,
+      Keeps-trans _ _ _ beside c.in-Ok.ensures.beside,
+      c.in-Ok.ensures.count ∙ failures,
     )
