@@ -245,7 +245,7 @@ fn restore(alloc: Global, database: &mut Database, change: &(usize, Delta), way:
     ensures { (d : DatabaseData) → CameFrom d change.now way database.old → database.new ≡ d }
 {
     match database.change_back(alloc, change.0, &change.1) {
-        Ok(()) => {}
+        Ok(()) => database.keep_room(change.0, way),
         Err(_) => database.go_back(change.0, &change.1, way),
     }
 }
@@ -266,7 +266,10 @@ fn tried_with_way(
     let way = database.way_back(alloc, made.0, &made.1)?;
     database.change(alloc, made.0, &made.1)?;
     match first_failure_after(alloc, database.catalogue(), &*database, changes) {
-        Ok(None) => Ok(None),
+        Ok(None) => {
+            database.keep_room(made.0, way);
+            Ok(None)
+        }
         Ok(Some(failure)) => {
             restore(alloc, database, made, way);
             Ok(Some(failure))

@@ -24,9 +24,10 @@ use Rattle.td_algebra.proofs.Lists.{In, contains_in, in_contains}
 use Rattle.td_algebra.proofs.Pairs.{entry_of, of_entry}
 use Rattle.td_algebra.proofs.PlacedParts.{itself, same_key}
 use Rattle.td_algebra.proofs.Runs.{same_at}
+use Rattle.td_tuples.specs.Parts.{Fits}
 use Rattle.td_algebra.specs.KeyIndexes.{HasMore, HasOneMore, IsKeyIndex, KeyIndexData}
 use Rattle.td_bases.specs.Bases.{BaseData, changed, changed_base}
-use Rattle.td_bases.specs.ForProofs.Keyed.{AreFresh, IsBeyond, IsIndexOf, IsLeft, first_key, keys_of, with_more}
+use Rattle.td_bases.specs.ForProofs.Keyed.{AreFresh, IsBeyond, IsIndexOf, IsLeft, Tells, first_key, keys_of, with_more}
 use Rattle.td_bases.proofs.Lists.{one_bool, permuted_filter, same_filter}
 
 -- by its own key
@@ -115,6 +116,68 @@ module _ (r i : RowsData) (ts : List Attrs) (fresh : AreFresh r i ts) where
         members = all.members ∙ sym (united (body r) (body i)) ∙ ap (set.union (body r)) (sym fresh.members);
         ascending = all.ascending;
       }) more
+
+-- ---- one tuple or none is put in
+within : (a b : Bool) → (b ≡ true → a ≡ true) → (a || b) ≡ a
+within true b all = refl
+within false true all = sym (all refl)
+within false false all = refl
+
+apart_from_all : (a b : Bool) → (b ≡ true → a ≡ false) → (b && not a) ≡ b
+apart_from_all a true none = ap not (none refl)
+apart_from_all a false none = refl
+
+pub nothing_more : (r i : RowsData) → IsStrictlySortedBy attrs_order r.tuples → ((t : Attrs) → Has i t → Has r t) → with_more r i ≡ r
+nothing_more r i up all =
+    let is = relation_of_is r.heading (set.union (body r) (body i)) in
+    one_relation r (with_more r i) is.heading up is.ascending (
+    is.members
+    ∙ set.same_set attrs_order_total attrs_tied _ _ (λ q. set.contains-union attrs_order_total (body r) (body i) q ∙ within (set.contains (body r) q) (set.contains (body i) q) (all q)))
+
+pub none_there : (ts : List Attrs) → length ts ≡ 0 → (q : Attrs) → set.contains (tuple_set ts) q ≡ true → ⊥
+none_there [] many q has = true≢false (sym has ∙ set.contains-from_list attrs_order_total [] q)
+none_there (t ∷ ts) many q has = absurd (omega (arith, many))
+
+pub alone : (ts : List Attrs) (t : Attrs) → length ts ≡ 1 → t ≡ get_or ts 0 t → ts ≡ t ∷ []
+alone [] t many at = absurd (omega (arith, many))
+alone (u ∷ []) t many at = ap (λ v. v ∷ []) (sym at)
+alone (u ∷ v ∷ ts) t many at = absurd (omega (arith, many))
+
+only_one : (ts : List Attrs) (t q : Attrs) → ts ≡ t ∷ [] → set.contains (tuple_set ts) q ≡ true → q ≡ t
+only_one ts t q is has = elim (subst (In q) is (contains_in ts q ((contains_listed ts q).0 has))) [ inl same ↦ same | inr none ↦ absurd none ]
+
+pub all_there : (r i : RowsData) (t : Attrs) → i.tuples ≡ t ∷ [] → Has r t → (q : Attrs) → Has i q → Has r q
+all_there r i t is there q has = subst (Has r) (sym (only_one i.tuples t q is has)) there
+
+pub one_fresh : (r i : RowsData) (t : Attrs) → IsStrictlySortedBy attrs_order i.tuples → i.tuples ≡ t ∷ [] → set.contains (body r) t ≡ false → All (Fits r.heading) i.tuples → AreFresh r i (t ∷ [])
+one_fresh r i t up is absent fit = record {
+  ascending = subst (IsStrictlySortedBy attrs_order) is up;
+  members = ap tuple_set (sym is) ∙ set.same_set attrs_order_total attrs_tied _ _ (λ q.
+      sym (set.contains-difference attrs_order_total (body i) (body r) q ∙ apart_from_all (set.contains (body r) q) (set.contains (body i) q) (λ has. ap (set.contains (body r)) (only_one i.tuples t q is has) ∙ absent)));
+  fit = subst (All (Fits r.heading)) is fit;
+}
+
+pub one_more_on : {E : Type 0} (r i : RowsData) (t : Attrs) (x y : KeyIndexData) → AreFresh r i (t ∷ []) → IsStrictlySortedBy attrs_order r.tuples → IsIndexOf r x → (a : Result (Unit {0}) E)
+    → OnOk a (HasOneMore t x y) → OnOk a (IsIndexOf (with_more r i) y)
+one_more_on r i t x y fresh up is (Ok u) more = gained r i (t ∷ []) fresh x y up is (record { heading = more.heading; key = more.key; tuples = more.tuples })
+one_more_on r i t x y fresh up is (Err e) more = tt
+
+-- ---- which tuples stay
+of_none : (a : Bool) → (a && not true) ≡ false
+of_none true = refl
+of_none false = refl
+
+pub told_by_itself : (r g : RowsData) → Tells r r g
+told_by_itself r g t has = refl
+
+pub told_by_inserted : (r i o n : RowsData) → IsApplied r (record { inserted = i; deleted = o }) n → Tells i n o
+told_by_inserted r i o n is t has =
+    ap (λ s. set.contains s t) is.members
+    ∙ set.contains-union attrs_order_total (set.difference (body r) (body o)) (body i) t
+    ∙ ap (λ b. b || set.contains (body i) t) (
+    set.contains-difference attrs_order_total (body r) (body o) t
+    ∙ ap (λ b. set.contains (body r) t && not b) has
+    ∙ of_none (set.contains (body r) t))
 
 -- ---- indexes that have more than the relation
 pub as_it_is : (r : RowsData) (IsGone : Attrs → Type 0) (x : KeyIndexData) → IsStrictlySortedBy attrs_order r.tuples → IsIndexOf r x → IsBeyond r IsGone x
@@ -240,6 +303,9 @@ all_left r o ts same x b = record {
     | inr w ↦ let at = (has_listed o t).0 w in inr (subst (λ us. IsLeft 0 us t) (sym same) (at.0, omega arith, at.1, at.2))
   ];
 }
+
+pub stands_in : (g : RowsData) (ts : List Attrs) (k : ℕ) (t : Attrs) → ts ≡ g.tuples → k < length ts → t ≡ get_or ts k t → Has g t
+stands_in g ts k t same lt at = (contains_listed g.tuples t).1 (subst (λ (us : List Attrs). Contains us t) same (k, lt, sym at))
 
 module _ (r : RowsData) (ts : List Attrs) (k : ℕ) (t : Attrs) (is : t ≡ get_or ts k t) (x : KeyIndexData) (b : IsBeyond r (IsLeft k ts) x) where
   further : (u : Attrs) → (u ≡ t → ⊥) → IsLeft k ts u → IsLeft (k + 1) ts u

@@ -13,7 +13,7 @@ ghost use Rattle.td_relations.specs.Sets.{IsRelation, body, tuple_set};
 ghost use Rattle.td_values.specs.Rows.{RowsData};
 
 use crate::by_keys::{by_first, copy_each, count, gain_each, keep_first, settle_each};
-use crate::ways::WayBack;
+use crate::ways::{Rooms, WayBack};
 use sqlite_items::Items;
 use std::alloc::{AllocError, Global};
 use std::marker::Model;
@@ -54,16 +54,16 @@ fn change(
 {
     relation.rows_fit();
     if let Err(error) = gain_each(alloc, indexes, relation, delta.inserted()) {
-        settle_each(indexes, relation, delta.inserted());
+        settle_each(indexes, relation, delta.inserted(), relation);
         return Err(error);
     }
     match apply(alloc, relation, delta) {
         Ok(()) => {
-            settle_each(indexes, relation, delta.deleted());
+            settle_each(indexes, relation, delta.deleted(), delta.inserted());
             Ok(())
         }
         Err(error) => {
-            settle_each(indexes, relation, delta.inserted());
+            settle_each(indexes, relation, delta.inserted(), relation);
             Err(error)
         }
     }
@@ -86,16 +86,16 @@ fn undo(
     relation.rows_fit();
     delta.headings_agree();
     if let Err(error) = gain_each(alloc, indexes, relation, delta.deleted()) {
-        settle_each(indexes, relation, delta.deleted());
+        settle_each(indexes, relation, delta.deleted(), relation);
         return Err(error);
     }
     match apply_inverse(alloc, relation, delta) {
         Ok(()) => {
-            settle_each(indexes, relation, delta.inserted());
+            settle_each(indexes, relation, delta.inserted(), delta.deleted());
             Ok(())
         }
         Err(error) => {
-            settle_each(indexes, relation, delta.deleted());
+            settle_each(indexes, relation, delta.deleted(), relation);
             Err(error)
         }
     }
@@ -112,7 +112,7 @@ fn take_back(relation: &mut Relation, indexes: &mut Vec<KeyIndex>, delta: &Delta
 {
     relation.rows_fit();
     take_inserted(relation, delta);
-    settle_each(indexes, relation, delta.inserted());
+    settle_each(indexes, relation, delta.inserted(), relation);
 }
 
 // The same of any change, by a way that was made before it. It takes no memory. Its tuples are kept by the first key
@@ -131,7 +131,7 @@ fn go_back(relation: &mut Relation, indexes: &mut Vec<KeyIndex>, delta: &Delta, 
     delta.deleted().rows_fit();
     take_inserted(relation, delta);
     indexes.truncate(1);
-    settle_each(indexes, relation, delta.inserted());
+    settle_each(indexes, relation, delta.inserted(), relation);
     way.refill(relation, &mut indexes[0]);
 }
 
@@ -151,6 +151,7 @@ pub struct Base {
     indexes: Vec<KeyIndex>,
     // (how many changes came since the first index alone is kept)
     awaited: usize,
+    rooms: Rooms,
 }
 
 impl Model for Base {
@@ -178,6 +179,7 @@ impl Base {
             relation,
             indexes,
             awaited: 0,
+            rooms: Rooms::none(alloc),
         })
     }
 
@@ -243,6 +245,7 @@ impl Base {
             relation,
             indexes,
             awaited: 0,
+            rooms: Rooms::none(alloc),
         })
     }
 
@@ -254,6 +257,7 @@ impl Base {
             relation: self.relation.copy(alloc)?,
             indexes: copy_each(alloc, &self.indexes)?,
             awaited: 0,
+            rooms: Rooms::none(alloc),
         })
     }
 
@@ -345,11 +349,21 @@ impl Base {
         take_back(&mut self.relation, &mut self.indexes, delta);
     }
 
-    /// What it takes to take the change back without memory.
-    pub fn way_back(&self, alloc: Global, delta: &Delta) -> Result<WayBack, AllocError>
-        ensures { IfOk result (LeadsBack self.now.rows delta.now) }
+    /// What it takes to take the change back without memory. It costs two counts for each tuple that the change takes
+    /// out, and room for two lists of all tuples, where no way back has left that.
+    pub fn way_back(&mut self, alloc: Global, delta: &Delta) -> Result<WayBack, AllocError>
+        ensures way { IfOk result (LeadsBack self.old.rows delta.now) }
+        ensures same { self.new ≡ self.old }
     {
-        WayBack::from(alloc, &self.relation, delta)
+        let rooms = std::mem::replace(&mut self.rooms, Rooms::none(alloc));
+        WayBack::from(alloc, &self.relation, delta, rooms)
+    }
+
+    /// Keeps the room of a way back that is not gone, for the next one. It takes no memory.
+    pub fn keep_room(&mut self, way: WayBack)
+        ensures { self.new ≡ self.old }
+    {
+        self.rooms = way.into_rooms();
     }
 
     /// Makes the inverse of a change by such a way. It takes no memory.

@@ -3,7 +3,7 @@
 ghost use Rattle.std.specs.Prelude.{◌≡◌, ◌<◌, length, IfOk, OnErr, OnOk};
 ghost use Rattle.std.specs.List.{All};
 ghost use Rattle.td_relations.specs.Sets.{Has};
-ghost use Rattle.td_bases.specs.ForProofs.Keyed.{AreFresh, IsBeyond, IsIndexOf, first_key, keys_of, with_more};
+ghost use Rattle.td_bases.specs.ForProofs.Keyed.{AreFresh, IsBeyond, IsIndexOf, Tells, first_key, keys_of, with_more};
 
 use sqlite_items::Items;
 use std::alloc::{AllocError, Global};
@@ -33,6 +33,29 @@ fn fresh_tuples(
     Ok(tuples)
 }
 
+// Puts the one tuple in that there is, where the relation lacks it. It costs a search more than putting it in.
+fn gain_one(
+    index: &mut KeyIndex,
+    relation: &Relation,
+    inserted: &Relation,
+) -> Result<(), AllocError>
+    requires heading { inserted.now.heading ≡ relation.now.heading }
+    requires one { length inserted.now.tuples ≡ 1 }
+    requires of { IsIndexOf relation.now index.old }
+    ensures ok { OnOk result (IsIndexOf (with_more relation.now inserted.now) index.new) }
+    ensures err { OnErr result (index.new ≡ index.old) }
+    ensures key { index.new.key ≡ index.old.key }
+{
+    relation.rows_fit();
+    inserted.rows_fit();
+    let tuple = &inserted.tuples()[0];
+    if relation.contains(tuple) {
+        Ok(())
+    } else {
+        index.insert(tuple.copy()?)
+    }
+}
+
 // Puts in what the relation lacks of these tuples.
 fn gain(
     alloc: Global,
@@ -47,7 +70,11 @@ fn gain(
     ensures key { index.new.key ≡ index.old.key }
 {
     relation.rows_fit();
-    index.insert_all(fresh_tuples(alloc, inserted, relation)?)
+    match inserted.tuples().len() {
+        0 => Ok(()),
+        1 => gain_one(index, relation, inserted),
+        _ => index.insert_all(fresh_tuples(alloc, inserted, relation)?),
+    }
 }
 
 /// Puts into each index what the relation lacks of these tuples, before they are put into the relation. Where memory is
@@ -71,15 +98,16 @@ pub(crate) fn gain_each(
     Ok(())
 }
 
-// Takes each of these tuples out that the relation lacks.
-fn lose(index: &mut KeyIndex, relation: &Relation, gone: &Relation)
-    requires { IsBeyond relation.now (Has gone.now) index.old }
+// Takes each of these tuples out that the relation lacks, as a smaller one that stays tells.
+fn lose(index: &mut KeyIndex, relation: &Relation, gone: &Relation, stays: &Relation)
+    requires beyond { IsBeyond relation.now (Has gone.now) index.old }
+    requires stays { Tells stays.now relation.now gone.now }
     ensures of { IsIndexOf relation.now index.new }
     ensures key { index.new.key ≡ index.old.key }
 {
     relation.rows_fit();
     for tuple in gone.tuples() {
-        if !relation.contains(tuple) {
+        if !stays.contains(tuple) {
             index.remove(tuple);
         }
     }
@@ -87,27 +115,35 @@ fn lose(index: &mut KeyIndex, relation: &Relation, gone: &Relation)
 
 // Takes out what the relation lacks, some of these tuples. It takes no memory. Few cost a search and a shift each, many
 // a search of the relation for each tuple of the index.
-fn settle(index: &mut KeyIndex, relation: &Relation, gone: &Relation)
-    requires { IsBeyond relation.now (Has gone.now) index.old }
+fn settle(index: &mut KeyIndex, relation: &Relation, gone: &Relation, stays: &Relation)
+    requires beyond { IsBeyond relation.now (Has gone.now) index.old }
+    requires stays { Tells stays.now relation.now gone.now }
     ensures of { IsIndexOf relation.now index.new }
     ensures key { index.new.key ≡ index.old.key }
 {
     relation.rows_fit();
     if gone.len() <= MANY {
-        lose(index, relation, gone);
+        lose(index, relation, gone, stays);
     } else {
         index.retain_those_of(relation);
     }
 }
 
-/// Takes out of each index what the relation lacks, some of these tuples. It takes no memory.
-pub(crate) fn settle_each(indexes: &mut Vec<KeyIndex>, relation: &Relation, gone: &Relation)
-    requires { All (IsBeyond relation.now (Has gone.now)) indexes.old.items }
+/// Takes out of each index what the relation lacks, some of these tuples; which of them stay a relation tells that is
+/// cheap to search. It takes no memory.
+pub(crate) fn settle_each(
+    indexes: &mut Vec<KeyIndex>,
+    relation: &Relation,
+    gone: &Relation,
+    stays: &Relation,
+)
+    requires beyond { All (IsBeyond relation.now (Has gone.now)) indexes.old.items }
+    requires stays { Tells stays.now relation.now gone.now }
     ensures of { All (IsIndexOf relation.now) indexes.new.items }
     ensures keys { keys_of indexes.new.items ≡ keys_of indexes.old.items }
 {
     for at in 0..indexes.len() {
-        settle(&mut indexes[at], relation, gone);
+        settle(&mut indexes[at], relation, gone, stays);
     }
 }
 

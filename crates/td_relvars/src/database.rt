@@ -17,7 +17,7 @@ ghost use Rattle.td_relvars.specs.ForProofs.Standing.{HasOf};
 ghost use Rattle.td_relvars.specs.ForProofs.Kept.{AreFirst, keys_of, rows_of};
 ghost use Rattle.td_relvars.specs.Keys as keys;
 ghost use Rattle.td_relvars.specs.Keys.{key_at};
-ghost use Rattle.td_relvars.specs.Ways.{CanGoBack, LeadsBackAt};
+ghost use Rattle.td_relvars.specs.Ways.{CanGoBack, LeadsBackAt, LeadsBackFrom};
 ghost use Rattle.td_relvars.specs.ForProofs.Empty.{empty_in};
 ghost use Rattle.td_story.specs.Openings as opening;
 
@@ -241,6 +241,36 @@ fn take_back_at(stored: &mut Vec<Option<Base>>, relvar: usize, delta: &Delta)
     }
 }
 
+// What it takes to take a change of what is stored at the place back.
+fn way_back_at(
+    alloc: Global,
+    stored: &mut Vec<Option<Base>>,
+    relvar: usize,
+    delta: &Delta,
+) -> Result<WayBack, AllocError>
+    requires { HasOf (rows_of stored.old.items) relvar delta.now.inserted.heading }
+    ensures way { IfOk result (LeadsBackFrom (rows_of stored.old.items) relvar delta.now) }
+    ensures same { stored.new.items ≡ stored.old.items }
+{
+    match &mut stored[relvar] {
+        Some(base) => base.way_back(alloc, delta),
+        None => unreachable!(),
+    }
+}
+
+// Keeps the room of a way back for the next change of what is stored at the place.
+fn keep_room_at(stored: &mut Vec<Option<Base>>, relvar: usize, way: WayBack)
+    ensures { stored.new.items ≡ stored.old.items }
+{
+    if relvar >= stored.len() {
+        return;
+    }
+    match &mut stored[relvar] {
+        Some(base) => base.keep_room(way),
+        None => {}
+    }
+}
+
 // The same of any change, by a way that was made before it.
 fn go_back_at(stored: &mut Vec<Option<Base>>, relvar: usize, delta: &Delta, way: WayBack)
     requires there { HasOf (rows_of stored.old.items) relvar delta.now.deleted.heading }
@@ -378,22 +408,28 @@ impl Database {
         take_back_at(&mut self.stored, relvar, delta);
     }
 
-    /// What it takes to take this change of the relvar at the place back without memory, once it is made. It costs a
-    /// count for each tuple that the change takes out, and room for a list as long as what the relvar has, in which
-    /// nothing is written.
+    /// What it takes to take this change of the relvar at the place back without memory, once it is made. It costs two
+    /// counts for each tuple that the change takes out, and room for two lists as long as what the relvar has, where no
+    /// way back has left that.
     pub fn way_back(
-        &self,
+        &mut self,
         alloc: Global,
         relvar: usize,
         delta: &Delta,
     ) -> Result<WayBack, AllocError>
-        requires { CanChange self.now relvar delta.now }
-        ensures { IfOk result (LeadsBackAt self.now relvar delta.now) }
+        requires { CanChange self.old relvar delta.now }
+        ensures way { IfOk result (LeadsBackAt self.old relvar delta.now) }
+        ensures same { self.new ≡ self.old }
     {
-        match self.base_at(relvar) {
-            Some(base) => base.way_back(alloc, delta),
-            None => unreachable!(),
-        }
+        way_back_at(alloc, &mut self.stored, relvar, delta)
+    }
+
+    /// Keeps the room of a way back that is not gone, for the next change of the relvar at the place. It takes no
+    /// memory.
+    pub fn keep_room(&mut self, relvar: usize, way: WayBack)
+        ensures { self.new ≡ self.old }
+    {
+        keep_room_at(&mut self.stored, relvar, way);
     }
 
     /// Makes the inverse of a change by a way that was made before it. It takes no memory, and costs a search and a

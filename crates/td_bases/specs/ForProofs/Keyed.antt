@@ -41,6 +41,10 @@ pub record IsBeyond (r : RowsData) (IsGone : Attrs → Type 0) (x : KeyIndexData
   pub there : (t : Attrs) → Has r t → Has all t
   pub only : (t : Attrs) → Has all t → Has r t ⊎ IsGone t
 
+-- which of the tuples of g stand in r the relation s tells
+abbrev pub Tells : RowsData → RowsData → RowsData → Type 0
+Tells s r g = (t : Attrs) → Has g t → set.contains (body r) t ≡ set.contains (body s) t
+
 -- these are the tuples of i that r lacks
 pub record AreFresh (r i : RowsData) (ts : List Attrs) : Type 0 where
   pub ascending : IsStrictlySortedBy attrs_order ts

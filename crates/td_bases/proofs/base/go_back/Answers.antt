@@ -1,19 +1,17 @@
-use Rattle.std.proofs.Common.{◌≡◌, List, take, sym, ap, ◌∙◌, subst, ◌<◌, length, arith}
+use Rattle.std.proofs.Common.{sym, ap, ◌∙◌, subst}
 use Rattle.std.specs.List.{All}
 use Rattle.std.specs.List.Sorted.{IsStrictlySortedBy}
 use Rattle.std.proofs.lemmas.List.Elements.{All-take}
-use Rattle.td_values.specs.Data.{Attrs}
 use Rattle.td_values.specs.Order.{attrs_order}
 use Rattle.td_values.specs.Rows.{RowsData}
 use Rattle.td_relations.specs.Sets.{Has}
-use Rattle.td_algebra.specs.KeyIndexes.{KeyIndexData}
 use Rattle.td_bases.specs.ForProofs.Keyed.{IsBeyond, IsIndexOf, keys_of}
 use Rattle.td_bases.proofs.Keyed.{all_less, merged, one_at_least, one_at_most, only_first}
 use Rattle.td_bases.proofs.Returning.{apart_from_left, gone_back, there_is_room}
 use Rattle.td_bases.proofs.base.go_back.Goals as goal
 
-pub settle_each-requires : goal.settle_each-requires
-settle_each-requires c =
+pub settle_each-requires-clause-beyond : goal.settle_each-requires-clause-beyond
+settle_each-requires-clause-beyond c =
     let r = c.args.relation.now in
     let n = c.take_inserted.new.relation in
     let xs = c.truncate.new.self.items in

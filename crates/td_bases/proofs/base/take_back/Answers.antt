@@ -6,8 +6,8 @@ use Rattle.td_bases.specs.ForProofs.Keyed.{IsBeyond}
 use Rattle.td_bases.proofs.Keyed.{all_less, nothing_back}
 use Rattle.td_bases.proofs.base.take_back.Goals as goal
 
-pub settle_each-requires : goal.settle_each-requires
-settle_each-requires c =
+pub settle_each-requires-clause-beyond : goal.settle_each-requires-clause-beyond
+settle_each-requires-clause-beyond c =
     let n = c.take_inserted.new.relation in
     let xs = c.args.indexes.now.items in
     subst (λ (i : RowsData). All (IsBeyond n (Has i)) xs) (sym c.inserted.ensures) (all_less c.args.relation.now c.args.delta.now.inserted n xs c.rows_fit.ensures.ascending c.take_inserted.ensures c.requires.of)

@@ -5,10 +5,10 @@ use Rattle.td_bases.proofs.Keyed.{all_done, here_left, none_yet, one_further}
 use Rattle.td_bases.proofs.by_keys.settle_each.Goals as goal
 
 pub loop-at-init : goal.loop-at-init
-loop-at-init c = none_yet (IsBeyond c.args.relation.now (Has c.args.gone.now)) (IsIndexOf c.args.relation.now) c.args.indexes.now.items c.requires
+loop-at-init c = none_yet (IsBeyond c.args.relation.now (Has c.args.gone.now)) (IsIndexOf c.args.relation.now) c.args.indexes.now.items c.requires.beyond
 
-pub settle-requires : goal.settle-requires
-settle-requires c =
+pub settle-requires-clause-beyond : goal.settle-requires-clause-beyond
+settle-requires-clause-beyond c =
     here_left (IsBeyond c.args.relation.now (Has c.args.gone.now)) (IsIndexOf c.args.relation.now) c.args.indexes.now.items c.loop-at.at c.loop-at.indexes.items c.index_mut.result.now (omega (arith, c.loop-at.invariant.many)) c.loop-at.invariant
     c.index_mut.ensures.value
 

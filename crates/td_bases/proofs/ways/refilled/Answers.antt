@@ -8,7 +8,7 @@ pub returns : goal.returns
 returns c =
     let rows = c.into_parts-heading.ensures in
     let left = c.into_rows.ensures.same in
-    let put = c.in-Ok-append.ensures.items ∙ ap (λ (xs : List Attrs). xs ++ c.args.back.deleted.items) (c.in-Ok.ensures.items ∙ ap (λ (xs : List Attrs). xs ++ c.into_parts-heading.result.1.items) c.args.back.empty ∙ rows.tuples ∙ ap (λ r. r.tuples) left) in
+    let put = c.in-Ok-append.ensures.items ∙ ap (λ (xs : List Attrs). xs ++ c.args.back.deleted.items) (c.in-Ok.ensures.items ∙ ap (λ (xs : List Attrs). xs ++ c.into_parts-heading.result.1.items) c.args.back.room.empty ∙ rows.tuples ∙ ap (λ r. r.tuples) left) in
     record {
       heading = c.from_tuples.ensures.heading ∙ rows.heading ∙ ap (λ r. r.heading) left;
       members = c.from_tuples.ensures.members ∙ ap tuple_set put ∙ both_listed c.args.left.tuples c.args.back.deleted.items;

@@ -1,5 +1,4 @@
 use Rattle.std.proofs.Common.{◌∙◌}
-use Rattle.td_relations.specs.Deltas.{inverse_of}
 use Rattle.td_bases.proofs.Keyed.{based, same_first}
 use Rattle.td_bases.proofs.base.Base.change.Goals as goal
 

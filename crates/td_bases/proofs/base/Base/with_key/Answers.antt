@@ -3,7 +3,7 @@ use Rattle.std.specs.List.{filter}
 use Rattle.std.specs.List.Sorted.{IsPermutation}
 use Rattle.td_algebra.specs.KeyIndexes.{KeyIndexData, has_named}
 use Rattle.td_bases.specs.Bases.{BaseData}
-use Rattle.td_bases.specs.ForProofs.Keyed.{IsIndexOf, first_key}
+use Rattle.td_bases.specs.ForProofs.Keyed.{IsIndexOf}
 use Rattle.td_bases.proofs.Keyed.{first_is}
 use Rattle.td_bases.proofs.Lists.{permuted_filter}
 use Rattle.td_bases.proofs.base.Base.with_key.Goals as goal

@@ -10,4 +10,4 @@ refill-requires-clause-room c =
     let again = ap (λ (ts : List Attrs). length ts) c.self.invariant.0 in
     let deleted = ap (λ (w : WayBackData). length w.deleted) c.self.view_is in
     let room = ap (λ (w : WayBackData). w.room) c.self.view_is in
-    omega (arith, c.requires.room, many, again, deleted, room, c.self.invariant.1)
+    omega (arith, c.requires.room, many, again, deleted, room, c.self.invariant.2)

@@ -1,0 +1,9 @@
+use Rattle.std.proofs.Common.{sym, subst}
+use Rattle.td_story.specs.Databases.{IsDatabase}
+use Rattle.td_relvars.specs.ForProofs.Kept.{AreFirst, keys_of, rows_of}
+use Rattle.td_relvars.proofs.database.Database.keep_room.Goals as goal
+
+pub invariant_of-self : goal.invariant_of-self
+invariant_of-self c =
+    let s = c.self.inside in
+    subst (λ xs. IsDatabase (record { catalogue = s.catalogue; stored = rows_of xs }) × AreFirst s.catalogue (keys_of xs)) (sym c.keep_room_at.ensures) c.self.invariant
