@@ -38,3 +38,22 @@ pub(crate) fn have_frame_behind(alloc: Global, bytes: &[u8]) -> bool {
     }
     false
 }
+
+/// The byte behind the whole frames that stand from a byte on.
+pub(crate) fn frames_end(alloc: Global, bytes: &[u8], begin: usize, version: Version) -> usize {
+    let head = match version {
+        Version::First => HEAD_BYTES - 1,
+        Version::Second => HEAD_BYTES,
+    };
+    let mut source = Device::new(bytes.get(begin..).unwrap_or(b"".as_slice()));
+    let mut end = begin;
+    for _ in 0..bytes.len() {
+        match read_frame(alloc, &mut source, version) {
+            Ok(Some(entry)) => {
+                end = end.saturating_add(head.saturating_add(entry.text.as_str().len()));
+            }
+            _ => break,
+        }
+    }
+    end
+}

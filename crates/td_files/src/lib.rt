@@ -2,6 +2,7 @@
 #![tactic(auto)]
 
 mod companions;
+mod contents;
 mod damage;
 mod file;
 mod found;
@@ -11,6 +12,7 @@ mod renewal;
 mod seen;
 mod synced;
 
+pub use contents::{Contents, PassedOver, read_contents};
 pub use file::FileJournal;
 pub use found::{Cut, Found};
 pub use journals::FileJournals;

@@ -13,6 +13,14 @@ pub(crate) const ENDING: &str = ".seen";
 /// The digits of the greatest number of 64 bits.
 const DIGITS: usize = 20;
 
+/// The length that the bytes of such a file begin with, if they do.
+pub(crate) fn length_in(bytes: &[u8]) -> Option<u64> {
+    str::from_utf8(bytes.get(..DIGITS)?)
+        .ok()?
+        .parse::<u64>()
+        .ok()
+}
+
 /// The file beside a journal that has a length up to which the journal was handed to the disk: it may have more than
 /// that, and if it has less, then bytes are gone.
 #[derive(Drop)]
@@ -43,7 +51,7 @@ impl Seen {
     pub(crate) fn length(&self) -> Option<u64> {
         let mut text = [0; DIGITS];
         self.file.read_exact_at(&mut text, 0).ok()?;
-        str::from_utf8(&text).ok()?.parse::<u64>().ok()
+        length_in(&text)
     }
 
     /// Goes on with a journal of this length, of which another one was noted before. Where it had more then, that is

@@ -8,11 +8,13 @@ mod journal;
 mod meeting;
 mod outcomes;
 mod redone;
+mod refusal;
 mod room;
 
 pub use changes::push_change_count;
 pub use digest::digest_text;
-pub use journal::{failure_words, journal_text, lack_words};
+pub use journal::{failure_words, journal_text, lack_words, read_only_text};
 pub use meeting::{Retold, Told};
 pub use outcomes::{push_outcome, raise_words, refused_text};
+pub use refusal::refusal_text;
 pub use room::room_text;

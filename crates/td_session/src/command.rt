@@ -3,6 +3,7 @@
 ghost use Rattle.std.specs.Prelude.{IfOk};
 ghost use Rattle.td_journal.specs.Reopening.{IsNew};
 
+use crate::access::Access;
 use crate::ended::Ended;
 use crate::inputs::Inputs;
 use crate::journals::unfit_words;
@@ -18,11 +19,12 @@ use std::rt::Files;
 use std::time::Clock;
 use td_answers::Links;
 use td_changes::Changes;
-use td_devices::{Sink, Source, put};
-use td_files::Notes;
-use td_journal::{Journals, StoreError, keep_journal};
+use td_devices::{Device, Sink, Source, put};
+use td_files::{Contents, Notes, read_contents};
+use td_journal::{Journals, ReopenError, Reopened, StoreError, keep_journal, take_journal};
 use td_listings::script_catalogue;
-use td_notices::{journal_text, lack_words, room_text};
+use td_notices::{journal_text, lack_words, read_only_text, refusal_text, room_text};
+use td_paths::Unreadable;
 use td_story::{Meter, Opens, Replica};
 
 // The exit status where words are refused, or the script's file cannot be read.
@@ -61,6 +63,20 @@ fn ended_words(ended: Ended) -> &'static str {
     }
 }
 
+/// Where a site's statements are.
+#[derive(Clone, Copy, Drop)]
+enum Store<'a> {
+    Memory,
+    /// In the journal of this name.
+    Journal(&'a str),
+    /// Read from the journal of this name, of which so many bytes are whole, and which is left as it is.
+    Copy {
+        name: &'a str,
+        contents: &'a Contents,
+        whole: u64,
+    },
+}
+
 // The lines behind the script are for a site that holds nothing yet: one that comes back has had them.
 fn first_lines<R: Replica>(
     alloc: Global,
@@ -82,23 +98,45 @@ fn first_lines<R: Replica>(
     Ok(inputs)
 }
 
+// What was found of the journal.
+fn store_text<R: Replica>(
+    alloc: Global,
+    store: Store<'_>,
+    notes: &Notes,
+    site: &R,
+) -> Result<String, AllocError> {
+    match store {
+        Store::Memory => journal_text(alloc, None, None, site),
+        Store::Journal(name) => journal_text(alloc, Some(name), notes.found(), site),
+        Store::Copy {
+            name,
+            contents,
+            whole,
+        } => read_only_text(alloc, name, contents, whole, site),
+    }
+}
+
 // Tells what was found of the journal, and how much room is left. Nothing hangs on whether that is seen.
 fn tell_start<R: Replica, F: Sink>(
     alloc: Global,
-    name: Option<&str>,
+    store: Store<'_>,
     notes: &Notes,
     site: &R,
     faults: &mut F,
 ) -> Result<(), AllocError> {
-    let journal = journal_text(alloc, name, notes.found(), site)?;
+    let journal = store_text(alloc, store, notes, site)?;
     complain(faults, journal.as_str());
     let room = room_text(alloc, site)?;
     complain(faults, room.as_str());
     Ok(())
 }
 
-// Whether the journal has less than it had once, and the site is not to go on with that as it is: this is told.
-fn lacks_statements<F: Sink>(words: &Words<'_>, notes: &Notes, faults: &mut F) -> bool {
+// Whether the site may be changed: where its journal has less than it had once, and it is not to go on with that as it
+// is, this is told.
+fn access_to<F: Sink>(words: &Words<'_>, notes: &Notes, faults: &mut F) -> Access {
+    if words.is_read_only {
+        return Access::ReadOnly;
+    }
     let is_short = match notes.found() {
         Some(found) => found.is_short(),
         None => false,
@@ -108,9 +146,9 @@ fn lacks_statements<F: Sink>(words: &Words<'_>, notes: &Notes, faults: &mut F) -
     }
     if is_short && !words.forgets {
         complain(faults, lack_words());
-        return true;
+        return Access::Lacking;
     }
-    false
+    Access::Open
 }
 
 fn converse_at<
@@ -127,7 +165,7 @@ fn converse_at<
     links: &mut L,
     meter: &mut Meter,
     words: &Words<'_>,
-    name: Option<&str>,
+    store: Store<'_>,
     notes: &Notes,
     site: R,
     behind: Vec<u8>,
@@ -137,12 +175,12 @@ fn converse_at<
     faults: &mut F,
 ) -> Result<bool, Ended> {
     let catalogue = script_catalogue(alloc, &site)?;
-    tell_start(alloc, name, notes, &site, faults)?;
-    let lacks = lacks_statements(words, notes, faults);
+    tell_start(alloc, store, notes, &site, faults)?;
+    let access = access_to(words, notes, faults);
     let mut inputs = first_lines(alloc, &site, behind, &words.typed)?;
     let is_terminal = is_terminal && words.typed.is_empty();
     let mut shell: Shell<'_, R, O, H, L> = Shell::new(
-        alloc, host, links, meter, notes, site, catalogue, lacks,
+        alloc, host, links, meter, notes, site, catalogue, access,
     );
     converse(&mut shell, &mut inputs, is_terminal, source, sink, faults)?;
     Ok(shell.has_faults() && !is_terminal && !words.keeps_going)
@@ -157,6 +195,16 @@ fn end<F: Sink>(end: Result<bool, Ended>, faults: &mut F) -> u8 {
             1
         }
     }
+}
+
+// Tells why the file of a journal is not read.
+fn unread<F: Sink>(alloc: Global, name: &str, error: Unreadable, faults: &mut F) -> u8 {
+    let why = error.words();
+    match format!(in alloc; "fault journal {name}: {why}\n") {
+        Ok(text) => complain(faults, text.as_str()),
+        Err(_) => complain(faults, ended_words(Ended::OutOfMemory)),
+    }
+    BAD_JOURNAL
 }
 
 fn unkept<F: Sink>(error: StoreError, name: &str, faults: &mut F) -> u8 {
@@ -190,6 +238,94 @@ fn open_new<R: Opens, F: Sink>(
             Err(1)
         }
     }
+}
+
+// Tells why the site does not come back from the bytes of a journal.
+fn refuse<F: Sink>(
+    alloc: Global,
+    words: &Words<'_>,
+    name: &str,
+    script: &str,
+    contents: &Contents,
+    error: ReopenError,
+    faults: &mut F,
+) -> u8 {
+    let told = refusal_text(
+        alloc,
+        name,
+        contents,
+        error,
+        script,
+        words.site,
+        words.limit,
+    );
+    match told {
+        Ok(text) => complain(faults, text.as_str()),
+        Err(_) => complain(faults, ended_words(Ended::OutOfMemory)),
+    }
+    BAD_JOURNAL
+}
+
+// Has the site take what its journal says, which is left as it is, and answers what is typed.
+fn start_reading<
+    R: Opens + Changes + Drop,
+    H: Files<File = File> + Clock + AllocGlobal + Clone + Drop,
+    L: Links,
+    S: Source,
+    K: Sink,
+    F: Sink,
+>(
+    alloc: Global,
+    words: &Words<'_>,
+    name: &str,
+    script: &str,
+    host: &H,
+    notes: &Notes,
+    links: &mut L,
+    meter: &mut Meter,
+    site: R,
+    is_terminal: bool,
+    source: &mut S,
+    sink: &mut K,
+    faults: &mut F,
+) -> u8
+    requires { IsNew (R.seen site) }
+{
+    let contents = match read_contents(host, name) {
+        Ok(contents) => contents,
+        Err(error) => return unread(alloc, name, error, faults),
+    };
+    let mut journal = Device::new(contents.bytes.as_slice());
+    let reopened = match take_journal(alloc, site, &mut journal, meter) {
+        Ok(reopened) => reopened,
+        Err(error) => return refuse(alloc, words, name, script, &contents, error, faults),
+    };
+    let Reopened {
+        replica,
+        whole,
+        version: _,
+    } = reopened;
+    let store = Store::Copy {
+        name,
+        contents: &contents,
+        whole,
+    };
+    let ended = converse_at::<_, R, _, _, _, _, _>(
+        alloc,
+        host,
+        links,
+        meter,
+        words,
+        store,
+        notes,
+        replica,
+        Vec::new(alloc),
+        is_terminal,
+        source,
+        sink,
+        faults,
+    );
+    end(ended, faults)
 }
 
 // Opens the site of the script and has it come back from its journal, where it keeps one, and answers what is typed.
@@ -227,7 +363,7 @@ fn start<
             links,
             meter,
             words,
-            None,
+            Store::Memory,
             notes,
             site,
             behind,
@@ -250,6 +386,23 @@ fn start<
         }
         Err(_) => return end(Err(Ended::OutOfMemory), faults),
     }
+    if words.is_read_only {
+        return start_reading::<R, _, _, _, _, _>(
+            alloc,
+            words,
+            name.as_str(),
+            text.as_str(),
+            host,
+            notes,
+            links,
+            meter,
+            site,
+            is_terminal,
+            source,
+            sink,
+            faults,
+        );
+    }
     match keep_journal(alloc, journals, &name, site, meter) {
         Ok(site) => {
             let ended = converse_at::<_, R, _, _, _, _, _>(
@@ -258,7 +411,7 @@ fn start<
                 links,
                 meter,
                 words,
-                Some(name.as_str()),
+                Store::Journal(name.as_str()),
                 notes,
                 site,
                 behind,

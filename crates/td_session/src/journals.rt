@@ -63,13 +63,18 @@ pub fn unfit_words<H: Files + AllocGlobal + Clone + Drop>(
             "fault journal {name}: it is there already; without --new the site goes on with it\n"
         )?));
     }
+    let begins = if words.is_read_only {
+        ""
+    } else {
+        "; --new begins it"
+    };
     let there = names_there(alloc, host, name)?;
     if there.is_empty() {
         return Ok(Some(format!(in alloc;
-            "fault journal {name}: it is not there, and no other journal is; --new begins it\n"
+            "fault journal {name}: it is not there, and no other journal is{begins}\n"
         )?));
     }
     Ok(Some(format!(in alloc;
-        "fault journal {name}: it is not there; --new begins it. There are:{there}\n"
+        "fault journal {name}: it is not there{begins}. There are:{there}\n"
     )?))
 }

@@ -2,6 +2,7 @@
 //! over any kind of site, reader and writer, and changes a site by the calls of `Replica` alone.
 #![tactic(auto)]
 
+mod access;
 mod ask;
 pub mod command;
 mod dump;
@@ -23,6 +24,7 @@ mod timing;
 mod wording;
 pub mod words;
 
+pub use access::Access;
 pub use command::program;
 pub use ended::Ended;
 pub use shell::{Shell, converse};

@@ -1,5 +1,6 @@
 //! The conversation at one site.
 
+use crate::access::Access;
 use crate::ask::{ask, ask_at};
 use crate::dump::{ENTRY_BYTES, dump, issue_entry};
 use crate::ended::Ended;
@@ -12,7 +13,7 @@ use crate::meet::{Meeting, call, serve};
 use crate::relvars::{relvars, schema};
 use crate::tables::{dump_tables, export};
 use crate::timing::{begin, took};
-use crate::wording::{BROKEN, NO_MEMORY};
+use crate::wording::{BROKEN, NO_MEMORY, READ_ONLY};
 use std::alloc::{AllocError, Global};
 use std::fs::File;
 use std::marker::PhantomData;
@@ -40,8 +41,7 @@ pub struct Shell<'a, R: Drop, O, H, L> {
     notes: &'a Notes,
     site: R,
     catalogue: Catalogue,
-    // Whether the site issues nothing until it has met another one.
-    lacks_statements: bool,
+    access: Access,
     mode: Mode,
     is_timed: bool,
     text: String,
@@ -82,7 +82,7 @@ impl<
         notes: &'a Notes,
         site: R,
         catalogue: Catalogue,
-        lacks_statements: bool,
+        access: Access,
     ) -> Self {
         Shell {
             alloc,
@@ -92,7 +92,7 @@ impl<
             notes,
             site,
             catalogue,
-            lacks_statements,
+            access,
             mode: Mode::Table,
             is_timed: false,
             text: String::new(alloc),
@@ -144,8 +144,8 @@ impl<
                 "fault command: .entry stands in the files that .dump writes, and is not typed\n",
             );
         }
-        if self.lacks_statements {
-            return self.lack_text();
+        if self.access != Access::Open {
+            return self.closed_text();
         }
         if words.len() > ENTRY_BYTES {
             return String::from_str(self.alloc, TOO_LONG);
@@ -153,7 +153,11 @@ impl<
         issue_entry(self.alloc, &mut self.site, words, self.meter, self.notes)
     }
 
-    fn lack_text(&self) -> Result<String, AllocError> {
+    // Why nothing is issued, where the site may not be changed as it is.
+    fn closed_text(&self) -> Result<String, AllocError> {
+        if self.access == Access::ReadOnly {
+            return String::from_str(self.alloc, READ_ONLY);
+        }
         let words = lack_words();
         format!(in self.alloc; "fault journal: {words}")
     }
@@ -162,13 +166,16 @@ impl<
     fn after_meeting(&mut self, meeting: Meeting) -> String {
         let Meeting { text, is_done } = meeting;
         if is_done {
-            self.lacks_statements = false;
+            self.access = Access::Open;
             self.notes.let_go();
         }
         text
     }
 
     fn serve<F: Sink>(&mut self, address: &str, faults: &mut F) -> Result<String, AllocError> {
+        if self.access == Access::ReadOnly {
+            return self.closed_text();
+        }
         let meeting = serve(
             self.alloc,
             &self.catalogue,
@@ -183,6 +190,9 @@ impl<
     }
 
     fn call(&mut self, address: &str) -> Result<String, AllocError> {
+        if self.access == Access::ReadOnly {
+            return self.closed_text();
+        }
         let meeting = call(
             self.alloc,
             &self.catalogue,
@@ -197,7 +207,7 @@ impl<
 
     fn answer_text(&mut self, standing: Standing, text: &str) -> Result<String, AllocError> {
         match standing {
-            Standing::Statement if self.lacks_statements => self.lack_text(),
+            Standing::Statement if self.access != Access::Open => self.closed_text(),
             Standing::Statement => issue(self.alloc, &mut self.site, text, self.meter, self.notes),
             Standing::Query => ask(self.alloc, &self.site, text, self.mode),
             Standing::Empty | Standing::Open => Ok(String::new(self.alloc)),
@@ -255,8 +265,8 @@ impl<
         faults: &mut F,
     ) -> Result<String, AllocError> {
         let alloc = self.alloc;
-        if self.lacks_statements {
-            return self.lack_text();
+        if self.access != Access::Open {
+            return self.closed_text();
         }
         let Ok(bytes) = fs::read(self.host, file) else {
             return format!(in alloc; "fault file: {file} cannot be read\n");

@@ -12,6 +12,10 @@ pub const UNCHANGED: &str = "fault memory: there is not enough memory, and nothi
 pub const BROKEN: &str =
     "fault broken: the journal of this site has failed; end the program and start it again\n";
 
+/// What is said where a site is only read.
+pub const READ_ONLY: &str =
+    "fault read-only: this session changes nothing; start it without --read-only for that\n";
+
 /// So many of something, whose word takes an s where there is not one.
 pub fn counted(alloc: Global, count: usize, what: &str) -> Result<String, AllocError> {
     if count == 1 {

@@ -55,6 +55,12 @@ fn command<'a>(alloc: Global) -> Result<Command<'a>, AllocError> {
         .long("forget")
         .help("Goes on with a journal that lost statements, without meeting another site first")
         .action(ArgAction::SetTrue);
+    let read_only = Arg::new(alloc, "read-only")
+        .long("read-only")
+        .help("Reads the journal, whoever has it open, and changes nothing")
+        .action(ArgAction::SetTrue)
+        .requires_arg("journal")?
+        .conflicts_with_all(&["new", "forget"])?;
     Command::new(alloc, "td_shell")
         .version("1.0")
         .about("A person at one site of a replicated relational database")
@@ -65,6 +71,7 @@ fn command<'a>(alloc: Global) -> Result<Command<'a>, AllocError> {
         .arg(journal)?
         .arg(new)?
         .arg(forget)?
+        .arg(read_only)?
         .arg(typed)?
         .arg(keep_going)
 }
@@ -84,6 +91,8 @@ pub struct Words<'a> {
     pub is_new: bool,
     /// Whether it goes on with a journal that has less than it had once.
     pub forgets: bool,
+    /// Whether the journal is only read, and left as it is.
+    pub is_read_only: bool,
     /// What is read in place of what is typed, if anything is.
     pub typed: Vec<&'a str>,
     /// Whether a fault that was answered leaves the exit status as it is.
@@ -109,6 +118,7 @@ pub fn read_words<'a>(alloc: Global, words: &'a [String]) -> Result<Words<'a>, E
         journal: matches.get_str("journal"),
         is_new: matches.get_flag("new"),
         forgets: matches.get_flag("forget"),
+        is_read_only: matches.get_flag("read-only"),
         typed: typed_texts(alloc, matches.get_strs("typed"))?,
         keeps_going: matches.get_flag("keep-going"),
     })
