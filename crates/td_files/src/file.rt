@@ -5,7 +5,7 @@ ghost use Rattle.std.specs.Prelude.{None};
 use crate::companions::{make_new, settle_folder};
 use crate::damage::{WINDOW, have_frame_behind};
 use crate::found::{Cut, Found};
-use crate::notes::Notes;
+use crate::notes::{Notes, Refusal};
 use crate::seen::Seen;
 use crate::synced::Synced;
 use std::alloc::{AllocError, Global};
@@ -170,8 +170,15 @@ impl<'a, R: Files<File = File>> FileJournal<'a, R> {
 
     /// The file with so many of its bytes, which are on the disk, written behind these.
     pub(crate) fn cut(mut self, whole: u64) -> Result<Device<Synced<'a, R>>, Failed> {
-        let found = self.keep_rest(whole)?;
+        let found = match self.keep_rest(whole) {
+            Ok(found) => found,
+            Err(Failed) => {
+                self.notes.refuse(Refusal::Unkept);
+                return Err(Failed);
+            }
+        };
         if self.leave(whole).is_err() {
+            self.notes.refuse(Refusal::Other);
             return Err(Failed);
         }
         let FileJournal {

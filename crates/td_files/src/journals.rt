@@ -4,18 +4,19 @@ ghost use Rattle.std.specs.Prelude.{None};
 
 use crate::companions::{make_new, name_beside, open_there, settle_folder, stands_under};
 use crate::file::FileJournal;
-use crate::notes::Notes;
+use crate::notes::{Notes, Refusal};
 use crate::renewal::FileRenewal;
 use crate::seen;
 use crate::seen::Seen;
 use crate::synced::Synced;
 use std::alloc::Global;
 use std::fs;
-use std::fs::File;
+use std::fs::{File, TryLockError};
 use std::io::ErrorKind;
 use std::rt::Files;
 use td_devices::{Device, Failed};
 use td_journal::{Journals, StoreError};
+use td_paths::plain_file;
 
 /// Journals in files of the names that they stand under. A file that is not there is made, for its owner alone. It is
 /// opened without being cut, and locked: another program that opens it is refused for as long as this one has it open.
@@ -35,30 +36,42 @@ impl<'a, R: Files<File = File>> FileJournals<'a, R> {
     }
 
     // Opens a file that is there, or makes it, and tells whether it did. What is no file is not opened.
-    fn open_or_make(&self, name: &str) -> Result<(File, bool), Failed> {
+    fn open_or_make(&self, name: &str) -> Result<(File, bool), Refusal> {
         match make_new(self.files, name) {
             Ok(file) => return Ok((file, true)),
             Err(error) if error.kind() == ErrorKind::AlreadyExists => {}
-            Err(_) => return Err(Failed),
+            Err(error) => return Err(Refusal::of(error.kind())),
         }
-        match fs::metadata(self.files, name) {
-            Ok(it) if it.is_file() => {}
-            _ => return Err(Failed),
+        if let Err(error) = plain_file(self.files, name) {
+            return Err(Refusal::NoFile(error));
         }
         match open_there(self.files, name) {
             Ok(file) => Ok((file, false)),
-            Err(_) => Err(Failed),
+            Err(error) => Err(Refusal::of(error.kind())),
         }
     }
 
     // Opens a journal's file, takes its lock, which lasts for as long as it is open, and has its folder on the disk.
-    fn open_locked(&self, name: &str) -> Result<(File, bool), Failed> {
+    fn open_locked(&self, name: &str) -> Result<(File, bool), Refusal> {
         let (file, is_new) = self.open_or_make(name)?;
-        if file.try_lock().is_err() || !stands_under(self.files, name, &file) {
-            return Err(Failed);
+        match file.try_lock() {
+            Ok(()) => {}
+            Err(TryLockError::WouldBlock) => return Err(Refusal::Locked),
+            Err(TryLockError::Error(_)) => return Err(Refusal::Other),
         }
-        settle_folder(self.files, name)?;
-        Ok((file, is_new))
+        if !stands_under(self.files, name, &file) {
+            return Err(Refusal::Replaced);
+        }
+        match settle_folder(self.files, name) {
+            Ok(()) => Ok((file, is_new)),
+            Err(Failed) => Err(Refusal::Other),
+        }
+    }
+
+    // A journal that is refused for this.
+    fn refuse<T>(&self, refusal: Refusal) -> Result<T, StoreError> {
+        self.notes.refuse(refusal);
+        Err(StoreError::JournalFile)
     }
 
     // Makes the file in which a journal is made anew, in place of one that an earlier program may have left. (Whoever
@@ -100,12 +113,13 @@ impl<'a, R: Files<File = File> + Drop> Journals for FileJournals<'a, R> {
         let Ok(beside) = name_beside(alloc, name, seen::ENDING) else {
             return Err(StoreError::OutOfMemory);
         };
-        let Ok((file, is_new)) = self.open_locked(name) else {
-            return Err(StoreError::JournalFile);
+        let (file, is_new) = match self.open_locked(name) {
+            Ok(opened) => opened,
+            Err(refusal) => return self.refuse(refusal),
         };
         match Seen::open(self.files, beside.as_str()) {
             Ok(seen) => FileJournal::new(alloc, self.files, self.notes, name, file, is_new, seen),
-            Err(_) => Err(StoreError::JournalFile),
+            Err(_) => self.refuse(Refusal::Beside),
         }
     }
 
@@ -131,11 +145,11 @@ impl<'a, R: Files<File = File> + Drop> Journals for FileJournals<'a, R> {
         ) else {
             return Err(StoreError::OutOfMemory);
         };
-        let (Ok(file), Ok(found)) = (
-            self.make_beside(name, beside.as_str()),
-            journal.keep_rest(whole),
-        ) else {
-            return Err(StoreError::JournalFile);
+        let Ok(file) = self.make_beside(name, beside.as_str()) else {
+            return self.refuse(Refusal::Unmade);
+        };
+        let Ok(found) = journal.keep_rest(whole) else {
+            return self.refuse(Refusal::Unkept);
         };
         let Ok(written) = file.try_clone() else {
             return Err(StoreError::JournalFile);

@@ -1,7 +1,7 @@
 //! Why a journal is not one from which a site comes back.
 
 use std::alloc::{AllocError, Global};
-use td_files::Contents;
+use td_files::{Contents, Refusal};
 use td_journal::{JournalError, ReopenError};
 use td_story::TakeError;
 
@@ -93,6 +93,27 @@ fn not_taken(alloc: Global, error: TakeError, limit: usize) -> Result<String, Al
         _ => format!(in alloc;
             "it is damaged, since it has a statement that no site issues; {GOOD_COPY}"
         ),
+    }
+}
+
+/// Why the file of a journal is not used.
+pub fn file_words(refusal: Refusal) -> &'static str {
+    match refusal {
+        Refusal::NoFile(error) => error.words(),
+        Refusal::NoFolder => "its folder is not there; make that, or give another prefix",
+        Refusal::Denied =>
+            "this user may not write it, or not its folder; mend their rights, or read it with --read-only",
+        Refusal::Full => "there is no room for it; make room on the disk",
+        Refusal::Locked =>
+            "another program has it open; end that one, or read the journal with --read-only",
+        Refusal::Replaced => "another file took its place just now; start again",
+        Refusal::Beside =>
+            "what has its name followed by .seen is no file that this user may read and write; move that away",
+        Refusal::Unkept =>
+            "what is behind its whole statements cannot be kept beside it; make room, or mend the rights of its folder",
+        Refusal::Unmade =>
+            "it is of version 1, and cannot be made anew beside itself; make room, mend the rights of its folder, or give the name of the file in place of that of a link",
+        Refusal::Other => "the system refuses to open it, to lock it or to hand it to the disk",
     }
 }
 

@@ -20,11 +20,12 @@ use std::time::Clock;
 use td_answers::Links;
 use td_changes::Changes;
 use td_devices::{Device, Sink, Source, put};
-use td_files::{Contents, Notes, read_contents};
-use td_journal::{Journals, ReopenError, Reopened, StoreError, keep_journal, take_journal};
+use td_files::{Contents, Notes, Refusal, read_contents};
+use td_journal::{Journals, Reopened, StoreError, keep_journal, take_journal};
 use td_listings::script_catalogue;
-use td_notices::{journal_text, lack_words, read_only_text, refusal_text, room_text};
-use td_paths::Unreadable;
+use td_notices::{
+    failure_words, file_words, journal_text, lack_words, read_only_text, refusal_text, room_text,
+};
 use td_story::{Meter, Opens, Replica};
 
 // The exit status where words are refused, or the script's file cannot be read.
@@ -197,28 +198,6 @@ fn end<F: Sink>(end: Result<bool, Ended>, faults: &mut F) -> u8 {
     }
 }
 
-// Tells why the file of a journal is not read.
-fn unread<F: Sink>(alloc: Global, name: &str, error: Unreadable, faults: &mut F) -> u8 {
-    let why = error.words();
-    match format!(in alloc; "fault journal {name}: {why}\n") {
-        Ok(text) => complain(faults, text.as_str()),
-        Err(_) => complain(faults, ended_words(Ended::OutOfMemory)),
-    }
-    BAD_JOURNAL
-}
-
-fn unkept<F: Sink>(error: StoreError, name: &str, faults: &mut F) -> u8 {
-    match error {
-        StoreError::OutOfMemory => end(Err(Ended::OutOfMemory), faults),
-        StoreError::JournalFile => {
-            complain(faults, "fault journal ");
-            complain(faults, name);
-            complain(faults, "\n");
-            BAD_JOURNAL
-        }
-    }
-}
-
 // A site that holds nothing, as one must that is to come back from a journal; or the status, where it is told why there
 // is none.
 fn open_new<R: Opens, F: Sink>(
@@ -240,30 +219,76 @@ fn open_new<R: Opens, F: Sink>(
     }
 }
 
-// Tells why the site does not come back from the bytes of a journal.
-fn refuse<F: Sink>(
-    alloc: Global,
-    words: &Words<'_>,
-    name: &str,
-    script: &str,
-    contents: &Contents,
-    error: ReopenError,
-    faults: &mut F,
-) -> u8 {
-    let told = refusal_text(
-        alloc,
-        name,
-        contents,
-        error,
-        script,
-        words.site,
-        words.limit,
-    );
+// That a journal cannot be used, and why.
+fn fault_journal(alloc: Global, name: &str, why: &str) -> Result<String, AllocError> {
+    format!(in alloc; "fault journal {name}: {why}\n")
+}
+
+// Tells that a journal cannot be used.
+fn refuse<F: Sink>(told: Result<String, AllocError>, faults: &mut F) -> u8 {
     match told {
         Ok(text) => complain(faults, text.as_str()),
         Err(_) => complain(faults, ended_words(Ended::OutOfMemory)),
     }
     BAD_JOURNAL
+}
+
+// Why a site does not come back from what its journal has, by another try.
+fn refusal_by_bytes<R: Opens + Drop, H: Files + AllocGlobal>(
+    alloc: Global,
+    words: &Words<'_>,
+    name: &str,
+    script: &str,
+    site: R,
+    host: &H,
+    meter: &mut Meter,
+) -> Result<String, AllocError>
+    requires { IsNew (R.seen site) }
+{
+    let contents = match read_contents(host, name) {
+        Ok(contents) => contents,
+        Err(error) => return fault_journal(alloc, name, error.words()),
+    };
+    let mut journal = Device::new(contents.bytes.as_slice());
+    match take_journal(alloc, site, &mut journal, meter) {
+        Ok(_) => fault_journal(alloc, name, file_words(Refusal::Other)),
+        Err(error) => refusal_text(
+            alloc,
+            name,
+            &contents,
+            error,
+            script,
+            words.site,
+            words.limit,
+        ),
+    }
+}
+
+// Tells why a journal is not gone on with: what its file says of that, or else what it has.
+fn unkept<R: Opens + Drop, H: Files + AllocGlobal, F: Sink>(
+    alloc: Global,
+    words: &Words<'_>,
+    name: &str,
+    script: &str,
+    host: &H,
+    notes: &Notes,
+    meter: &mut Meter,
+    faults: &mut F,
+) -> u8 {
+    if let Some(refusal) = notes.refusal() {
+        return refuse(fault_journal(alloc, name, file_words(refusal)), faults);
+    }
+    if notes.failure().is_some() {
+        let why = failure_words(notes.failure());
+        return refuse(fault_journal(alloc, name, why), faults);
+    }
+    match open_new::<R, _>(alloc, words, script, faults) {
+        Ok(site) => {
+            let told = refusal_by_bytes(alloc, words, name, script, site, host, meter);
+            refuse(told, faults)
+        }
+        Err(status) => status,
+    }
 }
 
 // Has the site take what its journal says, which is left as it is, and answers what is typed.
@@ -293,12 +318,23 @@ fn start_reading<
 {
     let contents = match read_contents(host, name) {
         Ok(contents) => contents,
-        Err(error) => return unread(alloc, name, error, faults),
+        Err(error) => return refuse(fault_journal(alloc, name, error.words()), faults),
     };
     let mut journal = Device::new(contents.bytes.as_slice());
     let reopened = match take_journal(alloc, site, &mut journal, meter) {
         Ok(reopened) => reopened,
-        Err(error) => return refuse(alloc, words, name, script, &contents, error, faults),
+        Err(error) => {
+            let told = refusal_text(
+                alloc,
+                name,
+                &contents,
+                error,
+                script,
+                words.site,
+                words.limit,
+            );
+            return refuse(told, faults);
+        }
     };
     let Reopened {
         replica,
@@ -422,7 +458,17 @@ fn start<
             );
             end(ended, faults)
         }
-        Err(error) => unkept(error, &name, faults),
+        Err(StoreError::OutOfMemory) => end(Err(Ended::OutOfMemory), faults),
+        Err(StoreError::JournalFile) => unkept::<R, _, _>(
+            alloc,
+            words,
+            name.as_str(),
+            text.as_str(),
+            host,
+            notes,
+            meter,
+            faults,
+        ),
     }
 }
 
