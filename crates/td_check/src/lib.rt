@@ -11,15 +11,14 @@ use definitions::check_definitions;
 use report::Report;
 use script::script_in;
 use std::alloc::{AllocError, Global};
-use std::fs;
 use std::rt::Files;
-use td_devices::{Sink, put};
+use td_devices::{Failed, Sink, put};
+use td_paths::read_plain;
 
-const USAGE: &str = "\
-Usage: td_check SCRIPT, or td_shell check SCRIPT
+const HELP: &str = "\
 Tells each definition of a script that is refused, by FILE:LINE:COLUMN, with the line and a caret under the place.
 A script ends at a line .begin, if it has one; the lines behind it are not judged, and nothing is evaluated.
-The status is 0 where nothing is refused, 1 where something is, and 2 where the file can't be read.
+The status is 0 where nothing is refused, 1 where something is, and 2 where the file cannot be read.
 ";
 
 // The exit status where the words are refused, the file cannot be read, or nothing can be told.
@@ -35,45 +34,64 @@ fn told_of(alloc: Global, file: &str, bytes: &[u8]) -> Result<(String, bool), Al
     Ok((told, report.is_bad()))
 }
 
+// What is told in place of a check, by the command that was typed.
+fn say<K: Sink>(sink: &mut K, parts: &[&str]) -> Result<(), Failed> {
+    for part in parts {
+        put(sink, part.as_bytes())?;
+    }
+    Ok(())
+}
+
 // Tells why nothing is checked. Where that fails too, the status is all that tells.
-fn refused<F: Sink>(faults: &mut F, why: &str) -> u8 {
-    let _told = put(faults, why.as_bytes());
+fn refused<F: Sink>(faults: &mut F, parts: &[&str]) -> u8 {
+    let _told = say(faults, parts);
     UNCHECKED
 }
 
 fn check<H: Files + AllocGlobal, K: Sink, F: Sink>(
+    command: &str,
     host: &H,
     file: &str,
     sink: &mut K,
     faults: &mut F,
 ) -> u8 {
-    let Ok(bytes) = fs::read(host, file) else {
-        return refused(faults, "the file can't be read\n");
+    let bytes = match read_plain(host, file) {
+        Ok(bytes) => bytes,
+        Err(error) => {
+            let why = error.words();
+            return refused(
+                faults,
+                &[command, ": ", file, " cannot be read: ", why, "\n"],
+            );
+        }
     };
     let Ok((told, is_bad)) = told_of(host.alloc(), file, &bytes) else {
-        return refused(faults, "there was not enough memory\n");
+        return refused(faults, &[command, ": there is not enough memory\n"]);
     };
     match put(sink, told.as_bytes()) {
         Ok(()) => u8::from(is_bad),
-        Err(_) => refused(faults, "standard output failed\n"),
+        Err(_) => refused(faults, &[command, ": the output cannot be written\n"]),
     }
 }
 
-/// Checks the script in the file that the words name, which are those behind the program's name, and tells what it
-/// finds. The answer is the exit status: 0 where nothing is refused, and after help; 1 where something is; 2 where the
+/// Checks the script in the file that the words name, which are those behind the command, by which it names itself, and
+/// tells what it finds. The answer is the exit status: 0 where nothing is refused, and after help; 1 where something is; 2 where the
 /// words are wrong, the file cannot be read, memory is wanting or standard output fails.
 pub fn program<H: Files + AllocGlobal, K: Sink, F: Sink>(
+    command: &str,
     words: &[String],
     host: &H,
     sink: &mut K,
     faults: &mut F,
 ) -> u8 {
     match words {
-        [file] if file.as_str() == "--help" => match put(sink, USAGE.as_bytes()) {
-            Ok(()) => 0,
-            Err(_) => UNCHECKED,
-        },
-        [file] => check(host, file.as_str(), sink, faults),
-        _ => refused(faults, USAGE),
+        [file] if file.as_str() == "--help" => {
+            match say(sink, &["Usage: ", command, " SCRIPT\n", HELP]) {
+                Ok(()) => 0,
+                Err(_) => UNCHECKED,
+            }
+        }
+        [file] => check(command, host, file.as_str(), sink, faults),
+        _ => refused(faults, &["Usage: ", command, " SCRIPT\n", HELP]),
     }
 }

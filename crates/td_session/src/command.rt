@@ -13,7 +13,6 @@ use crate::words::{Words, read_words};
 use clap::Error;
 use clap::error::ErrorKind;
 use std::alloc::{AllocError, Global};
-use std::fs;
 use std::fs::File;
 use std::rt::Files;
 use std::time::Clock;
@@ -26,6 +25,7 @@ use td_listings::script_catalogue;
 use td_notices::{
     failure_words, file_words, journal_text, lack_words, read_only_text, refusal_text, room_text,
 };
+use td_paths::{Unreadable, read_plain};
 use td_story::{Meter, Opens, Replica};
 
 // The exit status where words are refused, or the script's file cannot be read.
@@ -54,6 +54,20 @@ fn tell<K: Sink, F: Sink>(alloc: Global, error: &Error, sink: &mut K, faults: &m
         Ok(()) => 0,
         Err(_) => 1,
     }
+}
+
+// Tells why the script is not read.
+fn no_script<F: Sink>(script: &str, error: Unreadable, faults: &mut F) -> u8 {
+    for part in [
+        "error: the script cannot be read: ",
+        script,
+        ": ",
+        error.words(),
+        "\n",
+    ] {
+        complain(faults, part);
+    }
+    BAD_WORDS
 }
 
 fn ended_words(ended: Ended) -> &'static str {
@@ -501,11 +515,9 @@ pub fn program<
         Ok(words) => words,
         Err(error) => return tell(alloc, &error, sink, faults),
     };
-    let Ok(file) = fs::read(host, words.script) else {
-        complain(faults, "error: the script cannot be read: ");
-        complain(faults, words.script);
-        complain(faults, "\n");
-        return BAD_WORDS;
+    let file = match read_plain(host, words.script) {
+        Ok(file) => file,
+        Err(error) => return no_script(words.script, error, faults),
     };
     match script_in(alloc, &file) {
         Ok(script) => start::<R, _, _, _, _, _, _>(

@@ -18,8 +18,8 @@ use std::alloc::{AllocError, Global};
 use std::fs::File;
 use std::marker::PhantomData;
 use std::rt::Files;
+use std::str;
 use std::time::Clock;
-use std::{fs, str};
 use td_answers::Links;
 use td_changes::Changes;
 use td_devices::{Sink, Source, put};
@@ -28,6 +28,7 @@ use td_headings::Catalogue;
 use td_inputs::{Command, Mode, Scan, Standing, command_of};
 use td_listings::{ListingError, listing};
 use td_notices::lack_words;
+use td_paths::{Unreadable, read_plain};
 use td_stamps::Stamp;
 use td_story::{MOST_BYTES, Meter, Opens};
 
@@ -50,6 +51,12 @@ pub struct Shell<'a, R: Drop, O, H, L> {
     has_faults: bool,
     /// The kind of site at which a dump is tried.
     opens: PhantomData<O>,
+}
+
+// That a file is not read, and why.
+fn unreadable_text(alloc: Global, file: &str, error: Unreadable) -> Result<String, AllocError> {
+    let why = error.words();
+    format!(in alloc; "fault file: {file} cannot be read: {why}\n")
 }
 
 // What follows an answer.
@@ -249,8 +256,9 @@ impl<
 
     fn read(&self, inputs: &mut Inputs, file: &str) -> Result<String, AllocError> {
         let alloc = self.alloc;
-        let Ok(bytes) = fs::read(self.host, file) else {
-            return format!(in alloc; "fault file: {file} cannot be read\n");
+        let bytes = match read_plain(self.host, file) {
+            Ok(bytes) => bytes,
+            Err(error) => return unreadable_text(alloc, file, error),
         };
         if inputs.read_file(bytes)? {
             return Ok(String::new(alloc));
@@ -268,8 +276,9 @@ impl<
         if self.access != Access::Open {
             return self.closed_text();
         }
-        let Ok(bytes) = fs::read(self.host, file) else {
-            return format!(in alloc; "fault file: {file} cannot be read\n");
+        let bytes = match read_plain(self.host, file) {
+            Ok(bytes) => bytes,
+            Err(error) => return unreadable_text(alloc, file, error),
         };
         match import(
             alloc,

@@ -18,6 +18,9 @@ const CHECKER: &str = "td_check";
 /// The word by which it does so under any other name.
 const CHECK: &str = "check";
 
+/// How it names itself then.
+const CHECK_COMMAND: &str = "td_shell check";
+
 fn is_checker(program: &str) -> bool {
     match program.strip_suffix(CHECKER) {
         Some(folder) => folder.is_empty() || folder.ends_with('/'),
@@ -25,11 +28,24 @@ fn is_checker(program: &str) -> bool {
     }
 }
 
-// The words for the check of a script, where the words ask for that.
-fn check_words(words: &[String]) -> Option<&[String]> {
+/// The check of a script: the command that was typed, and the words behind it.
+#[derive(Clone, Copy, Drop)]
+struct Check<'a> {
+    command: &'static str,
+    words: &'a [String],
+}
+
+// The check of a script, where the words ask for that.
+fn check_in(words: &[String]) -> Option<Check<'_>> {
     match words {
-        [program, rest @ ..] if is_checker(program.as_str()) => Some(rest),
-        [_, word, rest @ ..] if word.as_str() == CHECK => Some(rest),
+        [program, rest @ ..] if is_checker(program.as_str()) => Some(Check {
+            command: CHECKER,
+            words: rest,
+        }),
+        [_, word, rest @ ..] if word.as_str() == CHECK => Some(Check {
+            command: CHECK_COMMAND,
+            words: rest,
+        }),
         _ => None,
     }
 }
@@ -54,8 +70,8 @@ fn main(rt: HostRuntime) -> ExitCode {
     let mut sink = Device::new(Shown::new(alloc, rt.stdout(), is_seen));
     let are_faults_seen = rt.stderr().is_terminal();
     let mut faults = Device::new(Shown::new(alloc, rt.stderr(), are_faults_seen));
-    if let Some(words) = check_words(&words) {
-        let status = td_check::program(words, &rt, &mut sink, &mut faults);
+    if let Some(Check { command, words }) = check_in(&words) {
+        let status = td_check::program(command, words, &rt, &mut sink, &mut faults);
         return ExitCode::from(status);
     }
     let is_terminal = rt.stdin().is_terminal();
