@@ -7,7 +7,7 @@ use std::alloc::AllocError;
 use td_grammar::{ReadError, read_script};
 use td_headings::Catalogue;
 use td_kinds::TypeError;
-use td_places::{Reading, place_of_fault};
+use td_places::{Reading, is_too_deep, place_of_fault};
 use td_syntax::script::Definition;
 use td_tokens::{Token, tokens_end};
 
@@ -115,7 +115,11 @@ impl<'a> Checker<'a> {
             return Ok(());
         };
         report.count_refused();
-        let what = syntax_fault(piece.text, place);
+        let what = if is_too_deep(report.alloc, Reading::Script, piece.text)? {
+            "the expression nests deeper than 256 levels here"
+        } else {
+            syntax_fault(piece.text, place)
+        };
         report.tell(self.script, piece.begin.saturating_add(place), what)?;
         let (front, _) = piece.text.split_at(tokens_end(piece.text));
         self.names.lose(&tokens_of(report.alloc, front)?)

@@ -19,5 +19,5 @@ mod types;
 
 pub use error::ReadError;
 pub use reader::{LATEST, read_expr, read_script, read_statement, read_statement_in};
-pub use stops::{Reading, stop};
+pub use stops::{Reading, nests_too_deep, stop};
 pub use td_syntax::{Definition, Expr, Statement};

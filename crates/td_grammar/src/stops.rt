@@ -1,6 +1,6 @@
 //! Where the reading of a text stops.
 
-ghost use Rattle.std.specs.Prelude.{IfOk};
+ghost use Rattle.std.specs.Prelude.{◌<◌, IfOk};
 ghost use Rattle.std.specs.Str.{IsCharBoundary};
 
 use crate::cursor::Cursor;
@@ -22,12 +22,19 @@ pub enum Reading {
     Query,
 }
 
-// Reads as far as it can.
-fn read_on(alloc: Global, reading: Reading, tokens: &mut Cursor<'_>) -> Result<(), ReadError> {
+// Reads as far as it can, where an expression has at most so many levels.
+fn read_on(
+    alloc: Global,
+    reading: Reading,
+    levels: usize,
+    tokens: &mut Cursor<'_>,
+) -> Result<(), ReadError>
+    requires { levels < 18446744073709551615 }
+{
     let grammar = Grammar {
         alloc,
         depth: tokens.len(),
-        levels: LEVELS,
+        levels,
         nested: expr,
     };
     match reading {
@@ -38,7 +45,7 @@ fn read_on(alloc: Global, reading: Reading, tokens: &mut Cursor<'_>) -> Result<(
             grammar.statement(tokens)?;
         }
         Reading::Query => {
-            grammar.nested(tokens, LEVELS, Form::Expr)?;
+            grammar.nested(tokens, levels, Form::Expr)?;
         }
     }
     Ok(())
@@ -54,11 +61,37 @@ pub fn stop(alloc: Global, reading: Reading, text: &str) -> Result<usize, ReadEr
 {
     let all = tokens(alloc, text)?;
     let mut rest = Cursor::new(&all);
-    if let Err(ReadError::OutOfMemory) = read_on(alloc, reading, &mut rest) {
+    if let Err(ReadError::OutOfMemory) = read_on(alloc, reading, LEVELS, &mut rest) {
         return Err(ReadError::OutOfMemory);
     }
     match all.get(all.len().saturating_sub(rest.len())) {
         Some(token) => Ok(token.start),
         None => Ok(text.len()),
     }
+}
+
+// How many tokens are left where the reading stops, and one more where it fails there.
+fn left_over(
+    alloc: Global,
+    reading: Reading,
+    levels: usize,
+    mut tokens: Cursor<'_>,
+) -> Result<usize, ReadError>
+    requires { levels < 18446744073709551615 }
+{
+    match read_on(alloc, reading, levels, &mut tokens) {
+        Ok(()) => Ok(tokens.len()),
+        Err(ReadError::Syntax) => Ok(tokens.len().saturating_add(1)),
+        Err(ReadError::OutOfMemory) => Err(ReadError::OutOfMemory),
+    }
+}
+
+/// Whether the reading of a text stops for the levels of an expression: with twice as many it would go on.
+///
+/// It is `Syntax` of a text that has no tokens. Time and depth are those of a query, and those twice.
+pub fn nests_too_deep(alloc: Global, reading: Reading, text: &str) -> Result<bool, ReadError> {
+    let all = tokens(alloc, text)?;
+    let left = left_over(alloc, reading, LEVELS, Cursor::new(&all))?;
+    let left_of_more = left_over(alloc, reading, 2 * LEVELS, Cursor::new(&all))?;
+    Ok(left_of_more < left)
 }

@@ -6,7 +6,9 @@ ghost use Rattle.td_places.specs.Places.{Decides, TellsPlace};
 
 use std::alloc::{AllocError, Global};
 use td_grammar::reader::{QUERY_BYTES, SCRIPT_BYTES, STATEMENT_BYTES};
-use td_grammar::{ReadError, Reading, read_expr, read_script, read_statement, stop};
+use td_grammar::{
+    ReadError, Reading, nests_too_deep, read_expr, read_script, read_statement, stop,
+};
 use td_tokens::tokens_end;
 
 // Whether a tree was read.
@@ -77,7 +79,7 @@ fn stop_of(alloc: Global, reading: Reading, text: &str) -> Result<usize, AllocEr
 /// That is the begin of the first token with which the reading does not go on, or of what is no token: of a stray
 /// character, a name of more than 64 bytes, an integer that is too large or has a letter behind it, a text or comment
 /// without its end, the 65th open bracket. It is the text's length where the text ends too early, and never lies behind
-/// the last byte that the text may have. An expression that nests too deep may be told at its end.
+/// the last byte that the text may have. An expression that nests too deep may be told at its end (`is_too_deep`).
 ///
 /// It takes the time of reading the text twice.
 pub fn place_of_fault(
@@ -96,5 +98,16 @@ pub fn place_of_fault(
         Ok(Some(place))
     } else {
         Ok(Some(last))
+    }
+}
+
+/// Whether the reading of a text stops since an expression nests deeper than 256 levels. It takes the time of reading
+/// the text twice.
+pub fn is_too_deep(alloc: Global, reading: Reading, text: &str) -> Result<bool, AllocError> {
+    let (front, _) = text.split_at(tokens_end(text));
+    match nests_too_deep(alloc, reading, front) {
+        Ok(is_too_deep) => Ok(is_too_deep),
+        Err(ReadError::Syntax) => Ok(false),
+        Err(ReadError::OutOfMemory) => Err(AllocError),
     }
 }

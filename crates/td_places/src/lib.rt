@@ -7,6 +7,6 @@
 pub mod fault;
 pub mod position;
 
-pub use fault::place_of_fault;
+pub use fault::{is_too_deep, place_of_fault};
 pub use position::{Position, caret, line_of, position_of};
 pub use td_grammar::Reading;
