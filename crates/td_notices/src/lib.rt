@@ -15,6 +15,6 @@ pub use changes::push_change_count;
 pub use digest::digest_text;
 pub use journal::{failure_words, journal_text, lack_words, read_only_text};
 pub use meeting::{Retold, Told};
-pub use outcomes::{push_outcome, raise_words, refused_text};
+pub use outcomes::{log_text, push_outcome, raise_words, refused_text};
 pub use refusal::{file_words, refusal_text};
 pub use room::room_text;

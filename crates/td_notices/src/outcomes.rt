@@ -1,7 +1,7 @@
 //! What became of statements and queries, in plain words.
 
 use std::alloc::{AllocError, Global};
-use td_listings::show_stamp;
+use td_listings::{show_number, show_outcome, show_stamp};
 use td_stamps::{Entry, Stamp};
 use td_story::Outcome;
 use td_terminals::push_statement;
@@ -98,6 +98,26 @@ pub fn refused_text(
             out.push_str(": ")?;
             push_line(&mut out, entry.text.as_str())?;
         }
+    }
+    Ok(out)
+}
+
+/// Each of these statements with its stamp, its number at its site, what became of it, and its text. The outcomes are
+/// those of the entries, in their order.
+pub fn log_text(
+    alloc: Global,
+    entries: &[Entry],
+    outcomes: &[(Stamp, Outcome)],
+) -> Result<String, AllocError> {
+    let mut out = String::new(alloc);
+    for (entry, (stamp, outcome)) in entries.iter().zip(outcomes) {
+        show_stamp(&mut out, stamp)?;
+        out.push_str(" ")?;
+        show_number(&mut out, u64::from(entry.seq))?;
+        out.push_str(" ")?;
+        show_outcome(&mut out, outcome)?;
+        out.push_str(": ")?;
+        push_line(&mut out, entry.text.as_str())?;
     }
     Ok(out)
 }

@@ -33,6 +33,18 @@ const BAD_WORDS: u8 = 2;
 // The exit status where the journal cannot be used.
 const BAD_JOURNAL: u8 = 3;
 
+// What is said at a terminal, where the program edits no lines by itself.
+const LINE_EDITING: &str = "for line editing run: rlwrap ./td_shell ..\n";
+
+/// Which of the standard streams are a terminal.
+#[derive(Clone, Copy, Debug, PartialEq, Eq)]
+pub struct Terminal {
+    /// Whether lines are typed at one.
+    pub is_input: bool,
+    /// Whether answers are shown at one.
+    pub is_output: bool,
+}
+
 // Writes what is to be seen beside the answers. Where that fails too, the status is all that tells.
 fn complain<F: Sink>(faults: &mut F, text: &str) {
     let _told = put(faults, text.as_bytes());
@@ -184,7 +196,7 @@ fn converse_at<
     notes: &Notes,
     site: R,
     behind: Vec<u8>,
-    is_terminal: bool,
+    terminal: Terminal,
     source: &mut S,
     sink: &mut K,
     faults: &mut F,
@@ -193,7 +205,10 @@ fn converse_at<
     tell_start(alloc, store, notes, &site, faults)?;
     let access = access_to(words, notes, faults);
     let mut inputs = first_lines(alloc, &site, behind, &words.typed)?;
-    let is_terminal = is_terminal && words.typed.is_empty();
+    let is_terminal = terminal.is_input && words.typed.is_empty();
+    if is_terminal && terminal.is_output {
+        complain(faults, LINE_EDITING);
+    }
     let mut shell: Shell<'_, R, O, H, L> = Shell::new(
         alloc, host, links, meter, notes, site, catalogue, access,
     );
@@ -323,7 +338,7 @@ fn start_reading<
     links: &mut L,
     meter: &mut Meter,
     site: R,
-    is_terminal: bool,
+    terminal: Terminal,
     source: &mut S,
     sink: &mut K,
     faults: &mut F,
@@ -370,7 +385,7 @@ fn start_reading<
         notes,
         replica,
         Vec::new(alloc),
-        is_terminal,
+        terminal,
         source,
         sink,
         faults,
@@ -396,7 +411,7 @@ fn start<
     notes: &Notes,
     links: &mut L,
     meter: &mut Meter,
-    is_terminal: bool,
+    terminal: Terminal,
     source: &mut S,
     sink: &mut K,
     faults: &mut F,
@@ -417,7 +432,7 @@ fn start<
             notes,
             site,
             behind,
-            is_terminal,
+            terminal,
             source,
             sink,
             faults,
@@ -447,7 +462,7 @@ fn start<
             links,
             meter,
             site,
-            is_terminal,
+            terminal,
             source,
             sink,
             faults,
@@ -465,7 +480,7 @@ fn start<
                 notes,
                 site,
                 behind,
-                is_terminal,
+                terminal,
                 source,
                 sink,
                 faults,
@@ -506,7 +521,7 @@ pub fn program<
     notes: &Notes,
     links: &mut L,
     meter: &mut Meter,
-    is_terminal: bool,
+    terminal: Terminal,
     source: &mut S,
     sink: &mut K,
     faults: &mut F,
@@ -521,17 +536,7 @@ pub fn program<
     };
     match script_in(alloc, &file) {
         Ok(script) => start::<R, _, _, _, _, _, _>(
-            alloc,
-            &words,
-            script,
-            host,
-            journals,
-            notes,
-            links,
-            meter,
-            is_terminal,
-            source,
-            sink,
+            alloc, &words, script, host, journals, notes, links, meter, terminal, source, sink,
             faults,
         ),
         Err(error) => {

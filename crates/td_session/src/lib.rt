@@ -25,7 +25,7 @@ mod wording;
 pub mod words;
 
 pub use access::Access;
-pub use command::program;
+pub use command::{Terminal, program};
 pub use ended::Ended;
 pub use shell::{Shell, converse};
 pub use td_terminals::Shown;

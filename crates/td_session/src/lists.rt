@@ -2,23 +2,31 @@
 
 use crate::wording::{BROKEN, UNCHANGED};
 use std::alloc::{AllocError, Global};
-use td_headings::Catalogue;
-use td_listings::{ListError, log_text, vector_text};
-use td_notices::{digest_text, refused_text};
-use td_story::{Replica, TellError};
+use td_listings::vector_text;
+use td_notices::{digest_text, log_text, refused_text};
+use td_stamps::{Entry, Stamp};
+use td_story::{Outcome, Replica, TellError};
 
-fn not_listed(alloc: Global, error: ListError) -> Result<String, AllocError> {
-    match error {
-        ListError::Broken => String::from_str(alloc, BROKEN),
-        ListError::OutOfMemory => String::from_str(alloc, UNCHANGED),
+// What the site holds with what became of each statement, or what is said in its place.
+fn told<R: Replica>(
+    alloc: Global,
+    site: &R,
+) -> Result<(&[Entry], Vec<(Stamp, Outcome)>), &'static str> {
+    let Ok(held) = site.held() else {
+        return Err(BROKEN);
+    };
+    match site.outcomes(alloc) {
+        Ok(outcomes) => Ok((held.entries(), outcomes)),
+        Err(TellError::Broken) => Err(BROKEN),
+        Err(TellError::OutOfMemory) => Err(UNCHANGED),
     }
 }
 
 /// Each statement that the site holds, with what became of it.
 pub fn log<R: Replica>(alloc: Global, site: &R) -> Result<String, AllocError> {
-    match log_text(alloc, site) {
-        Ok(text) => Ok(text),
-        Err(error) => not_listed(alloc, error),
+    match told(alloc, site) {
+        Ok((entries, outcomes)) => log_text(alloc, entries, &outcomes),
+        Err(words) => String::from_str(alloc, words),
     }
 }
 
@@ -32,20 +40,10 @@ pub fn vector<R: Replica>(alloc: Global, site: &R) -> Result<String, AllocError>
 
 /// Each statement that has no effect, of the site alone where so asked.
 pub fn refused<R: Replica>(alloc: Global, site: &R, is_own: bool) -> Result<String, AllocError> {
-    let (Ok(held), outcomes) = (site.held(), site.outcomes(alloc)) else {
-        return String::from_str(alloc, BROKEN);
-    };
-    match outcomes {
-        Ok(outcomes) => {
-            refused_text(
-                alloc,
-                held.entries(),
-                &outcomes,
-                is_own.then_some(site.site()),
-            )
-        }
-        Err(TellError::Broken) => String::from_str(alloc, BROKEN),
-        Err(TellError::OutOfMemory) => String::from_str(alloc, UNCHANGED),
+    let number = is_own.then_some(site.site());
+    match told(alloc, site) {
+        Ok((entries, outcomes)) => refused_text(alloc, entries, &outcomes, number),
+        Err(words) => String::from_str(alloc, words),
     }
 }
 

@@ -8,7 +8,7 @@ use std::process::ExitCode;
 use td_devices::Device;
 use td_files::{FileJournals, Notes};
 use td_replay::Site;
-use td_session::{Shown, program};
+use td_session::{Shown, Terminal, program};
 use td_sockets::TcpLinks;
 use td_story::Meter;
 
@@ -74,7 +74,10 @@ fn main(rt: HostRuntime) -> ExitCode {
         let status = td_check::program(command, words, &rt, &mut sink, &mut faults);
         return ExitCode::from(status);
     }
-    let is_terminal = rt.stdin().is_terminal();
+    let terminal = Terminal {
+        is_input: rt.stdin().is_terminal(),
+        is_output: is_seen,
+    };
     let Ok(reader) = BufReader::new(alloc, rt.reader()) else {
         return ExitCode::FAILURE;
     };
@@ -89,7 +92,7 @@ fn main(rt: HostRuntime) -> ExitCode {
         &notes,
         &mut TcpLinks::new(&rt),
         &mut meter,
-        is_terminal,
+        terminal,
         &mut source,
         &mut sink,
         &mut faults,
