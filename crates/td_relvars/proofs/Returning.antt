@@ -3,6 +3,7 @@ use Rattle.std.proofs.Common.{◌≡◌, ℕ, IfOk, Result, Ok, Err, subst}
 use Rattle.td_values.specs.Rows.{RowsData}
 use Rattle.td_relations.specs.Deltas.{DeltaData}
 use Rattle.td_bases.specs.Ways.{LeadsBack, WayBackData}
+use Rattle.td_headings.specs.Catalogues.{CatalogueData}
 use Rattle.td_story.specs.Databases.{DatabaseData, Stored, stored_relvars}
 use Rattle.td_relvars.specs.Ways.{LeadsBackAt, LeadsBackFrom}
 
@@ -14,6 +15,6 @@ leads_from s n x r has (Ok w) way = (r, has, way)
 leads_from s n x r has (Err e) way = tt
 
 pub leads_at :
-    {E : Type 0} (d : DatabaseData) (s : Stored) (n : ℕ) (x : DeltaData) → record { catalogue = d.catalogue; stored = s } ≡ d → (a : Result WayBackData E) → IfOk a (LeadsBackFrom s n x)
+    {E : Type 0} (d : DatabaseData) (k : CatalogueData) (s : Stored) (n : ℕ) (x : DeltaData) → record { catalogue = k; stored = s } ≡ d → (a : Result WayBackData E) → IfOk a (LeadsBackFrom s n x)
     → IfOk a (LeadsBackAt d n x)
-leads_at d s n x seen a = subst (λ (e : DatabaseData). IfOk a (LeadsBackFrom s n x) → IfOk a (LeadsBackAt e n x)) seen (λ way. way)
+leads_at d k s n x seen a = subst (λ (e : DatabaseData). IfOk a (LeadsBackFrom s n x) → IfOk a (LeadsBackAt e n x)) seen (λ way. way)

@@ -16,4 +16,4 @@ invariant_of-self c =
     subst (λ xs. IsDatabase (record { catalogue = s.catalogue; stored = rows_of xs }) × AreFirst s.catalogue (keys_of xs)) (sym c.way_back_at.ensures.same) c.self.invariant
 
 pub returns-clause-way : goal.returns-clause-way
-returns-clause-way c = leads_at c.args.self.now (rows_of c.self.inside.stored.items) c.args.relvar c.args.delta.now c.self.view_is c.way_back_at.result c.way_back_at.ensures.way
+returns-clause-way c = leads_at c.args.self.now c.self.inside.catalogue (rows_of c.self.inside.stored.items) c.args.relvar c.args.delta.now c.self.view_is c.way_back_at.result c.way_back_at.ensures.way
