@@ -20,7 +20,7 @@ use Rattle.td_story.specs.declared.broken.TestFailure.{TestFailure}
 use Rattle.td_story.specs.declared.failure.Failure.{Failure}
 use Rattle.td_story.specs.declared.outcome.Outcome.{Outcome}
 use Rattle.td_story.specs.declared.outcome.Outcome.TheVariants.{Done}
-use Rattle.td_relvars.specs.Changed.{CanChange, change, changed, with_change}
+use Rattle.td_relvars.specs.Changed.{change, changed, with_change}
 use Rattle.td_relvars.specs.Ways.{CanGoBack, WayBackData}
 use Rattle.td_assign.specs.ForProofs.Given.{Stands, assigned_by}
 

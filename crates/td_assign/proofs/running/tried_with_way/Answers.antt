@@ -48,7 +48,7 @@ returns-in-Ok-None c =
     let p = c.index-changes-0.result in
     let d = c.args.database.now in
     let made = c.in_ok-change.ensures.ok ∙ ap (with_change p.0 p.1) c.way_back.ensures.same in
-    subst (λ (e : DatabaseData). IsTried d c.args.changes.now (Ok None) e) (sym c.keep_room.ensures)
+    subst (λ (e : DatabaseData). IsTried {E = Unit {0}} d c.args.changes.now (Ok None) e) (sym c.keep_room.ensures)
     (tried_stays d c.args.changes.now c.relvars_fit.ensures c.requires.one p c.index-changes-0.is c.change.new.self made
     (Unit {0}) c.catalogue.result.now c.in-Ok-None.field-0 c.catalogue.ensures.same c.in-Ok-None.field-0-is c.in-Ok-None.ensures)
 
