@@ -1,0 +1,194 @@
+//! Definitions: names that are there before, types, openings, keys and conditions.
+
+use crate::diagnostic::{Diagnostic, Fault};
+use crate::headings::unlike;
+use crate::parts::Explainer;
+use crate::shown::shown;
+use crate::types::{check_fields, heading_of};
+use crate::widths::{attributes_width, fields_width, opening_width, sum};
+use sqlite_items::Boxed;
+use std::alloc::{AllocError, Global};
+use td_headings::{Catalogue, Test};
+use td_kinds::kinds::{is_boolean, relation_heading};
+use td_kinds::schema::begins_with_the;
+use td_kinds::written::{components_written, kind_columns};
+use td_kinds::{Scope, TypeError};
+use td_syntax::script::{Definition, Opening};
+use td_syntax::tree::{Attributes, Expr, Named, TypeExpr};
+use td_values::{Heading, Name, TypeKind};
+
+/// The mark of a definition's name.
+const NAME: usize = 1;
+
+impl Explainer<'_> {
+    fn defined_before<T>(&self, name: &Name, at: usize) -> Result<T, Fault> {
+        self.fault(
+            at,
+            format!(in self.alloc; "{} is defined before", name.as_str())?,
+        )
+    }
+
+    // That a possrep's name is new, and none of THE_.
+    fn check_selector(&self, name: &Name, at: usize) -> Result<(), Fault> {
+        if begins_with_the(name) {
+            let message = String::from_str(
+                self.alloc,
+                "the name of a selector does not begin with THE_",
+            )?;
+            return self.fault(at, message);
+        }
+        if self.schema().possrep(name).is_some() {
+            let name = name.as_str();
+            let message = format!(in self.alloc; "a type before has the selector {name}")?;
+            return self.fault(at, message);
+        }
+        Ok(())
+    }
+
+    // The components of a possrep as the attributes of a tuple.
+    fn components(&self, fields: &[Named<TypeExpr>], first: usize) -> Result<Heading, Fault> {
+        check_fields(fields, self, first)?;
+        match components_written(self.alloc, self.schema(), fields) {
+            Ok(kinds) => Ok(kind_columns(self.alloc, kinds.as_slice())?),
+            Err(TypeError::IllTyped) => Err(Fault::Found(self.no_type(first)?)),
+            Err(TypeError::OutOfMemory) => Err(Fault::OutOfMemory),
+        }
+    }
+
+    // That an expression is a truth value.
+    fn check_truth(&self, tree: &Expr, at: usize, scope: &Scope<'_>) -> Result<(), Fault> {
+        let kind = self.kind_of(tree, at, scope)?;
+        if is_boolean(&kind) {
+            return Ok(());
+        }
+        self.takes(at, "CONSTRAINT", "BOOLEAN", &kind)
+    }
+
+    fn check_type(
+        &self,
+        name: &Name,
+        possrep: &Option<Name>,
+        fields: &[Named<TypeExpr>],
+        limit: &Option<Boxed<Expr>>,
+    ) -> Result<(), Fault> {
+        if self.schema().type_named(name).is_some() {
+            return self.defined_before(name, NAME);
+        }
+        let first = match possrep {
+            Some(possrep) => {
+                self.check_selector(possrep, 3)?;
+                4
+            }
+            None => {
+                self.check_selector(name, NAME)?;
+                3
+            }
+        };
+        let heading = self.components(fields, first)?;
+        match limit {
+            Some(limit) => {
+                let at = sum(&[first, fields_width(fields), 1]);
+                self.check_truth(limit.get(), at, &Scope::Within(&heading, &Scope::Nothing))
+            }
+            None => Ok(()),
+        }
+    }
+
+    // The heading of a value over the relvars; the value is that of what is told in words.
+    fn relation_at(&self, tree: &Expr, at: usize, of: &str) -> Result<Heading, Fault> {
+        let kind = self.kind_of(tree, at, &Scope::Relvars(self.schema()))?;
+        match relation_heading(&kind) {
+            Some(heading) => Ok(heading.copy()?),
+            None => self.takes(at, of, "a relation", &kind),
+        }
+    }
+
+    // The heading of a base relvar, whose opening begins at a mark.
+    fn opening(&self, opening: &Opening, at: usize) -> Result<Heading, Fault> {
+        let first = sum(&[at, 1]);
+        match opening {
+            Opening::Empty(fields) => heading_of(self, fields.as_slice(), first),
+            Opening::Init(None, a) => self.relation_at(a.get(), first, "INIT"),
+            Opening::Init(Some(fields), a) => {
+                let fields = fields.as_slice();
+                let heading = heading_of(self, fields, first)?;
+                let value = sum(&[first, fields_width(fields), 1]);
+                let own = self.relation_at(a.get(), value, "INIT")?;
+                match unlike(self.alloc, &own, &heading, "the heading")? {
+                    Some(message) => self.fault(value, message),
+                    None => Ok(heading),
+                }
+            }
+        }
+    }
+
+    fn check_keys(
+        &self,
+        keys: &[Attributes],
+        first: usize,
+        name: &Name,
+        heading: &Heading,
+    ) -> Result<(), Fault> {
+        let mut at = first;
+        for key in keys {
+            let list = sum(&[at, 1]);
+            self.check_attributes(key, list, name.as_str(), heading)?;
+            at = sum(&[list, attributes_width(key)]);
+        }
+        Ok(())
+    }
+
+    // That no relvar has the name.
+    fn check_relvar_name(&self, name: &Name) -> Result<(), Fault> {
+        if self.schema().relvar(name).is_some() {
+            return self.defined_before(name, NAME);
+        }
+        Ok(())
+    }
+
+    // That no constraint has the name.
+    fn check_constraint_name(&self, name: &Name) -> Result<(), Fault> {
+        for test in self.catalogue.tests() {
+            if let Test::Constraint(before, _) = test {
+                if before == name {
+                    return self.defined_before(name, NAME);
+                }
+            }
+        }
+        Ok(())
+    }
+
+    fn check_definition(&self, definition: &Definition) -> Result<(), Fault> {
+        match definition {
+            Definition::Type(name, possrep, fields, limit) => {
+                self.check_type(name, possrep, fields.as_slice(), limit)
+            }
+            Definition::Base(name, opening, keys) => {
+                self.check_relvar_name(name)?;
+                let heading = self.opening(opening, 3)?;
+                let first = sum(&[3, opening_width(opening)]);
+                self.check_keys(keys.as_slice(), first, name, &heading)
+            }
+            Definition::Virtual(name, a) => {
+                self.check_relvar_name(name)?;
+                self.relation_at(a.get(), 3, "VIRTUAL")?;
+                Ok(())
+            }
+            Definition::Constraint(name, a) => {
+                self.check_constraint_name(name)?;
+                self.check_truth(a.get(), 2, &Scope::Relvars(self.schema()))
+            }
+        }
+    }
+}
+
+/// Why a definition, which is the text's tree, is not well typed after what the catalogue has.
+pub fn explain_definition(
+    alloc: Global,
+    catalogue: &Catalogue,
+    text: &str,
+    tree: &Definition,
+) -> Result<Diagnostic, AllocError> {
+    let explainer = Explainer::new(alloc, catalogue, text)?;
+    explainer.told(explainer.check_definition(tree))
+}

@@ -1,0 +1,25 @@
+//! What is told of a text.
+
+use std::alloc::AllocError;
+
+/// What is wrong with a text.
+#[derive(Drop)]
+pub struct Diagnostic {
+    /// A byte of the text, between two characters.
+    pub place: usize,
+    /// A sentence, without a full stop and without the end of a line.
+    pub message: String,
+}
+
+/// Why a check ends.
+#[derive(Drop)]
+pub enum Fault {
+    Found(Diagnostic),
+    OutOfMemory,
+}
+
+impl From<AllocError> for Fault {
+    fn from(_e: AllocError) -> Fault {
+        Fault::OutOfMemory
+    }
+}
