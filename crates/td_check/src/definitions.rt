@@ -4,11 +4,10 @@ use crate::names::Names;
 use crate::pieces::{Piece, pieces, tokens_of};
 use crate::report::Report;
 use std::alloc::AllocError;
+use td_diagnostics::{Diagnostic, define_or_diagnose};
 use td_grammar::{ReadError, read_script};
 use td_headings::Catalogue;
-use td_kinds::TypeError;
 use td_places::{Reading, is_too_deep, place_of_fault};
-use td_syntax::script::Definition;
 use td_tokens::{Token, tokens_end};
 
 // What is wrong with a text that is no definition, where its reading stops at this place.
@@ -45,11 +44,11 @@ impl<'a> Checker<'a> {
         report: &mut Report<'_>,
         piece: &Piece<'a>,
         tokens: &[Token<'a>],
+        found: &Diagnostic,
     ) -> Result<(), AllocError> {
-        if let Some(name) = self.names.twice(tokens) {
+        if self.names.is_twice(tokens) {
             report.count_refused();
-            let place = piece.begin.saturating_add(name.start);
-            return report.tell(self.script, place, "ill typed: this is defined before");
+            return self.tell_type(report, piece, found);
         }
         let unknown = self.names.unknown(report.alloc, tokens)?;
         let is_judged = if unknown.is_empty() {
@@ -59,26 +58,39 @@ impl<'a> Checker<'a> {
         };
         if is_judged {
             report.count_refused();
-            self.tell_type(report, piece, &unknown)?;
+            self.tell_mistakes(report, piece, &unknown, found)?;
         } else {
             report.count_unjudged();
         }
         self.names.lose(tokens)
     }
 
-    // Tells the names that nothing defines, or that types do not fit where each name is defined.
     fn tell_type(
         &self,
         report: &mut Report<'_>,
         piece: &Piece<'a>,
-        unknown: &[Token<'a>],
+        found: &Diagnostic,
     ) -> Result<(), AllocError> {
-        if unknown.is_empty() {
-            let what = "ill typed: its names are defined, but its types do not fit";
-            return report.tell(self.script, piece.begin, what);
+        let what = format!(in report.alloc; "ill typed: {}", found.message)?;
+        report.tell(self.script, piece.begin.saturating_add(found.place), &what)
+    }
+
+    // Tells what the types have found, unless that is a name which a definition that was refused would have defined;
+    // and the other names that nothing defines.
+    fn tell_mistakes(
+        &self,
+        report: &mut Report<'_>,
+        piece: &Piece<'a>,
+        unknown: &[Token<'a>],
+        found: &Diagnostic,
+    ) -> Result<(), AllocError> {
+        let at = unknown.iter().find(|name| name.start == found.place);
+        if !at.is_some_and(|name| self.names.is_lost(name.text)) {
+            self.tell_type(report, piece, found)?;
         }
         for name in unknown {
-            if !self.names.is_lost(name.text) {
+            let is_told = at.is_some_and(|told| told.text == name.text);
+            if !is_told && !self.names.is_lost(name.text) {
                 let place = piece.begin.saturating_add(name.start);
                 report.tell(
                     self.script,
@@ -91,17 +103,11 @@ impl<'a> Checker<'a> {
     }
 
     // Defines what the piece is, or tells why it is ill typed.
-    fn define(
-        &mut self,
-        report: &mut Report<'_>,
-        piece: &Piece<'a>,
-        definition: &Definition,
-    ) -> Result<(), AllocError> {
+    fn define(&mut self, report: &mut Report<'_>, piece: &Piece<'a>) -> Result<(), AllocError> {
         let tokens = tokens_of(report.alloc, piece.text)?;
-        match self.catalogue.define(report.alloc, definition) {
-            Ok(()) => self.names.accept(&tokens),
-            Err(TypeError::IllTyped) => self.refuse(report, piece, &tokens),
-            Err(TypeError::OutOfMemory) => Err(AllocError),
+        match define_or_diagnose(report.alloc, &mut self.catalogue, piece.text)? {
+            None => self.names.accept(&tokens),
+            Some(found) => self.refuse(report, piece, &tokens, &found),
         }
     }
 
@@ -129,7 +135,7 @@ impl<'a> Checker<'a> {
         report.count_definition();
         match read_script(report.alloc, piece.text) {
             Ok(definitions) => match definitions.as_slice() {
-                [definition] => self.define(report, piece, definition),
+                [_] => self.define(report, piece),
                 _ => Ok(()),
             },
             Err(ReadError::Syntax) => self.tell_syntax(report, piece),

@@ -24,8 +24,8 @@ The status is 0 where nothing is refused, 1 where something is, and 2 where the 
 // The exit status where the words are refused, the file cannot be read, or nothing can be told.
 const UNCHECKED: u8 = 2;
 
-// What is told of the file, and whether something is refused.
-fn told_of(alloc: Global, file: &str, bytes: &[u8]) -> Result<(String, bool), AllocError> {
+/// What is told of a file's script, and whether something of it is refused.
+pub fn report_of(alloc: Global, file: &str, bytes: &[u8]) -> Result<(String, bool), AllocError> {
     let mut report = Report::new(alloc, file);
     if let Some((script, from)) = script_in(&mut report, bytes)? {
         check_definitions(&mut report, script, from)?;
@@ -65,7 +65,7 @@ fn check<H: Files + AllocGlobal, K: Sink, F: Sink>(
             );
         }
     };
-    let Ok((told, is_bad)) = told_of(host.alloc(), file, &bytes) else {
+    let Ok((told, is_bad)) = report_of(host.alloc(), file, &bytes) else {
         return refused(faults, &[command, ": there is not enough memory\n"]);
     };
     match put(sink, told.as_bytes()) {

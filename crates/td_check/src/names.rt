@@ -166,14 +166,14 @@ impl<'a> Names<'a> {
         })
     }
 
-    /// The name of a definition, where one of its kind has it already.
-    pub fn twice<'t>(&self, tokens: &'t [Token<'a>]) -> Option<&'t Token<'a>> {
+    /// Whether a definition has the name of one of its kind before it.
+    pub fn is_twice(&self, tokens: &[Token<'a>]) -> bool {
         match tokens {
             [first, name, ..] => {
                 let own = (first.kind, name.text);
-                self.defined.iter().any(|it| *it == own).then_some(name)
+                self.defined.iter().any(|it| *it == own)
             }
-            _ => None,
+            _ => false,
         }
     }
 }

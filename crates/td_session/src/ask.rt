@@ -1,8 +1,10 @@
 //! Queries that are asked.
 
 use crate::places::fault_text;
+use crate::type_errors::{push_command, query_fault};
 use crate::wording::{BROKEN, UNCHANGED};
 use std::alloc::{AllocError, Global};
+use td_headings::Catalogue;
 use td_inputs::Mode;
 use td_listings::relation_table as csv_table;
 use td_notices::raise_words;
@@ -20,24 +22,22 @@ fn unread(alloc: Global, text: &str) -> Result<String, AllocError> {
             "fault syntax: a query has at most {MOST_BYTES} bytes, and this one has {bytes}\n"
         );
     }
-    fault_text(
-        alloc,
-        "fault syntax: this is no query\n",
-        Reading::Query,
-        text,
-    )
+    let words = "fault syntax: this is no query\n";
+    let mut out = fault_text(alloc, words, Reading::Query, text)?;
+    push_command(&mut out, text)?;
+    Ok(out)
 }
 
-fn not_asked(alloc: Global, text: &str, error: AskError) -> Result<String, AllocError> {
+fn not_asked(
+    alloc: Global,
+    catalogue: &Catalogue,
+    text: &str,
+    error: AskError,
+) -> Result<String, AllocError> {
     match error {
         AskError::Syntax => unread(alloc, text),
         AskError::Broken => String::from_str(alloc, BROKEN),
-        AskError::IllTyped => {
-            String::from_str(
-                alloc,
-                "fault type: a name that is not there, or a type that does not fit\n",
-            )
-        }
+        AskError::IllTyped => query_fault(alloc, catalogue, text),
         AskError::OutOfMemory => String::from_str(alloc, UNCHANGED),
     }
 }
@@ -67,18 +67,23 @@ fn shown(alloc: Global, value: Value, mode: Mode) -> Result<String, AllocError> 
     }
 }
 
-fn not_asked_at(alloc: Global, text: &str, error: PastError) -> Result<String, AllocError> {
+fn not_asked_at(
+    alloc: Global,
+    catalogue: &Catalogue,
+    text: &str,
+    error: PastError,
+) -> Result<String, AllocError> {
     match error {
-        PastError::Broken => not_asked(alloc, text, AskError::Broken),
-        PastError::Syntax => not_asked(alloc, text, AskError::Syntax),
-        PastError::IllTyped => not_asked(alloc, text, AskError::IllTyped),
+        PastError::Broken => not_asked(alloc, catalogue, text, AskError::Broken),
+        PastError::Syntax => not_asked(alloc, catalogue, text, AskError::Syntax),
+        PastError::IllTyped => not_asked(alloc, catalogue, text, AskError::IllTyped),
         PastError::NoPlace => {
             String::from_str(
                 alloc,
                 "fault place: this site holds no statement of that stamp\n",
             )
         }
-        PastError::OutOfMemory => not_asked(alloc, text, AskError::OutOfMemory),
+        PastError::OutOfMemory => not_asked(alloc, catalogue, text, AskError::OutOfMemory),
     }
 }
 
@@ -96,19 +101,21 @@ fn answer(alloc: Global, asked: Answer, mode: Mode) -> Result<String, AllocError
 /// Asks a query and shows its value.
 pub fn ask<R: Replica>(
     alloc: Global,
+    catalogue: &Catalogue,
     site: &R,
     text: &str,
     mode: Mode,
 ) -> Result<String, AllocError> {
     match site.ask(alloc, text) {
         Ok(asked) => answer(alloc, asked, mode),
-        Err(error) => not_asked(alloc, text, error),
+        Err(error) => not_asked(alloc, catalogue, text, error),
     }
 }
 
 /// Asks a query as it was just after the statement of the stamp, by what the site holds now.
 pub fn ask_at<R: Replica>(
     alloc: Global,
+    catalogue: &Catalogue,
     site: &R,
     text: &str,
     at: Stamp,
@@ -117,6 +124,6 @@ pub fn ask_at<R: Replica>(
 ) -> Result<String, AllocError> {
     match site.ask_at(alloc, text, at, meter) {
         Ok(asked) => answer(alloc, asked, mode),
-        Err(error) => not_asked_at(alloc, text, error),
+        Err(error) => not_asked_at(alloc, catalogue, text, error),
     }
 }

@@ -240,7 +240,7 @@ fn open_new<R: Opens, F: Sink>(
     match R::open_script(alloc, script, words.site, words.limit) {
         Ok(site) => Ok(site),
         Err(error) => {
-            if let Ok(text) = unopened_words(alloc, script, &error) {
+            if let Ok(text) = unopened_words(alloc, words.script, script, &error) {
                 complain(faults, text.as_str());
             }
             Err(1)

@@ -9,6 +9,7 @@ use std::rt::Files;
 use td_changes::Changes;
 use td_files::Notes;
 use td_grammar::{ReadError, read_statement_in};
+use td_headings::Catalogue;
 use td_inputs::{DumpedEntry, entry_in, push_entry};
 use td_stamps::{Entry, Stamp};
 use td_story::{Meter, Outcome, Replica, TellError};
@@ -121,6 +122,7 @@ fn is_of_dialect(alloc: Global, entry: &DumpedEntry) -> Result<bool, AllocError>
 /// Issues the statement of a line of a dump.
 pub fn issue_entry<R: Changes>(
     alloc: Global,
+    catalogue: &Catalogue,
     site: &mut R,
     words: &str,
     meter: &mut Meter,
@@ -136,5 +138,5 @@ pub fn issue_entry<R: Changes>(
         let dialect = entry.dialect;
         return format!(in alloc; "fault syntax: this is no statement of dialect {dialect}\n");
     }
-    issue(alloc, site, entry.text.as_str(), meter, notes)
+    issue(alloc, catalogue, site, entry.text.as_str(), meter, notes)
 }

@@ -17,9 +17,10 @@ use td_values::{Heading, Name, TdType, Value, show, show_type};
 // From how many rows on it is told how far an import is, and after how many each time.
 const ROWS_TOLD: usize = 1_000;
 
-/// Where rows go: a relvar and its heading.
+/// Where rows go: a relvar of a catalogue, and its heading.
 #[derive(Clone, Copy, Drop)]
 struct Target<'a> {
+    catalogue: &'a Catalogue,
     relvar: &'a Name,
     heading: &'a Heading,
 }
@@ -184,7 +185,8 @@ fn insert_some<R: Replica>(
     let issued = match site.issue(alloc, insertion.text.as_str(), meter) {
         Ok(issued) => issued,
         Err(error) => {
-            let why = not_issued(alloc, insertion.text.as_str(), error, notes)?;
+            let text = insertion.text.as_str();
+            let why = not_issued(alloc, target.catalogue, text, error, notes)?;
             return Ok(Some(Stop { why, count }));
         }
     };
@@ -260,7 +262,11 @@ pub fn import<R: Replica, F: Sink>(
             "fault relvar: {name} is virtual, and nothing is inserted into it\n"
         )?);
     }
-    let target = Target { relvar, heading };
+    let target = Target {
+        catalogue,
+        relvar,
+        heading,
+    };
     let rows = match checked_rows(alloc, site, target, origin, file) {
         Ok(rows) => rows,
         Err(ImportFault::OutOfMemory) => return Err(Ended::OutOfMemory),

@@ -1,10 +1,12 @@
 //! Statements that are issued.
 
 use crate::places::fault_text;
+use crate::type_errors::statement_fault;
 use crate::wording::{BROKEN, UNCHANGED};
 use std::alloc::{AllocError, Global};
 use td_changes::Changes;
 use td_files::Notes;
+use td_headings::Catalogue;
 use td_listings::show_stamp;
 use td_notices::{failure_words, push_change_count, push_outcome};
 use td_places::Reading;
@@ -49,6 +51,7 @@ pub fn journal_words(alloc: Global, notes: &Notes) -> Result<String, AllocError>
 /// Why a statement is not issued.
 pub fn not_issued(
     alloc: Global,
+    catalogue: &Catalogue,
     text: &str,
     error: IssueError,
     notes: &Notes,
@@ -56,9 +59,7 @@ pub fn not_issued(
     let words = match error {
         IssueError::Syntax => return unread(alloc, text),
         IssueError::Broken => BROKEN,
-        IssueError::IllTyped => {
-            "fault type: a name that is not there, a type that does not fit, or a target that is no stored relvar\n"
-        }
+        IssueError::IllTyped => return statement_fault(alloc, catalogue, text),
         IssueError::ClockEnd => "fault clock: this site has no numbers left\n",
         IssueError::Full => "fault full: this site holds as many statements as its limit says\n",
         IssueError::OutOfMemory => UNCHANGED,
@@ -91,6 +92,7 @@ fn push_changes_of<R: Changes>(
 /// Issues a statement and tells what became of it, and how many tuples it changed.
 pub fn issue<R: Changes>(
     alloc: Global,
+    catalogue: &Catalogue,
     site: &mut R,
     text: &str,
     meter: &mut Meter,
@@ -105,6 +107,6 @@ pub fn issue<R: Changes>(
             out.push_str("\n")?;
             Ok(out)
         }
-        Err(error) => not_issued(alloc, text, error, notes),
+        Err(error) => not_issued(alloc, catalogue, text, error, notes),
     }
 }

@@ -21,6 +21,7 @@ mod relvars;
 mod shell;
 mod tables;
 mod timing;
+mod type_errors;
 mod wording;
 pub mod words;
 

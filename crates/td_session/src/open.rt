@@ -1,11 +1,10 @@
 //! A script, read from a file, and the site that it opens.
 
-use crate::places::fault_text;
 use std::alloc::{AllocError, Global};
 use std::str;
+use td_check::report_of;
 use td_inputs::script_front;
 use td_notices::raise_words;
-use td_places::Reading;
 use td_story::{BrokenTest, OpenError, SCRIPT_BYTES};
 
 /// A script, and the lines behind its `.begin`.
@@ -75,16 +74,27 @@ fn broken_words(alloc: Global, broken: &BrokenTest) -> Result<String, AllocError
     }
 }
 
-/// Why a script opens no site, in words.
+// Each mistake of a script, as the check of scripts tells it, or these words where it finds none.
+fn mistakes_in(alloc: Global, file: &str, script: &str, words: &str) -> Result<String, AllocError> {
+    let (told, is_refused) = report_of(alloc, file, script.as_bytes())?;
+    if is_refused {
+        Ok(told)
+    } else {
+        String::from_str(alloc, words)
+    }
+}
+
+/// Why a script of this file opens no site, in words.
 pub fn unopened_words(
     alloc: Global,
+    file: &str,
     script: &str,
     error: &OpenError,
 ) -> Result<String, AllocError> {
     let words = match error {
         OpenError::Syntax => {
             let words = "fault script syntax: the script is no list of definitions\n";
-            return fault_text(alloc, words, Reading::Script, script);
+            return mistakes_in(alloc, file, script, words);
         }
         OpenError::OpeningRaised(raise) => {
             let words = raise_words(*raise);
@@ -94,7 +104,8 @@ pub fn unopened_words(
         }
         OpenError::OpeningBroken(broken) => return broken_words(alloc, broken),
         OpenError::IllTyped => {
-            "fault script type: a definition names what is not defined before it, or its types do not fit\n"
+            let words = "fault script type: a definition has no type\n";
+            return mistakes_in(alloc, file, script, words);
         }
         OpenError::BadSite => "fault site: a site's number is 1 to 65535\n",
         OpenError::BadLimit => "fault limit: a site's limit is 1 to 100000\n",

@@ -157,7 +157,14 @@ impl<
         if words.len() > ENTRY_BYTES {
             return String::from_str(self.alloc, TOO_LONG);
         }
-        issue_entry(self.alloc, &mut self.site, words, self.meter, self.notes)
+        issue_entry(
+            self.alloc,
+            &self.catalogue,
+            &mut self.site,
+            words,
+            self.meter,
+            self.notes,
+        )
     }
 
     // Why nothing is issued, where the site may not be changed as it is.
@@ -215,8 +222,15 @@ impl<
     fn answer_text(&mut self, standing: Standing, text: &str) -> Result<String, AllocError> {
         match standing {
             Standing::Statement if self.access != Access::Open => self.closed_text(),
-            Standing::Statement => issue(self.alloc, &mut self.site, text, self.meter, self.notes),
-            Standing::Query => ask(self.alloc, &self.site, text, self.mode),
+            Standing::Statement => issue(
+                self.alloc,
+                &self.catalogue,
+                &mut self.site,
+                text,
+                self.meter,
+                self.notes,
+            ),
+            Standing::Query => ask(self.alloc, &self.catalogue, &self.site, text, self.mode),
             Standing::Empty | Standing::Open => Ok(String::new(self.alloc)),
         }
     }
@@ -342,7 +356,15 @@ impl<
             Command::Call(address) => self.call(address),
             Command::At { clock, site, query } => {
                 let at = Stamp { clock, site };
-                ask_at(alloc, &self.site, query, at, self.mode, self.meter)
+                ask_at(
+                    alloc,
+                    &self.catalogue,
+                    &self.site,
+                    query,
+                    at,
+                    self.mode,
+                    self.meter,
+                )
             }
             Command::Misused(usage) => format!(in alloc;
                 "fault command: it is written so: {usage}\n"
