@@ -12,7 +12,7 @@ use report::Report;
 use script::script_in;
 use std::alloc::{AllocError, Global};
 use std::rt::Files;
-use td_devices::{Failed, Sink, put};
+use td_devices::{Sink, put};
 use td_paths::read_plain;
 
 const HELP: &str = "\
@@ -34,18 +34,27 @@ pub fn report_of(alloc: Global, file: &str, bytes: &[u8]) -> Result<(String, boo
     Ok((told, report.is_bad()))
 }
 
-// What is told in place of a check, by the command that was typed.
-fn say<K: Sink>(sink: &mut K, parts: &[&str]) -> Result<(), Failed> {
-    for part in parts {
-        put(sink, part.as_bytes())?;
+// Tells why nothing is checked. Where that fails too, the status is all that tells.
+fn refuse<F: Sink>(told: Result<String, AllocError>, faults: &mut F) -> u8 {
+    if let Ok(text) = told {
+        let _told = put(faults, text.as_bytes());
     }
-    Ok(())
+    UNCHECKED
 }
 
-// Tells why nothing is checked. Where that fails too, the status is all that tells.
-fn refused<F: Sink>(faults: &mut F, parts: &[&str]) -> u8 {
-    let _told = say(faults, parts);
-    UNCHECKED
+// What the command takes, and what it does.
+fn usage(alloc: Global, command: &str) -> Result<String, AllocError> {
+    format!(in alloc; "Usage: {command} SCRIPT\n{HELP}")
+}
+
+fn put_usage<K: Sink>(told: Result<String, AllocError>, sink: &mut K) -> u8 {
+    let Ok(text) = told else {
+        return UNCHECKED;
+    };
+    match put(sink, text.as_bytes()) {
+        Ok(()) => 0,
+        Err(_) => UNCHECKED,
+    }
 }
 
 fn check<H: Files + AllocGlobal, K: Sink, F: Sink>(
@@ -55,28 +64,31 @@ fn check<H: Files + AllocGlobal, K: Sink, F: Sink>(
     sink: &mut K,
     faults: &mut F,
 ) -> u8 {
+    let alloc = host.alloc();
     let bytes = match read_plain(host, file) {
         Ok(bytes) => bytes,
         Err(error) => {
             let why = error.words();
-            return refused(
-                faults,
-                &[command, ": ", file, " cannot be read: ", why, "\n"],
-            );
+            let told = format!(in alloc; "{command}: {file} cannot be read: {why}\n");
+            return refuse(told, faults);
         }
     };
-    let Ok((told, is_bad)) = report_of(host.alloc(), file, &bytes) else {
-        return refused(faults, &[command, ": there is not enough memory\n"]);
+    let Ok((told, is_bad)) = report_of(alloc, file, &bytes) else {
+        let told = format!(in alloc; "{command}: there is not enough memory\n");
+        return refuse(told, faults);
     };
     match put(sink, told.as_bytes()) {
         Ok(()) => u8::from(is_bad),
-        Err(_) => refused(faults, &[command, ": the output cannot be written\n"]),
+        Err(_) => refuse(
+            format!(in alloc; "{command}: the output cannot be written\n"),
+            faults,
+        ),
     }
 }
 
 /// Checks the script in the file that the words name, which are those behind the command, by which it names itself, and
-/// tells what it finds. The answer is the exit status: 0 where nothing is refused, and after help; 1 where something is; 2 where the
-/// words are wrong, the file cannot be read, memory is wanting or standard output fails.
+/// tells what it finds. The answer is the exit status: 0 where nothing is refused, and after help; 1 where something is;
+/// 2 where the words are wrong, the file cannot be read, memory is wanting or standard output fails.
 pub fn program<H: Files + AllocGlobal, K: Sink, F: Sink>(
     command: &str,
     words: &[String],
@@ -85,13 +97,8 @@ pub fn program<H: Files + AllocGlobal, K: Sink, F: Sink>(
     faults: &mut F,
 ) -> u8 {
     match words {
-        [file] if file.as_str() == "--help" => {
-            match say(sink, &["Usage: ", command, " SCRIPT\n", HELP]) {
-                Ok(()) => 0,
-                Err(_) => UNCHECKED,
-            }
-        }
+        [file] if file.as_str() == "--help" => put_usage(usage(host.alloc(), command), sink),
         [file] => check(command, host, file.as_str(), sink, faults),
-        _ => refused(faults, &["Usage: ", command, " SCRIPT\n", HELP]),
+        _ => refuse(usage(host.alloc(), command), faults),
     }
 }
