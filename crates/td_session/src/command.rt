@@ -70,15 +70,11 @@ fn tell<K: Sink, F: Sink>(alloc: Global, error: &Error, sink: &mut K, faults: &m
 
 // Tells why the script is not read.
 fn no_script<F: Sink>(script: &str, error: Unreadable, faults: &mut F) -> u8 {
-    for part in [
-        "error: the script cannot be read: ",
-        script,
-        ": ",
-        error.words(),
-        "\n",
-    ] {
-        complain(faults, part);
-    }
+    complain(faults, "error: the script cannot be read: ");
+    complain(faults, script);
+    complain(faults, ": ");
+    complain(faults, error.words());
+    complain(faults, "\n");
     BAD_WORDS
 }
 

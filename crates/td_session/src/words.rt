@@ -13,7 +13,49 @@ them, and .quit ends the program.
 td_shell check SCRIPT, or td_check SCRIPT, tells each mistake in the definitions, with
 its line and column, and runs nothing.";
 
-fn command<'a>(alloc: Global) -> Result<Command<'a>, AllocError> {
+fn read_only<'a>(alloc: Global) -> Result<Arg<'a>, AllocError> {
+    Arg::new(alloc, "read-only")
+        .long("read-only")
+        .help("Reads the journal, whoever has it open, and changes nothing")
+        .action(ArgAction::SetTrue)
+        .requires_arg("journal")?
+        .conflicts_with_all(&["new", "forget"])
+}
+
+// With the options of a site that keeps a journal.
+fn with_journal<'a>(alloc: Global, command: Command<'a>) -> Result<Command<'a>, AllocError> {
+    let journal = Arg::new(alloc, "journal")
+        .long("journal")
+        .value_name("PREFIX")
+        .help("Keeps the site's statements in the file PREFIX, its number, .tdj")
+        .action(ArgAction::Set);
+    let new = Arg::new(alloc, "new")
+        .long("new")
+        .help("Begins a journal where none is")
+        .action(ArgAction::SetTrue);
+    let forget = Arg::new(alloc, "forget")
+        .long("forget")
+        .help("Goes on with a journal that lost statements, without meeting another site first")
+        .action(ArgAction::SetTrue);
+    command.arg(journal)?.arg(new)?.arg(forget)
+}
+
+// With the options of texts that stand for what is typed.
+fn with_typed<'a>(alloc: Global, command: Command<'a>) -> Result<Command<'a>, AllocError> {
+    let typed = Arg::new(alloc, "typed")
+        .short('c')
+        .value_name("TEXT")
+        .help("Reads TEXT in place of what is typed; may be given again")
+        .action(ArgAction::Append);
+    let keep_going = Arg::new(alloc, "keep-going")
+        .long("keep-going")
+        .help("Ends with status 0 though a fault was answered")
+        .action(ArgAction::SetTrue);
+    command.arg(typed)?.arg(keep_going)
+}
+
+// With the script, and the site that it opens.
+fn with_site<'a>(alloc: Global, command: Command<'a>) -> Result<Command<'a>, AllocError> {
     let script = Arg::new(alloc, "script")
         .value_name("SCRIPT")
         .help("The file of definitions, up to a line .begin where it has one")
@@ -33,47 +75,18 @@ fn command<'a>(alloc: Global) -> Result<Command<'a>, AllocError> {
         .action(ArgAction::Set)
         .value_parser(ValueParser::unsigned(1, MOST_ENTRIES as u64))
         .default_value("10000");
-    let journal = Arg::new(alloc, "journal")
-        .long("journal")
-        .value_name("PREFIX")
-        .help("Keeps the site's statements in the file PREFIX, its number, .tdj")
-        .action(ArgAction::Set);
-    let typed = Arg::new(alloc, "typed")
-        .short('c')
-        .value_name("TEXT")
-        .help("Reads TEXT in place of what is typed; may be given again")
-        .action(ArgAction::Append);
-    let keep_going = Arg::new(alloc, "keep-going")
-        .long("keep-going")
-        .help("Ends with status 0 though a fault was answered")
-        .action(ArgAction::SetTrue);
-    let new = Arg::new(alloc, "new")
-        .long("new")
-        .help("Begins a journal where none is")
-        .action(ArgAction::SetTrue);
-    let forget = Arg::new(alloc, "forget")
-        .long("forget")
-        .help("Goes on with a journal that lost statements, without meeting another site first")
-        .action(ArgAction::SetTrue);
-    let read_only = Arg::new(alloc, "read-only")
-        .long("read-only")
-        .help("Reads the journal, whoever has it open, and changes nothing")
-        .action(ArgAction::SetTrue)
-        .requires_arg("journal")?
-        .conflicts_with_all(&["new", "forget"])?;
-    Command::new(alloc, "td_shell")
+    command.arg(script)?.arg(site)?.arg(limit)
+}
+
+fn command<'a>(alloc: Global) -> Result<Command<'a>, AllocError> {
+    let command = Command::new(alloc, "td_shell")
         .version("1.0")
         .about("A person at one site of a replicated relational database")
-        .after_help(TYPED)
-        .arg(script)?
-        .arg(site)?
-        .arg(limit)?
-        .arg(journal)?
-        .arg(new)?
-        .arg(forget)?
-        .arg(read_only)?
-        .arg(typed)?
-        .arg(keep_going)
+        .after_help(TYPED);
+    let command = with_site(alloc, command)?;
+    let command = with_journal(alloc, command)?;
+    let command = command.arg(read_only(alloc)?)?;
+    with_typed(alloc, command)
 }
 
 /// What the words of the program ask for.
