@@ -19,7 +19,8 @@ fn read_only<'a>(alloc: Global) -> Result<Arg<'a>, AllocError> {
         .help("Reads the journal, whoever has it open, and changes nothing")
         .action(ArgAction::SetTrue)
         .requires_arg("journal")?
-        .conflicts_with_all(&["new", "forget"])
+        .conflicts_with("new")?
+        .conflicts_with("forget")
 }
 
 // With the options of a site that keeps a journal.
