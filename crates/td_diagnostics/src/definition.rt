@@ -58,10 +58,10 @@ impl Explainer<'_> {
     // That an expression is a truth value.
     fn check_truth(&self, tree: &Expr, at: usize, scope: &Scope<'_>) -> Result<(), Fault> {
         let kind = self.kind_of(tree, at, scope)?;
-        if is_boolean(&kind) {
+        if is_boolean(kind.get()) {
             return Ok(());
         }
-        self.takes(at, "CONSTRAINT", "BOOLEAN", &kind)
+        self.takes(at, "CONSTRAINT", "BOOLEAN", kind.get())
     }
 
     fn check_type(
@@ -97,9 +97,9 @@ impl Explainer<'_> {
     // The heading of a value over the relvars; the value is that of what is told in words.
     fn relation_at(&self, tree: &Expr, at: usize, of: &str) -> Result<Heading, Fault> {
         let kind = self.kind_of(tree, at, &Scope::Relvars(self.schema()))?;
-        match relation_heading(&kind) {
+        match relation_heading(kind.get()) {
             Some(heading) => Ok(heading.copy()?),
-            None => self.takes(at, of, "a relation", &kind),
+            None => self.takes(at, of, "a relation", kind.get()),
         }
     }
 

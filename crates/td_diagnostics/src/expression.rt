@@ -84,7 +84,7 @@ impl Explainer<'_> {
             return Ok(into_part(a, operand));
         };
         let (word, wanted) = unary_words(operator);
-        self.takes(operand, word, wanted, &kind)
+        self.takes(operand, word, wanted, kind.get())
     }
 
     // The word of a binary operator at a mark.
@@ -114,7 +114,7 @@ impl Explainer<'_> {
         let word = self.word_at(between, operator);
         self.fault(
             between,
-            binary_words(self.alloc, operator, word, &left, &right)?,
+            binary_words(self.alloc, operator, word, left.get(), right.get())?,
         )
     }
 
@@ -130,8 +130,8 @@ impl Explainer<'_> {
         let Some(kind) = self.kind(a, scope)? else {
             return Ok(into_part(a, operand));
         };
-        let Some(heading) = tuple_heading(&kind) else {
-            return self.takes(operand, "FROM", "a tuple", &kind);
+        let Some(heading) = tuple_heading(kind.get()) else {
+            return self.takes(operand, "FROM", "a tuple", kind.get());
         };
         self.fault(
             at,
@@ -163,7 +163,7 @@ impl Explainer<'_> {
         let Some(kind) = self.kind(a, scope)? else {
             return Ok(into_part(a, condition));
         };
-        self.check_condition(condition, "IF", &kind)?;
+        self.check_condition(condition, "IF", kind.get())?;
         let first = sum(&[condition, width(a), 1]);
         let Some(left) = self.kind(b, scope)? else {
             return Ok(into_part(b, first));
@@ -172,7 +172,7 @@ impl Explainer<'_> {
         let Some(right) = self.kind(c, scope)? else {
             return Ok(into_part(c, second));
         };
-        self.fault(second, branch_words(self.alloc, &left, &right)?)
+        self.fault(second, branch_words(self.alloc, left.get(), right.get())?)
     }
 }
 

@@ -99,8 +99,8 @@ impl Explainer<'_> {
         let Some(kind) = self.kind(a, scope)? else {
             return Ok(into_part(a, at));
         };
-        let Some(heading) = relation_heading(&kind) else {
-            return self.takes(at, "EXTEND", "a relation", &kind);
+        let Some(heading) = relation_heading(kind.get()) else {
+            return self.takes(at, "EXTEND", "a relation", kind.get());
         };
         let first = sum(&[at, width(a)]);
         if let Some(part) = self.faulty_item(all, first, &Scope::Within(heading, &*scope))? {
@@ -109,7 +109,7 @@ impl Explainer<'_> {
         let names = names(self.alloc, all)?;
         self.check_item_names(all, &names, first)?;
         if extension == Extension::Add {
-            self.check_added(all, first, called_as(a, &kind), heading)?;
+            self.check_added(all, first, called_as(a, kind.get()), heading)?;
         }
         Err(Fault::Found(self.no_type(at)?))
     }
@@ -172,8 +172,8 @@ impl Explainer<'_> {
         let Some(kind) = self.kind(tree, scope)? else {
             return Ok(Err(Part { tree, at }));
         };
-        let Some(own) = relation_heading(&kind) else {
-            return self.takes(at, "PER", "a relation", &kind);
+        let Some(own) = relation_heading(kind.get()) else {
+            return self.takes(at, "PER", "a relation", kind.get());
         };
         let common = self.common(own, heading)?;
         match unlike(self.alloc, own, &common, called)? {
@@ -206,7 +206,7 @@ impl Explainer<'_> {
             if let Summary::Of(aggregate, a) = &item.value {
                 let term = sum(&[self.item_at(at, marks).1, 1]);
                 match self.kind(a.get(), scope)? {
-                    Some(kind) => self.check_terms(*aggregate, term, &kind)?,
+                    Some(kind) => self.check_terms(*aggregate, term, kind.get())?,
                     None => {
                         return Ok(Some(Part {
                             tree: a.get(),
@@ -268,11 +268,11 @@ impl Explainer<'_> {
         let Some(kind) = self.kind(a, scope)? else {
             return Ok(into_part(a, at));
         };
-        let Some(heading) = relation_heading(&kind) else {
-            return self.takes(at, "SUMMARIZE", "a relation", &kind);
+        let Some(heading) = relation_heading(kind.get()) else {
+            return self.takes(at, "SUMMARIZE", "a relation", kind.get());
         };
         let list = sum(&[at, width(a)]);
-        let grouping = match self.grouped(groups, list, called_as(a, &kind), heading, scope)? {
+        let grouping = match self.grouped(groups, list, called_as(a, kind.get()), heading, scope)? {
             Ok(grouping) => grouping,
             Err(part) => return Ok(Step::Part(part)),
         };
@@ -301,7 +301,7 @@ impl Explainer<'_> {
             match self.kind(tree, &Scope::Given(kinds.as_slice(), &*scope))? {
                 Some(kind) => kinds.push(Named {
                     name: item.name.copy()?,
-                    value: kind,
+                    value: kind.into_inner(),
                 })?,
                 None => return Ok(Step::Behind(kinds, Part { tree, at: value })),
             }

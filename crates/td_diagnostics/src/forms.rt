@@ -82,15 +82,15 @@ impl Explainer<'_> {
         let Some(kind) = self.kind(a, scope)? else {
             return Ok(into_part(a, at));
         };
-        let Some(heading) = kind_heading(&kind) else {
-            let kind = shown(self.alloc, &kind)?;
+        let Some(heading) = kind_heading(kind.get()) else {
+            let kind = shown(self.alloc, kind.get())?;
             let message = format!(in self.alloc;
                 "only a relation or a tuple has attributes, and this is {kind}; brackets may be missing"
             )?;
             return self.fault(at, message);
         };
         let list = sum(&[at, width(a)]);
-        self.check_attributes(attributes, list, called_as(a, &kind), heading)?;
+        self.check_attributes(attributes, list, called_as(a, kind.get()), heading)?;
         Err(Fault::Found(self.no_type(list)?))
     }
 
@@ -104,15 +104,15 @@ impl Explainer<'_> {
         let Some(kind) = self.kind(a, scope)? else {
             return Ok(into_part(a, at));
         };
-        let Some(heading) = relation_heading(&kind) else {
-            return self.takes(at, "WHERE", "a relation", &kind);
+        let Some(heading) = relation_heading(kind.get()) else {
+            return self.takes(at, "WHERE", "a relation", kind.get());
         };
         let tree = condition;
         let at = sum(&[at, width(a), 1]);
         let Some(truth) = self.kind(tree, &Scope::Within(heading, &*scope))? else {
             return Ok(Step::Within(heading.copy()?, Part { tree, at }));
         };
-        self.check_condition(at, "WHERE", &truth)?;
+        self.check_condition(at, "WHERE", truth.get())?;
         Err(Fault::Found(self.no_type(at)?))
     }
 
@@ -162,10 +162,10 @@ impl Explainer<'_> {
         let Some(kind) = self.kind(a, scope)? else {
             return Ok(into_part(a, at));
         };
-        let Some(heading) = relation_heading(&kind) else {
-            return self.takes(at, "RENAME", "a relation", &kind);
+        let Some(heading) = relation_heading(kind.get()) else {
+            return self.takes(at, "RENAME", "a relation", kind.get());
         };
-        let (first, called) = (sum(&[at, width(a), 1]), called_as(a, &kind));
+        let (first, called) = (sum(&[at, width(a), 1]), called_as(a, kind.get()));
         for (place, renaming) in renamings.iter().enumerate() {
             let at = sum(&[first, place.saturating_mul(3)]);
             self.check_attribute(&renaming.from, at, called, heading)?;
@@ -191,11 +191,11 @@ impl Explainer<'_> {
             Nesting::Group => "GROUP",
             Nesting::Wrap => "WRAP",
         };
-        let Some(heading) = relation_heading(&kind) else {
-            return self.takes(at, word, "a relation", &kind);
+        let Some(heading) = relation_heading(kind.get()) else {
+            return self.takes(at, word, "a relation", kind.get());
         };
         let list = sum(&[at, width(a), 1]);
-        let called = called_as(a, &kind);
+        let called = called_as(a, kind.get());
         self.check_attributes(attributes, list, called, heading)?;
         self.is_there(name, sum(&[list, attributes_width(attributes), 1]), called)
     }
@@ -249,11 +249,11 @@ impl Explainer<'_> {
             Nesting::Group => "UNGROUP",
             Nesting::Wrap => "UNWRAP",
         };
-        let Some(heading) = relation_heading(&kind) else {
-            return self.takes(at, word, "a relation", &kind);
+        let Some(heading) = relation_heading(kind.get()) else {
+            return self.takes(at, word, "a relation", kind.get());
         };
         let at = sum(&[at, width(a), 1]);
-        self.check_attribute(name, at, called_as(a, &kind), heading)?;
+        self.check_attribute(name, at, called_as(a, kind.get()), heading)?;
         if let Some(ty) = heading.type_of(name) {
             self.check_inner(nesting, name, &ty.kind, at, heading)?;
         }
@@ -279,8 +279,8 @@ impl Explainer<'_> {
             return Ok(into_part(a, at));
         };
         let (word, wanted) = aggregate_words(aggregate);
-        let Some(heading) = relation_heading(&kind) else {
-            return self.takes(at, word, "a relation", &kind);
+        let Some(heading) = relation_heading(kind.get()) else {
+            return self.takes(at, word, "a relation", kind.get());
         };
         match heading.fields() {
             [field] => {
@@ -294,7 +294,7 @@ impl Explainer<'_> {
                 at,
                 word,
                 "a relation of one attribute, or a term too",
-                &kind,
+                kind.get(),
             ),
         }
     }
@@ -312,12 +312,12 @@ impl Explainer<'_> {
         let Some(kind) = self.kind(a, scope)? else {
             return Ok(into_part(a, at));
         };
-        let Some(heading) = relation_heading(&kind) else {
-            return self.takes(at, aggregate_words(aggregate).0, "a relation", &kind);
+        let Some(heading) = relation_heading(kind.get()) else {
+            return self.takes(at, aggregate_words(aggregate).0, "a relation", kind.get());
         };
         let (tree, at) = (term, sum(&[at, width(a)]));
         match self.kind(tree, &Scope::Within(heading, &*scope))? {
-            Some(kind) => self.unsuited(aggregate, at, &kind),
+            Some(kind) => self.unsuited(aggregate, at, kind.get()),
             None => Ok(Step::Within(heading.copy()?, Part { tree, at })),
         }
     }

@@ -4,7 +4,7 @@ use crate::diagnostic::{Diagnostic, Fault};
 use crate::marks::{Mark, marks_of};
 use crate::shown::shown;
 use crate::widths::sum;
-use sqlite_items::Items;
+use sqlite_items::{Boxed, Items};
 use std::alloc::{AllocError, Global};
 use td_grammar::reader::LEVELS;
 use td_headings::Catalogue;
@@ -99,16 +99,25 @@ impl<'c> Explainer<'c> {
     }
 
     /// The kind of an expression, if it has a type.
-    pub fn kind(&self, tree: &Expr, scope: &Scope<'_>) -> Result<Option<TypeKind>, AllocError> {
+    pub fn kind(
+        &self,
+        tree: &Expr,
+        scope: &Scope<'_>,
+    ) -> Result<Option<Boxed<TypeKind>>, AllocError> {
         match type_in(self.alloc, self.schema(), scope, tree) {
-            Ok(typing) => Ok(Some(typing.kind)),
+            Ok(typing) => Ok(Some(Boxed::new(self.alloc, typing.kind)?)),
             Err(TypeError::IllTyped) => Ok(None),
             Err(TypeError::OutOfMemory) => Err(AllocError),
         }
     }
 
     /// The kind of a whole expression, or why it has no type.
-    pub fn kind_of(&self, tree: &Expr, at: usize, scope: &Scope<'_>) -> Result<TypeKind, Fault> {
+    pub fn kind_of(
+        &self,
+        tree: &Expr,
+        at: usize,
+        scope: &Scope<'_>,
+    ) -> Result<Boxed<TypeKind>, Fault> {
         match self.kind(tree, scope)? {
             Some(kind) => Ok(kind),
             None => Err(Fault::Found(self.explain(LEVELS, tree, at, scope)?)),

@@ -93,7 +93,7 @@ impl Explainer<'_> {
                 return Ok(into_part(tree, operand));
             };
             if let Some(component) = representation.components.as_slice().get(place) {
-                self.check_operand(name, place, &kind, &component.value, operand)?;
+                self.check_operand(name, place, kind.get(), &component.value, operand)?;
             }
             operand = sum(&[operand, width(tree)]);
         }
@@ -136,9 +136,9 @@ impl Explainer<'_> {
             return Ok(into_part(a.get(), operand));
         };
         let component = name.as_str().strip_prefix("THE_").unwrap_or("");
-        let Some(ty) = user_name(&kind) else {
+        let Some(ty) = user_name(kind.get()) else {
             let wanted = format!(in self.alloc; "a value of a type with a component {component}")?;
-            return self.takes(operand, name.as_str(), &wanted, &kind);
+            return self.takes(operand, name.as_str(), &wanted, kind.get());
         };
         let Some((_, representation)) = self.schema().type_named(ty) else {
             return Err(Fault::Found(self.no_type(at)?));
@@ -171,8 +171,8 @@ impl Explainer<'_> {
             let Some(kind) = self.kind(tree, scope)? else {
                 return Ok(into_part(tree, at));
             };
-            let Some(own) = tuple_heading(&kind) else {
-                return self.takes(at, "RELATION", "tuples", &kind);
+            let Some(own) = tuple_heading(kind.get()) else {
+                return self.takes(at, "RELATION", "tuples", kind.get());
             };
             if let Some(message) = unlike(self.alloc, own, heading, called)? {
                 return self.fault(at, message);
@@ -196,9 +196,9 @@ impl Explainer<'_> {
         let Some(kind) = self.kind(a.get(), scope)? else {
             return Ok(into_part(a.get(), first));
         };
-        match tuple_heading(&kind) {
+        match tuple_heading(kind.get()) {
             Some(heading) => self.tuples(all, first, heading, "the first tuple", scope),
-            None => self.takes(first, "RELATION", "tuples", &kind),
+            None => self.takes(first, "RELATION", "tuples", kind.get()),
         }
     }
 

@@ -54,8 +54,8 @@ impl<'c> Explainer<'c> {
     ) -> Result<(), Fault> {
         let kind = self.kind_of(tree, at, &Scope::Relvars(self.schema()))?;
         let name = target.as_str();
-        let Some(own) = relation_heading(&kind) else {
-            return self.no_relation(at, word, name, &kind);
+        let Some(own) = relation_heading(kind.get()) else {
+            return self.no_relation(at, word, name, kind.get());
         };
         match unlike(self.alloc, own, heading, name)? {
             Some(message) => self.fault(at, message),
@@ -93,7 +93,7 @@ impl<'c> Explainer<'c> {
     ) -> Result<(), Fault> {
         let scope = Scope::Relvars(self.schema());
         let kind = self.kind_of(condition, at, &Scope::Within(heading, &scope))?;
-        self.check_condition(at, word, &kind)
+        self.check_condition(at, word, kind.get())
     }
 
     // That an item of an UPDATE has the type of the attribute that it names.
@@ -129,7 +129,7 @@ impl<'c> Explainer<'c> {
             let value = sum(&[at, 2]);
             let kind = self.kind_of(tree, value, &Scope::Within(heading, &scope))?;
             if let Some(ty) = heading.type_of(&item.name) {
-                self.check_value(ty, &kind, value, &item.name, target)?;
+                self.check_value(ty, kind.get(), value, &item.name, target)?;
             }
             at = sum(&[value, width(tree)]);
         }
@@ -186,7 +186,7 @@ impl<'c> Explainer<'c> {
         others: &[Action],
     ) -> Result<(), Fault> {
         let kind = self.kind_of(condition, 1, &Scope::Relvars(self.schema()))?;
-        self.check_condition(1, "IF", &kind)?;
+        self.check_condition(1, "IF", kind.get())?;
         let first = sum(&[2, width(condition)]);
         self.check_actions(actions, first)?;
         self.check_actions(others, sum(&[first, actions_width(actions), 1]))

@@ -3,23 +3,12 @@ ghost use Rattle.std.specs.Prelude.{◌≡◌, ◌+◌, ◌<◌, ◌≤◌, IfOk
 ghost use Rattle.std.specs.FinSet as set;
 ghost use Rattle.std.specs.List.{dedup};
 ghost use Rattle.std.specs.Ordering.{eq_by_cmp};
-ghost use Rattle.std.specs.List.Sorted.{IsPermutation, IsSorted, IsStrictlySortedBy};
+ghost use Rattle.std.specs.List.Sorted.{IsStrictlySortedBy};
 ghost use Rattle.td_values.specs.Alike.{AreAlike};
 ghost use Rattle.td_values.specs.Order.{attrs_order};
 ghost use Rattle.td_relations.specs.Sets.{tuple_set, IsAt, IsGapFor};
 
-use td_values::{Tuple, compare_values, sort_alike, whole_tuples};
-
-/// These tuples in order, by their values alone, since they have one heading.
-pub fn in_order(tuples: Vec<Tuple>) -> Vec<Tuple>
-    requires { AreAlike tuples.items }
-    ensures permutation { IsPermutation tuples.items result.items }
-    ensures sorted { IsSorted attrs_order result.items }
-{
-    let mut tuples = tuples;
-    sort_alike(&mut tuples);
-    tuples
-}
+use td_values::{Tuple, compare_values, whole_tuples};
 
 /// These tuples, which have one heading, without those that are equal to the one before. By their values alone.
 pub fn without_repeats(tuples: Vec<Tuple>) -> Vec<Tuple>
