@@ -3,7 +3,7 @@
 use crate::diagnostic::{Diagnostic, Fault};
 use crate::headings::unlike;
 use crate::parts::Explainer;
-use crate::shown::shown;
+use crate::sentence::Sentence;
 use crate::types::{check_fields, heading_of};
 use crate::widths::{attributes_width, fields_width, opening_width, sum};
 use sqlite_items::Boxed;
@@ -22,25 +22,19 @@ const NAME: usize = 1;
 
 impl Explainer<'_> {
     fn defined_before<T>(&self, name: &Name, at: usize) -> Result<T, Fault> {
-        self.fault(
-            at,
-            format!(in self.alloc; "{} is defined before", name.as_str())?,
-        )
+        let sentence = Sentence::of(self.alloc, name.as_str()).say(" is defined before");
+        self.fault(at, sentence)
     }
 
     // That a possrep's name is new, and none of THE_.
     fn check_selector(&self, name: &Name, at: usize) -> Result<(), Fault> {
         if begins_with_the(name) {
-            let message = String::from_str(
-                self.alloc,
-                "the name of a selector does not begin with THE_",
-            )?;
-            return self.fault(at, message);
+            let words = "the name of a selector does not begin with THE_";
+            return self.fault(at, Sentence::of(self.alloc, words));
         }
         if self.schema().possrep(name).is_some() {
-            let name = name.as_str();
-            let message = format!(in self.alloc; "a type before has the selector {name}")?;
-            return self.fault(at, message);
+            let words = "a type before has the selector ";
+            return self.fault(at, Sentence::of(self.alloc, words).say(name.as_str()));
         }
         Ok(())
     }
@@ -50,7 +44,7 @@ impl Explainer<'_> {
         check_fields(fields, self, first)?;
         match components_written(self.alloc, self.schema(), fields) {
             Ok(kinds) => Ok(kind_columns(self.alloc, kinds.as_slice())?),
-            Err(TypeError::IllTyped) => Err(Fault::Found(self.no_type(first)?)),
+            Err(TypeError::IllTyped) => Err(self.no_type(first)),
             Err(TypeError::OutOfMemory) => Err(Fault::OutOfMemory),
         }
     }
@@ -74,16 +68,25 @@ impl Explainer<'_> {
         if self.schema().type_named(name).is_some() {
             return self.defined_before(name, NAME);
         }
-        let first = match possrep {
+        match possrep {
             Some(possrep) => {
                 self.check_selector(possrep, 3)?;
-                4
+                self.check_possrep(fields, 4, limit)
             }
             None => {
                 self.check_selector(name, NAME)?;
-                3
+                self.check_possrep(fields, 3, limit)
             }
-        };
+        }
+    }
+
+    // That components, of which the first begins at a mark, have types, and that their condition is a truth value.
+    fn check_possrep(
+        &self,
+        fields: &[Named<TypeExpr>],
+        first: usize,
+        limit: &Option<Boxed<Expr>>,
+    ) -> Result<(), Fault> {
         let heading = self.components(fields, first)?;
         match limit {
             Some(limit) => {
@@ -113,12 +116,18 @@ impl Explainer<'_> {
                 let fields = fields.as_slice();
                 let heading = heading_of(self, fields, first)?;
                 let value = sum(&[first, fields_width(fields), 1]);
-                let own = self.relation_at(a.get(), value, "INIT")?;
-                match unlike(self.alloc, &own, &heading, "the heading")? {
-                    Some(message) => self.fault(value, message),
-                    None => Ok(heading),
-                }
+                self.check_value_of(&heading, a.get(), value)?;
+                Ok(heading)
             }
+        }
+    }
+
+    // That the value of INIT has the heading that is written before it.
+    fn check_value_of(&self, heading: &Heading, tree: &Expr, at: usize) -> Result<(), Fault> {
+        let own = self.relation_at(tree, at, "INIT")?;
+        match unlike(self.alloc, &own, heading, "the heading") {
+            Some(sentence) => self.fault(at, sentence),
+            None => Ok(()),
         }
     }
 
@@ -158,26 +167,34 @@ impl Explainer<'_> {
         Ok(())
     }
 
+    fn check_base(&self, name: &Name, opening: &Opening, keys: &[Attributes]) -> Result<(), Fault> {
+        self.check_relvar_name(name)?;
+        let heading = self.opening(opening, 3)?;
+        let first = sum(&[3, opening_width(opening)]);
+        self.check_keys(keys, first, name, &heading)
+    }
+
+    fn check_virtual(&self, name: &Name, tree: &Expr) -> Result<(), Fault> {
+        self.check_relvar_name(name)?;
+        self.relation_at(tree, 3, "VIRTUAL")?;
+        Ok(())
+    }
+
+    fn check_constraint(&self, name: &Name, tree: &Expr) -> Result<(), Fault> {
+        self.check_constraint_name(name)?;
+        self.check_truth(tree, 2, &Scope::Relvars(self.schema()))
+    }
+
     fn check_definition(&self, definition: &Definition) -> Result<(), Fault> {
         match definition {
             Definition::Type(name, possrep, fields, limit) => {
                 self.check_type(name, possrep, fields.as_slice(), limit)
             }
             Definition::Base(name, opening, keys) => {
-                self.check_relvar_name(name)?;
-                let heading = self.opening(opening, 3)?;
-                let first = sum(&[3, opening_width(opening)]);
-                self.check_keys(keys.as_slice(), first, name, &heading)
+                self.check_base(name, opening, keys.as_slice())
             }
-            Definition::Virtual(name, a) => {
-                self.check_relvar_name(name)?;
-                self.relation_at(a.get(), 3, "VIRTUAL")?;
-                Ok(())
-            }
-            Definition::Constraint(name, a) => {
-                self.check_constraint_name(name)?;
-                self.check_truth(a.get(), 2, &Scope::Relvars(self.schema()))
-            }
+            Definition::Virtual(name, a) => self.check_virtual(name, a.get()),
+            Definition::Constraint(name, a) => self.check_constraint(name, a.get()),
         }
     }
 }

@@ -18,6 +18,16 @@ pub enum Fault {
     OutOfMemory,
 }
 
+impl Fault {
+    /// What a check that ended found.
+    pub fn told(self) -> Result<Diagnostic, AllocError> {
+        match self {
+            Fault::Found(diagnostic) => Ok(diagnostic),
+            Fault::OutOfMemory => Err(AllocError),
+        }
+    }
+}
+
 impl From<AllocError> for Fault {
     fn from(_e: AllocError) -> Fault {
         Fault::OutOfMemory

@@ -5,7 +5,7 @@ use crate::headings::no_attribute;
 use crate::nearest::{Nearest, look_in_scope};
 use crate::operators::{binary_word, binary_words, branch_words, unary_words};
 use crate::parts::{Explainer, Step, into_part};
-use crate::shown::shown;
+use crate::sentence::Sentence;
 use crate::widths::{sum, width};
 use td_kinds::Scope;
 use td_kinds::kinds::{is_boolean, tuple_heading};
@@ -21,6 +21,22 @@ impl Explainer<'_> {
         at: usize,
         scope: &Scope<'_>,
     ) -> Result<Step<'t>, Fault> {
+        let Some((operand, before)) = first_operand(tree) else {
+            return self.step_without_operand(tree, at, scope);
+        };
+        let first = sum(&[at, before]);
+        match self.kind(operand, scope) {
+            Ok(kind) => self.step_behind(tree, kind.get(), at, first, scope),
+            Err(error) => into_part(error, operand, first),
+        }
+    }
+
+    fn step_without_operand<'t>(
+        &self,
+        tree: &'t Expr,
+        at: usize,
+        scope: &Scope<'_>,
+    ) -> Result<Step<'t>, Fault> {
         match tree {
             Expr::Name(name) => self.name(name, at, scope),
             Expr::Call(name, all) => self.call(name, all.as_slice(), at, scope),
@@ -29,62 +45,58 @@ impl Explainer<'_> {
             Expr::Relation(Some(fields), all) => {
                 self.headed_relation(fields.as_slice(), all.as_slice(), at, scope)
             }
-            Expr::Unary(operator, a) => self.unary(*operator, a.get(), at, scope),
-            Expr::Binary(operator, a, b) => self.binary(*operator, a.get(), b.get(), at, scope),
-            Expr::From(name, a) => self.attribute(name, a.get(), at, scope),
-            Expr::Project(a, attributes) => self.projection(a.get(), attributes, at, scope),
-            Expr::Where(a, b) => self.restriction(a.get(), b.get(), at, scope),
-            Expr::Rename(a, all) => self.renaming(a.get(), all.as_slice(), at, scope),
+            Expr::With(all, body) => self.with(all.as_slice(), body.get(), at, scope),
+            _ => Err(self.no_type(at)),
+        }
+    }
+
+    // The step of a form whose first operand, which begins at the first mark, is of this kind.
+    fn step_behind<'t>(
+        &self,
+        tree: &'t Expr,
+        kind: &TypeKind,
+        at: usize,
+        first: usize,
+        scope: &Scope<'_>,
+    ) -> Result<Step<'t>, Fault> {
+        match tree {
+            Expr::Unary(operator, _) => self.unary(*operator, kind, first),
+            Expr::Binary(operator, a, b) => {
+                self.binary(*operator, a.get(), b.get(), kind, first, scope)
+            }
+            Expr::From(name, a) => self.attribute(name, a.get(), kind, at, first),
+            Expr::Project(a, attributes) => self.projection(a.get(), attributes, kind, first),
+            Expr::Where(a, b) => self.restriction(a.get(), b.get(), kind, first, scope),
+            Expr::Rename(a, all) => self.renaming(a.get(), all.as_slice(), kind, first),
             Expr::Nest(nesting, a, attributes, name) => {
-                self.nesting(*nesting, a.get(), attributes, name, at, scope)
+                self.nesting(*nesting, a.get(), attributes, name, kind, first)
             }
-            Expr::Unnest(nesting, a, name) => self.unnesting(*nesting, a.get(), name, at, scope),
-            Expr::Aggregate(aggregate, a, None) => {
-                self.lone_aggregate(*aggregate, a.get(), at, scope)
-            }
+            Expr::Unnest(nesting, a, name) => self.unnesting(*nesting, a.get(), name, kind, first),
+            Expr::Aggregate(aggregate, _, None) => self.lone_aggregate(*aggregate, kind, first),
             Expr::Aggregate(aggregate, a, Some(b)) => {
-                self.aggregation(*aggregate, a.get(), b.get(), at, scope)
+                self.aggregation(*aggregate, a.get(), b.get(), kind, first, scope)
             }
-            Expr::If(a, b, c) => self.choice(a.get(), b.get(), c.get(), at, scope),
+            Expr::If(a, b, c) => self.choice(a.get(), b.get(), c.get(), kind, first, scope),
             Expr::Extend(extension, a, all) => {
-                self.extension(*extension, a.get(), all.as_slice(), at, scope)
+                self.extension(*extension, a.get(), all.as_slice(), kind, first, scope)
             }
             Expr::Summarize(a, groups, all) => {
-                self.summarization(a.get(), groups, all.as_slice(), at, scope)
+                self.summarization(a.get(), groups, all.as_slice(), kind, first, scope)
             }
-            Expr::With(all, body) => self.with(all.as_slice(), body.get(), at, scope),
-            _ => Err(Fault::Found(self.no_type(at)?)),
+            _ => Err(self.no_type(at)),
         }
     }
 
     fn name<'t>(&self, name: &Name, at: usize, scope: &Scope<'_>) -> Result<Step<'t>, Fault> {
-        let mut nearest = Nearest::new(self.alloc, name)?;
-        look_in_scope(scope, &mut nearest)?;
-        let name = name.as_str();
-        let message = match nearest.found() {
-            Some(near) => format!(in self.alloc; "{name} is no name here; {} is", near.as_str())?,
-            None => format!(in self.alloc; "{name} is no name here")?,
-        };
-        self.fault(at, message)
+        let mut nearest = Nearest::new(self.alloc, name);
+        look_in_scope(scope, &mut nearest);
+        let sentence = Sentence::of(self.alloc, name.as_str()).say(" is no name here");
+        self.fault(at, sentence.near(nearest.found(), " is"))
     }
 
-    fn unary<'t>(
-        &self,
-        operator: UnaryOperator,
-        a: &'t Expr,
-        at: usize,
-        scope: &Scope<'_>,
-    ) -> Result<Step<'t>, Fault> {
-        let marks = match operator {
-            UnaryOperator::TupleFrom => 2,
-            _ => 1,
-        };
-        let operand = sum(&[at, marks]);
-        let Some(kind) = self.kind(a, scope)? else {
-            return Ok(into_part(a, operand));
-        };
+    fn unary<T>(&self, operator: UnaryOperator, kind: &TypeKind, at: usize) -> Result<T, Fault> {
         let (word, wanted) = unary_words(operator);
-        self.takes(operand, word, wanted, kind.get())
+        self.takes(at, word, wanted, kind)
     }
 
     // The word of a binary operator at a mark.
@@ -101,42 +113,35 @@ impl Explainer<'_> {
         operator: BinaryOperator,
         a: &'t Expr,
         b: &'t Expr,
+        left: &TypeKind,
         at: usize,
         scope: &Scope<'_>,
     ) -> Result<Step<'t>, Fault> {
-        let Some(left) = self.kind(a, scope)? else {
-            return Ok(into_part(a, at));
-        };
         let between = sum(&[at, width(a)]);
-        let Some(right) = self.kind(b, scope)? else {
-            return Ok(into_part(b, sum(&[between, 1])));
-        };
         let word = self.word_at(between, operator);
-        self.fault(
-            between,
-            binary_words(self.alloc, operator, word, left.get(), right.get())?,
-        )
+        match self.kind(b, scope) {
+            Ok(right) => {
+                let sentence = binary_words(self.alloc, operator, word, left, right.get());
+                self.fault(between, sentence)
+            }
+            Err(error) => into_part(error, b, sum(&[between, 1])),
+        }
     }
 
     // An attribute of a tuple.
-    fn attribute<'t>(
+    fn attribute<T>(
         &self,
         name: &Name,
-        a: &'t Expr,
+        a: &Expr,
+        kind: &TypeKind,
         at: usize,
-        scope: &Scope<'_>,
-    ) -> Result<Step<'t>, Fault> {
-        let operand = sum(&[at, 2]);
-        let Some(kind) = self.kind(a, scope)? else {
-            return Ok(into_part(a, operand));
+        operand: usize,
+    ) -> Result<T, Fault> {
+        let Some(heading) = tuple_heading(kind) else {
+            return self.takes(operand, "FROM", "a tuple", kind);
         };
-        let Some(heading) = tuple_heading(kind.get()) else {
-            return self.takes(operand, "FROM", "a tuple", kind.get());
-        };
-        self.fault(
-            at,
-            no_attribute(self.alloc, called(a, "this tuple"), heading, name)?,
-        )
+        let sentence = no_attribute(self.alloc, called(a, "this tuple"), heading, name);
+        self.fault(at, sentence)
     }
 
     /// That a condition is a truth value; what it is the condition of is told in words.
@@ -144,35 +149,64 @@ impl Explainer<'_> {
         if is_boolean(kind) {
             return Ok(());
         }
-        let kind = shown(self.alloc, kind)?;
-        self.fault(
-            at,
-            format!(in self.alloc; "the condition of {of} is {kind}; it must be BOOLEAN")?,
-        )
+        let sentence = Sentence::of(self.alloc, "the condition of ")
+            .say(of)
+            .say(" is ")
+            .kind(kind)
+            .say("; it must be BOOLEAN");
+        self.fault(at, sentence)
     }
 
+    // IF, whose condition is of this kind.
     fn choice<'t>(
         &self,
-        a: &'t Expr,
+        a: &Expr,
         b: &'t Expr,
         c: &'t Expr,
+        kind: &TypeKind,
         at: usize,
         scope: &Scope<'_>,
     ) -> Result<Step<'t>, Fault> {
-        let condition = sum(&[at, 1]);
-        let Some(kind) = self.kind(a, scope)? else {
-            return Ok(into_part(a, condition));
-        };
-        self.check_condition(condition, "IF", kind.get())?;
-        let first = sum(&[condition, width(a), 1]);
-        let Some(left) = self.kind(b, scope)? else {
-            return Ok(into_part(b, first));
-        };
+        self.check_condition(at, "IF", kind)?;
+        let first = sum(&[at, width(a), 1]);
         let second = sum(&[first, width(b), 1]);
-        let Some(right) = self.kind(c, scope)? else {
-            return Ok(into_part(c, second));
-        };
-        self.fault(second, branch_words(self.alloc, left.get(), right.get())?)
+        match self.kind(b, scope) {
+            Ok(left) => self.other_branch(c, left.get(), second, scope),
+            Err(error) => into_part(error, b, first),
+        }
+    }
+
+    // ELSE, where the other branch of IF is of this kind.
+    fn other_branch<'t>(
+        &self,
+        tree: &'t Expr,
+        left: &TypeKind,
+        at: usize,
+        scope: &Scope<'_>,
+    ) -> Result<Step<'t>, Fault> {
+        match self.kind(tree, scope) {
+            Ok(right) => self.fault(at, branch_words(self.alloc, left, right.get())),
+            Err(error) => into_part(error, tree, at),
+        }
+    }
+}
+
+// The operand that stands first in a form, and how many marks stand before it.
+fn first_operand(tree: &Expr) -> Option<(&Expr, usize)> {
+    match tree {
+        Expr::Binary(_, a, _)
+        | Expr::Project(a, _)
+        | Expr::Where(a, _)
+        | Expr::Rename(a, _)
+        | Expr::Nest(_, a, _, _)
+        | Expr::Unnest(_, a, _) => Some((a.get(), 0)),
+        Expr::Unary(UnaryOperator::TupleFrom, a) | Expr::From(_, a) => Some((a.get(), 2)),
+        Expr::Unary(_, a)
+        | Expr::Aggregate(_, a, _)
+        | Expr::If(a, _, _)
+        | Expr::Extend(_, a, _)
+        | Expr::Summarize(a, _, _) => Some((a.get(), 1)),
+        _ => None,
     }
 }
 

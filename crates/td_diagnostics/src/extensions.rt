@@ -2,18 +2,17 @@
 
 use crate::diagnostic::Fault;
 use crate::forms::called_as;
-use crate::headings::unlike;
-use crate::nearest::repeated;
-use crate::parts::{Explainer, Part, Step, into_part};
-use crate::widths::{groups_width, named_width, sum, summaries_width, summary_width, width};
+use crate::headings::beyond;
+use crate::nearest::repeated_part;
+use crate::parts::{Explainer, Part, Step, into_part, step_within, untyped};
+use crate::widths::{front, groups_width, named_width, sum, summaries_width, summary_width, width};
 use sqlite_items::{Boxed, Items};
-use std::alloc::AllocError;
-use td_kinds::Scope;
 use td_kinds::kinds::relation_heading;
-use td_kinds::lists::{attributes_of, names};
+use td_kinds::lists::attributes_of;
+use td_kinds::{Scope, TypeError};
 use td_syntax::tree::{Attributes, Expr, Extension, Groups, Named, Summary};
 use td_tuples::columns_in;
-use td_values::{Heading, Name, TypeKind};
+use td_values::{Heading, TypeKind};
 
 impl Explainer<'_> {
     /// TUPLE
@@ -28,20 +27,22 @@ impl Explainer<'_> {
         for item in all {
             let tree = item.value.get();
             let value = sum(&[at, 1]);
-            if self.kind(tree, scope)?.is_none() {
-                return Ok(into_part(tree, value));
+            if let Err(error) = self.kind(tree, scope) {
+                return into_part(error, tree, value);
             }
             at = sum(&[value, width(tree)]);
         }
-        let names = names(self.alloc, all)?;
-        if let Some(place) = repeated(self.alloc, &names)? {
-            self.twice(
-                &names,
-                place,
-                sum(&[first, named_width(front(all, place), 1)]),
-            )?;
+        self.tuple_of_twins(all, first)
+    }
+
+    // TUPLE, whose parts have types.
+    fn tuple_of_twins<T>(&self, all: &[Named<Boxed<Expr>>], first: usize) -> Result<T, Fault> {
+        match repeated_part(self.alloc, all)? {
+            Some((place, name)) => {
+                self.twice(name, sum(&[first, named_width(front(all, place), 1)]))
+            }
+            None => Err(self.no_type(first)),
         }
-        Err(Fault::Found(self.no_type(first)?))
     }
 
     /// The first of these named expressions that has no type.
@@ -50,14 +51,14 @@ impl Explainer<'_> {
         all: &'t [Named<Boxed<Expr>>],
         first: usize,
         scope: &Scope<'_>,
-    ) -> Result<Option<Part<'t>>, AllocError> {
+    ) -> Result<Option<Part<'t>>, Fault> {
         let mut at = first;
         for item in all {
             let tree = item.value.get();
             let marks = width(tree);
-            if self.kind(tree, scope)?.is_none() {
+            if let Err(error) = self.kind(tree, scope) {
                 let (_, at) = self.item_at(at, marks);
-                return Ok(Some(Part { tree, at }));
+                return Ok(Some(untyped(error, Part { tree, at })?));
             }
             at = sum(&[at, marks, 2]);
         }
@@ -74,14 +75,9 @@ impl Explainer<'_> {
     }
 
     /// That no two of these items have one name.
-    pub fn check_item_names(
-        &self,
-        all: &[Named<Boxed<Expr>>],
-        names: &[Name],
-        first: usize,
-    ) -> Result<(), Fault> {
-        match repeated(self.alloc, names)? {
-            Some(place) => self.twice(names, place, self.item_name_at(all, place, first)),
+    pub fn check_item_names(&self, all: &[Named<Boxed<Expr>>], first: usize) -> Result<(), Fault> {
+        match repeated_part(self.alloc, all)? {
+            Some((place, name)) => self.twice(name, self.item_name_at(all, place, first)),
             None => Ok(()),
         }
     }
@@ -90,38 +86,36 @@ impl Explainer<'_> {
     pub fn extension<'t>(
         &self,
         extension: Extension,
-        a: &'t Expr,
+        a: &Expr,
         all: &'t [Named<Boxed<Expr>>],
+        kind: &TypeKind,
         at: usize,
         scope: &Scope<'_>,
     ) -> Result<Step<'t>, Fault> {
-        let at = sum(&[at, 1]);
-        let Some(kind) = self.kind(a, scope)? else {
-            return Ok(into_part(a, at));
-        };
-        let Some(heading) = relation_heading(kind.get()) else {
-            return self.takes(at, "EXTEND", "a relation", kind.get());
+        let Some(heading) = relation_heading(kind) else {
+            return self.takes(at, "EXTEND", "a relation", kind);
         };
         let first = sum(&[at, width(a)]);
         if let Some(part) = self.faulty_item(all, first, &Scope::Within(heading, &*scope))? {
-            return Ok(Step::Within(heading.copy()?, part));
+            return step_within(heading, part);
         }
-        let names = names(self.alloc, all)?;
-        self.check_item_names(all, &names, first)?;
-        if extension == Extension::Add {
-            self.check_added(all, first, called_as(a, kind.get()), heading)?;
-        }
-        Err(Fault::Found(self.no_type(at)?))
+        self.check_item_names(all, first)?;
+        self.check_added(extension, all, first, called_as(a, kind), heading)?;
+        Err(self.no_type(at))
     }
 
-    // That none of the items has the name of an attribute.
+    // That none of the items that are added has the name of an attribute.
     fn check_added(
         &self,
+        extension: Extension,
         all: &[Named<Boxed<Expr>>],
         first: usize,
         called: &str,
         heading: &Heading,
     ) -> Result<(), Fault> {
+        if extension != Extension::Add {
+            return Ok(());
+        }
         for (place, item) in all.iter().enumerate() {
             if heading.type_of(&item.name).is_some() {
                 return self.is_there(&item.name, self.item_name_at(all, place, first), called);
@@ -157,7 +151,7 @@ impl Explainer<'_> {
         self.check_attributes(attributes, at, called, heading)?;
         match attributes_of(self.alloc, attributes, heading) {
             Ok(names) => Ok(columns_in(self.alloc, names.as_slice(), heading)?),
-            Err(_) => Err(Fault::Found(self.no_type(at)?)),
+            Err(_) => Err(self.no_type(at)),
         }
     }
 
@@ -169,28 +163,26 @@ impl Explainer<'_> {
         heading: &Heading,
         scope: &Scope<'_>,
     ) -> Result<Result<Heading, Part<'t>>, Fault> {
-        let Some(kind) = self.kind(tree, scope)? else {
-            return Ok(Err(Part { tree, at }));
-        };
-        let Some(own) = relation_heading(kind.get()) else {
-            return self.takes(at, "PER", "a relation", kind.get());
-        };
-        let common = self.common(own, heading)?;
-        match unlike(self.alloc, own, &common, called)? {
-            Some(message) => self.fault(at, message),
-            None => Ok(Ok(own.copy()?)),
+        match self.kind(tree, scope) {
+            Ok(kind) => Ok(Ok(self.groups_of(kind.get(), at, called, heading)?)),
+            Err(error) => Ok(Err(untyped(error, Part { tree, at })?)),
         }
     }
 
-    // The attributes of a heading that another one names too.
-    fn common(&self, own: &Heading, heading: &Heading) -> Result<Heading, AllocError> {
-        let mut common = Heading::new(self.alloc)?;
-        for field in heading.fields() {
-            if own.type_of(&field.0).is_some() {
-                common.insert(self.alloc, field.0.copy()?, field.1.copy()?)?;
-            }
+    fn groups_of(
+        &self,
+        kind: &TypeKind,
+        at: usize,
+        called: &str,
+        heading: &Heading,
+    ) -> Result<Heading, Fault> {
+        let Some(own) = relation_heading(kind) else {
+            return self.takes(at, "PER", "a relation", kind);
+        };
+        match beyond(self.alloc, own, heading, called) {
+            Some(sentence) => self.fault(at, sentence),
+            None => Ok(own.copy()?),
         }
-        Ok(common)
     }
 
     // The first summary of a term that has no type, in the scope of the terms.
@@ -204,15 +196,11 @@ impl Explainer<'_> {
         for item in all {
             let marks = summary_width(&item.value);
             if let Summary::Of(aggregate, a) = &item.value {
+                let tree = a.get();
                 let term = sum(&[self.item_at(at, marks).1, 1]);
-                match self.kind(a.get(), scope)? {
-                    Some(kind) => self.check_terms(*aggregate, term, kind.get())?,
-                    None => {
-                        return Ok(Some(Part {
-                            tree: a.get(),
-                            at: term,
-                        }));
-                    }
+                match self.kind(tree, scope) {
+                    Ok(kind) => self.check_terms(*aggregate, term, kind.get())?,
+                    Err(error) => return Ok(Some(untyped(error, Part { tree, at: term })?)),
                 }
             }
             at = sum(&[at, marks, 2]);
@@ -227,8 +215,7 @@ impl Explainer<'_> {
         place: usize,
         first: usize,
     ) -> usize {
-        let (before, _) = all.split_at(place.min(all.len()));
-        let at = sum(&[first, summaries_width(before)]);
+        let at = sum(&[first, summaries_width(front(all, place))]);
         match all.get(place) {
             Some(item) => self.item_at(at, summary_width(&item.value)).0,
             None => at,
@@ -242,14 +229,13 @@ impl Explainer<'_> {
         first: usize,
         heading: &Heading,
     ) -> Result<(), Fault> {
-        let names = names(self.alloc, all)?;
-        if let Some(place) = repeated(self.alloc, &names)? {
-            return self.twice(&names, place, self.summary_name_at(all, place, first));
+        if let Some((place, name)) = repeated_part(self.alloc, all)? {
+            return self.twice(name, self.summary_name_at(all, place, first));
         }
-        for (place, name) in names.iter().enumerate() {
-            if heading.type_of(name).is_some() {
+        for (place, item) in all.iter().enumerate() {
+            if heading.type_of(&item.name).is_some() {
                 let at = self.summary_name_at(all, place, first);
-                return self.is_there(name, at, "each group");
+                return self.is_there(&item.name, at, "each group");
             }
         }
         Ok(())
@@ -258,30 +244,43 @@ impl Explainer<'_> {
     /// SUMMARIZE
     pub fn summarization<'t>(
         &self,
-        a: &'t Expr,
+        a: &Expr,
         groups: &'t Groups<Boxed<Expr>>,
         all: &'t [Named<Summary<Boxed<Expr>>>],
+        kind: &TypeKind,
         at: usize,
         scope: &Scope<'_>,
     ) -> Result<Step<'t>, Fault> {
-        let at = sum(&[at, 1]);
-        let Some(kind) = self.kind(a, scope)? else {
-            return Ok(into_part(a, at));
-        };
-        let Some(heading) = relation_heading(kind.get()) else {
-            return self.takes(at, "SUMMARIZE", "a relation", kind.get());
+        let Some(heading) = relation_heading(kind) else {
+            return self.takes(at, "SUMMARIZE", "a relation", kind);
         };
         let list = sum(&[at, width(a)]);
-        let grouping = match self.grouped(groups, list, called_as(a, kind.get()), heading, scope)? {
-            Ok(grouping) => grouping,
+        let first = sum(&[list, groups_width(groups)]);
+        let grouping = self.grouped(groups, list, called_as(a, kind), heading, scope)?;
+        let terms = Scope::Within(heading, &*scope);
+        let part = match grouping {
+            Ok(grouping) => self.check_summaries(all, first, &grouping, &terms)?,
             Err(part) => return Ok(Step::Part(part)),
         };
-        let first = sum(&[list, groups_width(groups)]);
-        if let Some(part) = self.faulty_summary(all, first, &Scope::Within(heading, &*scope))? {
-            return Ok(Step::Within(heading.copy()?, part));
+        match part {
+            Some(part) => step_within(heading, part),
+            None => Err(self.no_type(at)),
         }
-        self.check_summary_names(all, first, &grouping)?;
-        Err(Fault::Found(self.no_type(at)?))
+    }
+
+    // The first summary of a term that has no type. Where there is none, the names are as they have to be.
+    fn check_summaries<'t>(
+        &self,
+        all: &'t [Named<Summary<Boxed<Expr>>>],
+        first: usize,
+        grouping: &Heading,
+        scope: &Scope<'_>,
+    ) -> Result<Option<Part<'t>>, Fault> {
+        let part = self.faulty_summary(all, first, scope)?;
+        if part.is_none() {
+            self.check_summary_names(all, first, grouping)?;
+        }
+        Ok(part)
     }
 
     /// WITH
@@ -298,21 +297,28 @@ impl Explainer<'_> {
             let tree = item.value.get();
             let marks = width(tree);
             let (_, value) = self.item_at(at, marks);
-            match self.kind(tree, &Scope::Given(kinds.as_slice(), &*scope))? {
-                Some(kind) => kinds.push(Named {
-                    name: item.name.copy()?,
-                    value: kind.into_inner(),
-                })?,
-                None => return Ok(Step::Behind(kinds, Part { tree, at: value })),
+            match self.give(&mut kinds, item, scope) {
+                Ok(()) => at = sum(&[at, marks, 2]),
+                Err(TypeError::IllTyped) => {
+                    return Ok(Step::Behind(kinds, Part { tree, at: value }));
+                }
+                Err(TypeError::OutOfMemory) => return Err(Fault::OutOfMemory),
             }
-            at = sum(&[at, marks, 2]);
         }
         Ok(Step::Behind(kinds, Part { tree: body, at }))
     }
-}
 
-// The first items, so many.
-fn front(all: &[Named<Boxed<Expr>>], count: usize) -> &[Named<Boxed<Expr>>] {
-    let (before, _) = all.split_at(count.min(all.len()));
-    before
+    // Adds the kind that an item of WITH has behind those before it.
+    fn give(
+        &self,
+        kinds: &mut Items<Named<TypeKind>>,
+        item: &Named<Boxed<Expr>>,
+        scope: &Scope<'_>,
+    ) -> Result<(), TypeError> {
+        let scope = Scope::Given(kinds.as_slice(), &*scope);
+        let kind = self.kind(item.value.get(), &scope)?;
+        let name = item.name.copy()?;
+        let value = kind.into_inner();
+        Ok(kinds.push(Named { name, value })?)
+    }
 }

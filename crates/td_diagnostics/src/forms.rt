@@ -5,16 +5,15 @@ use crate::expression::called;
 use crate::headings::no_attribute;
 use crate::nearest::repeated;
 use crate::operators::aggregate_words;
-use crate::parts::{Explainer, Part, Step, into_part};
-use crate::shown::shown;
+use crate::parts::{Explainer, Step, into_part_within};
+use crate::sentence::Sentence;
 use crate::widths::{attributes_width, sum, width};
-use std::alloc::AllocError;
+use std::alloc::{AllocError, Global};
 use td_kinds::Scope;
 use td_kinds::forms::kind_heading;
 use td_kinds::kinds::{relation_heading, tuple_heading};
 use td_kinds::operators::suits;
 use td_syntax::tree::{Aggregate, Attributes, Expr, Nesting, Renaming};
-use td_tuples::is_in;
 use td_values::{Heading, Name, TypeKind};
 
 impl Explainer<'_> {
@@ -29,28 +28,21 @@ impl Explainer<'_> {
         if heading.type_of(name).is_some() {
             return Ok(());
         }
-        self.fault(at, no_attribute(self.alloc, called, heading, name)?)
+        self.fault(at, no_attribute(self.alloc, called, heading, name))
     }
 
-    /// That no name is given twice. The place of a name among the names is that of its mark, from the first on.
-    pub fn check_distinct(&self, names: &[Name], at: usize) -> Result<(), Fault> {
+    // That no name is given twice. The first one stands at a mark, and so many apart each further one.
+    fn check_distinct(&self, names: &[Name], first: usize, apart: usize) -> Result<(), Fault> {
         match repeated(self.alloc, names)? {
-            Some(place) => self.twice(names, place, sum(&[at, place])),
+            Some((place, name)) => self.twice(name, sum(&[first, place.saturating_mul(apart)])),
             None => Ok(()),
         }
     }
 
-    /// That the name at this place is given twice.
-    pub fn twice(&self, names: &[Name], place: usize, at: usize) -> Result<(), Fault> {
-        match names.get(place) {
-            Some(name) => {
-                self.fault(
-                    at,
-                    format!(in self.alloc; "{} is given twice", name.as_str())?,
-                )
-            }
-            None => Ok(()),
-        }
+    /// That a name is given twice.
+    pub fn twice<T>(&self, name: &Name, at: usize) -> Result<T, Fault> {
+        let sentence = Sentence::of(self.alloc, name.as_str()).say(" is given twice");
+        self.fault(at, sentence)
     }
 
     /// That an attribute list, which begins at a mark, names attributes that are there, each once.
@@ -68,52 +60,46 @@ impl Explainer<'_> {
         for (place, name) in names.iter().enumerate() {
             self.check_attribute(name, sum(&[first, place]), called, heading)?;
         }
-        self.check_distinct(names, first)
+        self.check_distinct(names, first, 1)
     }
 
     /// The part of a relation or of a tuple.
-    pub fn projection<'t>(
+    pub fn projection<T>(
         &self,
-        a: &'t Expr,
+        a: &Expr,
         attributes: &Attributes,
+        kind: &TypeKind,
         at: usize,
-        scope: &Scope<'_>,
-    ) -> Result<Step<'t>, Fault> {
-        let Some(kind) = self.kind(a, scope)? else {
-            return Ok(into_part(a, at));
-        };
-        let Some(heading) = kind_heading(kind.get()) else {
-            let kind = shown(self.alloc, kind.get())?;
-            let message = format!(in self.alloc;
-                "only a relation or a tuple has attributes, and this is {kind}; brackets may be missing"
-            )?;
-            return self.fault(at, message);
+    ) -> Result<T, Fault> {
+        let Some(heading) = kind_heading(kind) else {
+            let words = "only a relation or a tuple has attributes, and this is ";
+            let sentence = Sentence::of(self.alloc, words)
+                .kind(kind)
+                .say("; brackets may be missing");
+            return self.fault(at, sentence);
         };
         let list = sum(&[at, width(a)]);
-        self.check_attributes(attributes, list, called_as(a, kind.get()), heading)?;
-        Err(Fault::Found(self.no_type(list)?))
+        self.check_attributes(attributes, list, called_as(a, kind), heading)?;
+        Err(self.no_type(list))
     }
 
     pub fn restriction<'t>(
         &self,
-        a: &'t Expr,
+        a: &Expr,
         condition: &'t Expr,
+        kind: &TypeKind,
         at: usize,
         scope: &Scope<'_>,
     ) -> Result<Step<'t>, Fault> {
-        let Some(kind) = self.kind(a, scope)? else {
-            return Ok(into_part(a, at));
+        let Some(heading) = relation_heading(kind) else {
+            return self.takes(at, "WHERE", "a relation", kind);
         };
-        let Some(heading) = relation_heading(kind.get()) else {
-            return self.takes(at, "WHERE", "a relation", kind.get());
-        };
-        let tree = condition;
         let at = sum(&[at, width(a), 1]);
-        let Some(truth) = self.kind(tree, &Scope::Within(heading, &*scope))? else {
-            return Ok(Step::Within(heading.copy()?, Part { tree, at }));
-        };
-        self.check_condition(at, "WHERE", truth.get())?;
-        Err(Fault::Found(self.no_type(at)?))
+        match self.kind(condition, &Scope::Within(heading, &*scope)) {
+            Ok(truth) => self.check_condition(at, "WHERE", truth.get())?,
+            Err(error) => return into_part_within(error, heading, condition, at),
+        }
+        Err(self.no_type(at))
     }
 
     // That the new names are distinct from one another and from the attributes that stay.
@@ -124,78 +110,64 @@ impl Explainer<'_> {
         called: &str,
         heading: &Heading,
     ) -> Result<(), Fault> {
-        let (mut old, mut new) = (Vec::new(self.alloc), Vec::new(self.alloc));
-        for renaming in renamings {
-            old.push(renaming.from.copy()?).map_err(AllocError::from)?;
-            new.push(renaming.to.copy()?).map_err(AllocError::from)?;
-        }
-        if let Some(place) = repeated(self.alloc, &old)? {
-            return self.twice(&old, place, sum(&[first, place.saturating_mul(3)]));
-        }
-        for (place, name) in new.iter().enumerate() {
-            if heading.type_of(name).is_some() && !is_in(&old, name) {
-                return self.is_there(name, sum(&[first, place.saturating_mul(3), 2]), called);
+        self.check_distinct(&old_names(self.alloc, renamings)?, first, 3)?;
+        let second = sum(&[first, 2]);
+        for (place, renaming) in renamings.iter().enumerate() {
+            let name = &renaming.to;
+            if heading.type_of(name).is_some() && !is_renamed(renamings, name) {
+                return self.is_there(name, sum(&[second, place.saturating_mul(3)]), called);
             }
         }
-        match repeated(self.alloc, &new)? {
-            Some(place) => self.twice(&new, place, sum(&[first, place.saturating_mul(3), 2])),
-            None => Ok(()),
-        }
+        self.check_distinct(&new_names(self.alloc, renamings)?, second, 3)
     }
 
     /// That there is an attribute of the name already.
     pub fn is_there<T>(&self, name: &Name, at: usize, called: &str) -> Result<T, Fault> {
-        let name = name.as_str();
-        self.fault(
-            at,
-            format!(in self.alloc; "{called} has an attribute {name} already")?,
-        )
+        let sentence = Sentence::of(self.alloc, called)
+            .say(" has an attribute ")
+            .say(name.as_str())
+            .say(" already");
+        self.fault(at, sentence)
     }
 
-    pub fn renaming<'t>(
+    pub fn renaming<T>(
         &self,
-        a: &'t Expr,
+        a: &Expr,
         renamings: &[Renaming],
+        kind: &TypeKind,
         at: usize,
-        scope: &Scope<'_>,
-    ) -> Result<Step<'t>, Fault> {
-        let Some(kind) = self.kind(a, scope)? else {
-            return Ok(into_part(a, at));
+    ) -> Result<T, Fault> {
+        let Some(heading) = relation_heading(kind) else {
+            return self.takes(at, "RENAME", "a relation", kind);
         };
-        let Some(heading) = relation_heading(kind.get()) else {
-            return self.takes(at, "RENAME", "a relation", kind.get());
-        };
-        let (first, called) = (sum(&[at, width(a), 1]), called_as(a, kind.get()));
+        let (first, called) = (sum(&[at, width(a), 1]), called_as(a, kind));
         for (place, renaming) in renamings.iter().enumerate() {
             let at = sum(&[first, place.saturating_mul(3)]);
             self.check_attribute(&renaming.from, at, called, heading)?;
         }
         self.check_new_names(renamings, first, called, heading)?;
-        Err(Fault::Found(self.no_type(first)?))
+        Err(self.no_type(first))
     }
 
     /// GROUP and WRAP
-    pub fn nesting<'t>(
+    pub fn nesting<T>(
         &self,
         nesting: Nesting,
-        a: &'t Expr,
+        a: &Expr,
         attributes: &Attributes,
         name: &Name,
+        kind: &TypeKind,
         at: usize,
-        scope: &Scope<'_>,
-    ) -> Result<Step<'t>, Fault> {
-        let Some(kind) = self.kind(a, scope)? else {
-            return Ok(into_part(a, at));
-        };
+    ) -> Result<T, Fault> {
         let word = match nesting {
             Nesting::Group => "GROUP",
             Nesting::Wrap => "WRAP",
         };
-        let Some(heading) = relation_heading(kind.get()) else {
-            return self.takes(at, word, "a relation", kind.get());
+        let Some(heading) = relation_heading(kind) else {
+            return self.takes(at, word, "a relation", kind);
         };
         let list = sum(&[at, width(a), 1]);
-        let called = called_as(a, kind.get());
+        let called = called_as(a, kind);
         self.check_attributes(attributes, list, called, heading)?;
         self.is_there(name, sum(&[list, attributes_width(attributes), 1]), called)
     }
@@ -213,51 +185,63 @@ impl Explainer<'_> {
             Nesting::Group => ("UNGROUP", "a relation", relation_heading(kind)),
             Nesting::Wrap => ("UNWRAP", "a tuple", tuple_heading(kind)),
         };
-        let text = name.as_str();
         let Some(inner) = inner else {
-            let kind = shown(self.alloc, kind)?;
-            let message = format!(in self.alloc;
-                "{word} takes an attribute that is {wanted}; {text} is {kind}"
-            )?;
-            return self.fault(at, message);
+            let sentence = Sentence::of(self.alloc, word)
+                .say(" takes an attribute that is ")
+                .say(wanted)
+                .say("; ")
+                .say(name.as_str())
+                .say(" is ")
+                .kind(kind);
+            return self.fault(at, sentence);
         };
         for field in inner.fields() {
             if field.0 != *name && heading.type_of(&field.0).is_some() {
-                let twice = field.0.as_str();
-                let message = format!(in self.alloc;
-                    "{twice} stands beside {text} and inside it; {word} gives it once"
-                )?;
-                return self.fault(at, message);
+                return self.stands_beside(&field.0, at, word, name);
             }
         }
         Ok(())
     }
 
+    // That there is an attribute inside one, and another of its name beside it.
+    fn stands_beside<T>(
+        &self,
+        inner: &Name,
+        at: usize,
+        word: &str,
+        name: &Name,
+    ) -> Result<T, Fault> {
+        let sentence = Sentence::of(self.alloc, inner.as_str())
+            .say(" stands beside ")
+            .say(name.as_str())
+            .say(" and inside it; ")
+            .say(word)
+            .say(" gives it once");
+        self.fault(at, sentence)
+    }
+
     /// UNGROUP and UNWRAP
-    pub fn unnesting<'t>(
+    pub fn unnesting<T>(
         &self,
         nesting: Nesting,
-        a: &'t Expr,
+        a: &Expr,
         name: &Name,
+        kind: &TypeKind,
         at: usize,
-        scope: &Scope<'_>,
-    ) -> Result<Step<'t>, Fault> {
-        let Some(kind) = self.kind(a, scope)? else {
-            return Ok(into_part(a, at));
-        };
+    ) -> Result<T, Fault> {
         let word = match nesting {
             Nesting::Group => "UNGROUP",
             Nesting::Wrap => "UNWRAP",
         };
-        let Some(heading) = relation_heading(kind.get()) else {
-            return self.takes(at, word, "a relation", kind.get());
+        let Some(heading) = relation_heading(kind) else {
+            return self.takes(at, word, "a relation", kind);
         };
         let at = sum(&[at, width(a), 1]);
-        self.check_attribute(name, at, called_as(a, kind.get()), heading)?;
+        self.check_attribute(name, at, called_as(a, kind), heading)?;
         if let Some(ty) = heading.type_of(name) {
             self.check_inner(nesting, name, &ty.kind, at, heading)?;
         }
-        Err(Fault::Found(self.no_type(at)?))
+        Err(self.no_type(at))
     }
 
     // An aggregate over terms of another type.
@@ -267,35 +251,28 @@ impl Explainer<'_> {
     }
 
     /// An aggregate over a relation of one attribute.
-    pub fn lone_aggregate<'t>(
+    pub fn lone_aggregate<T>(
         &self,
         aggregate: Aggregate,
-        a: &'t Expr,
+        kind: &TypeKind,
         at: usize,
-        scope: &Scope<'_>,
-    ) -> Result<Step<'t>, Fault> {
-        let at = sum(&[at, 1]);
-        let Some(kind) = self.kind(a, scope)? else {
-            return Ok(into_part(a, at));
-        };
+    ) -> Result<T, Fault> {
         let (word, wanted) = aggregate_words(aggregate);
-        let Some(heading) = relation_heading(kind.get()) else {
-            return self.takes(at, word, "a relation", kind.get());
+        let Some(heading) = relation_heading(kind) else {
+            return self.takes(at, word, "a relation", kind);
         };
         match heading.fields() {
             [field] => {
-                let (name, kind) = (field.0.as_str(), shown(self.alloc, &field.1.kind)?);
-                self.fault(
-                    at,
-                    format!(in self.alloc; "{word} takes {wanted}; {name} is {kind}")?,
-                )
+                let sentence = Sentence::of(self.alloc, word)
+                    .say(" takes ")
+                    .say(wanted)
+                    .say("; ")
+                    .say(field.0.as_str())
+                    .say(" is ")
+                    .kind(&field.1.kind);
+                self.fault(at, sentence)
             }
-            _ => self.takes(
-                at,
-                word,
-                "a relation of one attribute, or a term too",
-                kind.get(),
-            ),
+            _ => self.takes(at, word, "a relation of one attribute, or a term too", kind),
         }
     }
 
@@ -303,22 +280,19 @@ impl Explainer<'_> {
     pub fn aggregation<'t>(
         &self,
         aggregate: Aggregate,
-        a: &'t Expr,
+        a: &Expr,
         term: &'t Expr,
+        kind: &TypeKind,
         at: usize,
         scope: &Scope<'_>,
     ) -> Result<Step<'t>, Fault> {
-        let at = sum(&[at, 1]);
-        let Some(kind) = self.kind(a, scope)? else {
-            return Ok(into_part(a, at));
+        let Some(heading) = relation_heading(kind) else {
+            return self.takes(at, aggregate_words(aggregate).0, "a relation", kind);
         };
-        let Some(heading) = relation_heading(kind.get()) else {
-            return self.takes(at, aggregate_words(aggregate).0, "a relation", kind.get());
-        };
-        let (tree, at) = (term, sum(&[at, width(a)]));
-        match self.kind(tree, &Scope::Within(heading, &*scope))? {
-            Some(kind) => self.unsuited(aggregate, at, kind.get()),
-            None => Ok(Step::Within(heading.copy()?, Part { tree, at })),
+        let at = sum(&[at, width(a)]);
+        match self.kind(term, &Scope::Within(heading, &*scope)) {
+            Ok(kind) => self.unsuited(aggregate, at, kind.get()),
+            Err(error) => into_part_within(error, heading, term, at),
         }
     }
 
@@ -334,6 +308,31 @@ impl Explainer<'_> {
         }
         self.unsuited(aggregate, at, kind)
     }
+}
+
+fn is_renamed(renamings: &[Renaming], name: &Name) -> bool {
+    for renaming in renamings {
+        if renaming.from == *name {
+            return true;
+        }
+    }
+    false
+}
+
+fn old_names(alloc: Global, renamings: &[Renaming]) -> Result<Vec<Name>, AllocError> {
+    let mut names = Vec::with_capacity(alloc, renamings.len())?;
+    for renaming in renamings {
+        names.push(renaming.from.copy()?)?;
+    }
+    Ok(names)
+}
+
+fn new_names(alloc: Global, renamings: &[Renaming]) -> Result<Vec<Name>, AllocError> {
+    let mut names = Vec::with_capacity(alloc, renamings.len())?;
+    for renaming in renamings {
+        names.push(renaming.to.copy()?)?;
+    }
+    Ok(names)
 }
 
 /// What an operand with attributes is called.

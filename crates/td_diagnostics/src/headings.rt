@@ -1,28 +1,45 @@
 //! Sentences about attributes: those that are not there, and how two headings differ.
 
 use crate::nearest::Nearest;
-use crate::shown::{is_shown_whole, listed, shown, verb};
-use std::alloc::{AllocError, Global};
+use crate::sentence::{Sentence, is_shown_whole};
+use std::alloc::Global;
 use td_kinds::kinds::same_kind;
 use td_values::{Heading, Name, TdType};
 
-// The names of the first heading that the second lacks.
-fn lone(alloc: Global, first: &Heading, second: &Heading) -> Result<Vec<Name>, AllocError> {
-    let mut names = Vec::new(alloc);
+// How many attributes of the first heading the second lacks.
+fn lone_count(first: &Heading, second: &Heading) -> usize {
+    let mut count: usize = 0;
     for field in first.fields() {
         if second.type_of(&field.0).is_none() {
-            names.push(field.0.copy()?)?;
+            count = count.saturating_add(1);
         }
     }
-    Ok(names)
+    count
 }
 
-fn names_of(alloc: Global, heading: &Heading) -> Result<Vec<Name>, AllocError> {
-    let mut names = Vec::new(alloc);
-    for field in heading.fields() {
-        names.push(field.0.copy()?)?;
+impl Sentence {
+    // With a list of the attributes of the first heading that the second lacks.
+    fn lone(self, first: &Heading, second: &Heading) -> Sentence {
+        let mut sentence = self;
+        let mut count: usize = 0;
+        for field in first.fields() {
+            if second.type_of(&field.0).is_none() {
+                sentence = sentence.listed(count, &field.0);
+                count = count.saturating_add(1);
+            }
+        }
+        sentence
     }
-    Ok(names)
+
+    // With those attributes of the operand on a side that the other operand lacks.
+    fn alone(self, side: &str, own: &Heading, other: &Heading) -> Sentence {
+        let verb = if lone_count(own, other) == 1 {
+            " is on the "
+        } else {
+            " are on the "
+        };
+        self.lone(own, other).say(verb).say(side).say(" alone")
+    }
 }
 
 // The first attribute that both headings have, with two types.
@@ -40,106 +57,106 @@ fn differing<'a>(
     None
 }
 
-fn nearest_attribute(
-    alloc: Global,
-    heading: &Heading,
-    name: &Name,
-) -> Result<Option<Name>, AllocError> {
-    let mut nearest = Nearest::new(alloc, name)?;
-    nearest.look_at_attributes(heading)?;
-    Ok(nearest.found())
+// The attribute that is nearest to a name, of more than are listed.
+fn near_of_many<'a>(alloc: Global, heading: &'a Heading, name: &'a Name) -> Option<&'a Name> {
+    if is_shown_whole(heading.len()) {
+        return None;
+    }
+    let mut nearest = Nearest::new(alloc, name);
+    nearest.look_at_attributes(heading);
+    nearest.found()
 }
 
-// What the heading has, or the name in it that is nearest where it has many.
-fn has_words(alloc: Global, heading: &Heading, name: &Name) -> Result<String, AllocError> {
+/// That what is called so has no attribute of the name; what it has, or the nearest name where it has many.
+pub fn no_attribute(alloc: Global, subject: &str, heading: &Heading, name: &Name) -> Sentence {
+    let sentence = Sentence::of(alloc, subject)
+        .say(" has no attribute ")
+        .say(name.as_str())
+        .say("; it has ");
     if heading.is_empty() {
-        return String::from_str(alloc, "it has none");
+        return sentence.say("none");
     }
-    if !is_shown_whole(heading.len()) {
-        if let Some(near) = nearest_attribute(alloc, heading, name)? {
-            return format!(in alloc; "it has {}", near.as_str());
-        }
+    match near_of_many(alloc, heading, name) {
+        Some(near) => sentence.say(near.as_str()),
+        None => sentence.attributes(heading),
     }
-    let names = names_of(alloc, heading)?;
-    format!(in alloc; "it has {}", listed(alloc, &names)?)
-}
-
-/// That what is called so has no attribute of the name.
-pub fn no_attribute(
-    alloc: Global,
-    subject: &str,
-    heading: &Heading,
-    name: &Name,
-) -> Result<String, AllocError> {
-    let has = has_words(alloc, heading, name)?;
-    format!(in alloc; "{subject} has no attribute {}; {has}", name.as_str())
 }
 
 /// How the heading of what stands here differs from that of what is called so; nothing where it does not.
-pub fn unlike(
-    alloc: Global,
-    here: &Heading,
-    there: &Heading,
-    called: &str,
-) -> Result<Option<String>, AllocError> {
-    let (more, less) = (lone(alloc, here, there)?, lone(alloc, there, here)?);
-    let (extra, lacking) = (listed(alloc, &more)?, listed(alloc, &less)?);
-    if more.is_empty() && less.is_empty() {
-        return differing_words(alloc, here, there, "here", "in ", called);
+pub fn unlike(alloc: Global, here: &Heading, there: &Heading, called: &str) -> Option<Sentence> {
+    if lone_count(there, here) == 0 {
+        return beyond(alloc, here, there, called);
     }
-    if more.is_empty() {
-        return Ok(Some(format!(in alloc; "this lacks {lacking}, which {called} has")?));
+    let sentence = Sentence::of(alloc, "this lacks ").lone(there, here);
+    if lone_count(here, there) == 0 {
+        return Some(sentence.say(", which ").say(called).say(" has"));
     }
-    if less.is_empty() {
-        return Ok(Some(format!(in alloc; "this has {extra}, which {called} lacks")?));
-    }
-    Ok(Some(format!(in alloc; "this lacks {lacking} and has {extra}, unlike {called}")?))
+    Some(
+        sentence
+            .say(" and has ")
+            .lone(here, there)
+            .say(", unlike ")
+            .say(called),
+    )
 }
 
-// Which attribute has two types.
+/// What the heading of what stands here has that the one of what is called so lacks, or has with another type.
+pub fn beyond(alloc: Global, here: &Heading, there: &Heading, called: &str) -> Option<Sentence> {
+    if lone_count(here, there) == 0 {
+        return differing_words(alloc, here, there, " here and ", " in ", called);
+    }
+    Some(
+        Sentence::of(alloc, "this has ")
+            .lone(here, there)
+            .say(", which ")
+            .say(called)
+            .say(" lacks"),
+    )
+}
+
+// Which attribute has two types. What is said of the first one, and of the second, stands behind them.
 fn differing_words(
     alloc: Global,
     first: &Heading,
     second: &Heading,
     at_first: &str,
-    within: &str,
     at_second: &str,
-) -> Result<Option<String>, AllocError> {
-    let Some((name, ty, other)) = differing(first, second) else {
-        return Ok(None);
-    };
-    let (name, ty, other) = (
-        name.as_str(),
-        shown(alloc, &ty.kind)?,
-        shown(alloc, &other.kind)?,
-    );
-    Ok(Some(format!(in alloc; "{name} is {ty} {at_first} and {other} {within}{at_second}")?))
+    called: &str,
+) -> Option<Sentence> {
+    let (name, ty, other) = differing(first, second)?;
+    Some(
+        Sentence::of(alloc, name.as_str())
+            .say(" is ")
+            .kind(&ty.kind)
+            .say(at_first)
+            .kind(&other.kind)
+            .say(at_second)
+            .say(called),
+    )
 }
 
 /// Which common attribute of two operands has two types, if one has.
-pub fn two_types(
-    alloc: Global,
-    left: &Heading,
-    right: &Heading,
-) -> Result<Option<String>, AllocError> {
-    differing_words(alloc, left, right, "on the left", "", "on the right")
+pub fn two_types(alloc: Global, left: &Heading, right: &Heading) -> Option<Sentence> {
+    differing_words(alloc, left, right, " on the left and ", " on the right", "")
 }
 
 /// How the headings of two operands differ; nothing where they do not.
-pub fn sides(alloc: Global, left: &Heading, right: &Heading) -> Result<Option<String>, AllocError> {
-    let (first, second) = (lone(alloc, left, right)?, lone(alloc, right, left)?);
-    let (on_left, on_right) = (listed(alloc, &first)?, listed(alloc, &second)?);
-    let (is_left, is_right) = (verb(&first), verb(&second));
-    if first.is_empty() && second.is_empty() {
+pub fn sides(alloc: Global, left: &Heading, right: &Heading) -> Option<Sentence> {
+    let (on_left, on_right) = (lone_count(left, right), lone_count(right, left));
+    if on_left == 0 && on_right == 0 {
         return two_types(alloc, left, right);
     }
-    if second.is_empty() {
-        return Ok(Some(format!(in alloc; "{on_left} {is_left} on the left alone")?));
+    let sentence = Sentence::new(alloc);
+    if on_right == 0 {
+        return Some(sentence.alone("left", left, right));
     }
-    if first.is_empty() {
-        return Ok(Some(format!(in alloc; "{on_right} {is_right} on the right alone")?));
+    if on_left == 0 {
+        return Some(sentence.alone("right", right, left));
     }
-    Ok(Some(format!(in alloc;
-        "{on_left} {is_left} on the left alone, {on_right} {is_right} on the right alone"
-    )?))
+    Some(
+        sentence
+            .alone("left", left, right)
+            .say(", ")
+            .alone("right", right, left),
+    )
 }

@@ -16,7 +16,7 @@ mod nearest;
 mod operators;
 mod parts;
 mod selectors;
-mod shown;
+mod sentence;
 mod statement;
 mod types;
 mod widths;

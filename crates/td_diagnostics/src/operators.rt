@@ -1,8 +1,8 @@
 //! Sentences about the operands of operators.
 
 use crate::headings::{sides, two_types};
-use crate::shown::shown;
-use std::alloc::{AllocError, Global};
+use crate::sentence::Sentence;
+use std::alloc::Global;
 use td_syntax::tree::{Aggregate, BinaryOperator, UnaryOperator};
 use td_values::TypeKind;
 
@@ -64,29 +64,35 @@ fn operands(
     wanted: &str,
     left: &TypeKind,
     right: &TypeKind,
-) -> Result<String, AllocError> {
-    let (left, right) = (shown(alloc, left)?, shown(alloc, right)?);
-    format!(in alloc; "{word} takes {wanted}; here are {left} and {right}")
+) -> Sentence {
+    Sentence::of(alloc, word)
+        .say(" takes ")
+        .say(wanted)
+        .say("; here are ")
+        .kind(left)
+        .say(" and ")
+        .kind(right)
+}
+
+// How the headings of two tuples or of two relations differ.
+fn difference(alloc: Global, left: &TypeKind, right: &TypeKind) -> Option<Sentence> {
+    match (left, right) {
+        (TypeKind::Relation(g), TypeKind::Relation(h)) => sides(alloc, g, h),
+        (TypeKind::Tuple(g), TypeKind::Tuple(h)) => sides(alloc, g, h),
+        _ => None,
+    }
 }
 
 // Two types where one is wanted.
-fn compared(
-    alloc: Global,
-    word: &str,
-    left: &TypeKind,
-    right: &TypeKind,
-) -> Result<String, AllocError> {
-    let difference = match (left, right) {
-        (TypeKind::Relation(g), TypeKind::Relation(h)) => sides(alloc, g, h)?,
-        (TypeKind::Tuple(g), TypeKind::Tuple(h)) => sides(alloc, g, h)?,
-        _ => None,
-    };
-    match difference {
-        Some(words) => format!(in alloc; "{word} compares values of one type; {words}"),
-        None => {
-            let (left, right) = (shown(alloc, left)?, shown(alloc, right)?);
-            format!(in alloc; "{word} compares {left} with {right}; both must be of one type")
-        }
+fn compared(alloc: Global, word: &str, left: &TypeKind, right: &TypeKind) -> Sentence {
+    let sentence = Sentence::of(alloc, word).say(" compares ");
+    match difference(alloc, left, right) {
+        Some(words) => sentence.say("values of one type; ").then(words),
+        None => sentence
+            .kind(left)
+            .say(" with ")
+            .kind(right)
+            .say("; both must be of one type"),
     }
 }
 
@@ -98,12 +104,7 @@ fn is_ordered(kind: &TypeKind) -> bool {
     )
 }
 
-fn ordered(
-    alloc: Global,
-    word: &str,
-    left: &TypeKind,
-    right: &TypeKind,
-) -> Result<String, AllocError> {
+fn ordered(alloc: Global, word: &str, left: &TypeKind, right: &TypeKind) -> Sentence {
     let unordered = if !is_ordered(left) {
         left
     } else if !is_ordered(right) {
@@ -111,60 +112,50 @@ fn ordered(
     } else {
         return compared(alloc, word, left, right);
     };
-    let kind = shown(alloc, unordered)?;
-    format!(in alloc; "{word} compares {kind}; only INTEGER, CHAR and relations are ordered")
+    Sentence::of(alloc, word)
+        .say(" compares ")
+        .kind(unordered)
+        .say("; only INTEGER, CHAR and relations are ordered")
 }
 
-fn member(alloc: Global, left: &TypeKind, right: &TypeKind) -> Result<String, AllocError> {
+fn member(alloc: Global, left: &TypeKind, right: &TypeKind) -> Sentence {
     if let (TypeKind::Tuple(g), TypeKind::Relation(h)) = (left, right) {
-        if let Some(words) = sides(alloc, g, h)? {
-            return format!(in alloc; "IN takes a tuple of the relation's heading; {words}");
+        if let Some(words) = sides(alloc, g, h) {
+            return Sentence::of(alloc, "IN takes a tuple of the relation's heading; ").then(words);
         }
     }
     operands(alloc, "IN", "a tuple and a relation", left, right)
 }
 
 // Two operands that are not both relations. Where the left one alone is none, a condition may have swallowed it.
-fn relations(
-    alloc: Global,
-    word: &str,
-    left: &TypeKind,
-    right: &TypeKind,
-) -> Result<String, AllocError> {
+fn relations(alloc: Global, word: &str, left: &TypeKind, right: &TypeKind) -> Sentence {
     let hint = match (left, right) {
         (TypeKind::Relation(_), _) => "",
         (_, TypeKind::Relation(_)) => "; brackets before it may be missing",
         _ => "",
     };
-    let (left, right) = (shown(alloc, left)?, shown(alloc, right)?);
-    format!(in alloc; "{word} takes two relations; here are {left} and {right}{hint}")
+    operands(alloc, word, "two relations", left, right).say(hint)
 }
 
 // Two relations, whose common attributes have one type.
-fn joined(
-    alloc: Global,
-    word: &str,
-    left: &TypeKind,
-    right: &TypeKind,
-) -> Result<String, AllocError> {
+fn joined(alloc: Global, word: &str, left: &TypeKind, right: &TypeKind) -> Sentence {
     if let (TypeKind::Relation(g), TypeKind::Relation(h)) = (left, right) {
-        if let Some(words) = two_types(alloc, g, h)? {
-            return format!(in alloc; "{word} takes common attributes of one type; {words}");
+        if let Some(words) = two_types(alloc, g, h) {
+            return Sentence::of(alloc, word)
+                .say(" takes common attributes of one type; ")
+                .then(words);
         }
     }
     relations(alloc, word, left, right)
 }
 
 // Two relations of one heading.
-fn united(
-    alloc: Global,
-    word: &str,
-    left: &TypeKind,
-    right: &TypeKind,
-) -> Result<String, AllocError> {
+fn united(alloc: Global, word: &str, left: &TypeKind, right: &TypeKind) -> Sentence {
     if let (TypeKind::Relation(g), TypeKind::Relation(h)) = (left, right) {
-        if let Some(words) = sides(alloc, g, h)? {
-            return format!(in alloc; "{word} takes relations of one heading; {words}");
+        if let Some(words) = sides(alloc, g, h) {
+            return Sentence::of(alloc, word)
+                .say(" takes relations of one heading; ")
+                .then(words);
         }
     }
     relations(alloc, word, left, right)
@@ -177,7 +168,7 @@ pub fn binary_words(
     word: &str,
     left: &TypeKind,
     right: &TypeKind,
-) -> Result<String, AllocError> {
+) -> Sentence {
     match operator {
         BinaryOperator::Or | BinaryOperator::Xor | BinaryOperator::And => {
             operands(alloc, word, "BOOLEAN on both sides", left, right)
@@ -204,11 +195,10 @@ pub fn binary_words(
 }
 
 /// What is wrong with the branches of IF.
-pub fn branch_words(
-    alloc: Global,
-    left: &TypeKind,
-    right: &TypeKind,
-) -> Result<String, AllocError> {
-    let (left, right) = (shown(alloc, left)?, shown(alloc, right)?);
-    format!(in alloc; "the branches of IF are {left} and {right}; they must be of one type")
+pub fn branch_words(alloc: Global, left: &TypeKind, right: &TypeKind) -> Sentence {
+    Sentence::of(alloc, "the branches of IF are ")
+        .kind(left)
+        .say(" and ")
+        .kind(right)
+        .say("; they must be of one type")
 }

@@ -1,8 +1,8 @@
 //! How a fault is found: from an expression without a type to its innermost part that has none.
 
-use crate::diagnostic::{Diagnostic, Fault};
+use crate::diagnostic::Fault;
 use crate::marks::{Mark, marks_of};
-use crate::shown::shown;
+use crate::sentence::Sentence;
 use crate::widths::sum;
 use sqlite_items::{Boxed, Items};
 use std::alloc::{AllocError, Global};
@@ -38,9 +38,32 @@ pub struct Explainer<'c> {
     marks: Vec<Mark>,
 }
 
-/// The step to a part in the same scope.
-pub fn into_part<'t>(tree: &'t Expr, at: usize) -> Step<'t> {
-    Step::Part(Part { tree, at })
+/// A part that has no kind, where that is not for want of memory.
+pub fn untyped<'t>(error: TypeError, part: Part<'t>) -> Result<Part<'t>, Fault> {
+    match error {
+        TypeError::IllTyped => Ok(part),
+        TypeError::OutOfMemory => Err(Fault::OutOfMemory),
+    }
+}
+
+/// The step to a part in the same scope that has no kind.
+pub fn into_part<'t>(error: TypeError, tree: &'t Expr, at: usize) -> Result<Step<'t>, Fault> {
+    Ok(Step::Part(untyped(error, Part { tree, at })?))
+}
+
+/// The step to a part within a tuple of the heading that has no kind.
+pub fn into_part_within<'t>(
+    error: TypeError,
+    heading: &Heading,
+    tree: &'t Expr,
+    at: usize,
+) -> Result<Step<'t>, Fault> {
+    step_within(heading, untyped(error, Part { tree, at })?)
+}
+
+/// The step to a part within a tuple of the heading.
+pub fn step_within<'t>(heading: &Heading, part: Part<'t>) -> Result<Step<'t>, Fault> {
+    Ok(Step::Within(heading.copy()?, part))
 }
 
 impl<'c> Explainer<'c> {
@@ -72,21 +95,16 @@ impl<'c> Explainer<'c> {
     fn place(&self, at: usize) -> usize {
         match self.marks.get(at) {
             Some(mark) => mark.place,
-            None => self.marks.last().map_or(0, |mark| mark.place),
+            None => match self.marks.last() {
+                Some(mark) => mark.place,
+                None => 0,
+            },
         }
     }
 
-    /// The diagnostic with this message at a mark.
-    pub fn diagnostic(&self, at: usize, message: String) -> Diagnostic {
-        Diagnostic {
-            place: self.place(at),
-            message,
-        }
-    }
-
-    /// That a check ends with this message at a mark.
-    pub fn fault<T>(&self, at: usize, message: String) -> Result<T, Fault> {
-        Err(Fault::Found(self.diagnostic(at, message)))
+    /// That a check ends with this sentence at a mark.
+    pub fn fault<T>(&self, at: usize, sentence: Sentence) -> Result<T, Fault> {
+        Err(sentence.told_at(self.place(at)))
     }
 
     /// The name of an item that begins at a mark, and whose value has so many; and its value.
@@ -98,17 +116,10 @@ impl<'c> Explainer<'c> {
         }
     }
 
-    /// The kind of an expression, if it has a type.
-    pub fn kind(
-        &self,
-        tree: &Expr,
-        scope: &Scope<'_>,
-    ) -> Result<Option<Boxed<TypeKind>>, AllocError> {
-        match type_in(self.alloc, self.schema(), scope, tree) {
-            Ok(typing) => Ok(Some(Boxed::new(self.alloc, typing.kind)?)),
-            Err(TypeError::IllTyped) => Ok(None),
-            Err(TypeError::OutOfMemory) => Err(AllocError),
-        }
+    /// The kind of an expression.
+    pub fn kind(&self, tree: &Expr, scope: &Scope<'_>) -> Result<Boxed<TypeKind>, TypeError> {
+        let typing = type_in(self.alloc, self.schema(), scope, tree)?;
+        Ok(Boxed::new(self.alloc, typing.kind)?)
     }
 
     /// The kind of a whole expression, or why it has no type.
@@ -118,9 +129,10 @@ impl<'c> Explainer<'c> {
         at: usize,
         scope: &Scope<'_>,
     ) -> Result<Boxed<TypeKind>, Fault> {
-        match self.kind(tree, scope)? {
-            Some(kind) => Ok(kind),
-            None => Err(Fault::Found(self.explain(LEVELS, tree, at, scope)?)),
+        match self.kind(tree, scope) {
+            Ok(kind) => Ok(kind),
+            Err(TypeError::IllTyped) => Err(self.explain(LEVELS, tree, at, scope)),
+            Err(TypeError::OutOfMemory) => Err(Fault::OutOfMemory),
         }
     }
 
@@ -131,7 +143,7 @@ impl<'c> Explainer<'c> {
         part: &Part<'_>,
         heading: &Heading,
         scope: &Scope<'_>,
-    ) -> Result<Diagnostic, AllocError> {
+    ) -> Fault {
         self.explain(levels, part.tree, part.at, &Scope::Within(heading, &*scope))
     }
 
@@ -142,14 +154,13 @@ impl<'c> Explainer<'c> {
         part: &Part<'_>,
         names: &[Named<TypeKind>],
         scope: &Scope<'_>,
-    ) -> Result<Diagnostic, AllocError> {
+    ) -> Fault {
         self.explain(levels, part.tree, part.at, &Scope::Given(names, &*scope))
     }
 
     /// What is told where no sentence is better.
-    pub fn no_type(&self, at: usize) -> Result<Diagnostic, AllocError> {
-        let message = String::from_str(self.alloc, "this has no type")?;
-        Ok(self.diagnostic(at, message))
+    pub fn no_type(&self, at: usize) -> Fault {
+        Sentence::of(self.alloc, "this has no type").told_at(self.place(at))
     }
 
     /// That what stands at a mark takes something else.
@@ -160,35 +171,26 @@ impl<'c> Explainer<'c> {
         wanted: &str,
         kind: &TypeKind,
     ) -> Result<T, Fault> {
-        let kind = shown(self.alloc, kind)?;
-        self.fault(
-            at,
-            format!(in self.alloc; "{word} takes {wanted}; this is {kind}")?,
-        )
+        let sentence = Sentence::of(self.alloc, word)
+            .say(" takes ")
+            .say(wanted)
+            .say("; this is ")
+            .kind(kind);
+        self.fault(at, sentence)
     }
 
     /// Why an expression of at most so many levels has no type.
     #[cycle(explain)]
-    pub fn explain(
-        &self,
-        levels: usize,
-        tree: &Expr,
-        at: usize,
-        scope: &Scope<'_>,
-    ) -> Result<Diagnostic, AllocError> {
+    pub fn explain(&self, levels: usize, tree: &Expr, at: usize, scope: &Scope<'_>) -> Fault {
         if levels == 0 {
             return self.no_type(at);
         }
-        let step = match self.step(tree, at, scope) {
-            Ok(step) => step,
-            Err(Fault::Found(diagnostic)) => return Ok(diagnostic),
-            Err(Fault::OutOfMemory) => return Err(AllocError),
-        };
         let inner = levels - 1;
-        match step {
-            Step::Part(part) => self.explain(inner, part.tree, part.at, scope),
-            Step::Within(heading, part) => self.within(inner, &part, &heading, scope),
-            Step::Behind(names, part) => self.behind(inner, &part, names.as_slice(), scope),
+        match self.step(tree, at, scope) {
+            Ok(Step::Part(part)) => self.explain(inner, part.tree, part.at, scope),
+            Ok(Step::Within(heading, part)) => self.within(inner, &part, &heading, scope),
+            Ok(Step::Behind(names, part)) => self.behind(inner, &part, names.as_slice(), scope),
+            Err(fault) => fault,
         }
     }
 }

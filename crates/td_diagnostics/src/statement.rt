@@ -4,28 +4,23 @@ use crate::diagnostic::{Diagnostic, Fault};
 use crate::headings::unlike;
 use crate::nearest::Nearest;
 use crate::parts::Explainer;
-use crate::shown::shown;
+use crate::sentence::Sentence;
 use crate::widths::{actions_width, sum, width};
 use sqlite_items::Boxed;
 use std::alloc::{AllocError, Global};
 use td_headings::{Catalogue, Origin};
 use td_kinds::Scope;
 use td_kinds::kinds::{relation_heading, same_kind};
-use td_kinds::lists::names;
 use td_syntax::script::{Action, Statement};
 use td_syntax::tree::{Expr, Named};
-use td_values::{Heading, Name, TdType, TypeKind};
+use td_values::{Heading, Name, TypeKind};
 
 impl<'c> Explainer<'c> {
     fn no_relvar<T>(&self, name: &Name, at: usize) -> Result<T, Fault> {
-        let mut nearest = Nearest::new(self.alloc, name)?;
-        nearest.look_at_relvars(self.schema())?;
-        let name = name.as_str();
-        let message = match nearest.found() {
-            Some(near) => format!(in self.alloc; "{name} is no relvar; {} is", near.as_str())?,
-            None => format!(in self.alloc; "{name} is no relvar")?,
-        };
-        self.fault(at, message)
+        let mut nearest = Nearest::new(self.alloc, name);
+        nearest.look_at_relvars(self.schema());
+        let sentence = Sentence::of(self.alloc, name.as_str()).say(" is no relvar");
+        self.fault(at, sentence.near(nearest.found(), " is"))
     }
 
     // The heading of a target, which is a relvar that is stored.
@@ -34,31 +29,41 @@ impl<'c> Explainer<'c> {
             return self.no_relvar(name, at);
         };
         if let Some(Origin::Virtual(_)) = self.catalogue.origin(place) {
-            let name = name.as_str();
-            let message = format!(in self.alloc;
-                "{name} is a virtual relvar, which no statement changes"
-            )?;
-            return self.fault(at, message);
+            let sentence = Sentence::of(self.alloc, name.as_str()).say(
+                " is a virtual relvar, which no statement changes",
+            );
+            return self.fault(at, sentence);
         }
         Ok(heading)
     }
 
-    // That a source is a relation of the target's heading.
+    // That a source is a relation of the heading of the target, whose name stands at a mark.
     fn check_source(
         &self,
+        target: &Name,
+        name: usize,
         tree: &Expr,
         at: usize,
         word: &str,
-        target: &Name,
+    ) -> Result<(), Fault> {
+        let heading = self.target(target, name)?;
+        let kind = self.kind_of(tree, at, &Scope::Relvars(self.schema()))?;
+        self.check_source_kind(kind.get(), at, word, target.as_str(), heading)
+    }
+
+    fn check_source_kind(
+        &self,
+        kind: &TypeKind,
+        at: usize,
+        word: &str,
+        name: &str,
         heading: &Heading,
     ) -> Result<(), Fault> {
-        let kind = self.kind_of(tree, at, &Scope::Relvars(self.schema()))?;
-        let name = target.as_str();
-        let Some(own) = relation_heading(kind.get()) else {
-            return self.no_relation(at, word, name, kind.get());
+        let Some(own) = relation_heading(kind) else {
+            return self.no_relation(at, word, name, kind);
         };
-        match unlike(self.alloc, own, heading, name)? {
-            Some(message) => self.fault(at, message),
+        match unlike(self.alloc, own, heading, name) {
+            Some(sentence) => self.fault(at, sentence),
             None => Ok(()),
         }
     }
@@ -70,17 +75,29 @@ impl<'c> Explainer<'c> {
         name: &str,
         kind: &TypeKind,
     ) -> Result<T, Fault> {
+        let sentence = Sentence::of(self.alloc, word).say(" takes a relation");
         if let TypeKind::Tuple(_) = kind {
-            let message = format!(in self.alloc;
-                "{word} takes a relation; this is a tuple: write RELATION {{ TUPLE {{ .. }} }}"
-            )?;
-            return self.fault(at, message);
+            let hint = "; this is a tuple: write RELATION { TUPLE { .. } }";
+            return self.fault(at, sentence.say(hint));
         }
-        let kind = shown(self.alloc, kind)?;
-        let message = format!(in self.alloc;
-            "{word} takes a relation of the heading of {name}; this is {kind}"
-        )?;
-        self.fault(at, message)
+        let sentence = sentence
+            .say(" of the heading of ")
+            .say(name)
+            .say("; this is ")
+            .kind(kind);
+        self.fault(at, sentence)
+    }
+
+    // That what is the condition of what is told in words is a truth value.
+    fn check_truth_of(
+        &self,
+        of: &str,
+        condition: &Expr,
+        at: usize,
+        scope: &Scope<'_>,
+    ) -> Result<(), Fault> {
+        let kind = self.kind_of(condition, at, scope)?;
+        self.check_condition(at, of, kind.get())
     }
 
     // That a condition over the target's tuples is a truth value.
@@ -92,26 +109,32 @@ impl<'c> Explainer<'c> {
         heading: &Heading,
     ) -> Result<(), Fault> {
         let scope = Scope::Relvars(self.schema());
-        let kind = self.kind_of(condition, at, &Scope::Within(heading, &scope))?;
-        self.check_condition(at, word, kind.get())
+        self.check_truth_of(word, condition, at, &Scope::Within(heading, &scope))
     }
 
     // That an item of an UPDATE has the type of the attribute that it names.
     fn check_value(
         &self,
-        ty: &TdType,
         kind: &TypeKind,
         at: usize,
         item: &Name,
         target: &Name,
+        heading: &Heading,
     ) -> Result<(), Fault> {
+        let Some(ty) = heading.type_of(item) else {
+            return Ok(());
+        };
         if same_kind(kind, &ty.kind) {
             return Ok(());
         }
-        let (kind, wanted) = (shown(self.alloc, kind)?, shown(self.alloc, &ty.kind)?);
-        let (item, target) = (item.as_str(), target.as_str());
-        let message = format!(in self.alloc; "{item} is {wanted} in {target}; this is {kind}")?;
-        self.fault(at, message)
+        let sentence = Sentence::of(self.alloc, item.as_str())
+            .say(" is ")
+            .kind(&ty.kind)
+            .say(" in ")
+            .say(target.as_str())
+            .say("; this is ")
+            .kind(kind);
+        self.fault(at, sentence)
     }
 
     fn check_items(
@@ -124,48 +147,69 @@ impl<'c> Explainer<'c> {
         let scope = Scope::Relvars(self.schema());
         let mut at = first;
         for item in all {
-            let tree = item.value.get();
-            self.check_attribute(&item.name, at, target.as_str(), heading)?;
-            let value = sum(&[at, 2]);
-            let kind = self.kind_of(tree, value, &Scope::Within(heading, &scope))?;
-            if let Some(ty) = heading.type_of(&item.name) {
-                self.check_value(ty, kind.get(), value, &item.name, target)?;
-            }
-            at = sum(&[value, width(tree)]);
+            self.check_item(item, at, target, heading, &Scope::Within(heading, &scope))?;
+            at = sum(&[at, 2, width(item.value.get())]);
         }
-        let names = names(self.alloc, all)?;
-        self.check_item_names(all, &names, first)
+        self.check_item_names(all, first)
+    }
+
+    fn check_item(
+        &self,
+        item: &Named<Boxed<Expr>>,
+        at: usize,
+        target: &Name,
+        heading: &Heading,
+        scope: &Scope<'_>,
+    ) -> Result<(), Fault> {
+        self.check_attribute(&item.name, at, target.as_str(), heading)?;
+        let value = sum(&[at, 2]);
+        let kind = self.kind_of(item.value.get(), value, scope)?;
+        self.check_value(kind.get(), value, &item.name, target, heading)
+    }
+
+    // DELETE, which begins at a mark.
+    fn check_deletion(
+        &self,
+        target: &Name,
+        condition: &Option<Boxed<Expr>>,
+        at: usize,
+    ) -> Result<(), Fault> {
+        let heading = self.target(target, sum(&[at, 1]))?;
+        match condition {
+            Some(condition) => {
+                self.check_tuples(condition.get(), sum(&[at, 3]), "DELETE", heading)
+            }
+            None => Ok(()),
+        }
+    }
+
+    // UPDATE, which begins at a mark.
+    fn check_update(
+        &self,
+        target: &Name,
+        condition: &Option<Boxed<Expr>>,
+        all: &[Named<Boxed<Expr>>],
+        at: usize,
+    ) -> Result<(), Fault> {
+        let heading = self.target(target, sum(&[at, 1]))?;
+        match condition {
+            Some(condition) => {
+                let at = sum(&[at, 3]);
+                self.check_tuples(condition.get(), at, "UPDATE", heading)?;
+                self.check_items(all, sum(&[at, width(condition.get())]), target, heading)
+            }
+            None => self.check_items(all, sum(&[at, 2]), target, heading),
+        }
     }
 
     fn check_action(&self, action: &Action, at: usize) -> Result<(), Fault> {
-        let (name, behind) = (sum(&[at, 1]), sum(&[at, 2]));
+        let (name, source) = (sum(&[at, 1]), sum(&[at, 2]));
         match action {
-            Action::Assign(target, a) => {
-                let heading = self.target(target, at)?;
-                self.check_source(a.get(), behind, ":=", target, heading)
-            }
-            Action::Insert(target, a) => {
-                let heading = self.target(target, name)?;
-                self.check_source(a.get(), behind, "INSERT", target, heading)
-            }
-            Action::Delete(target, None) => {
-                self.target(target, name)?;
-                Ok(())
-            }
-            Action::Delete(target, Some(condition)) => {
-                let heading = self.target(target, name)?;
-                self.check_tuples(condition.get(), sum(&[at, 3]), "DELETE", heading)
-            }
-            Action::Update(target, None, all) => {
-                let heading = self.target(target, name)?;
-                self.check_items(all.as_slice(), behind, target, heading)
-            }
-            Action::Update(target, Some(condition), all) => {
-                let heading = self.target(target, name)?;
-                let at = sum(&[at, 3]);
-                self.check_tuples(condition.get(), at, "UPDATE", heading)?;
-                let first = sum(&[at, width(condition.get())]);
-                self.check_items(all.as_slice(), first, target, heading)
+            Action::Assign(target, a) => self.check_source(target, at, a.get(), source, ":="),
+            Action::Insert(target, a) => self.check_source(target, name, a.get(), source, "INSERT"),
+            Action::Delete(target, condition) => self.check_deletion(target, condition, at),
+            Action::Update(target, condition, all) => {
+                self.check_update(target, condition, all.as_slice(), at)
             }
         }
     }
@@ -185,8 +229,7 @@ impl<'c> Explainer<'c> {
         actions: &[Action],
         others: &[Action],
     ) -> Result<(), Fault> {
-        let kind = self.kind_of(condition, 1, &Scope::Relvars(self.schema()))?;
-        self.check_condition(1, "IF", kind.get())?;
+        self.check_truth_of("IF", condition, 1, &Scope::Relvars(self.schema()))?;
         let first = sum(&[2, width(condition)]);
         self.check_actions(actions, first)?;
         self.check_actions(others, sum(&[first, actions_width(actions), 1]))
@@ -201,12 +244,11 @@ impl<'c> Explainer<'c> {
         }
     }
 
-    /// What a check that ended found.
+    /// What a check found.
     pub fn told(&self, checked: Result<(), Fault>) -> Result<Diagnostic, AllocError> {
         match checked {
-            Ok(()) => self.no_type(0),
-            Err(Fault::Found(diagnostic)) => Ok(diagnostic),
-            Err(Fault::OutOfMemory) => Err(AllocError),
+            Ok(()) => self.no_type(0).told(),
+            Err(fault) => fault.told(),
         }
     }
 }
@@ -221,8 +263,8 @@ pub fn explain_query(
     let explainer = Explainer::new(alloc, catalogue, text)?;
     let scope = Scope::Relvars(catalogue.schema());
     match explainer.kind_of(tree, 0, &scope) {
-        Ok(_) => explainer.no_type(0),
-        Err(fault) => explainer.told(Err(fault)),
+        Ok(_) => explainer.no_type(0).told(),
+        Err(fault) => fault.told(),
     }
 }
 

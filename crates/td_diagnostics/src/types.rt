@@ -1,43 +1,43 @@
 //! Types as they are written.
 
 use crate::diagnostic::Fault;
-use crate::nearest::{Nearest, repeated};
+use crate::nearest::{Nearest, repeated_part};
 use crate::parts::Explainer;
-use crate::shown::listed;
-use crate::widths::{fields_width, sum, type_width};
-use std::alloc::AllocError;
-use td_kinds::TypeError;
-use td_kinds::lists::names;
+use crate::sentence::Sentence;
+use crate::widths::{fields_width, front, sum, type_width};
 use td_kinds::written::heading_written;
+use td_kinds::{Schema, TypeError};
 use td_syntax::tree::{Named, TypeExpr};
 use td_values::{Heading, Name};
 
-// The types that there are.
-fn type_words(explainer: &Explainer<'_>) -> Result<String, AllocError> {
-    let schema = explainer.schema();
-    let mut names = Vec::new(explainer.alloc);
-    for place in 0..schema.type_count() {
-        if let Some(representation) = schema.representation_at(place) {
-            names.push(representation.possrep.ty().copy()?)?;
+impl Sentence {
+    // With a list of the types that there are.
+    fn types(self, schema: &Schema) -> Sentence {
+        let count = schema.type_count();
+        let mut sentence = self
+            .say("the types are BOOLEAN, CHAR, INTEGER")
+            .say(if count == 0 { "" } else { ", " });
+        for place in 0..count {
+            if let Some(representation) = schema.representation_at(place) {
+                sentence = sentence.listed(place, representation.possrep.ty());
+            }
         }
+        sentence
     }
-    let before = if names.is_empty() { "" } else { ", " };
-    let others = listed(explainer.alloc, &names)?;
-    format!(in explainer.alloc; "the types are BOOLEAN, CHAR, INTEGER{before}{others}")
 }
 
 fn check_name(explainer: &Explainer<'_>, name: &Name, at: usize) -> Result<(), Fault> {
     if explainer.schema().type_named(name).is_some() {
         return Ok(());
     }
-    let mut nearest = Nearest::new(explainer.alloc, name)?;
-    nearest.look_at_types(explainer.schema())?;
-    let name = name.as_str();
-    let message = match nearest.found() {
-        Some(near) => { format!(in explainer.alloc; "{name} is no type; {} is", near.as_str())? }
-        None => format!(in explainer.alloc; "{name} is no type; {}", type_words(explainer)?)?,
+    let mut nearest = Nearest::new(explainer.alloc, name);
+    nearest.look_at_types(explainer.schema());
+    let sentence = Sentence::of(explainer.alloc, name.as_str()).say(" is no type; ");
+    let sentence = match nearest.found() {
+        Some(near) => sentence.say(near.as_str()).say(" is"),
+        None => sentence.types(explainer.schema()),
     };
-    explainer.fault(at, message)
+    explainer.fault(at, sentence)
 }
 
 // That a type is one.
@@ -72,11 +72,9 @@ fn check_names(
     explainer: &Explainer<'_>,
     first: usize,
 ) -> Result<(), Fault> {
-    let names = names(explainer.alloc, fields)?;
-    match repeated(explainer.alloc, &names)? {
-        Some(place) => {
-            let (before, _) = fields.split_at(place.min(fields.len()));
-            explainer.twice(&names, place, sum(&[first, fields_width(before)]))
+    match repeated_part(explainer.alloc, fields)? {
+        Some((place, name)) => {
+            explainer.twice(name, sum(&[first, fields_width(front(fields, place))]))
         }
         None => Ok(()),
     }
@@ -91,7 +89,7 @@ pub fn heading_of(
     check_fields(fields, explainer, first)?;
     match heading_written(explainer.alloc, explainer.schema(), fields) {
         Ok(heading) => Ok(heading),
-        Err(TypeError::IllTyped) => Err(Fault::Found(explainer.no_type(first)?)),
+        Err(TypeError::IllTyped) => Err(explainer.no_type(first)),
         Err(TypeError::OutOfMemory) => Err(Fault::OutOfMemory),
     }
 }

@@ -13,6 +13,12 @@ pub fn sum(numbers: &[usize]) -> usize {
     all
 }
 
+/// The first items, so many.
+pub fn front<T>(all: &[T], count: usize) -> &[T] {
+    let (before, _) = all.split_at(count.min(all.len()));
+    before
+}
+
 /// Of an attribute list.
 pub fn attributes_width(attributes: &Attributes) -> usize {
     match attributes {
