@@ -1,13 +1,14 @@
 //! Ascending lists of tuples: where a tuple stands, and edits there.
-ghost use Rattle.std.specs.Prelude.{◌≡◌, ◌+◌, ◌<◌, ◌≤◌, IfOk, IfErr, vec_len, vec_capacity, length};
+ghost use Rattle.std.specs.Prelude.{◌≡◌, ◌+◌, ◌<◌, ◌≤◌, IfOk, IfErr, IsOk, OnErr, OnOk, vec_len, vec_capacity, length};
 ghost use Rattle.std.specs.FinSet as set;
-ghost use Rattle.std.specs.List.{dedup};
+ghost use Rattle.std.specs.List.{dedup, insert};
 ghost use Rattle.std.specs.Ordering.{eq_by_cmp};
 ghost use Rattle.std.specs.List.Sorted.{IsStrictlySortedBy};
 ghost use Rattle.td_values.specs.Alike.{AreAlike};
 ghost use Rattle.td_values.specs.Order.{attrs_order};
 ghost use Rattle.td_relations.specs.Sets.{tuple_set, IsAt, IsGapFor};
 
+use std::alloc::AllocError;
 use td_values::{Tuple, compare_values, whole_tuples};
 
 /// These tuples, which have one heading, without those that are equal to the one before. By their values alone.
@@ -28,6 +29,19 @@ pub fn place(tuples: &[Tuple], tuple: &Tuple) -> Result<usize, usize>
     ensures absent { IfErr result (IsGapFor tuples.now tuple.now) }
 {
     tuples.binary_search(tuple)
+}
+
+/// Puts the tuple in at a place. `Vec::insert` does the same by a loop, where a rotation moves memory at once.
+pub fn insert_at(tuples: &mut Vec<Tuple>, at: usize, tuple: Tuple) -> Result<(), AllocError>
+    requires { at ≤ length tuples.old.items }
+    ensures items { OnOk result (tuples.new.items ≡ insert tuples.old.items at tuple) }
+    ensures err { OnErr result (tuples.new.items ≡ tuples.old.items) }
+    ensures succeeds { vec_len tuples.old < vec_capacity tuples.old → IsOk result }
+    ensures capacity { vec_capacity tuples.old ≤ vec_capacity tuples.new }
+{
+    tuples.push(tuple)?;
+    tuples[at..].rotate_right(1);
+    Ok(())
 }
 
 /// Takes the tuple out, if it is there.
@@ -69,7 +83,7 @@ pub fn put_in(tuples: &mut Vec<Tuple>, tuple: Tuple)
     match place(tuples, &tuple) {
         Ok(_) => drop(tuple),
         Err(at) => {
-            let Ok(()) = tuples.insert(at, tuple) else {
+            let Ok(()) = insert_at(tuples, at, tuple) else {
                 unreachable!()
             };
         }

@@ -96,18 +96,40 @@ const SYMBOLS: [(&[u8], Word); 19] = [
     (b"/", Word::Slash),
 ];
 
-// Most words of the table are of another length, which costs a comparison and no call.
 fn same_letters(a: &[u8], b: &[u8]) -> bool
     ensures { result ≡ str_eq_ignore_ascii_case a.now b.now }
 {
-    a.len() == b.len() && a.eq_ignore_ascii_case(b)
+    a.eq_ignore_ascii_case(b)
+}
+
+// The same. Most words of the table have another length or another first letter, which costs no call.
+fn is_word(a: &[u8], b: &[u8]) -> bool
+    ensures { result ≡ str_eq_ignore_ascii_case a.now b.now }
+{
+    if a.len() != b.len() {
+        return false;
+    }
+    match (a.first(), b.first()) {
+        (Some(x), Some(y)) if !x.eq_ignore_ascii_case(y) => false,
+        _ => same_letters(a, b),
+    }
+}
+
+// Most symbols of the table have another first byte, which costs no call.
+fn begins(bytes: &[u8], spelling: &[u8]) -> bool
+    ensures { result ≡ begins_with spelling.now bytes.now }
+{
+    match (bytes.first(), spelling.first()) {
+        (Some(b), Some(s)) if *b != *s => false,
+        _ => bytes.starts_with(spelling),
+    }
 }
 
 fn keyword_in(table: &[(&[u8], Word)], letters: &[u8]) -> Option<Word>
     ensures { result ≡ option_map (λ (k : Spelling). k.1) (find (λ (k : Spelling). str_eq_ignore_ascii_case k.0 letters.now) (map (λ k. (k.0.now, k.1)) table.now)) }
 {
     for (spelling, word) in table {
-        if same_letters(spelling, letters) {
+        if is_word(spelling, letters) {
             return Some(*word);
         }
     }
@@ -118,7 +140,7 @@ fn symbol_in(table: &[(&[u8], Word)], bytes: &[u8]) -> Option<Piece>
     ensures { result ≡ sign_piece (find (λ (s : Spelling). begins_with s.0 bytes.now) (map (λ s. (s.0.now, s.1)) table.now)) }
 {
     for (spelling, word) in table {
-        if bytes.starts_with(spelling) {
+        if begins(bytes, spelling) {
             let kind = Some(Kind::Word(*word));
             return Some(Piece {
                 kind,
