@@ -1,1 +1,2 @@
 pub mod Abbreviations
+pub mod Places

@@ -6,7 +6,7 @@ ghost use Rattle.td_relations.specs.Deltas.{IsApplied, IsDelta, IsDifference, Is
 
 use crate::Relation;
 use crate::merges::{apart, minus, union};
-use crate::places::{put_in_all, take_out_all};
+use crate::places::exchange_few;
 use std::alloc::{AllocError, Global};
 use std::marker::Model;
 use td_values::{Heading, copy_tuples};
@@ -181,7 +181,6 @@ fn exchange_each(
 {
     let fresh = copy_tuples(alloc, inserted.tuples())?;
     relation.tuples.reserve(fresh.len())?;
-    take_out_all(&mut relation.tuples, deleted.tuples());
-    put_in_all(&mut relation.tuples, fresh);
+    exchange_few(&mut relation.tuples, deleted.tuples(), fresh);
     Ok(())
 }

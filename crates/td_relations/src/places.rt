@@ -1,11 +1,12 @@
 //! Ascending lists of tuples: where a tuple stands, and edits there.
-ghost use Rattle.std.specs.Prelude.{◌≡◌, ◌+◌, ◌<◌, ◌≤◌, IfOk, IfErr, IsOk, OnErr, OnOk, vec_len, vec_capacity, length};
+ghost use Rattle.std.specs.Prelude.{◌≡◌, ◌+◌, ◌<◌, ◌≤◌, IfOk, IfErr, IfSome, IsOk, IsTrue, OnErr, OnOk, vec_len, vec_capacity, length};
 ghost use Rattle.std.specs.FinSet as set;
 ghost use Rattle.std.specs.List.{dedup, insert};
 ghost use Rattle.std.specs.Ordering.{eq_by_cmp};
 ghost use Rattle.std.specs.List.Sorted.{IsStrictlySortedBy};
 ghost use Rattle.td_values.specs.Alike.{AreAlike};
 ghost use Rattle.td_values.specs.Order.{attrs_order};
+ghost use Rattle.td_relations.specs.ForProofs.Places.{AreAbove, AreBelow};
 ghost use Rattle.td_relations.specs.Sets.{tuple_set, IsAt, IsGapFor};
 
 use std::alloc::AllocError;
@@ -99,5 +100,79 @@ pub fn put_in_all(tuples: &mut Vec<Tuple>, inserted: Vec<Tuple>)
 {
     for tuple in inserted {
         put_in(tuples, tuple);
+    }
+}
+
+// Whether the tuple is above those before the place.
+fn is_above(tuples: &[Tuple], at: usize, tuple: &Tuple) -> bool
+    requires at { at < length tuples.now }
+    requires ascend { IsStrictlySortedBy attrs_order tuples.now }
+    ensures { IsTrue result → AreBelow tuples.now at tuple.now }
+{
+    if at == 0 {
+        return true;
+    }
+    tuples[at - 1].cmp(tuple).is_lt()
+}
+
+// Whether it is below those behind it.
+fn is_below(tuples: &[Tuple], at: usize, tuple: &Tuple) -> bool
+    requires at { at < length tuples.now }
+    requires ascend { IsStrictlySortedBy attrs_order tuples.now }
+    ensures { IsTrue result → AreAbove tuples.now at tuple.now }
+{
+    if at + 1 == tuples.len() {
+        return true;
+    }
+    tuples[at + 1].cmp(tuple).is_gt()
+}
+
+// Where the first tuple is, if the tuples still ascend with the second one there.
+fn place_of_both(tuples: &[Tuple], gone: &Tuple, more: &Tuple) -> Option<usize>
+    requires { IsStrictlySortedBy attrs_order tuples.now }
+    ensures is { IfSome result (IsAt tuples.now gone.now) }
+    ensures below { IfSome result (λ at. AreBelow tuples.now at more.now) }
+    ensures above { IfSome result (λ at. AreAbove tuples.now at more.now) }
+{
+    let at = place(tuples, gone).ok()?;
+    if is_above(tuples, at, more) && is_below(tuples, at, more) {
+        Some(at)
+    } else {
+        None
+    }
+}
+
+/// Takes the first tuple out, if it is there, and puts the second one in, for which there is room. It takes no memory,
+/// and shifts nothing where the second one goes where the first one stood.
+pub fn exchange_one(tuples: &mut Vec<Tuple>, gone: &Tuple, more: Tuple)
+    requires room { vec_len tuples.old < vec_capacity tuples.old }
+    requires ascends { IsStrictlySortedBy attrs_order tuples.old.items }
+    ensures ascending { IsStrictlySortedBy attrs_order tuples.new.items }
+    ensures members { tuple_set tuples.new.items ≡ set.insert (set.remove (tuple_set tuples.old.items) gone.now) more }
+{
+    match place_of_both(tuples, gone, &more) {
+        Some(at) => tuples[at] = more,
+        None => {
+            take_out(tuples, gone);
+            put_in(tuples, more);
+        }
+    }
+}
+
+/// Takes the first tuples out and puts the second ones in, for which there is room. It takes no memory.
+pub fn exchange_few(tuples: &mut Vec<Tuple>, deleted: &[Tuple], inserted: Vec<Tuple>)
+    requires room { vec_len tuples.old + vec_len inserted ≤ vec_capacity tuples.old }
+    requires ascends { IsStrictlySortedBy attrs_order tuples.old.items }
+    ensures ascending { IsStrictlySortedBy attrs_order tuples.new.items }
+    ensures members { tuple_set tuples.new.items ≡ set.union (set.difference (tuple_set tuples.old.items) (tuple_set deleted.now)) (tuple_set inserted.items) }
+{
+    let mut inserted = inserted;
+    if deleted.len() == 1 && inserted.len() == 1 {
+        if let Some(more) = inserted.pop() {
+            exchange_one(tuples, &deleted[0], more);
+        }
+    } else {
+        take_out_all(tuples, deleted);
+        put_in_all(tuples, inserted);
     }
 }

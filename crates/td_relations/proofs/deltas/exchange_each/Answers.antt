@@ -9,5 +9,5 @@ pub invariant_of-relation-2 : goal.invariant_of-relation-2
 invariant_of-relation-2 c =
     let heading : c.args.inserted.now.heading ≡ c.relation.inside.heading = c.requires ∙ sym (ap (λ (r : RowsData). r.heading) c.relation.view_is) in
     let fresh : c.in_ok-fresh.fresh.items ≡ c.args.inserted.now.tuples = c.in_ok-fresh.ensures ∙ c.tuples.ensures.all in
-    let members = c.put_in_all.ensures.members ∙ (λ i. set.union (c.take_out_all.ensures.members i) (tuple_set (fresh i))) ∙ ap (λ w. set.union (set.difference (tuple_set w) (tuple_set c.tuples-2.result.now)) (tuple_set c.args.inserted.now.tuples)) c.in_ok-reserve.ensures.items in
-    rows_of_change c.relation.inside.heading _ _ _ _ c.relation.invariant (subst (λ h. AreRows h c.args.inserted.now.tuples) heading c.tuples.ensures.rows) c.put_in_all.ensures.ascending members
+    let members = c.exchange_few.ensures.members ∙ ap (λ f. set.union (set.difference (tuple_set c.reserve.new.self.items) (tuple_set c.tuples-2.result.now)) (tuple_set f)) fresh ∙ ap (λ w. set.union (set.difference (tuple_set w) (tuple_set c.tuples-2.result.now)) (tuple_set c.args.inserted.now.tuples)) c.in_ok-reserve.ensures.items in
+    rows_of_change c.relation.inside.heading _ _ _ _ c.relation.invariant (subst (λ h. AreRows h c.args.inserted.now.tuples) heading c.tuples.ensures.rows) c.exchange_few.ensures.ascending members
