@@ -90,7 +90,7 @@ module _ where
         | Equal ↦ λ e is.
             let behind = settled n (a * 257 + (x + 1)) s t (λ k. bs (suc k)) (λ k. cs (suc k)) in
             subst (λ z. Settles (x ∷ s) (z ∷ t) (drop n s) (drop n t) (number_of (a * 257 + (x + 1)) n s) (number_of (a * 257 + (z + 1)) n t)) is
-                (record { less = λ l. same_head x s t ∙ behind.less l; same = λ q. (same_head x s t ∙ (behind.same q).0, (behind.same q).1); greater = λ l. same_head x s t ∙ behind.greater l })
+            (record { less = λ l. same_head x s t ∙ behind.less l; same = λ q. (same_head x s t ∙ (behind.same q).0, (behind.same q).1); greater = λ l. same_head x s t ∙ behind.greater l })
         | Greater ↦ λ e gt.
             let up = rises n (a * 257 + (y + 1)) (a * 257 + (x + 1)) t s (λ k. cs (suc k)) (omega (arith, gt)) in
             record { less = λ l. absurd (omega (arith, l, up)); same = λ q. absurd (omega (arith, q, up)); greater = λ l. ap (λ o. ordering_then o (text_cmp s t)) e }
@@ -111,13 +111,13 @@ texts_lead s t bs cs =
     let one = settled 7 0 s t bs cs in
     let two = settled 7 0 (drop 7 s) (drop 7 t) (later_of_bytes 7 s bs) (later_of_bytes 7 t cs) in
     elim (nat_cmp (number_of 0 7 s) (number_of 0 7 t)) as (λ o.
-        MatchOrdering o (number_of 0 7 s < number_of 0 7 t) (number_of 0 7 s ≡ number_of 0 7 t) (number_of 0 7 t < number_of 0 7 s)
-        → Leads (char s) (char t) (ordering_then o (ordering_then (nat_cmp (number_of 0 7 (drop 7 s)) (number_of 0 7 (drop 7 t))) Equal))) [
+    MatchOrdering o (number_of 0 7 s < number_of 0 7 t) (number_of 0 7 s ≡ number_of 0 7 t) (number_of 0 7 t < number_of 0 7 s)
+    → Leads (char s) (char t) (ordering_then o (ordering_then (nat_cmp (number_of 0 7 (drop 7 s)) (number_of 0 7 (drop 7 t))) Equal))) [
       | Less ↦ λ lt. one.less lt
       | Equal ↦ λ is.
           elim (nat_cmp (number_of 0 7 (drop 7 s)) (number_of 0 7 (drop 7 t))) as (λ o.
-              MatchOrdering o (number_of 0 7 (drop 7 s) < number_of 0 7 (drop 7 t)) (number_of 0 7 (drop 7 s) ≡ number_of 0 7 (drop 7 t)) (number_of 0 7 (drop 7 t) < number_of 0 7 (drop 7 s))
-              → Leads (char s) (char t) (ordering_then o Equal)) [
+          MatchOrdering o (number_of 0 7 (drop 7 s) < number_of 0 7 (drop 7 t)) (number_of 0 7 (drop 7 s) ≡ number_of 0 7 (drop 7 t)) (number_of 0 7 (drop 7 t) < number_of 0 7 (drop 7 s))
+          → Leads (char s) (char t) (ordering_then o Equal)) [
             | Less ↦ λ lt. (one.same is).0 ∙ two.less lt
             | Equal ↦ λ too.
                 let goes_on : more (drop 14 s) ≡ more (drop 14 t) = ap more (sym (drop-drop 7 7 s)) ∙ (two.same too).1 ∙ ap more (drop-drop 7 7 t) in

@@ -80,8 +80,8 @@ module _ (ts : List Attrs) (at : ℕ) (gone t : Attrs) (up : IsStrictlySortedBy 
   over_ascends low high =
       subst (IsStrictlySortedBy attrs_order) (sym (written_over ts at t inside))
       (sorted_insert attrs_order_total (remove ts at) at t (sorted_remove attrs_order_total ts at up) (omega (arith, length_without ts at inside))
-          (λ k d lt. ap (λ y. attrs_order y t) (kept_before ts at k d lt) ∙ low k d lt)
-          (λ k d ge lt. ap (λ y. attrs_order y t) (moved_behind ts at k d ge inside) ∙ high (suc k) d (omega arith) (omega (arith, length_without ts at inside))))
+      (λ k d lt. ap (λ y. attrs_order y t) (kept_before ts at k d lt) ∙ low k d lt)
+      (λ k d ge lt. ap (λ y. attrs_order y t) (moved_behind ts at k d ge inside) ∙ high (suc k) d (omega arith) (omega (arith, length_without ts at inside))))
 
   pub over_members : get_or ts at gone ≡ gone → tuple_set (set ts at t) ≡ finite.insert (finite.remove (tuple_set ts) gone) t
   over_members is =

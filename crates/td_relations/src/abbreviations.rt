@@ -227,11 +227,7 @@ fn without_abbreviations(beside: Vec<Abbreviated>, room: Vec<Tuple>) -> Vec<Tupl
 }
 
 // The tuples in order.
-fn in_order_beside(
-    tuples: Vec<Tuple>,
-    beside: Vec<Abbreviated>,
-    room: Vec<Tuple>,
-) -> Vec<Tuple>
+fn in_order_beside(tuples: Vec<Tuple>, beside: Vec<Abbreviated>, room: Vec<Tuple>) -> Vec<Tuple>
     requires alike { AreAlike tuples.items }
     requires empty { (beside.items ≡ []) × (room.items ≡ []) }
     requires beside { vec_len tuples ≤ vec_capacity beside }
