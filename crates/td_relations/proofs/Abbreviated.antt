@@ -1,20 +1,20 @@
 -- What values begin with, and that on tuples of one heading to compare it first changes no order.
-use Rattle.std.proofs.Common.{◌≡◌, ℕ, zero, suc, ◌+◌, ◌-◌, ◌*◌, ◌^◌, ◌<◌, ◌≤◌, Bool, true, false, true≢false, ◌==◌, eqb→eq, T, if◌then◌else◌, pow-suc, drop, drop-drop, List, [], ◌∷◌, get_or, length, refl, sym, ap, ◌∙◌, subst, arith}
+use Rattle.std.proofs.Common.{◌≡◌, ℕ, zero, suc, ◌+◌, ◌*◌, ◌^◌, ◌<◌, ◌≤◌, Bool, true, false, true≢false, ◌==◌, if◌then◌else◌, pow-suc, drop, drop-drop, List, [], ◌∷◌, get_or, length, refl, sym, ap, ◌∙◌, subst, arith}
 use Rattle.std.specs.declared.cmp.Ordering.{Ordering}
 use Rattle.std.specs.declared.cmp.Ordering.TheVariants.{Less, Equal, Greater}
 use Rattle.std.specs.Cmp.{IsStrictWeakOrder, ranks, tied_itself}
 use Rattle.std.specs.List.{All}
-use Rattle.std.specs.List.Sorted.{IsPermutation, IsSorted, IsSortedBy}
+use Rattle.std.specs.List.Sorted.{IsSorted, IsSortedBy}
 use Rattle.std.specs.Ordering.{is_lt, MatchOrdering, nat_cmp, int_cmp, ordering_then}
 use Rattle.std.proofs.lemmas.Cmp.{nat_cmp_total}
 use Rattle.std.proofs.lemmas.List.Sorted.{ranks_by}
-use Rattle.td_values.specs.Alike.{AreAlike, bare, bare_tuple, values_order}
+use Rattle.td_values.specs.Alike.{AreAlike, bare, values_order}
 use Rattle.td_values.specs.Data.{Datum, boolean, integer, char, user, tuple, relation, Attrs, no_attrs, attr}
 use Rattle.td_values.specs.Order.{text_cmp, order, attrs_order}
 use Rattle.td_values.specs.Proving.Total.{attrs_order_total}
 use Rattle.td_values.specs.Whole.{type_of, heading_of, IsWholeTuple}
 use Rattle.td_values.proofs.AlikeLemmas.{tuples_alike}
-use Rattle.td_relations.specs.ForProofs.Abbreviations.{digit, more, number_of, beginning, is_whole, first, second, AreBytes, IsOfBytes, FirstIsOfBytes, SecondIsOfBytes, BeginsInBytes, abbreviated, by_beginnings}
+use Rattle.td_relations.specs.ForProofs.Abbreviations.{digit, more, number_of, beginning, is_whole, first, second, AreBytes, IsOfBytes, FirstIsOfBytes, BeginsInBytes, abbreviated, by_beginnings}
 
 -- how large the numbers are
 pub low_power : (k : ℕ) → k ≤ 6 → 257 ^ k ≤ 257 ^ 6

@@ -1,5 +1,5 @@
-use Rattle.std.proofs.Common.{◌≡◌, ◌+◌, ◌-◌, ◌*◌, ◌<◌, ◌^◌, suc, drop, drop-drop, refl, sym, ap, ◌∙◌, subst, arith}
-use Rattle.td_relations.specs.ForProofs.Abbreviations.{digit, more, number_of}
+use Rattle.std.proofs.Common.{◌≡◌, ◌+◌, ◌-◌, ◌*◌, ◌<◌, ◌^◌, suc, drop, drop-drop, sym, ap, ◌∙◌, subst, arith}
+use Rattle.td_relations.specs.ForProofs.Abbreviations.{more, number_of}
 use Rattle.td_relations.proofs.Abbreviated.{low_power, next_power, whole_power}
 use Rattle.td_relations.proofs.abbreviations.number_of.Goals as goal
 

@@ -1,4 +1,4 @@
-use Rattle.std.proofs.Common.{◌≡◌, ◌+◌, ◌-◌, ◌<◌, ◌≤◌, ◌^◌, drop}
+use Rattle.std.proofs.Common.{◌≡◌, ◌+◌, ◌-◌, ◌<◌, ◌^◌, drop}
 use Rattle.td_relations.specs.ForProofs.Abbreviations.{number_of}
 use Rattle.td_relations.proofs.abbreviations.number_of.Given as goal
 

@@ -1,4 +1,4 @@
-use Rattle.std.proofs.Common.{◌≡◌, [], ◌∷◌, sym, ap, ◌∙◌, rules, arith, length}
+use Rattle.std.proofs.Common.{◌≡◌, [], ◌∷◌, sym, ◌∙◌, rules}
 use Rattle.std.specs.FinSet as set
 use Rattle.td_relations.specs.Sets.{tuple_set}
 use Rattle.td_relations.proofs.Between.{one_for_one, only_one, last_of_one}
