@@ -34,6 +34,11 @@ has_behind (suc k) [] i x le lt = absurd (omega (arith, lt))
 has_behind (suc k) (e ∷ es) zero x le lt = absurd (omega (arith, le))
 has_behind (suc k) (e ∷ es) (suc i) x le lt = has_behind k es i x (omega (arith, le)) (omega (arith, lt))
 
+pub has_drop : (k : ℕ) (es : List Entry) (e : Entry) → has (drop k es) e ≡ true → has es e ≡ true
+has_drop zero es e h = h
+has_drop (suc k) [] e h = h
+has_drop (suc k) (x ∷ es) e h = has_later x e es (has_drop k es e h)
+
 pub front_cases : (es : List Entry) (i : ℕ) (e f : Entry) → i < length es → e ≡ get_or es i e → has (take (i + 1) es) f ≡ true → (f ≡ e) ⊎ (has (take i es) f ≡ true)
 front_cases es i e f lt is h =
     let front : (has (take i es) f || has (get_or es i e ∷ []) f) ≡ true = sym (list_any-append (same f) (take i es) (get_or es i e ∷ [])) ∙ subst (λ (l : List Entry). has l f ≡ true) (take_more es i e lt) h in

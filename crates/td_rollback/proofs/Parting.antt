@@ -1,5 +1,5 @@
 -- Stories in two parts.
-use Rattle.std.proofs.Common.{◌≡◌, ◌≤◌, ◌+◌, ◌&&◌, ◌||◌, ⊎_elim, ℕ, zero, suc, Result, Ok, Err, Bool, true, false, List, [], ◌∷◌, map, drop, take, length, refl, ap, sym, subst, ◌∙◌, arith}
+use Rattle.std.proofs.Common.{◌≡◌, ◌≤◌, ◌+◌, ◌&&◌, ◌||◌, ◌⊎◌, inl, inr, ⊎_elim, ℕ, zero, suc, Result, Ok, Err, Bool, true, false, List, [], ◌∷◌, map, drop, take, length, refl, ap, sym, subst, ◌∙◌, arith}
 use mathlib.Core.Bool.{true≢false}
 use Rattle.std.specs.Prelude.{not, OnErr, OnOk}
 use Rattle.std.specs.List.{Contains, list_all}
@@ -17,7 +17,7 @@ use Rattle.td_rollback.specs.Parts.{AreMarked, KeepsTo, MarkedAlone, Mixes, Unma
 use Rattle.td_rollback.specs.Touched.{AreMore, IsTargetOf, IsTouched, Runs, none_left, fresh, touched, untouched}
 use Rattle.td_rollback.specs.ForProofs.Marked.{AreFlagged, AreParted, new_one, no_more, old_one, with_flagged}
 use Rattle.td_rollback.specs.ForProofs.Ways.{Way}
-use Rattle.td_rollback.proofs.Members.{has_cases, has_first, has_later}
+use Rattle.td_rollback.proofs.Members.{has_cases, has_first, has_later, has_none}
 use Rattle.td_rollback.proofs.More.{not_fresh}
 
 both_hold : (a b : Bool) → a ≡ true → b ≡ true → (a && b) ≡ true
@@ -333,3 +333,18 @@ as_many_marks F part [] [] keep = refl
 as_many_marks F part [] (e ∷ es) keep = absurd keep
 as_many_marks F part (b ∷ bs) [] keep = absurd keep
 as_many_marks F part (b ∷ bs) (e ∷ es) keep = ap suc (as_many_marks F part bs es keep.1)
+
+-- what is marked of all is marked of the old ones, or flagged
+pub came : (es fs : List Entry) (flags bs : List Bool) (F : Entry → ℕ → Type 0) (part : ℕ → Bool) → AreFlagged es flags fs → AreMarked F part bs es → (x : Entry) → has (marked (with_flagged flags bs) fs) x ≡ true
+    → (has (marked bs es) x ≡ true) ⊎ (has (marked flags fs) x ≡ true)
+came es fs flags bs F part no_more keep x h = has_none x h
+came es fs flags bs F part (new_one {flags = gs} {fs = hs} {e = e} lacks rest) keep x h = ⊎_elim
+    (λ one. inr (subst (λ (y : Entry). has (e ∷ marked gs hs) y ≡ true) (sym one) (has_first e (marked gs hs))))
+    (λ later. ⊎_elim (λ old. inl old) (λ new. inr (has_later e x (marked gs hs) new)) (came es hs gs bs F part rest keep x later))
+    (has_cases e x (marked (with_flagged gs bs) hs) h)
+came es fs flags [] F part (old_one rest) keep x h = absurd keep
+came es fs flags (true ∷ bs) F part (old_one {flags = gs} {es = ds} {fs = hs} {e = e} rest) keep x h = ⊎_elim
+    (λ one. inl (subst (λ (y : Entry). has (e ∷ marked bs ds) y ≡ true) (sym one) (has_first e (marked bs ds))))
+    (λ later. ⊎_elim (λ old. inl (has_later e x (marked bs ds) old)) (λ new. inr new) (came ds hs gs bs F part rest keep.1 x later))
+    (has_cases e x (marked (with_flagged gs bs) hs) h)
+came es fs flags (false ∷ bs) F part (old_one {flags = gs} {es = ds} {fs = hs} rest) keep x h = came ds hs gs bs F part rest keep.1 x h

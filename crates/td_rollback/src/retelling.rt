@@ -8,7 +8,7 @@ ghost use Rattle.td_rollback.specs.Going.{AreAlikeBut, Begins};
 ghost use Rattle.td_rollback.specs.Parts.{marked, unmarked, woven};
 ghost use Rattle.td_rollback.specs.Touched.{AreMore, IsTargetOf, Runs};
 ghost use Rattle.td_rollback.specs.Turns.{retold, settled};
-ghost use Rattle.td_rollback.specs.ForProofs.Marked.{AreParted};
+ghost use Rattle.td_rollback.specs.ForProofs.Marked.{AreAmong, AreParted};
 
 use crate::labels::part_of;
 use crate::machine::Machine;
@@ -21,37 +21,27 @@ use std::alloc::{AllocError, Global};
 use std::mem::replace;
 use td_stamps::{Entry, Stamp};
 
-// Places among which are all that the entries behind the first ones may change: those of old entries by their records,
-// and of the others by the machine.
-fn places_of<M: Machine>(
+// Places among which are all that the old entries may change, by their records, and these places.
+fn places_beside<M: Machine>(
     alloc: Global,
     machine: &M,
     old: &[Entry],
     log: &[(Stamp, M::Record)],
-    new: &[Entry],
-    kept: usize,
+    fresh: &[usize],
 ) -> Result<Vec<usize>, AllocError>
     requires story { (o : M) × Begins M.sound M.origin M.steps o old.now log.now machine.now }
     requires each { length log.now ≡ length old.now }
-    requires kept { kept ≤ length new.now }
-    ensures { IfOk result (λ v. (n : ℕ) → IsTargetOf (M.targets (M.origin machine.now)) (drop kept new.now) n → Contains v.items n) }
+    ensures old { IfOk result (λ v. (n : ℕ) → IsTargetOf (M.targets (M.origin machine.now)) old.now n → Contains v.items n) }
+    ensures fresh { IfOk result (λ v. (n : ℕ) → Contains fresh.now n → Contains v.items n) }
 {
-    let mut places = Vec::new(alloc);
-    let mut at = kept;
-    let (_, end) = new.split_at(kept);
-    for entry in end {
-        if at < old.len() && entry.is_same(&old[at]) {
-            add(&mut places, M::targets_of(&log[at].1))?;
-            at += 1;
-        } else {
-            let more = machine.places_of(alloc, entry)?;
-            add(&mut places, &more)?;
-        }
+    let mut places = Vec::from_slice(alloc, fresh)?;
+    for record in log {
+        add(&mut places, M::targets_of(&record.1))?;
     }
     Ok(places)
 }
 
-// A copy of all that these entries may change.
+// A copy of all that the new entries behind the first ones may change: those that are not old change these places alone.
 fn save_end<M: Machine>(
     alloc: Global,
     machine: &M,
@@ -59,13 +49,15 @@ fn save_end<M: Machine>(
     log: &[(Stamp, M::Record)],
     new: &[Entry],
     kept: usize,
+    fresh: &[usize],
 ) -> Result<M::Part, AllocError>
     requires story { (o : M) × Begins M.sound M.origin M.steps o old.now log.now machine.now }
     requires each { length log.now ≡ length old.now }
     requires kept { kept ≤ length new.now }
+    requires fresh { AreAmong (M.targets (M.origin machine.now)) old.now new.now fresh.now }
     ensures { IfOk result (λ p. (ns : List ℕ) × M.saved p ns machine.now × ((n : ℕ) → IsTargetOf (M.targets (M.origin machine.now)) (drop kept new.now) n → Contains ns n)) }
 {
-    let places = places_of(alloc, machine, old, log, new, kept)?;
+    let places = places_beside(alloc, machine, old, log, fresh)?;
     machine.save(alloc, &places)
 }
 
@@ -114,10 +106,12 @@ fn retell_all<M: Machine>(
     old: &[Entry],
     log: &[(Stamp, M::Record)],
     new: &[Entry],
+    fresh: &[usize],
     meter: &mut M::Meter,
 ) -> Result<Retold<M::Record>, AllocError>
     requires story { (o : M) × Begins M.sound M.origin M.steps o old.now log.now machine.old }
     requires more { AreMore old.now new.now }
+    requires fresh { AreAmong (M.targets (M.origin machine.old)) old.now new.now fresh.now }
     ensures story { (o : M) → Begins M.sound M.origin M.steps o old.now log.now machine.old → IfOk result (λ r. Begins M.sound M.origin M.steps o new.now (retold log.now r.kept r.turns.items) machine.new) }
     ensures front { IfOk result (λ r. r.kept ≤ length log.now) }
     ensures many { IfOk result (λ r. r.kept + length r.turns.items ≡ length new.now) }
@@ -127,7 +121,7 @@ fn retell_all<M: Machine>(
     ensures origin { M.origin machine.new ≡ M.origin machine.old }
 {
     let kept = common_of(old, new);
-    let part = save_end(alloc, machine, old, log, new, kept)?;
+    let part = save_end(alloc, machine, old, log, new, kept, fresh)?;
     match replay_from(alloc, machine, old, log, new, kept, meter) {
         Ok(turns) => Ok(Retold { kept, turns }),
         Err(error) => {
@@ -170,19 +164,20 @@ fn marked_of(alloc: Global, entries: &[Entry], marks: Vec<bool>) -> Result<Marke
 }
 
 // Marks the old entries and all that is to be told: those that keep to the part of the places of what is fresh. Answers
-// copies of those that are marked.
+// copies of those that are marked, and the places of what is fresh.
 fn mark_all<M: Machine>(
     alloc: Global,
     machine: &M,
     old: &[Entry],
     log: &[(Stamp, M::Record)],
     new: &[Entry],
-) -> Result<(Marked, Marked), AllocError>
+) -> Result<(Marked, Marked, Vec<usize>), AllocError>
     requires story { (o : M) × Begins M.sound M.origin M.steps o old.now log.now machine.now }
     requires more { AreMore old.now new.now }
     ensures parted { IfOk result (λ p. AreParted (M.closed (M.origin machine.now)) (M.footprint (M.origin machine.now)) old.now new.now p.0.marks.items p.1.marks.items) }
     ensures old { IfOk result (λ p. p.0.entries.items ≡ marked p.0.marks.items old.now) }
     ensures new { IfOk result (λ p. p.1.entries.items ≡ marked p.1.marks.items new.now) }
+    ensures fresh { IfOk result (λ p. AreAmong (M.targets (M.origin machine.now)) p.0.entries.items p.1.entries.items p.2.items) }
 {
     let flags = flags_of(alloc, old, new)?;
     let fresh = chosen(alloc, new, Vec::from_slice(alloc, &flags)?)?;
@@ -190,7 +185,9 @@ fn mark_all<M: Machine>(
     let part = part_of(alloc, machine, &places, log)?;
     let marks = marks_of::<M>(alloc, &part, log)?;
     let all = with_flagged(alloc, flags, Vec::from_slice(alloc, &marks)?)?;
-    Ok((marked_of(alloc, old, marks)?, marked_of(alloc, new, all)?))
+    let told = marked_of(alloc, old, marks)?;
+    let all = marked_of(alloc, new, all)?;
+    Ok((told, all, places))
 }
 
 // Tells again what is marked, and leaves all else as it is: whatever may fail comes before the log changes.
@@ -200,11 +197,13 @@ fn retell_marked<M: Machine>(
     log: &mut Vec<(Stamp, M::Record)>,
     told: Marked,
     all: Marked,
+    fresh: &[usize],
     meter: &mut M::Meter,
 ) -> Result<(), AllocError>
     requires story { (o : M) × Begins M.sound M.origin M.steps o told.entries.items (marked told.marks.items log.old.items) machine.old }
     requires more { AreMore told.entries.items all.entries.items }
     requires each { length told.marks.items ≡ length log.old.items }
+    requires fresh { AreAmong (M.targets (M.origin machine.old)) told.entries.items all.entries.items fresh.now }
     ensures story { OnOk result ((records : List (StampData × M.Record)) × (log.new.items ≡ woven all.marks.items records (unmarked told.marks.items log.old.items)) × ((o : M) → Begins M.sound M.origin M.steps o told.entries.items (marked told.marks.items log.old.items) machine.old → Begins M.sound M.origin M.steps o all.entries.items records machine.new)) }
     ensures kept { OnErr result ((machine.new ≡ machine.old) × (log.new.items ≡ log.old.items)) }
     ensures counted { (n : ℕ) → Runs (M.footprint (M.origin machine.old)) (M.targets (M.origin machine.old)) [] told.entries.items all.entries.items n → M.count meter.new ≤ M.count meter.old + n }
@@ -219,7 +218,15 @@ fn retell_marked<M: Machine>(
     let marks = Vec::from_slice(alloc, &told.marks)?;
     let records = replace(log, Vec::new(alloc));
     let (within, without) = split(records, marks, within, without);
-    match retell_all(alloc, machine, &told.entries, &within, &all.entries, meter) {
+    match retell_all(
+        alloc,
+        machine,
+        &told.entries,
+        &within,
+        &all.entries,
+        fresh,
+        meter,
+    ) {
         Ok(Retold { kept, turns }) => {
             let within = settle(within, kept, turns, room);
             *log = weave(all.marks, within, without, all_room);
@@ -249,8 +256,8 @@ fn retell_end<M: Machine>(
     ensures few { M.count meter.new ≤ M.count meter.old + length new.now }
     ensures origin { M.origin machine.new ≡ M.origin machine.old }
 {
-    let (told, all) = mark_all(alloc, &*machine, old, log, new)?;
-    retell_marked(alloc, machine, log, told, all, meter)
+    let (told, all, fresh) = mark_all(alloc, &*machine, old, log, new)?;
+    retell_marked(alloc, machine, log, told, all, &fresh, meter)
 }
 
 /// Leads the machine to the end of the story of the new entries, from the end of that of the old ones, with a record of

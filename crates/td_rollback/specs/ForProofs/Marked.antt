@@ -1,5 +1,6 @@
 -- Marks on old and new entries.
-use Rattle.std.specs.Prelude.{◌≡◌, ℕ, Bool, true, false, List, [], ◌∷◌}
+use Rattle.std.specs.Prelude.{◌≡◌, ◌⊎◌, ℕ, Bool, true, false, List, [], ◌∷◌}
+use Rattle.std.specs.List.{Contains}
 use Rattle.td_stamps.specs.declared.entry.Entry.{Entry}
 use Rattle.td_stamps.specs.Sets.{has}
 use Rattle.td_rollback.specs.Parts.{AreMarked}
@@ -26,3 +27,7 @@ pub record AreParted (Closed : (ℕ → Bool) → Type 0) (Footprint : Entry →
   pub marks_are : cs ≡ with_flagged flags bs
   pub old : AreMarked Footprint part bs es
   pub new : AreMarked Footprint part cs fs
+
+-- each of the new entries is old, or has its targets among the places
+abbrev pub AreAmong : (Entry → ℕ → Type 0) → List Entry → List Entry → List ℕ → Type 0
+AreAmong Target es fs places = (e : Entry) (n : ℕ) → has fs e ≡ true → Target e n → (has es e ≡ true) ⊎ Contains places n

@@ -5,6 +5,7 @@ use Rattle.td_rollback.specs.Going.{Begins}
 use Rattle.td_rollback.specs.Parts.{marked, unmarked, woven}
 use Rattle.td_rollback.specs.Touched.{Runs}
 use Rattle.td_rollback.specs.Turns.{retold}
+use Rattle.td_rollback.specs.ForProofs.Marked.{AreAmong}
 use Rattle.td_rollback.proofs.Parting.{woven_back}
 use Rattle.td_rollback.proofs.retelling.retell_marked.Goals as goal
 
@@ -59,3 +60,10 @@ returns-in-Err-clause-kept g c =
       c.in-Err.ensures.kept,
       c.weave-in-Err.ensures ∙ (λ i. c.in_ok-told_room.ensures.items i ++ woven bs (within i) (without i)) ∙ woven_back bs log c.requires.each,
     )
+
+pub retell_all-requires-clause-fresh : goal.retell_all-requires-clause-fresh
+retell_all-requires-clause-fresh g c =
+    let m = g.M.Machine in
+    let o = m.origin c.args.machine.now in
+    subst (λ (es : List Entry). AreAmong (m.targets o) es c.deref-4.result.now c.args.fresh.now) (sym c.deref-2.ensures.value)
+    (subst (λ (fs : List Entry). AreAmong (m.targets o) c.args.told.entries.items fs c.args.fresh.now) (sym c.deref-4.ensures.value) c.requires.fresh)
