@@ -2,7 +2,9 @@
 
 ghost use Rattle.std.specs.Prelude.{◌≡◌, ◌<◌, length, IfOk, OnErr, OnOk};
 ghost use Rattle.std.specs.List.{All};
-ghost use Rattle.td_relations.specs.Sets.{Has};
+ghost use Rattle.std.specs.FinSet as set;
+ghost use Rattle.td_relations.specs.Sets.{Has, body};
+ghost use Rattle.td_tuples.specs.Parts.{Fits};
 ghost use Rattle.td_bases.specs.ForProofs.Keyed.{AreFresh, IsBeyond, IsIndexOf, Tells, first_key, keys_of, with_more};
 
 use sqlite_items::Items;
@@ -33,6 +35,17 @@ fn fresh_tuples(
     Ok(tuples)
 }
 
+// Whether the relation that the index is of has the tuple: a search of the index, and a comparison for each tuple that
+// has its part at the key.
+fn has(index: &KeyIndex, relation: &Relation, tuple: &Tuple) -> bool
+    requires of { IsIndexOf relation.now index.now }
+    requires fits { Fits index.now.heading tuple.now }
+    ensures { result ≡ set.contains (body relation.now) tuple.now }
+{
+    relation.rows_fit();
+    index.with_key_of(tuple).contains(tuple)
+}
+
 // Puts the one tuple in that there is, where the relation lacks it. It costs a search more than putting it in.
 fn gain_one(
     index: &mut KeyIndex,
@@ -49,7 +62,7 @@ fn gain_one(
     relation.rows_fit();
     inserted.rows_fit();
     let tuple = &inserted.tuples()[0];
-    if relation.contains(tuple) {
+    if has(index, relation, tuple) {
         Ok(())
     } else {
         index.insert(tuple.copy()?)
