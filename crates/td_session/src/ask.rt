@@ -13,7 +13,7 @@ use td_relations::Relation;
 use td_stamps::Stamp;
 use td_story::{Answer, AskError, MOST_BYTES, Meter, PastError, Replica};
 use td_tables::relation_table;
-use td_values::{Kind, Rows, Value, show};
+use td_values::{Kind, Value, show};
 
 fn unread(alloc: Global, text: &str) -> Result<String, AllocError> {
     if text.len() > MOST_BYTES {
@@ -48,11 +48,11 @@ fn literal(alloc: Global, value: &Value) -> Result<String, AllocError> {
     Ok(out)
 }
 
-fn as_csv(alloc: Global, rows: Rows) -> Result<String, AllocError> {
-    if rows.heading().is_empty() {
+fn csv_text(alloc: Global, relation: &Relation) -> Result<String, AllocError> {
+    if relation.heading().is_empty() {
         return String::from_str(alloc, "fault csv: the relation has no attributes\n");
     }
-    let bytes = csv_table(alloc, &Relation::of(rows))?;
+    let bytes = csv_table(alloc, relation)?;
     match String::from_utf8(bytes) {
         Ok(text) => Ok(text),
         Err(_) => Err(AllocError),
@@ -62,7 +62,7 @@ fn as_csv(alloc: Global, rows: Rows) -> Result<String, AllocError> {
 fn shown(alloc: Global, value: Value, mode: Mode) -> Result<String, AllocError> {
     match (value.kind, mode) {
         (Kind::Relation(rows), Mode::Table) => relation_table(alloc, rows.heading(), rows.tuples()),
-        (Kind::Relation(rows), Mode::Csv) => as_csv(alloc, rows),
+        (Kind::Relation(rows), Mode::Csv) => csv_text(alloc, &Relation::of(rows)),
         (kind, _) => literal(alloc, &Value { kind }),
     }
 }

@@ -19,7 +19,8 @@ use std::time::Clock;
 use td_answers::Links;
 use td_changes::Changes;
 use td_devices::{Device, Sink, Source, put};
-use td_files::{Contents, Notes, Refusal, read_contents};
+use td_files::{Notes, Refusal, read_contents};
+use td_headings::Catalogue;
 use td_journal::{Journals, Reopened, StoreError, keep_journal, take_journal};
 use td_listings::script_catalogue;
 use td_notices::{
@@ -86,18 +87,27 @@ fn ended_words(ended: Ended) -> &'static str {
     }
 }
 
-/// Where a site's statements are.
-#[derive(Clone, Copy, Drop)]
-enum Store<'a> {
-    Memory,
-    /// In the journal of this name.
-    Journal(&'a str),
-    /// Read from the journal of this name, of which so many bytes are whole, and which is left as it is.
-    Copy {
-        name: &'a str,
-        contents: &'a Contents,
-        whole: u64,
-    },
+/// What a run goes by beside its site.
+#[derive(Drop)]
+struct Run<'a, 'w, 't, H, L, S, K, F> {
+    alloc: Global,
+    words: &'w Words<'t>,
+    host: &'a H,
+    notes: &'a Notes,
+    links: &'a mut L,
+    meter: &'a mut Meter,
+    terminal: Terminal,
+    source: &'a mut S,
+    sink: &'a mut K,
+    faults: &'a mut F,
+}
+
+/// What a conversation begins with.
+#[derive(Drop)]
+struct Beginning {
+    catalogue: Catalogue,
+    access: Access,
+    inputs: Inputs,
 }
 
 // The lines behind the script are for a site that holds nothing yet: one that comes back has had them.
@@ -121,34 +131,14 @@ fn first_lines<R: Replica>(
     Ok(inputs)
 }
 
-// What was found of the journal.
-fn store_text<R: Replica>(
-    alloc: Global,
-    store: Store<'_>,
-    notes: &Notes,
-    site: &R,
-) -> Result<String, AllocError> {
-    match store {
-        Store::Memory => journal_text(alloc, None, None, site),
-        Store::Journal(name) => journal_text(alloc, Some(name), notes.found(), site),
-        Store::Copy {
-            name,
-            contents,
-            whole,
-        } => read_only_text(alloc, name, contents, whole, site),
-    }
-}
-
 // Tells what was found of the journal, and how much room is left. Nothing hangs on whether that is seen.
 fn tell_start<R: Replica, F: Sink>(
     alloc: Global,
-    store: Store<'_>,
-    notes: &Notes,
+    journal: &str,
     site: &R,
     faults: &mut F,
 ) -> Result<(), AllocError> {
-    let journal = store_text(alloc, store, notes, site)?;
-    complain(faults, journal.as_str());
+    complain(faults, journal);
     let room = room_text(alloc, site)?;
     complain(faults, room.as_str());
     Ok(())
@@ -174,42 +164,92 @@ fn access_to<F: Sink>(words: &Words<'_>, notes: &Notes, faults: &mut F) -> Acces
     Access::Open
 }
 
+// What a conversation at the site begins with, where it has been told what was found of its journal.
+fn begin<R: Replica, F: Sink>(
+    alloc: Global,
+    words: &Words<'_>,
+    notes: &Notes,
+    journal: &str,
+    site: &R,
+    behind: Vec<u8>,
+    faults: &mut F,
+) -> Result<Beginning, Ended> {
+    let catalogue = script_catalogue(alloc, site)?;
+    tell_start(alloc, journal, site, faults)?;
+    let access = access_to(words, notes, faults);
+    let inputs = first_lines(alloc, site, behind, &words.typed)?;
+    Ok(Beginning {
+        catalogue,
+        access,
+        inputs,
+    })
+}
+
+// Answers what is typed at the site. The answer is whether a fault was answered that nobody saw come.
 fn converse_at<
     R: Changes + Drop,
     O: Opens + Drop,
-    H: Files<File = File> + Clock + AllocGlobal + Clone + Drop,
+    H: Files<File = File> + Clock + AllocGlobal,
+    L: Links,
+    S: Source,
+    K: Sink,
+    F: Sink,
+>(run: &mut Run<'_, '_, '_, H, L, S, K, F>, site: R, beginning: Beginning) -> Result<bool, Ended> {
+    let Beginning {
+        catalogue,
+        access,
+        mut inputs,
+    } = beginning;
+    let is_terminal = run.terminal.is_input && run.words.typed.is_empty();
+    if is_terminal && run.terminal.is_output {
+        complain(run.faults, LINE_EDITING);
+    }
+    let mut shell: Shell<'_, R, O, H, L> = Shell::new(
+        run.alloc, run.host, run.links, run.meter, run.notes, site, catalogue, access,
+    );
+    converse(
+        &mut shell,
+        &mut inputs,
+        is_terminal,
+        run.source,
+        run.sink,
+        run.faults,
+    )?;
+    Ok(shell.has_faults() && !is_terminal && !run.words.keeps_going)
+}
+
+// Begins the conversation at the site and answers what is typed. The answer is the status.
+fn run_at<
+    R: Changes + Drop,
+    O: Opens + Drop,
+    H: Files<File = File> + Clock + AllocGlobal,
     L: Links,
     S: Source,
     K: Sink,
     F: Sink,
 >(
-    alloc: Global,
-    host: &H,
-    links: &mut L,
-    meter: &mut Meter,
-    words: &Words<'_>,
-    store: Store<'_>,
-    notes: &Notes,
+    run: &mut Run<'_, '_, '_, H, L, S, K, F>,
+    journal: Result<String, AllocError>,
     site: R,
     behind: Vec<u8>,
-    terminal: Terminal,
-    source: &mut S,
-    sink: &mut K,
-    faults: &mut F,
-) -> Result<bool, Ended> {
-    let catalogue = script_catalogue(alloc, &site)?;
-    tell_start(alloc, store, notes, &site, faults)?;
-    let access = access_to(words, notes, faults);
-    let mut inputs = first_lines(alloc, &site, behind, &words.typed)?;
-    let is_terminal = terminal.is_input && words.typed.is_empty();
-    if is_terminal && terminal.is_output {
-        complain(faults, LINE_EDITING);
-    }
-    let mut shell: Shell<'_, R, O, H, L> = Shell::new(
-        alloc, host, links, meter, notes, site, catalogue, access,
-    );
-    converse(&mut shell, &mut inputs, is_terminal, source, sink, faults)?;
-    Ok(shell.has_faults() && !is_terminal && !words.keeps_going)
+) -> u8 {
+    let begun = match journal {
+        Ok(text) => begin(
+            run.alloc,
+            run.words,
+            run.notes,
+            text.as_str(),
+            &site,
+            behind,
+            run.faults,
+        ),
+        Err(_) => Err(Ended::OutOfMemory),
+    };
+    let ended = match begun {
+        Ok(beginning) => converse_at::<_, O, _, _, _, _, _>(run, site, beginning),
+        Err(ended) => Err(ended),
+    };
+    end(ended, run.faults)
 }
 
 // The status, by whether a fault was answered that nobody saw come.
@@ -319,78 +359,127 @@ fn unkept<R: Opens + Drop, H: Files + AllocGlobal, F: Sink>(
 // Has the site take what its journal says, which is left as it is, and answers what is typed.
 fn start_reading<
     R: Opens + Changes + Drop,
+    H: Files<File = File> + Clock + AllocGlobal,
+    L: Links,
+    S: Source,
+    K: Sink,
+    F: Sink,
+>(run: &mut Run<'_, '_, '_, H, L, S, K, F>, name: &str, script: &str, site: R) -> u8
+    requires { IsNew (R.seen site) }
+{
+    let alloc = run.alloc;
+    let contents = match read_contents(run.host, name) {
+        Ok(contents) => contents,
+        Err(error) => return refuse(fault_journal(alloc, name, error.words()), run.faults),
+    };
+    let mut journal = Device::new(contents.bytes.as_slice());
+    match take_journal(alloc, site, &mut journal, run.meter) {
+        Ok(
+            Reopened {
+                replica,
+                whole,
+                version: _,
+            },
+        ) => {
+            let found = read_only_text(alloc, name, &contents, whole, &replica);
+            run_at::<_, R, _, _, _, _, _>(run, found, replica, Vec::new(alloc))
+        }
+        Err(error) => {
+            let Words { site, limit, .. } = run.words;
+            let told = refusal_text(alloc, name, &contents, error, script, *site, *limit);
+            refuse(told, run.faults)
+        }
+    }
+}
+
+// Has the site go on with its journal, and answers what is typed.
+fn start_keeping<
+    R: Opens + Changes + Drop,
+    J: Journals,
+    H: Files<File = File> + Clock + AllocGlobal,
+    L: Links,
+    S: Source,
+    K: Sink,
+    F: Sink,
+>(run: &mut Run<'_, '_, '_, H, L, S, K, F>, journals: &J, name: &str, script: Script, site: R) -> u8
+    requires { IsNew (R.seen site) }
+{
+    let Script { text, behind } = script;
+    let alloc = run.alloc;
+    match keep_journal(alloc, journals, name, site, run.meter) {
+        Ok(site) => {
+            let found = journal_text(alloc, Some(name), run.notes.found(), &site);
+            run_at::<_, R, _, _, _, _, _>(run, found, site, behind)
+        }
+        Err(StoreError::OutOfMemory) => end(Err(Ended::OutOfMemory), run.faults),
+        Err(StoreError::JournalFile) => unkept::<R, _, _>(
+            alloc,
+            run.words,
+            name,
+            text.as_str(),
+            run.host,
+            run.notes,
+            run.meter,
+            run.faults,
+        ),
+    }
+}
+
+// The name of the site's journal, where it keeps one; or the status, where it is told why that is not opened.
+fn journal_name<H: Files + AllocGlobal + Clone + Drop, F: Sink>(
+    alloc: Global,
+    words: &Words<'_>,
+    host: &H,
+    faults: &mut F,
+) -> Result<Option<String>, u8> {
+    let Some(prefix) = words.journal else {
+        return Ok(None);
+    };
+    let number = words.site;
+    let Ok(name) = format!(in alloc; "{prefix}{number}.tdj") else {
+        return Err(end(Err(Ended::OutOfMemory), faults));
+    };
+    match unfit_words(alloc, host, words, name.as_str()) {
+        Ok(None) => Ok(Some(name)),
+        Ok(Some(text)) => {
+            complain(faults, text.as_str());
+            Err(BAD_JOURNAL)
+        }
+        Err(_) => Err(end(Err(Ended::OutOfMemory), faults)),
+    }
+}
+
+// Has the site come back from its journal, where it keeps one, and answers what is typed.
+fn start_at<
+    R: Opens + Changes + Drop,
+    J: Journals,
     H: Files<File = File> + Clock + AllocGlobal + Clone + Drop,
     L: Links,
     S: Source,
     K: Sink,
     F: Sink,
->(
-    alloc: Global,
-    words: &Words<'_>,
-    name: &str,
-    script: &str,
-    host: &H,
-    notes: &Notes,
-    links: &mut L,
-    meter: &mut Meter,
-    site: R,
-    terminal: Terminal,
-    source: &mut S,
-    sink: &mut K,
-    faults: &mut F,
-) -> u8
+>(run: &mut Run<'_, '_, '_, H, L, S, K, F>, journals: &J, script: Script, site: R) -> u8
     requires { IsNew (R.seen site) }
 {
-    let contents = match read_contents(host, name) {
-        Ok(contents) => contents,
-        Err(error) => return refuse(fault_journal(alloc, name, error.words()), faults),
-    };
-    let mut journal = Device::new(contents.bytes.as_slice());
-    let reopened = match take_journal(alloc, site, &mut journal, meter) {
-        Ok(reopened) => reopened,
-        Err(error) => {
-            let told = refusal_text(
-                alloc,
-                name,
-                &contents,
-                error,
-                script,
-                words.site,
-                words.limit,
-            );
-            return refuse(told, faults);
+    match journal_name(run.alloc, run.words, run.host, run.faults) {
+        Ok(None) => {
+            let found = journal_text(run.alloc, None, None, &site);
+            run_at::<_, R, _, _, _, _, _>(run, found, site, script.behind)
         }
-    };
-    let Reopened {
-        replica,
-        whole,
-        version: _,
-    } = reopened;
-    let store = Store::Copy {
-        name,
-        contents: &contents,
-        whole,
-    };
-    let ended = converse_at::<_, R, _, _, _, _, _>(
-        alloc,
-        host,
-        links,
-        meter,
-        words,
-        store,
-        notes,
-        replica,
-        Vec::new(alloc),
-        terminal,
-        source,
-        sink,
-        faults,
-    );
-    end(ended, faults)
+        Ok(Some(name)) => {
+            if run.words.is_read_only {
+                start_reading(run, name.as_str(), script.text.as_str(), site)
+            } else {
+                start_keeping(run, journals, name.as_str(), script, site)
+            }
+        }
+        Err(status) => status,
+    }
 }
 
-// Opens the site of the script and has it come back from its journal, where it keeps one, and answers what is typed.
+// Opens the site of the script, and answers what is typed.
 fn start<
+    'a,
     R: Opens + Changes + Drop,
     J: Journals,
     H: Files<File = File> + Clock + AllocGlobal + Clone + Drop,
@@ -402,99 +491,33 @@ fn start<
     alloc: Global,
     words: &Words<'_>,
     script: Script,
-    host: &H,
+    host: &'a H,
     journals: &J,
-    notes: &Notes,
-    links: &mut L,
-    meter: &mut Meter,
+    notes: &'a Notes,
+    links: &'a mut L,
+    meter: &'a mut Meter,
     terminal: Terminal,
-    source: &mut S,
-    sink: &mut K,
-    faults: &mut F,
+    source: &'a mut S,
+    sink: &'a mut K,
+    faults: &'a mut F,
 ) -> u8 {
-    let Script { text, behind } = script;
-    let site = match open_new::<R, _>(alloc, words, text.as_str(), faults) {
+    let site = match open_new::<R, _>(alloc, words, script.text.as_str(), faults) {
         Ok(site) => site,
         Err(status) => return status,
     };
-    let Some(prefix) = words.journal else {
-        let ended = converse_at::<_, R, _, _, _, _, _>(
-            alloc,
-            host,
-            links,
-            meter,
-            words,
-            Store::Memory,
-            notes,
-            site,
-            behind,
-            terminal,
-            source,
-            sink,
-            faults,
-        );
-        return end(ended, faults);
+    let mut run = Run {
+        alloc,
+        words,
+        host,
+        notes,
+        links,
+        meter,
+        terminal,
+        source,
+        sink,
+        faults,
     };
-    let number = words.site;
-    let Ok(name) = format!(in alloc; "{prefix}{number}.tdj") else {
-        return end(Err(Ended::OutOfMemory), faults);
-    };
-    match unfit_words(alloc, host, words, name.as_str()) {
-        Ok(None) => {}
-        Ok(Some(text)) => {
-            complain(faults, text.as_str());
-            return BAD_JOURNAL;
-        }
-        Err(_) => return end(Err(Ended::OutOfMemory), faults),
-    }
-    if words.is_read_only {
-        return start_reading::<R, _, _, _, _, _>(
-            alloc,
-            words,
-            name.as_str(),
-            text.as_str(),
-            host,
-            notes,
-            links,
-            meter,
-            site,
-            terminal,
-            source,
-            sink,
-            faults,
-        );
-    }
-    match keep_journal(alloc, journals, &name, site, meter) {
-        Ok(site) => {
-            let ended = converse_at::<_, R, _, _, _, _, _>(
-                alloc,
-                host,
-                links,
-                meter,
-                words,
-                Store::Journal(name.as_str()),
-                notes,
-                site,
-                behind,
-                terminal,
-                source,
-                sink,
-                faults,
-            );
-            end(ended, faults)
-        }
-        Err(StoreError::OutOfMemory) => end(Err(Ended::OutOfMemory), faults),
-        Err(StoreError::JournalFile) => unkept::<R, _, _>(
-            alloc,
-            words,
-            name.as_str(),
-            text.as_str(),
-            host,
-            notes,
-            meter,
-            faults,
-        ),
-    }
+    start_at(&mut run, journals, script, site)
 }
 
 /// Reads the words, the first of which names the program, and the script, and answers what is typed. The answer is the
@@ -530,14 +553,14 @@ pub fn program<
         Ok(file) => file,
         Err(error) => return no_script(words.script, error, faults),
     };
-    match script_in(alloc, &file) {
-        Ok(script) => start::<R, _, _, _, _, _, _>(
-            alloc, &words, script, host, journals, notes, links, meter, terminal, source, sink,
-            faults,
-        ),
+    let script = match script_in(alloc, &file) {
+        Ok(script) => script,
         Err(error) => {
             complain(faults, no_script_words(error));
-            1
+            return 1;
         }
-    }
+    };
+    start::<R, _, _, _, _, _, _>(
+        alloc, &words, script, host, journals, notes, links, meter, terminal, source, sink, faults,
+    )
 }

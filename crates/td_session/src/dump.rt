@@ -1,8 +1,8 @@
 //! A site as a script that makes it again.
 
 use crate::issue::issue;
+use crate::lists::told;
 use crate::new_file::{NotWritten, write_new};
-use crate::wording::{BROKEN, UNCHANGED};
 use std::alloc::{AllocError, Global};
 use std::fs::File;
 use std::rt::Files;
@@ -12,10 +12,17 @@ use td_grammar::{ReadError, read_statement_in};
 use td_headings::Catalogue;
 use td_inputs::{DumpedEntry, entry_in, push_entry};
 use td_stamps::{Entry, Stamp};
-use td_story::{Meter, Outcome, Replica, TellError};
+use td_story::{Meter, Outcome, Replica};
 
 /// What the names of journals and of the files beside them have in them, and no dump's.
 const OF_JOURNALS: &str = ".tdj";
+
+/// The script, as it stands in front of the statements of a dump.
+pub fn script_text(alloc: Global, script: &str) -> Result<String, AllocError> {
+    let mut text = String::from_str(alloc, script)?;
+    text.push_str(".begin\n")?;
+    Ok(text)
+}
 
 /// The most bytes of a line of a dump: a text of which each character is written by two.
 pub const ENTRY_BYTES: usize = 32_768;
@@ -28,20 +35,13 @@ struct History {
     left_out: usize,
 }
 
-// The script, and behind it a line for each statement. One that has no reading in its dialect is left out: it had no
-// effect, and in another dialect it might have one.
-fn dump_of(
-    alloc: Global,
-    script: &str,
+// Appends a line for each statement. One that has no reading in its dialect is left out: it had no effect, and in
+// another dialect it might have one.
+fn push_entries(
+    dump: &mut History,
     entries: &[Entry],
     outcomes: &[(Stamp, Outcome)],
-) -> Result<History, AllocError> {
-    let mut dump = History {
-        text: String::from_str(alloc, script)?,
-        kept: 0,
-        left_out: 0,
-    };
-    dump.text.push_str(".begin\n")?;
+) -> Result<(), AllocError> {
     for (entry, (_, outcome)) in entries.iter().zip(outcomes) {
         if matches!(outcome, Outcome::Unread) {
             dump.left_out = dump.left_out.saturating_add(1);
@@ -50,6 +50,22 @@ fn dump_of(
             dump.kept = dump.kept.saturating_add(1);
         }
     }
+    Ok(())
+}
+
+// The script, and behind it a line for each statement.
+fn dump_of(
+    alloc: Global,
+    script: &str,
+    entries: &[Entry],
+    outcomes: &[(Stamp, Outcome)],
+) -> Result<History, AllocError> {
+    let mut dump = History {
+        text: script_text(alloc, script)?,
+        kept: 0,
+        left_out: 0,
+    };
+    push_entries(&mut dump, entries, outcomes)?;
     Ok(dump)
 }
 
@@ -95,15 +111,10 @@ pub fn dump<R: Replica, H: Files<File = File>>(
             "fault file: {file} is a name for journals; a dump goes to another one\n"
         );
     }
-    let Ok(held) = site.held() else {
-        return String::from_str(alloc, BROKEN);
+    let dump = match told(alloc, site) {
+        Ok((entries, outcomes)) => dump_of(alloc, site.script(), entries, &outcomes)?,
+        Err(words) => return String::from_str(alloc, words),
     };
-    let outcomes = match site.outcomes(alloc) {
-        Ok(outcomes) => outcomes,
-        Err(TellError::Broken) => return String::from_str(alloc, BROKEN),
-        Err(TellError::OutOfMemory) => return String::from_str(alloc, UNCHANGED),
-    };
-    let dump = dump_of(alloc, site.script(), held.entries(), &outcomes)?;
     match write_new(alloc, host, file, dump.text.as_bytes())? {
         Ok(()) => dumped_words(alloc, file, &dump),
         Err(error) => unwritten_words(alloc, file, error),
@@ -119,6 +130,21 @@ fn is_of_dialect(alloc: Global, entry: &DumpedEntry) -> Result<bool, AllocError>
     }
 }
 
+fn issue_dumped<R: Changes>(
+    alloc: Global,
+    catalogue: &Catalogue,
+    site: &mut R,
+    entry: &DumpedEntry,
+    meter: &mut Meter,
+    notes: &Notes,
+) -> Result<String, AllocError> {
+    if !is_of_dialect(alloc, entry)? {
+        let dialect = entry.dialect;
+        return format!(in alloc; "fault syntax: this is no statement of dialect {dialect}\n");
+    }
+    issue(alloc, catalogue, site, entry.text.as_str(), meter, notes)
+}
+
 /// Issues the statement of a line of a dump.
 pub fn issue_entry<R: Changes>(
     alloc: Global,
@@ -128,15 +154,11 @@ pub fn issue_entry<R: Changes>(
     meter: &mut Meter,
     notes: &Notes,
 ) -> Result<String, AllocError> {
-    let Some(entry) = entry_in(alloc, words)? else {
-        return String::from_str(
+    match entry_in(alloc, words)? {
+        Some(entry) => issue_dumped(alloc, catalogue, site, &entry, meter, notes),
+        None => String::from_str(
             alloc,
             "fault command: a line of a dump is written so: .entry DIALECT 'TEXT'\n",
-        );
-    };
-    if !is_of_dialect(alloc, &entry)? {
-        let dialect = entry.dialect;
-        return format!(in alloc; "fault syntax: this is no statement of dialect {dialect}\n");
+        ),
     }
-    issue(alloc, catalogue, site, entry.text.as_str(), meter, notes)
 }

@@ -170,6 +170,26 @@ fn tell<F: Sink>(
     Ok(())
 }
 
+// Notes a statement of so many rows that was issued. The answer is why the import stops, if it does.
+fn note_issued(
+    alloc: Global,
+    issued: &Issued,
+    count: usize,
+    progress: &mut Progress,
+) -> Result<Option<Stop>, AllocError> {
+    if !matches!(&issued.outcome, Outcome::Done) {
+        let why = refused(alloc, issued)?;
+        return Ok(Some(Stop { why, count }));
+    }
+    progress.rows = progress.rows.saturating_add(count);
+    progress.statements = progress.statements.saturating_add(1);
+    if progress.first.is_none() {
+        progress.first = Some(issued.stamp);
+    }
+    progress.last = Some(issued.stamp);
+    Ok(None)
+}
+
 // Issues the statement of the first of these rows. The answer is why the import stops, if it does.
 fn insert_some<R: Replica>(
     alloc: Global,
@@ -182,25 +202,14 @@ fn insert_some<R: Replica>(
 ) -> Result<Option<Stop>, AllocError> {
     let insertion = insertion_of(alloc, target.relvar, target.heading, rows, MOST_BYTES)?;
     let count = insertion.count;
-    let issued = match site.issue(alloc, insertion.text.as_str(), meter) {
-        Ok(issued) => issued,
+    match site.issue(alloc, insertion.text.as_str(), meter) {
+        Ok(issued) => note_issued(alloc, &issued, count, progress),
         Err(error) => {
             let text = insertion.text.as_str();
             let why = not_issued(alloc, target.catalogue, text, error, notes)?;
-            return Ok(Some(Stop { why, count }));
+            Ok(Some(Stop { why, count }))
         }
-    };
-    if !matches!(&issued.outcome, Outcome::Done) {
-        let why = refused(alloc, &issued)?;
-        return Ok(Some(Stop { why, count }));
     }
-    progress.rows = progress.rows.saturating_add(insertion.count);
-    progress.statements = progress.statements.saturating_add(1);
-    if progress.first.is_none() {
-        progress.first = Some(issued.stamp);
-    }
-    progress.last = Some(issued.stamp);
-    Ok(None)
 }
 
 fn insert_all<R: Replica, F: Sink>(

@@ -20,6 +20,38 @@ fn folder_of(name: &str) -> (&str, &str) {
     }
 }
 
+// Adds the name of a file, where it is one of a journal.
+fn push_journal(alloc: Global, names: &mut Vec<String>, name: &str) -> Result<(), AllocError> {
+    if name.ends_with(ENDING) {
+        names.push(String::from_str(alloc, name)?)?;
+    }
+    Ok(())
+}
+
+// The names of the journals in a folder, in order.
+fn names_in<H: Files + AllocGlobal + Clone + Drop>(
+    alloc: Global,
+    host: &H,
+    folder: &str,
+) -> Result<Vec<String>, AllocError> {
+    let mut names = Vec::new(alloc);
+    if let Ok(entries) = fs::read_dir(host, folder) {
+        for entry in entries {
+            if let Ok(entry) = entry {
+                push_journal(alloc, &mut names, entry.file_name())?;
+            }
+        }
+    }
+    names.sort_unstable();
+    Ok(names)
+}
+
+fn push_name(out: &mut String, front: &str, name: &str) -> Result<(), AllocError> {
+    out.push_str(" ")?;
+    out.push_str(front)?;
+    out.push_str(name)
+}
+
 // The names of the journals that stand beside this one, in order, with blanks between.
 fn names_there<H: Files + AllocGlobal + Clone + Drop>(
     alloc: Global,
@@ -27,22 +59,10 @@ fn names_there<H: Files + AllocGlobal + Clone + Drop>(
     name: &str,
 ) -> Result<String, AllocError> {
     let (folder, front) = folder_of(name);
-    let mut names = Vec::new(alloc);
-    if let Ok(entries) = fs::read_dir(host, folder) {
-        for entry in entries {
-            if let Ok(entry) = entry
-                && entry.file_name().ends_with(ENDING)
-            {
-                names.push(String::from_str(alloc, entry.file_name())?)?;
-            }
-        }
-    }
-    names.sort_unstable();
+    let names = names_in(alloc, host, folder)?;
     let mut out = String::new(alloc);
     for name in &names {
-        out.push_str(" ")?;
-        out.push_str(front)?;
-        out.push_str(name.as_str())?;
+        push_name(&mut out, front, name.as_str())?;
     }
     Ok(out)
 }

@@ -5,6 +5,7 @@
 mod access;
 mod ask;
 pub mod command;
+mod draft;
 mod dump;
 pub mod ended;
 mod help;

@@ -7,8 +7,8 @@ use td_notices::{digest_text, log_text, refused_text};
 use td_stamps::{Entry, Stamp};
 use td_story::{Outcome, Replica, TellError};
 
-// What the site holds with what became of each statement, or what is said in its place.
-fn told<R: Replica>(
+/// What the site holds with what became of each statement, or what is said in its place.
+pub fn told<R: Replica>(
     alloc: Global,
     site: &R,
 ) -> Result<(&[Entry], Vec<(Stamp, Outcome)>), &'static str> {

@@ -12,7 +12,7 @@ use td_frames::FrameError;
 use td_headings::Catalogue;
 use td_meeting::{MeetingError, answer, finish, greet, settle};
 use td_notices::{Retold, Told, room_text};
-use td_story::{Meter, TakeError, Taken, TellError};
+use td_story::{Meter, Replica, TakeError, Taken, TellError};
 
 const NO_ADDRESS: &str =
     "fault address: an address is numbers and a port, as 127.0.0.1:7001 or [::1]:7001\n";
@@ -139,28 +139,96 @@ fn with_changes<R: Changes>(
     Ok(out)
 }
 
+/// How a site comes to meet another one.
+#[derive(Clone, Copy, PartialEq, Eq)]
+pub enum Way {
+    /// It waits for one.
+    Serve,
+    /// It calls one that waits.
+    Call,
+}
+
+/// Why a meeting did not come to its end.
+#[derive(Clone, Copy, Drop)]
+enum Unmet {
+    NotLinked(LinkError),
+    /// The sites did not greet one another, and nothing was taken.
+    NotBegun(MeetingError),
+    BrokenOff(MeetingError),
+}
+
 fn met<R: Changes>(
     alloc: Global,
     catalogue: &Catalogue,
     site: &R,
     before: &Told,
-    told: Result<Taken, MeetingError>,
+    told: Result<Taken, Unmet>,
     notes: &Notes,
 ) -> Result<Meeting, AllocError> {
     let (line, is_done) = match told {
         Ok(Taken { fresh, known: _ }) => (met_words(alloc, fresh)?, true),
-        Err(error) => (not_met(alloc, error, notes)?, false),
+        Err(Unmet::NotLinked(error)) => return not_begun(not_linked(alloc, error)),
+        Err(Unmet::NotBegun(error)) => return not_begun(not_met(alloc, error, notes)),
+        Err(Unmet::BrokenOff(error)) => (not_met(alloc, error, notes)?, false),
     };
     let text = with_changes(alloc, catalogue, site, before, line.as_str())?;
     Ok(Meeting { text, is_done })
 }
 
-/// Waits at the address for one site, and meets it. That it waits is told on the output of faults.
-pub fn serve<R: Changes, L: Links, F: Sink>(
+// Nothing hangs on whether it is seen that a site waits.
+fn tell_waiting<F: Sink>(alloc: Global, word: &str, faults: &mut F) -> Result<(), AllocError> {
+    let line = format!(in alloc; "waiting at {word} for another site\n")?;
+    let _told = put(faults, line.as_bytes());
+    Ok(())
+}
+
+fn serve<R: Replica, L: Links>(
+    alloc: Global,
+    site: &mut R,
+    links: &mut L,
+    address: SocketAddr,
+    meter: &mut Meter,
+) -> Result<Taken, Unmet> {
+    let mut link = match links.serve(alloc, address) {
+        Ok(link) => Device::link(link),
+        Err(error) => return Err(Unmet::NotLinked(error)),
+    };
+    if let Err(error) = answer(alloc, site, &mut link) {
+        return Err(Unmet::NotBegun(error));
+    }
+    match finish(alloc, site, &mut link, meter) {
+        Ok(taken) => Ok(taken),
+        Err(error) => Err(Unmet::BrokenOff(error)),
+    }
+}
+
+fn call<R: Replica, L: Links>(
+    alloc: Global,
+    site: &mut R,
+    links: &mut L,
+    address: SocketAddr,
+    meter: &mut Meter,
+) -> Result<Taken, Unmet> {
+    let mut link = match links.call(alloc, address) {
+        Ok(link) => Device::link(link),
+        Err(error) => return Err(Unmet::NotLinked(error)),
+    };
+    if let Err(error) = greet(alloc, site, &mut link) {
+        return Err(Unmet::NotBegun(error));
+    }
+    match settle(alloc, site, &mut link, meter) {
+        Ok(taken) => Ok(taken),
+        Err(error) => Err(Unmet::BrokenOff(error)),
+    }
+}
+
+/// Meets the site that serves at the address, or waits there for one. That it waits is told on the output of faults.
+pub fn meet<R: Changes, L: Links, F: Sink>(
     alloc: Global,
     catalogue: &Catalogue,
     site: &mut R,
     links: &mut L,
+    way: Way,
     word: &str,
     meter: &mut Meter,
     notes: &Notes,
@@ -173,43 +241,12 @@ pub fn serve<R: Changes, L: Links, F: Sink>(
         Ok(before) => before,
         Err(words) => return not_begun(String::from_str(alloc, words)),
     };
-    let line = format!(in alloc; "waiting at {word} for another site\n")?;
-    let _told = put(faults, line.as_bytes());
-    let mut link = match links.serve(alloc, address) {
-        Ok(link) => Device::link(link),
-        Err(error) => return not_begun(not_linked(alloc, error)),
+    let told = match way {
+        Way::Serve => {
+            tell_waiting(alloc, word, faults)?;
+            serve(alloc, site, links, address, meter)
+        }
+        Way::Call => call(alloc, site, links, address, meter),
     };
-    if let Err(error) = answer(alloc, site, &mut link) {
-        return not_begun(not_met(alloc, error, notes));
-    }
-    let taken = finish(alloc, site, &mut link, meter);
-    met(alloc, catalogue, site, &before, taken, notes)
-}
-
-/// Meets the site that serves at the address.
-pub fn call<R: Changes, L: Links>(
-    alloc: Global,
-    catalogue: &Catalogue,
-    site: &mut R,
-    links: &mut L,
-    address: &str,
-    meter: &mut Meter,
-    notes: &Notes,
-) -> Result<Meeting, AllocError> {
-    let Ok(address) = address.parse::<SocketAddr>() else {
-        return not_begun(String::from_str(alloc, NO_ADDRESS));
-    };
-    let before = match told_before(alloc, site) {
-        Ok(before) => before,
-        Err(words) => return not_begun(String::from_str(alloc, words)),
-    };
-    let mut link = match links.call(alloc, address) {
-        Ok(link) => Device::link(link),
-        Err(error) => return not_begun(not_linked(alloc, error)),
-    };
-    if let Err(error) = greet(alloc, site, &mut link) {
-        return not_begun(not_met(alloc, error, notes));
-    }
-    let taken = settle(alloc, site, &mut link, meter);
-    met(alloc, catalogue, site, &before, taken, notes)
+    met(alloc, catalogue, site, &before, told, notes)
 }

@@ -77,6 +77,11 @@ fn count_text<R: Replica>(alloc: Global, site: &R, name: &Name) -> Result<String
     }
 }
 
+fn push_cell(cells: &mut Vec<String>, cell: Result<String, AllocError>) -> Result<(), AllocError> {
+    cells.push(cell?)?;
+    Ok(())
+}
+
 fn row<R: Replica>(
     alloc: Global,
     catalogue: &Catalogue,
@@ -85,10 +90,11 @@ fn row<R: Replica>(
 ) -> Result<Vec<String>, AllocError> {
     let mut cells = Vec::with_capacity(alloc, COLUMNS.len())?;
     if let Some((name, heading)) = catalogue.schema().relvar_at(place) {
-        cells.push(String::from_str(alloc, name.as_str())?)?;
-        cells.push(count_text(alloc, site, name)?)?;
-        cells.push(String::from_str(alloc, kind_words(catalogue, place))?)?;
-        cells.push(heading_text(alloc, heading)?)?;
+        let kind = kind_words(catalogue, place);
+        push_cell(&mut cells, String::from_str(alloc, name.as_str()))?;
+        push_cell(&mut cells, count_text(alloc, site, name))?;
+        push_cell(&mut cells, String::from_str(alloc, kind))?;
+        push_cell(&mut cells, heading_text(alloc, heading))?;
     }
     Ok(cells)
 }

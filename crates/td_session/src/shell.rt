@@ -2,6 +2,7 @@
 
 use crate::access::Access;
 use crate::ask::{ask, ask_at};
+use crate::draft::Draft;
 use crate::dump::{ENTRY_BYTES, dump, issue_entry};
 use crate::ended::Ended;
 use crate::help::HELP;
@@ -9,7 +10,7 @@ use crate::import::import;
 use crate::inputs::{Inputs, Next};
 use crate::issue::issue;
 use crate::lists::{digest, log, refused, vector};
-use crate::meet::{Meeting, call, serve};
+use crate::meet::{Meeting, Way, meet};
 use crate::relvars::{relvars, schema};
 use crate::tables::{dump_tables, export};
 use crate::timing::{begin, took};
@@ -18,19 +19,19 @@ use std::alloc::{AllocError, Global};
 use std::fs::File;
 use std::marker::PhantomData;
 use std::rt::Files;
-use std::str;
 use std::time::Clock;
+use std::{mem, str};
 use td_answers::Links;
 use td_changes::Changes;
 use td_devices::{Sink, Source, put};
 use td_files::Notes;
 use td_headings::Catalogue;
-use td_inputs::{Command, Mode, Scan, Standing, command_of};
+use td_inputs::{Command, Mode, Standing, command_of};
 use td_listings::{ListingError, listing};
 use td_notices::lack_words;
 use td_paths::{Unreadable, read_plain};
 use td_stamps::Stamp;
-use td_story::{MOST_BYTES, Meter, Opens};
+use td_story::{Meter, Opens, Replica};
 
 /// A site and what a conversation at it needs.
 #[derive(Drop)]
@@ -45,9 +46,7 @@ pub struct Shell<'a, R: Drop, O, H, L> {
     access: Access,
     mode: Mode,
     is_timed: bool,
-    text: String,
-    scan: Scan,
-    is_too_long: bool,
+    draft: Draft,
     has_faults: bool,
     /// The kind of site at which a dump is tried.
     opens: PhantomData<O>,
@@ -66,7 +65,77 @@ enum After {
     Quit,
 }
 
+// Writes an answer, and notes whether it tells a fault.
+fn put_answer<K: Sink>(answer: &str, has_faults: &mut bool, sink: &mut K) -> Result<(), Ended> {
+    *has_faults = *has_faults || answer.starts_with("fault ");
+    Ok(put(sink, answer.as_bytes())?)
+}
+
+// Writes an answer, or that there is no memory for it.
+fn say<K: Sink>(
+    answer: Result<String, AllocError>,
+    has_faults: &mut bool,
+    sink: &mut K,
+) -> Result<(), Ended> {
+    match answer {
+        Ok(text) => put_answer(text.as_str(), has_faults, sink),
+        Err(_) => put_answer(NO_MEMORY, has_faults, sink),
+    }
+}
+
+// What stands in front of a line that is typed at this site.
+fn prompt<K: Sink>(alloc: Global, site: u16, draft: &Draft, sink: &mut K) -> Result<(), Ended> {
+    if draft.ended() != Standing::Empty {
+        return Ok(put(sink, b".. ")?);
+    }
+    let prompt = format!(in alloc; "{site}> ")?;
+    Ok(put(sink, prompt.as_bytes())?)
+}
+
+// Why nothing is issued, where the site may not be changed as it is.
+fn closed_text(alloc: Global, access: Access) -> Result<String, AllocError> {
+    if access == Access::ReadOnly {
+        return String::from_str(alloc, READ_ONLY);
+    }
+    let words = lack_words();
+    format!(in alloc; "fault journal: {words}")
+}
+
+// Has the lines of a file come next.
+fn read<H: Files + AllocGlobal>(
+    alloc: Global,
+    host: &H,
+    inputs: &mut Inputs,
+    file: &str,
+) -> Result<String, AllocError> {
+    let bytes = match read_plain(host, file) {
+        Ok(bytes) => bytes,
+        Err(error) => return unreadable_text(alloc, file, error),
+    };
+    if inputs.read_file(bytes)? {
+        return Ok(String::new(alloc));
+    }
+    String::from_str(alloc, NESTED_FILES)
+}
+
+// Writes all that the site has.
+fn list<R: Replica, K: Sink>(
+    alloc: Global,
+    site: &R,
+    has_faults: &mut bool,
+    sink: &mut K,
+) -> Result<(), Ended> {
+    match listing(alloc, site, sink) {
+        Ok(()) => Ok(()),
+        Err(ListingError::Broken) => put_answer(BROKEN, has_faults, sink),
+        Err(ListingError::OutOfMemory) => put_answer(NO_MEMORY, has_faults, sink),
+        Err(ListingError::WriteFault) => Err(Ended::WriteFault),
+    }
+}
+
 const TOO_LONG: &str = "fault line: the line has more than 16384 bytes\n";
+
+const NO_ROOM: &str = "fault syntax: a statement or a query has at most 8192 bytes\n";
 
 const NO_UTF8: &str = "fault line: the line is no UTF-8\n";
 
@@ -102,9 +171,7 @@ impl<
             access,
             mode: Mode::Table,
             is_timed: false,
-            text: String::new(alloc),
-            scan: Scan::new(),
-            is_too_long: false,
+            draft: Draft::new(alloc),
             has_faults: false,
             opens: PhantomData,
         }
@@ -113,34 +180,6 @@ impl<
     /// Whether a fault was answered, or an import stopped.
     pub fn has_faults(&self) -> bool {
         self.has_faults
-    }
-
-    // Writes an answer, and notes whether it tells a fault.
-    fn put<K: Sink>(&mut self, answer: &str, sink: &mut K) -> Result<(), Ended> {
-        self.has_faults = self.has_faults || answer.starts_with("fault ");
-        Ok(put(sink, answer.as_bytes())?)
-    }
-
-    fn prompt<K: Sink>(&self, sink: &mut K) -> Result<(), Ended> {
-        if self.scan.ended() == Standing::Empty {
-            let site = self.site.site();
-            let prompt = format!(in self.alloc; "{site}> ")?;
-            return Ok(put(sink, prompt.as_bytes())?);
-        }
-        Ok(put(sink, b".. ")?)
-    }
-
-    // Adds a line to the text. A text that is too long for any statement or query is not kept whole.
-    fn add(&mut self, line: &str) -> Result<(), AllocError> {
-        self.scan.add_line(line.as_bytes());
-        if self.text.len().saturating_add(line.len()) > MOST_BYTES.saturating_mul(2) {
-            self.is_too_long = true;
-            return Ok(());
-        }
-        if !self.text.is_empty() {
-            self.text.push_str("\n")?;
-        }
-        self.text.push_str(line)
     }
 
     // A statement of a dump, which stands in files alone.
@@ -152,7 +191,7 @@ impl<
             );
         }
         if self.access != Access::Open {
-            return self.closed_text();
+            return closed_text(self.alloc, self.access);
         }
         if words.len() > ENTRY_BYTES {
             return String::from_str(self.alloc, TOO_LONG);
@@ -167,61 +206,12 @@ impl<
         )
     }
 
-    // Why nothing is issued, where the site may not be changed as it is.
-    fn closed_text(&self) -> Result<String, AllocError> {
-        if self.access == Access::ReadOnly {
-            return String::from_str(self.alloc, READ_ONLY);
-        }
-        let words = lack_words();
-        format!(in self.alloc; "fault journal: {words}")
-    }
-
-    // A meeting may have brought what the journal lacks.
-    fn after_meeting(&mut self, meeting: Meeting) -> String {
-        let Meeting { text, is_done } = meeting;
-        if is_done {
-            self.access = Access::Open;
-            self.notes.let_go();
-        }
-        text
-    }
-
-    fn serve<F: Sink>(&mut self, address: &str, faults: &mut F) -> Result<String, AllocError> {
-        if self.access == Access::ReadOnly {
-            return self.closed_text();
-        }
-        let meeting = serve(
-            self.alloc,
-            &self.catalogue,
-            &mut self.site,
-            self.links,
-            address,
-            self.meter,
-            self.notes,
-            faults,
-        )?;
-        Ok(self.after_meeting(meeting))
-    }
-
-    fn call(&mut self, address: &str) -> Result<String, AllocError> {
-        if self.access == Access::ReadOnly {
-            return self.closed_text();
-        }
-        let meeting = call(
-            self.alloc,
-            &self.catalogue,
-            &mut self.site,
-            self.links,
-            address,
-            self.meter,
-            self.notes,
-        )?;
-        Ok(self.after_meeting(meeting))
-    }
-
     fn answer_text(&mut self, standing: Standing, text: &str) -> Result<String, AllocError> {
         match standing {
-            Standing::Statement if self.access != Access::Open => self.closed_text(),
+            Standing::Statement if self.access != Access::Open => closed_text(
+                self.alloc,
+                self.access,
+            ),
             Standing::Statement => issue(
                 self.alloc,
                 &self.catalogue,
@@ -237,47 +227,50 @@ impl<
 
     // Answers the text that was typed, if there is one, and begins the next one.
     fn finish<K: Sink>(&mut self, sink: &mut K) -> Result<(), Ended> {
-        let standing = self.scan.ended();
-        let text = std::mem::replace(&mut self.text, String::new(self.alloc));
-        let is_too_long = self.is_too_long;
-        self.scan = Scan::new();
-        self.is_too_long = false;
+        let draft = mem::replace(&mut self.draft, Draft::new(self.alloc));
+        let standing = draft.ended();
         if standing == Standing::Empty {
             return Ok(());
         }
-        if is_too_long {
-            return self.put(
-                "fault syntax: a statement or a query has at most 8192 bytes\n",
-                sink,
-            );
-        }
-        let begun = begin(self.host, self.is_timed);
-        let answer = self.answer_text(standing, text.as_str());
-        self.say(answer, sink)?;
-        self.say(took(self.alloc, self.host, begun), sink)
-    }
-
-    fn say<K: Sink>(
-        &mut self,
-        answer: Result<String, AllocError>,
-        sink: &mut K,
-    ) -> Result<(), Ended> {
-        match answer {
-            Ok(text) => self.put(text.as_str(), sink),
-            Err(_) => self.put(NO_MEMORY, sink),
-        }
-    }
-
-    fn read(&self, inputs: &mut Inputs, file: &str) -> Result<String, AllocError> {
-        let alloc = self.alloc;
-        let bytes = match read_plain(self.host, file) {
-            Ok(bytes) => bytes,
-            Err(error) => return unreadable_text(alloc, file, error),
+        let Some(text) = draft.text() else {
+            return put_answer(NO_ROOM, &mut self.has_faults, sink);
         };
-        if inputs.read_file(bytes)? {
-            return Ok(String::new(alloc));
+        let begun = begin(self.host, self.is_timed);
+        let answer = self.answer_text(standing, text);
+        say(answer, &mut self.has_faults, sink)?;
+        say(
+            took(self.alloc, self.host, begun),
+            &mut self.has_faults,
+            sink,
+        )
+    }
+
+    // Meets the site at the address, or waits for one there. A meeting may bring what the journal lacks.
+    fn meet<F: Sink>(
+        &mut self,
+        way: Way,
+        address: &str,
+        faults: &mut F,
+    ) -> Result<String, AllocError> {
+        if self.access == Access::ReadOnly {
+            return closed_text(self.alloc, self.access);
         }
-        String::from_str(alloc, NESTED_FILES)
+        let Meeting { text, is_done } = meet(
+            self.alloc,
+            &self.catalogue,
+            &mut self.site,
+            self.links,
+            way,
+            address,
+            self.meter,
+            self.notes,
+            faults,
+        )?;
+        if is_done {
+            self.access = Access::Open;
+            self.notes.let_go();
+        }
+        Ok(text)
     }
 
     fn import<F: Sink>(
@@ -288,7 +281,7 @@ impl<
     ) -> Result<String, AllocError> {
         let alloc = self.alloc;
         if self.access != Access::Open {
-            return self.closed_text();
+            return closed_text(self.alloc, self.access);
         }
         let bytes = match read_plain(self.host, file) {
             Ok(bytes) => bytes,
@@ -312,15 +305,6 @@ impl<
         }
     }
 
-    fn list<K: Sink>(&mut self, sink: &mut K) -> Result<(), Ended> {
-        match listing(self.alloc, &self.site, sink) {
-            Ok(()) => Ok(()),
-            Err(ListingError::Broken) => self.put(BROKEN, sink),
-            Err(ListingError::OutOfMemory) => self.put(NO_MEMORY, sink),
-            Err(ListingError::WriteFault) => Err(Ended::WriteFault),
-        }
-    }
-
     // The answer to a command that is a text.
     fn answer_command<F: Sink>(
         &mut self,
@@ -337,7 +321,7 @@ impl<
             Command::Refused { is_own } => refused(alloc, &self.site, is_own),
             Command::Vector => vector(alloc, &self.site),
             Command::Digest(of) => digest(alloc, &self.site, of),
-            Command::Read(file) => self.read(inputs, file),
+            Command::Read(file) => read(alloc, self.host, inputs, file),
             Command::Import { file, relvar } => self.import(file, relvar, faults),
             Command::Dump(file) => dump(alloc, self.host, &self.site, file),
             Command::DumpTables(file) => dump_tables::<O, _, _>(
@@ -352,8 +336,8 @@ impl<
                 export(alloc, self.host, &self.catalogue, &self.site, folder)
             }
             Command::Entry(words) => self.issue_entry(words, inputs),
-            Command::Serve(address) => self.serve(address, faults),
-            Command::Call(address) => self.call(address),
+            Command::Serve(address) => self.meet(Way::Serve, address, faults),
+            Command::Call(address) => self.meet(Way::Call, address, faults),
             Command::At { clock, site, query } => {
                 let at = Stamp { clock, site };
                 ask_at(
@@ -391,13 +375,17 @@ impl<
             Command::Quit => return Ok(After::Quit),
             Command::Mode(mode) => self.mode = mode,
             Command::Timer(is_timed) => self.is_timed = is_timed,
-            Command::Listing => self.list(sink)?,
+            Command::Listing => list(self.alloc, &self.site, &mut self.has_faults, sink)?,
             _ => {
                 let answer = self.answer_command(command, inputs, faults);
-                self.say(answer, sink)?;
+                say(answer, &mut self.has_faults, sink)?;
             }
         }
-        self.say(took(self.alloc, self.host, begun), sink)?;
+        say(
+            took(self.alloc, self.host, begun),
+            &mut self.has_faults,
+            sink,
+        )?;
         Ok(After::GoOn)
     }
 
@@ -418,8 +406,8 @@ impl<
             self.finish(sink)?;
             return self.command(words, inputs, sink, faults);
         }
-        self.add(line)?;
-        if self.scan.standing() != Standing::Open {
+        self.draft.add(line)?;
+        if !self.draft.is_open() {
             self.finish(sink)?;
         }
         Ok(After::GoOn)
@@ -436,9 +424,9 @@ impl<
         match next {
             Next::Line(bytes) => match str::from_utf8(&bytes) {
                 Ok(line) => return self.take_line(line, inputs, sink, faults),
-                Err(_) => self.put(NO_UTF8, sink)?,
+                Err(_) => put_answer(NO_UTF8, &mut self.has_faults, sink)?,
             },
-            Next::TooLong => self.put(TOO_LONG, sink)?,
+            Next::TooLong => put_answer(TOO_LONG, &mut self.has_faults, sink)?,
             Next::FileEnd => self.finish(sink)?,
             Next::End => {
                 self.finish(sink)?;
@@ -469,7 +457,7 @@ pub fn converse<
 ) -> Result<(), Ended> {
     for _ in 0..u64::MAX {
         if is_terminal && inputs.is_typed() {
-            shell.prompt(sink)?;
+            prompt(shell.alloc, shell.site.site(), &shell.draft, sink)?;
         }
         let next = inputs.next_line(source)?;
         if shell.take(next, inputs, sink, faults)? == After::Quit {

@@ -1,7 +1,7 @@
 //! What the base relvars of a site have, as files: a script that makes them again, and tables for other programs.
 
-use crate::dump::{is_of_journals, unwritten_words};
-use crate::new_file::write_new;
+use crate::dump::{is_of_journals, script_text, unwritten_words};
+use crate::new_file::{NotWritten, write_new};
 use crate::wording::{BROKEN, UNCHANGED, counted};
 use std::alloc::{AllocError, Global};
 use std::fs;
@@ -31,12 +31,22 @@ fn untold_words(alloc: Global, untold: Untold) -> Result<String, AllocError> {
 
 // The script, and behind it a line for each statement.
 fn text_of(alloc: Global, script: &str, insertions: &[Insertion]) -> Result<String, AllocError> {
-    let mut text = String::from_str(alloc, script)?;
-    text.push_str(".begin\n")?;
+    let mut text = script_text(alloc, script)?;
     for insertion in insertions {
         push_entry(&mut text, LATEST, insertion.text.as_str())?;
     }
     Ok(text)
+}
+
+fn write_text<H: Files<File = File>>(
+    alloc: Global,
+    host: &H,
+    file: &str,
+    script: &str,
+    insertions: &[Insertion],
+) -> Result<Result<(), NotWritten>, AllocError> {
+    let text = text_of(alloc, script, insertions)?;
+    write_new(alloc, host, file, text.as_bytes())
 }
 
 // How many of the site's statements have no effect.
@@ -52,29 +62,57 @@ fn count_refused<R: Replica>(alloc: Global, site: &R) -> Result<usize, AllocErro
     }
 }
 
+// What is told of a dump that makes the tables again.
 fn dumped_words(
     alloc: Global,
     file: &str,
     tables: &Tables,
-    trial: &Trial,
     refused: usize,
 ) -> Result<String, AllocError> {
     let statements = counted(alloc, tables.insertions.len(), "statement")?;
     let relvars = counted(alloc, tables.relvars, "base relvar")?;
     let tuples = counted(alloc, tables.tuples, "tuple")?;
     let refused = counted(alloc, refused, "refused statement")?;
-    let mut out = format!(in alloc;
+    format!(in alloc;
         "dumped the script and {tuples} of {relvars} by {statements} to {file}\nit forgets the history: who issued what and when, past answers, and {refused}\nchange its script before sites start with it, if only by a comment: so sites of the old script do not meet them\n"
-    )?;
-    if trial.refused > 0 {
-        let refused = counted(alloc, trial.refused, "statement")?;
-        write!(
-            out,
-            "WARNING: {refused} of the file would be refused by themselves, and it does not make this site's tables again:\n"
-        )?;
-        out.push_str(trial.lines.as_str())?;
+    )
+}
+
+// Appends what a new site refused, if it did.
+fn push_warning(alloc: Global, out: &mut String, trial: &Trial) -> Result<(), AllocError> {
+    if trial.refused == 0 {
+        return Ok(());
     }
-    Ok(out)
+    let refused = counted(alloc, trial.refused, "statement")?;
+    write!(
+        out,
+        "WARNING: {refused} of the file would be refused by themselves, and it does not make this site's tables again:\n"
+    )?;
+    out.push_str(trial.lines.as_str())
+}
+
+// Tries the statements at a new site, and writes them to the file.
+fn write_tables<O: Opens + Drop, R: Replica, H: Files<File = File>>(
+    alloc: Global,
+    host: &H,
+    site: &R,
+    limit: usize,
+    tables: &Tables,
+    file: &str,
+    meter: &mut Meter,
+) -> Result<String, AllocError> {
+    let insertions = tables.insertions.as_slice();
+    let script = site.script();
+    let trial = refused_insertions::<O>(alloc, script, limit, insertions, meter)?;
+    let refused = count_refused(alloc, site)?;
+    match write_text(alloc, host, file, script, insertions)? {
+        Ok(()) => {
+            let mut out = dumped_words(alloc, file, tables, refused)?;
+            push_warning(alloc, &mut out, &trial)?;
+            Ok(out)
+        }
+        Err(error) => unwritten_words(alloc, file, error),
+    }
 }
 
 /// Writes the script, and behind it statements that insert what the base relvars have now, to a file that is not there
@@ -95,18 +133,11 @@ pub fn dump_tables<O: Opens + Drop, R: Replica, H: Files<File = File>>(
     let Ok(held) = site.held() else {
         return String::from_str(alloc, BROKEN);
     };
-    let tables = match tables_of(alloc, catalogue, site) {
-        Ok(tables) => tables,
-        Err(untold) => return untold_words(alloc, untold),
-    };
-    let insertions = tables.insertions.as_slice();
-    let script = site.script();
-    let trial = refused_insertions::<O>(alloc, script, held.limit(), insertions, meter)?;
-    let text = text_of(alloc, script, insertions)?;
-    let refused = count_refused(alloc, site)?;
-    match write_new(alloc, host, file, text.as_bytes())? {
-        Ok(()) => dumped_words(alloc, file, &tables, &trial, refused),
-        Err(error) => unwritten_words(alloc, file, error),
+    match tables_of(alloc, catalogue, site) {
+        Ok(tables) => {
+            write_tables::<O, _, _>(alloc, host, site, held.limit(), &tables, file, meter)
+        }
+        Err(untold) => untold_words(alloc, untold),
     }
 }
 
@@ -130,6 +161,21 @@ fn table_text<R: Replica>(
     }
 }
 
+// Writes a table into the folder by the name of its relvar, and tells what it did.
+fn write_table<H: Files<File = File>>(
+    alloc: Global,
+    host: &H,
+    folder: &str,
+    relvar: &str,
+    table: &[u8],
+) -> Result<String, AllocError> {
+    let file = format!(in alloc; "{folder}/{relvar}.csv")?;
+    match write_new(alloc, host, file.as_str(), table)? {
+        Ok(()) => format!(in alloc; "{file}\n"),
+        Err(error) => unwritten_words(alloc, file.as_str(), error),
+    }
+}
+
 // Writes the table of one relvar into the folder, and tells what it did.
 fn export_one<R: Replica, H: Files<File = File>>(
     alloc: Global,
@@ -139,16 +185,11 @@ fn export_one<R: Replica, H: Files<File = File>>(
     folder: &str,
 ) -> Result<String, AllocError> {
     let relvar = name.as_str();
-    let table = match table_text(alloc, site, name) {
-        Ok(Some(table)) => table,
-        Ok(None) => return format!(in alloc; "{relvar} has no attributes, and no table\n"),
-        Err(ValueError::OutOfMemory) => return Err(AllocError),
-        Err(ValueError::Broken | ValueError::Unknown) => return String::from_str(alloc, BROKEN),
-    };
-    let file = format!(in alloc; "{folder}/{relvar}.csv")?;
-    match write_new(alloc, host, file.as_str(), &table)? {
-        Ok(()) => format!(in alloc; "{file}\n"),
-        Err(error) => unwritten_words(alloc, file.as_str(), error),
+    match table_text(alloc, site, name) {
+        Ok(Some(table)) => write_table(alloc, host, folder, relvar, &table),
+        Ok(None) => format!(in alloc; "{relvar} has no attributes, and no table\n"),
+        Err(ValueError::OutOfMemory) => Err(AllocError),
+        Err(ValueError::Broken | ValueError::Unknown) => String::from_str(alloc, BROKEN),
     }
 }
 

@@ -30,15 +30,17 @@ fn with_journal<'a>(alloc: Global, command: Command<'a>) -> Result<Command<'a>, 
         .value_name("PREFIX")
         .help("Keeps the site's statements in the file PREFIX, its number, .tdj")
         .action(ArgAction::Set);
+    let command = command.arg(journal)?;
     let new = Arg::new(alloc, "new")
         .long("new")
         .help("Begins a journal where none is")
         .action(ArgAction::SetTrue);
+    let command = command.arg(new)?;
     let forget = Arg::new(alloc, "forget")
         .long("forget")
         .help("Goes on with a journal that lost statements, without meeting another site first")
         .action(ArgAction::SetTrue);
-    command.arg(journal)?.arg(new)?.arg(forget)
+    command.arg(forget)
 }
 
 // With the options of texts that stand for what is typed.
@@ -48,11 +50,12 @@ fn with_typed<'a>(alloc: Global, command: Command<'a>) -> Result<Command<'a>, Al
         .value_name("TEXT")
         .help("Reads TEXT in place of what is typed; may be given again")
         .action(ArgAction::Append);
+    let command = command.arg(typed)?;
     let keep_going = Arg::new(alloc, "keep-going")
         .long("keep-going")
         .help("Ends with status 0 though a fault was answered")
         .action(ArgAction::SetTrue);
-    command.arg(typed)?.arg(keep_going)
+    command.arg(keep_going)
 }
 
 // With the script, and the site that it opens.
@@ -62,6 +65,7 @@ fn with_site<'a>(alloc: Global, command: Command<'a>) -> Result<Command<'a>, All
         .help("The file of definitions, up to a line .begin where it has one")
         .required(true)
         .action(ArgAction::Set);
+    let command = command.arg(script)?;
     let site = Arg::new(alloc, "site")
         .long("site")
         .value_name("N")
@@ -69,6 +73,7 @@ fn with_site<'a>(alloc: Global, command: Command<'a>) -> Result<Command<'a>, All
         .action(ArgAction::Set)
         .value_parser(ValueParser::unsigned(1, 65_535))
         .default_value("1");
+    let command = command.arg(site)?;
     let limit = Arg::new(alloc, "limit")
         .long("limit")
         .value_name("L")
@@ -76,7 +81,7 @@ fn with_site<'a>(alloc: Global, command: Command<'a>) -> Result<Command<'a>, All
         .action(ArgAction::Set)
         .value_parser(ValueParser::unsigned(1, MOST_ENTRIES as u64))
         .default_value("10000");
-    command.arg(script)?.arg(site)?.arg(limit)
+    command.arg(limit)
 }
 
 fn command<'a>(alloc: Global) -> Result<Command<'a>, AllocError> {
