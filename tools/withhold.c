@@ -74,7 +74,8 @@ static size_t moved(size_t size) {
 }
 
 ssize_t read(int fd, void *bytes, size_t size) {
-    return fails() ? -1 : NEXT(read)(fd, bytes, moved(size));
+    if (fails()) return -1;
+    return fd == 0 ? read_line(bytes, moved(size)) : NEXT(read)(fd, bytes, moved(size));
 }
 
 ssize_t recv(int fd, void *bytes, size_t size, int flags) {

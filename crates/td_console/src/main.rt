@@ -2,7 +2,7 @@
 #![tactic(auto)]
 
 use std::env;
-use std::io::{BufReader, ErrorKind};
+use std::io::{BufReader, BufWriter, ErrorKind};
 use std::process::ExitCode;
 use td_devices::Device;
 use td_files::{FileJournals, Notes};
@@ -31,7 +31,10 @@ fn main(rt: HostRuntime) -> ExitCode {
         return ExitCode::FAILURE;
     };
     let mut source = Device::buffered(reader);
-    let mut sink = Device::new(rt.stdout());
+    let Ok(writer) = BufWriter::new(alloc, rt.stdout()) else {
+        return ExitCode::FAILURE;
+    };
+    let mut sink = Device::new(writer);
     let mut faults = Device::new(rt.stderr());
     let notes = Notes::new();
     let mut meter = Meter::new(&rt);

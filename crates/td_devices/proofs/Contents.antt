@@ -1,10 +1,11 @@
 -- What is cut off a line.
-use Rattle.std.proofs.Common.{◌≡◌, ◌≢◌, ℕ, ◌-◌, Bool, true, false, cond, List, [], ◌∷◌, ◌++◌, take, drop, length, Some, None, sym, ap, ◌∙◌, refl, arith, append_assoc, length-append, take-append-drop, unwrap_or}
+use Rattle.std.proofs.Common.{◌≡◌, ◌≢◌, ℕ, ◌-◌, ◌==◌, Bool, true, false, ◌&&◌, ◌||◌, not, cond, List, [], ◌∷◌, ◌++◌, take, drop, length, Some, None, sym, ap, ◌∙◌, refl, arith, append_assoc, length-append, take-append-drop, unwrap_or}
 use Rattle.std.proofs.Math.Seq.{take-append_seam, drop-append_seam}
 use Rattle.std.proofs.lemmas.Slice.Eq.{bytes_eq-Decides}
+use Rattle.std.specs.List.{list_any}
 use Rattle.std.specs.Option.{option_map_or}
 use Rattle.std.specs.Str.{bytes_eq}
-use Rattle.td_devices.specs.Lines.{cut_end, cut_cr, content}
+use Rattle.td_devices.specs.Lines.{cut_end, cut_cr, content, is_one_line}
 
 front_length : (front : List ℕ) (b : ℕ) → length (front ++ b ∷ []) - 1 ≡ length front
 front_length front b = omega (arith, length-append front (b ∷ []))
@@ -37,3 +38,12 @@ lf_is_cut front other = ap (λ r. option_map_or cut_cr r (front ++ 10 ∷ [])) (
 
 pub nothing_else_is_cut : (raw : List ℕ) → ((front : List ℕ) → raw ≢ front ++ 10 ∷ []) → content raw ≡ raw
 nothing_else_is_cut raw other = ap (λ r. option_map_or cut_cr r raw) (cut_none 10 raw other)
+
+-- the bytes have an LF, or they are of one line
+or_not : (b some all : Bool) → some ≡ not all → (b || some) ≡ not (not b && all)
+or_not true some all is = refl
+or_not false some all is = is
+
+pub has_line_end : (bs : List ℕ) → list_any (λ b. b == 10) bs ≡ not (is_one_line bs)
+has_line_end [] = refl
+has_line_end (b ∷ bs) = or_not (b == 10) (list_any (λ x. x == 10) bs) (is_one_line bs) (has_line_end bs)

@@ -1,8 +1,8 @@
 -- Lines of bytes: where they end, and what is kept of one.
-use Rattle.std.proofs.Common.{◌≡◌, ◌≢◌, inl, inr, ℕ, ◌+◌, ◌-◌, ◌≤◌, ◌<◌, ◌==◌, Bool, true, false, not, cond, ◌&&◌, nat_le, nat_lt, List, [], ◌∷◌, ◌++◌, take, drop, length, Option, Some, None, refl, sym, ap, ◌∙◌, subst, arith, leb-true, ltb-true, length-append, length-take-le, unwrap_or, option_and_then, zero, suc, slice_index, All, append_assoc, get_or-take}
+use Rattle.std.proofs.Common.{◌≡◌, ◌≢◌, inl, inr, ℕ, ◌+◌, ◌-◌, ◌≤◌, ◌<◌, ◌==◌, Bool, true, false, not, cond, ◌&&◌, nat_le, List, [], ◌∷◌, ◌++◌, take, drop, length, Option, Some, None, refl, sym, ap, ◌∙◌, subst, arith, leb-true, length-append, length-take-le, unwrap_or, option_and_then, zero, suc, slice_index, All, append_assoc, get_or-take}
 use Rattle.std.proofs.Math.ListN.{get_or-append}
 use Rattle.std.proofs.lemmas.List.{take-append-le}
-use Rattle.std.proofs.lemmas.Bool.{eqb-true, ne_eqb, leb-false, ltb-false}
+use Rattle.std.proofs.lemmas.Bool.{eqb-true, ne_eqb, leb-false}
 use Rattle.std.specs.Option.{option_map_or}
 use Rattle.std.proofs.lemmas.List.Folds.{list_all-append}
 use Rattle.std.specs.Str.{bytes_eq}

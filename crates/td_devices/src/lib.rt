@@ -9,7 +9,7 @@ mod pieces;
 mod streams;
 
 pub use device::{Both, Buffered, Device, Single};
-pub use lines::{LineError, RawLine, content, read_line};
+pub use lines::{LineError, RawLine, content, has_line, read_line};
 pub use link::{Link, Pair};
 pub use pieces::{Short, fill, put, read_byte, write_all};
 pub use streams::{Channel, Failed, Sink, Source};

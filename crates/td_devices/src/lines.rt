@@ -1,9 +1,9 @@
 //! Lines from a source.
 
-ghost use Rattle.std.specs.Prelude.{◌≡◌, ◌-◌, ◌<◌, ◌≤◌, OnOk, IfOk, option_map, option_and_then};
+ghost use Rattle.std.specs.Prelude.{◌≡◌, ◌-◌, ◌<◌, ◌≤◌, not, OnOk, IfOk, option_map, option_and_then};
 ghost use Rattle.std.specs.Io.KnownBytes.{Keeps};
 ghost use Rattle.td_devices.specs.ForProofs.Held.{kept, with_bytes};
-ghost use Rattle.td_devices.specs.Lines.{HasCause, LineRead, content};
+ghost use Rattle.td_devices.specs.Lines.{HasCause, LineRead, content, is_one_line};
 
 use crate::streams::Source;
 use std::alloc::{AllocError, Global};
@@ -105,6 +105,13 @@ pub fn read_line<S: Source>(
         }
     }
     Err(LineError::NoReadsLeft)
+}
+
+/// Whether a whole line is among the bytes.
+pub fn has_line(bytes: &[u8]) -> bool
+    ensures { result ≡ not (is_one_line bytes.now) }
+{
+    bytes.contains(&b'\n')
 }
 
 /// The line without its line end: an LF, and a CR before it.

@@ -23,6 +23,9 @@ pub trait Source {
     /// How many failures were counted.
     ghost failures: { Self → ℕ };
 
+    /// The bytes that stand in a buffer: they are read without asking for more of the input.
+    ghost buffered: { Self → List ℕ };
+
     /// Reads some bytes into the front of the buffer, at least one where it has room and the input has not ended.
     fn read_some(&mut self, buf: &mut [u8]) -> Result<usize, Failed>
         ensures bound { ReadsAtMost result buf.new }
@@ -42,6 +45,10 @@ pub trait Source {
         let many = buf.len().min(1);
         self.read_some(&mut buf[..many])
     }
+
+    /// The bytes that stand in a buffer. There are none where the source has no buffer.
+    fn buffer(&self) -> &[u8]
+        ensures { result.now ≡ buffered self.now };
 }
 
 /// What can be written, with a count of failures.

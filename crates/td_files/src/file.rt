@@ -1,6 +1,6 @@
 //! A journal's file, to be read from its beginning.
 
-ghost use Rattle.std.specs.Prelude.{None};
+ghost use Rattle.std.specs.Prelude.{[], None};
 
 use crate::companions::{make_new, settle_folder};
 use crate::damage::{WINDOW, have_frame_behind};
@@ -224,7 +224,13 @@ impl<R: Files<File = File>> Source for FileJournal<'_, R> {
 
     ghost failures = { λ j. j.reader.failures };
 
+    ghost buffered = { λ _. [] };
+
     fn read_some(&mut self, buf: &mut [u8]) -> Result<usize, Failed> {
         self.reader.read_some(buf)
+    }
+
+    fn buffer(&self) -> &[u8] {
+        &[]
     }
 }

@@ -26,12 +26,18 @@ impl Source for Incoming<'_> {
 
     ghost failures = { λ _. 0 };
 
+    ghost buffered = { λ i. i.rest.now };
+
     fn read_some(&mut self, buf: &mut [u8]) -> Result<usize, Failed> {
         let n = buf.len().min(self.rest.len());
         let (front, rest) = self.rest.split_at(n);
         buf[..n].copy_from_slice(front);
         self.rest = rest;
         Ok(n)
+    }
+
+    fn buffer(&self) -> &[u8] {
+        self.rest
     }
 }
 

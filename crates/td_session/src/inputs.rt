@@ -2,7 +2,7 @@
 
 use crate::ended::Ended;
 use std::alloc::{AllocError, Global};
-use td_devices::{RawLine, Source, content, read_line};
+use td_devices::{RawLine, Source, content, has_line, read_line};
 
 // The most files that are read within one another, so that one that reads itself ends.
 const MOST_FILES: usize = 16;
@@ -87,6 +87,11 @@ impl Inputs {
     /// Whether the next line is one that is typed.
     pub fn is_typed(&self) -> bool {
         self.files.is_empty()
+    }
+
+    /// Whether the next line is one that is typed, and is not there yet.
+    pub fn would_wait<S: Source>(&self, source: &S) -> bool {
+        self.is_typed() && !has_line(source.buffer())
     }
 
     /// Has the lines of a file come next. The answer is whether so many files may be read within one another.

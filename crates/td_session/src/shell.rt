@@ -23,7 +23,7 @@ use std::time::Clock;
 use std::{mem, str};
 use td_answers::Links;
 use td_changes::Changes;
-use td_devices::{Sink, Source, put};
+use td_devices::{Sink, Source, put, write_all};
 use td_files::Notes;
 use td_headings::Catalogue;
 use td_inputs::{Command, Mode, Standing, command_of};
@@ -68,7 +68,7 @@ enum After {
 // Writes an answer, and notes whether it tells a fault.
 fn put_answer<K: Sink>(answer: &str, has_faults: &mut bool, sink: &mut K) -> Result<(), Ended> {
     *has_faults = *has_faults || answer.starts_with("fault ");
-    Ok(put(sink, answer.as_bytes())?)
+    Ok(write_all(sink, answer.as_bytes())?)
 }
 
 // Writes an answer, or that there is no memory for it.
@@ -404,6 +404,8 @@ impl<
         }
         if words.as_bytes().starts_with(b".") {
             self.finish(sink)?;
+            // (a command may wait for another site)
+            sink.flush()?;
             return self.command(words, inputs, sink, faults);
         }
         self.draft.add(line)?;
@@ -437,9 +439,8 @@ impl<
     }
 }
 
-/// Answers line after line, up to `.quit` or the end of the input. Each answer is written and flushed before the next
-/// line is read. At a terminal a prompt stands in front of each line that is typed.
-pub fn converse<
+// Answers line after line, up to `.quit` or the end of the input, and flushes before it would wait.
+fn answer_lines<
     R: Changes + Drop,
     O: Opens + Drop,
     H: Files<File = File> + Clock + AllocGlobal,
@@ -463,6 +464,34 @@ pub fn converse<
         if shell.take(next, inputs, sink, faults)? == After::Quit {
             return Ok(());
         }
+        if inputs.would_wait(source) {
+            sink.flush()?;
+        }
     }
     Err(Ended::ReadFault)
+}
+
+/// Answers line after line, up to `.quit` or the end of the input. Each answer is flushed before more of the input is
+/// asked for and before a command. At a terminal a prompt stands in front of each line that is typed.
+pub fn converse<
+    R: Changes + Drop,
+    O: Opens + Drop,
+    H: Files<File = File> + Clock + AllocGlobal,
+    L: Links,
+    S: Source,
+    K: Sink,
+    F: Sink,
+>(
+    shell: &mut Shell<'_, R, O, H, L>,
+    inputs: &mut Inputs,
+    is_terminal: bool,
+    source: &mut S,
+    sink: &mut K,
+    faults: &mut F,
+) -> Result<(), Ended> {
+    let ended = answer_lines(shell, inputs, is_terminal, source, sink, faults);
+    if !matches!(ended, Err(Ended::WriteFault)) {
+        sink.flush()?;
+    }
+    ended
 }

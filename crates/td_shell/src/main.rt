@@ -3,7 +3,7 @@
 #![tactic(auto)]
 
 use std::env;
-use std::io::{BufReader, ErrorKind, IsTerminal};
+use std::io::{BufReader, BufWriter, ErrorKind, IsTerminal};
 use std::process::ExitCode;
 use td_devices::Device;
 use td_files::{FileJournals, Notes};
@@ -27,6 +27,9 @@ fn is_checker(program: &str) -> bool {
         None => false,
     }
 }
+
+/// So many bytes of answers are kept back until a flush, where the output is no terminal.
+const OUTPUT_BYTES: usize = 8_192;
 
 /// The check of a script: the command that was typed, and the words behind it.
 #[derive(Clone, Copy, Drop)]
@@ -67,7 +70,11 @@ fn main(rt: HostRuntime) -> ExitCode {
         return ExitCode::FAILURE;
     };
     let is_seen = rt.stdout().is_terminal();
-    let mut sink = Device::new(Shown::new(alloc, rt.stdout(), is_seen));
+    let capacity = if is_seen { 0 } else { OUTPUT_BYTES };
+    let Ok(writer) = BufWriter::with_capacity(alloc, capacity, rt.stdout()) else {
+        return ExitCode::FAILURE;
+    };
+    let mut sink = Device::new(Shown::new(alloc, writer, is_seen));
     let are_faults_seen = rt.stderr().is_terminal();
     let mut faults = Device::new(Shown::new(alloc, rt.stderr(), are_faults_seen));
     if let Some(Check { command, words }) = check_in(&words) {

@@ -28,7 +28,7 @@ use Rattle.td_workbench.specs.ForProofs.Serving.{Serves}
 use Rattle.td_workbench.specs.declared.opening.Options.{Options}
 use Rattle.td_workbench.specs.declared.run.Ended.{Ended}
 use Rattle.td_workbench.specs.declared.run.Ended.TheVariants as ended
-use Rattle.td_workbench.proofs.Serving.{ends_behind, ends_spare, served_none, writes_nothing}
+use Rattle.td_workbench.proofs.Serving.{ends_later, writes_nothing}
 
 pub new_sites_more : (script : List ℕ) (limit first n : ℕ) → new_sites script limit first n ++ opened script (first + n) limit ∷ [] ≡ new_sites script limit first (n + 1)
 new_sites_more script limit first zero = let e : first + 0 ≡ first = omega arith in ap (λ (k : ℕ). opened script k limit ∷ []) e
@@ -156,7 +156,7 @@ module _ {S L : Type 0} (b : Workbench S L) (Begin : Sites → List S → Type 0
   runs_behind now from mid left kept true w told after c opens begun r has accepted begin of wrote (is, unread, unwritten, same) =
       let state : State S L = (begun, old) in
       let over : RunsOut (AnswersLine b c) state [] mid.left [] state = record { at_end = has.at_end refl; go_on = tt; printed = (refl, refl) } in
-      let run : Ends (AnswersLine b c) state [] (reads_left has.bytes) has.bytes from told (Ok tt) state mid told = (has.read, [], inr over, writes_nothing told) in
+      let run : Ends (AnswersLine b c) state [] (reads_left has.bytes) has.bytes from told (Ok tt) state mid told = ([], (has.read, inr over), writes_nothing told) in
       let runs : ProgramRuns b Begin End options old from w (Ok tt) old mid told =
       record { bytes = has.bytes; script = has.text; raws = []; says = says_alone now from mid kept true has; opened = opens; accepted = accepted; begun = begun; begin = begin; catalogue = c; of_script = of; told = told; ready_told = wrote; ended = begun; end = all_end begun; ends = run } in
       subst (λ (n : L). ProgramRuns b Begin End options old from w r n left after) same
@@ -166,9 +166,8 @@ module _ {S L : Type 0} (b : Workbench S L) (Begin : Sites → List S → Type 0
       let more : List ℕ = serves.bytes in
       let state : State S L = (begun, old) in
       let ran =
-      ends_spare (AnswersLine b c) state (raw_lines more) (now - length more) (reads_left (has.bytes ++ more)) (has.bytes ++ more) from left told after r (sites, then)
-      (λ none. omega (arith, length-append has.bytes more, has.spent refl, none))
-      (ends_behind (AnswersLine b c) state [] [] state (served_none (AnswersLine b c) state) (raw_lines more) (now - length more) has.bytes more from mid left told told after r (sites, then) has.read (writes_nothing told) serves.ends) in
+      ends_later (AnswersLine b c) state (raw_lines more) (now - length more) (reads_left (has.bytes ++ more)) (λ none. omega (arith, length-append has.bytes more, has.spent refl, none))
+      has.bytes more from mid left has.read told after r (sites, then) serves.ends in
       record {
         bytes = has.bytes ++ more;
         script = has.text;

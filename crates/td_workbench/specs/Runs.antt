@@ -12,7 +12,7 @@ use Rattle.td_story.specs.Seen.{Seen}
 use Rattle.td_answers.specs.Asking.{AreAsked, LinkRequest}
 use Rattle.td_answers.specs.Sites.{AreOfScript, EachStays, HappensToOne}
 use Rattle.td_answers.specs.Answers.{LineAnswered, MayTakeEntries}
-use Rattle.td_workbench.specs.Streams.{ReadsBytes, ReadsNoMore, reads_left, WritesText}
+use Rattle.td_workbench.specs.Streams.{AppendsText, HandsOnNot, ReadsBytes, ReadsNoMore, reads_left, WritesText}
 use Rattle.td_workbench.specs.declared.run.Ended.{Ended}
 use Rattle.td_workbench.specs.declared.run.Ended.TheVariants.{OutOfMemory, ReadFault, WriteFault}
 
@@ -114,19 +114,27 @@ pub record Reaches {X : Type 0} (step : LineStep X) (old : X) (raws : List (List
 abbrev pub IsCut : List ℕ → Type 0
 IsCut part = is_one_line part ≡ true
 
--- How a run ended over these bytes, which say these lines and leave so many reads. Ok comes at `.quit`, behind which
--- nothing was read, or at the end of the input. A read fault comes after the answers of all whole lines, and want of
--- memory after those of all lines but the last, which was not kept; a write fault leaves the last answer written in
--- part.
+-- Why no more of these bytes was read, which say these lines and leave so many reads, and what is printed for the lines.
+-- Ok comes at `.quit`, behind which nothing was read, or at the end of the input. A read fault comes after the answers of
+-- all whole lines, want of memory after those of all lines but the last, which was not kept, and a write fault before
+-- anything of the next line.
+abbrev pub StopsReading : {X : Type 0} → LineStep X → X → List (List ℕ) → ℕ → List ℕ → Input → Result (Unit {0}) Ended → X → Input → List ℕ → Type 0
+StopsReading step old raws spare bytes from (Ok u) new left text = ReadsBytes bytes from left × (Quits step old raws left.left text new ⊎ RunsOut step old raws left.left text new)
+StopsReading step old raws spare bytes from (Err ReadFault) new left text = ReadsNoMore spare bytes from left × BreaksOff step old raws IsCut text new
+StopsReading step old raws spare bytes from (Err OutOfMemory) new left text = ReadsBytes bytes from left × BreaksOff step old raws IsOfOneLine text new
+StopsReading step old raws spare bytes from (Err WriteFault) new left text = ReadsBytes bytes from left × BreaksOff step old raws (λ part. part ≡ []) text new
+
+-- the writer failed at the answer of the last line, of which a front was written
+abbrev pub StopsWriting : {X : Type 0} → LineStep X → X → List (List ℕ) → List ℕ → Input → Output → X → Input → Output → Type 0
+StopsWriting step old raws bytes from w new left after =
+    ReadsBytes bytes from left × (text : List ℕ) × (answer : List ℕ) × (half : Output) × Reaches step old raws left.left text answer new × AppendsText text w half × WritesFront answer half after
+
+-- How a run ended over these bytes: nothing more was read, and what is printed was written and handed on. At a write
+-- fault the writer failed at the last answer, or all was written and could not be handed on.
 abbrev pub Ends : {X : Type 0} → LineStep X → X → List (List ℕ) → ℕ → List ℕ → Input → Output → Result (Unit {0}) Ended → X → Input → Output → Type 0
-Ends step old raws spare bytes from w (Ok u) new left after =
-    ReadsBytes bytes from left × (text : List ℕ) × (Quits step old raws left.left text new ⊎ RunsOut step old raws left.left text new) × WritesText text w after
-Ends step old raws spare bytes from w (Err ReadFault) new left after =
-    ReadsNoMore spare bytes from left × (text : List ℕ) × BreaksOff step old raws IsCut text new × WritesText text w after
-Ends step old raws spare bytes from w (Err OutOfMemory) new left after =
-    ReadsBytes bytes from left × (text : List ℕ) × BreaksOff step old raws IsOfOneLine text new × WritesText text w after
 Ends step old raws spare bytes from w (Err WriteFault) new left after =
-    ReadsBytes bytes from left × (text : List ℕ) × (answer : List ℕ) × (half : Output) × Reaches step old raws left.left text answer new × WritesText text w half × WritesFront answer half after
+    StopsWriting step old raws bytes from w new left after ⊎ ((r : Result (Unit {0}) Ended) × (text : List ℕ) × StopsReading step old raws spare bytes from r new left text × HandsOnNot text w after)
+Ends step old raws spare bytes from w r new left after = (text : List ℕ) × StopsReading step old raws spare bytes from r new left text × WritesText text w after
 
 -- How the workbench ended. By the catalogue of its sites' script, over the lines that the bytes say; or there was no
 -- memory for that catalogue, and nothing was begun.

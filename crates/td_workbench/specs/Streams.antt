@@ -21,7 +21,14 @@ abbrev pub ReadsNoMore : ℕ → List ℕ → Input → Input → Type 0
 ReadsNoMore spare bytes from after =
     Consumes from.left after.left bytes × ((after.failures ≡ counted from.failures) ⊎ ((after.failures ≡ from.failures) × (spare ≡ 0)))
 
--- All of the text was written, and where what was written before had been handed on, so has this: each answer is
--- flushed before the next line is read.
+-- all of the text was written
+abbrev pub AppendsText : List ℕ → Output → Output → Type 0
+AppendsText text w after = Appends w.held after.held text × (after.faults ≡ w.faults)
+
+-- all of the text was written, and where what was written before had been handed on, so has this
 abbrev pub WritesText : List ℕ → Output → Output → Type 0
 WritesText text w after = Appends w.held after.held text × (after.faults ≡ w.faults) × (w.is_flushed ≡ true → after.is_flushed ≡ true)
+
+-- all of the text was written, and the writer failed as it was to be handed on
+abbrev pub HandsOnNot : List ℕ → Output → Output → Type 0
+HandsOnNot text w after = Appends w.held after.held text × (after.faults ≡ counted w.faults)

@@ -1,17 +1,19 @@
 //! Lines answered by sites.
 
-ghost use Rattle.std.specs.Prelude.{◌≡◌, ◌==◌, ◌&&◌, length, List, ℕ, Option, map, option_map, Ok};
+ghost use Rattle.std.specs.Prelude.{◌≡◌, ◌<◌, ◌≤◌, ◌-◌, ◌==◌, ◌&&◌, true, length, List, ℕ, Option, map, option_map, Ok, OnOk};
 ghost use Rattle.td_answers.specs.Sites.{AreOfOneScript, AreOfScript};
-ghost use Rattle.td_workbench.specs.ForProofs.Serving.{LineEnds, ReadEnds, Serves, ended_by};
+ghost use Rattle.td_workbench.specs.ForProofs.Serving.{HandsOn, LineEnds, ReadEnds, Serves, ServesLines, ended_by};
 ghost use Rattle.td_workbench.specs.Runs.{AnswersLine, WorkbenchEnds, over, said};
-ghost use Rattle.td_devices.specs.Lines.{IsKept, TellsLine};
+ghost use Rattle.std.specs.Io.KnownBytes.{Keeps};
+ghost use Rattle.td_devices.specs.Counted.{Counts};
+ghost use Rattle.td_devices.specs.Lines.{HasCause, IsKept, LineRead, TellsLine, is_one_line};
 ghost use Rattle.td_lines.specs.Lines.{line_of};
 ghost use Rattle.td_devices.specs.Views.{input_of, output_of};
 
-use crate::writing::put_text;
+use crate::writing::write_text;
 use std::alloc::Global;
 use td_answers::{Links, Reply, answer, catalogue_for};
-use td_devices::{Failed, LineError, RawLine, Sink, Source, content, read_line};
+use td_devices::{Failed, LineError, RawLine, Sink, Source, content, has_line, read_line};
 use td_headings::Catalogue;
 use td_lines::LINE_BYTES;
 use td_story::{Meter, Replica};
@@ -67,9 +69,9 @@ fn answer_line<R: Replica, L: Links, K: Sink>(
 {
     match answer(alloc, catalogue, sites, links, meter, line) {
         Reply::Quit => Ok(true),
-        Reply::Text(text) => put_text(sink, text.as_bytes()),
-        Reply::Table(text) => put_text(sink, text.as_slice()),
-        Reply::Fixed(text) => put_text(sink, text.as_bytes()),
+        Reply::Text(text) => write_text(sink, text.as_bytes()),
+        Reply::Table(text) => write_text(sink, text.as_slice()),
+        Reply::Fixed(text) => write_text(sink, text.as_bytes()),
     }
 }
 
@@ -105,6 +107,87 @@ fn not_read(e: LineError) -> Ended
     }
 }
 
+// Whether what was written is flushed before the next line, by what stands in the buffer: the line would be waited for,
+// or is a command, which may wait for another site.
+fn is_due(buffer: &[u8]) -> bool
+    ensures { is_one_line buffer.now ≡ true → result ≡ true }
+{
+    !has_line(buffer) || buffer.starts_with(b".")
+}
+
+// Flushes what was written, where that is due before the next line.
+fn flush_due<S: Source, K: Sink>(source: &S, sink: &mut K) -> Result<(), Failed>
+    ensures held { Keeps (K.held sink.old) (K.held sink.new) }
+    ensures flushed { OnOk result (is_one_line (S.buffered source.now) ≡ true → K.is_flushed sink.new ≡ true) }
+    ensures count { Counts (K.faults sink.old) (K.faults sink.new) result }
+{
+    if is_due(source.buffer()) {
+        return sink.flush();
+    }
+    Ok(())
+}
+
+// The next line. What was written has been handed on, or a whole line stands in the buffer.
+fn next_line<S: Source, K: Sink>(
+    alloc: Global,
+    source: &mut S,
+    sink: &K,
+    reads: &mut u64,
+) -> Result<RawLine, LineError>
+    requires { is_one_line (S.buffered source.old) ≡ true → K.is_flushed sink.now ≡ true }
+    ensures line { LineRead 16384 (S.left source.old) (S.left source.new) (reads.old - reads.new) result }
+    ensures cause { HasCause reads.new (S.failures source.old) (S.failures source.new) result }
+    ensures fewer { OnOk result (reads.new < reads.old) }
+    ensures no_more { reads.new ≤ reads.old }
+{
+    let _written = sink;
+    read_line(alloc, source, reads, LINE_BYTES)
+}
+
+// Answers line after line, up to `.quit` or the end of the input.
+fn serve_lines<R: Replica, L: Links, S: Source, K: Sink>(
+    alloc: Global,
+    catalogue: &Catalogue,
+    sites: &mut [R],
+    links: &mut L,
+    meter: &mut Meter,
+    source: &mut S,
+    sink: &mut K,
+    reads: &mut u64,
+) -> Result<(), Ended>
+    requires { AreOfScript catalogue.now (map R.seen sites.old) }
+    ensures { ServesLines (AnswersLine (over R.seen R.failed R.journaled L.serves L.calls) catalogue.now) (sites.old, links.old) reads.old (input_of S.Source source.old) (output_of K.Sink sink.old) result (sites.new, links.new) (input_of S.Source source.new) (output_of K.Sink sink.new) }
+{
+    while *reads > 0 {
+        let Ok(()) = flush_due(&*source, sink) else {
+            return Err(Ended::WriteFault);
+        };
+        let line = match next_line(alloc, source, &*sink, reads) {
+            Ok(line) => line,
+            Err(e) => return Err(not_read(e)),
+        };
+        match answer_read(alloc, catalogue, sites, links, meter, &line, sink) {
+            Ok(true) => return Ok(()),
+            Ok(false) => {}
+            Err(_) => return Err(Ended::WriteFault),
+        }
+    }
+    Err(Ended::ReadFault)
+}
+
+// Flushes what a run has written, unless the writer failed.
+fn hand_on<K: Sink>(ended: Result<(), Ended>, sink: &mut K) -> Result<(), Ended>
+    ensures { HandsOn ended result (output_of K.Sink sink.old) (output_of K.Sink sink.new) }
+{
+    if matches!(ended, Err(Ended::WriteFault)) {
+        return ended;
+    }
+    match sink.flush() {
+        Ok(()) => ended,
+        Err(_) => Err(Ended::WriteFault),
+    }
+}
+
 /// Answers line after line, up to `.quit` or the end of the input, by at most so many reads, from which those made are
 /// taken off.
 pub fn serve<R: Replica, L: Links, S: Source, K: Sink>(
@@ -120,22 +203,13 @@ pub fn serve<R: Replica, L: Links, S: Source, K: Sink>(
     requires { AreOfScript catalogue.now (map R.seen sites.old) }
     ensures { Serves (AnswersLine (over R.seen R.failed R.journaled L.serves L.calls) catalogue.now) (sites.old, links.old) reads.old (input_of S.Source source.old) (output_of K.Sink sink.old) result (sites.new, links.new) (input_of S.Source source.new) (output_of K.Sink sink.new) }
 {
-    while *reads > 0 {
-        let line = match read_line(alloc, source, reads, LINE_BYTES) {
-            Ok(line) => line,
-            Err(e) => return Err(not_read(e)),
-        };
-        match answer_read(alloc, catalogue, sites, links, meter, &line, sink) {
-            Ok(true) => return Ok(()),
-            Ok(false) => {}
-            Err(_) => return Err(Ended::WriteFault),
-        }
-    }
-    Err(Ended::ReadFault)
+    let ended = serve_lines(alloc, catalogue, sites, links, meter, source, sink, reads);
+    hand_on(ended, sink)
 }
 
-/// Answers line after line, up to `.quit` or the end of the input; each answer is written and flushed before the next
-/// line is read. It costs the reading and typing of the sites' script at first. A line of more than 16,384 bytes is not
+/// Answers line after line, up to `.quit` or the end of the input. Each answer is flushed before more of the input is
+/// asked for and before a line that begins with a dot, so that nothing that is answered is kept back while the program
+/// waits for a person, a program or another site. It costs the reading and typing of the sites' script at first. A line of more than 16,384 bytes is not
 /// kept. An endless input is a read fault after 18,446,744,073,709,551,615 reads.
 pub fn workbench<R: Replica, L: Links, S: Source, K: Sink>(
     alloc: Global,

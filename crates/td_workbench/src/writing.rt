@@ -2,16 +2,16 @@
 
 ghost use Rattle.td_devices.specs.Views.{output_of};
 ghost use Rattle.td_workbench.specs.ForProofs.Opening.{PutsFault};
-ghost use Rattle.td_workbench.specs.ForProofs.Serving.{Puts};
+ghost use Rattle.td_workbench.specs.ForProofs.Serving.{WritesOn};
 
 use crate::run::Ended;
-use td_devices::{Failed, Sink, put};
+use td_devices::{Failed, Sink, put, write_all};
 
-/// Writes a text and flushes. The answer says that the run goes on.
-pub fn put_text<K: Sink>(sink: &mut K, text: &[u8]) -> Result<bool, Failed>
-    ensures { Puts text.now result (output_of K.Sink sink.old) (output_of K.Sink sink.new) }
+/// Writes a text. The answer says that the run goes on.
+pub fn write_text<K: Sink>(sink: &mut K, text: &[u8]) -> Result<bool, Failed>
+    ensures { WritesOn text.now result (output_of K.Sink sink.old) (output_of K.Sink sink.new) }
 {
-    match put(sink, text) {
+    match write_all(sink, text) {
         Ok(()) => Ok(false),
         Err(e) => Err(e),
     }

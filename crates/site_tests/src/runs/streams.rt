@@ -2,6 +2,7 @@
 
 use super::fakes::{Full, SlowReader, SlowWriter, front};
 use std::alloc::AllocError;
+use std::io::BufReader;
 use std::test::Fail;
 use td_answers::NoLinks;
 use td_devices::Device;
@@ -157,15 +158,45 @@ fn flushed(rt: &HostRuntime, most: usize) -> (Result<bool, Ended>, usize, usize)
     (end, writer.flushes, writer.taken.len())
 }
 
+// `ready` is flushed, and then what was written before each line that would be waited for, and at the end.
 #[test]
 fn each_answer_is_flushed(rt: HostRuntime) {
-    assert!(rt; flushed(&rt, 100) == (Ok(true), 8, 314));
-    for (most, end) in ENDS.iter().enumerate() {
+    assert!(rt; flushed(&rt, 100) == (Ok(true), 10, 314));
+    assert!(rt; flushed(&rt, 0) == (Err(Ended::WriteFault), 0, 8));
+    for (at, end) in ENDS.iter().enumerate() {
         assert!(rt;
-            flushed(&rt, most) == (Err(Ended::WriteFault), most, end.1),
-            "{most}"
+            flushed(&rt, at + 1) == (Err(Ended::WriteFault), at + 1, end.1),
+            "{at}"
         );
     }
+    assert!(rt; flushed(&rt, 9) == (Err(Ended::WriteFault), 9, 314));
+}
+
+// The flushes of two sites that meet, by a reader whose buffer has so many bytes.
+fn flushes_by(rt: &HostRuntime, capacity: usize) -> Result<usize, Fail> {
+    let mut meter = Meter::new(rt);
+    let bytes = TWO_SITES_MEET.as_bytes();
+    let mut source = Device::buffered(BufReader::with_capacity(rt.alloc(), capacity, bytes)?);
+    let mut writer = SlowWriter::new(rt.alloc(), 1_000, Full::Fails, 100);
+    let mut sink = Device::new(&mut writer);
+    let _end = run_program::<Site, _, _, _>(
+        rt.alloc(),
+        &TWO,
+        &mut NoLinks,
+        &mut meter,
+        &mut source,
+        &mut sink,
+    );
+    Ok(writer.flushes)
+}
+
+// No flush comes before a line that stands in the buffer as a whole and begins with no dot, as those of both INSERTs.
+#[test]
+fn an_answer_waits_for_the_next_line_that_is_there(rt: HostRuntime) -> Result<(), Fail> {
+    assert!(rt; flushes_by(&rt, 1_000)? == 8);
+    assert!(rt; flushes_by(&rt, 151 + 70)? == 8);
+    assert!(rt; flushes_by(&rt, 151 + 69)? == 9);
+    Ok(())
 }
 
 // The statuses where the input fails behind `.begin`, and where the output takes no more than three bytes.

@@ -1,7 +1,7 @@
 //! What is read and written through a device, in each of its roles.
 
-ghost use Rattle.std.specs.Prelude.{None};
-ghost use Rattle.std.specs.Io.Buffered.{reader_remaining};
+ghost use Rattle.std.specs.Prelude.{[], None};
+ghost use Rattle.std.specs.Io.Buffered.{reader_buffer, reader_remaining};
 ghost use Rattle.td_devices.specs.Counted.{Counts};
 
 use crate::device::attempts::{
@@ -29,10 +29,16 @@ impl<D: Read> Source for Device<D, Single> {
 
     ghost failures = { λ d. d.failures };
 
+    ghost buffered = { λ _. [] };
+
     fn read_some(&mut self, buf: &mut [u8]) -> Result<usize, Failed> {
         let told = read_on(&mut self.inner, buf);
         self.failures = count_after(self.failures, &told);
         told
+    }
+
+    fn buffer(&self) -> &[u8] {
+        &[]
     }
 }
 
@@ -42,6 +48,8 @@ impl<R: Read> Source for Device<BufReader<R>, Buffered> {
     ghost beside = { λ _. None };
 
     ghost failures = { λ d. d.failures };
+
+    ghost buffered = { λ d. reader_buffer d.inner };
 
     fn read_some(&mut self, buf: &mut [u8]) -> Result<usize, Failed> {
         let read = read_on(&mut self.inner, buf);
@@ -53,6 +61,10 @@ impl<R: Read> Source for Device<BufReader<R>, Buffered> {
         let told = read_of_line_on(&mut self.inner, buf);
         self.failures = count_after(self.failures, &told);
         told
+    }
+
+    fn buffer(&self) -> &[u8] {
+        self.inner.buffer()
     }
 }
 
@@ -87,10 +99,16 @@ impl<L: Link> Source for Device<L, Both> {
 
     ghost failures = { λ d. d.failures };
 
+    ghost buffered = { λ _. [] };
+
     fn read_some(&mut self, buf: &mut [u8]) -> Result<usize, Failed> {
         let told = read_side_on(&mut self.inner, buf);
         self.failures = count_after(self.failures, &told);
         told
+    }
+
+    fn buffer(&self) -> &[u8] {
+        &[]
     }
 }
 

@@ -1,4 +1,4 @@
-use Rattle.std.proofs.Common.{◌≡◌, ◌-◌, arith, ℕ, List, ◌++◌, take, drop, length, length-take-le, slice_index, ap, sym, ◌∙◌}
+use Rattle.std.proofs.Common.{arith, ◌++◌, take, drop, length-take-le, sym, ◌∙◌}
 use Rattle.std.proofs.KnownBytes.{Consumes-trans, Keeps-trans}
 use Rattle.td_devices.proofs.LineEnds.{begun_part, kept_at_end, last_of, part_read, read_of_one, read_on, read_whole, reads_more}
 use Rattle.td_devices.proofs.lines.read_line.Goals as goal

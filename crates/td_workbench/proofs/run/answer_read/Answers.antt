@@ -1,10 +1,11 @@
 use Rattle.std.proofs.Common.{true, sym, ◌∙◌}
+use Rattle.td_devices.specs.Views.{output_of}
 use Rattle.td_workbench.specs.Runs.{AnswersLine, LineStep, State, over}
 use Rattle.td_workbench.proofs.Answering.{nothing_read, quit_read, last_read, failed_read}
 use Rattle.td_workbench.proofs.run.answer_read.Goals as goal
 
 pub returns-then-is_nothing-clause-ends : goal.returns-then-is_nothing-clause-ends
-returns-then-is_nothing-clause-ends g c = λ raw left tells. nothing_read _ _ raw _ left _ tells.1 (sym (c.is_nothing.ensures raw tells.0) ∙ c.if-is_nothing.true)
+returns-then-is_nothing-clause-ends g c = λ raw left tells. nothing_read _ _ raw _ left (output_of g.K.Sink c.args.sink.now) tells.1 (sym (c.is_nothing.ensures raw tells.0) ∙ c.if-is_nothing.true)
 
 pub returns-then-quits-clause-ends : goal.returns-then-quits-clause-ends
 returns-then-quits-clause-ends g c = λ raw left tells.

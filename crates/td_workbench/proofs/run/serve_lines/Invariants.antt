@@ -3,7 +3,7 @@ use Rattle.td_devices.specs.Views.{input_of, output_of}
 use Rattle.td_answers.specs.Sites.{AreOfScript}
 use Rattle.td_workbench.specs.Runs.{AnswersLine, over}
 use Rattle.td_workbench.proofs.Serving.{Done}
-use Rattle.td_workbench.proofs.run.serve.Given as goal
+use Rattle.td_workbench.proofs.run.serve_lines.Given as goal
 
 -- whole lines were read, none of them `.quit`, and each was answered
 abbrev pub invariant-loop-reads : goal.invariant-loop-reads
