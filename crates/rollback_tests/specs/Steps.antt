@@ -3,6 +3,7 @@ use Rattle.std.specs.Prelude.{◌≡◌, ℕ, Bool, true, false, ◌==◌, if◌
 use Rattle.std.specs.List.{Contains}
 use Rattle.td_stamps.specs.declared.entry.Entry.{Entry}
 use Rattle.rollback_tests.specs.declared.cells.Did.{Did}
+use Rattle.rollback_tests.specs.declared.cells.Wanted.{Wanted}
 
 abbrev pub Pair : Type 0
 Pair = ℕ × ℕ
@@ -54,3 +55,7 @@ IsFootprint e n = Contains (footprint e) n
 
 abbrev pub IsTarget : Entry → ℕ → Type 0
 IsTarget e n = Contains (targets e) n
+
+-- what is read of the entry
+abbrev pub IsWanted : Entry → Wanted → Type 0
+IsWanted e r = (r.is_first ≡ (e.seq == 1)) × (r.clock ≡ e.clock)

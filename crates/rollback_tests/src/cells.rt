@@ -2,7 +2,7 @@
 //! first into the second.
 
 ghost use Rattle.std.specs.Prelude.{◌≡◌, ℕ, Bool, OnErr, OnOk};
-ghost use Rattle.rollback_tests.specs.Steps.{IsFootprint, IsTarget, Step, cell, changed, footprint_by, mix, targets_by, zeros};
+ghost use Rattle.rollback_tests.specs.Steps.{IsFootprint, IsTarget, IsWanted, Step, cell, changed, footprint_by, mix, targets_by, zeros};
 ghost use Rattle.rollback_tests.specs.Going.{go, mixes};
 
 use std::alloc::{AllocError, Global};
@@ -32,6 +32,13 @@ pub struct Did {
     pub is_first: bool,
     pub before: u64,
     pub after: u64,
+}
+
+/// What is read of an entry: whether it goes to the first cell, and its clock.
+#[derive(Clone, Copy)]
+pub struct Wanted {
+    pub is_first: bool,
+    pub clock: u64,
 }
 
 impl Cells {
@@ -84,6 +91,8 @@ impl Machine for Cells {
 
     type Part = (u64, u64);
 
+    type Reading = Wanted;
+
     type Meter = u64;
 
     ghost sound = { λ _. Unit {0} };
@@ -98,6 +107,8 @@ impl Machine for Cells {
 
     ghost targets = { λ _. IsTarget };
 
+    ghost is_read = { λ _ e r. IsWanted e r };
+
     ghost footprint_in = { λ r. footprint_by r.is_first };
 
     ghost targets_in = { λ r. targets_by r.is_first };
@@ -110,19 +121,39 @@ impl Machine for Cells {
 
     ghost closed = { λ _ _. Unit {0} };
 
-    fn run(&mut self, _alloc: Global, entry: &Entry, meter: &mut u64) -> Result<Did, AllocError> {
+    fn run(&mut self, alloc: Global, entry: &Entry, meter: &mut u64) -> Result<Did, AllocError> {
+        let wanted = Wanted {
+            is_first: entry.seq == 1,
+            clock: entry.clock,
+        };
+        self.run_read(alloc, &wanted, meter)
+    }
+
+    fn read(&self, _alloc: Global, entry: &Entry) -> Result<Wanted, AllocError> {
+        Ok(Wanted {
+            is_first: entry.seq == 1,
+            clock: entry.clock,
+        })
+    }
+
+    fn run_read(
+        &mut self,
+        _alloc: Global,
+        reading: &Wanted,
+        meter: &mut u64,
+    ) -> Result<Did, AllocError> {
         *meter = meter.saturating_add(1);
         if self.changes == 0 {
             return Err(AllocError);
         }
         self.changes -= 1;
-        if entry.seq == 1 {
+        if reading.is_first {
             let did = Did {
                 is_first: true,
                 before: self.first,
-                after: entry.clock,
+                after: reading.clock,
             };
-            self.first = entry.clock;
+            self.first = reading.clock;
             Ok(did)
         } else {
             let did = Did {
@@ -143,13 +174,8 @@ impl Machine for Cells {
         self.change(ran.is_first, ran.after)
     }
 
-    fn places_of(&self, alloc: Global, entry: &Entry) -> Result<Vec<usize>, AllocError> {
-        let mut places = Vec::new(alloc);
-        places.push(0)?;
-        if entry.seq != 1 {
-            places.push(1)?;
-        }
-        Ok(places)
+    fn places_of(reading: &Wanted) -> &[usize] {
+        if reading.is_first { &[0] } else { &[0, 1] }
     }
 
     fn tie_places(&self, _alloc: Global, _labels: &mut Vec<usize>) -> Result<(), AllocError> {

@@ -222,7 +222,7 @@ module _ (c : CatalogueData) where
         by_source k.1 (subst (λ u. ReadsRelvar c.origins u n) k.2 r)
     place_moves x y p q n (by_test {m = m} there k h r) = by_test there k (target_moves x y p q m h) r
 
-    targets_read : (x : TypedStatement) → IsRead c dialect text x → (places : List ℕ) → AreThose (IsTarget x) places → AreThose (IsTargetOfText c dialect text) places
+    pub targets_read : (x : TypedStatement) → IsRead c dialect text x → (places : List ℕ) → AreThose (IsTarget x) places → AreThose (IsTargetOfText c dialect text) places
     targets_read x p places ts =
         those_alike (IsTarget x) (IsTargetOfText c dialect text) places (λ n. (λ h. record { statement = x; reads = p; target = h }, λ t. target_moves t.statement x t.reads p n t.target)) ts
 

@@ -2,3 +2,4 @@
 pub mod Redoing
 pub mod Laws
 pub mod ForProofs
+pub mod Readings

@@ -7,6 +7,7 @@ mod deltas;
 pub mod laws;
 pub mod names;
 pub mod ran;
+pub mod reading;
 mod running;
 mod seen;
 mod sources;
@@ -14,6 +15,7 @@ mod undoing;
 
 pub use changes::Change;
 pub use ran::Ran;
-pub use running::{footprint_of, run};
+pub use reading::{Reading, read};
+pub use running::{run, run_read};
 pub use td_story::{Meter, Outcome};
 pub use undoing::{redo, undo, undo_part};

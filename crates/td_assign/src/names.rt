@@ -165,22 +165,22 @@ pub fn footprint(
     Ok(in_order(places))
 }
 
-/// The relvars of a typed statement.
-pub(crate) fn names_of(
+/// The relvars of a typed statement, of which these are those on which it hangs.
+pub(crate) fn names_with(
     alloc: Global,
-    catalogue: &Catalogue,
     statement: &TypedStatement,
+    footprint: &[usize],
 ) -> Result<Names, AllocError>
-    requires { (s : Statement) × TypesStatement catalogue.now s statement.now }
     ensures targets { IfOk result (λ x. AreThose (IsTarget statement.now) x.targets.items) }
-    ensures footprint { IfOk result (λ x. AreThose (InFootprint catalogue.now statement.now) x.footprint.items) }
+    ensures footprint { IfOk result (λ x. x.footprint.items ≡ footprint.now) }
 {
-    let footprint = footprint(alloc, catalogue, statement)?;
     let targets = targets(alloc, statement)?;
+    // (kept of each statement for ever: with no room for more)
+    let footprint = Vec::from_slice(alloc, footprint)?;
     Ok(Names { targets, footprint })
 }
 
-/// Those of a text that is no statement.
+/// The relvars of a text that is no statement.
 pub(crate) fn no_names(alloc: Global) -> Names
     ensures targets { result.targets.items ≡ [] }
     ensures footprint { result.footprint.items ≡ [] }

@@ -1,6 +1,6 @@
 //! Running a statement.
 
-ghost use Rattle.std.specs.Prelude.{◌≡◌, [], IfOk, IsTrue, MatchOption, OnErr, OnOk, Option, Some};
+ghost use Rattle.std.specs.Prelude.{◌≡◌, [], ℕ, List, IfOk, IsTrue, OnErr, OnOk, Option, Some};
 ghost use Rattle.std.specs.List.{All};
 ghost use Rattle.td_story.specs.Reports.{IsReport};
 ghost use Rattle.td_headings.specs.Catalogues.{CatalogueData};
@@ -19,45 +19,24 @@ ghost use Rattle.td_assign.specs.ForProofs.Names.{AreNames};
 ghost use Rattle.td_assign.specs.ForProofs.Prepared.{AreAssignedTo, IsJudged, IsMade, IsPrepared};
 ghost use Rattle.td_assign.specs.ForProofs.Lists.{IsKeyed, changes_of, given_to};
 ghost use Rattle.td_story.specs.Steps as spec;
-ghost use Rattle.td_story.specs.Steps.{IsRead, IsUnreadText, Steps};
+ghost use Rattle.td_story.specs.Steps.{Steps};
+ghost use Rattle.td_assign.specs.Readings.{IsReading};
 
 use crate::changes::Change;
 use crate::choices::chosen;
 use crate::deltas::differences;
-use crate::names::{Names, footprint, names_of, no_names};
+use crate::names::{Names, names_with, no_names};
 use crate::ran::Ran;
+use crate::reading::{Reading, read};
 use crate::seen::Replaced;
 use crate::sources;
 use crate::sources::changes;
 use std::alloc::{AllocError, Global};
-use td_grammar::{ReadError, read_statement_in};
-use td_headings::{Catalogue, TypedAssignment, TypedStatement, type_statement};
+use td_headings::{TypedAssignment, TypedStatement};
 use td_integrity::first_failure_after;
-use td_kinds::error::TypeError;
 use td_relations::Delta;
 use td_relvars::{Base, Database, WayBack};
 use td_story::{BrokenTest, Failure, Meter, Outcome, TestFailure};
-
-// The statement that the text is, typed, if it is one.
-fn read(
-    alloc: Global,
-    catalogue: &Catalogue,
-    text: &str,
-    dialect: u8,
-) -> Result<Option<TypedStatement>, AllocError>
-    ensures { IfOk result (λ o. MatchOption o (IsUnreadText catalogue.now dialect text.now) (IsRead catalogue.now dialect text.now)) }
-{
-    let statement = match read_statement_in(alloc, text, dialect) {
-        Ok(statement) => statement,
-        Err(ReadError::Syntax) => return Ok(None),
-        Err(ReadError::OutOfMemory) => return Err(AllocError),
-    };
-    match type_statement(alloc, catalogue, &statement) {
-        Ok(typed) => Ok(Some(typed)),
-        Err(TypeError::IllTyped) => Ok(None),
-        Err(TypeError::OutOfMemory) => Err(AllocError),
-    }
-}
 
 // A test that raises gives its error, one that is false what it is of.
 fn refusal(failure: TestFailure) -> Outcome
@@ -149,22 +128,21 @@ fn made_by(
     }
 }
 
-// What the text makes of the database, and the relvars that it names.
+// What a text of which this was read makes of the database, and the relvars that it names.
 fn prepare(
     alloc: Global,
     database: &Database,
-    text: &str,
-    dialect: u8,
+    reading: &Reading,
 ) -> Result<(Prepared, Names), AllocError>
-    requires { IsLegal database.now }
-    ensures prepared { IfOk result (λ p. IsPrepared database.now dialect text.now p.0) }
-    ensures names { IfOk result (λ p. AreNames database.now.catalogue dialect text.now p.1) }
+    requires legal { IsLegal database.now }
+    requires read { (dialect : ℕ) × (text : List ℕ) × IsReading database.now.catalogue dialect text reading.now }
+    ensures prepared { (dialect : ℕ) (text : List ℕ) → IsReading database.now.catalogue dialect text reading.now → IfOk result (λ p. IsPrepared database.now dialect text p.0) }
+    ensures names { (dialect : ℕ) (text : List ℕ) → IsReading database.now.catalogue dialect text reading.now → IfOk result (λ p. AreNames database.now.catalogue dialect text p.1) }
 {
-    let catalogue = database.catalogue();
-    match read(alloc, catalogue, text, dialect)? {
+    match &reading.statement {
         Some(statement) => {
-            let names = names_of(alloc, catalogue, &statement)?;
-            let prepared = made_by(alloc, database, &statement)?;
+            let names = names_with(alloc, statement, &reading.footprint)?;
+            let prepared = made_by(alloc, database, statement)?;
             Ok((prepared, names))
         }
         None => Ok((Prepared::Refused(Outcome::Unread), no_names(alloc))),
@@ -341,19 +319,38 @@ fn ran(outcome: Outcome, delta: Vec<(usize, Delta)>, names: Names) -> Ran
     }
 }
 
-/// The base relvars on which the statement hangs, by their places, ascending, each once; of an unread text none. It
-/// reads and types the text, and evaluates nothing.
-pub fn footprint_of(
+/// Runs a statement of whose text this was read, as `run` runs the text.
+#[tactic(auto, using(crate::proofs::Preparing::no_differences))]
+pub fn run_read(
     alloc: Global,
-    catalogue: &Catalogue,
-    text: &str,
-    dialect: u8,
-) -> Result<Vec<usize>, AllocError>
-    ensures { IfOk result (λ v. AreThose (IsInFootprint catalogue.now dialect text.now) v.items) }
+    database: &mut Database,
+    reading: &Reading,
+    meter: &mut Meter,
+) -> Result<Ran, AllocError>
+    requires legal { IsLegal database.old }
+    requires read { (dialect : ℕ) × (text : List ℕ) × IsReading database.old.catalogue dialect text reading.now }
+    ensures step { (dialect : ℕ) (text : List ℕ) → IsReading database.old.catalogue dialect text reading.now → IfOk result (λ r. Steps database.old dialect text r.outcome database.new) }
+    ensures delta { IfOk result (λ r. AreDifferences (stored_relvars database.old.stored) (stored_relvars database.new.stored) r.delta.items) }
+    ensures kept { OnErr result (database.new ≡ database.old) }
+    ensures legal { IsLegal database.new }
+    ensures targets { (dialect : ℕ) (text : List ℕ) → IsReading database.old.catalogue dialect text reading.now → IfOk result (λ r. AreThose (IsTargetOfText database.old.catalogue dialect text) r.targets.items) }
+    ensures footprint { (dialect : ℕ) (text : List ℕ) → IsReading database.old.catalogue dialect text reading.now → IfOk result (λ r. AreThose (IsInFootprint database.old.catalogue dialect text) r.footprint.items) }
+    ensures counted { meter.new.count ≡ one_more meter.old.count }
 {
-    match read(alloc, catalogue, text, dialect)? {
-        Some(statement) => footprint(alloc, catalogue, &statement),
-        None => Ok(Vec::new(alloc)),
+    meter.tick();
+    database.relvars_fit();
+    let (prepared, names) = prepare(alloc, database, reading)?;
+    database.count_reads(alloc, &names.footprint);
+    match prepared {
+        Prepared::Changes(changes, delta) => {
+            put_all(alloc, database, changes)?;
+            Ok(ran(Outcome::Done, delta, names))
+        }
+        Prepared::Turn(relvar, delta) => {
+            let (outcome, delta) = turn(alloc, database, relvar, delta)?;
+            Ok(ran(outcome, delta, names))
+        }
+        Prepared::Refused(outcome) => Ok(ran(outcome, Vec::new(alloc), names)),
     }
 }
 
@@ -364,7 +361,6 @@ pub fn footprint_of(
 /// such tuples, the target is changed where it stands, and changed back where a test fails: what is added costs its
 /// tuples, a search for each, and the tests, and a condition one walk. Which relvars it names is found out before, by
 /// the typed statement. A refusal for want of memory leaves the database; the meter has counted then.
-#[tactic(auto, using(crate::proofs::Preparing::no_differences))]
 pub fn run(
     alloc: Global,
     database: &mut Database,
@@ -381,19 +377,12 @@ pub fn run(
     ensures footprint { IfOk result (λ r. AreThose (IsInFootprint database.old.catalogue dialect text.now) r.footprint.items) }
     ensures counted { meter.new.count ≡ one_more meter.old.count }
 {
-    meter.tick();
-    database.relvars_fit();
-    let (prepared, names) = prepare(alloc, database, text, dialect)?;
-    database.count_reads(alloc, &names.footprint);
-    match prepared {
-        Prepared::Changes(changes, delta) => {
-            put_all(alloc, database, changes)?;
-            Ok(ran(Outcome::Done, delta, names))
+    match read(alloc, database.catalogue(), text, dialect) {
+        Ok(reading) => run_read(alloc, database, &reading, meter),
+        Err(error) => {
+            database.relvars_fit();
+            meter.tick();
+            Err(error)
         }
-        Prepared::Turn(relvar, delta) => {
-            let (outcome, delta) = turn(alloc, database, relvar, delta)?;
-            Ok(ran(outcome, delta, names))
-        }
-        Prepared::Refused(outcome) => Ok(ran(outcome, Vec::new(alloc), names)),
     }
 }

@@ -1,5 +1,5 @@
 -- What a site is asked at a past place, from what its log tells.
-use Rattle.std.proofs.Common.{◌≡◌, ◌≤◌, ◌<◌, ◌+◌, ◌-◌, ◌==◌, ◌&&◌, Bool, true≢false, eq-eqb, ltb, ℕ, zero, suc, true, false, inl, inr, List, [], ◌∷◌, ◌++◌, drop, take, get_or, length, Ok, Err, refl, sym, ap, ◌∙◌, subst, arith}
+use Rattle.std.proofs.Common.{◌≡◌, ◌<◌, ◌==◌, ◌&&◌, Bool, true≢false, eq-eqb, ltb, ℕ, zero, suc, true, false, inl, inr, List, [], ◌∷◌, ◌++◌, drop, take, get_or, length, Ok, Err, sym, ap, ◌∙◌, subst, arith}
 use Rattle.std.specs.List.Sorted.{IsPartitionPoint}
 use Rattle.std.proofs.lemmas.Bool.{cases_Bool}
 use Rattle.std.proofs.lemmas.Bool.Decides.{nat_tests}

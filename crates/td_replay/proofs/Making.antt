@@ -2,22 +2,22 @@
 use Rattle.std.proofs.Common.{◌≡◌, ⊎_elim, ℕ, List, Result, Ok, Err, ap, sym, subst, ◌∙◌}
 use Rattle.std.specs.List.{All, Contains}
 use Rattle.std.specs.Prelude.{IfOk, OnErr, OnOk}
-use Rattle.std.proofs.Common.{◌≡◌, ⊎_elim, ℕ, List, IfOk, Result, Ok, Err, Vec, ap, sym, ◌∙◌, subst}
+use Rattle.std.proofs.Common.{◌≡◌, ⊎_elim, ℕ, List, IfOk, Result, Ok, Err, ap, sym, ◌∙◌, subst}
 use Rattle.td_algebra.specs.declared.errors.Stop.{Stop}
 use Rattle.td_assign.specs.Laws.{GoesBothWays}
+use Rattle.td_assign.specs.Readings.{IsReading}
 use Rattle.td_assign.specs.Redoing.{AreOnce, CanRedo, CanUndo, IsBetween}
 use Rattle.td_assign.specs.declared.ran.Ran.{Ran}
+use Rattle.td_assign.specs.declared.reading.Reading.{Reading}
 use Rattle.td_assign.proofs.Leading.{differences_go_both_ways, only_listed_change}
 use Rattle.td_assign.proofs.Stepping.{changes_targets, step_keeps_database}
 use Rattle.td_headings.specs.Catalogues.{CatalogueData}
-use Rattle.td_headings.specs.Reached.{AreThose}
 use Rattle.td_relations.specs.Deltas.{DeltaData}
 use Rattle.td_relvars.specs.Changed.{redone, undone}
 use Rattle.td_relvars.specs.Parts.{part_of, put_part}
 use Rattle.td_relvars.proofs.Copies.{part_belongs, put_back_restores}
 use Rattle.td_stamps.specs.declared.entry.Entry.{Entry}
 use Rattle.td_story.specs.Databases.{Belongs, DatabaseData, IsDatabase, Stored, stored_relvars}
-use Rattle.td_story.specs.Footprints.{IsInFootprint}
 use Rattle.td_story.specs.Steps.{Steps}
 use Rattle.td_values.specs.Rows.{RowsData}
 use Rattle.td_replay.specs.Noted.{AgreeAt, IsLegalDatabase, Notes, opened_by}
@@ -99,8 +99,6 @@ is_put_back s d u ns part there put good is same alike =
     put ∙ ap (λ (q : List (ℕ × RowsData)). record d { stored = put_part q d.stored }) is
     ∙ put_back_restores s d ns good.0 there (ap (λ (z : DatabaseData). z.catalogue) same) (λ n never. (alike n never).1)
 
--- ---- what an entry hangs on
-pub named_all : {E Z : Type 0} (c k : CatalogueData) (dialect : ℕ) (text t : List ℕ) (m : Result (Vec ℕ Z) E) → k ≡ c → text ≡ t → IfOk m (λ v. AreThose (IsInFootprint k dialect text) v.items) → IfOk m (λ v. (n : ℕ) → IsInFootprint c dialect t n → Contains v.items n)
-named_all c k dialect text t (Ok v) same is h = λ n target.
-    (h.members n).1 (subst (λ (x : List ℕ). IsInFootprint k dialect x n) (sym is) (subst (λ (z : CatalogueData). IsInFootprint z dialect t n) (sym same) target))
-named_all c k dialect text t (Err e) same is h = tt
+-- ---- what is read of an entry
+pub read_so : {E : Type 0} (c k : CatalogueData) (dialect : ℕ) (text t : List ℕ) (m : Result Reading E) → k ≡ c → text ≡ t → IfOk m (IsReading k dialect text) → IfOk m (IsReading c dialect t)
+read_so c k dialect text t m same is h = subst (λ (z : CatalogueData). IfOk m (IsReading z dialect t)) same (subst (λ (x : List ℕ). IfOk m (IsReading k dialect x)) is h)

@@ -2,6 +2,7 @@
 
 ghost use Rattle.std.specs.Prelude.{◌≡◌, ℕ, Option, OnOk};
 ghost use Rattle.td_rollback.specs.Labels.{IsCoarser, has_label};
+ghost use Rattle.td_assign.specs.Readings.{IsReading};
 ghost use Rattle.td_replay.specs.Noted.{AgreeAt, AreClosed, AreTargetsOf, IsClosedPart, IsFootprintOf, IsLegalDatabase, Notes, mix, opened_by};
 ghost use Rattle.td_relvars.specs.Parts.{AreTheirs, part_of};
 ghost use Rattle.td_story.specs.Databases.{IsDatabase};
@@ -11,7 +12,7 @@ ghost use Rattle.td_replay.specs.ForProofs.Mixing.{mixes};
 use std::alloc::{AllocError, Global};
 use std::marker::Model;
 use td_assign::names::test_reads;
-use td_assign::{Ran, footprint_of, redo, run, undo};
+use td_assign::{Ran, Reading, read, redo, run, run_read, undo};
 use td_headings::Catalogue;
 use td_relvars::{Database, Part};
 use td_rollback::{Machine, tie};
@@ -80,6 +81,8 @@ impl Machine for Engine {
 
     type Part = Part;
 
+    type Reading = Reading;
+
     type Meter = Meter;
 
     ghost sound = { IsLegalDatabase };
@@ -93,6 +96,8 @@ impl Machine for Engine {
     ghost footprint = { IsFootprintOf };
 
     ghost targets = { AreTargetsOf };
+
+    ghost is_read = { λ o e r. IsReading o.catalogue e.dialect e.text r };
 
     ghost footprint_in = { λ r. r.footprint.items };
 
@@ -111,6 +116,20 @@ impl Machine for Engine {
         run(alloc, &mut self.database, text, entry.dialect, meter)
     }
 
+    fn read(&self, alloc: Global, entry: &Entry) -> Result<Reading, AllocError> {
+        let text = entry.text.as_str();
+        read(alloc, self.database.catalogue(), text, entry.dialect)
+    }
+
+    fn run_read(
+        &mut self,
+        alloc: Global,
+        reading: &Reading,
+        meter: &mut Meter,
+    ) -> Result<Ran, AllocError> {
+        run_read(alloc, &mut self.database, reading, meter)
+    }
+
     fn undo(&mut self, alloc: Global, ran: &Ran) -> Result<(), AllocError> {
         undo(alloc, &mut self.database, &ran.delta)
     }
@@ -119,9 +138,8 @@ impl Machine for Engine {
         redo(alloc, &mut self.database, &ran.delta)
     }
 
-    fn places_of(&self, alloc: Global, entry: &Entry) -> Result<Vec<usize>, AllocError> {
-        let text = entry.text.as_str();
-        footprint_of(alloc, self.database.catalogue(), text, entry.dialect)
+    fn places_of(reading: &Reading) -> &[usize] {
+        reading.footprint.as_slice()
     }
 
     fn tie_places(&self, alloc: Global, labels: &mut Vec<usize>) -> Result<(), AllocError> {

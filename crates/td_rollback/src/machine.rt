@@ -20,6 +20,9 @@ pub trait Machine {
     /// A copy of what some places have.
     type Part: Drop;
 
+    /// What is read of an entry before it is run.
+    type Reading: Drop;
+
     /// What counts runs.
     type Meter;
 
@@ -40,6 +43,9 @@ pub trait Machine {
 
     /// The places that it may change.
     ghost targets: { Self → EntryData → ℕ → Type 0 };
+
+    /// This was read of the entry, in a story of that origin.
+    ghost is_read: { Self → EntryData → Self.Reading → Type 0 };
 
     /// These places as the record of a run names them.
     ghost footprint_in: { Self.Record → List ℕ };
@@ -71,6 +77,24 @@ pub trait Machine {
         ensures origin { origin self.new ≡ origin self.old }
         ensures counted { count meter.new ≤ count meter.old + 1 };
 
+    /// Reads the entry.
+    fn read(&self, alloc: Global, entry: &Entry) -> Result<Self::Reading, AllocError>
+        ensures { IfOk result (λ r. is_read (origin self.now) entry.now r) };
+
+    /// Runs an entry of which this was read, as `run` does.
+    fn run_read(
+        &mut self,
+        alloc: Global,
+        reading: &Self::Reading,
+        meter: &mut Self::Meter,
+    ) -> Result<Self::Record, AllocError>
+        requires sound { sound self.old }
+        requires read { (e : EntryData) × is_read (origin self.old) e reading.now }
+        ensures step { (e : EntryData) → is_read (origin self.old) e reading.now → IfOk result (λ r. steps self.old e r self.new) }
+        ensures kept { OnErr result (self.new ≡ self.old) }
+        ensures origin { origin self.new ≡ origin self.old }
+        ensures counted { count meter.new ≤ count meter.old + 1 };
+
     /// Takes back the run that led here. Where memory is wanting each of its targets may have changed, and nothing
     /// else.
     fn undo(&mut self, alloc: Global, ran: &Self::Record) -> Result<(), AllocError>
@@ -87,9 +111,9 @@ pub trait Machine {
         ensures elsewhere { (n : ℕ) → (Contains (targets_in ran.now) n → ⊥) → alike self.old self.new n }
         ensures origin { origin self.new ≡ origin self.old };
 
-    /// Places among which are all that the entry depends on, and so all that it may change.
-    fn places_of(&self, alloc: Global, entry: &Entry) -> Result<Vec<usize>, AllocError>
-        ensures { IfOk result (λ v. (n : ℕ) → footprint (origin self.now) entry.now n → Contains v.items n) };
+    /// Places among which are all that an entry depends on of which this was read, and so all that it may change.
+    fn places_of(reading: &Self::Reading) -> &[usize]
+        ensures { (o : Self) (e : EntryData) → is_read o e reading.now → (n : ℕ) → footprint o e n → Contains result.now n };
 
     /// Ties the places that what is asked of states ties.
     fn tie_places(&self, alloc: Global, labels: &mut Vec<usize>) -> Result<(), AllocError>

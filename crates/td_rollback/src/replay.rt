@@ -1,6 +1,6 @@
 //! Entries replayed from a state.
 
-ghost use Rattle.std.specs.Prelude.{◌≡◌, ◌≤◌, ◌+◌, ◌++◌, ◌∷◌, ◌↔◌, ◌⊎◌, [], ℕ, IfOk, OnOk, length};
+ghost use Rattle.std.specs.Prelude.{◌≡◌, ◌≤◌, ◌+◌, ◌++◌, ◌∷◌, ◌↔◌, ◌⊎◌, [], ℕ, IfOk, IfSome, OnOk, length};
 ghost use Rattle.std.specs.List.{Contains};
 ghost use Rattle.td_stamps.specs.Entries.{stamp_of};
 ghost use Rattle.td_stamps.specs.Story.{Story};
@@ -9,13 +9,27 @@ ghost use Rattle.td_stamps.specs.declared.entry.Stamp.{Stamp as StampData};
 ghost use Rattle.td_rollback.specs.Going.{AreAlikeBut};
 ghost use Rattle.td_rollback.specs.Touched.{AreMore, Runs};
 ghost use Rattle.td_rollback.specs.Turns.{settled};
-ghost use Rattle.td_rollback.specs.ForProofs.Standing.{Ran};
+ghost use Rattle.td_rollback.specs.ForProofs.Standing.{AreRead, Ran};
 
 use crate::machine::Machine;
 use crate::names::{add, meets};
 use crate::turns::Turn;
 use std::alloc::{AllocError, Global};
 use td_stamps::{Entry, Stamp};
+
+// What was read of the entry, where that stands at the place.
+fn reading_at<'r, M: Machine>(
+    readings: &'r [(Entry, M::Reading)],
+    at: usize,
+    entry: &Entry,
+) -> Option<&'r M::Reading>
+    ensures { (o : M) → AreRead (M.is_read o) readings.now → IfSome result (λ r. M.is_read o entry.now r.now) }
+{
+    match readings.get(at) {
+        Some(read) if read.0.is_same(entry) => Some(&read.1),
+        _ => None,
+    }
+}
 
 // Runs the entry, and names its targets.
 fn run_anew<M: Machine>(
@@ -36,6 +50,53 @@ fn run_anew<M: Machine>(
     let ran = machine.run(alloc, entry, meter)?;
     add(names, M::targets_of(&ran))?;
     Ok((entry.stamp(), ran))
+}
+
+// Runs the entry by what was read of it, and names its targets.
+fn run_read<M: Machine>(
+    alloc: Global,
+    machine: &mut M,
+    names: &mut Vec<usize>,
+    entry: &Entry,
+    reading: &M::Reading,
+    meter: &mut M::Meter,
+) -> Result<(Stamp, M::Record), AllocError>
+    requires sound { M.sound machine.old }
+    requires read { M.is_read (M.origin machine.old) entry.now reading.now }
+    ensures stamp { IfOk result (λ p. p.0 ≡ stamp_of entry.now) }
+    ensures step { IfOk result (λ p. M.steps machine.old entry.now p.1 machine.new) }
+    ensures names { OnOk result ((n : ℕ) → Contains names.new.items n ↔ (M.targets (M.origin machine.old) entry.now n ⊎ Contains names.old.items n)) }
+    ensures elsewhere { (n : ℕ) → (M.targets (M.origin machine.old) entry.now n → ⊥) → M.alike machine.old machine.new n }
+    ensures origin { M.origin machine.new ≡ M.origin machine.old }
+    ensures counted { M.count meter.new ≤ M.count meter.old + 1 }
+{
+    let ran = machine.run_read(alloc, reading, meter)?;
+    add(names, M::targets_of(&ran))?;
+    Ok((entry.stamp(), ran))
+}
+
+// Runs the entry, by what was read of it if something was, and names its targets.
+fn run_as_read<M: Machine>(
+    alloc: Global,
+    machine: &mut M,
+    names: &mut Vec<usize>,
+    entry: &Entry,
+    reading: Option<&M::Reading>,
+    meter: &mut M::Meter,
+) -> Result<(Stamp, M::Record), AllocError>
+    requires sound { M.sound machine.old }
+    requires read { IfSome reading (λ r. M.is_read (M.origin machine.old) entry.now r.now) }
+    ensures stamp { IfOk result (λ p. p.0 ≡ stamp_of entry.now) }
+    ensures step { IfOk result (λ p. M.steps machine.old entry.now p.1 machine.new) }
+    ensures names { OnOk result ((n : ℕ) → Contains names.new.items n ↔ (M.targets (M.origin machine.old) entry.now n ⊎ Contains names.old.items n)) }
+    ensures elsewhere { (n : ℕ) → (M.targets (M.origin machine.old) entry.now n → ⊥) → M.alike machine.old machine.new n }
+    ensures origin { M.origin machine.new ≡ M.origin machine.old }
+    ensures counted { M.count meter.new ≤ M.count meter.old + 1 }
+{
+    match reading {
+        Some(reading) => run_read(alloc, machine, names, entry, reading, meter),
+        None => run_anew(alloc, machine, names, entry, meter),
+    }
 }
 
 // Runs an old entry again.
@@ -66,16 +127,18 @@ fn run_fresh<M: Machine>(
     names: &mut Vec<usize>,
     turns: &mut Vec<Turn<M::Record>>,
     entry: &Entry,
+    reading: Option<&M::Reading>,
     meter: &mut M::Meter,
 ) -> Result<(), AllocError>
-    requires { M.sound machine.old }
+    requires sound { M.sound machine.old }
+    requires read { IfSome reading (λ r. M.is_read (M.origin machine.old) entry.now r.now) }
     ensures turn { OnOk result ((p : StampData × M.Record) × Ran M.steps machine.old entry.now p machine.new × (turns.new.items ≡ turns.old.items ++ Turn.Fresh p ∷ [])) }
     ensures names { OnOk result ((n : ℕ) → Contains names.new.items n ↔ (M.targets (M.origin machine.old) entry.now n ⊎ Contains names.old.items n)) }
     ensures elsewhere { (n : ℕ) → (M.targets (M.origin machine.old) entry.now n → ⊥) → M.alike machine.old machine.new n }
     ensures origin { M.origin machine.new ≡ M.origin machine.old }
     ensures counted { M.count meter.new ≤ M.count meter.old + 1 }
 {
-    let first = run_anew(alloc, machine, names, entry, meter)?;
+    let first = run_as_read(alloc, machine, names, entry, reading, meter)?;
     turns.push(Turn::Fresh(first))?;
     Ok(())
 }
@@ -99,16 +162,19 @@ fn keep<M: Machine>(
 }
 
 // Replays from the state before the old entries, which have these records, until all entries ran. An old entry that
-// none of those that ran touches is not run: its change is made again.
+// none of those that ran touches is not run: its change is made again. The others are run by what was read of them, which
+// stands in their order.
 pub(crate) fn replay_end<M: Machine>(
     alloc: Global,
     machine: &mut M,
     old: &[Entry],
     log: &[(Stamp, M::Record)],
     new: &[Entry],
+    readings: &[(Entry, M::Reading)],
     meter: &mut M::Meter,
 ) -> Result<Vec<Turn<M::Record>>, AllocError>
     requires sound { M.sound machine.old }
+    requires read { AreRead (M.is_read (M.origin machine.old)) readings.now }
     requires story { (last : M) × Story M.steps machine.old old.now log.now last }
     requires each { length log.now ≡ length old.now }
     requires more { AreMore old.now new.now }
@@ -131,7 +197,10 @@ pub(crate) fn replay_end<M: Machine>(
                 keep(alloc, machine, &mut turns, ran)?;
             }
         } else {
-            run_fresh(alloc, machine, &mut names, &mut turns, entry, meter)?;
+            let reading = reading_at::<M>(readings, turns.len().saturating_sub(at), entry);
+            run_fresh(
+                alloc, machine, &mut names, &mut turns, entry, reading, meter,
+            )?;
         }
     }
     Ok(turns)

@@ -1,6 +1,6 @@
 //! A story told again with more entries.
 
-ghost use Rattle.std.specs.Prelude.{◌≡◌, ◌≤◌, ◌+◌, ◌++◌, [], ℕ, List, IfOk, OnErr, OnOk, length, drop, take};
+ghost use Rattle.std.specs.Prelude.{◌≡◌, ◌⊎◌, ◌≤◌, ◌+◌, ◌++◌, ◌∷◌, [], ℕ, List, IfOk, OnErr, OnOk, length, drop, take};
 ghost use Rattle.std.specs.List.{Contains};
 ghost use Rattle.td_stamps.specs.declared.entry.Entry.{Entry as EntryData};
 ghost use Rattle.td_stamps.specs.declared.entry.Stamp.{Stamp as StampData};
@@ -9,6 +9,7 @@ ghost use Rattle.td_rollback.specs.Parts.{marked, unmarked, woven};
 ghost use Rattle.td_rollback.specs.Touched.{AreMore, IsTargetOf, Runs};
 ghost use Rattle.td_rollback.specs.Turns.{retold, settled};
 ghost use Rattle.td_rollback.specs.ForProofs.Marked.{AreAmong, AreParted};
+ghost use Rattle.td_rollback.specs.ForProofs.Standing.{AreRead};
 
 use crate::labels::part_of;
 use crate::machine::Machine;
@@ -69,6 +70,7 @@ fn replay_from<M: Machine>(
     log: &[(Stamp, M::Record)],
     new: &[Entry],
     kept: usize,
+    readings: &[(Entry, M::Reading)],
     meter: &mut M::Meter,
 ) -> Result<Vec<Turn<M::Record>>, AllocError>
     requires story { (o : M) × Begins M.sound M.origin M.steps o old.now log.now machine.old }
@@ -77,6 +79,7 @@ fn replay_from<M: Machine>(
     requires alike { take kept old.now ≡ take kept new.now }
     requires in_old { kept ≤ length old.now }
     requires in_new { kept ≤ length new.now }
+    requires read { AreRead (M.is_read (M.origin machine.old)) readings.now }
     ensures story { (o : M) → Begins M.sound M.origin M.steps o old.now log.now machine.old → IfOk result (λ turns. Begins M.sound M.origin M.steps o new.now (take kept log.now ++ settled (drop kept log.now) turns.items) machine.new) }
     ensures many { IfOk result (λ turns. kept + length turns.items ≡ length new.now) }
     ensures counted { (n : ℕ) → Runs (M.footprint (M.origin machine.old)) (M.targets (M.origin machine.old)) [] old.now new.now n → M.count meter.new ≤ M.count meter.old + n }
@@ -87,7 +90,7 @@ fn replay_from<M: Machine>(
     let (_, old_end) = old.split_at(kept);
     let (_, log_end) = log.split_at(kept);
     let (_, new_end) = new.split_at(kept);
-    replay_end(alloc, machine, old_end, log_end, new_end, meter)
+    replay_end(alloc, machine, old_end, log_end, new_end, readings, meter)
 }
 
 // What becomes of the records of a story that is told again: so many of the first stay, and the others take turns.
@@ -107,11 +110,13 @@ fn retell_all<M: Machine>(
     log: &[(Stamp, M::Record)],
     new: &[Entry],
     fresh: &[usize],
+    readings: &[(Entry, M::Reading)],
     meter: &mut M::Meter,
 ) -> Result<Retold<M::Record>, AllocError>
     requires story { (o : M) × Begins M.sound M.origin M.steps o old.now log.now machine.old }
     requires more { AreMore old.now new.now }
     requires fresh { AreAmong (M.targets (M.origin machine.old)) old.now new.now fresh.now }
+    requires read { AreRead (M.is_read (M.origin machine.old)) readings.now }
     ensures story { (o : M) → Begins M.sound M.origin M.steps o old.now log.now machine.old → IfOk result (λ r. Begins M.sound M.origin M.steps o new.now (retold log.now r.kept r.turns.items) machine.new) }
     ensures front { IfOk result (λ r. r.kept ≤ length log.now) }
     ensures many { IfOk result (λ r. r.kept + length r.turns.items ≡ length new.now) }
@@ -122,7 +127,7 @@ fn retell_all<M: Machine>(
 {
     let kept = common_of(old, new);
     let part = save_end(alloc, machine, old, log, new, kept, fresh)?;
-    match replay_from(alloc, machine, old, log, new, kept, meter) {
+    match replay_from(alloc, machine, old, log, new, kept, readings, meter) {
         Ok(turns) => Ok(Retold { kept, turns }),
         Err(error) => {
             machine.put_back(part);
@@ -138,20 +143,48 @@ struct Marked {
     entries: Vec<Entry>,
 }
 
-// All places that the entries depend on.
-fn all_places<M: Machine>(
+/// So many of the entries that are read are kept as they were read, until they run: some MB. The others are read again.
+const MOST_READINGS: usize = 4_096;
+
+/// What is fresh: what was read of the first entries, and the places that all depend on.
+#[derive(Drop)]
+struct Fresh<R> {
+    readings: Vec<(Entry, R)>,
+    places: Vec<usize>,
+}
+
+// Keeps what was read of an entry, unless many are kept.
+fn keep_reading<R: Drop>(
+    readings: &mut Vec<(Entry, R)>,
+    entry: Entry,
+    reading: R,
+) -> Result<(), AllocError>
+    ensures { OnOk result ((readings.new.items ≡ readings.old.items ++ (entry, reading) ∷ []) ⊎ (readings.new.items ≡ readings.old.items)) }
+{
+    if readings.len() >= MOST_READINGS {
+        return Ok(());
+    }
+    readings.push((entry, reading))?;
+    Ok(())
+}
+
+// Reads the entries, of which each tells the places that it depends on.
+fn read_all<M: Machine>(
     alloc: Global,
     machine: &M,
     entries: &[Entry],
-) -> Result<Vec<usize>, AllocError>
-    ensures { IfOk result (λ v. (n : ℕ) → IsTargetOf (M.footprint (M.origin machine.now)) entries.now n → Contains v.items n) }
+) -> Result<Fresh<M::Reading>, AllocError>
+    ensures places { IfOk result (λ f. (n : ℕ) → IsTargetOf (M.footprint (M.origin machine.now)) entries.now n → Contains f.places.items n) }
+    ensures read { IfOk result (λ f. AreRead (M.is_read (M.origin machine.now)) f.readings.items) }
 {
+    let mut readings = Vec::new(alloc);
     let mut places = Vec::new(alloc);
     for entry in entries {
-        let more = machine.places_of(alloc, entry)?;
-        add(&mut places, &more)?;
+        let reading = machine.read(alloc, entry)?;
+        add(&mut places, M::places_of(&reading))?;
+        keep_reading(&mut readings, entry.copy()?, reading)?;
     }
-    Ok(places)
+    Ok(Fresh { readings, places })
 }
 
 // The marks, with the entries that are marked.
@@ -164,30 +197,31 @@ fn marked_of(alloc: Global, entries: &[Entry], marks: Vec<bool>) -> Result<Marke
 }
 
 // Marks the old entries and all that is to be told: those that keep to the part of the places of what is fresh. Answers
-// copies of those that are marked, and the places of what is fresh.
+// copies of those that are marked, and what is fresh.
 fn mark_all<M: Machine>(
     alloc: Global,
     machine: &M,
     old: &[Entry],
     log: &[(Stamp, M::Record)],
     new: &[Entry],
-) -> Result<(Marked, Marked, Vec<usize>), AllocError>
+) -> Result<(Marked, Marked, Fresh<M::Reading>), AllocError>
     requires story { (o : M) × Begins M.sound M.origin M.steps o old.now log.now machine.now }
     requires more { AreMore old.now new.now }
     ensures parted { IfOk result (λ p. AreParted (M.closed (M.origin machine.now)) (M.footprint (M.origin machine.now)) old.now new.now p.0.marks.items p.1.marks.items) }
     ensures old { IfOk result (λ p. p.0.entries.items ≡ marked p.0.marks.items old.now) }
     ensures new { IfOk result (λ p. p.1.entries.items ≡ marked p.1.marks.items new.now) }
-    ensures fresh { IfOk result (λ p. AreAmong (M.targets (M.origin machine.now)) p.0.entries.items p.1.entries.items p.2.items) }
+    ensures fresh { IfOk result (λ p. AreAmong (M.targets (M.origin machine.now)) p.0.entries.items p.1.entries.items p.2.places.items) }
+    ensures read { IfOk result (λ p. AreRead (M.is_read (M.origin machine.now)) p.2.readings.items) }
 {
     let flags = flags_of(alloc, old, new)?;
     let fresh = chosen(alloc, new, Vec::from_slice(alloc, &flags)?)?;
-    let places = all_places(alloc, machine, &fresh)?;
-    let part = part_of(alloc, machine, &places, log)?;
+    let fresh = read_all(alloc, machine, &fresh)?;
+    let part = part_of(alloc, machine, &fresh.places, log)?;
     let marks = marks_of::<M>(alloc, &part, log)?;
     let all = with_flagged(alloc, flags, Vec::from_slice(alloc, &marks)?)?;
     let told = marked_of(alloc, old, marks)?;
     let all = marked_of(alloc, new, all)?;
-    Ok((told, all, places))
+    Ok((told, all, fresh))
 }
 
 // Tells again what is marked, and leaves all else as it is: whatever may fail comes before the log changes.
@@ -198,12 +232,14 @@ fn retell_marked<M: Machine>(
     told: Marked,
     all: Marked,
     fresh: &[usize],
+    readings: &[(Entry, M::Reading)],
     meter: &mut M::Meter,
 ) -> Result<(), AllocError>
     requires story { (o : M) × Begins M.sound M.origin M.steps o told.entries.items (marked told.marks.items log.old.items) machine.old }
     requires more { AreMore told.entries.items all.entries.items }
     requires each { length told.marks.items ≡ length log.old.items }
     requires fresh { AreAmong (M.targets (M.origin machine.old)) told.entries.items all.entries.items fresh.now }
+    requires read { AreRead (M.is_read (M.origin machine.old)) readings.now }
     ensures story { OnOk result ((records : List (StampData × M.Record)) × (log.new.items ≡ woven all.marks.items records (unmarked told.marks.items log.old.items)) × ((o : M) → Begins M.sound M.origin M.steps o told.entries.items (marked told.marks.items log.old.items) machine.old → Begins M.sound M.origin M.steps o all.entries.items records machine.new)) }
     ensures kept { OnErr result ((machine.new ≡ machine.old) × (log.new.items ≡ log.old.items)) }
     ensures counted { (n : ℕ) → Runs (M.footprint (M.origin machine.old)) (M.targets (M.origin machine.old)) [] told.entries.items all.entries.items n → M.count meter.new ≤ M.count meter.old + n }
@@ -225,6 +261,7 @@ fn retell_marked<M: Machine>(
         &within,
         &all.entries,
         fresh,
+        readings,
         meter,
     ) {
         Ok(Retold { kept, turns }) => {
@@ -257,7 +294,8 @@ fn retell_end<M: Machine>(
     ensures origin { M.origin machine.new ≡ M.origin machine.old }
 {
     let (told, all, fresh) = mark_all(alloc, &*machine, old, log, new)?;
-    retell_marked(alloc, machine, log, told, all, &fresh, meter)
+    let Fresh { readings, places } = fresh;
+    retell_marked(alloc, machine, log, told, all, &places, &readings, meter)
 }
 
 /// Leads the machine to the end of the story of the new entries, from the end of that of the old ones, with a record of

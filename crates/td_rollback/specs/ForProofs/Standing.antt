@@ -1,6 +1,6 @@
 -- Where a replay stands.
 use Rattle.std.specs.Prelude.{◌≡◌, ◌↔◌, ◌≤◌, ◌+◌, ℕ, suc, List, [], ◌∷◌, drop}
-use Rattle.std.specs.List.{Contains}
+use Rattle.std.specs.List.{All, Contains}
 use Rattle.td_stamps.specs.declared.entry.Entry.{Entry}
 use Rattle.td_stamps.specs.declared.entry.Stamp.{Stamp}
 use Rattle.td_stamps.specs.Entries.{stamp_of}
@@ -23,6 +23,10 @@ passed (Again p ∷ ts) = suc (passed ts)
 pub record Ran {S R : Type 0} (Step : S → Entry → R → S → Type 0) (s : S) (e : Entry) (p : Stamp × R) (t : S) : Type 0 where
   pub stamp : p.0 ≡ stamp_of e
   pub step : Step s e p.1 t
+
+-- each of these was read of its entry
+abbrev pub AreRead : {R : Type 0} → (Entry → R → Type 0) → List (Entry × R) → Type 0
+AreRead IsRead xs = All (λ p. IsRead p.0 p.1) xs
 
 -- the old entries and the new ones, as a replay begins with them
 pub record Begun (S R : Type 0) : Type 0 where

@@ -25,7 +25,7 @@ returns-clause-parted g c =
     let cs_is = c.in_ok-all-2.ensures.marks ∙ c.in_ok-all.ensures ∙ ap (with_flagged flags) marks_is in
     let fresh_is : c.deref-2.result.now ≡ marked flags new = c.deref-2.ensures.value ∙ c.in_ok-fresh.ensures ∙ ap (λ (xs : List Bool). marked xs new) (c.in_ok-from_slice.ensures.items ∙ c.deref.ensures.value) in
     let within = λ (n : ℕ) (h : IsTargetOf (m.footprint o) (marked flags new) n).
-    c.in_ok-part.ensures.places n (subst (λ (ns : List ℕ). Contains ns n) (sym c.deref-3.ensures.value) (c.in_ok-places.ensures n (subst (λ (es : List Entry). IsTargetOf (m.footprint o) es n) (sym fresh_is) h))) in
+    c.in_ok-part.ensures.places n (subst (λ (ns : List ℕ). Contains ns n) (sym c.deref-3.ensures.value) (c.in_ok-fresh-2.ensures.places n (subst (λ (es : List Entry). IsTargetOf (m.footprint o) es n) (sym fresh_is) h))) in
     parted w part (m.closed o) c.in_ok-part.ensures.closed c.requires.story.0 c.args.machine.now c.args.old.now new c.args.log.now flags c.in_ok-told.told.marks.items c.in_ok-all-2.all.marks.items
     (b.sound, b.origin_is) b.story c.in_ok-flags.ensures c.in_ok-part.ensures.records bs_is cs_is within
 
@@ -44,5 +44,5 @@ returns-clause-fresh g c = λ e n h t.
     let told_is : c.in_ok-told.told.entries.items ≡ marked c.in_ok-told.told.marks.items old = c.in_ok-told.ensures.entries ∙ ap (λ (xs : List Bool). marked xs old) (sym c.in_ok-told.ensures.marks) in
     let here : has (marked (with_flagged flags c.in_ok-told.told.marks.items) new) e ≡ true = subst (λ (es : List Entry). has es e ≡ true) all_is h in
     ⊎_elim (λ told. inl (subst (λ (es : List Entry). has es e ≡ true) (sym told_is) told))
-    (λ flagged. inr (c.in_ok-places.ensures n (e, subst (λ (es : List Entry). has es e ≡ true) (sym fresh_is) flagged, w.goes.hang_on_targets e n t)))
+    (λ flagged. inr (c.in_ok-fresh-2.ensures.places n (e, subst (λ (es : List Entry). has es e ≡ true) (sym fresh_is) flagged, w.goes.hang_on_targets e n t)))
     (came old new flags c.in_ok-told.told.marks.items (m.footprint o) p.part c.in_ok-flags.ensures p.old e here)

@@ -1,10 +1,6 @@
-use Rattle.std.proofs.Common.{◌≡◌, subst}
-use Rattle.td_story.specs.Databases.{DatabaseData}
-use Rattle.td_replay.proofs.Making.{named_all}
+use Rattle.std.proofs.Common.{ℕ, List, sym, subst}
+use Rattle.std.specs.List.{Contains}
 use Rattle.td_replay.proofs.engine.EngineMachine.places_of.Goals as goal
 
 pub returns : goal.returns
-returns c =
-    named_all c.args.self.now.catalogue c.catalogue.result.now c.args.entry.now.dialect c.as_str-text.result.now c.args.entry.now.text c.footprint_of.result
-    (subst (λ (z : DatabaseData). c.catalogue.result.now ≡ z.catalogue) c.self.view_is c.catalogue.ensures.same)
-    c.as_str-text.ensures c.footprint_of.ensures
+returns c = λ o e is n h. subst (λ (ns : List ℕ). Contains ns n) (sym c.as_slice.ensures.value) ((is.footprint.members n).1 h)

@@ -1,4 +1,4 @@
-use Rattle.std.proofs.Common.{◌≡◌, ◌+◌, ◌-◌, ℕ, List, get_or, refl, sym, subst, arith}
+use Rattle.std.proofs.Common.{◌≡◌, ◌-◌, ℕ, List, get_or, refl, sym, subst, arith}
 use Rattle.td_changes.specs.Changes.{IsChangedBy}
 use Rattle.td_relations.specs.Deltas.{DeltaData}
 use Rattle.td_stamps.specs.declared.entry.Entry.{Entry}

@@ -1,0 +1,12 @@
+-- What is read of a statement's text before it is run.
+use Rattle.std.specs.Prelude.{ℕ, List, MatchOption}
+use Rattle.td_headings.specs.Catalogues.{CatalogueData}
+use Rattle.td_headings.specs.Reached.{AreThose}
+use Rattle.td_story.specs.Footprints.{IsInFootprint}
+use Rattle.td_story.specs.Steps.{IsRead, IsUnreadText}
+use Rattle.td_assign.specs.declared.reading.Reading.{Reading}
+
+-- this was read of the text in its dialect: the statement that it is, if it is one, and the relvars on which it hangs
+pub record IsReading (c : CatalogueData) (dialect : ℕ) (text : List ℕ) (r : Reading) : Type 0 where
+  pub statement : MatchOption r.statement (IsUnreadText c dialect text) (IsRead c dialect text)
+  pub footprint : AreThose (IsInFootprint c dialect text) r.footprint.items
