@@ -216,7 +216,7 @@ fn unlike_over(alloc: Global, catalogue: &Catalogue, table: &[(Question, &str)])
     Ok(String::new(alloc))
 }
 
-// The same over what the script defines.
+// The first question of which something else is told than stands there, over what the script defines.
 fn unlike(alloc: Global, script: &str, table: &[(Question, &str)]) -> Result<String> {
     let catalogue = catalogue_of(alloc, script)?;
     unlike_over(alloc, &catalogue, table)

@@ -207,7 +207,7 @@ fn done(alloc: Global, database: &mut Database, meter: &mut Meter, task: Task) -
     }
 }
 
-// The same with the database that the script opens.
+// What a task tells of the database that the script opens.
 fn done_over(alloc: Global, meter: &mut Meter, script: &str, task: Task) -> Result<String> {
     match Database::open_script(alloc, script) {
         Ok(mut database) => done(alloc, &mut database, meter, task),

@@ -140,8 +140,8 @@ fn measure_sets(
     tell_operators(rt, &OF_ONE, size, &a, &b, names)
 }
 
-// As many suppliers and shipments, one for each number, which share half of their numbers; and the sums of suppliers
-// for each of these numbers.
+// Measures joins of suppliers and of shipments, one of each for each number, which share half of their numbers, and the
+// sums of suppliers for each of these numbers.
 fn measure_joins(
     rt: &HostRuntime,
     suppliers: &Table<'_>,

@@ -15,11 +15,11 @@ use Rattle.td_story.specs.declared.answer.Answer.{Answer}
 use Rattle.td_values.specs.Data.{Datum}
 use Rattle.td_values.specs.Rows.{RowsData}
 
--- a query
+-- sites that hold the same give one answer to a query
 abbrev pub AnswersAgree : Type 0
 AnswersAgree = (s t : Seen) → HoldTheSame s t → (text : List ℕ) (r q : Answer Datum) → Asks s text (Ok r) → Asks t text (Ok q) → r ≡ q
 
--- the same just after the entry of a stamp
+-- and one answer to a query just after the entry of a stamp
 abbrev pub PastAnswersAgree : Type 0
 PastAnswersAgree =
     (s t : Seen) → HoldTheSame s t → (text : List ℕ) (at : Stamp) (r q : Answer Datum) → AsksAt s text at (Ok r) → AsksAt t text at (Ok q) → r ≡ q

@@ -51,7 +51,7 @@ TakesBoth pre e t = (p : _) (q : _) → p.now ≡ e → q.now ≡ t → pre p q
 abbrev pub Means : {E W : Type 0} → (Bor E → Bor Attrs → Result Datum (Fault W) → Type 0) → Meaning E → E → Attrs → Type 0
 Means {W = W} post m e t = (p : _) (q : _) (a : Result Datum (Fault W)) → p.now ≡ e → q.now ≡ t → post p q a → Answers a (m e t)
 
--- the same at the terms of all items
+-- what a function takes at the terms of all items and a tuple; and what it answers there is the meaning
 abbrev pub TakesItems : {E : Type 0} → (Bor E → Bor Attrs → Type 0) → List (Item E) → Attrs → Type 0
 TakesItems pre items t = All (λ i. TakesBoth pre i.term t) items
 

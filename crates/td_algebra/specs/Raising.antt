@@ -22,7 +22,7 @@ Unless Raises P (Err (Raised e)) = Raises e × ((f : Stop) → Raises f → stop
 Unless Raises P (Err OutOfMemory) = Unit {0}
 Unless Raises P (Err (Wanting w)) = Unit {0}
 
--- the same of an answer for which no memory is taken
+-- an answer for which no memory is taken, where no error is raised, and else the least error
 abbrev pub UnlessRaised : {B : Type 0} → (Stop → Type 0) → (B → Type 0) → Result B Stop → Type 0
 UnlessRaised Raises P (Ok b) = ((e : Stop) → Raises e → ⊥) × P b
 UnlessRaised Raises P (Err e) = Raises e × ((f : Stop) → Raises f → stop_number e ≤ stop_number f)

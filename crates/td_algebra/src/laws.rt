@@ -52,7 +52,8 @@ pub fn functions_are_operators()
     ensures restrict { RestrictedIs }
 {}
 
-/// The same of those that take terms, of any kind: unless one raises, and then the least that is raised.
+/// Each of the functions that take terms, of any kind, gives the one relation that its operator describes, unless a
+/// term raises, and then the least that is raised.
 pub fn functions_by_terms_are_operators<E>()
     ensures extended { ExtendedIs E }
     ensures summarized { SummarizedIs E }

@@ -107,7 +107,7 @@ pub fn test_reads(
     }
 }
 
-// The same, where it reads a target, and else nothing.
+// What the test reads, where it reads a target, and else nothing.
 fn test_needs(
     alloc: Global,
     catalogue: &Catalogue,

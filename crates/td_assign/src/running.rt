@@ -259,7 +259,7 @@ fn tried_with_way(
     }
 }
 
-// The same, as it takes something out or not.
+// Makes the one change and tests it: with a way back where it takes something out.
 fn made(
     alloc: Global,
     database: &mut Database,

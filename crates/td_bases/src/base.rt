@@ -101,7 +101,7 @@ fn undo(
     }
 }
 
-// The same of a change that took nothing out. It takes no memory.
+// Takes back a change that took nothing out. It takes no memory.
 fn take_back(relation: &mut Relation, indexes: &mut Vec<KeyIndex>, delta: &Delta)
     requires heading { delta.now.deleted.heading ≡ relation.old.heading }
     requires growth { body delta.now.deleted ≡ set.empty }
@@ -115,7 +115,7 @@ fn take_back(relation: &mut Relation, indexes: &mut Vec<KeyIndex>, delta: &Delta
     settle_each(indexes, relation, delta.inserted(), relation);
 }
 
-// The same of any change, by a way that was made before it. It takes no memory. Its tuples are kept by the first key
+// Takes back any change, by a way that was made before it. It takes no memory. The tuples are kept by the first key
 // alone then.
 fn go_back(relation: &mut Relation, indexes: &mut Vec<KeyIndex>, delta: &Delta, way: WayBack)
     requires heading { delta.now.deleted.heading ≡ relation.old.heading }
@@ -234,7 +234,7 @@ impl Base {
         self.indexes[0].with_key(values)
     }
 
-    /// The same, its tuples shared and kept by its key alone: it takes two lists of them.
+    /// A copy, which shares the tuples and keeps them by its key alone: it takes two lists of them.
     pub fn copy(&self, alloc: Global) -> Result<Base, AllocError>
         ensures { IfOk result (λ b. b ≡ self.now) }
     {
@@ -249,7 +249,8 @@ impl Base {
         })
     }
 
-    /// The same, its tuples shared and by all keys by which they are kept: for each it takes a list more.
+    /// A copy, which shares the tuples and keeps them by all keys by which they are kept: for each it takes a list
+    /// more.
     pub fn copy_with_keys(&self, alloc: Global) -> Result<Base, AllocError>
         ensures { IfOk result (λ b. b ≡ self.now) }
     {

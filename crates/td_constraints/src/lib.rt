@@ -21,8 +21,8 @@ pub fn first_failure(alloc: Global, database: &Database) -> Result<Option<Failur
     td_integrity::first_failure(alloc, database.catalogue(), database)
 }
 
-/// The same after these changes of relvars, of which every test was true before them. It costs what
-/// `td_integrity::first_failure_after` does: it makes only the tests that read a relvar which was changed.
+/// The first test that is false or raises after these changes of relvars, before which every test was true. It costs
+/// what `td_integrity::first_failure_after` does: it makes only the tests that read a relvar which was changed.
 pub fn first_failure_after(
     alloc: Global,
     database: &Database,

@@ -10,19 +10,19 @@ use std::net::TcpStream;
 
 /// A value that reads and writes, neither of which touches what the other side has.
 pub trait Link: Read + Write {
-    /// As `read`, and what was written stays.
+    /// Reads, as `read` does, and leaves what was written.
     fn read_side(&mut self, buf: &mut [u8]) -> io::Result<usize>
         ensures bound { ReadsAtMost result buf.new }
         ensures bytes { ReadConsumes (Self.remaining self.old) (Self.remaining self.new) result buf.new }
         ensures contents { Keeps (Self.contents self.old) (Self.contents self.new) };
 
-    /// As `write`, and what is left to be read stays.
+    /// Writes, as `write` does, and leaves what is to be read.
     fn write_side(&mut self, bytes: &[u8]) -> io::Result<usize>
         ensures bound { WritesAtMost result bytes.now }
         ensures bytes { WriteAppends (Self.contents self.old) (Self.contents self.new) result bytes.now }
         ensures remaining { Keeps (Self.remaining self.old) (Self.remaining self.new) };
 
-    /// As `flush`, and what is left to be read stays.
+    /// Flushes, as `flush` does, and leaves what is to be read.
     fn flush_side(&mut self) -> io::Result<()>
         ensures contents { Keeps (Self.contents self.old) (Self.contents self.new) }
         ensures remaining { Keeps (Self.remaining self.old) (Self.remaining self.new) };

@@ -29,7 +29,7 @@ abbrev pub IsFound : List (List ℕ) → RowsData → Attrs → Option RowsData 
 IsFound key r t None = tuple_names t ≡ key_names r.heading key → ⊥
 IsFound key r t (Some s) = HasThoseOf key r t s
 
--- the same of a relvar that has a relation, by its first key if it has one
+-- what is found of a relvar that has a relation, by its first key if it has one
 abbrev pub TellsFound : Result RowsData Stop → Option (List (List ℕ)) → Attrs → Option RowsData → Type 0
 TellsFound (Ok r) (Some key) t o = IsFound key r t o
 TellsFound (Ok r) None t o = o ≡ None

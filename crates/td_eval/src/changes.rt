@@ -59,7 +59,7 @@ fn replaced(
     Ok(Delta::of(inserted, deleted))
 }
 
-// The same of these tuples, changed.
+// The change that puts these tuples, as the UPDATE changes them, in their place.
 fn update<W: Wanted>(
     alloc: Global,
     env: &Environment,
@@ -100,7 +100,8 @@ fn exchange<W: Wanted>(
     }
 }
 
-// The same where what all relvars have is found first: nothing is wanting then.
+// The change that makes what an expression of this form means of the relation, where what all relvars have is found
+// first: nothing is wanting then.
 fn exchange_over_all(
     alloc: Global,
     env: &Environment,
@@ -113,7 +114,8 @@ fn exchange_over_all(
     exchange(alloc, &those(&relvars, env), &[], tuples, form)
 }
 
-// The same where these parts are known, if nothing else is wanting.
+// The change that makes what an expression of this form means of the relation, where these parts are known, if nothing
+// else is wanting.
 fn last_exchange(
     alloc: Global,
     env: &Environment,
@@ -132,7 +134,8 @@ fn last_exchange(
     }
 }
 
-// The same over what relvars have, of which the virtual ones are found where the condition or an item comes to them.
+// The change that makes what an expression of this form means of the relation over what relvars have, of which the
+// virtual ones are found where the condition or an item comes to them.
 fn exchange_over(
     alloc: Global,
     env: &Environment,
@@ -155,7 +158,7 @@ fn exchange_over(
     last_exchange(alloc, env, &findings.parts, tuples, form)
 }
 
-// The same of a part of the expression.
+// The change that makes what an expression of this form, a part of this one, means of the relation.
 fn change_by_part<L: Lookup>(
     alloc: Global,
     expr: &TypedExpr,

@@ -93,7 +93,7 @@ fn value_over_all(
     td_meaning::eval(alloc, &those(&relvars, env), &[], part, scope)
 }
 
-// The same where these parts of it are known, if nothing else is wanting.
+// The value of a part of the expression where these parts of it are known, if nothing else is wanting.
 fn last_value(
     alloc: Global,
     env: &Environment,
@@ -112,8 +112,8 @@ fn last_value(
     }
 }
 
-// The same, where what it comes to is made known, a virtual relvar a round. Rounds that make none known are followed by
-// the evaluation of all.
+// The value of a part of the expression, where what it comes to is made known, a virtual relvar a round. Rounds that
+// make none known are followed by the evaluation of all.
 fn value_over<'a>(
     alloc: Global,
     env: &Environment,

@@ -57,7 +57,7 @@ fn all_named_as(
     Ok(named)
 }
 
-// The same relation, its heading and its tuples' names shared with this heading, which is its own.
+// The relation, whose heading and tuples share the names of this heading, which is its own.
 fn with_names_of(
     alloc: Global,
     heading: &Heading,

@@ -75,7 +75,7 @@ impl<'a> Begun<'a> {
         }
     }
 
-    // The same, behind this task.
+    // What was begun, where this task was begun behind it.
     fn behind(self, task: Task<'a>) -> Begun<'a> {
         match task {
             Task::Virtual(_) => self,
@@ -136,7 +136,7 @@ fn keep_virtual<'a>(
     Ok(())
 }
 
-// The same of the one at the place among those under the expression.
+// Puts what the virtual relvar at this place has, or raises, among the parts, under the expression that names it.
 fn settle_virtual<'a>(
     alloc: Global,
     env: &Environment<'_>,

@@ -208,7 +208,7 @@ pub record IsStatement (bytes : Text) (s : Statement) : Type 0 where
   pub shallow : statement_levels s ≤ most_levels
   pub short : length bytes ≤ statement_bytes
 
--- the same in a dialect: of a form that it has
+-- the text is this statement in a dialect, which has the statement's form
 pub record IsStatementIn (dialect : ℕ) (bytes : Text) (s : Statement) : Type 0 where
   pub reads : IsStatement bytes s
   pub form : since s ≤ dialect

@@ -14,7 +14,8 @@ pub fn reader_decides_queries()
     ensures { ReaderDecidesQueries }
 {}
 
-/// The same of a statement and of a script.
+/// The reader finds what the grammar says of a statement and of a script: a tree where the text's tokens are read as
+/// one, and else none.
 pub fn reader_decides_statements()
     ensures statement { ReaderDecidesStatements }
     ensures script { ReaderDecidesScripts }

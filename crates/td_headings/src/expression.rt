@@ -82,7 +82,7 @@ pub(crate) fn virtuals_at(
     Ok(virtuals)
 }
 
-// The same CONSTRAINT, shared.
+// A copy of a CONSTRAINT, which shares its expression.
 fn shared(limit: &Option<Shared<Typed>>) -> Result<Option<Shared<Typed>>, AllocError>
     ensures { IfOk result (λ o. o ≡ limit.now) }
 {

@@ -52,7 +52,7 @@ impl TypedExpr {
         self.expression.get()
     }
 
-    /// The same expression, shared.
+    /// A copy, which shares the expression.
     pub fn copy(&self) -> Result<TypedExpr, AllocError>
         ensures { IfOk result (λ x. x ≡ self.now) }
     {

@@ -24,7 +24,7 @@ pub enum Command<'a> {
         site: u32,
         text: &'a str,
     },
-    /// As it was just after the entry of this clock and origin.
+    /// The query is asked of the site as it was just after the entry of this clock and origin.
     QueryAt {
         site: u32,
         text: &'a str,
@@ -74,7 +74,7 @@ fn number(digits: &str) -> Option<u32>
     Some(number as u32)
 }
 
-// The same, or this one where it is larger.
+// The decimal number that the digits are, or the greatest one that is told apart where it is larger.
 fn number_within(digits: &[u8], most: u64) -> Option<u64>
     requires { most ≤ 1000000000000000001 }
     ensures small { MatchOption result (Unit {0}) (λ n. n ≤ most) }

@@ -63,7 +63,8 @@ fn equal_sides<'c>(
     if at < width { Some((at, value)) } else { None }
 }
 
-// The same of a check, over tuples of so many attributes.
+// The place of an attribute and the value to which it must be equal, where a check over tuples of so many attributes
+// compares these.
 fn equality<'c>(check: &'c Check<'_>, width: usize) -> Option<(usize, &'c Value)>
     ensures { IfSome result (λ e. Equals check.now width e.0 e.1.now) }
 {

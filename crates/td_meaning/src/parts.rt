@@ -66,7 +66,8 @@ fn find<'a>(parts: &'a [Part<'a>], tree: &Typed) -> Option<&'a Result<Held, Stop
     }
 }
 
-/// The same, where it takes evaluation: nothing else is sought, nor a relvar where none is virtual.
+/// What is known of the expression, where it takes evaluation: nothing else is sought, nor a relvar where none is
+/// virtual.
 pub(crate) fn part_known<'a>(
     env: &Environment<'_>,
     parts: &'a [Part<'a>],
@@ -98,7 +99,7 @@ pub fn put<'a>(
     Ok(())
 }
 
-/// The same of a value, if there is one.
+/// Puts a part where its expression belongs, if there is a value of it.
 pub(crate) fn put_if<'a>(
     alloc: Global,
     parts: &mut Vec<Part<'a>>,
@@ -123,7 +124,7 @@ fn copy<'a>(part: &'a Part<'_>) -> Result<Part<'a>, AllocError>
     })
 }
 
-/// The same parts, shared.
+/// A copy of the parts, which shares their values.
 pub(crate) fn copied<'a>(alloc: Global, parts: &'a [Part<'_>]) -> Result<Vec<Part<'a>>, AllocError>
     ensures { IfOk result (λ v. v.items ≡ parts.now) }
 {

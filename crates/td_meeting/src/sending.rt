@@ -136,7 +136,8 @@ fn send_reply<R: Replica, K: Sink>(
     send(site, vector, sink)
 }
 
-/// The same, of an open site. It takes room for the version vector before it writes.
+/// Writes the greeting of an open site and what it holds after a version vector. It takes room for the version vector
+/// before it writes.
 pub(crate) fn reply<R: Replica, K: Sink>(
     alloc: Global,
     site: &R,

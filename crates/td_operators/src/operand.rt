@@ -98,7 +98,7 @@ impl<'a> Lease<'a> {
         }
     }
 
-    /// The same relation, lent.
+    /// Lends the same relation once more.
     pub fn share(&self) -> Lease<'_>
         ensures { result ≡ self.now }
     {

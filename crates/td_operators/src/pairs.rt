@@ -235,7 +235,7 @@ fn related<W>(
     }
 }
 
-// The same of joins and matches by an index of the second relation, where the names that both have are the first of its
+// What a join or a match makes by an index of the second relation, where the names that both have are the first of its
 // key.
 fn related_by(
     alloc: Global,
@@ -256,7 +256,7 @@ fn related_by(
     }
 }
 
-// The same by an index of the first.
+// What a join or a match makes by an index of the first relation.
 fn related_from(
     alloc: Global,
     operator: BinaryOperator,
@@ -288,7 +288,7 @@ fn seeks_in_first(operator: BinaryOperator, first: usize, second: usize) -> bool
     }
 }
 
-// The same by one of those that are kept of the second.
+// What a join or a match makes by an index that is kept of the second relation, if one serves.
 fn related_by_kept(
     alloc: Global,
     operator: BinaryOperator,
@@ -305,7 +305,7 @@ fn related_by_kept(
     Ok(None)
 }
 
-// The same by one of those of the first.
+// What a join or a match makes by an index that is kept of the first relation, if one serves.
 fn related_from_kept(
     alloc: Global,
     operator: BinaryOperator,

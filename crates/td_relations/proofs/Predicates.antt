@@ -27,7 +27,7 @@ by_list h xs P r is same = by_members h (set.from_list xs) P r is (λ t. (λ e. 
 pub of_set : (h : Header) (s : TupleSet) (r : RowsData) → IsRelation h s r → IsRelationOf h (λ t. set.contains s t ≡ true) r
 of_set h s r is = by_members h s (λ t. set.contains s t ≡ true) r is (λ t. (λ e. e, λ e. e))
 
--- the same relation by another predicate
+-- a relation of one predicate is that of another one that holds of the same tuples
 pub by_predicate : (h : Header) (P Q : Attrs → Type 0) (r : RowsData) → IsRelationOf h P r → ((t : Attrs) → P t ↔ Q t) → IsRelationOf h Q r
 by_predicate h P Q r is same = record { heading = is.heading; only = λ t has. (same t).0 (is.only t has); all = λ t q. is.all t ((same t).1 q); ascending = is.ascending }
 

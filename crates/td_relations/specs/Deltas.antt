@@ -27,7 +27,7 @@ applied s d = set.union (set.difference s (body d.deleted)) (body d.inserted)
 abbrev pub IsApplied : RowsData → DeltaData → RowsData → Type 0
 IsApplied r d n = IsRelation r.heading (applied (body r) d) n
 
--- the same of the tuples that are taken out and those that are put in
+-- n is the relation r without the tuples that are taken out, with those that are put in
 abbrev pub IsExchanged : RowsData → RowsData → RowsData → RowsData → Type 0
 IsExchanged r deleted inserted n = IsApplied r (record { inserted = inserted; deleted = deleted }) n
 

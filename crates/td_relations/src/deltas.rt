@@ -150,7 +150,7 @@ fn exchange(
     }
 }
 
-// The same by two walks.
+// Takes the first ones out of the relation and puts the second ones in, by two walks along it.
 fn exchange_all(
     alloc: Global,
     relation: &mut Relation,
@@ -168,7 +168,8 @@ fn exchange_all(
     Ok(())
 }
 
-// The same tuple by tuple. What may want memory comes first.
+// Takes the first ones out of the relation and puts the second ones in, tuple by tuple. What may want memory comes
+// first.
 fn exchange_each(
     alloc: Global,
     relation: &mut Relation,

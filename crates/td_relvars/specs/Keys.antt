@@ -23,7 +23,7 @@ names_of (Some k) = k
 abbrev pub key_at : CatalogueData → ℕ → List (List ℕ)
 key_at c n = names_of (first_key c n)
 
--- the same of the relvar of a name
+-- the first key of the relvar of a name; none where there is no such relvar
 abbrev pub key_under : CatalogueData → Option (ℕ × Named Header) → List (List ℕ)
 key_under c None = []
 key_under c (Some v) = key_at c v.0

@@ -10,7 +10,7 @@ use Rattle.td_relvars.specs.Changed.{CanChange, changed}
 abbrev pub LeadsBackFrom : Stored → ℕ → DeltaData → WayBackData → Type 0
 LeadsBackFrom s n delta w = (r : RowsData) × (stored_relvars s n ≡ Ok r) × LeadsBack r delta w
 
--- the same of the relvar at the place
+-- it is for this change of the relvar at the place
 abbrev pub LeadsBackAt : DatabaseData → ℕ → DeltaData → WayBackData → Type 0
 LeadsBackAt d = LeadsBackFrom d.stored
 

@@ -176,7 +176,7 @@ fn count_read_at(
     }
 }
 
-// The same of each of these places.
+// Counts a read of what is stored at each of these places.
 fn count_reads_at(
     alloc: Global,
     catalogue: &Catalogue,
@@ -228,7 +228,7 @@ fn change_back_at(
     }
 }
 
-// The same of a change that took nothing out.
+// Takes back, at the place, a change that took nothing out.
 fn take_back_at(stored: &mut Vec<Option<Base>>, relvar: usize, delta: &Delta)
     requires there { HasOf (rows_of stored.old.items) relvar delta.now.deleted.heading }
     requires growth { body delta.now.deleted ≡ set.empty }
@@ -271,7 +271,7 @@ fn keep_room_at(stored: &mut Vec<Option<Base>>, relvar: usize, way: WayBack)
     }
 }
 
-// The same of any change, by a way that was made before it.
+// Takes back, at the place, any change, by a way that was made before it.
 fn go_back_at(stored: &mut Vec<Option<Base>>, relvar: usize, delta: &Delta, way: WayBack)
     requires there { HasOf (rows_of stored.old.items) relvar delta.now.deleted.heading }
     requires way { (r : RowsData) × (stored_relvars (rows_of stored.old.items) relvar ≡ Ok (changes.changed r delta.now)) × LeadsBack r delta.now way }

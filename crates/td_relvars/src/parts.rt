@@ -61,7 +61,7 @@ fn change_back_copy(
     Ok(())
 }
 
-// The same in each of the copies.
+// Takes the change of a relvar back in each of the copies that is one of that relvar.
 fn change_back_copies(
     alloc: Global,
     bases: &mut Vec<(usize, Base)>,
@@ -189,7 +189,8 @@ impl Database {
         self.copy_with_keys_at(alloc, &places)
     }
 
-    /// The same of the base relvars at these places.
+    /// Copies of what the base relvars at these places have, whose tuples are shared, with their tuples by the keys by
+    /// which they are kept.
     pub fn copy_with_keys_at(&self, alloc: Global, relvars: &[usize]) -> Result<Part, AllocError>
         ensures copies { IfOk result (λ p. p.copies ≡ part_of self.now.stored relvars.now) }
         ensures keys { IfOk result (AreTheirs self.now.catalogue) }
@@ -199,7 +200,8 @@ impl Database {
         })
     }
 
-    /// The same, but for their tuples by keys: a list of shared tuples for each relvar.
+    /// Copies of what the base relvars at these places have, without their tuples by keys: a list of shared tuples for
+    /// each relvar.
     pub fn copy_at(&self, alloc: Global, relvars: &[usize]) -> Result<Part, AllocError>
         ensures copies { IfOk result (λ p. p.copies ≡ part_of self.now.stored relvars.now) }
         ensures keys { IfOk result (AreTheirs self.now.catalogue) }

@@ -78,7 +78,7 @@ pub(crate) fn ask_back(
     value_over(alloc, database, &part, query)
 }
 
-/// The same, by running the first entries anew.
+/// What the query means over the relvars that the first entries leave, by running these anew.
 pub(crate) fn ask_anew(
     alloc: Global,
     script: &str,

@@ -276,7 +276,7 @@ fn retell_marked<M: Machine>(
     }
 }
 
-// As `retell`, of entries that do not begin alike.
+// Tells a story again, as `retell` does, of entries that do not begin alike.
 fn retell_end<M: Machine>(
     alloc: Global,
     machine: &mut M,

@@ -16,7 +16,8 @@ fn fault_of(alloc: Global, told: &Diagnostic, text: &str) -> Result<String, Allo
     Ok(out)
 }
 
-// The same, or in few words where nothing is told, as of a statement of an older dialect.
+// What is told of an ill-typed text: the sentence with its line and a caret, or few words where there is no sentence,
+// as of a statement of an older dialect.
 fn fault_in(alloc: Global, told: Option<&Diagnostic>, text: &str) -> Result<String, AllocError> {
     match told {
         Some(told) => fault_of(alloc, told, text),

@@ -32,7 +32,7 @@ abbrev pub or_stored : Option RowsData → Option RowsData → Option RowsData
 or_stored None old = old
 or_stored (Some r) old = Some r
 
--- the same of what is stored, place by place
+-- what is stored, with all targets replaced, place by place
 abbrev pub with_given : Given → Stored → Stored
 with_given g [] = []
 with_given g (x ∷ xs) = or_stored (g zero) x ∷ with_given (λ n. g (suc n)) xs

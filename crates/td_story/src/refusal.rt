@@ -30,7 +30,7 @@ pub enum OpenError {
     OutOfMemory,
 }
 
-/// As its script is refused.
+/// A site is refused as its script is.
 impl From<ScriptError> for OpenError {
     ghost from_gives = { λ e refused. (script : List ℕ) (site limit : ℕ) → Fit site limit → Opens script (Err e) → OpensSite script site limit (Err refused) };
 

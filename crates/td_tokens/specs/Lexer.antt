@@ -106,7 +106,7 @@ lexed zero depth at (b ∷ bs) =
 abbrev pub reading : Text → Option (List Spanned)
 reading bs = lexed 0 0 0 bs
 
--- the same without their places
+-- the tokens of a text without their places, where it has a reading
 abbrev pub lexemes : Text → Option (List Lexeme)
 lexemes bs = option_map (map (λ (t : Spanned). t.lexeme)) (reading bs)
 

@@ -3,10 +3,10 @@ use Rattle.td_tokens.specs.declared.token.Token.{Token}
 use Rattle.td_tokens.specs.Lex.{Lexeme, Spanned}
 use Rattle.td_tokens.specs.Lexer.{lexeme}
 
--- what it is
+-- what a token is
 abbrev pub lexeme_of : Token → Lexeme
 lexeme_of t = lexeme t.kind t.text.now
 
--- the same with its place
+-- a token with its place
 abbrev pub spanned_of : Token → Spanned
 spanned_of t = record { lexeme = lexeme_of t; start = t.start; end = t.end }

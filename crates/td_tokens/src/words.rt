@@ -102,7 +102,8 @@ fn same_letters(a: &[u8], b: &[u8]) -> bool
     a.eq_ignore_ascii_case(b)
 }
 
-// The same. Most words of the table have another length or another first letter, which costs no call.
+// Whether a word is this one of the table, but for the case of its letters. Most words of the table have another length
+// or another first letter, which costs no call.
 fn is_word(a: &[u8], b: &[u8]) -> bool
     ensures { result ≡ str_eq_ignore_ascii_case a.now b.now }
 {

@@ -41,7 +41,7 @@ cut names t = where_name (is_in names) t
 abbrev pub cut_off : List (List ℕ) → Attrs → Attrs
 cut_off names t = where_name (is_out names) t
 
--- the same of headings
+-- the attributes of a heading at the names X, and those at the other names
 abbrev pub columns_in : List (List ℕ) → Header → Header
 columns_in names h = by_name.retain_keys h (is_in names)
 

@@ -38,7 +38,7 @@ impl<T: Drop> Shared<T> {
         })
     }
 
-    /// The same value, shared.
+    /// Shares the value once more.
     pub fn copy(&self) -> Result<Shared<T>, AllocError>
         ensures { IfOk result (λ s. s ≡ self.now) }
     {

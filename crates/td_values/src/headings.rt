@@ -10,7 +10,7 @@ use std::alloc::{AllocError, Global};
 use std::rc::Rc;
 
 impl TdType {
-    /// The same type, shared.
+    /// A copy, which shares the headings within the type.
     pub fn copy(&self) -> Result<TdType, AllocError>
         ensures { IfOk result (λ t. t ≡ self.now) }
     {
@@ -21,7 +21,7 @@ impl TdType {
 }
 
 impl TypeKind {
-    /// The same kind of type, shared.
+    /// A copy, which shares the headings within the kind.
     pub fn copy(&self) -> Result<TypeKind, AllocError>
         ensures { IfOk result (λ k. k ≡ self.now) }
     {
@@ -141,7 +141,7 @@ impl Heading {
         }
     }
 
-    /// The same heading, shared.
+    /// A copy, which shares the attributes.
     pub fn copy(&self) -> Result<Heading, AllocError>
         ensures { IfOk result (λ h. h ≡ self.now) }
     {

@@ -103,7 +103,7 @@ impl Name {
         self.text.as_str()
     }
 
-    /// The same name, shared.
+    /// A copy, which shares the characters.
     pub fn copy(&self) -> Result<Name, AllocError>
         ensures { IfOk result (λ n. n ≡ self.now) }
     {

@@ -46,7 +46,7 @@ impl Possrep {
         &self.names.1
     }
 
-    /// The same names, shared.
+    /// A copy, which shares the names.
     pub fn copy(&self) -> Result<Possrep, AllocError>
         ensures { IfOk result (λ p. p ≡ self.now) }
     {

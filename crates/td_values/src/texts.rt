@@ -13,7 +13,7 @@ use std::hash::{Hash, Hasher};
 use std::marker::Model;
 use std::rc::Rc;
 
-// As many bytes as leave a text no larger than the inside of a relation.
+// So many bytes stand in the text itself: a text is no larger by them than the inside of a relation.
 const SHORT: usize = 16;
 
 #[derive(Drop)]
@@ -87,7 +87,7 @@ impl Text {
         }
     }
 
-    /// The same text, shared where it is long.
+    /// A copy, which shares the characters where they are many.
     pub fn copy(&self) -> Result<Text, AllocError>
         ensures { IfOk result (λ t. t ≡ self.now) }
     {

@@ -96,7 +96,7 @@ impl Items {
         &self.values
     }
 
-    /// The same components, shared.
+    /// A copy, which shares the components.
     pub fn copy(&self) -> Result<Items, AllocError>
         ensures { IfOk result (λ vs. vs ≡ self.now) }
     {
@@ -139,7 +139,7 @@ impl Tuple {
         }
     }
 
-    /// The same tuple, shared.
+    /// A copy, which shares the attributes.
     pub fn copy(&self) -> Result<Tuple, AllocError>
         ensures { IfOk result (λ t. t ≡ self.now) }
     {
@@ -183,7 +183,7 @@ impl Rows {
         (self.heading, self.tuples)
     }
 
-    /// The same rows, whose tuples are shared.
+    /// A copy, which shares the tuples.
     pub fn copy(&self, alloc: Global) -> Result<Rows, AllocError>
         ensures { IfOk result (λ r. r ≡ self.now) }
     {
@@ -195,7 +195,7 @@ impl Rows {
     }
 }
 
-/// The same tuples, shared: a list of them, and one count each.
+/// A copy of the tuples, which shares each: it takes a list of them, and one count each.
 pub fn copy_tuples(alloc: Global, a: &[Tuple]) -> Result<Vec<Tuple>, AllocError>
     ensures { IfOk result (λ v. v.items ≡ a.now) }
 {

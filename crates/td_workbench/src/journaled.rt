@@ -168,9 +168,9 @@ fn start<R: Opens + Drop, J: Journals, L: Links, S: Source, K: Sink>(
     ))
 }
 
-/// As `run_program`, with sites that keep journals under the names `PREFIX`, the site's number, `.tdj`: each comes back
-/// from its journal behind the script and before the lines, in order of the sites. Beside what `run_program` costs it
-/// takes room for the entries of each journal, and runs each entry once.
+/// Runs the program, as `run_program` does, with sites that keep journals under the names `PREFIX`, the site's number,
+/// `.tdj`: each comes back from its journal behind the script and before the lines, in order of the sites. Beside what
+/// `run_program` costs it takes room for the entries of each journal, and runs each entry once.
 pub fn run_journaled<R: Opens + Drop, J: Journals, L: Links, S: Source, K: Sink>(
     alloc: Global,
     journals: &J,

@@ -13,7 +13,7 @@ use td_values::Name;
 pub enum Call<'a> {
     Issue(&'a str),
     Take(&'a [Written<'a>]),
-    /// As `Take`, of entries of the first dialect.
+    /// Takes these, as `Take` does, as entries of the first dialect.
     TakeOld(&'a [Written<'a>]),
     Ask(&'a str),
     /// At the clock of the site.

@@ -9,7 +9,7 @@ use td_meeting::meet;
 use td_replay::{PlainSite, Site};
 use td_story::{Meter, Opens, Replica};
 
-/// The same definitions, but for a space.
+/// The definitions of the other site, but for a space.
 const OTHER_SCRIPT: &str = "VAR R BASE RELATION { A INTEGER } KEY { A } ;";
 
 /// The first site with the first and the third entry of a second one.

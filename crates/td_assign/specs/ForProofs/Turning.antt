@@ -69,7 +69,7 @@ TellsAlone d a (Ok None) = Unit {0}
 TellsAlone d a (Ok (Some x)) = (may : MayTurn d a.target x) × (means_alone d a ≡ Ok (changed may.exact.before x))
 TellsAlone d a (Err f) = Stands f (means_alone d a)
 
--- the same of assignments
+-- assignments give one relvar what its change makes of it
 abbrev pub Gives : DatabaseData → List TypedAssignment → ℕ → DeltaData → Type 0
 Gives d xs n x = (may : MayTurn d n x) × (assigned_by d xs ≡ Ok (gives n (changed may.exact.before x) nothing_given))
 

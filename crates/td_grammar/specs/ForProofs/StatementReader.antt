@@ -41,7 +41,7 @@ keys_from (suc n) found = do
 abbrev pub keys_at : Reader (List Attributes)
 keys_at = λ ts. keys_from (length ts) [] ts
 
--- as the readers of expressions
+-- readers of statements, by those of expressions
 module _ (reads : ℕ → Form → Reader Expr) (b : ℕ) where
   unfoldable pub sets_at : Reader (List (Named Expr))
   sets_at = do

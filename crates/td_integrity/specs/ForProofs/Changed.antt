@@ -39,7 +39,7 @@ pub record KeyBefore (now : Relvars) (changes : Changes) (n : ℕ) (key : List (
   pub held : and_then (before n) (λ r. Ok (is_key key r.tuples)) ≡ Ok true
   pub lead : LeadOver before now changes
 
--- the same, told of the relation that the relvar has now
+-- the test of the key was true before of the relvar that has this relation now
 pub record KeyOf (changes : Changes) (n : ℕ) (key : List (List ℕ)) (r : RowsData) : Type 0 where
   pub now : Relvars
   pub is : now n ≡ Ok r

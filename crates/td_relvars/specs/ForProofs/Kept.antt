@@ -19,7 +19,7 @@ keys_of xs = map (option_map (λ (b : BaseData). b.key)) xs
 abbrev pub AreFirst : CatalogueData → List (Option (List (List ℕ))) → Type 0
 AreFirst c ks = (n : ℕ) (k : List (List ℕ)) → slice_get ks n ≡ Some (Some k) → k ≡ key_at c n
 
--- the same of copies
+-- of copies: their rows, and the keys by which they are kept
 abbrev pub rows_copied : ℕ × BaseData → ℕ × RowsData
 rows_copied p = (p.0, p.1.rows)
 

@@ -147,7 +147,7 @@ infer_each us ks (f ∷ fs) s = where_some (f s) (λ y. infer_each (us ++ y.tree
 unfoldable pub infer_operands : List Inferred → Scope → Option Operands
 infer_operands fs s = infer_each [] [] fs s
 
--- as many as components, of their kinds
+-- the kinds are those of the components, one for each
 abbrev pub fit : List TypeKind → List (Named TypeKind) → Bool
 fit [] [] = true
 fit (k ∷ ks) (c ∷ cs) = same_kind k c.value && fit ks cs
