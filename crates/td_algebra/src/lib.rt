@@ -2,6 +2,16 @@
 //!
 //! Each answers a new relation, which shares the names, values and tuples of its operands. Want of memory is the one
 //! refusal; those that ask a function of tuples also answer the least error that it raises.
+//!
+//! Begin with `join`, `restrict` and `summarize`. `KeyIndex` is a relation by a key, and `join_by` and `matching_by`
+//! are the operators over one.
+//!
+//! Definitions to trust, in `specs/`: Closures, Extending, FunctionLaws, Nested, Operators, Raising, Restricting,
+//! Stops, Summaries.
+//!
+//! td_algebra says of each operator which tuples its result has, as a predicate on tuples. Operators that ask a
+//! function of tuples are stated for every meaning of that function, a value or an error. It knows nothing of
+//! expressions.
 #![tactic(auto)]
 
 mod closure;

@@ -1,4 +1,13 @@
 //! What lines of the workbench are answered, over sites of any kind.
+//!
+//! Begin with `answer`, what a line is answered over some sites, and `Links`, by which sites of other programs are
+//! reached.
+//!
+//! Definitions to trust, in `specs/`: Answers, Asking, Faults, Linked, Replies, Sites.
+//!
+//! td_answers sees sites as any `Replica` and lines as bytes, and writes nothing: it gives a `Reply`, whose room is
+//! taken before the work where the work changes a site, and before a link is asked for. It opens links by the trait
+//! `Links` and knows no socket; over a link it makes two of td_meeting's steps, and closes it.
 #![tactic(auto)]
 
 mod answers;

@@ -1,4 +1,13 @@
 //! Statements: what one makes of a database, or why it has no effect.
+//!
+//! Begin with `run`, which runs the text of a statement and tells its outcome and exact change; `read` and `run_read`
+//! are its two halves. `undo` and `redo` go by the change.
+//!
+//! td_assign evaluates sources and makes tests over look-ups that lay changes over a database: they lend what was given
+//! to a target, or what the database has, and copy neither. `choices` says which of its two lists a conditional
+//! statement makes; from there on it goes as an assignment of that list, but that its names are those of both. It
+//! writes the database last, by moves; where a statement adds tuples to one relvar, or takes out or changes those of a
+//! condition, the relvar is changed where it stands, judged, and changed back where a test fails.
 #![tactic(auto)]
 
 pub mod changes;

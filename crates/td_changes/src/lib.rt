@@ -1,4 +1,8 @@
 //! What statements changed: a trait of sites beside `Replica`.
+//!
+//! Begin with `Changes::changed_by`: what the entry of a stamp changed.
+//!
+//! Definitions to trust, in `specs/`: Changes, Laws.
 #![tactic(auto)]
 
 ghost use Rattle.std.specs.Prelude.{Err, MatchResult, Ok};

@@ -1,4 +1,6 @@
 //! Checks a script of definitions, and tells the place of each mistake: the shell's program has it for a mode.
+//!
+//! Begin with `program`, over its words and streams.
 #![tactic(auto)]
 
 mod definitions;

@@ -1,4 +1,7 @@
 //! The workbench of Ketsarimo: sites of one script, in memory or with journals in files.
+//!
+//! td_console has `main` alone: it knows the standard streams, which kind of site the program runs, where journals
+//! stand and by what it reaches others. Nothing stands on it.
 #![tactic(auto)]
 
 use std::env;

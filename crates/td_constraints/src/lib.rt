@@ -1,6 +1,8 @@
 //! What must be true of a database after each statement: its keys and constraints, in the order of the script.
 //!
 //! td_integrity judges the same over any look-up, so that statements are judged before they change a database.
+//!
+//! Begin with `first_failure`, over a database as it stands, and `first_failure_after`, behind changes.
 #![tactic(auto)]
 
 ghost use Rattle.std.specs.Prelude.{IfOk};

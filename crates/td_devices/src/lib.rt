@@ -1,4 +1,13 @@
 //! Readers and writers that count their failures, and lines read from them.
+//!
+//! Begin with `Device`, which wraps a reader or a writer; `read_line` reads a line, and `put` writes a text and
+//! flushes.
+//!
+//! Definitions to trust, in `specs/`: Counted, Lines, Streams, Views.
+//!
+//! td_devices knows bytes and lines, and not what they say. A device has a count of failures beside what it wraps;
+//! whoever reads or writes is generic over `Source`, `Sink` or, for both, `Channel`, and its contract ends with what
+//! the count did.
 #![tactic(auto)]
 
 mod device;

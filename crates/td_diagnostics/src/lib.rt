@@ -2,6 +2,14 @@
 //!
 //! The program tells `fault type` and no more, so that its lines are the same whatever the text; a place and a sentence
 //! stand beside them for who wrote the text. Of a text that is not read td_places tells the place.
+//!
+//! Begin with `diagnose_query` and `diagnose_statement`, which tell the place and a sentence of an ill-typed text, and
+//! `define_or_diagnose` for a definition.
+//!
+//! td_diagnostics has two layers. One decides by the calls of td_grammar, td_typing and td_headings whether something
+//! is to be told, and its contract says so; the other one finds the innermost part without a type and words it, and is
+//! only tested. Trees have no places: `marks` are the tokens that are as many for a tree however it is written, so a
+//! part is found by how many marks stand before it.
 #![tactic(auto)]
 
 mod definition;

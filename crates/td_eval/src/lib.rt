@@ -1,4 +1,12 @@
 //! Evaluation of typed expressions: their values, or the errors that they raise.
+//!
+//! Begin with `eval`, the value of a typed expression over a `Lookup`, and `changed`, the change of a relvar that an
+//! expression makes where it stands.
+//!
+//! td_eval evaluates a virtual relvar where the expression comes to it: td_meaning ends there and says which one is
+//! wanted, and begins again once its value, or what it raises, is among the known parts (`settling`). `deciding` tells
+//! by an expression's form what it comes to in any case. A database is whatever lends what base relvars have, so a
+//! look-up copies nothing and takes no memory.
 #![tactic(auto)]
 
 mod addition;

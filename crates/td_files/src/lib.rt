@@ -1,4 +1,8 @@
 //! Journals that stand in files, each of which is locked for as long as it is open.
+//!
+//! Begin with `FileJournals`, which opens the journal of a name, and `Notes`, which tell what was found.
+//!
+//! td_files knows files and nothing of what stands in them.
 #![tactic(auto)]
 
 mod companions;

@@ -1,4 +1,12 @@
 //! The frames in which sites hand each other their entries.
+//!
+//! Begin with `put_greeting` and `read_greeting`, and `put_entry` and `read_entries`.
+//!
+//! Definitions to trust, in `specs/`: Reading, Spelling.
+//!
+//! td_frames knows entries and version vectors as numbers and bytes, and no site: whose script and number a greeting
+//! has is for its caller to judge. Its definitions are the spelling of each frame and a reading field by field; laws
+//! tie the two.
 #![tactic(auto)]
 
 mod entries;

@@ -1,4 +1,12 @@
 //! Expressions, statements and scripts of the language, from their texts.
+//!
+//! Begin with `read_expr`, `read_statement` and `read_script`. `read_statement_in` reads a statement in the dialect in
+//! which it was issued, and `stop` tells where a text goes wrong.
+//!
+//! Definitions to trust, in `specs/`: Grammar, Statements.
+//!
+//! td_grammar has the relation between tokens and trees, a function on token lists that decides it, and the code, which
+//! gives what the function gives.
 #![tactic(auto)]
 
 mod binding;

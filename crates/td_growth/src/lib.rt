@@ -1,4 +1,7 @@
 //! When a base relvar gains tuples: which constraints may be judged over these alone.
+//!
+//! Begin with `is_watched`, whether a constraint may be judged over new tuples alone, and `sole_reference`, whether it
+//! says that one relvar refers to another.
 #![tactic(auto)]
 
 pub mod laws;

@@ -1,4 +1,13 @@
 //! What a script defines, and the types of its expressions and statements.
+//!
+//! Begin with `Catalogue::define`, which types a definition behind those before it, `type_expr` and `type_statement`.
+//!
+//! Definitions to trust, in `specs/`: Catalogues, Definitions, Expressions, Reached, Statements.
+//!
+//! td_headings has what a script defines: beside the schema the CONSTRAINTs of possreps, where each relvar's value
+//! comes from, and the tests in script order. That each definition is well typed after those before it is an invariant
+//! of the catalogue. A typed expression is shared and never changed; that it is one, with all that evaluating it comes
+//! to, is its invariant. A statement's sources are each one expression over the target.
 #![tactic(auto)]
 
 pub mod catalogue;

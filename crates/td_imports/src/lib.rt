@@ -1,4 +1,9 @@
 //! Comma-separated values as statements that insert them.
+//!
+//! Begin with `read_rows`, the rows of CSV checked against a heading, and `insertion_of`, a statement that inserts
+//! them.
+//!
+//! td_imports knows no site. No contract says what it prints: it is proved to return and to be safe.
 #![tactic(auto)]
 
 pub mod cells;

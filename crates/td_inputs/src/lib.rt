@@ -1,4 +1,8 @@
 //! What a person types: texts over several lines, words with a dot in front, and the definitions of a script.
+//!
+//! Begin with `Scan`, whether a text that is typed is complete, and `command_of`, what a line with a dot says.
+//!
+//! td_inputs knows no site. No contract says what it prints: it is proved to return and to be safe.
 #![tactic(auto)]
 
 pub mod commands;

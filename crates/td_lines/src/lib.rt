@@ -1,4 +1,10 @@
 //! Lines of the workbench: what each says.
+//!
+//! Begin with `command_of`, what a line says.
+//!
+//! Definitions to trust, in `specs/`: Lines.
+//!
+//! td_lines knows bytes and no site.
 #![tactic(auto)]
 
 pub mod command;

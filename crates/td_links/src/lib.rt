@@ -1,4 +1,10 @@
 //! Links between places, and the places that a walk along them reaches.
+//!
+//! Begin with `reached`, the places that a walk along links comes to.
+//!
+//! Definitions to trust, in `specs/`: Links.
+//!
+//! td_links knows places and links alone; what a relvar leads to is its user's matter.
 #![tactic(auto)]
 
 ghost use Rattle.std.specs.Prelude.{◌≡◌, ◌↔◌, ◌<◌, ◌++◌, ℕ, List, [], ◌∷◌, false, length, slice_index_or, replicate, vec_len, IfOk, OnOk};

@@ -1,4 +1,11 @@
 //! The texts that a site shows: its listing, its log, the tables of its relvars, and version vectors.
+//!
+//! Begin with `listing`, all that a site shows, `export`, a relvar as CSV, and `log_text`.
+//!
+//! Definitions to trust, in `specs/`: Calls, Laws, Sites, Tables, Texts, Writings.
+//!
+//! td_listings sees a site as a `Replica`; names and headings come from the catalogue of its script, which whoever
+//! shows many texts makes once.
 #![tactic(auto)]
 
 pub mod error;

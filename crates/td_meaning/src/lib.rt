@@ -1,4 +1,13 @@
 //! What typed expressions mean: their values, or the errors that they raise.
+//!
+//! Begin with `eval`, the value of a typed tree in an environment, and `select`, the tuples of which a condition is
+//! true. `Environment` has what the relvars have.
+//!
+//! Definitions to trust, in `specs/`: Mean, Selections.
+//!
+//! td_meaning evaluates typed trees over relvars that are given by their places; it knows no catalogue, and answers 'no
+//! meaning' where a value of a wrong kind comes. What a relvar has is handed in owned or lent. A relvar or a relation
+//! of WITH that is an operand is lent, so naming it within a condition copies nothing.
 #![tactic(auto)]
 
 mod closed;

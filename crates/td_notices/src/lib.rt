@@ -1,5 +1,7 @@
 //! What a person is told beside answers: of a site's journal, of what a meeting changed, of what became of statements, and
 //! of the room that is left.
+//!
+//! Begin with `journal_text`, what was found of a journal, and `Retold`, what a meeting changed.
 #![tactic(auto)]
 
 mod changes;

@@ -1,4 +1,12 @@
 //! What operators make of values, or the errors that they raise.
+//!
+//! Begin with `operate`, a binary operator over two operands, and `operate_on`, a unary one. A `Lease` is a relation
+//! that is owned or lent, with its indexes.
+//!
+//! Definitions to trust, in `specs/`: Operators, Values.
+//!
+//! td_operators knows values and no trees; what it makes of a value of a wrong kind is 'no meaning', which typing rules
+//! out.
 #![tactic(auto)]
 
 mod comparisons;

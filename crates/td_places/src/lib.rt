@@ -2,6 +2,11 @@
 //!
 //! The program tells no places: its lines are the same whatever the text, so that programs can read them, and a place
 //! stands beside them for who wrote the text.
+//!
+//! Begin with `place_of_fault`, the byte at which a text goes wrong, and `position_of`, its line and column.
+//!
+//! td_places knows no names and no types: where the reading of a text stops, and how a place is told. Nothing of the
+//! program stands on it; td_check and other tools for who writes texts do.
 #![tactic(auto)]
 
 pub mod fault;

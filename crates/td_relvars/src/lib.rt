@@ -1,4 +1,10 @@
 //! The relvars of a database: what they have at first, and what they are asked for.
+//!
+//! Begin with `Database::open_script`, and `evaluate`, which answers a query. `change` and `change_back` change a
+//! relvar where it stands.
+//!
+//! td_relvars has what is stored and no statement. A relation is put in place of another one by a move, or is changed
+//! where it stands; a copy of some relvars can be put back without memory.
 #![tactic(auto)]
 
 mod asking;

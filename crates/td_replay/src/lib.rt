@@ -1,4 +1,14 @@
 //! Sites: replicas that hold statements as entries and tell what running these once, in stamp order, gives.
+//!
+//! Begin with `Site`, and its `issue`, `take` and `ask`. `PlainSite` answers the same by running all entries anew.
+//!
+//! td_replay knows of the language no more than that a script opens a database and a text steps from one to the next.
+//! `engine` is that database as a machine, whose record is what `run` of td_assign tells; `told` runs entries in turn
+//! or tells more of them by rollback and replay, and keeps each one's record; `judged` and `asked` see texts and a
+//! catalogue or a database alone. `past` is copies of what some relvars had after an earlier entry, with their lists by
+//! keys, by the changes in the records behind it, and a look-up that lends them in place of the relvars. `state` is
+//! what both kinds of sites keep and do, of which no clause speaks, and `site` (`Site`) and `plain` (`PlainSite`)
+//! differ in the way in which they tell more entries.
 #![tactic(auto)]
 
 mod asked;

@@ -1,5 +1,10 @@
 //! A person at one site: what is typed is read and answered in plain words, and relations are shown as tables. It runs
 //! over any kind of site, reader and writer, and changes a site by the calls of `Replica` alone.
+//!
+//! Begin with `program`, the command line over its words and streams, and `converse`, a conversation at a site.
+//!
+//! td_session sees a site as `Replica` alone, beside what opens one and has it come back from its journal. No contract
+//! says what it prints: it is proved to return and to be safe, and what changes a site is called by its contracts.
 #![tactic(auto)]
 
 mod access;

@@ -1,4 +1,8 @@
 //! Links to sites of other programs, over TCP.
+//!
+//! Begin with `TcpLinks`.
+//!
+//! td_sockets knows addresses and TCP, and no site: `TcpLinks` is `Links`, and a stream is a link as td_devices has it.
 #![tactic(auto)]
 
 mod paced;

@@ -1,4 +1,8 @@
 //! Relations and other rows of cells as tables that stand in columns on a screen.
+//!
+//! Begin with `relation_table`.
+//!
+//! td_tables knows no site. No contract says what it prints: it is proved to return and to be safe.
 #![tactic(auto)]
 
 pub mod layout;

@@ -2,6 +2,10 @@
 //!
 //! A character that a terminal would obey is written by its code point, as `\u{1b}`: so a text that another site stored
 //! cannot clear the screen, stand for an answer of the program, or turn the direction of what follows.
+//!
+//! Begin with `Shown`, a writer to a terminal.
+//!
+//! td_terminals knows no site. No contract says what it prints: it is proved to return and to be safe.
 #![tactic(auto)]
 
 mod terminal;

@@ -5,6 +5,12 @@
 //! keep theirs. A text that breaks a rule has no tokens at all: a name over 64 bytes, an integer over
 //! 9223372036854775807 or with a letter right behind it, a text literal or a comment without its end, more than 64
 //! brackets open at once, or any other character.
+//!
+//! Begin with `tokens`, which gives the tokens of a text or the fault that it has.
+//!
+//! Definitions to trust, in `specs/`: Lex, Words.
+//!
+//! td_tokens knows characters and no grammar. A token lends its slice of the source.
 #![tactic(auto)]
 
 pub mod error;

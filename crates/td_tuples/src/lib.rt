@@ -1,6 +1,14 @@
 //! Parts, unions and renamings of tuples and headings, by name.
 //!
 //! What is built shares the names, values and types of what it is built from.
+//!
+//! Begin with `cut`, the part of a tuple at some names, `beside`, two tuples as one, and `renamed`; of headings with
+//! `columns_in` and `joined`.
+//!
+//! Definitions to trust, in `specs/`: Items, Nestings, Parts, Renamings, Unions.
+//!
+//! td_tuples sees a heading and a tuple as finite maps by name, so one theory serves both; what typing and keys say of
+//! parts of tuples is said in its words.
 #![tactic(auto)]
 
 mod headings;

@@ -1,4 +1,11 @@
 //! Types of expressions: which tree and which kind of type an expression has over a schema, in a scope.
+//!
+//! Begin with `type_in`, which gives the tree and the kind of an expression in a scope.
+//!
+//! Definitions to trust, in `specs/`: Trees, Types.
+//!
+//! td_typing has the typing relation, which types and resolves at once, one rule a form; a function that decides it;
+//! and the code, which gives what the function gives.
 #![tactic(auto)]
 
 mod calls;

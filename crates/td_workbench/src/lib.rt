@@ -1,5 +1,13 @@
 //! The workbench: a script, the sites that it opens, and the lines that are answered. It runs over any kind of site,
 //! reader and writer.
+//!
+//! Begin with `program`, the command line over its words and streams, and `workbench`, lines over sites that are there.
+//!
+//! Definitions to trust, in `specs/`: Exits, Journals, Programs, Runs, Scripts, Streams.
+//!
+//! td_workbench sees a site as what its lines are answered; it alone makes sites (`opening`), of any kind that `Opens`,
+//! and reads and writes (`script`, `run`, `writing`) over any source and sink. `journaled` wraps the sites of a script
+//! into keepers, whose kind it alone names. `program` and `words` know the command line.
 #![tactic(auto)]
 
 pub mod command;
