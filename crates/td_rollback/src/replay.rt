@@ -162,8 +162,8 @@ fn keep<M: Machine>(
 }
 
 // Replays from the state before the old entries, which have these records, until all entries ran. An old entry that
-// none of those that ran touches is not run: its change is made again. The others are run by what was read of them, which
-// stands in their order.
+// none of those that ran touches is not run: its change is made again. A fresh entry is run by what was read of it,
+// where that stands at its place among the fresh ones; else it is read anew, and so is an old entry that runs again.
 pub(crate) fn replay_end<M: Machine>(
     alloc: Global,
     machine: &mut M,

@@ -209,8 +209,8 @@ pub fn serve<R: Replica, L: Links, S: Source, K: Sink>(
 
 /// Answers line after line, up to `.quit` or the end of the input. Each answer is flushed before more of the input is
 /// asked for and before a line that begins with a dot, so that nothing that is answered is kept back while the program
-/// waits for a person, a program or another site. It costs the reading and typing of the sites' script at first. A line of more than 16,384 bytes is not
-/// kept. An endless input is a read fault after 18,446,744,073,709,551,615 reads.
+/// waits for a person, a program or another site. It costs the reading and typing of the sites' script at first. A line
+/// of more than 16,384 bytes is not kept. An endless input is a read fault after 18,446,744,073,709,551,615 reads.
 pub fn workbench<R: Replica, L: Links, S: Source, K: Sink>(
     alloc: Global,
     sites: &mut [R],
