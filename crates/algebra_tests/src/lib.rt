@@ -1,5 +1,5 @@
-//! Names, values, headings, tuples and relations; tokens; operators; indexes by a key; walks along links: what only calls
-//! can tell. What else there is of them is shown by examples.
+//! Names, values, headings, tuples and relations; tokens; operators; indexes by a key; walks along links: what only
+//! calls can tell. What else there is of them is shown by examples.
 //!
 //! These tests stand apart from the crates that they call, since a crate is proved once more for the tests in it.
 #![tactic(auto)]

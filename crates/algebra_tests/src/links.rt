@@ -2,7 +2,7 @@
 
 use std::alloc::{AllocError, Global};
 use std::test::Fail;
-use td_links::{Leads, Links, reached, reached_by, unmarked};
+use td_graph::{Leads, Links, reached, reached_by, unmarked};
 
 // Whether each place that is reached is come to once, and a link to no place is passed over.
 fn is_walked(alloc: Global) -> Result<bool, AllocError> {

@@ -2,13 +2,13 @@
 
 ghost use Rattle.std.specs.Prelude.{◌≡◌, IsTrue};
 ghost use Rattle.std.specs.Io.KnownBytes.{Appends, Consumes};
-ghost use Rattle.td_devices.specs.Views.{input_of, output_of};
+ghost use Rattle.td_io.specs.Views.{input_of, output_of};
 
 use crate::fakes::{Narrow, Slow, Then, Unsteady};
 use std::io::BufReader;
 use std::net::{Net, TcpListener};
 use std::test::Fail;
-use td_devices::{Channel, Device, Pair, fill, put};
+use td_io::{Channel, Device, Pair, fill, put};
 
 // Writes the question, and reads an answer of so many bytes.
 fn ask<C: Channel>(channel: &mut C, question: &[u8], answer: &mut [u8]) -> bool

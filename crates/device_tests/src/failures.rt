@@ -1,7 +1,7 @@
 //! Which events are failures, and how they are counted.
 
 use crate::fakes::{Then, Unsteady};
-use td_devices::{Device, Failed, Sink, Source, read_byte};
+use td_io::{Device, Failed, Sink, Source, read_byte};
 
 // A device that is interrupted so often.
 fn unsteady(interruptions: u32, then: Then) -> Device<Unsteady> {

@@ -4,7 +4,7 @@ use crate::fakes::{Then, Unsteady};
 use std::alloc::Global;
 use std::io::BufReader;
 use std::test::Fail;
-use td_devices::{Device, LineError, RawLine, Source, content, read_line};
+use td_io::{Device, LineError, RawLine, Source, content, read_line};
 
 // Adds the content of a line, `!` where it is too long, and `.` behind the last one.
 fn show(out: &mut Vec<u8>, line: &RawLine) -> Result<(), Fail> {

@@ -3,7 +3,7 @@
 use crate::fakes::{Narrow, Slow};
 use std::alloc::Global;
 use std::test::Fail;
-use td_devices::{Device, Failed, Pair, Short, Sink, fill, put, write_all};
+use td_io::{Device, Failed, Pair, Short, Sink, fill, put, write_all};
 
 #[test]
 fn a_buffer_is_filled_read_by_read(rt: HostRuntime) {

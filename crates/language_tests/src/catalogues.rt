@@ -10,10 +10,10 @@ use std::fmt::Write;
 use td_algebra::{Fault, Stop};
 use td_eval::{Lookup, eval};
 use td_grammar::{read_expr, read_statement};
-use td_growth::{Reference, is_safe, is_watched, referring, sole_reference};
 use td_headings::{
     Catalogue, TypedExpr, constraint_expr, init_expr, reads, targets, type_expr, type_statement,
 };
+use td_incremental::{Reference, is_safe, is_watched, referring, sole_reference};
 use td_relations::Relation;
 use td_story::catalogue_of;
 use td_tuples::tuple_of;

@@ -1,7 +1,7 @@
 //! Trees made by hand, of which some have no type: what they mention and mean.
 
 ghost use Rattle.std.specs.Prelude.{◌≡◌, IfOk};
-ghost use Rattle.td_trees.specs.declared.tree.Typed.TheVariants as t;
+ghost use Rattle.td_typed_trees.specs.declared.tree.Typed.TheVariants as t;
 
 use crate::Result;
 use sqlite_items::{Boxed, Items};
@@ -11,8 +11,8 @@ use std::slice;
 use td_algebra::Fault;
 use td_meaning::{Environment, Scope, eval};
 use td_syntax::tree::BinaryOperator;
-use td_trees::expression::Selector;
-use td_trees::{Mention, Typed, add_mentions, possreps_in, relvars_in};
+use td_typed_trees::expression::Selector;
+use td_typed_trees::{Mention, Typed, add_mentions, possreps_in, relvars_in};
 use td_values::{Name, Possrep, show};
 
 // The text of the value, or the name of the error.

@@ -20,7 +20,7 @@ use examples::{Example, example_named};
 use journals::{reopen_from, start_of};
 use scene::{Scene, opened, take_all};
 use shown::tell_journal;
-use td_devices::Device;
+use td_io::Device;
 use td_journal::Keeper;
 use td_replay::{PlainSite, Site};
 use td_story::{Meter, Opens, Replica};

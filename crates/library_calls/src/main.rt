@@ -1,9 +1,9 @@
 //! A program that makes calls of the library which no line of td_console makes alone.
 //!
-//! The first word on the command line says which: `sets`, the operators of relations; `take`, a batch of entries that is
-//! put into a set of them; `scale`, meetings of many sites; `call`, one call on two sites of an example. The words behind
-//! it are what it is asked for. Without words each is made in turn, at its small sizes. Standard output has what each
-//! counts or shows, which is the same at each run, and standard error the times, each the least of some turns.
+//! The first word on the command line says which: `sets`, the operators of relations; `take`, a batch of entries that
+//! is put into a set of them; `scale`, meetings of many sites; `call`, one call on two sites of an example. The words
+//! behind it are what it is asked for. Without words each is made in turn, at its small sizes. Standard output has what
+//! each counts or shows, which is the same at each run, and standard error the times, each the least of some turns.
 #![tactic(auto)]
 
 mod calling;

@@ -4,11 +4,11 @@ ghost use Rattle.std.specs.Prelude.{◌≤◌, IfOk, length};
 
 use std::alloc::{AllocError, Global};
 use std::test::Fail;
-use td_devices::Device;
 use td_frames::{
     FrameError, Greeting, Version, put_end, put_entry, put_greeting, read_entries, read_frame,
     read_greeting,
 };
+use td_io::Device;
 use td_stamps::Entry;
 use td_values::Text;
 

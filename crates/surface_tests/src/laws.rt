@@ -10,7 +10,7 @@ fn laws_stand_where_they_are_looked_for(_rt: HostRuntime) -> Result<()> {
     td_eval::laws::meaning_by_reads();
     td_assign::laws::step_by_footprint();
     td_stamps::laws::merge_is_join();
-    td_world::laws::world_has_no_clash();
+    td_executions::laws::world_has_no_clash();
     td_replay::laws::story_is_legal();
     Ok(())
 }

@@ -1,6 +1,6 @@
-//! The public surface: each item that callers know is imported by its path, and called or matched once where a call asks
-//! for nothing that takes a proof, so that what is moved or takes another form is noticed. What the calls answer is
-//! tested elsewhere.
+//! The public surface: each item that callers know is imported by its path, and called or matched once where a call
+//! asks for nothing that takes a proof, so that what is moved or takes another form is noticed. What the calls answer
+//! is tested elsewhere.
 #![tactic(auto)]
 
 #[cfg(test)]

@@ -9,8 +9,8 @@ use Rattle.td_syntax.specs.declared.tree.Expr.{Expr}
 use Rattle.td_syntax.specs.declared.tree.Named.{Named}
 use Rattle.td_grammar.specs.Grammar.{IsQuery}
 use Rattle.td_grammar.proofs.OneTree.{reader_decides_queries}
-use Rattle.td_trees.specs.declared.expression.Expression.{Expression}
-use Rattle.td_trees.specs.declared.tree.Typed.{Typed}
+use Rattle.td_typed_trees.specs.declared.expression.Expression.{Expression}
+use Rattle.td_typed_trees.specs.declared.tree.Typed.{Typed}
 use Rattle.td_typing.specs.Trees.{typing}
 use Rattle.td_typing.proofs.Complete.{complete}
 use Rattle.td_algebra.specs.declared.errors.Stop.{Stop}

@@ -1,5 +1,5 @@
--- Sites of one script that hold the same set of entries answer alike, whatever their numbers and limits; and an exchange
--- of what each lacks leaves one set with both.
+-- Sites of one script that hold the same set of entries answer alike, whatever their numbers and limits; and an
+-- exchange of what each lacks leaves one set with both.
 use Rattle.std.specs.Prelude.{◌≡◌, ℕ, true, List, ◌++◌, Ok}
 use Rattle.std.specs.List.{list_all}
 use Rattle.td_stamps.specs.Entries.{in_range}

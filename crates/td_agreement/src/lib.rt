@@ -1,5 +1,5 @@
-//! Laws of what sites answer and hold: those of one script that hold the same set answer alike, and an exchange leaves one
-//! set.
+//! Laws of what sites answer and hold: those of one script that hold the same set answer alike, and an exchange leaves
+//! one set.
 //!
 //! Begin with `specs/Laws.antt`: sites that hold the same set answer alike.
 //!

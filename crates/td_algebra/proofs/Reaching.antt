@@ -1,7 +1,7 @@
 -- What is reached by a step or more is what is reached from where the first step leads.
 use Rattle.std.proofs.Common.{◌↔◌, ◌++◌, ℕ, List, [], ◌∷◌, length}
 use Rattle.std.specs.Prelude.{slice_index_or}
-use Rattle.td_links.specs.Links.{ReachedFrom, start, onward}
+use Rattle.td_graph.specs.Links.{ReachedFrom, start, onward}
 use Rattle.td_algebra.specs.ForProofs.Links.{LeadsOn, Leads, Reaches, StayWithin}
 
 module _ (links : List (List ℕ)) where

@@ -20,7 +20,8 @@ TellApart names r = (t u : Attrs) → Has r t → Has r u → cut names t ≡ cu
 abbrev pub TellApartFrom : List (List ℕ) → RowsData → RowsData → Type 0
 TellApartFrom names i r = (t u : Attrs) → Has i t → Has r u → cut names t ≡ cut names u → t ≡ u
 
--- names that told the tuples apart before a change do so after it where they tell those that it inserted from all others
+-- names that told the tuples apart before a change do so after it where they tell those that it inserted from all
+-- others
 abbrev pub KeyAfter : Type 0
 KeyAfter = (names : List (List ℕ)) (before after : RowsData) (d : DeltaData) → TellApart names before → IsDifference before after d → TellApart names after ↔ TellApartFrom names d.inserted after
 

@@ -13,7 +13,7 @@ ghost use Rattle.td_values.specs.Data.{Datum, attr, no_attrs};
 ghost use Rattle.td_values.specs.Order.{attrs_order, text_cmp};
 
 use std::alloc::{AllocError, Global};
-use td_links::{Leads, Links, reached_by, unmarked};
+use td_graph::{Leads, Links, reached_by, unmarked};
 use td_relations::Relation;
 use td_values::{Heading, Name, Tuple, Value, compare_types, copy};
 

@@ -41,8 +41,8 @@ impl Stop {
 }
 
 /// Why there is no answer: an error, or want of memory. A function that is handed in may give a third cause, that what
-/// it came to is not known yet. Whoever handed it in knows that by this `W`, and may ask again. No operator makes a `W`:
-/// it passes on what the function gave.
+/// it came to is not known yet. Whoever handed it in knows that by this `W`, and may ask again. No operator makes a
+/// `W`: it passes on what the function gave.
 #[derive(Clone, Copy, Debug, Drop, Error, PartialEq, Eq)]
 pub enum Fault<W = Infallible> {
     #[error("{0}")]

@@ -21,7 +21,7 @@ use Rattle.td_listings.specs.Texts.{shown_outcome, shown_stamp, vector_of}
 use Rattle.td_listings.specs.declared.error.ListError.{ListError}
 use Rattle.td_listings.specs.declared.error.ListError.TheVariants as list_error
 use Rattle.td_listings.specs.declared.error.TableError.{TableError}
-use Rattle.td_lines.specs.Lines.{Line, nothing, quit, issue, query, query_at, meet, listing, log, vector, table, serve, call, faulty}
+use Rattle.td_commands.specs.Lines.{Line, nothing, quit, issue, query, query_at, meet, listing, log, vector, table, serve, call, faulty}
 use Rattle.td_answers.specs.Faults.{ask_fault, issue_fault, list_fault, meeting_fault, past_fault, raised_line, table_fault}
 use Rattle.td_meeting.specs.Meetings.{Meets}
 use Rattle.td_meeting.specs.declared.meeting.Met.{Met}

@@ -4,7 +4,7 @@ use Rattle.std.specs.Prelude.{◌≡◌, ◌⊎◌, ℕ, List, codes, Option, So
 use Rattle.std.specs.Net.Grammar.{IsSocketText, Parses}
 use Rattle.std.specs.declared.net.parser.AddrParseError.{AddrParseError}
 use Rattle.std.specs.declared.net.socket_addr.SocketAddr.{SocketAddr}
-use Rattle.td_lines.specs.Lines.{Line, serve, call}
+use Rattle.td_commands.specs.Lines.{Line, serve, call}
 use Rattle.td_answers.specs.Sites.{Placed, Sites, site_of}
 
 -- links were asked once for an address, and what they are then

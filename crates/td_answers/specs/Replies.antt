@@ -1,7 +1,7 @@
 -- What a reply says.
 use Rattle.std.specs.Prelude.{◌≡◌, ℕ, false, List, [], string_bytes}
 use Rattle.td_headings.specs.Catalogues.{CatalogueData}
-use Rattle.td_lines.specs.Lines.{Line, quit, is_quit}
+use Rattle.td_commands.specs.Lines.{Line, quit, is_quit}
 use Rattle.td_answers.specs.Answers.{LineAnswered}
 use Rattle.td_answers.specs.Sites.{Sites}
 use Rattle.td_answers.specs.declared.reply.Reply.{Reply}

@@ -1,7 +1,7 @@
 //! Lines answered by sites.
 
 ghost use Rattle.std.specs.Prelude.{◌≡◌, IfOk, codes, map};
-ghost use Rattle.td_lines.specs.Lines.{line_of};
+ghost use Rattle.td_commands.specs.Lines.{line_of};
 ghost use Rattle.td_answers.specs.Asking.{AreAsked, AreAskedAt};
 ghost use Rattle.td_answers.specs.Answers.{IssueAnswered, MayTakeEntries, MeetAnswered, TellsAsked, TellsListing, TellsLog, TellsPast, TellsTable, TellsVector};
 ghost use Rattle.td_answers.specs.Linked.{CallsOver, LinkAnswered, ServesOver};
@@ -15,8 +15,8 @@ use crate::places::{place_of, site_in};
 use crate::reply::Reply;
 use crate::{linking, telling};
 use std::alloc::{AllocError, Global};
+use td_commands::{Command, command_of};
 use td_headings::Catalogue;
-use td_lines::{Command, command_of};
 use td_listings::script_catalogue;
 use td_story::{Meter, Replica};
 

@@ -15,7 +15,7 @@ use crate::reply::Reply;
 use crate::writing::{blank_line, linked_line};
 use std::alloc::Global;
 use std::net::SocketAddr;
-use td_devices::{Channel, Device, Link};
+use td_io::{Channel, Device, Link};
 use td_meeting::{MeetingError, answer, finish, greet, settle};
 use td_story::{Meter, Replica, Taken};
 

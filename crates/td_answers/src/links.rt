@@ -5,7 +5,7 @@ ghost use Rattle.std.specs.declared.net.socket_addr.SocketAddr.{SocketAddr as Ad
 
 use std::alloc::Global;
 use std::net::{SocketAddr, TcpStream};
-use td_devices::Link;
+use td_io::Link;
 use thiserror::Error;
 
 /// Why no link is opened.

@@ -12,7 +12,7 @@ use Rattle.td_headings.specs.declared.statement.TypedAssignment.{TypedAssignment
 use Rattle.td_algebra.specs.Raising.{and_then}
 use Rattle.td_algebra.specs.declared.errors.Stop.{Stop}
 use Rattle.td_meaning.specs.Mean.{Relvars}
-use Rattle.td_soundness.specs.Meanings.{IsRelationOver}
+use Rattle.td_type_soundness.specs.Meanings.{IsRelationOver}
 use Rattle.td_story.specs.Raises.{Tells}
 use Rattle.td_story.specs.declared.failure.Failure.{Failure}
 use Rattle.td_story.specs.declared.failure.Failure.TheVariants as failure

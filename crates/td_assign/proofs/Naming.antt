@@ -9,9 +9,9 @@ use Rattle.td_values.specs.declared.TypeKind.TheVariants as kind
 use Rattle.td_syntax.specs.declared.script.Action.{Action}
 use Rattle.td_syntax.specs.declared.script.Statement.{Statement}
 use Rattle.td_syntax.specs.declared.script.Statement.TheVariants as statement
-use Rattle.td_kinds.specs.Kinds.{Name}
-use Rattle.td_trees.specs.declared.expression.Expression.{Expression}
-use Rattle.td_trees.specs.declared.tree.Typed.{Typed}
+use Rattle.td_schema.specs.Kinds.{Name}
+use Rattle.td_typed_trees.specs.declared.expression.Expression.{Expression}
+use Rattle.td_typed_trees.specs.declared.tree.Typed.{Typed}
 use Rattle.td_typing.specs.Trees.{typing}
 use Rattle.td_typing.proofs.Complete.{complete}
 use Rattle.td_typing.proofs.KindLemmas.{some_same}

@@ -7,7 +7,7 @@ use Rattle.td_syntax.specs.declared.script.Action.{Action}
 use Rattle.td_syntax.specs.declared.script.Statement.{Statement}
 use Rattle.td_syntax.specs.declared.script.Statement.TheVariants as statement
 use Rattle.td_syntax.specs.declared.tree.Expr.{Expr}
-use Rattle.td_trees.specs.declared.expression.Expression.{Expression}
+use Rattle.td_typed_trees.specs.declared.expression.Expression.{Expression}
 use Rattle.td_values.specs.declared.TypeKind.TheVariants as kind
 use Rattle.td_grammar.specs.Statements as grammar
 use Rattle.td_typing.proofs.KindLemmas.{some_same}

@@ -10,7 +10,7 @@ use Rattle.td_syntax.specs.declared.tree.Named.{Named}
 use Rattle.td_typing.proofs.KindLemmas.{some_same}
 use Rattle.td_headings.specs.Catalogues.{CatalogueData}
 use Rattle.td_headings.specs.Reached.{is_base}
-use Rattle.td_soundness.specs.Meanings.{GivesRelation, IsRelationOver}
+use Rattle.td_type_soundness.specs.Meanings.{GivesRelation, IsRelationOver}
 use Rattle.td_story.specs.Trees.{AreBases}
 use Rattle.td_story.specs.Stored.{AreStored}
 use Rattle.td_integrity.proofs.Judged.{are_bases}

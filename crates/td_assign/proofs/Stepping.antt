@@ -16,7 +16,7 @@ use Rattle.td_headings.specs.Reached.{is_base}
 use Rattle.td_headings.specs.Statements.{AreAssignments, IsAssignment, IsTarget, TypesStatement, next_assignment, no_assignments, source_of, target_of, types_assignment, types_conditional}
 use Rattle.td_headings.specs.declared.statement.TypedAssignment.{TypedAssignment}
 use Rattle.td_headings.specs.declared.statement.TypedStatement.{TypedStatement}
-use Rattle.td_soundness.specs.Meanings.{GivesRelation, GivesValue}
+use Rattle.td_type_soundness.specs.Meanings.{GivesRelation, GivesValue}
 use Rattle.td_eval.proofs.HasValues.{trees_have_values}
 use Rattle.td_eval.proofs.OfTypes.{rows_given}
 use Rattle.td_relvars.proofs.Asked.{relvar_there}

@@ -8,7 +8,7 @@ use crate::names::footprint;
 use std::alloc::{AllocError, Global};
 use td_grammar::{ReadError, read_statement_in};
 use td_headings::{Catalogue, TypedStatement, type_statement};
-use td_kinds::error::TypeError;
+use td_schema::error::TypeError;
 
 /// What is read of a statement's text, in its dialect.
 #[derive(Drop)]

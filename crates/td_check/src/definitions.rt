@@ -4,11 +4,11 @@ use crate::names::Names;
 use crate::pieces::{Piece, pieces, tokens_of};
 use crate::report::Report;
 use std::alloc::AllocError;
-use td_diagnostics::{Diagnostic, define_or_diagnose};
 use td_grammar::{ReadError, read_script};
 use td_headings::Catalogue;
-use td_places::{Reading, is_too_deep, place_of_fault};
+use td_parse_errors::{Reading, is_too_deep, place_of_fault};
 use td_tokens::{Token, tokens_end};
+use td_type_errors::{Diagnostic, define_or_diagnose};
 
 // What is wrong with a text that is no definition, where its reading stops at this place.
 fn syntax_fault(text: &str, place: usize) -> &'static str {

@@ -14,7 +14,7 @@ use report::Report;
 use script::script_in;
 use std::alloc::{AllocError, Global};
 use std::rt::Files;
-use td_devices::{Sink, put};
+use td_io::{Sink, put};
 use td_paths::read_plain;
 
 const HELP: &str = "\
@@ -89,8 +89,8 @@ fn check<H: Files + AllocGlobal, K: Sink, F: Sink>(
 }
 
 /// Checks the script in the file that the words name, which are those behind the command, by which it names itself, and
-/// tells what it finds. The answer is the exit status: 0 where nothing is refused, and after help; 1 where something is;
-/// 2 where the words are wrong, the file cannot be read, memory is wanting or standard output fails.
+/// tells what it finds. The answer is the exit status: 0 where nothing is refused, and after help; 1 where something
+/// is; 2 where the words are wrong, the file cannot be read, memory is wanting or standard output fails.
 pub fn program<H: Files + AllocGlobal, K: Sink, F: Sink>(
     command: &str,
     words: &[String],

@@ -1,7 +1,7 @@
 //! What is told of a script.
 
 use std::alloc::{AllocError, Global};
-use td_places::{Position, caret, line_of, position_of};
+use td_parse_errors::{Position, caret, line_of, position_of};
 
 /// What was told so far, and how many definitions that was about.
 #[derive(Drop)]

@@ -56,8 +56,8 @@ fn definitions_from(report: &mut Report<'_>, script: &str) -> Result<Option<usiz
     Ok(Some(MARK.len_utf8()))
 }
 
-/// The script of a file, up to the line `.begin` or the file's end, and the byte from which on it has definitions. Tells
-/// what is wrong with it as a whole; none where its definitions cannot be judged for that.
+/// The script of a file, up to the line `.begin` or the file's end, and the byte from which on it has definitions.
+/// Tells what is wrong with it as a whole; none where its definitions cannot be judged for that.
 pub fn script_in<'a>(
     report: &mut Report<'_>,
     bytes: &'a [u8],

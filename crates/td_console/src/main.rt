@@ -7,8 +7,8 @@
 use std::env;
 use std::io::{BufReader, BufWriter, ErrorKind};
 use std::process::ExitCode;
-use td_devices::Device;
-use td_files::{FileJournals, Notes};
+use td_io::Device;
+use td_journal_files::{FileJournals, Notes};
 use td_replay::Site;
 use td_sockets::TcpLinks;
 use td_story::Meter;

@@ -21,8 +21,8 @@ use Rattle.td_tuples.proofs.ByName.{attribute-tuple_of, fits_here}
 use Rattle.td_tuples.proofs.Filters.{taken}
 use Rattle.td_tuples.proofs.Lists.{same_name}
 use Rattle.td_syntax.specs.declared.tree.BinaryOperator.TheVariants as binary
-use Rattle.td_trees.specs.declared.tree.Typed.{Typed}
-use Rattle.td_trees.specs.declared.tree.Typed.TheVariants as typed
+use Rattle.td_typed_trees.specs.declared.tree.Typed.{Typed}
+use Rattle.td_typed_trees.specs.declared.tree.Typed.TheVariants as typed
 use Rattle.td_algebra.specs.declared.errors.Fault.{Fault}
 use Rattle.td_algebra.specs.declared.errors.Fault.TheVariants.{Raised, OutOfMemory, Wanting}
 use Rattle.td_algebra.specs.declared.errors.Stop.{Stop}

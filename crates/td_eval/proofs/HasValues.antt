@@ -10,12 +10,12 @@ use Rattle.td_values.specs.Rows.{RowsData}
 use Rattle.td_values.specs.declared.TypeKind.{TypeKind}
 use Rattle.td_values.specs.declared.TypeKind.TheVariants as kind
 use Rattle.td_syntax.specs.declared.tree.Named.{Named}
-use Rattle.td_trees.specs.declared.expression.VirtualUnder.{VirtualUnder}
-use Rattle.td_trees.specs.declared.tree.Typed.{Typed}
-use Rattle.td_kinds.specs.Schemas.{SchemaData, type_named}
-use Rattle.td_kinds.specs.Scopes.{nothing, relvars_of, within_tuple}
-use Rattle.td_kinds.specs.Written.{kind_columns, names}
-use Rattle.td_kinds.specs.declared.schema.Representation.{Representation}
+use Rattle.td_typed_trees.specs.declared.expression.VirtualUnder.{VirtualUnder}
+use Rattle.td_typed_trees.specs.declared.tree.Typed.{Typed}
+use Rattle.td_schema.specs.Schemas.{SchemaData, type_named}
+use Rattle.td_schema.specs.Scopes.{nothing, relvars_of, within_tuple}
+use Rattle.td_schema.specs.Written.{kind_columns, names}
+use Rattle.td_schema.specs.declared.schema.Representation.{Representation}
 use Rattle.td_algebra.specs.Raising.{and_then}
 use Rattle.td_algebra.specs.declared.errors.Stop.{Stop}
 use Rattle.td_values.specs.declared.raises.Raise.TheVariants as raise
@@ -31,11 +31,11 @@ use Rattle.td_headings.proofs.WellTyped.{all_typed}
 use Rattle.td_meaning.specs.Mean as mean
 use Rattle.td_meaning.specs.Mean.{Meaning, Relvars, Selection, rows_in, truth_in}
 use Rattle.td_meaning.specs.Selections.{admits, components, no_relvars, none_selected, selected}
-use Rattle.td_soundness.specs.Meanings.{GivesValue, GivesRelation, IsTupleOver, Selects}
-use Rattle.td_soundness.specs.Values.{AreComponentsOf, AreValues}
-use Rattle.td_soundness.proofs.Errors.{error_is}
-use Rattle.td_soundness.proofs.Scoped.{within_are}
-use Rattle.td_soundness.proofs.Sound.{gives}
+use Rattle.td_type_soundness.specs.Meanings.{GivesValue, GivesRelation, IsTupleOver, Selects}
+use Rattle.td_type_soundness.specs.Values.{AreComponentsOf, AreValues}
+use Rattle.td_type_soundness.proofs.Errors.{error_is}
+use Rattle.td_type_soundness.proofs.Scoped.{within_are}
+use Rattle.td_type_soundness.proofs.Sound.{gives}
 use Rattle.td_story.specs.Meanings.{no_names}
 use Rattle.td_story.specs.Trees.{AreBases, all_relvars, places, selection_of, tree_means}
 use Rattle.td_eval.proofs.AllThere.{ascending, has_place, in_filter_map}

@@ -13,12 +13,12 @@ use Rattle.std.proofs.lemmas.Map.Keys.{sorted_head, sorted_tail}
 use Rattle.std.proofs.lemmas.Option.{slice_get_within, slice_get-get_or, get_or_from_slice_get}
 use Rattle.td_values.specs.Data.{Attrs}
 use Rattle.td_values.specs.Rows.{RowsData}
-use Rattle.td_links.specs.Links.{LeadsOn, start, onward}
-use Rattle.td_links.proofs.Walks.{the_one}
-use Rattle.td_trees.specs.declared.expression.BaseUnder.{BaseUnder}
-use Rattle.td_trees.specs.declared.expression.Expression.{Expression}
-use Rattle.td_trees.specs.declared.expression.VirtualUnder.{VirtualUnder}
-use Rattle.td_trees.specs.declared.tree.Typed.{Typed}
+use Rattle.td_graph.specs.Links.{LeadsOn, start, onward}
+use Rattle.td_graph.proofs.Walks.{the_one}
+use Rattle.td_typed_trees.specs.declared.expression.BaseUnder.{BaseUnder}
+use Rattle.td_typed_trees.specs.declared.expression.Expression.{Expression}
+use Rattle.td_typed_trees.specs.declared.expression.VirtualUnder.{VirtualUnder}
+use Rattle.td_typed_trees.specs.declared.tree.Typed.{Typed}
 use Rattle.td_algebra.specs.declared.errors.Stop.{Stop}
 use Rattle.td_algebra.specs.declared.errors.Stop.TheVariants.{Untyped}
 use Rattle.td_headings.specs.Catalogues.{CatalogueData}

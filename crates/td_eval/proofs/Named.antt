@@ -7,14 +7,14 @@ use Rattle.td_syntax.specs.declared.tree.Named.{Named}
 use Rattle.td_tuples.specs.declared.items.Item.{Item}
 use Rattle.td_tuples.specs.declared.items.Summary.{Summary}
 use Rattle.td_tuples.specs.declared.items.Summary.TheVariants as summary
-use Rattle.td_trees.specs.Mentions.{Mentions, mentioned, mentioned_step, of_all, of_items, of_named, of_summary, of_summaries, relvars_in, possreps_in}
-use Rattle.td_trees.specs.declared.mentions.Mention.TheVariants as mention
-use Rattle.td_trees.specs.declared.tree.TypedGroups.TheVariants as groups
-use Rattle.td_trees.specs.declared.tree.Typed.{Typed, map-Typed}
-use Rattle.td_trees.specs.declared.tree.Typed.TheOpen.{Typed-F}
-use Rattle.td_trees.specs.declared.tree.Typed.TheViews.{roll-Typed}
-use Rattle.td_trees.specs.declared.tree.Typed.TheFolds.{fold-roll-Typed, ind-Typed}
-use Rattle.td_trees.specs.declared.tree.Typed.TheShapes.{former-Typed-Summarize-2-at-13}
+use Rattle.td_typed_trees.specs.Mentions.{Mentions, mentioned, mentioned_step, of_all, of_items, of_named, of_summary, of_summaries, relvars_in, possreps_in}
+use Rattle.td_typed_trees.specs.declared.mentions.Mention.TheVariants as mention
+use Rattle.td_typed_trees.specs.declared.tree.TypedGroups.TheVariants as groups
+use Rattle.td_typed_trees.specs.declared.tree.Typed.{Typed, map-Typed}
+use Rattle.td_typed_trees.specs.declared.tree.Typed.TheOpen.{Typed-F}
+use Rattle.td_typed_trees.specs.declared.tree.Typed.TheViews.{roll-Typed}
+use Rattle.td_typed_trees.specs.declared.tree.Typed.TheFolds.{fold-roll-Typed, ind-Typed}
+use Rattle.td_typed_trees.specs.declared.tree.Typed.TheShapes.{former-Typed-Summarize-2-at-13}
 use Rattle.td_algebra.specs.Raising.{and_then}
 use Rattle.td_meaning.specs.Mean.{Meaning, Relvars, Selection, mean, mean_step, at, mean_relvar, mean_by, mean_binary, mean_if, mean_select, mean_relation, mean_tuple, mean_with, mean_where, mean_aggregate, mean_extend, mean_summarize}
 use Rattle.td_operators.specs.Operators.{operate_on, component_at, attribute_at, part_at, with_new_names, nested, unnested, in_turn, as_value}

@@ -11,14 +11,14 @@ use Rattle.td_values.specs.Whole.{type_of}
 use Rattle.td_values.specs.declared.TypeKind.{TypeKind}
 use Rattle.td_values.specs.declared.TypeKind.TheVariants as kind
 use Rattle.td_syntax.specs.declared.tree.Named.{Named}
-use Rattle.td_kinds.specs.Kinds.{Name, kind_of}
-use Rattle.td_kinds.specs.Schemas.{SchemaData, first_from, is_named, relvar_named, same_text}
-use Rattle.td_kinds.specs.Scopes.{as_relvar, nothing, or_outer, relvars_of, within_tuple}
-use Rattle.td_kinds.specs.Written.{kind_column, kind_columns, names}
-use Rattle.td_kinds.specs.declared.scope.Meant.{Meant}
-use Rattle.td_kinds.specs.declared.scope.Meant.TheVariants.{Local as local, Relvar as relvar}
-use Rattle.td_kinds.specs.declared.schema.Representation.{Representation}
-use Rattle.td_kinds.proofs.KindLemmas.{kind_back}
+use Rattle.td_schema.specs.Kinds.{Name, kind_of}
+use Rattle.td_schema.specs.Schemas.{SchemaData, first_from, is_named, relvar_named, same_text}
+use Rattle.td_schema.specs.Scopes.{as_relvar, nothing, or_outer, relvars_of, within_tuple}
+use Rattle.td_schema.specs.Written.{kind_column, kind_columns, names}
+use Rattle.td_schema.specs.declared.scope.Meant.{Meant}
+use Rattle.td_schema.specs.declared.scope.Meant.TheVariants.{Local as local, Relvar as relvar}
+use Rattle.td_schema.specs.declared.schema.Representation.{Representation}
+use Rattle.td_schema.proofs.KindLemmas.{kind_back}
 use Rattle.td_typing.specs.Trees.{component_kinds}
 use Rattle.td_algebra.specs.Raising.{and_then}
 use Rattle.td_algebra.specs.declared.errors.Stop.{Stop}
@@ -26,10 +26,10 @@ use Rattle.td_meaning.specs.Mean.{Names, Relvars}
 use Rattle.td_meaning.specs.Selections.{components}
 use Rattle.td_operators.specs.Values.{rows_of, truth_of}
 use Rattle.td_operators.proofs.KindLemmas.{items_back}
-use Rattle.td_soundness.specs.Meanings.{AreMeant, GivesValue, GivesRelation, HasKind, IsMeant, IsRelationOver, OrError}
-use Rattle.td_soundness.specs.Values.{AreComponentsOf, AreValues}
-use Rattle.td_soundness.proofs.Errors.{goes_on}
-use Rattle.td_soundness.proofs.Values as values
+use Rattle.td_type_soundness.specs.Meanings.{AreMeant, GivesValue, GivesRelation, HasKind, IsMeant, IsRelationOver, OrError}
+use Rattle.td_type_soundness.specs.Values.{AreComponentsOf, AreValues}
+use Rattle.td_type_soundness.proofs.Errors.{goes_on}
+use Rattle.td_type_soundness.proofs.Values as values
 use Rattle.td_eval.proofs.Placed.{some_same}
 
 -- ---- truth values and relations

@@ -10,7 +10,7 @@ use Rattle.td_values.specs.Headings.{Header}
 use Rattle.td_values.specs.declared.TypeKind.{TypeKind}
 use Rattle.td_tuples.specs.declared.items.Item.{Item}
 use Rattle.td_tuples.specs.declared.items.Summary as typed_summary
-use Rattle.td_links.proofs.Walks.{the_one}
+use Rattle.td_graph.proofs.Walks.{the_one}
 use Rattle.td_syntax.specs.declared.script.Definition.{Definition}
 use Rattle.td_syntax.specs.declared.tree.Aggregate.{Aggregate}
 use Rattle.td_syntax.specs.declared.tree.Aggregate.TheVariants as aggregate
@@ -19,21 +19,21 @@ use Rattle.td_syntax.specs.declared.tree.Groups.{Groups}
 use Rattle.td_syntax.specs.declared.tree.Named.{Named}
 use Rattle.td_syntax.specs.declared.tree.Nesting.{Nesting}
 use Rattle.td_syntax.specs.declared.tree.Summary.{Summary}
-use Rattle.td_kinds.specs.declared.scope.Meant.TheVariants.{Local as local, Relvar as relvar}
-use Rattle.td_kinds.specs.Kinds.{Name}
-use Rattle.td_kinds.specs.Lists.{renaming_pair}
-use Rattle.td_kinds.specs.Schemas.{SchemaData, first_from, has_possrep, is_named, possrep_named, relvar_named, same_text}
-use Rattle.td_kinds.specs.Scopes.{Scope, nothing, within_tuple, with_name, with_names, relvars_of, as_relvar, or_outer}
-use Rattle.td_kinds.specs.Written.{kind_columns}
-use Rattle.td_kinds.specs.declared.schema.Representation.{Representation}
-use Rattle.td_trees.specs.Mentions.{Mentions, mentioned, relvars_in, possreps_in}
-use Rattle.td_trees.specs.ForProofs.Mentioned.{list_mentioned, items_mentioned, named_mentioned, summary_mentioned, summaries_mentioned, groups_mentioned}
-use Rattle.td_trees.specs.declared.mentions.Mention.TheVariants as mention
-use Rattle.td_trees.specs.declared.tree.TypedGroups.{TypedGroups}
-use Rattle.td_trees.specs.declared.tree.Typed.{Typed, the_lemmas}
-use Rattle.td_trees.specs.declared.tree.Typed.TheVariants as t
-use Rattle.td_trees.specs.declared.tree.Typing.{Typing}
-use Rattle.td_trees.proofs.Forms.{of_select, of_relation, of_relvar, of_unary, of_where, of_choice, of_binary, of_tuple, of_extend, of_with, of_aggregate, of_summarize}
+use Rattle.td_schema.specs.declared.scope.Meant.TheVariants.{Local as local, Relvar as relvar}
+use Rattle.td_schema.specs.Kinds.{Name}
+use Rattle.td_schema.specs.Lists.{renaming_pair}
+use Rattle.td_schema.specs.Schemas.{SchemaData, first_from, has_possrep, is_named, possrep_named, relvar_named, same_text}
+use Rattle.td_schema.specs.Scopes.{Scope, nothing, within_tuple, with_name, with_names, relvars_of, as_relvar, or_outer}
+use Rattle.td_schema.specs.Written.{kind_columns}
+use Rattle.td_schema.specs.declared.schema.Representation.{Representation}
+use Rattle.td_typed_trees.specs.Mentions.{Mentions, mentioned, relvars_in, possreps_in}
+use Rattle.td_typed_trees.specs.ForProofs.Mentioned.{list_mentioned, items_mentioned, named_mentioned, summary_mentioned, summaries_mentioned, groups_mentioned}
+use Rattle.td_typed_trees.specs.declared.mentions.Mention.TheVariants as mention
+use Rattle.td_typed_trees.specs.declared.tree.TypedGroups.{TypedGroups}
+use Rattle.td_typed_trees.specs.declared.tree.Typed.{Typed, the_lemmas}
+use Rattle.td_typed_trees.specs.declared.tree.Typed.TheVariants as t
+use Rattle.td_typed_trees.specs.declared.tree.Typing.{Typing}
+use Rattle.td_typed_trees.proofs.Forms.{of_select, of_relation, of_relvar, of_unary, of_where, of_choice, of_binary, of_tuple, of_extend, of_with, of_aggregate, of_summarize}
 use Rattle.td_typing.specs.Trees.{trees, summary_of}
 use Rattle.td_typing.specs.Types as types
 use Rattle.td_typing.specs.Types.{Types, TypesEach, TypesItems, TypesInTurn, TypesGroups, TypesSummaries}

@@ -7,11 +7,11 @@ use Rattle.td_values.specs.declared.raises.Raise.{Raise}
 use Rattle.td_relations.specs.Deltas.{DeltaData}
 use Rattle.td_syntax.specs.declared.tree.BinaryOperator.TheVariants as binary
 use Rattle.td_syntax.specs.declared.tree.UnaryOperator.TheVariants as unary
-use Rattle.td_trees.specs.declared.expression.Expression.{Expression}
-use Rattle.td_trees.specs.declared.tree.Typed.{Typed}
-use Rattle.td_trees.specs.declared.tree.Typed.TheVariants as t
-use Rattle.td_trees.specs.Mentions.{mentioned, relvars_in}
-use Rattle.td_trees.proofs.Forms as mentions
+use Rattle.td_typed_trees.specs.declared.expression.Expression.{Expression}
+use Rattle.td_typed_trees.specs.declared.tree.Typed.{Typed}
+use Rattle.td_typed_trees.specs.declared.tree.Typed.TheVariants as t
+use Rattle.td_typed_trees.specs.Mentions.{mentioned, relvars_in}
+use Rattle.td_typed_trees.proofs.Forms as mentions
 use Rattle.td_tuples.specs.declared.items.Item.{Item}
 use Rattle.td_algebra.specs.Functions.{extended, minus_of, restricted, union_of}
 use Rattle.td_algebra.specs.Nested.{relation_value}
@@ -31,7 +31,7 @@ use Rattle.td_meaning.specs.Mean.{Meaning, Relvars, Selection, mean, mean_both, 
 use Rattle.td_meaning.specs.Seen.{relvars_at}
 use Rattle.td_meaning.specs.Selections.{selection}
 use Rattle.td_meaning.proofs.Forms as meant
-use Rattle.td_soundness.specs.Meanings.{GivesValue, IsError}
+use Rattle.td_type_soundness.specs.Meanings.{GivesValue, IsError}
 use Rattle.td_story.specs.Meanings.{no_names}
 use Rattle.td_story.specs.Raises.{stop_of}
 use Rattle.td_story.specs.Trees.{AreBases, IsIn, tree_means}

@@ -9,10 +9,10 @@ use Rattle.td_values.specs.Data.{user, items_of}
 use Rattle.td_algebra.specs.Raising.{and_then}
 use Rattle.td_values.specs.declared.raises.Raise.TheVariants as raise
 use Rattle.td_algebra.specs.declared.errors.Stop.TheVariants as stop
-use Rattle.td_trees.specs.declared.expression.Selector.{Selector}
-use Rattle.td_trees.specs.declared.tree.Typed.{Typed}
-use Rattle.td_kinds.specs.Written.{names}
-use Rattle.td_kinds.specs.declared.schema.Representation.{Representation}
+use Rattle.td_typed_trees.specs.declared.expression.Selector.{Selector}
+use Rattle.td_typed_trees.specs.declared.tree.Typed.{Typed}
+use Rattle.td_schema.specs.Written.{names}
+use Rattle.td_schema.specs.declared.schema.Representation.{Representation}
 use Rattle.td_headings.specs.Catalogues.{CatalogueData}
 use Rattle.td_headings.specs.Definitions.{Defined}
 use Rattle.td_headings.specs.Expressions.{selector_of, selector_at}

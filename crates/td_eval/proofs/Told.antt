@@ -7,16 +7,16 @@ use Rattle.td_values.specs.declared.TypeKind.{TypeKind}
 use Rattle.td_values.specs.declared.TypeKind.TheVariants as kind
 use Rattle.td_tuples.specs.Parts.{Fits}
 use Rattle.td_tuples.proofs.Lists.{entries-from_entries}
-use Rattle.td_trees.specs.declared.expression.Expression.{Expression}
+use Rattle.td_typed_trees.specs.declared.expression.Expression.{Expression}
 use Rattle.td_algebra.specs.declared.errors.Stop.{Stop}
 use Rattle.td_headings.specs.Catalogues.{CatalogueData}
 use Rattle.td_headings.specs.Definitions.{Defined}
 use Rattle.td_headings.specs.Expressions.{IsTree, no_tuple}
-use Rattle.td_kinds.specs.Schemas.{SchemaData}
+use Rattle.td_schema.specs.Schemas.{SchemaData}
 use Rattle.td_meaning.specs.Mean.{Relvars}
 use Rattle.td_operators.specs.Values.{rows_of}
-use Rattle.td_soundness.specs.Meanings.{GivesValue, HasKind, IsError, IsRelationOver, OrError}
-use Rattle.td_soundness.proofs.Values.{rows_given}
+use Rattle.td_type_soundness.specs.Meanings.{GivesValue, HasKind, IsError, IsRelationOver, OrError}
+use Rattle.td_type_soundness.proofs.Values.{rows_given}
 use Rattle.td_story.specs.Meanings.{means}
 use Rattle.td_story.specs.Trees.{AreBases, IsIn, tree_means}
 use Rattle.td_eval.proofs.AllThere.{means_its_tree}

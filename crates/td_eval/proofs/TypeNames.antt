@@ -3,8 +3,8 @@ use Rattle.std.proofs.Common.{◌≡◌, ℕ, suc, ◌+◌, Bool, true, false, L
 use Rattle.std.specs.Prelude.{slice_get}
 use Rattle.td_values.specs.TextOrder.{text_equivalence}
 use Rattle.td_syntax.specs.declared.script.Definition.{Definition}
-use Rattle.td_kinds.specs.Schemas.{first_from, has_type_name, type_named}
-use Rattle.td_kinds.specs.declared.schema.Representation.{Representation}
+use Rattle.td_schema.specs.Schemas.{first_from, has_type_name, type_named}
+use Rattle.td_schema.specs.declared.schema.Representation.{Representation}
 use Rattle.td_headings.specs.Catalogues.{CatalogueData}
 use Rattle.td_headings.specs.Definitions.{Defines, type_, base, virtual, constraint, Defined, nothing_yet, next_definition, represented}
 use Rattle.td_eval.proofs.Placed.{front_or_last}

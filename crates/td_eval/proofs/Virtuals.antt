@@ -5,9 +5,9 @@ use Rattle.std.specs.List.{Contains, filter_map, cons_option}
 use Rattle.std.specs.List.Sorted.{IsStrictlySortedBy}
 use Rattle.std.specs.Ordering.{nat_cmp}
 use Rattle.std.proofs.lemmas.Map.Keys.{sorted_tail}
-use Rattle.td_trees.specs.declared.expression.Expression.{Expression}
-use Rattle.td_trees.specs.declared.expression.VirtualUnder.{VirtualUnder}
-use Rattle.td_trees.specs.declared.tree.Typed.{Typed}
+use Rattle.td_typed_trees.specs.declared.expression.Expression.{Expression}
+use Rattle.td_typed_trees.specs.declared.expression.VirtualUnder.{VirtualUnder}
+use Rattle.td_typed_trees.specs.declared.tree.Typed.{Typed}
 use Rattle.td_headings.specs.Catalogues.{CatalogueData}
 use Rattle.td_headings.specs.Definitions.{Defined}
 use Rattle.td_headings.specs.Expressions.{IsTyped, virtual_of, virtual_at, reads}

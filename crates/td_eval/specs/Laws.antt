@@ -5,15 +5,15 @@ use Rattle.td_values.specs.Data.{Attrs}
 use Rattle.td_values.specs.Headings.{Header}
 use Rattle.td_values.specs.declared.TypeKind.{TypeKind}
 use Rattle.td_syntax.specs.declared.tree.Named.{Named}
-use Rattle.td_trees.specs.declared.tree.Typed.{Typed}
-use Rattle.td_trees.specs.declared.expression.Expression.{Expression}
-use Rattle.td_trees.specs.declared.expression.VirtualUnder.{VirtualUnder}
+use Rattle.td_typed_trees.specs.declared.tree.Typed.{Typed}
+use Rattle.td_typed_trees.specs.declared.expression.Expression.{Expression}
+use Rattle.td_typed_trees.specs.declared.expression.VirtualUnder.{VirtualUnder}
 use Rattle.td_headings.specs.Catalogues.{CatalogueData}
 use Rattle.td_headings.specs.Definitions.{Defined}
 use Rattle.td_headings.specs.Expressions.{HasAllUnder, IsTree, IsTyped, reads}
 use Rattle.td_meaning.specs.Mean.{Relvars, mean, rows_in}
 use Rattle.td_meaning.specs.Selections.{selection}
-use Rattle.td_soundness.specs.Meanings.{GivesValue, GivesRelation, IsTupleOver}
+use Rattle.td_type_soundness.specs.Meanings.{GivesValue, GivesRelation, IsTupleOver}
 use Rattle.td_story.specs.Meanings.{means, no_names, relvars_under}
 use Rattle.td_story.specs.Trees.{AreBases, all_relvars, tree_means}
 

@@ -10,7 +10,7 @@ ghost use Rattle.td_meaning.specs.Seen.{relvars_at};
 ghost use Rattle.td_meaning.specs.Selections.{selection};
 ghost use Rattle.td_operators.specs.Values as spec;
 ghost use Rattle.td_syntax.specs.declared.tree.BinaryOperator.TheVariants as binary;
-ghost use Rattle.td_trees.specs.declared.tree.Typed.TheVariants as typed;
+ghost use Rattle.td_typed_trees.specs.declared.tree.Typed.TheVariants as typed;
 ghost use Rattle.td_story.specs.Meanings.{no_names};
 ghost use Rattle.td_story.specs.Trees.{AreBases, IsIn, tree_means};
 ghost use Rattle.td_eval.specs.Added.{TellsAdded};
@@ -27,7 +27,7 @@ use td_meaning::Scope;
 use td_relations::Relation;
 use td_story::Failure;
 use td_syntax::tree::BinaryOperator;
-use td_trees::tree::Typed;
+use td_typed_trees::tree::Typed;
 
 // The expression that the relvar is united with, if the tree is such a union.
 fn united_with(tree: &Typed, relvar: usize) -> Option<&Typed>

@@ -12,7 +12,7 @@ ghost use Rattle.td_eval.specs.ForProofs.ByKey.{SaysMeaning, SaysValues, SaysWhe
 ghost use Rattle.td_eval.specs.Keyed.{IsFound};
 ghost use Rattle.td_headings.specs.Expressions.{places_of};
 ghost use Rattle.td_syntax.specs.declared.tree.BinaryOperator.TheVariants as binary;
-ghost use Rattle.td_trees.specs.declared.tree.Typed.TheVariants as typed;
+ghost use Rattle.td_typed_trees.specs.declared.tree.Typed.TheVariants as typed;
 
 use crate::lookup::Lookup;
 use std::alloc::{AllocError, Global};
@@ -20,9 +20,9 @@ use td_algebra::{Fault, KeyIndex, restrict};
 use td_operators::{integer_value, relation_value, text_value, truth_value};
 use td_relations::Relation;
 use td_syntax::tree::BinaryOperator;
-use td_trees::expression::{BaseUnder, Expression};
-use td_trees::tree::Typed;
 use td_tuples::tuple_of;
+use td_typed_trees::expression::{BaseUnder, Expression};
+use td_typed_trees::tree::Typed;
 use td_values::{Heading, Name, Tuple, Value, copy, equal};
 
 // The tuples of the relation's index that have these values of its key, if their names are the key's.

@@ -4,10 +4,10 @@
 use sqlite_items::Boxed;
 use std::alloc::{AllocError, Global};
 use td_syntax::tree::{BinaryOperator, Named};
-use td_trees::expression::VirtualUnder;
-use td_trees::tree::{Typed, TypedGroups};
-use td_trees::{Mention, add_mentions};
 use td_tuples::Item;
+use td_typed_trees::expression::VirtualUnder;
+use td_typed_trees::tree::{Typed, TypedGroups};
+use td_typed_trees::{Mention, add_mentions};
 
 /// The place, among those under the expression, of the virtual relvar that is defined at this one, if it is not known.
 /// They stand in order of definition.

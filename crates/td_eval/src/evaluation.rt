@@ -20,8 +20,8 @@ use td_headings::TypedExpr;
 use td_meaning::{Environment, Known, Part, Scope};
 use td_operators::Lease;
 use td_relations::Relation;
-use td_trees::expression::{BaseUnder, Expression};
-use td_trees::tree::Typed;
+use td_typed_trees::expression::{BaseUnder, Expression};
+use td_typed_trees::tree::Typed;
 use td_values::{Kind, Tuple, Value};
 
 // What the base relvar at the place has, with what the look-up keeps beside it.

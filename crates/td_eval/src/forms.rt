@@ -4,13 +4,13 @@ ghost use Rattle.std.specs.Prelude.{◌≡◌, IsTrue, MatchOption};
 ghost use Rattle.td_eval.specs.ForProofs.Forms.{form_tree};
 ghost use Rattle.td_syntax.specs.declared.tree.BinaryOperator.TheVariants as binary;
 ghost use Rattle.td_syntax.specs.declared.tree.UnaryOperator.TheVariants as unary;
-ghost use Rattle.td_trees.specs.declared.tree.Typed.TheVariants as typed;
+ghost use Rattle.td_typed_trees.specs.declared.tree.Typed.TheVariants as typed;
 
 use sqlite_items::Boxed;
 use td_syntax::tree::{BinaryOperator, UnaryOperator};
-use td_trees::compare;
-use td_trees::tree::Typed;
 use td_tuples::Item;
+use td_typed_trees::compare;
+use td_typed_trees::tree::Typed;
 
 /// Tuples of a relvar, changed.
 #[derive(Drop)]

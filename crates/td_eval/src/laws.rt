@@ -1,7 +1,7 @@
 //! The laws of evaluation.
 ghost use Rattle.td_eval.specs.Laws.{BasesStay, MeaningByReads, MeansItsTree, RelvarsHaveRelations, TreesHaveValues, VirtualsMeanTheirExpressions};
 
-pub use td_literals::laws::shown_is_read_back;
+pub use td_literal_round_trip::laws::shown_is_read_back;
 
 /// Relvars that agree on what an expression reads give it the same meaning.
 pub fn meaning_by_reads()

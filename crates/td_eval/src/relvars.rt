@@ -14,8 +14,8 @@ use td_algebra::{Fault, Stop};
 use td_meaning::{Environment, Known, Scope};
 use td_operators::Lease;
 use td_relations::Relation;
-use td_trees::expression::{Selector, VirtualUnder};
-use td_trees::tree::Typed;
+use td_typed_trees::expression::{Selector, VirtualUnder};
+use td_typed_trees::tree::Typed;
 
 // The answer, with the error that it may be.
 fn kept<'a>(answer: Result<Relation, Fault>) -> Result<Result<Lease<'a>, Stop>, AllocError>

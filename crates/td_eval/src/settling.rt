@@ -16,8 +16,8 @@ use std::alloc::{AllocError, Global};
 use td_algebra::{Fault, Stop};
 use td_meaning::{Environment, Held, Part, Scope, keep, put};
 use td_relations::Relation;
-use td_trees::expression::VirtualUnder;
-use td_trees::tree::Typed;
+use td_typed_trees::expression::VirtualUnder;
+use td_typed_trees::tree::Typed;
 use td_values::{Kind, Value};
 
 /// What is found out about an expression, step by step.

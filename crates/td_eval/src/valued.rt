@@ -5,7 +5,7 @@ ghost use Rattle.td_values.specs.Data.{no_attrs};
 ghost use Rattle.td_values.specs.declared.TypeKind.TheVariants as type_kind;
 ghost use Rattle.td_algebra.specs.Raising.{and_then};
 ghost use Rattle.td_operators.specs.Values as spec;
-ghost use Rattle.td_soundness.specs.Meanings.{HasKind, IsError, IsRelationOver};
+ghost use Rattle.td_type_soundness.specs.Meanings.{HasKind, IsError, IsRelationOver};
 ghost use Rattle.td_story.specs.Raises.{Tells, stop_of};
 ghost use Rattle.td_story.specs.Trees.{AreBases, IsIn, tree_means};
 

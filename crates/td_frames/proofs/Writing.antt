@@ -5,7 +5,7 @@ use Rattle.std.proofs.lemmas.List.{take_more, take-append-drop}
 use Rattle.std.proofs.lemmas.List.Concat.{flat_map-cons, flat_map-append}
 use Rattle.std.specs.Io.KnownBytes.{Appends}
 use Rattle.std.proofs.KnownBytes.{Appends-trans}
-use Rattle.td_devices.specs.Streams.{AppendsFront, Writes}
+use Rattle.td_io.specs.Streams.{AppendsFront, Writes}
 
 pub front_longer : (a b : Option (List ℕ)) (xs ys : List ℕ) → AppendsFront a b xs → AppendsFront a b (xs ++ ys)
 front_longer a b xs ys (front, rest, split, appended) = (front, rest ++ ys, ap (λ (l : List ℕ). l ++ ys) split ∙ append_assoc front rest ys, appended)

@@ -2,7 +2,7 @@
 use Rattle.std.specs.Prelude.{◌≡◌, ◌<◌, ◌≤◌, ℕ, true, List, ◌++◌, length, Option, Result, Ok, Err}
 use Rattle.std.specs.FinMap as by_site
 use Rattle.std.specs.Io.KnownBytes.{IsAtEnd}
-use Rattle.td_devices.specs.Counted.{counted}
+use Rattle.td_io.specs.Counted.{counted}
 use Rattle.td_stamps.specs.Vectors.{VersionVector}
 use Rattle.td_frames.specs.Reading.{Miss, ToldErr, number_at, site_at, then_at}
 use Rattle.td_frames.specs.declared.error.FrameError.{FrameError}

@@ -3,8 +3,8 @@
 ghost use Rattle.std.specs.Prelude.{◌≡◌, ◌∷◌, ◌++◌, ◌≤◌, ℕ, List, length};
 ghost use Rattle.std.specs.Int.{w16, w32, w64, to_be_bytes};
 ghost use Rattle.std.specs.Io.KnownBytes.{Keeps, Consumes};
-ghost use Rattle.td_devices.specs.Counted.{Counts};
-ghost use Rattle.td_devices.specs.Streams.{Writes};
+ghost use Rattle.td_io.specs.Counted.{Counts};
+ghost use Rattle.td_io.specs.Streams.{Writes};
 ghost use Rattle.td_frames.specs.Reading.{Told, ToldEntries, end_at, entries_at};
 ghost use Rattle.td_frames.specs.Spelling.{HasFrame, end_frame, entry_frame};
 ghost use Rattle.td_frames.specs.declared.version.Version.TheVariants.{Second};
@@ -14,7 +14,7 @@ use crate::error::FrameError;
 use crate::fields::read_field;
 use crate::version::Version;
 use std::alloc::Global;
-use td_devices::{Failed, Sink, Source, write_all};
+use td_io::{Failed, Sink, Source, write_all};
 use td_stamps::Entry;
 
 /// The most entries that a site reads of a stream or of a journal.

@@ -8,7 +8,7 @@ use crate::error::FrameError;
 use crate::fields::{Head, MOST_HEAD, fields_of, read_bytes, read_field};
 use crate::version::Version;
 use std::alloc::{AllocError, Global};
-use td_devices::Source;
+use td_io::Source;
 use td_stamps::Entry;
 use td_values::Text;
 

@@ -8,7 +8,7 @@ ghost use Rattle.td_frames.specs.Reading.{dialect_in, fields, head_size};
 use crate::error::FrameError;
 use crate::version::Version;
 use std::alloc::Global;
-use td_devices::{Short, Source, fill};
+use td_io::{Short, Source, fill};
 
 /// The fields of an entry's frame before its text.
 #[derive(Clone, Copy)]

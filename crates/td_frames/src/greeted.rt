@@ -3,11 +3,11 @@
 ghost use Rattle.std.specs.Prelude.{◌≡◌, ◌<◌, ◌≤◌, ◌^◌, IsUtf8, length};
 ghost use Rattle.std.specs.List.{flat_map};
 ghost use Rattle.std.specs.Io.KnownBytes.{Keeps};
-ghost use Rattle.td_devices.specs.Counted.{Counts};
-ghost use Rattle.td_devices.specs.Streams.{Writes};
+ghost use Rattle.td_io.specs.Counted.{Counts};
+ghost use Rattle.td_io.specs.Streams.{Writes};
 ghost use Rattle.td_frames.specs.Spelling as spelled;
 
-use td_devices::{Failed, Sink, write_all};
+use td_io::{Failed, Sink, write_all};
 
 fn head_bytes(site: u16) -> [u8; 7]
     ensures { result ≡ spelled.head_frame site }

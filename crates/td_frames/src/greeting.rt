@@ -9,7 +9,7 @@ ghost use Rattle.td_frames.specs.Reading.{ReadsValue, count_at, greeting_at, hea
 use crate::error::FrameError;
 use crate::fields::{read_bytes, read_field};
 use std::alloc::Global;
-use td_devices::Source;
+use td_io::Source;
 use td_stamps::Vector;
 use td_values::Text;
 

@@ -5,13 +5,13 @@ use Rattle.td_syntax.specs.declared.tree.Expr.{Expr}
 use Rattle.td_syntax.specs.declared.script.Action.{Action}
 use Rattle.td_syntax.specs.declared.script.Statement.{Statement}
 use Rattle.td_syntax.specs.declared.script.Statement.TheVariants as statement
-use Rattle.td_kinds.specs.declared.error.TypeError.{TypeError}
-use Rattle.td_kinds.specs.declared.error.TypeError.TheVariants.{IllTyped, OutOfMemory}
-use Rattle.td_kinds.specs.Results.{Fails}
-use Rattle.td_kinds.specs.Scopes.{relvars_of}
+use Rattle.td_schema.specs.declared.error.TypeError.{TypeError}
+use Rattle.td_schema.specs.declared.error.TypeError.TheVariants.{IllTyped, OutOfMemory}
+use Rattle.td_schema.specs.Results.{Fails}
+use Rattle.td_schema.specs.Scopes.{relvars_of}
 use Rattle.td_typing.specs.Types.{Types}
-use Rattle.td_trees.specs.declared.expression.Expression.{Expression}
-use Rattle.td_trees.specs.declared.tree.Typed.{Typed}
+use Rattle.td_typed_trees.specs.declared.expression.Expression.{Expression}
+use Rattle.td_typed_trees.specs.declared.tree.Typed.{Typed}
 use Rattle.td_headings.specs.Catalogues.{CatalogueData}
 use Rattle.td_headings.specs.Expressions.{IsTree, IsClosedExpression, no_tuple}
 use Rattle.td_headings.specs.ForProofs.After.{condition_after}

@@ -13,15 +13,15 @@ use Rattle.td_syntax.specs.declared.script.Opening.{Opening}
 use Rattle.td_syntax.specs.declared.script.Opening.TheVariants as opening
 use Rattle.td_syntax.specs.declared.script.Definition.{Definition}
 use Rattle.td_syntax.specs.declared.script.Definition.TheVariants as definition
-use Rattle.td_kinds.specs.Kinds.{Name, is_boolean, relation_heading, same_heading}
-use Rattle.td_kinds.specs.Lists.{attributes_of}
-use Rattle.td_kinds.specs.Results.{where_some, where_true}
-use Rattle.td_kinds.specs.Schemas.{SchemaData, relvar_named, type_named, possrep_named, begins_with_the}
-use Rattle.td_kinds.specs.ForProofs.Additions.{may_add}
-use Rattle.td_kinds.specs.Scopes.{Scope, nothing, within_tuple}
-use Rattle.td_kinds.specs.Written.{components_written, heading_written, kind_columns}
-use Rattle.td_trees.specs.declared.tree.Typed.{Typed}
-use Rattle.td_trees.specs.declared.tree.Typing.{Typing}
+use Rattle.td_schema.specs.Kinds.{Name, is_boolean, relation_heading, same_heading}
+use Rattle.td_schema.specs.Lists.{attributes_of}
+use Rattle.td_schema.specs.Results.{where_some, where_true}
+use Rattle.td_schema.specs.Schemas.{SchemaData, relvar_named, type_named, possrep_named, begins_with_the}
+use Rattle.td_schema.specs.ForProofs.Additions.{may_add}
+use Rattle.td_schema.specs.Scopes.{Scope, nothing, within_tuple}
+use Rattle.td_schema.specs.Written.{components_written, heading_written, kind_columns}
+use Rattle.td_typed_trees.specs.declared.tree.Typed.{Typed}
+use Rattle.td_typed_trees.specs.declared.tree.Typing.{Typing}
 use Rattle.td_typing.specs.Trees.{typing}
 use Rattle.td_typing.specs.Types.{Types}
 use Rattle.td_typing.specs.ForProofs.Infer.{each, infer}

@@ -4,10 +4,10 @@ use Rattle.std.specs.FinMap as by_name
 use Rattle.td_values.specs.Order.{text_cmp}
 use Rattle.td_values.specs.declared.TypeKind.{TypeKind}
 use Rattle.td_syntax.specs.declared.tree.Expr.{Expr}
-use Rattle.td_kinds.specs.Scopes.{Scope, within_tuple, or_outer, relvars_of}
+use Rattle.td_schema.specs.Scopes.{Scope, within_tuple, or_outer, relvars_of}
 use Rattle.td_typing.specs.Types.{Types}
-use Rattle.td_trees.specs.declared.expression.Expression.{Expression}
-use Rattle.td_trees.specs.declared.tree.Typed.{Typed}
+use Rattle.td_typed_trees.specs.declared.expression.Expression.{Expression}
+use Rattle.td_typed_trees.specs.declared.tree.Typed.{Typed}
 use Rattle.td_values.specs.Headings.{Header}
 use Rattle.td_headings.specs.Catalogues.{CatalogueData}
 use Rattle.td_headings.specs.Definitions.{Defined}

@@ -3,16 +3,16 @@ use Rattle.std.proofs.Common.{◌≡◌, ℕ, Bool, true, false, not, List, [], 
 use Rattle.td_values.specs.Headings.{Header}
 use Rattle.td_syntax.specs.declared.tree.Attributes.{Attributes}
 use Rattle.td_syntax.specs.declared.script.Opening.{Opening}
-use Rattle.td_kinds.specs.declared.error.TypeError.{TypeError}
-use Rattle.td_kinds.specs.declared.error.TypeError.TheVariants.{IllTyped, OutOfMemory}
-use Rattle.td_kinds.specs.Kinds.{Name}
-use Rattle.td_kinds.specs.Results.{Fails, where_some, where_true}
+use Rattle.td_schema.specs.declared.error.TypeError.{TypeError}
+use Rattle.td_schema.specs.declared.error.TypeError.TheVariants.{IllTyped, OutOfMemory}
+use Rattle.td_schema.specs.Kinds.{Name}
+use Rattle.td_schema.specs.Results.{Fails, where_some, where_true}
 use Rattle.std.specs.Result.{OnOk}
 use Rattle.std.specs.List.{list_any}
-use Rattle.td_kinds.specs.declared.schema.Representation.{Representation}
-use Rattle.td_kinds.specs.Schemas.{SchemaData, relvar_named}
-use Rattle.td_kinds.specs.ForProofs.Additions.{relvar_added, may_add, type_added}
-use Rattle.td_trees.specs.declared.tree.Typed.{Typed}
+use Rattle.td_schema.specs.declared.schema.Representation.{Representation}
+use Rattle.td_schema.specs.Schemas.{SchemaData, relvar_named}
+use Rattle.td_schema.specs.ForProofs.Additions.{relvar_added, may_add, type_added}
+use Rattle.td_typed_trees.specs.declared.tree.Typed.{Typed}
 use Rattle.td_headings.specs.Catalogues.{CatalogueData}
 use Rattle.td_headings.specs.Definitions.{is_constraint, with_constraint, with_relvar, with_type, key_tests}
 use Rattle.td_headings.specs.ForProofs.After.{opening_after, keys_after, relvar_after, possrep_after, named_after, base_after}

@@ -8,10 +8,10 @@ use Rattle.std.proofs.lemmas.List.Elements.{Contains-append_left, Contains-appen
 use Rattle.std.proofs.lemmas.List.Kept.{IsStrictlySortedBy-filter}
 use Rattle.std.proofs.lemmas.Option.{slice_get-get_or, slice_get_within}
 use Rattle.td_values.specs.Headings.{Header}
-use Rattle.td_links.proofs.Walks.{the_one}
+use Rattle.td_graph.proofs.Walks.{the_one}
 use Rattle.td_syntax.specs.declared.tree.Named.{Named}
-use Rattle.td_trees.specs.declared.expression.BaseUnder.{BaseUnder}
-use Rattle.td_trees.specs.declared.expression.Expression.{Expression}
+use Rattle.td_typed_trees.specs.declared.expression.BaseUnder.{BaseUnder}
+use Rattle.td_typed_trees.specs.declared.expression.Expression.{Expression}
 use Rattle.td_headings.specs.Catalogues.{CatalogueData}
 use Rattle.td_headings.specs.Expressions.{HasAllUnder, base_of, base_at, reads}
 use Rattle.td_headings.specs.Reached.{AreThose, ReadsRelvar, is_base}

@@ -8,10 +8,10 @@ use Rattle.td_syntax.specs.declared.tree.Extension.TheVariants as extension
 use Rattle.td_syntax.specs.declared.tree.Named.{Named}
 use Rattle.td_syntax.specs.declared.script.Action.{Action}
 use Rattle.td_syntax.specs.declared.script.Action.TheVariants as action
-use Rattle.td_kinds.specs.Kinds.{Name, relation_heading}
-use Rattle.td_kinds.specs.Results.{where_some}
-use Rattle.td_kinds.specs.Schemas.{SchemaData}
-use Rattle.td_kinds.specs.Scopes.{relvars_of, within_tuple}
+use Rattle.td_schema.specs.Kinds.{Name, relation_heading}
+use Rattle.td_schema.specs.Results.{where_some}
+use Rattle.td_schema.specs.Schemas.{SchemaData}
+use Rattle.td_schema.specs.Scopes.{relvars_of, within_tuple}
 use Rattle.td_typing.specs.ForProofs.Infer.{Inferred, infer, infer_name, infer_by, infer_binary, infer_where, infer_extend, by_unary, by_binary, restricted}
 use Rattle.td_typing.proofs.Equations.{of_name, of_truth, of_unary, of_binary, of_where, of_extend}
 use Rattle.td_headings.specs.ForProofs.Sources.{others, selected, no_tuples, changed, inserted, all_updated, updated, found}

@@ -4,21 +4,21 @@ use Rattle.td_values.specs.Headings.{Header}
 use Rattle.td_values.specs.declared.TypeKind.TheVariants as kind
 use Rattle.td_syntax.specs.declared.tree.Named.{Named}
 use Rattle.td_syntax.specs.declared.script.Action.{Action}
-use Rattle.td_kinds.specs.Kinds.{Name, same_kind}
-use Rattle.td_kinds.specs.declared.error.TypeError.{TypeError}
-use Rattle.td_kinds.specs.declared.error.TypeError.TheVariants.{IllTyped, OutOfMemory}
-use Rattle.td_kinds.specs.Results.{Fails, where_some, where_true}
-use Rattle.td_kinds.specs.Schemas.{SchemaData, relvar_named}
-use Rattle.td_kinds.specs.Scopes.{relvars_of}
+use Rattle.td_schema.specs.Kinds.{Name, same_kind}
+use Rattle.td_schema.specs.declared.error.TypeError.{TypeError}
+use Rattle.td_schema.specs.declared.error.TypeError.TheVariants.{IllTyped, OutOfMemory}
+use Rattle.td_schema.specs.Results.{Fails, where_some, where_true}
+use Rattle.td_schema.specs.Schemas.{SchemaData, relvar_named}
+use Rattle.td_schema.specs.Scopes.{relvars_of}
 use Rattle.td_typing.specs.Trees.{typing}
 use Rattle.td_typing.specs.Types.{Types}
 use Rattle.td_typing.specs.ForProofs.Infer.{infer}
 use Rattle.td_typing.proofs.Complete.{complete}
 use Rattle.td_typing.proofs.Sound.{sound}
 use Rattle.td_typing.proofs.KindLemmas.{same, same_itself}
-use Rattle.td_trees.specs.declared.expression.Expression.{Expression}
-use Rattle.td_trees.specs.declared.tree.Typed.{Typed}
-use Rattle.td_trees.specs.declared.tree.Typing.{Typing}
+use Rattle.td_typed_trees.specs.declared.expression.Expression.{Expression}
+use Rattle.td_typed_trees.specs.declared.tree.Typed.{Typed}
+use Rattle.td_typed_trees.specs.declared.tree.Typing.{Typing}
 use Rattle.td_headings.specs.Catalogues.{CatalogueData}
 use Rattle.td_headings.specs.Expressions.{IsTree, IsClosedExpression, no_tuple}
 use Rattle.td_headings.specs.ForProofs.Sources.{real, assigned}

@@ -2,9 +2,9 @@
 use Rattle.std.proofs.Common.{◌≡◌, ℕ, ◌||◌, List, [], ◌∷◌, ◌++◌, map, refl, sym, ap, ◌∙◌}
 use Rattle.std.specs.List.{list_any}
 use Rattle.td_values.specs.TextOrder.{text_equivalence}
-use Rattle.td_kinds.specs.Kinds.{Name}
-use Rattle.td_kinds.specs.Schemas.{same_text}
-use Rattle.td_trees.specs.declared.tree.Typed.{Typed}
+use Rattle.td_schema.specs.Kinds.{Name}
+use Rattle.td_schema.specs.Schemas.{same_text}
+use Rattle.td_typed_trees.specs.declared.tree.Typed.{Typed}
 use Rattle.td_headings.specs.Definitions.{is_constraint}
 use Rattle.td_headings.specs.ForProofs.TestNames.{constraint_names}
 use Rattle.td_headings.specs.declared.defined.Test.{Test}

@@ -7,15 +7,15 @@ use Rattle.td_syntax.specs.declared.tree.Expr.{Expr}
 use Rattle.td_syntax.specs.declared.tree.Named.{Named}
 use Rattle.td_syntax.specs.declared.script.Definition.{Definition}
 use Rattle.td_syntax.specs.declared.script.Opening.{Opening}
-use Rattle.td_kinds.specs.declared.error.TypeError.{TypeError}
-use Rattle.td_kinds.specs.declared.schema.Representation.{Representation}
-use Rattle.td_kinds.specs.Kinds.{Name}
-use Rattle.td_kinds.specs.Scopes.{nothing, within_tuple, relvars_of}
-use Rattle.td_kinds.specs.Written.{kind_columns}
+use Rattle.td_schema.specs.declared.error.TypeError.{TypeError}
+use Rattle.td_schema.specs.declared.schema.Representation.{Representation}
+use Rattle.td_schema.specs.Kinds.{Name}
+use Rattle.td_schema.specs.Scopes.{nothing, within_tuple, relvars_of}
+use Rattle.td_schema.specs.Written.{kind_columns}
 use Rattle.td_typing.specs.ForProofs.Growth.{IsEarlier}
 use Rattle.td_typing.specs.Types.{Types}
 use Rattle.td_typing.proofs.Staying.{stays, within_stays, relvars_stay}
-use Rattle.td_trees.specs.declared.tree.Typed.{Typed}
+use Rattle.td_typed_trees.specs.declared.tree.Typed.{Typed}
 use Rattle.td_headings.specs.Catalogues.{CatalogueData, nothing_defined}
 use Rattle.td_headings.specs.Definitions.{names_of_relvars, represented, with_type, with_relvar, with_constraint, key_tests, TypesLimit, no_limit, limit, TypesOpening, empty, init, headed_init, Defines, type_, base, virtual, constraint, Defined, nothing_yet, next_definition}
 use Rattle.td_headings.specs.Expressions.{IsTree, no_tuple, constraint_of, constraint_at, init_of, init_at}

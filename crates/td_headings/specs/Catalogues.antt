@@ -1,7 +1,7 @@
 -- What a script has defined: the types and relvars that expressions name, and beside them what typing does not ask for.
 use Rattle.std.specs.Prelude.{List, [], Option}
-use Rattle.td_kinds.specs.Schemas.{SchemaData, empty_schema}
-use Rattle.td_trees.specs.declared.tree.Typed.{Typed}
+use Rattle.td_schema.specs.Schemas.{SchemaData, empty_schema}
+use Rattle.td_typed_trees.specs.declared.tree.Typed.{Typed}
 use Rattle.td_headings.specs.declared.defined.Origin.{Origin}
 use Rattle.td_headings.specs.declared.defined.Test.{Test}
 

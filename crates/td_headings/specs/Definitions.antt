@@ -13,14 +13,14 @@ use Rattle.td_syntax.specs.declared.script.Opening.{Opening}
 use Rattle.td_syntax.specs.declared.script.Opening.TheVariants as opening
 use Rattle.td_syntax.specs.declared.script.Definition.{Definition}
 use Rattle.td_syntax.specs.declared.script.Definition.TheVariants as definition
-use Rattle.td_kinds.specs.Kinds.{Name}
-use Rattle.td_kinds.specs.Lists.{attributes_of}
-use Rattle.td_kinds.specs.Schemas.{relvar_named, possrep_named, type_named, same_text, begins_with_the, schema_with_relvar, schema_with_type}
-use Rattle.td_kinds.specs.Scopes.{Scope, nothing, relvars_of, within_tuple}
-use Rattle.td_kinds.specs.Written.{components_written, heading_written, kind_columns}
-use Rattle.td_kinds.specs.declared.schema.Representation.{Representation}
+use Rattle.td_schema.specs.Kinds.{Name}
+use Rattle.td_schema.specs.Lists.{attributes_of}
+use Rattle.td_schema.specs.Schemas.{relvar_named, possrep_named, type_named, same_text, begins_with_the, schema_with_relvar, schema_with_type}
+use Rattle.td_schema.specs.Scopes.{Scope, nothing, relvars_of, within_tuple}
+use Rattle.td_schema.specs.Written.{components_written, heading_written, kind_columns}
+use Rattle.td_schema.specs.declared.schema.Representation.{Representation}
 use Rattle.td_typing.specs.Types.{Types}
-use Rattle.td_trees.specs.declared.tree.Typed.{Typed}
+use Rattle.td_typed_trees.specs.declared.tree.Typed.{Typed}
 use Rattle.td_headings.specs.Catalogues.{CatalogueData, nothing_defined}
 use Rattle.td_headings.specs.declared.defined.Origin.{Origin}
 use Rattle.td_headings.specs.declared.defined.Origin.TheVariants as origin

@@ -7,11 +7,11 @@ use Rattle.td_values.specs.declared.TypeKind.{TypeKind}
 use Rattle.td_values.specs.declared.TypeKind.TheVariants as kind
 use Rattle.td_syntax.specs.declared.tree.Expr.{Expr}
 use Rattle.td_syntax.specs.declared.tree.Named.{Named}
-use Rattle.td_kinds.specs.Scopes.{within_tuple, relvars_of}
-use Rattle.td_kinds.specs.Written.{names}
-use Rattle.td_kinds.specs.declared.schema.Representation.{Representation}
+use Rattle.td_schema.specs.Scopes.{within_tuple, relvars_of}
+use Rattle.td_schema.specs.Written.{names}
+use Rattle.td_schema.specs.declared.schema.Representation.{Representation}
 use Rattle.td_typing.specs.Types.{Types}
-use Rattle.td_trees.specs.declared.tree.Typed.{Typed}
+use Rattle.td_typed_trees.specs.declared.tree.Typed.{Typed}
 use Rattle.td_headings.specs.Catalogues.{CatalogueData}
 use Rattle.td_headings.specs.Definitions.{Defined}
 use Rattle.td_headings.specs.Reached.{IsReached, IsSelected, AreThose}
@@ -19,10 +19,10 @@ use Rattle.td_headings.specs.declared.defined.Origin.{Origin}
 use Rattle.td_headings.specs.declared.defined.Origin.TheVariants as origin
 use Rattle.td_headings.specs.declared.defined.Test.{Test}
 use Rattle.td_headings.specs.declared.defined.Test.TheVariants as test
-use Rattle.td_trees.specs.declared.expression.BaseUnder.{BaseUnder}
-use Rattle.td_trees.specs.declared.expression.Expression.{Expression}
-use Rattle.td_trees.specs.declared.expression.VirtualUnder.{VirtualUnder}
-use Rattle.td_trees.specs.declared.expression.Selector.{Selector}
+use Rattle.td_typed_trees.specs.declared.expression.BaseUnder.{BaseUnder}
+use Rattle.td_typed_trees.specs.declared.expression.Expression.{Expression}
+use Rattle.td_typed_trees.specs.declared.expression.VirtualUnder.{VirtualUnder}
+use Rattle.td_typed_trees.specs.declared.expression.Selector.{Selector}
 
 -- the base relvar at a place, with its heading
 abbrev pub base_of : ℕ → Option Origin → Option (Named Header) → Option BaseUnder

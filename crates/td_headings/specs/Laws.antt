@@ -1,7 +1,7 @@
 -- The laws of definitions.
 use Rattle.std.specs.Prelude.{◌≡◌, ◌↔◌, Some}
 use Rattle.td_syntax.specs.declared.script.Definition.{Definition}
-use Rattle.td_trees.specs.declared.expression.Expression.{Expression}
+use Rattle.td_typed_trees.specs.declared.expression.Expression.{Expression}
 use Rattle.td_headings.specs.Catalogues.{CatalogueData}
 use Rattle.td_headings.specs.Definitions.{Defined, Defines}
 use Rattle.td_headings.specs.Expressions.{HasAllUnder, reads}

@@ -5,9 +5,9 @@ use Rattle.std.specs.Prelude.{◌≡◌, ◌↔◌, ◌++◌, ℕ, Bool, true, f
 use Rattle.std.specs.List.{Contains, flat_map}
 use Rattle.std.specs.List.Sorted.{IsStrictlySortedBy}
 use Rattle.std.specs.Ordering.{nat_cmp}
-use Rattle.td_links.specs.Links.{ReachedFrom}
-use Rattle.td_trees.specs.Mentions.{mentioned, relvars_in, possreps_in}
-use Rattle.td_trees.specs.declared.tree.Typed.{Typed}
+use Rattle.td_graph.specs.Links.{ReachedFrom}
+use Rattle.td_typed_trees.specs.Mentions.{mentioned, relvars_in, possreps_in}
+use Rattle.td_typed_trees.specs.declared.tree.Typed.{Typed}
 use Rattle.td_headings.specs.declared.defined.Origin.{Origin}
 use Rattle.td_headings.specs.declared.defined.Origin.TheVariants as origin
 

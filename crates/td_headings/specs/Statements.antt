@@ -13,10 +13,10 @@ use Rattle.td_syntax.specs.declared.script.Action.{Action}
 use Rattle.td_syntax.specs.declared.script.Action.TheVariants as action
 use Rattle.td_syntax.specs.declared.script.Statement.{Statement}
 use Rattle.td_syntax.specs.declared.script.Statement.TheVariants as statement
-use Rattle.td_kinds.specs.Kinds.{Name}
-use Rattle.td_kinds.specs.Schemas.{relvar_named}
-use Rattle.td_trees.specs.declared.expression.Expression.{Expression}
-use Rattle.td_trees.specs.declared.tree.Typed.{Typed}
+use Rattle.td_schema.specs.Kinds.{Name}
+use Rattle.td_schema.specs.Schemas.{relvar_named}
+use Rattle.td_typed_trees.specs.declared.expression.Expression.{Expression}
+use Rattle.td_typed_trees.specs.declared.tree.Typed.{Typed}
 use Rattle.td_headings.specs.Catalogues.{CatalogueData}
 use Rattle.td_headings.specs.Expressions.{IsExpression, no_tuple}
 use Rattle.td_headings.specs.declared.defined.Origin.TheVariants as origin

@@ -2,19 +2,19 @@
 
 ghost use Rattle.std.specs.Prelude.{◌≡◌, Err, MatchOption, None, OnErr, OnOk, Some, slice_get};
 ghost use Rattle.std.specs.Option.{option_copied};
-ghost use Rattle.td_kinds.specs.Schemas as schemas;
-ghost use Rattle.td_kinds.specs.declared.error.TypeError.TheVariants as type_error;
+ghost use Rattle.td_schema.specs.Schemas as schemas;
+ghost use Rattle.td_schema.specs.declared.error.TypeError.TheVariants as type_error;
 ghost use Rattle.td_headings.specs.Catalogues as spec;
 ghost use Rattle.td_headings.specs.Definitions.{Defined, Defines};
 
 use crate::defined::{Definitions, Origin, Test};
 use std::alloc::Global;
 use std::marker::Model;
-use td_kinds::error::TypeError;
-use td_kinds::schema::{Representation, Schema};
+use td_schema::error::TypeError;
+use td_schema::schema::{Representation, Schema};
 use td_syntax::script::Definition;
-use td_trees::tree::Typed;
 use td_tuples::Shared;
+use td_typed_trees::tree::Typed;
 use td_values::{Heading, Name};
 
 /// What a script has defined: types, relvars, and what must be true after each statement. Each definition is well typed

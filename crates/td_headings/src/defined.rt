@@ -1,8 +1,8 @@
 //! What a script has defined, definition by definition.
 
 ghost use Rattle.std.specs.Prelude.{◌≡◌, ◌++◌, ◌∷◌, [], Err, IfOk, None, Some, OnErr, OnOk, map};
-ghost use Rattle.td_kinds.specs.ForProofs.Additions.{type_added};
-ghost use Rattle.td_kinds.specs.declared.error.TypeError.TheVariants as type_error;
+ghost use Rattle.td_schema.specs.ForProofs.Additions.{type_added};
+ghost use Rattle.td_schema.specs.declared.error.TypeError.TheVariants as type_error;
 ghost use Rattle.td_headings.specs.Catalogues as spec;
 ghost use Rattle.td_headings.specs.ForProofs.After as after;
 ghost use Rattle.td_headings.specs.ForProofs.Changes.{Changes};
@@ -14,14 +14,14 @@ use crate::test_list::TestList;
 use sqlite_items::{Boxed, Items};
 use std::alloc::{AllocError, Global};
 use std::marker::Model;
-use td_kinds::error::TypeError;
-use td_kinds::lists::copies;
-use td_kinds::schema::{Representation, Schema};
-use td_kinds::written::components_written;
+use td_schema::error::TypeError;
+use td_schema::lists::copies;
+use td_schema::schema::{Representation, Schema};
+use td_schema::written::components_written;
 use td_syntax::script::{Definition, Opening};
 use td_syntax::tree::{Attributes, Expr, Named, TypeExpr};
-use td_trees::tree::Typed;
 use td_tuples::Shared;
+use td_typed_trees::tree::Typed;
 use td_values::{Heading, Name, Possrep};
 
 /// Where the value of a relvar comes from.

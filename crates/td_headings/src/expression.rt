@@ -10,11 +10,11 @@ use crate::defined::Origin;
 use crate::reach::{possreps_selected, relvars_reached};
 use sqlite_items::Items;
 use std::alloc::{AllocError, Global};
-use td_kinds::lists::names;
-use td_kinds::schema::Schema;
-use td_trees::expression::{BaseUnder, Expression, Selector, VirtualUnder};
-use td_trees::tree::Typed;
+use td_schema::lists::names;
+use td_schema::schema::Schema;
 use td_tuples::Shared;
+use td_typed_trees::expression::{BaseUnder, Expression, Selector, VirtualUnder};
+use td_typed_trees::tree::Typed;
 use td_values::{Heading, TypeKind};
 
 // The base relvar at the place, if there is one.

@@ -24,5 +24,5 @@ pub mod typed;
 pub use catalogue::Catalogue;
 pub use defined::{Origin, Test};
 pub use statement::{TypedAssignment, TypedStatement, lists_of, targets, type_statement};
-pub use td_kinds::TypeError as IllTyped;
+pub use td_schema::TypeError as IllTyped;
 pub use typed::{TypedExpr, constraint_expr, init_expr, reads, type_expr};

@@ -1,21 +1,21 @@
 //! The expressions of definitions, and the keys of relvars.
 
 ghost use Rattle.std.specs.Prelude.{◌≡◌};
-ghost use Rattle.td_kinds.specs.Results.{Gives};
+ghost use Rattle.td_schema.specs.Results.{Gives};
 ghost use Rattle.td_headings.specs.ForProofs.After as spec;
 
 use sqlite_items::{Boxed, Items};
 use std::alloc::Global;
-use td_kinds::error::TypeError;
-use td_kinds::kinds::{is_boolean, relation_heading, same_heading};
-use td_kinds::lists::attributes_of;
-use td_kinds::schema::Schema;
-use td_kinds::scope::Scope;
-use td_kinds::written::{heading_written, kind_columns};
+use td_schema::error::TypeError;
+use td_schema::kinds::{is_boolean, relation_heading, same_heading};
+use td_schema::lists::attributes_of;
+use td_schema::schema::Schema;
+use td_schema::scope::Scope;
+use td_schema::written::{heading_written, kind_columns};
 use td_syntax::script::Opening;
 use td_syntax::tree::{Attributes, Expr, Named};
-use td_trees::tree::{Typed, Typing};
 use td_tuples::Shared;
+use td_typed_trees::tree::{Typed, Typing};
 use td_typing::typing::typing;
 use td_values::{Heading, Name, TypeKind};
 

@@ -3,14 +3,14 @@
 ghost use Rattle.std.specs.Prelude.{◌≡◌, ◌++◌, IfOk, slice_get};
 ghost use Rattle.std.specs.List.{Contains, flat_map};
 ghost use Rattle.td_headings.specs.Reached.{AreThose, IsReached, IsSelected, named_possreps, named_relvars, possreps_under};
-ghost use Rattle.td_links.specs.Links.{ReachedFrom};
+ghost use Rattle.td_graph.specs.Links.{ReachedFrom};
 
 use crate::defined::Origin;
 use std::alloc::{AllocError, Global};
-use td_links::{Leads, reached};
-use td_trees::tree::Typed;
-use td_trees::{add_mentions, possreps_in, relvars_in};
+use td_graph::{Leads, reached};
 use td_tuples::Shared;
+use td_typed_trees::tree::Typed;
+use td_typed_trees::{add_mentions, possreps_in, relvars_in};
 
 // The places of the relvars that the expression names.
 fn relvars_named(alloc: Global, tree: &Typed) -> Result<Vec<usize>, AllocError>

@@ -1,21 +1,21 @@
 //! The sources of assignments, each as one expression over its target.
 
-ghost use Rattle.td_kinds.specs.Results.{Gives};
-ghost use Rattle.td_kinds.specs.Scopes.{relvars_of, visible};
+ghost use Rattle.td_schema.specs.Results.{Gives};
+ghost use Rattle.td_schema.specs.Scopes.{relvars_of, visible};
 ghost use Rattle.td_typing.specs.ForProofs.Infer.{infer};
 ghost use Rattle.td_headings.specs.ForProofs.Sources as spec;
 ghost use Rattle.td_headings.specs.Statements.{source_of};
 
 use sqlite_items::Boxed;
 use std::alloc::Global;
-use td_kinds::error::TypeError;
-use td_kinds::kinds::relation_heading;
-use td_kinds::lists::names;
-use td_kinds::schema::Schema;
-use td_kinds::scope::Scope;
+use td_schema::error::TypeError;
+use td_schema::kinds::relation_heading;
+use td_schema::lists::names;
+use td_schema::schema::Schema;
+use td_schema::scope::Scope;
 use td_syntax::script::Action;
 use td_syntax::tree::{BinaryOperator, Expr, Extension, Named, UnaryOperator};
-use td_trees::tree::{Typed, Typing};
+use td_typed_trees::tree::{Typed, Typing};
 use td_typing::forms::{by_binary, by_unary, named, restricted, typed};
 use td_typing::lists::extended;
 use td_typing::typing::{items, typing};

@@ -1,9 +1,9 @@
 //! Typed statements.
 
 ghost use Rattle.std.specs.Prelude.{◌≡◌, ◌++◌, List, Err, IfOk, MatchOption, None, OnOk, Some, map};
-ghost use Rattle.td_kinds.specs.Kinds as kinds;
-ghost use Rattle.td_kinds.specs.Results.{Gives};
-ghost use Rattle.td_kinds.specs.declared.error.TypeError.TheVariants as type_error;
+ghost use Rattle.td_schema.specs.Kinds as kinds;
+ghost use Rattle.td_schema.specs.Results.{Gives};
+ghost use Rattle.td_schema.specs.declared.error.TypeError.TheVariants as type_error;
 ghost use Rattle.td_values.specs.declared.TypeKind.TheVariants as type_kind;
 ghost use Rattle.td_headings.specs.ForProofs.Sources as sources;
 ghost use Rattle.td_headings.specs.Reached.{AreThose};
@@ -11,7 +11,7 @@ ghost use Rattle.td_headings.specs.Statements as spec;
 ghost use Rattle.td_headings.specs.Statements.{AreAssignments, IsAssignment, IsCondition, TypesNoStatement, TypesStatement, IsTarget};
 ghost use Rattle.td_headings.specs.declared.statement.TypedAssignment as typed;
 ghost use Rattle.td_syntax.specs.declared.script.Statement.TheVariants as statements;
-ghost use Rattle.td_trees.specs.declared.expression.Expression.{Expression};
+ghost use Rattle.td_typed_trees.specs.declared.expression.Expression.{Expression};
 
 use crate::catalogue::Catalogue;
 use crate::defined::Origin;
@@ -21,13 +21,13 @@ use crate::sources::source;
 use crate::typed::{TypedExpr, whole};
 use sqlite_items::Items;
 use std::alloc::{AllocError, Global};
-use td_kinds::error::TypeError;
-use td_kinds::kinds::{relation_heading, same_heading};
-use td_kinds::schema::Schema;
+use td_schema::error::TypeError;
+use td_schema::kinds::{relation_heading, same_heading};
+use td_schema::schema::Schema;
 use td_syntax::script::{Action, Statement};
 use td_syntax::tree::Expr;
-use td_trees::tree::Typing;
 use td_tuples::Shared;
+use td_typed_trees::tree::Typing;
 use td_values::{Heading, Name, TypeKind};
 
 /// An assignment, whose source is one expression over its target: a DELETE is the tuples for which the condition is

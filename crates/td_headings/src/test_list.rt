@@ -4,8 +4,8 @@ ghost use Rattle.std.specs.List.{list_any};
 ghost use Rattle.std.specs.Ordering.{eq_by_cmp};
 ghost use Rattle.std.specs.Prelude.{◌≡◌, ◌++◌, ◌∷◌, [], false, true, Err, None, Some, OnErr, OnOk};
 ghost use Rattle.indexmap.specs.IndexSet.{contains};
-ghost use Rattle.td_kinds.specs.ForProofs.Additions.{relvar_added};
-ghost use Rattle.td_kinds.specs.declared.error.TypeError.TheVariants as type_error;
+ghost use Rattle.td_schema.specs.ForProofs.Additions.{relvar_added};
+ghost use Rattle.td_schema.specs.declared.error.TypeError.TheVariants as type_error;
 ghost use Rattle.td_values.specs.Order.{text_cmp};
 ghost use Rattle.td_headings.specs.Definitions.{is_constraint};
 ghost use Rattle.td_headings.specs.ForProofs.TestNames.{constraint_names};
@@ -15,10 +15,10 @@ use crate::defined::{Origin, Test};
 use indexmap::IndexSet;
 use std::alloc::{AllocError, Global};
 use std::marker::Model;
-use td_kinds::error::TypeError;
-use td_kinds::schema::Schema;
-use td_trees::tree::Typed;
+use td_schema::error::TypeError;
+use td_schema::schema::Schema;
 use td_tuples::Shared;
+use td_typed_trees::tree::Typed;
 use td_values::{Heading, Name};
 
 /// What must be true after each statement, in the order of the script. A constraint is found by a hash of its name.

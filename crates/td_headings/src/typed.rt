@@ -1,8 +1,8 @@
 //! Typed expressions.
 
 ghost use Rattle.std.specs.Prelude.{◌≡◌, Err, IfOk, MatchOption, None, Some, slice_get};
-ghost use Rattle.td_kinds.specs.Scopes.{relvars_of, within_tuple};
-ghost use Rattle.td_kinds.specs.declared.error.TypeError.TheVariants as type_error;
+ghost use Rattle.td_schema.specs.Scopes.{relvars_of, within_tuple};
+ghost use Rattle.td_schema.specs.declared.error.TypeError.TheVariants as type_error;
 ghost use Rattle.td_typing.specs.Types.{IsIllTyped};
 ghost use Rattle.td_headings.specs.Definitions.{names_of_relvars};
 ghost use Rattle.td_headings.specs.Expressions as spec;
@@ -13,13 +13,13 @@ use crate::defined::{Origin, Test};
 use crate::expression::with_all_under;
 use std::alloc::{AllocError, Global};
 use std::marker::Model;
-use td_kinds::error::TypeError;
-use td_kinds::schema::Schema;
-use td_kinds::scope::Scope;
+use td_schema::error::TypeError;
+use td_schema::schema::Schema;
+use td_schema::scope::Scope;
 use td_syntax::tree::Expr;
-use td_trees::expression::{BaseUnder, Expression};
-use td_trees::tree::{Typed, Typing};
 use td_tuples::Shared;
+use td_typed_trees::expression::{BaseUnder, Expression};
+use td_typed_trees::tree::{Typed, Typing};
 use td_typing::typing::type_in;
 use td_values::{Heading, TypeKind};
 
@@ -30,7 +30,7 @@ pub struct TypedExpr {
 }
 
 impl Model for TypedExpr {
-    ghost use Rattle.td_trees.specs.declared.expression.Expression.{Expression};
+    ghost use Rattle.td_typed_trees.specs.declared.expression.Expression.{Expression};
     ghost use Rattle.td_headings.specs.Expressions.{IsTyped};
     ghost use Rattle.td_headings.specs.ForProofs.Codes.{expression_code};
 

@@ -7,8 +7,8 @@ use Rattle.td_values.specs.Data.{no_attrs}
 use Rattle.td_values.specs.Rows.{RowsData}
 use Rattle.td_relations.specs.Deltas.{DeltaData}
 use Rattle.td_typing.proofs.KindLemmas.{some_same}
-use Rattle.td_trees.specs.declared.expression.Expression.{Expression}
-use Rattle.td_trees.specs.declared.tree.Typed.{Typed}
+use Rattle.td_typed_trees.specs.declared.expression.Expression.{Expression}
+use Rattle.td_typed_trees.specs.declared.tree.Typed.{Typed}
 use Rattle.td_algebra.proofs.Lists.{In, any_in, contains_in, in_contains}
 use Rattle.td_algebra.proofs.Told.{key_after}
 use Rattle.td_algebra.specs.Keys.{TellApart, TellApartFrom}

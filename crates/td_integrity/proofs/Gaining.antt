@@ -13,7 +13,7 @@ use Rattle.td_tuples.specs.Parts.{columns_in, cut}
 use Rattle.td_relations.specs.Deltas.{DeltaData}
 use Rattle.td_relations.specs.Sets.{Has, body}
 use Rattle.td_relations.proofs.Predicates.{of_difference}
-use Rattle.td_trees.specs.declared.expression.Expression.{Expression}
+use Rattle.td_typed_trees.specs.declared.expression.Expression.{Expression}
 use Rattle.td_algebra.specs.Functions.{matching_of, not_matching_of, project_of}
 use Rattle.td_algebra.specs.declared.errors.Stop.{Stop}
 use Rattle.td_algebra.proofs.Bridges.{project_is}
@@ -27,17 +27,17 @@ use Rattle.td_headings.specs.Definitions.{Defined}
 use Rattle.td_headings.specs.Expressions.{reads}
 use Rattle.td_headings.specs.Reached.{is_base}
 use Rattle.td_meaning.specs.Mean.{Relvars}
-use Rattle.td_growth.specs.Growth.{AgreeBeside, Gains, IsWatched}
-use Rattle.td_growth.specs.Safety.{IsSafe}
+use Rattle.td_incremental.specs.Growth.{AgreeBeside, Gains, IsWatched}
+use Rattle.td_incremental.specs.Safety.{IsSafe}
 use Rattle.td_eval.proofs.HasValues.{relvars_have_relations}
-use Rattle.td_growth.proofs.KeptParts.{kept_parts_keep_references}
-use Rattle.td_growth.proofs.LostParts.{lost_parts_are_judged}
-use Rattle.td_growth.proofs.Narrowing.{differences_are_gains, growth_keeps_safe, losses_keep_watched, narrowed_is_stored, not_lost, ok_same, watched_by_inserts}
-use Rattle.td_growth.specs.Laws.{has_none}
-use Rattle.td_growth.specs.References.{AreHeaded, GivesUp, KeepsParts, RefersBy}
+use Rattle.td_incremental.proofs.KeptParts.{kept_parts_keep_references}
+use Rattle.td_incremental.proofs.LostParts.{lost_parts_are_judged}
+use Rattle.td_incremental.proofs.Narrowing.{differences_are_gains, growth_keeps_safe, losses_keep_watched, narrowed_is_stored, not_lost, ok_same, watched_by_inserts}
+use Rattle.td_incremental.specs.Laws.{has_none}
+use Rattle.td_incremental.specs.References.{AreHeaded, GivesUp, KeepsParts, RefersBy}
 use Rattle.td_story.specs.Differences.{ChangesBy, LeadOver}
 use Rattle.td_story.specs.Stored.{AreStored}
-use Rattle.td_soundness.specs.Meanings.{GivesRelation}
+use Rattle.td_type_soundness.specs.Meanings.{GivesRelation}
 use Rattle.td_story.specs.Trees.{IsIn, all_relvars}
 use Rattle.td_integrity.specs.ForProofs.Changed.{Changes, ConstraintBefore, is_changed}
 use Rattle.td_integrity.specs.ForProofs.Gaining.{AreWays, IsLost, IsNarrowed, IsWay, truth_over}

@@ -2,9 +2,9 @@
 use Rattle.std.proofs.Common.{◌≡◌, ℕ, Bool, List, Some, Result, ap, sym, subst}
 use Rattle.td_values.specs.Data.{no_attrs}
 use Rattle.td_values.specs.declared.TypeKind.TheVariants as kind
-use Rattle.td_kinds.specs.Kinds.{Name}
-use Rattle.td_trees.specs.declared.expression.Expression.{Expression}
-use Rattle.td_trees.specs.declared.tree.Typed.{Typed}
+use Rattle.td_schema.specs.Kinds.{Name}
+use Rattle.td_typed_trees.specs.declared.expression.Expression.{Expression}
+use Rattle.td_typed_trees.specs.declared.tree.Typed.{Typed}
 use Rattle.td_algebra.specs.Raising.{and_then}
 use Rattle.td_headings.specs.Catalogues.{CatalogueData}
 use Rattle.td_headings.specs.Definitions.{Defined}
@@ -13,7 +13,7 @@ use Rattle.td_headings.specs.declared.defined.Test.TheVariants as test
 use Rattle.td_headings.proofs.WellTyped.{constraint_tree}
 use Rattle.td_meaning.specs.Mean.{Relvars}
 use Rattle.td_operators.specs.Values.{truth_of}
-use Rattle.td_soundness.specs.Meanings.{GivesRelation}
+use Rattle.td_type_soundness.specs.Meanings.{GivesRelation}
 use Rattle.td_story.specs.Raises.{Tells}
 use Rattle.td_story.specs.Trees.{AreBases, IsIn, tree_means}
 use Rattle.td_story.specs.declared.failure.Failure.{Failure}

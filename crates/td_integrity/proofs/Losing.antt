@@ -13,8 +13,8 @@ use Rattle.td_algebra.proofs.Bridges.{matches_to, not_matches_to}
 use Rattle.td_algebra.proofs.Lists.{In}
 use Rattle.td_algebra.proofs.Made.{in_has}
 use Rattle.td_eval.specs.Keyed.{IsByKey}
-use Rattle.td_growth.specs.Laws.{has_none}
-use Rattle.td_growth.proofs.Operators.{matching_members}
+use Rattle.td_incremental.specs.Laws.{has_none}
+use Rattle.td_incremental.proofs.Operators.{matching_members}
 use Rattle.td_meaning.specs.Mean.{Relvars}
 use Rattle.td_integrity.specs.ForProofs.Losing.{IsToldOf}
 use Rattle.td_integrity.specs.declared.losses.Losses.{Losses}

@@ -5,9 +5,9 @@ use Rattle.std.proofs.lemmas.List.{get_or-map, length-map}
 use Rattle.std.proofs.lemmas.Option.{get_or_from_slice_get, slice_get_within, slice_get-get_or}
 use Rattle.td_values.specs.Data.{no_attrs}
 use Rattle.td_values.specs.declared.TypeKind.{TypeKind}
-use Rattle.td_links.specs.Links.{LeadsOn, start, onward}
-use Rattle.td_trees.specs.declared.expression.VirtualUnder.{VirtualUnder}
-use Rattle.td_trees.specs.declared.tree.Typed.{Typed}
+use Rattle.td_graph.specs.Links.{LeadsOn, start, onward}
+use Rattle.td_typed_trees.specs.declared.expression.VirtualUnder.{VirtualUnder}
+use Rattle.td_typed_trees.specs.declared.tree.Typed.{Typed}
 use Rattle.td_headings.specs.Catalogues.{CatalogueData}
 use Rattle.td_headings.specs.Definitions.{Defined}
 use Rattle.td_headings.specs.Expressions.{IsTree, no_tuple, virtual_at, virtual_of}

@@ -279,9 +279,9 @@ pub fn first_failure<L: Lookup>(
 /// every test was true: it makes only the tests that read a relvar which was changed. A key costs a search for each
 /// tuple that was put in where the look-up lends the relvar's tuples by it, and else what `tell_apart_from` of
 /// td_algebra does. A constraint costs its evaluation: over the tuples that were put in alone, where one relvar was
-/// changed and `is_watched` of td_growth says so; over the values that were deleted alone, where `sole_reference` says
-/// that one base relvar refers to another by them; and nothing where these, `is_safe` or `referring` say that none of
-/// it is left to judge.
+/// changed and `is_watched` of td_incremental says so; over the values that were deleted alone, where `sole_reference`
+/// says that one base relvar refers to another by them; and nothing where these, `is_safe` or `referring` say that none
+/// of it is left to judge.
 pub fn first_failure_after<L: Lookup>(
     alloc: Global,
     catalogue: &Catalogue,

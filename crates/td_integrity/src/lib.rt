@@ -5,8 +5,8 @@
 //! td_integrity judges tests over any look-up, so that a script's opening, a database, and a statement before it
 //! changes anything are judged by one loop; where changes of legal relvars are known, it passes over what they cannot
 //! touch. One changed base relvar has a constraint judged over a look-up that lends its new tuples in its place, where
-//! td_growth says that this is exact. A reference to it, however it is written, is not judged where what it lost left
-//! its values to others; one of a single base relvar is else judged over the values that are gone.
+//! td_incremental says that this is exact. A reference to it, however it is written, is not judged where what it lost
+//! left its values to others; one of a single base relvar is else judged over the values that are gone.
 #![tactic(auto)]
 
 mod judging;

@@ -3,7 +3,7 @@
 ghost use Rattle.std.specs.Prelude.{◌≡◌, ◌∷◌, [], true, IfOk, slice_get};
 ghost use Rattle.std.specs.List.{All, list_any};
 ghost use Rattle.td_headings.specs.Reached.{is_base};
-ghost use Rattle.td_growth.specs.Growth.{narrowed};
+ghost use Rattle.td_incremental.specs.Growth.{narrowed};
 ghost use Rattle.td_story.specs.Trees.{IsIn};
 ghost use Rattle.td_integrity.specs.ForProofs.Changed as spec;
 ghost use Rattle.td_integrity.specs.ForProofs.Gaining.{AreWays, IsWay};
@@ -14,8 +14,8 @@ use crate::losses::{Losses, parts_of};
 use std::alloc::{AllocError, Global};
 use td_algebra::{KeyIndex, Stop};
 use td_eval::Lookup;
-use td_growth::{is_base_relvar, is_safe, is_watched, referring, sole_reference};
 use td_headings::{Catalogue, TypedExpr, reads};
+use td_incremental::{is_base_relvar, is_safe, is_watched, referring, sole_reference};
 use td_relations::{Delta, Relation};
 use td_values::{Name, Tuple};
 

@@ -3,8 +3,8 @@ use Rattle.std.proofs.Common.{◌≡◌, ◌≤◌, ℕ, Option, None, true, tru
 use Rattle.std.proofs.lemmas.Bool.{le-leb}
 use Rattle.std.specs.Io.KnownBytes.{Consumes, IsAtEnd}
 use Rattle.std.proofs.KnownBytes.{Consumes-trans}
-use Rattle.td_devices.specs.Counted.{counted}
-use Rattle.td_devices.specs.Views.{Input}
+use Rattle.td_io.specs.Counted.{counted}
+use Rattle.td_io.specs.Views.{Input}
 use Rattle.td_stamps.specs.Checks.{check_of}
 use Rattle.td_stamps.specs.Sets.{union}
 use Rattle.td_stamps.specs.declared.entry.Entry.{Entry}

@@ -1,8 +1,8 @@
 -- Where its journal failed, a keeper leaves a front of the journal of what its site holds then.
 use Rattle.std.proofs.Common.{◌≡◌, ◌≤◌, ◌+◌, ℕ, false, List, [], ◌∷◌, ◌++◌, length, take, None, Option, Some, refl, sym, ap, subst, ◌∙◌, append_assoc, arith, length-append, take_at}
 use Rattle.std.specs.Io.KnownBytes.{Appends}
-use Rattle.td_devices.specs.Streams.{AppendsFront}
-use Rattle.td_devices.specs.Views.{Output}
+use Rattle.td_io.specs.Streams.{AppendsFront}
+use Rattle.td_io.specs.Views.{Output}
 use Rattle.td_stamps.specs.Checks.{fresh_of}
 use Rattle.td_stamps.specs.Sets.{NoClash, union}
 use Rattle.td_stamps.specs.declared.entry.Entry.{Entry}

@@ -4,7 +4,7 @@ use Rattle.std.specs.List.{AllByRecursion}
 use Rattle.std.specs.Io.KnownBytes.{Appends}
 use Rattle.std.proofs.lemmas.Bool.{leb-true, and_parts}
 use Rattle.std.proofs.lemmas.List.Concat.{flat_map-append}
-use Rattle.td_devices.specs.Views.{Output}
+use Rattle.td_io.specs.Views.{Output}
 use Rattle.td_stamps.specs.Checks.{fresh_of}
 use Rattle.td_stamps.specs.Sets.{NoClash, is_set, put, union}
 use Rattle.td_stamps.specs.declared.entry.Entry.{Entry}

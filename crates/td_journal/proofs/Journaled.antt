@@ -1,6 +1,6 @@
 -- What an open keeper's writer holds is its journal after each call, where it was before.
 use Rattle.std.proofs.Common.{◌≡◌, true, true≢false, List, ℕ, Result, Ok, Err, sym, ap, ◌∙◌}
-use Rattle.td_devices.specs.Views.{Output}
+use Rattle.td_io.specs.Views.{Output}
 use Rattle.td_stamps.specs.declared.entry.Entry.{Entry}
 use Rattle.td_story.specs.Calls.{Issues, StaysClosed, Takes}
 use Rattle.td_story.specs.Seen.{Seen, IsSound}

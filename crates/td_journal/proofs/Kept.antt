@@ -3,8 +3,8 @@ use Rattle.std.proofs.Common.{◌≡◌, ◌<◌, ℕ, Bool, true, false, List, 
 use Rattle.std.specs.Prelude.{◌^◌, IsUtf8}
 use Rattle.std.specs.List.{AllByRecursion, list_all}
 use Rattle.std.proofs.KnownBytes.{Appends-nil}
-use Rattle.td_devices.specs.Streams.{AppendsFront}
-use Rattle.td_devices.specs.Views.{Output}
+use Rattle.td_io.specs.Streams.{AppendsFront}
+use Rattle.td_io.specs.Views.{Output}
 use Rattle.td_stamps.specs.Entries.{in_range}
 use Rattle.td_stamps.specs.Checks.{first_clash, fresh_of}
 use Rattle.td_stamps.specs.Sets.{Holding}

@@ -1,7 +1,7 @@
 -- A site that goes on with the journal from which it came back, put together from what its parts tell.
 use Rattle.std.proofs.Common.{◌≡◌, ◌≢◌, ◌<◌, ◌≤◌, inl, inr, ℕ, zero, suc, true, true≢false, List, Option, Result, Ok, Err, MatchResult, refl, sym, subst, ◌∙◌, arith}
-use Rattle.td_devices.specs.Counted.{counted}
-use Rattle.td_devices.specs.Views.{Input, Output}
+use Rattle.td_io.specs.Counted.{counted}
+use Rattle.td_io.specs.Views.{Input, Output}
 use Rattle.td_story.specs.Seen.{Seen}
 use Rattle.td_frames.specs.declared.version.Version.{Version}
 use Rattle.td_frames.specs.declared.version.Version.TheVariants.{Second}

@@ -2,8 +2,8 @@
 -- which it accepted them; all in the second version of the formats.
 use Rattle.std.specs.Prelude.{◌≡◌, ◌≤◌, ℕ, true, List, [], length, take, Some, Result, Ok, Err}
 use Rattle.std.specs.List.{AllByRecursion}
-use Rattle.td_devices.specs.Views.{Input, Output, output_of}
-use Rattle.td_devices.specs.declared.streams.Sink as sink
+use Rattle.td_io.specs.Views.{Input, Output, output_of}
+use Rattle.td_io.specs.declared.streams.Sink as sink
 use Rattle.td_stamps.specs.Sets.{union}
 use Rattle.td_stamps.specs.declared.entry.Entry.{Entry}
 use Rattle.td_frames.specs.Spelling.{HasFrame}

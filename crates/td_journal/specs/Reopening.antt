@@ -2,8 +2,8 @@
 -- that misses. A reader is told of by the bytes that it has left and by the failures that it counted, before and after.
 use Rattle.std.specs.Prelude.{◌≡◌, ℕ, List, [], IsOk, Some, Ok, Err}
 use Rattle.std.specs.Io.KnownBytes.{Consumes, IsAtEnd}
-use Rattle.td_devices.specs.Counted.{counted}
-use Rattle.td_devices.specs.Views.{Input}
+use Rattle.td_io.specs.Counted.{counted}
+use Rattle.td_io.specs.Views.{Input}
 use Rattle.td_stamps.specs.Checks.{check_of}
 use Rattle.td_stamps.specs.Sets.{union}
 use Rattle.td_stamps.specs.declared.entry.Entry.{Entry}

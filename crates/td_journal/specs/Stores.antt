@@ -1,7 +1,7 @@
 -- A new site that comes back from where its journal stands, and goes on with it: or with one of the second version that
 -- was made of it, where it was of the first.
 use Rattle.std.specs.Prelude.{◌≡◌, ◌≢◌, ◌⊎◌, ℕ, zero, suc, List, Option, None, Some, take}
-use Rattle.td_devices.specs.Views.{Input, Output}
+use Rattle.td_io.specs.Views.{Input, Output}
 use Rattle.td_story.specs.Seen.{Seen, IsSound}
 use Rattle.td_frames.specs.declared.version.Version.{Version}
 use Rattle.td_frames.specs.declared.version.Version.TheVariants.{First, Second}
@@ -75,8 +75,8 @@ pub record IsNotBegun (kept : Option (List ℕ)) (s : Seen) : Type 0 where
 abbrev pub IsOfBytes : ReopenError → Type 0
 IsOfBytes error = (error ≢ reopen_error.OutOfMemory) × (error ≢ reopen_error.ReadFault)
 
--- Why a site does not go on with its journal: that could not be opened, read, cut or replaced, its bytes are refused, or
--- what it was to begin was not written; or there was no memory to open it or one beside, or for what was read.
+-- Why a site does not go on with its journal: that could not be opened, read, cut or replaced, its bytes are refused,
+-- or what it was to begin was not written; or there was no memory to open it or one beside, or for what was read.
 abbrev pub KeepsNot : (StoreError → Type 0) → Option (List ℕ) → Seen → StoreError → Type 0
 KeepsNot Fails kept s OutOfMemory = Fails OutOfMemory ⊎ IsRefused kept s reopen_error.OutOfMemory
 KeepsNot Fails kept s JournalFile = Fails JournalFile ⊎ (((error : ReopenError) × IsOfBytes error × IsRefused kept s error) ⊎ IsNotBegun kept s)

@@ -1,8 +1,8 @@
 -- What a keeper is seen as: the site that it keeps, the writer of its journal, and whether this has not failed. A
 -- journal is seen as its writer.
 use Rattle.std.specs.Prelude.{◌≡◌, ◌⊎◌, Bool, ◌&&◌}
-use Rattle.td_devices.specs.Counted.{counted}
-use Rattle.td_devices.specs.declared.streams.Sink as sink
+use Rattle.td_io.specs.Counted.{counted}
+use Rattle.td_io.specs.declared.streams.Sink as sink
 use Rattle.td_story.specs.Seen.{Seen}
 use Rattle.td_story.specs.declared.replica.Replica as replica
 

@@ -1,9 +1,9 @@
 -- What a call wrote to a journal: all of some bytes, of which a failure counts and leaves a front.
 use Rattle.std.specs.Prelude.{◌≡◌, ℕ, true, List}
 use Rattle.std.specs.Io.KnownBytes.{Appends}
-use Rattle.td_devices.specs.Counted.{counted}
-use Rattle.td_devices.specs.Streams.{AppendsFront}
-use Rattle.td_devices.specs.Views.{Output}
+use Rattle.td_io.specs.Counted.{counted}
+use Rattle.td_io.specs.Streams.{AppendsFront}
+use Rattle.td_io.specs.Views.{Output}
 
 -- all of them, and no failure was counted
 abbrev pub WritesAll : Output → Output → List ℕ → Type 0

@@ -4,15 +4,15 @@ ghost use Rattle.std.specs.Prelude.{◌≡◌, ◌≤◌, ◌∷◌, ◌++◌, t
 ghost use Rattle.std.specs.Int.{w16, w32, to_be_bytes};
 ghost use Rattle.std.specs.Io.KnownBytes.{Keeps};
 ghost use Rattle.std.specs.List.{AllByRecursion, list_all};
-ghost use Rattle.td_devices.specs.Counted.{Counts};
-ghost use Rattle.td_devices.specs.Streams.{Writes};
+ghost use Rattle.td_io.specs.Counted.{Counts};
+ghost use Rattle.td_io.specs.Streams.{Writes};
 ghost use Rattle.td_stamps.specs.Entries.{in_range};
 ghost use Rattle.td_frames.specs.Spelling.{HasFrame, entry_frames};
 ghost use Rattle.td_frames.specs.declared.version.Version.TheVariants.{Second};
 ghost use Rattle.td_journal.specs.Spelling.{header, journal};
 
-use td_devices::{Failed, Sink, write_all};
 use td_frames::put_entry;
+use td_io::{Failed, Sink, write_all};
 use td_stamps::Entry;
 
 fn head_bytes(site: u16, length: u32) -> [u8; 11]

@@ -2,7 +2,7 @@
 
 ghost use Rattle.std.specs.Prelude.{◌≡◌, ◌≤◌, true, length, MatchResult, OnOk};
 ghost use Rattle.std.specs.List.{AllByRecursion, list_all};
-ghost use Rattle.td_devices.specs.Views.{output_of};
+ghost use Rattle.td_io.specs.Views.{output_of};
 ghost use Rattle.td_stamps.specs.Entries.{in_range};
 ghost use Rattle.td_frames.specs.Spelling.{HasFrame, entry_frame, entry_frames};
 ghost use Rattle.td_frames.specs.declared.version.Version.TheVariants.{Second};
@@ -12,8 +12,8 @@ ghost use Rattle.td_journal.specs.Written.{HandsOn, WritesAll, WritesPart};
 use crate::error::WriteFault;
 use crate::frames::{put_header, send_entries};
 use std::marker::Model;
-use td_devices::{Failed, Sink};
 use td_frames::put_entry;
+use td_io::{Failed, Sink};
 use td_stamps::Entry;
 
 /// The journal of a site, which contracts see as the writer that it is written to.

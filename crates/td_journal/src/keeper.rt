@@ -2,7 +2,7 @@
 
 ghost use Rattle.std.specs.Prelude.{◌≡◌, ◌<◌, ◌^◌, ◌∷◌, ◌++◌, [], ℕ, List, Err, MatchResult, Some, true};
 ghost use Rattle.std.specs.List.{list_all};
-ghost use Rattle.td_devices.specs.Views.{output_of};
+ghost use Rattle.td_io.specs.Views.{output_of};
 ghost use Rattle.td_stamps.specs.Entries.{in_range};
 ghost use Rattle.td_stamps.specs.declared.entry.Entry.{Entry};
 ghost use Rattle.td_journal.specs.Keepers.{IsJournal, KeepsJournal};
@@ -17,7 +17,7 @@ use crate::journal::Journal;
 use std::alloc::Global;
 use std::marker::Model;
 use td_changes::{ChangedError, Changes};
-use td_devices::{Failed, Sink};
+use td_io::{Failed, Sink};
 use td_relations::{Delta, Relation};
 use td_stamps::{Entry, Held, Stamp};
 use td_story::{

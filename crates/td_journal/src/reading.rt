@@ -12,8 +12,8 @@ ghost use Rattle.td_journal.specs.declared.reading.Unread.TheVariants.{Refused};
 
 use crate::error::JournalError;
 use std::alloc::Global;
-use td_devices::{Source, read_byte};
 use td_frames::{FrameError, MOST_ENTRIES, Version, read_entries};
+use td_io::{Source, read_byte};
 use td_stamps::Entry;
 
 /// Why a journal is not read.

@@ -2,7 +2,7 @@
 
 ghost use Rattle.std.specs.Prelude.{◌≡◌, ◌≤◌, [], MatchResult, length};
 ghost use Rattle.std.specs.Io.KnownBytes.{Keeps};
-ghost use Rattle.td_devices.specs.Views.{input_of};
+ghost use Rattle.td_io.specs.Views.{input_of};
 ghost use Rattle.td_journal.specs.ForProofs.Refilled.{Refills, RefillsNot};
 ghost use Rattle.td_journal.specs.ForProofs.Refilled as proofs;
 ghost use Rattle.td_journal.specs.Reopening.{IsNew, ReopensNot, ReopensSite, Retakes, RetakesNot};
@@ -10,8 +10,8 @@ ghost use Rattle.td_journal.specs.Reopening.{IsNew, ReopensNot, ReopensSite, Ret
 use crate::error::JournalError;
 use crate::reading::{Unread, bytes_of, read_frames, read_header};
 use std::alloc::Global;
-use td_devices::Source;
 use td_frames::Version;
+use td_io::Source;
 use td_story::{Meter, OpenError, Opens, TakeError};
 use thiserror::Error;
 

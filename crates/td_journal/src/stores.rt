@@ -2,8 +2,8 @@
 
 ghost use Rattle.std.specs.Prelude.{◌≡◌, ◌≢◌, ℕ, List, Option, MatchResult, true};
 ghost use Rattle.std.specs.Io.KnownBytes.{Keeps};
-ghost use Rattle.td_devices.specs.Counted.{counted};
-ghost use Rattle.td_devices.specs.Views.{output_of};
+ghost use Rattle.td_io.specs.Counted.{counted};
+ghost use Rattle.td_io.specs.Views.{output_of};
 ghost use Rattle.td_journal.specs.Reopening.{IsNew};
 ghost use Rattle.td_journal.specs.ForProofs.Behind.{BeginsNone, IsBehind};
 ghost use Rattle.td_journal.specs.Stores.{GoesOn, GoesOnNot, IsCutTo, IsGoneOnWith, IsMadeAnew, KeepsNot};
@@ -14,8 +14,8 @@ ghost use Rattle.td_journal.specs.declared.stores.StoreError.TheVariants as stor
 use crate::keeper::{Keeper, put_journal};
 use crate::reopening::{ReopenError, Reopened, take_journal};
 use std::alloc::Global;
-use td_devices::{Failed, Sink, Source};
 use td_frames::Version;
+use td_io::{Failed, Sink, Source};
 use td_story::{Meter, Opens};
 use thiserror::Error;
 

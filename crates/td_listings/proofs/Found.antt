@@ -5,7 +5,7 @@ use Rattle.td_values.specs.Headings.{Header}
 use Rattle.std.proofs.lemmas.Map.Lookups.{exact_bytes}
 use Rattle.std.proofs.lemmas.Map.Views.{tells_apart}
 use Rattle.td_syntax.specs.declared.tree.Named.{Named}
-use Rattle.td_kinds.specs.Schemas.{SchemaData, first_from, is_named, relvar_named, same_text}
+use Rattle.td_schema.specs.Schemas.{SchemaData, first_from, is_named, relvar_named, same_text}
 use Rattle.td_headings.specs.Catalogues.{CatalogueData}
 use Rattle.td_listings.specs.Calls.{HasNoAttributes, HasTable}
 use Rattle.td_listings.specs.ForProofs.Asked.{StandsAt}

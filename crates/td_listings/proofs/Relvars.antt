@@ -3,8 +3,8 @@ use Rattle.std.proofs.Common.{◌≡◌, ◌<◌, ℕ, zero, suc, ◌+◌, Bool,
 use Rattle.td_values.specs.Headings.{Header}
 use Rattle.td_values.specs.TextOrder.{text_equivalence}
 use Rattle.td_syntax.specs.declared.tree.Named.{Named}
-use Rattle.td_kinds.specs.Kinds.{Name}
-use Rattle.td_kinds.specs.Schemas.{first_with_place, first_from, is_named, relvar_named, same_text}
+use Rattle.td_schema.specs.Kinds.{Name}
+use Rattle.td_schema.specs.Schemas.{first_with_place, first_from, is_named, relvar_named, same_text}
 use Rattle.td_headings.specs.Catalogues.{CatalogueData}
 use Rattle.td_headings.specs.Definitions.{Defined, Defines, nothing_yet, next_definition, type_, base, virtual, constraint}
 use Rattle.td_syntax.specs.declared.script.Definition.{Definition}

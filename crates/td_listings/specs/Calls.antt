@@ -4,7 +4,7 @@ use Rattle.std.specs.Prelude.{◌≡◌, ◌≢◌, ℕ, true, false, List, None
 use Rattle.std.specs.FinMap as by_name
 use Rattle.td_values.specs.Headings.{Header}
 use Rattle.td_syntax.specs.declared.tree.Named.{Named}
-use Rattle.td_kinds.specs.Schemas.{relvar_named}
+use Rattle.td_schema.specs.Schemas.{relvar_named}
 use Rattle.td_headings.specs.Catalogues.{CatalogueData}
 use Rattle.td_story.specs.Seen.{Seen}
 use Rattle.td_listings.specs.Sites.{IsListing, IsLog, IsRaised, IsTable}

@@ -2,9 +2,9 @@
 -- a front of it was written, and a failure is counted.
 use Rattle.std.specs.Prelude.{◌≡◌, ℕ, true, false, List, Result, Ok, Err}
 use Rattle.std.specs.Io.KnownBytes.{Appends}
-use Rattle.td_devices.specs.Counted.{counted}
-use Rattle.td_devices.specs.Streams.{AppendsFront}
-use Rattle.td_devices.specs.Views.{Output}
+use Rattle.td_io.specs.Counted.{counted}
+use Rattle.td_io.specs.Streams.{AppendsFront}
+use Rattle.td_io.specs.Views.{Output}
 use Rattle.td_headings.specs.Catalogues.{CatalogueData}
 use Rattle.td_story.specs.Scripts.{IsScriptOf}
 use Rattle.td_story.specs.Seen.{Seen}

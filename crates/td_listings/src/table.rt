@@ -1,7 +1,7 @@
 //! The table of a relvar.
 
 ghost use Rattle.std.specs.Prelude.{◌≡◌, None, Ok, Err, MatchOption, MatchResult};
-ghost use Rattle.td_kinds.specs.Schemas.{relvar_named, same_text};
+ghost use Rattle.td_schema.specs.Schemas.{relvar_named, same_text};
 ghost use Rattle.td_story.specs.Scripts.{IsScriptOf};
 ghost use Rattle.td_listings.specs.Calls.{Tabulates};
 ghost use Rattle.td_listings.specs.ForProofs.Written.{IsFound, Renders};

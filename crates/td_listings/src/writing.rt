@@ -2,7 +2,7 @@
 
 ghost use Rattle.std.specs.Prelude.{◌≡◌, Ok, Err, IfOk, MatchResult, string_bytes};
 ghost use Rattle.std.specs.Io.KnownBytes.{Keeps};
-ghost use Rattle.td_devices.specs.Views.{output_of};
+ghost use Rattle.td_io.specs.Views.{output_of};
 ghost use Rattle.td_story.specs.Scripts.{IsScriptOf};
 ghost use Rattle.td_story.specs.Seen.{IsSound};
 ghost use Rattle.td_listings.specs.Calls.{Lists};
@@ -13,8 +13,8 @@ use crate::error::{ExportError, ListError, ListingError, TableError};
 use crate::listings::listing_text;
 use crate::table::table_text;
 use std::alloc::{AllocError, Global};
-use td_devices::{Sink, put};
 use td_headings::Catalogue;
+use td_io::{Sink, put};
 use td_story::laws::script_opens_one;
 use td_story::{CatalogueError, Replica, catalogue_of};
 

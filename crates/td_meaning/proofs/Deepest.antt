@@ -3,8 +3,8 @@ use Rattle.std.proofs.Common.{◌≡◌, ◌⊎◌, ⊎_elim, sym, ◌≤◌, �
 use Rattle.td_values.specs.Headings.{Header}
 use Rattle.td_tuples.specs.declared.items.Summary.{Summary}
 use Rattle.td_tuples.specs.declared.items.Summary.TheVariants as summary
-use Rattle.td_trees.specs.declared.tree.Typed.{Typed}
-use Rattle.td_trees.specs.declared.tree.Typed.TheVariants as t
+use Rattle.td_typed_trees.specs.declared.tree.Typed.{Typed}
+use Rattle.td_typed_trees.specs.declared.tree.Typed.TheVariants as t
 use Rattle.td_meaning.specs.ForProofs.Levels.{levels, list_levels, summary_levels}
 use Rattle.td_meaning.specs.ForProofs.Right.{deepest_in}
 use Rattle.td_meaning.proofs.Depths.{of_relation, of_select}

@@ -9,13 +9,13 @@ use Rattle.td_syntax.specs.declared.tree.UnaryOperator.{UnaryOperator}
 use Rattle.td_tuples.specs.declared.items.Item.{Item}
 use Rattle.td_tuples.specs.declared.items.Summary.{Summary}
 use Rattle.td_tuples.specs.declared.items.Summary.TheVariants as summary
-use Rattle.td_trees.specs.declared.tree.TypedGroups.{TypedGroups}
-use Rattle.td_trees.specs.declared.tree.TypedGroups.TheVariants as groups
-use Rattle.td_trees.specs.declared.tree.Typed.{Typed, the_lemmas}
-use Rattle.td_trees.specs.declared.tree.Typed.TheVariants as t
-use Rattle.td_trees.specs.declared.tree.Typed.TheOpen.{Typed-F}
-use Rattle.td_trees.specs.declared.tree.Typed.TheFolds.{fold-roll-Typed}
-use Rattle.td_trees.specs.declared.tree.Typed.TheShapes.{former-Typed-Summarize-2-at-13}
+use Rattle.td_typed_trees.specs.declared.tree.TypedGroups.{TypedGroups}
+use Rattle.td_typed_trees.specs.declared.tree.TypedGroups.TheVariants as groups
+use Rattle.td_typed_trees.specs.declared.tree.Typed.{Typed, the_lemmas}
+use Rattle.td_typed_trees.specs.declared.tree.Typed.TheVariants as t
+use Rattle.td_typed_trees.specs.declared.tree.Typed.TheOpen.{Typed-F}
+use Rattle.td_typed_trees.specs.declared.tree.Typed.TheFolds.{fold-roll-Typed}
+use Rattle.td_typed_trees.specs.declared.tree.Typed.TheShapes.{former-Typed-Summarize-2-at-13}
 use Rattle.td_meaning.specs.ForProofs.Levels.{deepest, deepest_item, deepest_named, deepest_summary, of_summary, levels, levels_step, list_levels, item_levels, named_levels, summary_levels, summaries_levels, groups_levels}
 
 list_of : (all : List Typed) → deepest (map levels all) ≡ list_levels all

@@ -10,13 +10,13 @@ use Rattle.td_syntax.specs.declared.tree.Named.{Named}
 use Rattle.td_tuples.specs.declared.items.Item.{Item}
 use Rattle.td_tuples.specs.declared.items.Summary.{Summary}
 use Rattle.td_tuples.specs.declared.items.Summary.TheVariants as summary
-use Rattle.td_trees.specs.declared.tree.TypedGroups.{TypedGroups}
-use Rattle.td_trees.specs.declared.tree.TypedGroups.TheVariants as groups
-use Rattle.td_trees.specs.declared.tree.Typed.{Typed, map-Typed}
-use Rattle.td_trees.specs.declared.tree.Typed.TheOpen.{Typed-F}
-use Rattle.td_trees.specs.declared.tree.Typed.TheViews.{roll-Typed}
-use Rattle.td_trees.specs.declared.tree.Typed.TheFolds.{fold-roll-Typed, ind-Typed}
-use Rattle.td_trees.specs.declared.tree.Typed.TheShapes.{former-Typed-Summarize-2-at-13}
+use Rattle.td_typed_trees.specs.declared.tree.TypedGroups.{TypedGroups}
+use Rattle.td_typed_trees.specs.declared.tree.TypedGroups.TheVariants as groups
+use Rattle.td_typed_trees.specs.declared.tree.Typed.{Typed, map-Typed}
+use Rattle.td_typed_trees.specs.declared.tree.Typed.TheOpen.{Typed-F}
+use Rattle.td_typed_trees.specs.declared.tree.Typed.TheViews.{roll-Typed}
+use Rattle.td_typed_trees.specs.declared.tree.Typed.TheFolds.{fold-roll-Typed, ind-Typed}
+use Rattle.td_typed_trees.specs.declared.tree.Typed.TheShapes.{former-Typed-Summarize-2-at-13}
 use Rattle.td_algebra.specs.declared.errors.Stop.{Stop}
 use Rattle.td_values.specs.declared.raises.Raise.TheVariants.{Overflow, Divide, Empty, Selector, Cardinality}
 use Rattle.td_algebra.specs.declared.errors.Stop.TheVariants.{Untyped, Error}

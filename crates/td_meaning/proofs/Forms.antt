@@ -15,13 +15,13 @@ use Rattle.td_tuples.specs.Items.{column_of}
 use Rattle.td_tuples.specs.declared.items.Item.{Item}
 use Rattle.td_tuples.specs.declared.items.Summary.{Summary}
 use Rattle.td_tuples.specs.declared.items.Summary.TheVariants as summary
-use Rattle.td_trees.specs.declared.tree.TypedGroups.{TypedGroups}
-use Rattle.td_trees.specs.declared.tree.TypedGroups.TheVariants as groups
-use Rattle.td_trees.specs.declared.tree.Typed.{Typed}
-use Rattle.td_trees.specs.declared.tree.Typed.TheVariants as t
-use Rattle.td_trees.specs.declared.tree.Typed.TheOpen.{Typed-F}
-use Rattle.td_trees.specs.declared.tree.Typed.TheFolds.{fold-roll-Typed}
-use Rattle.td_trees.specs.declared.tree.Typed.TheShapes.{former-Typed-Summarize-2-at-13}
+use Rattle.td_typed_trees.specs.declared.tree.TypedGroups.{TypedGroups}
+use Rattle.td_typed_trees.specs.declared.tree.TypedGroups.TheVariants as groups
+use Rattle.td_typed_trees.specs.declared.tree.Typed.{Typed}
+use Rattle.td_typed_trees.specs.declared.tree.Typed.TheVariants as t
+use Rattle.td_typed_trees.specs.declared.tree.Typed.TheOpen.{Typed-F}
+use Rattle.td_typed_trees.specs.declared.tree.Typed.TheFolds.{fold-roll-Typed}
+use Rattle.td_typed_trees.specs.declared.tree.Typed.TheShapes.{former-Typed-Summarize-2-at-13}
 use Rattle.td_algebra.specs.declared.errors.Stop.{Stop}
 use Rattle.td_algebra.specs.Extending.{field_at, extended_at}
 use Rattle.td_algebra.specs.Functions.{relation_from, extended, summarized}

@@ -16,8 +16,8 @@ use Rattle.td_tuples.proofs.ByName.{attributes_read, fits_here, fits_typed}
 use Rattle.td_tuples.proofs.Lists.{on_values}
 use Rattle.td_syntax.specs.declared.tree.BinaryOperator.{BinaryOperator}
 use Rattle.td_syntax.specs.declared.tree.BinaryOperator.TheVariants as binary
-use Rattle.td_trees.specs.declared.tree.Typed.{Typed}
-use Rattle.td_trees.specs.declared.tree.Typed.TheVariants as t
+use Rattle.td_typed_trees.specs.declared.tree.Typed.{Typed}
+use Rattle.td_typed_trees.specs.declared.tree.Typed.TheVariants as t
 use Rattle.td_algebra.specs.declared.errors.Stop.{Stop}
 use Rattle.td_algebra.specs.KeyIndexes.{place_in}
 use Rattle.td_algebra.specs.Raising.{and_then}

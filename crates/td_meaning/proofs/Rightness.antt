@@ -6,7 +6,7 @@ use Rattle.std.proofs.lemmas.List.Elements.{Contains-append_cases, Contains-appe
 use Rattle.td_meaning.specs.declared.environment.Environment.{Environment}
 use Rattle.td_meaning.specs.declared.parts.Part.{Part}
 use Rattle.td_values.specs.Data.{Datum}
-use Rattle.td_trees.specs.declared.tree.Typed.{Typed}
+use Rattle.td_typed_trees.specs.declared.tree.Typed.{Typed}
 use Rattle.td_algebra.specs.declared.errors.Fault.{Fault}
 use Rattle.td_algebra.specs.declared.errors.Fault.TheVariants.{Raised}
 use Rattle.td_algebra.specs.declared.errors.Stop.{Stop}

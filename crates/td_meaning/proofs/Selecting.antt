@@ -2,7 +2,7 @@
 use Rattle.std.proofs.Common.{◌≡◌, ◌≤◌, ◌+◌, ◌*◌, ◌++◌, ℕ, List, [], ◌∷◌, length, if◌then◌else◌, refl, ap, ◌∙◌, arith, eq-eqb, ne_eqb}
 use Rattle.std.proofs.lemmas.List.Sums.{fold_push}
 use Rattle.td_values.specs.Data.{Datum}
-use Rattle.td_trees.specs.declared.expression.Selector.{Selector}
+use Rattle.td_typed_trees.specs.declared.expression.Selector.{Selector}
 use Rattle.td_meaning.specs.ForProofs.Found.{IsNowhere, IsFound, IsRest}
 use Rattle.td_meaning.specs.ForProofs.Levels.{limit_levels, weight}
 use Rattle.td_meaning.specs.Selections.{selected, selection, one_more, none_selected}

@@ -1,6 +1,6 @@
 -- The laws of meaning.
 use Rattle.std.specs.Prelude.{◌≡◌, ◌⊎◌, ℕ, List, None, Result, Err}
-use Rattle.td_trees.specs.declared.tree.Typed.{Typed}
+use Rattle.td_typed_trees.specs.declared.tree.Typed.{Typed}
 use Rattle.td_algebra.specs.declared.errors.Stop.{Stop}
 use Rattle.td_algebra.specs.declared.errors.Stop.TheVariants.{Untyped}
 use Rattle.td_meaning.specs.Mean.{Names, Relvars, Selection, mean}

@@ -3,8 +3,8 @@ use Rattle.std.specs.Prelude.{◌==◌, Bool, true, false, if◌then◌else◌, 
 use Rattle.std.specs.List.{fold}
 use Rattle.td_values.specs.Data.{Datum}
 use Rattle.td_syntax.specs.declared.tree.Named.{Named}
-use Rattle.td_trees.specs.declared.expression.VirtualUnder.{VirtualUnder}
-use Rattle.td_trees.specs.declared.tree.Typed.{Typed}
+use Rattle.td_typed_trees.specs.declared.expression.VirtualUnder.{VirtualUnder}
+use Rattle.td_typed_trees.specs.declared.tree.Typed.{Typed}
 use Rattle.td_algebra.specs.declared.errors.Stop.TheVariants.{Untyped}
 use Rattle.td_algebra.specs.Nested.{relation_value}
 use Rattle.td_meaning.specs.declared.environment.Environment.{Environment}

@@ -2,8 +2,8 @@
 use Rattle.std.specs.Prelude.{ℕ, true, ◌==◌, if◌then◌else◌, List, [], ◌∷◌, Option, None, Some, Bool, Result, Ok, Err}
 use Rattle.std.specs.List.{fold}
 use Rattle.td_values.specs.Data.{Datum, user, items_of}
-use Rattle.td_trees.specs.declared.expression.Selector.{Selector}
-use Rattle.td_trees.specs.declared.tree.Typed.{Typed}
+use Rattle.td_typed_trees.specs.declared.expression.Selector.{Selector}
+use Rattle.td_typed_trees.specs.declared.tree.Typed.{Typed}
 use Rattle.td_algebra.specs.declared.errors.Stop.{Stop}
 use Rattle.td_values.specs.declared.raises.Raise.TheVariants as raise
 use Rattle.td_algebra.specs.declared.errors.Stop.TheVariants as stop

@@ -11,8 +11,8 @@ use sqlite_items::Boxed;
 use std::alloc::{AllocError, Global};
 use std::convert::Infallible;
 use td_syntax::tree::Named;
-use td_trees::tree::{Typed, TypedGroups};
 use td_tuples::{Item, Summary};
+use td_typed_trees::tree::{Typed, TypedGroups};
 use td_values::{Heading, Name};
 
 /// Names that are bound within a term, the innermost first; each scope has its place, counted from the outside.

@@ -23,8 +23,8 @@ use std::alloc::{AllocError, Global};
 use td_algebra::{Fault, Stop, place_in};
 use td_operators::{holds, integer_value, text_value, truth_value};
 use td_syntax::tree::BinaryOperator;
-use td_trees::tree::Typed;
 use td_tuples::Summary;
+use td_typed_trees::tree::Typed;
 use td_values::{Heading, Name, Tuple, Value, copy};
 
 /// What is compared: an attribute of the tuple, by its place, or a value that is one at all tuples.

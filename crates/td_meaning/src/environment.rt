@@ -8,7 +8,7 @@ ghost use Rattle.td_meaning.specs.Seen.{relvars_at, relvars_there};
 
 use td_algebra::{Fault, Stop};
 use td_operators::Lease;
-use td_trees::expression::{Selector, VirtualUnder};
+use td_typed_trees::expression::{Selector, VirtualUnder};
 
 /// What a relvar has, by its place in order of definition: a relation, which may be lent, or what its expression
 /// raises.

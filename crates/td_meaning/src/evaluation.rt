@@ -18,8 +18,8 @@ use std::alloc::Global;
 use td_algebra::Fault;
 use td_operators::{Lease, integer_value, text_value, truth_value};
 use td_relations::Relation;
-use td_trees::tree::Typed;
 use td_tuples::Item;
+use td_typed_trees::tree::Typed;
 use td_values::Value;
 
 impl<W: Wanted> Evaluator<'_, W> {

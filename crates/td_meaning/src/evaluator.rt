@@ -13,7 +13,7 @@ use crate::wanting::Wanted;
 use std::alloc::Global;
 use std::marker::PhantomData;
 use td_algebra::Stop;
-use td_trees::tree::Typed;
+use td_typed_trees::tree::Typed;
 
 /// Evaluates expressions over relvars and selectors, beside parts of expressions whose values over them are known, in
 /// the order of these. What it may say to be wanting is a `W`.

@@ -14,8 +14,8 @@ use sqlite_items::Boxed;
 use std::alloc::AllocError;
 use td_algebra::Fault;
 use td_operators::{relation_over, tuple_value};
-use td_trees::tree::Typed;
 use td_tuples::{Item, tuple_of};
+use td_typed_trees::tree::Typed;
 use td_values::{Heading, Name, Value};
 
 fn add_value(found: &mut Vec<Value>, value: Value) -> Result<(), AllocError>

@@ -13,7 +13,7 @@ use sqlite_items::{Boxed, Items};
 use std::alloc::AllocError;
 use td_algebra::Fault;
 use td_syntax::tree::Named;
-use td_trees::tree::Typed;
+use td_typed_trees::tree::Typed;
 use td_values::{Name, Value};
 
 fn add_held(found: &mut Items<Named<Held>>, name: &Name, value: Value) -> Result<(), AllocError>

@@ -15,7 +15,7 @@ use crate::wanting::Wanted;
 use std::alloc::AllocError;
 use std::marker::PhantomData;
 use td_algebra::{Fault, Stop};
-use td_trees::tree::Typed;
+use td_typed_trees::tree::Typed;
 
 impl<W: Wanted> Evaluator<'_, W> {
     /// What the expression means wherever it stands, if it names nothing that is around it.

@@ -7,7 +7,7 @@ ghost use Rattle.td_algebra.specs.Raising.{Answers, AnswersBy, and_then};
 ghost use Rattle.td_algebra.specs.declared.errors.Stop.{Stop};
 ghost use Rattle.td_operators.specs.ForProofs.Lent.{operand_value};
 ghost use Rattle.td_operators.specs.Operators.{as_value};
-ghost use Rattle.td_trees.specs.declared.tree.Typed.TheVariants as t;
+ghost use Rattle.td_typed_trees.specs.declared.tree.Typed.TheVariants as t;
 ghost use Rattle.td_meaning.specs.ForProofs.Places.{is_known};
 ghost use Rattle.td_meaning.specs.Mean as spec;
 ghost use Rattle.td_meaning.specs.Mean.{Names};
@@ -21,7 +21,7 @@ use crate::wanting::Wanted;
 use std::alloc::Global;
 use td_algebra::{Fault, Stop};
 use td_operators::{Lease, Operand, relation_value, rows_of, truth_of};
-use td_trees::tree::Typed;
+use td_typed_trees::tree::Typed;
 use td_values::{Name, Value};
 
 fn copied<W>(alloc: Global, known: Result<&Lease<'_>, Fault<W>>) -> Result<Value, Fault<W>>

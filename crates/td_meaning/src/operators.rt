@@ -18,7 +18,7 @@ use td_operators::{
     truth_value, unnested, with_new_names,
 };
 use td_syntax::tree::{BinaryOperator, Nesting, UnaryOperator};
-use td_trees::tree::Typed;
+use td_typed_trees::tree::Typed;
 use td_values::{Name, Value};
 
 /// The part at some names of what another expression means, which need not be made.

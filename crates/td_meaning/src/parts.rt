@@ -13,9 +13,9 @@ use crate::scope::{Held, lent, operand_meant, value_meant};
 use std::alloc::{AllocError, Global};
 use td_algebra::{Fault, Stop};
 use td_operators::Operand;
-use td_trees::compare;
-use td_trees::tree::Typed;
 use td_tuples::Shared;
+use td_typed_trees::compare;
+use td_typed_trees::tree::Typed;
 use td_values::{Heading, Value};
 
 /// An expression that names nothing around it, and its value or the error that it raises.

@@ -5,7 +5,7 @@ ghost use Rattle.td_algebra.specs.Raising.{Answers};
 ghost use Rattle.td_meaning.specs.ForProofs.Checks.{AreChecks, all_hold, check_holds};
 ghost use Rattle.td_meaning.specs.Mean as spec;
 ghost use Rattle.td_meaning.specs.Mean.{truth_at};
-ghost use Rattle.td_trees.specs.declared.tree.Typed.{Typed};
+ghost use Rattle.td_typed_trees.specs.declared.tree.Typed.{Typed};
 ghost use Rattle.td_meaning.specs.Seen.{mean_in, visible};
 
 use crate::closed::Terms;
@@ -18,7 +18,7 @@ use std::marker::PhantomData;
 use td_algebra::{Fault, restrict};
 use td_operators::{Lease, relation_value};
 use td_relations::Relation;
-use td_trees::tree::Typed;
+use td_typed_trees::tree::Typed;
 use td_values::{Tuple, Value};
 
 impl<W: Wanted> Evaluator<'_, W> {

@@ -16,9 +16,9 @@ use crate::wanting::Wanted;
 use sqlite_items::Boxed;
 use std::alloc::{AllocError, Global};
 use td_algebra::{Fault, Stop};
-use td_trees::expression::Selector;
-use td_trees::tree::Typed;
 use td_tuples::Shared;
+use td_typed_trees::expression::Selector;
+use td_typed_trees::tree::Typed;
 use td_values::{Items, Kind, Raise, Value};
 
 // The last selector at the place, and those before it. It looks at them one by one, from the end.

@@ -21,8 +21,8 @@ use std::marker::PhantomData;
 use td_algebra::{Fault, aggregate, summarize, summarize_by};
 use td_operators::{relation_value, table_dee};
 use td_relations::Relation;
-use td_trees::tree::{Typed, TypedGroups};
 use td_tuples::{Item, Summary};
+use td_typed_trees::tree::{Typed, TypedGroups};
 use td_values::{Name, Tuple, Value};
 
 impl<W: Wanted> Evaluator<'_, W> {

@@ -5,7 +5,7 @@ ghost use Rattle.td_algebra.specs.Raising.{Answers};
 ghost use Rattle.td_meaning.specs.ForProofs.Places.{is_known};
 ghost use Rattle.td_meaning.specs.Mean.{Names, mean_relvar};
 ghost use Rattle.td_meaning.specs.Seen.{none_virtual, relvars_there};
-ghost use Rattle.td_trees.specs.declared.expression.VirtualUnder.{VirtualUnder};
+ghost use Rattle.td_typed_trees.specs.declared.expression.VirtualUnder.{VirtualUnder};
 
 use crate::environment::{Environment, is_virtual};
 use std::convert::Infallible;

@@ -1,7 +1,7 @@
 -- Bytes that are there whole are read whole: no field of theirs misses.
 use Rattle.std.proofs.Common.{◌≡◌, ◌≢◌, ℕ, inl, inr, List, [], ◌++◌, Some, Result, Ok, Err, sym, ap, subst, ◌∙◌, append-nil}
 use Rattle.std.specs.Result.{IfErr, IfOk}
-use Rattle.td_devices.specs.Counted.{counted}
+use Rattle.td_io.specs.Counted.{counted}
 use Rattle.td_stamps.specs.declared.entry.Entry.{Entry}
 use Rattle.td_frames.specs.Reading.{Miss, short, magic, version, bad, entries_at, greeting_at, most_entries}
 use Rattle.td_frames.specs.declared.error.FrameError.{FrameError}

@@ -5,7 +5,7 @@ use Rattle.std.specs.List.{AllByRecursion}
 use mathlib.Core.Bool.{false≢true}
 use Rattle.std.specs.Str.{IsUtf8, bytes_eq}
 use Rattle.std.proofs.lemmas.Slice.Eq.{bytes_eq-Decides}
-use Rattle.td_devices.specs.Streams.{Writes}
+use Rattle.td_io.specs.Streams.{Writes}
 use Rattle.td_stamps.specs.Vectors.{sites_fit}
 use Rattle.td_frames.specs.Spelling.{HasGreeting, IsPlace, greeting_frame}
 use Rattle.td_story.specs.Seen.{Seen, IsSound}

@@ -2,7 +2,7 @@
 use Rattle.std.proofs.Common.{◌≡◌, ◌⊎◌, inl, inr, ℕ, true, List, [], Option, Result, Ok, Err, refl, sym, subst}
 use Rattle.std.specs.FinMap as by_site
 use Rattle.std.specs.Io.KnownBytes.{Consumes, IsAtEnd}
-use Rattle.td_devices.specs.Counted.{counted}
+use Rattle.td_io.specs.Counted.{counted}
 use Rattle.std.specs.Result.{IfErr, IfOk}
 use Rattle.td_stamps.specs.Vectors.{VersionVector, IsVector, sites_fit}
 use Rattle.td_stamps.specs.declared.entry.Entry.{Entry}

@@ -3,8 +3,8 @@ use Rattle.std.proofs.Common.{◌≡◌, ℕ, Bool, true, List, [], ◌++◌, in
 use Rattle.std.specs.Io.KnownBytes.{Keeps, Appends}
 use Rattle.std.specs.Result.{OnOk}
 use Rattle.std.proofs.KnownBytes.{Appends-kept, Consumes-kept, Keeps-trans}
-use Rattle.td_devices.specs.Counted.{counted}
-use Rattle.td_devices.specs.Streams.{AppendsFront, Writes}
+use Rattle.td_io.specs.Counted.{counted}
+use Rattle.td_io.specs.Streams.{AppendsFront, Writes}
 use Rattle.td_stamps.specs.declared.entry.Entry.{Entry}
 use Rattle.td_frames.specs.declared.greeting.Greeting.{Greeting}
 use Rattle.td_story.specs.Calls.{TakesBatch}

@@ -2,7 +2,7 @@
 -- failures that it counted, before and after.
 use Rattle.std.specs.Prelude.{◌≡◌, ◌≢◌, ◌⊎◌, ℕ, List, [], ◌++◌, Option, Result, Ok, Err}
 use Rattle.std.specs.Io.KnownBytes.{Consumes, IsAtEnd}
-use Rattle.td_devices.specs.Counted.{counted}
+use Rattle.td_io.specs.Counted.{counted}
 use Rattle.td_stamps.specs.declared.entry.Entry.{Entry}
 use Rattle.td_frames.specs.Reading.{Miss, short, ToldErr, ToldEntries, entries_at, greeting_at, most_entries}
 use Rattle.td_frames.specs.declared.error.FrameError.{FrameError}

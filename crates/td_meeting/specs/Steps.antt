@@ -5,10 +5,10 @@
 use Rattle.std.specs.Prelude.{◌≡◌, ◌⊎◌, ℕ, Bool, true, false, List, ◌++◌, Option, Result, Ok, Err}
 use Rattle.std.specs.List.{AllByRecursion}
 use Rattle.std.specs.Io.KnownBytes.{Keeps, Appends}
-use Rattle.td_devices.specs.Counted.{counted}
-use Rattle.td_devices.specs.declared.streams.Source as source
-use Rattle.td_devices.specs.declared.streams.Sink as sink
-use Rattle.td_devices.specs.Streams.{AppendsFront}
+use Rattle.td_io.specs.Counted.{counted}
+use Rattle.td_io.specs.declared.streams.Source as source
+use Rattle.td_io.specs.declared.streams.Sink as sink
+use Rattle.td_io.specs.Streams.{AppendsFront}
 use Rattle.td_stamps.specs.Vectors.{VersionVector, after_vector}
 use Rattle.td_stamps.specs.declared.entry.Entry.{Entry}
 use Rattle.td_frames.specs.Spelling.{HasFrame}

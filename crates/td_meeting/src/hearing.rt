@@ -7,8 +7,8 @@ ghost use Rattle.td_meeting.specs.Reading.{Hears, Unheard};
 
 use crate::error::MeetingError;
 use std::alloc::Global;
-use td_devices::Source;
 use td_frames::{FrameError, Greeting, read_greeting};
+use td_io::Source;
 use td_story::Replica;
 
 // Why a greeting cannot be read, or that memory is wanting.

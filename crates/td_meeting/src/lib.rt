@@ -23,5 +23,5 @@ mod taking;
 pub use error::MeetingError;
 pub use meeting::{MeetingRefusal, Met, judge, meet};
 pub use steps::{answer, finish, greet, settle};
-pub use td_devices::Pair;
+pub use td_io::Pair;
 pub use td_journal::{Journal, Keeper, Reopened, reopen};

@@ -16,8 +16,8 @@ use crate::sending::{reply, send};
 use crate::steps::greet;
 use crate::taking::receive;
 use std::alloc::Global;
-use td_devices::Failed;
 use td_frames::Greeting;
+use td_io::Failed;
 use td_story::{Meter, Replica, Taken};
 use thiserror::Error;
 

@@ -3,7 +3,7 @@
 ghost use Rattle.std.specs.Prelude.{◌≡◌, true, Some, None, []};
 
 use std::alloc::Global;
-use td_devices::{Failed, Sink, Source};
+use td_io::{Failed, Sink, Source};
 
 /// Bytes that are read: none is wanting, and no read fails.
 #[derive(Drop)]

@@ -4,8 +4,8 @@ ghost use Rattle.std.specs.Prelude.{◌≡◌, ◌≤◌, ℕ, List, [], ◌∷�
 ghost use Rattle.std.specs.List.{AllByRecursion, list_all};
 ghost use Rattle.td_stamps.specs.Entries.{in_range};
 ghost use Rattle.std.specs.Io.KnownBytes.{Keeps};
-ghost use Rattle.td_devices.specs.Counted.{Counts};
-ghost use Rattle.td_devices.specs.Streams.{Writes};
+ghost use Rattle.td_io.specs.Counted.{Counts};
+ghost use Rattle.td_io.specs.Streams.{Writes};
 ghost use Rattle.td_stamps.specs.Vectors.{after_vector};
 ghost use Rattle.td_frames.specs.Spelling.{HasFrame, entry_frames, stream};
 ghost use Rattle.td_frames.specs.declared.version.Version.TheVariants.{Second};
@@ -15,8 +15,8 @@ ghost use Rattle.td_meeting.specs.Writing.{Greets, sends};
 
 use crate::error::MeetingError;
 use std::alloc::{AllocError, Global};
-use td_devices::{Failed, Sink};
 use td_frames::{put_end, put_entry, put_greeting};
+use td_io::{Failed, Sink};
 use td_stamps::{Entry, Held, Vector};
 use td_story::Replica;
 

@@ -11,7 +11,7 @@ use crate::hearing::hear;
 use crate::sending::{places_of, reply, send, send_greeting};
 use crate::taking::receive;
 use std::alloc::Global;
-use td_devices::{Channel, Failed, Sink, Source};
+use td_io::{Channel, Failed, Sink, Source};
 use td_story::{Meter, Replica, Taken};
 
 /// The first step, of the first site: it writes its greeting, and hands it on. It costs a walk along what the site

@@ -11,8 +11,8 @@ ghost use Rattle.td_meeting.specs.Reading.{ReadsStream, Unreceived};
 
 use crate::error::MeetingError;
 use std::alloc::Global;
-use td_devices::Source;
 use td_frames::{FrameError, MOST_ENTRIES, Version, read_entries};
+use td_io::Source;
 use td_stamps::Entry;
 use td_story::{Meter, Replica, TakeError, Taken};
 

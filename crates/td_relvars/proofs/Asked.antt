@@ -8,13 +8,13 @@ use Rattle.td_values.specs.declared.TypeKind.{TypeKind}
 use Rattle.td_values.specs.declared.TypeKind.TheVariants as kind
 use Rattle.td_syntax.specs.declared.tree.Expr.TheVariants as e
 use Rattle.td_syntax.specs.declared.tree.Named.{Named}
-use Rattle.td_kinds.specs.Kinds.{Name}
-use Rattle.td_kinds.specs.Schemas.{first_from, is_named, relvar_named}
-use Rattle.td_kinds.specs.Scopes.{as_relvar, relvars_of, within_tuple}
-use Rattle.td_trees.specs.declared.expression.Expression.{Expression}
-use Rattle.td_trees.specs.declared.tree.Typed.{Typed}
-use Rattle.td_trees.specs.declared.tree.Typed.TheVariants as t
-use Rattle.td_trees.specs.declared.tree.Typing.{Typing}
+use Rattle.td_schema.specs.Kinds.{Name}
+use Rattle.td_schema.specs.Schemas.{first_from, is_named, relvar_named}
+use Rattle.td_schema.specs.Scopes.{as_relvar, relvars_of, within_tuple}
+use Rattle.td_typed_trees.specs.declared.expression.Expression.{Expression}
+use Rattle.td_typed_trees.specs.declared.tree.Typed.{Typed}
+use Rattle.td_typed_trees.specs.declared.tree.Typed.TheVariants as t
+use Rattle.td_typed_trees.specs.declared.tree.Typing.{Typing}
 use Rattle.td_typing.specs.ForProofs.Infer.{Inferred, infer_name, meant_by}
 use Rattle.td_typing.specs.Trees.{typing}
 use Rattle.td_typing.specs.Types.{Types, IsIllTyped, relvar_name}

@@ -6,9 +6,9 @@ use Rattle.td_values.specs.Headings.{Header}
 use Rattle.td_values.specs.Rows.{RowsData}
 use Rattle.td_values.specs.declared.TypeKind.TheVariants as kind
 use Rattle.td_syntax.specs.declared.tree.Named.{Named}
-use Rattle.td_kinds.specs.Schemas.{SchemaData}
-use Rattle.td_trees.specs.declared.expression.Expression.{Expression}
-use Rattle.td_trees.specs.declared.tree.Typed.{Typed}
+use Rattle.td_schema.specs.Schemas.{SchemaData}
+use Rattle.td_typed_trees.specs.declared.expression.Expression.{Expression}
+use Rattle.td_typed_trees.specs.declared.tree.Typed.{Typed}
 use Rattle.td_typing.proofs.KindLemmas.{some_same}
 use Rattle.td_algebra.specs.declared.errors.Stop.{Stop}
 use Rattle.td_algebra.specs.Raising.{and_then}
@@ -20,7 +20,7 @@ use Rattle.td_headings.specs.declared.defined.Origin.{Origin}
 use Rattle.td_headings.specs.declared.defined.Origin.TheVariants as origin
 use Rattle.td_headings.proofs.WellTyped.{all_typed, init_tree}
 use Rattle.td_operators.specs.Values.{rows_of}
-use Rattle.td_soundness.specs.Meanings.{IsRelationOver}
+use Rattle.td_type_soundness.specs.Meanings.{IsRelationOver}
 use Rattle.td_story.specs.Raises.{Tells, stop_of}
 use Rattle.td_story.specs.Trees.{IsIn, places_from, tree_means}
 use Rattle.td_story.specs.declared.failure.Failure.{Failure}

@@ -9,7 +9,7 @@ use Rattle.td_relations.specs.Deltas.{DeltaData, inverse_of}
 use Rattle.td_bases.specs.Bases.{BaseData}
 use Rattle.td_syntax.specs.declared.tree.Named.{Named}
 use Rattle.td_algebra.proofs.Runs.{same_at}
-use Rattle.td_soundness.specs.Meanings.{GivesRelation, IsRelationOver}
+use Rattle.td_type_soundness.specs.Meanings.{GivesRelation, IsRelationOver}
 use Rattle.td_typing.proofs.KindLemmas.{some_same}
 use Rattle.td_headings.specs.Catalogues.{CatalogueData}
 use Rattle.td_story.specs.Databases.{Belongs, DatabaseData, IsDatabase, Stored, at_place, stored_relvars}

@@ -11,7 +11,7 @@ use Rattle.std.proofs.lemmas.List.{drop_all}
 use Rattle.td_values.specs.Headings.{Header}
 use Rattle.td_values.specs.Rows.{RowsData}
 use Rattle.td_syntax.specs.declared.tree.Named.{Named}
-use Rattle.td_kinds.specs.Schemas.{SchemaData}
+use Rattle.td_schema.specs.Schemas.{SchemaData}
 use Rattle.td_relations.specs.Sets.{ascending, relation_of}
 use Rattle.td_relations.proofs.Members.{tuples_are}
 use Rattle.td_typing.proofs.KindLemmas.{some_same}
@@ -23,7 +23,7 @@ use Rattle.td_headings.specs.Reached.{is_base}
 use Rattle.td_headings.specs.declared.defined.Origin.{Origin}
 use Rattle.td_headings.specs.declared.defined.Origin.TheVariants as origin
 use Rattle.td_headings.proofs.WellTyped.{all_typed}
-use Rattle.td_soundness.specs.Meanings.{IsTupleOver, IsRelationOver}
+use Rattle.td_type_soundness.specs.Meanings.{IsTupleOver, IsRelationOver}
 use Rattle.td_story.specs.Trees.{AreBases}
 use Rattle.td_story.specs.Stored.{AreStored}
 use Rattle.td_eval.specs.Keyed.{AreByKeys, IsByKey}

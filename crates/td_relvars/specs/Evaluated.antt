@@ -1,6 +1,6 @@
 -- What an expression of the catalogue means, as an answer.
 use Rattle.td_values.specs.Data.{Datum, no_attrs}
-use Rattle.td_trees.specs.declared.expression.Expression.{Expression}
+use Rattle.td_typed_trees.specs.declared.expression.Expression.{Expression}
 use Rattle.td_headings.specs.Catalogues.{CatalogueData}
 use Rattle.td_meaning.specs.Mean.{Relvars}
 use Rattle.td_story.specs.Calls.{SaysValue}

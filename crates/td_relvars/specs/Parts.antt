@@ -5,7 +5,7 @@ use Rattle.std.specs.Option.{option_flatten}
 use Rattle.std.specs.Coded.{Coded, code_by, coded×, coded_list, coded_ℕ}
 use Rattle.td_values.specs.Rows.{RowsData, rows_code}
 use Rattle.td_relations.specs.Deltas.{DeltaData, inverse_of}
-use Rattle.td_kinds.specs.Schemas.{SchemaData, relvar_named}
+use Rattle.td_schema.specs.Schemas.{SchemaData, relvar_named}
 use Rattle.td_algebra.specs.declared.errors.Stop.{Stop}
 use Rattle.td_headings.specs.Catalogues.{CatalogueData}
 use Rattle.td_meaning.specs.Mean.{Relvars}

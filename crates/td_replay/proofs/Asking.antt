@@ -6,7 +6,7 @@ use Rattle.td_headings.specs.Expressions.{IsExpression, no_tuple}
 use Rattle.td_headings.proofs.NoTuple.{at_relvars}
 use Rattle.td_typing.specs.Types.{IsIllTyped}
 use Rattle.td_syntax.specs.declared.tree.Expr.{Expr}
-use Rattle.td_trees.specs.declared.expression.Expression.{Expression}
+use Rattle.td_typed_trees.specs.declared.expression.Expression.{Expression}
 use Rattle.td_story.specs.Databases.{DatabaseData}
 use Rattle.td_story.specs.Calls.{Asks, TellsValue}
 use Rattle.td_replay.specs.ForProofs.Asked.{Answers, TellsNamed}

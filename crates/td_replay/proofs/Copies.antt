@@ -5,7 +5,7 @@ use Rattle.std.proofs.lemmas.List.{take_all, take_more}
 use Rattle.td_values.specs.Data.{Datum, no_attrs}
 use Rattle.td_values.specs.Rows.{RowsData}
 use Rattle.td_relations.specs.Deltas.{DeltaData}
-use Rattle.td_trees.specs.declared.expression.Expression.{Expression}
+use Rattle.td_typed_trees.specs.declared.expression.Expression.{Expression}
 use Rattle.td_headings.specs.Catalogues.{CatalogueData}
 use Rattle.td_headings.specs.Expressions.{IsTree, no_tuple, reads}
 use Rattle.td_headings.specs.Reached.{ReadsRelvar}

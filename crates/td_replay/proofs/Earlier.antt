@@ -7,7 +7,7 @@ use Rattle.std.proofs.lemmas.List.{take-append-drop, take_more}
 use Rattle.std.proofs.lemmas.Option.{get_or_from_slice_get, slice_get_within}
 use Rattle.td_headings.specs.Expressions.{IsExpression, no_tuple}
 use Rattle.td_headings.specs.Catalogues.{CatalogueData}
-use Rattle.td_trees.specs.declared.expression.Expression.{Expression}
+use Rattle.td_typed_trees.specs.declared.expression.Expression.{Expression}
 use Rattle.td_stamps.specs.Entries.{before, stamp_of}
 use Rattle.td_stamps.specs.Sets.{ascends, is_set}
 use Rattle.td_stamps.proofs.EntryLemmas.{before-irrefl}

@@ -8,7 +8,7 @@ ghost use Rattle.td_replay.specs.ForProofs.Judged.{IsRefusal, Judges};
 use std::alloc::Global;
 use td_grammar::{LATEST, ReadError, read_statement_in};
 use td_headings::{Catalogue, type_statement};
-use td_kinds::error::TypeError;
+use td_schema::error::TypeError;
 use td_story::IssueError;
 
 /// Why the text is no statement of the catalogue, if it is none.

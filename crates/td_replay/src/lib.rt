@@ -23,7 +23,7 @@ mod told;
 
 pub use plain::PlainSite;
 pub use site::Site;
-pub use td_devices::Device;
+pub use td_io::Device;
 pub use td_story::{
     Answer, AskError, IssueError, Issued, Meter, NotOpen, OpenError, Opens, Outcome, PastError,
     Replica, TakeError, Taken, TellError, ValueError,

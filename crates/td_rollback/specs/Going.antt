@@ -20,9 +20,9 @@ pub record Begins {S R : Type 0} (Sound : S → Type 0) (origin : S → S) (Step
 abbrev pub AreAlikeBut : {S : Type 0} → (S → S → ℕ → Type 0) → (Entry → ℕ → Type 0) → List Entry → S → S → Type 0
 AreAlikeBut Alike Target es s t = (n : ℕ) → (IsTargetOf Target es n → ⊥) → Alike s t n
 
--- Entries depend on what they may change. Sound states stay sound. A step changes its targets alone, and goes by its footprint: from states that are alike
--- there it has one record. Two steps of one record keep states alike where they are alike. Records name footprint and
--- targets.
+-- Entries depend on what they may change. Sound states stay sound. A step changes its targets alone, and goes by its
+-- footprint: from states that are alike there it has one record. Two steps of one record keep states alike where they
+-- are alike. Records name footprint and targets.
 pub record GoByRecords {S R : Type 0} (Sound : S → Type 0) (Step : S → Entry → R → S → Type 0) (Alike : S → S → ℕ → Type 0) (Footprint Target : Entry → ℕ → Type 0) (footprint_in targets_in : R → List ℕ) : Type 0 where
   pub hang_on_targets : (e : Entry) (n : ℕ) → Target e n → Footprint e n
   pub stay_sound : (s t : S) (e : Entry) (r : R) → Sound s → Step s e r t → Sound t

@@ -42,7 +42,8 @@ fn places_beside<M: Machine>(
     Ok(places)
 }
 
-// A copy of all that the new entries behind the first ones may change: those that are not old change these places alone.
+// A copy of all that the new entries behind the first ones may change: those that are not old change these places
+// alone.
 fn save_end<M: Machine>(
     alloc: Global,
     machine: &M,

@@ -5,10 +5,10 @@
 use std::env;
 use std::io::{BufReader, BufWriter, ErrorKind, IsTerminal};
 use std::process::ExitCode;
-use td_devices::Device;
-use td_files::{FileJournals, Notes};
+use td_io::Device;
+use td_journal_files::{FileJournals, Notes};
 use td_replay::Site;
-use td_session::{Shown, Terminal, program};
+use td_shell_session::{Shown, Terminal, program};
 use td_sockets::TcpLinks;
 use td_story::Meter;
 

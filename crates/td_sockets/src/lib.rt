@@ -2,7 +2,7 @@
 //!
 //! Begin with `TcpLinks`.
 //!
-//! td_sockets knows addresses and TCP, and no site: `TcpLinks` is `Links`, and a stream is a link as td_devices has it.
+//! td_sockets knows addresses and TCP, and no site: `TcpLinks` is `Links`, and a stream is a link as td_io has it.
 #![tactic(auto)]
 
 mod paced;

@@ -4,7 +4,7 @@ use std::io;
 use std::io::{Error, ErrorKind, Read, Write};
 use std::net::TcpStream;
 use std::time::{Clock, Duration, Instant};
-use td_devices::Link;
+use td_io::Link;
 
 /// How long this end waits in all for what the other end sends and takes, beside a second for each KiB.
 const LEAST_SECONDS: u64 = 30;

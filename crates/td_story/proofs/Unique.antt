@@ -20,7 +20,7 @@ use Rattle.td_headings.specs.declared.statement.TypedAssignment.{TypedAssignment
 use Rattle.td_headings.specs.declared.statement.TypedStatement.{TypedStatement}
 use Rattle.td_meaning.specs.Mean.{Relvars}
 use Rattle.td_operators.specs.Values.{rows_of, truth_of}
-use Rattle.td_trees.specs.declared.expression.Expression.{Expression}
+use Rattle.td_typed_trees.specs.declared.expression.Expression.{Expression}
 use Rattle.td_story.specs.Raises.{stop_of}
 use Rattle.td_story.specs.Trees.{tree_means}
 use Rattle.td_story.specs.Databases.{DatabaseData, stored_relvars}

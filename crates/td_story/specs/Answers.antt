@@ -4,7 +4,7 @@ use Rattle.td_values.specs.Headings.{Header}
 use Rattle.td_values.specs.Rows.{RowsData}
 use Rattle.td_syntax.specs.declared.tree.Named.{Named}
 use Rattle.td_algebra.specs.declared.errors.Stop.{Stop}
-use Rattle.td_kinds.specs.Schemas.{relvar_named}
+use Rattle.td_schema.specs.Schemas.{relvar_named}
 use Rattle.td_story.specs.Raises.{stop_of}
 use Rattle.td_story.specs.Trees.{all_relvars}
 use Rattle.td_story.specs.Databases.{DatabaseData, stored_relvars}

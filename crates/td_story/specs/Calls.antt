@@ -14,7 +14,7 @@ use Rattle.td_headings.specs.Catalogues.{CatalogueData}
 use Rattle.td_headings.specs.Expressions.{IsExpression, no_tuple}
 use Rattle.td_headings.specs.Statements as typed
 use Rattle.td_headings.specs.declared.statement.TypedStatement.{TypedStatement}
-use Rattle.td_trees.specs.declared.expression.Expression.{Expression}
+use Rattle.td_typed_trees.specs.declared.expression.Expression.{Expression}
 use Rattle.td_story.specs.Raises.{stop_of}
 use Rattle.td_story.specs.Trees.{tree_means}
 use Rattle.td_stamps.specs.Entries.{in_range, stamp_of}

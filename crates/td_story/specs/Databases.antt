@@ -5,7 +5,7 @@ use Rattle.std.specs.Option.{option_flatten}
 use Rattle.td_values.specs.Headings.{Header}
 use Rattle.td_values.specs.Rows.{RowsData, rows_code}
 use Rattle.td_syntax.specs.declared.tree.Named.{Named}
-use Rattle.td_kinds.specs.Schemas.{relvar_named}
+use Rattle.td_schema.specs.Schemas.{relvar_named}
 use Rattle.td_algebra.specs.declared.errors.Stop.{Stop}
 use Rattle.td_algebra.specs.declared.errors.Stop.TheVariants.{Untyped}
 use Rattle.td_headings.specs.Catalogues.{CatalogueData}
@@ -13,7 +13,7 @@ use Rattle.td_headings.specs.ForProofs.Codes.{catalogue_code}
 use Rattle.td_headings.specs.Definitions.{Defined}
 use Rattle.td_headings.specs.Reached.{is_base}
 use Rattle.td_meaning.specs.Mean.{Relvars}
-use Rattle.td_soundness.specs.Meanings.{IsRelationOver}
+use Rattle.td_type_soundness.specs.Meanings.{IsRelationOver}
 use Rattle.td_story.specs.Stored.{AreStored}
 use Rattle.td_story.specs.Tests.{AreLegal}
 

@@ -1,5 +1,5 @@
--- Changes between two states of a database, and their exact difference: one change for each relvar that differs, and for
--- no other.
+-- Changes between two states of a database, and their exact difference: one change for each relvar that differs, and
+-- for no other.
 use Rattle.std.specs.Prelude.{◌≡◌, ℕ, List, Ok}
 use Rattle.std.specs.List.{AllPairs, Contains}
 use Rattle.td_values.specs.Rows.{AreRows, RowsData}

@@ -3,8 +3,8 @@
 use Rattle.std.specs.Prelude.{◌==◌, if◌then◌else◌, List, None, Result}
 use Rattle.std.specs.List.{fold}
 use Rattle.td_values.specs.Data.{Datum, Attrs}
-use Rattle.td_trees.specs.declared.expression.Expression.{Expression}
-use Rattle.td_trees.specs.declared.expression.VirtualUnder.{VirtualUnder}
+use Rattle.td_typed_trees.specs.declared.expression.Expression.{Expression}
+use Rattle.td_typed_trees.specs.declared.expression.VirtualUnder.{VirtualUnder}
 use Rattle.td_algebra.specs.declared.errors.Stop.{Stop}
 use Rattle.td_meaning.specs.Mean.{Names, Relvars, Selection, mean, rows_in, within}
 use Rattle.td_meaning.specs.Selections.{selection}

@@ -4,15 +4,15 @@ use Rattle.std.specs.List.{filter_map}
 use Rattle.td_values.specs.Data.{Datum, Attrs}
 use Rattle.td_values.specs.Headings.{Header}
 use Rattle.td_syntax.specs.declared.tree.Named.{Named}
-use Rattle.td_trees.specs.declared.expression.Expression.{Expression}
-use Rattle.td_trees.specs.declared.tree.Typed.{Typed}
+use Rattle.td_typed_trees.specs.declared.expression.Expression.{Expression}
+use Rattle.td_typed_trees.specs.declared.tree.Typed.{Typed}
 use Rattle.td_algebra.specs.declared.errors.Stop.{Stop}
 use Rattle.td_headings.specs.Catalogues.{CatalogueData}
 use Rattle.td_headings.specs.Expressions.{HasAllUnder, IsTree, no_tuple, selector_at, virtual_at}
 use Rattle.td_headings.specs.Reached.{is_base}
 use Rattle.td_meaning.specs.Mean.{Relvars, Selection, mean, within}
 use Rattle.td_meaning.specs.Selections.{selection}
-use Rattle.td_soundness.specs.Meanings.{GivesRelation}
+use Rattle.td_type_soundness.specs.Meanings.{GivesRelation}
 use Rattle.td_story.specs.Meanings.{no_names, with_virtuals}
 
 -- the places of a list, from n on

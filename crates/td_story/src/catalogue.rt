@@ -1,7 +1,7 @@
 //! What a script defines.
 
 ghost use Rattle.std.specs.Prelude.{◌≡◌, Err, IfOk};
-ghost use Rattle.td_kinds.specs.declared.error.TypeError.TheVariants as type_error;
+ghost use Rattle.td_schema.specs.declared.error.TypeError.TheVariants as type_error;
 ghost use Rattle.td_headings.specs.Catalogues.{CatalogueData, nothing_defined};
 ghost use Rattle.td_story.specs.Scripts.{DefinesAll, IsCatalogue};
 
@@ -9,7 +9,7 @@ use crate::error::CatalogueError;
 use std::alloc::Global;
 use td_grammar::{ReadError, read_script};
 use td_headings::Catalogue;
-use td_kinds::error::TypeError;
+use td_schema::error::TypeError;
 use td_syntax::script::Definition;
 
 fn define_all(alloc: Global, definitions: &[Definition]) -> Result<Catalogue, TypeError>

@@ -13,18 +13,18 @@ use Rattle.td_syntax.specs.declared.tree.Named.{Named}
 use Rattle.td_syntax.specs.declared.tree.Summary.{Summary}
 use Rattle.td_syntax.specs.declared.tree.Groups.{Groups}
 use Rattle.td_syntax.specs.declared.tree.Expr.{Expr}
-use Rattle.td_trees.specs.declared.tree.TypedGroups.{TypedGroups}
-use Rattle.td_trees.specs.declared.tree.TypedGroups.TheVariants as typed_groups
-use Rattle.td_trees.specs.declared.tree.Typed.{Typed}
-use Rattle.td_trees.specs.declared.tree.Typed.TheVariants as t
-use Rattle.td_trees.specs.declared.tree.Typing.{Typing}
-use Rattle.td_kinds.specs.Results.{where_true, where_some}
-use Rattle.td_kinds.specs.Kinds.{kind_of, tuple_heading}
-use Rattle.td_kinds.specs.Schemas.{SchemaData}
-use Rattle.td_kinds.specs.Scopes.{Scope, within_tuple, with_names}
-use Rattle.td_kinds.specs.Written.{names}
-use Rattle.td_kinds.specs.Lists.{attributes_of, renaming_pair}
-use Rattle.td_kinds.specs.Forms.{part_kind}
+use Rattle.td_typed_trees.specs.declared.tree.TypedGroups.{TypedGroups}
+use Rattle.td_typed_trees.specs.declared.tree.TypedGroups.TheVariants as typed_groups
+use Rattle.td_typed_trees.specs.declared.tree.Typed.{Typed}
+use Rattle.td_typed_trees.specs.declared.tree.Typed.TheVariants as t
+use Rattle.td_typed_trees.specs.declared.tree.Typing.{Typing}
+use Rattle.td_schema.specs.Results.{where_true, where_some}
+use Rattle.td_schema.specs.Kinds.{kind_of, tuple_heading}
+use Rattle.td_schema.specs.Schemas.{SchemaData}
+use Rattle.td_schema.specs.Scopes.{Scope, within_tuple, with_names}
+use Rattle.td_schema.specs.Written.{names}
+use Rattle.td_schema.specs.Lists.{attributes_of, renaming_pair}
+use Rattle.td_schema.specs.Forms.{part_kind}
 use Rattle.td_typing.specs.Trees.{typing, trees, kinds, named, item_of, summary_of}
 use Rattle.td_typing.specs.ForProofs.Infer as spec
 use Rattle.td_typing.specs.ForProofs.Infer.{Inferred, infer, each, operands, all_inferred, named_inferred, name_inferred, groups_inferred, summaries_inferred, grouping, introduced}

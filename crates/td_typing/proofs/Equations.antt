@@ -20,10 +20,10 @@ use Rattle.td_syntax.specs.declared.tree.Expr.TheVariants as e
 use Rattle.td_syntax.specs.declared.tree.Expr.TheOpen.{Expr-F}
 use Rattle.td_syntax.specs.declared.tree.Expr.TheShapes.{former-Expr-Summarize-2-at-5}
 use Rattle.td_syntax.specs.declared.tree.Expr.TheFolds.{fold-roll-Expr}
-use Rattle.td_trees.specs.declared.tree.Typed.TheVariants as t
-use Rattle.td_kinds.specs.Kinds.{Name}
-use Rattle.td_kinds.specs.Schemas.{SchemaData}
-use Rattle.td_kinds.specs.Written.{names}
+use Rattle.td_typed_trees.specs.declared.tree.Typed.TheVariants as t
+use Rattle.td_schema.specs.Kinds.{Name}
+use Rattle.td_schema.specs.Schemas.{SchemaData}
+use Rattle.td_schema.specs.Written.{names}
 use Rattle.td_typing.specs.Trees.{typing, named}
 use Rattle.td_typing.specs.ForProofs.Infer.{Inferred, infer, infer_step, infer_name, infer_by, by_unary, by_from, by_project, by_rename, by_nest, by_unnest, by_lone, infer_binary, infer_if, infer_where, infer_aggregate, infer_call, infer_relation, infer_tuple, infer_extend, infer_summarize, infer_with, all_inferred, named_inferred, groups_inferred, summary_inferred, summaries_inferred}
 

@@ -9,9 +9,9 @@ use Rattle.td_values.specs.declared.TypeKind.TheVariants as kind
 use Rattle.std.proofs.lemmas.List.Folds.{list_all-map}
 use Rattle.td_values.proofs.Walks.{equal_types_tie}
 use Rattle.td_syntax.specs.declared.tree.Named.{Named}
-use Rattle.td_trees.specs.declared.tree.Typing.{Typing}
-use Rattle.td_kinds.specs.Kinds.{Name, kind_of, same_kind, is_boolean, relation_heading, user_name}
-use Rattle.td_kinds.proofs.KindLemmas.{kind_back}
+use Rattle.td_typed_trees.specs.declared.tree.Typing.{Typing}
+use Rattle.td_schema.specs.Kinds.{Name, kind_of, same_kind, is_boolean, relation_heading, user_name}
+use Rattle.td_schema.proofs.KindLemmas.{kind_back}
 use Rattle.td_typing.specs.Trees.{kinds}
 use Rattle.td_typing.specs.ForProofs.Infer.{fit}
 

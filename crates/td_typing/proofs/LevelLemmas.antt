@@ -11,7 +11,7 @@ use Rattle.td_syntax.specs.declared.tree.Expr.TheVariants as e
 use Rattle.td_syntax.specs.Levels.{levels, named_levels}
 use Rattle.td_syntax.specs.ForProofs.Parts.{list_levels, summary_levels, summaries_levels, groups_levels}
 use Rattle.td_syntax.proofs.Depths.{of_call, of_relation, of_tuple, of_extend, of_with, of_summarize}
-use Rattle.td_kinds.specs.Kinds.{Name}
+use Rattle.td_schema.specs.Kinds.{Name}
 
 list_item : (xs : List Expr) (i : ℕ) (d : Expr) → i < length xs → levels (get_or xs i d) ≤ list_levels xs
 list_item [] i d h = omega (arith, h)

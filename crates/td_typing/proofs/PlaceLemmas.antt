@@ -7,13 +7,13 @@ use Rattle.td_values.specs.Headings.{Header}
 use Rattle.td_values.specs.View.{ty_of}
 use Rattle.td_values.specs.declared.TypeKind.{TypeKind}
 use Rattle.td_syntax.specs.declared.tree.Named.{Named}
-use Rattle.td_trees.specs.declared.tree.Typed.TheVariants as t
-use Rattle.td_trees.specs.declared.tree.Typing.{Typing}
-use Rattle.td_kinds.specs.Results.{where_some}
-use Rattle.td_kinds.specs.Kinds.{Name, kind_of}
+use Rattle.td_typed_trees.specs.declared.tree.Typed.TheVariants as t
+use Rattle.td_typed_trees.specs.declared.tree.Typing.{Typing}
+use Rattle.td_schema.specs.Results.{where_some}
+use Rattle.td_schema.specs.Kinds.{Name, kind_of}
 use Rattle.td_typing.specs.Trees.{typing}
 use Rattle.td_typing.specs.ForProofs.Infer.{fit, lone, lone_term}
-use Rattle.td_kinds.proofs.KindLemmas.{kind_back}
+use Rattle.td_schema.proofs.KindLemmas.{kind_back}
 
 -- where one of the lists ends, they fit if they are as long
 pub fit_ended : (i : ℕ) (ks : List TypeKind) (cs : List (Named TypeKind)) → i ≤ length ks → i ≤ length cs → (i < length ks → i < length cs → ⊥) → nat_eq (length ks) (length cs) ≡ fit (drop i ks) (drop i cs)

@@ -30,24 +30,24 @@ use Rattle.td_syntax.specs.declared.tree.Expr.TheOpen.{Expr-F}
 use Rattle.td_syntax.specs.declared.tree.Expr.TheViews.{roll-Expr}
 use Rattle.td_syntax.specs.declared.tree.Expr.TheShapes.{former-Expr-Summarize-2-at-5}
 use Rattle.td_syntax.specs.declared.tree.Expr.TheFolds.{ind-Expr}
-use Rattle.td_trees.specs.declared.tree.TypedGroups.TheVariants as typed_groups
-use Rattle.td_trees.specs.declared.tree.Typed.{Typed}
-use Rattle.td_trees.specs.declared.tree.Typed.TheVariants as t
-use Rattle.td_trees.specs.declared.tree.Typing.{Typing}
+use Rattle.td_typed_trees.specs.declared.tree.TypedGroups.TheVariants as typed_groups
+use Rattle.td_typed_trees.specs.declared.tree.Typed.{Typed}
+use Rattle.td_typed_trees.specs.declared.tree.Typed.TheVariants as t
+use Rattle.td_typed_trees.specs.declared.tree.Typing.{Typing}
 use Rattle.td_typing.specs.declared.parts.Grouping.{Grouping}
 use Rattle.td_typing.specs.declared.parts.Introduced.{Introduced}
 use Rattle.td_typing.specs.declared.parts.Operands.{Operands}
-use Rattle.td_kinds.specs.declared.schema.Representation.{Representation}
-use Rattle.td_kinds.specs.Results.{where_true, where_some}
-use Rattle.td_kinds.specs.Kinds.{Name, kind_of, same_kind, is_boolean, relation_heading, user_name, is_part}
-use Rattle.td_kinds.specs.Schemas.{SchemaData, begins_with_the, possrep_named, type_named, component_named}
-use Rattle.td_kinds.specs.declared.scope.Meant.{Meant}
-use Rattle.td_kinds.specs.declared.scope.Meant.TheVariants.{Local as local, Relvar as relvar}
-use Rattle.td_kinds.specs.Scopes.{Scope, within_tuple, with_names}
-use Rattle.td_kinds.specs.Written.{names}
-use Rattle.td_kinds.specs.Lists.{attributes_of, are_distinct, renaming_pair}
-use Rattle.td_kinds.specs.Operators.{unary_kind, binary_kind, suits}
-use Rattle.td_kinds.specs.Forms.{kind_heading, part_kind, renamed_kind, nested_heading, unnested_heading, from_kind, may_extend}
+use Rattle.td_schema.specs.declared.schema.Representation.{Representation}
+use Rattle.td_schema.specs.Results.{where_true, where_some}
+use Rattle.td_schema.specs.Kinds.{Name, kind_of, same_kind, is_boolean, relation_heading, user_name, is_part}
+use Rattle.td_schema.specs.Schemas.{SchemaData, begins_with_the, possrep_named, type_named, component_named}
+use Rattle.td_schema.specs.declared.scope.Meant.{Meant}
+use Rattle.td_schema.specs.declared.scope.Meant.TheVariants.{Local as local, Relvar as relvar}
+use Rattle.td_schema.specs.Scopes.{Scope, within_tuple, with_names}
+use Rattle.td_schema.specs.Written.{names}
+use Rattle.td_schema.specs.Lists.{attributes_of, are_distinct, renaming_pair}
+use Rattle.td_schema.specs.Operators.{unary_kind, binary_kind, suits}
+use Rattle.td_schema.specs.Forms.{kind_heading, part_kind, renamed_kind, nested_heading, unnested_heading, from_kind, may_extend}
 use Rattle.td_typing.specs.Trees.{typing, trees, kinds, named, item_of, summary_of}
 use Rattle.td_typing.specs.ForProofs.Infer as spec
 use Rattle.td_typing.specs.ForProofs.Infer.{Inferred, infer, each, operands, all_inferred, named_inferred, name_inferred, groups_inferred, summary_inferred, summaries_inferred, grouping, introduced}

@@ -17,18 +17,18 @@ use Rattle.td_syntax.specs.declared.tree.TypeExpr.TheVariants as e
 use Rattle.td_syntax.specs.declared.tree.TypeExpr.TheOpen.{TypeExpr-F}
 use Rattle.td_syntax.specs.declared.tree.TypeExpr.TheViews.{roll-TypeExpr}
 use Rattle.td_syntax.specs.declared.tree.TypeExpr.TheFolds.{fold-roll-TypeExpr, ind-TypeExpr}
-use Rattle.td_trees.specs.declared.tree.TypedGroups.{TypedGroups}
-use Rattle.td_trees.specs.declared.tree.Typed.{Typed}
-use Rattle.td_trees.specs.declared.tree.Typing.{Typing}
-use Rattle.td_kinds.specs.declared.schema.Representation.{Representation}
-use Rattle.td_kinds.specs.declared.scope.Meant.{Meant}
-use Rattle.td_kinds.specs.declared.scope.Meant.TheVariants.{Local as local, Relvar as relvar}
-use Rattle.td_kinds.specs.Kinds.{Name, kind_of}
-use Rattle.td_kinds.specs.Results.{where_true, where_some}
-use Rattle.td_kinds.specs.Schemas.{SchemaData, first_with_place, first_from, is_named, has_possrep, has_type_name, possrep_named, type_named, relvar_named, same_text}
-use Rattle.td_kinds.specs.Scopes.{Scope, within_tuple, with_name, with_names, relvars_of, as_relvar, or_outer}
-use Rattle.td_kinds.specs.Written.{all_named, distinct_columns, heading_written, written, written_step}
-use Rattle.td_kinds.proofs.Writings.{of_tuple, of_relation}
+use Rattle.td_typed_trees.specs.declared.tree.TypedGroups.{TypedGroups}
+use Rattle.td_typed_trees.specs.declared.tree.Typed.{Typed}
+use Rattle.td_typed_trees.specs.declared.tree.Typing.{Typing}
+use Rattle.td_schema.specs.declared.schema.Representation.{Representation}
+use Rattle.td_schema.specs.declared.scope.Meant.{Meant}
+use Rattle.td_schema.specs.declared.scope.Meant.TheVariants.{Local as local, Relvar as relvar}
+use Rattle.td_schema.specs.Kinds.{Name, kind_of}
+use Rattle.td_schema.specs.Results.{where_true, where_some}
+use Rattle.td_schema.specs.Schemas.{SchemaData, first_with_place, first_from, is_named, has_possrep, has_type_name, possrep_named, type_named, relvar_named, same_text}
+use Rattle.td_schema.specs.Scopes.{Scope, within_tuple, with_name, with_names, relvars_of, as_relvar, or_outer}
+use Rattle.td_schema.specs.Written.{all_named, distinct_columns, heading_written, written, written_step}
+use Rattle.td_schema.proofs.Writings.{of_tuple, of_relation}
 use Rattle.td_typing.specs.ForProofs.Growth.{IsEarlier, KeepsNames}
 use Rattle.td_typing.specs.Trees.{named}
 use Rattle.td_typing.specs.Types as types

@@ -1,12 +1,12 @@
 -- What the call says of an expression, from what it gives of inference.
 use Rattle.std.proofs.Common.{◌≡◌, Result, Ok, Err, IfOk, sym, ◌∙◌}
 use Rattle.td_syntax.specs.declared.tree.Expr.{Expr}
-use Rattle.td_trees.specs.declared.tree.Typing.{Typing}
-use Rattle.td_kinds.specs.declared.error.TypeError.{TypeError}
-use Rattle.td_kinds.specs.declared.error.TypeError.TheVariants as type_error
-use Rattle.td_kinds.specs.Results.{Gives}
-use Rattle.td_kinds.specs.Schemas.{SchemaData}
-use Rattle.td_kinds.specs.Scopes.{Scope}
+use Rattle.td_typed_trees.specs.declared.tree.Typing.{Typing}
+use Rattle.td_schema.specs.declared.error.TypeError.{TypeError}
+use Rattle.td_schema.specs.declared.error.TypeError.TheVariants as type_error
+use Rattle.td_schema.specs.Results.{Gives}
+use Rattle.td_schema.specs.Schemas.{SchemaData}
+use Rattle.td_schema.specs.Scopes.{Scope}
 use Rattle.td_typing.specs.Types.{Types, IsIllTyped}
 use Rattle.td_typing.specs.ForProofs.Infer.{infer}
 use Rattle.td_typing.proofs.Complete.{complete}

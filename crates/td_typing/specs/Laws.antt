@@ -2,9 +2,9 @@
 use Rattle.std.specs.Prelude.{◌≡◌, ◌↔◌, Some}
 use Rattle.td_values.specs.declared.TypeKind.{TypeKind}
 use Rattle.td_syntax.specs.declared.tree.Expr.{Expr}
-use Rattle.td_kinds.specs.Schemas.{SchemaData}
-use Rattle.td_kinds.specs.Scopes.{Scope}
-use Rattle.td_trees.specs.declared.tree.Typed.{Typed}
+use Rattle.td_schema.specs.Schemas.{SchemaData}
+use Rattle.td_schema.specs.Scopes.{Scope}
+use Rattle.td_typed_trees.specs.declared.tree.Typed.{Typed}
 use Rattle.td_typing.specs.Trees.{typing}
 use Rattle.td_typing.specs.ForProofs.Growth.{IsEarlier, KeepsNames}
 use Rattle.td_typing.specs.Types.{Types}

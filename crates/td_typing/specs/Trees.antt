@@ -8,10 +8,10 @@ use Rattle.td_tuples.specs.declared.items.Summary.TheVariants as summary
 use Rattle.td_syntax.specs.declared.tree.Named.{Named}
 use Rattle.td_syntax.specs.declared.tree.Aggregate.{Aggregate}
 use Rattle.td_syntax.specs.declared.tree.Aggregate.TheVariants as aggregate
-use Rattle.td_trees.specs.declared.tree.Typed.{Typed}
-use Rattle.td_trees.specs.declared.tree.Typing.{Typing}
-use Rattle.td_kinds.specs.declared.schema.Representation.{Representation}
-use Rattle.td_kinds.specs.Kinds.{Name}
+use Rattle.td_typed_trees.specs.declared.tree.Typed.{Typed}
+use Rattle.td_typed_trees.specs.declared.tree.Typing.{Typing}
+use Rattle.td_schema.specs.declared.schema.Representation.{Representation}
+use Rattle.td_schema.specs.Kinds.{Name}
 
 -- a tree with its kind
 abbrev pub typing : Typed → TypeKind → Typing

@@ -28,20 +28,20 @@ use Rattle.td_syntax.specs.declared.tree.Groups.TheVariants as groups
 use Rattle.td_syntax.specs.declared.tree.TypeExpr.{TypeExpr}
 use Rattle.td_syntax.specs.declared.tree.Expr.{Expr}
 use Rattle.td_syntax.specs.declared.tree.Expr.TheVariants as e
-use Rattle.td_kinds.specs.declared.schema.Representation.{Representation}
-use Rattle.td_kinds.specs.Kinds.{Name, kind_of, is_part}
-use Rattle.td_kinds.specs.Schemas.{SchemaData, begins_with_the, possrep_named, type_named, component_named}
-use Rattle.td_kinds.specs.declared.scope.Meant.TheVariants.{Local as local, Relvar as relvar}
-use Rattle.td_kinds.specs.Scopes.{Scope, within_tuple, with_names}
-use Rattle.td_kinds.specs.Written.{names, heading_written}
-use Rattle.td_kinds.specs.Lists.{are_distinct, attributes_of, renaming_pair}
-use Rattle.td_kinds.specs.Operators.{unary_kind, binary_kind, suits}
-use Rattle.td_kinds.specs.Forms.{kind_heading, part_kind, renamed_kind, nested_heading, unnested_heading, from_kind, may_extend}
-use Rattle.td_trees.specs.declared.tree.TypedGroups.{TypedGroups}
-use Rattle.td_trees.specs.declared.tree.TypedGroups.TheVariants as typed_groups
-use Rattle.td_trees.specs.declared.tree.Typed.{Typed}
-use Rattle.td_trees.specs.declared.tree.Typed.TheVariants as t
-use Rattle.td_trees.specs.declared.tree.Typing.{Typing}
+use Rattle.td_schema.specs.declared.schema.Representation.{Representation}
+use Rattle.td_schema.specs.Kinds.{Name, kind_of, is_part}
+use Rattle.td_schema.specs.Schemas.{SchemaData, begins_with_the, possrep_named, type_named, component_named}
+use Rattle.td_schema.specs.declared.scope.Meant.TheVariants.{Local as local, Relvar as relvar}
+use Rattle.td_schema.specs.Scopes.{Scope, within_tuple, with_names}
+use Rattle.td_schema.specs.Written.{names, heading_written}
+use Rattle.td_schema.specs.Lists.{are_distinct, attributes_of, renaming_pair}
+use Rattle.td_schema.specs.Operators.{unary_kind, binary_kind, suits}
+use Rattle.td_schema.specs.Forms.{kind_heading, part_kind, renamed_kind, nested_heading, unnested_heading, from_kind, may_extend}
+use Rattle.td_typed_trees.specs.declared.tree.TypedGroups.{TypedGroups}
+use Rattle.td_typed_trees.specs.declared.tree.TypedGroups.TheVariants as typed_groups
+use Rattle.td_typed_trees.specs.declared.tree.Typed.{Typed}
+use Rattle.td_typed_trees.specs.declared.tree.Typed.TheVariants as t
+use Rattle.td_typed_trees.specs.declared.tree.Typing.{Typing}
 use Rattle.td_typing.specs.Trees.{typing, trees, kinds, named, item_of, summary_of, component_kinds}
 
 mutual

@@ -2,8 +2,8 @@
 
 ghost use Rattle.std.specs.Prelude.{◌≡◌, drop, MatchOption, None, Some};
 ghost use Rattle.td_syntax.specs.declared.tree.Named as tree;
-ghost use Rattle.td_kinds.specs.Results.{Gives};
-ghost use Rattle.td_kinds.specs.Schemas.{component_named};
+ghost use Rattle.td_schema.specs.Results.{Gives};
+ghost use Rattle.td_schema.specs.Schemas.{component_named};
 ghost use Rattle.td_typing.specs.ForProofs.Infer as spec;
 ghost use Rattle.td_values.specs.declared.TypeKind as type_kind;
 
@@ -11,10 +11,10 @@ use crate::forms::typed;
 use crate::parts::Operands;
 use sqlite_items::Boxed;
 use std::alloc::Global;
-use td_kinds::kinds::{same_kind, user_name};
-use td_kinds::{Schema, TypeError};
+use td_schema::kinds::{same_kind, user_name};
+use td_schema::{Schema, TypeError};
 use td_syntax::tree::Named;
-use td_trees::tree::{Typed, Typing};
+use td_typed_trees::tree::{Typed, Typing};
 use td_values::{Name, TypeKind};
 
 // Whether there are as many kinds as components, and they are the same.

@@ -1,24 +1,24 @@
 //! What forms make of the typings of their operands.
 
 ghost use Rattle.std.specs.Prelude.{◌≡◌, [], ◌∷◌, IfOk};
-ghost use Rattle.td_kinds.specs.Results.{Gives};
-ghost use Rattle.td_kinds.specs.Scopes.{visible};
-ghost use Rattle.td_trees.specs.declared.tree.Typed.TheVariants as t;
+ghost use Rattle.td_schema.specs.Results.{Gives};
+ghost use Rattle.td_schema.specs.Scopes.{visible};
+ghost use Rattle.td_typed_trees.specs.declared.tree.Typed.TheVariants as t;
 ghost use Rattle.td_typing.specs.ForProofs.Infer as spec;
 ghost use Rattle.td_typing.specs.Trees as trees;
 
 use sqlite_items::{Boxed, Items};
 use std::alloc::{AllocError, Global};
-use td_kinds::forms::{
+use td_schema::forms::{
     from_kind, kind_heading, nested_heading, part_kind, renamed_kind, unnested_heading,
 };
-use td_kinds::kinds::{is_boolean, relation_heading, same_kind};
-use td_kinds::lists::{attributes_of, pairs_of};
-use td_kinds::operators::{binary_kind, suits, unary_kind};
-use td_kinds::{Meant, Scope, TypeError};
+use td_schema::kinds::{is_boolean, relation_heading, same_kind};
+use td_schema::lists::{attributes_of, pairs_of};
+use td_schema::operators::{binary_kind, suits, unary_kind};
+use td_schema::{Meant, Scope, TypeError};
 use td_syntax::tree::{Aggregate, Attributes, BinaryOperator, Nesting, Renaming, UnaryOperator};
-use td_trees::tree::{Typed, Typing};
 use td_tuples::Summary;
+use td_typed_trees::tree::{Typed, Typing};
 use td_values::{Heading, Name, TypeKind};
 
 /// The tree with its kind.

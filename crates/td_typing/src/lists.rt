@@ -2,8 +2,8 @@
 
 ghost use Rattle.std.specs.Prelude.{◌≡◌, IfOk};
 ghost use Rattle.std.specs.List.{list_all};
-ghost use Rattle.td_kinds.specs.Kinds as kinds;
-ghost use Rattle.td_kinds.specs.Results.{Gives};
+ghost use Rattle.td_schema.specs.Kinds as kinds;
+ghost use Rattle.td_schema.specs.Results.{Gives};
 ghost use Rattle.td_tuples.specs.declared.items.Summary.TheVariants as summary;
 ghost use Rattle.td_typing.specs.ForProofs.Infer as spec;
 ghost use Rattle.td_typing.specs.Trees as trees;
@@ -13,15 +13,15 @@ use crate::forms::{summary_of, typed};
 use crate::parts::{Grouping, Operands};
 use sqlite_items::{Boxed, Items};
 use std::alloc::{AllocError, Global};
-use td_kinds::forms::may_extend;
-use td_kinds::kinds::{is_part, relation_heading, same_heading, tuple_heading};
-use td_kinds::lists::{are_distinct, attributes_of};
-use td_kinds::operators::suits;
-use td_kinds::written::heading_written;
-use td_kinds::{Schema, TypeError};
+use td_schema::forms::may_extend;
+use td_schema::kinds::{is_part, relation_heading, same_heading, tuple_heading};
+use td_schema::lists::{are_distinct, attributes_of};
+use td_schema::operators::suits;
+use td_schema::written::heading_written;
+use td_schema::{Schema, TypeError};
 use td_syntax::tree::{Aggregate, Attributes, Extension, Named, TypeExpr};
-use td_trees::tree::{Typed, TypedGroups, Typing};
 use td_tuples::{Item, Summary, columns_in, columns_of, extended_columns};
+use td_typed_trees::tree::{Typed, TypedGroups, Typing};
 use td_values::{Heading, Name, TdType, TypeKind};
 
 /// The new attribute of this name.

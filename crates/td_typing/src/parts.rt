@@ -2,7 +2,7 @@
 
 use sqlite_items::{Boxed, Items};
 use td_syntax::tree::Named;
-use td_trees::tree::{Typed, TypedGroups};
+use td_typed_trees::tree::{Typed, TypedGroups};
 use td_values::{Heading, TypeKind};
 
 /// The groups of SUMMARIZE, and the heading of the tuples that they are made for.

@@ -1,10 +1,10 @@
 //! The type of an expression.
 
 ghost use Rattle.std.specs.Prelude.{◌≡◌, drop, Err, IfOk};
-ghost use Rattle.td_kinds.specs.Results.{Gives};
-ghost use Rattle.td_kinds.specs.Scopes.{visible};
-ghost use Rattle.td_kinds.specs.Written.{names};
-ghost use Rattle.td_kinds.specs.declared.error.TypeError.TheVariants as type_error;
+ghost use Rattle.td_schema.specs.Results.{Gives};
+ghost use Rattle.td_schema.specs.Scopes.{visible};
+ghost use Rattle.td_schema.specs.Written.{names};
+ghost use Rattle.td_schema.specs.declared.error.TypeError.TheVariants as type_error;
 ghost use Rattle.td_typing.specs.ForProofs.Infer as spec;
 ghost use Rattle.td_typing.specs.ForProofs.Infer.{infer, all_inferred, named_inferred, groups_inferred, summary_inferred, summaries_inferred};
 ghost use Rattle.td_typing.specs.Types.{Types, IsIllTyped};
@@ -21,16 +21,16 @@ use crate::lists::{
 use crate::parts::{Grouping, Introduced, Operands};
 use sqlite_items::{Boxed, Items};
 use std::alloc::Global;
-use td_kinds::kinds::relation_heading;
-use td_kinds::lists::names;
-use td_kinds::schema::begins_with_the;
-use td_kinds::{Schema, Scope, TypeError};
+use td_schema::kinds::relation_heading;
+use td_schema::lists::names;
+use td_schema::schema::begins_with_the;
+use td_schema::{Schema, Scope, TypeError};
 use td_syntax::tree::{
     Aggregate, Attributes, BinaryOperator, Expr, Extension, Groups, Named, Nesting, Renaming,
     Summary, TypeExpr, UnaryOperator,
 };
-use td_trees::tree::{Typed, Typing};
 use td_tuples::Item;
+use td_typed_trees::tree::{Typed, Typing};
 use td_values::{Heading, Name, TypeKind};
 
 #[cycle(typing)]

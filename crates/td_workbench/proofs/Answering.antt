@@ -3,12 +3,12 @@ use Rattle.std.proofs.Common.{◌≡◌, ◌≤◌, inl, inr, ℕ, ◌+◌, ◌-
 use Rattle.std.specs.Io.KnownBytes.{Consumes, IsAtEnd}
 use Rattle.std.proofs.KnownBytes.{Consumes-nil}
 use Rattle.std.proofs.lemmas.Bool.{false≢true, true≢false}
-use Rattle.td_devices.specs.Lines.{raw_lines, is_one_line, IsWholeLine, TellsLine, byteless_reads, HasCause}
-use Rattle.td_devices.specs.declared.lines.LineError.{LineError}
-use Rattle.td_devices.specs.declared.lines.LineError.TheVariants as line_error
-use Rattle.td_devices.specs.declared.streams.Failed.{Failed}
-use Rattle.td_lines.specs.Lines.{Line, is_quit}
-use Rattle.td_devices.specs.Views.{Input, Output}
+use Rattle.td_io.specs.Lines.{raw_lines, is_one_line, IsWholeLine, TellsLine, byteless_reads, HasCause}
+use Rattle.td_io.specs.declared.lines.LineError.{LineError}
+use Rattle.td_io.specs.declared.lines.LineError.TheVariants as line_error
+use Rattle.td_io.specs.declared.streams.Failed.{Failed}
+use Rattle.td_commands.specs.Lines.{Line, is_quit}
+use Rattle.td_io.specs.Views.{Input, Output}
 use Rattle.td_workbench.specs.Streams.{AppendsText, ReadsBytes}
 use Rattle.td_headings.specs.Catalogues.{CatalogueData}
 use Rattle.td_answers.specs.Asking.{AreAsked}

@@ -1,7 +1,7 @@
 -- Sites that come back from their journals, and the program behind them.
 use Rattle.std.proofs.Common.{◌≡◌, inl, inr, ℕ, Bool, true, List, [], ◌∷◌, ◌++◌, map, Option, Result, Ok, Err, refl, sym, ap, subst}
 use Rattle.std.specs.List.{AllByRecursion}
-use Rattle.td_devices.specs.Views.{Input, Output}
+use Rattle.td_io.specs.Views.{Input, Output}
 use Rattle.td_headings.specs.Catalogues.{CatalogueData}
 use Rattle.td_journal.specs.declared.stores.StoreError.{StoreError}
 use Rattle.td_story.specs.Scripts.{IsScriptOf}

@@ -3,8 +3,8 @@ use Rattle.std.proofs.Common.{◌≡◌, ◌≢◌, inl, inr, ℕ, ◌==◌, Boo
 use Rattle.std.specs.List.{AllByRecursion}
 use Rattle.std.specs.Io.KnownBytes.{IsAtEnd}
 use Rattle.std.proofs.lemmas.Bool.{eqb-true, ne_eqb, true≢false}
-use Rattle.td_devices.specs.Lines.{raw_lines, is_one_line, IsWholeLine}
-use Rattle.td_devices.proofs.LineEnds.{raw_first, raw_last}
+use Rattle.td_io.specs.Lines.{raw_lines, is_one_line, IsWholeLine}
+use Rattle.td_io.proofs.LineEnds.{raw_first, raw_last}
 use Rattle.td_workbench.specs.Runs.{IsReadOut}
 
 -- lines, one behind the other

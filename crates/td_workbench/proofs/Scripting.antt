@@ -4,17 +4,17 @@ use Rattle.std.specs.List.{AllByRecursion}
 use Rattle.std.specs.Io.KnownBytes.{Consumes, IsAtEnd}
 use Rattle.std.proofs.KnownBytes.{Consumes-nil}
 use Rattle.std.proofs.lemmas.Bool.{false≢true, true≢false}
-use Rattle.td_devices.specs.Lines.{raw_lines, is_one_line, IsWholeLine, TellsLine, byteless_reads, HasCause}
-use Rattle.td_devices.specs.declared.lines.LineError.{LineError}
-use Rattle.td_devices.specs.declared.lines.LineError.TheVariants as line_error
+use Rattle.td_io.specs.Lines.{raw_lines, is_one_line, IsWholeLine, TellsLine, byteless_reads, HasCause}
+use Rattle.td_io.specs.declared.lines.LineError.{LineError}
+use Rattle.td_io.specs.declared.lines.LineError.TheVariants as line_error
 use Rattle.td_workbench.specs.Scripts.{is_begin, script_then, Says, IsOfScript, IsUnfinished}
 use Rattle.td_workbench.specs.Streams.{ReadsBytes}
 use Rattle.td_workbench.specs.ForProofs.Reading.{IsKeptScript, HasScript, ScriptRead, unready_by}
 use Rattle.td_workbench.specs.declared.script.Unready.TheVariants as unready
 use Rattle.td_workbench.proofs.Lines.{joined, joined_none, joined_last, raw_whole, raw_some, all_append}
 use Rattle.td_workbench.proofs.Serving.{reads_nothing, reads_trans, no_more_trans}
-use Rattle.td_devices.proofs.LineEnds.{raw_first}
-use Rattle.td_devices.specs.Views.{Input}
+use Rattle.td_io.proofs.LineEnds.{raw_first}
+use Rattle.td_io.specs.Views.{Input}
 
 skips : (l : List ℕ) (ls : List (List ℕ)) → is_begin l ≡ false → script_then (l ∷ ls) ≡ option_map (λ (p : List ℕ × List (List ℕ)). (l ++ p.0, p.1)) (script_then ls)
 skips l ls e = rw e refl

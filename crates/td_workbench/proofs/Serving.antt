@@ -2,9 +2,9 @@
 use Rattle.std.proofs.Common.{◌≡◌, ◌⊎◌, ◌≤◌, inl, inr, ℕ, ◌+◌, ◌-◌, true, List, [], ◌∷◌, ◌++◌, length, Option, Result, Ok, Err, refl, sym, ap, ◌∙◌, subst, append_assoc, append-nil, arith, length-append}
 use Rattle.std.specs.Io.KnownBytes.{Keeps}
 use Rattle.std.proofs.KnownBytes.{Appends-kept, Appends-nil, Appends-trans, Consumes-nil, Consumes-trans}
-use Rattle.td_devices.specs.Counted.{counted}
-use Rattle.td_devices.specs.Lines.{raw_lines, IsWholeLine}
-use Rattle.td_devices.specs.Views.{Input, Output}
+use Rattle.td_io.specs.Counted.{counted}
+use Rattle.td_io.specs.Lines.{raw_lines, IsWholeLine}
+use Rattle.td_io.specs.Views.{Input, Output}
 use Rattle.td_workbench.specs.Streams.{AppendsText, ReadsBytes, ReadsNoMore, WritesText}
 use Rattle.td_workbench.specs.Runs.{said, DoesNotQuit, LineStep, Printed, Served, Quits, RunsOut, BreaksOff, Reaches, StopsReading, Ends}
 use Rattle.td_workbench.specs.ForProofs.Serving.{HandsOn, LinesEnd, Serves, ServesLines}

@@ -6,8 +6,8 @@ use Rattle.std.specs.List.{AllByRecursion}
 use Rattle.std.specs.Str.{is_utf8, IsUtf8}
 use Rattle.std.specs.Global.{Global}
 use Rattle.std.specs.declared.alloc.AllocError.{AllocError}
-use Rattle.td_devices.specs.Lines.{raw_lines}
-use Rattle.td_devices.specs.Views.{Input, Output}
+use Rattle.td_io.specs.Lines.{raw_lines}
+use Rattle.td_io.specs.Views.{Input, Output}
 use Rattle.td_headings.specs.Catalogues.{CatalogueData}
 use Rattle.td_listings.specs.Writings.{WritesFront}
 use Rattle.td_story.specs.Scripts.{Opens}

@@ -1,6 +1,6 @@
 -- The exit status of the program, and what it puts where.
 use Rattle.std.specs.Prelude.{◌≡◌, ◌⊎◌, ℕ, Bool, true, false, List, ◌++◌, codes, string_bytes, Result, Ok, Err}
-use Rattle.td_devices.specs.Views.{Input, Output}
+use Rattle.td_io.specs.Views.{Input, Output}
 use Rattle.td_listings.specs.Writings.{WritesFront}
 use Rattle.td_journal.specs.declared.stores.StoreError.{StoreError}
 use Rattle.td_answers.specs.Asking.{LinkRequest}

@@ -1,8 +1,9 @@
--- The program over sites that keep journals: behind the script, and before the lines, each site comes back from its own.
+-- The program over sites that keep journals: behind the script, and before the lines, each site comes back from its
+-- own.
 use Rattle.std.specs.Prelude.{◌≡◌, ◌⊎◌, ℕ, Bool, List, [], ◌∷◌, ◌++◌, codes, decimal, Option, Result, Ok, Err, string_bytes}
-use Rattle.td_devices.specs.Views.{Input, Output}
-use Rattle.td_devices.specs.declared.streams.Sink as sink
-use Rattle.td_devices.specs.Views.{output_of}
+use Rattle.td_io.specs.Views.{Input, Output}
+use Rattle.td_io.specs.declared.streams.Sink as sink
+use Rattle.td_io.specs.Views.{output_of}
 use Rattle.td_journal.specs.declared.stores.StoreError.{StoreError}
 use Rattle.td_story.specs.Seen.{Seen}
 use Rattle.td_story.specs.declared.replica.Replica as replica
@@ -64,8 +65,8 @@ KeepsSomeNot {S} k kept Fails prefix sites (JournalFile name) =
     (before : Sites) × (back : List S) × (s : Seen) × (rest : Sites) × (sites ≡ before ++ s ∷ rest) × ComeBack k kept prefix before back
     × KeepsOneNot kept Fails prefix s (JournalFile name)
 
--- the script was accepted, but not all of its sites came back; nothing was told, nothing behind the script was read, and
--- no link was asked for
+-- the script was accepted, but not all of its sites came back; nothing was told, nothing behind the script was read,
+-- and no link was asked for
 pub record ComeBackNot {S L : Type 0} (k : KeeperSites S) (kept : Kept) (Fails : StoreError → Type 0) (prefix : List ℕ) (options : Options) (old : L) (from : Input) (w : Output) (e : Stopped) (new : L) (left : Input) (after : Output) : Type 0 where
   pub bytes : List ℕ
   pub script : List ℕ

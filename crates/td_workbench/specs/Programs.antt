@@ -1,7 +1,7 @@
 -- How the program ends: what it tells of its script, and the run over the lines behind it.
 use Rattle.std.specs.Prelude.{◌≡◌, ◌⊎◌, ◌≤◌, ℕ, Bool, true, false, List, map, Result, Ok, Err}
 use Rattle.std.specs.List.{AllByRecursion}
-use Rattle.td_devices.specs.Views.{Input, Output}
+use Rattle.td_io.specs.Views.{Input, Output}
 use Rattle.td_headings.specs.Catalogues.{CatalogueData}
 use Rattle.td_listings.specs.Writings.{WritesFront}
 use Rattle.td_answers.specs.Sites.{Sites, AreOfScript}
@@ -47,7 +47,8 @@ ProgramStops options from w WriteFault left after =
     (bytes : List ℕ) × ReadsBytes bytes from left × (text : List ℕ) × (TellsFault bytes left.left text ⊎ TellsReady options bytes text) × WritesFront text w after
 ProgramStops options from w OutOfMemory left after = ⊥
 
--- true says that the script was accepted, and false that its fault was told; links are asked for nothing before the lines
+-- true says that the script was accepted, and false that its fault was told; links are asked for nothing before the
+-- lines
 abbrev pub EndsBy : {S L : Type 0} → Workbench S L → (Sites → List S → Type 0) → (List S → Type 0) → Options → L → Input → Output → Result Bool Ended → L → Input → Output → Type 0
 EndsBy b Begin End options old from w (Ok true) new left after = ProgramRuns b Begin End options old from w (Ok tt) new left after
 EndsBy b Begin End options old from w (Ok false) new left after =

@@ -4,9 +4,9 @@ use Rattle.std.specs.Prelude.{◌≡◌, ◌⊎◌, ℕ, true, false, List, [], 
 use Rattle.std.specs.List.{AllByRecursion}
 use Rattle.std.specs.Io.KnownBytes.{IsAtEnd}
 use Rattle.td_headings.specs.Catalogues.{CatalogueData}
-use Rattle.td_devices.specs.Lines.{raw_lines, content, is_one_line, IsWholeLine, IsOfOneLine}
-use Rattle.td_lines.specs.Lines.{Line, quit, is_quit, line_of}
-use Rattle.td_devices.specs.Views.{Input, Output}
+use Rattle.td_io.specs.Lines.{raw_lines, content, is_one_line, IsWholeLine, IsOfOneLine}
+use Rattle.td_commands.specs.Lines.{Line, quit, is_quit, line_of}
+use Rattle.td_io.specs.Views.{Input, Output}
 use Rattle.td_listings.specs.Writings.{WritesFront}
 use Rattle.td_story.specs.Seen.{Seen}
 use Rattle.td_answers.specs.Asking.{AreAsked, LinkRequest}
@@ -114,10 +114,10 @@ pub record Reaches {X : Type 0} (step : LineStep X) (old : X) (raws : List (List
 abbrev pub IsCut : List ℕ → Type 0
 IsCut part = is_one_line part ≡ true
 
--- Why no more of these bytes was read, which say these lines and leave so many reads, and what is printed for the lines.
--- Ok comes at `.quit`, behind which nothing was read, or at the end of the input. A read fault comes after the answers of
--- all whole lines, want of memory after those of all lines but the last, which was not kept, and a write fault before
--- anything of the next line.
+-- Why no more of these bytes was read, which say these lines and leave so many reads, and what is printed for the
+-- lines. Ok comes at `.quit`, behind which nothing was read, or at the end of the input. A read fault comes after the
+-- answers of all whole lines, want of memory after those of all lines but the last, which was not kept, and a write
+-- fault before anything of the next line.
 abbrev pub StopsReading : {X : Type 0} → LineStep X → X → List (List ℕ) → ℕ → List ℕ → Input → Result (Unit {0}) Ended → X → Input → List ℕ → Type 0
 StopsReading step old raws spare bytes from (Ok u) new left text = ReadsBytes bytes from left × (Quits step old raws left.left text new ⊎ RunsOut step old raws left.left text new)
 StopsReading step old raws spare bytes from (Err ReadFault) new left text = ReadsNoMore spare bytes from left × BreaksOff step old raws IsCut text new

@@ -5,7 +5,7 @@ use Rattle.std.specs.List.{AllByRecursion}
 use Rattle.std.specs.Str.{bytes_eq, is_utf8}
 use Rattle.std.specs.Io.KnownBytes.{IsAtEnd}
 use Rattle.td_story.specs.declared.broken.BrokenTest.TheVariants as broken
-use Rattle.td_devices.specs.Lines.{raw_lines, content, IsWholeLine, IsOfOneLine}
+use Rattle.td_io.specs.Lines.{raw_lines, content, IsWholeLine, IsOfOneLine}
 use Rattle.td_story.specs.Databases.{DatabaseData}
 use Rattle.td_story.specs.Scripts.{Opens}
 use Rattle.td_story.specs.declared.error.ScriptError.{ScriptError}

@@ -1,8 +1,8 @@
 -- What a run has read of its input, and why it reads no more; what it has written.
 use Rattle.std.specs.Prelude.{◌≡◌, ◌⊎◌, ℕ, ◌-◌, ◌^◌, true, List, length}
 use Rattle.std.specs.Io.KnownBytes.{Appends, Consumes}
-use Rattle.td_devices.specs.Counted.{counted}
-use Rattle.td_devices.specs.Views.{Input, Output}
+use Rattle.td_io.specs.Counted.{counted}
+use Rattle.td_io.specs.Views.{Input, Output}
 
 -- the bytes were read, and no failure was counted
 abbrev pub ReadsBytes : List ℕ → Input → Input → Type 0

@@ -1,7 +1,7 @@
 //! The program over its words and its streams.
 
 ghost use Rattle.std.specs.Prelude.{◌≡◌, IfOk, string_bytes};
-ghost use Rattle.td_devices.specs.Views.{input_of, output_of};
+ghost use Rattle.td_io.specs.Views.{input_of, output_of};
 ghost use Rattle.td_workbench.specs.Journals.{keepers};
 ghost use Rattle.td_workbench.specs.Runs.{over};
 ghost use Rattle.td_workbench.specs.Exits.{Exits, PutsHelp, PutsRefusal, TellsJournal, TellsStopped, TellsWords, journal_fault, status_of};
@@ -14,7 +14,7 @@ use clap::Error;
 use clap::error::ErrorKind;
 use std::alloc::{AllocError, Global};
 use td_answers::Links;
-use td_devices::{Sink, Source, put};
+use td_io::{Sink, Source, put};
 use td_journal::Journals;
 use td_story::{Meter, Opens};
 

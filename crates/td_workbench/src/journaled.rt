@@ -2,7 +2,7 @@
 
 ghost use Rattle.std.specs.Prelude.{◌≡◌, IfOk, MatchResult, map, string_bytes};
 ghost use Rattle.std.specs.List.{AllByRecursion};
-ghost use Rattle.td_devices.specs.Views.{input_of, output_of};
+ghost use Rattle.td_io.specs.Views.{input_of, output_of};
 ghost use Rattle.td_journal.specs.Reopening.{IsNew};
 ghost use Rattle.td_journal.specs.Stores.{GoesOn};
 ghost use Rattle.td_journal.specs.Views.{seen_of};
@@ -18,7 +18,7 @@ use crate::script::{Script, Unready, read_script};
 use crate::writing::put_fault;
 use std::alloc::{AllocError, Global};
 use td_answers::Links;
-use td_devices::{Sink, Source};
+use td_io::{Sink, Source};
 use td_journal::{Journals, Keeper, StoreError, keep_journal};
 use td_listings::show_number;
 use td_story::{Meter, Opens};

@@ -2,7 +2,7 @@
 
 ghost use Rattle.std.specs.Prelude.{◌≡◌, map, string_bytes, true};
 ghost use Rattle.std.specs.Io.KnownBytes.{IsAtEnd};
-ghost use Rattle.td_devices.specs.Views.{input_of, output_of};
+ghost use Rattle.td_io.specs.Views.{input_of, output_of};
 ghost use Rattle.td_answers.specs.Sites.{AreOfScript};
 ghost use Rattle.td_workbench.specs.ForProofs.Opening.{AreThen, BehindEnds, ReadyEnds, StartEnds};
 ghost use Rattle.td_workbench.specs.Programs.{InRange, ProgramEnds};
@@ -15,7 +15,7 @@ use crate::script::{Script, Unready, read_script};
 use crate::writing::put_fault;
 use std::alloc::Global;
 use td_answers::Links;
-use td_devices::{Sink, Source, put};
+use td_io::{Sink, Source, put};
 use td_story::{Meter, Opens, Replica};
 
 // Answers the lines behind the script.

@@ -1,7 +1,7 @@
 //! What is told of a script that opens no sites.
 
 ghost use Rattle.std.specs.Prelude.{◌≡◌, ◌++◌, codes, IfOk, string_bytes};
-ghost use Rattle.td_devices.specs.Views.{output_of};
+ghost use Rattle.td_io.specs.Views.{output_of};
 ghost use Rattle.td_workbench.specs.ForProofs.Opening.{TellsMade, TellsRefusal};
 ghost use Rattle.td_workbench.specs.Scripts.{script_fault};
 ghost use Rattle.td_story.specs.declared.error.ScriptError.TheVariants as open_error;
@@ -9,7 +9,7 @@ ghost use Rattle.td_story.specs.declared.error.ScriptError.TheVariants as open_e
 use crate::run::Ended;
 use crate::writing::put_fault;
 use std::alloc::{AllocError, Global};
-use td_devices::Sink;
+use td_io::Sink;
 use td_listings::show_raise;
 use td_story::{BrokenTest, ScriptError};
 use td_values::{Name, Raise};

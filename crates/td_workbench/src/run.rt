@@ -5,17 +5,17 @@ ghost use Rattle.td_answers.specs.Sites.{AreOfOneScript, AreOfScript};
 ghost use Rattle.td_workbench.specs.ForProofs.Serving.{HandsOn, LineEnds, ReadEnds, Serves, ServesLines, ended_by};
 ghost use Rattle.td_workbench.specs.Runs.{AnswersLine, WorkbenchEnds, over, said};
 ghost use Rattle.std.specs.Io.KnownBytes.{Keeps};
-ghost use Rattle.td_devices.specs.Counted.{Counts};
-ghost use Rattle.td_devices.specs.Lines.{HasCause, IsKept, LineRead, TellsLine, is_one_line};
-ghost use Rattle.td_lines.specs.Lines.{line_of};
-ghost use Rattle.td_devices.specs.Views.{input_of, output_of};
+ghost use Rattle.td_io.specs.Counted.{Counts};
+ghost use Rattle.td_io.specs.Lines.{HasCause, IsKept, LineRead, TellsLine, is_one_line};
+ghost use Rattle.td_commands.specs.Lines.{line_of};
+ghost use Rattle.td_io.specs.Views.{input_of, output_of};
 
 use crate::writing::write_text;
 use std::alloc::Global;
 use td_answers::{Links, Reply, answer, catalogue_for};
-use td_devices::{Failed, LineError, RawLine, Sink, Source, content, has_line, read_line};
+use td_commands::LINE_BYTES;
 use td_headings::Catalogue;
-use td_lines::LINE_BYTES;
+use td_io::{Failed, LineError, RawLine, Sink, Source, content, has_line, read_line};
 use td_story::{Meter, Replica};
 use thiserror::Error;
 

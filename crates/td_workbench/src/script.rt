@@ -3,11 +3,11 @@
 ghost use Rattle.std.specs.Prelude.{◌≡◌, ◌≤◌, ◌++◌, List, ℕ, IfOk, option_map};
 ghost use Rattle.td_workbench.specs.ForProofs.Reading.{IsKeptScript, ScriptRead, unready_by};
 ghost use Rattle.td_workbench.specs.Scripts as spec;
-ghost use Rattle.td_devices.specs.Lines.{IsKept};
-ghost use Rattle.td_devices.specs.Views.{input_of};
+ghost use Rattle.td_io.specs.Lines.{IsKept};
+ghost use Rattle.td_io.specs.Views.{input_of};
 
 use std::alloc::{AllocError, Global};
-use td_devices::{LineError, RawLine, Source, content, read_line};
+use td_io::{LineError, RawLine, Source, content, read_line};
 use td_story::SCRIPT_BYTES;
 use thiserror::Error;
 

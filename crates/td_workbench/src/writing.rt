@@ -1,11 +1,11 @@
 //! Texts written whole.
 
-ghost use Rattle.td_devices.specs.Views.{output_of};
+ghost use Rattle.td_io.specs.Views.{output_of};
 ghost use Rattle.td_workbench.specs.ForProofs.Opening.{PutsFault};
 ghost use Rattle.td_workbench.specs.ForProofs.Serving.{WritesOn};
 
 use crate::run::Ended;
-use td_devices::{Failed, Sink, put, write_all};
+use td_io::{Failed, Sink, put, write_all};
 
 /// Writes a text. The answer says that the run goes on.
 pub fn write_text<K: Sink>(sink: &mut K, text: &[u8]) -> Result<bool, Failed>

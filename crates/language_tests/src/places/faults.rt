@@ -1,7 +1,7 @@
 //! The byte at which a text goes wrong. Those of definitions and expressions are shown by examples of tools/check.
 
 use crate::Result;
-use td_places::{Reading, place_of_fault};
+use td_parse_errors::{Reading, place_of_fault};
 
 // Whether the text without its mark goes wrong at the mark; one without a mark is to be read.
 fn stops(rt: &HostRuntime, reading: Reading, marked: &str) -> Result<bool> {

@@ -1,7 +1,7 @@
 //! Lines, columns and carets.
 
 use crate::Result;
-use td_places::{Position, caret, line_of, position_of};
+use td_parse_errors::{Position, caret, line_of, position_of};
 
 const TEXT: &str = "S WHERE\r\n\tCITY = 'Zürich'\n\n)";
 

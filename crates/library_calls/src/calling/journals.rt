@@ -4,7 +4,7 @@ use super::MOST_WRITTEN;
 use super::examples::SCRIPT;
 use super::shown::{tell_journal, tell_site};
 use anyhow::{Result, bail};
-use td_devices::Device;
+use td_io::Device;
 use td_journal::{Keeper, ReopenError, Reopened, reopen};
 use td_story::{Meter, OpenError, Opens, Replica};
 

@@ -9,7 +9,7 @@ use super::shown::{tell_end, tell_site};
 use anyhow::{Result, bail};
 use std::alloc::Global;
 use std::mem;
-use td_devices::{Device, Pair};
+use td_io::{Device, Pair};
 use td_meeting::{answer, finish, greet, meet, settle};
 use td_stamps::Entry;
 use td_story::{Meter, Opens, Replica};

@@ -3,7 +3,7 @@
 use super::calls::Ended;
 use anyhow::{Result, bail};
 use std::alloc::Global;
-use td_devices::Device;
+use td_io::Device;
 use td_listings::{listing, log_text, show_outcome, show_stamp};
 use td_relations::Relation;
 use td_stamps::Stamp;

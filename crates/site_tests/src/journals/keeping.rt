@@ -7,7 +7,7 @@ use crate::journals::bytes::JOURNAL;
 use crate::journals::reopening::reopened;
 use std::alloc::{AllocError, Global};
 use std::test::Fail;
-use td_devices::Device;
+use td_io::Device;
 use td_journal::{Keeper, StartError};
 use td_replay::Site;
 use td_stamps::Entry;

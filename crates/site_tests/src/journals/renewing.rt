@@ -6,7 +6,7 @@ use crate::fakes::Narrow;
 use crate::journals::bytes::{JOURNAL, OLD};
 use std::alloc::{AllocError, Global};
 use std::test::Fail;
-use td_devices::Device;
+use td_io::Device;
 use td_journal::{Keeper, reopen};
 use td_replay::Site;
 use td_story::{Meter, Replica};

@@ -7,7 +7,7 @@ use std::alloc::Global;
 use std::net::TcpListener;
 use std::test::Fail;
 use td_answers::Links;
-use td_devices::{Channel, Device, Link};
+use td_io::{Channel, Device, Link};
 use td_meeting::{answer, finish, greet, settle};
 use td_replay::Site;
 use td_sockets::{TcpLinks, accept_on};

@@ -9,7 +9,7 @@ use std::io::Write;
 use std::net::SocketAddr;
 use std::test::Fail;
 use td_answers::{LinkError, Links};
-use td_devices::Pair;
+use td_io::Pair;
 use td_story::Meter;
 
 /// Counts the bytes that are written to it.

@@ -5,7 +5,7 @@ use crate::meetings::bytes::ANSWER;
 use crate::meetings::steps::{Start, Step, told};
 use std::alloc::{AllocError, Global};
 use std::test::Fail;
-use td_devices::Pair;
+use td_io::Pair;
 use td_story::Meter;
 
 // What a new site says that settles on these bytes, and how many bytes it writes.

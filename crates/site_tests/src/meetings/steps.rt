@@ -4,7 +4,7 @@ use crate::answers::{taken, vector};
 use crate::entries::{SCRIPT, Written, batch};
 use crate::fakes::{Given, Narrow};
 use std::alloc::{AllocError, Global};
-use td_devices::{Channel, Device, Pair};
+use td_io::{Channel, Device, Pair};
 use td_meeting::{MeetingError, answer, finish, greet, settle};
 use td_replay::Site;
 use td_story::{Meter, Opens, Replica};

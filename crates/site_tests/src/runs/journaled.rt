@@ -9,7 +9,7 @@ use std::io;
 use std::io::Write;
 use std::test::Fail;
 use td_answers::NoLinks;
-use td_devices::{Device, Failed};
+use td_io::{Device, Failed};
 use td_journal::{Journals, StoreError};
 use td_replay::Site;
 use td_story::Meter;

@@ -5,7 +5,7 @@ ghost use Rattle.std.specs.Prelude.{◌≡◌, IfOk};
 use std::alloc::{AllocError, Global};
 use std::test::Fail;
 use td_answers::NoLinks;
-use td_devices::Device;
+use td_io::Device;
 use td_replay::Site;
 use td_story::{Meter, Opens};
 use td_workbench::workbench;

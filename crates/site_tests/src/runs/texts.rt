@@ -3,7 +3,7 @@
 use super::fakes::{Full, SlowWriter, front};
 use std::alloc::{AllocError, Global};
 use std::test::Fail;
-use td_devices::Device;
+use td_io::Device;
 use td_listings::{ExportError, ListingError, export, listing};
 use td_replay::Site;
 use td_story::{Meter, Opens, Replica};

@@ -1,6 +1,6 @@
 -- What a value leads to along the pairs, by a step or more.
 use Rattle.std.specs.Prelude.{ℕ, ◌<◌, List, [], ◌∷◌}
-pub use Rattle.td_links.specs.Links.{LeadsOn, with_link}
+pub use Rattle.td_graph.specs.Links.{LeadsOn, with_link}
 
 -- in the list v, zs, w each leads to the next
 abbrev pub Leads : List (List ℕ) → ℕ → List ℕ → ℕ → Type 0

@@ -5,7 +5,7 @@ use Rattle.td_headings.specs.Catalogues.{CatalogueData}
 use Rattle.td_headings.specs.Expressions.{reads}
 use Rattle.td_headings.specs.Reached.{AreThose}
 use Rattle.td_headings.specs.declared.defined.Test.{Test}
-use Rattle.td_trees.specs.declared.expression.Expression.{Expression}
+use Rattle.td_typed_trees.specs.declared.expression.Expression.{Expression}
 use Rattle.td_story.specs.Footprints.{IsInFootprint, IsTargetOfText, TestReads}
 use Rattle.td_assign.specs.declared.names.Names.{Names}
 

@@ -6,9 +6,9 @@ use Rattle.td_algebra.specs.Raising.{Answers}
 use Rattle.td_algebra.specs.declared.errors.Fault.{Fault}
 use Rattle.std.specs.declared.convert.Infallible.{Infallible}
 use Rattle.td_algebra.specs.declared.errors.Stop.{Stop}
-use Rattle.td_trees.specs.declared.expression.BaseUnder.{BaseUnder}
-use Rattle.td_trees.specs.declared.expression.Expression.{Expression}
-use Rattle.td_trees.specs.declared.expression.VirtualUnder.{VirtualUnder}
+use Rattle.td_typed_trees.specs.declared.expression.BaseUnder.{BaseUnder}
+use Rattle.td_typed_trees.specs.declared.expression.Expression.{Expression}
+use Rattle.td_typed_trees.specs.declared.expression.VirtualUnder.{VirtualUnder}
 use Rattle.td_meaning.specs.Mean.{Relvars, rows_in}
 use Rattle.td_meaning.specs.Seen.{mean_in, relvars_there, virtuals_known}
 use Rattle.td_meaning.specs.Selections.{selection}

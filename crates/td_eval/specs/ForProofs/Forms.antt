@@ -4,8 +4,8 @@ use Rattle.td_values.specs.Rows.{RowsData}
 use Rattle.td_relations.specs.Deltas.{DeltaData, IsDifference}
 use Rattle.td_syntax.specs.declared.tree.BinaryOperator.TheVariants as binary
 use Rattle.td_syntax.specs.declared.tree.UnaryOperator.TheVariants as unary
-use Rattle.td_trees.specs.declared.tree.Typed.{Typed}
-use Rattle.td_trees.specs.declared.tree.Typed.TheVariants as typed
+use Rattle.td_typed_trees.specs.declared.tree.Typed.{Typed}
+use Rattle.td_typed_trees.specs.declared.tree.Typed.TheVariants as typed
 use Rattle.td_tuples.specs.declared.items.Item.{Item}
 use Rattle.td_algebra.specs.Functions.{extended, minus_of, restricted, union_of}
 use Rattle.td_algebra.specs.Raising.{and_then}

@@ -1,7 +1,7 @@
 -- What a call changes.
 use Rattle.std.specs.Prelude.{◌≡◌, Option, Some, Result, Ok, Err}
-use Rattle.td_kinds.specs.Results.{Fails}
-use Rattle.td_kinds.specs.declared.error.TypeError.{TypeError}
+use Rattle.td_schema.specs.Results.{Fails}
+use Rattle.td_schema.specs.declared.error.TypeError.{TypeError}
 
 -- to what there is, where it is taken; a refusal changes nothing
 abbrev pub Changes : {A : Type 0} → A → Option A → Result (Unit {0}) TypeError → A → Type 0

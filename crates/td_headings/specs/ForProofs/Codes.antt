@@ -1,12 +1,12 @@
 -- By which a proof tells catalogues and expressions apart.
 use Rattle.std.specs.Prelude.{List, Option, refl}
 use Rattle.std.specs.Coded.{Coded, code_by, coded×, coded_list, coded_option}
-use Rattle.td_kinds.specs.Schemas.{SchemaData}
-use Rattle.td_kinds.specs.ForProofs.Codes.{schema_code}
-use Rattle.td_trees.specs.contracts.expression.Expression.{the_row}
-use Rattle.td_trees.specs.contracts.tree.Typed as typed
-use Rattle.td_trees.specs.declared.expression.Expression.{Expression}
-use Rattle.td_trees.specs.declared.tree.Typed.{Typed}
+use Rattle.td_schema.specs.Schemas.{SchemaData}
+use Rattle.td_schema.specs.ForProofs.Codes.{schema_code}
+use Rattle.td_typed_trees.specs.contracts.expression.Expression.{the_row}
+use Rattle.td_typed_trees.specs.contracts.tree.Typed as typed
+use Rattle.td_typed_trees.specs.declared.expression.Expression.{Expression}
+use Rattle.td_typed_trees.specs.declared.tree.Typed.{Typed}
 use Rattle.td_headings.specs.contracts.defined.Origin as origin
 use Rattle.td_headings.specs.contracts.defined.Test as test
 use Rattle.td_headings.specs.declared.defined.Origin.{Origin}

@@ -9,13 +9,13 @@ use Rattle.td_syntax.specs.declared.tree.Extension.TheVariants as extension
 use Rattle.td_syntax.specs.declared.tree.Named.{Named}
 use Rattle.td_syntax.specs.declared.script.Action.{Action}
 use Rattle.td_syntax.specs.declared.script.Action.TheVariants as action
-use Rattle.td_kinds.specs.Kinds.{Name, relation_heading, same_kind}
-use Rattle.td_kinds.specs.Results.{where_some, where_true}
-use Rattle.td_kinds.specs.Schemas.{SchemaData, relvar_named}
-use Rattle.td_kinds.specs.Scopes.{Scope, relvars_of, within_tuple}
-use Rattle.td_kinds.specs.Written.{names}
-use Rattle.td_trees.specs.declared.tree.Typed.TheVariants as t
-use Rattle.td_trees.specs.declared.tree.Typing.{Typing}
+use Rattle.td_schema.specs.Kinds.{Name, relation_heading, same_kind}
+use Rattle.td_schema.specs.Results.{where_some, where_true}
+use Rattle.td_schema.specs.Schemas.{SchemaData, relvar_named}
+use Rattle.td_schema.specs.Scopes.{Scope, relvars_of, within_tuple}
+use Rattle.td_schema.specs.Written.{names}
+use Rattle.td_typed_trees.specs.declared.tree.Typed.TheVariants as t
+use Rattle.td_typed_trees.specs.declared.tree.Typing.{Typing}
 use Rattle.td_typing.specs.Trees.{typing}
 use Rattle.td_typing.specs.ForProofs.Infer.{infer, infer_name, by_unary, by_binary, restricted, infer_items, named_inferred, extended}
 use Rattle.td_headings.specs.Reached.{is_base}

@@ -1,6 +1,6 @@
 -- The names of constraints.
 use Rattle.std.specs.Prelude.{List, [], ◌∷◌}
-use Rattle.td_kinds.specs.Kinds.{Name}
+use Rattle.td_schema.specs.Kinds.{Name}
 use Rattle.td_headings.specs.declared.defined.Test.{Test}
 use Rattle.td_headings.specs.declared.defined.Test.TheVariants as test
 

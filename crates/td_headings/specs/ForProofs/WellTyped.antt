@@ -4,12 +4,12 @@ use Rattle.td_values.specs.Headings.{Header}
 use Rattle.td_values.specs.declared.TypeKind.TheVariants as kind
 use Rattle.td_syntax.specs.declared.tree.Expr.{Expr}
 use Rattle.td_syntax.specs.declared.tree.Named.{Named}
-use Rattle.td_kinds.specs.Kinds.{Name}
-use Rattle.td_kinds.specs.Scopes.{nothing, within_tuple}
-use Rattle.td_kinds.specs.Written.{kind_columns}
-use Rattle.td_kinds.specs.declared.schema.Representation.{Representation}
+use Rattle.td_schema.specs.Kinds.{Name}
+use Rattle.td_schema.specs.Scopes.{nothing, within_tuple}
+use Rattle.td_schema.specs.Written.{kind_columns}
+use Rattle.td_schema.specs.declared.schema.Representation.{Representation}
 use Rattle.td_typing.specs.Types.{Types}
-use Rattle.td_trees.specs.declared.tree.Typed.{Typed}
+use Rattle.td_typed_trees.specs.declared.tree.Typed.{Typed}
 use Rattle.td_headings.specs.Catalogues.{CatalogueData}
 use Rattle.td_headings.specs.Expressions.{IsTree, no_tuple}
 use Rattle.td_headings.specs.declared.defined.Origin.{Origin}

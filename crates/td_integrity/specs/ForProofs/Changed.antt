@@ -4,7 +4,7 @@ use Rattle.std.specs.List.{Contains, list_any}
 use Rattle.td_values.specs.Data.{no_attrs}
 use Rattle.td_values.specs.Rows.{RowsData}
 use Rattle.td_relations.specs.Deltas.{DeltaData}
-use Rattle.td_trees.specs.declared.expression.Expression.{Expression}
+use Rattle.td_typed_trees.specs.declared.expression.Expression.{Expression}
 use Rattle.td_algebra.specs.Raising.{and_then}
 use Rattle.td_operators.specs.Values.{truth_of}
 use Rattle.td_headings.specs.Catalogues.{CatalogueData}

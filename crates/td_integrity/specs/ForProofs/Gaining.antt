@@ -3,15 +3,15 @@ use Rattle.std.specs.Prelude.{◌≡◌, ℕ, Bool, true, Option, None, Some, Re
 use Rattle.std.specs.Borrow.{Bor}
 use Rattle.td_values.specs.Data.{no_attrs}
 use Rattle.td_values.specs.Rows.{RowsData}
-use Rattle.td_trees.specs.declared.expression.Expression.{Expression}
+use Rattle.td_typed_trees.specs.declared.expression.Expression.{Expression}
 use Rattle.td_algebra.specs.Functions.{matching_of, not_matching_of}
 use Rattle.td_algebra.specs.Raising.{and_then}
 use Rattle.td_algebra.specs.declared.errors.Stop.{Stop}
 use Rattle.td_operators.specs.Values.{truth_of}
 use Rattle.td_headings.specs.Catalogues.{CatalogueData}
 use Rattle.td_meaning.specs.Mean.{Relvars}
-use Rattle.td_growth.specs.Growth.{narrowed}
-use Rattle.td_growth.specs.Laws.{has_none}
+use Rattle.td_incremental.specs.Growth.{narrowed}
+use Rattle.td_incremental.specs.Laws.{has_none}
 use Rattle.td_story.specs.Differences.{LeadOver}
 use Rattle.td_story.specs.Stored.{AreStored}
 use Rattle.td_story.specs.Trees.{tree_means}

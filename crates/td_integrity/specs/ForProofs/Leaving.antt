@@ -5,11 +5,11 @@ use Rattle.td_values.specs.Data.{Attrs}
 use Rattle.td_tuples.specs.Parts.{cut}
 use Rattle.td_relations.specs.Deltas.{DeltaData}
 use Rattle.td_relations.specs.Sets.{Has}
-use Rattle.td_trees.specs.declared.expression.Expression.{Expression}
+use Rattle.td_typed_trees.specs.declared.expression.Expression.{Expression}
 use Rattle.td_algebra.specs.KeyIndexes.{KeyIndexData}
 use Rattle.td_algebra.specs.Keys.{shares_part}
 use Rattle.td_headings.specs.Catalogues.{CatalogueData}
-use Rattle.td_growth.specs.References.{Refers}
+use Rattle.td_incremental.specs.References.{Refers}
 
 -- a tuple of the index has t's part at its key
 abbrev pub HasPartIn : KeyIndexData → Attrs → Type 0

@@ -3,7 +3,7 @@ use Rattle.std.specs.Prelude.{◌≡◌, Bool, Ok}
 use Rattle.td_values.specs.Rows.{RowsData}
 use Rattle.td_algebra.specs.Functions.{matching_of, not_matching_of}
 use Rattle.td_meaning.specs.Mean.{Relvars}
-use Rattle.td_growth.specs.Laws.{has_none}
+use Rattle.td_incremental.specs.Laws.{has_none}
 use Rattle.td_integrity.specs.ForProofs.Tested.{HasRelation}
 use Rattle.td_integrity.specs.declared.losses.Losses.{Losses}
 

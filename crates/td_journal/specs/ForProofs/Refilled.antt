@@ -1,8 +1,8 @@
 -- What is told of the frames behind a header, which a new site has taken.
 use Rattle.std.specs.Prelude.{◌≡◌, ℕ, List, length, Ok, Err}
 use Rattle.std.specs.Io.KnownBytes.{Consumes, IsAtEnd}
-use Rattle.td_devices.specs.Counted.{counted}
-use Rattle.td_devices.specs.Views.{Input}
+use Rattle.td_io.specs.Counted.{counted}
+use Rattle.td_io.specs.Views.{Input}
 use Rattle.td_stamps.specs.declared.entry.Entry.{Entry}
 use Rattle.td_frames.specs.declared.version.Version.{Version}
 use Rattle.td_story.specs.Calls.{TakesBatch}

@@ -5,7 +5,7 @@ use Rattle.csv.specs.declared.writer.Writer.{Writer}
 use Rattle.td_values.specs.Headings.{Header}
 use Rattle.td_values.specs.Rows.{RowsData}
 use Rattle.td_syntax.specs.declared.tree.Named.{Named}
-use Rattle.td_kinds.specs.Schemas.{relvar_named}
+use Rattle.td_schema.specs.Schemas.{relvar_named}
 use Rattle.td_headings.specs.Catalogues.{CatalogueData}
 use Rattle.td_story.specs.Raises.{stop_of}
 use Rattle.td_story.specs.declared.answer.Answer.{Answer}

@@ -5,7 +5,7 @@ use Rattle.td_values.specs.Data.{Datum, Attrs}
 use Rattle.td_values.specs.Headings.{Header}
 use Rattle.td_tuples.specs.Parts.{Fits, attributes}
 use Rattle.td_syntax.specs.declared.tree.BinaryOperator.{BinaryOperator}
-use Rattle.td_trees.specs.declared.tree.Typed.{Typed}
+use Rattle.td_typed_trees.specs.declared.tree.Typed.{Typed}
 use Rattle.td_algebra.specs.declared.errors.Stop.{Stop}
 use Rattle.td_algebra.specs.Raising.{and_then}
 use Rattle.td_operators.specs.Operators.{operate}

@@ -1,7 +1,7 @@
 -- A selector that is sought by its place.
 use Rattle.std.specs.Prelude.{◌≡◌, ◌≤◌, ◌+◌, ◌*◌, ℕ, List, Err}
 use Rattle.td_values.specs.Data.{Datum}
-use Rattle.td_trees.specs.declared.expression.Selector.{Selector}
+use Rattle.td_typed_trees.specs.declared.expression.Selector.{Selector}
 use Rattle.td_algebra.specs.declared.errors.Stop.TheVariants.{Untyped}
 use Rattle.td_meaning.specs.ForProofs.Levels.{limit_levels, weight}
 use Rattle.td_meaning.specs.Selections.{selected, selection}

@@ -4,12 +4,12 @@ use Rattle.td_syntax.specs.declared.tree.Named.{Named}
 use Rattle.td_tuples.specs.declared.items.Item.{Item}
 use Rattle.td_tuples.specs.declared.items.Summary.{Summary}
 use Rattle.td_tuples.specs.declared.items.Summary.TheVariants as summary
-use Rattle.td_trees.specs.declared.expression.Selector.{Selector}
-use Rattle.td_trees.specs.declared.tree.TypedGroups.{TypedGroups}
-use Rattle.td_trees.specs.declared.tree.TypedGroups.TheVariants as groups
-use Rattle.td_trees.specs.declared.tree.Typed.{Typed}
-use Rattle.td_trees.specs.declared.tree.Typed.TheOpen.{Typed-F}
-use Rattle.td_trees.specs.declared.tree.Typed.TheFolds.{fold-Typed}
+use Rattle.td_typed_trees.specs.declared.expression.Selector.{Selector}
+use Rattle.td_typed_trees.specs.declared.tree.TypedGroups.{TypedGroups}
+use Rattle.td_typed_trees.specs.declared.tree.TypedGroups.TheVariants as groups
+use Rattle.td_typed_trees.specs.declared.tree.Typed.{Typed}
+use Rattle.td_typed_trees.specs.declared.tree.Typed.TheOpen.{Typed-F}
+use Rattle.td_typed_trees.specs.declared.tree.Typed.TheFolds.{fold-Typed}
 
 abbrev pub deepest : List ℕ → ℕ
 deepest [] = 0

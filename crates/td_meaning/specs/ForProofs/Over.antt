@@ -5,9 +5,9 @@ use Rattle.td_values.specs.Rows.{RowsData}
 use Rattle.td_syntax.specs.declared.tree.Named.{Named}
 use Rattle.td_tuples.specs.declared.items.Item.{Item}
 use Rattle.td_tuples.specs.declared.items.Summary.{Summary}
-use Rattle.td_trees.specs.declared.tree.TypedGroups.{TypedGroups}
-use Rattle.td_trees.specs.declared.tree.TypedGroups.TheVariants as groups
-use Rattle.td_trees.specs.declared.tree.Typed.{Typed}
+use Rattle.td_typed_trees.specs.declared.tree.TypedGroups.{TypedGroups}
+use Rattle.td_typed_trees.specs.declared.tree.TypedGroups.TheVariants as groups
+use Rattle.td_typed_trees.specs.declared.tree.Typed.{Typed}
 use Rattle.td_algebra.specs.declared.errors.Stop.{Stop}
 use Rattle.td_algebra.specs.Functions.{extended, summarized}
 use Rattle.td_algebra.specs.Raising.{and_then}

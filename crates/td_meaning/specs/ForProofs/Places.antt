@@ -1,7 +1,7 @@
 -- Relvars that are known, and virtual ones, sought by their places.
 use Rattle.std.specs.Prelude.{◌==◌, ℕ, Bool, List}
 use Rattle.std.specs.List.{list_any}
-use Rattle.td_trees.specs.declared.expression.VirtualUnder.{VirtualUnder}
+use Rattle.td_typed_trees.specs.declared.expression.VirtualUnder.{VirtualUnder}
 use Rattle.td_meaning.specs.declared.environment.Known.{Known}
 
 -- there is one at this place

@@ -5,7 +5,7 @@ use Rattle.std.specs.Coded.{Coded-set, Π_prop, coded_result}
 use Rattle.td_values.specs.Data.{Datum}
 use Rattle.td_values.specs.Proving.Code.{datum_code}
 use Rattle.td_algebra.specs.contracts.errors.Stop as stop
-use Rattle.td_trees.specs.declared.tree.Typed.{Typed}
+use Rattle.td_typed_trees.specs.declared.tree.Typed.{Typed}
 use Rattle.td_algebra.specs.declared.errors.Stop.{Stop}
 use Rattle.td_meaning.specs.declared.environment.Environment.{Environment}
 use Rattle.td_meaning.specs.declared.parts.Part.{Part}

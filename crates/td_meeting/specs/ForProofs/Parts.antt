@@ -2,8 +2,8 @@
 use Rattle.std.specs.Prelude.{◌≡◌, ℕ, true, List, ◌++◌, Option, Result, Ok, Err}
 use Rattle.std.specs.FinMap as by_site
 use Rattle.std.specs.Io.KnownBytes.{Keeps, Appends}
-use Rattle.td_devices.specs.Counted.{counted}
-use Rattle.td_devices.specs.Streams.{AppendsFront}
+use Rattle.td_io.specs.Counted.{counted}
+use Rattle.td_io.specs.Streams.{AppendsFront}
 use Rattle.td_stamps.specs.Vectors.{IsVector, VersionVector, sites_fit}
 use Rattle.td_stamps.specs.declared.entry.Entry.{Entry}
 use Rattle.td_frames.specs.declared.error.FrameError.{FrameError}

@@ -3,9 +3,9 @@ use Rattle.std.specs.Prelude.{◌≡◌, ℕ, true, List, Some, Result, Ok, Err,
 use Rattle.td_values.specs.Headings.{Header}
 use Rattle.td_values.specs.Rows.{RowsData}
 use Rattle.td_values.specs.declared.TypeKind.TheVariants as kind
-use Rattle.td_kinds.specs.Schemas.{relvar_named}
-use Rattle.td_trees.specs.declared.expression.Expression.{Expression}
-use Rattle.td_trees.specs.declared.tree.Typed.TheVariants as t
+use Rattle.td_schema.specs.Schemas.{relvar_named}
+use Rattle.td_typed_trees.specs.declared.expression.Expression.{Expression}
+use Rattle.td_typed_trees.specs.declared.tree.Typed.TheVariants as t
 use Rattle.td_headings.specs.Catalogues.{CatalogueData}
 use Rattle.td_headings.specs.Reached.{is_base}
 use Rattle.td_story.specs.Trees.{IsIn, all_relvars}

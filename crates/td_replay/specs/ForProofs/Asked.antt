@@ -3,7 +3,7 @@ use Rattle.std.specs.Prelude.{◌≤◌, ℕ, List, Result, Ok, Err, length}
 use Rattle.td_values.specs.Data.{Datum, no_attrs}
 use Rattle.td_syntax.specs.declared.tree.Expr.{Expr}
 use Rattle.td_grammar.specs.Grammar.{IsQuery}
-use Rattle.td_trees.specs.declared.expression.Expression.{Expression}
+use Rattle.td_typed_trees.specs.declared.expression.Expression.{Expression}
 use Rattle.td_headings.specs.Catalogues.{CatalogueData}
 use Rattle.td_headings.specs.Expressions.{IsExpression, no_tuple}
 use Rattle.td_story.specs.Trees.{tree_means}

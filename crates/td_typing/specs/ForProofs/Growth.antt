@@ -2,11 +2,11 @@
 use Rattle.std.specs.Prelude.{◌≡◌, ◌++◌, List, Some}
 use Rattle.td_values.specs.Headings.{Header}
 use Rattle.td_syntax.specs.declared.tree.Named.{Named}
-use Rattle.td_kinds.specs.declared.schema.Representation.{Representation}
-use Rattle.td_kinds.specs.declared.scope.Meant.{Meant}
-use Rattle.td_kinds.specs.Kinds.{Name}
-use Rattle.td_kinds.specs.Schemas.{SchemaData}
-use Rattle.td_kinds.specs.Scopes.{Scope}
+use Rattle.td_schema.specs.declared.schema.Representation.{Representation}
+use Rattle.td_schema.specs.declared.scope.Meant.{Meant}
+use Rattle.td_schema.specs.Kinds.{Name}
+use Rattle.td_schema.specs.Schemas.{SchemaData}
+use Rattle.td_schema.specs.Scopes.{Scope}
 
 -- the later one has what the earlier one has, and more behind it
 pub record IsEarlier (early late : SchemaData) : Type 0 where

@@ -1,6 +1,6 @@
 -- What a run over journals comes to, behind its script.
 use Rattle.std.specs.Prelude.{ℕ, Bool, List, option_map, Result, Ok, Err}
-use Rattle.td_devices.specs.Views.{Input, Output}
+use Rattle.td_io.specs.Views.{Input, Output}
 use Rattle.td_journal.specs.declared.stores.StoreError.{StoreError}
 use Rattle.td_answers.specs.Asking.{LinkRequest}
 use Rattle.td_workbench.specs.Journals.{JournaledEnds, KeeperSites, Kept}

@@ -1,10 +1,10 @@
 -- What is kept of a script, and what reading one comes to.
 use Rattle.std.specs.Prelude.{◌≡◌, ◌≤◌, ◌<◌, ℕ, ◌+◌, ◌-◌, Bool, true, false, List, [], ◌++◌, length, Option, Some, None, option_map, Result, Ok, Err}
 use Rattle.std.specs.Io.KnownBytes.{IsAtEnd}
-use Rattle.td_devices.specs.Lines.{raw_lines, IsOfOneLine}
-use Rattle.td_devices.specs.declared.lines.LineError.{LineError}
-use Rattle.td_devices.specs.declared.lines.LineError.TheVariants as line_error
-use Rattle.td_devices.specs.Views.{Input}
+use Rattle.td_io.specs.Lines.{raw_lines, IsOfOneLine}
+use Rattle.td_io.specs.declared.lines.LineError.{LineError}
+use Rattle.td_io.specs.declared.lines.LineError.TheVariants as line_error
+use Rattle.td_io.specs.Views.{Input}
 use Rattle.td_workbench.specs.Runs.{IsCut}
 use Rattle.td_workbench.specs.Scripts.{IsUnfinished, Says, script_then, most_script_bytes}
 use Rattle.td_workbench.specs.Streams.{ReadsBytes, ReadsNoMore}

@@ -1,13 +1,13 @@
 -- What answering one line comes to, and what a run comes to by so many reads.
 use Rattle.std.specs.Prelude.{◌≡◌, ◌⊎◌, ℕ, ◌-◌, Bool, true, false, List, [], length, Option, Result, Ok, Err}
 use Rattle.std.specs.Io.KnownBytes.{Keeps}
-use Rattle.td_devices.specs.Counted.{counted}
-use Rattle.td_devices.specs.Lines.{raw_lines, IsWholeLine}
-use Rattle.td_devices.specs.declared.lines.LineError.{LineError}
-use Rattle.td_devices.specs.declared.lines.LineError.TheVariants as line_error
-use Rattle.td_devices.specs.declared.streams.Failed.{Failed}
-use Rattle.td_lines.specs.Lines.{Line, quit, is_quit}
-use Rattle.td_devices.specs.Views.{Input, Output}
+use Rattle.td_io.specs.Counted.{counted}
+use Rattle.td_io.specs.Lines.{raw_lines, IsWholeLine}
+use Rattle.td_io.specs.declared.lines.LineError.{LineError}
+use Rattle.td_io.specs.declared.lines.LineError.TheVariants as line_error
+use Rattle.td_io.specs.declared.streams.Failed.{Failed}
+use Rattle.td_commands.specs.Lines.{Line, quit, is_quit}
+use Rattle.td_io.specs.Views.{Input, Output}
 use Rattle.td_listings.specs.Writings.{WritesFront}
 use Rattle.td_workbench.specs.Streams.{AppendsText, HandsOnNot}
 use Rattle.td_workbench.specs.Runs.{said, DoesNotQuit, Quits, RunsOut, Reaches, StopsReading, StopsWriting, Ends, LineStep}

@@ -2,7 +2,7 @@ use Rattle.std.proofs.Common.{◌↔◌, ◌++◌, [], ap, subst, ◌∙◌}
 use Rattle.std.specs.List.{Contains}
 use Rattle.std.specs.Prelude.{slice_index_or}
 use Rattle.std.proofs.lemmas.Result.{IfOk-weaker}
-use Rattle.td_links.specs.Links.{ReachedFrom}
+use Rattle.td_graph.specs.Links.{ReachedFrom}
 use Rattle.td_algebra.proofs.Reaching.{beyond}
 use Rattle.td_algebra.proofs.closure.beyond.Goals as goal
 

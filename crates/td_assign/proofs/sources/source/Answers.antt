@@ -1,10 +1,10 @@
 use Rattle.std.proofs.Common.{IfOk, slice_get, sym, ap, subst, ◌∙◌}
 use Rattle.td_values.specs.Data.{no_attrs}
-use Rattle.td_kinds.specs.Schemas.{SchemaData}
+use Rattle.td_schema.specs.Schemas.{SchemaData}
 use Rattle.td_algebra.specs.Raising.{and_then}
 use Rattle.td_headings.specs.Catalogues.{CatalogueData}
 use Rattle.td_operators.specs.Values.{rows_of}
-use Rattle.td_soundness.specs.Meanings.{IsRelationOver}
+use Rattle.td_type_soundness.specs.Meanings.{IsRelationOver}
 use Rattle.td_story.specs.Raises.{Tells}
 use Rattle.td_story.specs.Trees.{AreBases, tree_means}
 use Rattle.td_story.specs.Databases.{stored_relvars}

@@ -1,5 +1,5 @@
 use Rattle.std.proofs.Common.{IfOk, IsTrue, ap, ◌∙◌, subst}
-use Rattle.td_trees.specs.declared.tree.Typed.TheVariants as typed
+use Rattle.td_typed_trees.specs.declared.tree.Typed.TheVariants as typed
 use Rattle.td_eval.specs.ForProofs.ByKey.{AddsEqualities}
 use Rattle.td_eval.proofs.ByKey.{adds_if}
 use Rattle.td_eval.proofs.by_key.+equalities.Goals as goal

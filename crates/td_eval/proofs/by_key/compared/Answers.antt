@@ -1,5 +1,5 @@
 use Rattle.std.proofs.Common.{sym, ap, ◌∙◌}
-use Rattle.td_trees.specs.declared.tree.Typed.TheVariants as typed
+use Rattle.td_typed_trees.specs.declared.tree.Typed.TheVariants as typed
 use Rattle.td_eval.proofs.ByKey.{one_equality}
 use Rattle.td_eval.proofs.by_key.compared.Goals as goal
 

@@ -1,5 +1,5 @@
 use Rattle.std.proofs.Common.{[], ◌∷◌, IfOk, IfSome, sym, ◌∙◌, subst}
-use Rattle.td_trees.specs.declared.tree.Typed.TheVariants as typed
+use Rattle.td_typed_trees.specs.declared.tree.Typed.TheVariants as typed
 use Rattle.td_eval.specs.ForProofs.ByKey.{IsConjunction}
 use Rattle.td_eval.proofs.by_key.equality.Goals as goal
 

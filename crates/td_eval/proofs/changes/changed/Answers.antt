@@ -1,5 +1,5 @@
 use Rattle.std.proofs.Common.{ap, sym, ◌∙◌}
-use Rattle.td_trees.specs.declared.expression.Expression.{Expression}
+use Rattle.td_typed_trees.specs.declared.expression.Expression.{Expression}
 use Rattle.td_eval.proofs.Remade.{raised, told_change, told_error}
 use Rattle.td_eval.proofs.changes.changed.Goals as goal
 

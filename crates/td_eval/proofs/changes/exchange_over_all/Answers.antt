@@ -1,7 +1,7 @@
 use Rattle.std.proofs.Common.{◌∙◌, ap, subst}
 use Rattle.td_meaning.specs.Mean.{Meaning}
 use Rattle.td_meaning.specs.Seen.{none_virtual}
-use Rattle.td_trees.specs.declared.tree.Typed.{Typed}
+use Rattle.td_typed_trees.specs.declared.tree.Typed.{Typed}
 use Rattle.td_eval.specs.ForProofs.Forms.{TellsForm, form_means}
 use Rattle.td_eval.proofs.Settled.{all_mean, nothing_right}
 use Rattle.td_eval.proofs.changes.exchange_over_all.Goals as goal

@@ -1,7 +1,7 @@
 use Rattle.std.proofs.Common.{◌≡◌, Ok, Err, refl, ap, ◌∙◌, subst}
 use Rattle.std.proofs.lemmas.Result.{err_from_is_err_and}
 use Rattle.td_values.specs.Data.{Datum}
-use Rattle.td_trees.specs.declared.expression.Expression.{Expression}
+use Rattle.td_typed_trees.specs.declared.expression.Expression.{Expression}
 use Rattle.td_meaning.specs.Mean.{mean, within}
 use Rattle.td_meaning.specs.Seen.{relvars_at}
 use Rattle.td_meaning.specs.Selections.{selection}

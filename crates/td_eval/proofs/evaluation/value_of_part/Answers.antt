@@ -1,7 +1,7 @@
 use Rattle.std.proofs.Common.{ap, ◌∙◌, subst}
 use Rattle.td_algebra.specs.Raising.{Answers}
-use Rattle.td_trees.specs.declared.expression.Expression.{Expression}
-use Rattle.td_trees.specs.declared.tree.Typed.{Typed}
+use Rattle.td_typed_trees.specs.declared.expression.Expression.{Expression}
+use Rattle.td_typed_trees.specs.declared.tree.Typed.{Typed}
 use Rattle.td_meaning.specs.Mean.{Meaning}
 use Rattle.td_meaning.specs.Seen.{visible}
 use Rattle.td_eval.specs.ForProofs.Environments.{bases_known}

@@ -1,7 +1,7 @@
 use Rattle.std.proofs.Common.{rules, ◌≡◌, ◌∷◌, subst}
 use Rattle.std.proofs.lemmas.Result.{err_from_is_err_and}
 use Rattle.std.specs.Io.KnownBytes.{Appends}
-use Rattle.td_devices.specs.Streams.{AppendsFront, Writes}
+use Rattle.td_io.specs.Streams.{AppendsFront, Writes}
 use Rattle.td_frames.specs.Spelling.{head_of}
 use Rattle.td_frames.specs.declared.version.Version.TheVariants.{Second}
 use Rattle.td_frames.proofs.Writing.{front_longer, writes_then}

@@ -1,7 +1,7 @@
 use Rattle.std.proofs.Common.{◌++◌, subst}
 use Rattle.std.proofs.lemmas.Result.{err_from_is_err_and}
 use Rattle.std.specs.Io.KnownBytes.{Appends}
-use Rattle.td_devices.specs.Streams.{AppendsFront}
+use Rattle.td_io.specs.Streams.{AppendsFront}
 use Rattle.td_frames.specs.Spelling.{head_frame, script_frame, vector_frame}
 use Rattle.td_frames.proofs.Writing.{front_longer, front_after, writes_then}
 use Rattle.td_frames.proofs.greeted.put_greeting.Goals as goal

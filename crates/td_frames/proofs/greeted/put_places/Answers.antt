@@ -4,7 +4,7 @@ use Rattle.std.proofs.lemmas.List.{take_all}
 use Rattle.std.specs.List.{flat_map}
 use Rattle.std.specs.Io.KnownBytes.{Appends}
 use Rattle.std.proofs.KnownBytes.{Appends-trans, Keeps-trans}
-use Rattle.td_devices.specs.Streams.{AppendsFront}
+use Rattle.td_io.specs.Streams.{AppendsFront}
 use Rattle.td_frames.specs.Spelling.{place}
 use Rattle.td_frames.proofs.Writing.{front_longer, front_after, more_of, all_of}
 use Rattle.td_frames.proofs.greeted.put_places.Goals as goal

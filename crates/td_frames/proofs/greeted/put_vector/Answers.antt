@@ -3,7 +3,7 @@ use Rattle.std.proofs.lemmas.Result.{err_from_is_err_and}
 use Rattle.std.specs.Int.{w16, to_be_bytes}
 use Rattle.std.specs.List.{flat_map}
 use Rattle.std.specs.Io.KnownBytes.{Appends}
-use Rattle.td_devices.specs.Streams.{AppendsFront}
+use Rattle.td_io.specs.Streams.{AppendsFront}
 use Rattle.td_frames.specs.Spelling.{place}
 use Rattle.td_frames.proofs.Writing.{front_longer, writes_then}
 use Rattle.td_frames.proofs.greeted.put_vector.Goals as goal

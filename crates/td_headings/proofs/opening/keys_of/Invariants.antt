@@ -1,5 +1,5 @@
 use Rattle.std.proofs.Common.{◌≡◌, [], drop}
-use Rattle.td_kinds.specs.Lists.{attributes_of}
+use Rattle.td_schema.specs.Lists.{attributes_of}
 use Rattle.td_typing.specs.ForProofs.Infer.{each}
 use Rattle.td_headings.proofs.opening.keys_of.Given as goal
 

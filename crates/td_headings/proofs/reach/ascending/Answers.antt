@@ -1,4 +1,4 @@
-use Rattle.td_links.specs.Links.{ReachedFrom}
+use Rattle.td_graph.specs.Links.{ReachedFrom}
 use Rattle.td_headings.proofs.Ascending.{those_with}
 use Rattle.td_headings.proofs.reach.ascending.Goals as goal
 

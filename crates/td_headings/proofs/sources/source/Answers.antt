@@ -1,5 +1,5 @@
 use Rattle.std.proofs.Common.{sym, subst}
-use Rattle.td_kinds.specs.Results.{Gives}
+use Rattle.td_schema.specs.Results.{Gives}
 use Rattle.td_headings.proofs.SourceLemmas.{is_found}
 use Rattle.td_headings.proofs.sources.source.Goals as goal
 

@@ -1,5 +1,5 @@
 use Rattle.std.proofs.Common.{sym, subst, ◌∙◌}
-use Rattle.td_kinds.specs.Results.{Fails}
+use Rattle.td_schema.specs.Results.{Fails}
 use Rattle.td_headings.specs.Expressions.{IsTree, IsClosedExpression, no_tuple}
 use Rattle.td_headings.proofs.StatementLemmas.{found_one, refused_by, same_assigned, source_tree}
 use Rattle.td_headings.proofs.statement.assignment.Goals as goal

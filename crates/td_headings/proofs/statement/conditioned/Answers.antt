@@ -1,6 +1,6 @@
 use Rattle.std.proofs.Common.{◌≡◌, Some, subst}
-use Rattle.td_kinds.specs.Results.{Fails}
-use Rattle.td_kinds.specs.Schemas.{SchemaData}
+use Rattle.td_schema.specs.Results.{Fails}
+use Rattle.td_schema.specs.Schemas.{SchemaData}
 use Rattle.td_headings.specs.ForProofs.After.{condition_after}
 use Rattle.td_headings.proofs.ConditionLemmas.{condition_refused, condition_tree, found_condition}
 use Rattle.td_headings.proofs.statement.conditioned.Goals as goal

@@ -1,5 +1,5 @@
 use Rattle.std.proofs.Common.{sym, subst}
-use Rattle.td_kinds.specs.Scopes.{relvars_of, within_tuple}
+use Rattle.td_schema.specs.Scopes.{relvars_of, within_tuple}
 use Rattle.td_typing.specs.Types.{Types}
 use Rattle.td_headings.proofs.NoTuple.{in_no_tuple}
 use Rattle.td_headings.proofs.typed.type_expr.Goals as goal

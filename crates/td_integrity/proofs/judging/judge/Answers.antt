@@ -1,5 +1,5 @@
 use Rattle.std.proofs.Common.{◌≡◌, List, None, MatchOption, sym, subst}
-use Rattle.td_kinds.specs.Kinds.{Name}
+use Rattle.td_schema.specs.Kinds.{Name}
 use Rattle.td_headings.specs.Expressions.{IsConstraint, constraint_at}
 use Rattle.td_story.specs.Raises.{Tells}
 use Rattle.td_integrity.specs.ForProofs.Changed.{KeyBefore}

@@ -2,7 +2,7 @@ use Rattle.std.proofs.Common.{Ok, sym, ap, ◌∙◌, subst}
 use Rattle.td_story.specs.Raises.{Tells}
 use Rattle.td_integrity.proofs.Gaining.{lost, over, stays}
 use Rattle.td_integrity.proofs.Judged.{are_bases}
-use Rattle.td_growth.specs.Growth.{narrowed}
+use Rattle.td_incremental.specs.Growth.{narrowed}
 use Rattle.td_integrity.proofs.judging.judge_constraint.Goals as goal
 
 pub truth-requires-clause-bases : goal.truth-requires-clause-bases

@@ -1,5 +1,5 @@
 use Rattle.std.proofs.Common.{ℕ, List, IfSome, subst}
-use Rattle.td_growth.specs.References.{Refers}
+use Rattle.td_incremental.specs.References.{Refers}
 use Rattle.td_integrity.specs.ForProofs.Leaving.{LeavesParts}
 use Rattle.td_integrity.proofs.ways.keeps_references.Goals as goal
 

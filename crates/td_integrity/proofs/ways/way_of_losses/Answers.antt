@@ -1,7 +1,7 @@
 use Rattle.std.proofs.Common.{ℕ, List, refl, ap, subst, ◌∙◌}
 use Rattle.std.specs.Prelude.{IfSome}
 use Rattle.td_algebra.specs.Functions.{project_of}
-use Rattle.td_growth.specs.References.{RefersBy}
+use Rattle.td_incremental.specs.References.{RefersBy}
 use Rattle.td_integrity.specs.declared.losses.Losses.{Losses}
 use Rattle.td_integrity.proofs.Gaining.{losses_tell}
 use Rattle.td_integrity.proofs.ways.way_of_losses.Goals as goal

@@ -2,7 +2,7 @@ use Rattle.std.proofs.Common.{rules, ◌≡◌, ◌∷◌, ◌++◌, codes, leng
 use Rattle.std.proofs.lemmas.Result.{err_from_is_err_and}
 use Rattle.std.specs.Int.{w16, w32, to_be_bytes}
 use Rattle.std.specs.Io.KnownBytes.{Appends}
-use Rattle.td_devices.specs.Streams.{AppendsFront, Writes}
+use Rattle.td_io.specs.Streams.{AppendsFront, Writes}
 use Rattle.td_frames.proofs.Writing.{front_longer, writes_then}
 use Rattle.td_journal.proofs.frames.put_header.Goals as goal
 

@@ -1,5 +1,5 @@
 use Rattle.std.proofs.Common.{◌≤◌, ℕ, List, length, sym, ap, subst, ◌∙◌}
-use Rattle.td_devices.specs.Views.{output_of}
+use Rattle.td_io.specs.Views.{output_of}
 use Rattle.td_stamps.specs.Sets.{Holding}
 use Rattle.td_journal.proofs.Kept.{starts}
 use Rattle.td_journal.proofs.keeper.put_journal.Goals as goal

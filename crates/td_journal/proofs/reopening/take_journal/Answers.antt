@@ -1,5 +1,5 @@
 use Rattle.std.proofs.Common.{None, Some, Ok, Err, ap, refl, subst, sym}
-use Rattle.td_devices.specs.Views.{input_of}
+use Rattle.td_io.specs.Views.{input_of}
 use Rattle.td_journal.specs.Reopening.{RetakesNot}
 use Rattle.td_journal.specs.declared.reopening.ReopenError.{ReopenError}
 use Rattle.td_journal.proofs.ComesBack.{comes_back, cut_header, header_as, refused_header}

@@ -1,5 +1,5 @@
 use Rattle.std.proofs.Common.{◌≡◌, true, ap}
-use Rattle.td_devices.specs.Views.{output_of}
+use Rattle.td_io.specs.Views.{output_of}
 use Rattle.td_journal.proofs.Stored.{went_on}
 use Rattle.td_journal.proofs.stores.go_on.Goals as goal
 

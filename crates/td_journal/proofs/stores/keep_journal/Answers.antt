@@ -1,7 +1,7 @@
 use Rattle.std.proofs.Common.{◌≡◌, true, ap, subst}
 use Rattle.std.specs.Prelude.{List, ℕ, Option}
 use Rattle.std.specs.Io.KnownBytes.{Keeps}
-use Rattle.td_devices.specs.Views.{input_of, output_of}
+use Rattle.td_io.specs.Views.{input_of, output_of}
 use Rattle.td_journal.proofs.Stored.{kept_on, not_kept}
 use Rattle.td_journal.proofs.stores.keep_journal.Goals as goal
 

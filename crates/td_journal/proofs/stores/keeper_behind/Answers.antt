@@ -1,5 +1,5 @@
 use Rattle.std.proofs.Common.{refl}
-use Rattle.td_devices.specs.Views.{output_of}
+use Rattle.td_io.specs.Views.{output_of}
 use Rattle.td_journal.proofs.Stored.{not_started}
 use Rattle.td_journal.proofs.stores.keeper_behind.Goals as goal
 

@@ -1,5 +1,5 @@
 use Rattle.std.proofs.Common.{inl, inr, refl, ap, ◌∙◌}
-use Rattle.td_devices.specs.Views.{output_of}
+use Rattle.td_io.specs.Views.{output_of}
 use Rattle.td_journal.specs.Views.{KeeperData}
 use Rattle.td_journal.proofs.Stored.{anew, not_written}
 use Rattle.td_journal.proofs.stores.make_anew.Goals as goal

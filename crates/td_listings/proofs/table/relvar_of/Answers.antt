@@ -1,5 +1,5 @@
 use Rattle.std.proofs.Common.{slice_get, sym, ap, refl, ◌∙◌}
-use Rattle.td_kinds.specs.Schemas.{SchemaData}
+use Rattle.td_schema.specs.Schemas.{SchemaData}
 use Rattle.td_listings.proofs.Found.{other, this}
 use Rattle.td_listings.proofs.table.relvar_of.Goals as goal
 

@@ -1,5 +1,5 @@
 use Rattle.std.proofs.Common.{◌≡◌, drop}
-use Rattle.td_kinds.specs.Schemas.{first_from, is_named, relvar_named}
+use Rattle.td_schema.specs.Schemas.{first_from, is_named, relvar_named}
 use Rattle.td_listings.proofs.table.relvar_of.Given as goal
 
 abbrev pub invariant-loop-place : goal.invariant-loop-place

@@ -2,7 +2,7 @@ use Rattle.std.proofs.Common.{ap, sym, ◌∙◌, arith}
 use Rattle.td_syntax.specs.declared.tree.Named.{Named}
 use Rattle.td_tuples.specs.declared.items.Item.{Item}
 use Rattle.td_tuples.specs.declared.items.Summary.{Summary}
-use Rattle.td_trees.specs.declared.tree.Typed.{Typed}
+use Rattle.td_typed_trees.specs.declared.tree.Typed.{Typed}
 use Rattle.td_meaning.specs.ForProofs.Levels.{item_levels, levels, list_levels, named_levels, summaries_levels, summary_levels}
 use Rattle.td_meaning.specs.ForProofs.Right.{deepest_in}
 use Rattle.td_meaning.proofs.Deepest.{front_is_no_deeper, of_its_term, one_more_deep, relation_levels, select_levels}

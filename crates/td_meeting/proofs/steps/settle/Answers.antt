@@ -1,6 +1,6 @@
 use Rattle.std.proofs.Common.{rules, ◌≡◌, ◌∙◌, true, sym, ap}
 use Rattle.std.proofs.KnownBytes.{Keeps-trans}
-use Rattle.td_devices.specs.Counted.{counted}
+use Rattle.td_io.specs.Counted.{counted}
 use Rattle.td_meeting.proofs.Whole.{keeps_as, settled, settled_front, unsettled}
 use Rattle.td_meeting.proofs.steps.settle.Goals as goal
 

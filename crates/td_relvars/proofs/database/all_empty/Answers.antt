@@ -3,7 +3,7 @@ use Rattle.std.specs.Prelude.{option_map}
 use Rattle.std.proofs.lemmas.List.{length-append, map-append}
 use Rattle.td_values.specs.Rows.{RowsData}
 use Rattle.td_bases.specs.Bases.{BaseData}
-use Rattle.td_kinds.specs.Schemas.{SchemaData}
+use Rattle.td_schema.specs.Schemas.{SchemaData}
 use Rattle.td_headings.proofs.WellTyped.{all_typed}
 use Rattle.td_story.specs.Openings.{all_empty}
 use Rattle.td_relvars.specs.ForProofs.Kept.{AreFirst, keys_of, rows_of}

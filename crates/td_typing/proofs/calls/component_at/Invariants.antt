@@ -1,5 +1,5 @@
 use Rattle.std.proofs.Common.{◌≡◌, ◌-◌, length, drop}
-use Rattle.td_kinds.specs.Schemas.{first_from, is_named}
+use Rattle.td_schema.specs.Schemas.{first_from, is_named}
 use Rattle.td_typing.proofs.calls.component_at.Given as goal
 
 abbrev pub invariant-loop-at : goal.invariant-loop-at

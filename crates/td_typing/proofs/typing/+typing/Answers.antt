@@ -1,7 +1,7 @@
 use Rattle.std.proofs.Common.{ap, sym, ◌∙◌, subst, arith}
-use Rattle.td_kinds.specs.Results.{Gives}
-use Rattle.td_kinds.specs.Scopes.{visible}
-use Rattle.td_kinds.specs.Written.{names}
+use Rattle.td_schema.specs.Results.{Gives}
+use Rattle.td_schema.specs.Scopes.{visible}
+use Rattle.td_schema.specs.Written.{names}
 use Rattle.td_typing.specs.ForProofs.Infer.{infer, infer_tuple, infer_extend, infer_summarize, named_inferred, groups_inferred, summaries_inferred}
 use Rattle.td_typing.proofs.Equations.{of_tuple, of_extend, of_summarize}
 use Rattle.td_typing.proofs.LevelLemmas.{in_list, in_named, in_summaries, call_falls, relation_falls, tuple_falls, extend_falls, with_falls, summarize_falls}

@@ -1,7 +1,7 @@
 use Rattle.std.proofs.Common.{◌≡◌, ◌+◌, ◌*◌, max, [], drop}
 use Rattle.td_syntax.specs.Levels.{levels, named_levels}
 use Rattle.td_syntax.specs.ForProofs.Parts.{list_levels, summary_levels, summaries_levels, groups_levels}
-use Rattle.td_kinds.specs.Scopes.{visible}
+use Rattle.td_schema.specs.Scopes.{visible}
 use Rattle.td_typing.specs.ForProofs.Infer.{all_inferred, named_inferred, summaries_inferred, infer_each, infer_item, infer_summary, infer_in_turn, each}
 use Rattle.td_typing.proofs.typing.+typing.Given as goal
 

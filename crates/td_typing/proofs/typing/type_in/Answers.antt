@@ -1,4 +1,4 @@
-use Rattle.td_kinds.specs.Scopes.{visible}
+use Rattle.td_schema.specs.Scopes.{visible}
 use Rattle.td_typing.proofs.Told.{typed, refused}
 use Rattle.td_typing.proofs.typing.type_in.Goals as goal
 

@@ -1,5 +1,5 @@
 use Rattle.std.proofs.Common.{List, ℕ, ap, subst, ◌∙◌}
-use Rattle.td_devices.specs.Views.{output_of}
+use Rattle.td_io.specs.Views.{output_of}
 use Rattle.td_story.specs.Seen.{Seen}
 use Rattle.td_journal.specs.Stores.{GoesOn}
 use Rattle.td_workbench.specs.Journals.{journal_name}

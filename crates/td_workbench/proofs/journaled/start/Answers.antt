@@ -1,7 +1,7 @@
 use Rattle.std.proofs.Common.{map, string_bytes, sym, subst, ◌∙◌}
 use Rattle.td_headings.specs.Catalogues.{CatalogueData}
 use Rattle.td_answers.specs.Sites.{AreOfScript}
-use Rattle.td_devices.specs.Views.{output_of}
+use Rattle.td_io.specs.Views.{output_of}
 use Rattle.td_journal.specs.Views.{seen_of}
 use Rattle.td_workbench.specs.Journals.{AnyWay, ComeBack, keepers, with_links}
 use Rattle.td_workbench.proofs.Journaling.{as_run, not_kept, of_script_kept}

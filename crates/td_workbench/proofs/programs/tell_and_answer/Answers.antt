@@ -1,6 +1,6 @@
 use Rattle.std.proofs.Common.{List, ℕ, subst}
 use Rattle.std.specs.Io.KnownBytes.{Appends}
-use Rattle.td_devices.specs.Views.{output_of}
+use Rattle.td_io.specs.Views.{output_of}
 use Rattle.td_workbench.proofs.programs.tell_and_answer.Goals as goal
 
 pub returns-in-Ok-answer_behind : goal.returns-in-Ok-answer_behind

@@ -1,5 +1,5 @@
 use Rattle.std.proofs.Common.{true, sym, ◌∙◌}
-use Rattle.td_devices.specs.Views.{output_of}
+use Rattle.td_io.specs.Views.{output_of}
 use Rattle.td_workbench.specs.Runs.{AnswersLine, LineStep, State, over}
 use Rattle.td_workbench.proofs.Answering.{nothing_read, quit_read, last_read, failed_read}
 use Rattle.td_workbench.proofs.run.answer_read.Goals as goal

@@ -1,5 +1,5 @@
 use Rattle.std.proofs.Common.{subst, ◌≡◌, ◌+◌, ◌-◌, Bool, length, cond, arith}
-use Rattle.td_devices.specs.Views.{output_of}
+use Rattle.td_io.specs.Views.{output_of}
 use Rattle.td_workbench.proofs.Answering.{unread_serves, unbegun_serves, over_serves, failed_serves}
 use Rattle.td_workbench.proofs.Serving.{done_handed, done_none, done_more, serves_behind, served_one, unhanded_serves}
 use Rattle.td_workbench.proofs.run.serve_lines.Goals as goal

@@ -1,5 +1,5 @@
 use Rattle.std.proofs.Common.{map}
-use Rattle.td_devices.specs.Views.{input_of, output_of}
+use Rattle.td_io.specs.Views.{input_of, output_of}
 use Rattle.td_answers.specs.Sites.{AreOfScript}
 use Rattle.td_workbench.specs.Runs.{AnswersLine, over}
 use Rattle.td_workbench.proofs.Serving.{Done}

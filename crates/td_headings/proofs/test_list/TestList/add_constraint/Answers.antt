@@ -1,6 +1,6 @@
 use Rattle.std.proofs.Common.{ap, sym, ◌∙◌}
 use Rattle.std.specs.List.{list_any}
-use Rattle.td_kinds.specs.Schemas.{same_text}
+use Rattle.td_schema.specs.Schemas.{same_text}
 use Rattle.td_headings.specs.Definitions.{is_constraint}
 use Rattle.td_headings.proofs.TestNames.{found_by_name, one_name_more}
 use Rattle.td_headings.proofs.test_list.TestList.add_constraint.Goals as goal

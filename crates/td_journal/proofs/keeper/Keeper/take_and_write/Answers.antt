@@ -1,7 +1,7 @@
 use Rattle.std.proofs.Common.{rules, ◌≡◌, true, false, Bool, List, [], Err, sym, subst, ◌∙◌}
 use Rattle.std.specs.List.{AllByRecursion, list_all}
-use Rattle.td_devices.specs.Streams.{AppendsFront}
-use Rattle.td_devices.specs.Views.{output_of}
+use Rattle.td_io.specs.Streams.{AppendsFront}
+use Rattle.td_io.specs.Views.{output_of}
 use Rattle.td_stamps.specs.Entries.{in_range}
 use Rattle.td_stamps.specs.Checks.{fresh_of}
 use Rattle.td_stamps.specs.declared.entry.Entry.{Entry}

@@ -1,4 +1,4 @@
-use Rattle.td_devices.specs.Views.{output_of}
+use Rattle.td_io.specs.Views.{output_of}
 use Rattle.td_journal.specs.Views.{seen_of}
 use Rattle.td_journal.proofs.Journaled.{take_stays}
 use Rattle.td_journal.proofs.keeper.KeeperReplica.take.Goals as goal

@@ -1,5 +1,5 @@
 use Rattle.std.proofs.Common.{slice_get, sym, ap, ◌∙◌}
-use Rattle.td_kinds.specs.Schemas.{SchemaData, relvar_named}
+use Rattle.td_schema.specs.Schemas.{SchemaData, relvar_named}
 use Rattle.td_headings.specs.Catalogues.{CatalogueData}
 use Rattle.td_headings.specs.Reached.{is_base}
 use Rattle.td_relvars.proofs.Asked.{is_stored, tells}

@@ -1,5 +1,0 @@
-use Rattle.td_devices.proofs.LineEnds.{raw_first, raw_last}
-use Rattle.td_devices.proofs.laws.lines_come_in_turn.Goals as goal
-
-pub returns : goal.returns
-returns c = record { first = raw_first; last = raw_last }

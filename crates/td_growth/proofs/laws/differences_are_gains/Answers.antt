@@ -1,5 +1,0 @@
-use Rattle.td_growth.proofs.Narrowing.{differences_are_gains}
-use Rattle.td_growth.proofs.laws.differences_are_gains.Goals as goal
-
-pub returns : goal.returns
-returns c = differences_are_gains

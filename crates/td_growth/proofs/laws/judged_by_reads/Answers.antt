@@ -1,5 +1,0 @@
-use Rattle.td_growth.proofs.Narrowing.{judged_by_reads}
-use Rattle.td_growth.proofs.laws.judged_by_reads.Goals as goal
-
-pub returns : goal.returns
-returns c = judged_by_reads

@@ -1,5 +1,0 @@
-use Rattle.td_growth.proofs.KeptParts.{kept_parts_keep_references}
-use Rattle.td_growth.proofs.laws.kept_parts_keep_references.Goals as goal
-
-pub returns : goal.returns
-returns c = kept_parts_keep_references

@@ -1,5 +1,0 @@
-use Rattle.td_growth.proofs.Narrowing.{losses_keep_watched}
-use Rattle.td_growth.proofs.laws.losses_keep_watched.Goals as goal
-
-pub returns : goal.returns
-returns c = losses_keep_watched

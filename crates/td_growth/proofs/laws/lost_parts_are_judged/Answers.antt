@@ -1,5 +1,0 @@
-use Rattle.td_growth.proofs.LostParts.{lost_parts_are_judged}
-use Rattle.td_growth.proofs.laws.lost_parts_are_judged.Goals as goal
-
-pub returns : goal.returns
-returns c = lost_parts_are_judged

@@ -1,5 +1,0 @@
-use Rattle.td_growth.proofs.Narrowing.{narrowed_is_stored}
-use Rattle.td_growth.proofs.laws.narrowed_is_stored.Goals as goal
-
-pub returns : goal.returns
-returns c = narrowed_is_stored

@@ -1,5 +1,0 @@
-use Rattle.td_growth.proofs.Narrowing.{watched_by_inserts}
-use Rattle.td_growth.proofs.laws.watched_by_inserts.Goals as goal
-
-pub returns : goal.returns
-returns c = watched_by_inserts

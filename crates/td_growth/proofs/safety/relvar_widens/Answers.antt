@@ -1,7 +1,0 @@
-use Rattle.std.proofs.Common.{sym, subst}
-use Rattle.td_trees.specs.declared.tree.Typed.TheVariants as tree
-use Rattle.td_growth.specs.Safety.{Widens, itself}
-use Rattle.td_growth.proofs.safety.relvar_widens.Goals as goal
-
-pub returns-then-place-relvar : goal.returns-then-place-relvar
-returns-then-place-relvar c = λ t. subst (λ m. Widens c.args.catalogue.now c.args.relvar (tree.Relvar m)) (sym c.if-place-relvar.true) itself

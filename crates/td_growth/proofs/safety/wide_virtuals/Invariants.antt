@@ -1,5 +1,0 @@
-use Rattle.td_growth.specs.ForProofs.Deciding.{AreWide}
-use Rattle.td_growth.proofs.safety.wide_virtuals.Given as goal
-
-abbrev pub invariant-loop-under : goal.invariant-loop-under
-invariant-loop-under l = AreWide l.catalogue l.relvar l.wide.items

@@ -1,5 +1,0 @@
-use Rattle.td_growth.specs.ForProofs.Deciding.{AreGrowths}
-use Rattle.td_growth.proofs.watching.virtual_growths.Given as goal
-
-abbrev pub invariant-loop-under : goal.invariant-loop-under
-invariant-loop-under l = AreGrowths l.catalogue l.relvar l.known.items

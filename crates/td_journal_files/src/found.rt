@@ -1,0 +1,37 @@
+//! What is found of a journal when it is opened.
+
+/// Bytes that were cut off a journal, and are kept in a file beside it.
+#[derive(Clone, Copy, Debug, PartialEq, Eq)]
+pub struct Cut {
+    /// How many bytes.
+    pub bytes: u64,
+    /// Which of the journal's files of this kind has them: 1 for the name with `.cut` behind it, n for one with
+    /// `.cut.n`.
+    pub number: u32,
+    /// Whether they are more than an entry that was being written when the program stopped: the journal is damaged.
+    pub is_damage: bool,
+}
+
+/// What was found of a journal.
+#[derive(Clone, Copy, Debug, PartialEq, Eq)]
+pub struct Found {
+    /// Whether the file was not there, and was made.
+    pub is_new: bool,
+    /// How many bytes stand whole, which the site has.
+    pub whole: u64,
+    /// Up to which length the journal had been handed to the disk before, where that is known.
+    pub seen: Option<u64>,
+    /// What was cut off, if anything.
+    pub cut: Option<Cut>,
+}
+
+impl Found {
+    /// Whether the journal once had more than it has now: it was damaged or removed, or an older
+    /// copy took its place.
+    pub fn is_short(&self) -> bool {
+        match self.seen {
+            Some(length) => self.whole < length,
+            None => false,
+        }
+    }
+}

@@ -1,0 +1,25 @@
+//! Journals that stand in files, each of which is locked for as long as it is open.
+//!
+//! Begin with `FileJournals`, which opens the journal of a name, and `Notes`, which tell what was found.
+//!
+//! td_journal_files knows files and nothing of what stands in them.
+#![tactic(auto)]
+
+mod companions;
+mod contents;
+mod damage;
+mod file;
+mod found;
+mod journals;
+mod notes;
+mod renewal;
+mod seen;
+mod synced;
+
+pub use contents::{Contents, PassedOver, read_contents};
+pub use file::FileJournal;
+pub use found::{Cut, Found};
+pub use journals::FileJournals;
+pub use notes::{Failure, Notes, Refusal};
+pub use renewal::FileRenewal;
+pub use synced::Synced;

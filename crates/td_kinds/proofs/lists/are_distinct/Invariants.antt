@@ -1,6 +1,0 @@
-use Rattle.std.proofs.Common.{◌≡◌, [], drop}
-use Rattle.td_kinds.proofs.Distinct.{distinct_after}
-use Rattle.td_kinds.proofs.lists.are_distinct.Given as goal
-
-abbrev pub invariant-loop-name : goal.invariant-loop-name
-invariant-loop-name l = distinct_after [] l.names ≡ distinct_after l.seen.keys (drop l.name-index l.names)

@@ -1,6 +1,0 @@
-use Rattle.std.proofs.Common.{◌≡◌, take, map}
-use Rattle.td_kinds.specs.Lists.{renaming_pair}
-use Rattle.td_kinds.proofs.lists.pairs_of.Given as goal
-
-abbrev pub invariant-loop-renaming : goal.invariant-loop-renaming
-invariant-loop-renaming l = l.pairs ≡ map renaming_pair (take l.renaming-index l.renamings)

@@ -1,5 +1,0 @@
-use Rattle.td_literals.proofs.ReadBack.{read_back}
-use Rattle.td_literals.proofs.laws.shown_is_read_back.Goals as goal
-
-pub returns : goal.returns
-returns c = read_back

@@ -1,8 +1,0 @@
-//! Shown values are literals: read back, they mean the values.
-//!
-//! Begin with `specs/Laws.antt`.
-//!
-//! td_literals has a law alone too, over shown texts, grammar, types and meanings.
-#![tactic(auto)]
-
-pub mod laws;

@@ -1,0 +1,17 @@
+//! What a person types: texts over several lines, words with a dot in front, and the definitions of a script.
+//!
+//! Begin with `Scan`, whether a text that is typed is complete, and `command_of`, what a line with a dot says.
+//!
+//! td_shell_input knows no site. No contract says what it prints: it is proved to return and to be safe.
+#![tactic(auto)]
+
+pub mod commands;
+mod conditions;
+pub mod definitions;
+pub mod entries;
+pub mod scan;
+
+pub use commands::{Command, Mode, command_of};
+pub use definitions::{Defined, defined_by, definition_at, script_front};
+pub use entries::{DumpedEntry, entry_in, push_entry};
+pub use scan::{Scan, Standing};

@@ -1,0 +1,246 @@
+//! What a meeting changed of what a site told before.
+
+use crate::outcomes::{are_same, is_refused, push_stamped};
+use crate::redone::{DoneHere, done_here, push_redone, redone_since};
+use std::alloc::{AllocError, Global};
+use td_changes::Changes;
+use td_headings::Catalogue;
+use td_stamps::Stamp;
+use td_story::{Outcome, TellError};
+
+/// The most statements that are named.
+pub(crate) const MOST_NAMED: usize = 10;
+
+/// What a site tells of its statements, before a meeting.
+#[derive(Drop)]
+pub struct Told {
+    site: u16,
+    outcomes: Vec<(Stamp, Outcome)>,
+    done: Vec<DoneHere>,
+}
+
+/// What a site tells otherwise after a meeting.
+#[derive(Drop)]
+pub struct Retold {
+    /// For the end of the meeting's line.
+    pub line_end: String,
+    /// Lines behind it.
+    pub lines: String,
+}
+
+// What becomes of a statement with another outcome now.
+#[derive(Clone, Copy, PartialEq, Eq)]
+enum Turn {
+    Refused,
+    Done,
+    OtherReason,
+}
+
+const TURNS: [Turn; 3] = [Turn::Refused, Turn::Done, Turn::OtherReason];
+
+// A statement with another outcome now.
+#[derive(Clone, Copy, Drop)]
+struct Turned<'a> {
+    stamp: Stamp,
+    turn: Turn,
+    outcome: &'a Outcome,
+}
+
+fn turn_of(before: &Outcome, after: &Outcome) -> Turn {
+    match (is_refused(before), is_refused(after)) {
+        (false, _) => Turn::Refused,
+        (true, false) => Turn::Done,
+        (true, true) => Turn::OtherReason,
+    }
+}
+
+fn words_of(turn: Turn) -> &'static str {
+    match turn {
+        Turn::Refused => "refused now",
+        Turn::Done => "done now",
+        Turn::OtherReason => "refused for another reason now",
+    }
+}
+
+// The statements with another outcome now. Both lists are in the order of stamps.
+fn turned_between<'a>(
+    alloc: Global,
+    before: &[(Stamp, Outcome)],
+    after: &'a [(Stamp, Outcome)],
+) -> Result<Vec<Turned<'a>>, AllocError> {
+    let mut found = Vec::new(alloc);
+    let mut old = before.iter();
+    let mut next = old.next();
+    for (stamp, outcome) in after {
+        if let Some((known, told)) = next
+            && known == stamp
+        {
+            if !are_same(told, outcome) {
+                found.push(Turned {
+                    stamp: *stamp,
+                    turn: turn_of(told, outcome),
+                    outcome,
+                })?;
+            }
+            next = old.next();
+        }
+    }
+    Ok(found)
+}
+
+fn count_of(outcomes: &[(Stamp, Outcome)], site: u16) -> usize {
+    outcomes
+        .iter()
+        .filter(|(stamp, _)| stamp.site == site)
+        .count()
+}
+
+fn is_or_are(count: usize) -> &'static str {
+    if count == 1 { "is" } else { "are" }
+}
+
+// Appends those issued at the site to which this happened, where there are any.
+fn push_turned(
+    out: &mut String,
+    all: &[Turned<'_>],
+    site: u16,
+    turn: Turn,
+) -> Result<(), AllocError> {
+    let mut count: usize = 0;
+    for it in all {
+        if it.stamp.site == site && it.turn == turn {
+            count = count.saturating_add(1);
+        }
+    }
+    if count == 0 {
+        return Ok(());
+    }
+    let are = is_or_are(count);
+    let words = words_of(turn);
+    write!(out, "; of those issued here {count} {are} {words}: ")?;
+    push_named(out, all, site, turn)?;
+    if count > MOST_NAMED {
+        let more = count.saturating_sub(MOST_NAMED);
+        write!(out, " and {more} more")?;
+    }
+    Ok(())
+}
+
+// Appends the first of them, with commas between.
+fn push_named(
+    out: &mut String,
+    all: &[Turned<'_>],
+    site: u16,
+    turn: Turn,
+) -> Result<(), AllocError> {
+    let mut named: usize = 0;
+    for it in all {
+        if it.stamp.site == site && it.turn == turn && named < MOST_NAMED {
+            if named > 0 {
+                out.push_str(", ")?;
+            }
+            push_stamped(out, &it.stamp, it.outcome)?;
+            named = named.saturating_add(1);
+        }
+    }
+    Ok(())
+}
+
+fn push_others(out: &mut String, all: &[Turned<'_>], site: u16) -> Result<(), AllocError> {
+    let count = all.iter().filter(|it| it.stamp.site != site).count();
+    if count > 0 {
+        let are = is_or_are(count);
+        write!(
+            out,
+            "; of those from elsewhere {count} {are} told otherwise now (.refused)"
+        )?;
+    }
+    Ok(())
+}
+
+fn turns_in(
+    alloc: Global,
+    site: u16,
+    before: &[(Stamp, Outcome)],
+    after: &[(Stamp, Outcome)],
+) -> Result<String, AllocError> {
+    let all = turned_between(alloc, before, after)?;
+    let mut out = String::new(alloc);
+    for turn in TURNS {
+        push_turned(&mut out, &all, site, turn)?;
+    }
+    push_others(&mut out, &all, site)?;
+    Ok(out)
+}
+
+// What is said where statements of the site itself came in.
+fn own_words(alloc: Global, count: usize) -> Result<String, AllocError> {
+    if count == 0 {
+        return Ok(String::new(alloc));
+    }
+    let are = if count == 1 {
+        "statement"
+    } else {
+        "statements"
+    };
+    format!(in alloc;
+        "WARNING: {count} {are} of this site came from the other one: its journal had lost them. What it issued since it was started may stand under their numbers, and differ from what other sites have: compare .digest with them\n"
+    )
+}
+
+impl Told {
+    /// What the site tells now. It holds a copy of what each statement that was issued there changed.
+    pub fn by<R: Changes>(alloc: Global, site: &R) -> Result<Told, TellError> {
+        let outcomes = match site.outcomes(alloc) {
+            Ok(outcomes) => outcomes,
+            Err(error) => return Err(error),
+        };
+        match done_here(alloc, site, &outcomes) {
+            Ok(done) => Ok(Told {
+                site: site.site(),
+                outcomes,
+                done,
+            }),
+            Err(_) => Err(TellError::OutOfMemory),
+        }
+    }
+
+    // The difference to what is told now.
+    fn retold(
+        &self,
+        alloc: Global,
+        catalogue: &Catalogue,
+        now: &Told,
+    ) -> Result<Retold, AllocError> {
+        let came = count_of(&now.outcomes, self.site).saturating_sub(count_of(
+            &self.outcomes,
+            self.site,
+        ));
+        let mut retold = Retold {
+            line_end: turns_in(alloc, self.site, &self.outcomes, &now.outcomes)?,
+            lines: String::new(alloc),
+        };
+        let found = redone_since(alloc, &self.done, &now.done)?;
+        push_redone(&mut retold, catalogue, &self.done, &now.done, &found)?;
+        retold.lines.push_str(own_words(alloc, came)?.as_str())?;
+        Ok(retold)
+    }
+
+    /// What the site tells otherwise now. It costs two walks along what is held, and along what the statements that
+    /// were issued there changed.
+    pub fn compare<R: Changes>(
+        &self,
+        alloc: Global,
+        catalogue: &Catalogue,
+        site: &R,
+    ) -> Result<Retold, TellError> {
+        let now = match Told::by(alloc, site) {
+            Ok(now) => now,
+            Err(error) => return Err(error),
+        };
+        match self.retold(alloc, catalogue, &now) {
+            Ok(retold) => Ok(retold),
+            Err(_) => Err(TellError::OutOfMemory),
+        }
+    }
+}

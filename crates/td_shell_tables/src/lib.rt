@@ -1,0 +1,12 @@
+//! Relations and other rows of cells as tables that stand in columns on a screen.
+//!
+//! Begin with `relation_table`.
+//!
+//! td_shell_tables knows no site. No contract says what it prints: it is proved to return and to be safe.
+#![tactic(auto)]
+
+pub mod layout;
+pub mod relations;
+
+pub use layout::{Column, Side, laid_out};
+pub use relations::{counted_tuples, relation_table};

@@ -1,7 +1,0 @@
-//! The law of types and meanings.
-ghost use Rattle.td_soundness.specs.Laws.{TypedHasMeaning};
-
-/// A typed expression means a value of its type, or raises one of the errors of the language.
-pub fn typed_has_meaning()
-    ensures { TypedHasMeaning }
-{}

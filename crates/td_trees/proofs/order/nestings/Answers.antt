@@ -1,7 +1,0 @@
-use Rattle.std.proofs.Common.{sym, ◌∙◌}
-use Rattle.std.proofs.lemmas.Map.Lookups.{exact_unsigned}
-use Rattle.td_trees.proofs.Operators.{same_nesting}
-use Rattle.td_trees.proofs.order.nestings.Goals as goal
-
-pub returns : goal.returns
-returns c = λ h. same_nesting _ _ (exact_unsigned _ _ (sym c.cmp.ensures ∙ h))

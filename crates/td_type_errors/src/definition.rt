@@ -1,0 +1,211 @@
+//! Definitions: names that are there before, types, openings, keys and conditions.
+
+use crate::diagnostic::{Diagnostic, Fault};
+use crate::headings::unlike;
+use crate::parts::Explainer;
+use crate::sentence::Sentence;
+use crate::types::{check_fields, heading_of};
+use crate::widths::{attributes_width, fields_width, opening_width, sum};
+use sqlite_items::Boxed;
+use std::alloc::{AllocError, Global};
+use td_headings::{Catalogue, Test};
+use td_schema::kinds::{is_boolean, relation_heading};
+use td_schema::schema::begins_with_the;
+use td_schema::written::{components_written, kind_columns};
+use td_schema::{Scope, TypeError};
+use td_syntax::script::{Definition, Opening};
+use td_syntax::tree::{Attributes, Expr, Named, TypeExpr};
+use td_values::{Heading, Name, TypeKind};
+
+/// The mark of a definition's name.
+const NAME: usize = 1;
+
+impl Explainer<'_> {
+    fn defined_before<T>(&self, name: &Name, at: usize) -> Result<T, Fault> {
+        let sentence = Sentence::of(self.alloc, name.as_str()).say(" is defined before");
+        self.fault(at, sentence)
+    }
+
+    // That a possrep's name is new, and none of THE_.
+    fn check_selector(&self, name: &Name, at: usize) -> Result<(), Fault> {
+        if begins_with_the(name) {
+            let words = "the name of a selector does not begin with THE_";
+            return self.fault(at, Sentence::of(self.alloc, words));
+        }
+        if self.schema().possrep(name).is_some() {
+            let words = "a type before has the selector ";
+            return self.fault(at, Sentence::of(self.alloc, words).say(name.as_str()));
+        }
+        Ok(())
+    }
+
+    // The components of a possrep as the attributes of a tuple.
+    fn components(&self, fields: &[Named<TypeExpr>], first: usize) -> Result<Heading, Fault> {
+        check_fields(fields, self, first)?;
+        match components_written(self.alloc, self.schema(), fields) {
+            Ok(kinds) => Ok(kind_columns(self.alloc, kinds.as_slice())?),
+            Err(TypeError::IllTyped) => Err(self.no_type(first)),
+            Err(TypeError::OutOfMemory) => Err(Fault::OutOfMemory),
+        }
+    }
+
+    // That an expression is a truth value.
+    fn check_truth(&self, tree: &Expr, at: usize, scope: &Scope<'_>) -> Result<(), Fault> {
+        let kind = self.kind_of(tree, at, scope)?;
+        if is_boolean(kind.get()) {
+            return Ok(());
+        }
+        self.takes(at, "CONSTRAINT", "BOOLEAN", kind.get())
+    }
+
+    fn check_type(
+        &self,
+        name: &Name,
+        possrep: &Option<Name>,
+        fields: &[Named<TypeExpr>],
+        limit: &Option<Boxed<Expr>>,
+    ) -> Result<(), Fault> {
+        if self.schema().type_named(name).is_some() {
+            return self.defined_before(name, NAME);
+        }
+        match possrep {
+            Some(possrep) => {
+                self.check_selector(possrep, 3)?;
+                self.check_possrep(fields, 4, limit)
+            }
+            None => {
+                self.check_selector(name, NAME)?;
+                self.check_possrep(fields, 3, limit)
+            }
+        }
+    }
+
+    // That components, of which the first begins at a mark, have types, and that their condition is a truth value.
+    fn check_possrep(
+        &self,
+        fields: &[Named<TypeExpr>],
+        first: usize,
+        limit: &Option<Boxed<Expr>>,
+    ) -> Result<(), Fault> {
+        let heading = self.components(fields, first)?;
+        match limit {
+            Some(limit) => {
+                let at = sum(&[first, fields_width(fields), 1]);
+                self.check_truth(limit.get(), at, &Scope::Within(&heading, &Scope::Nothing))
+            }
+            None => Ok(()),
+        }
+    }
+
+    // The heading of a value over the relvars; the value is that of what is told in words.
+    fn relation_at(&self, tree: &Expr, at: usize, of: &str) -> Result<Heading, Fault> {
+        let kind = self.kind_of(tree, at, &Scope::Relvars(self.schema()))?;
+        match relation_heading(kind.get()) {
+            Some(heading) => Ok(heading.copy()?),
+            None => self.takes(at, of, "a relation", kind.get()),
+        }
+    }
+
+    // The heading of a base relvar, whose opening begins at a mark.
+    fn opening(&self, opening: &Opening, at: usize) -> Result<Heading, Fault> {
+        let first = sum(&[at, 1]);
+        match opening {
+            Opening::Empty(fields) => heading_of(self, fields.as_slice(), first),
+            Opening::Init(None, a) => self.relation_at(a.get(), first, "INIT"),
+            Opening::Init(Some(fields), a) => {
+                let fields = fields.as_slice();
+                let heading = heading_of(self, fields, first)?;
+                let value = sum(&[first, fields_width(fields), 1]);
+                self.check_value_of(&heading, a.get(), value)?;
+                Ok(heading)
+            }
+        }
+    }
+
+    // That the value of INIT has the heading that is written before it.
+    fn check_value_of(&self, heading: &Heading, tree: &Expr, at: usize) -> Result<(), Fault> {
+        let own = self.relation_at(tree, at, "INIT")?;
+        match unlike(self.alloc, &own, heading, "the heading") {
+            Some(sentence) => self.fault(at, sentence),
+            None => Ok(()),
+        }
+    }
+
+    fn check_keys(
+        &self,
+        keys: &[Attributes],
+        first: usize,
+        name: &Name,
+        heading: &Heading,
+    ) -> Result<(), Fault> {
+        let mut at = first;
+        for key in keys {
+            let list = sum(&[at, 1]);
+            self.check_attributes(key, list, name.as_str(), heading)?;
+            at = sum(&[list, attributes_width(key)]);
+        }
+        Ok(())
+    }
+
+    // That no relvar has the name.
+    fn check_relvar_name(&self, name: &Name) -> Result<(), Fault> {
+        if self.schema().relvar(name).is_some() {
+            return self.defined_before(name, NAME);
+        }
+        Ok(())
+    }
+
+    // That no constraint has the name.
+    fn check_constraint_name(&self, name: &Name) -> Result<(), Fault> {
+        for test in self.catalogue.tests() {
+            if let Test::Constraint(before, _) = test {
+                if before == name {
+                    return self.defined_before(name, NAME);
+                }
+            }
+        }
+        Ok(())
+    }
+
+    fn check_base(&self, name: &Name, opening: &Opening, keys: &[Attributes]) -> Result<(), Fault> {
+        self.check_relvar_name(name)?;
+        let heading = self.opening(opening, 3)?;
+        let first = sum(&[3, opening_width(opening)]);
+        self.check_keys(keys, first, name, &heading)
+    }
+
+    fn check_virtual(&self, name: &Name, tree: &Expr) -> Result<(), Fault> {
+        self.check_relvar_name(name)?;
+        self.relation_at(tree, 3, "VIRTUAL")?;
+        Ok(())
+    }
+
+    fn check_constraint(&self, name: &Name, tree: &Expr) -> Result<(), Fault> {
+        self.check_constraint_name(name)?;
+        self.check_truth(tree, 2, &Scope::Relvars(self.schema()))
+    }
+
+    fn check_definition(&self, definition: &Definition) -> Result<(), Fault> {
+        match definition {
+            Definition::Type(name, possrep, fields, limit) => {
+                self.check_type(name, possrep, fields.as_slice(), limit)
+            }
+            Definition::Base(name, opening, keys) => {
+                self.check_base(name, opening, keys.as_slice())
+            }
+            Definition::Virtual(name, a) => self.check_virtual(name, a.get()),
+            Definition::Constraint(name, a) => self.check_constraint(name, a.get()),
+        }
+    }
+}
+
+/// Why a definition, which is the text's tree, is not well typed after what the catalogue has.
+pub fn explain_definition(
+    alloc: Global,
+    catalogue: &Catalogue,
+    text: &str,
+    tree: &Definition,
+) -> Result<Diagnostic, AllocError> {
+    let explainer = Explainer::new(alloc, catalogue, text)?;
+    explainer.told(explainer.check_definition(tree))
+}

@@ -1,0 +1,344 @@
+//! Forms of one relation, with attributes, a condition or a term.
+
+use crate::diagnostic::Fault;
+use crate::expression::called;
+use crate::headings::no_attribute;
+use crate::nearest::repeated;
+use crate::operators::aggregate_words;
+use crate::parts::{Explainer, Step, into_part_within};
+use crate::sentence::Sentence;
+use crate::widths::{attributes_width, sum, width};
+use std::alloc::{AllocError, Global};
+use td_schema::Scope;
+use td_schema::forms::kind_heading;
+use td_schema::kinds::{relation_heading, tuple_heading};
+use td_schema::operators::suits;
+use td_syntax::tree::{Aggregate, Attributes, Expr, Nesting, Renaming};
+use td_values::{Heading, Name, TypeKind};
+
+impl Explainer<'_> {
+    /// That there is an attribute of this name.
+    pub fn check_attribute(
+        &self,
+        name: &Name,
+        at: usize,
+        called: &str,
+        heading: &Heading,
+    ) -> Result<(), Fault> {
+        if heading.type_of(name).is_some() {
+            return Ok(());
+        }
+        self.fault(at, no_attribute(self.alloc, called, heading, name))
+    }
+
+    // That no name is given twice. The first one stands at a mark, and so many apart each further one.
+    fn check_distinct(&self, names: &[Name], first: usize, apart: usize) -> Result<(), Fault> {
+        match repeated(self.alloc, names)? {
+            Some((place, name)) => self.twice(name, sum(&[first, place.saturating_mul(apart)])),
+            None => Ok(()),
+        }
+    }
+
+    /// That a name is given twice.
+    pub fn twice<T>(&self, name: &Name, at: usize) -> Result<T, Fault> {
+        let sentence = Sentence::of(self.alloc, name.as_str()).say(" is given twice");
+        self.fault(at, sentence)
+    }
+
+    /// That an attribute list, which begins at a mark, names attributes that are there, each once.
+    pub fn check_attributes(
+        &self,
+        attributes: &Attributes,
+        at: usize,
+        called: &str,
+        heading: &Heading,
+    ) -> Result<(), Fault> {
+        let (names, first) = match attributes {
+            Attributes::Only(names) => (names.as_slice(), at),
+            Attributes::AllBut(names) => (names.as_slice(), sum(&[at, 2])),
+        };
+        for (place, name) in names.iter().enumerate() {
+            self.check_attribute(name, sum(&[first, place]), called, heading)?;
+        }
+        self.check_distinct(names, first, 1)
+    }
+
+    /// The part of a relation or of a tuple.
+    pub fn projection<T>(
+        &self,
+        a: &Expr,
+        attributes: &Attributes,
+        kind: &TypeKind,
+        at: usize,
+    ) -> Result<T, Fault> {
+        let Some(heading) = kind_heading(kind) else {
+            let words = "only a relation or a tuple has attributes, and this is ";
+            let sentence = Sentence::of(self.alloc, words)
+                .kind(kind)
+                .say("; brackets may be missing");
+            return self.fault(at, sentence);
+        };
+        let list = sum(&[at, width(a)]);
+        self.check_attributes(attributes, list, called_as(a, kind), heading)?;
+        Err(self.no_type(list))
+    }
+
+    pub fn restriction<'t>(
+        &self,
+        a: &Expr,
+        condition: &'t Expr,
+        kind: &TypeKind,
+        at: usize,
+        scope: &Scope<'_>,
+    ) -> Result<Step<'t>, Fault> {
+        let Some(heading) = relation_heading(kind) else {
+            return self.takes(at, "WHERE", "a relation", kind);
+        };
+        let at = sum(&[at, width(a), 1]);
+        match self.kind(condition, &Scope::Within(heading, &*scope)) {
+            Ok(truth) => self.check_condition(at, "WHERE", truth.get())?,
+            Err(error) => return into_part_within(error, heading, condition, at),
+        }
+        Err(self.no_type(at))
+    }
+
+    // That the new names are distinct from one another and from the attributes that stay.
+    fn check_new_names(
+        &self,
+        renamings: &[Renaming],
+        first: usize,
+        called: &str,
+        heading: &Heading,
+    ) -> Result<(), Fault> {
+        self.check_distinct(&old_names(self.alloc, renamings)?, first, 3)?;
+        let second = sum(&[first, 2]);
+        for (place, renaming) in renamings.iter().enumerate() {
+            let name = &renaming.to;
+            if heading.type_of(name).is_some() && !is_renamed(renamings, name) {
+                return self.is_there(name, sum(&[second, place.saturating_mul(3)]), called);
+            }
+        }
+        self.check_distinct(&new_names(self.alloc, renamings)?, second, 3)
+    }
+
+    /// That there is an attribute of the name already.
+    pub fn is_there<T>(&self, name: &Name, at: usize, called: &str) -> Result<T, Fault> {
+        let sentence = Sentence::of(self.alloc, called)
+            .say(" has an attribute ")
+            .say(name.as_str())
+            .say(" already");
+        self.fault(at, sentence)
+    }
+
+    pub fn renaming<T>(
+        &self,
+        a: &Expr,
+        renamings: &[Renaming],
+        kind: &TypeKind,
+        at: usize,
+    ) -> Result<T, Fault> {
+        let Some(heading) = relation_heading(kind) else {
+            return self.takes(at, "RENAME", "a relation", kind);
+        };
+        let (first, called) = (sum(&[at, width(a), 1]), called_as(a, kind));
+        for (place, renaming) in renamings.iter().enumerate() {
+            let at = sum(&[first, place.saturating_mul(3)]);
+            self.check_attribute(&renaming.from, at, called, heading)?;
+        }
+        self.check_new_names(renamings, first, called, heading)?;
+        Err(self.no_type(first))
+    }
+
+    /// GROUP and WRAP
+    pub fn nesting<T>(
+        &self,
+        nesting: Nesting,
+        a: &Expr,
+        attributes: &Attributes,
+        name: &Name,
+        kind: &TypeKind,
+        at: usize,
+    ) -> Result<T, Fault> {
+        let word = match nesting {
+            Nesting::Group => "GROUP",
+            Nesting::Wrap => "WRAP",
+        };
+        let Some(heading) = relation_heading(kind) else {
+            return self.takes(at, word, "a relation", kind);
+        };
+        let list = sum(&[at, width(a), 1]);
+        let called = called_as(a, kind);
+        self.check_attributes(attributes, list, called, heading)?;
+        self.is_there(name, sum(&[list, attributes_width(attributes), 1]), called)
+    }
+
+    // That an attribute gives way to those inside it.
+    fn check_inner(
+        &self,
+        nesting: Nesting,
+        name: &Name,
+        kind: &TypeKind,
+        at: usize,
+        heading: &Heading,
+    ) -> Result<(), Fault> {
+        let (word, wanted, inner) = match nesting {
+            Nesting::Group => ("UNGROUP", "a relation", relation_heading(kind)),
+            Nesting::Wrap => ("UNWRAP", "a tuple", tuple_heading(kind)),
+        };
+        let Some(inner) = inner else {
+            let sentence = Sentence::of(self.alloc, word)
+                .say(" takes an attribute that is ")
+                .say(wanted)
+                .say("; ")
+                .say(name.as_str())
+                .say(" is ")
+                .kind(kind);
+            return self.fault(at, sentence);
+        };
+        for field in inner.fields() {
+            if field.0 != *name && heading.type_of(&field.0).is_some() {
+                return self.stands_beside(&field.0, at, word, name);
+            }
+        }
+        Ok(())
+    }
+
+    // That there is an attribute inside one, and another of its name beside it.
+    fn stands_beside<T>(
+        &self,
+        inner: &Name,
+        at: usize,
+        word: &str,
+        name: &Name,
+    ) -> Result<T, Fault> {
+        let sentence = Sentence::of(self.alloc, inner.as_str())
+            .say(" stands beside ")
+            .say(name.as_str())
+            .say(" and inside it; ")
+            .say(word)
+            .say(" gives it once");
+        self.fault(at, sentence)
+    }
+
+    /// UNGROUP and UNWRAP
+    pub fn unnesting<T>(
+        &self,
+        nesting: Nesting,
+        a: &Expr,
+        name: &Name,
+        kind: &TypeKind,
+        at: usize,
+    ) -> Result<T, Fault> {
+        let word = match nesting {
+            Nesting::Group => "UNGROUP",
+            Nesting::Wrap => "UNWRAP",
+        };
+        let Some(heading) = relation_heading(kind) else {
+            return self.takes(at, word, "a relation", kind);
+        };
+        let at = sum(&[at, width(a), 1]);
+        self.check_attribute(name, at, called_as(a, kind), heading)?;
+        if let Some(ty) = heading.type_of(name) {
+            self.check_inner(nesting, name, &ty.kind, at, heading)?;
+        }
+        Err(self.no_type(at))
+    }
+
+    // An aggregate over terms of another type.
+    fn unsuited<T>(&self, aggregate: Aggregate, at: usize, kind: &TypeKind) -> Result<T, Fault> {
+        let (word, wanted) = aggregate_words(aggregate);
+        self.takes(at, word, wanted, kind)
+    }
+
+    /// An aggregate over a relation of one attribute.
+    pub fn lone_aggregate<T>(
+        &self,
+        aggregate: Aggregate,
+        kind: &TypeKind,
+        at: usize,
+    ) -> Result<T, Fault> {
+        let (word, wanted) = aggregate_words(aggregate);
+        let Some(heading) = relation_heading(kind) else {
+            return self.takes(at, word, "a relation", kind);
+        };
+        match heading.fields() {
+            [field] => {
+                let sentence = Sentence::of(self.alloc, word)
+                    .say(" takes ")
+                    .say(wanted)
+                    .say("; ")
+                    .say(field.0.as_str())
+                    .say(" is ")
+                    .kind(&field.1.kind);
+                self.fault(at, sentence)
+            }
+            _ => self.takes(at, word, "a relation of one attribute, or a term too", kind),
+        }
+    }
+
+    /// An aggregate of a term over a relation.
+    pub fn aggregation<'t>(
+        &self,
+        aggregate: Aggregate,
+        a: &Expr,
+        term: &'t Expr,
+        kind: &TypeKind,
+        at: usize,
+        scope: &Scope<'_>,
+    ) -> Result<Step<'t>, Fault> {
+        let Some(heading) = relation_heading(kind) else {
+            return self.takes(at, aggregate_words(aggregate).0, "a relation", kind);
+        };
+        let at = sum(&[at, width(a)]);
+        match self.kind(term, &Scope::Within(heading, &*scope)) {
+            Ok(kind) => self.unsuited(aggregate, at, kind.get()),
+            Err(error) => into_part_within(error, heading, term, at),
+        }
+    }
+
+    /// That terms suit an aggregate.
+    pub fn check_terms(
+        &self,
+        aggregate: Aggregate,
+        at: usize,
+        kind: &TypeKind,
+    ) -> Result<(), Fault> {
+        if suits(aggregate, kind) {
+            return Ok(());
+        }
+        self.unsuited(aggregate, at, kind)
+    }
+}
+
+fn is_renamed(renamings: &[Renaming], name: &Name) -> bool {
+    for renaming in renamings {
+        if renaming.from == *name {
+            return true;
+        }
+    }
+    false
+}
+
+fn old_names(alloc: Global, renamings: &[Renaming]) -> Result<Vec<Name>, AllocError> {
+    let mut names = Vec::with_capacity(alloc, renamings.len())?;
+    for renaming in renamings {
+        names.push(renaming.from.copy()?)?;
+    }
+    Ok(names)
+}
+
+fn new_names(alloc: Global, renamings: &[Renaming]) -> Result<Vec<Name>, AllocError> {
+    let mut names = Vec::with_capacity(alloc, renamings.len())?;
+    for renaming in renamings {
+        names.push(renaming.to.copy()?)?;
+    }
+    Ok(names)
+}
+
+/// What an operand with attributes is called.
+pub fn called_as<'t>(tree: &'t Expr, kind: &TypeKind) -> &'t str {
+    match kind {
+        TypeKind::Tuple(_) => called(tree, "this tuple"),
+        _ => called(tree, "this relation"),
+    }
+}

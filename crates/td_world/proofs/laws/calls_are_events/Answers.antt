@@ -1,5 +1,0 @@
-use Rattle.td_world.proofs.Calling.{calls_are_events, no_call_clashes}
-use Rattle.td_world.proofs.laws.calls_are_events.Goals as goal
-
-pub returns : goal.returns
-returns c = record { events = calls_are_events; clash = no_call_clashes }
