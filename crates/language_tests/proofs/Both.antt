@@ -1,10 +1,10 @@
 -- What running a statement changed can be taken back, and made again.
 use Rattle.std.proofs.Common.{ℕ, List}
 use Rattle.td_relations.specs.Deltas.{DeltaData}
-use Rattle.td_story.specs.Databases.{DatabaseData, IsDatabase, stored_relvars}
-use Rattle.td_story.specs.Differences.{AreDifferences}
-use Rattle.td_story.specs.Steps.{Steps}
-use Rattle.td_story.specs.declared.outcome.Outcome.{Outcome}
+use Rattle.td_semantics.specs.Databases.{DatabaseData, IsDatabase, stored_relvars}
+use Rattle.td_semantics.specs.Differences.{AreDifferences}
+use Rattle.td_semantics.specs.Steps.{Steps}
+use Rattle.td_semantics.specs.declared.outcome.Outcome.{Outcome}
 use Rattle.td_assign.specs.Laws.{GoesBothWays}
 use Rattle.td_assign.proofs.Leading.{differences_go_both_ways}
 use Rattle.td_assign.proofs.Stepping.{step_keeps_database}

@@ -15,7 +15,7 @@ use td_headings::{
 };
 use td_incremental::{Reference, is_safe, is_watched, referring, sole_reference};
 use td_relations::Relation;
-use td_story::catalogue_of;
+use td_semantics::catalogue_of;
 use td_tuples::tuple_of;
 use td_values::{Name, Value, show};
 

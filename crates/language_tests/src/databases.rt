@@ -1,7 +1,7 @@
 //! Statements that are run over a database, taken back and made again; copies of relvars that are put back; and which
 //! test fails then.
 
-ghost use Rattle.td_story.specs.Databases.{IsLegal};
+ghost use Rattle.td_semantics.specs.Databases.{IsLegal};
 
 use crate::Result;
 use std::alloc::{AllocError, Global};
@@ -10,7 +10,7 @@ use td_constraints::{first_failure, first_failure_after};
 use td_grammar::LATEST;
 use td_relations::Relation;
 use td_relvars::Database;
-use td_story::{Answer, BrokenTest, Meter, Outcome, RelvarError, TestFailure};
+use td_semantics::{Answer, BrokenTest, Meter, Outcome, RelvarError, TestFailure};
 use td_values::{Kind, Name, Value, show};
 
 /// What a step does: runs a statement, or asks what a relvar has, or what is stored of it.

@@ -1,7 +1,7 @@
 //! Which calls of a look-up an evaluation makes, and tuples that are found by a relvar's first key.
 
 ghost use Rattle.td_relvars.specs.Keys.{first_key};
-ghost use Rattle.td_story.specs.Databases.{stored_relvars};
+ghost use Rattle.td_semantics.specs.Databases.{stored_relvars};
 
 use crate::Result;
 use std::alloc::{AllocError, Global};

@@ -23,7 +23,8 @@ use shown::tell_journal;
 use td_io::Device;
 use td_journal::Keeper;
 use td_replay::{PlainSite, Site};
-use td_story::{Meter, Opens, Replica};
+use td_replica::{Opens, Replica};
+use td_semantics::Meter;
 
 /// The most bytes that are written to a journal, and to a link: room for them is taken beforehand.
 const MOST_WRITTEN: usize = 65_536;

@@ -12,7 +12,7 @@ use anyhow::{Result, bail};
 use crowd::{Sent, meet_until_all, opened};
 use random::Random;
 use std::time::Instant;
-use td_story::Meter;
+use td_semantics::Meter;
 
 fn measure(rt: &HostRuntime, sites: u16, each: u32, seed: u64) -> Result<()> {
     let mut meter = Meter::new(rt);

@@ -3,10 +3,9 @@
 use std::alloc::{AllocError, Global};
 use std::fmt::Display;
 use td_relations::Relation;
+use td_replica::{AskError, IssueError, Issued, PastError, Replica, Taken, TellError, ValueError};
+use td_semantics::{Answer, Outcome};
 use td_stamps::{Stamp, Vector};
-use td_story::{
-    Answer, AskError, IssueError, Issued, Outcome, PastError, Replica, Taken, TellError, ValueError,
-};
 use td_values::{Kind, Value, show};
 
 fn named(alloc: Global, outcome: &Outcome) -> Result<String, AllocError> {

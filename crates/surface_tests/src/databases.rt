@@ -1,6 +1,6 @@
 //! td_relvars, td_constraints and td_assign.
 
-ghost use Rattle.td_story.specs.Databases.{IsLegal};
+ghost use Rattle.td_semantics.specs.Databases.{IsLegal};
 
 use crate::Result;
 use std::alloc::Global;

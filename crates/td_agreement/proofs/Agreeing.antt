@@ -8,13 +8,13 @@ use Rattle.td_stamps.specs.declared.entry.Entry.{Entry}
 use Rattle.td_stamps.specs.declared.entry.Stamp.{Stamp}
 use Rattle.td_stamps.proofs.Gaps.{after_completes, vector_is_one}
 use Rattle.td_stamps.proofs.Merges.{merged, same_set}
-use Rattle.td_story.specs.Answers.{TellsRelvar}
-use Rattle.td_story.specs.Databases.{DatabaseData}
-use Rattle.td_story.specs.Laws.{HoldTheSame}
-use Rattle.td_story.specs.Seen.{Seen}
-use Rattle.td_story.specs.Stories.{IsStory}
-use Rattle.td_story.specs.declared.outcome.Outcome.{Outcome}
-use Rattle.td_story.proofs.Agreeing.{sites_agree, story_is_one}
+use Rattle.td_semantics.specs.Answers.{TellsRelvar}
+use Rattle.td_semantics.specs.Databases.{DatabaseData}
+use Rattle.td_replica.specs.Laws.{HoldTheSame}
+use Rattle.td_replica.specs.Seen.{Seen}
+use Rattle.td_replica.specs.Stories.{IsStory}
+use Rattle.td_semantics.specs.declared.outcome.Outcome.{Outcome}
+use Rattle.td_replica.proofs.Agreeing.{sites_agree, story_is_one}
 use Rattle.td_agreement.specs.Laws.{AnswersAgree, ExchangeIsMerge, PastAnswersAgree, ValuesAgree, VectorsAgree}
 use Rattle.td_agreement.proofs.Fronts.{one_front}
 use Rattle.td_agreement.proofs.Meanings.{asks_one, tells_one}

@@ -3,8 +3,8 @@ use Rattle.std.proofs.Common.{◌≡◌, true, List, [], ◌∷◌, ◌++◌, sy
 use Rattle.td_stamps.specs.Sets.{is_set}
 use Rattle.td_stamps.specs.declared.entry.Entry.{Entry}
 use Rattle.td_stamps.specs.declared.entry.Stamp.{Stamp}
-use Rattle.td_story.specs.Past.{EndsAt}
-use Rattle.td_story.proofs.Places.{one_place}
+use Rattle.td_replica.specs.Past.{EndsAt}
+use Rattle.td_replica.proofs.Places.{one_place}
 
 pub one_front : (at : Stamp) (es fs front other : List Entry) → is_set es ≡ true → es ≡ fs → EndsAt at es front → EndsAt at fs other → front ≡ other
 one_front at es fs front other set same p q =

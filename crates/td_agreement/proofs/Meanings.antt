@@ -16,14 +16,15 @@ use Rattle.td_typing.proofs.Complete.{complete}
 use Rattle.td_algebra.specs.declared.errors.Stop.{Stop}
 use Rattle.td_headings.specs.Catalogues.{CatalogueData}
 use Rattle.td_headings.specs.Expressions.{IsExpression, no_tuple}
-use Rattle.td_story.specs.Answers.{SaysRelation, TellsRelvar}
-use Rattle.td_story.specs.Calls.{AsksQuery, SaysValue}
-use Rattle.td_story.specs.Databases.{DatabaseData, stored_relvars}
-use Rattle.td_story.specs.Raises.{stop_of}
-use Rattle.td_story.specs.Seen.{Seen}
-use Rattle.td_story.specs.Trees.{all_relvars, tree_means}
-use Rattle.td_story.specs.declared.answer.Answer.{Answer}
-use Rattle.td_story.specs.declared.answer.Answer.TheVariants as answer
+use Rattle.td_semantics.specs.Answers.{SaysRelation, TellsRelvar}
+use Rattle.td_replica.specs.Calls.{AsksQuery}
+use Rattle.td_semantics.specs.Answers.{SaysValue}
+use Rattle.td_semantics.specs.Databases.{DatabaseData, stored_relvars}
+use Rattle.td_semantics.specs.Raises.{stop_of}
+use Rattle.td_replica.specs.Seen.{Seen}
+use Rattle.td_semantics.specs.Trees.{all_relvars, tree_means}
+use Rattle.td_semantics.specs.declared.answer.Answer.{Answer}
+use Rattle.td_semantics.specs.declared.answer.Answer.TheVariants as answer
 
 some_same : {A : Type 0} (a b : A) → Some a ≡ Some b → a ≡ b
 some_same a b h = cc

@@ -7,11 +7,11 @@ use Rattle.td_stamps.specs.Sets.{NoClash, is_set, union}
 use Rattle.td_stamps.specs.Vectors.{IsVector, VersionVector, after_vector}
 use Rattle.td_stamps.specs.declared.entry.Entry.{Entry}
 use Rattle.td_stamps.specs.declared.entry.Stamp.{Stamp}
-use Rattle.td_story.specs.Calls.{Asks, TellsValue}
-use Rattle.td_story.specs.Laws.{HoldTheSame}
-use Rattle.td_story.specs.Past.{AsksAt}
-use Rattle.td_story.specs.Seen.{Seen}
-use Rattle.td_story.specs.declared.answer.Answer.{Answer}
+use Rattle.td_replica.specs.Calls.{Asks, TellsValue}
+use Rattle.td_replica.specs.Laws.{HoldTheSame}
+use Rattle.td_replica.specs.Past.{AsksAt}
+use Rattle.td_replica.specs.Seen.{Seen}
+use Rattle.td_semantics.specs.declared.answer.Answer.{Answer}
 use Rattle.td_values.specs.Data.{Datum}
 use Rattle.td_values.specs.Rows.{RowsData}
 

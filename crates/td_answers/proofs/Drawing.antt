@@ -4,7 +4,7 @@ use Rattle.std.specs.List.{slice_get, slice_set}
 use Rattle.std.proofs.lemmas.Bool.{cases_Bool, ne_eqb}
 use Rattle.std.proofs.lemmas.Bool.Decides.{nat_tests}
 use Rattle.std.proofs.lemmas.List.{get_or-drop, get_or-take, map-set}
-use Rattle.td_story.specs.Seen.{Seen}
+use Rattle.td_replica.specs.Seen.{Seen}
 use Rattle.td_meeting.specs.Meetings.{Judges, Meets, MeetsNot}
 use Rattle.td_meeting.specs.declared.error.MeetingError.{MeetingError}
 use Rattle.td_meeting.specs.declared.error.MeetingError.TheVariants as meeting_error

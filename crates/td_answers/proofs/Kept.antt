@@ -3,11 +3,11 @@ use Rattle.std.proofs.Common.{◌≡◌, ◌==◌, inl, inr, ℕ, Bool, true, fa
 use Rattle.std.specs.List.{slice_get, slice_set}
 use Rattle.td_headings.specs.Catalogues.{CatalogueData}
 use Rattle.td_commands.specs.Lines.{Line, nothing, quit, issue, query, query_at, meet, listing, log, vector, table, serve, call, faulty}
-use Rattle.td_story.specs.Scripts.{IsScriptOf}
-use Rattle.td_story.specs.Seen.{Seen}
-use Rattle.td_story.specs.declared.answer.Taken.{Taken}
-use Rattle.td_story.specs.declared.refusal.TakeError.{TakeError}
-use Rattle.td_story.specs.declared.refusal.TakeError.TheVariants as take_error
+use Rattle.td_semantics.specs.Scripts.{IsScriptOf}
+use Rattle.td_replica.specs.Seen.{Seen}
+use Rattle.td_replica.specs.declared.calls.Taken.{Taken}
+use Rattle.td_replica.specs.declared.refusal.TakeError.{TakeError}
+use Rattle.td_replica.specs.declared.refusal.TakeError.TheVariants as take_error
 use Rattle.td_answers.specs.Answers.{IssueAnswered, LineAnswered, MeetAnswered, SiteAnswered}
 use Rattle.td_meeting.specs.Meetings.{Meets, MeetsNot, Stay, Stops, TakesFrom}
 use Rattle.td_meeting.specs.declared.error.MeetingError.{MeetingError}

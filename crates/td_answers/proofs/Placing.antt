@@ -5,8 +5,8 @@ use Rattle.std.proofs.Math.Seq.{drop-cons}
 use Rattle.std.proofs.lemmas.Bool.{ne_eqb}
 use Rattle.std.proofs.lemmas.Option.{slice_get-get_or, slice_get-map}
 use Rattle.td_headings.specs.Catalogues.{CatalogueData}
-use Rattle.td_story.specs.Scripts.{IsScriptOf}
-use Rattle.td_story.specs.Seen.{Seen}
+use Rattle.td_semantics.specs.Scripts.{IsScriptOf}
+use Rattle.td_replica.specs.Seen.{Seen}
 use Rattle.td_answers.specs.Answers.{SiteAnswered}
 use Rattle.td_answers.specs.ForProofs.Said.{IsSiteOf, TellsIn, place_in}
 use Rattle.td_answers.specs.Sites.{AreOfOneScript, AreOfScript, Placed, Sites, TellsNoSite, one_on, site_of}

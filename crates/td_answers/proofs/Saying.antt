@@ -4,7 +4,7 @@ use Rattle.std.specs.List.{slice_set}
 use Rattle.std.proofs.lemmas.List.{map-set}
 use Rattle.td_headings.specs.Catalogues.{CatalogueData}
 use Rattle.td_commands.specs.Lines.{Line, is_quit}
-use Rattle.td_story.specs.Seen.{Seen}
+use Rattle.td_replica.specs.Seen.{Seen}
 use Rattle.td_answers.specs.Answers.{IssueAnswered, LineAnswered, TellsIssued}
 use Rattle.td_answers.specs.ForProofs.Said.{Says, place_in}
 use Rattle.td_answers.specs.Replies.{Replies}

@@ -7,15 +7,15 @@ use Rattle.td_values.specs.Shown.{shown}
 use Rattle.td_headings.specs.Catalogues.{CatalogueData}
 use Rattle.td_stamps.specs.Vectors.{VersionVector, IsVector}
 use Rattle.td_stamps.specs.declared.entry.Stamp.{Stamp}
-use Rattle.td_story.specs.Calls.{Asks, Issues}
-use Rattle.td_story.specs.Past.{AsksAt}
-use Rattle.td_story.specs.Seen.{Seen}
-use Rattle.td_story.specs.declared.answer.Issued.{Issued}
-use Rattle.td_story.specs.declared.answer.Answer.{Answer}
-use Rattle.td_story.specs.declared.answer.Answer.TheVariants as answer
-use Rattle.td_story.specs.declared.refusal.AskError.{AskError}
-use Rattle.td_story.specs.declared.refusal.IssueError.{IssueError}
-use Rattle.td_story.specs.declared.refusal.PastError.{PastError}
+use Rattle.td_replica.specs.Calls.{Asks, Issues}
+use Rattle.td_replica.specs.Past.{AsksAt}
+use Rattle.td_replica.specs.Seen.{Seen}
+use Rattle.td_replica.specs.declared.calls.Issued.{Issued}
+use Rattle.td_semantics.specs.declared.answer.Answer.{Answer}
+use Rattle.td_semantics.specs.declared.answer.Answer.TheVariants as answer
+use Rattle.td_replica.specs.declared.refusal.AskError.{AskError}
+use Rattle.td_replica.specs.declared.refusal.IssueError.{IssueError}
+use Rattle.td_replica.specs.declared.refusal.PastError.{PastError}
 use Rattle.td_listings.specs.Calls.{Lists, Logs, Tabulates}
 use Rattle.td_listings.specs.Texts.{shown_outcome, shown_stamp, vector_of}
 use Rattle.td_listings.specs.declared.error.ListError.{ListError}

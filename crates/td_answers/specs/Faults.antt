@@ -1,14 +1,14 @@
 -- The lines that tell why a call is refused, or which error a query or a relvar raises.
 use Rattle.std.specs.Prelude.{ℕ, List, ◌++◌, codes, decimal}
 use Rattle.td_values.specs.declared.raises.Raise.{Raise}
-use Rattle.td_story.specs.declared.refusal.AskError.{AskError}
-use Rattle.td_story.specs.declared.refusal.AskError.TheVariants as ask_error
-use Rattle.td_story.specs.declared.refusal.IssueError.{IssueError}
-use Rattle.td_story.specs.declared.refusal.IssueError.TheVariants as issue_error
-use Rattle.td_story.specs.declared.refusal.PastError.{PastError}
-use Rattle.td_story.specs.declared.refusal.PastError.TheVariants as past_error
-use Rattle.td_story.specs.declared.refusal.TakeError.{TakeError}
-use Rattle.td_story.specs.declared.refusal.TakeError.TheVariants as take_error
+use Rattle.td_replica.specs.declared.refusal.AskError.{AskError}
+use Rattle.td_replica.specs.declared.refusal.AskError.TheVariants as ask_error
+use Rattle.td_replica.specs.declared.refusal.IssueError.{IssueError}
+use Rattle.td_replica.specs.declared.refusal.IssueError.TheVariants as issue_error
+use Rattle.td_replica.specs.declared.refusal.PastError.{PastError}
+use Rattle.td_replica.specs.declared.refusal.PastError.TheVariants as past_error
+use Rattle.td_replica.specs.declared.refusal.TakeError.{TakeError}
+use Rattle.td_replica.specs.declared.refusal.TakeError.TheVariants as take_error
 use Rattle.td_frames.specs.declared.error.FrameError.{FrameError}
 use Rattle.td_frames.specs.declared.error.FrameError.TheVariants as frame_error
 use Rattle.td_meeting.specs.declared.error.MeetingError.{MeetingError}

@@ -5,8 +5,8 @@ use Rattle.std.specs.Io.KnownBytes.{Keeps}
 use Rattle.std.specs.Net.Grammar.{IsSocketText, Parses}
 use Rattle.std.specs.declared.net.parser.AddrParseError.{AddrParseError}
 use Rattle.std.specs.declared.net.socket_addr.SocketAddr.{SocketAddr}
-use Rattle.td_story.specs.Seen.{Seen}
-use Rattle.td_story.specs.declared.answer.Taken.{Taken}
+use Rattle.td_replica.specs.Seen.{Seen}
+use Rattle.td_replica.specs.declared.calls.Taken.{Taken}
 use Rattle.td_meeting.specs.Steps as steps
 use Rattle.td_meeting.specs.Steps.{LinkData}
 use Rattle.td_meeting.specs.declared.error.MeetingError.{MeetingError}

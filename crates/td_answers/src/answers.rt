@@ -18,7 +18,8 @@ use std::alloc::{AllocError, Global};
 use td_commands::{Command, command_of};
 use td_headings::Catalogue;
 use td_listings::script_catalogue;
-use td_story::{Meter, Replica};
+use td_replica::Replica;
+use td_semantics::Meter;
 
 /// The catalogue of the sites' script; without sites an empty one. It costs the reading and typing of the script.
 pub fn catalogue_for<R: Replica>(alloc: Global, sites: &[R]) -> Result<Catalogue, AllocError>

@@ -4,7 +4,7 @@ ghost use Rattle.std.specs.Prelude.{◌≡◌};
 ghost use Rattle.td_answers.specs.Faults as spec;
 
 use td_listings::{ListError, TableError};
-use td_story::{AskError, IssueError, PastError};
+use td_replica::{AskError, IssueError, PastError};
 use td_values::Raise;
 
 pub(crate) fn raised_line(raise: Raise) -> &'static str

@@ -7,7 +7,7 @@ ghost use Rattle.td_answers.specs.ForProofs.Opened.{IsAddress, IsOverNew, IsUnre
 ghost use Rattle.td_answers.specs.ForProofs.Said.{IsBlank, Says};
 ghost use Rattle.td_meeting.specs.Steps.{link_of};
 ghost use Rattle.td_meeting.specs.declared.error.MeetingError.TheVariants as meeting_error;
-ghost use Rattle.td_story.specs.declared.refusal.TakeError.TheVariants as take_error;
+ghost use Rattle.td_replica.specs.declared.refusal.TakeError.TheVariants as take_error;
 
 use crate::links::{LinkError, Links};
 use crate::meeting::meeting_fault;
@@ -17,7 +17,8 @@ use std::alloc::Global;
 use std::net::SocketAddr;
 use td_io::{Channel, Device, Link};
 use td_meeting::{MeetingError, answer, finish, greet, settle};
-use td_story::{Meter, Replica, Taken};
+use td_replica::{Replica, Taken};
+use td_semantics::Meter;
 
 fn link_fault(error: LinkError) -> &'static str
     ensures { result.now ≡ spec.link_fault error }

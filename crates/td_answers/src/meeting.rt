@@ -5,7 +5,7 @@ ghost use Rattle.td_answers.specs.Faults as spec;
 ghost use Rattle.td_answers.specs.Sites.{EachStays, HappensToOne};
 ghost use Rattle.td_meeting.specs.declared.error.MeetingError.TheVariants as meeting_error;
 ghost use Rattle.td_meeting.specs.declared.meeting.MeetingRefusal.{MeetingRefusal};
-ghost use Rattle.td_story.specs.declared.refusal.TakeError.TheVariants as take_error;
+ghost use Rattle.td_replica.specs.declared.refusal.TakeError.TheVariants as take_error;
 ghost use Rattle.td_answers.specs.ForProofs.Drawn.{IsUnmet, MeetsAt, TellsMetAt};
 ghost use Rattle.td_answers.specs.ForProofs.Said.{IsBlank, Says};
 
@@ -14,7 +14,8 @@ use crate::writing::{blank_line, clash_line, counted_line, met_line};
 use std::alloc::Global;
 use td_frames::FrameError;
 use td_meeting::{MeetingError, MeetingRefusal, Met, judge, meet};
-use td_story::{Meter, Replica, TakeError};
+use td_replica::{Replica, TakeError};
+use td_semantics::Meter;
 
 // Why two sites may not meet, which is found without memory.
 fn unmet_fault(error: MeetingError) -> &'static str

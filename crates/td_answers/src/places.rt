@@ -4,7 +4,7 @@ ghost use Rattle.std.specs.Prelude.{◌≡◌, ◌<◌, None, Some, IfSome, Matc
 ghost use Rattle.td_answers.specs.Sites.{site_of};
 ghost use Rattle.td_answers.specs.ForProofs.Said.{IsSiteOf, place_in};
 
-use td_story::Replica;
+use td_replica::Replica;
 
 /// The place of the first site of this number. A walk along the sites.
 pub(crate) fn place_of<R: Replica>(sites: &[R], number: u32) -> Option<usize>

@@ -1,8 +1,8 @@
 //! What one site answers.
 
 ghost use Rattle.std.specs.Prelude.{◌≡◌, Ok, Err, IfOk, MatchResult, codes, string_bytes};
-ghost use Rattle.td_story.specs.Scripts.{IsScriptOf};
-ghost use Rattle.td_story.specs.declared.answer.Answer.TheVariants as told;
+ghost use Rattle.td_semantics.specs.Scripts.{IsScriptOf};
+ghost use Rattle.td_semantics.specs.declared.answer.Answer.TheVariants as told;
 ghost use Rattle.td_answers.specs.Answers as spec;
 ghost use Rattle.td_answers.specs.Answers.{CountsEntries, TellsAsked, TellsIssued, TellsListing, TellsLog, TellsPast, TellsTable, TellsVector, reply_line};
 ghost use Rattle.td_answers.specs.ForProofs.Said.{Says};
@@ -13,8 +13,9 @@ use crate::writing::{blank_line, issued_line};
 use std::alloc::{AllocError, Global};
 use td_headings::Catalogue;
 use td_listings::{ListError, listing_text, log_text, table_text, vector_text};
+use td_replica::{MOST_BYTES, Replica};
+use td_semantics::{Answer, Meter};
 use td_stamps::Stamp;
-use td_story::{Answer, MOST_BYTES, Meter, Replica};
 use td_values::{Value, show};
 
 /// Issues a statement. The room for its line is taken first, but for a text that is too long, which wants none.

@@ -6,13 +6,14 @@ ghost use Rattle.td_answers.specs.Answers as answers;
 ghost use Rattle.td_answers.specs.Faults as faults;
 ghost use Rattle.td_answers.specs.Linked as linked;
 ghost use Rattle.td_answers.specs.ForProofs.Said.{IsBlank};
-ghost use Rattle.td_story.specs.declared.outcome.Outcome.TheVariants as became;
+ghost use Rattle.td_semantics.specs.declared.outcome.Outcome.TheVariants as became;
 
 use itoa::Buffer;
 use std::alloc::Global;
 use td_meeting::Met;
+use td_replica::Issued;
+use td_semantics::Outcome;
 use td_stamps::Stamp;
-use td_story::{Issued, Outcome};
 use td_values::{Name, Raise};
 
 // The longest line is that of a statement that is refused: 20 digits and 20 of its stamp, and a name of 64 bytes.

@@ -13,16 +13,16 @@ use Rattle.td_algebra.specs.Raising.{and_then}
 use Rattle.td_algebra.specs.declared.errors.Stop.{Stop}
 use Rattle.td_meaning.specs.Mean.{Relvars}
 use Rattle.td_type_soundness.specs.Meanings.{IsRelationOver}
-use Rattle.td_story.specs.Raises.{Tells}
-use Rattle.td_story.specs.declared.failure.Failure.{Failure}
-use Rattle.td_story.specs.declared.failure.Failure.TheVariants as failure
-use Rattle.td_story.specs.Trees.{IsIn}
-use Rattle.td_story.specs.Databases.{Belongs}
+use Rattle.td_semantics.specs.Raises.{Tells}
+use Rattle.td_semantics.specs.declared.failure.Failure.{Failure}
+use Rattle.td_semantics.specs.declared.failure.Failure.TheVariants as failure
+use Rattle.td_semantics.specs.Trees.{IsIn}
+use Rattle.td_semantics.specs.Databases.{Belongs}
 use Rattle.td_relvars.proofs.Asked.{relvar_there}
-use Rattle.td_story.specs.Given.{Given, gives, nothing_given}
+use Rattle.td_semantics.specs.Given.{Given, gives, nothing_given}
 use Rattle.td_assign.specs.ForProofs.Lists.{given, given_to}
 use Rattle.td_assign.specs.ForProofs.Given.{IsAssigned, Stands}
-use Rattle.td_story.specs.Sources.{source_means, sources}
+use Rattle.td_semantics.specs.Sources.{source_means, sources}
 use Rattle.td_assign.specs.declared.changes.Change.{Change}
 use Rattle.td_assign.proofs.Differing.{left_at}
 use Rattle.td_assign.proofs.Giving.{given_gives}

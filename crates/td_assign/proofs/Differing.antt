@@ -11,9 +11,9 @@ use Rattle.td_relations.specs.Sets.{body}
 use Rattle.td_relations.proofs.Changes.{none_between, same_by_nothing}
 use Rattle.td_meaning.specs.Mean.{Relvars}
 use Rattle.td_typing.proofs.KindLemmas.{some_same}
-use Rattle.td_story.specs.Given.{or_old, replaced}
+use Rattle.td_semantics.specs.Given.{or_old, replaced}
 use Rattle.td_assign.specs.ForProofs.Lists.{given_to}
-use Rattle.td_story.specs.Differences.{AreDifferences, Differs}
+use Rattle.td_semantics.specs.Differences.{AreDifferences, Differs}
 use Rattle.td_assign.specs.ForProofs.Given.{AreDistinct, DiffersBy, Turns}
 use Rattle.td_assign.specs.declared.changes.Change.{Change}
 

@@ -29,16 +29,16 @@ use Rattle.td_headings.specs.declared.statement.TypedStatement.TheVariants as ty
 use Rattle.td_headings.proofs.WellTyped.{all_typed}
 use Rattle.td_meaning.specs.Mean.{Relvars}
 use Rattle.td_operators.specs.Values.{rows_of, truth_of}
-use Rattle.td_story.specs.Trees.{tree_means}
-use Rattle.td_story.specs.Tests.{AreLegal, failing, is_key, judgement, or_behind}
-use Rattle.td_story.specs.Databases.{DatabaseData, IsDatabase, Stored, at_place, stored_relvars}
-use Rattle.td_story.specs.Given.{Given, gives, nothing_given, or_old, or_stored, seen, with_given}
-use Rattle.td_story.specs.Differences.{AreDifferences, Differs}
-use Rattle.td_story.specs.Footprints.{AgreeOnFootprint, InFootprint, IsInFootprint, TestReads, by_condition, by_source, by_test, target}
+use Rattle.td_semantics.specs.Trees.{tree_means}
+use Rattle.td_semantics.specs.Tests.{AreLegal, failing, is_key, judgement, or_behind}
+use Rattle.td_semantics.specs.Databases.{DatabaseData, IsDatabase, Stored, at_place, stored_relvars}
+use Rattle.td_semantics.specs.Given.{Given, gives, nothing_given, or_old, or_stored, seen, with_given}
+use Rattle.td_semantics.specs.Differences.{AreDifferences, Differs}
+use Rattle.td_semantics.specs.Footprints.{AgreeOnFootprint, InFootprint, IsInFootprint, TestReads, by_condition, by_source, by_test, target}
 use Rattle.td_assign.specs.Laws.{StepsAlike}
-use Rattle.td_story.specs.Sources.{given_over, made_where, source_means, sources}
-use Rattle.td_story.specs.Steps.{IsRead, Steps, unread, raised, refused, done, failing_with, given_by, with_all}
-use Rattle.td_story.specs.declared.outcome.Outcome.{Outcome}
+use Rattle.td_semantics.specs.Sources.{given_over, made_where, source_means, sources}
+use Rattle.td_semantics.specs.Steps.{IsRead, Steps, unread, raised, refused, done, failing_with, given_by, with_all}
+use Rattle.td_semantics.specs.declared.outcome.Outcome.{Outcome}
 use Rattle.td_assign.proofs.Replacing.{given_none}
 use Rattle.td_integrity.proofs.TreeReads.{trees_alike}
 

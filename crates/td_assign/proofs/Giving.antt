@@ -7,8 +7,8 @@ use Rattle.std.proofs.lemmas.List.Elements.{All-cons, All-head, All-nil, All-tai
 use Rattle.td_values.specs.Rows.{RowsData}
 use Rattle.td_headings.specs.Catalogues.{CatalogueData}
 use Rattle.td_typing.proofs.KindLemmas.{some_same}
-use Rattle.td_story.specs.Databases.{Belongs}
-use Rattle.td_story.specs.Given.{gives}
+use Rattle.td_semantics.specs.Databases.{Belongs}
+use Rattle.td_semantics.specs.Given.{gives}
 use Rattle.td_assign.specs.ForProofs.Lists.{given, given_to}
 use Rattle.td_assign.specs.ForProofs.Given.{AreChanges, AreDistinct, IsChange, is_target}
 use Rattle.td_assign.specs.declared.changes.Change.{Change}

@@ -9,8 +9,8 @@ use Rattle.td_relations.proofs.Changes.{leads_to}
 use Rattle.td_relations.proofs.Members.{relation_of_is}
 use Rattle.td_headings.specs.Catalogues.{CatalogueData}
 use Rattle.td_meaning.specs.Mean.{Relvars}
-use Rattle.td_story.specs.Databases.{Belongs, DatabaseData, IsDatabase, Stored, stored_relvars}
-use Rattle.td_story.specs.Differences.{AreDifferences}
+use Rattle.td_semantics.specs.Databases.{Belongs, DatabaseData, IsDatabase, Stored, stored_relvars}
+use Rattle.td_semantics.specs.Differences.{AreDifferences}
 use Rattle.td_relvars.specs.Changed.{change, changed, inverses, redone}
 use Rattle.td_relvars.proofs.Kept.{belongs}
 use Rattle.td_relvars.proofs.Places.{change_length, change_other, change_there, ok_same, one_store}

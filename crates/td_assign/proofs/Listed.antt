@@ -4,7 +4,7 @@ use Rattle.std.specs.List.{Contains}
 use Rattle.std.proofs.lemmas.Bool.{cases_eq}
 use Rattle.std.proofs.lemmas.List.Elements.{Contains-append_right}
 use Rattle.td_relations.specs.Deltas.{DeltaData, inverse_of}
-use Rattle.td_story.specs.Databases.{Stored, stored_relvars}
+use Rattle.td_semantics.specs.Databases.{Stored, stored_relvars}
 use Rattle.td_relvars.specs.Changed.{change, inverses, redone}
 use Rattle.td_relvars.proofs.Places.{change_other}
 use Rattle.td_assign.specs.Redoing.{AreOnce}

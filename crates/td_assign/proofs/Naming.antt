@@ -27,9 +27,9 @@ use Rattle.td_headings.specs.declared.statement.TypedStatement.{TypedStatement}
 use Rattle.td_headings.proofs.ConditionLemmas.{actions_of, are_all}
 use Rattle.td_headings.proofs.ReadLemmas.{reads_those}
 use Rattle.td_headings.proofs.WellTyped.{all_typed}
-use Rattle.td_story.proofs.Unique.{one_text}
-use Rattle.td_story.specs.Footprints.{InFootprint, IsInFootprint, IsTargetOfText, TestReads, by_condition, by_source, by_test, target}
-use Rattle.td_story.specs.Steps.{IsRead, IsUnreadText}
+use Rattle.td_semantics.proofs.Unique.{one_text}
+use Rattle.td_semantics.specs.Footprints.{InFootprint, IsInFootprint, IsTargetOfText, TestReads, by_condition, by_source, by_test, target}
+use Rattle.td_semantics.specs.Steps.{IsRead, IsUnreadText}
 use Rattle.td_assign.specs.ForProofs.Names.{AreNames, Gathers, ReadsWith, condition_reads}
 use Rattle.td_assign.specs.declared.names.Names.{Names}
 

@@ -21,33 +21,33 @@ use Rattle.td_headings.specs.declared.statement.TypedAssignment.{TypedAssignment
 use Rattle.td_headings.specs.declared.statement.TypedStatement.{TypedStatement}
 use Rattle.td_headings.specs.declared.statement.TypedStatement.TheVariants as typed_statement
 use Rattle.td_meaning.specs.Mean.{Relvars}
-use Rattle.td_story.specs.Raises.{stop_of}
-use Rattle.td_story.specs.Reports.{IsReport, title}
-use Rattle.td_story.specs.declared.broken.BrokenTest.{BrokenTest}
-use Rattle.td_story.specs.declared.broken.BrokenTest.TheVariants as broken
-use Rattle.td_story.specs.declared.broken.TestFailure.{TestFailure}
-use Rattle.td_story.specs.Tests.{failing}
-use Rattle.td_story.specs.Databases.{DatabaseData, IsDatabase, IsLegal, stored_relvars}
-use Rattle.td_story.specs.Given.{nothing_given, replaced, with_given}
-use Rattle.td_story.specs.Sources.{made_where, sources}
-use Rattle.td_story.specs.Trees.{IsIn}
+use Rattle.td_semantics.specs.Raises.{stop_of}
+use Rattle.td_semantics.specs.Reports.{IsReport, title}
+use Rattle.td_semantics.specs.declared.broken.BrokenTest.{BrokenTest}
+use Rattle.td_semantics.specs.declared.broken.BrokenTest.TheVariants as broken
+use Rattle.td_semantics.specs.declared.broken.TestFailure.{TestFailure}
+use Rattle.td_semantics.specs.Tests.{failing}
+use Rattle.td_semantics.specs.Databases.{DatabaseData, IsDatabase, IsLegal, stored_relvars}
+use Rattle.td_semantics.specs.Given.{nothing_given, replaced, with_given}
+use Rattle.td_semantics.specs.Sources.{made_where, sources}
+use Rattle.td_semantics.specs.Trees.{IsIn}
 use Rattle.td_relations.specs.Deltas.{DeltaData}
 use Rattle.td_integrity.specs.Changes.{PassedBefore}
 use Rattle.td_assign.specs.ForProofs.Lists.{given_to}
-use Rattle.td_story.specs.Differences.{AreDifferences, LeadOver}
-use Rattle.td_story.proofs.Leading.{differences_lead}
+use Rattle.td_semantics.specs.Differences.{AreDifferences, LeadOver}
+use Rattle.td_semantics.proofs.Leading.{differences_lead}
 use Rattle.td_assign.specs.ForProofs.Given.{AreAssigned, AreChanges, IsAssigned, Stands, assigned_by}
-use Rattle.td_story.specs.declared.failure.Failure.{Failure}
-use Rattle.td_story.specs.declared.failure.Failure.TheVariants as failure
+use Rattle.td_semantics.specs.declared.failure.Failure.{Failure}
+use Rattle.td_semantics.specs.declared.failure.Failure.TheVariants as failure
 use Rattle.td_assign.specs.ForProofs.Prepared.{AreAssignedTo, IsJudged, IsMade, IsPrepared, MayChange, Refuses, by_assignments, by_error, by_source, by_test, chosen_by, failing_after}
-use Rattle.td_story.specs.Steps.{IsRead, IsUnreadText, Steps, TellsTest, done, given_by, raised, refused}
+use Rattle.td_semantics.specs.Steps.{IsRead, IsUnreadText, Steps, TellsTest, done, given_by, raised, refused}
 use Rattle.td_assign.specs.declared.changes.Change.{Change}
-use Rattle.td_story.specs.declared.outcome.Outcome.{Outcome}
-use Rattle.td_story.specs.declared.outcome.Outcome.TheVariants as outcome
+use Rattle.td_semantics.specs.declared.outcome.Outcome.{Outcome}
+use Rattle.td_semantics.specs.declared.outcome.Outcome.TheVariants as outcome
 use Rattle.td_assign.specs.declared.running.Prepared.{Prepared}
 use Rattle.td_assign.specs.declared.running.Prepared.TheVariants.{Changes, Turn, Refused}
 use Rattle.td_assign.proofs.Replacing.{all_replaced}
-use Rattle.td_story.proofs.Unique.{one_text}
+use Rattle.td_semantics.proofs.Unique.{one_text}
 
 -- ---- no reading, or no typing
 module _ (c : CatalogueData) (dialect : ℕ) (text : List ℕ) where

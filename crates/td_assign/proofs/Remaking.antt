@@ -3,7 +3,7 @@ use Rattle.std.proofs.Common.{◌≡◌, ⊎_elim, inl, inr, ℕ, length, drop, 
 use Rattle.std.specs.List.{Contains}
 use Rattle.td_relations.specs.Deltas.{DeltaData}
 use Rattle.td_headings.specs.Catalogues.{CatalogueData}
-use Rattle.td_story.specs.Databases.{Belongs, DatabaseData, stored_relvars}
+use Rattle.td_semantics.specs.Databases.{Belongs, DatabaseData, stored_relvars}
 use Rattle.td_relvars.specs.Changed.{CanChange, change, changed, inverses, redone}
 use Rattle.td_relvars.proofs.Places.{change_other}
 use Rattle.td_assign.specs.Redoing.{AreOnce, CanRedo, IsBetween}

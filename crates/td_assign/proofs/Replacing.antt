@@ -11,12 +11,12 @@ use Rattle.td_typing.proofs.KindLemmas.{some_same}
 use Rattle.td_headings.specs.Catalogues.{CatalogueData}
 use Rattle.td_headings.specs.Reached.{is_base}
 use Rattle.td_type_soundness.specs.Meanings.{GivesRelation, IsRelationOver}
-use Rattle.td_story.specs.Trees.{AreBases}
-use Rattle.td_story.specs.Stored.{AreStored}
+use Rattle.td_semantics.specs.Trees.{AreBases}
+use Rattle.td_semantics.specs.Stored.{AreStored}
 use Rattle.td_integrity.proofs.Judged.{are_bases}
-use Rattle.td_story.specs.Databases.{Belongs, IsDatabase, Stored, at_place, put, stored_relvars}
+use Rattle.td_semantics.specs.Databases.{Belongs, IsDatabase, Stored, at_place, put, stored_relvars}
 use Rattle.td_relvars.proofs.Stores.{base_within}
-use Rattle.td_story.specs.Given.{Given, nothing_given, or_old, or_stored, replaced, seen, with_given}
+use Rattle.td_semantics.specs.Given.{Given, nothing_given, or_old, or_stored, replaced, seen, with_given}
 use Rattle.td_assign.specs.ForProofs.Given.{AreChanges, IsChange}
 use Rattle.td_assign.specs.ForProofs.Lists.{given_to}
 use Rattle.td_assign.specs.declared.changes.Change.{Change}

@@ -20,13 +20,13 @@ use Rattle.td_type_soundness.specs.Meanings.{GivesRelation, GivesValue}
 use Rattle.td_eval.proofs.HasValues.{trees_have_values}
 use Rattle.td_eval.proofs.OfTypes.{rows_given}
 use Rattle.td_relvars.proofs.Asked.{relvar_there}
-use Rattle.td_story.specs.Databases.{Belongs, DatabaseData, IsDatabase, stored_relvars}
-use Rattle.td_story.specs.Footprints.{IsTargetOfText}
-use Rattle.td_story.specs.Given.{Given, gives, nothing_given, seen}
-use Rattle.td_story.specs.Sources.{made_where, source_means, sources}
-use Rattle.td_story.specs.Steps.{IsRead, Steps, unread, raised, refused, done, given_by}
-use Rattle.td_story.specs.Trees.{tree_means}
-use Rattle.td_story.specs.declared.outcome.Outcome.{Outcome}
+use Rattle.td_semantics.specs.Databases.{Belongs, DatabaseData, IsDatabase, stored_relvars}
+use Rattle.td_semantics.specs.Footprints.{IsTargetOfText}
+use Rattle.td_semantics.specs.Given.{Given, gives, nothing_given, seen}
+use Rattle.td_semantics.specs.Sources.{made_where, source_means, sources}
+use Rattle.td_semantics.specs.Steps.{IsRead, Steps, unread, raised, refused, done, given_by}
+use Rattle.td_semantics.specs.Trees.{tree_means}
+use Rattle.td_semantics.specs.declared.outcome.Outcome.{Outcome}
 use Rattle.td_assign.proofs.Footprint.{given_of, of_or_stays}
 use Rattle.td_assign.proofs.Replacing.{bases_seen, given_is}
 

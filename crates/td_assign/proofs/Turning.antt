@@ -22,22 +22,22 @@ use Rattle.td_headings.specs.declared.statement.TypedAssignment.{TypedAssignment
 use Rattle.td_headings.specs.declared.statement.TypedStatement.{TypedStatement}
 use Rattle.td_meaning.specs.Mean.{Relvars}
 use Rattle.td_operators.specs.Values.{rows_of}
-use Rattle.td_story.specs.Databases.{DatabaseData, IsDatabase, IsLegal, Stored, put, stored_relvars}
-use Rattle.td_story.specs.Differences.{AreDifferences, Differs}
-use Rattle.td_story.proofs.Leading.{differences_lead}
-use Rattle.td_story.specs.Given.{gives, nothing_given, seen, with_given}
-use Rattle.td_story.specs.Reports.{IsReport}
-use Rattle.td_story.specs.Steps.{IsRead, Steps, TellsTest, done, given_by, refused}
-use Rattle.td_story.specs.declared.broken.TestFailure.{TestFailure}
-use Rattle.td_story.specs.Tests.{failing}
-use Rattle.td_story.specs.Trees.{tree_means}
+use Rattle.td_semantics.specs.Databases.{DatabaseData, IsDatabase, IsLegal, Stored, put, stored_relvars}
+use Rattle.td_semantics.specs.Differences.{AreDifferences, Differs}
+use Rattle.td_semantics.proofs.Leading.{differences_lead}
+use Rattle.td_semantics.specs.Given.{gives, nothing_given, seen, with_given}
+use Rattle.td_semantics.specs.Reports.{IsReport}
+use Rattle.td_semantics.specs.Steps.{IsRead, Steps, TellsTest, done, given_by, refused}
+use Rattle.td_semantics.specs.declared.broken.TestFailure.{TestFailure}
+use Rattle.td_semantics.specs.Tests.{failing}
+use Rattle.td_semantics.specs.Trees.{tree_means}
 use Rattle.td_eval.specs.Added.{TellsAdded}
 use Rattle.td_eval.specs.Changed.{TellsChanged}
-use Rattle.td_story.proofs.Legal.{all_pass}
-use Rattle.td_story.specs.declared.failure.Failure.{Failure}
-use Rattle.td_story.specs.declared.failure.Failure.TheVariants as failure
-use Rattle.td_story.specs.declared.outcome.Outcome.{Outcome}
-use Rattle.td_story.specs.declared.outcome.Outcome.TheVariants.{Done}
+use Rattle.td_semantics.proofs.Legal.{all_pass}
+use Rattle.td_semantics.specs.declared.failure.Failure.{Failure}
+use Rattle.td_semantics.specs.declared.failure.Failure.TheVariants as failure
+use Rattle.td_semantics.specs.declared.outcome.Outcome.{Outcome}
+use Rattle.td_semantics.specs.declared.outcome.Outcome.TheVariants.{Done}
 use Rattle.td_relvars.specs.Changed.{CanChange, change, changed, with_change}
 use Rattle.td_relvars.specs.Ways.{LeadsBackAt, WayBackData}
 use Rattle.td_relvars.proofs.Kept.{changed_is}

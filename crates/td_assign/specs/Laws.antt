@@ -3,11 +3,11 @@ use Rattle.std.specs.Prelude.{◌≡◌, ℕ, List}
 use Rattle.std.specs.List.{Contains}
 use Rattle.td_relations.specs.Deltas.{DeltaData}
 use Rattle.td_meaning.specs.Mean.{Relvars}
-use Rattle.td_story.specs.Databases.{DatabaseData, IsDatabase, IsLegal, Stored, stored_relvars}
-use Rattle.td_story.specs.Differences.{AreDifferences}
-use Rattle.td_story.specs.Footprints.{AgreeOnFootprint, IsTargetOfText}
-use Rattle.td_story.specs.Steps.{Steps}
-use Rattle.td_story.specs.declared.outcome.Outcome.{Outcome}
+use Rattle.td_semantics.specs.Databases.{DatabaseData, IsDatabase, IsLegal, Stored, stored_relvars}
+use Rattle.td_semantics.specs.Differences.{AreDifferences}
+use Rattle.td_semantics.specs.Footprints.{AgreeOnFootprint, IsTargetOfText}
+use Rattle.td_semantics.specs.Steps.{Steps}
+use Rattle.td_semantics.specs.declared.outcome.Outcome.{Outcome}
 use Rattle.td_relvars.specs.Changed.{redone, undone}
 use Rattle.td_assign.specs.Redoing.{AreOnce, CanRedo, CanUndo}
 

@@ -2,8 +2,8 @@
 use Rattle.std.specs.Prelude.{ℕ, List, MatchOption}
 use Rattle.td_headings.specs.Catalogues.{CatalogueData}
 use Rattle.td_headings.specs.Reached.{AreThose}
-use Rattle.td_story.specs.Footprints.{IsInFootprint}
-use Rattle.td_story.specs.Steps.{IsRead, IsUnreadText}
+use Rattle.td_semantics.specs.Footprints.{IsInFootprint}
+use Rattle.td_semantics.specs.Steps.{IsRead, IsUnreadText}
 use Rattle.td_assign.specs.declared.reading.Reading.{Reading}
 
 -- this was read of the text in its dialect: the statement that it is, if it is one, and the relvars on which it hangs

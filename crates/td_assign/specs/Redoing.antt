@@ -2,7 +2,7 @@
 use Rattle.std.specs.Prelude.{◌≡◌, ◌⊎◌, ℕ, List}
 use Rattle.std.specs.List.{AllPairs, Contains}
 use Rattle.td_relations.specs.Deltas.{DeltaData}
-use Rattle.td_story.specs.Databases.{DatabaseData, Stored, stored_relvars}
+use Rattle.td_semantics.specs.Databases.{DatabaseData, Stored, stored_relvars}
 use Rattle.td_relvars.specs.Changed.{CanChange, inverses}
 
 -- no relvar is changed twice

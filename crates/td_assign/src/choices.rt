@@ -9,7 +9,7 @@ ghost use Rattle.td_assign.specs.ForProofs.Prepared.{chosen_by};
 use std::alloc::Global;
 use td_headings::{TypedAssignment, TypedStatement};
 use td_relvars::Database;
-use td_story::Failure;
+use td_semantics::Failure;
 
 /// The assignments that the statement makes: of a conditional one, its condition over the database decides.
 pub(crate) fn chosen<'s>(

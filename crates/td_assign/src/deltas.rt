@@ -1,10 +1,10 @@
 //! The exact difference that a statement makes.
 
 ghost use Rattle.std.specs.Prelude.{◌≡◌, IfOk, MatchOption, Ok};
-ghost use Rattle.td_story.specs.Databases.{IsDatabase, stored_relvars};
-ghost use Rattle.td_story.specs.Given as spec;
+ghost use Rattle.td_semantics.specs.Databases.{IsDatabase, stored_relvars};
+ghost use Rattle.td_semantics.specs.Given as spec;
 ghost use Rattle.td_assign.specs.ForProofs.Lists.{given_to};
-ghost use Rattle.td_story.specs.Differences.{AreDifferences};
+ghost use Rattle.td_semantics.specs.Differences.{AreDifferences};
 ghost use Rattle.td_assign.specs.ForProofs.Given.{AreChanges, DiffersBy, IsChange, Turns};
 
 use crate::changes::Change;

@@ -26,5 +26,5 @@ pub use changes::Change;
 pub use ran::Ran;
 pub use reading::{Reading, read};
 pub use running::{run, run_read};
-pub use td_story::{Meter, Outcome};
+pub use td_semantics::{Meter, Outcome};
 pub use undoing::{redo, undo, undo_part};

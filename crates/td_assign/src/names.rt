@@ -9,7 +9,7 @@ ghost use Rattle.td_headings.specs.Reached.{AreThose};
 ghost use Rattle.td_headings.specs.Statements as typed;
 ghost use Rattle.td_headings.specs.Statements.{IsTarget, TypesStatement};
 ghost use Rattle.td_headings.specs.declared.statement.TypedAssignment as declared;
-ghost use Rattle.td_story.specs.Footprints.{InFootprint, TestReads};
+ghost use Rattle.td_semantics.specs.Footprints.{InFootprint, TestReads};
 ghost use Rattle.td_assign.specs.ForProofs.Names.{Gathers, ReadsWith, condition_reads};
 
 use std::alloc::{AllocError, Global};

@@ -1,7 +1,7 @@
 //! What running a statement gives.
 
 use td_relations::Delta;
-use td_story::Outcome;
+use td_semantics::Outcome;
 
 /// What running a statement gives.
 #[derive(Drop)]

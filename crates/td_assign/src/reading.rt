@@ -1,7 +1,7 @@
 //! What is read of a statement's text before it is run.
 
 ghost use Rattle.std.specs.Prelude.{IfOk, MatchOption};
-ghost use Rattle.td_story.specs.Steps.{IsRead, IsUnreadText};
+ghost use Rattle.td_semantics.specs.Steps.{IsRead, IsUnreadText};
 ghost use Rattle.td_assign.specs.Readings.{IsReading};
 
 use crate::names::footprint;

@@ -2,24 +2,24 @@
 
 ghost use Rattle.std.specs.Prelude.{◌≡◌, [], ℕ, List, IfOk, IsTrue, OnErr, OnOk, Option, Some};
 ghost use Rattle.std.specs.List.{All};
-ghost use Rattle.td_story.specs.Reports.{IsReport};
+ghost use Rattle.td_semantics.specs.Reports.{IsReport};
 ghost use Rattle.td_headings.specs.Catalogues.{CatalogueData};
 ghost use Rattle.td_headings.specs.Reached.{AreThose};
 ghost use Rattle.td_headings.specs.Statements.{TypesStatement};
 ghost use Rattle.td_syntax.specs.declared.script.Statement.{Statement};
 ghost use Rattle.td_headings.specs.declared.defined.Test.{Test};
 ghost use Rattle.td_algebra.specs.declared.errors.Stop.{Stop};
-ghost use Rattle.td_story.specs.Databases.{DatabaseData, IsLegal, stored_relvars};
-ghost use Rattle.td_story.specs.Counts.{one_more};
-ghost use Rattle.td_story.specs.Differences.{AreDifferences};
-ghost use Rattle.td_story.specs.Footprints.{IsInFootprint, IsTargetOfText};
+ghost use Rattle.td_semantics.specs.Databases.{DatabaseData, IsLegal, stored_relvars};
+ghost use Rattle.td_semantics.specs.Counts.{one_more};
+ghost use Rattle.td_semantics.specs.Differences.{AreDifferences};
+ghost use Rattle.td_semantics.specs.Footprints.{IsInFootprint, IsTargetOfText};
 ghost use Rattle.td_assign.specs.ForProofs.Given.{AreAssigned, AreChanges};
 ghost use Rattle.td_assign.specs.ForProofs.Turning.{CameFrom, IsTurned, IsOneTurn, IsTried, MayTurn, TakesNothing};
 ghost use Rattle.td_assign.specs.ForProofs.Names.{AreNames};
 ghost use Rattle.td_assign.specs.ForProofs.Prepared.{AreAssignedTo, IsJudged, IsMade, IsPrepared};
 ghost use Rattle.td_assign.specs.ForProofs.Lists.{IsKeyed, changes_of, given_to};
-ghost use Rattle.td_story.specs.Steps as spec;
-ghost use Rattle.td_story.specs.Steps.{Steps};
+ghost use Rattle.td_semantics.specs.Steps as spec;
+ghost use Rattle.td_semantics.specs.Steps.{Steps};
 ghost use Rattle.td_assign.specs.Readings.{IsReading};
 
 use crate::changes::Change;
@@ -36,7 +36,7 @@ use td_headings::{TypedAssignment, TypedStatement};
 use td_integrity::first_failure_after;
 use td_relations::Delta;
 use td_relvars::{Base, Database, WayBack};
-use td_story::{BrokenTest, Failure, Meter, Outcome, TestFailure};
+use td_semantics::{BrokenTest, Failure, Meter, Outcome, TestFailure};
 
 // A test that raises gives its error, one that is false what it is of.
 fn refusal(failure: TestFailure) -> Outcome

@@ -1,9 +1,9 @@
 //! The relvars that sources and tests see before anything is changed.
 
 ghost use Rattle.td_assign.specs.ForProofs.Lists as lists;
-ghost use Rattle.td_story.specs.Given as spec;
+ghost use Rattle.td_semantics.specs.Given as spec;
 ghost use Rattle.td_relvars.specs.Keys.{first_key};
-ghost use Rattle.td_story.specs.Databases.{stored_relvars};
+ghost use Rattle.td_semantics.specs.Databases.{stored_relvars};
 
 use crate::changes::{Change, given_to};
 use td_algebra::{KeyIndex, Stop};

@@ -2,13 +2,13 @@
 
 ghost use Rattle.std.specs.Prelude.{◌≡◌, IfOk, Ok, OnOk};
 ghost use Rattle.td_values.specs.Rows.{AreRows, RowsData};
-ghost use Rattle.td_story.specs.Raises.{Tells};
-ghost use Rattle.td_story.specs.Databases.{Belongs, stored_relvars};
+ghost use Rattle.td_semantics.specs.Raises.{Tells};
+ghost use Rattle.td_semantics.specs.Databases.{Belongs, stored_relvars};
 ghost use Rattle.td_assign.specs.ForProofs.Given.{AreAssigned, AreChanges, GivesMore, IsAssigned, TellsChanges};
 ghost use Rattle.td_assign.specs.ForProofs.Turning.{Adds, IsGrowth, TellsAddition, TellsAlone, TellsTurn};
 ghost use Rattle.td_assign.specs.ForProofs.Lists.{given_to};
-ghost use Rattle.td_story.specs.Given.{nothing_given};
-ghost use Rattle.td_story.specs.Sources.{source_means, sources};
+ghost use Rattle.td_semantics.specs.Given.{nothing_given};
+ghost use Rattle.td_semantics.specs.Sources.{source_means, sources};
 
 use crate::changes::{Change, give};
 use crate::seen::Seen;
@@ -17,7 +17,7 @@ use td_eval::lacking;
 use td_headings::TypedAssignment;
 use td_relations::{Delta, Relation};
 use td_relvars::Database;
-use td_story::Failure;
+use td_semantics::Failure;
 
 // The relation that the source has.
 fn source(

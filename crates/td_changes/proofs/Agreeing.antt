@@ -12,12 +12,12 @@ use Rattle.td_stamps.specs.Sets.{is_set}
 use Rattle.td_stamps.specs.declared.entry.Entry.{Entry}
 use Rattle.td_stamps.specs.declared.entry.Stamp.{Stamp}
 use Rattle.td_stamps.proofs.Merges.{same_set}
-use Rattle.td_story.specs.Databases.{DatabaseData, stored_relvars}
-use Rattle.td_story.specs.Differences.{AreDifferences, Differs}
-use Rattle.td_story.specs.Stories.{IsStory}
-use Rattle.td_story.specs.declared.outcome.Outcome.{Outcome}
-use Rattle.td_story.proofs.Agreeing.{story_is_one}
-use Rattle.td_story.proofs.Places.{one_place}
+use Rattle.td_semantics.specs.Databases.{DatabaseData, stored_relvars}
+use Rattle.td_semantics.specs.Differences.{AreDifferences, Differs}
+use Rattle.td_replica.specs.Stories.{IsStory}
+use Rattle.td_semantics.specs.declared.outcome.Outcome.{Outcome}
+use Rattle.td_replica.proofs.Agreeing.{story_is_one}
+use Rattle.td_replica.proofs.Places.{one_place}
 use Rattle.td_changes.specs.Laws.{ChangesAgree}
 
 -- ---- the differences of two states are one, but for their order

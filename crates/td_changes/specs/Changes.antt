@@ -4,10 +4,10 @@ use Rattle.td_relations.specs.Deltas.{DeltaData}
 use Rattle.td_stamps.specs.Entries.{stamp_of}
 use Rattle.td_stamps.specs.declared.entry.Entry.{Entry}
 use Rattle.td_stamps.specs.declared.entry.Stamp.{Stamp}
-use Rattle.td_story.specs.Databases.{DatabaseData, stored_relvars}
-use Rattle.td_story.specs.Differences.{AreDifferences}
-use Rattle.td_story.specs.Past.{HasNoPlace}
-use Rattle.td_story.specs.Seen.{Leaves, Seen, with_entries}
+use Rattle.td_semantics.specs.Databases.{DatabaseData, stored_relvars}
+use Rattle.td_semantics.specs.Differences.{AreDifferences}
+use Rattle.td_replica.specs.Past.{HasNoPlace}
+use Rattle.td_replica.specs.Seen.{Leaves, Seen, with_entries}
 use Rattle.td_changes.specs.declared.ChangedError.{ChangedError}
 use Rattle.td_changes.specs.declared.ChangedError.TheVariants as changed_error
 

@@ -11,8 +11,8 @@ ghost use Rattle.td_changes.specs.Changes.{TellsChanges};
 pub mod laws;
 
 use td_relations::Delta;
+use td_replica::Replica;
 use td_stamps::Stamp;
-use td_story::Replica;
 use thiserror::Error;
 
 /// Why the changes of a statement are not told.

@@ -10,8 +10,8 @@ use std::process::ExitCode;
 use td_io::Device;
 use td_journal_files::{FileJournals, Notes};
 use td_replay::Site;
+use td_semantics::Meter;
 use td_sockets::TcpLinks;
-use td_story::Meter;
 use td_workbench::program;
 
 // A word that is no UTF-8 is refused as the command line library refuses words.

@@ -6,15 +6,15 @@
 #![tactic(auto)]
 
 ghost use Rattle.std.specs.Prelude.{IfOk};
-ghost use Rattle.td_story.specs.Databases.{stored_relvars};
-ghost use Rattle.td_story.specs.Reports.{IsReport};
-ghost use Rattle.td_story.specs.Tests.{failing};
+ghost use Rattle.td_semantics.specs.Databases.{stored_relvars};
+ghost use Rattle.td_semantics.specs.Reports.{IsReport};
+ghost use Rattle.td_semantics.specs.Tests.{failing};
 ghost use Rattle.td_integrity.specs.Changes.{PassedBefore};
 
 use std::alloc::{AllocError, Global};
 use td_relations::Delta;
 use td_relvars::Database;
-pub use td_story::TestFailure as Failure;
+pub use td_semantics::TestFailure as Failure;
 
 /// The first test that is false or raises. It costs what `td_integrity::first_failure` does.
 pub fn first_failure(alloc: Global, database: &Database) -> Result<Option<Failure>, AllocError>

@@ -23,8 +23,8 @@ use Rattle.td_headings.specs.declared.defined.Origin.TheVariants as origin
 use Rattle.td_headings.proofs.WellTyped.{all_typed}
 use Rattle.td_meaning.specs.Mean.{Meaning, Relvars, Selection, mean, rows_in, within}
 use Rattle.td_meaning.specs.Selections.{none_selected, selection}
-use Rattle.td_story.specs.Meanings.{means, no_names, with_virtuals}
-use Rattle.td_story.specs.Trees.{all_relvars, places, places_from, selection_of, tree_means}
+use Rattle.td_semantics.specs.Meanings.{means, no_names, with_virtuals}
+use Rattle.td_semantics.specs.Trees.{all_relvars, places, places_from, selection_of, tree_means}
 use Rattle.td_eval.proofs.Known.{either, inside, none_there, tree_names, virtual_names}
 use Rattle.td_eval.proofs.Named.{agree}
 use Rattle.td_eval.proofs.Placed.{names_earlier, selected_defined, selects_earlier}

@@ -36,8 +36,8 @@ use Rattle.td_type_soundness.specs.Values.{AreComponentsOf, AreValues}
 use Rattle.td_type_soundness.proofs.Errors.{error_is}
 use Rattle.td_type_soundness.proofs.Scoped.{within_are}
 use Rattle.td_type_soundness.proofs.Sound.{gives}
-use Rattle.td_story.specs.Meanings.{no_names}
-use Rattle.td_story.specs.Trees.{AreBases, all_relvars, places, selection_of, tree_means}
+use Rattle.td_semantics.specs.Meanings.{no_names}
+use Rattle.td_semantics.specs.Trees.{AreBases, all_relvars, places, selection_of, tree_means}
 use Rattle.td_eval.proofs.AllThere.{ascending, has_place, in_filter_map}
 use Rattle.td_eval.proofs.Named.{agree}
 use Rattle.td_eval.proofs.OfTypes.{GivesTruth, components_meant, relvars_meant, rows_given, truth_given}

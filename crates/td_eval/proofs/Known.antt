@@ -33,7 +33,7 @@ use Rattle.td_meaning.specs.Mean.{Relvars, Selection, mean, rows_in, within}
 use Rattle.td_meaning.specs.Seen.{one_known_more, relvars_at, virtual_known, virtuals_known}
 use Rattle.td_meaning.specs.Selections.{selection}
 use Rattle.td_meaning.specs.declared.environment.Known.{Known}
-use Rattle.td_story.specs.Meanings.{no_names, with_virtual, with_virtuals, means}
+use Rattle.td_semantics.specs.Meanings.{no_names, with_virtual, with_virtuals, means}
 use Rattle.td_eval.specs.ForProofs.Environments.{base_known, bases_known, all_known}
 use Rattle.td_eval.proofs.Named.{named_agree}
 use Rattle.td_eval.proofs.Placed.{named_defined, names_earlier}

@@ -23,7 +23,7 @@ use Rattle.td_meaning.specs.Selections.{selection}
 use Rattle.td_meaning.specs.declared.environment.Environment.{Environment}
 use Rattle.td_operators.specs.Operators.{as_value}
 use Rattle.td_operators.specs.Values.{rows_of}
-use Rattle.td_story.specs.Meanings.{means, no_names, relvars_under}
+use Rattle.td_semantics.specs.Meanings.{means, no_names, relvars_under}
 use Rattle.td_eval.specs.ForProofs.Environments.{MeanTheirs, all_known, bases_known}
 use Rattle.td_eval.proofs.Known.{as_known, further, known_relvar, virtual_names}
 use Rattle.td_eval.proofs.Named.{named_agree}

@@ -17,8 +17,8 @@ use Rattle.td_meaning.specs.Mean.{Relvars}
 use Rattle.td_operators.specs.Values.{rows_of}
 use Rattle.td_type_soundness.specs.Meanings.{GivesValue, HasKind, IsError, IsRelationOver, OrError}
 use Rattle.td_type_soundness.proofs.Values.{rows_given}
-use Rattle.td_story.specs.Meanings.{means}
-use Rattle.td_story.specs.Trees.{AreBases, IsIn, tree_means}
+use Rattle.td_semantics.specs.Meanings.{means}
+use Rattle.td_semantics.specs.Trees.{AreBases, IsIn, tree_means}
 use Rattle.td_eval.proofs.AllThere.{means_its_tree}
 use Rattle.td_eval.proofs.HasValues.{trees_have_values}
 

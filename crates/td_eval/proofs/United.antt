@@ -28,9 +28,9 @@ use Rattle.td_meaning.specs.Seen.{relvars_at}
 use Rattle.td_meaning.specs.Selections.{selection}
 use Rattle.td_meaning.proofs.Forms as meant
 use Rattle.td_type_soundness.specs.Meanings.{GivesValue, IsError}
-use Rattle.td_story.specs.Meanings.{means, no_names}
-use Rattle.td_story.specs.Raises.{stop_of}
-use Rattle.td_story.specs.Trees.{AreBases, IsIn, tree_means}
+use Rattle.td_semantics.specs.Meanings.{means, no_names}
+use Rattle.td_semantics.specs.Raises.{stop_of}
+use Rattle.td_semantics.specs.Trees.{AreBases, IsIn, tree_means}
 use Rattle.td_eval.specs.Added.{TellsAdded}
 use Rattle.td_eval.specs.ForProofs.Environments.{all_known}
 use Rattle.td_eval.proofs.AllThere.{means_its_tree}

@@ -16,7 +16,7 @@ use Rattle.td_headings.specs.declared.defined.Origin.{Origin}
 use Rattle.td_headings.specs.declared.defined.Origin.TheVariants as origin
 use Rattle.td_meaning.specs.Mean.{Relvars, Selection, mean, rows_in}
 use Rattle.td_meaning.specs.Selections.{selection}
-use Rattle.td_story.specs.Meanings.{no_names, with_virtual, with_virtuals, relvars_under}
+use Rattle.td_semantics.specs.Meanings.{no_names, with_virtual, with_virtuals, relvars_under}
 use Rattle.td_eval.proofs.Named.{named_agree}
 use Rattle.td_eval.proofs.Placed.{names_earlier}
 use Rattle.td_eval.proofs.Known.{further, later, those}

@@ -3,9 +3,9 @@ use Rattle.std.specs.Prelude.{◌≡◌, Option, None, Some, Result, Ok, Err}
 use Rattle.td_values.specs.Rows.{RowsData}
 use Rattle.td_algebra.specs.Functions.{union_of}
 use Rattle.td_algebra.specs.declared.errors.Stop.{Stop}
-use Rattle.td_story.specs.Raises.{stop_of}
-use Rattle.td_story.specs.declared.failure.Failure.{Failure}
-use Rattle.td_story.specs.declared.failure.Failure.TheVariants.{Raised, OutOfMemory}
+use Rattle.td_semantics.specs.Raises.{stop_of}
+use Rattle.td_semantics.specs.declared.failure.Failure.{Failure}
+use Rattle.td_semantics.specs.declared.failure.Failure.TheVariants.{Raised, OutOfMemory}
 
 -- Where the relvar has r, s is told of an expression that means r united with s; or the error that it raises. Of an
 -- expression of another form, and where memory is wanting, nothing is told.

@@ -4,9 +4,9 @@ use Rattle.td_values.specs.Rows.{RowsData}
 use Rattle.td_relations.specs.Deltas.{DeltaData, IsDifference, applied}
 use Rattle.td_relations.specs.Sets.{body, relation_of}
 use Rattle.td_algebra.specs.declared.errors.Stop.{Stop}
-use Rattle.td_story.specs.Raises.{stop_of}
-use Rattle.td_story.specs.declared.failure.Failure.{Failure}
-use Rattle.td_story.specs.declared.failure.Failure.TheVariants.{Raised, OutOfMemory}
+use Rattle.td_semantics.specs.Raises.{stop_of}
+use Rattle.td_semantics.specs.declared.failure.Failure.{Failure}
+use Rattle.td_semantics.specs.declared.failure.Failure.TheVariants.{Raised, OutOfMemory}
 
 -- the relation after the change
 abbrev pub after : RowsData → DeltaData → RowsData

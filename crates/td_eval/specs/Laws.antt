@@ -14,8 +14,8 @@ use Rattle.td_headings.specs.Expressions.{HasAllUnder, IsTree, IsTyped, reads}
 use Rattle.td_meaning.specs.Mean.{Relvars, mean, rows_in}
 use Rattle.td_meaning.specs.Selections.{selection}
 use Rattle.td_type_soundness.specs.Meanings.{GivesValue, GivesRelation, IsTupleOver}
-use Rattle.td_story.specs.Meanings.{means, no_names, relvars_under}
-use Rattle.td_story.specs.Trees.{AreBases, all_relvars, tree_means}
+use Rattle.td_semantics.specs.Meanings.{means, no_names, relvars_under}
+use Rattle.td_semantics.specs.Trees.{AreBases, all_relvars, tree_means}
 
 -- relvars that agree on what an expression reads give it the same meaning
 abbrev pub MeaningByReads : Type 0

@@ -11,8 +11,8 @@ ghost use Rattle.td_meaning.specs.Selections.{selection};
 ghost use Rattle.td_operators.specs.Values as spec;
 ghost use Rattle.td_syntax.specs.declared.tree.BinaryOperator.TheVariants as binary;
 ghost use Rattle.td_typed_trees.specs.declared.tree.Typed.TheVariants as typed;
-ghost use Rattle.td_story.specs.Meanings.{no_names};
-ghost use Rattle.td_story.specs.Trees.{AreBases, IsIn, tree_means};
+ghost use Rattle.td_semantics.specs.Meanings.{no_names};
+ghost use Rattle.td_semantics.specs.Trees.{AreBases, IsIn, tree_means};
 ghost use Rattle.td_eval.specs.Added.{TellsAdded};
 ghost use Rattle.td_eval.specs.ForProofs.Environments.{all_known};
 
@@ -25,7 +25,7 @@ use td_algebra::Fault;
 use td_headings::{Catalogue, TypedExpr};
 use td_meaning::Scope;
 use td_relations::Relation;
-use td_story::Failure;
+use td_semantics::Failure;
 use td_syntax::tree::BinaryOperator;
 use td_typed_trees::tree::Typed;
 

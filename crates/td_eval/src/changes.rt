@@ -12,7 +12,7 @@ ghost use Rattle.td_meaning.specs.Parts.{AreRight};
 ghost use Rattle.td_meaning.specs.Seen.{mean_in, relvars_at};
 ghost use Rattle.td_meaning.specs.Selections.{selection};
 ghost use Rattle.td_operators.specs.Values as spec;
-ghost use Rattle.td_story.specs.Trees.{AreBases, IsIn, tree_means};
+ghost use Rattle.td_semantics.specs.Trees.{AreBases, IsIn, tree_means};
 ghost use Rattle.td_relations.specs.Deltas.{IsDifference};
 ghost use Rattle.td_eval.specs.Changed.{TellsChanged};
 ghost use Rattle.td_eval.specs.ForProofs.Environments.{MeanTheirs, all_known};
@@ -32,7 +32,7 @@ use td_headings::{Catalogue, TypedExpr};
 use td_meaning::{Environment, Part, Scope, Wanted, extend_all, select};
 use td_operators::Lease;
 use td_relations::{Delta, Relation, minus};
-use td_story::Failure;
+use td_semantics::Failure;
 
 // The change that takes these tuples of the relation out.
 fn without(alloc: Global, relation: &Relation, gone: Relation) -> Result<Delta, AllocError>

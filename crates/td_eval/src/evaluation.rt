@@ -8,7 +8,7 @@ ghost use Rattle.td_meaning.specs.Seen.{mean_in, relvars_at, visible};
 ghost use Rattle.td_meaning.specs.Selections.{selection};
 ghost use Rattle.td_operators.specs.Values as spec;
 ghost use Rattle.td_eval.specs.ForProofs.Environments.{MeanTheirs, all_known, base_known, bases_known};
-ghost use Rattle.td_story.specs.Meanings.{means};
+ghost use Rattle.td_semantics.specs.Meanings.{means};
 
 use crate::by_key::value_by_key;
 use crate::lookup::Lookup;

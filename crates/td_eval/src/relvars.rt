@@ -6,7 +6,7 @@ ghost use Rattle.td_eval.specs.ForProofs.Environments.{Keeps};
 ghost use Rattle.td_meaning.specs.Mean.{rows_in};
 ghost use Rattle.td_meaning.specs.Seen.{mean_in, none_virtual, virtual_known, virtuals_known};
 ghost use Rattle.td_meaning.specs.Selections.{selection};
-ghost use Rattle.td_story.specs.Meanings.{no_names};
+ghost use Rattle.td_semantics.specs.Meanings.{no_names};
 
 use crate::evaluation::relation_of;
 use std::alloc::{AllocError, Global};

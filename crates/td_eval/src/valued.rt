@@ -6,8 +6,8 @@ ghost use Rattle.td_values.specs.declared.TypeKind.TheVariants as type_kind;
 ghost use Rattle.td_algebra.specs.Raising.{and_then};
 ghost use Rattle.td_operators.specs.Values as spec;
 ghost use Rattle.td_type_soundness.specs.Meanings.{HasKind, IsError, IsRelationOver};
-ghost use Rattle.td_story.specs.Raises.{Tells, stop_of};
-ghost use Rattle.td_story.specs.Trees.{AreBases, IsIn, tree_means};
+ghost use Rattle.td_semantics.specs.Raises.{Tells, stop_of};
+ghost use Rattle.td_semantics.specs.Trees.{AreBases, IsIn, tree_means};
 
 use crate::evaluation::eval;
 use crate::lookup::Lookup;
@@ -15,7 +15,7 @@ use std::alloc::Global;
 use td_algebra::{Fault, Stop};
 use td_headings::{Catalogue, TypedExpr};
 use td_relations::Relation;
-use td_story::Failure;
+use td_semantics::Failure;
 use td_values::{Heading, Kind, Raise, Tuple, Value};
 
 // The error of the language that stopped evaluation.

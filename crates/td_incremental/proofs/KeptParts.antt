@@ -31,9 +31,9 @@ use Rattle.td_meaning.proofs.Forms as forms
 use Rattle.td_operators.specs.Operators.{as_value, of_relations, operate, operate_on, part_at, related, same_heading}
 use Rattle.td_operators.specs.Values as operands
 use Rattle.td_operators.specs.Values.{rows_of}
-use Rattle.td_story.specs.Meanings.{no_names}
-use Rattle.td_story.specs.Tests.{judgement}
-use Rattle.td_story.specs.Trees.{all_relvars, places, selection_of}
+use Rattle.td_semantics.specs.Meanings.{no_names}
+use Rattle.td_semantics.specs.Tests.{judgement}
+use Rattle.td_semantics.specs.Trees.{all_relvars, places, selection_of}
 use Rattle.td_incremental.specs.Growth.{IsUnread}
 use Rattle.td_incremental.specs.Laws.{KeptPartsKeepReferences}
 use Rattle.td_incremental.specs.References.{AreAmong, HasNames, Refers, SaysWithin, relvar, project, where_, left, matched, without, at_most, at_least, whole, part, unread, both, has_left_heading}

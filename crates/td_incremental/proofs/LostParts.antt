@@ -35,9 +35,9 @@ use Rattle.td_operators.specs.Operators.{as_value, is_subset, of_alike, of_relat
 use Rattle.td_operators.specs.Values.{rows_of}
 use Rattle.td_type_soundness.specs.Meanings.{IsRelationOver, IsTupleOver}
 use Rattle.td_type_soundness.proofs.Tables.{one_heading}
-use Rattle.td_story.specs.Meanings.{no_names, with_virtual, with_virtuals}
-use Rattle.td_story.specs.Tests.{judgement}
-use Rattle.td_story.specs.Trees.{all_relvars, places, selection_of}
+use Rattle.td_semantics.specs.Meanings.{no_names, with_virtual, with_virtuals}
+use Rattle.td_semantics.specs.Tests.{judgement}
+use Rattle.td_semantics.specs.Trees.{all_relvars, places, selection_of}
 use Rattle.td_incremental.specs.Laws.{LostPartsAreJudged, has_none}
 use Rattle.td_incremental.specs.References.{IsPartOf, SaysWithin, itself, at_names, matched, without, at_most, at_least}
 use Rattle.td_incremental.proofs.Constraints.{inside, is_nothing, none_in, same_truth, true_of, truth_then}

@@ -24,10 +24,10 @@ use Rattle.td_headings.specs.declared.defined.Origin.{Origin}
 use Rattle.td_headings.specs.declared.defined.Test.TheVariants as test
 use Rattle.td_meaning.specs.Mean.{Meaning, Relvars, truth_in, within}
 use Rattle.td_type_soundness.specs.Meanings.{IsRelationOver, IsTupleOver}
-use Rattle.td_story.specs.Meanings.{no_names}
-use Rattle.td_story.specs.Stored.{AreStored}
-use Rattle.td_story.specs.Tests.{judgement}
-use Rattle.td_story.specs.Trees.{all_relvars, places, selection_of}
+use Rattle.td_semantics.specs.Meanings.{no_names}
+use Rattle.td_semantics.specs.Stored.{AreStored}
+use Rattle.td_semantics.specs.Tests.{judgement}
+use Rattle.td_semantics.specs.Trees.{all_relvars, places, selection_of}
 use Rattle.td_incremental.specs.Growth.{AgreeBeside, AgreeOn, Gains, Grows, IsUnread, IsWatched, narrowed}
 use Rattle.td_incremental.specs.Laws.{DifferencesAreGains, GrowthKeepsSafe, JudgedByReads, LossesKeepWatched, NarrowedIsStored, WatchedByInserts}
 use Rattle.td_incremental.proofs.Agreeing.{trees_agree}

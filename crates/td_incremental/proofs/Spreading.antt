@@ -24,7 +24,7 @@ use Rattle.td_meaning.specs.Mean.{Meaning, Names, Relvars, Selection, mean, mean
 use Rattle.td_meaning.proofs.Forms as forms
 use Rattle.td_operators.specs.Operators.{as_value, nested, operate, part_at, unnested, with_new_names}
 use Rattle.td_operators.specs.Values.{rows_of}
-use Rattle.td_story.specs.Meanings.{no_names, with_virtuals}
+use Rattle.td_semantics.specs.Meanings.{no_names, with_virtuals}
 use Rattle.td_incremental.specs.Growth.{IsUnread, Spreads, goes_by_left, goes_by_right, itself, virtual, where_, project, rename, extend, wrap, open_, left, right, union}
 use Rattle.td_incremental.proofs.Answers.{Grown, then_grown, then_same}
 use Rattle.td_incremental.proofs.Operators.{extended_grown, restricted_grown}

@@ -14,7 +14,7 @@ use Rattle.td_headings.specs.Reached.{is_base}
 use Rattle.td_headings.specs.declared.defined.Origin.{Origin}
 use Rattle.td_headings.specs.declared.defined.Origin.TheVariants as origin
 use Rattle.td_meaning.specs.Mean.{Meaning, Relvars, Selection, mean, rows_in}
-use Rattle.td_story.specs.Meanings.{no_names, with_virtual, with_virtuals}
+use Rattle.td_semantics.specs.Meanings.{no_names, with_virtual, with_virtuals}
 use Rattle.td_incremental.specs.Growth.{IsUnread}
 use Rattle.td_incremental.proofs.Named.{named_agree}
 use Rattle.td_incremental.proofs.Reading.{named_unread, tree_unread}

@@ -31,7 +31,7 @@ use Rattle.td_meaning.proofs.Forms as forms
 use Rattle.td_operators.specs.Operators.{as_value, at_most, is_subset, of_alike, of_relations, operate, operate_on, part_at, same_heading, with_new_names}
 use Rattle.td_operators.specs.Values as operands
 use Rattle.td_operators.specs.Values.{integer_of, rows_of, text_of, truth_of}
-use Rattle.td_story.specs.Meanings.{no_names, with_virtuals}
+use Rattle.td_semantics.specs.Meanings.{no_names, with_virtuals}
 use Rattle.td_incremental.specs.Growth.{IsUnread}
 use Rattle.td_incremental.specs.Safety.{IsSafe, Widens, itself, virtual, project, rename, matched, within, around, unread, both}
 use Rattle.td_incremental.proofs.Constraints.{and_of, and_true, emptiness, inside, is_nothing, none_in, true_of, truth_then}

@@ -10,9 +10,9 @@ use Rattle.td_headings.specs.Catalogues.{CatalogueData}
 use Rattle.td_headings.specs.Reached.{is_base}
 use Rattle.td_headings.specs.declared.defined.Test.TheVariants as test
 use Rattle.td_meaning.specs.Mean.{Relvars}
-use Rattle.td_story.specs.Differences.{ChangesBy}
-use Rattle.td_story.specs.Stored.{AreStored}
-use Rattle.td_story.specs.Tests.{judgement}
+use Rattle.td_semantics.specs.Differences.{ChangesBy}
+use Rattle.td_semantics.specs.Stored.{AreStored}
+use Rattle.td_semantics.specs.Tests.{judgement}
 use Rattle.td_incremental.specs.Growth.{AgreeBeside, AgreeOn, Gains, Grows, IsWatched, narrowed}
 use Rattle.td_incremental.specs.References.{AreHeaded, GivesUp, KeepsParts, Refers, RefersBy}
 use Rattle.td_incremental.specs.Safety.{IsSafe}

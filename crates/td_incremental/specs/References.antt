@@ -15,7 +15,7 @@ use Rattle.td_typed_trees.specs.declared.tree.Typed.TheVariants as tree
 use Rattle.td_headings.specs.Catalogues.{CatalogueData}
 use Rattle.td_headings.specs.Reached.{is_base}
 use Rattle.td_meaning.specs.Mean.{Relvars}
-use Rattle.td_story.specs.Trees.{all_relvars}
+use Rattle.td_semantics.specs.Trees.{all_relvars}
 use Rattle.td_incremental.specs.Growth.{IsUnread}
 
 -- from old to now each tuple that the relvar at n had has one there with its part at these names

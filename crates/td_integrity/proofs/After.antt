@@ -22,9 +22,9 @@ use Rattle.td_headings.specs.declared.defined.Test.TheVariants as test
 use Rattle.td_headings.proofs.ReadLemmas.{reads_those}
 use Rattle.td_headings.proofs.WellTyped.{all_typed}
 use Rattle.td_meaning.specs.Mean.{Relvars}
-use Rattle.td_story.specs.Differences.{ChangesBy}
-use Rattle.td_story.specs.Tests.{is_key}
-use Rattle.td_story.specs.Trees.{IsIn, tree_means}
+use Rattle.td_semantics.specs.Differences.{ChangesBy}
+use Rattle.td_semantics.specs.Tests.{is_key}
+use Rattle.td_semantics.specs.Trees.{IsIn, tree_means}
 use Rattle.td_integrity.specs.Changes.{PassedBefore}
 use Rattle.td_integrity.specs.ForProofs.Tested.{StandsAt}
 use Rattle.td_integrity.specs.ForProofs.Changed.{Changes, ConstraintBefore, IsChanged, IsUntouched, KeyBefore, KeyOf, change_to, is_changed}

@@ -13,7 +13,7 @@ use Rattle.td_algebra.specs.Keys.{TellApart}
 use Rattle.td_algebra.proofs.Lists.{In, any_in, in_any}
 use Rattle.td_algebra.proofs.Made.{has_in, in_has}
 use Rattle.td_algebra.proofs.PlacedParts.{itself, same_key}
-use Rattle.td_story.specs.Tests.{agree, is_key}
+use Rattle.td_semantics.specs.Tests.{agree, is_key}
 
 both : (a b : Bool) → (not a && b) ≡ true → (a ≡ false) × (b ≡ true)
 both true b h = cc

@@ -35,10 +35,10 @@ use Rattle.td_incremental.proofs.LostParts.{lost_parts_are_judged}
 use Rattle.td_incremental.proofs.Narrowing.{differences_are_gains, growth_keeps_safe, losses_keep_watched, narrowed_is_stored, not_lost, ok_same, watched_by_inserts}
 use Rattle.td_incremental.specs.Laws.{has_none}
 use Rattle.td_incremental.specs.References.{AreHeaded, GivesUp, KeepsParts, RefersBy}
-use Rattle.td_story.specs.Differences.{ChangesBy, LeadOver}
-use Rattle.td_story.specs.Stored.{AreStored}
+use Rattle.td_semantics.specs.Differences.{ChangesBy, LeadOver}
+use Rattle.td_semantics.specs.Stored.{AreStored}
 use Rattle.td_type_soundness.specs.Meanings.{GivesRelation}
-use Rattle.td_story.specs.Trees.{IsIn, all_relvars}
+use Rattle.td_semantics.specs.Trees.{IsIn, all_relvars}
 use Rattle.td_integrity.specs.ForProofs.Changed.{Changes, ConstraintBefore, is_changed}
 use Rattle.td_integrity.specs.ForProofs.Gaining.{AreWays, IsLost, IsNarrowed, IsWay, truth_over}
 use Rattle.td_integrity.specs.ForProofs.Leaving.{HasPartIn, KeepsReferences, LeavesParts}

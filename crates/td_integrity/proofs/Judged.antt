@@ -14,12 +14,12 @@ use Rattle.td_headings.proofs.WellTyped.{constraint_tree}
 use Rattle.td_meaning.specs.Mean.{Relvars}
 use Rattle.td_operators.specs.Values.{truth_of}
 use Rattle.td_type_soundness.specs.Meanings.{GivesRelation}
-use Rattle.td_story.specs.Raises.{Tells}
-use Rattle.td_story.specs.Trees.{AreBases, IsIn, tree_means}
-use Rattle.td_story.specs.declared.failure.Failure.{Failure}
+use Rattle.td_semantics.specs.Raises.{Tells}
+use Rattle.td_semantics.specs.Trees.{AreBases, IsIn, tree_means}
+use Rattle.td_semantics.specs.declared.failure.Failure.{Failure}
 use Rattle.td_integrity.specs.ForProofs.Tested.{HasRelation, StandsAt}
-use Rattle.td_story.specs.Stored.{AreStored}
-use Rattle.td_story.specs.Tests.{judgement}
+use Rattle.td_semantics.specs.Stored.{AreStored}
+use Rattle.td_semantics.specs.Tests.{judgement}
 use Rattle.td_integrity.proofs.Tested.{has_relvar}
 
 -- ---- what is stored

@@ -4,7 +4,7 @@ use Rattle.std.specs.List.Sorted.{IsStrictlySortedBy}
 use Rattle.td_values.specs.Order.{attrs_order}
 use Rattle.td_values.specs.Rows.{RowsData}
 use Rattle.td_algebra.specs.Keys.{TellApart}
-use Rattle.td_story.specs.Tests.{is_key}
+use Rattle.td_semantics.specs.Tests.{is_key}
 use Rattle.td_integrity.proofs.Apart.{keys_apart}
 
 same_answer : {P : Type 0} (a b : Bool) → IsTrue a ↔ P → (b ≡ true) ↔ P → a ≡ b

@@ -5,7 +5,7 @@ use Rattle.td_algebra.proofs.Lists.{In, contains_in, in_contains}
 use Rattle.td_headings.specs.Catalogues.{CatalogueData}
 use Rattle.td_headings.specs.declared.defined.Test.{Test}
 use Rattle.td_meaning.specs.Mean.{Relvars}
-use Rattle.td_story.specs.Tests.{AreLegal, failing, judgement, or_behind}
+use Rattle.td_semantics.specs.Tests.{AreLegal, failing, judgement, or_behind}
 
 passes : (t : Test) (m : Result Bool Stop) (behind : Option (Test × Option Stop)) → or_behind t m behind ≡ None → (m ≡ Ok true) × (behind ≡ None)
 passes t (Ok true) behind h = (refl, h)

@@ -15,8 +15,8 @@ use Rattle.td_headings.specs.Reached.{IsReached, ReadsRelvar, is_base, named_rel
 use Rattle.td_headings.specs.declared.defined.Origin.{Origin}
 use Rattle.td_headings.specs.declared.defined.Origin.TheVariants as origin
 use Rattle.td_meaning.specs.Mean.{Meaning, Relvars, rows_in, within}
-use Rattle.td_story.specs.Meanings.{no_names}
-use Rattle.td_story.specs.Trees.{all_relvars, places, selection_of, tree_means}
+use Rattle.td_semantics.specs.Meanings.{no_names}
+use Rattle.td_semantics.specs.Trees.{all_relvars, places, selection_of, tree_means}
 use Rattle.td_eval.proofs.AllThere.{ascending, has_place, in_filter_map}
 use Rattle.td_eval.proofs.Named.{named_agree}
 use Rattle.td_eval.proofs.Placed.{named_defined, names_earlier}

@@ -6,7 +6,7 @@ use Rattle.td_values.specs.Rows.{RowsData}
 use Rattle.td_algebra.specs.Keys.{TellApart}
 use Rattle.td_headings.specs.Catalogues.{CatalogueData}
 use Rattle.td_meaning.specs.Mean.{Relvars}
-use Rattle.td_story.specs.Tests.{AreLegal, failing, is_key}
+use Rattle.td_semantics.specs.Tests.{AreLegal, failing, is_key}
 
 -- the test of a key is true where no two different tuples of the relation agree on its attributes
 abbrev pub KeysTellTuplesApart : Type 0

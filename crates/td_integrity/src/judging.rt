@@ -8,15 +8,15 @@ ghost use Rattle.td_algebra.specs.Raising.{and_then};
 ghost use Rattle.td_operators.specs.Values.{truth_of};
 ghost use Rattle.td_eval.specs.Keyed.{IsByKey};
 ghost use Rattle.td_headings.specs.Definitions.{Defined};
-ghost use Rattle.td_story.specs.Raises.{Tells, stop_of};
-ghost use Rattle.td_story.specs.Trees.{IsIn, tree_means};
+ghost use Rattle.td_semantics.specs.Raises.{Tells, stop_of};
+ghost use Rattle.td_semantics.specs.Trees.{IsIn, tree_means};
 ghost use Rattle.td_integrity.specs.Changes.{PassedBefore};
 ghost use Rattle.td_integrity.specs.ForProofs.Changed.{ConstraintBefore, KeyBefore, KeyOf, change_to};
 ghost use Rattle.td_integrity.specs.ForProofs.Tested.{HasRelation, HasRelvar, StandsAt};
-ghost use Rattle.td_story.specs.Reports.{IsReport, title};
-ghost use Rattle.td_story.specs.Stored.{AreStored};
-ghost use Rattle.td_story.specs.Tests as spec;
-ghost use Rattle.td_story.specs.Tests.{failing, judgement, or_behind};
+ghost use Rattle.td_semantics.specs.Reports.{IsReport, title};
+ghost use Rattle.td_semantics.specs.Stored.{AreStored};
+ghost use Rattle.td_semantics.specs.Tests as spec;
+ghost use Rattle.td_semantics.specs.Tests.{failing, judgement, or_behind};
 
 use crate::keyed::tell_apart_by;
 use crate::losses::{none_is_missed, stored};
@@ -26,7 +26,7 @@ use td_algebra::{KeyIndex, tell_apart, tell_apart_from};
 use td_eval::{Lookup, truth};
 use td_headings::{Catalogue, Test, TypedExpr, constraint_expr};
 use td_relations::{Delta, Relation};
-use td_story::{BrokenTest, Failure, TestFailure};
+use td_semantics::{BrokenTest, Failure, TestFailure};
 use td_values::{Name, Raise};
 
 // Whether no two tuples agree on the key's attributes.

@@ -4,7 +4,7 @@ ghost use Rattle.std.specs.Prelude.{◌≡◌, ◌∷◌, [], true, IfOk, slice_
 ghost use Rattle.std.specs.List.{All, list_any};
 ghost use Rattle.td_headings.specs.Reached.{is_base};
 ghost use Rattle.td_incremental.specs.Growth.{narrowed};
-ghost use Rattle.td_story.specs.Trees.{IsIn};
+ghost use Rattle.td_semantics.specs.Trees.{IsIn};
 ghost use Rattle.td_integrity.specs.ForProofs.Changed as spec;
 ghost use Rattle.td_integrity.specs.ForProofs.Gaining.{AreWays, IsWay};
 ghost use Rattle.td_integrity.specs.ForProofs.Leaving.{HasPartIn, KeepsReferences, LeavesParts};

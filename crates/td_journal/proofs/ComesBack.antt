@@ -10,12 +10,12 @@ use Rattle.td_stamps.specs.Sets.{union}
 use Rattle.td_stamps.specs.declared.entry.Entry.{Entry}
 use Rattle.td_frames.specs.declared.version.Version.{Version}
 use Rattle.td_frames.specs.declared.version.Version.TheVariants.{Second}
-use Rattle.td_story.specs.Calls.{Takes, TakesBatch}
-use Rattle.td_story.specs.declared.answer.Taken.{Taken}
-use Rattle.td_story.specs.NewSites.{OpensSite}
-use Rattle.td_story.specs.Seen.{Seen, with_entries}
-use Rattle.td_story.specs.declared.refusal.TakeError.{TakeError}
-use Rattle.td_story.specs.declared.refusal.TakeError.TheVariants as take_error
+use Rattle.td_replica.specs.Calls.{Takes, TakesBatch}
+use Rattle.td_replica.specs.declared.calls.Taken.{Taken}
+use Rattle.td_replica.specs.NewSites.{OpensSite}
+use Rattle.td_replica.specs.Seen.{Seen, with_entries}
+use Rattle.td_replica.specs.declared.refusal.TakeError.{TakeError}
+use Rattle.td_replica.specs.declared.refusal.TakeError.TheVariants as take_error
 use Rattle.td_journal.specs.Reading.{behind_header, frames_at, header_at, with_whole}
 use Rattle.td_journal.specs.Spelling.{journal}
 use Rattle.td_journal.specs.Reopening.{IsNew, IsOpened, ReadsOn, RefusesAll, ReopensNot, ReopensSite, Retakes, RetakesNot}

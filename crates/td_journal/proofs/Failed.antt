@@ -11,7 +11,7 @@ use Rattle.td_stamps.proofs.Merges.{clash_is_found, fresh_is_growth}
 use Rattle.td_stamps.proofs.Next.{next_comes_last}
 use Rattle.td_frames.specs.Spelling.{entry_frames}
 use Rattle.td_frames.specs.declared.version.Version.TheVariants.{Second}
-use Rattle.td_story.specs.Seen.{Seen, with_entries}
+use Rattle.td_replica.specs.Seen.{Seen, with_entries}
 use Rattle.td_journal.specs.Keepers.{FailedIssueLeavesFront, FailedTakeLeavesFront, IsJournal, LeavesFront}
 use Rattle.td_journal.specs.Keeping.{LeavesPart}
 use Rattle.td_journal.specs.Views.{kept}

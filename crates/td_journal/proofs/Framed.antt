@@ -11,10 +11,10 @@ use Rattle.td_stamps.specs.declared.errors.NextError.{NextError}
 use Rattle.td_stamps.specs.declared.errors.NextError.TheVariants.{ClockEnd}
 use Rattle.td_frames.specs.declared.version.Version.TheVariants.{Second}
 use Rattle.td_frames.specs.Spelling.{HasFrame}
-use Rattle.td_story.specs.Calls.{entry_of, numbered}
-use Rattle.td_story.specs.Seen.{Seen}
-use Rattle.td_story.specs.declared.refusal.IssueError.{IssueError}
-use Rattle.td_story.specs.declared.refusal.IssueError.TheVariants as issue_error
+use Rattle.td_replica.specs.Calls.{entry_of, numbered}
+use Rattle.td_replica.specs.Seen.{Seen}
+use Rattle.td_replica.specs.declared.refusal.IssueError.{IssueError}
+use Rattle.td_replica.specs.declared.refusal.IssueError.TheVariants as issue_error
 
 pub all_beside : {X : Type 0} (P : X → Type 0) (xs ys : List X) → AllByRecursion P xs → AllByRecursion P ys → AllByRecursion P (xs ++ ys)
 all_beside P [] ys p q = q

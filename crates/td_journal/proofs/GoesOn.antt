@@ -9,8 +9,8 @@ use Rattle.td_stamps.specs.declared.entry.Entry.{Entry}
 use Rattle.td_frames.specs.Spelling.{HasFrame, entry_frame, entry_frames}
 use Rattle.td_frames.specs.declared.version.Version.{Version}
 use Rattle.td_frames.specs.declared.version.Version.TheVariants.{Second}
-use Rattle.td_story.specs.NewSites.{opened}
-use Rattle.td_story.specs.Seen.{Seen, with_entries}
+use Rattle.td_replica.specs.NewSites.{opened}
+use Rattle.td_replica.specs.Seen.{Seen, with_entries}
 use Rattle.td_journal.specs.declared.error.JournalError.{JournalError}
 use Rattle.td_journal.specs.Keepers.{IsJournal, ReopenedHasJournal}
 use Rattle.td_journal.specs.Laws.{left_of, whole}

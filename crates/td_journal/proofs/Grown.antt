@@ -12,12 +12,12 @@ use Rattle.td_stamps.proofs.Fresh.{fresh_are_counted, fresh_suffice}
 use Rattle.td_stamps.proofs.Merges.{clash_is_found, fresh_is_growth, same_members, set_free, union_has_both, union_is_set}
 use Rattle.td_frames.specs.Spelling.{HasFrame, entry_frame, entry_frames}
 use Rattle.td_frames.specs.declared.version.Version.TheVariants.{Second}
-use Rattle.td_story.specs.Calls.{IssuesEntry, TakesBatch}
-use Rattle.td_story.specs.Seen.{Seen, IsSound, with_entries}
-use Rattle.td_story.specs.declared.answer.Issued.{Issued}
-use Rattle.td_story.specs.declared.answer.Taken.{Taken}
-use Rattle.td_story.specs.declared.refusal.IssueError.TheVariants as issue_error
-use Rattle.td_story.specs.declared.refusal.TakeError.TheVariants as take_error
+use Rattle.td_replica.specs.Calls.{IssuesEntry, TakesBatch}
+use Rattle.td_replica.specs.Seen.{Seen, IsSound, with_entries}
+use Rattle.td_replica.specs.declared.calls.Issued.{Issued}
+use Rattle.td_replica.specs.declared.calls.Taken.{Taken}
+use Rattle.td_replica.specs.declared.refusal.IssueError.TheVariants as issue_error
+use Rattle.td_replica.specs.declared.refusal.TakeError.TheVariants as take_error
 use Rattle.td_journal.specs.Keepers.{IsJournal, IssueKeepsJournal, JournalSaysAll, StartsJournal, TakeKeepsJournal}
 use Rattle.td_journal.specs.Keeping.{Accepts}
 use Rattle.td_journal.specs.Laws.{left_of}

@@ -12,14 +12,14 @@ use Rattle.td_stamps.specs.declared.entry.Entry.{Entry}
 use Rattle.td_stamps.proofs.Fresh.{fresh_are_counted, fresh_are_of_batch}
 use Rattle.td_frames.specs.Spelling.{HasFrame, entry_frames}
 use Rattle.td_frames.specs.declared.version.Version.TheVariants.{Second}
-use Rattle.td_story.specs.Calls.{Issues, IssuesEntry, Takes, TakesBatch}
-use Rattle.td_story.specs.Seen.{Seen, holding, IsSound}
-use Rattle.td_story.specs.declared.answer.Issued.{Issued}
-use Rattle.td_story.specs.declared.answer.Taken.{Taken}
-use Rattle.td_story.specs.declared.refusal.IssueError.{IssueError}
-use Rattle.td_story.specs.declared.refusal.IssueError.TheVariants as issue_error
-use Rattle.td_story.specs.declared.refusal.TakeError.{TakeError}
-use Rattle.td_story.specs.declared.refusal.TakeError.TheVariants as take_error
+use Rattle.td_replica.specs.Calls.{Issues, IssuesEntry, Takes, TakesBatch}
+use Rattle.td_replica.specs.Seen.{Seen, holding, IsSound}
+use Rattle.td_replica.specs.declared.calls.Issued.{Issued}
+use Rattle.td_replica.specs.declared.calls.Taken.{Taken}
+use Rattle.td_replica.specs.declared.refusal.IssueError.{IssueError}
+use Rattle.td_replica.specs.declared.refusal.IssueError.TheVariants as issue_error
+use Rattle.td_replica.specs.declared.refusal.TakeError.{TakeError}
+use Rattle.td_replica.specs.declared.refusal.TakeError.TheVariants as take_error
 use Rattle.td_journal.specs.Keeping.{Accepts, JournalsBatch, JournalsIssue, Starts}
 use Rattle.td_journal.specs.Spelling.{journal}
 use Rattle.td_journal.specs.Views.{kept}

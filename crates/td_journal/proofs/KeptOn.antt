@@ -2,7 +2,7 @@
 use Rattle.std.proofs.Common.{◌≡◌, ◌⊎◌, inl, inr, ◌<◌, ◌≤◌, leb, ℕ, zero, suc, List, length, take, None, Some, Option, Result, Ok, refl, sym, ap, subst, ◌∙◌, ⊎_elim, arith}
 use Rattle.std.proofs.lemmas.Bool.{cases_lt, leb-true, le-ltb, lt-ltb, and_parts}
 use Rattle.td_io.specs.Views.{Input, Output}
-use Rattle.td_story.specs.Seen.{Seen, IsSound}
+use Rattle.td_replica.specs.Seen.{Seen, IsSound}
 use Rattle.td_frames.specs.declared.version.Version.{Version}
 use Rattle.td_frames.specs.declared.version.Version.TheVariants.{First, Second}
 use Rattle.td_journal.specs.declared.error.JournalError.{JournalError}

@@ -2,7 +2,7 @@
 use Rattle.std.proofs.Common.{◌≡◌, ◌≢◌, ◌<◌, ◌≤◌, inl, inr, ℕ, zero, suc, true, true≢false, List, Option, Result, Ok, Err, MatchResult, refl, sym, subst, ◌∙◌, arith}
 use Rattle.td_io.specs.Counted.{counted}
 use Rattle.td_io.specs.Views.{Input, Output}
-use Rattle.td_story.specs.Seen.{Seen}
+use Rattle.td_replica.specs.Seen.{Seen}
 use Rattle.td_frames.specs.declared.version.Version.{Version}
 use Rattle.td_frames.specs.declared.version.Version.TheVariants.{Second}
 use Rattle.td_journal.specs.ForProofs.Behind.{BeginsNone, IsBehind}

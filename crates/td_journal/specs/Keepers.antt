@@ -9,15 +9,15 @@ use Rattle.td_stamps.specs.declared.entry.Entry.{Entry}
 use Rattle.td_frames.specs.Spelling.{HasFrame}
 use Rattle.td_frames.specs.declared.version.Version.{Version}
 use Rattle.td_frames.specs.declared.version.Version.TheVariants.{Second}
-use Rattle.td_story.specs.Calls.{Issues, Takes}
-use Rattle.td_story.specs.Seen.{Seen, IsSound}
-use Rattle.td_story.specs.declared.replica.Replica as replica
-use Rattle.td_story.specs.declared.answer.Issued.{Issued}
-use Rattle.td_story.specs.declared.answer.Taken.{Taken}
-use Rattle.td_story.specs.declared.refusal.IssueError.{IssueError}
-use Rattle.td_story.specs.declared.refusal.IssueError.TheVariants as issue_error
-use Rattle.td_story.specs.declared.refusal.TakeError.{TakeError}
-use Rattle.td_story.specs.declared.refusal.TakeError.TheVariants as take_error
+use Rattle.td_replica.specs.Calls.{Issues, Takes}
+use Rattle.td_replica.specs.Seen.{Seen, IsSound}
+use Rattle.td_replica.specs.declared.replica.Replica as replica
+use Rattle.td_replica.specs.declared.calls.Issued.{Issued}
+use Rattle.td_replica.specs.declared.calls.Taken.{Taken}
+use Rattle.td_replica.specs.declared.refusal.IssueError.{IssueError}
+use Rattle.td_replica.specs.declared.refusal.IssueError.TheVariants as issue_error
+use Rattle.td_replica.specs.declared.refusal.TakeError.{TakeError}
+use Rattle.td_replica.specs.declared.refusal.TakeError.TheVariants as take_error
 use Rattle.td_journal.specs.Keeping.{JournalsBatch, JournalsIssue, Starts}
 use Rattle.td_journal.specs.Laws.{left_of}
 use Rattle.td_journal.specs.Reading.{journal_at}

@@ -8,13 +8,13 @@ use Rattle.td_stamps.specs.Checks.{fresh_of}
 use Rattle.td_stamps.specs.declared.entry.Entry.{Entry}
 use Rattle.td_frames.specs.Spelling.{HasFrame, entry_frames}
 use Rattle.td_frames.specs.declared.version.Version.TheVariants.{Second}
-use Rattle.td_story.specs.Seen.{Seen}
-use Rattle.td_story.specs.declared.answer.Issued.{Issued}
-use Rattle.td_story.specs.declared.answer.Taken.{Taken}
-use Rattle.td_story.specs.declared.refusal.IssueError.{IssueError}
-use Rattle.td_story.specs.declared.refusal.IssueError.TheVariants as issue_error
-use Rattle.td_story.specs.declared.refusal.TakeError.{TakeError}
-use Rattle.td_story.specs.declared.refusal.TakeError.TheVariants as take_error
+use Rattle.td_replica.specs.Seen.{Seen}
+use Rattle.td_replica.specs.declared.calls.Issued.{Issued}
+use Rattle.td_replica.specs.declared.calls.Taken.{Taken}
+use Rattle.td_replica.specs.declared.refusal.IssueError.{IssueError}
+use Rattle.td_replica.specs.declared.refusal.IssueError.TheVariants as issue_error
+use Rattle.td_replica.specs.declared.refusal.TakeError.{TakeError}
+use Rattle.td_replica.specs.declared.refusal.TakeError.TheVariants as take_error
 use Rattle.td_journal.specs.Spelling.{journal}
 use Rattle.td_journal.specs.Written.{HandsOn, WritesPart}
 use Rattle.td_journal.specs.declared.keeper.StartError.{StartError}

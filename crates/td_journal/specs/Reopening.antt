@@ -8,11 +8,11 @@ use Rattle.td_stamps.specs.Checks.{check_of}
 use Rattle.td_stamps.specs.Sets.{union}
 use Rattle.td_stamps.specs.declared.entry.Entry.{Entry}
 use Rattle.td_frames.specs.declared.version.Version.{Version}
-use Rattle.td_story.specs.Calls.{Takes}
-use Rattle.td_story.specs.NewSites.{OpensSite, opened}
-use Rattle.td_story.specs.Seen.{Seen, with_entries}
-use Rattle.td_story.specs.declared.refusal.TakeError.{TakeError}
-use Rattle.td_story.specs.declared.refusal.TakeError.TheVariants as take_error
+use Rattle.td_replica.specs.Calls.{Takes}
+use Rattle.td_replica.specs.NewSites.{OpensSite, opened}
+use Rattle.td_replica.specs.Seen.{Seen, with_entries}
+use Rattle.td_replica.specs.declared.refusal.TakeError.{TakeError}
+use Rattle.td_replica.specs.declared.refusal.TakeError.TheVariants as take_error
 use Rattle.td_journal.specs.Reading.{header_at, journal_at}
 use Rattle.td_journal.specs.declared.reopening.ReopenError.{ReopenError}
 use Rattle.td_journal.specs.declared.reopening.ReopenError.TheVariants.{Open, OutOfMemory, ReadFault, Refused, Take}

@@ -2,7 +2,7 @@
 -- was made of it, where it was of the first.
 use Rattle.std.specs.Prelude.{◌≡◌, ◌≢◌, ◌⊎◌, ℕ, zero, suc, List, Option, None, Some, take}
 use Rattle.td_io.specs.Views.{Input, Output}
-use Rattle.td_story.specs.Seen.{Seen, IsSound}
+use Rattle.td_replica.specs.Seen.{Seen, IsSound}
 use Rattle.td_frames.specs.declared.version.Version.{Version}
 use Rattle.td_frames.specs.declared.version.Version.TheVariants.{First, Second}
 use Rattle.td_journal.specs.Keepers.{IsJournal, IsJournalOf}

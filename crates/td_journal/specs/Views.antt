@@ -3,8 +3,8 @@
 use Rattle.std.specs.Prelude.{◌≡◌, ◌⊎◌, Bool, ◌&&◌}
 use Rattle.td_io.specs.Counted.{counted}
 use Rattle.td_io.specs.declared.streams.Sink as sink
-use Rattle.td_story.specs.Seen.{Seen}
-use Rattle.td_story.specs.declared.replica.Replica as replica
+use Rattle.td_replica.specs.Seen.{Seen}
+use Rattle.td_replica.specs.declared.replica.Replica as replica
 
 pub record KeeperData (R W : Type 0) : Type 0 where
   pub replica : R

@@ -8,9 +8,9 @@ ghost use Rattle.td_stamps.specs.declared.entry.Entry.{Entry};
 ghost use Rattle.td_journal.specs.Keepers.{IsJournal, KeepsJournal};
 ghost use Rattle.td_journal.specs.Keeping.{JournalsBatch, JournalsIssue, Starts, StartsNot};
 ghost use Rattle.td_journal.specs.Views.{JournalFails, seen_of};
-ghost use Rattle.td_story.specs.Calls.{Issues, Takes};
-ghost use Rattle.td_story.specs.declared.refusal.IssueError.TheVariants as issue_error;
-ghost use Rattle.td_story.specs.declared.refusal.TakeError.TheVariants as take_error;
+ghost use Rattle.td_replica.specs.Calls.{Issues, Takes};
+ghost use Rattle.td_replica.specs.declared.refusal.IssueError.TheVariants as issue_error;
+ghost use Rattle.td_replica.specs.declared.refusal.TakeError.TheVariants as take_error;
 
 use crate::frames::{all_framed, send_journal};
 use crate::journal::Journal;
@@ -19,11 +19,12 @@ use std::marker::Model;
 use td_changes::{ChangedError, Changes};
 use td_io::{Failed, Sink};
 use td_relations::{Delta, Relation};
-use td_stamps::{Entry, Held, Stamp};
-use td_story::{
-    Answer, AskError, IssueError, Issued, Meter, NotOpen, Outcome, PastError, Replica, TakeError,
-    Taken, TellError, ValueError,
+use td_replica::{
+    AskError, IssueError, Issued, NotOpen, PastError, Replica, TakeError, Taken, TellError,
+    ValueError,
 };
+use td_semantics::{Answer, Meter, Outcome};
+use td_stamps::{Entry, Held, Stamp};
 use td_values::Name;
 use thiserror::Error;
 

@@ -12,7 +12,8 @@ use crate::reading::{Unread, bytes_of, read_frames, read_header};
 use std::alloc::Global;
 use td_frames::Version;
 use td_io::Source;
-use td_story::{Meter, OpenError, Opens, TakeError};
+use td_replica::{OpenError, Opens, TakeError};
+use td_semantics::Meter;
 use thiserror::Error;
 
 /// Why a site is not reopened.

@@ -16,7 +16,8 @@ use crate::reopening::{ReopenError, Reopened, take_journal};
 use std::alloc::Global;
 use td_frames::Version;
 use td_io::{Failed, Sink, Source};
-use td_story::{Meter, Opens};
+use td_replica::Opens;
+use td_semantics::Meter;
 use thiserror::Error;
 
 /// Why a site does not go on with its journal.

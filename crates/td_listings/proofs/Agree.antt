@@ -2,9 +2,9 @@
 use Rattle.std.proofs.Common.{◌≡◌, ℕ, List, length, Result, Ok, sym, ap, ◌∙◌}
 use Rattle.td_values.specs.Rows.{RowsData}
 use Rattle.td_algebra.specs.declared.errors.Stop.{Stop}
-use Rattle.td_story.specs.Databases.{DatabaseData}
+use Rattle.td_semantics.specs.Databases.{DatabaseData}
 use Rattle.td_stamps.specs.Laws.{SameMembersSameList}
-use Rattle.td_story.specs.Laws.{SitesAgree}
+use Rattle.td_replica.specs.Laws.{SitesAgree}
 use Rattle.td_listings.specs.Laws.{ListingsAgree, LogsAgree, TablesAgree}
 use Rattle.td_listings.specs.Texts.{listing_of, log_of, value_at}
 use Rattle.td_listings.specs.Tables.{table_of}

@@ -1,8 +1,8 @@
 -- What is told of a relvar that has a table.
 use Rattle.std.proofs.Common.{◌≡◌, ℕ, true, List, Result, Ok, Err, sym, ◌∙◌}
 use Rattle.td_headings.specs.Catalogues.{CatalogueData}
-use Rattle.td_story.specs.declared.answer.Answer.{Answer}
-use Rattle.td_story.specs.Seen.{Seen}
+use Rattle.td_semantics.specs.declared.answer.Answer.{Answer}
+use Rattle.td_replica.specs.Seen.{Seen}
 use Rattle.td_listings.specs.Calls.{HasTable, Tabulates}
 use Rattle.td_listings.specs.ForProofs.Asked.{WasToldAt}
 use Rattle.td_listings.specs.ForProofs.Written.{Renders}

@@ -6,22 +6,22 @@ use Rattle.td_algebra.specs.declared.errors.Stop.{Stop}
 use Rattle.td_syntax.specs.declared.tree.Named.{Named}
 use Rattle.td_schema.specs.Schemas.{relvar_named}
 use Rattle.td_headings.specs.Catalogues.{CatalogueData}
-use Rattle.td_story.specs.Answers.{SaysRelation}
-use Rattle.td_story.specs.Databases.{DatabaseData}
-use Rattle.td_story.specs.Scripts.{IsScriptOf}
-use Rattle.td_story.specs.Laws.{ScriptIsOne}
-use Rattle.td_story.specs.declared.answer.Answer.{Answer}
-use Rattle.td_story.specs.declared.answer.Answer.TheVariants.{Value, Raised}
-use Rattle.td_story.specs.Steps.{Steps, unread, raised, refused, done}
-use Rattle.td_story.specs.declared.outcome.Outcome.{Outcome}
+use Rattle.td_semantics.specs.Answers.{SaysRelation}
+use Rattle.td_semantics.specs.Databases.{DatabaseData}
+use Rattle.td_semantics.specs.Scripts.{IsScriptOf}
+use Rattle.td_semantics.specs.Laws.{ScriptIsOne}
+use Rattle.td_semantics.specs.declared.answer.Answer.{Answer}
+use Rattle.td_semantics.specs.declared.answer.Answer.TheVariants.{Value, Raised}
+use Rattle.td_semantics.specs.Steps.{Steps, unread, raised, refused, done}
+use Rattle.td_semantics.specs.declared.outcome.Outcome.{Outcome}
 use Rattle.td_stamps.specs.declared.entry.Entry.{Entry}
 use Rattle.td_stamps.specs.declared.entry.Stamp.{Stamp}
 use Rattle.td_stamps.specs.Story.{Story, nothing_ran, next_ran}
-use Rattle.td_story.specs.Calls.{TellsValue}
-use Rattle.td_story.specs.Laws.{StoryIsOne}
-use Rattle.td_story.specs.Seen.{Seen, IsTold, Leaves}
-use Rattle.td_story.specs.Stories.{IsStory, StepsEntry}
-use Rattle.td_story.specs.declared.refusal.ValueError.TheVariants.{Broken, Unknown}
+use Rattle.td_replica.specs.Calls.{TellsValue}
+use Rattle.td_replica.specs.Laws.{StoryIsOne}
+use Rattle.td_replica.specs.Seen.{Seen, IsTold, Leaves}
+use Rattle.td_replica.specs.Stories.{IsStory, StepsEntry}
+use Rattle.td_replica.specs.declared.refusal.ValueError.TheVariants.{Broken, Unknown}
 use Rattle.td_listings.specs.ForProofs.Asked.{IsOpenOn, IsValueAt, StandsAt, WasToldAt, meant}
 use Rattle.td_listings.specs.Texts.{value_at}
 use Rattle.td_listings.proofs.Relvars.{some_same}

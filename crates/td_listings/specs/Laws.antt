@@ -1,7 +1,7 @@
 -- Sites of one script that hold the same set of entries show the same texts.
 use Rattle.std.specs.Prelude.{◌≡◌, ℕ, List}
-use Rattle.td_story.specs.Laws.{HoldTheSame}
-use Rattle.td_story.specs.Seen.{Seen}
+use Rattle.td_replica.specs.Laws.{HoldTheSame}
+use Rattle.td_replica.specs.Seen.{Seen}
 use Rattle.td_listings.specs.Sites.{IsListing, IsLog, IsTable}
 
 abbrev pub ListingsAgree : Type 0

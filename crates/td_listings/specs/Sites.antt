@@ -2,11 +2,11 @@
 use Rattle.std.specs.Prelude.{◌≡◌, ℕ, List, length, Ok, Err}
 use Rattle.td_values.specs.Rows.{RowsData}
 use Rattle.td_values.specs.declared.raises.Raise.{Raise}
-use Rattle.td_story.specs.Raises.{stop_of}
-use Rattle.td_story.specs.Databases.{DatabaseData}
-use Rattle.td_story.specs.declared.outcome.Outcome.{Outcome}
+use Rattle.td_semantics.specs.Raises.{stop_of}
+use Rattle.td_semantics.specs.Databases.{DatabaseData}
+use Rattle.td_semantics.specs.declared.outcome.Outcome.{Outcome}
 use Rattle.td_stamps.specs.declared.entry.Stamp.{Stamp}
-use Rattle.td_story.specs.Seen.{Seen, AreOutcomes, IsTold, Leaves}
+use Rattle.td_replica.specs.Seen.{Seen, AreOutcomes, IsTold, Leaves}
 use Rattle.td_listings.specs.Texts.{listing_of, log_of, value_at}
 use Rattle.td_listings.specs.Tables.{table_of}
 

@@ -11,11 +11,11 @@ use Rattle.td_syntax.specs.declared.tree.Named.{Named}
 use Rattle.td_algebra.specs.declared.errors.Stop.{Stop}
 use Rattle.td_values.specs.declared.raises.Raise.TheVariants as raise
 use Rattle.td_algebra.specs.declared.errors.Stop.TheVariants as stop
-use Rattle.td_story.specs.Raises.{stop_of}
-use Rattle.td_story.specs.Trees.{all_relvars}
-use Rattle.td_story.specs.Databases.{DatabaseData, stored_relvars}
-use Rattle.td_story.specs.declared.outcome.Outcome.{Outcome}
-use Rattle.td_story.specs.declared.outcome.Outcome.TheVariants.{Done, Unread, Raised, BreaksKey, BreaksConstraint}
+use Rattle.td_semantics.specs.Raises.{stop_of}
+use Rattle.td_semantics.specs.Trees.{all_relvars}
+use Rattle.td_semantics.specs.Databases.{DatabaseData, stored_relvars}
+use Rattle.td_semantics.specs.declared.outcome.Outcome.{Outcome}
+use Rattle.td_semantics.specs.declared.outcome.Outcome.TheVariants.{Done, Unread, Raised, BreaksKey, BreaksConstraint}
 use Rattle.td_stamps.specs.Entries.{stamp_of}
 use Rattle.td_stamps.specs.Vectors.{VersionVector}
 use Rattle.td_stamps.specs.declared.entry.Entry.{Entry}

@@ -6,8 +6,8 @@ use Rattle.td_io.specs.Counted.{counted}
 use Rattle.td_io.specs.Streams.{AppendsFront}
 use Rattle.td_io.specs.Views.{Output}
 use Rattle.td_headings.specs.Catalogues.{CatalogueData}
-use Rattle.td_story.specs.Scripts.{IsScriptOf}
-use Rattle.td_story.specs.Seen.{Seen}
+use Rattle.td_semantics.specs.Scripts.{IsScriptOf}
+use Rattle.td_replica.specs.Seen.{Seen}
 use Rattle.td_listings.specs.Calls.{Tabulates}
 use Rattle.td_listings.specs.Sites.{IsListing}
 use Rattle.td_listings.specs.declared.error.ExportError.{ExportError}

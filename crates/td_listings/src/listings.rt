@@ -2,9 +2,9 @@
 
 ghost use Rattle.std.specs.Prelude.{◌≡◌, ◌<◌, ◌++◌, Ok, Err, OnOk, IfOk, MatchResult, length, string_bytes};
 ghost use Rattle.std.specs.List.{flat_map};
-ghost use Rattle.td_story.specs.Raises.{stop_of};
-ghost use Rattle.td_story.specs.Scripts.{IsScriptOf};
-ghost use Rattle.td_story.specs.Seen.{AreOutcomes};
+ghost use Rattle.td_semantics.specs.Raises.{stop_of};
+ghost use Rattle.td_semantics.specs.Scripts.{IsScriptOf};
+ghost use Rattle.td_replica.specs.Seen.{AreOutcomes};
 ghost use Rattle.td_listings.specs.Calls.{Lists};
 ghost use Rattle.td_listings.specs.ForProofs.Asked.{AreRelvars, IsOpenOn, IsRelvarAt, IsValueAt, StandsAt, WasToldAt, meant};
 ghost use Rattle.td_listings.specs.Sites.{IsListing};
@@ -15,9 +15,11 @@ use crate::words::{show_number, show_raise, show_reason, show_stamp};
 use std::alloc::{AllocError, Global};
 use td_headings::Catalogue;
 use td_relations::Relation;
+use td_replica::laws::story_is_one;
+use td_replica::{Replica, TellError, ValueError};
+use td_semantics::laws::script_opens_one;
+use td_semantics::{Answer, Outcome};
 use td_stamps::Stamp;
-use td_story::laws::{script_opens_one, story_is_one};
-use td_story::{Answer, Outcome, Replica, TellError, ValueError};
 use td_values::{Name, Raise, Tuple, show_tuple_into};
 
 fn show_line(out: &mut String, tuple: &Tuple) -> Result<(), AllocError>

@@ -7,8 +7,9 @@ ghost use Rattle.td_listings.specs.Texts as spec;
 use crate::error::ListError;
 use crate::words::{show_number, show_outcome, show_stamp};
 use std::alloc::{AllocError, Global};
+use td_replica::{Replica, TellError};
+use td_semantics::Outcome;
 use td_stamps::{Entry, Stamp};
-use td_story::{Outcome, Replica, TellError};
 
 fn showing(c: char) -> char
     ensures { result ≡ spec.showing c }

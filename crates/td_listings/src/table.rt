@@ -2,7 +2,7 @@
 
 ghost use Rattle.std.specs.Prelude.{◌≡◌, None, Ok, Err, MatchOption, MatchResult};
 ghost use Rattle.td_schema.specs.Schemas.{relvar_named, same_text};
-ghost use Rattle.td_story.specs.Scripts.{IsScriptOf};
+ghost use Rattle.td_semantics.specs.Scripts.{IsScriptOf};
 ghost use Rattle.td_listings.specs.Calls.{Tabulates};
 ghost use Rattle.td_listings.specs.ForProofs.Written.{IsFound, Renders};
 
@@ -12,7 +12,8 @@ use crate::records::relation_table;
 use std::alloc::Global;
 use td_headings::Catalogue;
 use td_relations::Relation;
-use td_story::{Answer, Replica};
+use td_replica::Replica;
+use td_semantics::Answer;
 use td_values::{Heading, Name};
 
 fn is_named(text: &str, name: &Name) -> bool

@@ -6,8 +6,8 @@ ghost use Rattle.td_listings.specs.Texts as spec;
 
 use itoa::Buffer;
 use std::alloc::AllocError;
+use td_semantics::Outcome;
 use td_stamps::Stamp;
-use td_story::Outcome;
 use td_values::{Name, Raise};
 
 /// Appends a number.

@@ -3,8 +3,8 @@
 ghost use Rattle.std.specs.Prelude.{◌≡◌, Ok, Err, IfOk, MatchResult, string_bytes};
 ghost use Rattle.std.specs.Io.KnownBytes.{Keeps};
 ghost use Rattle.td_io.specs.Views.{output_of};
-ghost use Rattle.td_story.specs.Scripts.{IsScriptOf};
-ghost use Rattle.td_story.specs.Seen.{IsSound};
+ghost use Rattle.td_semantics.specs.Scripts.{IsScriptOf};
+ghost use Rattle.td_replica.specs.Seen.{IsSound};
 ghost use Rattle.td_listings.specs.Calls.{Lists};
 ghost use Rattle.td_listings.specs.ForProofs.Scripted.{IsOfScript};
 ghost use Rattle.td_listings.specs.Writings.{WritesListing, WritesTable};
@@ -15,8 +15,9 @@ use crate::table::table_text;
 use std::alloc::{AllocError, Global};
 use td_headings::Catalogue;
 use td_io::{Sink, put};
-use td_story::laws::script_opens_one;
-use td_story::{CatalogueError, Replica, catalogue_of};
+use td_replica::Replica;
+use td_semantics::laws::script_opens_one;
+use td_semantics::{CatalogueError, catalogue_of};
 
 // A replica's story is sound. It costs nothing.
 fn sound<R: Replica>(replica: &R)

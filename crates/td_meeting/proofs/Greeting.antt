@@ -8,7 +8,7 @@ use Rattle.std.proofs.lemmas.Slice.Eq.{bytes_eq-Decides}
 use Rattle.td_io.specs.Streams.{Writes}
 use Rattle.td_stamps.specs.Vectors.{sites_fit}
 use Rattle.td_frames.specs.Spelling.{HasGreeting, IsPlace, greeting_frame}
-use Rattle.td_story.specs.Seen.{Seen, IsSound}
+use Rattle.td_replica.specs.Seen.{Seen, IsSound}
 use Rattle.td_meeting.specs.ForProofs.Parts.{ArePlaces}
 use Rattle.td_meeting.specs.Writing.{Greets}
 use Rattle.td_meeting.proofs.Places.{are_places, few_places}

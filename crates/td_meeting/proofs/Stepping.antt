@@ -6,9 +6,9 @@ use Rattle.td_frames.specs.declared.greeting.Greeting.{Greeting}
 use Rattle.td_frames.specs.declared.version.Version.TheVariants.{Second}
 use Rattle.td_stamps.specs.Vectors.{after_vector}
 use Rattle.td_stamps.specs.declared.entry.Entry.{Entry}
-use Rattle.td_story.specs.Calls.{TakesBatch}
-use Rattle.td_story.specs.Seen.{Seen, IsSound}
-use Rattle.td_story.specs.declared.answer.Taken.{Taken}
+use Rattle.td_replica.specs.Calls.{TakesBatch}
+use Rattle.td_replica.specs.Seen.{Seen, IsSound}
+use Rattle.td_replica.specs.declared.calls.Taken.{Taken}
 use Rattle.td_meeting.specs.ForProofs.Carried.{IsAnswer, ReceivesIn, Settling}
 use Rattle.td_meeting.specs.Laws.{MeetBySteps}
 use Rattle.td_meeting.specs.Meetings.{AreOpen, AreTwo, MeetsWhole}

@@ -8,8 +8,8 @@ use Rattle.td_stamps.specs.Sets.{NoClash, has, is_set, union}
 use Rattle.td_stamps.specs.declared.entry.Entry.{Entry}
 use Rattle.td_stamps.proofs.Gaps.{after_completes}
 use Rattle.td_stamps.proofs.Merges.{NoClash-fewer, has-append_right, merged, same_set, union_has_both, union_is_set}
-use Rattle.td_story.specs.Seen.{Seen, IsSound}
-use Rattle.td_story.specs.declared.answer.Taken.{Taken}
+use Rattle.td_replica.specs.Seen.{Seen, IsSound}
+use Rattle.td_replica.specs.declared.calls.Taken.{Taken}
 use Rattle.td_meeting.specs.Meetings.{MeetsWhole, TakesFrom}
 use Rattle.td_meeting.specs.declared.meeting.Met.{Met}
 

@@ -1,8 +1,8 @@
 -- The laws of meetings.
 use Rattle.std.specs.Prelude.{◌≡◌, ℕ, Bool, List, ◌++◌, Option, Some, Ok}
 use Rattle.td_stamps.specs.Sets.{NoClash, union}
-use Rattle.td_story.specs.Seen.{Seen, IsSound}
-use Rattle.td_story.specs.declared.answer.Taken.{Taken}
+use Rattle.td_replica.specs.Seen.{Seen, IsSound}
+use Rattle.td_replica.specs.declared.calls.Taken.{Taken}
 use Rattle.td_meeting.specs.Meetings.{MeetsWhole}
 use Rattle.td_meeting.specs.Steps.{Answered, Finished, Greeted, LinkData, Settled}
 use Rattle.td_meeting.specs.declared.meeting.Met.{Met}

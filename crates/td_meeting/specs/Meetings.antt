@@ -3,11 +3,11 @@
 use Rattle.std.specs.Prelude.{◌≡◌, ◌≢◌, ◌⊎◌, ℕ, true, false, List, Result, Ok, Err}
 use Rattle.td_stamps.specs.Vectors.{VersionVector, IsVector, after_vector}
 use Rattle.td_stamps.specs.declared.entry.Entry.{Entry}
-use Rattle.td_story.specs.Calls.{Takes}
-use Rattle.td_story.specs.Seen.{Seen, IsSound}
-use Rattle.td_story.specs.declared.answer.Taken.{Taken}
-use Rattle.td_story.specs.declared.refusal.TakeError.{TakeError}
-use Rattle.td_story.specs.declared.refusal.TakeError.TheVariants as take_error
+use Rattle.td_replica.specs.Calls.{Takes}
+use Rattle.td_replica.specs.Seen.{Seen, IsSound}
+use Rattle.td_replica.specs.declared.calls.Taken.{Taken}
+use Rattle.td_replica.specs.declared.refusal.TakeError.{TakeError}
+use Rattle.td_replica.specs.declared.refusal.TakeError.TheVariants as take_error
 use Rattle.td_meeting.specs.declared.error.MeetingError.{MeetingError}
 use Rattle.td_meeting.specs.declared.error.MeetingError.TheVariants.{Broken, OutOfMemory, OtherScript, SameSite, Take}
 use Rattle.td_meeting.specs.declared.meeting.Met.{Met}

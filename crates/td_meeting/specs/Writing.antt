@@ -4,7 +4,7 @@ use Rattle.std.specs.FinMap as by_site
 use Rattle.td_stamps.specs.Vectors.{VersionVector, IsVector, after_vector}
 use Rattle.td_frames.specs.Spelling.{HasGreeting, greeting_frame, stream}
 use Rattle.td_frames.specs.declared.version.Version.TheVariants.{Second}
-use Rattle.td_story.specs.Seen.{Seen}
+use Rattle.td_replica.specs.Seen.{Seen}
 
 -- its greeting: its number, its script, and its version vector
 pub record Greets (s : Seen) (bytes : List ℕ) : Type 0 where

@@ -1,7 +1,7 @@
 //! Why a step of a meeting stops.
 
 use td_frames::FrameError;
-use td_story::TakeError;
+use td_replica::TakeError;
 use thiserror::Error;
 
 /// Why a step of a meeting stops.

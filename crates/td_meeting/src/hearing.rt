@@ -9,7 +9,7 @@ use crate::error::MeetingError;
 use std::alloc::Global;
 use td_frames::{FrameError, Greeting, read_greeting};
 use td_io::Source;
-use td_story::Replica;
+use td_replica::Replica;
 
 // Why a greeting cannot be read, or that memory is wanting.
 fn unread(error: FrameError) -> MeetingError

@@ -1,13 +1,13 @@
 //! A meeting of two sites in memory.
 
 ghost use Rattle.std.specs.Prelude.{◌≡◌, ◌⊎◌, true, Ok, Err, MatchResult, OnOk};
-ghost use Rattle.td_story.specs.Seen.{IsSound};
+ghost use Rattle.td_replica.specs.Seen.{IsSound};
 ghost use Rattle.td_meeting.specs.ForProofs.Carried.{AnswersIn, HearsIn, IsAnswer, ReceivesIn, SettlesIn};
 ghost use Rattle.td_meeting.specs.Meetings.{AreOpen, AreTwo, Judges, Meets};
 ghost use Rattle.td_meeting.specs.Writing.{Greets};
 ghost use Rattle.td_meeting.specs.declared.error.MeetingError.TheVariants as meeting_error;
 ghost use Rattle.td_meeting.specs.declared.meeting.MeetingRefusal.{MeetingRefusal};
-ghost use Rattle.td_story.specs.declared.refusal.TakeError.TheVariants as take_error;
+ghost use Rattle.td_replica.specs.declared.refusal.TakeError.TheVariants as take_error;
 
 use crate::error::MeetingError;
 use crate::hearing::hear;
@@ -18,7 +18,8 @@ use crate::taking::receive;
 use std::alloc::Global;
 use td_frames::Greeting;
 use td_io::Failed;
-use td_story::{Meter, Replica, Taken};
+use td_replica::{Replica, Taken};
+use td_semantics::Meter;
 use thiserror::Error;
 
 /// How many entries were fresh to the first site of a meeting, and to the second.

@@ -17,8 +17,8 @@ use crate::error::MeetingError;
 use std::alloc::{AllocError, Global};
 use td_frames::{put_end, put_entry, put_greeting};
 use td_io::{Failed, Sink};
+use td_replica::Replica;
 use td_stamps::{Entry, Held, Vector};
-use td_story::Replica;
 
 /// The sites of the version vector of what is held, each with its number.
 pub(crate) fn places_of(alloc: Global, held: &Held) -> Result<Vec<(u16, u32)>, AllocError>

@@ -2,7 +2,7 @@
 
 ghost use Rattle.std.specs.Prelude.{◌≡◌, Err};
 ghost use Rattle.std.specs.Io.KnownBytes.{Keeps};
-ghost use Rattle.td_story.specs.declared.refusal.TakeError.TheVariants as take_error;
+ghost use Rattle.td_replica.specs.declared.refusal.TakeError.TheVariants as take_error;
 ghost use Rattle.td_meeting.specs.declared.error.MeetingError.TheVariants as meeting_error;
 ghost use Rattle.td_meeting.specs.Steps.{Answered, Finished, Greeted, Settled, link_of, side_of};
 
@@ -12,7 +12,8 @@ use crate::sending::{places_of, reply, send, send_greeting};
 use crate::taking::receive;
 use std::alloc::Global;
 use td_io::{Channel, Failed, Sink, Source};
-use td_story::{Meter, Replica, Taken};
+use td_replica::{Replica, Taken};
+use td_semantics::Meter;
 
 /// The first step, of the first site: it writes its greeting, and hands it on. It costs a walk along what the site
 /// holds.

@@ -2,10 +2,10 @@
 
 ghost use Rattle.std.specs.Prelude.{◌≡◌, Err, List, true, IfErr, IfOk};
 ghost use Rattle.std.specs.Io.KnownBytes.{Keeps};
-ghost use Rattle.td_story.specs.Calls.{TakesBatch};
+ghost use Rattle.td_replica.specs.Calls.{TakesBatch};
 ghost use Rattle.td_stamps.specs.declared.entry.Entry.{Entry};
 ghost use Rattle.td_meeting.specs.ForProofs.Parts as proofs;
-ghost use Rattle.td_story.specs.declared.refusal.TakeError.TheVariants as take_error;
+ghost use Rattle.td_replica.specs.declared.refusal.TakeError.TheVariants as take_error;
 ghost use Rattle.td_meeting.specs.declared.error.MeetingError.TheVariants as meeting_error;
 ghost use Rattle.td_meeting.specs.Reading.{ReadsStream, Unreceived};
 
@@ -13,8 +13,9 @@ use crate::error::MeetingError;
 use std::alloc::Global;
 use td_frames::{FrameError, MOST_ENTRIES, Version, read_entries};
 use td_io::Source;
+use td_replica::{Replica, TakeError, Taken};
+use td_semantics::Meter;
 use td_stamps::Entry;
-use td_story::{Meter, Replica, TakeError, Taken};
 
 // Why an open site does not take a batch.
 fn untaken(error: TakeError) -> MeetingError

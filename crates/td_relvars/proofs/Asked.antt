@@ -36,14 +36,14 @@ use Rattle.td_operators.specs.Operators.{as_value}
 use Rattle.td_operators.specs.Values.{rows_of}
 use Rattle.td_meaning.proofs.Forms as meant
 use Rattle.td_operators.proofs.KindLemmas.{rows_back}
-use Rattle.td_story.specs.Meanings.{no_names, with_virtual, with_virtuals}
-use Rattle.td_story.specs.Trees.{all_relvars, places, selection_of, tree_means}
-use Rattle.td_story.specs.Answers.{TellsRelvar}
-use Rattle.td_story.specs.Databases.{DatabaseData, IsDatabase}
+use Rattle.td_semantics.specs.Meanings.{no_names, with_virtual, with_virtuals}
+use Rattle.td_semantics.specs.Trees.{all_relvars, places, selection_of, tree_means}
+use Rattle.td_semantics.specs.Answers.{TellsRelvar}
+use Rattle.td_semantics.specs.Databases.{DatabaseData, IsDatabase}
 use Rattle.td_relvars.specs.ForProofs.Asked.{IsNameOf, IsRelvar, IsStoredAt, TellsAt}
-use Rattle.td_story.specs.declared.answer.Answer.{Answer}
-use Rattle.td_story.specs.declared.error.RelvarError.{RelvarError}
-use Rattle.td_story.specs.declared.error.RelvarError.TheVariants.{Unknown, OutOfMemory}
+use Rattle.td_semantics.specs.declared.answer.Answer.{Answer}
+use Rattle.td_semantics.specs.declared.error.RelvarError.{RelvarError}
+use Rattle.td_semantics.specs.declared.error.RelvarError.TheVariants.{Unknown, OutOfMemory}
 
 -- ---- the place of a name
 first_there : {A : Type 0} (m : ℕ) (test : A → Bool) (xs : List A) (r : ℕ × A) → first_from m test xs ≡ Some r → (k : ℕ) × (r.0 ≡ m + k) × (slice_get xs k ≡ Some r.1)

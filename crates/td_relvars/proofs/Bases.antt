@@ -11,7 +11,7 @@ use Rattle.td_values.specs.Rows.{RowsData}
 use Rattle.td_relations.specs.Deltas.{DeltaData}
 use Rattle.td_bases.specs.Bases.{BaseData, changed_base}
 use Rattle.td_headings.specs.Catalogues.{CatalogueData}
-use Rattle.td_story.specs.Databases.{stored_relvars}
+use Rattle.td_semantics.specs.Databases.{stored_relvars}
 use Rattle.td_relvars.specs.Changed.{change}
 use Rattle.td_relvars.specs.Keys.{key_at}
 use Rattle.td_relvars.specs.ForProofs.Kept.{AreFirst, copies_of, keys_of, rows_copied, rows_of}

@@ -7,7 +7,7 @@ use Rattle.std.proofs.lemmas.List.Elements.{All-cons, All-nil}
 use Rattle.td_values.specs.Rows.{RowsData}
 use Rattle.td_headings.specs.Catalogues.{CatalogueData}
 use Rattle.td_headings.specs.Reached.{is_base}
-use Rattle.td_story.specs.Databases.{Belongs, DatabaseData, IsDatabase, Stored, at_place, put, stored_at, stored_relvars}
+use Rattle.td_semantics.specs.Databases.{Belongs, DatabaseData, IsDatabase, Stored, at_place, put, stored_at, stored_relvars}
 use Rattle.td_relvars.specs.Laws.{PartBelongs, PutBackRestores}
 use Rattle.td_relvars.specs.Parts.{copy_of, part_of, put_part}
 use Rattle.td_relvars.proofs.Kept.{base_has, belongs}

@@ -21,12 +21,12 @@ use Rattle.td_headings.specs.declared.defined.Origin.TheVariants as origin
 use Rattle.td_headings.proofs.WellTyped.{all_typed, init_tree}
 use Rattle.td_operators.specs.Values.{rows_of}
 use Rattle.td_type_soundness.specs.Meanings.{IsRelationOver}
-use Rattle.td_story.specs.Raises.{Tells, stop_of}
-use Rattle.td_story.specs.Trees.{IsIn, places_from, tree_means}
-use Rattle.td_story.specs.declared.failure.Failure.{Failure}
-use Rattle.td_story.specs.declared.failure.Failure.TheVariants as failure
-use Rattle.td_story.specs.Databases.{Belongs, DatabaseData, Stored, put, stored_relvars}
-use Rattle.td_story.specs.Openings.{with_init, opened, opening}
+use Rattle.td_semantics.specs.Raises.{Tells, stop_of}
+use Rattle.td_semantics.specs.Trees.{IsIn, places_from, tree_means}
+use Rattle.td_semantics.specs.declared.failure.Failure.{Failure}
+use Rattle.td_semantics.specs.declared.failure.Failure.TheVariants as failure
+use Rattle.td_semantics.specs.Databases.{Belongs, DatabaseData, Stored, put, stored_relvars}
+use Rattle.td_semantics.specs.Openings.{with_init, opened, opening}
 use Rattle.td_relvars.specs.ForProofs.Opened.{Fills, Leaves, TellsInit}
 
 -- ---- the INIT of a relvar

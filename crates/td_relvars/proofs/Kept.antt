@@ -8,7 +8,7 @@ use Rattle.td_headings.specs.Catalogues.{CatalogueData}
 use Rattle.td_headings.specs.Reached.{is_base}
 use Rattle.td_headings.proofs.WellTyped.{all_typed}
 use Rattle.td_type_soundness.specs.Meanings.{IsRelationOver}
-use Rattle.td_story.specs.Databases.{Belongs, DatabaseData, IsDatabase, Stored, stored_relvars}
+use Rattle.td_semantics.specs.Databases.{Belongs, DatabaseData, IsDatabase, Stored, stored_relvars}
 use Rattle.td_relvars.specs.Changed.{CanChange, change, changed}
 use Rattle.td_relvars.proofs.Places.{change_put, ok_same}
 use Rattle.td_relvars.proofs.Stores.{base_within, not_stored, put_is}

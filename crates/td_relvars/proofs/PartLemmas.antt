@@ -12,8 +12,8 @@ use Rattle.td_algebra.proofs.Runs.{same_at}
 use Rattle.td_type_soundness.specs.Meanings.{GivesRelation, IsRelationOver}
 use Rattle.td_typing.proofs.KindLemmas.{some_same}
 use Rattle.td_headings.specs.Catalogues.{CatalogueData}
-use Rattle.td_story.specs.Databases.{Belongs, DatabaseData, IsDatabase, Stored, at_place, stored_relvars}
-use Rattle.td_story.specs.Trees.{AreBases}
+use Rattle.td_semantics.specs.Databases.{Belongs, DatabaseData, IsDatabase, Stored, at_place, stored_relvars}
+use Rattle.td_semantics.specs.Trees.{AreBases}
 use Rattle.td_relvars.specs.Changed.{change, changed, undone}
 use Rattle.td_relvars.specs.Keys.{key_at}
 use Rattle.td_relvars.specs.ForProofs.Kept.{copied_keys, copies_of}

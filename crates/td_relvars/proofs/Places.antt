@@ -4,7 +4,7 @@ use Rattle.std.specs.Prelude.{slice_set}
 use Rattle.td_values.specs.Rows.{RowsData}
 use Rattle.td_relations.specs.Deltas.{DeltaData}
 use Rattle.td_algebra.specs.declared.errors.Stop.{Stop}
-use Rattle.td_story.specs.Databases.{Stored, at_place, put, stored_relvars}
+use Rattle.td_semantics.specs.Databases.{Stored, at_place, put, stored_relvars}
 use Rattle.td_relvars.specs.Changed.{change, changed, changed_at}
 use Rattle.td_relvars.proofs.Stores.{put_set}
 

@@ -4,7 +4,7 @@ use Rattle.td_values.specs.Rows.{RowsData}
 use Rattle.td_relations.specs.Deltas.{DeltaData}
 use Rattle.td_bases.specs.Ways.{LeadsBack, WayBackData}
 use Rattle.td_headings.specs.Catalogues.{CatalogueData}
-use Rattle.td_story.specs.Databases.{DatabaseData, Stored, stored_relvars}
+use Rattle.td_semantics.specs.Databases.{DatabaseData, Stored, stored_relvars}
 use Rattle.td_relvars.specs.Ways.{LeadsBackAt, LeadsBackFrom}
 
 -- the way that is made of what a relvar has

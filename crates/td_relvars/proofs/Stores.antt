@@ -24,12 +24,12 @@ use Rattle.td_headings.specs.declared.defined.Origin.{Origin}
 use Rattle.td_headings.specs.declared.defined.Origin.TheVariants as origin
 use Rattle.td_headings.proofs.WellTyped.{all_typed}
 use Rattle.td_type_soundness.specs.Meanings.{IsTupleOver, IsRelationOver}
-use Rattle.td_story.specs.Trees.{AreBases}
-use Rattle.td_story.specs.Stored.{AreStored}
+use Rattle.td_semantics.specs.Trees.{AreBases}
+use Rattle.td_semantics.specs.Stored.{AreStored}
 use Rattle.td_eval.specs.Keyed.{AreByKeys, IsByKey}
 use Rattle.td_integrity.proofs.Judged.{are_bases}
-use Rattle.td_story.specs.Databases.{Stored, DatabaseData, IsDatabase, Belongs, at_place, put, stored_relvars}
-use Rattle.td_story.specs.Openings.{all_empty}
+use Rattle.td_semantics.specs.Databases.{Stored, DatabaseData, IsDatabase, Belongs, at_place, put, stored_relvars}
+use Rattle.td_semantics.specs.Openings.{all_empty}
 use Rattle.td_relvars.specs.ForProofs.Empty.{empty_in}
 
 -- ---- places

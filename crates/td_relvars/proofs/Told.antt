@@ -3,11 +3,11 @@ use Rattle.std.proofs.Common.{◌≡◌, IfOk, Option, None, Some, Result, Ok, E
 use Rattle.td_algebra.specs.declared.errors.Stop.{Stop}
 use Rattle.td_headings.specs.Catalogues.{CatalogueData}
 use Rattle.td_headings.specs.declared.defined.Test.{Test}
-use Rattle.td_story.proofs.Legal.{all_pass}
-use Rattle.td_story.specs.Databases.{DatabaseData, IsLegal, stored_relvars}
-use Rattle.td_story.specs.Reports.{IsReport, title}
-use Rattle.td_story.specs.declared.broken.TestFailure.{TestFailure}
-use Rattle.td_story.specs.declared.error.ScriptError.{ScriptError}
+use Rattle.td_semantics.proofs.Legal.{all_pass}
+use Rattle.td_semantics.specs.Databases.{DatabaseData, IsLegal, stored_relvars}
+use Rattle.td_semantics.specs.Reports.{IsReport, title}
+use Rattle.td_semantics.specs.declared.broken.TestFailure.{TestFailure}
+use Rattle.td_semantics.specs.declared.error.ScriptError.{ScriptError}
 use Rattle.td_relvars.specs.ForProofs.Opened.{Judges}
 
 pub of_test : (c : CatalogueData) (o : Option (Test × Option Stop)) (f : TestFailure) → IsReport c o (Some f) → (t : Test) × (e : Option Stop) × (o ≡ Some (t, e)) × (f.test ≡ title c t)

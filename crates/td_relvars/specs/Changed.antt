@@ -3,7 +3,7 @@ use Rattle.std.specs.Prelude.{◌≡◌, ℕ, zero, suc, List, [], ◌∷◌, Op
 use Rattle.td_values.specs.Rows.{RowsData}
 use Rattle.td_relations.specs.Deltas.{DeltaData, inverse_of}
 pub use Rattle.td_bases.specs.Bases.{changed}
-use Rattle.td_story.specs.Databases.{Belongs, DatabaseData, Stored, stored_relvars}
+use Rattle.td_semantics.specs.Databases.{Belongs, DatabaseData, Stored, stored_relvars}
 
 abbrev pub changed_at : Option RowsData → DeltaData → Option RowsData
 changed_at None d = None

@@ -2,7 +2,7 @@
 use Rattle.std.specs.Prelude.{◌≡◌, ℕ, List}
 use Rattle.std.specs.List.{All, Contains}
 use Rattle.td_values.specs.Rows.{RowsData}
-use Rattle.td_story.specs.Databases.{Belongs, DatabaseData, IsDatabase, stored_relvars}
+use Rattle.td_semantics.specs.Databases.{Belongs, DatabaseData, IsDatabase, stored_relvars}
 use Rattle.td_relvars.specs.Parts.{part_of, put_part}
 
 -- what is copied of a database belongs where it is put back

@@ -9,7 +9,7 @@ use Rattle.td_schema.specs.Schemas.{SchemaData, relvar_named}
 use Rattle.td_algebra.specs.declared.errors.Stop.{Stop}
 use Rattle.td_headings.specs.Catalogues.{CatalogueData}
 use Rattle.td_meaning.specs.Mean.{Relvars}
-use Rattle.td_story.specs.Databases.{Stored, put, stored_relvars}
+use Rattle.td_semantics.specs.Databases.{Stored, put, stored_relvars}
 use Rattle.td_relvars.specs.Changed.{changed}
 use Rattle.td_relvars.specs.Keys.{key_at}
 

@@ -3,7 +3,7 @@ use Rattle.std.specs.Prelude.{◌≡◌, ℕ, Ok}
 use Rattle.td_values.specs.Rows.{RowsData}
 use Rattle.td_relations.specs.Deltas.{DeltaData, inverse_of}
 pub use Rattle.td_bases.specs.Ways.{LeadsBack, WayBackData}
-use Rattle.td_story.specs.Databases.{DatabaseData, Stored, stored_relvars}
+use Rattle.td_semantics.specs.Databases.{DatabaseData, Stored, stored_relvars}
 use Rattle.td_relvars.specs.Changed.{CanChange, changed}
 
 -- it is for this change of what is stored at the place

@@ -2,7 +2,7 @@
 
 ghost use Rattle.std.specs.Prelude.{◌≡◌, IfOk, slice_get};
 ghost use Rattle.td_headings.specs.Reached as reached;
-ghost use Rattle.td_story.specs.Answers.{TellsRelvar};
+ghost use Rattle.td_semantics.specs.Answers.{TellsRelvar};
 ghost use Rattle.td_relvars.specs.ForProofs.Asked.{IsNameOf, IsRelvar, IsStoredAt, TellsAt};
 
 use crate::database::Database;
@@ -12,7 +12,7 @@ use td_eval::relation;
 use td_headings::{Catalogue, Origin, TypedExpr, type_expr};
 use td_relations::Relation;
 use td_schema::error::TypeError;
-use td_story::{Answer, Failure, RelvarError};
+use td_semantics::{Answer, Failure, RelvarError};
 use td_syntax::tree::Expr;
 use td_values::{Heading, Name};
 

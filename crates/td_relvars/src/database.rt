@@ -7,8 +7,8 @@ ghost use Rattle.td_relations.specs.Sets.{body, relation_of};
 ghost use Rattle.td_relations.specs.Deltas.{inverse_of};
 ghost use Rattle.td_values.specs.Rows.{RowsData};
 ghost use Rattle.td_headings.specs.Definitions.{Defined};
-ghost use Rattle.td_story.specs.Databases as spec;
-ghost use Rattle.td_story.specs.Databases.{Belongs, IsDatabase, put, stored_relvars};
+ghost use Rattle.td_semantics.specs.Databases as spec;
+ghost use Rattle.td_semantics.specs.Databases.{Belongs, IsDatabase, put, stored_relvars};
 ghost use Rattle.td_bases.specs.Bases.{BaseData};
 ghost use Rattle.td_bases.specs.Ways.{LeadsBack};
 ghost use Rattle.td_relvars.specs.Changed as changes;
@@ -19,7 +19,7 @@ ghost use Rattle.td_relvars.specs.Keys as keys;
 ghost use Rattle.td_relvars.specs.Keys.{key_at};
 ghost use Rattle.td_relvars.specs.Ways.{CanGoBack, LeadsBackAt, LeadsBackFrom};
 ghost use Rattle.td_relvars.specs.ForProofs.Empty.{empty_in};
-ghost use Rattle.td_story.specs.Openings as opening;
+ghost use Rattle.td_semantics.specs.Openings as opening;
 
 use sqlite_items::Items;
 use std::alloc::{AllocError, Global};
@@ -48,7 +48,7 @@ impl Drop for Database {
 }
 
 impl Model for Database {
-    ghost use Rattle.td_story.specs.Databases.{DatabaseData, IsDatabase, database_code};
+    ghost use Rattle.td_semantics.specs.Databases.{DatabaseData, IsDatabase, database_code};
     ghost use Rattle.td_relvars.specs.ForProofs.Kept.{AreFirst, keys_of, rows_of};
 
     ghost Value = { DatabaseData };
@@ -62,7 +62,7 @@ impl Model for Database {
 
 impl Lookup for Database {
     ghost use Rattle.td_relvars.specs.Keys.{first_key};
-    ghost use Rattle.td_story.specs.Databases.{stored_relvars};
+    ghost use Rattle.td_semantics.specs.Databases.{stored_relvars};
 
     ghost relvars = { λ d. stored_relvars d.stored };
 

@@ -3,8 +3,8 @@
 ghost use Rattle.std.specs.Prelude.{ℕ, IfOk};
 ghost use Rattle.std.specs.List.{All};
 ghost use Rattle.td_values.specs.Rows.{RowsData};
-ghost use Rattle.td_story.specs.Databases.{Belongs, stored_relvars};
-ghost use Rattle.td_story.specs.Trees.{AreBases, IsIn};
+ghost use Rattle.td_semantics.specs.Databases.{Belongs, stored_relvars};
+ghost use Rattle.td_semantics.specs.Trees.{AreBases, IsIn};
 ghost use Rattle.td_relvars.specs.Evaluated.{Says};
 ghost use Rattle.td_relvars.specs.Keys as keys;
 ghost use Rattle.td_relvars.specs.Parts.{over};
@@ -16,7 +16,7 @@ use td_algebra::{KeyIndex, Stop};
 use td_eval::{Lookup, value};
 use td_headings::{Catalogue, TypedExpr};
 use td_relations::Relation;
-use td_story::{Answer, Failure};
+use td_semantics::{Answer, Failure};
 use td_values::Name;
 
 /// The relvars of a database, but some by copies of what they had before.

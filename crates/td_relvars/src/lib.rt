@@ -18,4 +18,4 @@ pub use database::Database;
 pub use evaluation::value_over;
 pub use parts::Part;
 pub use td_bases::{Base, WayBack};
-pub use td_story::{Answer, BrokenTest as Test, RelvarError, ScriptError};
+pub use td_semantics::{Answer, BrokenTest as Test, RelvarError, ScriptError};

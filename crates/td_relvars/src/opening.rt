@@ -2,10 +2,10 @@
 
 ghost use Rattle.std.specs.Prelude.{◌≡◌, IfOk};
 ghost use Rattle.td_headings.specs.Expressions as expressions;
-ghost use Rattle.td_story.specs.Databases.{Belongs, IsLegal};
+ghost use Rattle.td_semantics.specs.Databases.{Belongs, IsLegal};
 ghost use Rattle.td_relvars.specs.ForProofs.Opened.{Fills, Judges, Leaves, TellsInit};
-ghost use Rattle.td_story.specs.Openings as spec;
-ghost use Rattle.td_story.specs.Scripts.{Opens};
+ghost use Rattle.td_semantics.specs.Openings as spec;
+ghost use Rattle.td_semantics.specs.Scripts.{Opens};
 
 use crate::database::Database;
 use std::alloc::Global;
@@ -13,7 +13,7 @@ use td_eval::relation;
 use td_headings::{Catalogue, TypedExpr, init_expr};
 use td_integrity::first_failure;
 use td_relations::Relation;
-use td_story::{CatalogueError, Failure, ScriptError, TestFailure, catalogue_of};
+use td_semantics::{CatalogueError, Failure, ScriptError, TestFailure, catalogue_of};
 
 // What the INIT of the relvar at the place gives it.
 fn init_value(

@@ -5,7 +5,7 @@ ghost use Rattle.std.specs.List.{All, find};
 ghost use Rattle.std.specs.Option.{option_copied};
 ghost use Rattle.td_values.specs.Rows.{RowsData};
 ghost use Rattle.td_relations.specs.Deltas.{inverse_of};
-ghost use Rattle.td_story.specs.Databases.{Belongs, stored_at};
+ghost use Rattle.td_semantics.specs.Databases.{Belongs, stored_at};
 ghost use Rattle.td_relvars.specs.Parts as spec;
 ghost use Rattle.td_bases.specs.Bases.{BaseData};
 ghost use Rattle.td_relvars.specs.ForProofs.Kept.{copied_keys, copies_of, rows_copied};

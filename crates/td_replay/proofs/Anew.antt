@@ -3,7 +3,7 @@ use Rattle.std.proofs.Common.{◌≡◌, ◌==◌, ℕ, true, eqb-true, List, []
 use Rattle.std.proofs.lemmas.List.{nil_from_length}
 use Rattle.td_rollback.specs.Touched.{Runs, none_left, fresh}
 use Rattle.td_stamps.specs.declared.entry.Entry.{Entry}
-use Rattle.td_story.specs.Databases.{DatabaseData}
+use Rattle.td_semantics.specs.Databases.{DatabaseData}
 use Rattle.td_replay.specs.Counted.{RunsOver}
 use Rattle.td_replay.specs.Noted.{AreTargetsOf, IsFootprintOf}
 

@@ -7,17 +7,17 @@ use Rattle.td_headings.proofs.NoTuple.{at_relvars}
 use Rattle.td_typing.specs.Types.{IsIllTyped}
 use Rattle.td_syntax.specs.declared.tree.Expr.{Expr}
 use Rattle.td_typed_trees.specs.declared.expression.Expression.{Expression}
-use Rattle.td_story.specs.Databases.{DatabaseData}
-use Rattle.td_story.specs.Calls.{Asks, TellsValue}
+use Rattle.td_semantics.specs.Databases.{DatabaseData}
+use Rattle.td_replica.specs.Calls.{Asks, TellsValue}
 use Rattle.td_replay.specs.ForProofs.Asked.{Answers, TellsNamed}
 use Rattle.td_replay.specs.ForProofs.Told.{Outcomes}
-use Rattle.td_story.specs.Seen.{Seen}
-use Rattle.td_story.specs.Stories.{IsStory}
-use Rattle.td_story.specs.declared.answer.Answer.{Answer}
-use Rattle.td_story.specs.declared.refusal.AskError.{AskError}
-use Rattle.td_story.specs.declared.refusal.AskError.TheVariants as ask_error
-use Rattle.td_story.specs.declared.refusal.ValueError.{ValueError}
-use Rattle.td_story.specs.declared.refusal.ValueError.TheVariants as value_error
+use Rattle.td_replica.specs.Seen.{Seen}
+use Rattle.td_replica.specs.Stories.{IsStory}
+use Rattle.td_semantics.specs.declared.answer.Answer.{Answer}
+use Rattle.td_replica.specs.declared.refusal.AskError.{AskError}
+use Rattle.td_replica.specs.declared.refusal.AskError.TheVariants as ask_error
+use Rattle.td_replica.specs.declared.refusal.ValueError.{ValueError}
+use Rattle.td_replica.specs.declared.refusal.ValueError.TheVariants as value_error
 use Rattle.td_replay.proofs.Telling.{story_catalogue}
 use Rattle.td_values.specs.Data.{Datum}
 use Rattle.td_values.specs.Rows.{RowsData}

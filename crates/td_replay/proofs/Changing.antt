@@ -9,8 +9,8 @@ use Rattle.td_stamps.specs.declared.entry.Entry.{Entry}
 use Rattle.td_stamps.specs.declared.entry.Stamp.{Stamp}
 use Rattle.td_stamps.specs.Story.{Story}
 use Rattle.td_stamps.proofs.Stories as stories
-use Rattle.td_story.specs.Databases.{DatabaseData}
-use Rattle.td_story.specs.Seen.{Leaves, Seen, with_entries}
+use Rattle.td_semantics.specs.Databases.{DatabaseData}
+use Rattle.td_replica.specs.Seen.{Leaves, Seen, with_entries}
 use Rattle.td_replay.specs.Noted.{Notes, opened_by}
 use Rattle.td_replay.specs.ForProofs.Past.{EndsWith}
 use Rattle.td_replay.specs.ForProofs.Told.{IsLogged, Log, outcomes_of}

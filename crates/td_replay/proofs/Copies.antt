@@ -28,11 +28,11 @@ use Rattle.td_stamps.specs.declared.entry.Stamp.{Stamp}
 use Rattle.td_stamps.specs.Story.{Story}
 use Rattle.td_stamps.proofs.Stories as stories
 use Rattle.td_rollback.proofs.Ends.{Ended, last_off}
-use Rattle.td_story.proofs.OneOpening.{one_opening}
-use Rattle.td_story.specs.Calls.{SaysValue}
-use Rattle.td_story.specs.Databases.{Belongs, DatabaseData, IsDatabase, stored_relvars}
-use Rattle.td_story.specs.Trees.{IsIn, tree_means}
-use Rattle.td_story.specs.declared.answer.Answer.{Answer}
+use Rattle.td_semantics.proofs.OneOpening.{one_opening}
+use Rattle.td_semantics.specs.Answers.{SaysValue}
+use Rattle.td_semantics.specs.Databases.{Belongs, DatabaseData, IsDatabase, stored_relvars}
+use Rattle.td_semantics.specs.Trees.{IsIn, tree_means}
+use Rattle.td_semantics.specs.declared.answer.Answer.{Answer}
 use Rattle.td_replay.specs.Noted.{IsLegalDatabase, Notes, opened_by}
 use Rattle.td_replay.specs.ForProofs.Going.{catalogue_stays, stays_sound}
 use Rattle.td_replay.specs.ForProofs.Past.{AreAt, HaveCopies, SaysAfter, Types, is_changed, is_changed_in}

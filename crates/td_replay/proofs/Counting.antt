@@ -4,9 +4,9 @@ use Rattle.td_rollback.proofs.Counting as counting
 use Rattle.td_rollback.proofs.More.{union_is_more}
 use Rattle.td_stamps.specs.declared.entry.Entry.{Entry}
 use Rattle.td_stamps.specs.Sets.{union}
-use Rattle.td_story.specs.Databases.{DatabaseData}
-use Rattle.td_story.specs.Seen.{Seen}
-use Rattle.td_story.proofs.OneOpening.{one_opening}
+use Rattle.td_semantics.specs.Databases.{DatabaseData}
+use Rattle.td_replica.specs.Seen.{Seen}
+use Rattle.td_semantics.proofs.OneOpening.{one_opening}
 use Rattle.td_replay.specs.Counted.{RunsIn, RunsInAreOne, RunsInAreThere, RunsOver}
 use Rattle.td_replay.specs.Noted.{AreTargetsOf, IsFootprintOf, opened_by}
 use Rattle.td_replay.specs.ForProofs.Told.{IsLogged, Log}

@@ -15,13 +15,13 @@ use Rattle.td_stamps.proofs.Places.{all_at, set_ascends}
 use Rattle.td_stamps.proofs.SetLemmas.{first_holds, rest_holds}
 use Rattle.td_stamps.specs.declared.entry.Entry.{Entry}
 use Rattle.td_stamps.specs.declared.entry.Stamp.{Stamp}
-use Rattle.td_story.specs.Past.{AsksAt, EndsAt, HasNoPlace, IsQueryOf}
-use Rattle.td_story.specs.Scripts.{IsScriptOf}
-use Rattle.td_story.specs.Seen.{Seen}
-use Rattle.td_story.specs.declared.answer.Answer.{Answer}
-use Rattle.td_story.specs.declared.refusal.AskError.{AskError}
-use Rattle.td_story.specs.declared.refusal.AskError.TheVariants as ask_error
-use Rattle.td_story.proofs.OneOpening.{one_catalogue}
+use Rattle.td_replica.specs.Past.{AsksAt, EndsAt, HasNoPlace, IsQueryOf}
+use Rattle.td_semantics.specs.Scripts.{IsScriptOf}
+use Rattle.td_replica.specs.Seen.{Seen}
+use Rattle.td_semantics.specs.declared.answer.Answer.{Answer}
+use Rattle.td_replica.specs.declared.refusal.AskError.{AskError}
+use Rattle.td_replica.specs.declared.refusal.AskError.TheVariants as ask_error
+use Rattle.td_semantics.proofs.OneOpening.{one_catalogue}
 use Rattle.td_replay.specs.ForProofs.Past.{EndsWith, SaysAfter, TellsQuery, Types, as_past, entry_at}
 use Rattle.td_replay.proofs.Telling.{story_catalogue}
 use Rattle.td_values.specs.Data.{Datum}

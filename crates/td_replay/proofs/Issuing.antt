@@ -9,16 +9,16 @@ use Rattle.td_stamps.specs.Checks.{check_of, next_of}
 use Rattle.td_stamps.specs.Entries.{stamp_of}
 use Rattle.td_stamps.specs.Sets.{union}
 use Rattle.td_stamps.proofs.Next.{next_fits, union_last}
-use Rattle.td_story.specs.Databases.{DatabaseData}
-use Rattle.td_story.specs.Steps.{IsRead}
-use Rattle.td_story.specs.Calls.{entry_of, numbered, written, Issues, IssuesEntry}
+use Rattle.td_semantics.specs.Databases.{DatabaseData}
+use Rattle.td_semantics.specs.Steps.{IsRead}
+use Rattle.td_replica.specs.Calls.{entry_of, numbered, written, Issues, IssuesEntry}
 use Rattle.td_replay.specs.ForProofs.Judged.{IsRefusal}
 use Rattle.td_replay.specs.ForProofs.Told.{IsLogged, Log, Numbers, Outcomes, TellsOutcome, outcomes_of}
-use Rattle.td_story.specs.Seen.{Seen, with_entries}
-use Rattle.td_story.specs.Stories.{IsStory}
-use Rattle.td_story.specs.declared.answer.Issued.{Issued}
-use Rattle.td_story.specs.declared.refusal.IssueError.{IssueError}
-use Rattle.td_story.specs.declared.refusal.IssueError.TheVariants as issue_error
+use Rattle.td_replica.specs.Seen.{Seen, with_entries}
+use Rattle.td_replica.specs.Stories.{IsStory}
+use Rattle.td_replica.specs.declared.calls.Issued.{Issued}
+use Rattle.td_replica.specs.declared.refusal.IssueError.{IssueError}
+use Rattle.td_replica.specs.declared.refusal.IssueError.TheVariants as issue_error
 use Rattle.td_replay.proofs.Telling.{logged_more, logged_story, outcomes_more, story_catalogue}
 
 -- what is known where a text has a next entry

@@ -17,8 +17,8 @@ use Rattle.td_relvars.specs.Changed.{redone, undone}
 use Rattle.td_relvars.specs.Parts.{part_of, put_part}
 use Rattle.td_relvars.proofs.Copies.{part_belongs, put_back_restores}
 use Rattle.td_stamps.specs.declared.entry.Entry.{Entry}
-use Rattle.td_story.specs.Databases.{Belongs, DatabaseData, IsDatabase, Stored, stored_relvars}
-use Rattle.td_story.specs.Steps.{Steps}
+use Rattle.td_semantics.specs.Databases.{Belongs, DatabaseData, IsDatabase, Stored, stored_relvars}
+use Rattle.td_semantics.specs.Steps.{Steps}
 use Rattle.td_values.specs.Rows.{RowsData}
 use Rattle.td_replay.specs.Noted.{AgreeAt, IsLegalDatabase, Notes, opened_by}
 use Rattle.td_replay.specs.ForProofs.Going.{catalogue_stays, origin_of, stays_sound}

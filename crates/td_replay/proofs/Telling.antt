@@ -11,12 +11,12 @@ use Rattle.td_stamps.specs.declared.entry.Stamp.{Stamp}
 use Rattle.td_stamps.specs.Entries.{stamp_of}
 use Rattle.td_stamps.specs.Story.{Story, nothing_ran, next_ran}
 use Rattle.td_stamps.proofs.Stories as stories
-use Rattle.td_story.specs.Databases.{DatabaseData}
-use Rattle.td_story.specs.Scripts.{IsScriptOf, OpensOn}
-use Rattle.td_story.specs.Steps.{IsRead, IsUnreadText, Steps, TellsTest, unread, raised, refused, done}
-use Rattle.td_story.specs.declared.outcome.Outcome.{Outcome}
-use Rattle.td_story.specs.declared.outcome.Outcome.TheVariants as outcome
-use Rattle.td_story.specs.Stories.{IsStory, StepsEntry}
+use Rattle.td_semantics.specs.Databases.{DatabaseData}
+use Rattle.td_semantics.specs.Scripts.{IsScriptOf, OpensOn}
+use Rattle.td_semantics.specs.Steps.{IsRead, IsUnreadText, Steps, TellsTest, unread, raised, refused, done}
+use Rattle.td_semantics.specs.declared.outcome.Outcome.{Outcome}
+use Rattle.td_semantics.specs.declared.outcome.Outcome.TheVariants as outcome
+use Rattle.td_replica.specs.Stories.{IsStory, StepsEntry}
 use Rattle.td_replay.specs.Noted.{IsLegalDatabase, Notes, opened_by, or_none}
 use Rattle.td_replay.specs.ForProofs.Going.{stays_sound}
 use Rattle.td_replay.specs.ForProofs.Told.{IsLogged, Log, Outcomes, RunsNext, RunsSome, outcomes_of}

@@ -5,9 +5,9 @@ use Rattle.td_rollback.specs.Touched.{Runs}
 use Rattle.td_stamps.specs.declared.entry.Entry.{Entry}
 use Rattle.td_stamps.specs.Checks.{check_of}
 use Rattle.td_stamps.specs.Sets.{union}
-use Rattle.td_story.specs.Databases.{DatabaseData}
-use Rattle.td_story.specs.Scripts.{OpensOn}
-use Rattle.td_story.specs.Seen.{IsSound, Seen}
+use Rattle.td_semantics.specs.Databases.{DatabaseData}
+use Rattle.td_semantics.specs.Scripts.{OpensOn}
+use Rattle.td_replica.specs.Seen.{IsSound, Seen}
 use Rattle.td_replay.specs.Noted.{AreTargetsOf, IsFootprintOf}
 
 -- the old entries and all, in stories that began with the database

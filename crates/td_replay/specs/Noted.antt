@@ -8,11 +8,11 @@ use Rattle.td_headings.specs.Catalogues.{CatalogueData}
 use Rattle.td_headings.specs.Reached.{AreThose}
 use Rattle.td_headings.specs.declared.defined.Test.{Test}
 use Rattle.td_stamps.specs.declared.entry.Entry.{Entry}
-use Rattle.td_story.specs.Databases.{DatabaseData, IsDatabase, IsLegal, Stored, stored_relvars}
-use Rattle.td_story.specs.Differences.{AreDifferences}
-use Rattle.td_story.specs.Footprints.{IsInFootprint, IsTargetOfText, TestReads}
-use Rattle.td_story.specs.Openings.{opening}
-use Rattle.td_story.specs.Steps.{Steps}
+use Rattle.td_semantics.specs.Databases.{DatabaseData, IsDatabase, IsLegal, Stored, stored_relvars}
+use Rattle.td_semantics.specs.Differences.{AreDifferences}
+use Rattle.td_semantics.specs.Footprints.{IsInFootprint, IsTargetOfText, TestReads}
+use Rattle.td_semantics.specs.Openings.{opening}
+use Rattle.td_semantics.specs.Steps.{Steps}
 
 -- the record is of the entry's step
 pub record Notes (d : DatabaseData) (e : Entry) (r : Ran) (after : DatabaseData) : Type 0 where

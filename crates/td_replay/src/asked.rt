@@ -2,7 +2,7 @@
 
 ghost use Rattle.std.specs.Prelude.{◌≡◌, ◌≤◌, ◌+◌, ℕ, List, IfOk, length};
 ghost use Rattle.td_stamps.specs.declared.entry.Entry as entry;
-ghost use Rattle.td_story.specs.Databases.{DatabaseData};
+ghost use Rattle.td_semantics.specs.Databases.{DatabaseData};
 ghost use Rattle.td_replay.specs.ForProofs.Asked.{Answers, TellsNamed};
 ghost use Rattle.td_replay.specs.ForProofs.Past.{SaysAfter, TellsQuery, Types};
 ghost use Rattle.td_replay.specs.ForProofs.Told.{IsLogged, Log};
@@ -14,9 +14,10 @@ use td_grammar::{ReadError, read_expr};
 use td_headings::{Catalogue, TypedExpr, reads, type_expr};
 use td_relations::Relation;
 use td_relvars::{Database, value_over};
+use td_replica::{AskError, MOST_BYTES, ValueError};
 use td_schema::error::TypeError;
+use td_semantics::{Answer, Meter};
 use td_stamps::Entry;
-use td_story::{Answer, AskError, MOST_BYTES, Meter, ValueError};
 use td_values::Name;
 
 /// The query that the text is, typed.
@@ -107,7 +108,7 @@ pub(crate) fn value_of(
 {
     match database.value_of(alloc, name) {
         Ok(answer) => Ok(answer),
-        Err(td_story::RelvarError::Unknown) => Err(ValueError::Unknown),
-        Err(td_story::RelvarError::OutOfMemory) => Err(ValueError::OutOfMemory),
+        Err(td_semantics::RelvarError::Unknown) => Err(ValueError::Unknown),
+        Err(td_semantics::RelvarError::OutOfMemory) => Err(ValueError::OutOfMemory),
     }
 }

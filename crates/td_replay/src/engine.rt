@@ -5,7 +5,7 @@ ghost use Rattle.td_rollback.specs.Labels.{IsCoarser, has_label};
 ghost use Rattle.td_assign.specs.Readings.{IsReading};
 ghost use Rattle.td_replay.specs.Noted.{AgreeAt, AreClosed, AreTargetsOf, IsClosedPart, IsFootprintOf, IsLegalDatabase, Notes, mix, opened_by};
 ghost use Rattle.td_relvars.specs.Parts.{AreTheirs, part_of};
-ghost use Rattle.td_story.specs.Databases.{IsDatabase};
+ghost use Rattle.td_semantics.specs.Databases.{IsDatabase};
 ghost use Rattle.td_replay.specs.ForProofs.Going.{go};
 ghost use Rattle.td_replay.specs.ForProofs.Mixing.{mixes};
 
@@ -16,8 +16,8 @@ use td_assign::{Ran, Reading, read, redo, run, run_read, undo};
 use td_headings::Catalogue;
 use td_relvars::{Database, Part};
 use td_rollback::{Machine, tie};
+use td_semantics::Meter;
 use td_stamps::Entry;
-use td_story::Meter;
 
 /// The database of one script.
 pub(crate) struct Engine {
@@ -32,7 +32,7 @@ impl Drop for Engine {
 }
 
 impl Model for Engine {
-    ghost use Rattle.td_story.specs.Databases.{DatabaseData, database_code};
+    ghost use Rattle.td_semantics.specs.Databases.{DatabaseData, database_code};
 
     ghost Value = { DatabaseData };
 

@@ -1,15 +1,15 @@
 //! Whether a text that is issued is a statement, well typed.
 
 ghost use Rattle.std.specs.Prelude.{◌≤◌, length};
-ghost use Rattle.td_story.specs.Calls.{written};
-ghost use Rattle.td_story.specs.Steps.{IsUnreadText};
+ghost use Rattle.td_replica.specs.Calls.{written};
+ghost use Rattle.td_semantics.specs.Steps.{IsUnreadText};
 ghost use Rattle.td_replay.specs.ForProofs.Judged.{IsRefusal, Judges};
 
 use std::alloc::Global;
 use td_grammar::{LATEST, ReadError, read_statement_in};
 use td_headings::{Catalogue, type_statement};
+use td_replica::IssueError;
 use td_schema::error::TypeError;
-use td_story::IssueError;
 
 /// Why the text is no statement of the catalogue, if it is none.
 pub(crate) fn judge(alloc: Global, catalogue: &Catalogue, text: &str) -> Result<(), IssueError>

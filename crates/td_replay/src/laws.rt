@@ -2,9 +2,8 @@
 
 ghost use Rattle.td_replay.specs.Counted.{RunsInAreOne, RunsInAreThere};
 
-pub use td_story::laws::{
-    script_opens_one, sites_agree, step_is_legal, step_is_unique, story_is_legal, story_is_one,
-};
+pub use td_replica::laws::{sites_agree, story_is_legal, story_is_one};
+pub use td_semantics::laws::{script_opens_one, step_is_legal, step_is_unique};
 
 /// There is one number of entries that a site runs where it takes a batch, and it cannot be that there is none.
 pub fn runs_are_one()

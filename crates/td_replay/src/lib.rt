@@ -24,7 +24,8 @@ mod told;
 pub use plain::PlainSite;
 pub use site::Site;
 pub use td_io::Device;
-pub use td_story::{
-    Answer, AskError, IssueError, Issued, Meter, NotOpen, OpenError, Opens, Outcome, PastError,
-    Replica, TakeError, Taken, TellError, ValueError,
+pub use td_replica::{
+    AskError, IssueError, Issued, NotOpen, OpenError, Opens, PastError, Replica, TakeError, Taken,
+    TellError, ValueError,
 };
+pub use td_semantics::{Answer, Meter, Outcome};

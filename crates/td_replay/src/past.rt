@@ -3,7 +3,7 @@
 ghost use Rattle.std.specs.Prelude.{◌≡◌, ◌≤◌, ℕ, List, IfOk, OnOk, length};
 ghost use Rattle.std.specs.List.{filter};
 ghost use Rattle.td_stamps.specs.declared.entry.Entry.{Entry};
-ghost use Rattle.td_story.specs.Databases.{DatabaseData};
+ghost use Rattle.td_semantics.specs.Databases.{DatabaseData};
 ghost use Rattle.td_replay.specs.Noted.{IsLegalDatabase};
 ghost use Rattle.td_replay.specs.ForProofs.Past as spec;
 ghost use Rattle.td_replay.specs.ForProofs.Past.{AreAt};

@@ -3,12 +3,12 @@
 
 ghost use Rattle.std.specs.Prelude.{◌≡◌, ◌≤◌, ◌+◌, ℕ, Err, length, refl};
 ghost use Rattle.td_stamps.specs.Sets.{union};
-ghost use Rattle.td_story.specs.Calls.{Issues, Takes};
-ghost use Rattle.td_story.specs.Past.{AsksAt};
-ghost use Rattle.td_story.specs.Seen.{always_open};
-ghost use Rattle.td_story.specs.declared.refusal.IssueError.TheVariants as issue_error;
-ghost use Rattle.td_story.specs.declared.refusal.TakeError.{TakeError};
-ghost use Rattle.td_story.specs.declared.refusal.TakeError.TheVariants as take_error;
+ghost use Rattle.td_replica.specs.Calls.{Issues, Takes};
+ghost use Rattle.td_replica.specs.Past.{AsksAt};
+ghost use Rattle.td_replica.specs.Seen.{always_open};
+ghost use Rattle.td_replica.specs.declared.refusal.IssueError.TheVariants as issue_error;
+ghost use Rattle.td_replica.specs.declared.refusal.TakeError.{TakeError};
+ghost use Rattle.td_replica.specs.declared.refusal.TakeError.TheVariants as take_error;
 ghost use Rattle.td_replay.specs.Counted.{RunsIn};
 
 use crate::state::State;
@@ -17,11 +17,12 @@ use std::alloc::Global;
 use std::marker::Model;
 use td_changes::{ChangedError, Changes};
 use td_relations::{Delta, Relation};
-use td_stamps::{Entry, Held, Stamp};
-use td_story::{
-    Answer, AskError, IssueError, Issued, Meter, NotOpen, OpenError, Opens, Outcome, PastError,
-    Replica, TakeError, Taken, TellError, ValueError,
+use td_replica::{
+    AskError, IssueError, Issued, NotOpen, OpenError, Opens, PastError, Replica, TakeError, Taken,
+    TellError, ValueError,
 };
+use td_semantics::{Answer, Meter, Outcome};
+use td_stamps::{Entry, Held, Stamp};
 use td_values::Name;
 
 /// A site in memory. It keeps the database, and of the run of each entry its outcome, its changes and what it hangs on.
@@ -37,7 +38,7 @@ pub struct Site {
 }
 
 impl Model for Site {
-    ghost use Rattle.td_story.specs.Seen.{Contents};
+    ghost use Rattle.td_replica.specs.Seen.{Contents};
 
     ghost Value = { Contents };
 

@@ -5,13 +5,13 @@ ghost use Rattle.std.specs.List.Sorted.{IsPartitionPoint};
 ghost use Rattle.td_changes.specs.Changes.{TellsChanges};
 ghost use Rattle.td_stamps.specs.Entries.{before};
 ghost use Rattle.td_stamps.specs.Sets.{is_set, union};
-ghost use Rattle.td_story.specs.Calls.{Asks, Issues, Takes, TellsOutcomes, TellsValue, entry_of};
-ghost use Rattle.td_story.specs.NewSites.{OpensSite};
-ghost use Rattle.td_story.specs.Past.{AsksAt, HasNoPlace};
-ghost use Rattle.td_story.specs.Seen.{IsSound, always_open, holding};
-ghost use Rattle.td_story.specs.declared.refusal.IssueError.TheVariants as issue_error;
-ghost use Rattle.td_story.specs.declared.refusal.TakeError.{TakeError};
-ghost use Rattle.td_story.specs.declared.refusal.TakeError.TheVariants as take_error;
+ghost use Rattle.td_replica.specs.Calls.{Asks, Issues, Takes, TellsOutcomes, TellsValue, entry_of};
+ghost use Rattle.td_replica.specs.NewSites.{OpensSite};
+ghost use Rattle.td_replica.specs.Past.{AsksAt, HasNoPlace};
+ghost use Rattle.td_replica.specs.Seen.{IsSound, always_open, holding};
+ghost use Rattle.td_replica.specs.declared.refusal.IssueError.TheVariants as issue_error;
+ghost use Rattle.td_replica.specs.declared.refusal.TakeError.{TakeError};
+ghost use Rattle.td_replica.specs.declared.refusal.TakeError.TheVariants as take_error;
 ghost use Rattle.td_replay.specs.Counted.{RunsIn};
 ghost use Rattle.td_replay.specs.declared.told.Way.TheVariants as by;
 ghost use Rattle.td_replay.specs.ForProofs.Past.{EndsWith, as_past, entry_at};
@@ -27,11 +27,12 @@ use td_changes::ChangedError;
 use td_grammar::LATEST;
 use td_relations::{Delta, Relation};
 use td_relvars::Database;
-use td_stamps::{Entry, Held, NextError, PrepareError, Stamp};
-use td_story::{
-    Answer, AskError, IssueError, Issued, MOST_BYTES, MOST_ENTRIES, Meter, OpenError, Outcome,
-    PastError, TakeError, Taken, TellError, ValueError,
+use td_replica::{
+    AskError, IssueError, Issued, MOST_BYTES, MOST_ENTRIES, OpenError, PastError, TakeError, Taken,
+    TellError, ValueError,
 };
+use td_semantics::{Answer, Meter, Outcome};
+use td_stamps::{Entry, Held, NextError, PrepareError, Stamp};
 use td_values::{Name, Text};
 
 fn is_before(entry: &Entry, at: Stamp) -> bool
@@ -97,7 +98,7 @@ impl Drop for State {
 
 impl Model for State {
     ghost use Rattle.std.specs.Prelude.{◌≡◌, ◌≤◌, true};
-    ghost use Rattle.td_story.specs.Seen.{Contents, is_limit};
+    ghost use Rattle.td_replica.specs.Seen.{Contents, is_limit};
     ghost use Rattle.td_replay.specs.ForProofs.Told.{IsLogged};
 
     ghost Value = { Contents };

@@ -1,11 +1,11 @@
 //! What running entries in turn gives.
 
 ghost use Rattle.std.specs.Prelude.{◌≡◌, ◌≤◌, ◌+◌, ◌↔◌, ◌++◌, ◌∷◌, [], ℕ, List, IfOk, IsOk, IsTrue, None, OnErr, OnOk, length};
-ghost use Rattle.td_story.specs.Databases.{IsLegal};
-ghost use Rattle.td_story.specs.Scripts.{OpensOn};
+ghost use Rattle.td_semantics.specs.Databases.{IsLegal};
+ghost use Rattle.td_semantics.specs.Scripts.{OpensOn};
 ghost use Rattle.td_stamps.specs.Checks.{check_of};
 ghost use Rattle.td_stamps.specs.Sets.{union};
-ghost use Rattle.td_story.specs.declared.outcome.Outcome.TheVariants as became;
+ghost use Rattle.td_semantics.specs.declared.outcome.Outcome.TheVariants as became;
 ghost use Rattle.td_rollback.specs.Touched.{AreMore};
 ghost use Rattle.td_replay.specs.Counted.{RunsOver};
 ghost use Rattle.td_replay.specs.Noted.{IsLegalDatabase, opened_by};
@@ -17,8 +17,8 @@ use std::alloc::{AllocError, Global};
 use td_assign::Ran;
 use td_relvars::Database;
 use td_rollback::{Machine, retell};
+use td_semantics::{Meter, Outcome, ScriptError};
 use td_stamps::{Entry, Held, Stamp};
-use td_story::{Meter, Outcome, ScriptError};
 
 /// How more entries are told: all of them anew, or by rollback and replay.
 #[derive(Clone, Copy)]

@@ -8,9 +8,9 @@ use std::process::ExitCode;
 use td_io::Device;
 use td_journal_files::{FileJournals, Notes};
 use td_replay::Site;
+use td_semantics::Meter;
 use td_shell_session::{Shown, Terminal, program};
 use td_sockets::TcpLinks;
-use td_story::Meter;
 
 /// The name by which the program checks a script.
 const CHECKER: &str = "td_check";

@@ -3,7 +3,8 @@
 use crate::insertions::{Action, BETWEEN, deletion, tuple_text};
 use std::alloc::{AllocError, AllocFailed, Global};
 use td_headings::{Catalogue, Origin};
-use td_story::{Answer, MOST_BYTES, Replica, ValueError};
+use td_replica::{MOST_BYTES, Replica, ValueError};
+use td_semantics::Answer;
 use td_values::{Name, Tuple};
 
 /// The most tuples of one statement: one that is refused tells of few.

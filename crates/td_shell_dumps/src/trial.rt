@@ -2,8 +2,9 @@
 
 use crate::tables::Insertion;
 use std::alloc::{AllocError, Global};
+use td_replica::{IssueError, Opens};
+use td_semantics::{Meter, Outcome};
 use td_shell_notices::push_outcome;
-use td_story::{IssueError, Meter, Opens, Outcome};
 
 /// The most statements that are named.
 const MOST_NAMED: usize = 10;

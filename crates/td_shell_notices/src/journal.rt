@@ -2,7 +2,7 @@
 
 use std::alloc::{AllocError, Global};
 use td_journal_files::{Contents, Cut, Failure, Found, PassedOver};
-use td_story::Replica;
+use td_replica::Replica;
 
 /// What is said at the start of a site that keeps no journal.
 const UNKEPT: &str =

@@ -5,8 +5,9 @@ use crate::redone::{DoneHere, done_here, push_redone, redone_since};
 use std::alloc::{AllocError, Global};
 use td_changes::Changes;
 use td_headings::Catalogue;
+use td_replica::TellError;
+use td_semantics::Outcome;
 use td_stamps::Stamp;
-use td_story::{Outcome, TellError};
 
 /// The most statements that are named.
 pub(crate) const MOST_NAMED: usize = 10;

@@ -2,8 +2,8 @@
 
 use std::alloc::{AllocError, Global};
 use td_listings::{show_number, show_outcome, show_stamp};
+use td_semantics::Outcome;
 use td_stamps::{Entry, Stamp};
-use td_story::Outcome;
 use td_terminals::push_statement;
 use td_values::{Name, Raise};
 

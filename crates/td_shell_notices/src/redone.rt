@@ -8,8 +8,8 @@ use std::alloc::{AllocError, Global};
 use td_changes::Changes;
 use td_headings::Catalogue;
 use td_listings::show_stamp;
+use td_semantics::Outcome;
 use td_stamps::Stamp;
-use td_story::Outcome;
 
 /// A statement that was issued at the site and is done, and what it changed.
 #[derive(Drop)]

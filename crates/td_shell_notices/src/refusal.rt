@@ -3,7 +3,7 @@
 use std::alloc::{AllocError, Global};
 use td_journal::{JournalError, ReopenError};
 use td_journal_files::{Contents, Refusal};
-use td_story::TakeError;
+use td_replica::TakeError;
 
 /// The byte of a journal that has its version.
 const VERSION_AT: usize = 4;

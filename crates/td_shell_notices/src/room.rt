@@ -1,7 +1,7 @@
 //! How many statements a site has room for.
 
 use std::alloc::{AllocError, Global};
-use td_story::Replica;
+use td_replica::Replica;
 
 /// How many statements the site still has room for, from nine tenths of its limit on; before that an empty text.
 pub fn room_text<R: Replica>(alloc: Global, site: &R) -> Result<String, AllocError> {

@@ -8,11 +8,12 @@ use td_headings::Catalogue;
 use td_listings::relation_table as csv_table;
 use td_parse_errors::Reading;
 use td_relations::Relation;
+use td_replica::{AskError, MOST_BYTES, PastError, Replica};
+use td_semantics::{Answer, Meter};
 use td_shell_input::Mode;
 use td_shell_notices::raise_words;
 use td_shell_tables::relation_table;
 use td_stamps::Stamp;
-use td_story::{Answer, AskError, MOST_BYTES, Meter, PastError, Replica};
 use td_values::{Kind, Value, show};
 
 fn unread(alloc: Global, text: &str) -> Result<String, AllocError> {

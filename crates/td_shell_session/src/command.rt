@@ -24,10 +24,11 @@ use td_journal::{Journals, Reopened, StoreError, keep_journal, take_journal};
 use td_journal_files::{Notes, Refusal, read_contents};
 use td_listings::script_catalogue;
 use td_paths::{Unreadable, read_plain};
+use td_replica::{Opens, Replica};
+use td_semantics::Meter;
 use td_shell_notices::{
     failure_words, file_words, journal_text, lack_words, read_only_text, refusal_text, room_text,
 };
-use td_story::{Meter, Opens, Replica};
 
 // The exit status where words are refused, or the script's file cannot be read.
 const BAD_WORDS: u8 = 2;

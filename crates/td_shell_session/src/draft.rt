@@ -1,8 +1,8 @@
 //! The text that is being typed.
 
 use std::alloc::{AllocError, Global};
+use td_replica::MOST_BYTES;
 use td_shell_input::{Scan, Standing};
-use td_story::MOST_BYTES;
 
 /// The lines that were typed since the last answer.
 #[derive(Drop)]

@@ -10,9 +10,10 @@ use td_changes::Changes;
 use td_grammar::{ReadError, read_statement_in};
 use td_headings::Catalogue;
 use td_journal_files::Notes;
+use td_replica::Replica;
+use td_semantics::{Meter, Outcome};
 use td_shell_input::{DumpedEntry, entry_in, push_entry};
 use td_stamps::{Entry, Stamp};
-use td_story::{Meter, Outcome, Replica};
 
 /// What the names of journals and of the files beside them have in them, and no dump's.
 const OF_JOURNALS: &str = ".tdj";

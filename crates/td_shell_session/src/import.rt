@@ -9,9 +9,10 @@ use td_headings::{Catalogue, Origin};
 use td_io::{Sink, put};
 use td_journal_files::Notes;
 use td_listings::show_stamp;
+use td_replica::{AskError, Issued, MOST_BYTES, Replica};
+use td_semantics::{Answer, Meter, Outcome};
 use td_shell_import::{ImportFault, Literals, Row, check_keys, insertion_of, read_rows};
 use td_stamps::Stamp;
-use td_story::{Answer, AskError, Issued, MOST_BYTES, Meter, Outcome, Replica};
 use td_values::{Heading, Name, TdType, Value, show, show_type};
 
 // From how many rows on it is told how far an import is, and after how many each time.

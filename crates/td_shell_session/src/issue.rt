@@ -9,8 +9,9 @@ use td_headings::Catalogue;
 use td_journal_files::Notes;
 use td_listings::show_stamp;
 use td_parse_errors::Reading;
+use td_replica::{IssueError, Issued, MOST_BYTES};
+use td_semantics::{Meter, Outcome};
 use td_shell_notices::{failure_words, push_change_count, push_outcome};
-use td_story::{IssueError, Issued, MOST_BYTES, Meter, Outcome};
 
 // The words that begin a definition.
 const DEFINITIONS: [&[u8]; 3] = [b"VAR", b"TYPE", b"CONSTRAINT"];

@@ -3,9 +3,10 @@
 use crate::wording::{BROKEN, UNCHANGED};
 use std::alloc::{AllocError, Global};
 use td_listings::vector_text;
+use td_replica::{Replica, TellError};
+use td_semantics::Outcome;
 use td_shell_notices::{digest_text, log_text, refused_text};
 use td_stamps::{Entry, Stamp};
-use td_story::{Outcome, Replica, TellError};
 
 /// What the site holds with what became of each statement, or what is said in its place.
 pub fn told<R: Replica>(

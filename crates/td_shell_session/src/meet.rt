@@ -11,8 +11,9 @@ use td_headings::Catalogue;
 use td_io::{Device, Sink, put};
 use td_journal_files::Notes;
 use td_meeting::{MeetingError, answer, finish, greet, settle};
+use td_replica::{Replica, TakeError, Taken, TellError};
+use td_semantics::Meter;
 use td_shell_notices::{Retold, Told, room_text};
-use td_story::{Meter, Replica, TakeError, Taken, TellError};
 
 const NO_ADDRESS: &str =
     "fault address: an address is numbers and a port, as 127.0.0.1:7001 or [::1]:7001\n";

@@ -3,9 +3,10 @@
 use std::alloc::{AllocError, Global};
 use std::str;
 use td_check::report_of;
+use td_replica::{OpenError, SCRIPT_BYTES};
+use td_semantics::BrokenTest;
 use td_shell_input::script_front;
 use td_shell_notices::raise_words;
-use td_story::{BrokenTest, OpenError, SCRIPT_BYTES};
 
 /// A script, and the lines behind its `.begin`.
 #[derive(Drop)]

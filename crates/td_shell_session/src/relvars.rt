@@ -4,10 +4,11 @@ use crate::wording::BROKEN;
 use std::alloc::{AllocError, Global};
 use std::str;
 use td_headings::{Catalogue, Origin};
+use td_replica::{Replica, ValueError};
+use td_semantics::Answer;
 use td_shell_input::{defined_by, definition_at};
 use td_shell_notices::raise_words;
 use td_shell_tables::{Column, Side, laid_out};
-use td_story::{Answer, Replica, ValueError};
 use td_values::{Heading, Name, TdType, TypeKind, show_type};
 
 // What `.tables` tells in its columns.

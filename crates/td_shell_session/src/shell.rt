@@ -28,10 +28,11 @@ use td_io::{Sink, Source, put, write_all};
 use td_journal_files::Notes;
 use td_listings::{ListingError, listing};
 use td_paths::{Unreadable, read_plain};
+use td_replica::{Opens, Replica};
+use td_semantics::Meter;
 use td_shell_input::{Command, Mode, Standing, command_of};
 use td_shell_notices::lack_words;
 use td_stamps::Stamp;
-use td_story::{Meter, Opens, Replica};
 
 /// A site and what a conversation at it needs.
 #[derive(Drop)]

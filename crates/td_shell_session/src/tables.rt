@@ -11,9 +11,10 @@ use td_grammar::LATEST;
 use td_headings::{Catalogue, Origin};
 use td_listings::relation_table;
 use td_relations::Relation;
+use td_replica::{Opens, Replica, ValueError};
+use td_semantics::{Answer, Meter, Outcome};
 use td_shell_dumps::{Insertion, Tables, Trial, Untold, refused_insertions, tables_of};
 use td_shell_input::push_entry;
-use td_story::{Answer, Meter, Opens, Outcome, Replica, ValueError};
 use td_values::Name;
 
 fn untold_words(alloc: Global, untold: Untold) -> Result<String, AllocError> {

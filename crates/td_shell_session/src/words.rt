@@ -3,7 +3,7 @@
 use clap::builder::ValueParser;
 use clap::{Arg, ArgAction, Command, Error};
 use std::alloc::{AllocError, Global};
-use td_story::MOST_ENTRIES;
+use td_replica::MOST_ENTRIES;
 
 const TYPED: &str = "\
 SCRIPT has the definitions. Then what is typed is read: a text that ends in ; is a

@@ -4,8 +4,8 @@ use Rattle.std.specs.List.{AllByRecursion}
 use Rattle.td_io.specs.Views.{Input, Output}
 use Rattle.td_headings.specs.Catalogues.{CatalogueData}
 use Rattle.td_journal.specs.declared.stores.StoreError.{StoreError}
-use Rattle.td_story.specs.Scripts.{IsScriptOf}
-use Rattle.td_story.specs.Seen.{Seen}
+use Rattle.td_semantics.specs.Scripts.{IsScriptOf}
+use Rattle.td_replica.specs.Seen.{Seen}
 use Rattle.td_journal.specs.Stores.{GoesOn}
 use Rattle.td_journal.specs.Views.{kept}
 use Rattle.td_answers.specs.Asking.{LinkRequest}

@@ -10,12 +10,12 @@ use Rattle.td_io.specs.Lines.{raw_lines}
 use Rattle.td_io.specs.Views.{Input, Output}
 use Rattle.td_headings.specs.Catalogues.{CatalogueData}
 use Rattle.td_listings.specs.Writings.{WritesFront}
-use Rattle.td_story.specs.Scripts.{Opens}
-use Rattle.td_story.specs.declared.error.ScriptError.{ScriptError}
-use Rattle.td_story.specs.declared.error.ScriptError.TheVariants.{Syntax, IllTyped, OpeningRaised, OpeningBroken, OutOfMemory}
-use Rattle.td_story.specs.NewSites.{opened}
-use Rattle.td_story.specs.Databases.{DatabaseData}
-use Rattle.td_story.specs.Seen.{Seen, is_limit}
+use Rattle.td_semantics.specs.Scripts.{Opens}
+use Rattle.td_semantics.specs.declared.error.ScriptError.{ScriptError}
+use Rattle.td_semantics.specs.declared.error.ScriptError.TheVariants.{Syntax, IllTyped, OpeningRaised, OpeningBroken, OutOfMemory}
+use Rattle.td_replica.specs.NewSites.{opened}
+use Rattle.td_semantics.specs.Databases.{DatabaseData}
+use Rattle.td_replica.specs.Seen.{Seen, is_limit}
 use Rattle.td_journal.specs.Reopening.{IsNew}
 use Rattle.td_answers.specs.Sites.{Sites, AreOfScript}
 use Rattle.td_workbench.specs.Streams.{ReadsBytes, reads_left, most_reads, WritesText}

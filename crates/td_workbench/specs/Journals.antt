@@ -5,8 +5,8 @@ use Rattle.td_io.specs.Views.{Input, Output}
 use Rattle.td_io.specs.declared.streams.Sink as sink
 use Rattle.td_io.specs.Views.{output_of}
 use Rattle.td_journal.specs.declared.stores.StoreError.{StoreError}
-use Rattle.td_story.specs.Seen.{Seen}
-use Rattle.td_story.specs.declared.replica.Replica as replica
+use Rattle.td_replica.specs.Seen.{Seen}
+use Rattle.td_replica.specs.declared.replica.Replica as replica
 use Rattle.td_journal.specs.Keepers.{KeepsJournal}
 use Rattle.td_journal.specs.Stores.{GoesOn, KeepsNot}
 use Rattle.td_journal.specs.Views.{JournalFails, KeeperData, seen_of}

@@ -8,7 +8,7 @@ use Rattle.td_io.specs.Lines.{raw_lines, content, is_one_line, IsWholeLine, IsOf
 use Rattle.td_commands.specs.Lines.{Line, quit, is_quit, line_of}
 use Rattle.td_io.specs.Views.{Input, Output}
 use Rattle.td_listings.specs.Writings.{WritesFront}
-use Rattle.td_story.specs.Seen.{Seen}
+use Rattle.td_replica.specs.Seen.{Seen}
 use Rattle.td_answers.specs.Asking.{AreAsked, LinkRequest}
 use Rattle.td_answers.specs.Sites.{AreOfScript, EachStays, HappensToOne}
 use Rattle.td_answers.specs.Answers.{LineAnswered, MayTakeEntries}

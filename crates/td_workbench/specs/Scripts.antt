@@ -4,13 +4,13 @@ use Rattle.std.specs.Prelude.{◌≡◌, ◌⊎◌, ◌≤◌, ℕ, zero, suc, B
 use Rattle.std.specs.List.{AllByRecursion}
 use Rattle.std.specs.Str.{bytes_eq, is_utf8}
 use Rattle.std.specs.Io.KnownBytes.{IsAtEnd}
-use Rattle.td_story.specs.declared.broken.BrokenTest.TheVariants as broken
+use Rattle.td_semantics.specs.declared.broken.BrokenTest.TheVariants as broken
 use Rattle.td_io.specs.Lines.{raw_lines, content, IsWholeLine, IsOfOneLine}
-use Rattle.td_story.specs.Databases.{DatabaseData}
-use Rattle.td_story.specs.Scripts.{Opens}
-use Rattle.td_story.specs.declared.error.ScriptError.{ScriptError}
-use Rattle.td_story.specs.declared.error.ScriptError.TheVariants.{Syntax, IllTyped, OpeningRaised, OpeningBroken, OutOfMemory}
-use Rattle.td_story.specs.NewSites.{opened}
+use Rattle.td_semantics.specs.Databases.{DatabaseData}
+use Rattle.td_semantics.specs.Scripts.{Opens}
+use Rattle.td_semantics.specs.declared.error.ScriptError.{ScriptError}
+use Rattle.td_semantics.specs.declared.error.ScriptError.TheVariants.{Syntax, IllTyped, OpeningRaised, OpeningBroken, OutOfMemory}
+use Rattle.td_replica.specs.NewSites.{opened}
 use Rattle.td_listings.specs.Texts.{shown_raise}
 use Rattle.td_answers.specs.Sites.{Sites}
 use Rattle.td_workbench.specs.declared.opening.Options.{Options}

@@ -16,7 +16,8 @@ use std::alloc::{AllocError, Global};
 use td_answers::Links;
 use td_io::{Sink, Source, put};
 use td_journal::Journals;
-use td_story::{Meter, Opens};
+use td_replica::Opens;
+use td_semantics::Meter;
 
 fn status(end: Result<bool, Ended>) -> u8
     ensures { result ≡ status_of end }

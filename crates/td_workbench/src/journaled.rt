@@ -21,7 +21,8 @@ use td_answers::Links;
 use td_io::{Sink, Source};
 use td_journal::{Journals, Keeper, StoreError, keep_journal};
 use td_listings::show_number;
-use td_story::{Meter, Opens};
+use td_replica::Opens;
+use td_semantics::Meter;
 use thiserror::Error;
 
 /// Why a run over journals ended before its input did.

@@ -8,9 +8,9 @@ ghost use Rattle.td_workbench.specs.ForProofs.Opening.{OpensAll};
 ghost use Rattle.td_workbench.specs.ForProofs.Reading.{IsKeptScript};
 ghost use Rattle.td_workbench.specs.Programs.{InRange};
 ghost use Rattle.td_workbench.specs.Scripts.{IsAccepted, IsRefusedScript, ready};
-ghost use Rattle.td_story.specs.Scripts as scripts;
-ghost use Rattle.td_story.specs.NewSites.{OpensSite};
-ghost use Rattle.td_story.specs.Seen.{is_limit};
+ghost use Rattle.td_semantics.specs.Scripts as scripts;
+ghost use Rattle.td_replica.specs.NewSites.{OpensSite};
+ghost use Rattle.td_replica.specs.Seen.{is_limit};
 
 use crate::script::Script;
 use std::alloc::{AllocError, Global};
@@ -18,7 +18,8 @@ use std::str;
 use td_answers::catalogue_for;
 use td_headings::Catalogue;
 use td_listings::show_number;
-use td_story::{OpenError, Opens, ScriptError};
+use td_replica::{OpenError, Opens};
+use td_semantics::ScriptError;
 
 /// What the words of the program give.
 #[derive(Clone, Copy, PartialEq, Eq)]

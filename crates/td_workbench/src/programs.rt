@@ -16,7 +16,8 @@ use crate::writing::put_fault;
 use std::alloc::Global;
 use td_answers::Links;
 use td_io::{Sink, Source, put};
-use td_story::{Meter, Opens, Replica};
+use td_replica::{Opens, Replica};
+use td_semantics::Meter;
 
 // Answers the lines behind the script.
 fn answer_behind<R: Replica + Drop, L: Links, S: Source, K: Sink>(

@@ -4,14 +4,14 @@ ghost use Rattle.std.specs.Prelude.{◌≡◌, ◌++◌, codes, IfOk, string_byt
 ghost use Rattle.td_io.specs.Views.{output_of};
 ghost use Rattle.td_workbench.specs.ForProofs.Opening.{TellsMade, TellsRefusal};
 ghost use Rattle.td_workbench.specs.Scripts.{script_fault};
-ghost use Rattle.td_story.specs.declared.error.ScriptError.TheVariants as open_error;
+ghost use Rattle.td_semantics.specs.declared.error.ScriptError.TheVariants as open_error;
 
 use crate::run::Ended;
 use crate::writing::put_fault;
 use std::alloc::{AllocError, Global};
 use td_io::Sink;
 use td_listings::show_raise;
-use td_story::{BrokenTest, ScriptError};
+use td_semantics::{BrokenTest, ScriptError};
 use td_values::{Name, Raise};
 
 fn raised_text(alloc: Global, raise: Raise) -> Result<String, AllocError>

@@ -16,7 +16,8 @@ use td_answers::{Links, Reply, answer, catalogue_for};
 use td_commands::LINE_BYTES;
 use td_headings::Catalogue;
 use td_io::{Failed, LineError, RawLine, Sink, Source, content, has_line, read_line};
-use td_story::{Meter, Replica};
+use td_replica::Replica;
+use td_semantics::Meter;
 use thiserror::Error;
 
 /// Why a run ended before its input did.

@@ -8,7 +8,7 @@ ghost use Rattle.td_io.specs.Views.{input_of};
 
 use std::alloc::{AllocError, Global};
 use td_io::{LineError, RawLine, Source, content, read_line};
-use td_story::SCRIPT_BYTES;
+use td_replica::SCRIPT_BYTES;
 use thiserror::Error;
 
 /// The lines before `.begin`.

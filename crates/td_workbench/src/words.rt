@@ -7,7 +7,7 @@ use crate::opening::Options;
 use clap::builder::ValueParser;
 use clap::{Arg, ArgAction, Command, Error};
 use std::alloc::{AllocError, Global};
-use td_story::MOST_ENTRIES;
+use td_replica::MOST_ENTRIES;
 
 // The forms of lines, for the help.
 const LINES: &str = "\

@@ -2,11 +2,11 @@
 
 use td_meeting::{MeetingError, MeetingRefusal, Met};
 use td_relations::Relation;
-use td_stamps::Stamp;
-use td_story::{
-    Answer, AskError, IssueError, Issued, Outcome, PastError, TakeError, Taken, TellError,
-    ValueError,
+use td_replica::{
+    AskError, IssueError, Issued, PastError, TakeError, Taken, TellError, ValueError,
 };
+use td_semantics::{Answer, Outcome};
+use td_stamps::Stamp;
 
 #[derive(Clone, Copy, PartialEq, Eq)]
 pub enum Call {

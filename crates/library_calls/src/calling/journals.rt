@@ -6,7 +6,8 @@ use super::shown::{tell_journal, tell_site};
 use anyhow::{Result, bail};
 use td_io::Device;
 use td_journal::{Keeper, ReopenError, Reopened, reopen};
-use td_story::{Meter, OpenError, Opens, Replica};
+use td_replica::{OpenError, Opens, Replica};
+use td_semantics::Meter;
 
 /// Begins the site's journal, which takes no memory.
 pub fn start_of<R: Replica + Drop>(rt: &HostRuntime, site: R) -> Result<()> {

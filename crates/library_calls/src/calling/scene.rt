@@ -11,8 +11,9 @@ use std::alloc::Global;
 use std::mem;
 use td_io::{Device, Pair};
 use td_meeting::{answer, finish, greet, meet, settle};
+use td_replica::{Opens, Replica};
+use td_semantics::Meter;
 use td_stamps::Entry;
-use td_story::{Meter, Opens, Replica};
 use td_values::{Name, Text};
 
 /// The steps of a meeting, in order.

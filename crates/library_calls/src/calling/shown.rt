@@ -6,8 +6,9 @@ use std::alloc::Global;
 use td_io::Device;
 use td_listings::{listing, log_text, show_outcome, show_stamp};
 use td_relations::Relation;
+use td_replica::Replica;
+use td_semantics::{Answer, Outcome};
 use td_stamps::Stamp;
-use td_story::{Answer, Outcome, Replica};
 use td_values::{Kind, Value, show};
 
 /// Tells a site: its number, whether it is open, its listing and its log.

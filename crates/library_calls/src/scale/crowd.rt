@@ -7,7 +7,8 @@ use anyhow::{Result, bail};
 use std::alloc::Global;
 use td_meeting::{Met, meet};
 use td_replay::Site;
-use td_story::{Meter, Opens, Replica};
+use td_replica::{Opens, Replica};
+use td_semantics::Meter;
 
 const SCRIPT: &str = "VAR SEEN BASE RELATION { WARD INTEGER, NO INTEGER } KEY { WARD, NO };";
 

@@ -6,7 +6,8 @@ use crate::entries::{Written, batch};
 use std::alloc::{AllocError, Global};
 use std::test::Fail;
 use td_replay::{PlainSite, Site};
-use td_story::{Meter, Opens, Replica};
+use td_replica::{Opens, Replica};
+use td_semantics::Meter;
 
 const HELD: &[Written] = &[
     (

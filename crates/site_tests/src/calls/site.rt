@@ -4,8 +4,9 @@ use crate::answers::{issued, listed, replied, replied_at, taken, told, vector};
 use crate::entries::{Written, batch_in};
 use std::alloc::{AllocError, Global};
 use td_replay::{PlainSite, Site};
+use td_replica::{OpenError, Opens, Replica};
+use td_semantics::Meter;
 use td_stamps::Stamp;
-use td_story::{Meter, OpenError, Opens, Replica};
 use td_values::Name;
 
 /// A call on a site.

@@ -2,7 +2,7 @@
 
 use crate::calls::site::{Call, unlike};
 use std::test::Fail;
-use td_story::Meter;
+use td_semantics::Meter;
 
 const SUPPLIERS: &str = "VAR S BASE RELATION { SNO CHAR, STATUS INTEGER, CITY CHAR } KEY { SNO };";
 

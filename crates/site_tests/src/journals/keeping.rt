@@ -10,8 +10,9 @@ use std::test::Fail;
 use td_io::Device;
 use td_journal::{Keeper, StartError};
 use td_replay::Site;
+use td_replica::{IssueError, Opens, Replica};
+use td_semantics::Meter;
 use td_stamps::Entry;
-use td_story::{IssueError, Meter, Opens, Replica};
 
 type Kept<'a> = Keeper<Site, Device<&'a mut Narrow>>;
 

@@ -9,7 +9,8 @@ use std::test::Fail;
 use td_io::Device;
 use td_journal::{Keeper, reopen};
 use td_replay::Site;
-use td_story::{Meter, Replica};
+use td_replica::Replica;
+use td_semantics::Meter;
 
 // The site, as its old journal says it.
 fn old_site(alloc: Global, meter: &mut Meter) -> Result<Site, Fail> {

@@ -9,7 +9,8 @@ use td_frames::Version;
 use td_io::Device;
 use td_journal::{ReopenError, Reopened, reopen};
 use td_replay::Site;
-use td_story::{Meter, Replica};
+use td_replica::Replica;
+use td_semantics::Meter;
 
 fn number_of(version: Version) -> u8 {
     match version {

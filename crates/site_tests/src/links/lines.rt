@@ -5,7 +5,8 @@ use std::alloc::{AllocError, Global};
 use td_answers::{Links, Reply, answer};
 use td_listings::script_catalogue;
 use td_replay::Site;
-use td_story::{Meter, Opens, Replica};
+use td_replica::{Opens, Replica};
+use td_semantics::Meter;
 
 // What a site alone answers the line.
 fn said<R: Replica + Drop, L: Links>(

@@ -10,8 +10,9 @@ use td_answers::Links;
 use td_io::{Channel, Device, Link};
 use td_meeting::{answer, finish, greet, settle};
 use td_replay::Site;
+use td_replica::{Opens, Replica};
+use td_semantics::Meter;
 use td_sockets::{TcpLinks, accept_on};
-use td_story::{Meter, Opens, Replica};
 
 // How many entries are fresh to two sites that meet, each at its end of a connection.
 fn met<A: Replica, B: Replica, C: Channel>(

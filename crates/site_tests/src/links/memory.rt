@@ -10,7 +10,7 @@ use std::net::SocketAddr;
 use std::test::Fail;
 use td_answers::{LinkError, Links};
 use td_io::Pair;
-use td_story::Meter;
+use td_semantics::Meter;
 
 /// Counts the bytes that are written to it.
 #[derive(Drop)]

@@ -6,7 +6,7 @@ use crate::meetings::steps::{Start, Step, told};
 use std::alloc::{AllocError, Global};
 use std::test::Fail;
 use td_io::Pair;
-use td_story::Meter;
+use td_semantics::Meter;
 
 // What a new site says that settles on these bytes, and how many bytes it writes.
 fn settled(

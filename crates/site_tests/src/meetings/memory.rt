@@ -7,7 +7,8 @@ use std::alloc::{AllocError, Global};
 use std::test::Fail;
 use td_meeting::meet;
 use td_replay::{PlainSite, Site};
-use td_story::{Meter, Opens, Replica};
+use td_replica::{Opens, Replica};
+use td_semantics::Meter;
 
 /// The definitions of the other site, but for a space.
 const OTHER_SCRIPT: &str = "VAR R BASE RELATION { A INTEGER } KEY { A } ;";

@@ -7,7 +7,8 @@ use std::alloc::{AllocError, Global};
 use td_io::{Channel, Device, Pair};
 use td_meeting::{MeetingError, answer, finish, greet, settle};
 use td_replay::Site;
-use td_story::{Meter, Opens, Replica};
+use td_replica::{Opens, Replica};
+use td_semantics::Meter;
 
 /// A site: its number, how many entries it may hold, and those that it holds.
 #[derive(Clone, Copy)]

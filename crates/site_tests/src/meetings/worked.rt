@@ -11,7 +11,7 @@ use crate::meetings::steps::{
 use std::alloc::{AllocError, Global};
 use std::test::Fail;
 use td_io::Pair;
-use td_story::Meter;
+use td_semantics::Meter;
 
 /// A step of a site: the bytes that it is given, what it says, and what it is to write.
 struct Case<'a> {

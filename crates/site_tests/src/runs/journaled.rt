@@ -12,7 +12,7 @@ use td_answers::NoLinks;
 use td_io::{Device, Failed};
 use td_journal::{Journals, StoreError};
 use td_replay::Site;
-use td_story::Meter;
+use td_semantics::Meter;
 use td_workbench::{Options, Stopped, run_journaled};
 
 /// Writes behind what stands there.

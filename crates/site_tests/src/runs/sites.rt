@@ -7,7 +7,8 @@ use std::test::Fail;
 use td_answers::NoLinks;
 use td_io::Device;
 use td_replay::Site;
-use td_story::{Meter, Opens};
+use td_replica::Opens;
+use td_semantics::Meter;
 use td_workbench::workbench;
 
 const SCRIPT: &str = "VAR S BASE RELATION { SNO CHAR, STATUS INTEGER, CITY CHAR } KEY { SNO };";

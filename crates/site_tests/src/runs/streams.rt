@@ -8,7 +8,7 @@ use td_answers::NoLinks;
 use td_io::Device;
 use td_journal_files::{FileJournals, Notes};
 use td_replay::Site;
-use td_story::Meter;
+use td_semantics::Meter;
 use td_workbench::{Ended, Options, program, run_program};
 
 /// Two sites insert apart and meet.

@@ -6,7 +6,8 @@ use std::test::Fail;
 use td_io::Device;
 use td_listings::{ExportError, ListingError, export, listing};
 use td_replay::Site;
-use td_story::{Meter, Opens, Replica};
+use td_replica::{Opens, Replica};
+use td_semantics::Meter;
 
 const SCRIPT: &str = "VAR S BASE RELATION { SNO CHAR, STATUS INTEGER, CITY CHAR } KEY { SNO };";
 

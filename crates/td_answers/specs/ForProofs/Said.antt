@@ -2,7 +2,7 @@
 use Rattle.std.specs.Prelude.{◌≡◌, ◌≤◌, ℕ, List, [], Some, string_bytes, string_len, string_capacity, String}
 use Rattle.std.specs.Global.{Global}
 use Rattle.td_answers.specs.Replies.{words}
-use Rattle.td_story.specs.Seen.{Seen}
+use Rattle.td_replica.specs.Seen.{Seen}
 use Rattle.td_answers.specs.Answers.{SiteAnswered}
 use Rattle.td_answers.specs.Sites.{Placed, Sites, site_of}
 use Rattle.td_answers.specs.declared.reply.Reply.{Reply}

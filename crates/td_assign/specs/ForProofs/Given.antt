@@ -9,12 +9,12 @@ use Rattle.td_headings.specs.Catalogues.{CatalogueData}
 use Rattle.td_meaning.specs.Mean.{Relvars}
 use Rattle.td_headings.specs.Statements.{IsAssignment}
 use Rattle.td_headings.specs.declared.statement.TypedAssignment.{TypedAssignment}
-use Rattle.td_story.specs.Raises.{stop_of}
-use Rattle.td_story.specs.declared.failure.Failure.{Failure}
-use Rattle.td_story.specs.declared.failure.Failure.TheVariants.{Raised, OutOfMemory}
-use Rattle.td_story.specs.Databases.{Belongs, DatabaseData, stored_relvars}
-use Rattle.td_story.specs.Given.{Given, nothing_given}
-use Rattle.td_story.specs.Sources.{sources}
+use Rattle.td_semantics.specs.Raises.{stop_of}
+use Rattle.td_semantics.specs.declared.failure.Failure.{Failure}
+use Rattle.td_semantics.specs.declared.failure.Failure.TheVariants.{Raised, OutOfMemory}
+use Rattle.td_semantics.specs.Databases.{Belongs, DatabaseData, stored_relvars}
+use Rattle.td_semantics.specs.Given.{Given, nothing_given}
+use Rattle.td_semantics.specs.Sources.{sources}
 use Rattle.td_assign.specs.ForProofs.Lists.{given, given_to}
 use Rattle.td_assign.specs.declared.changes.Change.{Change}
 

@@ -4,7 +4,7 @@ use Rattle.td_values.specs.Rows.{RowsData}
 use Rattle.td_bases.specs.Bases.{BaseData}
 use Rattle.td_headings.specs.Catalogues.{CatalogueData}
 use Rattle.td_relvars.specs.Keys.{key_at}
-use Rattle.td_story.specs.Given.{Given}
+use Rattle.td_semantics.specs.Given.{Given}
 use Rattle.td_assign.specs.declared.changes.Change.{Change}
 
 -- with the relation for the target, in place of what an earlier assignment gave it

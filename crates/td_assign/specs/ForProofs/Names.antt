@@ -6,7 +6,7 @@ use Rattle.td_headings.specs.Expressions.{reads}
 use Rattle.td_headings.specs.Reached.{AreThose}
 use Rattle.td_headings.specs.declared.defined.Test.{Test}
 use Rattle.td_typed_trees.specs.declared.expression.Expression.{Expression}
-use Rattle.td_story.specs.Footprints.{IsInFootprint, IsTargetOfText, TestReads}
+use Rattle.td_semantics.specs.Footprints.{IsInFootprint, IsTargetOfText, TestReads}
 use Rattle.td_assign.specs.declared.names.Names.{Names}
 
 -- the test reads one of the targets, and this place

@@ -5,19 +5,19 @@ use Rattle.td_algebra.specs.declared.errors.Stop.{Stop}
 use Rattle.td_relations.specs.Deltas.{DeltaData}
 use Rattle.td_headings.specs.declared.defined.Test.{Test}
 use Rattle.td_headings.specs.declared.statement.TypedAssignment.{TypedAssignment}
-use Rattle.td_story.specs.Raises.{stop_of}
-use Rattle.td_story.specs.Databases.{DatabaseData, stored_relvars}
-use Rattle.td_story.specs.Given.{with_given}
-use Rattle.td_story.specs.Differences.{AreDifferences}
+use Rattle.td_semantics.specs.Raises.{stop_of}
+use Rattle.td_semantics.specs.Databases.{DatabaseData, stored_relvars}
+use Rattle.td_semantics.specs.Given.{with_given}
+use Rattle.td_semantics.specs.Differences.{AreDifferences}
 use Rattle.td_assign.specs.ForProofs.Given.{AreChanges, assigned_by}
 use Rattle.td_assign.specs.ForProofs.Turning.{Gives}
 use Rattle.td_assign.specs.ForProofs.Lists.{given_to}
 use Rattle.td_headings.specs.declared.statement.TypedStatement.{TypedStatement}
-use Rattle.td_story.specs.Sources.{chosen}
-use Rattle.td_story.specs.Steps.{IsRead, Steps, TellsTest, failing_with, with_all}
+use Rattle.td_semantics.specs.Sources.{chosen}
+use Rattle.td_semantics.specs.Steps.{IsRead, Steps, TellsTest, failing_with, with_all}
 use Rattle.td_assign.specs.declared.changes.Change.{Change}
-use Rattle.td_story.specs.declared.outcome.Outcome.{Outcome}
-use Rattle.td_story.specs.declared.outcome.Outcome.TheVariants.{Done, Raised}
+use Rattle.td_semantics.specs.declared.outcome.Outcome.{Outcome}
+use Rattle.td_semantics.specs.declared.outcome.Outcome.TheVariants.{Done, Raised}
 use Rattle.td_assign.specs.declared.running.Prepared.{Prepared}
 use Rattle.td_assign.specs.declared.running.Prepared.TheVariants.{Changes, Turn, Refused}
 

@@ -9,17 +9,17 @@ use Rattle.td_algebra.specs.Functions.{union_of}
 use Rattle.td_algebra.specs.declared.errors.Stop.{Stop}
 use Rattle.td_headings.specs.declared.defined.Test.{Test}
 use Rattle.td_headings.specs.declared.statement.TypedAssignment.{TypedAssignment}
-use Rattle.td_story.specs.Databases.{Belongs, DatabaseData, stored_relvars}
-use Rattle.td_story.specs.Differences.{AreDifferences}
-use Rattle.td_story.specs.Given.{gives, nothing_given}
-use Rattle.td_story.specs.Sources.{source_means}
-use Rattle.td_story.specs.Reports.{IsReport}
-use Rattle.td_story.specs.Steps.{TellsTest}
-use Rattle.td_story.specs.Tests.{failing}
-use Rattle.td_story.specs.declared.broken.TestFailure.{TestFailure}
-use Rattle.td_story.specs.declared.failure.Failure.{Failure}
-use Rattle.td_story.specs.declared.outcome.Outcome.{Outcome}
-use Rattle.td_story.specs.declared.outcome.Outcome.TheVariants.{Done}
+use Rattle.td_semantics.specs.Databases.{Belongs, DatabaseData, stored_relvars}
+use Rattle.td_semantics.specs.Differences.{AreDifferences}
+use Rattle.td_semantics.specs.Given.{gives, nothing_given}
+use Rattle.td_semantics.specs.Sources.{source_means}
+use Rattle.td_semantics.specs.Reports.{IsReport}
+use Rattle.td_semantics.specs.Steps.{TellsTest}
+use Rattle.td_semantics.specs.Tests.{failing}
+use Rattle.td_semantics.specs.declared.broken.TestFailure.{TestFailure}
+use Rattle.td_semantics.specs.declared.failure.Failure.{Failure}
+use Rattle.td_semantics.specs.declared.outcome.Outcome.{Outcome}
+use Rattle.td_semantics.specs.declared.outcome.Outcome.TheVariants.{Done}
 use Rattle.td_relvars.specs.Changed.{change, changed, with_change}
 use Rattle.td_relvars.specs.Ways.{CanGoBack, WayBackData}
 use Rattle.td_assign.specs.ForProofs.Given.{Stands, assigned_by}

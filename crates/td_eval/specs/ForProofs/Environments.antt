@@ -14,7 +14,7 @@ use Rattle.td_meaning.specs.Seen.{mean_in, relvars_there, virtuals_known}
 use Rattle.td_meaning.specs.Selections.{selection}
 use Rattle.td_meaning.specs.declared.environment.Environment.{Environment}
 use Rattle.td_meaning.specs.declared.environment.Known.{Known}
-use Rattle.td_story.specs.Meanings.{no_names}
+use Rattle.td_semantics.specs.Meanings.{no_names}
 
 -- what the base relvars have
 abbrev pub base_known : Relvars → BaseUnder → Known

@@ -15,7 +15,7 @@ use Rattle.td_algebra.specs.declared.errors.Stop.{Stop}
 use Rattle.td_meaning.specs.ForProofs.Over.{terms}
 use Rattle.td_meaning.specs.Mean.{Meaning, truth_at}
 use Rattle.td_operators.specs.Operators.{if_alike}
-use Rattle.td_story.specs.Meanings.{no_names}
+use Rattle.td_semantics.specs.Meanings.{no_names}
 use Rattle.td_eval.specs.Changed.{after}
 use Rattle.td_eval.specs.declared.forms.Form.{Form}
 use Rattle.td_eval.specs.declared.forms.Form.TheVariants.{Less, Changed}

@@ -10,9 +10,9 @@ use Rattle.td_operators.specs.Values.{truth_of}
 use Rattle.td_headings.specs.Catalogues.{CatalogueData}
 use Rattle.td_headings.specs.Expressions.{reads}
 use Rattle.td_meaning.specs.Mean.{Relvars}
-use Rattle.td_story.specs.Differences.{LeadOver}
-use Rattle.td_story.specs.Tests.{is_key}
-use Rattle.td_story.specs.Trees.{tree_means}
+use Rattle.td_semantics.specs.Differences.{LeadOver}
+use Rattle.td_semantics.specs.Tests.{is_key}
+use Rattle.td_semantics.specs.Trees.{tree_means}
 
 abbrev pub Changes : Type 0
 Changes = List (ℕ × DeltaData)

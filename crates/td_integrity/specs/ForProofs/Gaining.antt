@@ -12,9 +12,9 @@ use Rattle.td_headings.specs.Catalogues.{CatalogueData}
 use Rattle.td_meaning.specs.Mean.{Relvars}
 use Rattle.td_incremental.specs.Growth.{narrowed}
 use Rattle.td_incremental.specs.Laws.{has_none}
-use Rattle.td_story.specs.Differences.{LeadOver}
-use Rattle.td_story.specs.Stored.{AreStored}
-use Rattle.td_story.specs.Trees.{tree_means}
+use Rattle.td_semantics.specs.Differences.{LeadOver}
+use Rattle.td_semantics.specs.Stored.{AreStored}
+use Rattle.td_semantics.specs.Trees.{tree_means}
 use Rattle.td_integrity.specs.ForProofs.Changed.{Changes}
 use Rattle.td_integrity.specs.declared.losses.Losses.{Losses}
 use Rattle.td_integrity.specs.declared.ways.Way.{Way}

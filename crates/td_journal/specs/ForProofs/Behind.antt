@@ -1,7 +1,7 @@
 -- What a keeper writes that goes on behind so many bytes: nothing, or the journal's beginning where there are none.
 use Rattle.std.specs.Prelude.{◌≡◌, ℕ, zero, suc}
 use Rattle.td_io.specs.Views.{Output}
-use Rattle.td_story.specs.Seen.{Seen}
+use Rattle.td_replica.specs.Seen.{Seen}
 use Rattle.td_journal.specs.Keeping.{Starts, StartsNot}
 use Rattle.td_journal.specs.declared.keeper.StartError.TheVariants.{WriteFault}
 

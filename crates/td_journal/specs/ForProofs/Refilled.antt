@@ -5,11 +5,11 @@ use Rattle.td_io.specs.Counted.{counted}
 use Rattle.td_io.specs.Views.{Input}
 use Rattle.td_stamps.specs.declared.entry.Entry.{Entry}
 use Rattle.td_frames.specs.declared.version.Version.{Version}
-use Rattle.td_story.specs.Calls.{TakesBatch}
-use Rattle.td_story.specs.Seen.{Seen}
-use Rattle.td_story.specs.declared.answer.Taken.{Taken}
-use Rattle.td_story.specs.declared.refusal.TakeError.{TakeError}
-use Rattle.td_story.specs.declared.refusal.TakeError.TheVariants as take_error
+use Rattle.td_replica.specs.Calls.{TakesBatch}
+use Rattle.td_replica.specs.Seen.{Seen}
+use Rattle.td_replica.specs.declared.calls.Taken.{Taken}
+use Rattle.td_replica.specs.declared.refusal.TakeError.{TakeError}
+use Rattle.td_replica.specs.declared.refusal.TakeError.TheVariants as take_error
 use Rattle.td_journal.specs.declared.reading.Unread.{Unread}
 use Rattle.td_journal.specs.declared.reading.Unread.TheVariants as unread_by
 use Rattle.td_journal.specs.Reading.{frames_at}

@@ -6,13 +6,13 @@ use Rattle.td_syntax.specs.declared.tree.Named.{Named}
 use Rattle.td_algebra.specs.declared.errors.Stop.{Stop}
 use Rattle.td_schema.specs.Schemas.{relvar_named}
 use Rattle.td_headings.specs.Catalogues.{CatalogueData}
-use Rattle.td_story.specs.Raises.{stop_of}
-use Rattle.td_story.specs.Databases.{DatabaseData}
-use Rattle.td_story.specs.Scripts.{IsScriptOf}
-use Rattle.td_story.specs.declared.answer.Answer.{Answer}
-use Rattle.td_story.specs.declared.answer.Answer.TheVariants.{Value, Raised}
-use Rattle.td_story.specs.declared.outcome.Outcome.{Outcome}
-use Rattle.td_story.specs.Seen.{Seen, Leaves}
+use Rattle.td_semantics.specs.Raises.{stop_of}
+use Rattle.td_semantics.specs.Databases.{DatabaseData}
+use Rattle.td_semantics.specs.Scripts.{IsScriptOf}
+use Rattle.td_semantics.specs.declared.answer.Answer.{Answer}
+use Rattle.td_semantics.specs.declared.answer.Answer.TheVariants.{Value, Raised}
+use Rattle.td_semantics.specs.declared.outcome.Outcome.{Outcome}
+use Rattle.td_replica.specs.Seen.{Seen, Leaves}
 use Rattle.td_listings.specs.Texts.{reason, relvars_lines, value_at}
 
 -- the words of the reason, if there is one

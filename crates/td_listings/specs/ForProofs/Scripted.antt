@@ -1,8 +1,8 @@
 -- The table of a relvar of a site, by the catalogue of the site's script.
 use Rattle.std.specs.Prelude.{ℕ, List, Result, Ok, Err}
 use Rattle.td_headings.specs.Catalogues.{CatalogueData}
-use Rattle.td_story.specs.Scripts.{IsScriptOf}
-use Rattle.td_story.specs.Seen.{Seen}
+use Rattle.td_semantics.specs.Scripts.{IsScriptOf}
+use Rattle.td_replica.specs.Seen.{Seen}
 use Rattle.td_listings.specs.Calls.{Tabulates}
 use Rattle.td_listings.specs.declared.error.TableError.{TableError}
 use Rattle.td_listings.specs.declared.error.TableError.TheVariants.{Unknown, NoAttributes, Broken, Raised, OutOfMemory}

@@ -7,8 +7,8 @@ use Rattle.td_values.specs.Rows.{RowsData}
 use Rattle.td_syntax.specs.declared.tree.Named.{Named}
 use Rattle.td_schema.specs.Schemas.{relvar_named}
 use Rattle.td_headings.specs.Catalogues.{CatalogueData}
-use Rattle.td_story.specs.Raises.{stop_of}
-use Rattle.td_story.specs.declared.answer.Answer.{Answer}
+use Rattle.td_semantics.specs.Raises.{stop_of}
+use Rattle.td_semantics.specs.declared.answer.Answer.{Answer}
 use Rattle.td_listings.specs.Tables.{table_of}
 use Rattle.td_listings.specs.declared.error.TableError.{TableError}
 use Rattle.td_listings.specs.declared.error.TableError.TheVariants.{Raised, OutOfMemory}

@@ -5,9 +5,9 @@ use Rattle.td_stamps.specs.declared.entry.Entry.{Entry}
 use Rattle.td_frames.specs.Reading.{entries_at, greeting_at, most_entries}
 use Rattle.td_frames.specs.declared.greeting.Greeting.{Greeting}
 use Rattle.td_frames.specs.declared.version.Version.TheVariants.{Second}
-use Rattle.td_story.specs.Calls.{TakesBatch}
-use Rattle.td_story.specs.Seen.{Seen}
-use Rattle.td_story.specs.declared.answer.Taken.{Taken}
+use Rattle.td_replica.specs.Calls.{TakesBatch}
+use Rattle.td_replica.specs.Seen.{Seen}
+use Rattle.td_replica.specs.declared.calls.Taken.{Taken}
 use Rattle.td_meeting.specs.declared.error.MeetingError.{MeetingError}
 use Rattle.td_meeting.specs.declared.error.MeetingError.TheVariants.{OutOfMemory, OtherScript, SameSite, Take}
 use Rattle.td_meeting.specs.declared.meeting.MeetingRefusal.{MeetingRefusal}

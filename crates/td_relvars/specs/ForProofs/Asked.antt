@@ -8,12 +8,12 @@ use Rattle.td_typed_trees.specs.declared.expression.Expression.{Expression}
 use Rattle.td_typed_trees.specs.declared.tree.Typed.TheVariants as t
 use Rattle.td_headings.specs.Catalogues.{CatalogueData}
 use Rattle.td_headings.specs.Reached.{is_base}
-use Rattle.td_story.specs.Trees.{IsIn, all_relvars}
-use Rattle.td_story.specs.Answers.{SaysRelation}
-use Rattle.td_story.specs.Databases.{DatabaseData, stored_relvars}
-use Rattle.td_story.specs.declared.answer.Answer.{Answer}
-use Rattle.td_story.specs.declared.error.RelvarError.{RelvarError}
-use Rattle.td_story.specs.declared.error.RelvarError.TheVariants.{Unknown, OutOfMemory}
+use Rattle.td_semantics.specs.Trees.{IsIn, all_relvars}
+use Rattle.td_semantics.specs.Answers.{SaysRelation}
+use Rattle.td_semantics.specs.Databases.{DatabaseData, stored_relvars}
+use Rattle.td_semantics.specs.declared.answer.Answer.{Answer}
+use Rattle.td_semantics.specs.declared.error.RelvarError.{RelvarError}
+use Rattle.td_semantics.specs.declared.error.RelvarError.TheVariants.{Unknown, OutOfMemory}
 
 -- a base relvar is at the place, with its relation
 pub record IsStoredAt (d : DatabaseData) (n : ℕ) : Type 0 where

@@ -4,7 +4,7 @@ use Rattle.td_values.specs.Headings.{Header}
 use Rattle.td_values.specs.Rows.{RowsData}
 use Rattle.td_syntax.specs.declared.tree.Named.{Named}
 use Rattle.td_headings.specs.declared.defined.Origin.{Origin}
-use Rattle.td_story.specs.Openings.{empty_at}
+use Rattle.td_semantics.specs.Openings.{empty_at}
 
 -- of the relvar with this origin, heading and name, if it is there
 abbrev pub empty_in : Option Origin → Option (Named Header) → Option RowsData

@@ -3,7 +3,7 @@ use Rattle.std.specs.Prelude.{◌≡◌, ℕ, List, map, Option, Some, option_ma
 use Rattle.td_values.specs.Rows.{RowsData}
 use Rattle.td_bases.specs.Bases.{BaseData}
 use Rattle.td_headings.specs.Catalogues.{CatalogueData}
-use Rattle.td_story.specs.Databases.{Stored}
+use Rattle.td_semantics.specs.Databases.{Stored}
 use Rattle.td_relvars.specs.Keys.{key_at}
 use Rattle.td_relvars.specs.Parts.{Copies}
 

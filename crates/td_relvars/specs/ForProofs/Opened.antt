@@ -6,15 +6,15 @@ use Rattle.td_typed_trees.specs.declared.tree.Typed.{Typed}
 use Rattle.td_algebra.specs.declared.errors.Stop.{Stop}
 use Rattle.td_headings.specs.Catalogues.{CatalogueData}
 use Rattle.td_headings.specs.declared.defined.Test.{Test}
-use Rattle.td_story.specs.Raises.{Tells, stop_of}
-use Rattle.td_story.specs.declared.failure.Failure.{Failure}
-use Rattle.td_story.specs.declared.failure.Failure.TheVariants as failure
-use Rattle.td_story.specs.Reports.{title}
-use Rattle.td_story.specs.Tests.{failing}
-use Rattle.td_story.specs.Databases.{DatabaseData, Stored, stored_relvars}
-use Rattle.td_story.specs.Openings.{opening, relation_in}
-use Rattle.td_story.specs.declared.error.ScriptError.{ScriptError}
-use Rattle.td_story.specs.declared.error.ScriptError.TheVariants as refusal
+use Rattle.td_semantics.specs.Raises.{Tells, stop_of}
+use Rattle.td_semantics.specs.declared.failure.Failure.{Failure}
+use Rattle.td_semantics.specs.declared.failure.Failure.TheVariants as failure
+use Rattle.td_semantics.specs.Reports.{title}
+use Rattle.td_semantics.specs.Tests.{failing}
+use Rattle.td_semantics.specs.Databases.{DatabaseData, Stored, stored_relvars}
+use Rattle.td_semantics.specs.Openings.{opening, relation_in}
+use Rattle.td_semantics.specs.declared.error.ScriptError.{ScriptError}
+use Rattle.td_semantics.specs.declared.error.ScriptError.TheVariants as refusal
 
 -- the value of an INIT that is there
 abbrev pub TellsInit : CatalogueData → Stored → Option (Typed × Header) → Result RowsData Failure → Type 0

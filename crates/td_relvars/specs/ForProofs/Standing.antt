@@ -2,7 +2,7 @@
 use Rattle.std.specs.Prelude.{◌≡◌, ℕ, Ok}
 use Rattle.td_values.specs.Headings.{Header}
 use Rattle.td_values.specs.Rows.{RowsData}
-use Rattle.td_story.specs.Databases.{Stored, stored_relvars}
+use Rattle.td_semantics.specs.Databases.{Stored, stored_relvars}
 
 -- a relation of the heading
 pub record HasOf (stored : Stored) (n : ℕ) (h : Header) : Type 0 where

@@ -6,16 +6,16 @@ use Rattle.td_grammar.specs.Grammar.{IsQuery}
 use Rattle.td_typed_trees.specs.declared.expression.Expression.{Expression}
 use Rattle.td_headings.specs.Catalogues.{CatalogueData}
 use Rattle.td_headings.specs.Expressions.{IsExpression, no_tuple}
-use Rattle.td_story.specs.Trees.{tree_means}
-use Rattle.td_story.specs.Answers.{TellsRelvar}
-use Rattle.td_story.specs.Databases.{DatabaseData, stored_relvars}
-use Rattle.td_story.specs.declared.answer.Answer.{Answer}
-use Rattle.td_story.specs.declared.error.RelvarError.TheVariants as relvar_error
-use Rattle.td_story.specs.Calls.{SaysValue}
-use Rattle.td_story.specs.declared.refusal.AskError.{AskError}
-use Rattle.td_story.specs.declared.refusal.AskError.TheVariants as ask_error
-use Rattle.td_story.specs.declared.refusal.ValueError.{ValueError}
-use Rattle.td_story.specs.declared.refusal.ValueError.TheVariants as value_error
+use Rattle.td_semantics.specs.Trees.{tree_means}
+use Rattle.td_semantics.specs.Answers.{TellsRelvar}
+use Rattle.td_semantics.specs.Databases.{DatabaseData, stored_relvars}
+use Rattle.td_semantics.specs.declared.answer.Answer.{Answer}
+use Rattle.td_semantics.specs.declared.error.RelvarError.TheVariants as relvar_error
+use Rattle.td_semantics.specs.Answers.{SaysValue}
+use Rattle.td_replica.specs.declared.refusal.AskError.{AskError}
+use Rattle.td_replica.specs.declared.refusal.AskError.TheVariants as ask_error
+use Rattle.td_replica.specs.declared.refusal.ValueError.{ValueError}
+use Rattle.td_replica.specs.declared.refusal.ValueError.TheVariants as value_error
 use Rattle.td_values.specs.Rows.{RowsData}
 
 -- the text is this query, and the reply says what it means

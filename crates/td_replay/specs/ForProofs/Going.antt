@@ -9,9 +9,9 @@ use Rattle.td_headings.specs.Catalogues.{CatalogueData}
 use Rattle.td_headings.specs.Reached.{AreThose}
 use Rattle.td_rollback.specs.Going.{GoByRecords, SoundFrom}
 use Rattle.td_stamps.specs.declared.entry.Entry.{Entry}
-use Rattle.td_story.specs.Databases.{DatabaseData, stored_relvars}
-use Rattle.td_story.specs.Footprints.{IsInFootprint, IsTargetOfText, target}
-use Rattle.td_story.proofs.Legal.{step_is_legal}
+use Rattle.td_semantics.specs.Databases.{DatabaseData, stored_relvars}
+use Rattle.td_semantics.specs.Footprints.{IsInFootprint, IsTargetOfText, target}
+use Rattle.td_semantics.proofs.Legal.{step_is_legal}
 use Rattle.td_replay.specs.Noted.{AgreeAt, AreTargetsOf, IsFootprintOf, IsLegalDatabase, Notes, opened_by}
 
 abbrev pub origin_of : DatabaseData → DatabaseData

@@ -5,10 +5,10 @@ use Rattle.td_grammar.specs.Statements as grammar
 use Rattle.td_headings.specs.Catalogues.{CatalogueData}
 use Rattle.td_headings.specs.Statements.{TypesNoStatement}
 use Rattle.td_headings.specs.declared.statement.TypedStatement.{TypedStatement}
-use Rattle.td_story.specs.Calls.{written}
-use Rattle.td_story.specs.Steps.{IsRead}
-use Rattle.td_story.specs.declared.refusal.IssueError.{IssueError}
-use Rattle.td_story.specs.declared.refusal.IssueError.TheVariants as issue_error
+use Rattle.td_replica.specs.Calls.{written}
+use Rattle.td_semantics.specs.Steps.{IsRead}
+use Rattle.td_replica.specs.declared.refusal.IssueError.{IssueError}
+use Rattle.td_replica.specs.declared.refusal.IssueError.TheVariants as issue_error
 
 -- why it is none; want of memory tells that the text is within its limit
 abbrev pub IsRefusal : CatalogueData → List ℕ → IssueError → Type 0

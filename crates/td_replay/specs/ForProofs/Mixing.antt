@@ -8,8 +8,8 @@ use Rattle.td_assign.proofs.Footprint.{judged_alike}
 use Rattle.td_relvars.proofs.Copies.{put_back_restores}
 use Rattle.td_rollback.specs.Going.{SoundFrom}
 use Rattle.td_rollback.specs.Parts.{Mixes}
-use Rattle.td_story.specs.Databases.{DatabaseData, IsDatabase, IsLegal, Stored, at_place, stored_at, stored_relvars}
-use Rattle.td_story.specs.Stored.{AreStored}
+use Rattle.td_semantics.specs.Databases.{DatabaseData, IsDatabase, IsLegal, Stored, at_place, stored_at, stored_relvars}
+use Rattle.td_semantics.specs.Stored.{AreStored}
 use Rattle.td_replay.specs.Noted.{AgreeAt, AreClosed, IsClosedPart, IsLegalDatabase, mix, mixed}
 use Rattle.td_replay.specs.ForProofs.Going.{origin_of}
 

@@ -15,15 +15,15 @@ use Rattle.td_stamps.specs.declared.entry.Entry.{Entry}
 use Rattle.td_stamps.specs.Entries.{stamp_of}
 use Rattle.td_stamps.specs.declared.entry.Stamp.{Stamp}
 use Rattle.td_stamps.specs.Story.{Story}
-use Rattle.td_story.specs.Databases.{DatabaseData, stored_relvars}
+use Rattle.td_semantics.specs.Databases.{DatabaseData, stored_relvars}
 use Rattle.td_relvars.specs.Evaluated.{Says}
 use Rattle.td_relvars.specs.Parts.{AreCopies, Copies}
-use Rattle.td_story.specs.Stories.{IsStory}
-use Rattle.td_story.specs.declared.answer.Answer.{Answer}
-use Rattle.td_story.specs.declared.refusal.AskError.{AskError}
-use Rattle.td_story.specs.declared.refusal.AskError.TheVariants as ask_error
-use Rattle.td_story.specs.declared.refusal.PastError.{PastError}
-use Rattle.td_story.specs.declared.refusal.PastError.TheVariants as past_error
+use Rattle.td_replica.specs.Stories.{IsStory}
+use Rattle.td_semantics.specs.declared.answer.Answer.{Answer}
+use Rattle.td_replica.specs.declared.refusal.AskError.{AskError}
+use Rattle.td_replica.specs.declared.refusal.AskError.TheVariants as ask_error
+use Rattle.td_replica.specs.declared.refusal.PastError.{PastError}
+use Rattle.td_replica.specs.declared.refusal.PastError.TheVariants as past_error
 use Rattle.td_replay.specs.Noted.{Notes}
 use Rattle.td_replay.specs.ForProofs.Asked.{IsIllTyped}
 use Rattle.td_replay.specs.ForProofs.Told.{Log, Outcomes}

@@ -8,14 +8,14 @@ use Rattle.td_stamps.specs.declared.entry.Stamp.{Stamp}
 use Rattle.td_stamps.specs.Entries.{stamp_of}
 use Rattle.td_stamps.specs.Sets.{Holding}
 use Rattle.td_stamps.specs.Story.{Story}
-use Rattle.td_story.specs.Databases.{DatabaseData}
-use Rattle.td_story.specs.Scripts.{OpensOn}
-use Rattle.td_story.specs.Steps.{IsRead, IsUnreadText}
-use Rattle.td_story.specs.declared.outcome.Outcome.{Outcome}
-use Rattle.td_story.specs.Calls.{entry_of}
-use Rattle.td_story.specs.Seen.{Seen}
-use Rattle.td_story.specs.declared.refusal.IssueError.{IssueError}
-use Rattle.td_story.specs.declared.refusal.IssueError.TheVariants as issue_error
+use Rattle.td_semantics.specs.Databases.{DatabaseData}
+use Rattle.td_semantics.specs.Scripts.{OpensOn}
+use Rattle.td_semantics.specs.Steps.{IsRead, IsUnreadText}
+use Rattle.td_semantics.specs.declared.outcome.Outcome.{Outcome}
+use Rattle.td_replica.specs.Calls.{entry_of}
+use Rattle.td_replica.specs.Seen.{Seen}
+use Rattle.td_replica.specs.declared.refusal.IssueError.{IssueError}
+use Rattle.td_replica.specs.declared.refusal.IssueError.TheVariants as issue_error
 use Rattle.td_replay.specs.Noted.{IsLegalDatabase, Notes, opened_by}
 
 -- the script opens a database

@@ -4,10 +4,10 @@ use Rattle.std.specs.Global.{Global}
 use Rattle.std.specs.declared.alloc.AllocError.{AllocError}
 use Rattle.td_io.specs.Views.{Input, Output}
 use Rattle.td_listings.specs.Writings.{WritesFront}
-use Rattle.td_story.specs.declared.error.ScriptError.{ScriptError}
-use Rattle.td_story.specs.declared.error.ScriptError.TheVariants.{Syntax, IllTyped, OpeningRaised, OpeningBroken, OutOfMemory}
-use Rattle.td_story.specs.Databases.{DatabaseData}
-use Rattle.td_story.specs.Scripts.{Opens}
+use Rattle.td_semantics.specs.declared.error.ScriptError.{ScriptError}
+use Rattle.td_semantics.specs.declared.error.ScriptError.TheVariants.{Syntax, IllTyped, OpeningRaised, OpeningBroken, OutOfMemory}
+use Rattle.td_semantics.specs.Databases.{DatabaseData}
+use Rattle.td_semantics.specs.Scripts.{Opens}
 use Rattle.td_answers.specs.Sites.{Sites}
 use Rattle.td_workbench.specs.Streams.{most_reads, WritesText}
 use Rattle.td_workbench.specs.Programs.{ProgramEnds}

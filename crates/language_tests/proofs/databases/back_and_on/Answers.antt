@@ -1,6 +1,6 @@
 use Rattle.std.proofs.Common.{◌≡◌, ℕ, List, ap, subst, sym, ◌∙◌}
 use Rattle.td_relations.specs.Deltas.{DeltaData}
-use Rattle.td_story.specs.Databases.{DatabaseData}
+use Rattle.td_semantics.specs.Databases.{DatabaseData}
 use Rattle.td_relvars.specs.Changed.{undone}
 use Rattle.td_assign.specs.Redoing.{CanRedo, CanUndo}
 use Rattle.td_grammar.specs.Statements.{latest}

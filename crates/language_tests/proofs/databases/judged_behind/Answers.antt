@@ -1,10 +1,10 @@
 use Rattle.std.proofs.Common.{subst, sym}
 use Rattle.td_grammar.specs.Statements.{latest}
 use Rattle.td_headings.specs.Catalogues.{CatalogueData}
-use Rattle.td_story.specs.Databases.{stored_relvars}
-use Rattle.td_story.specs.Differences.{LeadOver}
-use Rattle.td_story.specs.Tests.{AreLegal}
-use Rattle.td_story.proofs.Leading.{differences_lead}
+use Rattle.td_semantics.specs.Databases.{stored_relvars}
+use Rattle.td_semantics.specs.Differences.{LeadOver}
+use Rattle.td_semantics.specs.Tests.{AreLegal}
+use Rattle.td_semantics.proofs.Leading.{differences_lead}
 use Rattle.td_assign.proofs.Stepping.{step_keeps_database}
 use Rattle.language_tests.proofs.databases.judged_behind.Goals as goal
 

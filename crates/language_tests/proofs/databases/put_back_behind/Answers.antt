@@ -3,7 +3,7 @@ use Rattle.std.specs.List.{All}
 use Rattle.td_values.specs.Rows.{RowsData}
 use Rattle.td_grammar.specs.Statements.{latest}
 use Rattle.td_headings.specs.Catalogues.{CatalogueData}
-use Rattle.td_story.specs.Databases.{Belongs}
+use Rattle.td_semantics.specs.Databases.{Belongs}
 use Rattle.td_relvars.specs.Parts.{AreTheirs, part_of, places_of}
 use Rattle.td_relvars.proofs.Copies.{part_belongs}
 use Rattle.td_assign.proofs.Stepping.{step_keeps_database}

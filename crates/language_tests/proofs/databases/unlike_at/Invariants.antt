@@ -1,4 +1,4 @@
-use Rattle.td_story.specs.Databases.{IsLegal}
+use Rattle.td_semantics.specs.Databases.{IsLegal}
 use Rattle.language_tests.proofs.databases.unlike_at.Given as goal
 
 abbrev pub invariant-loop-n : goal.invariant-loop-n

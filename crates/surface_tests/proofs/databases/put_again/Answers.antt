@@ -1,6 +1,6 @@
 use Rattle.std.proofs.Common.{Some, slice_get, ap, sym, subst, ◌∙◌}
 use Rattle.td_bases.specs.Bases.{BaseData}
-use Rattle.td_story.specs.Databases.{Belongs}
+use Rattle.td_semantics.specs.Databases.{Belongs}
 use Rattle.td_relvars.proofs.Kept.{belongs}
 use Rattle.td_relvars.proofs.Stores.{looked_up}
 use Rattle.surface_tests.proofs.databases.put_again.Goals as goal

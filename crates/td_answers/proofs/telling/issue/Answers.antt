@@ -1,5 +1,5 @@
 use Rattle.std.proofs.Common.{Err, refl, sym, ◌∙◌, arith}
-use Rattle.td_story.specs.declared.refusal.IssueError.TheVariants as issue_error
+use Rattle.td_replica.specs.declared.refusal.IssueError.TheVariants as issue_error
 use Rattle.td_answers.proofs.telling.issue.Goals as goal
 
 pub returns-then-not-is_open-clause-answered : goal.returns-then-not-is_open-clause-answered

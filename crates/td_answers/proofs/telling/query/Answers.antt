@@ -1,5 +1,5 @@
 use Rattle.std.proofs.Common.{◌≡◌, ℕ, List, Ok, Err, refl}
-use Rattle.td_story.specs.declared.refusal.AskError.TheVariants as ask_error
+use Rattle.td_replica.specs.declared.refusal.AskError.TheVariants as ask_error
 use Rattle.td_answers.specs.Answers.{TellsAsked, reply_line}
 use Rattle.td_answers.proofs.Saying.{says_more}
 use Rattle.td_answers.proofs.telling.query.Goals as goal

@@ -1,7 +1,7 @@
 use Rattle.std.proofs.Common.{◌≡◌, ℕ, List, Ok, Err, refl, subst}
 use Rattle.td_stamps.specs.declared.entry.Stamp.{Stamp}
-use Rattle.td_story.specs.Past.{AsksAt}
-use Rattle.td_story.specs.declared.refusal.PastError.TheVariants as past_error
+use Rattle.td_replica.specs.Past.{AsksAt}
+use Rattle.td_replica.specs.declared.refusal.PastError.TheVariants as past_error
 use Rattle.td_answers.specs.Answers.{TellsPast, reply_line}
 use Rattle.td_answers.proofs.Saying.{says_more}
 use Rattle.td_answers.proofs.telling.query_at.Goals as goal

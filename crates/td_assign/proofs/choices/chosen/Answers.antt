@@ -5,8 +5,8 @@ use Rattle.td_headings.specs.Catalogues.{CatalogueData}
 use Rattle.td_headings.specs.declared.statement.TypedAssignment.{TypedAssignment}
 use Rattle.td_headings.specs.declared.statement.TypedStatement.{TypedStatement}
 use Rattle.td_operators.specs.Values.{truth_of}
-use Rattle.td_story.specs.Databases.{stored_relvars}
-use Rattle.td_story.specs.Trees.{tree_means}
+use Rattle.td_semantics.specs.Databases.{stored_relvars}
+use Rattle.td_semantics.specs.Trees.{tree_means}
 use Rattle.td_assign.specs.ForProofs.Given.{AreAssigned, Stands}
 use Rattle.td_assign.specs.ForProofs.Prepared.{chosen_by}
 use Rattle.td_assign.proofs.Preparing.{all_alone, first_of, second_of, where_err, where_ok}

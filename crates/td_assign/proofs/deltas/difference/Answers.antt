@@ -1,5 +1,5 @@
 use Rattle.std.proofs.Common.{Some, slice_get, ap, sym, ◌∙◌}
-use Rattle.td_story.specs.Databases.{stored_relvars}
+use Rattle.td_semantics.specs.Databases.{stored_relvars}
 use Rattle.td_relvars.proofs.Stores.{looked_up}
 use Rattle.td_assign.proofs.Differing.{told}
 use Rattle.td_assign.proofs.deltas.difference.Goals as goal

@@ -1,8 +1,8 @@
 use Rattle.std.proofs.Common.{◌+◌, drop, ap, sym, subst, ◌∙◌, arith}
 use Rattle.std.proofs.lemmas.List.{drop_all}
 use Rattle.std.proofs.lemmas.List.Elements.{All-get_or}
-use Rattle.td_story.specs.Databases.{stored_relvars}
-use Rattle.td_story.specs.Differences.{AreDifferences}
+use Rattle.td_semantics.specs.Databases.{stored_relvars}
+use Rattle.td_semantics.specs.Differences.{AreDifferences}
 use Rattle.td_assign.specs.ForProofs.Given.{IsChange}
 use Rattle.td_assign.proofs.Differing.{Found, begun, by_none, by_option, ended, left_at}
 use Rattle.td_assign.proofs.Replacing.{all_replaced}

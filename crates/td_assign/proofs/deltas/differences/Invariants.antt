@@ -1,5 +1,5 @@
 use Rattle.std.proofs.Common.{drop}
-use Rattle.td_story.specs.Databases.{stored_relvars}
+use Rattle.td_semantics.specs.Databases.{stored_relvars}
 use Rattle.td_assign.proofs.Differing.{Found}
 use Rattle.td_assign.proofs.deltas.differences.Given as goal
 

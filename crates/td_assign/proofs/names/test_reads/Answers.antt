@@ -2,7 +2,7 @@ use Rattle.std.proofs.Common.{◌↔◌, ℕ, IfOk, sym, subst}
 use Rattle.std.specs.List.{Contains}
 use Rattle.td_headings.specs.Expressions.{reads}
 use Rattle.td_headings.specs.declared.defined.Test.{Test}
-use Rattle.td_story.specs.Footprints.{TestReads}
+use Rattle.td_semantics.specs.Footprints.{TestReads}
 use Rattle.td_assign.proofs.Naming.{constraint_reads, places_read}
 use Rattle.td_assign.proofs.names.test_reads.Goals as goal
 

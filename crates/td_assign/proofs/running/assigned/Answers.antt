@@ -1,6 +1,6 @@
 use Rattle.std.proofs.Common.{sym, subst}
 use Rattle.td_assign.specs.ForProofs.Prepared.{Refuses, by_source}
-use Rattle.td_story.specs.declared.outcome.Outcome.TheVariants.{Raised}
+use Rattle.td_semantics.specs.declared.outcome.Outcome.TheVariants.{Raised}
 use Rattle.td_assign.proofs.running.assigned.Goals as goal
 
 pub returns-in-Err-Raised : goal.returns-in-Err-Raised

@@ -1,6 +1,6 @@
 use Rattle.std.proofs.Common.{sym, subst}
 use Rattle.td_assign.specs.ForProofs.Prepared.{Refuses, by_source}
-use Rattle.td_story.specs.declared.outcome.Outcome.TheVariants.{Raised}
+use Rattle.td_semantics.specs.declared.outcome.Outcome.TheVariants.{Raised}
 use Rattle.td_assign.proofs.Preparing.{judged}
 use Rattle.td_assign.proofs.running.evaluated.Goals as goal
 

@@ -1,10 +1,10 @@
 use Rattle.std.proofs.Common.{List, refl, sym, subst}
 use Rattle.td_headings.specs.Catalogues.{CatalogueData}
-use Rattle.td_story.specs.Stored.{AreStored}
-use Rattle.td_story.specs.Databases.{stored_relvars}
-use Rattle.td_story.specs.Given.{replaced, with_given}
+use Rattle.td_semantics.specs.Stored.{AreStored}
+use Rattle.td_semantics.specs.Databases.{stored_relvars}
+use Rattle.td_semantics.specs.Given.{replaced, with_given}
 use Rattle.td_assign.specs.ForProofs.Lists.{given_to}
-use Rattle.td_story.specs.Differences.{AreDifferences}
+use Rattle.td_semantics.specs.Differences.{AreDifferences}
 use Rattle.td_assign.specs.declared.changes.Change.{Change}
 use Rattle.td_assign.proofs.Preparing.{none_fails, passed_before, refused_by, report_is}
 use Rattle.td_assign.proofs.Replacing.{replaced_stored}

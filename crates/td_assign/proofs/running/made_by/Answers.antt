@@ -1,7 +1,7 @@
 use Rattle.std.proofs.Common.{sym, subst, refl}
 use Rattle.td_assign.specs.ForProofs.Prepared.{IsMade, by_error}
 use Rattle.td_assign.specs.declared.running.Prepared.TheVariants.{Refused}
-use Rattle.td_story.specs.declared.outcome.Outcome.TheVariants.{Raised}
+use Rattle.td_semantics.specs.declared.outcome.Outcome.TheVariants.{Raised}
 use Rattle.td_assign.proofs.Preparing.{made}
 use Rattle.td_assign.proofs.running.made_by.Goals as goal
 

@@ -1,7 +1,7 @@
 use Rattle.std.proofs.Common.{ℕ, List, refl, sym, subst, ◌∙◌}
 use Rattle.td_headings.specs.Reached.{AreThose}
-use Rattle.td_story.specs.Footprints.{IsInFootprint}
-use Rattle.td_story.specs.Steps.{unread}
+use Rattle.td_semantics.specs.Footprints.{IsInFootprint}
+use Rattle.td_semantics.specs.Steps.{unread}
 use Rattle.td_assign.proofs.Naming.{names_unread, targets_read}
 use Rattle.td_assign.proofs.Preparing.{prepared, read_is, unread_is}
 use Rattle.td_assign.proofs.running.prepare.Goals as goal

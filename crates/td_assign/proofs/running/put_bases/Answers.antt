@@ -5,8 +5,8 @@ use Rattle.std.proofs.lemmas.List.Elements.{All-head, All-tail}
 use Rattle.td_bases.specs.Bases.{BaseData}
 use Rattle.td_headings.specs.Catalogues.{CatalogueData}
 use Rattle.td_relvars.specs.Keys.{key_at}
-use Rattle.td_story.specs.Databases.{Belongs}
-use Rattle.td_story.specs.Given.{with_given}
+use Rattle.td_semantics.specs.Databases.{Belongs}
+use Rattle.td_semantics.specs.Given.{with_given}
 use Rattle.td_assign.specs.ForProofs.Given.{AreDistinct, IsChange}
 use Rattle.td_assign.specs.ForProofs.Lists.{IsKeyed, change_of, changes_of, given_to}
 use Rattle.td_assign.proofs.Replacing.{given_nothing, put_first}

@@ -1,6 +1,6 @@
 use Rattle.std.proofs.Common.{◌≡◌, All}
 use Rattle.std.specs.Vec.Iter.{into_iter_items}
-use Rattle.td_story.specs.Given.{with_given}
+use Rattle.td_semantics.specs.Given.{with_given}
 use Rattle.td_assign.specs.ForProofs.Given.{AreDistinct, IsChange}
 use Rattle.td_assign.specs.ForProofs.Lists.{IsKeyed, changes_of, given_to}
 use Rattle.td_assign.proofs.running.put_bases.Given as goal

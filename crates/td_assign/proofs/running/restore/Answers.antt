@@ -1,5 +1,5 @@
 use Rattle.std.proofs.Common.{sym, subst}
-use Rattle.td_story.specs.Databases.{DatabaseData}
+use Rattle.td_semantics.specs.Databases.{DatabaseData}
 use Rattle.td_relvars.specs.Ways.{CanGoBack}
 use Rattle.td_assign.proofs.running.restore.Goals as goal
 

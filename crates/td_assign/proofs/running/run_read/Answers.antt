@@ -1,12 +1,12 @@
 use Rattle.std.proofs.Common.{ap, sym, subst}
-use Rattle.td_story.proofs.Legal.{all_pass}
-use Rattle.td_story.specs.Databases.{DatabaseData, IsLegal, stored_relvars}
-use Rattle.td_story.specs.Given.{with_given}
+use Rattle.td_semantics.proofs.Legal.{all_pass}
+use Rattle.td_semantics.specs.Databases.{DatabaseData, IsLegal, stored_relvars}
+use Rattle.td_semantics.specs.Given.{with_given}
 use Rattle.td_assign.specs.ForProofs.Lists.{given_to}
 use Rattle.td_assign.specs.ForProofs.Turning.{MayTurn}
-use Rattle.td_story.specs.Differences.{AreDifferences}
-use Rattle.td_story.specs.Steps.{Steps, with_all}
-use Rattle.td_story.specs.declared.outcome.Outcome.{Outcome}
+use Rattle.td_semantics.specs.Differences.{AreDifferences}
+use Rattle.td_semantics.specs.Steps.{Steps, with_all}
+use Rattle.td_semantics.specs.declared.outcome.Outcome.{Outcome}
 use Rattle.td_assign.proofs.Turning.{turned_differences, turned_legal, turned_step}
 use Rattle.td_assign.proofs.running.run_read.Goals as goal
 

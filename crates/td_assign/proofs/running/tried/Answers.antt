@@ -1,7 +1,7 @@
 use Rattle.std.proofs.Common.{sym, subst}
 use Rattle.td_headings.specs.Catalogues.{CatalogueData}
-use Rattle.td_story.specs.Databases.{stored_relvars}
-use Rattle.td_story.specs.Stored.{AreStored}
+use Rattle.td_semantics.specs.Databases.{stored_relvars}
+use Rattle.td_semantics.specs.Stored.{AreStored}
 use Rattle.td_assign.proofs.Turning.{can_first, first_back, first_passed, is_back, one_change, taken_nothing, tried_goes, tried_stays}
 use Rattle.td_assign.proofs.running.tried.Goals as goal
 

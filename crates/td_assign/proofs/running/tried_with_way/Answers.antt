@@ -1,7 +1,7 @@
 use Rattle.std.proofs.Common.{sym, ap, ◌∙◌, subst, Ok, None}
 use Rattle.td_headings.specs.Catalogues.{CatalogueData}
-use Rattle.td_story.specs.Databases.{DatabaseData, stored_relvars}
-use Rattle.td_story.specs.Stored.{AreStored}
+use Rattle.td_semantics.specs.Databases.{DatabaseData, stored_relvars}
+use Rattle.td_semantics.specs.Stored.{AreStored}
 use Rattle.td_relvars.specs.Changed.{CanChange, with_change}
 use Rattle.td_assign.specs.ForProofs.Turning.{IsTried}
 use Rattle.td_assign.proofs.Turning.{came_from, can_first, first_passed, tried_goes, tried_stays}

@@ -1,10 +1,10 @@
 use Rattle.std.proofs.Common.{◌≡◌, List, Err, Ok, sym, subst}
 use Rattle.td_values.specs.Rows.{RowsData}
-use Rattle.td_story.specs.Raises.{Tells}
-use Rattle.td_story.specs.Databases.{stored_relvars}
+use Rattle.td_semantics.specs.Raises.{Tells}
+use Rattle.td_semantics.specs.Databases.{stored_relvars}
 use Rattle.td_assign.specs.ForProofs.Given.{AreChanges}
 use Rattle.td_assign.specs.ForProofs.Lists.{given_to}
-use Rattle.td_story.specs.Sources.{source_means}
+use Rattle.td_semantics.specs.Sources.{source_means}
 use Rattle.td_assign.specs.declared.changes.Change.{Change}
 use Rattle.td_assign.proofs.Assigning.{stands}
 use Rattle.td_assign.proofs.Giving.{are_given}

@@ -4,8 +4,8 @@ use Rattle.td_algebra.specs.Raising.{and_then}
 use Rattle.td_headings.specs.Catalogues.{CatalogueData}
 use Rattle.td_headings.specs.Reached.{is_base}
 use Rattle.td_operators.specs.Values.{rows_of}
-use Rattle.td_story.specs.Databases.{stored_relvars}
-use Rattle.td_story.specs.Trees.{AreBases, tree_means}
+use Rattle.td_semantics.specs.Databases.{stored_relvars}
+use Rattle.td_semantics.specs.Trees.{AreBases, tree_means}
 use Rattle.td_eval.specs.Added.{TellsAdded}
 use Rattle.td_relvars.proofs.Kept.{base_has}
 use Rattle.td_relvars.proofs.Stores.{bases}

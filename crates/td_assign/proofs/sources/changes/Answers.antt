@@ -1,6 +1,6 @@
 use Rattle.std.proofs.Common.{sym, subst, arith}
 use Rattle.std.proofs.lemmas.List.Elements.{All-get_or}
-use Rattle.td_story.specs.Databases.{stored_relvars}
+use Rattle.td_semantics.specs.Databases.{stored_relvars}
 use Rattle.td_assign.specs.ForProofs.Given.{IsAssigned}
 use Rattle.td_assign.proofs.Assigning.{more, stopped}
 use Rattle.td_assign.proofs.sources.changes.Goals as goal

@@ -1,9 +1,9 @@
 use Rattle.std.proofs.Common.{◌≡◌, drop}
-use Rattle.td_story.specs.Databases.{stored_relvars}
+use Rattle.td_semantics.specs.Databases.{stored_relvars}
 use Rattle.td_assign.specs.ForProofs.Given.{AreChanges}
 use Rattle.td_assign.specs.ForProofs.Lists.{given_to}
-use Rattle.td_story.specs.Given.{nothing_given}
-use Rattle.td_story.specs.Sources.{sources}
+use Rattle.td_semantics.specs.Given.{nothing_given}
+use Rattle.td_semantics.specs.Sources.{sources}
 use Rattle.td_assign.proofs.sources.changes.Given as goal
 
 abbrev pub invariant-loop-assignment : goal.invariant-loop-assignment

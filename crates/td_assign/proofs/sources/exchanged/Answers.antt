@@ -3,8 +3,8 @@ use Rattle.td_values.specs.Data.{no_attrs}
 use Rattle.td_algebra.specs.Raising.{and_then}
 use Rattle.td_headings.specs.Catalogues.{CatalogueData}
 use Rattle.td_operators.specs.Values.{rows_of}
-use Rattle.td_story.specs.Databases.{stored_relvars}
-use Rattle.td_story.specs.Trees.{tree_means}
+use Rattle.td_semantics.specs.Databases.{stored_relvars}
+use Rattle.td_semantics.specs.Trees.{tree_means}
 use Rattle.td_eval.specs.Changed.{TellsChanged}
 use Rattle.td_relvars.proofs.Kept.{base_has}
 use Rattle.td_assign.proofs.Turning.{is_real, told_exchange, told_raised}

@@ -5,10 +5,10 @@ use Rattle.td_algebra.specs.Raising.{and_then}
 use Rattle.td_headings.specs.Catalogues.{CatalogueData}
 use Rattle.td_operators.specs.Values.{rows_of}
 use Rattle.td_type_soundness.specs.Meanings.{IsRelationOver}
-use Rattle.td_story.specs.Raises.{Tells}
-use Rattle.td_story.specs.Trees.{AreBases, tree_means}
-use Rattle.td_story.specs.Databases.{stored_relvars}
-use Rattle.td_story.specs.Given.{seen}
+use Rattle.td_semantics.specs.Raises.{Tells}
+use Rattle.td_semantics.specs.Trees.{AreBases, tree_means}
+use Rattle.td_semantics.specs.Databases.{stored_relvars}
+use Rattle.td_semantics.specs.Given.{seen}
 use Rattle.td_assign.specs.ForProofs.Lists.{given_to}
 use Rattle.td_assign.proofs.Assigning.{if_belongs, is_there, kind_is}
 use Rattle.td_assign.proofs.Replacing.{seen_bases}

@@ -5,7 +5,7 @@ use Rattle.td_typed_trees.specs.declared.expression.Expression.{Expression}
 use Rattle.td_meaning.specs.Mean.{mean, within}
 use Rattle.td_meaning.specs.Seen.{relvars_at}
 use Rattle.td_meaning.specs.Selections.{selection}
-use Rattle.td_story.specs.Meanings.{no_names}
+use Rattle.td_semantics.specs.Meanings.{no_names}
 use Rattle.td_eval.specs.ForProofs.ByKey.{SaysIfAny}
 use Rattle.td_eval.specs.ForProofs.Environments.{all_known}
 use Rattle.td_eval.proofs.ByKey.{error_answers}

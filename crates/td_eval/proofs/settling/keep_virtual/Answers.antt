@@ -4,7 +4,7 @@ use Rattle.td_meaning.specs.Parts.{AreRight, known_value}
 use Rattle.td_meaning.specs.Seen.{mean_in}
 use Rattle.td_operators.specs.Operators.{as_value}
 use Rattle.td_operators.specs.Values.{rows_of}
-use Rattle.td_story.specs.Meanings.{no_names}
+use Rattle.td_semantics.specs.Meanings.{no_names}
 use Rattle.td_eval.proofs.Settled.{named_means}
 use Rattle.td_eval.proofs.settling.keep_virtual.Goals as goal
 

@@ -1,6 +1,6 @@
 use Rattle.std.proofs.Common.{Ok, Err, ap, sym, ◌∙◌}
 use Rattle.td_values.specs.Data.{attrs_of}
-use Rattle.td_story.specs.Raises.{stop_of}
+use Rattle.td_semantics.specs.Raises.{stop_of}
 use Rattle.td_eval.proofs.Told.{raised, told, typed}
 use Rattle.td_eval.proofs.valued.value.Goals as goal
 

@@ -1,5 +1,5 @@
 use Rattle.std.proofs.Common.{◌≡◌, drop}
-use Rattle.td_story.specs.Tests.{failing}
+use Rattle.td_semantics.specs.Tests.{failing}
 use Rattle.td_integrity.proofs.judging.first_of_all.Given as goal
 
 abbrev pub invariant-loop-place : goal.invariant-loop-place

@@ -1,10 +1,10 @@
 use Rattle.std.proofs.Common.{◌≡◌, List, None, MatchOption, sym, subst}
 use Rattle.td_schema.specs.Kinds.{Name}
 use Rattle.td_headings.specs.Expressions.{IsConstraint, constraint_at}
-use Rattle.td_story.specs.Raises.{Tells}
+use Rattle.td_semantics.specs.Raises.{Tells}
 use Rattle.td_integrity.specs.ForProofs.Changed.{KeyBefore}
 use Rattle.td_integrity.specs.ForProofs.Tested.{StandsAt}
-use Rattle.td_story.specs.Tests.{judgement}
+use Rattle.td_semantics.specs.Tests.{judgement}
 use Rattle.td_integrity.proofs.After.{constraint_before, key_before}
 use Rattle.td_integrity.proofs.Judged.{has_relation, tells, whole, within}
 use Rattle.td_integrity.proofs.judging.judge.Goals as goal

@@ -1,5 +1,5 @@
 use Rattle.std.proofs.Common.{Ok, sym, ap, ◌∙◌, subst}
-use Rattle.td_story.specs.Raises.{Tells}
+use Rattle.td_semantics.specs.Raises.{Tells}
 use Rattle.td_integrity.proofs.Gaining.{lost, over, stays}
 use Rattle.td_integrity.proofs.Judged.{are_bases}
 use Rattle.td_incremental.specs.Growth.{narrowed}

@@ -1,6 +1,6 @@
 use Rattle.std.proofs.Common.{List, ℕ, length, sym, refl, ap, subst, ◌∙◌, ◌≤◌}
 use Rattle.td_stamps.specs.declared.entry.Entry.{Entry}
-use Rattle.td_story.specs.Calls.{TakesBatch}
+use Rattle.td_replica.specs.Calls.{TakesBatch}
 use Rattle.td_journal.specs.Spelling.{journal}
 use Rattle.td_journal.proofs.ComesBack.{taken_script}
 use Rattle.td_journal.proofs.Fields.{few_said}

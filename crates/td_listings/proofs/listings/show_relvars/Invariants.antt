@@ -1,6 +1,6 @@
 use Rattle.std.proofs.Common.{◌≡◌, ◌++◌, drop, string_bytes}
-use Rattle.td_story.specs.Databases.{DatabaseData}
-use Rattle.td_story.specs.Seen.{Leaves}
+use Rattle.td_semantics.specs.Databases.{DatabaseData}
+use Rattle.td_replica.specs.Seen.{Leaves}
 use Rattle.td_listings.specs.Texts as spec
 use Rattle.td_listings.proofs.listings.show_relvars.Given as goal
 

@@ -1,6 +1,6 @@
 use Rattle.std.proofs.Common.{◌≡◌, None, sym, subst}
-use Rattle.td_story.specs.Scripts.{OpensOn}
-use Rattle.td_story.specs.declared.error.CatalogueError.TheVariants as catalogue_error
+use Rattle.td_semantics.specs.Scripts.{OpensOn}
+use Rattle.td_semantics.specs.declared.error.CatalogueError.TheVariants as catalogue_error
 use Rattle.td_listings.proofs.Accepted.{made_or_wants}
 use Rattle.td_listings.proofs.writing.script_catalogue.Goals as goal
 

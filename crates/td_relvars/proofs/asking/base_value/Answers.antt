@@ -2,7 +2,7 @@ use Rattle.std.proofs.Common.{Some, ap, sym, ◌∙◌, slice_get}
 use Rattle.std.specs.Option.{option_copied}
 use Rattle.std.specs.Prelude.{option_map}
 use Rattle.td_bases.specs.Bases.{BaseData}
-use Rattle.td_story.specs.Databases.{stored_relvars}
+use Rattle.td_semantics.specs.Databases.{stored_relvars}
 use Rattle.td_relvars.proofs.Asked.{base_stays}
 use Rattle.td_relvars.proofs.Stores.{looked_up, not_stored}
 use Rattle.td_relvars.proofs.asking.base_value.Goals as goal

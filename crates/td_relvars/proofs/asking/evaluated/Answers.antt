@@ -2,8 +2,8 @@ use Rattle.std.proofs.Common.{ap, sym, ◌∙◌}
 use Rattle.td_values.specs.Data.{no_attrs}
 use Rattle.td_algebra.specs.Raising.{and_then}
 use Rattle.td_operators.specs.Values.{rows_of}
-use Rattle.td_story.specs.Trees.{tree_means}
-use Rattle.td_story.specs.Databases.{stored_relvars}
+use Rattle.td_semantics.specs.Trees.{tree_means}
+use Rattle.td_semantics.specs.Databases.{stored_relvars}
 use Rattle.td_relvars.proofs.Asked.{name_means}
 use Rattle.td_relvars.proofs.asking.evaluated.Goals as goal
 

@@ -5,7 +5,7 @@ use Rattle.td_values.specs.Rows.{RowsData}
 use Rattle.td_bases.specs.Bases.{BaseData}
 use Rattle.td_schema.specs.Schemas.{SchemaData}
 use Rattle.td_headings.proofs.WellTyped.{all_typed}
-use Rattle.td_story.specs.Openings.{all_empty}
+use Rattle.td_semantics.specs.Openings.{all_empty}
 use Rattle.td_relvars.specs.ForProofs.Kept.{AreFirst, keys_of, rows_of}
 use Rattle.td_relvars.proofs.Bases.{first_pushed, none_first}
 use Rattle.td_relvars.proofs.Stores.{empty_done, empty_more}

@@ -1,5 +1,5 @@
 use Rattle.std.proofs.Common.{◌≡◌, ◌++◌, drop, length}
-use Rattle.td_story.specs.Openings.{all_empty}
+use Rattle.td_semantics.specs.Openings.{all_empty}
 use Rattle.td_relvars.specs.ForProofs.Kept.{AreFirst, keys_of, rows_of}
 use Rattle.td_relvars.proofs.database.all_empty.Given as goal
 

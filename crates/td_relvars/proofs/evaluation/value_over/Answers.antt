@@ -1,7 +1,7 @@
 use Rattle.std.proofs.Common.{sym, subst}
 use Rattle.td_headings.specs.Catalogues.{CatalogueData}
-use Rattle.td_story.specs.Databases.{stored_relvars}
-use Rattle.td_story.specs.Trees.{AreBases}
+use Rattle.td_semantics.specs.Databases.{stored_relvars}
+use Rattle.td_semantics.specs.Trees.{AreBases}
 use Rattle.td_relvars.specs.Parts.{over}
 use Rattle.td_relvars.proofs.PartLemmas.{bases_over}
 use Rattle.td_relvars.proofs.evaluation.value_over.Goals as goal

@@ -6,9 +6,9 @@ use Rattle.td_algebra.specs.Raising.{and_then}
 use Rattle.td_headings.specs.Catalogues.{CatalogueData}
 use Rattle.td_operators.specs.Values.{rows_of}
 use Rattle.td_type_soundness.specs.Meanings.{IsRelationOver}
-use Rattle.td_story.specs.Raises.{Tells}
-use Rattle.td_story.specs.Trees.{IsIn, tree_means}
-use Rattle.td_story.specs.Databases.{Belongs, stored_relvars}
+use Rattle.td_semantics.specs.Raises.{Tells}
+use Rattle.td_semantics.specs.Trees.{IsIn, tree_means}
+use Rattle.td_semantics.specs.Databases.{Belongs, stored_relvars}
 use Rattle.td_relvars.proofs.Inits.{init, init_in, belongs, tells_init}
 use Rattle.td_relvars.proofs.opening.init_value.Goals as goal
 

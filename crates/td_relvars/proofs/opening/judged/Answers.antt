@@ -1,9 +1,9 @@
 use Rattle.std.proofs.Common.{subst, sym}
 use Rattle.td_headings.specs.Catalogues.{CatalogueData}
-use Rattle.td_story.specs.Reports.{IsReport}
-use Rattle.td_story.specs.Stored.{AreStored}
-use Rattle.td_story.specs.Tests.{failing}
-use Rattle.td_story.specs.Databases.{stored_relvars}
+use Rattle.td_semantics.specs.Reports.{IsReport}
+use Rattle.td_semantics.specs.Stored.{AreStored}
+use Rattle.td_semantics.specs.Tests.{failing}
+use Rattle.td_semantics.specs.Databases.{stored_relvars}
 use Rattle.td_relvars.specs.ForProofs.Opened.{first_in}
 use Rattle.td_relvars.proofs.Told.{of_test}
 use Rattle.td_relvars.proofs.opening.judged.Goals as goal

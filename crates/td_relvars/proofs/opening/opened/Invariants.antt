@@ -1,6 +1,6 @@
 use Rattle.std.proofs.Common.{◌≡◌, drop}
-use Rattle.td_story.specs.Trees.{places_from}
-use Rattle.td_story.specs.Openings as spec
+use Rattle.td_semantics.specs.Trees.{places_from}
+use Rattle.td_semantics.specs.Openings as spec
 use Rattle.td_relvars.proofs.opening.opened.Given as goal
 
 abbrev pub invariant-loop-place : goal.invariant-loop-place

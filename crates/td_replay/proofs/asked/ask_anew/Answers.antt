@@ -1,8 +1,8 @@
 use Rattle.std.proofs.Common.{List, IfOk, sym, subst, ap, ◌∙◌}
 use Rattle.td_headings.specs.Catalogues.{CatalogueData}
 use Rattle.td_stamps.specs.declared.entry.Entry.{Entry}
-use Rattle.td_story.specs.Databases.{DatabaseData, stored_relvars}
-use Rattle.td_story.specs.Trees.{IsIn}
+use Rattle.td_semantics.specs.Databases.{DatabaseData, stored_relvars}
+use Rattle.td_semantics.specs.Trees.{IsIn}
 use Rattle.td_relvars.specs.Evaluated.{Says}
 use Rattle.td_replay.specs.ForProofs.Told.{IsLogged}
 use Rattle.td_replay.proofs.Copies.{one_catalogue, query_in, says_anew}

@@ -1,6 +1,6 @@
 use Rattle.std.proofs.Common.{◌≤◌, IfOk, ap, drop, length, sym, subst, ◌∙◌, arith}
 use Rattle.std.specs.List.{All, filter}
-use Rattle.td_story.specs.Databases.{Belongs, DatabaseData, stored_relvars}
+use Rattle.td_semantics.specs.Databases.{Belongs, DatabaseData, stored_relvars}
 use Rattle.td_relvars.specs.Evaluated.{Says}
 use Rattle.td_relvars.specs.Parts.{over, part_of}
 use Rattle.td_replay.specs.Noted.{opened_by}

@@ -4,7 +4,7 @@ use Rattle.std.proofs.lemmas.List.{take_all}
 use Rattle.td_headings.specs.declared.defined.Test.{Test}
 use Rattle.td_rollback.specs.Labels.{AreTied, has_label, starts_in}
 use Rattle.td_rollback.proofs.Tying.{all_or_none, coarser_through, item_more, tied_on}
-use Rattle.td_story.specs.Footprints.{TestReads}
+use Rattle.td_semantics.specs.Footprints.{TestReads}
 use Rattle.td_replay.proofs.engine.tie_tests.Goals as goal
 
 pub loop-place-preserved : goal.loop-place-preserved

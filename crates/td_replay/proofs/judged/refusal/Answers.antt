@@ -1,6 +1,6 @@
 use Rattle.std.proofs.Common.{Result, subst}
 use Rattle.td_replay.specs.ForProofs.Judged.{Judges}
-use Rattle.td_story.specs.declared.refusal.IssueError.{IssueError}
+use Rattle.td_replica.specs.declared.refusal.IssueError.{IssueError}
 use Rattle.td_replay.proofs.judged.refusal.Goals as goal
 
 pub unreachable-requires : goal.unreachable-requires

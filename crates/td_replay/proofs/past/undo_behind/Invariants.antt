@@ -1,6 +1,6 @@
 use Rattle.std.proofs.Common.{◌≡◌, ◌≤◌, ◌-◌, ℕ, List, length}
 use Rattle.td_stamps.specs.declared.entry.Entry.{Entry}
-use Rattle.td_story.specs.Databases.{DatabaseData}
+use Rattle.td_semantics.specs.Databases.{DatabaseData}
 use Rattle.td_replay.specs.Noted.{IsLegalDatabase}
 use Rattle.td_replay.specs.ForProofs.Past.{AreAt}
 use Rattle.td_replay.proofs.past.undo_behind.Given as goal

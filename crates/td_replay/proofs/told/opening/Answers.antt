@@ -1,4 +1,4 @@
-use Rattle.td_story.proofs.OneOpening.{opens_or_wants}
+use Rattle.td_semantics.proofs.OneOpening.{opens_or_wants}
 use Rattle.td_replay.proofs.told.opening.Goals as goal
 
 pub unreachable-requires : goal.unreachable-requires

@@ -1,6 +1,6 @@
 use Rattle.std.proofs.Common.{List, ℕ, ap, subst, ◌∙◌}
 use Rattle.td_io.specs.Views.{output_of}
-use Rattle.td_story.specs.Seen.{Seen}
+use Rattle.td_replica.specs.Seen.{Seen}
 use Rattle.td_journal.specs.Stores.{GoesOn}
 use Rattle.td_workbench.specs.Journals.{journal_name}
 use Rattle.td_workbench.proofs.Journaling.{seen_within}

@@ -1,6 +1,6 @@
 use Rattle.std.proofs.Common.{◌≡◌, inl, inr, ℕ, List, [], ◌∷◌, ◌++◌, ap, ◌∙◌, arith, map}
 use Rattle.std.proofs.lemmas.List.{map-append}
-use Rattle.td_story.specs.Seen.{Seen}
+use Rattle.td_replica.specs.Seen.{Seen}
 use Rattle.td_workbench.specs.Scripts.{new_sites}
 use Rattle.td_workbench.proofs.Starting.{new_sites_more}
 use Rattle.td_workbench.proofs.opening.open_sites.Goals as goal

@@ -1,6 +1,6 @@
 use Rattle.std.proofs.Common.{◌≡◌, ◌⊎◌, Ok, map}
-use Rattle.td_story.specs.Databases.{DatabaseData}
-use Rattle.td_story.specs.Scripts.{Opens}
+use Rattle.td_semantics.specs.Databases.{DatabaseData}
+use Rattle.td_semantics.specs.Scripts.{Opens}
 use Rattle.td_workbench.specs.Scripts.{new_sites}
 use Rattle.td_workbench.proofs.opening.open_sites.Given as goal
 

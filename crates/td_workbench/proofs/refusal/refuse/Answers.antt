@@ -1,5 +1,5 @@
 use Rattle.std.proofs.Common.{refl}
-use Rattle.td_story.specs.declared.error.ScriptError.TheVariants.{OpeningRaised, OpeningBroken, OutOfMemory}
+use Rattle.td_semantics.specs.declared.error.ScriptError.TheVariants.{OpeningRaised, OpeningBroken, OutOfMemory}
 use Rattle.td_workbench.proofs.Starting.{told_made}
 use Rattle.td_workbench.proofs.refusal.refuse.Goals as goal
 

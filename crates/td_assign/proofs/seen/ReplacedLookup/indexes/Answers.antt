@@ -1,7 +1,7 @@
 use Rattle.std.proofs.Common.{sym, ap, subst}
 use Rattle.td_eval.specs.Keyed.{AreByKeys}
-use Rattle.td_story.specs.Databases.{stored_relvars}
-use Rattle.td_story.specs.Given.{or_old}
+use Rattle.td_semantics.specs.Databases.{stored_relvars}
+use Rattle.td_semantics.specs.Given.{or_old}
 use Rattle.td_assign.proofs.seen.ReplacedLookup.indexes.Goals as goal
 
 pub returns-in-None : goal.returns-in-None

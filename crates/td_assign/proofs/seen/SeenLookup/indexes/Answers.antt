@@ -1,8 +1,8 @@
 use Rattle.std.proofs.Common.{◌≡◌, ◌==◌, Bool, true, false, if◌then◌else◌, refl, sym, ap, ◌∙◌, subst}
 use Rattle.std.proofs.lemmas.Bool.{ne_eqb}
 use Rattle.td_eval.specs.Keyed.{AreByKeys}
-use Rattle.td_story.specs.Databases.{stored_relvars}
-use Rattle.td_story.specs.Given.{or_old}
+use Rattle.td_semantics.specs.Databases.{stored_relvars}
+use Rattle.td_semantics.specs.Given.{or_old}
 use Rattle.td_assign.specs.ForProofs.Lists.{given_to}
 use Rattle.td_assign.proofs.seen.SeenLookup.indexes.Goals as goal
 

@@ -1,7 +1,7 @@
 use Rattle.std.proofs.Common.{rules, ◌≡◌, Err, Ok, false, ap, sym, subst, ◌∙◌}
 use Rattle.td_io.specs.Views.{output_of}
 use Rattle.td_stamps.specs.Sets.{Holding}
-use Rattle.td_story.specs.declared.refusal.IssueError.TheVariants as issue_error
+use Rattle.td_replica.specs.declared.refusal.IssueError.TheVariants as issue_error
 use Rattle.td_journal.specs.Keeping.{JournalsIssue}
 use Rattle.td_journal.specs.Views.{KeeperData, kept}
 use Rattle.td_journal.proofs.Kept.{issue_leaves, issue_refused, issue_written}

@@ -7,8 +7,8 @@ use Rattle.td_stamps.specs.Checks.{fresh_of}
 use Rattle.td_stamps.specs.declared.entry.Entry.{Entry}
 use Rattle.td_frames.specs.Spelling.{HasFrame, entry_frames}
 use Rattle.td_frames.specs.declared.version.Version.TheVariants.{Second}
-use Rattle.td_story.specs.Calls.{Takes}
-use Rattle.td_story.specs.declared.refusal.TakeError.TheVariants as take_error
+use Rattle.td_replica.specs.Calls.{Takes}
+use Rattle.td_replica.specs.declared.refusal.TakeError.TheVariants as take_error
 use Rattle.td_journal.specs.Keeping.{Accepts, JournalsBatch, LeavesPart}
 use Rattle.td_journal.specs.Views.{KeeperData, kept}
 use Rattle.td_journal.specs.Written.{HandsOn}

@@ -1,5 +1,5 @@
 use Rattle.std.proofs.Common.{rules, ◌≡◌, true, Bool, sym, subst}
-use Rattle.td_story.specs.Calls.{Asks}
+use Rattle.td_replica.specs.Calls.{Asks}
 use Rattle.td_journal.specs.Views.{KeeperData, kept}
 use Rattle.td_journal.proofs.keeper.KeeperReplica.ask.Goals as goal
 

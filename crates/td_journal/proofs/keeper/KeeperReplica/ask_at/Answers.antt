@@ -1,5 +1,5 @@
 use Rattle.std.proofs.Common.{rules, ◌≡◌, true, Bool, sym, subst}
-use Rattle.td_story.specs.Past.{AsksAt}
+use Rattle.td_replica.specs.Past.{AsksAt}
 use Rattle.td_journal.specs.Views.{KeeperData, kept}
 use Rattle.td_journal.proofs.keeper.KeeperReplica.ask_at.Goals as goal
 

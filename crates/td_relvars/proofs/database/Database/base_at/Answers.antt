@@ -4,7 +4,7 @@ use Rattle.std.specs.Prelude.{option_map}
 use Rattle.td_bases.specs.Bases.{BaseData}
 use Rattle.td_headings.specs.Catalogues.{CatalogueData}
 use Rattle.td_relvars.specs.Keys.{key_at}
-use Rattle.td_story.specs.Databases.{DatabaseData, stored_at}
+use Rattle.td_semantics.specs.Databases.{DatabaseData, stored_at}
 use Rattle.td_relvars.proofs.Bases.{first_there, flat, stored_rows}
 use Rattle.td_relvars.proofs.database.Database.base_at.Goals as goal
 

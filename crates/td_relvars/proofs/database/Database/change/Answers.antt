@@ -1,5 +1,5 @@
 use Rattle.std.proofs.Common.{sym, subst}
-use Rattle.td_story.specs.Databases.{DatabaseData}
+use Rattle.td_semantics.specs.Databases.{DatabaseData}
 use Rattle.td_relvars.specs.Changed.{CanChange}
 use Rattle.td_relvars.specs.ForProofs.Kept.{rows_of}
 use Rattle.td_relvars.proofs.Bases.{first_after, rows_kept}

@@ -1,5 +1,5 @@
 use Rattle.std.proofs.Common.{sym, subst}
-use Rattle.td_story.specs.Databases.{IsDatabase}
+use Rattle.td_semantics.specs.Databases.{IsDatabase}
 use Rattle.td_relvars.proofs.Stores.{empty_database}
 use Rattle.td_relvars.proofs.database.Database.empty.Goals as goal
 

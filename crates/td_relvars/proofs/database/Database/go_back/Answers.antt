@@ -1,6 +1,6 @@
 use Rattle.std.proofs.Common.{sym, subst}
 use Rattle.td_relations.specs.Deltas.{inverse_of}
-use Rattle.td_story.specs.Databases.{DatabaseData, IsDatabase}
+use Rattle.td_semantics.specs.Databases.{DatabaseData, IsDatabase}
 use Rattle.td_relvars.specs.Ways.{CanGoBack}
 use Rattle.td_relvars.specs.ForProofs.Kept.{rows_of}
 use Rattle.td_relvars.proofs.Bases.{first_stay}

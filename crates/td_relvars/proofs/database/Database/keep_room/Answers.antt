@@ -1,5 +1,5 @@
 use Rattle.std.proofs.Common.{sym, subst}
-use Rattle.td_story.specs.Databases.{IsDatabase}
+use Rattle.td_semantics.specs.Databases.{IsDatabase}
 use Rattle.td_relvars.specs.ForProofs.Kept.{AreFirst, keys_of, rows_of}
 use Rattle.td_relvars.proofs.database.Database.keep_room.Goals as goal
 

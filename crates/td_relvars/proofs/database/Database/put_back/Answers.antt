@@ -4,7 +4,7 @@ use Rattle.std.proofs.lemmas.List.Elements.{All-head, All-tail}
 use Rattle.td_values.specs.Rows.{RowsData}
 use Rattle.td_bases.specs.Bases.{BaseData}
 use Rattle.td_headings.specs.Catalogues.{CatalogueData}
-use Rattle.td_story.specs.Databases.{Belongs}
+use Rattle.td_semantics.specs.Databases.{Belongs}
 use Rattle.td_relvars.specs.ForProofs.Kept.{copied_keys, copies_of}
 use Rattle.td_relvars.specs.Keys.{key_at}
 use Rattle.td_relvars.specs.Parts.{AreTheirs, PartData, put_part}

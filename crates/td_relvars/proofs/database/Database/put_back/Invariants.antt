@@ -1,7 +1,7 @@
 use Rattle.std.proofs.Common.{◌≡◌, ℕ, All, map}
 use Rattle.std.specs.Vec.Iter.{into_iter_items}
 use Rattle.td_values.specs.Rows.{RowsData}
-use Rattle.td_story.specs.Databases.{Belongs}
+use Rattle.td_semantics.specs.Databases.{Belongs}
 use Rattle.td_relvars.specs.ForProofs.Kept.{copied_keys, copies_of}
 use Rattle.td_relvars.specs.Keys.{key_at}
 use Rattle.td_relvars.specs.Parts.{put_part}

@@ -1,5 +1,5 @@
 use Rattle.std.proofs.Common.{◌≡◌, ap, sym, ◌∙◌, subst}
-use Rattle.td_story.specs.Databases.{Belongs, DatabaseData, IsDatabase, put}
+use Rattle.td_semantics.specs.Databases.{Belongs, DatabaseData, IsDatabase, put}
 use Rattle.td_relvars.specs.ForProofs.Kept.{AreFirst, keys_of, rows_of}
 use Rattle.td_relvars.specs.Keys.{key_at}
 use Rattle.td_relvars.proofs.Bases.{first_set, rows_set}

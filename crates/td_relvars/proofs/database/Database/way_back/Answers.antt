@@ -1,5 +1,5 @@
 use Rattle.std.proofs.Common.{sym, subst}
-use Rattle.td_story.specs.Databases.{DatabaseData, IsDatabase}
+use Rattle.td_semantics.specs.Databases.{DatabaseData, IsDatabase}
 use Rattle.td_relvars.specs.Changed.{CanChange}
 use Rattle.td_relvars.specs.ForProofs.Kept.{AreFirst, keys_of, rows_of}
 use Rattle.td_relvars.proofs.Returning.{leads_at}

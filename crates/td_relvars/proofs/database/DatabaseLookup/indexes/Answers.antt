@@ -2,7 +2,7 @@ use Rattle.std.proofs.Common.{slice_get, sym, ap, ◌∙◌}
 use Rattle.std.specs.Option.{option_copied}
 use Rattle.std.specs.Prelude.{option_map}
 use Rattle.td_bases.specs.Bases.{BaseData}
-use Rattle.td_story.specs.Databases.{stored_relvars}
+use Rattle.td_semantics.specs.Databases.{stored_relvars}
 use Rattle.td_relvars.proofs.Stores.{lends, looked_up}
 use Rattle.td_relvars.proofs.database.DatabaseLookup.indexes.Goals as goal
 

@@ -3,7 +3,7 @@ use Rattle.std.specs.Option.{option_copied}
 use Rattle.std.specs.Prelude.{option_map}
 use Rattle.td_bases.specs.Bases.{BaseData}
 use Rattle.td_eval.specs.Keyed.{AreByKeys}
-use Rattle.td_story.specs.Databases.{stored_relvars}
+use Rattle.td_semantics.specs.Databases.{stored_relvars}
 use Rattle.td_relvars.specs.Parts.{or_there, over}
 use Rattle.td_relvars.proofs.Stores.{lends}
 use Rattle.td_relvars.proofs.evaluation.PastLookup.indexes.Goals as goal

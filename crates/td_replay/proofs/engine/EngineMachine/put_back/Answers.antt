@@ -1,7 +1,7 @@
 use Rattle.std.proofs.Common.{◌≡◌, ℕ, ap, sym, ◌∙◌, subst}
 use Rattle.std.specs.List.{All, Contains}
 use Rattle.td_headings.specs.Catalogues.{CatalogueData}
-use Rattle.td_story.specs.Databases.{Belongs, DatabaseData}
+use Rattle.td_semantics.specs.Databases.{Belongs, DatabaseData}
 use Rattle.td_values.specs.Rows.{RowsData}
 use Rattle.td_relvars.specs.Parts.{AreTheirs}
 use Rattle.td_replay.specs.Noted.{AgreeAt}

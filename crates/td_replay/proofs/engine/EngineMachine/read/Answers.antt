@@ -1,5 +1,5 @@
 use Rattle.std.proofs.Common.{◌≡◌, subst}
-use Rattle.td_story.specs.Databases.{DatabaseData}
+use Rattle.td_semantics.specs.Databases.{DatabaseData}
 use Rattle.td_replay.proofs.Making.{read_so}
 use Rattle.td_replay.proofs.engine.EngineMachine.read.Goals as goal
 

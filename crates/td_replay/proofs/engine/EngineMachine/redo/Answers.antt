@@ -2,7 +2,7 @@ use Rattle.std.proofs.Common.{◌≡◌, sym, subst}
 use Rattle.std.specs.Prelude.{OnErr, OnOk}
 use Rattle.td_assign.specs.Redoing.{CanRedo, IsBetween}
 use Rattle.td_relvars.specs.Changed.{redone}
-use Rattle.td_story.specs.Databases.{DatabaseData}
+use Rattle.td_semantics.specs.Databases.{DatabaseData}
 use Rattle.td_replay.proofs.Making.{can_redo, redone_elsewhere, redone_is}
 use Rattle.td_replay.proofs.engine.EngineMachine.redo.Goals as goal
 

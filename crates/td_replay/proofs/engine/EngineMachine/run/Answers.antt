@@ -1,7 +1,7 @@
 use Rattle.std.proofs.Common.{◌≡◌, subst}
 use Rattle.std.specs.Prelude.{IfOk, OnErr}
-use Rattle.td_story.specs.Databases.{DatabaseData}
-use Rattle.td_story.specs.Steps.{Steps}
+use Rattle.td_semantics.specs.Databases.{DatabaseData}
+use Rattle.td_semantics.specs.Steps.{Steps}
 use Rattle.td_replay.proofs.Making.{origin_ran}
 use Rattle.td_replay.proofs.engine.EngineMachine.run.Goals as goal
 

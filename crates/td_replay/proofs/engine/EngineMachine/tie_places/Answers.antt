@@ -1,7 +1,7 @@
 use Rattle.std.proofs.Common.{◌≡◌, ℕ, Option, subst}
 use Rattle.std.specs.Prelude.{OnOk}
 use Rattle.td_headings.specs.Catalogues.{CatalogueData}
-use Rattle.td_story.specs.Databases.{DatabaseData}
+use Rattle.td_semantics.specs.Databases.{DatabaseData}
 use Rattle.td_rollback.specs.Labels.{has_label}
 use Rattle.td_replay.specs.Noted.{AreClosed}
 use Rattle.td_replay.proofs.engine.EngineMachine.tie_places.Goals as goal

@@ -1,6 +1,6 @@
 use Rattle.std.proofs.Common.{Ok, Err, MatchResult, subst}
 use Rattle.td_changes.specs.Changes.{TellsChanges}
-use Rattle.td_story.specs.Seen.{Contents, always_open}
+use Rattle.td_replica.specs.Seen.{Contents, always_open}
 use Rattle.td_replay.proofs.plain.PlainSiteChanges.changed_by.Goals as goal
 
 pub returns : goal.returns

@@ -1,5 +1,5 @@
 use Rattle.std.proofs.Common.{refl, sym, subst}
-use Rattle.td_story.specs.Seen.{Contents, always_open}
+use Rattle.td_replica.specs.Seen.{Contents, always_open}
 use Rattle.td_replay.specs.Counted.{RunsIn}
 use Rattle.td_replay.proofs.site.SiteReplica.take.Goals as goal
 

@@ -1,7 +1,7 @@
 use Rattle.std.proofs.Common.{refl, subst}
-use Rattle.td_story.specs.Calls.{Asks}
-use Rattle.td_story.specs.Databases.{DatabaseData}
-use Rattle.td_story.specs.Seen.{Contents, always_open}
+use Rattle.td_replica.specs.Calls.{Asks}
+use Rattle.td_semantics.specs.Databases.{DatabaseData}
+use Rattle.td_replica.specs.Seen.{Contents, always_open}
 use Rattle.td_replay.specs.ForProofs.Asked.{Answers}
 use Rattle.td_replay.specs.ForProofs.Told.{outcomes_of}
 use Rattle.td_replay.proofs.Asking.{asks}

@@ -2,9 +2,9 @@ use Rattle.std.proofs.Common.{◌≡◌, ℕ, true, List, Ok, Err, IfOk, refl, s
 use Rattle.std.proofs.lemmas.Option.{slice_get_within}
 use Rattle.td_headings.specs.Catalogues.{CatalogueData}
 use Rattle.td_stamps.specs.declared.entry.Entry.{Entry}
-use Rattle.td_story.specs.Databases.{DatabaseData}
-use Rattle.td_story.specs.Past.{AsksAt, HasNoPlace, IsQueryOf}
-use Rattle.td_story.specs.Seen.{Contents, always_open}
+use Rattle.td_semantics.specs.Databases.{DatabaseData}
+use Rattle.td_replica.specs.Past.{AsksAt, HasNoPlace, IsQueryOf}
+use Rattle.td_replica.specs.Seen.{Contents, always_open}
 use Rattle.td_replay.specs.ForProofs.Past.{EndsWith, SaysAfter, TellsQuery, Types}
 use Rattle.td_replay.specs.ForProofs.Told.{outcomes_of}
 use Rattle.td_replay.proofs.Earlier.{asks_at, is_query, past_refusal}

@@ -2,8 +2,8 @@ use Rattle.std.proofs.Common.{◌≡◌, ◌-◌, ℕ, List, get_or, refl, sym, 
 use Rattle.td_changes.specs.Changes.{IsChangedBy}
 use Rattle.td_relations.specs.Deltas.{DeltaData}
 use Rattle.td_stamps.specs.declared.entry.Entry.{Entry}
-use Rattle.td_story.specs.Past.{HasNoPlace}
-use Rattle.td_story.specs.Seen.{Contents, always_open}
+use Rattle.td_replica.specs.Past.{HasNoPlace}
+use Rattle.td_replica.specs.Seen.{Contents, always_open}
 use Rattle.td_replay.specs.ForProofs.Past.{EndsWith}
 use Rattle.td_replay.proofs.Changing.{changed_here, in_log}
 use Rattle.td_replay.proofs.state.State.changed_by.Goals as goal

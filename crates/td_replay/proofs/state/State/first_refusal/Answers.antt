@@ -1,11 +1,11 @@
 use Rattle.std.proofs.Common.{Err, Result, refl, sym, ap, subst, ◌∙◌}
 use Rattle.td_headings.specs.Catalogues.{CatalogueData}
-use Rattle.td_story.specs.Calls.{Issues}
-use Rattle.td_story.specs.Databases.{DatabaseData}
+use Rattle.td_replica.specs.Calls.{Issues}
+use Rattle.td_semantics.specs.Databases.{DatabaseData}
 use Rattle.td_replay.specs.ForProofs.Judged.{IsRefusal, Judges}
 use Rattle.td_replay.specs.ForProofs.Told.{Numbers, outcomes_of}
-use Rattle.td_story.specs.Seen.{Contents, always_open}
-use Rattle.td_story.specs.declared.refusal.IssueError.{IssueError}
+use Rattle.td_replica.specs.Seen.{Contents, always_open}
+use Rattle.td_replica.specs.declared.refusal.IssueError.{IssueError}
 use Rattle.td_replay.proofs.Issuing.{issues_no_entry, issues_refusal}
 use Rattle.td_replay.proofs.Telling.{logged_story}
 use Rattle.td_replay.proofs.state.State.first_refusal.Goals as goal

@@ -1,14 +1,14 @@
 use Rattle.std.proofs.Common.{◌≡◌, ℕ, true, List, Ok, Err, refl, sym, ap, subst, ◌∙◌}
 use Rattle.td_headings.specs.Catalogues.{CatalogueData}
 use Rattle.td_stamps.specs.Sets.{Holding}
-use Rattle.td_story.specs.Databases.{DatabaseData}
-use Rattle.td_story.specs.Steps.{IsUnreadText}
-use Rattle.td_story.specs.Calls.{Issues, IssuesEntry, entry_of, written}
+use Rattle.td_semantics.specs.Databases.{DatabaseData}
+use Rattle.td_semantics.specs.Steps.{IsUnreadText}
+use Rattle.td_replica.specs.Calls.{Issues, IssuesEntry, entry_of, written}
 use Rattle.td_replay.specs.ForProofs.Judged.{IsRefusal}
 use Rattle.td_replay.specs.ForProofs.Told.{IsLogged, outcomes_of}
-use Rattle.td_story.specs.Seen.{Contents, Seen, always_open, is_limit}
-use Rattle.td_story.specs.declared.answer.Issued.{Issued}
-use Rattle.td_story.specs.declared.refusal.IssueError.TheVariants as issue_error
+use Rattle.td_replica.specs.Seen.{Contents, Seen, always_open, is_limit}
+use Rattle.td_replica.specs.declared.calls.Issued.{Issued}
+use Rattle.td_replica.specs.declared.refusal.IssueError.TheVariants as issue_error
 use Rattle.td_replay.proofs.Issuing.{issues_entry, issues_refusal, next_is_known, next_is_last, next_may_be_added}
 use Rattle.td_replay.proofs.Telling.{logged_more, logged_sound, logged_story}
 use Rattle.td_replay.proofs.state.State.issue_entry.Goals as goal

@@ -2,8 +2,8 @@ use Rattle.std.proofs.Common.{◌≡◌, ◌≤◌, ℕ, List, [], true, sym, su
 use Rattle.std.proofs.lemmas.Bool.Decides.{nat_tests}
 use Rattle.td_stamps.specs.Sets.{Holding}
 use Rattle.td_replay.specs.ForProofs.Told.{IsLogged}
-use Rattle.td_story.specs.NewSites.{Fit}
-use Rattle.td_story.specs.Seen.{is_limit}
+use Rattle.td_replica.specs.NewSites.{Fit}
+use Rattle.td_replica.specs.Seen.{is_limit}
 use Rattle.td_replay.proofs.state.State.open_script.Goals as goal
 
 within : (n : ℕ) → 1 ≤ n → n ≤ 100000 → is_limit n ≡ true

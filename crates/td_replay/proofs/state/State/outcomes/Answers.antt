@@ -1,8 +1,8 @@
 use Rattle.std.proofs.Common.{◌≡◌, true, refl, sym, ap, subst, ◌∙◌}
-use Rattle.td_story.specs.Databases.{DatabaseData}
+use Rattle.td_semantics.specs.Databases.{DatabaseData}
 use Rattle.td_replay.specs.ForProofs.Told.{Outcomes, outcomes_of}
-use Rattle.td_story.specs.Seen.{Contents}
-use Rattle.td_story.specs.Stories.{IsStory}
+use Rattle.td_replica.specs.Seen.{Contents}
+use Rattle.td_replica.specs.Stories.{IsStory}
 use Rattle.td_replay.proofs.Telling.{logged_story}
 use Rattle.td_replay.proofs.state.State.outcomes.Goals as goal
 

@@ -1,6 +1,6 @@
 use Rattle.std.proofs.Common.{subst}
 use Rattle.td_replay.specs.ForProofs.Told.{outcomes_of}
-use Rattle.td_story.specs.Seen.{Contents, IsSound, always_open}
+use Rattle.td_replica.specs.Seen.{Contents, IsSound, always_open}
 use Rattle.td_replay.proofs.Telling.{logged_story}
 use Rattle.td_replay.proofs.state.State.site.Goals as goal
 

@@ -2,8 +2,8 @@ use Rattle.std.proofs.Common.{ℕ, List, length, Ok, refl, sym, ap, subst, ◌�
 use Rattle.td_rollback.specs.Touched.{AreMore}
 use Rattle.td_rollback.proofs.More.{union_is_more}
 use Rattle.td_stamps.specs.declared.entry.Entry.{Entry}
-use Rattle.td_story.specs.Calls.{TakesBatch}
-use Rattle.td_story.specs.Seen.{Contents, always_open}
+use Rattle.td_replica.specs.Calls.{TakesBatch}
+use Rattle.td_replica.specs.Seen.{Contents, always_open}
 use Rattle.td_stamps.specs.Sets.{union}
 use Rattle.td_replay.specs.Counted.{RunsIn, RunsOver}
 use Rattle.td_replay.specs.Noted.{opened_by}

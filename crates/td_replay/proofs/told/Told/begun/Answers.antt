@@ -1,6 +1,6 @@
 use Rattle.std.proofs.Common.{[], None, sym, subst}
-use Rattle.td_story.specs.Databases.{IsLegal}
-use Rattle.td_story.specs.Scripts.{OpensOn}
+use Rattle.td_semantics.specs.Databases.{IsLegal}
+use Rattle.td_semantics.specs.Scripts.{OpensOn}
 use Rattle.td_replay.specs.ForProofs.Told.{IsLogged, Log}
 use Rattle.td_replay.proofs.Telling.{begun}
 use Rattle.td_replay.proofs.told.Told.begun.Goals as goal

@@ -1,0 +1,7 @@
+-- The definitions of the crate.
+pub mod Stories
+pub mod Seen
+pub mod Calls
+pub mod Past
+pub mod NewSites
+pub mod Laws

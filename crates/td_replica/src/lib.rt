@@ -1,0 +1,22 @@
+//! What every kind of site is: the trait of sites with the contracts of its calls, what a site is seen as, the story of
+//! the entries that it holds, and the laws of these.
+//!
+//! Begin with `Replica`, the trait of all kinds of sites, and `specs/Calls.antt`, what its calls answer and leave.
+//! `Opens` opens a site from a script.
+//!
+//! Definitions to trust, in `specs/`: Calls, Laws, NewSites, Past, Seen, Stories.
+//!
+//! td_replica has next to no code, and knows no kind of site. Kinds of sites, journals, meetings and whatever shows
+//! sites stand on it, so that none of them waits for evaluation.
+#![tactic(auto)]
+
+pub mod calls;
+pub mod laws;
+pub mod refusal;
+pub mod replica;
+
+pub use calls::{Issued, Taken};
+pub use refusal::{
+    AskError, IssueError, NotOpen, OpenError, PastError, TakeError, TellError, ValueError,
+};
+pub use replica::{MOST_BYTES, MOST_ENTRIES, Opens, Replica, SCRIPT_BYTES};

@@ -1,0 +1,43 @@
+//! What a script defines.
+
+ghost use Rattle.std.specs.Prelude.{◌≡◌, Err, IfOk};
+ghost use Rattle.td_schema.specs.declared.error.TypeError.TheVariants as type_error;
+ghost use Rattle.td_headings.specs.Catalogues.{CatalogueData, nothing_defined};
+ghost use Rattle.td_semantics.specs.Scripts.{DefinesAll, IsCatalogue};
+
+use crate::error::CatalogueError;
+use std::alloc::Global;
+use td_grammar::{ReadError, read_script};
+use td_headings::Catalogue;
+use td_schema::error::TypeError;
+use td_syntax::script::Definition;
+
+fn define_all(alloc: Global, definitions: &[Definition]) -> Result<Catalogue, TypeError>
+    ensures typed { IfOk result (DefinesAll nothing_defined definitions.now) }
+    ensures refused { result ≡ Err type_error.IllTyped → (c : CatalogueData) → DefinesAll nothing_defined definitions.now c → ⊥ }
+{
+    let mut catalogue = Catalogue::new(alloc);
+    for definition in definitions {
+        match catalogue.define(alloc, definition) {
+            Ok(()) => {}
+            Err(error) => return Err(error),
+        }
+    }
+    Ok(catalogue)
+}
+
+/// What the definitions of a script make. It costs the reading and typing of the text.
+pub fn catalogue_of(alloc: Global, text: &str) -> Result<Catalogue, CatalogueError>
+    ensures { IsCatalogue text.now result }
+{
+    let definitions = match read_script(alloc, text) {
+        Ok(definitions) => definitions,
+        Err(ReadError::Syntax) => return Err(CatalogueError::Syntax),
+        Err(ReadError::OutOfMemory) => return Err(CatalogueError::OutOfMemory),
+    };
+    match define_all(alloc, definitions.as_slice()) {
+        Ok(catalogue) => Ok(catalogue),
+        Err(TypeError::IllTyped) => Err(CatalogueError::IllTyped),
+        Err(TypeError::OutOfMemory) => Err(CatalogueError::OutOfMemory),
+    }
+}

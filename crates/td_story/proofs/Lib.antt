@@ -1,8 +1,0 @@
--- The proofs of the crate.
-pub mod Defining
-pub mod OneOpening
-pub mod Unique
-pub mod Legal
-pub mod Agreeing
-pub mod Leading
-pub mod Places

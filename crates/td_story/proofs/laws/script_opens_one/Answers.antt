@@ -1,5 +1,0 @@
-use Rattle.td_story.proofs.OneOpening.{one_catalogue, one_opening, opens_or_wants}
-use Rattle.td_story.proofs.laws.script_opens_one.Goals as goal
-
-pub returns : goal.returns
-returns c = record { script = one_catalogue; opening = one_opening; again = opens_or_wants }

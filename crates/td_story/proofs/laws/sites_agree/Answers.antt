@@ -1,5 +1,0 @@
-use Rattle.td_story.proofs.Agreeing.{sites_agree}
-use Rattle.td_story.proofs.laws.sites_agree.Goals as goal
-
-pub returns : goal.returns
-returns c = sites_agree

@@ -1,5 +1,0 @@
-use Rattle.td_story.proofs.Legal.{step_is_legal}
-use Rattle.td_story.proofs.laws.step_is_legal.Goals as goal
-
-pub returns : goal.returns
-returns c = step_is_legal

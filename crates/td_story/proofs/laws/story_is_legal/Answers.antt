@@ -1,5 +1,0 @@
-use Rattle.td_story.proofs.Agreeing.{story_is_legal}
-use Rattle.td_story.proofs.laws.story_is_legal.Goals as goal
-
-pub returns : goal.returns
-returns c = story_is_legal
