@@ -2,11 +2,11 @@
 
 use std::alloc::{AllocError, Global};
 use std::test::Fail;
-use td_graph::{Leads, Links, reached, reached_by, unmarked};
+use td_graph::{Graph, Leads, reached, reached_by, unmarked};
 
 // Whether each place that is reached is come to once, and a link to no place is passed over.
 fn is_walked(alloc: Global) -> Result<bool, AllocError> {
-    let mut links = Links::new(alloc, 4)?;
+    let mut links = Graph::new(alloc, 4)?;
     links.add(0, 1)?;
     links.add(1, 2)?;
     links.add(2, 1)?;
@@ -25,7 +25,7 @@ fn a_walk_ends_where_it_has_been(rt: HostRuntime) -> Result<(), Fail> {
 
 // Whether two walks by the same marks come to the same places.
 fn is_walked_again(alloc: Global) -> Result<bool, AllocError> {
-    let mut links = Links::new(alloc, 3)?;
+    let mut links = Graph::new(alloc, 3)?;
     links.add(0, 1)?;
     links.add(1, 0)?;
     let mut marks = unmarked(alloc, &links)?;

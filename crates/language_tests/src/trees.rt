@@ -9,7 +9,7 @@ use std::alloc::{AllocError, Global};
 use std::convert::Infallible;
 use std::slice;
 use td_algebra::Fault;
-use td_meaning::{Environment, Scope, eval};
+use td_meaning::{Bindings, Environment, eval};
 use td_syntax::tree::BinaryOperator;
 use td_typed_trees::expression::Selector;
 use td_typed_trees::{Mention, Typed, add_mentions, possreps_in, relvars_in};
@@ -22,7 +22,7 @@ fn shown(alloc: Global, selectors: &[Selector], tree: &Typed) -> Result<String> 
         virtuals: &[],
         selectors,
     };
-    match eval::<Infallible>(alloc, &env, &[], tree, &Scope::Nothing) {
+    match eval::<Infallible>(alloc, &env, &[], tree, &Bindings::Nothing) {
         Ok(value) => Ok(show(alloc, &value)?),
         Err(Fault::Raised(stop)) => Ok(format!(in alloc; "{stop}")?),
         Err(Fault::OutOfMemory) => Err(AllocError)?,

@@ -7,7 +7,7 @@ use td_grammar::{Definition, Expr, Statement, read_expr, read_script, read_state
 use td_headings::{
     Catalogue, IllTyped, TypedExpr, TypedStatement, reads, targets, type_expr, type_statement,
 };
-use td_tokens::{Kind, Token, tokens};
+use td_tokens::{Token, TokenKind, tokens};
 use td_values::Name;
 
 // Where the first token stands, and whether it is an integer.
@@ -23,7 +23,7 @@ fn first_token(alloc: Global, text: &str) -> Result<Option<(usize, usize, bool)>
                 start,
                 end,
             },
-        ) => Ok(Some((*start, *end, matches!(kind, Kind::Int(_))))),
+        ) => Ok(Some((*start, *end, matches!(kind, TokenKind::Int(_))))),
         None => Ok(None),
     }
 }

@@ -27,7 +27,7 @@ use Rattle.td_tuples.specs.declared.items.Summary.{Summary}
 use Rattle.td_algebra.specs.Closures.{HasColumns, IsBinary, Closed}
 use Rattle.td_algebra.specs.ForProofs.Steps.{has_value, links}
 use Rattle.td_tuples.specs.Items.{extended_columns}
-use Rattle.td_algebra.specs.Extending.{Meaning, Extended, RaisedBy, extended_at}
+use Rattle.td_algebra.specs.Extending.{TermMeaning, Extended, RaisedBy, extended_at}
 use Rattle.td_algebra.specs.Functions.{relation_from, union_of, intersect_of, minus_of, project_of, rename_of, agrees, join_of, matching_of, not_matching_of, compose_of, group_at, grouping_of, wrap_of, open_of, ungroup_of, unwrap_of, with_through, with_through_end, tclose_of, restricted, extended, summarized}
 use Rattle.td_algebra.specs.ForProofs.Index.{is_matched}
 use Rattle.td_tuples.specs.Nestings.{IsRelationValued, IsTupleValued, grouped_columns, wrapped_columns, opened_columns}
@@ -321,7 +321,7 @@ module _ (m : Attrs → Result Bool Stop) (r : RowsData) where
   unfolding restricted
   restricts_to a u = answers (RaisedIn m r) r.heading (Restricted m r) (restricted m r) a (by_walk (all_of m r.tuples) refl) u
 
-module _ {E : Type 0} (m : Meaning E) (items : List (Item E)) (r : RowsData) where
+module _ {E : Type 0} (m : TermMeaning E) (items : List (Item E)) (r : RowsData) where
   by_items : (w : Result (List Attrs) Stop) → all_of (extended_at m items) r.tuples ≡ w → Unless (RaisedBy m items r) (IsRelationOf (extended_columns items r.heading) (Extended m items r)) (told (and_then w (λ us. Ok (relation_from (extended_columns items r.heading) us))))
   by_items (Ok us) is = extends m items r (extended_columns items r.heading) us (relation_from (extended_columns items r.heading) us) is (relation_of_is (extended_columns items r.heading) (tuple_set us))
   by_items (Err e) is = extension_fails m items r {W = Infallible} (λ (xs : List Attrs). xs) (IsRelationOf (extended_columns items r.heading) (Extended m items r)) (Raised e) is
@@ -334,12 +334,12 @@ module _ {E : Type 0} (m : Meaning E) (items : List (Item E)) (r : RowsData) whe
   unfolding extended
   extends_to a u = answers (RaisedBy m items r) (extended_columns items r.heading) (Extended m items r) (extended m items r) a (by_items (all_of (extended_at m items) r.tuples) refl) u
 
-pub summarizes_to : {E W : Type 0} (m : Meaning E) (items : List (Item (Summary E))) (r per : RowsData) (a : Result RowsData (Fault W))
+pub summarizes_to : {E W : Type 0} (m : TermMeaning E) (items : List (Item (Summary E))) (r per : RowsData) (a : Result RowsData (Fault W))
     → Unless (RaisedBy (over_groups m r per.heading) items per) (IsRelationOf (extended_columns items per.heading) (Extended (over_groups m r per.heading) items per)) a → Answers a (summarized m items r per)
 unfolding summarized
 summarizes_to m items r per a u = extends_to (over_groups m r per.heading) items per a u
 
-pub summarized_is : {E : Type 0} (m : Meaning E) (items : List (Item (Summary E))) (r per : RowsData)
+pub summarized_is : {E : Type 0} (m : TermMeaning E) (items : List (Item (Summary E))) (r per : RowsData)
     → UnlessRaised (RaisedBy (over_groups m r per.heading) items per) (IsRelationOf (extended_columns items per.heading) (Extended (over_groups m r per.heading) items per)) (summarized m items r per)
 unfolding summarized
 summarized_is m items r per = extended_is (over_groups m r per.heading) items per

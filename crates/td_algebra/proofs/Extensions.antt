@@ -21,7 +21,7 @@ use Rattle.td_algebra.specs.declared.errors.Fault.{Fault}
 use Rattle.td_algebra.specs.declared.errors.Fault.TheVariants.{Raised, OutOfMemory, Wanting}
 use Rattle.td_tuples.specs.declared.items.Item.{Item}
 use Rattle.td_algebra.specs.Raising.{AnswersBy, Unless, UnlessRaised, all_of, and_then}
-use Rattle.td_algebra.specs.Extending.{Meaning, field_at, fields_at, extended_at, Extended, RaisedBy}
+use Rattle.td_algebra.specs.Extending.{TermMeaning, field_at, fields_at, extended_at, Extended, RaisedBy}
 use Rattle.td_algebra.proofs.Walks.{Tells, tells, answers_from, answers_there}
 
 -- the test of a type
@@ -48,7 +48,7 @@ module _ {A B : Type 0} (f : A → B) where
   err_to (Ok x) e h = cc
   err_to (Err d) e h = cc
 
-module _ {E : Type 0} (m : Meaning E) (items : List (Item E)) where
+module _ {E : Type 0} (m : TermMeaning E) (items : List (Item E)) where
   -- the error of a tuple is that of an item
   raised_at : (t : Attrs) (e : Stop) → extended_at m items t ≡ Err e → (i : Item E) × Contains items i × (field_at m t i ≡ Err e)
   raised_at t e h =

@@ -13,7 +13,7 @@ use Rattle.td_tuples.specs.declared.items.Item.{Item}
 use Rattle.td_tuples.specs.declared.items.Summary.{Summary}
 use Rattle.td_algebra.specs.declared.errors.Stop.{Stop}
 use Rattle.td_algebra.specs.Closures.{IsBinary, Closed}
-use Rattle.td_algebra.specs.Extending.{Meaning, Extended, RaisedBy}
+use Rattle.td_algebra.specs.Extending.{TermMeaning, Extended, RaisedBy}
 use Rattle.td_algebra.specs.Functions.{union_of, intersect_of, minus_of, project_of, rename_of, join_of, matching_of, not_matching_of, compose_of, grouping_of, wrap_of, ungroup_of, unwrap_of, tclose_of, restricted, extended, summarized}
 use Rattle.td_algebra.specs.Nested.{Grouped, Wrapped, Ungrouped, Unwrapped}
 use Rattle.td_algebra.specs.Operators.{United, Common, Remaining, Projected, Renamed, Joined, Matching, NotMatching, Composed}
@@ -85,10 +85,10 @@ RestrictedIs = (m : Attrs → Result Bool Stop) (r : RowsData) → UnlessRaised 
 -- for terms of any kind
 
 abbrev pub ExtendedIs : Type 0 → Type 0
-ExtendedIs E = (m : Meaning E) (items : List (Item E)) (r : RowsData)
+ExtendedIs E = (m : TermMeaning E) (items : List (Item E)) (r : RowsData)
     → UnlessRaised (RaisedBy m items r) (IsRelationOf (extended_columns items r.heading) (Extended m items r)) (extended m items r)
 
 abbrev pub SummarizedIs : Type 0 → Type 0
-SummarizedIs E = (m : Meaning E) (items : List (Item (Summary E))) (r per : RowsData)
+SummarizedIs E = (m : TermMeaning E) (items : List (Item (Summary E))) (r per : RowsData)
     → UnlessRaised (RaisedBy (over_groups m r per.heading) items per) (IsRelationOf (extended_columns items per.heading) (Extended (over_groups m r per.heading) items per))
     (summarized m items r per)

@@ -15,7 +15,7 @@ use Rattle.td_tuples.specs.declared.items.Summary.{Summary}
 use Rattle.td_tuples.specs.declared.items.Summary.TheVariants.{Count, Sum, Max, Min, And, Or}
 use Rattle.td_algebra.specs.declared.errors.Fault.{Fault}
 use Rattle.td_algebra.specs.Raising.{all_of, and_then}
-use Rattle.td_algebra.specs.Extending.{Meaning, TakesBoth, Means}
+use Rattle.td_algebra.specs.Extending.{TermMeaning, TakesBoth, Means}
 
 -- the group of u: the tuples of r whose part at the names of the heading is u
 abbrev pub group_of : RowsData → Header → Attrs → List Attrs
@@ -72,15 +72,15 @@ term_of (And e) = Some e
 term_of (Or e) = Some e
 
 -- a summary over a group: of how many tuples it has, or of the term's values on them, or else the least of their errors
-abbrev pub over_term : {E : Type 0} → Meaning E → List Attrs → Summary E → Option E → Result Datum Stop
+abbrev pub over_term : {E : Type 0} → TermMeaning E → List Attrs → Summary E → Option E → Result Datum Stop
 over_term m ts s None = Ok (integer (pos (length ts)))
 over_term m ts s (Some e) = and_then (all_of (m e) ts) (fold_of s)
 
-abbrev pub summary_over : {E : Type 0} → Meaning E → List Attrs → Summary E → Result Datum Stop
+abbrev pub summary_over : {E : Type 0} → TermMeaning E → List Attrs → Summary E → Result Datum Stop
 summary_over m ts s = over_term m ts s (term_of s)
 
 -- what summaries mean at a tuple u: each over u's group in r
-abbrev pub over_groups : {E : Type 0} → Meaning E → RowsData → Header → Meaning (Summary E)
+abbrev pub over_groups : {E : Type 0} → TermMeaning E → RowsData → Header → TermMeaning (Summary E)
 over_groups m r h summary u = summary_over m (group_of r h u) summary
 
 -- a fact of a summary's term
@@ -91,7 +91,7 @@ OfTerm P s = IfSome (term_of s) P
 abbrev pub TakesTerm : {E : Type 0} → (Bor E → Bor Attrs → Type 0) → Summary E → Attrs → Type 0
 TakesTerm pre s t = OfTerm (λ e. TakesBoth pre e t) s
 
-abbrev pub MeansTerm : {E W : Type 0} → (Bor E → Bor Attrs → Result Datum (Fault W) → Type 0) → Meaning E → Summary E → Attrs → Type 0
+abbrev pub MeansTerm : {E W : Type 0} → (Bor E → Bor Attrs → Result Datum (Fault W) → Type 0) → TermMeaning E → Summary E → Attrs → Type 0
 MeansTerm post m s t = OfTerm (λ e. Means post m e t) s
 
 -- ---- what the greatest and the least are

@@ -13,7 +13,7 @@ ghost use Rattle.td_values.specs.Data.{Datum, attr, no_attrs};
 ghost use Rattle.td_values.specs.Order.{attrs_order, text_cmp};
 
 use std::alloc::{AllocError, Global};
-use td_graph::{Leads, Links, reached_by, unmarked};
+use td_graph::{Graph, Leads, reached_by, unmarked};
 use td_relations::Relation;
 use td_values::{Heading, Name, Tuple, Value, compare_types, copy};
 
@@ -104,7 +104,7 @@ fn place_at(
 // Lets the place of the tuple's first value lead to that of its second one.
 fn add_link(
     alloc: Global,
-    links: &mut Links,
+    links: &mut Graph,
     ends: &[Tuple],
     tuple: &Tuple,
     first: &Name,
@@ -129,13 +129,13 @@ fn links_of(
     ends: &[Tuple],
     first: &Name,
     second: &Name,
-) -> Result<Links, AllocError>
+) -> Result<Graph, AllocError>
     requires ascending { IsStrictlySortedBy attrs_order ends.now }
     requires columns { HasColumns first.now second.now r.now.heading }
     requires all { tuple_set ends.now ≡ tuple_set (flat_map (ends_in first.now second.now) r.now.tuples) }
     ensures { IfOk result (AreLinks first.now second.now ends.now r.now.tuples) }
 {
-    let mut links = Links::new(alloc, ends.len())?;
+    let mut links = Graph::new(alloc, ends.len())?;
     for tuple in r.tuples() {
         add_link(alloc, &mut links, ends, tuple, first, second)?;
     }
@@ -201,7 +201,7 @@ fn add_pairs(
 // The places that are reached from this one, by a step or more, by marks that are lent.
 fn beyond(
     alloc: Global,
-    links: &Links,
+    links: &Graph,
     place: usize,
     marks: &mut Vec<bool>,
 ) -> Result<Vec<usize>, AllocError>
@@ -221,7 +221,7 @@ fn pairs_of(
     first: &Name,
     second: &Name,
     ends: &[Tuple],
-    links: &Links,
+    links: &Graph,
 ) -> Result<Vec<Tuple>, AllocError>
     requires names { text_cmp first.now second.now ≡ Less }
     requires many { length links.now ≡ length ends.now }

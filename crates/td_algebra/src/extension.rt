@@ -13,7 +13,7 @@ ghost use Rattle.td_tuples.specs.Unions.{tuple_of};
 ghost use Rattle.td_algebra.specs.Raising.{Answers, AnswersBy, Unless, all_of};
 ghost use Rattle.td_algebra.specs.Extending as spec;
 ghost use Rattle.td_tuples.specs.Items.{column_of, extended_columns};
-ghost use Rattle.td_algebra.specs.Extending.{Meaning, TakesBoth, Means, TakesItems, MeansItems, Extended, RaisedBy};
+ghost use Rattle.td_algebra.specs.Extending.{TermMeaning, TakesBoth, Means, TakesItems, MeansItems, Extended, RaisedBy};
 
 use crate::errors::{Fault, Stop};
 use crate::gathered::Gathered;
@@ -49,7 +49,7 @@ fn field_at<E, W, F: Fn(&E, &Tuple) -> Result<Value, Fault<W>>>(
     f: &F,
 ) -> Result<(Name, Value), Fault<W>>
     requires { TakesBoth (F.pre f.now) item.now.term tuple.now }
-    ensures means { (m : Meaning E) → Means (F.post f.now) m item.now.term tuple.now → Answers result (spec.field_at m tuple.now item.now) }
+    ensures means { (m : TermMeaning E) → Means (F.post f.now) m item.now.term tuple.now → Answers result (spec.field_at m tuple.now item.now) }
     ensures typed { IfOk result (λ x. (x.0, type_of x.1) ≡ column_of item.now) }
 {
     match f(&item.term, tuple) {
@@ -66,7 +66,7 @@ fn fields_at<E, W, F: Fn(&E, &Tuple) -> Result<Value, Fault<W>>>(
     f: &F,
 ) -> Result<Vec<(Name, Value)>, Fault<W>>
     requires { TakesItems (F.pre f.now) items.now tuple.now }
-    ensures means { (m : Meaning E) → MeansItems (F.post f.now) m items.now tuple.now → AnswersBy (λ v. v.items) result (spec.fields_at m items.now tuple.now) }
+    ensures means { (m : TermMeaning E) → MeansItems (F.post f.now) m items.now tuple.now → AnswersBy (λ v. v.items) result (spec.fields_at m items.now tuple.now) }
     ensures typed { IfOk result (λ v. map (λ x. (x.0, type_of x.1)) v.items ≡ map column_of items.now) }
 {
     let mut gathered = Gathered::new(alloc);
@@ -84,7 +84,7 @@ fn extended_at<E, W, F: Fn(&E, &Tuple) -> Result<Value, Fault<W>>>(
     f: &F,
 ) -> Result<Tuple, Fault<W>>
     requires { TakesItems (F.pre f.now) items.now tuple.now }
-    ensures means { (m : Meaning E) → MeansItems (F.post f.now) m items.now tuple.now → Answers result (spec.extended_at m items.now tuple.now) }
+    ensures means { (m : TermMeaning E) → MeansItems (F.post f.now) m items.now tuple.now → Answers result (spec.extended_at m items.now tuple.now) }
     ensures typed { (h : Header) → Fits h tuple.now → IfOk result (Fits (extended_columns items.now h)) }
 {
     let fields = match fields_at(alloc, items, tuple, f) {
@@ -103,7 +103,7 @@ fn extended_all<E, W, F: Fn(&E, &Tuple) -> Result<Value, Fault<W>>>(
     f: &F,
 ) -> Result<Vec<Tuple>, Fault<W>>
     requires { All (TakesItems (F.pre f.now) items.now) tuples.now }
-    ensures means { (m : Meaning E) → All (MeansItems (F.post f.now) m items.now) tuples.now → AnswersBy (λ v. v.items) result (all_of (spec.extended_at m items.now) tuples.now) }
+    ensures means { (m : TermMeaning E) → All (MeansItems (F.post f.now) m items.now) tuples.now → AnswersBy (λ v. v.items) result (all_of (spec.extended_at m items.now) tuples.now) }
     ensures typed { (h : Header) → All (Fits h) tuples.now → IfOk result (λ v. All (Fits (extended_columns items.now h)) v.items) }
 {
     let mut gathered = Gathered::new(alloc);
@@ -123,7 +123,7 @@ pub fn extend<E, W, F: Fn(&E, &Tuple) -> Result<Value, Fault<W>>>(
     f: &F,
 ) -> Result<Relation, Fault<W>>
     requires { All (TakesItems (F.pre f.now) items.now) relation.now.tuples }
-    ensures { (m : Meaning E) → All (MeansItems (F.post f.now) m items.now) relation.now.tuples →
+    ensures { (m : TermMeaning E) → All (MeansItems (F.post f.now) m items.now) relation.now.tuples →
         Unless (RaisedBy m items.now relation.now) (IsRelationOf (extended_columns items.now relation.now.heading) (Extended m items.now relation.now)) result }
 {
     let tuples = match extended_all(alloc, relation.tuples(), items, f) {

@@ -6,7 +6,7 @@ ghost use Rattle.td_values.specs.Data.{Ty, Attrs, integer, boolean};
 ghost use Rattle.td_values.specs.Whole.{type_of};
 ghost use Rattle.td_algebra.specs.declared.errors.Stop.{Stop};
 ghost use Rattle.td_algebra.specs.Raising.{Answers, AnswersBy, all_of};
-ghost use Rattle.td_algebra.specs.Extending.{Meaning, TakesBoth, Means};
+ghost use Rattle.td_algebra.specs.Extending.{TermMeaning, TakesBoth, Means};
 ghost use Rattle.td_algebra.specs.Summaries as spec;
 ghost use Rattle.td_algebra.specs.Summaries.{TakesTerm, MeansTerm};
 
@@ -162,7 +162,7 @@ fn value_of<E, W, F: Fn(&E, &Tuple) -> Result<Value, Fault<W>>>(
     tuple: &Tuple,
 ) -> Result<Value, Fault<W>>
     requires { TakesBoth (F.pre f.now) term.now tuple.now }
-    ensures { (m : Meaning E) → Means (F.post f.now) m term.now tuple.now → Answers result (m term.now tuple.now) }
+    ensures { (m : TermMeaning E) → Means (F.post f.now) m term.now tuple.now → Answers result (m term.now tuple.now) }
 {
     f(term, tuple)
 }
@@ -175,7 +175,7 @@ fn values_at<E, W, F: Fn(&E, &Tuple) -> Result<Value, Fault<W>>>(
     f: &F,
 ) -> Result<Vec<Value>, Fault<W>>
     requires { All (TakesBoth (F.pre f.now) term.now) tuples.now }
-    ensures { (m : Meaning E) → All (Means (F.post f.now) m term.now) tuples.now → AnswersBy (λ v. v.items) result (all_of (m term.now) tuples.now) }
+    ensures { (m : TermMeaning E) → All (Means (F.post f.now) m term.now) tuples.now → AnswersBy (λ v. v.items) result (all_of (m term.now) tuples.now) }
 {
     let mut gathered = Gathered::new(alloc);
     for tuple in tuples {
@@ -198,7 +198,7 @@ pub(crate) fn over_group<E, W, F: Fn(&E, &Tuple) -> Result<Value, Fault<W>>>(
     f: &F,
 ) -> Result<Value, Fault<W>>
     requires { All (TakesTerm (F.pre f.now) summary.now) tuples.now }
-    ensures { (m : Meaning E) → All (MeansTerm (F.post f.now) m summary.now) tuples.now → Answers result (spec.summary_over m tuples.now summary.now) }
+    ensures { (m : TermMeaning E) → All (MeansTerm (F.post f.now) m summary.now) tuples.now → Answers result (spec.summary_over m tuples.now summary.now) }
 {
     match term_of(summary) {
         None => Ok(number_of(tuples)),
@@ -218,7 +218,7 @@ pub fn aggregate<E, W, F: Fn(&E, &Tuple) -> Result<Value, Fault<W>>>(
     f: &F,
 ) -> Result<Value, Fault<W>>
     requires { All (TakesTerm (F.pre f.now) summary.now) relation.now.tuples }
-    ensures { (m : Meaning E) → All (MeansTerm (F.post f.now) m summary.now) relation.now.tuples → Answers result (spec.summary_over m relation.now.tuples summary.now) }
+    ensures { (m : TermMeaning E) → All (MeansTerm (F.post f.now) m summary.now) relation.now.tuples → Answers result (spec.summary_over m relation.now.tuples summary.now) }
 {
     over_group(alloc, relation.tuples(), summary, f)
 }

@@ -10,7 +10,7 @@ ghost use Rattle.td_tuples.specs.Parts.{names_of};
 ghost use Rattle.td_values.specs.Rows.{RowsData};
 ghost use Rattle.td_algebra.specs.Raising.{Answers, Unless};
 ghost use Rattle.td_tuples.specs.Items.{extended_columns};
-ghost use Rattle.td_algebra.specs.Extending.{Meaning, TakesBoth, Means, Extended, RaisedBy};
+ghost use Rattle.td_algebra.specs.Extending.{TermMeaning, TakesBoth, Means, Extended, RaisedBy};
 ghost use Rattle.td_algebra.specs.Summaries.{TakesTerm, MeansTerm, over_groups, summary_over};
 
 use crate::errors::Fault;
@@ -31,7 +31,7 @@ fn over_run<E, W, F: Fn(&E, &Tuple) -> Result<Value, Fault<W>>>(
     f: &F,
 ) -> Result<Value, Fault<W>>
     requires { All (TakesTerm (F.pre f.now) summary.now) index.now.tuples.items }
-    ensures { (m : Meaning E) → All (MeansTerm (F.post f.now) m summary.now) index.now.tuples.items → Answers result (summary_over m (found index.now tuple.now) summary.now) }
+    ensures { (m : TermMeaning E) → All (MeansTerm (F.post f.now) m summary.now) index.now.tuples.items → Answers result (summary_over m (found index.now tuple.now) summary.now) }
 {
     over_group(alloc, index.run(tuple), summary, f)
 }
@@ -45,7 +45,7 @@ fn over_index<E, W, F: Fn(&E, &Tuple) -> Result<Value, Fault<W>>>(
     f: &F,
 ) -> Result<Relation, Fault<W>>
     requires { All (λ t. All (λ i. TakesTerm (F.pre f.now) i.term t) items.now) groups.now.tuples.items }
-    ensures { (r : RowsData) → IsIndex r (names_of per.now.heading) per.now (names_of per.now.heading) groups.now → (m : Meaning E) → All (λ t. All (λ i. MeansTerm (F.post f.now) m i.term t) items.now) groups.now.tuples.items →
+    ensures { (r : RowsData) → IsIndex r (names_of per.now.heading) per.now (names_of per.now.heading) groups.now → (m : TermMeaning E) → All (λ t. All (λ i. MeansTerm (F.post f.now) m i.term t) items.now) groups.now.tuples.items →
         Unless (RaisedBy (over_groups m r per.now.heading) items.now per.now)
         (IsRelationOf (extended_columns items.now per.now.heading) (Extended (over_groups m r per.now.heading) items.now per.now)) result }
 {
@@ -55,7 +55,7 @@ fn over_index<E, W, F: Fn(&E, &Tuple) -> Result<Value, Fault<W>>>(
         items,
         &|summary: &Summary<E>, tuple: &Tuple| -> Result<Value, Fault<W>>
             requires { All (TakesTerm (F.pre f.now) summary.now) groups.now.tuples.items }
-            ensures { (m : Meaning E) → All (MeansTerm (F.post f.entry.now) m summary.now) groups.entry.now.tuples.items → Answers result (summary_over m (found groups.entry.now tuple.now) summary.now) }
+            ensures { (m : TermMeaning E) → All (MeansTerm (F.post f.entry.now) m summary.now) groups.entry.now.tuples.items → Answers result (summary_over m (found groups.entry.now tuple.now) summary.now) }
         { over_run(alloc, groups, tuple, summary, f) },
     )
 }
@@ -71,7 +71,7 @@ pub fn summarize<E, W, F: Fn(&E, &Tuple) -> Result<Value, Fault<W>>>(
     f: &F,
 ) -> Result<Relation, Fault<W>>
     requires { All (λ t. All (λ i. TakesTerm (F.pre f.now) i.term t) items.now) relation.now.tuples }
-    ensures { (m : Meaning E) → All (λ t. All (λ i. MeansTerm (F.post f.now) m i.term t) items.now) relation.now.tuples →
+    ensures { (m : TermMeaning E) → All (λ t. All (λ i. MeansTerm (F.post f.now) m i.term t) items.now) relation.now.tuples →
         Unless (RaisedBy (over_groups m relation.now per.now.heading) items.now per.now)
         (IsRelationOf (extended_columns items.now per.now.heading) (Extended (over_groups m relation.now per.now.heading) items.now per.now)) result }
 {
@@ -125,7 +125,7 @@ pub fn summarize_by<E, W, F: Fn(&E, &Tuple) -> Result<Value, Fault<W>>>(
     f: &F,
 ) -> Result<Relation, Fault<W>>
     requires { All (λ t. All (λ i. TakesTerm (F.pre f.now) i.term t) items.now) relation.now.tuples }
-    ensures { (m : Meaning E) → All (λ t. All (λ i. MeansTerm (F.post f.now) m i.term t) items.now) relation.now.tuples →
+    ensures { (m : TermMeaning E) → All (λ t. All (λ i. MeansTerm (F.post f.now) m i.term t) items.now) relation.now.tuples →
         let per = project_of names.now relation.now in
         Unless (RaisedBy (over_groups m relation.now per.heading) items.now per)
         (IsRelationOf (extended_columns items.now per.heading) (Extended (over_groups m relation.now per.heading) items.now per)) result }

@@ -14,7 +14,7 @@ use Rattle.td_type_soundness.specs.Meanings.{GivesRelation, IsRelationOver}
 use Rattle.td_semantics.specs.Trees.{AreBases}
 use Rattle.td_semantics.specs.Stored.{AreStored}
 use Rattle.td_integrity.proofs.Judged.{are_bases}
-use Rattle.td_semantics.specs.Databases.{Belongs, IsDatabase, Stored, at_place, put, stored_relvars}
+use Rattle.td_semantics.specs.Databases.{Belongs, IsDatabase, Stored, at_place, with_relation, stored_relvars}
 use Rattle.td_relvars.proofs.Stores.{base_within}
 use Rattle.td_semantics.specs.Given.{Given, nothing_given, or_old, or_stored, replaced, seen, with_given}
 use Rattle.td_assign.specs.ForProofs.Given.{AreChanges, IsChange}
@@ -135,7 +135,7 @@ behind_zero r g = λ i n. ap (λ b. if b then Some r else g (suc n)) (zero_suc n
 behind_suc : (t : ℕ) (r : RowsData) (g : Given) → ◌≡◌ {A = Given} (λ n. first (suc t) r g (suc n)) (first t r (λ n. g (suc n)))
 behind_suc t r g = λ i n. ap (λ b. if b then Some r else g (suc n)) (suc_suc t n) i
 
-pub put_first : (t : ℕ) (r : RowsData) (g : Given) (xs : Stored) → g t ≡ None → with_given (first t r g) xs ≡ with_given g (put t r xs)
+pub put_first : (t : ℕ) (r : RowsData) (g : Given) (xs : Stored) → g t ≡ None → with_given (first t r g) xs ≡ with_given g (with_relation t r xs)
 put_first t r g [] h = refl
 put_first zero r g (x ∷ xs) h =
     ap (λ o. or_stored o x ∷ with_given (λ n. first zero r g (suc n)) xs) (ap (λ b. if b then Some r else g zero) (eq-eqb zero zero refl))

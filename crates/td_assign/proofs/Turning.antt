@@ -22,7 +22,7 @@ use Rattle.td_headings.specs.declared.statement.TypedAssignment.{TypedAssignment
 use Rattle.td_headings.specs.declared.statement.TypedStatement.{TypedStatement}
 use Rattle.td_meaning.specs.Mean.{Relvars}
 use Rattle.td_operators.specs.Values.{rows_of}
-use Rattle.td_semantics.specs.Databases.{DatabaseData, IsDatabase, IsLegal, Stored, put, stored_relvars}
+use Rattle.td_semantics.specs.Databases.{DatabaseData, IsDatabase, IsLegal, Stored, with_relation, stored_relvars}
 use Rattle.td_semantics.specs.Differences.{AreDifferences, Differs}
 use Rattle.td_semantics.proofs.Leading.{differences_lead}
 use Rattle.td_semantics.specs.Given.{gives, nothing_given, seen, with_given}
@@ -107,7 +107,7 @@ nothing_but s = set.same_set attrs_order_total attrs_tied _ _ (λ q.
 ok_same : (a b : RowsData) → ◌≡◌ {A = Result RowsData Stop} (Ok a) (Ok b) → a ≡ b
 ok_same a b h = cc
 
-put_same : (n : ℕ) (r : RowsData) (stored : Stored) (q : RowsData) → q ≡ r → stored_relvars stored n ≡ Ok r → put n q stored ≡ stored
+put_same : (n : ℕ) (r : RowsData) (stored : Stored) (q : RowsData) → q ≡ r → stored_relvars stored n ≡ Ok r → with_relation n q stored ≡ stored
 put_same n r [] q same h = refl
 put_same zero r (None ∷ xs) q same h = cc
 put_same zero r (Some o ∷ xs) q same h = ap (λ v. Some v ∷ xs) (same ∙ sym (ok_same o r h))
@@ -198,7 +198,7 @@ module _ (d : DatabaseData) (n : ℕ) (x : DeltaData) (is : IsDatabase d) (m : M
   pub gives_change : with_given (gives n (changed m.exact.before x) nothing_given) d.stored ≡ change n x d.stored
   gives_change =
       put_first n (changed m.exact.before x) nothing_given d.stored refl
-      ∙ given_nothing (put n (changed m.exact.before x) d.stored)
+      ∙ given_nothing (with_relation n (changed m.exact.before x) d.stored)
       ∙ sym (change_put n x d.stored m.exact.before m.exact.has)
 
   pub unchanged : (body x.inserted ≡ set.empty) × (body x.deleted ≡ set.empty) → with_change n x d ≡ d

@@ -4,9 +4,9 @@ use Rattle.td_headings.specs.Catalogues.{CatalogueData}
 use Rattle.td_headings.specs.Reached.{AreThose}
 use Rattle.td_semantics.specs.Footprints.{IsInFootprint}
 use Rattle.td_semantics.specs.Steps.{IsRead, IsUnreadText}
-use Rattle.td_assign.specs.declared.reading.Reading.{Reading}
+use Rattle.td_assign.specs.declared.reading.ReadText.{ReadText}
 
 -- this was read of the text in its dialect: the statement that it is, if it is one, and the relvars on which it hangs
-pub record IsReading (c : CatalogueData) (dialect : ℕ) (text : List ℕ) (r : Reading) : Type 0 where
+pub record IsReadText (c : CatalogueData) (dialect : ℕ) (text : List ℕ) (r : ReadText) : Type 0 where
   pub statement : MatchOption r.statement (IsUnreadText c dialect text) (IsRead c dialect text)
   pub footprint : AreThose (IsInFootprint c dialect text) r.footprint.items

@@ -24,7 +24,7 @@ mod undoing;
 
 pub use changes::Change;
 pub use ran::Ran;
-pub use reading::{Reading, read};
+pub use reading::{ReadText, read};
 pub use running::{run, run_read};
 pub use td_semantics::{Meter, Outcome};
 pub use undoing::{redo, undo, undo_part};

@@ -2,7 +2,7 @@
 
 ghost use Rattle.std.specs.Prelude.{IfOk, MatchOption};
 ghost use Rattle.td_semantics.specs.Steps.{IsRead, IsUnreadText};
-ghost use Rattle.td_assign.specs.Readings.{IsReading};
+ghost use Rattle.td_assign.specs.Readings.{IsReadText};
 
 use crate::names::footprint;
 use std::alloc::{AllocError, Global};
@@ -12,7 +12,7 @@ use td_schema::error::TypeError;
 
 /// What is read of a statement's text, in its dialect.
 #[derive(Drop)]
-pub struct Reading {
+pub struct ReadText {
     /// The statement that it is, typed, if it is one.
     pub statement: Option<TypedStatement>,
     /// The base relvars on which it hangs, by their places, ascending, each once; of an unread text none.
@@ -46,18 +46,18 @@ pub fn read(
     catalogue: &Catalogue,
     text: &str,
     dialect: u8,
-) -> Result<Reading, AllocError>
-    ensures { IfOk result (IsReading catalogue.now dialect text.now) }
+) -> Result<ReadText, AllocError>
+    ensures { IfOk result (IsReadText catalogue.now dialect text.now) }
 {
     match statement_of(alloc, catalogue, text, dialect)? {
         Some(statement) => {
             let footprint = footprint(alloc, catalogue, &statement)?;
-            Ok(Reading {
+            Ok(ReadText {
                 statement: Some(statement),
                 footprint,
             })
         }
-        None => Ok(Reading {
+        None => Ok(ReadText {
             statement: None,
             footprint: Vec::new(alloc),
         }),

@@ -20,14 +20,14 @@ ghost use Rattle.td_assign.specs.ForProofs.Prepared.{AreAssignedTo, IsJudged, Is
 ghost use Rattle.td_assign.specs.ForProofs.Lists.{IsKeyed, changes_of, given_to};
 ghost use Rattle.td_semantics.specs.Steps as spec;
 ghost use Rattle.td_semantics.specs.Steps.{Steps};
-ghost use Rattle.td_assign.specs.Readings.{IsReading};
+ghost use Rattle.td_assign.specs.Readings.{IsReadText};
 
 use crate::changes::Change;
 use crate::choices::chosen;
 use crate::deltas::differences;
 use crate::names::{Names, names_with, no_names};
 use crate::ran::Ran;
-use crate::reading::{Reading, read};
+use crate::reading::{ReadText, read};
 use crate::seen::Replaced;
 use crate::sources;
 use crate::sources::changes;
@@ -132,12 +132,12 @@ fn made_by(
 fn prepare(
     alloc: Global,
     database: &Database,
-    reading: &Reading,
+    reading: &ReadText,
 ) -> Result<(Prepared, Names), AllocError>
     requires legal { IsLegal database.now }
-    requires read { (dialect : ℕ) × (text : List ℕ) × IsReading database.now.catalogue dialect text reading.now }
-    ensures prepared { (dialect : ℕ) (text : List ℕ) → IsReading database.now.catalogue dialect text reading.now → IfOk result (λ p. IsPrepared database.now dialect text p.0) }
-    ensures names { (dialect : ℕ) (text : List ℕ) → IsReading database.now.catalogue dialect text reading.now → IfOk result (λ p. AreNames database.now.catalogue dialect text p.1) }
+    requires read { (dialect : ℕ) × (text : List ℕ) × IsReadText database.now.catalogue dialect text reading.now }
+    ensures prepared { (dialect : ℕ) (text : List ℕ) → IsReadText database.now.catalogue dialect text reading.now → IfOk result (λ p. IsPrepared database.now dialect text p.0) }
+    ensures names { (dialect : ℕ) (text : List ℕ) → IsReadText database.now.catalogue dialect text reading.now → IfOk result (λ p. AreNames database.now.catalogue dialect text p.1) }
 {
     match &reading.statement {
         Some(statement) => {
@@ -324,17 +324,17 @@ fn ran(outcome: Outcome, delta: Vec<(usize, Delta)>, names: Names) -> Ran
 pub fn run_read(
     alloc: Global,
     database: &mut Database,
-    reading: &Reading,
+    reading: &ReadText,
     meter: &mut Meter,
 ) -> Result<Ran, AllocError>
     requires legal { IsLegal database.old }
-    requires read { (dialect : ℕ) × (text : List ℕ) × IsReading database.old.catalogue dialect text reading.now }
-    ensures step { (dialect : ℕ) (text : List ℕ) → IsReading database.old.catalogue dialect text reading.now → IfOk result (λ r. Steps database.old dialect text r.outcome database.new) }
+    requires read { (dialect : ℕ) × (text : List ℕ) × IsReadText database.old.catalogue dialect text reading.now }
+    ensures step { (dialect : ℕ) (text : List ℕ) → IsReadText database.old.catalogue dialect text reading.now → IfOk result (λ r. Steps database.old dialect text r.outcome database.new) }
     ensures delta { IfOk result (λ r. AreDifferences (stored_relvars database.old.stored) (stored_relvars database.new.stored) r.delta.items) }
     ensures kept { OnErr result (database.new ≡ database.old) }
     ensures legal { IsLegal database.new }
-    ensures targets { (dialect : ℕ) (text : List ℕ) → IsReading database.old.catalogue dialect text reading.now → IfOk result (λ r. AreThose (IsTargetOfText database.old.catalogue dialect text) r.targets.items) }
-    ensures footprint { (dialect : ℕ) (text : List ℕ) → IsReading database.old.catalogue dialect text reading.now → IfOk result (λ r. AreThose (IsInFootprint database.old.catalogue dialect text) r.footprint.items) }
+    ensures targets { (dialect : ℕ) (text : List ℕ) → IsReadText database.old.catalogue dialect text reading.now → IfOk result (λ r. AreThose (IsTargetOfText database.old.catalogue dialect text) r.targets.items) }
+    ensures footprint { (dialect : ℕ) (text : List ℕ) → IsReadText database.old.catalogue dialect text reading.now → IfOk result (λ r. AreThose (IsInFootprint database.old.catalogue dialect text) r.footprint.items) }
     ensures counted { meter.new.count ≡ one_more meter.old.count }
 {
     meter.tick();

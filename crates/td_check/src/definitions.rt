@@ -1,7 +1,7 @@
 //! Which definitions of a script are refused, and where.
 
 use crate::names::Names;
-use crate::pieces::{Piece, pieces, tokens_of};
+use crate::pieces::{DefinitionSpan, pieces, tokens_of};
 use crate::report::Report;
 use std::alloc::AllocError;
 use td_grammar::{ReadError, read_script};
@@ -42,7 +42,7 @@ impl<'a> Checker<'a> {
     fn refuse(
         &mut self,
         report: &mut Report<'_>,
-        piece: &Piece<'a>,
+        piece: &DefinitionSpan<'a>,
         tokens: &[Token<'a>],
         found: &Diagnostic,
     ) -> Result<(), AllocError> {
@@ -68,7 +68,7 @@ impl<'a> Checker<'a> {
     fn tell_type(
         &self,
         report: &mut Report<'_>,
-        piece: &Piece<'a>,
+        piece: &DefinitionSpan<'a>,
         found: &Diagnostic,
     ) -> Result<(), AllocError> {
         let what = format!(in report.alloc; "ill typed: {}", found.message)?;
@@ -80,7 +80,7 @@ impl<'a> Checker<'a> {
     fn tell_mistakes(
         &self,
         report: &mut Report<'_>,
-        piece: &Piece<'a>,
+        piece: &DefinitionSpan<'a>,
         unknown: &[Token<'a>],
         found: &Diagnostic,
     ) -> Result<(), AllocError> {
@@ -103,7 +103,11 @@ impl<'a> Checker<'a> {
     }
 
     // Defines what the piece is, or tells why it is ill typed.
-    fn define(&mut self, report: &mut Report<'_>, piece: &Piece<'a>) -> Result<(), AllocError> {
+    fn define(
+        &mut self,
+        report: &mut Report<'_>,
+        piece: &DefinitionSpan<'a>,
+    ) -> Result<(), AllocError> {
         let tokens = tokens_of(report.alloc, piece.text)?;
         match define_or_diagnose(report.alloc, &mut self.catalogue, piece.text)? {
             None => self.names.accept(&tokens),
@@ -115,7 +119,7 @@ impl<'a> Checker<'a> {
     fn tell_syntax(
         &mut self,
         report: &mut Report<'_>,
-        piece: &Piece<'a>,
+        piece: &DefinitionSpan<'a>,
     ) -> Result<(), AllocError> {
         let Some(place) = place_of_fault(report.alloc, Reading::Script, piece.text)? else {
             return Ok(());
@@ -131,7 +135,11 @@ impl<'a> Checker<'a> {
         self.names.lose(&tokens_of(report.alloc, front)?)
     }
 
-    fn judge(&mut self, report: &mut Report<'_>, piece: &Piece<'a>) -> Result<(), AllocError> {
+    fn judge(
+        &mut self,
+        report: &mut Report<'_>,
+        piece: &DefinitionSpan<'a>,
+    ) -> Result<(), AllocError> {
         report.count_definition();
         match read_script(report.alloc, piece.text) {
             Ok(definitions) => match definitions.as_slice() {

@@ -4,7 +4,7 @@
 //! names: so what is told to be defined by nothing is, and an attribute of some other relvar is not told.
 
 use std::alloc::{AllocError, Global};
-use td_tokens::{Kind, Token, Word};
+use td_tokens::{Token, TokenKind, Word};
 
 /// The names of the definitions so far.
 #[derive(Drop)]
@@ -12,7 +12,7 @@ pub struct Names<'a> {
     // In definitions that were accepted.
     known: Vec<&'a str>,
     // What was accepted as a type, a relvar or a constraint.
-    defined: Vec<(Kind, &'a str)>,
+    defined: Vec<(TokenKind, &'a str)>,
     // Types, relvars and constraints that were refused.
     refused: Vec<&'a str>,
     // Given to their parts.
@@ -21,16 +21,16 @@ pub struct Names<'a> {
 
 fn word_at(tokens: &[Token<'_>], at: usize) -> Option<Word> {
     match tokens.get(at)?.kind {
-        Kind::Word(word) => Some(word),
+        TokenKind::Word(word) => Some(word),
         _ => None,
     }
 }
 
 // Whether a value or a type may begin with this.
-fn begins_value(kind: Kind) -> bool {
+fn begins_value(kind: TokenKind) -> bool {
     match kind {
-        Kind::Name | Kind::Int(_) | Kind::Text => true,
-        Kind::Word(word) => matches!(
+        TokenKind::Name | TokenKind::Int(_) | TokenKind::Text => true,
+        TokenKind::Word(word) => matches!(
             word,
             Word::Boolean
                 | Word::Integer
@@ -78,8 +78,8 @@ fn introduces(tokens: &[Token<'_>], at: usize) -> bool {
 // What a definition defines, where it has its first two words.
 fn name_of<'a>(tokens: &[Token<'a>]) -> Option<&'a str> {
     match tokens {
-        [first, name, ..] if name.kind == Kind::Name => match first.kind {
-            Kind::Word(Word::Type | Word::Var | Word::Constraint) => Some(name.text),
+        [first, name, ..] if name.kind == TokenKind::Name => match first.kind {
+            TokenKind::Word(Word::Type | Word::Var | Word::Constraint) => Some(name.text),
             _ => None,
         },
         _ => None,
@@ -106,7 +106,7 @@ impl<'a> Names<'a> {
             self.defined.push((first.kind, name.text))?;
         }
         for token in tokens {
-            if token.kind == Kind::Name && !has(&self.known, token.text) {
+            if token.kind == TokenKind::Name && !has(&self.known, token.text) {
                 self.known.push(token.text)?;
             }
         }
@@ -119,7 +119,7 @@ impl<'a> Names<'a> {
             self.refused.push(name)?;
         }
         for (at, token) in tokens.iter().enumerate() {
-            if token.kind == Kind::Name && introduces(tokens, at) {
+            if token.kind == TokenKind::Name && introduces(tokens, at) {
                 self.lost.push(token.text)?;
             }
         }
@@ -141,7 +141,7 @@ impl<'a> Names<'a> {
         let own = names_introduced(alloc, tokens)?;
         let mut found: Vec<Token<'a>> = Vec::new(alloc);
         for (at, token) in tokens.iter().enumerate() {
-            let is_used = token.kind == Kind::Name && at != 1;
+            let is_used = token.kind == TokenKind::Name && at != 1;
             if is_used
                 && !has(&own, token.text)
                 && !self.is_known(token.text)
@@ -162,7 +162,7 @@ impl<'a> Names<'a> {
     /// Whether a definition names a type, a relvar or a constraint that was refused.
     pub fn names_refused(&self, tokens: &[Token<'_>]) -> bool {
         tokens.iter().enumerate().any(|(at, token)| {
-            at != 1 && token.kind == Kind::Name && has(&self.refused, token.text)
+            at != 1 && token.kind == TokenKind::Name && has(&self.refused, token.text)
         })
     }
 
@@ -182,7 +182,7 @@ impl<'a> Names<'a> {
 fn names_introduced<'a>(alloc: Global, tokens: &[Token<'a>]) -> Result<Vec<&'a str>, AllocError> {
     let mut own = Vec::new(alloc);
     for (at, token) in tokens.iter().enumerate() {
-        if token.kind == Kind::Name && at != 1 && introduces(tokens, at) {
+        if token.kind == TokenKind::Name && at != 1 && introduces(tokens, at) {
             own.push(token.text)?;
         }
     }

@@ -1,11 +1,11 @@
 //! The parts of a script that are to be one definition each.
 
 use std::alloc::{AllocError, Global};
-use td_tokens::{Kind, Token, TokenError, Word, tokens, tokens_end};
+use td_tokens::{Token, TokenError, TokenKind, Word, tokens, tokens_end};
 
 /// From the first token of a definition to behind its last one, and where it begins in the script.
 #[derive(Clone, Copy)]
-pub struct Piece<'a> {
+pub struct DefinitionSpan<'a> {
     pub text: &'a str,
     pub begin: usize,
 }
@@ -20,10 +20,10 @@ pub fn tokens_of<'a>(alloc: Global, text: &'a str) -> Result<Vec<Token<'a>>, All
 }
 
 // The piece that a text has between two bytes.
-fn cut(text: &str, begin: usize, end: usize) -> Piece<'_> {
+fn cut(text: &str, begin: usize, end: usize) -> DefinitionSpan<'_> {
     let (front, _) = text.split_at(text.floor_char_boundary(end));
     let (_, text) = front.split_at(front.floor_char_boundary(begin));
-    Piece { text, begin }
+    DefinitionSpan { text, begin }
 }
 
 // The piece that is being read: where it began, where its last token ended, and how many brackets are open.
@@ -35,10 +35,10 @@ struct Begun {
 }
 
 // The piece with one more token, which ends there.
-fn with_token(piece: Begun, kind: Kind, end: usize) -> Begun {
+fn with_token(piece: Begun, kind: TokenKind, end: usize) -> Begun {
     let depth = match kind {
-        Kind::Word(Word::OpenParenthesis | Word::OpenBrace) => piece.depth.saturating_add(1),
-        Kind::Word(Word::CloseParenthesis | Word::CloseBrace) => piece.depth.saturating_sub(1),
+        TokenKind::Word(Word::OpenParenthesis | Word::OpenBrace) => piece.depth.saturating_add(1),
+        TokenKind::Word(Word::CloseParenthesis | Word::CloseBrace) => piece.depth.saturating_sub(1),
         _ => piece.depth,
     };
     Begun {
@@ -49,10 +49,10 @@ fn with_token(piece: Begun, kind: Kind, end: usize) -> Begun {
 }
 
 // Whether the token begins another definition, so that what is in front of it lacks its end.
-fn is_left(piece: Begun, kind: Kind) -> bool {
+fn is_left(piece: Begun, kind: TokenKind) -> bool {
     match kind {
-        Kind::Word(Word::Type | Word::Var) => true,
-        Kind::Word(Word::Constraint) => piece.depth == 0,
+        TokenKind::Word(Word::Type | Word::Var) => true,
+        TokenKind::Word(Word::Constraint) => piece.depth == 0,
         _ => false,
     }
 }
@@ -62,7 +62,7 @@ fn cut_tokens<'a>(
     script: &'a str,
     from: usize,
     tokens: &[Token<'a>],
-    found: &mut Vec<Piece<'a>>,
+    found: &mut Vec<DefinitionSpan<'a>>,
 ) -> Result<Option<Begun>, AllocError> {
     let mut current: Option<Begun> = None;
     for token in tokens {
@@ -82,7 +82,7 @@ fn cut_tokens<'a>(
             None => fresh,
         };
         let piece = with_token(piece, token.kind, end);
-        if token.kind == Kind::Word(Word::Semicolon) {
+        if token.kind == TokenKind::Word(Word::Semicolon) {
             found.push(cut(script, piece.begin, piece.end))?;
             current = None;
         } else {
@@ -106,7 +106,7 @@ fn front_pieces<'a>(
     alloc: Global,
     script: &'a str,
     from: usize,
-    found: &mut Vec<Piece<'a>>,
+    found: &mut Vec<DefinitionSpan<'a>>,
 ) -> Result<usize, AllocError> {
     let (_, rest) = script.split_at(script.floor_char_boundary(from));
     let (front, fault) = rest.split_at(tokens_end(rest));
@@ -133,7 +133,7 @@ pub fn pieces<'a>(
     alloc: Global,
     script: &'a str,
     mut from: usize,
-) -> Result<Vec<Piece<'a>>, AllocError> {
+) -> Result<Vec<DefinitionSpan<'a>>, AllocError> {
     let mut found = Vec::new(alloc);
     // (each turn passes a byte at least)
     for _turn in 0..script.len() {

@@ -37,7 +37,7 @@ use Rattle.td_algebra.proofs.Narrowed.{narrowed}
 use Rattle.td_algebra.proofs.Pairs.{entry_of, of_entry}
 use Rattle.td_algebra.proofs.PlacedParts.{itself}
 use Rattle.td_algebra.proofs.Told.{all_pass}
-use Rattle.td_operators.specs.Operators.{as_value, operate, same}
+use Rattle.td_operators.specs.Operators.{as_value, operate, are_equal}
 use Rattle.td_operators.specs.Values.{known, rows_of, truth_of}
 use Rattle.td_operators.proofs.KindLemmas.{rows_back}
 use Rattle.td_meaning.specs.Mean.{Meaning, Names, Relvars, Selection, mean, mean_and, mean_both, mean_local, mean_relvar, mean_where, or_else, rows_in, truth_at, truth_in, within}
@@ -59,17 +59,17 @@ and_true true = refl
 and_true false = refl
 
 -- ---- a value that is sought
-itself_same : (d : Datum) → same d d ≡ true
+itself_same : (d : Datum) → are_equal d d ≡ true
 itself_same d = ap is_eq (tied_itself order_total d)
 
-same_is : (d e : Datum) → same d e ≡ true → d ≡ e
+same_is : (d e : Datum) → are_equal d e ≡ true → d ≡ e
 same_is d e is = tied d e (is_tied _ is)
 
-pub tests_same : (b : Bool) (d e : Datum) → (IsTrue b → d ≡ e) → (d ≡ e → IsTrue b) → b ≡ same d e
-tests_same true d e one other = sym (ap (λ x. same x e) (one refl) ∙ itself_same e)
-tests_same false d e one other = by (same d e) refl
+pub tests_same : (b : Bool) (d e : Datum) → (IsTrue b → d ≡ e) → (d ≡ e → IsTrue b) → b ≡ are_equal d e
+tests_same true d e one other = sym (ap (λ x. are_equal x e) (one refl) ∙ itself_same e)
+tests_same false d e one other = by (are_equal d e) refl
   where
-    by : (w : Bool) → same d e ≡ w → false ≡ w
+    by : (w : Bool) → are_equal d e ≡ w → false ≡ w
     by true is = other (same_is d e is)
     by false is = refl
 
@@ -80,7 +80,7 @@ is_there (Some x) d e = ap Some (same_is x d e)
 -- ---- an attribute that is compared with a literal
 value_compared : (o outer : Option Datum) (d : Datum) → is_some o ≡ true → and_then (and_then (known (or_else o outer)) (λ x. and_then (Ok d) (operate binary.Equals x))) truth_of ≡ Ok (is_value o d && true)
 value_compared None outer d there = absurd (true≢false (sym there))
-value_compared (Some x) outer d there = ap Ok (and_true (same x d))
+value_compared (Some x) outer d there = ap Ok (and_true (are_equal x d))
 
 module _ (a b : Typed) (n : List ℕ) (d : Datum) (name : a ≡ typed.Local n) (says : IsLiteral b d) where
   pub one_equality : IsConjunction (typed.Binary binary.Equals a b) ((n, d) ∷ [])
@@ -175,7 +175,7 @@ pub all_by_keys : (m : Result RowsData Stop) (r : RowsData) (xs : List KeyIndexD
 all_by_keys m r xs has by = All-weaker (λ (x : KeyIndexData). IsByKey m x.key x) (λ (x : KeyIndexData). IsKeyIndex x.key r x) (λ x k. subst (λ s. IsKeyIndex x.key s x) (one_rows k.0 k.1) k.2) xs by
   where
     one_rows : (s : RowsData) → m ≡ Ok s → s ≡ r
-    one_rows s is = let same : Ok s ≡ Ok r = sym is ∙ has in cc
+    one_rows s is = let are_equal : Ok s ≡ Ok r = sym is ∙ has in cc
 
 module _ (key : List (List ℕ)) (r : RowsData) (x : KeyIndexData) (t : Attrs) (index : IsKeyIndex key r x) where
   pub those_found : (s : RowsData) → All (Fits r.heading) r.tuples → tuple_names t ≡ key_names x.heading x.key → IsRelationOf x.heading (λ u. Contains x.tuples u × (has_named x.key t u ≡ true)) s → HasThoseOf x.key r t s
@@ -254,9 +254,9 @@ module _ (v : Relvars) (s : Selection) (names : Names) (place : ℕ) (c : Typed)
   error_told m key t OutOfMemory is told = tt
   error_told m key t (Wanting w) is told = tt
 
-  module _ (m : Result RowsData Stop) (r part : RowsData) (is : v place ≡ m) (has : m ≡ Ok r) (same : kept part ≡ kept r) where
+  module _ (m : Result RowsData Stop) (r part : RowsData) (is : v place ≡ m) (has : m ≡ Ok r) (are_equal : kept part ≡ kept r) where
     of_part : (w : Result RowsData Stop) → kept part ≡ w → meant ≡ and_then w as_value
-    of_part w e = of_relation (Ok r) (is ∙ has) ∙ ap (λ x. and_then x as_value) (sym same ∙ e)
+    of_part w e = of_relation (Ok r) (is ∙ has) ∙ ap (λ x. and_then x as_value) (sym are_equal ∙ e)
 
     pub part_says : {W : Type 0} (a : Result RowsData (Fault W)) → Answers a (kept part) → SaysIfAny relation_value (some_of a) meant
     part_says (Ok n) answers = of_part (Ok n) answers

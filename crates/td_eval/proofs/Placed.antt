@@ -18,7 +18,7 @@ use Rattle.td_syntax.specs.declared.tree.Expr.{Expr}
 use Rattle.td_syntax.specs.declared.tree.Groups.{Groups}
 use Rattle.td_syntax.specs.declared.tree.Named.{Named}
 use Rattle.td_syntax.specs.declared.tree.Nesting.{Nesting}
-use Rattle.td_syntax.specs.declared.tree.Summary.{Summary}
+use Rattle.td_syntax.specs.declared.tree.SummaryTerm.{SummaryTerm}
 use Rattle.td_schema.specs.declared.scope.Meant.TheVariants.{Local as local, Relvar as relvar}
 use Rattle.td_schema.specs.Kinds.{Name}
 use Rattle.td_schema.specs.Lists.{renaming_pair}
@@ -202,7 +202,7 @@ module _ (cat : SchemaData) where
     inside_items s sees types.no_items = none
     inside_items s sees (types.next_item {u} {is} a rest) = both (mentioned u) (items_mentioned is) (inside s sees a) (inside_items s sees rest)
 
-    inside_summaries : (s : Scope) {xs : List (Named (Summary Expr))} {is : List (Item (typed_summary.Summary Typed))} → Sees s → TypesSummaries cat s xs is → Inside (summaries_mentioned is)
+    inside_summaries : (s : Scope) {xs : List (Named (SummaryTerm Expr))} {is : List (Item (typed_summary.Summary Typed))} → Sees s → TypesSummaries cat s xs is → Inside (summaries_mentioned is)
     inside_summaries s sees types.no_summaries = none
     inside_summaries s sees (types.count rest) = inside_summaries s sees rest
     inside_summaries s sees (types.of_terms {o} {u} {is} a may rest) = both (summary_mentioned (summary_of o u)) (summaries_mentioned is) (summary_inside o u (inside s sees a)) (inside_summaries s sees rest)

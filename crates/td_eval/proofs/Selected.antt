@@ -19,7 +19,7 @@ use Rattle.td_headings.specs.Expressions.{selector_of, selector_at}
 use Rattle.td_headings.specs.Reached.{possreps_within}
 use Rattle.td_headings.proofs.WellTyped.{all_typed}
 use Rattle.td_meaning.specs.Mean.{Names, Selection, truth_in}
-use Rattle.td_meaning.specs.Selections.{admits, components, no_relvars, selected, one_more}
+use Rattle.td_meaning.specs.Selections.{admits, components, no_relvars, selected, with_selector}
 use Rattle.td_eval.proofs.Known.{either, further, later}
 use Rattle.td_eval.proofs.Named.{agree}
 use Rattle.td_eval.proofs.Placed.{selects_earlier}
@@ -44,16 +44,16 @@ module _ (p q : Selection) where
 -- ---- the selectors at ascending places
 abbrev maybe : Selection → Option Selector → Selection
 maybe q None = q
-maybe q (Some s) = one_more q s
+maybe q (Some s) = with_selector q s
 
-first_of_them : (q : Selection) (o : Option Selector) (ss : List Selector) → fold one_more q (cons_option o ss) ≡ fold one_more (maybe q o) ss
+first_of_them : (q : Selection) (o : Option Selector) (ss : List Selector) → fold with_selector q (cons_option o ss) ≡ fold with_selector (maybe q o) ss
 first_of_them q None ss = refl
 first_of_them q (Some s) ss = refl
 
-other_stays : (q : Selection) (s : Selector) (n : ℕ) → (s.place ≡ n → ⊥) → one_more q s n ≡ q n
+other_stays : (q : Selection) (s : Selector) (n : ℕ) → (s.place ≡ n → ⊥) → with_selector q s n ≡ q n
 other_stays q s n apart = λ i ds. ap (λ b. if b then selected q s ds else q n ds) (ne_eqb s.place n apart) i
 
-it_makes : (q : Selection) (s : Selector) (n : ℕ) → s.place ≡ n → one_more q s n ≡ selected q s
+it_makes : (q : Selection) (s : Selector) (n : ℕ) → s.place ≡ n → with_selector q s n ≡ selected q s
 it_makes q s n same = λ i ds. ap (λ b. if b then selected q s ds else q n ds) (eq-eqb s.place n same) i
 
 abbrev pub placed : ℕ → Representation → Option Typed → Selector
@@ -67,7 +67,7 @@ maybe_stays q m n (Some r) (Some u) apart = other_stays q (placed m r u) n apart
 
 module _ (c : CatalogueData) (defined : Defined c) where
   abbrev pub chosen : List ℕ → Selection → Selection
-  chosen ns q = fold one_more q (filter_map (selector_at c) ns)
+  chosen ns q = fold with_selector q (filter_map (selector_at c) ns)
 
   next_chosen : (m : ℕ) (ms : List ℕ) (q : Selection) → chosen (m ∷ ms) q ≡ chosen ms (maybe q (selector_at c m))
   next_chosen m ms q = first_of_them q (selector_at c m) (filter_map (selector_at c) ms)
@@ -88,14 +88,14 @@ module _ (c : CatalogueData) (defined : Defined c) where
   first_makes m ms q sorted r u p l =
       let s = placed m r u in
       let is : selector_at c m ≡ Some s = λ i. selector_of m (p i) (l i) in
-      let begins : chosen (m ∷ ms) q ≡ chosen ms (one_more q s) = next_chosen m ms q ∙ ap (λ o. chosen ms (maybe q o)) is in
-      let after = chosen ms (one_more q s) in
+      let begins : chosen (m ∷ ms) q ≡ chosen ms (with_selector q s) = next_chosen m ms q ∙ ap (λ o. chosen ms (maybe q o)) is in
+      let after = chosen ms (with_selector q s) in
       let makes : after m ≡ selected after s =
-      unchosen ms (one_more q s) m (λ h. let gt = later m ms m sorted h in absurd (omega (arith, gt)))
+      unchosen ms (with_selector q s) m (λ h. let gt = later m ms m sorted h in absurd (omega (arith, gt)))
       ∙ it_makes q s m refl
       ∙ selected_alike q after s (λ w h.
       let lt = selects_earlier c defined m u l w h in
-      sym (unchosen ms (one_more q s) w (λ k. let gt = later m ms w sorted k in absurd (omega (arith, lt, gt)))
+      sym (unchosen ms (with_selector q s) w (λ k. let gt = later m ms w sorted k in absurd (omega (arith, lt, gt)))
       ∙ other_stays q s w (λ e. absurd (omega (arith, lt, e)))))
       in
       subst (λ (p : Selection). p m ≡ selected p s) (sym begins) makes

@@ -15,7 +15,7 @@ use Rattle.td_algebra.specs.Raising.{and_then}
 use Rattle.td_algebra.specs.declared.errors.Stop.{Stop}
 use Rattle.td_algebra.specs.declared.errors.Stop.TheVariants.{Untyped}
 use Rattle.std.specs.declared.convert.Infallible.{Infallible}
-use Rattle.td_operators.specs.Operators.{if_alike, same_heading}
+use Rattle.td_operators.specs.Operators.{if_alike, are_equal_headings}
 use Rattle.td_eval.specs.Changed.{after}
 use Rattle.td_eval.specs.ForProofs.Forms.{TellsForm}
 use Rattle.td_eval.proofs.Rest.{selected}
@@ -52,15 +52,15 @@ leads r n d of differs =
     sym (leads_to r n (after r d) d.deleted d.inserted (sym of.heading) of.ascending r.heading r.heading differs.deleted differs.inserted is)
 
 -- ---- both halves of an UPDATE
-heading_false : (r s : RowsData) (b : Bool) → IsTrue b ↔ (s.heading ≡ r.heading) → b ≡ false → same_heading r.heading s.heading ≡ false
-heading_false r s b says k = by (same_heading r.heading s.heading) refl
+heading_false : (r s : RowsData) (b : Bool) → IsTrue b ↔ (s.heading ≡ r.heading) → b ≡ false → are_equal_headings r.heading s.heading ≡ false
+heading_false r s b says k = by (are_equal_headings r.heading s.heading) refl
   where
-    by : (a : Bool) → same_heading r.heading s.heading ≡ a → same_heading r.heading s.heading ≡ false
+    by : (a : Bool) → are_equal_headings r.heading s.heading ≡ a → are_equal_headings r.heading s.heading ≡ false
     by false e = e
     by true e = absurd (true≢false (sym (says.1 (sym ((one_heading r.heading s.heading true (sym e)).0 refl))) ∙ k))
 
-heading_true : (r s : RowsData) → s.heading ≡ r.heading → same_heading r.heading s.heading ≡ true
-heading_true r s same = (one_heading r.heading s.heading (same_heading r.heading s.heading) refl).1 (sym same)
+heading_true : (r s : RowsData) → s.heading ≡ r.heading → are_equal_headings r.heading s.heading ≡ true
+heading_true r s same = (one_heading r.heading s.heading (are_equal_headings r.heading s.heading) refl).1 (sym same)
 
 module _ (r g s : RowsData) (chosen : Result RowsData Stop) (renewed : RowsData → Result RowsData Stop) (is : chosen ≡ Ok g) (new : renewed g ≡ Ok s) where
   abbrev Whole : Result RowsData Stop
@@ -69,7 +69,7 @@ module _ (r g s : RowsData) (chosen : Result RowsData Stop) (renewed : RowsData 
   abbrev If : Bool → Result RowsData Stop
   If b = if b then Ok (union_of (minus_of r g) s) else Err Untyped
 
-  whole_is : Whole ≡ If (same_heading r.heading s.heading)
+  whole_is : Whole ≡ If (are_equal_headings r.heading s.heading)
   whole_is =
       ap (λ w. and_then w (λ h. and_then (renewed h) (λ q. if_alike r q (union_of (minus_of r h) q)))) is
       ∙ ap (λ w. and_then w (λ q. if_alike r q (union_of (minus_of r g) q))) new

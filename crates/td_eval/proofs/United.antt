@@ -16,7 +16,7 @@ use Rattle.td_algebra.specs.Nested.{relation_value}
 use Rattle.td_algebra.specs.Raising.{and_then}
 use Rattle.td_algebra.specs.declared.errors.Stop.{Stop}
 use Rattle.td_algebra.specs.declared.errors.Stop.TheVariants.{Untyped}
-use Rattle.td_operators.specs.Operators.{as_value, if_alike, of_relations, operate, same_heading}
+use Rattle.td_operators.specs.Operators.{as_value, if_alike, of_relations, operate, are_equal_headings}
 use Rattle.td_operators.specs.Values.{both, rows_of}
 use Rattle.td_operators.proofs.KindLemmas.{rows_back}
 use Rattle.td_headings.specs.Catalogues.{CatalogueData}
@@ -121,12 +121,12 @@ module _ (c : CatalogueData) (x : Expression) (r : Relvars) (n : ℕ) (b : Typed
   told_error e s raises same = ap (λ m. and_then m rows_of) (whole ∙ ap (λ m. and_then (United q m) as_value) raises) ∙ ap Err (sym same)
 
   pub told_more : (s : RowsData) → rows_in (mean known selected b) no_names ≡ Ok s → TellsAdded (r n) (and_then Meant rows_of) (Ok (Some s))
-  told_more s means = by (same_heading q.heading s.heading) refl
+  told_more s means = by (are_equal_headings q.heading s.heading) refl
     where
-      told : (a : Bool) → same_heading q.heading s.heading ≡ a → Meant ≡ and_then (if a then Ok (union_of q s) else Err Untyped) as_value
+      told : (a : Bool) → are_equal_headings q.heading s.heading ≡ a → Meant ≡ and_then (if a then Ok (union_of q s) else Err Untyped) as_value
       told a e = whole ∙ ap (λ m. and_then (United q m) as_value) means ∙ ap (λ c. and_then (if c then Ok (union_of q s) else Err Untyped) as_value) e
 
-      by : (a : Bool) → same_heading q.heading s.heading ≡ a → TellsAdded (r n) (and_then Meant rows_of) (Ok (Some s))
+      by : (a : Bool) → are_equal_headings q.heading s.heading ≡ a → TellsAdded (r n) (and_then Meant rows_of) (Ok (Some s))
       by true e = (
         q,
         has,

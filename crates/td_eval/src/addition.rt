@@ -23,7 +23,7 @@ use crate::valued::raise_of;
 use std::alloc::Global;
 use td_algebra::Fault;
 use td_headings::{Catalogue, TypedExpr};
-use td_meaning::Scope;
+use td_meaning::Bindings;
 use td_relations::Relation;
 use td_semantics::Failure;
 use td_syntax::tree::BinaryOperator;
@@ -55,7 +55,7 @@ fn rows_of_part<L: Lookup>(
 ) -> Result<Relation, Fault>
     ensures { Answers result (rows_in (mean (relvars_at (all_known expr.now (L.relvars lookup.now))) (selection expr.now.selectors) part.now) no_names) }
 {
-    relation_of(value_of_part(alloc, expr, lookup, part, &Scope::Nothing)?)
+    relation_of(value_of_part(alloc, expr, lookup, part, &Bindings::Nothing)?)
 }
 
 /// What an expression of the catalogue adds to the base relvar at the place, where it is that relvar united with more:

@@ -29,7 +29,7 @@ use crate::valued::raise_of;
 use std::alloc::{AllocError, Global};
 use td_algebra::{Fault, Stop};
 use td_headings::{Catalogue, TypedExpr};
-use td_meaning::{Environment, Part, Scope, Wanted, extend_all, select};
+use td_meaning::{Bindings, Environment, HoistedTerm, Wanted, extend_all, select};
 use td_operators::Lease;
 use td_relations::{Delta, Relation, minus};
 use td_semantics::Failure;
@@ -63,7 +63,7 @@ fn replaced(
 fn update<W: Wanted>(
     alloc: Global,
     env: &Environment,
-    parts: &[Part],
+    parts: &[HoistedTerm],
     tuples: &Lease<'_>,
     change: &Change,
 ) -> Result<Delta, Fault<W>>
@@ -71,8 +71,15 @@ fn update<W: Wanted>(
     requires allowed { W.allows env.now.virtuals.now ≡ true }
     ensures { TellsForm tuples.now (form_means (mean_in env.now) tuples.now (Changed change.now)) result }
 {
-    let gone = select(alloc, env, parts, tuples, change.condition, &Scope::Nothing)?;
-    let more = extend_all(alloc, env, parts, &gone, change.items, &Scope::Nothing)?;
+    let gone = select(
+        alloc,
+        env,
+        parts,
+        tuples,
+        change.condition,
+        &Bindings::Nothing,
+    )?;
+    let more = extend_all(alloc, env, parts, &gone, change.items, &Bindings::Nothing)?;
     if !more.same_heading(tuples.get()) {
         return Err(Fault::Raised(Stop::Untyped));
     }
@@ -83,7 +90,7 @@ fn update<W: Wanted>(
 fn exchange<W: Wanted>(
     alloc: Global,
     env: &Environment,
-    parts: &[Part],
+    parts: &[HoistedTerm],
     tuples: &Lease<'_>,
     form: &Form,
 ) -> Result<Delta, Fault<W>>
@@ -93,7 +100,7 @@ fn exchange<W: Wanted>(
 {
     match form {
         Form::Less(condition) => {
-            let gone = select(alloc, env, parts, tuples, condition, &Scope::Nothing)?;
+            let gone = select(alloc, env, parts, tuples, condition, &Bindings::Nothing)?;
             Ok(without(alloc, tuples.get(), gone)?)
         }
         Form::Changed(change) => update(alloc, env, parts, tuples, change),
@@ -119,7 +126,7 @@ fn exchange_over_all(
 fn last_exchange(
     alloc: Global,
     env: &Environment,
-    parts: &[Part],
+    parts: &[HoistedTerm],
     tuples: &Lease<'_>,
     form: &Form,
 ) -> Result<Delta, Fault>

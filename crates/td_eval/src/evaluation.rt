@@ -4,7 +4,7 @@ ghost use Rattle.std.specs.Prelude.{◌≡◌, IfOk, MatchResult};
 ghost use Rattle.td_algebra.specs.Raising.{Answers};
 ghost use Rattle.td_meaning.specs.Mean.{mean};
 ghost use Rattle.td_meaning.specs.Parts.{AreRight};
-ghost use Rattle.td_meaning.specs.Seen.{mean_in, relvars_at, visible};
+ghost use Rattle.td_meaning.specs.Seen.{mean_in, relvars_at, names_bound};
 ghost use Rattle.td_meaning.specs.Selections.{selection};
 ghost use Rattle.td_operators.specs.Values as spec;
 ghost use Rattle.td_eval.specs.ForProofs.Environments.{MeanTheirs, all_known, base_known, bases_known};
@@ -17,7 +17,7 @@ use crate::settling::{Findings, Virtuals, names_of, settle, settle_first};
 use std::alloc::{AllocError, Global};
 use td_algebra::{Fault, Stop};
 use td_headings::TypedExpr;
-use td_meaning::{Environment, Known, Part, Scope};
+use td_meaning::{Bindings, Environment, HoistedTerm, Known};
 use td_operators::Lease;
 use td_relations::Relation;
 use td_typed_trees::expression::{BaseUnder, Expression};
@@ -85,9 +85,9 @@ fn value_over_all(
     alloc: Global,
     env: &Environment,
     part: &Typed,
-    scope: &Scope,
+    scope: &Bindings,
 ) -> Result<Value, Fault>
-    ensures { Answers result (mean_in env.now part.now (visible scope.now)) }
+    ensures { Answers result (mean_in env.now part.now (names_bound scope.now)) }
 {
     let relvars = all_relvars(alloc, env)?;
     td_meaning::eval(alloc, &those(&relvars, env), &[], part, scope)
@@ -97,12 +97,12 @@ fn value_over_all(
 fn last_value(
     alloc: Global,
     env: &Environment,
-    parts: &[Part],
+    parts: &[HoistedTerm],
     part: &Typed,
-    scope: &Scope,
+    scope: &Bindings,
 ) -> Result<Value, Fault>
     requires { AreRight env.now parts.now }
-    ensures { Answers result (mean_in env.now part.now (visible scope.now)) }
+    ensures { Answers result (mean_in env.now part.now (names_bound scope.now)) }
 {
     match td_meaning::eval::<usize>(alloc, env, parts, part, scope) {
         Ok(value) => Ok(value),
@@ -119,10 +119,10 @@ fn value_over<'a>(
     env: &Environment,
     virtuals: Virtuals<'a>,
     part: &'a Typed,
-    scope: &Scope,
+    scope: &Bindings,
 ) -> Result<Value, Fault>
     requires { MeanTheirs env.now }
-    ensures { Answers result (mean_in env.now part.now (visible scope.now)) }
+    ensures { Answers result (mean_in env.now part.now (names_bound scope.now)) }
 {
     let mut findings = Findings::new(alloc, virtuals.names.len())?;
     settle_first(alloc, env, &mut findings, virtuals, part)?;
@@ -143,9 +143,9 @@ pub(crate) fn value_of_part<L: Lookup>(
     expr: &TypedExpr,
     lookup: &L,
     part: &Typed,
-    scope: &Scope,
+    scope: &Bindings,
 ) -> Result<Value, Fault>
-    ensures { Answers result (mean (relvars_at (all_known expr.now (L.relvars lookup.now))) (selection expr.now.selectors) part.now (visible scope.now)) }
+    ensures { Answers result (mean (relvars_at (all_known expr.now (L.relvars lookup.now))) (selection expr.now.selectors) part.now (names_bound scope.now)) }
 {
     let expression = expr.get();
     let known = known_bases(alloc, lookup, expression.bases.as_slice())?;
@@ -173,6 +173,6 @@ pub fn eval<L: Lookup>(
     if let Some(value) = value_by_key(alloc, expr.get(), lookup)? {
         return Ok(value);
     }
-    let scope = Scope::Within(tuple, &Scope::Nothing);
+    let scope = Bindings::Within(tuple, &Bindings::Nothing);
     value_of_part(alloc, expr, lookup, expr.get().tree.get(), &scope)
 }

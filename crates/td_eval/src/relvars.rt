@@ -11,7 +11,7 @@ ghost use Rattle.td_semantics.specs.Meanings.{no_names};
 use crate::evaluation::relation_of;
 use std::alloc::{AllocError, Global};
 use td_algebra::{Fault, Stop};
-use td_meaning::{Environment, Known, Scope};
+use td_meaning::{Bindings, Environment, Known};
 use td_operators::Lease;
 use td_relations::Relation;
 use td_typed_trees::expression::{Selector, VirtualUnder};
@@ -33,7 +33,7 @@ fn rows(alloc: Global, env: &Environment, tree: &Typed) -> Result<Relation, Faul
     requires { none_virtual env.now.virtuals.now ≡ true }
     ensures { Answers result (rows_in (mean_in env.now tree.now) no_names) }
 {
-    relation_of(td_meaning::eval(alloc, env, &[], tree, &Scope::Nothing)?)
+    relation_of(td_meaning::eval(alloc, env, &[], tree, &Bindings::Nothing)?)
 }
 
 #[tactic(auto, unfolding(td_meaning::specs::Seen::relvars_there))]

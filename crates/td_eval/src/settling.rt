@@ -14,7 +14,7 @@ use crate::deciding::{decider, sure, unknown_at};
 use crate::forms::is_relvar;
 use std::alloc::{AllocError, Global};
 use td_algebra::{Fault, Stop};
-use td_meaning::{Environment, Held, Part, Scope, keep, put};
+use td_meaning::{Bindings, Environment, HoistedTerm, KnownValue, keep, put};
 use td_relations::Relation;
 use td_typed_trees::expression::VirtualUnder;
 use td_typed_trees::tree::Typed;
@@ -24,7 +24,7 @@ use td_values::{Kind, Value};
 #[derive(Drop)]
 pub(crate) struct Findings<'a> {
     /// Expressions whose values are known, those that name virtual relvars among them.
-    pub parts: Vec<Part<'a>>,
+    pub parts: Vec<HoistedTerm<'a>>,
     /// Of each virtual relvar under the expression whether what it has is known.
     pub known: Vec<bool>,
 }
@@ -96,17 +96,17 @@ pub(crate) fn names_of(alloc: Global, virtuals: &[VirtualUnder]) -> Result<Vec<T
     Ok(names)
 }
 
-fn held_relation(value: Value) -> Result<Held, Stop>
+fn held_relation(value: Value) -> Result<KnownValue, Stop>
     ensures { known_value result ≡ and_then (spec.rows_of value) as_value }
 {
     match value.kind {
-        Kind::Relation(rows) => Ok(Held::Rows(Relation::of(rows))),
+        Kind::Relation(rows) => Ok(KnownValue::Rows(Relation::of(rows))),
         _ => Err(Stop::Untyped),
     }
 }
 
 // The relation, or the error that is raised.
-fn held<W>(answer: Result<Value, Fault<W>>) -> Result<Result<Held, Stop>, Fault<W>>
+fn held<W>(answer: Result<Value, Fault<W>>) -> Result<Result<KnownValue, Stop>, Fault<W>>
     ensures { IfOk result (λ v. (m : Result Datum Stop) → Answers answer m → known_value v ≡ and_then (and_then m spec.rows_of) as_value) }
 {
     match answer {
@@ -120,7 +120,7 @@ fn held<W>(answer: Result<Value, Fault<W>>) -> Result<Result<Held, Stop>, Fault<
 fn keep_virtual<'a>(
     alloc: Global,
     env: &Environment<'_>,
-    parts: &mut Vec<Part<'a>>,
+    parts: &mut Vec<HoistedTerm<'a>>,
     name: &'a Typed,
     under: &VirtualUnder,
 ) -> Result<(), Fault<usize>>
@@ -129,7 +129,7 @@ fn keep_virtual<'a>(
     requires right { AreRight env.now parts.old.items }
     ensures { AreRight env.now parts.new.items }
 {
-    let value = held(td_meaning::eval(alloc, env, parts, under.tree.get(), &Scope::Nothing))?;
+    let value = held(td_meaning::eval(alloc, env, parts, under.tree.get(), &Bindings::Nothing))?;
     if is_relvar(name, under.place) {
         put(alloc, parts, name, value)?;
     }

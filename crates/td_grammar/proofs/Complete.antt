@@ -18,8 +18,8 @@ use Rattle.td_syntax.specs.declared.tree.Aggregate.TheVariants as aggregate
 use Rattle.td_syntax.specs.declared.tree.Nesting.{Nesting}
 use Rattle.td_syntax.specs.declared.tree.Nesting.TheVariants as nesting
 use Rattle.td_syntax.specs.declared.tree.Extension.TheVariants as extension
-use Rattle.td_syntax.specs.declared.tree.Summary.{Summary}
-use Rattle.td_syntax.specs.declared.tree.Summary.TheVariants as summary
+use Rattle.td_syntax.specs.declared.tree.SummaryTerm.{SummaryTerm}
+use Rattle.td_syntax.specs.declared.tree.SummaryTerm.TheVariants as summary
 use Rattle.td_syntax.specs.declared.tree.Groups.TheVariants as groups
 use Rattle.td_syntax.specs.declared.tree.Expr.{Expr}
 use Rattle.td_syntax.specs.declared.tree.Expr.TheVariants as e
@@ -259,26 +259,26 @@ unfolding read.primary_at read.extend expect eat at same_word
 extend_assigned_goes ts mid r a xs s d k n b le lv g l =
     at_once b (e.Extend extension.Assign a xs) r _ (rw (d n b (omega arith) (omega (arith, of_extend extension.Assign a xs)), listed_reads w.CloseBrace brace_closes (k n b (omega arith) (omega (arith, of_extend extension.Assign a xs)))) refl)
 
-abbrev Summaries : Tokens → List (Named (Summary Expr)) → Tokens → Type 0
+abbrev Summaries : Tokens → List (Named (SummaryTerm Expr)) → Tokens → Type 0
 Summaries ts xs r = (n b : ℕ) → length ts ≤ n → summaries_levels xs ≤ b → read.summaries (reads n) b ts ≡ Some (xs, r)
 
 -- summaries begin with no PER or BY
-summaries_begin : {ts : Tokens} {xs : List (Named (Summary Expr))} {r : Tokens} → ReadsSummaries ts xs r → (at w.Per ts ≡ false) × (at w.By ts ≡ false)
+summaries_begin : {ts : Tokens} {xs : List (Named (SummaryTerm Expr))} {r : Tokens} → ReadsSummaries ts xs r → (at w.Per ts ≡ false) × (at w.By ts ≡ false)
 unfolding at same_word
 summaries_begin (summaries d) = (refl, refl)
 summaries_begin (summaries_assigned d) = (refl, refl)
 
-summarize_goes : (ts mid r : Tokens) (a : Expr) (xs : List (Named (Summary Expr))) → length mid < length ts → Inner ts a mid → (at w.Per mid ≡ false) × (at w.By mid ≡ false) → Summaries mid xs r → Goes f.Primary (word w.Summarize ∷ ts) (e.Summarize a groups.Whole xs) r
+summarize_goes : (ts mid r : Tokens) (a : Expr) (xs : List (Named (SummaryTerm Expr))) → length mid < length ts → Inner ts a mid → (at w.Per mid ≡ false) × (at w.By mid ≡ false) → Summaries mid xs r → Goes f.Primary (word w.Summarize ∷ ts) (e.Summarize a groups.Whole xs) r
 unfolding read.primary_at read.summarize read.groups_at eat
 summarize_goes ts mid r a xs s d h k n b le lv g l =
     at_once b (e.Summarize a groups.Whole xs) r _ (rw (d n b (omega arith) (omega (arith, of_summarize a groups.Whole xs)), h.0, h.1, k n b (omega arith) (omega (arith, of_summarize a groups.Whole xs))) refl)
 
-summarize_per_goes : (ts mid next r : Tokens) (a c : Expr) (xs : List (Named (Summary Expr))) → length mid < length ts → length next < length mid → Inner ts a (word w.Per ∷ mid) → Inner mid c next → Summaries next xs r → Goes f.Primary (word w.Summarize ∷ ts) (e.Summarize a (groups.Per c) xs) r
+summarize_per_goes : (ts mid next r : Tokens) (a c : Expr) (xs : List (Named (SummaryTerm Expr))) → length mid < length ts → length next < length mid → Inner ts a (word w.Per ∷ mid) → Inner mid c next → Summaries next xs r → Goes f.Primary (word w.Summarize ∷ ts) (e.Summarize a (groups.Per c) xs) r
 unfolding read.primary_at read.summarize read.groups_at eat at same_word
 summarize_per_goes ts mid next r a c xs s t d1 d2 k n b le lv g l =
     at_once b (e.Summarize a (groups.Per c) xs) r _ (rw (d1 n b (omega arith) (omega (arith, of_summarize a (groups.Per c) xs)), d2 n b (omega arith) (omega (arith, of_summarize a (groups.Per c) xs)), k n b (omega arith) (omega (arith, of_summarize a (groups.Per c) xs))) refl)
 
-summarize_by_goes : (ts mid next r : Tokens) (a : Expr) (ys : Attributes) (xs : List (Named (Summary Expr))) → length mid < length ts → Inner ts a (word w.By ∷ mid) → ReadsAttributes mid ys next → Summaries next xs r → Goes f.Primary (word w.Summarize ∷ ts) (e.Summarize a (groups.By ys) xs) r
+summarize_by_goes : (ts mid next r : Tokens) (a : Expr) (ys : Attributes) (xs : List (Named (SummaryTerm Expr))) → length mid < length ts → Inner ts a (word w.By ∷ mid) → ReadsAttributes mid ys next → Summaries next xs r → Goes f.Primary (word w.Summarize ∷ ts) (e.Summarize a (groups.By ys) xs) r
 unfolding read.primary_at read.summarize read.groups_at eat at same_word
 summarize_by_goes ts mid next r a ys xs s d1 d2 k n b le lv g l =
     at_once b (e.Summarize a (groups.By ys) xs) r _ (rw (d1 n b (omega arith) (omega (arith, of_summarize a (groups.By ys) xs)), attributes_read d2, k n b (omega (arith, attributes_shorter d2)) (omega (arith, of_summarize a (groups.By ys) xs))) refl)
@@ -366,7 +366,7 @@ beside_item : (x : Text) (ts r : Tokens) (a : Expr) → Inner ts a r → (n b : 
 unfolding read.named_at take_name
 beside_item x ts r a d n b le lv = rw (d n b (omega arith) lv) refl
 
-abbrev SummaryReads : Tokens → Summary Expr → Tokens → Type 0
+abbrev SummaryReads : Tokens → SummaryTerm Expr → Tokens → Type 0
 SummaryReads ts s r = (n b : ℕ) → length ts ≤ n → summary_levels s ≤ b → read.summary_at (reads n) b ts ≡ Some (s, r)
 
 count_reads : (r : Tokens) → at w.OpenParenthesis r ≡ false → SummaryReads (word w.Count ∷ r) summary.Count r
@@ -389,19 +389,19 @@ summary_of_reads : (v : Aggregate) (ts r : Tokens) (a : Expr) → Inner ts a (wo
 unfolding read.summed expect at same_word
 summary_of_reads v ts r a d n b le lv = summary_word_reads v (reads n) b (word w.OpenParenthesis ∷ ts) ∙ rw (d n b (omega arith) lv) refl
 
-summary_after_item : (x : Text) (ts r : Tokens) (s : Summary Expr) → SummaryReads ts s (word w.As ∷ name x ∷ r) → (n b : ℕ) → length ts ≤ n → summary_levels s ≤ b → read.named_summary (reads n) b naming.After ts ≡ Some (record { name = x; value = s }, r)
+summary_after_item : (x : Text) (ts r : Tokens) (s : SummaryTerm Expr) → SummaryReads ts s (word w.As ∷ name x ∷ r) → (n b : ℕ) → length ts ≤ n → summary_levels s ≤ b → read.named_summary (reads n) b naming.After ts ≡ Some (record { name = x; value = s }, r)
 unfolding read.named_summary expect take_name at same_word
 summary_after_item x ts r s d n b le lv = rw (d n b le lv) refl
 
-summary_assigned_item : (x : Text) (ts r : Tokens) (s : Summary Expr) → SummaryReads ts s r → (n b : ℕ) → length ts < n → summary_levels s ≤ b → read.named_summary (reads n) b naming.Assigned (name x ∷ word w.Assign ∷ ts) ≡ Some (record { name = x; value = s }, r)
+summary_assigned_item : (x : Text) (ts r : Tokens) (s : SummaryTerm Expr) → SummaryReads ts s r → (n b : ℕ) → length ts < n → summary_levels s ≤ b → read.named_summary (reads n) b naming.Assigned (name x ∷ word w.Assign ∷ ts) ≡ Some (record { name = x; value = s }, r)
 unfolding read.named_summary expect take_name at same_word
 summary_assigned_item x ts r s d n b le lv = rw (d n b (omega arith) lv) refl
 
-summaries_goes_on : (ts r : Tokens) (xs : List (Named (Summary Expr))) → ((n b : ℕ) → length ts ≤ n → summaries_levels xs ≤ b → ListOf (read.named_summary (reads n) b naming.After) ts xs (word w.CloseParenthesis ∷ r)) → Summaries (word w.Add ∷ word w.OpenParenthesis ∷ ts) xs r
+summaries_goes_on : (ts r : Tokens) (xs : List (Named (SummaryTerm Expr))) → ((n b : ℕ) → length ts ≤ n → summaries_levels xs ≤ b → ListOf (read.named_summary (reads n) b naming.After) ts xs (word w.CloseParenthesis ∷ r)) → Summaries (word w.Add ∷ word w.OpenParenthesis ∷ ts) xs r
 unfolding read.summaries expect eat at same_word
 summaries_goes_on ts r xs d n b le lv = listed_reads w.CloseParenthesis bracket_closes (d n b (omega arith) lv)
 
-summaries_assigned_goes_on : (ts r : Tokens) (xs : List (Named (Summary Expr))) → ((n b : ℕ) → length ts ≤ n → summaries_levels xs ≤ b → ListOf (read.named_summary (reads n) b naming.Assigned) ts xs (word w.CloseBrace ∷ r)) → Summaries (word w.Colon ∷ word w.OpenBrace ∷ ts) xs r
+summaries_assigned_goes_on : (ts r : Tokens) (xs : List (Named (SummaryTerm Expr))) → ((n b : ℕ) → length ts ≤ n → summaries_levels xs ≤ b → ListOf (read.named_summary (reads n) b naming.Assigned) ts xs (word w.CloseBrace ∷ r)) → Summaries (word w.Colon ∷ word w.OpenBrace ∷ ts) xs r
 unfolding read.summaries expect eat at same_word
 summaries_assigned_goes_on ts r xs d n b le lv = listed_reads w.CloseBrace brace_closes (d n b (omega arith) lv)
 
@@ -559,20 +559,20 @@ mutual
   named_list_read (last_named d) h n b le lv = one (named_read d h n b le (omega arith)) (named_shorter d)
   named_list_read (next_named {mid} d k) h n b le lv = then_more (named_read d (comma_ends mid) n b le (omega arith)) (omega (arith, named_shorter d)) (named_list_read k h n b (omega (arith, named_shorter d)) (omega arith))
 
-  summary_read : {ts : Tokens} {s : Summary Expr} {r : Tokens} → ReadsSummary ts s r → Ends r → SummaryReads ts s r
+  summary_read : {ts : Tokens} {s : SummaryTerm Expr} {r : Tokens} → ReadsSummary ts s r → Ends r → SummaryReads ts s r
   summary_read (count_group {r}) h = count_reads r h.1
   summary_read (count_brackets {r}) h = count_brackets_reads r
   summary_read (summary_of {g = v} {ts} {r} {a} d) h = summary_of_reads v ts r a (inner_by d (goes d) refl)
 
-  named_summary_read : {m : Naming} {ts : Tokens} {x : Named (Summary Expr)} {r : Tokens} → ReadsNamedSummary m ts x r → Ends r → (n b : ℕ) → length ts ≤ n → summary_levels x.value ≤ b → read.named_summary (reads n) b m ts ≡ Some (x, r)
+  named_summary_read : {m : Naming} {ts : Tokens} {x : Named (SummaryTerm Expr)} {r : Tokens} → ReadsNamedSummary m ts x r → Ends r → (n b : ℕ) → length ts ≤ n → summary_levels x.value ≤ b → read.named_summary (reads n) b m ts ≡ Some (x, r)
   named_summary_read (summary_after {x} {ts} {r} {s} d) h n b le lv = summary_after_item x ts r s (summary_read d (as_ends (name x ∷ r))) n b le lv
   named_summary_read (summary_assigned {x} {ts} {r} {s} d) h n b le lv = summary_assigned_item x ts r s (summary_read d h) n b (omega arith) lv
 
-  summary_list_read : {m : Naming} {ts : Tokens} {xs : List (Named (Summary Expr))} {r : Tokens} → ReadsSummaryList m ts xs r → Ends r → (n b : ℕ) → length ts ≤ n → summaries_levels xs ≤ b → ListOf (read.named_summary (reads n) b m) ts xs r
+  summary_list_read : {m : Naming} {ts : Tokens} {xs : List (Named (SummaryTerm Expr))} {r : Tokens} → ReadsSummaryList m ts xs r → Ends r → (n b : ℕ) → length ts ≤ n → summaries_levels xs ≤ b → ListOf (read.named_summary (reads n) b m) ts xs r
   summary_list_read (last_summary d) h n b le lv = one (named_summary_read d h n b le (omega arith)) (named_summary_shorter d)
   summary_list_read (next_summary {mid} d k) h n b le lv = then_more (named_summary_read d (comma_ends mid) n b le (omega arith)) (omega (arith, named_summary_shorter d)) (summary_list_read k h n b (omega (arith, named_summary_shorter d)) (omega arith))
 
-  summaries_read : {ts : Tokens} {xs : List (Named (Summary Expr))} {r : Tokens} → ReadsSummaries ts xs r → Summaries ts xs r
+  summaries_read : {ts : Tokens} {xs : List (Named (SummaryTerm Expr))} {r : Tokens} → ReadsSummaries ts xs r → Summaries ts xs r
   summaries_read (summaries {ts} {r} {xs} d) = summaries_goes_on ts r xs (summary_list_read d (bracket_ends r))
   summaries_read (summaries_assigned {ts} {r} {xs} d) = summaries_assigned_goes_on ts r xs (summary_list_read d (brace_ends r))
 

@@ -2,15 +2,15 @@
 use Rattle.std.proofs.Common.{◌≡◌, ℕ, cond, [], ◌∷◌, Option, Some, None, refl, ◌&&◌}
 use Rattle.td_tokens.specs.declared.token.Word.{Word}
 use Rattle.td_tokens.specs.declared.token.Word.TheVariants as w
-use Rattle.td_tokens.specs.declared.token.Kind.{Kind}
-use Rattle.td_tokens.specs.declared.token.Kind.TheVariants as k
+use Rattle.td_tokens.specs.declared.token.TokenKind.{TokenKind}
+use Rattle.td_tokens.specs.declared.token.TokenKind.TheVariants as k
 use Rattle.td_tokens.specs.Lex.{word, name, int, text}
 use Rattle.td_syntax.specs.declared.tree.BinaryOperator.TheVariants as binary
 use Rattle.td_grammar.specs.Grammar.{Tokens, Infix, infix_at, infix_after, infix_word, with_rest, not_matching, target_at, assign_at, binds, form_number}
 use Rattle.td_grammar.specs.ForProofs.Reader.{look, at, at_name, same_word, tail, word_number}
 
 -- the number by the kind of the token
-abbrev pub number_by : Option Kind → ℕ
+abbrev pub number_by : Option TokenKind → ℕ
 number_by (Some (k.Word v)) = word_number v
 number_by _ = 0
 
@@ -23,7 +23,7 @@ unfolding binds at same_word
 binds_by_look (word w.Not ∷ ts) = binds_not ts
 binds_by_look _ = refl
 
-abbrev pub infix_kind : Option Kind → Tokens → Option Infix
+abbrev pub infix_kind : Option TokenKind → Tokens → Option Infix
 infix_kind (Some (k.Word v)) ts = with_rest (tail ts) (infix_word v)
 infix_kind _ ts = None
 

@@ -16,7 +16,7 @@ use Rattle.td_syntax.specs.declared.tree.Aggregate.{Aggregate}
 use Rattle.td_syntax.specs.declared.tree.Aggregate.TheVariants as aggregate
 use Rattle.td_syntax.specs.declared.tree.Nesting.{Nesting}
 use Rattle.td_syntax.specs.declared.tree.Nesting.TheVariants as nesting
-use Rattle.td_syntax.specs.declared.tree.Summary.{Summary}
+use Rattle.td_syntax.specs.declared.tree.SummaryTerm.{SummaryTerm}
 use Rattle.td_syntax.specs.declared.tree.Expr.{Expr}
 use Rattle.td_grammar.specs.Grammar.{Tokens, Infix, infix_at, infix_word, infix_after, not_matching, with_rest, target_at, assign_at, postfix, form_number, binds, aggregate_word, nest_word, unnest_word}
 use Rattle.td_grammar.specs.Grammar.{IsList, last_item, next_item, IsName, a_name, IsRenaming, a_renaming, ReadsAttributes, no_names, names, but_none, but, ReadsType, boolean, integer_type, char, character, user, tuple_type, relation_type, ReadsHeading, no_fields, fields, ReadsFields, last_field, next_field}
@@ -253,20 +253,20 @@ mutual
   named_list_shorter (last_named d) = named_shorter d
   named_list_shorter (next_named d e) = omega (arith, named_shorter d, named_list_shorter e)
 
-  pub summary_shorter : {ts : Tokens} {s : Summary Expr} {r : Tokens} → ReadsSummary ts s r → length r < length ts
+  pub summary_shorter : {ts : Tokens} {s : SummaryTerm Expr} {r : Tokens} → ReadsSummary ts s r → length r < length ts
   summary_shorter count_group = omega arith
   summary_shorter count_brackets = omega arith
   summary_shorter (summary_of d) = omega (arith, shorter d)
 
-  pub named_summary_shorter : {k : Naming} {ts : Tokens} {x : Named (Summary Expr)} {r : Tokens} → ReadsNamedSummary k ts x r → length r < length ts
+  pub named_summary_shorter : {k : Naming} {ts : Tokens} {x : Named (SummaryTerm Expr)} {r : Tokens} → ReadsNamedSummary k ts x r → length r < length ts
   named_summary_shorter (summary_after d) = omega (arith, summary_shorter d)
   named_summary_shorter (summary_assigned d) = omega (arith, summary_shorter d)
 
-  pub summary_list_shorter : {k : Naming} {ts : Tokens} {xs : List (Named (Summary Expr))} {r : Tokens} → ReadsSummaryList k ts xs r → length r < length ts
+  pub summary_list_shorter : {k : Naming} {ts : Tokens} {xs : List (Named (SummaryTerm Expr))} {r : Tokens} → ReadsSummaryList k ts xs r → length r < length ts
   summary_list_shorter (last_summary d) = named_summary_shorter d
   summary_list_shorter (next_summary d e) = omega (arith, named_summary_shorter d, summary_list_shorter e)
 
-  pub summaries_shorter : {ts : Tokens} {xs : List (Named (Summary Expr))} {r : Tokens} → ReadsSummaries ts xs r → length r < length ts
+  pub summaries_shorter : {ts : Tokens} {xs : List (Named (SummaryTerm Expr))} {r : Tokens} → ReadsSummaries ts xs r → length r < length ts
   summaries_shorter (summaries d) = omega (arith, summary_list_shorter d)
   summaries_shorter (summaries_assigned d) = omega (arith, summary_list_shorter d)
 
@@ -401,7 +401,7 @@ pub exprs_lead : {ts : Tokens} {all : List Expr} {r : Tokens} → ReadsList ts a
 exprs_lead (last_expr d) g = leads d g
 exprs_lead (next_expr d e) g = leads d refl
 
-pub summaries_goes : {ts : Tokens} {xs : List (Named (Summary Expr))} {r : Tokens} → ReadsSummaries ts xs r → goes_on ts ≡ false
+pub summaries_goes : {ts : Tokens} {xs : List (Named (SummaryTerm Expr))} {r : Tokens} → ReadsSummaries ts xs r → goes_on ts ≡ false
 summaries_goes (summaries d) = refl
 summaries_goes (summaries_assigned d) = refl
 

@@ -24,8 +24,8 @@ use Rattle.td_syntax.specs.declared.tree.Aggregate.TheVariants as aggregate
 use Rattle.td_syntax.specs.declared.tree.Nesting.{Nesting}
 use Rattle.td_syntax.specs.declared.tree.Nesting.TheVariants as nesting
 use Rattle.td_syntax.specs.declared.tree.Extension.TheVariants as extension
-use Rattle.td_syntax.specs.declared.tree.Summary.{Summary}
-use Rattle.td_syntax.specs.declared.tree.Summary.TheVariants as summary
+use Rattle.td_syntax.specs.declared.tree.SummaryTerm.{SummaryTerm}
+use Rattle.td_syntax.specs.declared.tree.SummaryTerm.TheVariants as summary
 use Rattle.td_syntax.specs.declared.tree.Groups.TheVariants as groups
 use Rattle.td_syntax.specs.declared.tree.Expr.{Expr}
 use Rattle.td_syntax.specs.declared.tree.Expr.TheVariants as e
@@ -383,7 +383,7 @@ module _ (rds : ℕ → Form → Reader Expr) (b : ℕ) (inside : (m : ℕ) (g :
   named_list_of m us xs r (last h) = last_named (named_sound m us _ h)
   named_list_of m us xs r (next {mid = mid} {xs = ys} h d) = next_named (named_sound m us _ h) (named_list_of m mid ys r d)
 
-  counted_sound : (ts : Tokens) (p : Summary Expr × Tokens) → read.counted rds b ts ≡ Some p → ReadsSummary (word w.Count ∷ ts) p.0 p.1
+  counted_sound : (ts : Tokens) (p : SummaryTerm Expr × Tokens) → read.counted rds b ts ≡ Some p → ReadsSummary (word w.Count ∷ ts) p.0 p.1
   unfolding read.counted shut
   counted_sound ts p h =
       elim (eaten w.OpenParenthesis ts _ p h) [
@@ -392,7 +392,7 @@ module _ (rds : ℕ → Form → Reader Expr) (b : ℕ) (inside : (m : ℕ) (g :
         | inr q ↦ made (ReadsSummary (word w.Count ∷ ts)) summary.Count ts p count_group q
       ]
 
-  summed_sound : (g : Aggregate) (ts : Tokens) (p : Summary Expr × Tokens) → read.summed rds b g ts ≡ Some p → ReadsSummary (word (aggregate_word g) ∷ ts) p.0 p.1
+  summed_sound : (g : Aggregate) (ts : Tokens) (p : SummaryTerm Expr × Tokens) → read.summed rds b g ts ≡ Some p → ReadsSummary (word (aggregate_word g) ∷ ts) p.0 p.1
   unfolding read.summed
   summed_sound g ts p h =
       let o = expected w.OpenParenthesis ts _ p h in
@@ -400,21 +400,21 @@ module _ (rds : ℕ → Form → Reader Expr) (b : ℕ) (inside : (m : ℕ) (g :
       let c = expected w.CloseParenthesis a.1 _ p a.3 in
       made (ReadsSummary (word (aggregate_word g) ∷ ts)) (summary.Of g a.0) c.0 p (subst (λ us. ReadsSummary (word (aggregate_word g) ∷ us) (summary.Of g a.0) c.0) (sym o.1) (summary_of (ended (inside b f.Expr o.0 _ a.2) c.1))) c.2
 
-  summed_by_sound : (v : Word) (i : Option Aggregate) (ts : Tokens) (p : Summary Expr × Tokens) → read.aggregate_of v ≡ i → read.summed_by rds b i ts ≡ Some p → ReadsSummary (word v ∷ ts) p.0 p.1
+  summed_by_sound : (v : Word) (i : Option Aggregate) (ts : Tokens) (p : SummaryTerm Expr × Tokens) → read.aggregate_of v ≡ i → read.summed_by rds b i ts ≡ Some p → ReadsSummary (word v ∷ ts) p.0 p.1
   summed_by_sound v None ts p q h = absurd (none_some h)
   summed_by_sound v (Some g) ts p q h = subst (λ u. ReadsSummary (word u ∷ ts) p.0 p.1) (aggregate_is v g q) (summed_sound g ts p h)
 
-  summary_word_sound : (v : Word) (ts : Tokens) (p : Summary Expr × Tokens) → read.summary_word rds b v ts ≡ Some p → ReadsSummary (word v ∷ ts) p.0 p.1
+  summary_word_sound : (v : Word) (ts : Tokens) (p : SummaryTerm Expr × Tokens) → read.summary_word rds b v ts ≡ Some p → ReadsSummary (word v ∷ ts) p.0 p.1
   unfolding same_word
   summary_word_sound w.Count ts p h = counted_sound ts p h
   summary_word_sound v ts p h = summed_by_sound v (read.aggregate_of v) ts p refl h
 
-  summary_sound : (ts : Tokens) (p : Summary Expr × Tokens) → read.summary_at rds b ts ≡ Some p → ReadsSummary ts p.0 p.1
+  summary_sound : (ts : Tokens) (p : SummaryTerm Expr × Tokens) → read.summary_at rds b ts ≡ Some p → ReadsSummary ts p.0 p.1
   unfolding read.summary_at
   summary_sound (word v ∷ ts) p h = summary_word_sound v ts p h
   summary_sound _ p h = absurd (none_some h)
 
-  named_summary_sound : (m : Naming) (us : Tokens) (p : Named (Summary Expr) × Tokens) → read.named_summary rds b m us ≡ Some p → ReadsNamedSummary m us p.0 p.1
+  named_summary_sound : (m : Naming) (us : Tokens) (p : Named (SummaryTerm Expr) × Tokens) → read.named_summary rds b m us ≡ Some p → ReadsNamedSummary m us p.0 p.1
   unfolding read.named_summary
   named_summary_sound naming.After us p h =
       let a = bound (read.summary_at rds b us) _ p h in
@@ -428,11 +428,11 @@ module _ (rds : ℕ → Form → Reader Expr) (b : ℕ) (inside : (m : ℕ) (g :
       made (ReadsNamedSummary naming.Assigned us) (record { name = x.0; value = a.0 }) a.1 p (subst (λ vs. ReadsNamedSummary naming.Assigned vs (record { name = x.0; value = a.0 }) a.1) (sym (x.2 ∙ ap (λ s. name x.0 ∷ s) c.1)) (summary_assigned (summary_sound c.0 _ a.2))) a.3
   named_summary_sound naming.Beside us p h = absurd (none_some h)
 
-  summary_list_of : (m : Naming) (us : Tokens) (xs : List (Named (Summary Expr))) (r : Tokens) → Run (read.named_summary rds b m) us xs r → ReadsSummaryList m us xs r
+  summary_list_of : (m : Naming) (us : Tokens) (xs : List (Named (SummaryTerm Expr))) (r : Tokens) → Run (read.named_summary rds b m) us xs r → ReadsSummaryList m us xs r
   summary_list_of m us xs r (last h) = last_summary (named_summary_sound m us _ h)
   summary_list_of m us xs r (next {mid = mid} {xs = ys} h d) = next_summary (named_summary_sound m us _ h) (summary_list_of m mid ys r d)
 
-  summaries_sound : (ts : Tokens) (p : List (Named (Summary Expr)) × Tokens) → read.summaries rds b ts ≡ Some p → ReadsSummaries ts p.0 p.1
+  summaries_sound : (ts : Tokens) (p : List (Named (SummaryTerm Expr)) × Tokens) → read.summaries rds b ts ≡ Some p → ReadsSummaries ts p.0 p.1
   unfolding read.summaries
   summaries_sound ts p h =
       elim (eaten w.Add ts _ p h) [

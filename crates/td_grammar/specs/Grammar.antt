@@ -24,8 +24,8 @@ use Rattle.td_syntax.specs.declared.tree.Aggregate.TheVariants as aggregate
 use Rattle.td_syntax.specs.declared.tree.Nesting.{Nesting}
 use Rattle.td_syntax.specs.declared.tree.Nesting.TheVariants as nesting
 use Rattle.td_syntax.specs.declared.tree.Extension.TheVariants as extension
-use Rattle.td_syntax.specs.declared.tree.Summary.{Summary}
-use Rattle.td_syntax.specs.declared.tree.Summary.TheVariants as summary
+use Rattle.td_syntax.specs.declared.tree.SummaryTerm.{SummaryTerm}
+use Rattle.td_syntax.specs.declared.tree.SummaryTerm.TheVariants as summary
 use Rattle.td_syntax.specs.declared.tree.Groups.TheVariants as groups
 use Rattle.td_syntax.specs.declared.tree.Expr.{Expr}
 use Rattle.td_syntax.specs.declared.tree.Expr.TheVariants as e
@@ -336,16 +336,16 @@ mutual
         → ReadsNamedList naming.Assigned mid xs (word w.CloseBrace ∷ r)
         → Reads f.Primary (word w.Extend ∷ ts) (e.Extend extension.Assign a xs) r
     -- SUMMARIZE expression summaries, with PER expression or BY attributes between
-    summarize : {ts mid r : Tokens} {a : Expr} {xs : List (Named (Summary Expr))}
+    summarize : {ts mid r : Tokens} {a : Expr} {xs : List (Named (SummaryTerm Expr))}
         → Reads f.Expr ts a mid
         → ReadsSummaries mid xs r
         → Reads f.Primary (word w.Summarize ∷ ts) (e.Summarize a groups.Whole xs) r
-    summarize_per : {ts mid next r : Tokens} {a b : Expr} {xs : List (Named (Summary Expr))}
+    summarize_per : {ts mid next r : Tokens} {a b : Expr} {xs : List (Named (SummaryTerm Expr))}
         → Reads f.Expr ts a (word w.Per ∷ mid)
         → Reads f.Expr mid b next
         → ReadsSummaries next xs r
         → Reads f.Primary (word w.Summarize ∷ ts) (e.Summarize a (groups.Per b) xs) r
-    summarize_by : {ts mid next r : Tokens} {a : Expr} {ys : Attributes} {xs : List (Named (Summary Expr))}
+    summarize_by : {ts mid next r : Tokens} {a : Expr} {ys : Attributes} {xs : List (Named (SummaryTerm Expr))}
         → Reads f.Expr ts a (word w.By ∷ mid)
         → ReadsAttributes mid ys next
         → ReadsSummaries next xs r
@@ -406,7 +406,7 @@ mutual
         → ReadsNamedList k ts (x ∷ xs) r
 
   -- COUNT, COUNT "(" ")", and SUM, MAX, MIN, AND or OR with "(" expression ")"
-  pub data ReadsSummary : Tokens → Summary Expr → Tokens → Type 0 where
+  pub data ReadsSummary : Tokens → SummaryTerm Expr → Tokens → Type 0 where
     count_group : {r : Tokens} → ReadsSummary (word w.Count ∷ r) summary.Count r
     count_brackets : {r : Tokens}
         → ReadsSummary (word w.Count ∷ word w.OpenParenthesis ∷ word w.CloseParenthesis ∷ r) summary.Count r
@@ -415,29 +415,29 @@ mutual
         → ReadsSummary (word (aggregate_word g) ∷ word w.OpenParenthesis ∷ ts) (summary.Of g a) r
 
   -- summary AS Name, or Name ":=" summary
-  pub data ReadsNamedSummary : Naming → Tokens → Named (Summary Expr) → Tokens → Type 0 where
-    summary_after : {x : Text} {ts r : Tokens} {s : Summary Expr}
+  pub data ReadsNamedSummary : Naming → Tokens → Named (SummaryTerm Expr) → Tokens → Type 0 where
+    summary_after : {x : Text} {ts r : Tokens} {s : SummaryTerm Expr}
         → ReadsSummary ts s (word w.As ∷ name x ∷ r)
         → ReadsNamedSummary naming.After ts (record { name = x; value = s }) r
-    summary_assigned : {x : Text} {ts r : Tokens} {s : Summary Expr}
+    summary_assigned : {x : Text} {ts r : Tokens} {s : SummaryTerm Expr}
         → ReadsSummary ts s r
         → ReadsNamedSummary naming.Assigned (name x ∷ word w.Assign ∷ ts) (record { name = x; value = s }) r
 
-  pub data ReadsSummaryList : Naming → Tokens → List (Named (Summary Expr)) → Tokens → Type 0 where
-    last_summary : {k : Naming} {ts r : Tokens} {x : Named (Summary Expr)}
+  pub data ReadsSummaryList : Naming → Tokens → List (Named (SummaryTerm Expr)) → Tokens → Type 0 where
+    last_summary : {k : Naming} {ts r : Tokens} {x : Named (SummaryTerm Expr)}
         → ReadsNamedSummary k ts x r
         → ReadsSummaryList k ts (x ∷ []) r
-    next_summary : {k : Naming} {ts mid r : Tokens} {x : Named (Summary Expr)} {xs : List (Named (Summary Expr))}
+    next_summary : {k : Naming} {ts mid r : Tokens} {x : Named (SummaryTerm Expr)} {xs : List (Named (SummaryTerm Expr))}
         → ReadsNamedSummary k ts x (word w.Comma ∷ mid)
         → ReadsSummaryList k mid xs r
         → ReadsSummaryList k ts (x ∷ xs) r
 
   -- summaries: ADD "(" summary AS Name, .. ")", or ":" "{" Name ":=" summary, .. "}"
-  pub data ReadsSummaries : Tokens → List (Named (Summary Expr)) → Tokens → Type 0 where
-    summaries : {ts r : Tokens} {xs : List (Named (Summary Expr))}
+  pub data ReadsSummaries : Tokens → List (Named (SummaryTerm Expr)) → Tokens → Type 0 where
+    summaries : {ts r : Tokens} {xs : List (Named (SummaryTerm Expr))}
         → ReadsSummaryList naming.After ts xs (word w.CloseParenthesis ∷ r)
         → ReadsSummaries (word w.Add ∷ word w.OpenParenthesis ∷ ts) xs r
-    summaries_assigned : {ts r : Tokens} {xs : List (Named (Summary Expr))}
+    summaries_assigned : {ts r : Tokens} {xs : List (Named (SummaryTerm Expr))}
         → ReadsSummaryList naming.Assigned ts xs (word w.CloseBrace ∷ r)
         → ReadsSummaries (word w.Colon ∷ word w.OpenBrace ∷ ts) xs r
 

@@ -16,7 +16,7 @@ use crate::lists::{attributes, renamings};
 use sqlite_items::Boxed;
 use std::alloc::Global;
 use td_syntax::tree::{Expr, Nesting, UnaryOperator};
-use td_tokens::token::{Kind, Word};
+use td_tokens::token::{TokenKind, Word};
 
 #[tactic(auto, unfolding(crate::specs::ForProofs::Reader::project_turn))]
 fn project(alloc: Global, tokens: &mut Cursor<'_>, left: Tree) -> Result<Tree, ReadError>
@@ -248,7 +248,7 @@ impl<F: Fn(Global, &mut Cursor<'_>, usize, usize, Form) -> Result<Tree, ReadErro
         ensures { Gives (spec.relational_turn (reads self.now.depth) self.now.levels left tokens.old) result tokens.new }
     {
         match tokens.look() {
-            Some(Kind::Word(word)) => self.relational_word(tokens, word, left),
+            Some(TokenKind::Word(word)) => self.relational_word(tokens, word, left),
             _ => Err(ReadError::Syntax),
         }
     }

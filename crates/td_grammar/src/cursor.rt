@@ -14,7 +14,7 @@ use crate::error::ReadError;
 use std::alloc::Global;
 use std::marker::Model;
 use td_syntax::tree::{Aggregate, BinaryOperator};
-use td_tokens::token::{Kind, Token, Word};
+use td_tokens::token::{Token, TokenKind, Word};
 use td_values::{Name, Text};
 
 /// The tokens from a place on. The names among them are names, and the integers are in range.
@@ -50,7 +50,7 @@ fn is_word(word: Word, token: &Token<'_>) -> bool
     ensures { result ≡ spec.is_word word (lexeme_of token.now) }
 {
     match token.kind {
-        Kind::Word(found) => same_word(found, word),
+        TokenKind::Word(found) => same_word(found, word),
         _ => false,
     }
 }
@@ -152,7 +152,7 @@ impl<'a> Cursor<'a> {
     }
 
     /// The kind of the next token.
-    pub fn look(&self) -> Option<Kind>
+    pub fn look(&self) -> Option<TokenKind>
         ensures { result ≡ spec.look self.now }
     {
         match self.rest {
@@ -189,7 +189,7 @@ impl<'a> Cursor<'a> {
         ensures { result ≡ spec.at_name self.now }
     {
         match self.look() {
-            Some(Kind::Name) => true,
+            Some(TokenKind::Name) => true,
             _ => false,
         }
     }
@@ -242,7 +242,7 @@ impl<'a> Cursor<'a> {
         ensures { Gives (spec.take_name self.old) result self.new }
     {
         match self.rest {
-            [t, rest @ ..] if t.kind == Kind::Name => {
+            [t, rest @ ..] if t.kind == TokenKind::Name => {
                 let name = Name::new(alloc, t.text)?;
                 self.rest = rest;
                 Ok(name)
@@ -316,8 +316,8 @@ impl<'a> Cursor<'a> {
         ensures { result ≡ spec.at_type self.now }
     {
         match self.look() {
-            Some(Kind::Name) => true,
-            Some(Kind::Word(word)) => is_type_word(word),
+            Some(TokenKind::Name) => true,
+            Some(TokenKind::Word(word)) => is_type_word(word),
             _ => false,
         }
     }
@@ -344,7 +344,7 @@ impl<'a> Cursor<'a> {
             };
         }
         match self.look() {
-            Some(Kind::Word(word)) => number_of(word),
+            Some(TokenKind::Word(word)) => number_of(word),
             _ => NOTHING,
         }
     }
@@ -362,7 +362,7 @@ impl<'a> Cursor<'a> {
             self.skip();
             return Ok(BinaryOperator::NotMatching);
         }
-        let Some(Kind::Word(word)) = self.look() else {
+        let Some(TokenKind::Word(word)) = self.look() else {
             return Err(ReadError::Syntax);
         };
         let Some((_, operator)) = infix_word(word) else {
@@ -378,7 +378,7 @@ fn text_of(alloc: Global, token: &Token<'_>) -> Result<Text, ReadError>
     ensures { Tells (spec.text_of (lexeme_of token.now)) result }
 {
     match token.kind {
-        Kind::Text => Ok(Text::new(alloc, token.characters(alloc)?)?),
+        TokenKind::Text => Ok(Text::new(alloc, token.characters(alloc)?)?),
         _ => Err(ReadError::Syntax),
     }
 }
@@ -389,7 +389,7 @@ fn integer_of(token: &Token<'_>) -> Result<i64, ReadError>
     ensures { Tells (spec.integer_of (lexeme_of token.now)) result }
 {
     match token.kind {
-        Kind::Int(number) => Ok(number as i64),
+        TokenKind::Int(number) => Ok(number as i64),
         _ => Err(ReadError::Syntax),
     }
 }

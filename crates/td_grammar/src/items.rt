@@ -12,8 +12,8 @@ use crate::grammar::{Grammar, Tree};
 use crate::lists::{list, listed};
 use sqlite_items::Items;
 use std::alloc::Global;
-use td_syntax::tree::{Aggregate, Named, Summary};
-use td_tokens::token::{Kind, Word};
+use td_syntax::tree::{Aggregate, Named, SummaryTerm};
+use td_tokens::token::{TokenKind, Word};
 
 impl<F: Fn(Global, &mut Cursor<'_>, usize, usize, Form) -> Result<Tree, ReadError>> Grammar<F> {
     pub fn exprs_listed(&self, tokens: &mut Cursor<'_>, end: Word) -> Result<Items<Tree>, ReadError>
@@ -106,13 +106,13 @@ impl<F: Fn(Global, &mut Cursor<'_>, usize, usize, Form) -> Result<Tree, ReadErro
     }
 
     #[tactic(auto, unfolding(crate::specs::ForProofs::Reader::counted))]
-    pub fn counted(&self, tokens: &mut Cursor<'_>) -> Result<Summary<Tree>, ReadError>
+    pub fn counted(&self, tokens: &mut Cursor<'_>) -> Result<SummaryTerm<Tree>, ReadError>
         requires { Nests self.now.depth (F.pre self.now.nested) (F.post self.now.nested) }
         ensures { Gives (spec.counted (reads self.now.depth) self.now.levels tokens.old) result tokens.new }
     {
         let opened = tokens.eat(Word::OpenParenthesis);
         shut(tokens, opened)?;
-        Ok(Summary::Count)
+        Ok(SummaryTerm::Count)
     }
 
     #[tactic(auto, unfolding(crate::specs::ForProofs::Reader::summed))]
@@ -120,21 +120,21 @@ impl<F: Fn(Global, &mut Cursor<'_>, usize, usize, Form) -> Result<Tree, ReadErro
         &self,
         tokens: &mut Cursor<'_>,
         aggregate: Aggregate,
-    ) -> Result<Summary<Tree>, ReadError>
+    ) -> Result<SummaryTerm<Tree>, ReadError>
         requires { Nests self.now.depth (F.pre self.now.nested) (F.post self.now.nested) }
         ensures { Gives (spec.summed (reads self.now.depth) self.now.levels aggregate tokens.old) result tokens.new }
     {
         tokens.expect(Word::OpenParenthesis)?;
         let term = self.inner(tokens)?;
         tokens.expect(Word::CloseParenthesis)?;
-        Ok(Summary::Of(aggregate, term))
+        Ok(SummaryTerm::Of(aggregate, term))
     }
 
     pub fn summary_word(
         &self,
         tokens: &mut Cursor<'_>,
         word: Word,
-    ) -> Result<Summary<Tree>, ReadError>
+    ) -> Result<SummaryTerm<Tree>, ReadError>
         requires { Nests self.now.depth (F.pre self.now.nested) (F.post self.now.nested) }
         ensures { Gives (spec.summary_word (reads self.now.depth) self.now.levels word tokens.old) result tokens.new }
     {
@@ -148,12 +148,12 @@ impl<F: Fn(Global, &mut Cursor<'_>, usize, usize, Form) -> Result<Tree, ReadErro
     }
 
     #[tactic(auto, unfolding(crate::specs::ForProofs::Reader::summary_at))]
-    pub fn summary(&self, tokens: &mut Cursor<'_>) -> Result<Summary<Tree>, ReadError>
+    pub fn summary(&self, tokens: &mut Cursor<'_>) -> Result<SummaryTerm<Tree>, ReadError>
         requires { Nests self.now.depth (F.pre self.now.nested) (F.post self.now.nested) }
         ensures { Gives (spec.summary_at (reads self.now.depth) self.now.levels tokens.old) result tokens.new }
     {
         match tokens.look() {
-            Some(Kind::Word(word)) => {
+            Some(TokenKind::Word(word)) => {
                 tokens.skip();
                 self.summary_word(tokens, word)
             }
@@ -167,7 +167,7 @@ impl<F: Fn(Global, &mut Cursor<'_>, usize, usize, Form) -> Result<Tree, ReadErro
         &self,
         tokens: &mut Cursor<'_>,
         naming: Naming,
-    ) -> Result<Named<Summary<Tree>>, ReadError>
+    ) -> Result<Named<SummaryTerm<Tree>>, ReadError>
         requires { Nests self.now.depth (F.pre self.now.nested) (F.post self.now.nested) }
         ensures { Gives (spec.named_summary (reads self.now.depth) self.now.levels naming tokens.old) result tokens.new }
     {
@@ -193,7 +193,7 @@ impl<F: Fn(Global, &mut Cursor<'_>, usize, usize, Form) -> Result<Tree, ReadErro
         tokens: &mut Cursor<'_>,
         end: Word,
         naming: Naming,
-    ) -> Result<Items<Named<Summary<Tree>>>, ReadError>
+    ) -> Result<Items<Named<SummaryTerm<Tree>>>, ReadError>
         requires { Nests self.now.depth (F.pre self.now.nested) (F.post self.now.nested) }
         ensures { Gives (spec.listed end (spec.named_summary (reads self.now.depth) self.now.levels naming) tokens.old) result tokens.new }
     {
@@ -205,7 +205,7 @@ impl<F: Fn(Global, &mut Cursor<'_>, usize, usize, Form) -> Result<Tree, ReadErro
     pub fn summaries(
         &self,
         tokens: &mut Cursor<'_>,
-    ) -> Result<Items<Named<Summary<Tree>>>, ReadError>
+    ) -> Result<Items<Named<SummaryTerm<Tree>>>, ReadError>
         requires { Nests self.now.depth (F.pre self.now.nested) (F.post self.now.nested) }
         ensures { Gives (spec.summaries (reads self.now.depth) self.now.levels tokens.old) result tokens.new }
     {

@@ -12,7 +12,7 @@ use crate::lists::attributes;
 use crate::types::heading;
 use std::alloc::Global;
 use td_syntax::tree::{Aggregate, Expr, Extension, Groups, UnaryOperator};
-use td_tokens::token::{Kind, Word};
+use td_tokens::token::{TokenKind, Word};
 
 impl<F: Fn(Global, &mut Cursor<'_>, usize, usize, Form) -> Result<Tree, ReadError>> Grammar<F> {
     #[tactic(auto, unfolding(crate::specs::ForProofs::Reader::brackets))]
@@ -206,16 +206,16 @@ impl<F: Fn(Global, &mut Cursor<'_>, usize, usize, Form) -> Result<Tree, ReadErro
     {
         match tokens.look() {
             None => Err(ReadError::Syntax),
-            Some(Kind::Int(_)) => {
+            Some(TokenKind::Int(_)) => {
                 let number = tokens.integer()?;
                 Ok(self.tree(Expr::Integer(number))?)
             }
-            Some(Kind::Text) => {
+            Some(TokenKind::Text) => {
                 let text = tokens.text(self.alloc)?;
                 Ok(self.tree(Expr::Text(text))?)
             }
-            Some(Kind::Name) => self.call(tokens),
-            Some(Kind::Word(word)) => {
+            Some(TokenKind::Name) => self.call(tokens),
+            Some(TokenKind::Word(word)) => {
                 tokens.skip();
                 self.primary_word(tokens, word)
             }

@@ -12,7 +12,7 @@ use crate::lists::{list, up_to};
 use sqlite_items::Items;
 use std::alloc::Global;
 use td_syntax::tree::{Named, TypeExpr};
-use td_tokens::token::{Kind, Word};
+use td_tokens::token::{TokenKind, Word};
 
 /// Types that nest so deep, by a reader of those one level down.
 #[derive(Clone, Copy)]
@@ -78,11 +78,11 @@ impl<F: Fn(Global, &mut Cursor<'_>, usize) -> Result<TypeExpr, ReadError>> Types
         ensures { Gives (spec.type_of (type_at self.now.depth) tokens.old) result tokens.new }
     {
         match tokens.look() {
-            Some(Kind::Word(word)) => {
+            Some(TokenKind::Word(word)) => {
                 tokens.skip();
                 self.word(tokens, word)
             }
-            Some(Kind::Name) => Ok(TypeExpr::User(tokens.name(self.alloc)?)),
+            Some(TokenKind::Name) => Ok(TypeExpr::User(tokens.name(self.alloc)?)),
             _ => Err(ReadError::Syntax),
         }
     }

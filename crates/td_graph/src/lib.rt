@@ -15,7 +15,7 @@ ghost use Rattle.td_graph.specs.Links.{ReachedFrom, with_link};
 use std::alloc::{AllocError, Global};
 use std::marker::Model;
 
-/// Links between places, which are counted from 0.
+/// Links between places, which are counted from 0: a directed graph.
 pub trait Leads {
     ghost links: { Self → List (List ℕ) };
 
@@ -30,11 +30,11 @@ pub trait Leads {
 
 /// To which places each place leads in a step. Places are counted from 0.
 #[derive(Drop)]
-pub struct Links {
+pub struct Graph {
     next: Vec<Vec<usize>>,
 }
 
-impl Model for Links {
+impl Model for Graph {
     ghost use Rattle.std.specs.Prelude.{List, ℕ, map};
 
     ghost Value = { List (List ℕ) };
@@ -42,16 +42,16 @@ impl Model for Links {
     ghost view = { λ a. map (λ v. v.items) a.next.items };
 }
 
-impl Links {
+impl Graph {
     /// So many places, which lead to none.
-    pub fn new(alloc: Global, places: usize) -> Result<Links, AllocError>
+    pub fn new(alloc: Global, places: usize) -> Result<Graph, AllocError>
         ensures { IfOk result (λ l. l ≡ replicate places []) }
     {
         let mut next = Vec::with_capacity(alloc, places)?;
         for _place in 0..places {
             next.push(Vec::new(alloc))?;
         }
-        Ok(Links { next })
+        Ok(Graph { next })
     }
 
     /// Lets the one place lead to the other.
@@ -64,7 +64,7 @@ impl Links {
     }
 }
 
-impl Leads for Links {
+impl Leads for Graph {
     ghost links = { λ l. l };
 
     fn places(&self) -> usize {

@@ -16,7 +16,7 @@ use Rattle.td_algebra.proofs.Made.{has_in, in_has}
 use Rattle.td_headings.specs.Catalogues.{CatalogueData}
 use Rattle.td_meaning.specs.Mean.{Meaning, Names, Relvars, Selection, mean, mean_and, mean_both, mean_by, truth_in}
 use Rattle.td_meaning.proofs.Forms as forms
-use Rattle.td_operators.specs.Operators.{at_most, if_alike, is_subset, of_alike, operate_on, same_heading}
+use Rattle.td_operators.specs.Operators.{at_most, if_alike, is_subset, of_alike, operate_on, are_equal_headings}
 use Rattle.td_operators.specs.Values as operands
 use Rattle.td_operators.specs.Values.{rows_of, truth_of}
 use Rattle.td_incremental.specs.Growth.{IsWatched, empty, within, around, unread, both}
@@ -100,7 +100,7 @@ abbrev pub inside : Result RowsData Stop → RowsData → Result Datum Stop
 inside y r = and_then (and_then y (λ s. Ok (r, s))) (λ (p : RowsData × RowsData). if_alike p.0 p.1 (boolean (is_subset p.0 p.1)))
 
 still_inside : (y : Result RowsData Stop) (a w b : RowsData) → IsGrown a w b → truth_then (inside y a) ≡ Ok true → truth_then (inside y w) ≡ truth_then (inside y b)
-still_inside (Ok s) a w b g e = if_true (same_heading a.heading s.heading) (same_heading w.heading s.heading) (same_heading b.heading s.heading) (is_subset a s) (is_subset w s) (is_subset b s) (ap (λ h. same_heading h s.heading) g.old_heading) (ap (λ h. same_heading h s.heading) g.new_heading) (still_subset a w b s g) e
+still_inside (Ok s) a w b g e = if_true (are_equal_headings a.heading s.heading) (are_equal_headings w.heading s.heading) (are_equal_headings b.heading s.heading) (is_subset a s) (is_subset w s) (is_subset b s) (ap (λ h. are_equal_headings h s.heading) g.old_heading) (ap (λ h. are_equal_headings h s.heading) g.new_heading) (still_subset a w b s g) e
 still_inside (Err k) a w b g e = cc
 
 -- relations are compared by inclusion

@@ -28,7 +28,7 @@ use Rattle.td_headings.specs.Reached.{is_base}
 use Rattle.td_headings.specs.declared.defined.Test.TheVariants as test
 use Rattle.td_meaning.specs.Mean.{Meaning, Names, Relvars, Selection, mean, mean_binary, mean_both, mean_by, mean_relvar, mean_where, rows_in, truth_at, truth_in, within}
 use Rattle.td_meaning.proofs.Forms as forms
-use Rattle.td_operators.specs.Operators.{as_value, of_relations, operate, operate_on, part_at, related, same_heading}
+use Rattle.td_operators.specs.Operators.{as_value, of_relations, operate, operate_on, part_at, related, are_equal_headings}
 use Rattle.td_operators.specs.Values as operands
 use Rattle.td_operators.specs.Values.{rows_of}
 use Rattle.td_semantics.specs.Meanings.{no_names}
@@ -161,7 +161,7 @@ fewer_out a s w g t has = let p = (minus_is a w).only t has in (minus_is a s).al
 still_less : (x y z : Result RowsData Stop) → AreGrown z z y → is_empty (lessened x y) ≡ Ok true → is_empty (lessened x z) ≡ Ok true
 still_less (Err f) y z g e = cc
 still_less (Ok a) (Ok s) (Ok w) g e =
-    if_less (same_heading a.heading s.heading) (same_heading a.heading w.heading) (minus_of a s) (minus_of a w) (ap (same_heading a.heading) g.new_heading)
+    if_less (are_equal_headings a.heading s.heading) (are_equal_headings a.heading w.heading) (minus_of a s) (minus_of a w) (ap (are_equal_headings a.heading) g.new_heading)
     (nothing_left (minus_of a s) (minus_of a w) (fewer_out a s w g)) e
 still_less (Ok a) (Ok s) (Err f) g e = absurd g
 still_less (Ok a) (Err f) (Ok w) g e = absurd g
@@ -237,8 +237,8 @@ module _ (xs : List (List ℕ)) where
   unfolding matching_of not_matching_of minus_of intersect_of
   related_named binary.Matching is a s h = h
   related_named binary.NotMatching is a s h = h
-  related_named binary.Minus is a s h = if_named (same_heading a.heading s.heading) (minus_of a s) h
-  related_named binary.Intersect is a s h = if_named (same_heading a.heading s.heading) (intersect_of a s) h
+  related_named binary.Minus is a s h = if_named (are_equal_headings a.heading s.heading) (minus_of a s) h
+  related_named binary.Intersect is a s h = if_named (are_equal_headings a.heading s.heading) (intersect_of a s) h
   related_named o is a s h = cc
 
   both_named : (o : BinaryOperator) → has_left_heading o ≡ true → (x y : Result RowsData Stop) → AreNamed xs x → AreNamed xs (and_then (and_then (operands.both x y) (λ (p : RowsData × RowsData). and_then (related o p.0 p.1) as_value)) rows_of)

@@ -31,7 +31,7 @@ use Rattle.td_headings.specs.declared.defined.Test.TheVariants as test
 use Rattle.td_meaning.specs.Mean.{Meaning, Names, Relvars, Selection, mean, mean_both, mean_by, mean_relvar, truth_in, within}
 use Rattle.td_meaning.proofs.Forms as forms
 use Rattle.td_operators.specs.Operators as operators
-use Rattle.td_operators.specs.Operators.{as_value, is_subset, of_alike, of_relations, operate, operate_on, part_at, same_heading}
+use Rattle.td_operators.specs.Operators.{as_value, is_subset, of_alike, of_relations, operate, operate_on, part_at, are_equal_headings}
 use Rattle.td_operators.specs.Values.{rows_of}
 use Rattle.td_type_soundness.specs.Meanings.{IsRelationOver, IsTupleOver}
 use Rattle.td_type_soundness.proofs.Tables.{one_heading}
@@ -65,16 +65,16 @@ if_proper p t = if p then Ok t else Err Untyped
 
 abbrev answer : (x y u : Typed) → SaysWithin x y u → RowsData → RowsData → Result Bool Stop
 answer x y u matched a b = Ok (is_nothing (not_matching_of a b).tuples)
-answer x y u without a b = if_proper (same_heading a.heading b.heading) (is_nothing (minus_of a b).tuples)
-answer x y u at_most a b = if_proper (same_heading a.heading b.heading) (is_subset a b)
-answer x y u at_least a b = if_proper (same_heading a.heading b.heading) (is_subset a b)
+answer x y u without a b = if_proper (are_equal_headings a.heading b.heading) (is_nothing (minus_of a b).tuples)
+answer x y u at_most a b = if_proper (are_equal_headings a.heading b.heading) (is_subset a b)
+answer x y u at_least a b = if_proper (are_equal_headings a.heading b.heading) (is_subset a b)
 
 -- both have the headings that it asks for
 abbrev IsProper : (x y u : Typed) → SaysWithin x y u → RowsData → RowsData → Type 0
 IsProper x y u matched a b = Unit {0}
-IsProper x y u without a b = same_heading a.heading b.heading ≡ true
-IsProper x y u at_most a b = same_heading a.heading b.heading ≡ true
-IsProper x y u at_least a b = same_heading a.heading b.heading ≡ true
+IsProper x y u without a b = are_equal_headings a.heading b.heading ≡ true
+IsProper x y u at_most a b = are_equal_headings a.heading b.heading ≡ true
+IsProper x y u at_least a b = are_equal_headings a.heading b.heading ≡ true
 
 proper_and : (p t : Bool) → if_proper p t ≡ Ok true → (p ≡ true) × (t ≡ true)
 proper_and true t e = (refl, true_of t e)
@@ -82,15 +82,15 @@ proper_and false t e = cc
 
 proper : (x y u : Typed) (says : SaysWithin x y u) (a b : RowsData) → answer x y u says a b ≡ Ok true → IsProper x y u says a b
 proper x y u matched a b e = tt
-proper x y u without a b e = (proper_and (same_heading a.heading b.heading) (is_nothing (minus_of a b).tuples) e).0
-proper x y u at_most a b e = (proper_and (same_heading a.heading b.heading) (is_subset a b) e).0
-proper x y u at_least a b e = (proper_and (same_heading a.heading b.heading) (is_subset a b) e).0
+proper x y u without a b e = (proper_and (are_equal_headings a.heading b.heading) (is_nothing (minus_of a b).tuples) e).0
+proper x y u at_most a b e = (proper_and (are_equal_headings a.heading b.heading) (is_subset a b) e).0
+proper x y u at_least a b e = (proper_and (are_equal_headings a.heading b.heading) (is_subset a b) e).0
 
 still_proper : (x y u : Typed) (says : SaysWithin x y u) (a b v : RowsData) → b.heading ≡ v.heading → IsProper x y u says a b → IsProper x y u says a v
 still_proper x y u matched a b v same h = tt
-still_proper x y u without a b v same h = ap (same_heading a.heading) (sym same) ∙ h
-still_proper x y u at_most a b v same h = ap (same_heading a.heading) (sym same) ∙ h
-still_proper x y u at_least a b v same h = ap (same_heading a.heading) (sym same) ∙ h
+still_proper x y u without a b v same h = ap (are_equal_headings a.heading) (sym same) ∙ h
+still_proper x y u at_most a b v same h = ap (are_equal_headings a.heading) (sym same) ∙ h
+still_proper x y u at_least a b v same h = ap (are_equal_headings a.heading) (sym same) ∙ h
 
 module _ (a b : RowsData) where
   abbrev Within : Type 0
@@ -121,7 +121,7 @@ module _ (ps qs : List ℕ → Bool) (r s a b : RowsData) (one : IsCut ps r a) (
   to_matched : AllMeet q r s → is_nothing (not_matching_of a b).tuples ≡ true
   to_matched met = nothing_if (not_matching_of a b) (matched_where_met ps qs r s a b one other q shared fit_one fit_other met)
 
-  module _ (same : same_heading a.heading b.heading ≡ true) where
+  module _ (same : are_equal_headings a.heading b.heading ≡ true) where
     by_within : ((t : Attrs) → Has a t → Has b t) → AllMeet q r s
     by_within = met_where_within ps qs r s a b one other q shared fit_one fit_other (one_heading a.heading b.heading same)
 
@@ -130,12 +130,12 @@ module _ (ps qs : List ℕ → Bool) (r s a b : RowsData) (one : IsCut ps r a) (
 
   met_by : (x y u : Typed) (says : SaysWithin x y u) → answer x y u says a b ≡ Ok true → AllMeet q r s
   met_by x y u matched e = by_matched (true_of (is_nothing (not_matching_of a b).tuples) e)
-  met_by x y u without e = let is = proper_and (same_heading a.heading b.heading) (is_nothing (minus_of a b).tuples) e in by_within is.0 (by_minus a b (none_if (minus_of a b) is.1))
-  met_by x y u at_most e = let is = proper_and (same_heading a.heading b.heading) (is_subset a b) e in by_within is.0 (by_subset a b is.1)
-  met_by x y u at_least e = let is = proper_and (same_heading a.heading b.heading) (is_subset a b) e in by_within is.0 (by_subset a b is.1)
+  met_by x y u without e = let is = proper_and (are_equal_headings a.heading b.heading) (is_nothing (minus_of a b).tuples) e in by_within is.0 (by_minus a b (none_if (minus_of a b) is.1))
+  met_by x y u at_most e = let is = proper_and (are_equal_headings a.heading b.heading) (is_subset a b) e in by_within is.0 (by_subset a b is.1)
+  met_by x y u at_least e = let is = proper_and (are_equal_headings a.heading b.heading) (is_subset a b) e in by_within is.0 (by_subset a b is.1)
 
   module _ (t : Bool) (there : AllMeet q r s → t ≡ true) (back : t ≡ true → AllMeet q r s) where
-    by_subsets : same_heading a.heading b.heading ≡ true → if_proper (same_heading a.heading b.heading) (is_subset a b) ≡ Ok t
+    by_subsets : are_equal_headings a.heading b.heading ≡ true → if_proper (are_equal_headings a.heading b.heading) (is_subset a b) ≡ Ok t
     by_subsets is =
         ap (λ p. if_proper p (is_subset a b)) is
         ∙ ap Ok (same_truth (is_subset a b) t (λ e. there (by_within is (by_subset a b e))) (λ e. to_subset a b (to_within is (back e))))
@@ -165,25 +165,25 @@ module _ (f g : Meaning) (names : Names) (a b : RowsData) (one : f names ≡ as_
       ∙ (λ i. is_empty (unmatched (rows_back a i) (rows_back b i)))
       ∙ emptied (not_matching_of a b)
 
-  less_means : truth_in (mean_by (operate_on unary.IsEmpty) (mean_both binary.Minus f g)) names ≡ if_proper (same_heading a.heading b.heading) (is_nothing (minus_of a b).tuples)
+  less_means : truth_in (mean_by (operate_on unary.IsEmpty) (mean_both binary.Minus f g)) names ≡ if_proper (are_equal_headings a.heading b.heading) (is_nothing (minus_of a b).tuples)
   unfolding truth_in mean_by mean_both of_relations
   less_means =
       (λ i. is_empty (and_then (one i) (λ d. and_then (other i) (operate binary.Minus d))))
       ∙ (λ i. is_empty (lessened (rows_back a i) (rows_back b i)))
-      ∙ less_emptied (same_heading a.heading b.heading) (minus_of a b)
+      ∙ less_emptied (are_equal_headings a.heading b.heading) (minus_of a b)
 
   alike_is : operators.at_most (relation_value a) (relation_value b) ≡ inside (rows_of (relation_value b)) a
   unfolding of_alike
   alike_is = λ i. and_then (and_then (rows_back a i) (λ r. and_then (rows_of (relation_value b)) (λ s. Ok (r, s)))) (λ (p : RowsData × RowsData). operators.if_alike p.0 p.1 (boolean (is_subset p.0 p.1)))
 
-  subset_is : truth_then (operators.at_most (relation_value a) (relation_value b)) ≡ if_proper (same_heading a.heading b.heading) (is_subset a b)
-  subset_is = ap truth_then alike_is ∙ (λ i. truth_then (inside (rows_back b i) a)) ∙ inside_told (same_heading a.heading b.heading) (is_subset a b)
+  subset_is : truth_then (operators.at_most (relation_value a) (relation_value b)) ≡ if_proper (are_equal_headings a.heading b.heading) (is_subset a b)
+  subset_is = ap truth_then alike_is ∙ (λ i. truth_then (inside (rows_back b i) a)) ∙ inside_told (are_equal_headings a.heading b.heading) (is_subset a b)
 
-  at_most_means : truth_in (mean_both binary.AtMost f g) names ≡ if_proper (same_heading a.heading b.heading) (is_subset a b)
+  at_most_means : truth_in (mean_both binary.AtMost f g) names ≡ if_proper (are_equal_headings a.heading b.heading) (is_subset a b)
   unfolding truth_in mean_both
   at_most_means = (λ i. truth_then (and_then (one i) (λ d. and_then (other i) (operators.at_most d)))) ∙ subset_is
 
-  at_least_means : truth_in (mean_both binary.AtLeast g f) names ≡ if_proper (same_heading a.heading b.heading) (is_subset a b)
+  at_least_means : truth_in (mean_both binary.AtLeast g f) names ≡ if_proper (are_equal_headings a.heading b.heading) (is_subset a b)
   unfolding truth_in mean_both
   at_least_means = (λ i. truth_then (and_then (other i) (λ e. and_then (one i) (λ d. operators.at_most d e)))) ∙ subset_is
 

@@ -7,7 +7,7 @@ use Rattle.td_syntax.specs.declared.tree.Named.{Named}
 use Rattle.td_tuples.specs.declared.items.Item.{Item}
 use Rattle.td_tuples.specs.declared.items.Summary.{Summary}
 use Rattle.td_tuples.specs.declared.items.Summary.TheVariants as summary
-use Rattle.td_typed_trees.specs.Mentions.{Mentions, mentioned, mentioned_step, of_all, of_items, of_named, of_summary, of_summaries, relvars_in, possreps_in}
+use Rattle.td_typed_trees.specs.Mentions.{Mentions, mentioned, mentioned_step, of_all, of_items, of_named, mentioned_by_summary, of_summaries, relvars_in, possreps_in}
 use Rattle.td_typed_trees.specs.declared.mentions.Mention.TheVariants as mention
 use Rattle.td_typed_trees.specs.declared.tree.TypedGroups.TheVariants as groups
 use Rattle.td_typed_trees.specs.declared.tree.Typed.{Typed, map-Typed}
@@ -108,7 +108,7 @@ module _ (r s : Relvars) (p q : Selection) where
   abbrev summary_in_s : Item (Summary Typed) → Item (Summary Meaning)
   summary_in_s = former-Typed-Summarize-2-at-13.map Typed Meaning in_s
 
-  one_same : (n : List ℕ) (ty : Ty) (x : Summary Part) → Agree (of_summary (summary_mentions (summary_trees (record { name = n; ty = ty; term = x }))).term) → summary_in_r (summary_trees (record { name = n; ty = ty; term = x })) ≡ summary_in_s (summary_trees (record { name = n; ty = ty; term = x }))
+  one_same : (n : List ℕ) (ty : Ty) (x : Summary Part) → Agree (mentioned_by_summary (summary_mentions (summary_trees (record { name = n; ty = ty; term = x }))).term) → summary_in_r (summary_trees (record { name = n; ty = ty; term = x })) ≡ summary_in_s (summary_trees (record { name = n; ty = ty; term = x }))
   one_same n ty summary.Count same = refl
   one_same n ty (summary.Sum a) same = ap (λ m. record { name = n; ty = ty; term = summary.Sum m }) (a.1 same)
   one_same n ty (summary.Max a) same = ap (λ m. record { name = n; ty = ty; term = summary.Max m }) (a.1 same)
@@ -119,7 +119,7 @@ module _ (r s : Relvars) (p q : Selection) where
   summaries_same : (all : List (Item (Summary Part))) → Agree (of_summaries (map summary_mentions (map summary_trees all))) → map summary_in_r (map summary_trees all) ≡ map summary_in_s (map summary_trees all)
   summaries_same [] same = refl
   summaries_same (x ∷ all) same =
-      let first = of_summary (summary_mentions (summary_trees x)).term in
+      let first = mentioned_by_summary (summary_mentions (summary_trees x)).term in
       let rest = of_summaries (map summary_mentions (map summary_trees all)) in
       let here = one_same x.name x.ty x.term (front first rest same) in
       let later = summaries_same all (behind first rest same) in

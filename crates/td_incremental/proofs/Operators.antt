@@ -13,7 +13,7 @@ use Rattle.td_tuples.specs.Parts.{columns_in, cut, cut_off, names_of}
 use Rattle.td_tuples.specs.Renamings.{renamed, renamed_columns}
 use Rattle.td_tuples.specs.Unions.{beside, joined, lone_names, with_attribute}
 use Rattle.td_tuples.specs.declared.items.Item.{Item}
-use Rattle.td_algebra.specs.Extending.{Meaning, extended_at, field_at}
+use Rattle.td_algebra.specs.Extending.{TermMeaning, extended_at, field_at}
 use Rattle.td_algebra.specs.ForProofs.Index.{has_part, is_matched}
 use Rattle.td_algebra.specs.ForProofs.Opened.{tuples_at}
 use Rattle.td_algebra.specs.Functions.{agrees, compose_of, extended, intersect_of, join_of, matching_of, minus_of, not_matching_of, open_of, project_of, relation_from, rename_of, restricted, ungroup_of, union_of, unwrap_of, wrap_of}
@@ -222,7 +222,7 @@ module _ (a w b : RowsData) (g : IsGrown a w b) where
     pub restricted_grown : Grown IsGrown (restricted m a) (restricted m w) (restricted m b)
     restricted_grown = walked itself (Kept Passes) (λ t e. m t ≡ Err e) a w b g (restricted m a) (restricted m w) (restricted m b) (restricted_walks a) (restricted_walks w) (restricted_walks b)
 
-  module _ {E : Type 0} (m : Meaning E) (items : List (Item E)) where
+  module _ {E : Type 0} (m : TermMeaning E) (items : List (Item E)) where
     abbrev Extends : Header → Attrs → Attrs → Type 0
     Extends h t u = extended_at m items t ≡ Ok u
 

@@ -15,7 +15,7 @@ use Rattle.td_algebra.specs.Raising.{and_then}
 use Rattle.td_algebra.specs.declared.errors.Stop.{Stop}
 use Rattle.td_algebra.specs.declared.errors.Stop.TheVariants.{Untyped}
 use Rattle.td_algebra.proofs.Openings.{tuple_list_back}
-use Rattle.td_operators.specs.Operators.{as_value, is_relation_type, is_tuple_type, nested, of_relations, part_at, related, same_heading, unnested, unnested_of, with_new_names}
+use Rattle.td_operators.specs.Operators.{as_value, is_relation_type, is_tuple_type, nested, of_relations, part_at, related, are_equal_headings, unnested, unnested_of, with_new_names}
 use Rattle.td_operators.specs.Values.{both, rows_of}
 use Rattle.td_incremental.proofs.Answers.{Grown, then_grown}
 use Rattle.td_incremental.proofs.Operators.{common, common_with_it, composing_it, composing_its, joining_it, joining_its, matched, matching_it, projected, remaining, renamed_grown, ungrouped, united, unmatched, unwrapped, wrapped}
@@ -176,13 +176,13 @@ pub right_join : IsRight binary.Join
 right_join a w b s g = joining_it a w b g s
 
 pub left_minus : IsLeft binary.Minus
-left_minus a w b s g = if_grown (same_heading a.heading s.heading) (same_heading w.heading s.heading) (same_heading b.heading s.heading) (minus_of a s) (minus_of w s) (minus_of b s) (ap (λ h. same_heading h s.heading) g.old_heading) (ap (λ h. same_heading h s.heading) g.new_heading) (remaining a w b g s)
+left_minus a w b s g = if_grown (are_equal_headings a.heading s.heading) (are_equal_headings w.heading s.heading) (are_equal_headings b.heading s.heading) (minus_of a s) (minus_of w s) (minus_of b s) (ap (λ h. are_equal_headings h s.heading) g.old_heading) (ap (λ h. are_equal_headings h s.heading) g.new_heading) (remaining a w b g s)
 
 pub left_intersect : IsLeft binary.Intersect
-left_intersect a w b s g = if_grown (same_heading a.heading s.heading) (same_heading w.heading s.heading) (same_heading b.heading s.heading) (intersect_of a s) (intersect_of w s) (intersect_of b s) (ap (λ h. same_heading h s.heading) g.old_heading) (ap (λ h. same_heading h s.heading) g.new_heading) (common a w b g s)
+left_intersect a w b s g = if_grown (are_equal_headings a.heading s.heading) (are_equal_headings w.heading s.heading) (are_equal_headings b.heading s.heading) (intersect_of a s) (intersect_of w s) (intersect_of b s) (ap (λ h. are_equal_headings h s.heading) g.old_heading) (ap (λ h. are_equal_headings h s.heading) g.new_heading) (common a w b g s)
 
 pub right_intersect : IsRight binary.Intersect
-right_intersect a w b s g = if_grown (same_heading s.heading a.heading) (same_heading s.heading w.heading) (same_heading s.heading b.heading) (intersect_of s a) (intersect_of s w) (intersect_of s b) (ap (λ h. same_heading s.heading h) g.old_heading) (ap (λ h. same_heading s.heading h) g.new_heading) (common_with_it a w b g s)
+right_intersect a w b s g = if_grown (are_equal_headings s.heading a.heading) (are_equal_headings s.heading w.heading) (are_equal_headings s.heading b.heading) (intersect_of s a) (intersect_of s w) (intersect_of s b) (ap (λ h. are_equal_headings s.heading h) g.old_heading) (ap (λ h. are_equal_headings s.heading h) g.new_heading) (common_with_it a w b g s)
 
 pub left_compose : IsLeft binary.Compose
 left_compose a w b s g = composing_its a w b g s
@@ -191,4 +191,4 @@ pub right_compose : IsRight binary.Compose
 right_compose a w b s g = composing_it a w b g s
 
 pub both_union : AreBoth binary.Union
-both_union a w b k l m g h = if_grown (same_heading a.heading k.heading) (same_heading w.heading l.heading) (same_heading b.heading m.heading) (union_of a k) (union_of w l) (union_of b m) (λ i. same_heading (g.old_heading i) (h.old_heading i)) (λ i. same_heading (g.new_heading i) (h.new_heading i)) (united a w b k l m g h)
+both_union a w b k l m g h = if_grown (are_equal_headings a.heading k.heading) (are_equal_headings w.heading l.heading) (are_equal_headings b.heading m.heading) (union_of a k) (union_of w l) (union_of b m) (λ i. are_equal_headings (g.old_heading i) (h.old_heading i)) (λ i. are_equal_headings (g.new_heading i) (h.new_heading i)) (united a w b k l m g h)

@@ -28,7 +28,7 @@ use Rattle.td_headings.specs.Expressions.{virtual_at}
 use Rattle.td_headings.specs.Reached.{is_base}
 use Rattle.td_meaning.specs.Mean.{Meaning, Names, Relvars, Selection, mean, mean_and, mean_both, mean_by, mean_relvar, rows_in, truth_in}
 use Rattle.td_meaning.proofs.Forms as forms
-use Rattle.td_operators.specs.Operators.{as_value, at_most, is_subset, of_alike, of_relations, operate, operate_on, part_at, same_heading, with_new_names}
+use Rattle.td_operators.specs.Operators.{as_value, at_most, is_subset, of_alike, of_relations, operate, operate_on, part_at, are_equal_headings, with_new_names}
 use Rattle.td_operators.specs.Values as operands
 use Rattle.td_operators.specs.Values.{integer_of, rows_of, text_of, truth_of}
 use Rattle.td_semantics.specs.Meanings.{no_names, with_virtuals}
@@ -147,7 +147,7 @@ if_both false q x y d each e = cc
 
 still_within : (a s w : RowsData) → IsWider s w → truth_then (inside (Ok s) a) ≡ Ok true → truth_then (inside (Ok w) a) ≡ Ok true
 still_within a s w g e =
-    if_both (same_heading a.heading s.heading) (same_heading a.heading w.heading) (is_subset a s) (is_subset a w) (ap (λ h. same_heading a.heading h) g.new_heading)
+    if_both (are_equal_headings a.heading s.heading) (are_equal_headings a.heading w.heading) (is_subset a s) (is_subset a w) (ap (λ h. are_equal_headings a.heading h) g.new_heading)
     (λ all. set.contains-is_subset attrs_order_total (body a) (body w) (λ t h. g.new t (set.is_subset-contains attrs_order_total (body a) (body s) all t h)))
     e
 

@@ -9,7 +9,7 @@ use Rattle.td_stamps.specs.declared.entry.Entry.{Entry}
 use Rattle.td_frames.specs.Spelling.{HasFrame, entry_frame, entry_frames}
 use Rattle.td_frames.specs.declared.version.Version.{Version}
 use Rattle.td_frames.specs.declared.version.Version.TheVariants.{Second}
-use Rattle.td_replica.specs.NewSites.{opened}
+use Rattle.td_replica.specs.NewSites.{newly_opened}
 use Rattle.td_replica.specs.Seen.{Seen, with_entries}
 use Rattle.td_journal.specs.declared.error.JournalError.{JournalError}
 use Rattle.td_journal.specs.Keepers.{IsJournal, ReopenedHasJournal}
@@ -90,7 +90,7 @@ whole_in (Err e) = 0
 
 -- the journal of the front that stands whole
 whole_journal : (s : Seen) (bytes front : List ℕ) (k limit : ℕ) → (j : IsJournal s bytes) → length (header Second s.site s.script) ≤ k → front ≡ take k bytes
-    → IsJournal (with_entries (opened s.script s.site limit) (union [] (whole Second j.entries (k - length (header Second s.site s.script)))))
+    → IsJournal (with_entries (newly_opened s.script s.site limit) (union [] (whole Second j.entries (k - length (header Second s.site s.script)))))
     (take (length (journal Second s.site s.script (whole Second j.entries (k - length (header Second s.site s.script))))) front)
 whole_journal s bytes front k limit j beyond is =
     let head = header Second s.site s.script in
@@ -124,6 +124,6 @@ reopened_has s after bytes front k limit n version old new sound j beyond is hel
     sym r.says ∙ ap (journal_at s.site s.script) read ∙ cut_is_read Second s.site s.script es k few j.has ∙ ap Ok cut in
     let entries_are : r.entries ≡ left = ap entries_in says in
     let whole_is : n ≡ length (journal Second s.site s.script left) = ap whole_in says in
-    let after_is : after ≡ with_entries (opened s.script s.site limit) (union [] left) = r.holds ∙ ap (λ (l : List Entry). with_entries (opened s.script s.site limit) (union [] l)) entries_are in
+    let after_is : after ≡ with_entries (newly_opened s.script s.site limit) (union [] left) = r.holds ∙ ap (λ (l : List Entry). with_entries (newly_opened s.script s.site limit) (union [] l)) entries_are in
     subst (λ (t : Seen). IsJournal t (take n front)) (sym after_is)
-    (subst (λ (m : ℕ). IsJournal (with_entries (opened s.script s.site limit) (union [] left)) (take m front)) (sym whole_is) (whole_journal s bytes front k limit j beyond is))
+    (subst (λ (m : ℕ). IsJournal (with_entries (newly_opened s.script s.site limit) (union [] left)) (take m front)) (sym whole_is) (whole_journal s bytes front k limit j beyond is))

@@ -9,7 +9,7 @@ use Rattle.td_stamps.specs.Sets.{union}
 use Rattle.td_stamps.specs.declared.entry.Entry.{Entry}
 use Rattle.td_frames.specs.declared.version.Version.{Version}
 use Rattle.td_replica.specs.Calls.{Takes}
-use Rattle.td_replica.specs.NewSites.{OpensSite, opened}
+use Rattle.td_replica.specs.NewSites.{OpensSite, newly_opened}
 use Rattle.td_replica.specs.Seen.{Seen, with_entries}
 use Rattle.td_replica.specs.declared.refusal.TakeError.{TakeError}
 use Rattle.td_replica.specs.declared.refusal.TakeError.TheVariants as take_error
@@ -23,7 +23,7 @@ ReadsOn old new bytes = Consumes old.left new.left bytes × (new.failures ≡ ol
 
 -- a new site is opened
 abbrev pub IsOpened : List ℕ → ℕ → ℕ → Type 0
-IsOpened script site limit = OpensSite script site limit (Ok (opened script site limit))
+IsOpened script site limit = OpensSite script site limit (Ok (newly_opened script site limit))
 
 -- a site that was opened, and holds nothing yet
 abbrev pub IsNew : Seen → Type 0
@@ -38,7 +38,7 @@ pub record ReopensSite (script : List ℕ) (site limit : ℕ) (old new : Input) 
   pub entries : List Entry
   pub says : journal_at site script bytes ≡ Ok (entries, whole, version)
   pub fits : IsOk (check_of [] limit entries)
-  pub holds : s ≡ with_entries (opened script site limit) (union [] entries)
+  pub holds : s ≡ with_entries (newly_opened script site limit) (union [] entries)
 
 -- a new site would refuse what the journal says
 abbrev pub RefusesAll : Seen → List Entry → TakeError → Type 0
@@ -55,7 +55,7 @@ pub record RefusesJournal (script : List ℕ) (site limit : ℕ) (old new : Inpu
   pub whole : ℕ
   pub version : Version
   pub says : journal_at site script bytes ≡ Ok (entries, whole, version)
-  pub refuses : RefusesAll (opened script site limit) entries e
+  pub refuses : RefusesAll (newly_opened script site limit) entries e
 
 -- Why there is no site. Nothing is read where none is opened; memory for entries is wanted behind a whole header alone.
 abbrev pub ReopensNot : List ℕ → ℕ → ℕ → Input → Input → ReopenError → Type 0

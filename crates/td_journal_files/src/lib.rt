@@ -20,6 +20,6 @@ pub use contents::{Contents, PassedOver, read_contents};
 pub use file::FileJournal;
 pub use found::{Cut, Found};
 pub use journals::FileJournals;
-pub use notes::{Failure, Notes, Refusal};
+pub use notes::{Notes, Refusal, SyncFailure};
 pub use renewal::FileRenewal;
 pub use synced::Synced;

@@ -43,7 +43,7 @@ impl Refusal {
 
 /// Why what was written to a journal is not on the disk.
 #[derive(Clone, Copy, Debug, PartialEq, Eq)]
-pub enum Failure {
+pub enum SyncFailure {
     /// The file stands no longer under its name.
     Moved,
     /// There is no room for it.
@@ -52,13 +52,13 @@ pub enum Failure {
     Other,
 }
 
-impl Failure {
-    pub(crate) fn of(kind: ErrorKind) -> Failure {
+impl SyncFailure {
+    pub(crate) fn of(kind: ErrorKind) -> SyncFailure {
         match kind {
             ErrorKind::StorageFull | ErrorKind::QuotaExceeded | ErrorKind::FileTooLarge => {
-                Failure::Full
+                SyncFailure::Full
             }
-            _ => Failure::Other,
+            _ => SyncFailure::Other,
         }
     }
 }
@@ -68,7 +68,7 @@ impl Failure {
 pub struct Notes {
     found: Cell<Option<Found>>,
     refusal: Cell<Option<Refusal>>,
-    failure: Cell<Option<Failure>>,
+    failure: Cell<Option<SyncFailure>>,
     lets_go: Cell<bool>,
 }
 
@@ -95,7 +95,7 @@ impl Notes {
     }
 
     /// Why a journal failed, if one did.
-    pub fn failure(&self) -> Option<Failure> {
+    pub fn failure(&self) -> Option<SyncFailure> {
         self.failure.get()
     }
 
@@ -117,7 +117,7 @@ impl Notes {
         self.refusal.set(Some(refusal));
     }
 
-    pub(crate) fn fail(&self, failure: Failure) {
+    pub(crate) fn fail(&self, failure: SyncFailure) {
         self.failure.set(Some(failure));
     }
 }

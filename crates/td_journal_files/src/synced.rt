@@ -1,7 +1,7 @@
 //! A file whose flushes reach the disk.
 
 use crate::companions::stands_under;
-use crate::notes::{Failure, Notes};
+use crate::notes::{Notes, SyncFailure};
 use crate::seen::Seen;
 use std::fs::File;
 use std::io;
@@ -43,12 +43,12 @@ impl<'a, R> Synced<'a, R> {
 }
 
 impl<R: Files> Synced<'_, R> {
-    fn sync(&self) -> Result<(), Failure> {
+    fn sync(&self) -> Result<(), SyncFailure> {
         if let Err(error) = self.file.sync_data() {
-            return Err(Failure::of(error.kind()));
+            return Err(SyncFailure::of(error.kind()));
         }
         if !stands_under(self.files, self.name.as_str(), &self.file) {
-            return Err(Failure::Moved);
+            return Err(SyncFailure::Moved);
         }
         Ok(())
     }
@@ -62,7 +62,7 @@ impl<R: Files> Write for Synced<'_, R> {
                 Ok(count)
             }
             Err(error) => {
-                self.notes.fail(Failure::of(error.kind()));
+                self.notes.fail(SyncFailure::of(error.kind()));
                 Err(error)
             }
         }

@@ -6,7 +6,7 @@ use Rattle.td_semantics.specs.Databases.{DatabaseData}
 use Rattle.td_stamps.specs.Laws.{SameMembersSameList}
 use Rattle.td_replica.specs.Laws.{SitesAgree}
 use Rattle.td_listings.specs.Laws.{ListingsAgree, LogsAgree, TablesAgree}
-use Rattle.td_listings.specs.Texts.{listing_of, log_of, value_at}
+use Rattle.td_listings.specs.Texts.{listing_of, log_of, relvar_value}
 use Rattle.td_listings.specs.Tables.{table_of}
 
 module _ (agree : SitesAgree) (one_list : SameMembersSameList) where
@@ -28,4 +28,4 @@ module _ (agree : SitesAgree) (one_list : SameMembersSameList) where
   pub tables : TablesAgree
   tables s t h n text other a b =
       let k = agree s t h a.leaves.0 b.leaves.0 a.database b.database a.leaves.1 b.leaves.1 in
-      a.records ∙ ap table_of (ok_same a.relation b.relation (sym a.value ∙ ap (λ (d : DatabaseData). value_at d n) k.1 ∙ b.value)) ∙ sym b.records
+      a.records ∙ ap table_of (ok_same a.relation b.relation (sym a.value ∙ ap (λ (d : DatabaseData). relvar_value d n) k.1 ∙ b.value)) ∙ sym b.records

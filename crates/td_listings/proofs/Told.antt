@@ -23,7 +23,7 @@ use Rattle.td_replica.specs.Seen.{Seen, IsTold, Leaves}
 use Rattle.td_replica.specs.Stories.{IsStory, StepsEntry}
 use Rattle.td_replica.specs.declared.refusal.ValueError.TheVariants.{Broken, Unknown}
 use Rattle.td_listings.specs.ForProofs.Asked.{IsOpenOn, IsValueAt, StandsAt, WasToldAt, meant}
-use Rattle.td_listings.specs.Texts.{value_at}
+use Rattle.td_listings.specs.Texts.{relvar_value}
 use Rattle.td_listings.proofs.Relvars.{some_same}
 
 -- ---- statements define nothing
@@ -57,7 +57,7 @@ module _ (one_story : StoryIsOne) (one_script : ScriptIsOne) (s : Seen) (c : Cat
   told x n a stands (live, d, leaves, (m, v, named, says)) e left =
       let at : relvar_named d.catalogue.schema x ≡ Some (n, stands.0) = subst (λ (k : CatalogueData). relvar_named k.schema x ≡ Some (n, stands.0)) (of_catalogue d leaves) stands.1 in
       let place : m ≡ n = ap (λ (p : ℕ × Named Header). p.0) (some_same (m, v) (n, stands.0) (sym named ∙ at)) in
-      ap (λ (k : DatabaseData). value_at k n) (one_database e d left leaves) ∙ ap (value_at d) (sym place) ∙ said a (value_at d m) says
+      ap (λ (k : DatabaseData). relvar_value k n) (one_database e d left leaves) ∙ ap (relvar_value d) (sym place) ∙ said a (relvar_value d m) says
 
   pub was_told : (x : List ℕ) (n : ℕ) (a : Answer RowsData) → StandsAt c x n → TellsValue s x (Ok a) → WasToldAt s n a
   was_told x n a stands (live, d, leaves, h) = (d, leaves, told x n a stands (live, d, leaves, h) d leaves)

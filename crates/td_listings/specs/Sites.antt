@@ -7,7 +7,7 @@ use Rattle.td_semantics.specs.Databases.{DatabaseData}
 use Rattle.td_semantics.specs.declared.outcome.Outcome.{Outcome}
 use Rattle.td_stamps.specs.declared.entry.Stamp.{Stamp}
 use Rattle.td_replica.specs.Seen.{Seen, AreOutcomes, IsTold, Leaves}
-use Rattle.td_listings.specs.Texts.{listing_of, log_of, value_at}
+use Rattle.td_listings.specs.Texts.{listing_of, log_of, relvar_value}
 use Rattle.td_listings.specs.Tables.{table_of}
 
 pub record IsListing (s : Seen) (text : List ℕ) : Type 0 where
@@ -26,11 +26,11 @@ pub record IsTable (s : Seen) (n : ℕ) (text : List ℕ) : Type 0 where
   pub database : DatabaseData
   pub relation : RowsData
   pub leaves : Leaves s database
-  pub value : value_at database n ≡ Ok relation
+  pub value : relvar_value database n ≡ Ok relation
   pub records : text ≡ table_of relation
 
 -- evaluating it raises an error
 pub record IsRaised (s : Seen) (n : ℕ) (e : Raise) : Type 0 where
   pub database : DatabaseData
   pub leaves : Leaves s database
-  pub raises : value_at database n ≡ Err (stop_of e)
+  pub raises : relvar_value database n ≡ Err (stop_of e)

@@ -68,13 +68,13 @@ relvar_lines name (Ok r) = codes "relvar " ++ name ++ codes " " ++ decimal (leng
 relvar_lines name (Err e) = codes "relvar " ++ name ++ codes " raised " ++ shown_stop e ++ codes "\n"
 
 -- what the relvar at a place has, or raises
-abbrev pub value_at : DatabaseData → ℕ → Result RowsData Stop
-value_at d n = all_relvars d.catalogue (stored_relvars d.stored) n
+abbrev pub relvar_value : DatabaseData → ℕ → Result RowsData Stop
+relvar_value d n = all_relvars d.catalogue (stored_relvars d.stored) n
 
 -- the lines of these relvars, of which the first is at place n
 abbrev pub relvars_from : DatabaseData → ℕ → List (Named Header) → List ℕ
 relvars_from d n [] = []
-relvars_from d n (v ∷ vs) = relvar_lines v.name (value_at d n) ++ relvars_from d (n + 1) vs
+relvars_from d n (v ∷ vs) = relvar_lines v.name (relvar_value d n) ++ relvars_from d (n + 1) vs
 
 -- those of each relvar, real and virtual, in script order
 abbrev pub relvars_lines : DatabaseData → List ℕ

@@ -25,7 +25,7 @@ use Rattle.td_algebra.specs.Functions.{restricted, extended, summarized}
 use Rattle.td_algebra.specs.Raising.{all_of, alone, and_all, and_then}
 use Rattle.td_algebra.specs.Summaries.{fold_of, group_of, over_groups, summary_over}
 use Rattle.td_meaning.specs.Laws.{AreFewer, IsUntypedOrSame}
-use Rattle.td_meaning.specs.Mean.{Meaning, Names, Relvars, Selection, mean, mean_step, at, given, groups_at, introduced, mean_aggregate, mean_and, mean_binary, mean_both, mean_by, mean_extend, mean_if, mean_local, mean_or, mean_relation, mean_relvar, mean_select, mean_summarize, mean_tuple, mean_where, mean_with, named_at, or_else, rows_in, same_text, truth_at, truth_in, value_at, within}
+use Rattle.td_meaning.specs.Mean.{Meaning, Names, Relvars, Selection, mean, mean_step, at, given, groups_at, introduced, mean_aggregate, mean_and, mean_binary, mean_both, mean_by, mean_extend, mean_if, mean_local, mean_or, mean_relation, mean_relvar, mean_select, mean_summarize, mean_tuple, mean_where, mean_with, named_at, or_else, rows_in, are_equal_names, truth_at, truth_in, value_at, within}
 use Rattle.td_operators.specs.Operators.{as_value, in_turn, operate}
 use Rattle.td_operators.specs.Values.{known, rows_of, truth_of}
 
@@ -86,7 +86,7 @@ fewer_within : (t : Attrs) (few names : Names) → AreFewer few names → AreFew
 fewer_within t few names h x = hidden_by (attribute_of x t) (few x) (names x) (h x)
 
 fewer_given : (n : List ℕ) (d : Datum) (few names : Names) → AreFewer few names → AreFewer (given n d few) (given n d names)
-fewer_given n d few names h x = elim (same_text n x) as (λ b. (cond b (Some d) (few x) ≡ None) ⊎ (cond b (Some d) (few x) ≡ cond b (Some d) (names x))) [ true ↦ inr refl | false ↦ h x ]
+fewer_given n d few names h x = elim (are_equal_names n x) as (λ b. (cond b (Some d) (few x) ≡ None) ⊎ (cond b (Some d) (few x) ≡ cond b (Some d) (names x))) [ true ↦ inr refl | false ↦ h x ]
 
 abbrev Steady : Meaning → Type 0
 Steady m = (few names : Names) → AreFewer few names → IsUntypedOrSame (m few) (m names)
@@ -162,13 +162,13 @@ module _ (relvars : Relvars) (selection : Selection) where
   abbrev means : Typed → Meaning
   means = mean relvars selection
 
-  abbrev Part : Type 0
-  Part = (a : Typed) × Steady (means a)
+  abbrev HoistedTerm : Type 0
+  HoistedTerm = (a : Typed) × Steady (means a)
 
-  abbrev tree : Part → Typed
+  abbrev tree : HoistedTerm → Typed
   tree a = a.0
 
-  abbrev meant : Part → Meaning
+  abbrev meant : HoistedTerm → Meaning
   meant a = means a.0
 
   abbrev with_term : {E F : Type 0} → (E → F) → Item E → Item F
@@ -177,19 +177,19 @@ module _ (relvars : Relvars) (selection : Selection) where
   abbrev with_value : {E F : Type 0} → (E → F) → Named E → Named F
   with_value f n = record { name = n.name; value = f n.value }
 
-  abbrev summary_trees : Item (Summary Part) → Item (Summary Typed)
-  summary_trees = former-Typed-Summarize-2-at-13.map Part Typed tree
+  abbrev summary_trees : Item (Summary HoistedTerm) → Item (Summary Typed)
+  summary_trees = former-Typed-Summarize-2-at-13.map HoistedTerm Typed tree
 
   abbrev summary_means : Item (Summary Typed) → Item (Summary Meaning)
   summary_means = former-Typed-Summarize-2-at-13.map Typed Meaning means
 
   -- ---- lists
-  list_stays : (all : List Part) (few names : Names) → AreFewer few names → IsUntypedOrSame (in_turn (at few) (map means (map tree all))) (in_turn (at names) (map means (map tree all)))
+  list_stays : (all : List HoistedTerm) (few names : Names) → AreFewer few names → IsUntypedOrSame (in_turn (at few) (map means (map tree all))) (in_turn (at names) (map means (map tree all)))
   unfolding at
   list_stays [] few names are = inr refl
   list_stays (a ∷ all) few names are = stays_then (means a.0 few) (means a.0 names) _ _ (a.1 few names are) (λ d. stays_then (in_turn (at few) (map means (map tree all))) (in_turn (at names) (map means (map tree all))) (λ rest. Ok (d ∷ rest)) (λ rest. Ok (d ∷ rest)) (list_stays all few names are) (λ rest. inr refl))
 
-  fields_stay : (all : List (Item Part)) (few names : Names) → AreFewer few names → IsUntypedOrSame (in_turn (named_at few) (map (with_term means) (map (with_term tree) all))) (in_turn (named_at names) (map (with_term means) (map (with_term tree) all)))
+  fields_stay : (all : List (Item HoistedTerm)) (few names : Names) → AreFewer few names → IsUntypedOrSame (in_turn (named_at few) (map (with_term means) (map (with_term tree) all))) (in_turn (named_at names) (map (with_term means) (map (with_term tree) all)))
   unfolding named_at
   fields_stay [] few names are = inr refl
   fields_stay (a ∷ all) few names are =
@@ -197,15 +197,15 @@ module _ (relvars : Relvars) (selection : Selection) where
       (stays_then (means a.term.0 few) (means a.term.0 names) (λ d. Ok (a.name, d)) (λ d. Ok (a.name, d)) (a.term.1 few names are) (λ d. inr refl))
       (λ f. stays_then (in_turn (named_at few) (map (with_term means) (map (with_term tree) all))) (in_turn (named_at names) (map (with_term means) (map (with_term tree) all))) (λ rest. Ok (f ∷ rest)) (λ rest. Ok (f ∷ rest)) (fields_stay all few names are) (λ rest. inr refl))
 
-  steady_select : (n : ℕ) (all : List Part) → Steady (mean_select selection n (map means (map tree all)))
+  steady_select : (n : ℕ) (all : List HoistedTerm) → Steady (mean_select selection n (map means (map tree all)))
   unfolding mean_select
   steady_select n all few names are = stays_then (in_turn (at few) (map means (map tree all))) (in_turn (at names) (map means (map tree all))) (selection n) (selection n) (list_stays all few names are) (λ ds. inr refl)
 
-  steady_relation : (h : Header) (all : List Part) → Steady (mean_relation h (map means (map tree all)))
+  steady_relation : (h : Header) (all : List HoistedTerm) → Steady (mean_relation h (map means (map tree all)))
   unfolding mean_relation
   steady_relation h all few names are = stays_then (in_turn (at few) (map means (map tree all))) (in_turn (at names) (map means (map tree all))) _ _ (list_stays all few names are) (λ ds. inr refl)
 
-  steady_tuple : (all : List (Item Part)) → Steady (mean_tuple (map (with_term means) (map (with_term tree) all)))
+  steady_tuple : (all : List (Item HoistedTerm)) → Steady (mean_tuple (map (with_term means) (map (with_term tree) all)))
   unfolding mean_tuple
   steady_tuple all few names are = stays_then (in_turn (named_at few) (map (with_term means) (map (with_term tree) all))) (in_turn (named_at names) (map (with_term means) (map (with_term tree) all))) _ _ (fields_stay all few names are) (λ fs. inr refl)
 
@@ -214,7 +214,7 @@ module _ (relvars : Relvars) (selection : Selection) where
   in_two (Ok a) f g = refl
   in_two (Err e) f g = refl
 
-  with_stays : (all : List (Named Part)) (body : Part) (few names : Names) → AreFewer few names → IsUntypedOrSame (and_then (introduced (map (with_value means) (map (with_value tree) all)) few) (means body.0)) (and_then (introduced (map (with_value means) (map (with_value tree) all)) names) (means body.0))
+  with_stays : (all : List (Named HoistedTerm)) (body : HoistedTerm) (few names : Names) → AreFewer few names → IsUntypedOrSame (and_then (introduced (map (with_value means) (map (with_value tree) all)) few) (means body.0)) (and_then (introduced (map (with_value means) (map (with_value tree) all)) names) (means body.0))
   unfolding introduced
   with_stays [] body few names are = body.1 few names are
   with_stays (x ∷ all) body few names are =
@@ -223,20 +223,20 @@ module _ (relvars : Relvars) (selection : Selection) where
       subst (λ w. IsUntypedOrSame w (and_then (and_then (means x.value.0 names) (λ d. rest (given x.name d names))) (means body.0))) (sym (in_two (means x.value.0 few) (λ d. rest (given x.name d few)) (means body.0)))
       (subst (λ v. IsUntypedOrSame (and_then (means x.value.0 few) (λ d. and_then (rest (given x.name d few)) (means body.0))) v) (sym (in_two (means x.value.0 names) (λ d. rest (given x.name d names)) (means body.0))) each)
 
-  steady_with : (all : List (Named Part)) (body : Part) → Steady (mean_with (map (with_value means) (map (with_value tree) all)) (means body.0))
+  steady_with : (all : List (Named HoistedTerm)) (body : HoistedTerm) → Steady (mean_with (map (with_value means) (map (with_value tree) all)) (means body.0))
   unfolding mean_with
   steady_with all body few names are = with_stays all body few names are
 
   -- ---- over tuples
   module _ (few names : Names) (are : AreFewer few names) where
-    field_stays : (t : Attrs) (i : Item Part) → IsUntypedOrSame (field_at (value_at few) t (with_term means (with_term tree i))) (field_at (value_at names) t (with_term means (with_term tree i)))
+    field_stays : (t : Attrs) (i : Item HoistedTerm) → IsUntypedOrSame (field_at (value_at few) t (with_term means (with_term tree i))) (field_at (value_at names) t (with_term means (with_term tree i)))
     field_stays t i = stays_then (value_at few (meant i.term) t) (value_at names (meant i.term) t) (typed_field i.name i.ty) (typed_field i.name i.ty) (value_stays few names are (meant i.term) i.term.1 t) (λ d. inr refl)
 
-    all_fields : (all : List (Item Part)) (t : Attrs) → IsUntypedOrSame (all_of (field_at (value_at few) t) (map (with_term means) (map (with_term tree) all))) (all_of (field_at (value_at names) t) (map (with_term means) (map (with_term tree) all)))
+    all_fields : (all : List (Item HoistedTerm)) (t : Attrs) → IsUntypedOrSame (all_of (field_at (value_at few) t) (map (with_term means) (map (with_term tree) all))) (all_of (field_at (value_at names) t) (map (with_term means) (map (with_term tree) all)))
     all_fields [] t = inr refl
     all_fields (i ∷ all) t = stays_beside (field_at (value_at few) t (with_term means (with_term tree i))) (field_at (value_at names) t (with_term means (with_term tree i))) (all_of (field_at (value_at few) t) (map (with_term means) (map (with_term tree) all))) (all_of (field_at (value_at names) t) (map (with_term means) (map (with_term tree) all))) (field_stays t i) (all_fields all t)
 
-    extended_stays : (all : List (Item Part)) (r : RowsData) → IsUntypedOrSame (extended (value_at few) (map (with_term means) (map (with_term tree) all)) r) (extended (value_at names) (map (with_term means) (map (with_term tree) all)) r)
+    extended_stays : (all : List (Item HoistedTerm)) (r : RowsData) → IsUntypedOrSame (extended (value_at few) (map (with_term means) (map (with_term tree) all)) r) (extended (value_at names) (map (with_term means) (map (with_term tree) all)) r)
     unfolding extended
     extended_stays all r =
         let items = map (with_term means) (map (with_term tree) all) in
@@ -245,7 +245,7 @@ module _ (relvars : Relvars) (selection : Selection) where
         (λ t. stays_then (all_of (field_at (value_at few) t) items) (all_of (field_at (value_at names) t) items) _ _ (all_fields all t) (λ fs. inr refl)))
         (λ us. inr refl)
 
-    summary_stays : (n : List ℕ) (ty : Ty) (s : Summary Part) (ts : List Attrs) → IsUntypedOrSame (summary_over (value_at few) ts (summary_means (summary_trees (record { name = n; ty = ty; term = s }))).term) (summary_over (value_at names) ts (summary_means (summary_trees (record { name = n; ty = ty; term = s }))).term)
+    summary_stays : (n : List ℕ) (ty : Ty) (s : Summary HoistedTerm) (ts : List Attrs) → IsUntypedOrSame (summary_over (value_at few) ts (summary_means (summary_trees (record { name = n; ty = ty; term = s }))).term) (summary_over (value_at names) ts (summary_means (summary_trees (record { name = n; ty = ty; term = s }))).term)
     summary_stays n ty summary.Count ts = inr refl
     summary_stays n ty (summary.Sum a) ts = term_stays few names are (summary.Sum (meant a)) (meant a) ts a.1
     summary_stays n ty (summary.Max a) ts = term_stays few names are (summary.Max (meant a)) (meant a) ts a.1
@@ -253,14 +253,14 @@ module _ (relvars : Relvars) (selection : Selection) where
     summary_stays n ty (summary.And a) ts = term_stays few names are (summary.And (meant a)) (meant a) ts a.1
     summary_stays n ty (summary.Or a) ts = term_stays few names are (summary.Or (meant a)) (meant a) ts a.1
 
-    group_stays : (r : RowsData) (h : Header) (t : Attrs) (i : Item (Summary Part)) → IsUntypedOrSame (field_at (over_groups (value_at few) r h) t (summary_means (summary_trees i))) (field_at (over_groups (value_at names) r h) t (summary_means (summary_trees i)))
+    group_stays : (r : RowsData) (h : Header) (t : Attrs) (i : Item (Summary HoistedTerm)) → IsUntypedOrSame (field_at (over_groups (value_at few) r h) t (summary_means (summary_trees i))) (field_at (over_groups (value_at names) r h) t (summary_means (summary_trees i)))
     group_stays r h t i = stays_then (summary_over (value_at few) (group_of r h t) (summary_means (summary_trees i)).term) (summary_over (value_at names) (group_of r h t) (summary_means (summary_trees i)).term) (typed_field i.name i.ty) (typed_field i.name i.ty) (summary_stays i.name i.ty i.term (group_of r h t)) (λ d. inr refl)
 
-    all_groups : (r : RowsData) (h : Header) (all : List (Item (Summary Part))) (t : Attrs) → IsUntypedOrSame (all_of (field_at (over_groups (value_at few) r h) t) (map summary_means (map summary_trees all))) (all_of (field_at (over_groups (value_at names) r h) t) (map summary_means (map summary_trees all)))
+    all_groups : (r : RowsData) (h : Header) (all : List (Item (Summary HoistedTerm))) (t : Attrs) → IsUntypedOrSame (all_of (field_at (over_groups (value_at few) r h) t) (map summary_means (map summary_trees all))) (all_of (field_at (over_groups (value_at names) r h) t) (map summary_means (map summary_trees all)))
     all_groups r h [] t = inr refl
     all_groups r h (i ∷ all) t = stays_beside (field_at (over_groups (value_at few) r h) t (summary_means (summary_trees i))) (field_at (over_groups (value_at names) r h) t (summary_means (summary_trees i))) (all_of (field_at (over_groups (value_at few) r h) t) (map summary_means (map summary_trees all))) (all_of (field_at (over_groups (value_at names) r h) t) (map summary_means (map summary_trees all))) (group_stays r h t i) (all_groups r h all t)
 
-    summarized_stays : (all : List (Item (Summary Part))) (r per : RowsData) → IsUntypedOrSame (summarized (value_at few) (map summary_means (map summary_trees all)) r per) (summarized (value_at names) (map summary_means (map summary_trees all)) r per)
+    summarized_stays : (all : List (Item (Summary HoistedTerm))) (r per : RowsData) → IsUntypedOrSame (summarized (value_at few) (map summary_means (map summary_trees all)) r per) (summarized (value_at names) (map summary_means (map summary_trees all)) r per)
     unfolding summarized extended
     summarized_stays all r per =
         let items = map summary_means (map summary_trees all) in
@@ -271,7 +271,7 @@ module _ (relvars : Relvars) (selection : Selection) where
         (λ t. stays_then (all_of (field_at f t) items) (all_of (field_at g t) items) _ _ (all_groups r per.heading all t) (λ fs. inr refl)))
         (λ us. inr refl)
 
-    per_stays : (a : Part) (ts : RowsData) → IsUntypedOrSame (groups_at (groups.Per (means a.0)) few ts) (groups_at (groups.Per (means a.0)) names ts)
+    per_stays : (a : HoistedTerm) (ts : RowsData) → IsUntypedOrSame (groups_at (groups.Per (means a.0)) few ts) (groups_at (groups.Per (means a.0)) names ts)
     unfolding groups_at
     per_stays a ts = steady_rows (means a.0) a.1 few names are
 
@@ -283,17 +283,17 @@ module _ (relvars : Relvars) (selection : Selection) where
     unfolding groups_at
     by_stays xs ts = inr refl
 
-  steady_extend : (a : Part) (all : List (Item Part)) → Steady (mean_extend (means a.0) (map (with_term means) (map (with_term tree) all)))
+  steady_extend : (a : HoistedTerm) (all : List (Item HoistedTerm)) → Steady (mean_extend (means a.0) (map (with_term means) (map (with_term tree) all)))
   unfolding mean_extend
   steady_extend a all few names are = stays_then (rows_in (means a.0) few) (rows_in (means a.0) names) _ _ (steady_rows (means a.0) a.1 few names are) (λ ts. stays_then (extended (value_at few) (map (with_term means) (map (with_term tree) all)) ts) (extended (value_at names) (map (with_term means) (map (with_term tree) all)) ts) as_value as_value (extended_stays few names are all ts) (λ us. inr refl))
 
-  steady_summarize : (a : Part) (g : TypedGroups Meaning) (all : List (Item (Summary Part))) → ((few names : Names) → AreFewer few names → (ts : RowsData) → IsUntypedOrSame (groups_at g few ts) (groups_at g names ts)) → Steady (mean_summarize (means a.0) g (map summary_means (map summary_trees all)))
+  steady_summarize : (a : HoistedTerm) (g : TypedGroups Meaning) (all : List (Item (Summary HoistedTerm))) → ((few names : Names) → AreFewer few names → (ts : RowsData) → IsUntypedOrSame (groups_at g few ts) (groups_at g names ts)) → Steady (mean_summarize (means a.0) g (map summary_means (map summary_trees all)))
   unfolding mean_summarize
   steady_summarize a g all hg few names are = stays_then (rows_in (means a.0) few) (rows_in (means a.0) names) _ _ (steady_rows (means a.0) a.1 few names are)
       (λ ts. stays_then (groups_at g few ts) (groups_at g names ts) _ _ (hg few names are ts)
       (λ us. stays_then (summarized (value_at few) (map summary_means (map summary_trees all)) ts us) (summarized (value_at names) (map summary_means (map summary_trees all)) ts us) as_value as_value (summarized_stays few names are all ts us) (λ vs. inr refl)))
 
-  steady_aggregate : (a : Part) (s : Summary Meaning) → ((few names : Names) → AreFewer few names → (ts : List Attrs) → IsUntypedOrSame (summary_over (value_at few) ts s) (summary_over (value_at names) ts s)) → Steady (mean_aggregate (means a.0) s)
+  steady_aggregate : (a : HoistedTerm) (s : Summary Meaning) → ((few names : Names) → AreFewer few names → (ts : List Attrs) → IsUntypedOrSame (summary_over (value_at few) ts s) (summary_over (value_at names) ts s)) → Steady (mean_aggregate (means a.0) s)
   unfolding mean_aggregate
   steady_aggregate a s hs few names are = stays_then (rows_in (means a.0) few) (rows_in (means a.0) names) _ _ (steady_rows (means a.0) a.1 few names are) (λ ts. hs few names are ts.tuples)
 
@@ -301,7 +301,7 @@ module _ (relvars : Relvars) (selection : Selection) where
   by_parts : (z : Typed-F Typed) → Steady (mean_step relvars selection (map-Typed Typed Meaning means z)) → Steady (means (roll-Typed z))
   by_parts z h = subst Steady (sym (fold-roll-Typed Meaning (mean_step relvars selection) z)) h
 
-  step : (y : Typed-F Part) → Steady (means (roll-Typed (map-Typed Part Typed tree y)))
+  step : (y : Typed-F HoistedTerm) → Steady (means (roll-Typed (map-Typed HoistedTerm Typed tree y)))
   step (Typed-F.Integer n) = by_parts (Typed-F.Integer n) (λ few names are. inr refl)
   step (Typed-F.Text x) = by_parts (Typed-F.Text x) (λ few names are. inr refl)
   step (Typed-F.Truth b) = by_parts (Typed-F.Truth b) (λ few names are. inr refl)

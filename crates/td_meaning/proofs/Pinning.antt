@@ -28,7 +28,7 @@ use Rattle.td_algebra.proofs.ByKey.{all_named}
 use Rattle.td_algebra.proofs.Made.{has_fits}
 use Rattle.td_algebra.proofs.Narrowed.{narrowed}
 use Rattle.td_algebra.proofs.PlacedParts.{itself}
-use Rattle.td_operators.specs.Operators.{same}
+use Rattle.td_operators.specs.Operators.{are_equal}
 use Rattle.td_meaning.specs.declared.conditions.Check.{Check}
 use Rattle.td_meaning.specs.declared.conditions.Check.TheVariants as check
 use Rattle.td_meaning.specs.declared.conditions.Side.{Side}
@@ -46,13 +46,13 @@ there [] p lt = absurd (omega arith)
 there (x ∷ xs) zero lt = (x, refl)
 there (x ∷ xs) (suc p) lt = there xs p (omega arith)
 
-itself_same : (d : Datum) → same d d ≡ true
+itself_same : (d : Datum) → are_equal d d ≡ true
 itself_same d = ap is_eq (tied_itself order_total d)
 
 some_one : {X : Type 0} {x y : X} → Some x ≡ Some y → x ≡ y
 some_one e = cc
 
-same_is : (d e : Datum) → same d e ≡ true → d ≡ e
+same_is : (d e : Datum) → are_equal d e ≡ true → d ≡ e
 same_is d e is = tied d e (is_tied _ is)
 
 pub equals : (c : Check) (w at : ℕ) (d : Datum) → c ≡ check.Comparison binary.Equals (side.Attribute at) (side.Value d) → at < w → Equals c w at d
@@ -60,7 +60,7 @@ unfolding check_holds
 equals c w at d is lt = λ t many.
     let (a, e) = there (attributes t) at (omega (arith, lt, many)) in
     let here : placed t at ≡ Some a.1 = ap (option_map (λ (x : List ℕ × Datum). x.1)) e in
-    (same a.1 d, λ b. here ∙ ap Some (same_is a.1 d b), λ m names. ap (check_holds m names t) is ∙ ap (λ o. comparison binary.Equals (known o) (Ok d)) here)
+    (are_equal a.1 d, λ b. here ∙ ap Some (same_is a.1 d b), λ m names. ap (check_holds m names t) is ∙ ap (λ o. comparison binary.Equals (known o) (Ok d)) here)
 
 pub equals_some : (c : Check) (w : ℕ) (o : BinaryOperator) (a b : Side) → c ≡ check.Comparison o a b → (r : Option (ℕ × Bor Datum))
     → IfSome r (λ e. (o ≡ binary.Equals) × (a ≡ side.Attribute e.0) × (b ≡ side.Value e.1.now) × (e.0 < w)) → IfSome r (λ e. Equals c w e.0 e.1.now)
@@ -118,11 +118,11 @@ module _ (h : Header) (cs : List Check) (t : Attrs) (f : Fits h t) (m : Means) (
 
   one_decided : (g : List ℕ × Datum) → Pins h cs g → (v : Option Datum) → attribute_of g.0 t ≡ v → Fails ⊎ (attribute_of g.0 t ≡ Some g.1)
   one_decided g pins None e = inl (pins t f (λ s. let wrong : None ≡ Some g.1 = sym e ∙ s in cc) m names)
-  one_decided g pins (Some x) e = by (same x g.1) refl
+  one_decided g pins (Some x) e = by (are_equal x g.1) refl
     where
-      by : (b : Bool) → same x g.1 ≡ b → Fails ⊎ (attribute_of g.0 t ≡ Some g.1)
+      by : (b : Bool) → are_equal x g.1 ≡ b → Fails ⊎ (attribute_of g.0 t ≡ Some g.1)
       by true s = inr (e ∙ ap Some (same_is x g.1 s))
-      by false s = inl (pins t f (λ k. let one : x ≡ g.1 = some_one (sym e ∙ k) in true≢false (sym (ap (λ y. same y g.1) one ∙ itself_same g.1) ∙ s)) m names)
+      by false s = inl (pins t f (λ k. let one : x ≡ g.1 = some_one (sym e ∙ k) in true≢false (sym (ap (λ y. are_equal y g.1) one ∙ itself_same g.1) ∙ s)) m names)
 
   decided : (gs : List (List ℕ × Datum)) → All (Pins h cs) gs → Fails ⊎ AllThere gs
   decided [] a = inr (λ k d lt. absurd (omega (arith, lt)))
@@ -151,7 +151,7 @@ pub narrows : (r : RowsData) (cs : List Check) (x : KeyIndexData) (fs : List (Li
     → IsRelationOf x.heading (λ u. Contains x.tuples u × (has_named x.key sought u ≡ true)) s → Narrows r cs s
 narrows r cs x fs sought s rows index are is part = record {
   heading = part.heading ∙ index.heading;
-  same = λ m names q alike. narrowed q r s (has_named x.key sought) x index part (λ t has none.
+  are_equal = λ m names q alike. narrowed q r s (has_named x.key sought) x index part (λ t has none.
       let f = has_fits r rows t has in
       alike t f ∙ fails r.heading cs t f m names fs x.key are (ap (λ v. has_named x.key v t) (sym is) ∙ none));
 }

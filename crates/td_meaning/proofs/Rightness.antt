@@ -4,7 +4,7 @@ use Rattle.std.specs.List.{Contains, insert}
 use Rattle.std.proofs.lemmas.List.{take-append-drop}
 use Rattle.std.proofs.lemmas.List.Elements.{Contains-append_cases, Contains-append_left, Contains-append_right, Contains-push_cases}
 use Rattle.td_meaning.specs.declared.environment.Environment.{Environment}
-use Rattle.td_meaning.specs.declared.parts.Part.{Part}
+use Rattle.td_meaning.specs.declared.parts.HoistedTerm.{HoistedTerm}
 use Rattle.td_values.specs.Data.{Datum}
 use Rattle.td_typed_trees.specs.declared.tree.Typed.{Typed}
 use Rattle.td_algebra.specs.declared.errors.Fault.{Fault}
@@ -19,7 +19,7 @@ use Rattle.td_meaning.specs.Seen.{mean_in, relvars_there}
 use Rattle.td_meaning.specs.Selections.{selection}
 use Rattle.td_meaning.proofs.Fewer.{steady}
 
-pub right_with : (env : Environment) (ps : List Part) (i : ℕ) (p : Part) → AreRight env ps → IsRight env p → AreRight env (insert ps i p)
+pub right_with : (env : Environment) (ps : List HoistedTerm) (i : ℕ) (p : HoistedTerm) → AreRight env ps → IsRight env p → AreRight env (insert ps i p)
 right_with env ps i p old new q among =
     ⊎_elim
     (λ front. old q (subst (λ l. Contains l q) (take-append-drop i ps) (Contains-append_left (take i ps) (drop i ps) q front)))
@@ -29,10 +29,10 @@ right_with env ps i p old new q among =
     (Contains-append_cases (p ∷ []) (drop i ps) q rest))
     (Contains-append_cases (take i ps) (p ∷ drop i ps) q among)
   where
-    none_there : (q : Part) → Contains [] q → IsRight env q
+    none_there : (q : HoistedTerm) → Contains [] q → IsRight env q
     none_there q h = absurd (omega (arith, h.1))
 
-pub right_in_slice : (env : Environment) (o : Option (Vec Part Global)) (v : Vec Part Global) (ps : List Part) → IfSome o (λ w. AreRight env w.items) → o ≡ Some v → ps ≡ v.items → AreRight env ps
+pub right_in_slice : (env : Environment) (o : Option (Vec HoistedTerm Global)) (v : Vec HoistedTerm Global) (ps : List HoistedTerm) → IfSome o (λ w. AreRight env w.items) → o ≡ Some v → ps ≡ v.items → AreRight env ps
 right_in_slice env o v ps right is same = subst (AreRight env) (sym same) (subst (λ p. IfSome p (λ w. AreRight env w.items)) is right)
 
 -- what an expression means where no name stands for anything it means wherever it stands

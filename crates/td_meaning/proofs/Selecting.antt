@@ -5,10 +5,10 @@ use Rattle.td_values.specs.Data.{Datum}
 use Rattle.td_typed_trees.specs.declared.expression.Selector.{Selector}
 use Rattle.td_meaning.specs.ForProofs.Found.{IsNowhere, IsFound, IsRest}
 use Rattle.td_meaning.specs.ForProofs.Levels.{limit_levels, weight}
-use Rattle.td_meaning.specs.Selections.{selected, selection, one_more, none_selected}
+use Rattle.td_meaning.specs.Selections.{selected, selection, with_selector, none_selected}
 
-last_selection : (earlier : List Selector) (s : Selector) → selection (earlier ++ s ∷ []) ≡ one_more (selection earlier) s
-last_selection earlier s = fold_push one_more none_selected earlier s
+last_selection : (earlier : List Selector) (s : Selector) → selection (earlier ++ s ∷ []) ≡ with_selector (selection earlier) s
+last_selection earlier s = fold_push with_selector none_selected earlier s
 
 last_weight : (earlier : List Selector) (s : Selector) → weight (earlier ++ s ∷ []) ≡ weight earlier + (12 * limit_levels s.limit + 4)
 last_weight [] s = omega arith
@@ -21,7 +21,7 @@ module _ (ss rest earlier : List Selector) (n : ℕ) (s : Selector) (so_far : Is
   heavier : weight earlier + (12 * limit_levels s.limit + 4) ≤ weight ss
   heavier = omega (arith, so_far.lighter, ap weight is, last_weight earlier s)
 
-  one : (ds : List Datum) → selection ss n ds ≡ one_more (selection earlier) s n ds
+  one : (ds : List Datum) → selection ss n ds ≡ with_selector (selection earlier) s n ds
   one ds = so_far.same ds ∙ ap (λ ts. selection ts n ds) is ∙ ap (λ f. f n ds) (last_selection earlier s)
 
   pub found : s.place ≡ n → IsFound ss n earlier s

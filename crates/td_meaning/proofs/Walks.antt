@@ -11,10 +11,10 @@ use Rattle.td_algebra.specs.declared.errors.Fault.TheVariants.{Raised, OutOfMemo
 use Rattle.td_algebra.specs.declared.errors.Stop.{Stop}
 use Rattle.td_algebra.specs.Nested.{relation_value}
 use Rattle.td_algebra.specs.Raising.{Answers, AnswersBy, and_then}
-use Rattle.td_meaning.specs.declared.scope.Held.{Held}
+use Rattle.td_meaning.specs.declared.scope.KnownValue.{KnownValue}
 use Rattle.td_meaning.specs.ForProofs.Latest.{latest}
 use Rattle.td_meaning.specs.ForProofs.Over.{Means, list_meant, items_meant, item_meant, all_meant}
-use Rattle.td_meaning.specs.Mean.{Names, at, named_at, introduced, given, same_text}
+use Rattle.td_meaning.specs.Mean.{Names, at, named_at, introduced, given, are_equal_names}
 use Rattle.td_operators.specs.ForProofs.Turns.{turn}
 use Rattle.td_operators.specs.Operators.{as_value}
 use Rattle.td_meaning.specs.Seen.{all_given, held_value}
@@ -76,24 +76,24 @@ module _ (m : Means) (names : Names) (xs : List (Named Typed)) (i : ℕ) (x : Na
   pub name_stops : (e : Stop) → m a names ≡ Err e → introduced (all_meant m (drop i xs)) names ≡ Err e
   name_stops e h = name_more ∙ ap (λ w. and_then w (λ d. introduced (all_meant m (drop (i + 1) xs)) (given x.name d names))) h
 
-given_behind : (ns : List (Named Held)) (n : Named Held) (outer : Names) → all_given (ns ++ n ∷ []) outer ≡ given n.name (held_value n.value) (all_given ns outer)
+given_behind : (ns : List (Named KnownValue)) (n : Named KnownValue) (outer : Names) → all_given (ns ++ n ∷ []) outer ≡ given n.name (held_value n.value) (all_given ns outer)
 given_behind [] n outer = refl
 given_behind (m ∷ ns) n outer = given_behind ns n (given m.name (held_value m.value) outer)
 
-pub one_more_given : (old new : List (Named Held)) (x : List ℕ) (h : Held) (d : Datum) (outer : Names) → held_value h ≡ d → new ≡ old ++ record { name = x; value = h } ∷ [] → all_given new outer ≡ given x d (all_given old outer)
+pub one_more_given : (old new : List (Named KnownValue)) (x : List ℕ) (h : KnownValue) (d : Datum) (outer : Names) → held_value h ≡ d → new ≡ old ++ record { name = x; value = h } ∷ [] → all_given new outer ≡ given x d (all_given old outer)
 one_more_given old new x h d outer same is =
     ap (λ ns. all_given ns outer) is ∙ given_behind old (record { name = x; value = h }) outer ∙ ap (λ d. given x d (all_given old outer)) same
 
 -- the last of the names, as it is found
-abbrev pub or_outer : Option Held → Option Datum → Option Datum
+abbrev pub or_outer : Option KnownValue → Option Datum → Option Datum
 or_outer None o = o
 or_outer (Some h) o = Some (held_value h)
 
-pub last_given : (ns : List (Named Held)) (names : Names) (x : List ℕ) (f : Option Held) (o : Option Datum) → names x ≡ or_outer f o → all_given ns names x ≡ or_outer (latest ns x f) o
+pub last_given : (ns : List (Named KnownValue)) (names : Names) (x : List ℕ) (f : Option KnownValue) (o : Option Datum) → names x ≡ or_outer f o → all_given ns names x ≡ or_outer (latest ns x f) o
 last_given [] names x f o e = e
 last_given (n ∷ ns) names x f o e =
-    last_given ns (given n.name (held_value n.value) names) x (cond (same_text n.name x) (Some n.value) f) o
-    (elim (same_text n.name x) as (λ b. cond b (Some (held_value n.value)) (names x) ≡ or_outer (cond b (Some n.value) f) o) [ true ↦ refl | false ↦ e ])
+    last_given ns (given n.name (held_value n.value) names) x (cond (are_equal_names n.name x) (Some n.value) f) o
+    (elim (are_equal_names n.name x) as (λ b. cond b (Some (held_value n.value)) (names x) ≡ or_outer (cond b (Some n.value) f) o) [ true ↦ refl | false ↦ e ])
 
 -- ---- a relation made over a relation
 

@@ -50,12 +50,12 @@ or_else None o = o
 abbrev pub within : Attrs → Names → Names
 within t outer x = or_else (attribute_of x t) (outer x)
 
-abbrev pub same_text : List ℕ → List ℕ → Bool
-same_text = eq_by_cmp text_cmp
+abbrev pub are_equal_names : List ℕ → List ℕ → Bool
+are_equal_names = eq_by_cmp text_cmp
 
 -- a name of WITH hides an earlier one
 abbrev pub given : List ℕ → Datum → Names → Names
-given n d outer x = if same_text n x then Some d else outer x
+given n d outer x = if are_equal_names n x then Some d else outer x
 
 -- ---- the value as a truth value, as a relation, and at a tuple
 unfoldable pub truth_in : Meaning → Names → Result Bool Stop

@@ -9,10 +9,10 @@ use Rattle.td_algebra.specs.declared.errors.Stop.TheVariants.{Untyped}
 use Rattle.td_algebra.specs.Nested.{relation_value}
 use Rattle.td_meaning.specs.declared.environment.Environment.{Environment}
 use Rattle.td_meaning.specs.declared.environment.Known.{Known}
-use Rattle.td_meaning.specs.declared.scope.Held.{Held}
-use Rattle.td_meaning.specs.declared.scope.Held.TheVariants as held
-use Rattle.td_meaning.specs.declared.scope.Scope.{Scope}
-use Rattle.td_meaning.specs.declared.scope.Scope.TheVariants.{Nothing, Within', Given', Components}
+use Rattle.td_meaning.specs.declared.scope.KnownValue.{KnownValue}
+use Rattle.td_meaning.specs.declared.scope.KnownValue.TheVariants as held
+use Rattle.td_meaning.specs.declared.scope.Bindings.{Bindings}
+use Rattle.td_meaning.specs.declared.scope.Bindings.TheVariants.{Nothing, Within', Given', Components}
 use Rattle.td_meaning.specs.Mean.{Names, Meaning, Relvars, Selection, within, given, mean, rows_in}
 use Rattle.td_meaning.specs.Selections.{components, selection}
 
@@ -32,20 +32,20 @@ one_known_more selected ks v = ks ++ virtual_known selected ks v ∷ []
 abbrev pub virtuals_known : Selection → List VirtualUnder → List Known → List Known
 virtuals_known selected vs ks = fold (one_known_more selected) ks vs
 
-abbrev pub held_value : Held → Datum
+abbrev pub held_value : KnownValue → Datum
 held_value (held.Rows r) = relation_value r
 held_value (held.Other d) = d
 
 -- a later name of WITH hides an earlier one
-abbrev pub all_given : List (Named Held) → Names → Names
+abbrev pub all_given : List (Named KnownValue) → Names → Names
 all_given [] outer = outer
 all_given (n ∷ ns) outer = all_given ns (given n.name (held_value n.value) outer)
 
-abbrev pub visible : Scope → Names
-visible Nothing = λ x. None
-visible (Within' t p outer) = within t.now (visible outer)
-visible (Given' ns p outer) = all_given ns.now (visible outer)
-visible (Components ns ds) = components ns.now ds.now
+abbrev pub names_bound : Bindings → Names
+names_bound Nothing = λ x. None
+names_bound (Within' t p outer) = within t.now (names_bound outer)
+names_bound (Given' ns p outer) = all_given ns.now (names_bound outer)
+names_bound (Components ns ds) = components ns.now ds.now
 
 -- no relvar is virtual
 abbrev pub none_virtual : List VirtualUnder → Bool

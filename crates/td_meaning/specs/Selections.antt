@@ -8,13 +8,13 @@ use Rattle.td_algebra.specs.declared.errors.Stop.{Stop}
 use Rattle.td_values.specs.declared.raises.Raise.TheVariants as raise
 use Rattle.td_algebra.specs.declared.errors.Stop.TheVariants as stop
 use Rattle.td_algebra.specs.Raising.{and_then}
-use Rattle.td_meaning.specs.Mean.{Names, Relvars, Selection, mean, same_text, truth_in}
+use Rattle.td_meaning.specs.Mean.{Names, Relvars, Selection, mean, are_equal_names, truth_in}
 
 -- the components by their names
 abbrev pub components : List (List ℕ) → List Datum → Names
 components [] ds x = None
 components (n ∷ ns) [] x = None
-components (n ∷ ns) (d ∷ ds) x = if same_text n x then Some d else components ns ds x
+components (n ∷ ns) (d ∷ ds) x = if are_equal_names n x then Some d else components ns ds x
 
 abbrev pub no_relvars : Relvars
 no_relvars n = Err stop.Untyped
@@ -31,9 +31,9 @@ selected earlier s ds = and_then (admits earlier s.limit (components s.component
 abbrev pub none_selected : Selection
 none_selected n ds = Err stop.Untyped
 
-abbrev pub one_more : Selection → Selector → Selection
-one_more earlier s n ds = if s.place == n then selected earlier s ds else earlier n ds
+abbrev pub with_selector : Selection → Selector → Selection
+with_selector earlier s n ds = if s.place == n then selected earlier s ds else earlier n ds
 
 -- these selectors, of which each sees those before it
 abbrev pub selection : List Selector → Selection
-selection ss = fold one_more none_selected ss
+selection ss = fold with_selector none_selected ss

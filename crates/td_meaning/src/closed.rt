@@ -6,7 +6,7 @@ ghost use Rattle.td_meaning.specs.ForProofs.Right.{deepest_in};
 ghost use Rattle.td_meaning.specs.ForProofs.Terms.{terms_levels};
 
 use crate::environment::{Environment, relvar_known};
-use crate::parts::{Part, heading_known, part_known};
+use crate::parts::{HoistedTerm, heading_known, part_known};
 use sqlite_items::Boxed;
 use std::alloc::{AllocError, Global};
 use std::convert::Infallible;
@@ -31,7 +31,7 @@ enum Bound<'a> {
 #[derive(Clone, Copy)]
 pub(crate) struct Knowledge<'a> {
     pub env: &'a Environment<'a>,
-    pub parts: &'a [Part<'a>],
+    pub parts: &'a [HoistedTerm<'a>],
 }
 
 /// How far out an expression names something, and whether it takes more than a look to evaluate it.

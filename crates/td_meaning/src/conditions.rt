@@ -9,14 +9,14 @@ ghost use Rattle.td_meaning.specs.ForProofs.Levels.{levels};
 ghost use Rattle.td_meaning.specs.Parts.{known_value};
 ghost use Rattle.td_meaning.specs.ForProofs.Standing.{meant_value};
 ghost use Rattle.td_meaning.specs.Mean.{Meaning, mean_binary, mean_both, within};
-ghost use Rattle.td_meaning.specs.Seen.{mean_in, visible};
+ghost use Rattle.td_meaning.specs.Seen.{mean_in, names_bound};
 ghost use Rattle.td_operators.specs.Values.{known};
 ghost use Rattle.td_syntax.specs.declared.tree.BinaryOperator.TheVariants as binary;
 ghost use Rattle.td_tuples.specs.Parts.{Fits};
 ghost use Rattle.td_values.specs.Data.{Attrs};
 
 use crate::evaluator::Evaluator;
-use crate::scope::{Held, Meant, Scope, lent};
+use crate::scope::{Binding, Bindings, KnownValue, lent};
 use crate::wanting::Wanted;
 use sqlite_items::Boxed;
 use std::alloc::{AllocError, Global};
@@ -48,16 +48,16 @@ fn side_value(alloc: Global, value: Value) -> Result<Side, AllocError>
 }
 
 // The value of what a name stands for. A relation is left to the operators, to which it is lent.
-fn side_meant(alloc: Global, meant: Meant<'_>) -> Result<Option<Side>, AllocError>
+fn side_meant(alloc: Global, meant: Binding<'_>) -> Result<Option<Side>, AllocError>
     ensures { IfOk result (λ o. IfSome o (λ s. (t : Attrs) → side_value t s ≡ Ok (meant_value meant.entry))) }
 {
     match meant {
-        Meant::Value(value) => Ok(Some(side_value(alloc, copy(alloc, value)?)?)),
-        Meant::Rows(_) => Ok(None),
+        Binding::Value(value) => Ok(Some(side_value(alloc, copy(alloc, value)?)?)),
+        Binding::Rows(_) => Ok(None),
     }
 }
 
-fn side_known(alloc: Global, value: &Result<Held, Stop>) -> Result<Option<Side>, AllocError>
+fn side_known(alloc: Global, value: &Result<KnownValue, Stop>) -> Result<Option<Side>, AllocError>
     ensures { IfOk result (λ o. IfSome o (λ s. (t : Attrs) → side_value t s ≡ known_value value.now)) }
 {
     match value {
@@ -69,11 +69,11 @@ fn side_known(alloc: Global, value: &Result<Held, Stop>) -> Result<Option<Side>,
 // The tuples' attributes hide the names around them.
 fn side_local(
     alloc: Global,
-    scope: &Scope,
+    scope: &Bindings,
     heading: &Heading,
     name: &Name,
 ) -> Result<Option<Side>, AllocError>
-    ensures { IfOk result (λ o. IfSome o (λ s. (t : Attrs) → Fits heading.now t → known (within t (visible scope.now) name.now) ≡ side_value t s)) }
+    ensures { IfOk result (λ o. IfSome o (λ s. (t : Attrs) → Fits heading.now t → known (within t (names_bound scope.now) name.now) ≡ side_value t s)) }
 {
     if heading.type_of(name).is_some() {
         return Ok(Some(Side::Attribute(place_in(heading, name))));
@@ -87,11 +87,11 @@ fn side_local(
 // The operand as a side, where it is an attribute or its value is known.
 fn side_of<W: Wanted>(
     evaluator: &Evaluator<'_, W>,
-    scope: &Scope,
+    scope: &Bindings,
     heading: &Heading,
     tree: &Typed,
 ) -> Result<Option<Side>, AllocError>
-    ensures { IfOk result (λ o. IfSome o (IsSide (mean_in evaluator.now.env.now) (visible scope.now) heading.now tree.now)) }
+    ensures { IfOk result (λ o. IfSome o (IsSide (mean_in evaluator.now.env.now) (names_bound scope.now) heading.now tree.now)) }
 {
     match tree {
         Typed::Integer(n) => Ok(Some(side_value(evaluator.alloc, integer_value(*n))?)),
@@ -107,12 +107,12 @@ fn side_of<W: Wanted>(
 
 fn sides_of<W: Wanted>(
     evaluator: &Evaluator<'_, W>,
-    scope: &Scope,
+    scope: &Bindings,
     heading: &Heading,
     a: &Typed,
     b: &Typed,
 ) -> Result<Option<(Side, Side)>, AllocError>
-    ensures { IfOk result (λ o. IfSome o (λ p. IsSide (mean_in evaluator.now.env.now) (visible scope.now) heading.now a.now p.0 × IsSide (mean_in evaluator.now.env.now) (visible scope.now) heading.now b.now p.1)) }
+    ensures { IfOk result (λ o. IfSome o (λ p. IsSide (mean_in evaluator.now.env.now) (names_bound scope.now) heading.now a.now p.0 × IsSide (mean_in evaluator.now.env.now) (names_bound scope.now) heading.now b.now p.1)) }
 {
     let Some(first) = side_of(evaluator, scope, heading, a)? else {
         return Ok(None);
@@ -150,11 +150,11 @@ fn is_comparison(operator: BinaryOperator) -> bool
 // The expression as a check: a comparison whose operands are sides, or as it is.
 fn check_of<'a, W: Wanted>(
     evaluator: &Evaluator<'_, W>,
-    scope: &Scope,
+    scope: &Bindings,
     heading: &Heading,
     tree: &'a Typed,
 ) -> Result<Check<'a>, AllocError>
-    ensures means { IfOk result (IsCheck (mean_in evaluator.now.env.now) (visible scope.now) heading.now tree.now) }
+    ensures means { IfOk result (IsCheck (mean_in evaluator.now.env.now) (names_bound scope.now) heading.now tree.now) }
     ensures levels { IfOk result (λ c. check_levels c ≤ levels tree.now) }
 {
     match tree {
@@ -179,12 +179,12 @@ fn add_check<'a>(checks: &mut Vec<Check<'a>>, check: Check<'a>) -> Result<(), Al
 #[cycle(conjuncts)]
 fn add_checks<'a, W: Wanted>(
     evaluator: &Evaluator<'_, W>,
-    scope: &Scope,
+    scope: &Bindings,
     heading: &Heading,
     tree: &'a Typed,
     checks: &mut Vec<Check<'a>>,
 ) -> Result<(), AllocError>
-    ensures means { OnOk result (AddsChecks (mean_in evaluator.now.env.now) (visible scope.now) heading.now tree.now checks.old.items checks.new.items) }
+    ensures means { OnOk result (AddsChecks (mean_in evaluator.now.env.now) (names_bound scope.now) heading.now tree.now checks.old.items checks.new.items) }
     ensures levels { OnOk result (deepest_check checks.new.items ≤ max (deepest_check checks.old.items) (levels tree.now)) }
 {
     match tree {
@@ -199,11 +199,11 @@ fn add_checks<'a, W: Wanted>(
 /// The condition, ready for the tuples of a heading.
 pub(crate) fn checks_of<'a, W: Wanted>(
     evaluator: &Evaluator<'_, W>,
-    scope: &Scope,
+    scope: &Bindings,
     heading: &Heading,
     condition: &'a Typed,
 ) -> Result<Vec<Check<'a>>, AllocError>
-    ensures means { IfOk result (λ v. AreChecks (mean_in evaluator.now.env.now) (visible scope.now) heading.now condition.now v.items) }
+    ensures means { IfOk result (λ v. AreChecks (mean_in evaluator.now.env.now) (names_bound scope.now) heading.now condition.now v.items) }
     ensures levels { IfOk result (λ v. deepest_check v.items ≤ levels condition.now) }
 {
     let mut checks = Vec::new(evaluator.alloc);
@@ -236,11 +236,11 @@ pub(crate) fn side_at<W>(alloc: Global, side: &Side, tuple: &Tuple) -> Result<Va
 /// The term of a summary as a side, if it has one, at the tuples of a heading.
 pub(crate) fn side_of_summary<W: Wanted>(
     evaluator: &Evaluator<'_, W>,
-    scope: &Scope,
+    scope: &Bindings,
     heading: &Heading,
     summary: &Summary<Boxed<Typed>>,
 ) -> Result<Option<Side>, AllocError>
-    ensures { IfOk result (λ o. IfSome o (λ s. OfTerm (λ a. IsSide (mean_in evaluator.now.env.now) (visible scope.now) heading.now a s) summary.now)) }
+    ensures { IfOk result (λ o. IfSome o (λ s. OfTerm (λ a. IsSide (mean_in evaluator.now.env.now) (names_bound scope.now) heading.now a s) summary.now)) }
 {
     match summary {
         Summary::Count => Ok(None),

@@ -6,12 +6,12 @@ ghost use Rattle.td_algebra.specs.Raising.{Answers};
 ghost use Rattle.td_meaning.specs.ForProofs.Over.{terms};
 ghost use Rattle.td_meaning.specs.Mean.{truth_at};
 ghost use Rattle.td_meaning.specs.Parts.{AreRight};
-ghost use Rattle.td_meaning.specs.Seen.{mean_in, visible};
+ghost use Rattle.td_meaning.specs.Seen.{mean_in, names_bound};
 
 use crate::environment::Environment;
 use crate::evaluator::Evaluator;
-use crate::parts::{Part, put_if, value_known};
-use crate::scope::Scope;
+use crate::parts::{HoistedTerm, put_if, value_known};
+use crate::scope::Bindings;
 use crate::wanting::Wanted;
 use sqlite_items::Boxed;
 use std::alloc::Global;
@@ -25,8 +25,8 @@ use td_values::Value;
 impl<W: Wanted> Evaluator<'_, W> {
     /// The value of an expression, by its form.
     #[cycle(evaluation)]
-    pub(crate) fn by_form(&self, tree: &Typed, scope: &Scope) -> Result<Value, Fault<W>>
-        ensures { Answers result (mean_in self.now.env.now tree.now (visible scope.now)) }
+    pub(crate) fn by_form(&self, tree: &Typed, scope: &Bindings) -> Result<Value, Fault<W>>
+        ensures { Answers result (mean_in self.now.env.now tree.now (names_bound scope.now)) }
     {
         match tree {
             Typed::Integer(n) => Ok(integer_value(*n)),
@@ -60,8 +60,8 @@ impl<W: Wanted> Evaluator<'_, W> {
 
     /// The value of an expression, found or made.
     #[cycle(evaluation)]
-    pub(crate) fn evaluate(&self, tree: &Typed, scope: &Scope) -> Result<Value, Fault<W>>
-        ensures { Answers result (mean_in self.now.env.now tree.now (visible scope.now)) }
+    pub(crate) fn evaluate(&self, tree: &Typed, scope: &Bindings) -> Result<Value, Fault<W>>
+        ensures { Answers result (mean_in self.now.env.now tree.now (names_bound scope.now)) }
     {
         match self.known(tree) {
             Some(value) => value_known(self.alloc, value),
@@ -74,7 +74,7 @@ impl<W: Wanted> Evaluator<'_, W> {
 pub fn keep<'a, W: Wanted>(
     alloc: Global,
     env: &Environment,
-    parts: &mut Vec<Part<'a>>,
+    parts: &mut Vec<HoistedTerm<'a>>,
     tree: &'a Typed,
 ) -> Result<(), Fault<W>>
     requires right { AreRight env.now parts.old.items }
@@ -92,13 +92,13 @@ pub fn keep<'a, W: Wanted>(
 pub fn eval<W: Wanted>(
     alloc: Global,
     env: &Environment,
-    parts: &[Part],
+    parts: &[HoistedTerm],
     tree: &Typed,
-    scope: &Scope,
+    scope: &Bindings,
 ) -> Result<Value, Fault<W>>
     requires right { AreRight env.now parts.now }
     requires allowed { W.allows env.now.virtuals.now ≡ true }
-    ensures { Answers result (mean_in env.now tree.now (visible scope.now)) }
+    ensures { Answers result (mean_in env.now tree.now (names_bound scope.now)) }
 {
     Evaluator::beside(alloc, env, parts).evaluate(tree, scope)
 }
@@ -110,14 +110,14 @@ pub fn eval<W: Wanted>(
 pub fn select<W: Wanted>(
     alloc: Global,
     env: &Environment,
-    parts: &[Part],
+    parts: &[HoistedTerm],
     ts: &Lease<'_>,
     condition: &Typed,
-    scope: &Scope,
+    scope: &Bindings,
 ) -> Result<Relation, Fault<W>>
     requires right { AreRight env.now parts.now }
     requires allowed { W.allows env.now.virtuals.now ≡ true }
-    ensures { Answers result (functions.restricted (truth_at (mean_in env.now condition.now) (visible scope.now)) ts.now) }
+    ensures { Answers result (functions.restricted (truth_at (mean_in env.now condition.now) (names_bound scope.now)) ts.now) }
 {
     Evaluator::beside(alloc, env, parts).restricted_by(ts, condition, scope)
 }
@@ -126,14 +126,14 @@ pub fn select<W: Wanted>(
 pub fn extend_all<W: Wanted>(
     alloc: Global,
     env: &Environment,
-    parts: &[Part],
+    parts: &[HoistedTerm],
     ts: &Relation,
     items: &[Item<Boxed<Typed>>],
-    scope: &Scope,
+    scope: &Bindings,
 ) -> Result<Relation, Fault<W>>
     requires right { AreRight env.now parts.now }
     requires allowed { W.allows env.now.virtuals.now ≡ true }
-    ensures { Answers result (functions.extended (terms (mean_in env.now) (visible scope.now)) items.now ts.now) }
+    ensures { Answers result (functions.extended (terms (mean_in env.now) (names_bound scope.now)) items.now ts.now) }
 {
     Evaluator::beside(alloc, env, parts).extended_by(ts, items, scope)
 }

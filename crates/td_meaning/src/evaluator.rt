@@ -7,8 +7,8 @@ ghost use Rattle.td_meaning.specs.Parts.{AreRight, known_value};
 ghost use Rattle.td_meaning.specs.Seen.{mean_in};
 
 use crate::environment::Environment;
-use crate::parts::{Part, part_known};
-use crate::scope::Held;
+use crate::parts::{HoistedTerm, part_known};
+use crate::scope::KnownValue;
 use crate::wanting::Wanted;
 use std::alloc::Global;
 use std::marker::PhantomData;
@@ -21,7 +21,7 @@ use td_typed_trees::tree::Typed;
 pub(crate) struct Evaluator<'a, W: Wanted> {
     pub alloc: Global,
     pub env: &'a Environment<'a>,
-    pub parts: &'a [Part<'a>],
+    pub parts: &'a [HoistedTerm<'a>],
     pub wanted: PhantomData<W>,
     ghost right: { AreRight env.now parts.now } by { AreRight-prop env.now parts.now },
     ghost allowed: { W.allows env.now.virtuals.now ≡ true },
@@ -45,7 +45,7 @@ impl<'a, W: Wanted> Evaluator<'a, W> {
     pub(crate) fn beside(
         alloc: Global,
         env: &'a Environment<'a>,
-        parts: &'a [Part<'a>],
+        parts: &'a [HoistedTerm<'a>],
     ) -> Evaluator<'a, W>
         requires right { AreRight env.now parts.now }
         requires allowed { W.allows env.now.virtuals.now ≡ true }
@@ -60,7 +60,7 @@ impl<'a, W: Wanted> Evaluator<'a, W> {
     }
 
     /// What is known of the expression.
-    pub(crate) fn known(&self, tree: &Typed) -> Option<&'a Result<Held, Stop>>
+    pub(crate) fn known(&self, tree: &Typed) -> Option<&'a Result<KnownValue, Stop>>
         ensures { IfSome result (λ v. (names : Names) → mean_in self.now.env.now tree.now names ≡ known_value v.now) }
     {
         part_known(self.env, self.parts, tree)

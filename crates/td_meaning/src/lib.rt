@@ -32,6 +32,6 @@ mod wanting;
 
 pub use environment::{Environment, Known};
 pub use evaluation::{eval, extend_all, keep, select};
-pub use parts::{Part, put};
-pub use scope::{Held, Scope};
+pub use parts::{HoistedTerm, put};
+pub use scope::{Bindings, KnownValue};
 pub use wanting::Wanted;

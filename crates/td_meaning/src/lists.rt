@@ -5,10 +5,10 @@ ghost use Rattle.td_algebra.specs.Raising.{Answers, AnswersBy};
 ghost use Rattle.td_meaning.specs.ForProofs.Over.{list_meant, items_meant};
 ghost use Rattle.td_meaning.specs.Mean as spec;
 ghost use Rattle.td_operators.specs.Operators as operators;
-ghost use Rattle.td_meaning.specs.Seen.{mean_in, visible};
+ghost use Rattle.td_meaning.specs.Seen.{mean_in, names_bound};
 
 use crate::evaluator::Evaluator;
-use crate::scope::Scope;
+use crate::scope::Bindings;
 use crate::wanting::Wanted;
 use sqlite_items::Boxed;
 use std::alloc::AllocError;
@@ -39,9 +39,9 @@ impl<W: Wanted> Evaluator<'_, W> {
     pub(crate) fn values(
         &self,
         trees: &[Boxed<Typed>],
-        scope: &Scope,
+        scope: &Bindings,
     ) -> Result<Vec<Value>, Fault<W>>
-        ensures { AnswersBy (λ v. v.items) result (operators.in_turn (spec.at (visible scope.now)) (list_meant (mean_in self.now.env.now) trees.now)) }
+        ensures { AnswersBy (λ v. v.items) result (operators.in_turn (spec.at (names_bound scope.now)) (list_meant (mean_in self.now.env.now) trees.now)) }
     {
         let mut found = Vec::new(self.alloc);
         for tree in trees {
@@ -57,9 +57,9 @@ impl<W: Wanted> Evaluator<'_, W> {
         &self,
         heading: &Heading,
         trees: &[Boxed<Typed>],
-        scope: &Scope,
+        scope: &Bindings,
     ) -> Result<Value, Fault<W>>
-        ensures { Answers result (spec.mean_relation heading.now (list_meant (mean_in self.now.env.now) trees.now) (visible scope.now)) }
+        ensures { Answers result (spec.mean_relation heading.now (list_meant (mean_in self.now.env.now) trees.now) (names_bound scope.now)) }
     {
         let found = self.values(trees, scope)?;
         relation_over(self.alloc, heading, &found)
@@ -70,9 +70,9 @@ impl<W: Wanted> Evaluator<'_, W> {
     fn fields(
         &self,
         items: &[Item<Boxed<Typed>>],
-        scope: &Scope,
+        scope: &Bindings,
     ) -> Result<Vec<(Name, Value)>, Fault<W>>
-        ensures { AnswersBy (λ v. v.items) result (operators.in_turn (spec.named_at (visible scope.now)) (items_meant (mean_in self.now.env.now) items.now)) }
+        ensures { AnswersBy (λ v. v.items) result (operators.in_turn (spec.named_at (names_bound scope.now)) (items_meant (mean_in self.now.env.now) items.now)) }
     {
         let mut found = Vec::new(self.alloc);
         for item in items {
@@ -87,9 +87,9 @@ impl<W: Wanted> Evaluator<'_, W> {
     pub(crate) fn tuple(
         &self,
         items: &[Item<Boxed<Typed>>],
-        scope: &Scope,
+        scope: &Bindings,
     ) -> Result<Value, Fault<W>>
-        ensures { Answers result (spec.mean_tuple (items_meant (mean_in self.now.env.now) items.now) (visible scope.now)) }
+        ensures { Answers result (spec.mean_tuple (items_meant (mean_in self.now.env.now) items.now) (names_bound scope.now)) }
     {
         let found = self.fields(items, scope)?;
         Ok(tuple_value(tuple_of(self.alloc, found)?))

@@ -4,10 +4,10 @@ ghost use Rattle.std.specs.Prelude.{◌≡◌, ◌++◌, ◌∷◌, [], OnOk};
 ghost use Rattle.td_algebra.specs.Raising.{Answers, AnswersBy};
 ghost use Rattle.td_meaning.specs.ForProofs.Over.{all_meant};
 ghost use Rattle.td_meaning.specs.Mean as spec;
-ghost use Rattle.td_meaning.specs.Seen.{all_given, held_value, mean_in, visible};
+ghost use Rattle.td_meaning.specs.Seen.{all_given, held_value, mean_in, names_bound};
 
 use crate::evaluator::Evaluator;
-use crate::scope::{Held, Scope, hold};
+use crate::scope::{Bindings, KnownValue, hold};
 use crate::wanting::Wanted;
 use sqlite_items::{Boxed, Items};
 use std::alloc::AllocError;
@@ -16,7 +16,11 @@ use td_syntax::tree::Named;
 use td_typed_trees::tree::Typed;
 use td_values::{Name, Value};
 
-fn add_held(found: &mut Items<Named<Held>>, name: &Name, value: Value) -> Result<(), AllocError>
+fn add_held(
+    found: &mut Items<Named<KnownValue>>,
+    name: &Name,
+    value: Value,
+) -> Result<(), AllocError>
     ensures { OnOk result ((h : _) × (held_value h ≡ value) × (found.new ≡ found.old ++ record { name = name.now; value = h } ∷ [])) }
 {
     let name = name.copy()?;
@@ -31,13 +35,13 @@ impl<W: Wanted> Evaluator<'_, W> {
     fn introduced(
         &self,
         xs: &[Named<Boxed<Typed>>],
-        scope: &Scope,
-    ) -> Result<Items<Named<Held>>, Fault<W>>
-        ensures { AnswersBy (λ v. all_given v (visible scope.now)) result (spec.introduced (all_meant (mean_in self.now.env.now) xs.now) (visible scope.now)) }
+        scope: &Bindings,
+    ) -> Result<Items<Named<KnownValue>>, Fault<W>>
+        ensures { AnswersBy (λ v. all_given v (names_bound scope.now)) result (spec.introduced (all_meant (mean_in self.now.env.now) xs.now) (names_bound scope.now)) }
     {
         let mut found = Items::new(self.alloc);
         for x in xs {
-            let within = Scope::Given(found.as_slice(), &*scope);
+            let within = Bindings::Given(found.as_slice(), &*scope);
             let value = self.evaluate(x.value.get(), &within)?;
             add_held(&mut found, &x.name, value)?;
         }
@@ -50,11 +54,11 @@ impl<W: Wanted> Evaluator<'_, W> {
         &self,
         xs: &[Named<Boxed<Typed>>],
         body: &Typed,
-        scope: &Scope,
+        scope: &Bindings,
     ) -> Result<Value, Fault<W>>
-        ensures { Answers result (spec.mean_with (all_meant (mean_in self.now.env.now) xs.now) (mean_in self.now.env.now body.now) (visible scope.now)) }
+        ensures { Answers result (spec.mean_with (all_meant (mean_in self.now.env.now) xs.now) (mean_in self.now.env.now body.now) (names_bound scope.now)) }
     {
         let found = self.introduced(xs, scope)?;
-        self.evaluate(body, &Scope::Given(found.as_slice(), &*scope))
+        self.evaluate(body, &Bindings::Given(found.as_slice(), &*scope))
     }
 }

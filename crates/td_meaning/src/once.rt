@@ -9,8 +9,8 @@ ghost use Rattle.td_meaning.specs.Seen.{mean_in};
 
 use crate::closed::{Knowledge, Terms, closed_parts};
 use crate::evaluator::Evaluator;
-use crate::parts::{Part, copied, put_if};
-use crate::scope::{Held, Scope, hold};
+use crate::parts::{HoistedTerm, copied, put_if};
+use crate::scope::{Bindings, KnownValue, hold};
 use crate::wanting::Wanted;
 use std::alloc::AllocError;
 use std::marker::PhantomData;
@@ -20,10 +20,13 @@ use td_typed_trees::tree::Typed;
 impl<W: Wanted> Evaluator<'_, W> {
     /// What the expression means wherever it stands, if it names nothing that is around it.
     #[cycle(evaluation)]
-    pub(crate) fn closed_value(&self, tree: &Typed) -> Result<Option<Result<Held, Stop>>, Fault<W>>
+    pub(crate) fn closed_value(
+        &self,
+        tree: &Typed,
+    ) -> Result<Option<Result<KnownValue, Stop>>, Fault<W>>
         ensures { IfOk result (λ v. IfSome v (λ w. (names : Names) → mean_in self.now.env.now tree.now names ≡ known_value w)) }
     {
-        match self.evaluate(tree, &Scope::Nothing) {
+        match self.evaluate(tree, &Bindings::Nothing) {
             Ok(value) => Ok(Some(Ok(hold(value)))),
             Err(Fault::Raised(stop)) => match stop {
                 Stop::Untyped => Ok(None),
@@ -35,7 +38,7 @@ impl<W: Wanted> Evaluator<'_, W> {
 
     fn parts_beside<'a>(
         &self,
-        parts: &[Part<'_>],
+        parts: &[HoistedTerm<'_>],
         terms: Terms<'a>,
     ) -> Result<Vec<&'a Typed>, AllocError>
         ensures { IfOk result (λ v. deepest_in v.items ≤ terms_levels terms.entry) }
@@ -49,7 +52,7 @@ impl<W: Wanted> Evaluator<'_, W> {
 
     // Where it comes to a virtual relvar that is not known, the part may not be needed.
     #[cycle(evaluation)]
-    fn keep<'a>(&self, parts: &mut Vec<Part<'a>>, tree: &'a Typed) -> Result<(), AllocError>
+    fn keep<'a>(&self, parts: &mut Vec<HoistedTerm<'a>>, tree: &'a Typed) -> Result<(), AllocError>
         requires { AreRight self.now.env.now parts.old.items }
         ensures { AreRight self.now.env.now parts.new.items }
     {
@@ -67,7 +70,11 @@ impl<W: Wanted> Evaluator<'_, W> {
     }
 
     #[cycle(evaluation)]
-    fn keep_all<'a>(&self, parts: &mut Vec<Part<'a>>, trees: &[&'a Typed]) -> Result<(), AllocError>
+    fn keep_all<'a>(
+        &self,
+        parts: &mut Vec<HoistedTerm<'a>>,
+        trees: &[&'a Typed],
+    ) -> Result<(), AllocError>
         requires { AreRight self.now.env.now parts.old.items }
         ensures { OnOk result (AreRight self.now.env.now parts.new.items) }
     {
@@ -80,7 +87,11 @@ impl<W: Wanted> Evaluator<'_, W> {
     // Adds the parts of the terms that name nothing around them. Where the heading of a relation is not to be seen
     // before it is evaluated, what stands within its attributes comes one round later; the last round adds nothing.
     #[cycle(evaluation)]
-    fn add_parts<'a>(&self, parts: &mut Vec<Part<'a>>, terms: Terms<'a>) -> Result<(), AllocError>
+    fn add_parts<'a>(
+        &self,
+        parts: &mut Vec<HoistedTerm<'a>>,
+        terms: Terms<'a>,
+    ) -> Result<(), AllocError>
         requires { AreRight self.now.env.now parts.old.items }
         ensures { OnOk result (AreRight self.now.env.now parts.new.items) }
     {
@@ -102,7 +113,7 @@ impl<W: Wanted> Evaluator<'_, W> {
         &'e self,
         terms: Terms<'t>,
         tuples: usize,
-    ) -> Result<Option<Vec<Part<'a>>>, AllocError>
+    ) -> Result<Option<Vec<HoistedTerm<'a>>>, AllocError>
         ensures { IfOk result (λ v. IfSome v (λ v. AreRight self.now.env.now v.items)) }
     {
         if tuples < 2 || self.parts_beside(self.parts, terms)?.is_empty() {

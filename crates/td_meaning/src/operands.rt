@@ -11,12 +11,12 @@ ghost use Rattle.td_typed_trees.specs.declared.tree.Typed.TheVariants as t;
 ghost use Rattle.td_meaning.specs.ForProofs.Places.{is_known};
 ghost use Rattle.td_meaning.specs.Mean as spec;
 ghost use Rattle.td_meaning.specs.Mean.{Names};
-ghost use Rattle.td_meaning.specs.Seen.{mean_in, relvars_there, visible};
+ghost use Rattle.td_meaning.specs.Seen.{mean_in, relvars_there, names_bound};
 
 use crate::environment::relvar_known;
 use crate::evaluator::Evaluator;
 use crate::parts::operand_known;
-use crate::scope::{Scope, operand_meant, value_meant};
+use crate::scope::{Bindings, operand_meant, value_meant};
 use crate::wanting::Wanted;
 use std::alloc::Global;
 use td_algebra::{Fault, Stop};
@@ -53,8 +53,8 @@ fn made<'a, W>(answer: Result<Value, Fault<W>>) -> Result<Operand<'a>, Fault<W>>
 
 impl<W: Wanted> Evaluator<'_, W> {
     #[tactic(auto, unfolding(crate::specs::Mean::mean_local))]
-    pub(crate) fn local(&self, name: &Name, scope: &Scope) -> Result<Value, Fault<W>>
-        ensures { Answers result (spec.mean_local name.now (visible scope.now)) }
+    pub(crate) fn local(&self, name: &Name, scope: &Bindings) -> Result<Value, Fault<W>>
+        ensures { Answers result (spec.mean_local name.now (names_bound scope.now)) }
     {
         match scope.find(name) {
             Some(meant) => Ok(value_meant(self.alloc, meant)?),
@@ -73,8 +73,12 @@ impl<W: Wanted> Evaluator<'_, W> {
     }
 
     #[tactic(auto, unfolding(crate::specs::Mean::mean_local))]
-    fn local_operand<'a>(&self, name: &Name, scope: &'a Scope<'_>) -> Result<Operand<'a>, Fault<W>>
-        ensures { AnswersBy operand_value result (spec.mean_local name.now (visible scope.now)) }
+    fn local_operand<'a>(
+        &self,
+        name: &Name,
+        scope: &'a Bindings<'_>,
+    ) -> Result<Operand<'a>, Fault<W>>
+        ensures { AnswersBy operand_value result (spec.mean_local name.now (names_bound scope.now)) }
     {
         match scope.find(name) {
             Some(meant) => Ok(operand_meant(self.alloc, meant)?),
@@ -110,9 +114,9 @@ impl<W: Wanted> Evaluator<'_, W> {
     pub(crate) fn operand<'a, 'e: 'a>(
         &'e self,
         tree: &Typed,
-        scope: &'a Scope<'_>,
+        scope: &'a Bindings<'_>,
     ) -> Result<Operand<'a>, Fault<W>>
-        ensures { AnswersBy operand_value result (mean_in self.now.env.now tree.now (visible scope.now)) }
+        ensures { AnswersBy operand_value result (mean_in self.now.env.now tree.now (names_bound scope.now)) }
     {
         match tree {
             Typed::Relvar(place) => self.relvar_operand(tree, *place),
@@ -129,17 +133,17 @@ impl<W: Wanted> Evaluator<'_, W> {
     pub(crate) fn rows<'a, 'e: 'a>(
         &'e self,
         a: &Typed,
-        scope: &'a Scope<'_>,
+        scope: &'a Bindings<'_>,
     ) -> Result<Lease<'a>, Fault<W>>
-        ensures { Answers result (spec.rows_in (mean_in self.now.env.now a.now) (visible scope.now)) }
+        ensures { Answers result (spec.rows_in (mean_in self.now.env.now a.now) (names_bound scope.now)) }
     {
         rows_of(self.operand(a, &*scope)?)
     }
 
     #[cycle(evaluation)]
     #[tactic(auto, unfolding(crate::specs::Mean::truth_in))]
-    pub(crate) fn truth(&self, a: &Typed, scope: &Scope) -> Result<bool, Fault<W>>
-        ensures { Answers result (spec.truth_in (mean_in self.now.env.now a.now) (visible scope.now)) }
+    pub(crate) fn truth(&self, a: &Typed, scope: &Bindings) -> Result<bool, Fault<W>>
+        ensures { Answers result (spec.truth_in (mean_in self.now.env.now a.now) (names_bound scope.now)) }
     {
         truth_of(self.evaluate(a, scope)?)
     }

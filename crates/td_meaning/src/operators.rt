@@ -7,10 +7,10 @@ ghost use Rattle.td_meaning.specs.Mean as spec;
 ghost use Rattle.td_meaning.specs.Mean.{Names};
 ghost use Rattle.td_syntax.specs.declared.tree.BinaryOperator.TheVariants as binary;
 ghost use Rattle.td_operators.specs.Operators as operators;
-ghost use Rattle.td_meaning.specs.Seen.{mean_in, visible};
+ghost use Rattle.td_meaning.specs.Seen.{mean_in, names_bound};
 
 use crate::evaluator::Evaluator;
-use crate::scope::Scope;
+use crate::scope::Bindings;
 use crate::wanting::Wanted;
 use td_algebra::{Fault, Stop};
 use td_operators::{
@@ -35,17 +35,22 @@ impl<W: Wanted> Evaluator<'_, W> {
         &self,
         operator: UnaryOperator,
         a: &Typed,
-        scope: &Scope,
+        scope: &Bindings,
     ) -> Result<Value, Fault<W>>
-        ensures { Answers result (spec.mean_by (operators.operate_on operator) (mean_in self.now.env.now a.now) (visible scope.now)) }
+        ensures { Answers result (spec.mean_by (operators.operate_on operator) (mean_in self.now.env.now a.now) (names_bound scope.now)) }
     {
         operate_on(self.alloc, operator, self.operand(a, &*scope)?)
     }
 
     #[cycle(evaluation)]
     #[tactic(auto, unfolding(crate::specs::Mean::mean_by))]
-    pub(crate) fn component(&self, at: usize, a: &Typed, scope: &Scope) -> Result<Value, Fault<W>>
-        ensures { Answers result (spec.mean_by (operators.component_at at) (mean_in self.now.env.now a.now) (visible scope.now)) }
+    pub(crate) fn component(
+        &self,
+        at: usize,
+        a: &Typed,
+        scope: &Bindings,
+    ) -> Result<Value, Fault<W>>
+        ensures { Answers result (spec.mean_by (operators.component_at at) (mean_in self.now.env.now a.now) (names_bound scope.now)) }
     {
         let a = self.operand(a, &*scope)?;
         component_at(self.alloc, at, &a)
@@ -53,8 +58,13 @@ impl<W: Wanted> Evaluator<'_, W> {
 
     #[cycle(evaluation)]
     #[tactic(auto, unfolding(crate::specs::Mean::mean_by))]
-    pub(crate) fn attribute(&self, name: &Name, a: &Typed, scope: &Scope) -> Result<Value, Fault<W>>
-        ensures { Answers result (spec.mean_by (operators.attribute_at name.now) (mean_in self.now.env.now a.now) (visible scope.now)) }
+    pub(crate) fn attribute(
+        &self,
+        name: &Name,
+        a: &Typed,
+        scope: &Bindings,
+    ) -> Result<Value, Fault<W>>
+        ensures { Answers result (spec.mean_by (operators.attribute_at name.now) (mean_in self.now.env.now a.now) (names_bound scope.now)) }
     {
         let a = self.operand(a, &*scope)?;
         attribute_at(self.alloc, name, &a)
@@ -66,9 +76,9 @@ impl<W: Wanted> Evaluator<'_, W> {
         &self,
         a: &Typed,
         names: &[Name],
-        scope: &Scope,
+        scope: &Bindings,
     ) -> Result<Value, Fault<W>>
-        ensures { Answers result (spec.mean_by (operators.part_at names.now) (mean_in self.now.env.now a.now) (visible scope.now)) }
+        ensures { Answers result (spec.mean_by (operators.part_at names.now) (mean_in self.now.env.now a.now) (names_bound scope.now)) }
     {
         part_at(self.alloc, names, self.operand(a, &*scope)?)
     }
@@ -79,9 +89,9 @@ impl<W: Wanted> Evaluator<'_, W> {
         &self,
         a: &Typed,
         items: &[(Name, Name)],
-        scope: &Scope,
+        scope: &Bindings,
     ) -> Result<Value, Fault<W>>
-        ensures { Answers result (spec.mean_by (operators.with_new_names items.now) (mean_in self.now.env.now a.now) (visible scope.now)) }
+        ensures { Answers result (spec.mean_by (operators.with_new_names items.now) (mean_in self.now.env.now a.now) (names_bound scope.now)) }
     {
         with_new_names(self.alloc, items, self.operand(a, &*scope)?)
     }
@@ -94,9 +104,9 @@ impl<W: Wanted> Evaluator<'_, W> {
         a: &Typed,
         names: &[Name],
         name: &Name,
-        scope: &Scope,
+        scope: &Bindings,
     ) -> Result<Value, Fault<W>>
-        ensures { Answers result (spec.mean_by (operators.nested nesting names.now name.now) (mean_in self.now.env.now a.now) (visible scope.now)) }
+        ensures { Answers result (spec.mean_by (operators.nested nesting names.now name.now) (mean_in self.now.env.now a.now) (names_bound scope.now)) }
     {
         nested(self.alloc, nesting, names, name, self.operand(a, &*scope)?)
     }
@@ -108,17 +118,17 @@ impl<W: Wanted> Evaluator<'_, W> {
         nesting: Nesting,
         a: &Typed,
         name: &Name,
-        scope: &Scope,
+        scope: &Bindings,
     ) -> Result<Value, Fault<W>>
-        ensures { Answers result (spec.mean_by (operators.unnested nesting name.now) (mean_in self.now.env.now a.now) (visible scope.now)) }
+        ensures { Answers result (spec.mean_by (operators.unnested nesting name.now) (mean_in self.now.env.now a.now) (names_bound scope.now)) }
     {
         unnested(self.alloc, nesting, name, self.operand(a, &*scope)?)
     }
 
     #[cycle(evaluation)]
     #[tactic(auto, unfolding(crate::specs::Mean::mean_and))]
-    fn both(&self, a: &Typed, b: &Typed, scope: &Scope) -> Result<Value, Fault<W>>
-        ensures { Answers result (spec.mean_and (mean_in self.now.env.now a.now) (mean_in self.now.env.now b.now) (visible scope.now)) }
+    fn both(&self, a: &Typed, b: &Typed, scope: &Bindings) -> Result<Value, Fault<W>>
+        ensures { Answers result (spec.mean_and (mean_in self.now.env.now a.now) (mean_in self.now.env.now b.now) (names_bound scope.now)) }
     {
         if self.truth(a, scope)? {
             let second = self.truth(b, scope)?;
@@ -130,8 +140,8 @@ impl<W: Wanted> Evaluator<'_, W> {
 
     #[cycle(evaluation)]
     #[tactic(auto, unfolding(crate::specs::Mean::mean_or))]
-    fn either(&self, a: &Typed, b: &Typed, scope: &Scope) -> Result<Value, Fault<W>>
-        ensures { Answers result (spec.mean_or (mean_in self.now.env.now a.now) (mean_in self.now.env.now b.now) (visible scope.now)) }
+    fn either(&self, a: &Typed, b: &Typed, scope: &Bindings) -> Result<Value, Fault<W>>
+        ensures { Answers result (spec.mean_or (mean_in self.now.env.now a.now) (mean_in self.now.env.now b.now) (names_bound scope.now)) }
     {
         if self.truth(a, scope)? {
             Ok(truth_value(true))
@@ -148,9 +158,9 @@ impl<W: Wanted> Evaluator<'_, W> {
         operator: BinaryOperator,
         a: &Typed,
         b: &Typed,
-        scope: &Scope,
+        scope: &Bindings,
     ) -> Result<Value, Fault<W>>
-        ensures { Answers result (spec.mean_both operator (mean_in self.now.env.now a.now) (mean_in self.now.env.now b.now) (visible scope.now)) }
+        ensures { Answers result (spec.mean_both operator (mean_in self.now.env.now a.now) (mean_in self.now.env.now b.now) (names_bound scope.now)) }
     {
         let u = self.operand(a, &*scope)?;
         let v = self.operand(b, &*scope)?;
@@ -181,9 +191,9 @@ impl<W: Wanted> Evaluator<'_, W> {
         a: &Typed,
         whole: &Typed,
         names: &[Name],
-        scope: &Scope,
+        scope: &Bindings,
     ) -> Result<Value, Fault<W>>
-        ensures { Answers result (spec.mean_both binary.AtMost (mean_in self.now.env.now a.now) (spec.mean_by (operators.part_at names.now) (mean_in self.now.env.now whole.now)) (visible scope.now)) }
+        ensures { Answers result (spec.mean_both binary.AtMost (mean_in self.now.env.now a.now) (spec.mean_by (operators.part_at names.now) (mean_in self.now.env.now whole.now)) (names_bound scope.now)) }
     {
         let inner = self.operand(a, &*scope)?;
         let around = self.operand(whole, &*scope)?;
@@ -198,9 +208,9 @@ impl<W: Wanted> Evaluator<'_, W> {
         whole: &Typed,
         names: &[Name],
         b: &Typed,
-        scope: &Scope,
+        scope: &Bindings,
     ) -> Result<Value, Fault<W>>
-        ensures { Answers result (spec.mean_both binary.AtLeast (spec.mean_by (operators.part_at names.now) (mean_in self.now.env.now whole.now)) (mean_in self.now.env.now b.now) (visible scope.now)) }
+        ensures { Answers result (spec.mean_both binary.AtLeast (spec.mean_by (operators.part_at names.now) (mean_in self.now.env.now whole.now)) (mean_in self.now.env.now b.now) (names_bound scope.now)) }
     {
         let around = self.operand(whole, &*scope)?;
         if !has_parts(&around) {
@@ -211,8 +221,8 @@ impl<W: Wanted> Evaluator<'_, W> {
     }
 
     #[cycle(evaluation)]
-    fn at_most(&self, a: &Typed, b: &Typed, scope: &Scope) -> Result<Value, Fault<W>>
-        ensures { Answers result (spec.mean_both binary.AtMost (mean_in self.now.env.now a.now) (mean_in self.now.env.now b.now) (visible scope.now)) }
+    fn at_most(&self, a: &Typed, b: &Typed, scope: &Bindings) -> Result<Value, Fault<W>>
+        ensures { Answers result (spec.mean_both binary.AtMost (mean_in self.now.env.now a.now) (mean_in self.now.env.now b.now) (names_bound scope.now)) }
     {
         match self.part_of(b) {
             Some(part) => self.within_part(a, part.whole, part.names, scope),
@@ -221,8 +231,8 @@ impl<W: Wanted> Evaluator<'_, W> {
     }
 
     #[cycle(evaluation)]
-    fn at_least(&self, a: &Typed, b: &Typed, scope: &Scope) -> Result<Value, Fault<W>>
-        ensures { Answers result (spec.mean_both binary.AtLeast (mean_in self.now.env.now a.now) (mean_in self.now.env.now b.now) (visible scope.now)) }
+    fn at_least(&self, a: &Typed, b: &Typed, scope: &Bindings) -> Result<Value, Fault<W>>
+        ensures { Answers result (spec.mean_both binary.AtLeast (mean_in self.now.env.now a.now) (mean_in self.now.env.now b.now) (names_bound scope.now)) }
     {
         match self.part_of(a) {
             Some(part) => self.around_part(part.whole, part.names, b, scope),
@@ -236,9 +246,9 @@ impl<W: Wanted> Evaluator<'_, W> {
         operator: BinaryOperator,
         a: &Typed,
         b: &Typed,
-        scope: &Scope,
+        scope: &Bindings,
     ) -> Result<Value, Fault<W>>
-        ensures { Answers result (spec.mean_binary operator (mean_in self.now.env.now a.now) (mean_in self.now.env.now b.now) (visible scope.now)) }
+        ensures { Answers result (spec.mean_binary operator (mean_in self.now.env.now a.now) (mean_in self.now.env.now b.now) (names_bound scope.now)) }
     {
         match operator {
             BinaryOperator::And => self.both(a, b, scope),
@@ -256,9 +266,9 @@ impl<W: Wanted> Evaluator<'_, W> {
         c: &Typed,
         a: &Typed,
         b: &Typed,
-        scope: &Scope,
+        scope: &Bindings,
     ) -> Result<Value, Fault<W>>
-        ensures { Answers result (spec.mean_if (mean_in self.now.env.now c.now) (mean_in self.now.env.now a.now) (mean_in self.now.env.now b.now) (visible scope.now)) }
+        ensures { Answers result (spec.mean_if (mean_in self.now.env.now c.now) (mean_in self.now.env.now a.now) (mean_in self.now.env.now b.now) (names_bound scope.now)) }
     {
         if self.truth(c, scope)? {
             self.evaluate(a, scope)

@@ -9,7 +9,7 @@ ghost use Rattle.td_meaning.specs.Seen.{mean_in};
 ghost use Rattle.td_meaning.specs.declared.environment.Environment.{Environment};
 
 use crate::environment::Environment;
-use crate::scope::{Held, lent, operand_meant, value_meant};
+use crate::scope::{KnownValue, lent, operand_meant, value_meant};
 use std::alloc::{AllocError, Global};
 use td_algebra::{Fault, Stop};
 use td_operators::Operand;
@@ -20,15 +20,15 @@ use td_values::{Heading, Value};
 
 /// An expression that names nothing around it, and its value or the error that it raises.
 #[derive(Drop)]
-pub struct Part<'a> {
+pub struct HoistedTerm<'a> {
     pub tree: &'a Typed,
-    pub value: Shared<Result<Held, Stop>>,
+    pub value: Shared<Result<KnownValue, Stop>>,
 }
 
 /// The value, of which a relation is lent, or the error.
 pub(crate) fn operand_known<W>(
     alloc: Global,
-    value: &Result<Held, Stop>,
+    value: &Result<KnownValue, Stop>,
 ) -> Result<Operand<'_>, Fault<W>>
     ensures { AnswersBy operand_value result (known_value value.now) }
 {
@@ -39,7 +39,10 @@ pub(crate) fn operand_known<W>(
 }
 
 /// The value, copied, or the error.
-pub(crate) fn value_known<W>(alloc: Global, value: &Result<Held, Stop>) -> Result<Value, Fault<W>>
+pub(crate) fn value_known<W>(
+    alloc: Global,
+    value: &Result<KnownValue, Stop>,
+) -> Result<Value, Fault<W>>
     ensures { Answers result (known_value value.now) }
 {
     match value {
@@ -49,15 +52,15 @@ pub(crate) fn value_known<W>(alloc: Global, value: &Result<Held, Stop>) -> Resul
 }
 
 /// The heading of the value, if it is a relation.
-pub(crate) fn heading_known(value: &Result<Held, Stop>) -> Option<&Heading> {
+pub(crate) fn heading_known(value: &Result<KnownValue, Stop>) -> Option<&Heading> {
     match value {
-        Ok(Held::Rows(relation)) => Some(relation.heading()),
+        Ok(KnownValue::Rows(relation)) => Some(relation.heading()),
         _ => None,
     }
 }
 
 /// What is known of the expression, among parts in the order of their expressions.
-fn find<'a>(parts: &'a [Part<'a>], tree: &Typed) -> Option<&'a Result<Held, Stop>>
+fn find<'a>(parts: &'a [HoistedTerm<'a>], tree: &Typed) -> Option<&'a Result<KnownValue, Stop>>
     ensures { (env : Environment) → AreRight env parts.now → IfSome result (λ v. (names : Names) → mean_in env tree.now names ≡ known_value v.now) }
 {
     match parts.binary_search_by(|part| compare(part.tree, tree)) {
@@ -70,9 +73,9 @@ fn find<'a>(parts: &'a [Part<'a>], tree: &Typed) -> Option<&'a Result<Held, Stop
 /// virtual.
 pub(crate) fn part_known<'a>(
     env: &Environment<'_>,
-    parts: &'a [Part<'a>],
+    parts: &'a [HoistedTerm<'a>],
     tree: &Typed,
-) -> Option<&'a Result<Held, Stop>>
+) -> Option<&'a Result<KnownValue, Stop>>
     ensures { AreRight env.now parts.now → IfSome result (λ v. (names : Names) → mean_in env.now tree.now names ≡ known_value v.now) }
 {
     match tree {
@@ -85,9 +88,9 @@ pub(crate) fn part_known<'a>(
 /// Puts a part where its expression belongs, in the order of expressions, in which parts are sought.
 pub fn put<'a>(
     alloc: Global,
-    parts: &mut Vec<Part<'a>>,
+    parts: &mut Vec<HoistedTerm<'a>>,
     tree: &'a Typed,
-    value: Result<Held, Stop>,
+    value: Result<KnownValue, Stop>,
 ) -> Result<(), AllocError>
     ensures { (env : Environment) → AreRight env parts.old.items → ((names : Names) → mean_in env tree.now names ≡ known_value value) → AreRight env parts.new.items }
 {
@@ -95,16 +98,16 @@ pub fn put<'a>(
         Ok(at) | Err(at) => at,
     };
     let value = Shared::new(alloc, value)?;
-    parts.insert(at, Part { tree, value })?;
+    parts.insert(at, HoistedTerm { tree, value })?;
     Ok(())
 }
 
 /// Puts a part where its expression belongs, if there is a value of it.
 pub(crate) fn put_if<'a>(
     alloc: Global,
-    parts: &mut Vec<Part<'a>>,
+    parts: &mut Vec<HoistedTerm<'a>>,
     tree: &'a Typed,
-    value: Option<Result<Held, Stop>>,
+    value: Option<Result<KnownValue, Stop>>,
 ) -> Result<(), AllocError>
     ensures { (env : Environment) → AreRight env parts.old.items → IfSome value (λ v. (names : Names) → mean_in env tree.now names ≡ known_value v) → AreRight env parts.new.items }
 {
@@ -114,18 +117,21 @@ pub(crate) fn put_if<'a>(
     }
 }
 
-fn copy<'a>(part: &'a Part<'_>) -> Result<Part<'a>, AllocError>
+fn copy<'a>(part: &'a HoistedTerm<'_>) -> Result<HoistedTerm<'a>, AllocError>
     ensures { IfOk result (λ p. p ≡ part.now) }
 {
     let value = part.value.copy()?;
-    Ok(Part {
+    Ok(HoistedTerm {
         tree: &*part.tree,
         value,
     })
 }
 
 /// A copy of the parts, which shares their values.
-pub(crate) fn copied<'a>(alloc: Global, parts: &'a [Part<'_>]) -> Result<Vec<Part<'a>>, AllocError>
+pub(crate) fn copied<'a>(
+    alloc: Global,
+    parts: &'a [HoistedTerm<'_>],
+) -> Result<Vec<HoistedTerm<'a>>, AllocError>
     ensures { IfOk result (λ v. v.items ≡ parts.now) }
 {
     let mut copies = Vec::with_capacity(alloc, parts.len())?;

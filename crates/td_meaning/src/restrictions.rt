@@ -6,13 +6,13 @@ ghost use Rattle.td_meaning.specs.ForProofs.Checks.{AreChecks, all_hold, check_h
 ghost use Rattle.td_meaning.specs.Mean as spec;
 ghost use Rattle.td_meaning.specs.Mean.{truth_at};
 ghost use Rattle.td_typed_trees.specs.declared.tree.Typed.{Typed};
-ghost use Rattle.td_meaning.specs.Seen.{mean_in, visible};
+ghost use Rattle.td_meaning.specs.Seen.{mean_in, names_bound};
 
 use crate::closed::Terms;
 use crate::conditions::{Check, checks_of, compared};
 use crate::evaluator::Evaluator;
 use crate::keyed::found_by_key;
-use crate::scope::Scope;
+use crate::scope::Bindings;
 use crate::wanting::Wanted;
 use std::marker::PhantomData;
 use td_algebra::{Fault, restrict};
@@ -24,18 +24,18 @@ use td_values::{Tuple, Value};
 impl<W: Wanted> Evaluator<'_, W> {
     #[cycle(evaluation)]
     #[tactic(auto, unfolding(crate::specs::ForProofs::Checks::check_holds))]
-    fn holds_at(&self, check: &Check<'_>, t: &Tuple, scope: &Scope) -> Result<bool, Fault<W>>
-        ensures { Answers result (check_holds (mean_in self.now.env.now) (visible scope.now) t.now check.now) }
+    fn holds_at(&self, check: &Check<'_>, t: &Tuple, scope: &Bindings) -> Result<bool, Fault<W>>
+        ensures { Answers result (check_holds (mean_in self.now.env.now) (names_bound scope.now) t.now check.now) }
     {
         match check {
             Check::Comparison(operator, a, b) => compared(self.alloc, *operator, a, b, t),
-            Check::Other(tree) => self.truth(*tree, &Scope::Within(t, &*scope)),
+            Check::Other(tree) => self.truth(*tree, &Bindings::Within(t, &*scope)),
         }
     }
 
     #[cycle(evaluation)]
-    fn all_hold(&self, checks: &[Check<'_>], t: &Tuple, scope: &Scope) -> Result<bool, Fault<W>>
-        ensures { Answers result (all_hold (mean_in self.now.env.now) (visible scope.now) t.now checks.now) }
+    fn all_hold(&self, checks: &[Check<'_>], t: &Tuple, scope: &Bindings) -> Result<bool, Fault<W>>
+        ensures { Answers result (all_hold (mean_in self.now.env.now) (names_bound scope.now) t.now checks.now) }
     {
         for check in checks {
             if !self.holds_at(check, t, scope)? {
@@ -50,23 +50,23 @@ impl<W: Wanted> Evaluator<'_, W> {
         &self,
         ts: &Relation,
         checks: &[Check<'_>],
-        scope: &Scope,
+        scope: &Bindings,
     ) -> Result<Relation, Fault<W>>
-        ensures { (c : Typed) → AreChecks (mean_in self.now.env.now) (visible scope.now) ts.now.heading c checks.now → Answers result (functions.restricted (truth_at (mean_in self.now.env.now c) (visible scope.now)) ts.now) }
+        ensures { (c : Typed) → AreChecks (mean_in self.now.env.now) (names_bound scope.now) ts.now.heading c checks.now → Answers result (functions.restricted (truth_at (mean_in self.now.env.now c) (names_bound scope.now)) ts.now) }
     {
         ts.rows_fit();
         restrict(
             self.alloc,
             ts,
             |t: &Tuple| -> Result<bool, Fault<W>>
-                ensures { Answers result (all_hold (mean_in self.entry.now.env.now) (visible scope.entry.now) t.now checks.entry.now) }
+                ensures { Answers result (all_hold (mean_in self.entry.now.env.now) (names_bound scope.entry.now) t.now checks.entry.now) }
             { self.all_hold(checks, t, scope) },
         )
     }
 
     #[cycle(evaluation)]
-    fn restricted(&self, ts: &Lease<'_>, c: &Typed, scope: &Scope) -> Result<Relation, Fault<W>>
-        ensures { Answers result (functions.restricted (truth_at (mean_in self.now.env.now c.now) (visible scope.now)) ts.now) }
+    fn restricted(&self, ts: &Lease<'_>, c: &Typed, scope: &Bindings) -> Result<Relation, Fault<W>>
+        ensures { Answers result (functions.restricted (truth_at (mean_in self.now.env.now c.now) (names_bound scope.now)) ts.now) }
     {
         let checks = checks_of(&*self, &*scope, ts.get().heading(), &*c)?;
         match found_by_key(self.alloc, &*ts, checks.as_slice())? {
@@ -80,9 +80,9 @@ impl<W: Wanted> Evaluator<'_, W> {
         &self,
         ts: &Lease<'_>,
         c: &Typed,
-        scope: &Scope,
+        scope: &Bindings,
     ) -> Result<Relation, Fault<W>>
-        ensures { Answers result (functions.restricted (truth_at (mean_in self.now.env.now c.now) (visible scope.now)) ts.now) }
+        ensures { Answers result (functions.restricted (truth_at (mean_in self.now.env.now c.now) (names_bound scope.now)) ts.now) }
     {
         match self.prepared(Terms::Condition(c), ts.get().len())? {
             Some(parts) => {
@@ -100,8 +100,13 @@ impl<W: Wanted> Evaluator<'_, W> {
 
     #[cycle(evaluation)]
     #[tactic(auto, unfolding(crate::specs::Mean::mean_where))]
-    pub(crate) fn restriction(&self, r: &Typed, c: &Typed, scope: &Scope) -> Result<Value, Fault<W>>
-        ensures { Answers result (spec.mean_where (mean_in self.now.env.now r.now) (mean_in self.now.env.now c.now) (visible scope.now)) }
+    pub(crate) fn restriction(
+        &self,
+        r: &Typed,
+        c: &Typed,
+        scope: &Bindings,
+    ) -> Result<Value, Fault<W>>
+        ensures { Answers result (spec.mean_where (mean_in self.now.env.now r.now) (mean_in self.now.env.now c.now) (names_bound scope.now)) }
     {
         let ts = self.rows(r, &*scope)?;
         Ok(relation_value(self.restricted_by(&ts, c, scope)?))

@@ -5,7 +5,7 @@ ghost use Rattle.std.specs.Option.{option_copied};
 ghost use Rattle.td_operators.specs.ForProofs.Lent.{operand_value};
 ghost use Rattle.td_meaning.specs.ForProofs.Standing.{meant_value};
 ghost use Rattle.td_meaning.specs.ForProofs.Latest.{latest};
-ghost use Rattle.td_meaning.specs.Seen.{held_value, visible};
+ghost use Rattle.td_meaning.specs.Seen.{held_value, names_bound};
 ghost use Rattle.td_meaning.specs.Selections.{components};
 
 use std::alloc::{AllocError, Global};
@@ -16,71 +16,74 @@ use td_values::{Kind, Name, Tuple, Value, copy};
 
 /// The value of a name of WITH. A relation is held as operators take it, so that it can be lent.
 #[derive(Drop)]
-pub enum Held {
+pub enum KnownValue {
     Rows(Relation),
     Other(Value),
 }
 
 /// The names in scope, the innermost first.
 #[derive(Clone, Copy)]
-pub enum Scope<'a> {
+pub enum Bindings<'a> {
     Nothing,
     /// The attributes of a tuple.
-    Within(&'a Tuple, &'a Scope<'a>),
+    Within(&'a Tuple, &'a Bindings<'a>),
     /// Names of WITH, of which a later one hides an earlier one.
-    Given(&'a [Named<Held>], &'a Scope<'a>),
+    Given(&'a [Named<KnownValue>], &'a Bindings<'a>),
     /// The components of a possrep: their names, and as many values.
     Components(&'a [Name], &'a [Value]),
 }
 
 /// What a name stands for, where it stands.
 #[derive(Clone, Copy)]
-pub enum Meant<'a> {
+pub enum Binding<'a> {
     Value(&'a Value),
     Rows(&'a Relation),
 }
 
 /// The value, held as a name of WITH.
-pub(crate) fn hold(value: Value) -> Held
+pub(crate) fn hold(value: Value) -> KnownValue
     ensures { held_value result ≡ value }
 {
     match value.kind {
-        Kind::Relation(rows) => Held::Rows(Relation::of(rows)),
-        kind => Held::Other(Value { kind }),
+        Kind::Relation(rows) => KnownValue::Rows(Relation::of(rows)),
+        kind => KnownValue::Other(Value { kind }),
     }
 }
 
 /// What a name stands for, as an operand. A relation-valued attribute is copied: it is no `Relation` where it stands.
-pub(crate) fn operand_meant<'a>(alloc: Global, meant: Meant<'a>) -> Result<Operand<'a>, AllocError>
+pub(crate) fn operand_meant<'a>(
+    alloc: Global,
+    meant: Binding<'a>,
+) -> Result<Operand<'a>, AllocError>
     ensures { IfOk result (λ o. operand_value o ≡ meant_value meant.entry) }
 {
     match meant {
-        Meant::Value(value) => Ok(Operand::Made(copy(alloc, value)?)),
-        Meant::Rows(relation) => Ok(Operand::Lent(Lease::lent(relation))),
+        Binding::Value(value) => Ok(Operand::Made(copy(alloc, value)?)),
+        Binding::Rows(relation) => Ok(Operand::Lent(Lease::lent(relation))),
     }
 }
 
 /// What a name stands for, copied.
-pub(crate) fn value_meant(alloc: Global, meant: Meant<'_>) -> Result<Value, AllocError>
+pub(crate) fn value_meant(alloc: Global, meant: Binding<'_>) -> Result<Value, AllocError>
     ensures { IfOk result (λ v. v ≡ meant_value meant.entry) }
 {
     match meant {
-        Meant::Value(value) => copy(alloc, value),
-        Meant::Rows(relation) => Ok(relation_value(relation.copy(alloc)?)),
+        Binding::Value(value) => copy(alloc, value),
+        Binding::Rows(relation) => Ok(relation_value(relation.copy(alloc)?)),
     }
 }
 
-pub(crate) fn lent(held: &Held) -> Meant<'_>
+pub(crate) fn lent(held: &KnownValue) -> Binding<'_>
     ensures { meant_value result ≡ held_value held.now }
 {
     match held {
-        Held::Rows(relation) => Meant::Rows(relation),
-        Held::Other(value) => Meant::Value(value),
+        KnownValue::Rows(relation) => Binding::Rows(relation),
+        KnownValue::Other(value) => Binding::Value(value),
     }
 }
 
 // What stands at the last of these that has the name.
-fn latest<'a>(names: &'a [Named<Held>], name: &Name) -> Option<&'a Held>
+fn latest<'a>(names: &'a [Named<KnownValue>], name: &Name) -> Option<&'a KnownValue>
     ensures { option_copied result ≡ latest names.now name.now None }
 {
     let mut found = None;
@@ -104,24 +107,24 @@ fn component<'a>(names: &[Name], values: &'a [Value], name: &Name) -> Option<&'a
     None
 }
 
-impl Scope<'_> {
+impl Bindings<'_> {
     /// What the name stands for: the innermost names are looked at first. It takes as many look-ups as scopes are
     /// around, and as many steps as WITH has names and a possrep components.
-    pub(crate) fn find(&self, name: &Name) -> Option<Meant<'_>>
-        ensures { MatchOption result (visible self.now name.now ≡ None) (λ m. visible self.now name.now ≡ Some (meant_value m)) }
+    pub(crate) fn find(&self, name: &Name) -> Option<Binding<'_>>
+        ensures { MatchOption result (names_bound self.now name.now ≡ None) (λ m. names_bound self.now name.now ≡ Some (meant_value m)) }
     {
         match self {
-            Scope::Nothing => None,
-            Scope::Within(tuple, outer) => match tuple.get(name) {
-                Some(value) => Some(Meant::Value(value)),
+            Bindings::Nothing => None,
+            Bindings::Within(tuple, outer) => match tuple.get(name) {
+                Some(value) => Some(Binding::Value(value)),
                 None => outer.find(name),
             },
-            Scope::Given(names, outer) => match latest(names, name) {
+            Bindings::Given(names, outer) => match latest(names, name) {
                 Some(held) => Some(lent(held)),
                 None => outer.find(name),
             },
-            Scope::Components(names, values) => match component(names, values, name) {
-                Some(value) => Some(Meant::Value(value)),
+            Bindings::Components(names, values) => match component(names, values, name) {
+                Some(value) => Some(Binding::Value(value)),
                 None => None,
             },
         }

@@ -5,13 +5,13 @@ ghost use Rattle.td_algebra.specs.Raising.{Answers};
 ghost use Rattle.td_meaning.specs.ForProofs.Found.{IsFound, IsNowhere};
 ghost use Rattle.td_meaning.specs.ForProofs.Over.{list_meant};
 ghost use Rattle.td_meaning.specs.Mean as spec;
-ghost use Rattle.td_meaning.specs.Seen.{mean_in, visible};
+ghost use Rattle.td_meaning.specs.Seen.{mean_in, names_bound};
 ghost use Rattle.td_meaning.specs.Selections as selections;
 ghost use Rattle.td_values.specs.Data.{items_of, user};
 
 use crate::environment::Environment;
 use crate::evaluator::Evaluator;
-use crate::scope::Scope;
+use crate::scope::Bindings;
 use crate::wanting::Wanted;
 use sqlite_items::Boxed;
 use std::alloc::{AllocError, Global};
@@ -53,9 +53,9 @@ impl<W: Wanted> Evaluator<'_, W> {
         &self,
         earlier: &[Selector],
         limit: &Option<Shared<Typed>>,
-        scope: &Scope,
+        scope: &Bindings,
     ) -> Result<bool, Fault<W>>
-        ensures { Answers result (selections.admits (selections.selection earlier.now) limit.now (visible scope.now)) }
+        ensures { Answers result (selections.admits (selections.selection earlier.now) limit.now (names_bound scope.now)) }
     {
         match limit {
             None => Ok(true),
@@ -80,7 +80,7 @@ impl<W: Wanted> Evaluator<'_, W> {
     ) -> Result<Value, Fault<W>>
         ensures { Answers result (selections.selected (selections.selection earlier.now) selector.now values.items) }
     {
-        let scope = Scope::Components(selector.components.as_slice(), values.as_slice());
+        let scope = Bindings::Components(selector.components.as_slice(), values.as_slice());
         if self.admits(earlier, &selector.limit, &scope)? {
             Ok(user_value(self.alloc, selector, values)?)
         } else {
@@ -94,9 +94,9 @@ impl<W: Wanted> Evaluator<'_, W> {
         &self,
         place: usize,
         trees: &[Boxed<Typed>],
-        scope: &Scope,
+        scope: &Bindings,
     ) -> Result<Value, Fault<W>>
-        ensures { Answers result (spec.mean_select (selections.selection self.now.env.now.selectors.now) place (list_meant (mean_in self.now.env.now) trees.now) (visible scope.now)) }
+        ensures { Answers result (spec.mean_select (selections.selection self.now.env.now.selectors.now) place (list_meant (mean_in self.now.env.now) trees.now) (names_bound scope.now)) }
     {
         let found = self.values(trees, scope)?;
         match selector_at(self.env.selectors, place) {

@@ -7,14 +7,14 @@ ghost use Rattle.td_algebra.specs.Summaries.{OfTerm, summary_over};
 ghost use Rattle.td_meaning.specs.ForProofs.Checks.{IsSide};
 ghost use Rattle.td_meaning.specs.ForProofs.Over as over;
 ghost use Rattle.td_meaning.specs.ForProofs.Over.{terms};
-ghost use Rattle.td_meaning.specs.Seen.{mean_in, visible};
+ghost use Rattle.td_meaning.specs.Seen.{mean_in, names_bound};
 ghost use Rattle.td_tuples.specs.Parts.{Fits};
 ghost use Rattle.td_values.specs.Headings.{Header};
 
 use crate::closed::Terms;
 use crate::conditions::{Side, side_at, side_of_summary};
 use crate::evaluator::Evaluator;
-use crate::scope::Scope;
+use crate::scope::Bindings;
 use crate::wanting::Wanted;
 use sqlite_items::Boxed;
 use std::marker::PhantomData;
@@ -34,13 +34,13 @@ impl<W: Wanted> Evaluator<'_, W> {
         side: &Option<Side>,
         term: &Typed,
         t: &Tuple,
-        scope: &Scope,
+        scope: &Bindings,
     ) -> Result<Value, Fault<W>>
-        ensures { (h : Header) → Fits h t.now → IfSome side.now (IsSide (mean_in self.now.env.now) (visible scope.now) h term.now) → Answers result (terms (mean_in self.now.env.now) (visible scope.now) term.now t.now) }
+        ensures { (h : Header) → Fits h t.now → IfSome side.now (IsSide (mean_in self.now.env.now) (names_bound scope.now) h term.now) → Answers result (terms (mean_in self.now.env.now) (names_bound scope.now) term.now t.now) }
     {
         match side {
             Some(side) => side_at(self.alloc, side, t),
-            None => self.evaluate(term, &Scope::Within(t, &*scope)),
+            None => self.evaluate(term, &Bindings::Within(t, &*scope)),
         }
     }
 
@@ -50,10 +50,10 @@ impl<W: Wanted> Evaluator<'_, W> {
         side: &Option<Side>,
         ts: &Relation,
         summary: &Summary<Boxed<Typed>>,
-        scope: &Scope,
+        scope: &Bindings,
     ) -> Result<Value, Fault<W>>
-        requires { IfSome side.now (λ s. OfTerm (λ a. IsSide (mean_in self.now.env.now) (visible scope.now) ts.now.heading a s) summary.now) }
-        ensures { Answers result (summary_over (terms (mean_in self.now.env.now) (visible scope.now)) ts.now.tuples summary.now) }
+        requires { IfSome side.now (λ s. OfTerm (λ a. IsSide (mean_in self.now.env.now) (names_bound scope.now) ts.now.heading a s) summary.now) }
+        ensures { Answers result (summary_over (terms (mean_in self.now.env.now) (names_bound scope.now)) ts.now.tuples summary.now) }
     {
         ts.rows_fit();
         aggregate(
@@ -61,7 +61,7 @@ impl<W: Wanted> Evaluator<'_, W> {
             ts,
             summary,
             &|e: &Boxed<Typed>, t: &Tuple| -> Result<Value, Fault<W>>
-                ensures { (h : Header) → Fits h t.now → IfSome side.entry.now (IsSide (mean_in self.entry.now.env.now) (visible scope.entry.now) h e.now) → Answers result (terms (mean_in self.entry.now.env.now) (visible scope.entry.now) e.now t.now) }
+                ensures { (h : Header) → Fits h t.now → IfSome side.entry.now (IsSide (mean_in self.entry.now.env.now) (names_bound scope.entry.now) h e.now) → Answers result (terms (mean_in self.entry.now.env.now) (names_bound scope.entry.now) e.now t.now) }
             { self.at_tuple(side, e.get(), t, scope) },
         )
     }
@@ -71,9 +71,9 @@ impl<W: Wanted> Evaluator<'_, W> {
         &self,
         ts: &Relation,
         summary: &Summary<Boxed<Typed>>,
-        scope: &Scope,
+        scope: &Bindings,
     ) -> Result<Value, Fault<W>>
-        ensures { Answers result (summary_over (terms (mean_in self.now.env.now) (visible scope.now)) ts.now.tuples summary.now) }
+        ensures { Answers result (summary_over (terms (mean_in self.now.env.now) (names_bound scope.now)) ts.now.tuples summary.now) }
     {
         let side = side_of_summary(&*self, &*scope, ts.heading(), summary)?;
         self.aggregated_at(&side, ts, summary, scope)
@@ -84,9 +84,9 @@ impl<W: Wanted> Evaluator<'_, W> {
         &self,
         ts: &Relation,
         summary: &Summary<Boxed<Typed>>,
-        scope: &Scope,
+        scope: &Bindings,
     ) -> Result<Value, Fault<W>>
-        ensures { Answers result (summary_over (terms (mean_in self.now.env.now) (visible scope.now)) ts.now.tuples summary.now) }
+        ensures { Answers result (summary_over (terms (mean_in self.now.env.now) (names_bound scope.now)) ts.now.tuples summary.now) }
     {
         match self.prepared(Terms::Summary(summary), ts.len())? {
             Some(parts) => {
@@ -108,9 +108,9 @@ impl<W: Wanted> Evaluator<'_, W> {
         &self,
         r: &Typed,
         summary: &Summary<Boxed<Typed>>,
-        scope: &Scope,
+        scope: &Bindings,
     ) -> Result<Value, Fault<W>>
-        ensures { Answers result (over.over_aggregate (mean_in self.now.env.now) r.now summary.now (visible scope.now)) }
+        ensures { Answers result (over.over_aggregate (mean_in self.now.env.now) r.now summary.now (names_bound scope.now)) }
     {
         let ts = self.rows(r, &*scope)?;
         self.aggregated_by(ts.get(), summary, scope)
@@ -123,9 +123,9 @@ impl<W: Wanted> Evaluator<'_, W> {
         ts: &Relation,
         us: &Relation,
         items: &[Item<Summary<Boxed<Typed>>>],
-        scope: &Scope,
+        scope: &Bindings,
     ) -> Result<Relation, Fault<W>>
-        ensures { Answers result (functions.summarized (terms (mean_in self.now.env.now) (visible scope.now)) items.now ts.now us.now) }
+        ensures { Answers result (functions.summarized (terms (mean_in self.now.env.now) (names_bound scope.now)) items.now ts.now us.now) }
     {
         summarize(
             self.alloc,
@@ -133,8 +133,8 @@ impl<W: Wanted> Evaluator<'_, W> {
             us,
             items,
             &|e: &Boxed<Typed>, t: &Tuple| -> Result<Value, Fault<W>>
-                ensures { Answers result (terms (mean_in self.entry.now.env.now) (visible scope.entry.now) e.now t.now) }
-            { self.evaluate(e.get(), &Scope::Within(t, &*scope)) },
+                ensures { Answers result (terms (mean_in self.entry.now.env.now) (names_bound scope.entry.now) e.now t.now) }
+            { self.evaluate(e.get(), &Bindings::Within(t, &*scope)) },
         )
     }
 
@@ -146,9 +146,9 @@ impl<W: Wanted> Evaluator<'_, W> {
         ts: &Relation,
         names: &[Name],
         items: &[Item<Summary<Boxed<Typed>>>],
-        scope: &Scope,
+        scope: &Bindings,
     ) -> Result<Relation, Fault<W>>
-        ensures { Answers result (functions.summarized (terms (mean_in self.now.env.now) (visible scope.now)) items.now ts.now (functions.project_of names.now ts.now)) }
+        ensures { Answers result (functions.summarized (terms (mean_in self.now.env.now) (names_bound scope.now)) items.now ts.now (functions.project_of names.now ts.now)) }
     {
         summarize_by(
             self.alloc,
@@ -156,8 +156,8 @@ impl<W: Wanted> Evaluator<'_, W> {
             names,
             items,
             &|e: &Boxed<Typed>, t: &Tuple| -> Result<Value, Fault<W>>
-                ensures { Answers result (terms (mean_in self.entry.now.env.now) (visible scope.entry.now) e.now t.now) }
-            { self.evaluate(e.get(), &Scope::Within(t, &*scope)) },
+                ensures { Answers result (terms (mean_in self.entry.now.env.now) (names_bound scope.entry.now) e.now t.now) }
+            { self.evaluate(e.get(), &Bindings::Within(t, &*scope)) },
         )
     }
 
@@ -168,9 +168,9 @@ impl<W: Wanted> Evaluator<'_, W> {
         ts: &Relation,
         groups: &TypedGroups<Boxed<Typed>>,
         items: &[Item<Summary<Boxed<Typed>>>],
-        scope: &Scope,
+        scope: &Bindings,
     ) -> Result<Relation, Fault<W>>
-        ensures { Answers result (over.summarized_over (mean_in self.now.env.now) groups.now items.now (visible scope.now) ts.now) }
+        ensures { Answers result (over.summarized_over (mean_in self.now.env.now) groups.now items.now (names_bound scope.now) ts.now) }
     {
         match groups {
             TypedGroups::Whole => {
@@ -193,9 +193,9 @@ impl<W: Wanted> Evaluator<'_, W> {
         ts: &Relation,
         groups: &TypedGroups<Boxed<Typed>>,
         items: &[Item<Summary<Boxed<Typed>>>],
-        scope: &Scope,
+        scope: &Bindings,
     ) -> Result<Relation, Fault<W>>
-        ensures { Answers result (over.summarized_over (mean_in self.now.env.now) groups.now items.now (visible scope.now) ts.now) }
+        ensures { Answers result (over.summarized_over (mean_in self.now.env.now) groups.now items.now (names_bound scope.now) ts.now) }
     {
         match self.prepared(Terms::Summaries(items), ts.len())? {
             Some(parts) => {
@@ -218,9 +218,9 @@ impl<W: Wanted> Evaluator<'_, W> {
         r: &Typed,
         by: &TypedGroups<Boxed<Typed>>,
         items: &[Item<Summary<Boxed<Typed>>>],
-        scope: &Scope,
+        scope: &Bindings,
     ) -> Result<Value, Fault<W>>
-        ensures { Answers result (over.over_summarize (mean_in self.now.env.now) r.now by.now items.now (visible scope.now)) }
+        ensures { Answers result (over.over_summarize (mean_in self.now.env.now) r.now by.now items.now (names_bound scope.now)) }
     {
         let ts = self.rows(r, &*scope)?;
         Ok(relation_value(self.summarized_by(ts.get(), by, items, scope)?))

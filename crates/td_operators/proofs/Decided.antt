@@ -15,7 +15,7 @@ use Rattle.td_values.proofs.TupleLemmas.{header_back}
 use Rattle.td_values.proofs.Walks.{is_tied}
 use Rattle.td_tuples.specs.Parts.{Fits}
 use Rattle.td_algebra.specs.Closures.{IsBinary}
-use Rattle.td_operators.specs.Operators.{is_pair, same, same_heading, fits}
+use Rattle.td_operators.specs.Operators.{is_pair, are_equal, are_equal_headings, fits}
 
 -- a test of whether two are the same is what their order says
 module _ {X : Type 0} (cmp : X → X → Ordering) (tie : (x y : X) → cmp x y ≡ Equal → x ≡ y) (self : (x : X) → cmp x x ≡ Equal) where
@@ -25,7 +25,7 @@ module _ {X : Type 0} (cmp : X → X → Ordering) (tie : (x y : X) → cmp x y 
   by_order x y Less false e test = refl
   by_order x y Greater false e test = refl
 
-pub same_tested : (d e : Datum) (b : Bool) → IsTrue b ↔ (d ≡ e) → b ≡ same d e
+pub same_tested : (d e : Datum) (b : Bool) → IsTrue b ↔ (d ≡ e) → b ≡ are_equal d e
 same_tested d e b test = by_order order tied (tied_itself order_total) d e (order d e) b refl test
 
 pub fits_tested : (h : Header) (t : Attrs) (b : Bool) → IsTrue b ↔ Fits h t → b ≡ fits h t
@@ -34,7 +34,7 @@ fits_tested h t b test = by_order fields_order fields_tied fields_tie_themselves
 same_header : (g h : Header) → header_fields g ≡ header_fields h → g ≡ h
 same_header g h e = sym (header_back g) ∙ ap header_of e ∙ header_back h
 
-pub heading_tested : (g h : Header) (b : Bool) → IsTrue b ↔ (g ≡ h) → b ≡ same_heading g h
+pub heading_tested : (g h : Header) (b : Bool) → IsTrue b ↔ (g ≡ h) → b ≡ are_equal_headings g h
 heading_tested g h b test = by_order fields_order fields_tied fields_tie_themselves (header_fields g) (header_fields h) _ b refl (
   λ t. ap header_fields (test.0 t),
   λ e. test.1 (same_header g h e),
@@ -52,10 +52,10 @@ no_pair_by f g Greater e none = refl
 no_pair : (h : Header) (fs : List (List ℕ × Ty)) → by_name.entries h ≡ fs → (IsBinary h → false ≡ true) → false ≡ is_pair fs
 no_pair h [] are none = refl
 no_pair h (f ∷ []) are none = refl
-no_pair h (f ∷ g ∷ []) are none = no_pair_by f g (ty_order f.1 g.1) refl (λ same. none (record {
+no_pair h (f ∷ g ∷ []) are none = no_pair_by f g (ty_order f.1 g.1) refl (λ are_equal. none (record {
   first = f.0;
   second = g.0;
-  columns = record { ty = f.1; are = are ∙ (λ i. f ∷ (g.0, sym same i) ∷ []) };
+  columns = record { ty = f.1; are = are ∙ (λ i. f ∷ (g.0, sym are_equal i) ∷ []) };
 }))
 no_pair h (f ∷ g ∷ k ∷ fs) are none = refl
 

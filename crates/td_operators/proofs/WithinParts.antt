@@ -27,7 +27,7 @@ use Rattle.td_algebra.proofs.Made.{has_fits, has_in, in_has}
 use Rattle.td_algebra.proofs.PlacedParts.{itself, same_key}
 use Rattle.td_operators.specs.ForProofs.Kinds.{is_scalar}
 use Rattle.td_operators.specs.ForProofs.Within.{within_part}
-use Rattle.td_operators.specs.Operators.{as_value, at_most, if_alike, is_subset, of_alike, part_at, same_heading}
+use Rattle.td_operators.specs.Operators.{as_value, at_most, if_alike, is_subset, of_alike, part_at, are_equal_headings}
 use Rattle.td_operators.specs.Values.{both, rows_of}
 use Rattle.td_operators.proofs.KindLemmas.{at_most_other, rows_back}
 
@@ -93,16 +93,16 @@ module _ (names : List (List ℕ)) (r s : RowsData) (rows : AreRows r.heading r.
   one_others : (n : RowsData) → ◌≡◌ {A = Result RowsData Stop} (Ok (not_matching_of r s)) (Ok n) → not_matching_of r s ≡ n
   one_others n is = cc
 
-  pub within_told : (n : RowsData) (b : Bool) → same_heading r.heading (columns_in names s.heading) ≡ true → ◌≡◌ {A = Result RowsData Stop} (Ok (not_matching_of r s)) (Ok n) → b ≡ (length n.tuples == 0) → if_alike r part (boolean (is_subset r part)) ≡ Ok (boolean b)
+  pub within_told : (n : RowsData) (b : Bool) → are_equal_headings r.heading (columns_in names s.heading) ≡ true → ◌≡◌ {A = Result RowsData Stop} (Ok (not_matching_of r s)) (Ok n) → b ≡ (length n.tuples == 0) → if_alike r part (boolean (is_subset r part)) ≡ Ok (boolean b)
   within_told n b alike others none =
       let answer = boolean (is_subset r part) in
-      ap (λ h. if same_heading r.heading h then Ok answer else Err Untyped) (project_is names s).heading
+      ap (λ h. if are_equal_headings r.heading h then Ok answer else Err Untyped) (project_is names s).heading
       ∙ ap (λ c. if c then Ok answer else Err Untyped) alike
       ∙ ap (λ c. Ok (boolean c)) (subset_matches ∙ ap (λ (m : RowsData). length m.tuples == 0) (one_others n others) ∙ sym none)
 
-pub unlike_told : (names : List (List ℕ)) (r s : RowsData) (d : Datum) → same_heading r.heading (columns_in names s.heading) ≡ false → if_alike r (project_of names s) d ≡ Err Untyped
+pub unlike_told : (names : List (List ℕ)) (r s : RowsData) (d : Datum) → are_equal_headings r.heading (columns_in names s.heading) ≡ false → if_alike r (project_of names s) d ≡ Err Untyped
 unlike_told names r s d unlike =
-    ap (λ h. if same_heading r.heading h then Ok d else Err Untyped) (project_is names s).heading
+    ap (λ h. if are_equal_headings r.heading h then Ok d else Err Untyped) (project_is names s).heading
     ∙ ap (λ c. if c then Ok d else Err Untyped) unlike
 
 -- ---- of what is neither an integer, nor a text, nor a tuple

@@ -121,12 +121,12 @@ calculated binary.Divide m n = quotient m n
 calculated o m n = Err Untyped
 
 -- they are one heading
-abbrev pub same_heading : Header → Header → Bool
-same_heading g h = is_eq (fields_order (header_fields g) (header_fields h))
+abbrev pub are_equal_headings : Header → Header → Bool
+are_equal_headings g h = is_eq (fields_order (header_fields g) (header_fields h))
 
 -- what is made of two relations of one heading
 abbrev pub if_alike : {A : Type 0} → RowsData → RowsData → A → Result A Stop
-if_alike r s a = if same_heading r.heading s.heading then Ok a else Err Untyped
+if_alike r s a = if are_equal_headings r.heading s.heading then Ok a else Err Untyped
 
 -- of two relations
 abbrev pub related : BinaryOperator → RowsData → RowsData → Result RowsData Stop
@@ -151,8 +151,8 @@ of_relations o d e = and_then (both (rows_of d) (rows_of e)) (λ p. and_then (re
 unfoldable pub concatenated : Datum → Datum → Result Datum Stop
 concatenated d e = and_then (both (text_of d) (text_of e)) (λ p. Ok (char (p.0 ++ p.1)))
 
-abbrev pub same : Datum → Datum → Bool
-same d e = is_eq (order d e)
+abbrev pub are_equal : Datum → Datum → Bool
+are_equal d e = is_eq (order d e)
 
 -- the tuple is one of the relation's
 unfoldable pub member : Datum → Datum → Result Datum Stop
@@ -184,8 +184,8 @@ abbrev pub operate : BinaryOperator → Datum → Datum → Result Datum Stop
 operate binary.Or d e = of_truths binary.Or d e
 operate binary.Xor d e = of_truths binary.Xor d e
 operate binary.And d e = of_truths binary.And d e
-operate binary.Equals d e = Ok (boolean (same d e))
-operate binary.Differs d e = Ok (boolean (not (same d e)))
+operate binary.Equals d e = Ok (boolean (are_equal d e))
+operate binary.Differs d e = Ok (boolean (not (are_equal d e)))
 operate binary.Less d e = less d e
 operate binary.Greater d e = less e d
 operate binary.AtMost d e = at_most d e

@@ -15,7 +15,7 @@ use td_syntax::tree::BinaryOperator;
 use td_values::{Kind, Value, copy, equal};
 
 fn same(u: &Value, v: &Value) -> bool
-    ensures { result ≡ spec.same u.now v.now }
+    ensures { result ≡ spec.are_equal u.now v.now }
 {
     equal(u, v)
 }

@@ -23,7 +23,7 @@ use td_tuples::columns_in;
 use td_values::{Heading, Kind, Name, Value, equal_headings};
 
 fn are_one(g: &Heading, h: &Heading) -> bool
-    ensures test { result ≡ spec.same_heading g.now h.now }
+    ensures test { result ≡ spec.are_equal_headings g.now h.now }
     ensures same { IsTrue result → g.now ≡ h.now }
 {
     equal_headings(g, h)
@@ -36,7 +36,7 @@ fn is_of_part(
     names: &[Name],
     whole: &Heading,
 ) -> Result<bool, AllocError>
-    ensures test { IfOk result (λ b. b ≡ spec.same_heading heading.now (columns_in names.now whole.now)) }
+    ensures test { IfOk result (λ b. b ≡ spec.are_equal_headings heading.now (columns_in names.now whole.now)) }
     ensures same { IfOk result (λ b. IsTrue b → heading.now ≡ columns_in names.now whole.now) }
 {
     let columns = columns_in(alloc, names, whole)?;

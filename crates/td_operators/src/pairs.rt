@@ -174,7 +174,7 @@ fn are_same(u: &Operand<'_>, v: &Operand<'_>) -> bool
 }
 
 fn same(u: &Operand<'_>, v: &Operand<'_>) -> bool
-    ensures { result ≡ spec.same (operand_value u.now) (operand_value v.now) }
+    ensures { result ≡ spec.are_equal (operand_value u.now) (operand_value v.now) }
 {
     are_same(u, v)
 }
@@ -182,7 +182,7 @@ fn same(u: &Operand<'_>, v: &Operand<'_>) -> bool
 // ---- relations
 
 fn have_one_heading(r: &Relation, s: &Relation) -> bool
-    ensures test { result ≡ spec.same_heading r.now.heading s.now.heading }
+    ensures test { result ≡ spec.are_equal_headings r.now.heading s.now.heading }
     ensures same { IsTrue result ↔ (r.now.heading ≡ s.now.heading) }
 {
     r.same_heading(s)

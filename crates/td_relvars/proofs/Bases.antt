@@ -15,7 +15,7 @@ use Rattle.td_semantics.specs.Databases.{stored_relvars}
 use Rattle.td_relvars.specs.Changed.{change}
 use Rattle.td_relvars.specs.Keys.{key_at}
 use Rattle.td_relvars.specs.ForProofs.Kept.{AreFirst, copies_of, keys_of, rows_copied, rows_of}
-use Rattle.td_relvars.specs.Parts.{part_at}
+use Rattle.td_relvars.specs.Parts.{copy_at}
 use Rattle.td_relvars.proofs.Places.{set_changed, stands}
 
 abbrev row : BaseData → RowsData
@@ -112,7 +112,7 @@ flat None b e = cc
 flat (Some x) b e = ap Some e
 
 -- ---- the copy of a place
-pub copied_row : (ps : List (ℕ × BaseData)) (n : ℕ) → part_at (copies_of ps) n ≡ option_map (λ (p : ℕ × BaseData). p.1.rows) (find (λ (p : ℕ × BaseData). p.0 == n) ps)
+pub copied_row : (ps : List (ℕ × BaseData)) (n : ℕ) → copy_at (copies_of ps) n ≡ option_map (λ (p : ℕ × BaseData). p.1.rows) (find (λ (p : ℕ × BaseData). p.0 == n) ps)
 copied_row [] n = refl
 copied_row (p ∷ ps) n = elim (p.0 == n) as (λ b. option_map (λ (q : ℕ × RowsData). q.1) (cond b (Some (rows_copied p)) (find (λ (q : ℕ × RowsData). q.0 == n) (copies_of ps))) ≡ option_map (λ (q : ℕ × BaseData). q.1.rows) (cond b (Some p) (find (λ (q : ℕ × BaseData). q.0 == n) ps))) [
   | true ↦ refl

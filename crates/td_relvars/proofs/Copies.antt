@@ -7,7 +7,7 @@ use Rattle.std.proofs.lemmas.List.Elements.{All-cons, All-nil}
 use Rattle.td_values.specs.Rows.{RowsData}
 use Rattle.td_headings.specs.Catalogues.{CatalogueData}
 use Rattle.td_headings.specs.Reached.{is_base}
-use Rattle.td_semantics.specs.Databases.{Belongs, DatabaseData, IsDatabase, Stored, at_place, put, stored_at, stored_relvars}
+use Rattle.td_semantics.specs.Databases.{Belongs, DatabaseData, IsDatabase, Stored, at_place, with_relation, stored_at, stored_relvars}
 use Rattle.td_relvars.specs.Laws.{PartBelongs, PutBackRestores}
 use Rattle.td_relvars.specs.Parts.{copy_of, part_of, put_part}
 use Rattle.td_relvars.proofs.Kept.{base_has, belongs}
@@ -64,17 +64,17 @@ module _
       (cases_eq n m)
 
   module _ (r : RowsData) (e : option_flatten (slice_get s n) ≡ Some r) where
-    there : slice_get (put n r t) n ≡ Some (Some r)
+    there : slice_get (with_relation n r t) n ≡ Some (Some r)
     there = let lt = some_within s n r e in put_there n r t (omega (arith, lt, each))
 
-    put_same : SameElsewhere s (put n r t) ns
+    put_same : SameElsewhere s (with_relation n r t) ns
     put_same m never = ⊎_elim
-        (λ here. subst (λ k. stored_relvars s k ≡ stored_relvars (put n r t) k) here
+        (λ here. subst (λ k. stored_relvars s k ≡ stored_relvars (with_relation n r t) k) here
         (looked_up (slice_get s n) r e ∙ sym (ap at_place there)))
         (λ apart. same m (there_cases n m ns apart never) ∙ sym (ap at_place (put_other n m r t apart)))
         (cases_eq n m)
 
-    put_none : NothingElse s (put n r t)
+    put_none : NothingElse s (with_relation n r t)
     put_none m k = ⊎_elim
         (λ here. let no : Some r ≡ None = sym e ∙ ap (λ z. option_flatten (slice_get s z)) here ∙ k in cc)
         (λ apart. ap option_flatten (put_other n m r t apart) ∙ none m k)
@@ -90,7 +90,7 @@ one_more :
 one_more s t n ns each none same rest None e = rest t each none (passed s t n ns each none same e)
 one_more s t n ns each none same rest (Some r) e =
     let length_is = each ∙ sym (put_length n r t) in
-    rest (put n r t) length_is (put_none s t n ns each none same r e) (put_same s t n ns each none same r e)
+    rest (with_relation n r t) length_is (put_none s t n ns each none same r e) (put_same s t n ns each none same r e)
 
 -- stores of one length that have something at the same places
 pub restored : (s t : Stored) (ns : List ℕ) → Restored s t ns

@@ -25,7 +25,7 @@ use Rattle.td_semantics.specs.Raises.{Tells, stop_of}
 use Rattle.td_semantics.specs.Trees.{IsIn, places_from, tree_means}
 use Rattle.td_semantics.specs.declared.failure.Failure.{Failure}
 use Rattle.td_semantics.specs.declared.failure.Failure.TheVariants as failure
-use Rattle.td_semantics.specs.Databases.{Belongs, DatabaseData, Stored, put, stored_relvars}
+use Rattle.td_semantics.specs.Databases.{Belongs, DatabaseData, Stored, with_relation, stored_relvars}
 use Rattle.td_semantics.specs.Openings.{with_init, opened, opening}
 use Rattle.td_relvars.specs.ForProofs.Opened.{Fills, Leaves, TellsInit}
 
@@ -91,13 +91,13 @@ module _ (c : CatalogueData) (stored : Stored) (n : ℕ) where
   pub without : (o : Option (Typed × Header)) → o ≡ None → with_init c stored n o ≡ Ok stored
   without o e = ap (with_init c stored n) e
 
-  pub with_value : (o : Option (Typed × Header)) (r : RowsData) → TellsInit c stored o (Ok r) → with_init c stored n o ≡ Ok (put n r stored)
+  pub with_value : (o : Option (Typed × Header)) (r : RowsData) → TellsInit c stored o (Ok r) → with_init c stored n o ≡ Ok (with_relation n r stored)
   with_value None r h = absurd h
-  with_value (Some v) r h = ap (λ m. and_then m (λ q. Ok (put n q stored))) h
+  with_value (Some v) r h = ap (λ m. and_then m (λ q. Ok (with_relation n q stored))) h
 
   pub raises : (o : Option (Typed × Header)) (f : Failure) (new : Stored) → TellsInit c stored o (Err f) → Leaves (Err f) new (with_init c stored n o)
   raises None f new h = absurd h
-  raises (Some v) (failure.Raised e) new h = ap (λ m. and_then m (λ q. Ok (put n q stored))) h
+  raises (Some v) (failure.Raised e) new h = ap (λ m. and_then m (λ q. Ok (with_relation n q stored))) h
   raises (Some v) failure.OutOfMemory new h = tt
 
 -- ---- one after the other

@@ -17,7 +17,7 @@ use Rattle.td_semantics.specs.Trees.{AreBases}
 use Rattle.td_relvars.specs.Changed.{change, changed, undone}
 use Rattle.td_relvars.specs.Keys.{key_at}
 use Rattle.td_relvars.specs.ForProofs.Kept.{copied_keys, copies_of}
-use Rattle.td_relvars.specs.Parts.{AreCopies, Copies, FitsPart, change_part, changed_if, copy_of, or_there, over, part_at, part_of, undone_part}
+use Rattle.td_relvars.specs.Parts.{AreCopies, Copies, FitsPart, change_part, changed_if, copy_of, or_there, with_copies, copy_at, part_of, undone_part}
 use Rattle.td_relvars.proofs.Kept.{belongs}
 use Rattle.td_relvars.proofs.Places.{change_other, change_there, ok_same}
 use Rattle.td_relvars.proofs.Stores.{bases, looked_up}
@@ -53,13 +53,13 @@ module _ (p : ℕ × RowsData) (ps : Copies) (n : ℕ) where
   abbrev at_first : Bool → Option RowsData
   at_first b = option_map (λ (q : ℕ × RowsData). q.1) (if b then Some p else find (λ (q : ℕ × RowsData). q.0 == n) ps)
 
-  is_first : p.0 ≡ n → part_at (p ∷ ps) n ≡ Some p.1
+  is_first : p.0 ≡ n → copy_at (p ∷ ps) n ≡ Some p.1
   is_first same = ap at_first (eq-eqb p.0 n same)
 
-  is_later : (p.0 ≡ n → ⊥) → part_at (p ∷ ps) n ≡ part_at ps n
+  is_later : (p.0 ≡ n → ⊥) → copy_at (p ∷ ps) n ≡ copy_at ps n
   is_later apart = ap at_first (ne_eqb p.0 n apart)
 
-pub part_has : (ps : Copies) (n : ℕ) (r : RowsData) → part_at ps n ≡ Some r → Contains ps (n, r)
+pub part_has : (ps : Copies) (n : ℕ) (r : RowsData) → copy_at ps n ≡ Some r → Contains ps (n, r)
 part_has [] n r h = cc
 part_has (p ∷ ps) n r h = ⊎_elim
     (λ same.
@@ -68,7 +68,7 @@ part_has (p ∷ ps) n r h = ⊎_elim
     (λ apart. rest_in p (n, r) ps (part_has ps n r (sym (is_later p ps n apart) ∙ h)))
     (cases_eq p.0 n)
 
-pub has_none : (ps : Copies) (n : ℕ) (r : RowsData) → part_at ps n ≡ None → Contains ps (n, r) → ⊥
+pub has_none : (ps : Copies) (n : ℕ) (r : RowsData) → copy_at ps n ≡ None → Contains ps (n, r) → ⊥
 has_none [] n r h there = none_in (n, r) there
 has_none (p ∷ ps) n r h there = ⊎_elim
     (λ same. let no : Some p.1 ≡ None = sym (is_first p ps n same) ∙ h in cc)
@@ -197,10 +197,10 @@ module _ (d : DatabaseData) (is : IsDatabase d) (ps : Copies) (all : All (λ (p 
   own : (n : ℕ) (r : RowsData) → Contains ps (n, r) → Belongs d.catalogue n r
   own n r h = subst (λ (p : ℕ × RowsData). Belongs d.catalogue p.0 p.1) h.2 (all h.0 (n, r) h.1)
 
-  pub bases_over : AreBases d.catalogue (over ps (stored_relvars d.stored))
-  bases_over n v base there = by (part_at ps n) refl
+  pub bases_over : AreBases d.catalogue (with_copies ps (stored_relvars d.stored))
+  bases_over n v base there = by (copy_at ps n) refl
     where
-      by : (o : Option RowsData) → part_at ps n ≡ o → GivesRelation d.catalogue.schema v.value (or_there o (stored_relvars d.stored n))
+      by : (o : Option RowsData) → copy_at ps n ≡ o → GivesRelation d.catalogue.schema v.value (or_there o (stored_relvars d.stored n))
       by (Some r) h =
           let b = own n r (part_has ps n r h) in
           subst (λ (w : Named Header). IsRelationOver d.catalogue.schema w.value r) (some_same b.relvar v (sym b.there ∙ there)) b.relation

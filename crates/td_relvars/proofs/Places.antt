@@ -4,7 +4,7 @@ use Rattle.std.specs.Prelude.{slice_set}
 use Rattle.td_values.specs.Rows.{RowsData}
 use Rattle.td_relations.specs.Deltas.{DeltaData}
 use Rattle.td_algebra.specs.declared.errors.Stop.{Stop}
-use Rattle.td_semantics.specs.Databases.{Stored, at_place, put, stored_relvars}
+use Rattle.td_semantics.specs.Databases.{Stored, at_place, with_relation, stored_relvars}
 use Rattle.td_relvars.specs.Changed.{change, changed, changed_at}
 use Rattle.td_relvars.proofs.Stores.{put_set}
 
@@ -63,7 +63,7 @@ put_changed (Some q) xs r d h = ap (λ z. Some (changed z d) ∷ xs) (ok_same q 
 
 pub change_put :
     (n : ℕ) (d : DeltaData) (xs : Stored) (r : RowsData) → stored_relvars xs n ≡ Ok r
-    → change n d xs ≡ put n (changed r d) xs
+    → change n d xs ≡ with_relation n (changed r d) xs
 change_put n d [] r h = nowhere r h
 change_put zero d (x ∷ xs) r h = put_changed x xs r d h
 change_put (suc n) d (x ∷ xs) r h = ap (λ ys. x ∷ ys) (change_put n d xs r h)
@@ -80,5 +80,5 @@ stands (suc n) (y ∷ ys) x q r at is has = stands n ys x q r at is has
 pub set_changed :
     {E : Type 0} (a : Result (Unit {0}) E) (n : ℕ) (xs : Stored) (r new : RowsData) (d : DeltaData)
     → stored_relvars xs n ≡ Ok r → OnOk a (new ≡ changed r d) → OnOk a (slice_set xs n (Some new) ≡ change n d xs)
-set_changed (Ok u) n xs r new d has is = put_set n new xs ∙ ap (λ q. put n q xs) is ∙ sym (change_put n d xs r has)
+set_changed (Ok u) n xs r new d has is = put_set n new xs ∙ ap (λ q. with_relation n q xs) is ∙ sym (change_put n d xs r has)
 set_changed (Err e) n xs r new d has is = tt

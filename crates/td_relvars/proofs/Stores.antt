@@ -28,7 +28,7 @@ use Rattle.td_semantics.specs.Trees.{AreBases}
 use Rattle.td_semantics.specs.Stored.{AreStored}
 use Rattle.td_eval.specs.Keyed.{AreByKeys, IsByKey}
 use Rattle.td_integrity.proofs.Judged.{are_bases}
-use Rattle.td_semantics.specs.Databases.{Stored, DatabaseData, IsDatabase, Belongs, at_place, put, stored_relvars}
+use Rattle.td_semantics.specs.Databases.{Stored, DatabaseData, IsDatabase, Belongs, at_place, with_relation, stored_relvars}
 use Rattle.td_semantics.specs.Openings.{all_empty}
 use Rattle.td_relvars.specs.ForProofs.Empty.{empty_in}
 
@@ -38,22 +38,22 @@ base_within [] n h = cc
 base_within (o ∷ os) zero h = omega arith
 base_within (o ∷ os) (suc n) h = let lt = base_within os n h in omega (arith, lt)
 
-pub put_set : (n : ℕ) (r : RowsData) (xs : Stored) → slice_set xs n (Some r) ≡ put n r xs
+pub put_set : (n : ℕ) (r : RowsData) (xs : Stored) → slice_set xs n (Some r) ≡ with_relation n r xs
 put_set n r [] = refl
 put_set zero r (x ∷ xs) = refl
 put_set (suc n) r (x ∷ xs) = ap (λ ys. x ∷ ys) (put_set n r xs)
 
-pub put_length : (n : ℕ) (r : RowsData) (xs : Stored) → length (put n r xs) ≡ length xs
+pub put_length : (n : ℕ) (r : RowsData) (xs : Stored) → length (with_relation n r xs) ≡ length xs
 put_length n r [] = refl
 put_length zero r (x ∷ xs) = refl
 put_length (suc n) r (x ∷ xs) = ap suc (put_length n r xs)
 
-pub put_there : (n : ℕ) (r : RowsData) (xs : Stored) → n < length xs → slice_get (put n r xs) n ≡ Some (Some r)
+pub put_there : (n : ℕ) (r : RowsData) (xs : Stored) → n < length xs → slice_get (with_relation n r xs) n ≡ Some (Some r)
 put_there n r [] lt = absurd (omega arith)
 put_there zero r (x ∷ xs) lt = refl
 put_there (suc n) r (x ∷ xs) lt = put_there n r xs (omega arith)
 
-pub put_other : (n m : ℕ) (r : RowsData) (xs : Stored) → (n ≡ m → ⊥) → slice_get (put n r xs) m ≡ slice_get xs m
+pub put_other : (n m : ℕ) (r : RowsData) (xs : Stored) → (n ≡ m → ⊥) → slice_get (with_relation n r xs) m ≡ slice_get xs m
 put_other n m r [] apart = refl
 put_other zero zero r (x ∷ xs) apart = absurd (apart refl)
 put_other zero (suc m) r (x ∷ xs) apart = refl
@@ -69,15 +69,15 @@ module _ (c : CatalogueData) (stored : Stored) (is : IsDatabase (record { catalo
   here v at = subst (λ (w : Named Header). IsRelationOver c.schema w.value r) (some_same b.relvar v (sym b.there ∙ at)) b.relation
 
   abbrev HasOne : ℕ → Named Header → Type 0
-  HasOne m v = (q : RowsData) × (stored_relvars (put n r stored) m ≡ Ok q) × IsRelationOver c.schema v.value q
+  HasOne m v = (q : RowsData) × (stored_relvars (with_relation n r stored) m ≡ Ok q) × IsRelationOver c.schema v.value q
 
-  all_have : AreStored c (stored_relvars (put n r stored))
+  all_have : AreStored c (stored_relvars (with_relation n r stored))
   all_have m v base at = ⊎_elim
       (λ same. subst (λ k. HasOne k v) same (r, ap at_place (put_there n r stored place_within), here v (subst (λ k. slice_get c.schema.relvars k ≡ Some v) (sym same) at)))
       (λ apart. let k = is.stored m v base at in (k.0, ap at_place (put_other n m r stored apart) ∙ k.1, k.2))
       (cases_eq n m)
 
-  pub put_is : IsDatabase (record { catalogue = c; stored = put n r stored })
+  pub put_is : IsDatabase (record { catalogue = c; stored = with_relation n r stored })
   put_is = record {
     defined = is.defined;
     each = put_length n r stored ∙ is.each;

@@ -8,5 +8,5 @@ use Rattle.td_semantics.specs.Trees.{tree_means}
 use Rattle.td_semantics.specs.declared.answer.Answer.{Answer}
 
 -- what the expression means over these relvars
-abbrev pub Says : CatalogueData → Relvars → Expression → Answer Datum → Type 0
-Says c relvars x r = SaysValue r (tree_means c relvars x.tree no_attrs)
+abbrev pub EvaluatesTo : CatalogueData → Relvars → Expression → Answer Datum → Type 0
+EvaluatesTo c relvars x r = SaysValue r (tree_means c relvars x.tree no_attrs)

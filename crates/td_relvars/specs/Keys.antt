@@ -16,12 +16,12 @@ abbrev pub first_key : CatalogueData → ℕ → Option (List (List ℕ))
 first_key c n = first_of (slice_get c.origins n)
 
 -- its names; none where there is no key
-abbrev pub names_of : Option (List (List ℕ)) → List (List ℕ)
-names_of None = []
-names_of (Some k) = k
+abbrev pub names_of_key : Option (List (List ℕ)) → List (List ℕ)
+names_of_key None = []
+names_of_key (Some k) = k
 
 abbrev pub key_at : CatalogueData → ℕ → List (List ℕ)
-key_at c n = names_of (first_key c n)
+key_at c n = names_of_key (first_key c n)
 
 -- the first key of the relvar of a name; none where there is no such relvar
 abbrev pub key_under : CatalogueData → Option (ℕ × Named Header) → List (List ℕ)

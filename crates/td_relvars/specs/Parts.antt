@@ -9,7 +9,7 @@ use Rattle.td_schema.specs.Schemas.{SchemaData, relvar_named}
 use Rattle.td_algebra.specs.declared.errors.Stop.{Stop}
 use Rattle.td_headings.specs.Catalogues.{CatalogueData}
 use Rattle.td_meaning.specs.Mean.{Relvars}
-use Rattle.td_semantics.specs.Databases.{Stored, put, stored_relvars}
+use Rattle.td_semantics.specs.Databases.{Stored, with_relation, stored_relvars}
 use Rattle.td_relvars.specs.Changed.{changed}
 use Rattle.td_relvars.specs.Keys.{key_at}
 
@@ -30,20 +30,20 @@ part_of stored ns = filter_map (λ n. copy_of n (option_flatten (slice_get store
 abbrev pub place_named : SchemaData → List ℕ → Option ℕ
 place_named s x = option_map (λ r. r.0) (relvar_named s x)
 
-abbrev pub places_of : SchemaData → List (List ℕ) → List ℕ
-places_of s xs = filter_map (place_named s) xs
+abbrev pub numbers_named : SchemaData → List (List ℕ) → List ℕ
+numbers_named s xs = filter_map (place_named s) xs
 
 -- what is copied of the relvar at the place: the first copy
-abbrev pub part_at : Copies → ℕ → Option RowsData
-part_at ps n = option_map (λ (p : ℕ × RowsData). p.1) (find (λ (p : ℕ × RowsData). p.0 == n) ps)
+abbrev pub copy_at : Copies → ℕ → Option RowsData
+copy_at ps n = option_map (λ (p : ℕ × RowsData). p.1) (find (λ (p : ℕ × RowsData). p.0 == n) ps)
 
 -- what relvars have, some of them by their copies
 abbrev pub or_there : Option RowsData → Result RowsData Stop → Result RowsData Stop
 or_there (Some r) there = Ok r
 or_there None there = there
 
-abbrev pub over : Copies → Relvars → Relvars
-over ps there n = or_there (part_at ps n) (there n)
+abbrev pub with_copies : Copies → Relvars → Relvars
+with_copies ps there n = or_there (copy_at ps n) (there n)
 
 -- the copies with the keys by which their tuples are kept
 pub record PartData : Type 0 where
@@ -80,7 +80,7 @@ FitPart ps ds = (d : ℕ × DeltaData) → Contains ds d → FitsPart ps d
 -- with what each of them had in place of what it has
 abbrev pub put_part : Copies → Stored → Stored
 put_part [] stored = stored
-put_part (p ∷ ps) stored = put_part ps (put p.0 p.1 stored)
+put_part (p ∷ ps) stored = put_part ps (with_relation p.0 p.1 stored)
 
 -- each copy is of what is stored
 abbrev pub AreCopies : Copies → Stored → Type 0

@@ -8,7 +8,7 @@ ghost use Rattle.td_relations.specs.Deltas.{inverse_of};
 ghost use Rattle.td_values.specs.Rows.{RowsData};
 ghost use Rattle.td_headings.specs.Definitions.{Defined};
 ghost use Rattle.td_semantics.specs.Databases as spec;
-ghost use Rattle.td_semantics.specs.Databases.{Belongs, IsDatabase, put, stored_relvars};
+ghost use Rattle.td_semantics.specs.Databases.{Belongs, IsDatabase, with_relation, stored_relvars};
 ghost use Rattle.td_bases.specs.Bases.{BaseData};
 ghost use Rattle.td_bases.specs.Ways.{LeadsBack};
 ghost use Rattle.td_relvars.specs.Changed as changes;
@@ -361,7 +361,7 @@ impl Database {
         requires belongs { Belongs self.old.catalogue relvar base.rows }
         requires key { base.key ≡ key_at self.old.catalogue relvar }
         ensures catalogue { self.new.catalogue ≡ self.old.catalogue }
-        ensures stored { self.new.stored ≡ put relvar base.rows self.old.stored }
+        ensures stored { self.new.stored ≡ with_relation relvar base.rows self.old.stored }
     {
         set_at(&mut self.stored, relvar, Some(base));
     }

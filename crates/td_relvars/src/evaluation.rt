@@ -5,9 +5,9 @@ ghost use Rattle.std.specs.List.{All};
 ghost use Rattle.td_values.specs.Rows.{RowsData};
 ghost use Rattle.td_semantics.specs.Databases.{Belongs, stored_relvars};
 ghost use Rattle.td_semantics.specs.Trees.{AreBases, IsIn};
-ghost use Rattle.td_relvars.specs.Evaluated.{Says};
+ghost use Rattle.td_relvars.specs.Evaluated.{EvaluatesTo};
 ghost use Rattle.td_relvars.specs.Keys as keys;
-ghost use Rattle.td_relvars.specs.Parts.{over};
+ghost use Rattle.td_relvars.specs.Parts.{with_copies};
 
 use crate::database::Database;
 use crate::parts::Part;
@@ -27,7 +27,7 @@ struct Past<'a> {
 }
 
 impl Lookup for Past<'_> {
-    ghost relvars = { λ p. over p.part.now.copies (stored_relvars p.database.now.stored) };
+    ghost relvars = { λ p. with_copies p.part.now.copies (stored_relvars p.database.now.stored) };
 
     ghost first_keys = { λ p. keys.first_key p.database.now.catalogue };
 
@@ -59,7 +59,7 @@ fn evaluated<L: Lookup>(
 ) -> Result<Answer, AllocError>
     requires expr { IsIn catalogue.now expr.now }
     requires bases { AreBases catalogue.now (L.relvars lookup.now) }
-    ensures { IfOk result (Says catalogue.now (L.relvars lookup.now) expr.now) }
+    ensures { IfOk result (EvaluatesTo catalogue.now (L.relvars lookup.now) expr.now) }
 {
     match value(alloc, catalogue, expr, lookup) {
         Ok(value) => Ok(Answer::Value(value)),
@@ -72,7 +72,7 @@ impl Database {
     /// What the expression means over the relvars, or the error that evaluating it raises.
     pub fn evaluate(&self, alloc: Global, expr: &TypedExpr) -> Result<Answer, AllocError>
         requires { IsIn self.now.catalogue expr.now }
-        ensures { IfOk result (Says self.now.catalogue (stored_relvars self.now.stored) expr.now) }
+        ensures { IfOk result (EvaluatesTo self.now.catalogue (stored_relvars self.now.stored) expr.now) }
     {
         evaluated(alloc, self.catalogue(), expr, self)
     }
@@ -87,7 +87,7 @@ pub fn value_over(
 ) -> Result<Answer, AllocError>
     requires expr { IsIn database.now.catalogue expr.now }
     requires part { All (λ (p : ℕ × RowsData). Belongs database.now.catalogue p.0 p.1) part.now.copies }
-    ensures { IfOk result (Says database.now.catalogue (over part.now.copies (stored_relvars database.now.stored)) expr.now) }
+    ensures { IfOk result (EvaluatesTo database.now.catalogue (with_copies part.now.copies (stored_relvars database.now.stored)) expr.now) }
 {
     let past = Past { database, part };
     evaluated(alloc, database.catalogue(), expr, &past)

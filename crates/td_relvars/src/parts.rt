@@ -10,7 +10,7 @@ ghost use Rattle.td_relvars.specs.Parts as spec;
 ghost use Rattle.td_bases.specs.Bases.{BaseData};
 ghost use Rattle.td_relvars.specs.ForProofs.Kept.{copied_keys, copies_of, rows_copied};
 ghost use Rattle.td_relvars.specs.Keys.{key_at};
-ghost use Rattle.td_relvars.specs.Parts.{AreTheirs, FitsPart, change_part, changed_if, part_at, part_of, put_part};
+ghost use Rattle.td_relvars.specs.Parts.{AreTheirs, FitsPart, change_part, changed_if, copy_at, part_of, put_part};
 
 use crate::database::Database;
 use std::alloc::{AllocError, Global};
@@ -81,7 +81,7 @@ fn change_back_copies(
 impl Part {
     /// What the base relvar at the place had, where it is copied. It takes no memory, and costs a look at each copy.
     pub fn base_at(&self, relvar: usize) -> Option<&Base>
-        ensures { option_map (λ (b : BaseData). b.rows) (option_copied result) ≡ part_at self.now.copies relvar }
+        ensures { option_map (λ (b : BaseData). b.rows) (option_copied result) ≡ copy_at self.now.copies relvar }
     {
         match copy_of_place(&self.bases, relvar) {
             Some(copy) => Some(&copy.1),
@@ -167,7 +167,7 @@ fn place_named(catalogue: &Catalogue, name: &Name) -> Option<usize>
 
 // Where the relvars of these names stand.
 fn places_of(alloc: Global, catalogue: &Catalogue, names: &[Name]) -> Result<Vec<usize>, AllocError>
-    ensures { IfOk result (λ v. v.items ≡ spec.places_of catalogue.now.schema names.now) }
+    ensures { IfOk result (λ v. v.items ≡ spec.numbers_named catalogue.now.schema names.now) }
 {
     let mut places = Vec::with_capacity(alloc, names.len())?;
     for name in names {
@@ -182,7 +182,7 @@ impl Database {
     /// Copies of what the base relvars of these names have, whose tuples are shared, with their tuples by the keys by
     /// which they are kept. A name of no base relvar is passed over, and one that comes twice is copied twice.
     pub fn copy_of(&self, alloc: Global, names: &[Name]) -> Result<Part, AllocError>
-        ensures copies { IfOk result (λ p. p.copies ≡ part_of self.now.stored (spec.places_of self.now.catalogue.schema names.now)) }
+        ensures copies { IfOk result (λ p. p.copies ≡ part_of self.now.stored (spec.numbers_named self.now.catalogue.schema names.now)) }
         ensures keys { IfOk result (AreTheirs self.now.catalogue) }
     {
         let places = places_of(alloc, self.catalogue(), names)?;

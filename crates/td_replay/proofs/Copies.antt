@@ -12,8 +12,8 @@ use Rattle.td_headings.specs.Reached.{ReadsRelvar}
 use Rattle.td_headings.proofs.ReadLemmas.{reads_those}
 use Rattle.td_headings.proofs.WellTyped.{all_typed}
 use Rattle.td_integrity.proofs.TreeReads.{trees_alike}
-use Rattle.td_relvars.specs.Evaluated.{Says}
-use Rattle.td_relvars.specs.Parts.{AreCopies, Copies, FitPart, or_there, over, part_at, part_of, undone_part}
+use Rattle.td_relvars.specs.Evaluated.{EvaluatesTo}
+use Rattle.td_relvars.specs.Parts.{AreCopies, Copies, FitPart, or_there, with_copies, copy_at, part_of, undone_part}
 use Rattle.td_relvars.proofs.Kept.{base_has}
 use Rattle.td_relvars.proofs.PartLemmas.{all_belong, are_copies, copies_undone, has_none, is_copied, part_has, still_there}
 use Rattle.td_relvars.proofs.Places.{ok_same}
@@ -104,16 +104,16 @@ module _ (d : DatabaseData) (is : IsDatabase d) (state : DatabaseData) (was : Is
   copies_belong = subst (λ (c : CatalogueData). All (λ (p : ℕ × RowsData). Belongs c p.0 p.1) copies) same (all_belong state was copies are)
 
   -- a relvar that has a copy, or needs none
-  pub sees : (n : ℕ) → (((r : RowsData) → Contains copies (n, r) → ⊥) → stored_relvars d.stored n ≡ stored_relvars state.stored n) → over copies (stored_relvars d.stored) n ≡ stored_relvars state.stored n
-  sees n otherwise = by (part_at copies n) refl
+  pub sees : (n : ℕ) → (((r : RowsData) → Contains copies (n, r) → ⊥) → stored_relvars d.stored n ≡ stored_relvars state.stored n) → with_copies copies (stored_relvars d.stored) n ≡ stored_relvars state.stored n
+  sees n otherwise = by (copy_at copies n) refl
     where
-      by : (o : Option RowsData) → part_at copies n ≡ o → or_there o (stored_relvars d.stored n) ≡ stored_relvars state.stored n
+      by : (o : Option RowsData) → copy_at copies n ≡ o → or_there o (stored_relvars d.stored n) ≡ stored_relvars state.stored n
       by (Some r) h = sym (are (n, r) (part_has copies n r h))
       by None h = otherwise (λ r there. has_none copies n r h there)
 
-  module _ (x : Expression) (t : IsTree d.catalogue no_tuple x.tree x.kind) (agree : (n : ℕ) → ReadsRelvar d.catalogue.origins x.tree n → over copies (stored_relvars d.stored) n ≡ stored_relvars state.stored n) where
-    pub means_over : tree_means d.catalogue (over copies (stored_relvars d.stored)) x.tree no_attrs ≡ tree_means d.catalogue (stored_relvars state.stored) x.tree no_attrs
-    means_over = trees_alike d.catalogue is.defined x.tree x.kind t (over copies (stored_relvars d.stored)) (stored_relvars state.stored) agree
+  module _ (x : Expression) (t : IsTree d.catalogue no_tuple x.tree x.kind) (agree : (n : ℕ) → ReadsRelvar d.catalogue.origins x.tree n → with_copies copies (stored_relvars d.stored) n ≡ stored_relvars state.stored n) where
+    pub means_over : tree_means d.catalogue (with_copies copies (stored_relvars d.stored)) x.tree no_attrs ≡ tree_means d.catalogue (stored_relvars state.stored) x.tree no_attrs
+    means_over = trees_alike d.catalogue is.defined x.tree x.kind t (with_copies copies (stored_relvars d.stored)) (stored_relvars state.stored) agree
 
 -- ---- the query
 module _ (c : CatalogueData) (text : List ℕ) (x : Expression) (t : Types c text x) where
@@ -128,7 +128,7 @@ pub one_catalogue : (script : List ℕ) (es fs : List Entry) (log others : Log) 
 one_catalogue script es fs log others d u l m = ap (λ (z : DatabaseData). z.catalogue) (one_opening script None None (opened_by u.catalogue) (opened_by d.catalogue) m.opens l.opens).0
 
 -- ---- what is told anew
-pub says_anew : {E : Type 0} (script : List ℕ) (es : List Entry) (kept : ℕ) (log : Log) (d : DatabaseData) → IsLogged script (take kept es) log d → (x : Expression) (r : Result (Answer Datum) E) → IfOk r (Says d.catalogue (stored_relvars d.stored) x) → IfOk r (SaysAfter script es kept x)
+pub says_anew : {E : Type 0} (script : List ℕ) (es : List Entry) (kept : ℕ) (log : Log) (d : DatabaseData) → IsLogged script (take kept es) log d → (x : Expression) (r : Result (Answer Datum) E) → IfOk r (EvaluatesTo d.catalogue (stored_relvars d.stored) x) → IfOk r (SaysAfter script es kept x)
 says_anew script es kept log d l x (Ok r) says = record { state = d; outcomes = outcomes_of log; story = logged_story script (take kept es) log d l; says = says }
 says_anew script es kept log d l x (Err e) says = tt
 
@@ -176,7 +176,7 @@ module _ (script : List ℕ) (es : List Entry) (log : Log) (d : DatabaseData) (l
         subst (λ (ns : List ℕ). Contains ns n) (sym read)
         (in_contains (filter (is_changed_in (drop kept log)) (reads x)) n (filter_in (is_changed_in (drop kept log)) (reads x) n (contains_in (reads x) n there) changed))
 
-    pub says_after : (x : Expression) (r : Answer Datum) → IsDatabase d → (text : List ℕ) (t : Types d.catalogue text x) → AreRead x → Says d.catalogue (over copies (stored_relvars d.stored)) x r → SaysAfter script es kept x r
+    pub says_after : (x : Expression) (r : Answer Datum) → IsDatabase d → (text : List ℕ) (t : Types d.catalogue text x) → AreRead x → EvaluatesTo d.catalogue (with_copies copies (stored_relvars d.stored)) x r → SaysAfter script es kept x r
     says_after x r is text t read says =
         let those = reads_those d.catalogue (all_typed d.catalogue is.defined) x t.types.under in
         let agree = λ (n : ℕ) (h : ReadsRelvar d.catalogue.origins x.tree n). sees d is at.state was_sound.0 was_of copies at.copied n
@@ -193,6 +193,6 @@ module _ (script : List ℕ) (es : List Entry) (log : Log) (d : DatabaseData) (l
           says = subst (SaysValue r) there says;
         }
 
-    pub says_back : {E : Type 0} (x : Expression) (r : Result (Answer Datum) E) → IsDatabase d → (text : List ℕ) (t : Types d.catalogue text x) → AreRead x → IfOk r (Says d.catalogue (over copies (stored_relvars d.stored)) x) → IfOk r (SaysAfter script es kept x)
+    pub says_back : {E : Type 0} (x : Expression) (r : Result (Answer Datum) E) → IsDatabase d → (text : List ℕ) (t : Types d.catalogue text x) → AreRead x → IfOk r (EvaluatesTo d.catalogue (with_copies copies (stored_relvars d.stored)) x) → IfOk r (SaysAfter script es kept x)
     says_back x (Ok r) is text t read says = says_after x r is text t read says
     says_back x (Err e) is text t read says = tt

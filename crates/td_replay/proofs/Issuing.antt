@@ -11,7 +11,7 @@ use Rattle.td_stamps.specs.Sets.{union}
 use Rattle.td_stamps.proofs.Next.{next_fits, union_last}
 use Rattle.td_semantics.specs.Databases.{DatabaseData}
 use Rattle.td_semantics.specs.Steps.{IsRead}
-use Rattle.td_replica.specs.Calls.{entry_of, numbered, written, Issues, IssuesEntry}
+use Rattle.td_replica.specs.Calls.{entry_of, numbered, latest_dialect, Issues, IssuesEntry}
 use Rattle.td_replay.specs.ForProofs.Judged.{IsRefusal}
 use Rattle.td_replay.specs.ForProofs.Told.{IsLogged, Log, Numbers, Outcomes, TellsOutcome, outcomes_of}
 use Rattle.td_replica.specs.Seen.{Seen, with_entries}
@@ -24,16 +24,16 @@ use Rattle.td_replay.proofs.Telling.{logged_more, logged_story, outcomes_more, s
 -- what is known where a text has a next entry
 pub record IsNext (s : Seen) (text : List ℕ) (e : Entry) : Type 0 where
   pub site : e.site ≡ s.site
-  pub dialect_is : e.dialect ≡ written
+  pub dialect_is : e.dialect ≡ latest_dialect
   pub text_is : e.text ≡ text
   pub numbers : next_of s.site s.entries ≡ Ok (e.seq, e.clock)
   pub room : length s.entries < s.limit
 
 roomy : (s : Seen) (text : List ℕ) (e : Entry) (n : ℕ × ℕ) (b : Bool) → next_of s.site s.entries ≡ Ok n → nat_lt (length s.entries) s.limit ≡ b
-    → ◌≡◌ {A = Result Entry IssueError} (cond b (Ok (record { site = s.site; seq = n.0; clock = n.1; dialect = written; text = text })) (Err issue_error.Full)) (Ok e) → IsNext s text e
+    → ◌≡◌ {A = Result Entry IssueError} (cond b (Ok (record { site = s.site; seq = n.0; clock = n.1; dialect = latest_dialect; text = text })) (Err issue_error.Full)) (Ok e) → IsNext s text e
 roomy s text e n false next test h = cc
 roomy s text e n true next test h =
-    let is : ◌≡◌ {A = Entry} (record { site = s.site; seq = n.0; clock = n.1; dialect = written; text = text }) e = cc in
+    let is : ◌≡◌ {A = Entry} (record { site = s.site; seq = n.0; clock = n.1; dialect = latest_dialect; text = text }) e = cc in
     subst (IsNext s text) is (record { site = refl; dialect_is = refl; text_is = refl; numbers = next; room = ltb-true _ _ test })
 
 by_numbers : (s : Seen) (text : List ℕ) (e : Entry) (o : Result (ℕ × ℕ) NextError) → next_of s.site s.entries ≡ o → numbered s text o ≡ Ok e → IsNext s text e
@@ -86,7 +86,7 @@ issues_refusal s after text os d issue_error.ClockEnd live st same h = absurd h
 issues_refusal s after text os d issue_error.Full live st same h = absurd h
 issues_refusal s after text os d issue_error.JournalWrite live st same h = absurd h
 
-pub issues_no_entry : (s : Seen) (text : List ℕ) (os : Outcomes) (d : DatabaseData) (error : IssueError) (x : TypedStatement) → s.live ≡ true → IsStory s.script s.entries os d → IsRead d.catalogue written text x → length text ≤ 8192 → Numbers s text (Err error) → Issues s text (Err error) s
+pub issues_no_entry : (s : Seen) (text : List ℕ) (os : Outcomes) (d : DatabaseData) (error : IssueError) (x : TypedStatement) → s.live ≡ true → IsStory s.script s.entries os d → IsRead d.catalogue latest_dialect text x → length text ≤ 8192 → Numbers s text (Err error) → Issues s text (Err error) s
 issues_no_entry s text os d issue_error.ClockEnd x live st read short h = ((live, refl), record { catalogue = d.catalogue; statement = x; defines = story_catalogue s.script s.entries os d st; read = read }, h)
 issues_no_entry s text os d issue_error.Full x live st read short h = ((live, refl), record { catalogue = d.catalogue; statement = x; defines = story_catalogue s.script s.entries os d st; read = read }, h)
 issues_no_entry s text os d issue_error.OutOfMemory x live st read short h = ((live, refl), short)

@@ -5,10 +5,10 @@ use Rattle.std.specs.Prelude.{IfOk, OnErr, OnOk}
 use Rattle.std.proofs.Common.{◌≡◌, ⊎_elim, ℕ, List, IfOk, Result, Ok, Err, ap, sym, ◌∙◌, subst}
 use Rattle.td_algebra.specs.declared.errors.Stop.{Stop}
 use Rattle.td_assign.specs.Laws.{GoesBothWays}
-use Rattle.td_assign.specs.Readings.{IsReading}
+use Rattle.td_assign.specs.Readings.{IsReadText}
 use Rattle.td_assign.specs.Redoing.{AreOnce, CanRedo, CanUndo, IsBetween}
 use Rattle.td_assign.specs.declared.ran.Ran.{Ran}
-use Rattle.td_assign.specs.declared.reading.Reading.{Reading}
+use Rattle.td_assign.specs.declared.reading.ReadText.{ReadText}
 use Rattle.td_assign.proofs.Leading.{differences_go_both_ways, only_listed_change}
 use Rattle.td_assign.proofs.Stepping.{changes_targets, step_keeps_database}
 use Rattle.td_headings.specs.Catalogues.{CatalogueData}
@@ -100,5 +100,5 @@ is_put_back s d u ns part there put good is same alike =
     ∙ put_back_restores s d ns good.0 there (ap (λ (z : DatabaseData). z.catalogue) same) (λ n never. (alike n never).1)
 
 -- ---- what is read of an entry
-pub read_so : {E : Type 0} (c k : CatalogueData) (dialect : ℕ) (text t : List ℕ) (m : Result Reading E) → k ≡ c → text ≡ t → IfOk m (IsReading k dialect text) → IfOk m (IsReading c dialect t)
-read_so c k dialect text t m same is h = subst (λ (z : CatalogueData). IfOk m (IsReading z dialect t)) same (subst (λ (x : List ℕ). IfOk m (IsReading k dialect x)) is h)
+pub read_so : {E : Type 0} (c k : CatalogueData) (dialect : ℕ) (text t : List ℕ) (m : Result ReadText E) → k ≡ c → text ≡ t → IfOk m (IsReadText k dialect text) → IfOk m (IsReadText c dialect t)
+read_so c k dialect text t m same is h = subst (λ (z : CatalogueData). IfOk m (IsReadText z dialect t)) same (subst (λ (x : List ℕ). IfOk m (IsReadText k dialect x)) is h)

@@ -2,7 +2,7 @@
 
 ghost use Rattle.std.specs.Prelude.{◌≡◌, ℕ, Option, OnOk};
 ghost use Rattle.td_rollback.specs.Labels.{IsCoarser, has_label};
-ghost use Rattle.td_assign.specs.Readings.{IsReading};
+ghost use Rattle.td_assign.specs.Readings.{IsReadText};
 ghost use Rattle.td_replay.specs.Noted.{AgreeAt, AreClosed, AreTargetsOf, IsClosedPart, IsFootprintOf, IsLegalDatabase, Notes, mix, opened_by};
 ghost use Rattle.td_relvars.specs.Parts.{AreTheirs, part_of};
 ghost use Rattle.td_semantics.specs.Databases.{IsDatabase};
@@ -12,7 +12,7 @@ ghost use Rattle.td_replay.specs.ForProofs.Mixing.{mixes};
 use std::alloc::{AllocError, Global};
 use std::marker::Model;
 use td_assign::names::test_reads;
-use td_assign::{Ran, Reading, read, redo, run, run_read, undo};
+use td_assign::{Ran, ReadText, read, redo, run, run_read, undo};
 use td_headings::Catalogue;
 use td_relvars::{Database, Part};
 use td_rollback::{Machine, tie};
@@ -81,7 +81,7 @@ impl Machine for Engine {
 
     type Part = Part;
 
-    type Reading = Reading;
+    type Reading = ReadText;
 
     type Meter = Meter;
 
@@ -97,7 +97,7 @@ impl Machine for Engine {
 
     ghost targets = { AreTargetsOf };
 
-    ghost is_read = { λ o e r. IsReading o.catalogue e.dialect e.text r };
+    ghost is_read = { λ o e r. IsReadText o.catalogue e.dialect e.text r };
 
     ghost footprint_in = { λ r. r.footprint.items };
 
@@ -116,7 +116,7 @@ impl Machine for Engine {
         run(alloc, &mut self.database, text, entry.dialect, meter)
     }
 
-    fn read(&self, alloc: Global, entry: &Entry) -> Result<Reading, AllocError> {
+    fn read(&self, alloc: Global, entry: &Entry) -> Result<ReadText, AllocError> {
         let text = entry.text.as_str();
         read(alloc, self.database.catalogue(), text, entry.dialect)
     }
@@ -124,7 +124,7 @@ impl Machine for Engine {
     fn run_read(
         &mut self,
         alloc: Global,
-        reading: &Reading,
+        reading: &ReadText,
         meter: &mut Meter,
     ) -> Result<Ran, AllocError> {
         run_read(alloc, &mut self.database, reading, meter)
@@ -138,7 +138,7 @@ impl Machine for Engine {
         redo(alloc, &mut self.database, &ran.delta)
     }
 
-    fn places_of(reading: &Reading) -> &[usize] {
+    fn places_of(reading: &ReadText) -> &[usize] {
         reading.footprint.as_slice()
     }
 

@@ -1,7 +1,7 @@
 //! Whether a text that is issued is a statement, well typed.
 
 ghost use Rattle.std.specs.Prelude.{◌≤◌, length};
-ghost use Rattle.td_replica.specs.Calls.{written};
+ghost use Rattle.td_replica.specs.Calls.{latest_dialect};
 ghost use Rattle.td_semantics.specs.Steps.{IsUnreadText};
 ghost use Rattle.td_replay.specs.ForProofs.Judged.{IsRefusal, Judges};
 
@@ -30,7 +30,7 @@ pub(crate) fn judge(alloc: Global, catalogue: &Catalogue, text: &str) -> Result<
 
 /// Why a text that is none is no statement of the catalogue.
 pub(crate) fn refusal(alloc: Global, catalogue: &Catalogue, text: &str) -> IssueError
-    requires unread { IsUnreadText catalogue.now written text.now }
+    requires unread { IsUnreadText catalogue.now latest_dialect text.now }
     requires short { length text.now ≤ 8192 }
     ensures { IsRefusal catalogue.now text.now result }
 {

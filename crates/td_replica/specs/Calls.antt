@@ -59,8 +59,8 @@ Closes s es after = (s.live ≡ true) × (after ≡ record { script = s.script; 
 -- ---- issue: the site's next entry, of a text that is a well-typed statement of its script
 
 -- it is written in the latest dialect
-abbrev pub written : ℕ
-written = grammar.latest
+abbrev pub latest_dialect : ℕ
+latest_dialect = grammar.latest
 
 -- the entry, where the site has room for it
 abbrev pub if_room : Seen → Entry → Result Entry IssueError
@@ -68,7 +68,7 @@ if_room s e = if nat_lt (length s.entries) s.limit then Ok e else Err issue_erro
 
 abbrev pub numbered : Seen → List ℕ → Result (ℕ × ℕ) NextError → Result Entry IssueError
 numbered s text (Err e) = Err issue_error.ClockEnd
-numbered s text (Ok n) = if_room s (record { site = s.site; seq = n.0; clock = n.1; dialect = written; text = text })
+numbered s text (Ok n) = if_room s (record { site = s.site; seq = n.0; clock = n.1; dialect = latest_dialect; text = text })
 
 abbrev pub entry_of : Seen → List ℕ → Result Entry IssueError
 entry_of s text = numbered s text (next_of s.site s.entries)
@@ -77,13 +77,13 @@ pub record IsStatementOf (script text : List ℕ) : Type 0 where
   pub catalogue : CatalogueData
   pub statement : TypedStatement
   pub defines : IsScriptOf script catalogue
-  pub read : IsRead catalogue written text statement
+  pub read : IsRead catalogue latest_dialect text statement
 
 pub record IsIllTypedStatement (script text : List ℕ) : Type 0 where
   pub catalogue : CatalogueData
   pub statement : Statement
   pub defines : IsScriptOf script catalogue
-  pub reads : grammar.IsStatementIn written text statement
+  pub reads : grammar.IsStatementIn latest_dialect text statement
   pub refused : (x : TypedStatement) → typed.TypesStatement catalogue statement x → ⊥
 
 -- it is told with its stamp and its outcome, which is the last of the story's
@@ -102,7 +102,7 @@ pub record IssuesEntry (s : Seen) (text : List ℕ) (i : Issued) (after : Seen) 
 abbrev pub Issues : Seen → List ℕ → Result Issued IssueError → Seen → Type 0
 Issues s text (Ok i) after = IssuesEntry s text i after
 Issues s text (Err issue_error.Broken) after = StaysClosed s after
-Issues s text (Err issue_error.Syntax) after = Stays s after × ((t : Statement) → grammar.IsStatementIn written text t → ⊥)
+Issues s text (Err issue_error.Syntax) after = Stays s after × ((t : Statement) → grammar.IsStatementIn latest_dialect text t → ⊥)
 Issues s text (Err issue_error.IllTyped) after = Stays s after × IsIllTypedStatement s.script text
 Issues s text (Err issue_error.ClockEnd) after = Stays s after × IsStatementOf s.script text × (entry_of s text ≡ Err issue_error.ClockEnd)
 Issues s text (Err issue_error.Full) after = Stays s after × IsStatementOf s.script text × (entry_of s text ≡ Err issue_error.Full)

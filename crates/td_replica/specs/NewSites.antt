@@ -7,8 +7,8 @@ use Rattle.td_replica.specs.declared.refusal.OpenError.{OpenError}
 use Rattle.td_semantics.specs.declared.error.ScriptError.TheVariants as script_error
 use Rattle.td_replica.specs.declared.refusal.OpenError.TheVariants.{BadSite, BadLimit, Syntax, IllTyped, OpeningRaised, OpeningBroken, OutOfMemory}
 
-abbrev pub opened : List ℕ → ℕ → ℕ → Seen
-opened script site limit = record { script = script; site = site; limit = limit; entries = []; live = true }
+abbrev pub newly_opened : List ℕ → ℕ → ℕ → Seen
+newly_opened script site limit = record { script = script; site = site; limit = limit; entries = []; live = true }
 
 -- the number and the limit are those of a site
 abbrev pub Fit : ℕ → ℕ → Type 0
@@ -16,7 +16,7 @@ Fit site limit = (site ≡ 0 → ⊥) × (is_limit limit ≡ true)
 
 -- a site, or why there is none
 abbrev pub OpensSite : List ℕ → ℕ → ℕ → Result Seen OpenError → Type 0
-OpensSite script site limit (Ok s) = Fit site limit × (d : DatabaseData) × scripts.OpensOn script None d × (s ≡ opened script site limit)
+OpensSite script site limit (Ok s) = Fit site limit × (d : DatabaseData) × scripts.OpensOn script None d × (s ≡ newly_opened script site limit)
 OpensSite script site limit (Err BadSite) = site ≡ 0
 OpensSite script site limit (Err BadLimit) = (site ≡ 0 → ⊥) × (is_limit limit ≡ false)
 OpensSite script site limit (Err Syntax) = Fit site limit × scripts.Opens script (Err script_error.Syntax)

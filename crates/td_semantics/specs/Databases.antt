@@ -39,10 +39,10 @@ abbrev pub stored_relvars : Stored → Relvars
 stored_relvars stored n = at_place (slice_get stored n)
 
 -- the relation at the place in place of the one there
-abbrev pub put : ℕ → RowsData → Stored → Stored
-put n r [] = []
-put zero r (x ∷ xs) = Some r ∷ xs
-put (suc n) r (x ∷ xs) = x ∷ put n r xs
+abbrev pub with_relation : ℕ → RowsData → Stored → Stored
+with_relation n r [] = []
+with_relation zero r (x ∷ xs) = Some r ∷ xs
+with_relation (suc n) r (x ∷ xs) = x ∷ with_relation n r xs
 
 -- what is stored of the relvar at a place, and of the relvar of a name
 abbrev pub stored_at : DatabaseData → ℕ → Option RowsData

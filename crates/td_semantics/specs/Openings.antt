@@ -16,7 +16,7 @@ use Rattle.td_headings.specs.declared.defined.Origin.{Origin}
 use Rattle.td_headings.specs.declared.defined.Origin.TheVariants as origin
 use Rattle.td_operators.specs.Values.{rows_of}
 use Rattle.td_semantics.specs.Trees.{places, tree_means}
-use Rattle.td_semantics.specs.Databases.{Stored, put, stored_relvars}
+use Rattle.td_semantics.specs.Databases.{Stored, with_relation, stored_relvars}
 
 -- a base relvar is empty at first; for a virtual one nothing is stored
 abbrev pub empty_at : Origin → Named Header → Option RowsData
@@ -35,7 +35,7 @@ relation_in c stored u = and_then (tree_means c (stored_relvars stored) u no_att
 -- are empty
 abbrev pub with_init : CatalogueData → Stored → ℕ → Option (Typed × Header) → Result Stored Stop
 with_init c stored n None = Ok stored
-with_init c stored n (Some v) = and_then (relation_in c stored v.0) (λ r. Ok (put n r stored))
+with_init c stored n (Some v) = and_then (relation_in c stored v.0) (λ r. Ok (with_relation n r stored))
 
 -- with those of the relvars at these places, one after the other; the first error stands
 abbrev pub opened : CatalogueData → List ℕ → Stored → Result Stored Stop

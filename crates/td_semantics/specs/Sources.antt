@@ -28,10 +28,10 @@ made_where xs ys b = Ok (if b then xs else ys)
 
 -- The assignments that a statement makes: of a conditional one, its condition over these relvars decides. It is
 -- evaluated before any source.
-abbrev pub chosen : CatalogueData → Relvars → TypedStatement → Result (List TypedAssignment) Stop
-chosen c relvars (typed.Assignment xs) = Ok xs
-chosen c relvars (typed.Conditional u xs ys) = and_then (and_then (tree_means c relvars u.tree no_attrs) truth_of) (made_where xs ys)
+abbrev pub chosen_assignments : CatalogueData → Relvars → TypedStatement → Result (List TypedAssignment) Stop
+chosen_assignments c relvars (typed.Assignment xs) = Ok xs
+chosen_assignments c relvars (typed.Conditional u xs ys) = and_then (and_then (tree_means c relvars u.tree no_attrs) truth_of) (made_where xs ys)
 
 -- what they give
 abbrev pub given_over : CatalogueData → Relvars → TypedStatement → Result Given Stop
-given_over c relvars x = and_then (chosen c relvars x) (sources c relvars nothing_given)
+given_over c relvars x = and_then (chosen_assignments c relvars x) (sources c relvars nothing_given)

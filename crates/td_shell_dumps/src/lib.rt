@@ -7,5 +7,5 @@ mod insertions;
 mod tables;
 mod trial;
 
-pub use tables::{Insertion, Tables, Untold, tables_of};
+pub use tables::{DumpStatement, Tables, Untold, tables_of};
 pub use trial::{Trial, refused_insertions};

@@ -12,7 +12,7 @@ const MOST_TUPLES: usize = 200;
 
 /// A statement that gives a base relvar some of its tuples, or all base relvars all of theirs.
 #[derive(Drop)]
-pub struct Insertion {
+pub struct DumpStatement {
     pub text: String,
     /// The relvar, where it is one alone.
     pub relvar: Option<Name>,
@@ -21,7 +21,7 @@ pub struct Insertion {
 /// What the base relvars of a site have, as statements.
 #[derive(Drop)]
 pub struct Tables {
-    pub insertions: Vec<Insertion>,
+    pub insertions: Vec<DumpStatement>,
     pub relvars: usize,
     pub tuples: usize,
 }
@@ -126,7 +126,7 @@ fn bytes_of(all: &[Actions]) -> usize {
 }
 
 // One statement of all actions: what the relvars have together breaks no constraint.
-fn together(alloc: Global, all: &[Actions]) -> Result<Insertion, AllocError> {
+fn together(alloc: Global, all: &[Actions]) -> Result<DumpStatement, AllocError> {
     let mut text = String::new(alloc);
     for actions in all {
         for action in &actions.texts {
@@ -137,15 +137,15 @@ fn together(alloc: Global, all: &[Actions]) -> Result<Insertion, AllocError> {
         }
     }
     text.push_str(";")?;
-    Ok(Insertion { text, relvar: None })
+    Ok(DumpStatement { text, relvar: None })
 }
 
 // A statement for each action.
-fn one_by_one(alloc: Global, all: &[Actions]) -> Result<Vec<Insertion>, AllocError> {
+fn one_by_one(alloc: Global, all: &[Actions]) -> Result<Vec<DumpStatement>, AllocError> {
     let mut insertions = Vec::new(alloc);
     for actions in all {
         for action in &actions.texts {
-            insertions.push(Insertion {
+            insertions.push(DumpStatement {
                 text: format!(in alloc; "{action};")?,
                 relvar: Some(actions.relvar.copy()?),
             })?;
@@ -154,7 +154,7 @@ fn one_by_one(alloc: Global, all: &[Actions]) -> Result<Vec<Insertion>, AllocErr
     Ok(insertions)
 }
 
-fn insertions_of(alloc: Global, all: &[Actions]) -> Result<Vec<Insertion>, AllocError> {
+fn insertions_of(alloc: Global, all: &[Actions]) -> Result<Vec<DumpStatement>, AllocError> {
     if all.iter().all(|actions| actions.texts.is_empty()) {
         return Ok(Vec::new(alloc));
     }

@@ -1,6 +1,6 @@
 //! Statements that are tried at a site that is made for it.
 
-use crate::tables::Insertion;
+use crate::tables::DumpStatement;
 use std::alloc::{AllocError, Global};
 use td_replica::{IssueError, Opens};
 use td_semantics::{Meter, Outcome};
@@ -21,7 +21,7 @@ pub struct Trial {
 fn push_refused(
     out: &mut String,
     number: usize,
-    insertion: &Insertion,
+    insertion: &DumpStatement,
     outcome: Option<&Outcome>,
 ) -> Result<(), AllocError> {
     let relvar = insertion
@@ -39,7 +39,7 @@ fn push_refused(
 fn try_all<O: Opens>(
     alloc: Global,
     site: &mut O,
-    insertions: &[Insertion],
+    insertions: &[DumpStatement],
     meter: &mut Meter,
 ) -> Result<Trial, AllocError> {
     let mut trial = Trial {
@@ -70,7 +70,7 @@ pub fn refused_insertions<O: Opens + Drop>(
     alloc: Global,
     script: &str,
     limit: usize,
-    insertions: &[Insertion],
+    insertions: &[DumpStatement],
     meter: &mut Meter,
 ) -> Result<Trial, AllocError> {
     match O::open_script(alloc, script, 1, limit) {

@@ -19,4 +19,4 @@ pub use error::{CellFault, ImportFault};
 pub use keys::check_keys;
 pub use literals::Literals;
 pub use rows::{Row, read_rows};
-pub use statements::{Insertion, MOST_TUPLES, insertion_of};
+pub use statements::{ImportStatement, MOST_TUPLES, insertion_of};

@@ -10,7 +10,7 @@ pub const MOST_TUPLES: usize = 200;
 
 /// A statement that inserts rows, and how many.
 #[derive(Drop)]
-pub struct Insertion {
+pub struct ImportStatement {
     pub text: String,
     pub count: usize,
 }
@@ -61,7 +61,7 @@ pub fn insertion_of(
     heading: &Heading,
     rows: &[Row],
     most_bytes: usize,
-) -> Result<Insertion, AllocError> {
+) -> Result<ImportStatement, AllocError> {
     let mut text = String::from_str(alloc, FRONT)?;
     text.push_str(relvar.as_str())?;
     text.push_str(OPENING)?;
@@ -78,5 +78,5 @@ pub fn insertion_of(
         count = count.saturating_add(1);
     }
     text.push_str(CLOSING)?;
-    Ok(Insertion { text, count })
+    Ok(ImportStatement { text, count })
 }

@@ -12,7 +12,7 @@ pub enum Mode {
 
 /// What a line with a dot in front says.
 #[derive(Clone, Copy, Debug, PartialEq, Eq)]
-pub enum Command<'a> {
+pub enum DotCommand<'a> {
     Help,
     Tables,
     /// The definition of a name, or all of them.
@@ -55,95 +55,95 @@ pub enum Command<'a> {
     Unknown(&'a str),
 }
 
-fn without_words<'a>(command: Command<'a>, rest: &str, usage: &'static str) -> Command<'a> {
+fn without_words<'a>(command: DotCommand<'a>, rest: &str, usage: &'static str) -> DotCommand<'a> {
     if rest.is_empty() {
         command
     } else {
-        Command::Misused(usage)
+        DotCommand::Misused(usage)
     }
 }
 
-fn schema_in(rest: &str) -> Command<'_> {
+fn schema_in(rest: &str) -> DotCommand<'_> {
     if rest.is_empty() {
-        return Command::Schema(None);
+        return DotCommand::Schema(None);
     }
     match rest.split_once(' ') {
-        None => Command::Schema(Some(rest)),
-        Some(_) => Command::Misused(".schema [NAME]"),
+        None => DotCommand::Schema(Some(rest)),
+        Some(_) => DotCommand::Misused(".schema [NAME]"),
     }
 }
 
 // The relvar is the last word, so that a file's name may have blanks.
-fn import_in(rest: &str) -> Command<'_> {
+fn import_in(rest: &str) -> DotCommand<'_> {
     match rest.rsplit_once(' ') {
-        Some((file, relvar)) => Command::Import {
+        Some((file, relvar)) => DotCommand::Import {
             file: file.trim_ascii(),
             relvar,
         },
-        None => Command::Misused(".import FILE RELVAR"),
+        None => DotCommand::Misused(".import FILE RELVAR"),
     }
 }
 
-fn mode_in(rest: &str) -> Command<'static> {
+fn mode_in(rest: &str) -> DotCommand<'static> {
     match rest {
-        "table" => Command::Mode(Mode::Table),
-        "csv" => Command::Mode(Mode::Csv),
-        "literal" => Command::Mode(Mode::Literal),
-        _ => Command::Misused(".mode table|csv|literal"),
+        "table" => DotCommand::Mode(Mode::Table),
+        "csv" => DotCommand::Mode(Mode::Csv),
+        "literal" => DotCommand::Mode(Mode::Literal),
+        _ => DotCommand::Misused(".mode table|csv|literal"),
     }
 }
 
-fn timer_in(rest: &str) -> Command<'static> {
+fn timer_in(rest: &str) -> DotCommand<'static> {
     match rest {
-        "on" => Command::Timer(true),
-        "off" => Command::Timer(false),
-        _ => Command::Misused(".timer on|off"),
+        "on" => DotCommand::Timer(true),
+        "off" => DotCommand::Timer(false),
+        _ => DotCommand::Misused(".timer on|off"),
     }
 }
 
-fn read_in(rest: &str) -> Command<'_> {
+fn read_in(rest: &str) -> DotCommand<'_> {
     match rest {
-        "" => Command::Misused(".read FILE"),
-        file => Command::Read(file),
+        "" => DotCommand::Misused(".read FILE"),
+        file => DotCommand::Read(file),
     }
 }
 
-fn dump_in(rest: &str) -> Command<'_> {
-    let misused = Command::Misused(".dump [--tables] FILE");
+fn dump_in(rest: &str) -> DotCommand<'_> {
+    let misused = DotCommand::Misused(".dump [--tables] FILE");
     let (word, file) = rest.split_once(' ').unwrap_or((rest, ""));
     match (word, file.trim_ascii()) {
         ("" | "--tables", "") => misused,
-        ("--tables", file) => Command::DumpTables(file),
-        _ => Command::Dump(rest),
+        ("--tables", file) => DotCommand::DumpTables(file),
+        _ => DotCommand::Dump(rest),
     }
 }
 
-fn export_in(rest: &str) -> Command<'_> {
+fn export_in(rest: &str) -> DotCommand<'_> {
     match rest {
-        "" => Command::Misused(".export FOLDER"),
-        folder => Command::Export(folder),
+        "" => DotCommand::Misused(".export FOLDER"),
+        folder => DotCommand::Export(folder),
     }
 }
 
-fn serve_in(rest: &str) -> Command<'_> {
+fn serve_in(rest: &str) -> DotCommand<'_> {
     match rest {
-        "" => Command::Misused(".serve ADDRESS"),
-        address => Command::Serve(address),
+        "" => DotCommand::Misused(".serve ADDRESS"),
+        address => DotCommand::Serve(address),
     }
 }
 
-fn call_in(rest: &str) -> Command<'_> {
+fn call_in(rest: &str) -> DotCommand<'_> {
     match rest {
-        "" => Command::Misused(".call ADDRESS"),
-        address => Command::Call(address),
+        "" => DotCommand::Misused(".call ADDRESS"),
+        address => DotCommand::Call(address),
     }
 }
 
-fn refused_in(rest: &str) -> Command<'static> {
+fn refused_in(rest: &str) -> DotCommand<'static> {
     match rest {
-        "" => Command::Refused { is_own: false },
-        "here" => Command::Refused { is_own: true },
-        _ => Command::Misused(".refused [here]"),
+        "" => DotCommand::Refused { is_own: false },
+        "here" => DotCommand::Refused { is_own: true },
+        _ => DotCommand::Misused(".refused [here]"),
     }
 }
 
@@ -155,10 +155,10 @@ fn is_plain_number(text: &str) -> bool {
         && (digits.len() == 1 || !text.starts_with('0'))
 }
 
-fn digest_in(rest: &str) -> Command<'static> {
-    let misused = Command::Misused(".digest [SITE NUMBER]");
+fn digest_in(rest: &str) -> DotCommand<'static> {
+    let misused = DotCommand::Misused(".digest [SITE NUMBER]");
     if rest.is_empty() {
-        return Command::Digest(None);
+        return DotCommand::Digest(None);
     }
     let Some((site, number)) = rest.split_once(' ') else {
         return misused;
@@ -168,14 +168,14 @@ fn digest_in(rest: &str) -> Command<'static> {
         return misused;
     }
     match (site.parse::<u16>(), number.parse::<u32>()) {
-        (Ok(site), Ok(number)) => Command::Digest(Some((site, number))),
+        (Ok(site), Ok(number)) => DotCommand::Digest(Some((site, number))),
         _ => misused,
     }
 }
 
 // A stamp whose numbers do not fit is that of no statement, as behind an `@` in a line for programs.
-fn at_in(rest: &str) -> Command<'_> {
-    let misused = Command::Misused(".at CLOCK.SITE QUERY");
+fn at_in(rest: &str) -> DotCommand<'_> {
+    let misused = DotCommand::Misused(".at CLOCK.SITE QUERY");
     let Some((stamp, query)) = rest.split_once(' ') else {
         return misused;
     };
@@ -189,7 +189,7 @@ fn at_in(rest: &str) -> Command<'_> {
         (Ok(clock), Ok(site)) => (clock, site),
         _ => (0, 0),
     };
-    Command::At {
+    DotCommand::At {
         clock,
         site,
         query: query.trim_ascii(),
@@ -197,30 +197,30 @@ fn at_in(rest: &str) -> Command<'_> {
 }
 
 /// What a line says whose first byte that is no blank is a dot.
-pub fn command_of(line: &str) -> Command<'_> {
+pub fn command_of(line: &str) -> DotCommand<'_> {
     let line = line.trim_ascii();
     let (word, rest) = line.split_once(' ').unwrap_or((line, ""));
     let rest = rest.trim_ascii();
     match word {
-        ".help" => without_words(Command::Help, rest, ".help"),
-        ".tables" => without_words(Command::Tables, rest, ".tables"),
+        ".help" => without_words(DotCommand::Help, rest, ".help"),
+        ".tables" => without_words(DotCommand::Tables, rest, ".tables"),
         ".schema" => schema_in(rest),
-        ".log" => without_words(Command::Log, rest, ".log"),
+        ".log" => without_words(DotCommand::Log, rest, ".log"),
         ".refused" => refused_in(rest),
         ".digest" => digest_in(rest),
-        ".listing" => without_words(Command::Listing, rest, ".listing"),
-        ".vector" => without_words(Command::Vector, rest, ".vector"),
+        ".listing" => without_words(DotCommand::Listing, rest, ".listing"),
+        ".vector" => without_words(DotCommand::Vector, rest, ".vector"),
         ".read" => read_in(rest),
         ".import" => import_in(rest),
         ".dump" => dump_in(rest),
         ".export" => export_in(rest),
-        ENTRY => Command::Entry(rest),
+        ENTRY => DotCommand::Entry(rest),
         ".serve" => serve_in(rest),
         ".call" => call_in(rest),
         ".at" => at_in(rest),
         ".mode" => mode_in(rest),
         ".timer" => timer_in(rest),
-        ".quit" => without_words(Command::Quit, rest, ".quit"),
-        _ => Command::Unknown(word),
+        ".quit" => without_words(DotCommand::Quit, rest, ".quit"),
+        _ => DotCommand::Unknown(word),
     }
 }

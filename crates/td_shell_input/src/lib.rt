@@ -11,7 +11,7 @@ pub mod definitions;
 pub mod entries;
 pub mod scan;
 
-pub use commands::{Command, Mode, command_of};
+pub use commands::{DotCommand, Mode, command_of};
 pub use definitions::{Defined, defined_by, definition_at, script_front};
 pub use entries::{DumpedEntry, entry_in, push_entry};
 pub use scan::{Scan, Standing};

@@ -1,7 +1,7 @@
 //! A site's journal, in words.
 
 use std::alloc::{AllocError, Global};
-use td_journal_files::{Contents, Cut, Failure, Found, PassedOver};
+use td_journal_files::{Contents, Cut, Found, PassedOver, SyncFailure};
 use td_replica::Replica;
 
 /// What is said at the start of a site that keeps no journal.
@@ -143,11 +143,11 @@ pub fn read_only_text<R: Replica>(
 }
 
 /// Why a statement is not on the disk.
-pub fn failure_words(failure: Option<Failure>) -> &'static str {
+pub fn failure_words(failure: Option<SyncFailure>) -> &'static str {
     match failure {
-        Some(Failure::Moved) =>
+        Some(SyncFailure::Moved) =>
             "its file stands no longer under its name: it was moved, removed or replaced",
-        Some(Failure::Full) =>
+        Some(SyncFailure::Full) =>
             "there is no room for it: the disk is full, or a limit on files is reached",
         _ => "the system refuses to write it",
     }

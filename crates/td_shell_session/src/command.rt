@@ -4,12 +4,12 @@ ghost use Rattle.std.specs.Prelude.{IfOk};
 ghost use Rattle.td_journal.specs.Reopening.{IsNew};
 
 use crate::access::Access;
-use crate::ended::Ended;
+use crate::ended::SessionEnd;
 use crate::inputs::Inputs;
 use crate::journals::unfit_words;
-use crate::open::{Script, no_script_words, script_in, unopened_words};
+use crate::open::{ScriptFile, no_script_words, script_in, unopened_words};
 use crate::shell::{Shell, converse};
-use crate::words::{Words, read_words};
+use crate::words::{ShellOptions, read_words};
 use clap::Error;
 use clap::error::ErrorKind;
 use std::alloc::{AllocError, Global};
@@ -80,11 +80,11 @@ fn no_script<F: Sink>(script: &str, error: Unreadable, faults: &mut F) -> u8 {
     BAD_WORDS
 }
 
-fn ended_words(ended: Ended) -> &'static str {
+fn ended_words(ended: SessionEnd) -> &'static str {
     match ended {
-        Ended::OutOfMemory => "fault memory: there is not enough memory to go on\n",
-        Ended::ReadFault => "fault input: the input cannot be read\n",
-        Ended::WriteFault => "fault output: the output cannot be written\n",
+        SessionEnd::OutOfMemory => "fault memory: there is not enough memory to go on\n",
+        SessionEnd::ReadFault => "fault input: the input cannot be read\n",
+        SessionEnd::WriteFault => "fault output: the output cannot be written\n",
     }
 }
 
@@ -92,7 +92,7 @@ fn ended_words(ended: Ended) -> &'static str {
 #[derive(Drop)]
 struct Run<'a, 'w, 't, H, L, S, K, F> {
     alloc: Global,
-    words: &'w Words<'t>,
+    words: &'w ShellOptions<'t>,
     host: &'a H,
     notes: &'a Notes,
     links: &'a mut L,
@@ -117,7 +117,7 @@ fn first_lines<R: Replica>(
     site: &R,
     behind: Vec<u8>,
     typed: &[&str],
-) -> Result<Inputs, Ended> {
+) -> Result<Inputs, SessionEnd> {
     let mut inputs = Inputs::new(alloc);
     if !typed.is_empty() {
         inputs.read_texts(typed)?;
@@ -147,7 +147,7 @@ fn tell_start<R: Replica, F: Sink>(
 
 // Whether the site may be changed: where its journal has less than it had once, and it is not to go on with that as it
 // is, this is told.
-fn access_to<F: Sink>(words: &Words<'_>, notes: &Notes, faults: &mut F) -> Access {
+fn access_to<F: Sink>(words: &ShellOptions<'_>, notes: &Notes, faults: &mut F) -> Access {
     if words.is_read_only {
         return Access::ReadOnly;
     }
@@ -168,13 +168,13 @@ fn access_to<F: Sink>(words: &Words<'_>, notes: &Notes, faults: &mut F) -> Acces
 // What a conversation at the site begins with, where it has been told what was found of its journal.
 fn begin<R: Replica, F: Sink>(
     alloc: Global,
-    words: &Words<'_>,
+    words: &ShellOptions<'_>,
     notes: &Notes,
     journal: &str,
     site: &R,
     behind: Vec<u8>,
     faults: &mut F,
-) -> Result<Beginning, Ended> {
+) -> Result<Beginning, SessionEnd> {
     let catalogue = script_catalogue(alloc, site)?;
     tell_start(alloc, journal, site, faults)?;
     let access = access_to(words, notes, faults);
@@ -195,7 +195,11 @@ fn converse_at<
     S: Source,
     K: Sink,
     F: Sink,
->(run: &mut Run<'_, '_, '_, H, L, S, K, F>, site: R, beginning: Beginning) -> Result<bool, Ended> {
+>(
+    run: &mut Run<'_, '_, '_, H, L, S, K, F>,
+    site: R,
+    beginning: Beginning,
+) -> Result<bool, SessionEnd> {
     let Beginning {
         catalogue,
         access,
@@ -244,7 +248,7 @@ fn run_at<
             behind,
             run.faults,
         ),
-        Err(_) => Err(Ended::OutOfMemory),
+        Err(_) => Err(SessionEnd::OutOfMemory),
     };
     let ended = match begun {
         Ok(beginning) => converse_at::<_, O, _, _, _, _, _>(run, site, beginning),
@@ -254,7 +258,7 @@ fn run_at<
 }
 
 // The status, by whether a fault was answered that nobody saw come.
-fn end<F: Sink>(end: Result<bool, Ended>, faults: &mut F) -> u8 {
+fn end<F: Sink>(end: Result<bool, SessionEnd>, faults: &mut F) -> u8 {
     match end {
         Ok(is_at_fault) => u8::from(is_at_fault),
         Err(ended) => {
@@ -268,7 +272,7 @@ fn end<F: Sink>(end: Result<bool, Ended>, faults: &mut F) -> u8 {
 // is none.
 fn open_new<R: Opens, F: Sink>(
     alloc: Global,
-    words: &Words<'_>,
+    words: &ShellOptions<'_>,
     script: &str,
     faults: &mut F,
 ) -> Result<R, u8>
@@ -294,7 +298,7 @@ fn fault_journal(alloc: Global, name: &str, why: &str) -> Result<String, AllocEr
 fn refuse<F: Sink>(told: Result<String, AllocError>, faults: &mut F) -> u8 {
     match told {
         Ok(text) => complain(faults, text.as_str()),
-        Err(_) => complain(faults, ended_words(Ended::OutOfMemory)),
+        Err(_) => complain(faults, ended_words(SessionEnd::OutOfMemory)),
     }
     BAD_JOURNAL
 }
@@ -302,7 +306,7 @@ fn refuse<F: Sink>(told: Result<String, AllocError>, faults: &mut F) -> u8 {
 // Why a site does not come back from what its journal has, by another try.
 fn refusal_by_bytes<R: Opens + Drop, H: Files + AllocGlobal>(
     alloc: Global,
-    words: &Words<'_>,
+    words: &ShellOptions<'_>,
     name: &str,
     script: &str,
     site: R,
@@ -333,7 +337,7 @@ fn refusal_by_bytes<R: Opens + Drop, H: Files + AllocGlobal>(
 // Tells why a journal is not gone on with: what its file says of that, or else what it has.
 fn unkept<R: Opens + Drop, H: Files + AllocGlobal, F: Sink>(
     alloc: Global,
-    words: &Words<'_>,
+    words: &ShellOptions<'_>,
     name: &str,
     script: &str,
     host: &H,
@@ -386,7 +390,7 @@ fn start_reading<
             run_at::<_, R, _, _, _, _, _>(run, found, replica, Vec::new(alloc))
         }
         Err(error) => {
-            let Words { site, limit, .. } = run.words;
+            let ShellOptions { site, limit, .. } = run.words;
             let told = refusal_text(alloc, name, &contents, error, script, *site, *limit);
             refuse(told, run.faults)
         }
@@ -402,17 +406,23 @@ fn start_keeping<
     S: Source,
     K: Sink,
     F: Sink,
->(run: &mut Run<'_, '_, '_, H, L, S, K, F>, journals: &J, name: &str, script: Script, site: R) -> u8
+>(
+    run: &mut Run<'_, '_, '_, H, L, S, K, F>,
+    journals: &J,
+    name: &str,
+    script: ScriptFile,
+    site: R,
+) -> u8
     requires { IsNew (R.seen site) }
 {
-    let Script { text, behind } = script;
+    let ScriptFile { text, behind } = script;
     let alloc = run.alloc;
     match keep_journal(alloc, journals, name, site, run.meter) {
         Ok(site) => {
             let found = journal_text(alloc, Some(name), run.notes.found(), &site);
             run_at::<_, R, _, _, _, _, _>(run, found, site, behind)
         }
-        Err(StoreError::OutOfMemory) => end(Err(Ended::OutOfMemory), run.faults),
+        Err(StoreError::OutOfMemory) => end(Err(SessionEnd::OutOfMemory), run.faults),
         Err(StoreError::JournalFile) => unkept::<R, _, _>(
             alloc,
             run.words,
@@ -429,7 +439,7 @@ fn start_keeping<
 // The name of the site's journal, where it keeps one; or the status, where it is told why that is not opened.
 fn journal_name<H: Files + AllocGlobal + Clone + Drop, F: Sink>(
     alloc: Global,
-    words: &Words<'_>,
+    words: &ShellOptions<'_>,
     host: &H,
     faults: &mut F,
 ) -> Result<Option<String>, u8> {
@@ -438,7 +448,7 @@ fn journal_name<H: Files + AllocGlobal + Clone + Drop, F: Sink>(
     };
     let number = words.site;
     let Ok(name) = format!(in alloc; "{prefix}{number}.tdj") else {
-        return Err(end(Err(Ended::OutOfMemory), faults));
+        return Err(end(Err(SessionEnd::OutOfMemory), faults));
     };
     match unfit_words(alloc, host, words, name.as_str()) {
         Ok(None) => Ok(Some(name)),
@@ -446,7 +456,7 @@ fn journal_name<H: Files + AllocGlobal + Clone + Drop, F: Sink>(
             complain(faults, text.as_str());
             Err(BAD_JOURNAL)
         }
-        Err(_) => Err(end(Err(Ended::OutOfMemory), faults)),
+        Err(_) => Err(end(Err(SessionEnd::OutOfMemory), faults)),
     }
 }
 
@@ -459,7 +469,7 @@ fn start_at<
     S: Source,
     K: Sink,
     F: Sink,
->(run: &mut Run<'_, '_, '_, H, L, S, K, F>, journals: &J, script: Script, site: R) -> u8
+>(run: &mut Run<'_, '_, '_, H, L, S, K, F>, journals: &J, script: ScriptFile, site: R) -> u8
     requires { IsNew (R.seen site) }
 {
     match journal_name(run.alloc, run.words, run.host, run.faults) {
@@ -490,8 +500,8 @@ fn start<
     F: Sink,
 >(
     alloc: Global,
-    words: &Words<'_>,
-    script: Script,
+    words: &ShellOptions<'_>,
+    script: ScriptFile,
     host: &'a H,
     journals: &J,
     notes: &'a Notes,

@@ -6,7 +6,7 @@ use thiserror::Error;
 
 /// Why a conversation ends before its input does.
 #[derive(Clone, Copy, Debug, Drop, PartialEq, Eq, Error)]
-pub enum Ended {
+pub enum SessionEnd {
     #[error("out of memory")]
     OutOfMemory,
     #[error("the reader failed")]
@@ -15,29 +15,29 @@ pub enum Ended {
     WriteFault,
 }
 
-impl From<AllocError> for Ended {
-    fn from(_e: AllocError) -> Ended {
-        Ended::OutOfMemory
+impl From<AllocError> for SessionEnd {
+    fn from(_e: AllocError) -> SessionEnd {
+        SessionEnd::OutOfMemory
     }
 }
 
-impl<T: Drop> From<AllocFailed<T>> for Ended {
-    fn from(_e: AllocFailed<T>) -> Ended {
-        Ended::OutOfMemory
+impl<T: Drop> From<AllocFailed<T>> for SessionEnd {
+    fn from(_e: AllocFailed<T>) -> SessionEnd {
+        SessionEnd::OutOfMemory
     }
 }
 
-impl From<Failed> for Ended {
-    fn from(_e: Failed) -> Ended {
-        Ended::WriteFault
+impl From<Failed> for SessionEnd {
+    fn from(_e: Failed) -> SessionEnd {
+        SessionEnd::WriteFault
     }
 }
 
-impl From<LineError> for Ended {
-    fn from(error: LineError) -> Ended {
+impl From<LineError> for SessionEnd {
+    fn from(error: LineError) -> SessionEnd {
         match error {
-            LineError::OutOfMemory => Ended::OutOfMemory,
-            LineError::ReadFault | LineError::NoReadsLeft => Ended::ReadFault,
+            LineError::OutOfMemory => SessionEnd::OutOfMemory,
+            LineError::ReadFault | LineError::NoReadsLeft => SessionEnd::ReadFault,
         }
     }
 }

@@ -1,6 +1,6 @@
 //! Files of comma-separated values that are imported.
 
-use crate::ended::Ended;
+use crate::ended::SessionEnd;
 use crate::issue::{not_issued, push_issued};
 use crate::relvars::relvar_named;
 use crate::wording::counted;
@@ -263,7 +263,7 @@ pub fn import<R: Replica, F: Sink>(
     meter: &mut Meter,
     notes: &Notes,
     faults: &mut F,
-) -> Result<String, Ended> {
+) -> Result<String, SessionEnd> {
     let Some((place, relvar, heading)) = relvar_named(catalogue, name) else {
         return Ok(format!(in alloc; "fault relvar: there is no relvar {name}\n")?);
     };
@@ -280,7 +280,7 @@ pub fn import<R: Replica, F: Sink>(
     };
     let rows = match checked_rows(alloc, site, target, origin, file) {
         Ok(rows) => rows,
-        Err(ImportFault::OutOfMemory) => return Err(Ended::OutOfMemory),
+        Err(ImportFault::OutOfMemory) => return Err(SessionEnd::OutOfMemory),
         Err(fault) => return Ok(fault_words(alloc, fault)?),
     };
     if rows.is_empty() {

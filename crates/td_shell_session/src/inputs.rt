@@ -1,6 +1,6 @@
 //! Where lines come from: what is typed, and files that are read as if they were typed.
 
-use crate::ended::Ended;
+use crate::ended::SessionEnd;
 use std::alloc::{AllocError, Global};
 use td_io::{RawLine, Source, content, has_line, read_line};
 
@@ -103,7 +103,7 @@ impl Inputs {
         Ok(true)
     }
 
-    fn typed_line<S: Source>(&mut self, source: &mut S) -> Result<Next, Ended> {
+    fn typed_line<S: Source>(&mut self, source: &mut S) -> Result<Next, SessionEnd> {
         if self.is_over {
             return Ok(Next::End);
         }
@@ -113,7 +113,7 @@ impl Inputs {
     }
 
     /// The next line.
-    pub fn next_line<S: Source>(&mut self, source: &mut S) -> Result<Next, Ended> {
+    pub fn next_line<S: Source>(&mut self, source: &mut S) -> Result<Next, SessionEnd> {
         let alloc = self.alloc;
         let line = match self.files.last_mut() {
             Some(file) => line_at(alloc, file)?,

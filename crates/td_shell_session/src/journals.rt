@@ -1,6 +1,6 @@
 //! Whether a journal stands where the words want one to stand.
 
-use crate::words::Words;
+use crate::words::ShellOptions;
 use std::alloc::{AllocError, Global};
 use std::fs;
 use std::path::Path;
@@ -72,7 +72,7 @@ fn names_there<H: Files + AllocGlobal + Clone + Drop>(
 pub fn unfit_words<H: Files + AllocGlobal + Clone + Drop>(
     alloc: Global,
     host: &H,
-    words: &Words<'_>,
+    words: &ShellOptions<'_>,
     name: &str,
 ) -> Result<Option<String>, AllocError> {
     let is_there = fs::symlink_metadata(host, name).is_ok();

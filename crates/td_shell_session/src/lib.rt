@@ -34,6 +34,6 @@ pub mod words;
 
 pub use access::Access;
 pub use command::{Terminal, program};
-pub use ended::Ended;
+pub use ended::SessionEnd;
 pub use shell::{Shell, converse};
 pub use td_terminals::Shown;

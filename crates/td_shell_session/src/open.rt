@@ -10,7 +10,7 @@ use td_shell_notices::raise_words;
 
 /// A script, and the lines behind its `.begin`.
 #[derive(Drop)]
-pub struct Script {
+pub struct ScriptFile {
     pub text: String,
     pub behind: Vec<u8>,
 }
@@ -31,7 +31,7 @@ impl From<AllocError> for NoScript {
 
 /// The script that a file has: what stands in front of a line `.begin`, or all of it. The last line has an end there,
 /// as where a line `.begin` follows it, so that both programs read one script.
-pub fn script_in(alloc: Global, file: &[u8]) -> Result<Script, NoScript> {
+pub fn script_in(alloc: Global, file: &[u8]) -> Result<ScriptFile, NoScript> {
     let (front, behind) = script_front(file);
     let Ok(text) = str::from_utf8(front) else {
         return Err(NoScript::NoUtf8);
@@ -43,7 +43,7 @@ pub fn script_in(alloc: Global, file: &[u8]) -> Result<Script, NoScript> {
     if text.len() > SCRIPT_BYTES {
         return Err(NoScript::TooLong);
     }
-    Ok(Script {
+    Ok(ScriptFile {
         text,
         behind: Vec::from_slice(alloc, behind)?,
     })

@@ -4,7 +4,7 @@ use crate::access::Access;
 use crate::ask::{ask, ask_at};
 use crate::draft::Draft;
 use crate::dump::{ENTRY_BYTES, dump, issue_entry};
-use crate::ended::Ended;
+use crate::ended::SessionEnd;
 use crate::help::HELP;
 use crate::import::import;
 use crate::inputs::{Inputs, Next};
@@ -30,7 +30,7 @@ use td_listings::{ListingError, listing};
 use td_paths::{Unreadable, read_plain};
 use td_replica::{Opens, Replica};
 use td_semantics::Meter;
-use td_shell_input::{Command, Mode, Standing, command_of};
+use td_shell_input::{DotCommand, Mode, Standing, command_of};
 use td_shell_notices::lack_words;
 use td_stamps::Stamp;
 
@@ -67,7 +67,11 @@ enum After {
 }
 
 // Writes an answer, and notes whether it tells a fault.
-fn put_answer<K: Sink>(answer: &str, has_faults: &mut bool, sink: &mut K) -> Result<(), Ended> {
+fn put_answer<K: Sink>(
+    answer: &str,
+    has_faults: &mut bool,
+    sink: &mut K,
+) -> Result<(), SessionEnd> {
     *has_faults = *has_faults || answer.starts_with("fault ");
     Ok(write_all(sink, answer.as_bytes())?)
 }
@@ -77,7 +81,7 @@ fn say<K: Sink>(
     answer: Result<String, AllocError>,
     has_faults: &mut bool,
     sink: &mut K,
-) -> Result<(), Ended> {
+) -> Result<(), SessionEnd> {
     match answer {
         Ok(text) => put_answer(text.as_str(), has_faults, sink),
         Err(_) => put_answer(NO_MEMORY, has_faults, sink),
@@ -85,7 +89,12 @@ fn say<K: Sink>(
 }
 
 // What stands in front of a line that is typed at this site.
-fn prompt<K: Sink>(alloc: Global, site: u16, draft: &Draft, sink: &mut K) -> Result<(), Ended> {
+fn prompt<K: Sink>(
+    alloc: Global,
+    site: u16,
+    draft: &Draft,
+    sink: &mut K,
+) -> Result<(), SessionEnd> {
     if draft.ended() != Standing::Empty {
         return Ok(put(sink, b".. ")?);
     }
@@ -125,12 +134,12 @@ fn list<R: Replica, K: Sink>(
     site: &R,
     has_faults: &mut bool,
     sink: &mut K,
-) -> Result<(), Ended> {
+) -> Result<(), SessionEnd> {
     match listing(alloc, site, sink) {
         Ok(()) => Ok(()),
         Err(ListingError::Broken) => put_answer(BROKEN, has_faults, sink),
         Err(ListingError::OutOfMemory) => put_answer(NO_MEMORY, has_faults, sink),
-        Err(ListingError::WriteFault) => Err(Ended::WriteFault),
+        Err(ListingError::WriteFault) => Err(SessionEnd::WriteFault),
     }
 }
 
@@ -227,7 +236,7 @@ impl<
     }
 
     // Answers the text that was typed, if there is one, and begins the next one.
-    fn finish<K: Sink>(&mut self, sink: &mut K) -> Result<(), Ended> {
+    fn finish<K: Sink>(&mut self, sink: &mut K) -> Result<(), SessionEnd> {
         let draft = mem::replace(&mut self.draft, Draft::new(self.alloc));
         let standing = draft.ended();
         if standing == Standing::Empty {
@@ -309,23 +318,23 @@ impl<
     // The answer to a command that is a text.
     fn answer_command<F: Sink>(
         &mut self,
-        command: Command<'_>,
+        command: DotCommand<'_>,
         inputs: &mut Inputs,
         faults: &mut F,
     ) -> Result<String, AllocError> {
         let alloc = self.alloc;
         match command {
-            Command::Help => String::from_str(alloc, HELP),
-            Command::Tables => relvars(alloc, &self.catalogue, &self.site),
-            Command::Schema(name) => schema(alloc, self.site.script(), name),
-            Command::Log => log(alloc, &self.site),
-            Command::Refused { is_own } => refused(alloc, &self.site, is_own),
-            Command::Vector => vector(alloc, &self.site),
-            Command::Digest(of) => digest(alloc, &self.site, of),
-            Command::Read(file) => read(alloc, self.host, inputs, file),
-            Command::Import { file, relvar } => self.import(file, relvar, faults),
-            Command::Dump(file) => dump(alloc, self.host, &self.site, file),
-            Command::DumpTables(file) => dump_tables::<O, _, _>(
+            DotCommand::Help => String::from_str(alloc, HELP),
+            DotCommand::Tables => relvars(alloc, &self.catalogue, &self.site),
+            DotCommand::Schema(name) => schema(alloc, self.site.script(), name),
+            DotCommand::Log => log(alloc, &self.site),
+            DotCommand::Refused { is_own } => refused(alloc, &self.site, is_own),
+            DotCommand::Vector => vector(alloc, &self.site),
+            DotCommand::Digest(of) => digest(alloc, &self.site, of),
+            DotCommand::Read(file) => read(alloc, self.host, inputs, file),
+            DotCommand::Import { file, relvar } => self.import(file, relvar, faults),
+            DotCommand::Dump(file) => dump(alloc, self.host, &self.site, file),
+            DotCommand::DumpTables(file) => dump_tables::<O, _, _>(
                 alloc,
                 self.host,
                 &self.catalogue,
@@ -333,13 +342,13 @@ impl<
                 file,
                 self.meter,
             ),
-            Command::Export(folder) => {
+            DotCommand::Export(folder) => {
                 export(alloc, self.host, &self.catalogue, &self.site, folder)
             }
-            Command::Entry(words) => self.issue_entry(words, inputs),
-            Command::Serve(address) => self.meet(Way::Serve, address, faults),
-            Command::Call(address) => self.meet(Way::Call, address, faults),
-            Command::At { clock, site, query } => {
+            DotCommand::Entry(words) => self.issue_entry(words, inputs),
+            DotCommand::Serve(address) => self.meet(Way::Serve, address, faults),
+            DotCommand::Call(address) => self.meet(Way::Call, address, faults),
+            DotCommand::At { clock, site, query } => {
                 let at = Stamp { clock, site };
                 ask_at(
                     alloc,
@@ -351,15 +360,14 @@ impl<
                     self.meter,
                 )
             }
-            Command::Misused(usage) => format!(in alloc;
+            DotCommand::Misused(usage) => format!(in alloc;
                 "fault command: it is written so: {usage}\n"
             ),
-            Command::Unknown(word) => format!(in alloc;
+            DotCommand::Unknown(word) => format!(in alloc;
                 "fault command: there is no {word}; .help lists what there is\n"
             ),
-            Command::Mode(_) | Command::Timer(_) | Command::Quit | Command::Listing => Ok(
-                String::new(alloc),
-            ),
+            DotCommand::Mode(_) | DotCommand::Timer(_) | DotCommand::Quit | DotCommand::Listing =>
+                Ok(String::new(alloc)),
         }
     }
 
@@ -369,14 +377,14 @@ impl<
         inputs: &mut Inputs,
         sink: &mut K,
         faults: &mut F,
-    ) -> Result<After, Ended> {
+    ) -> Result<After, SessionEnd> {
         let begun = begin(self.host, self.is_timed);
         let command = command_of(line);
         match command {
-            Command::Quit => return Ok(After::Quit),
-            Command::Mode(mode) => self.mode = mode,
-            Command::Timer(is_timed) => self.is_timed = is_timed,
-            Command::Listing => list(self.alloc, &self.site, &mut self.has_faults, sink)?,
+            DotCommand::Quit => return Ok(After::Quit),
+            DotCommand::Mode(mode) => self.mode = mode,
+            DotCommand::Timer(is_timed) => self.is_timed = is_timed,
+            DotCommand::Listing => list(self.alloc, &self.site, &mut self.has_faults, sink)?,
             _ => {
                 let answer = self.answer_command(command, inputs, faults);
                 say(answer, &mut self.has_faults, sink)?;
@@ -397,7 +405,7 @@ impl<
         inputs: &mut Inputs,
         sink: &mut K,
         faults: &mut F,
-    ) -> Result<After, Ended> {
+    ) -> Result<After, SessionEnd> {
         let words = line.trim_ascii();
         if words.is_empty() {
             self.finish(sink)?;
@@ -423,7 +431,7 @@ impl<
         inputs: &mut Inputs,
         sink: &mut K,
         faults: &mut F,
-    ) -> Result<After, Ended> {
+    ) -> Result<After, SessionEnd> {
         match next {
             Next::Line(bytes) => match str::from_utf8(&bytes) {
                 Ok(line) => return self.take_line(line, inputs, sink, faults),
@@ -456,7 +464,7 @@ fn answer_lines<
     source: &mut S,
     sink: &mut K,
     faults: &mut F,
-) -> Result<(), Ended> {
+) -> Result<(), SessionEnd> {
     for _ in 0..u64::MAX {
         if is_terminal && inputs.is_typed() {
             prompt(shell.alloc, shell.site.site(), &shell.draft, sink)?;
@@ -469,7 +477,7 @@ fn answer_lines<
             sink.flush()?;
         }
     }
-    Err(Ended::ReadFault)
+    Err(SessionEnd::ReadFault)
 }
 
 /// Answers line after line, up to `.quit` or the end of the input. Each answer is flushed before more of the input is
@@ -489,9 +497,9 @@ pub fn converse<
     source: &mut S,
     sink: &mut K,
     faults: &mut F,
-) -> Result<(), Ended> {
+) -> Result<(), SessionEnd> {
     let ended = answer_lines(shell, inputs, is_terminal, source, sink, faults);
-    if !matches!(ended, Err(Ended::WriteFault)) {
+    if !matches!(ended, Err(SessionEnd::WriteFault)) {
         sink.flush()?;
     }
     ended

@@ -13,7 +13,7 @@ use td_listings::relation_table;
 use td_relations::Relation;
 use td_replica::{Opens, Replica, ValueError};
 use td_semantics::{Answer, Meter, Outcome};
-use td_shell_dumps::{Insertion, Tables, Trial, Untold, refused_insertions, tables_of};
+use td_shell_dumps::{DumpStatement, Tables, Trial, Untold, refused_insertions, tables_of};
 use td_shell_input::push_entry;
 use td_values::Name;
 
@@ -31,7 +31,11 @@ fn untold_words(alloc: Global, untold: Untold) -> Result<String, AllocError> {
 }
 
 // The script, and behind it a line for each statement.
-fn text_of(alloc: Global, script: &str, insertions: &[Insertion]) -> Result<String, AllocError> {
+fn text_of(
+    alloc: Global,
+    script: &str,
+    insertions: &[DumpStatement],
+) -> Result<String, AllocError> {
     let mut text = script_text(alloc, script)?;
     for insertion in insertions {
         push_entry(&mut text, LATEST, insertion.text.as_str())?;
@@ -44,7 +48,7 @@ fn write_text<H: Files<File = File>>(
     host: &H,
     file: &str,
     script: &str,
-    insertions: &[Insertion],
+    insertions: &[DumpStatement],
 ) -> Result<Result<(), NotWritten>, AllocError> {
     let text = text_of(alloc, script, insertions)?;
     write_new(alloc, host, file, text.as_bytes())

@@ -3,7 +3,7 @@
 use crate::places::push_place;
 use std::alloc::{AllocError, Global};
 use td_headings::Catalogue;
-use td_shell_input::{Command, command_of};
+use td_shell_input::{DotCommand, command_of};
 use td_type_errors::{Diagnostic, diagnose_query, diagnose_statement};
 
 const ILL_TYPED: &str = "a name that is not there, or a type that does not fit";
@@ -30,7 +30,7 @@ pub fn push_command(out: &mut String, text: &str) -> Result<(), AllocError> {
     let alloc = *out.allocator();
     let typed = text.trim_ascii();
     let dotted = format!(in alloc; ".{typed}")?;
-    if matches!(command_of(dotted.as_str()), Command::Unknown(_)) {
+    if matches!(command_of(dotted.as_str()), DotCommand::Unknown(_)) {
         return Ok(());
     }
     let word = typed.split_once(' ').map_or(typed, |parts| parts.0);

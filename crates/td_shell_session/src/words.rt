@@ -97,7 +97,7 @@ fn command<'a>(alloc: Global) -> Result<Command<'a>, AllocError> {
 
 /// What the words of the program ask for.
 #[derive(Drop)]
-pub struct Words<'a> {
+pub struct ShellOptions<'a> {
     /// The name of the file that has the script.
     pub script: &'a str,
     /// The number of the site: 1 to 65,535.
@@ -128,9 +128,9 @@ fn typed_texts<'a>(alloc: Global, given: Option<&[&'a str]>) -> Result<Vec<&'a s
 }
 
 /// What the words ask for, the first of which names the program.
-pub fn read_words<'a>(alloc: Global, words: &'a [String]) -> Result<Words<'a>, Error> {
+pub fn read_words<'a>(alloc: Global, words: &'a [String]) -> Result<ShellOptions<'a>, Error> {
     let matches = command(alloc)?.try_get_matches_from(words)?;
-    Ok(Words {
+    Ok(ShellOptions {
         script: matches.get_str("script").unwrap_or(""),
         site: matches.get_one::<u16>("site").unwrap_or(1),
         limit: matches.get_one::<usize>("limit").unwrap_or(10_000),

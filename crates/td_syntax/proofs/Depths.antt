@@ -9,8 +9,8 @@ use Rattle.td_syntax.specs.declared.tree.BinaryOperator.{BinaryOperator}
 use Rattle.td_syntax.specs.declared.tree.Aggregate.{Aggregate}
 use Rattle.td_syntax.specs.declared.tree.Nesting.{Nesting}
 use Rattle.td_syntax.specs.declared.tree.Extension.{Extension}
-use Rattle.td_syntax.specs.declared.tree.Summary.{Summary}
-use Rattle.td_syntax.specs.declared.tree.Summary.TheVariants as summary
+use Rattle.td_syntax.specs.declared.tree.SummaryTerm.{SummaryTerm}
+use Rattle.td_syntax.specs.declared.tree.SummaryTerm.TheVariants as summary
 use Rattle.td_syntax.specs.declared.tree.Groups.{Groups}
 use Rattle.td_syntax.specs.declared.tree.Groups.TheVariants as groups
 use Rattle.td_syntax.specs.declared.tree.Expr.{Expr, the_lemmas}
@@ -91,18 +91,18 @@ of_extend k a xs = search (rules, the_lemmas, named_list_of)
 pub of_with : (xs : List (Named Expr)) (a : Expr) → levels (e.With xs a) ≡ suc (max (named_levels xs) (levels a))
 of_with xs a = search (rules, the_lemmas, named_list_of)
 
-abbrev summary_of : Named (Summary Expr) → Named (Summary ℕ)
+abbrev summary_of : Named (SummaryTerm Expr) → Named (SummaryTerm ℕ)
 summary_of = former-Expr-Summarize-2-at-5.map Expr ℕ levels
 
-of_one : (n : List ℕ) (s : Summary Expr) → of_summary (summary_of (record { name = n; value = s })).value ≡ summary_levels s
+of_one : (n : List ℕ) (s : SummaryTerm Expr) → of_summary (summary_of (record { name = n; value = s })).value ≡ summary_levels s
 of_one n summary.Count = refl
 of_one n (summary.Of g a) = refl
 
-summary_list_of : (xs : List (Named (Summary Expr))) → deepest_summary (map summary_of xs) ≡ summaries_levels xs
+summary_list_of : (xs : List (Named (SummaryTerm Expr))) → deepest_summary (map summary_of xs) ≡ summaries_levels xs
 summary_list_of [] = refl
 summary_list_of (x ∷ xs) = rw (of_one x.name x.value, summary_list_of xs) refl
 
-pub of_summarize : (a : Expr) (g : Groups Expr) (xs : List (Named (Summary Expr))) → levels (e.Summarize a g xs) ≡ suc (max (levels a) (max (groups_levels g) (summaries_levels xs)))
+pub of_summarize : (a : Expr) (g : Groups Expr) (xs : List (Named (SummaryTerm Expr))) → levels (e.Summarize a g xs) ≡ suc (max (levels a) (max (groups_levels g) (summaries_levels xs)))
 of_summarize a groups.Whole xs = ap levels (sym (e.rolls-Summarize a groups.Whole xs)) ∙ (fold-roll-Expr ℕ levels_step (Expr-F.Summarize a groups.Whole xs) ∙ ap (λ n. suc (max (levels a) (max 0 n))) (summary_list_of xs))
 of_summarize a (groups.Per b) xs = ap levels (sym (e.rolls-Summarize a (groups.Per b) xs)) ∙ (fold-roll-Expr ℕ levels_step (Expr-F.Summarize a (groups.Per b) xs) ∙ ap (λ n. suc (max (levels a) (max (levels b) n))) (summary_list_of xs))
 of_summarize a (groups.By ys) xs = ap levels (sym (e.rolls-Summarize a (groups.By ys) xs)) ∙ (fold-roll-Expr ℕ levels_step (Expr-F.Summarize a (groups.By ys) xs) ∙ ap (λ n. suc (max (levels a) (max 0 n))) (summary_list_of xs))

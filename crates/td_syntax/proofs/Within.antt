@@ -4,7 +4,7 @@ use Rattle.std.proofs.lemmas.Bool.Decides.{nat_tests}
 use Rattle.std.proofs.Math.Seq.{drop-cons}
 use Rattle.td_syntax.specs.declared.tree.Named.{Named}
 use Rattle.td_syntax.specs.declared.tree.Groups.{Groups}
-use Rattle.td_syntax.specs.declared.tree.Summary.{Summary}
+use Rattle.td_syntax.specs.declared.tree.SummaryTerm.{SummaryTerm}
 use Rattle.td_syntax.specs.declared.tree.Expr.{Expr}
 use Rattle.td_syntax.specs.declared.tree.Expr.TheVariants as e
 use Rattle.td_syntax.specs.Levels.{levels, named_levels}
@@ -44,13 +44,13 @@ named_more all i d m h t = rw (named_next all i d h, within_both, t, add-one) re
 pub named_stops : (all : List (Named Expr)) (i : ℕ) (d : Named Expr) (m : ℕ) → i < length all → nat_le (levels (get_or all i d).value) m ≡ false → nat_le (named_levels (drop i all)) m ≡ false
 named_stops all i d m h t = rw (named_next all i d h, within_both, t) refl
 
-summaries_next : (all : List (Named (Summary Expr))) (i : ℕ) (d : Named (Summary Expr)) → i < length all → summaries_levels (drop i all) ≡ max (summary_levels (get_or all i d).value) (summaries_levels (drop (suc i) all))
+summaries_next : (all : List (Named (SummaryTerm Expr))) (i : ℕ) (d : Named (SummaryTerm Expr)) → i < length all → summaries_levels (drop i all) ≡ max (summary_levels (get_or all i d).value) (summaries_levels (drop (suc i) all))
 summaries_next all i d h = rw (drop-cons all i d) refl
 
-pub summaries_more : (all : List (Named (Summary Expr))) (i : ℕ) (d : Named (Summary Expr)) (m : ℕ) → i < length all → nat_le (summary_levels (get_or all i d).value) m ≡ true → nat_le (summaries_levels (drop i all)) m ≡ nat_le (summaries_levels (drop (i + 1) all)) m
+pub summaries_more : (all : List (Named (SummaryTerm Expr))) (i : ℕ) (d : Named (SummaryTerm Expr)) (m : ℕ) → i < length all → nat_le (summary_levels (get_or all i d).value) m ≡ true → nat_le (summaries_levels (drop i all)) m ≡ nat_le (summaries_levels (drop (i + 1) all)) m
 summaries_more all i d m h t = rw (summaries_next all i d h, within_both, t, add-one) refl
 
-pub summaries_stop : (all : List (Named (Summary Expr))) (i : ℕ) (d : Named (Summary Expr)) (m : ℕ) → i < length all → nat_le (summary_levels (get_or all i d).value) m ≡ false → nat_le (summaries_levels (drop i all)) m ≡ false
+pub summaries_stop : (all : List (Named (SummaryTerm Expr))) (i : ℕ) (d : Named (SummaryTerm Expr)) (m : ℕ) → i < length all → nat_le (summary_levels (get_or all i d).value) m ≡ false → nat_le (summaries_levels (drop i all)) m ≡ false
 summaries_stop all i d m h t = rw (summaries_next all i d h, within_both, t) refl
 
 -- ---- forms
@@ -79,7 +79,7 @@ with_within a xs c m h some t = more_and_first (named_levels xs) (levels c) (lev
 fails : (n k l m : ℕ) → l ≡ suc (max n k) → (m ≡ 0 → ⊥) → nat_le n (m - 1) ≡ false → nat_le l m ≡ false
 fails n k l m h some t = within_more (max n k) l m h some ∙ within_both n k (m - 1) ∙ ap (λ b. b && nat_le k (m - 1)) t
 
-pub summarize_within : (a : Expr) (c : Expr) (g : Groups Expr) (xs : List (Named (Summary Expr))) (m : ℕ) → a ≡ e.Summarize c g xs → (m ≡ 0 → ⊥) → nat_le (groups_levels g) (m - 1) ≡ true → nat_le (levels c) (m - 1) ≡ true → nat_le (levels a) m ≡ nat_le (summaries_levels xs) (m - 1)
+pub summarize_within : (a : Expr) (c : Expr) (g : Groups Expr) (xs : List (Named (SummaryTerm Expr))) (m : ℕ) → a ≡ e.Summarize c g xs → (m ≡ 0 → ⊥) → nat_le (groups_levels g) (m - 1) ≡ true → nat_le (levels c) (m - 1) ≡ true → nat_le (levels a) m ≡ nat_le (summaries_levels xs) (m - 1)
 summarize_within a c g xs m h some t u =
     more_and (levels c) (max (groups_levels g) (summaries_levels xs)) (levels a) m (ap levels h ∙ of_summarize c g xs) some u
     ∙ within_both (groups_levels g) (summaries_levels xs) (m - 1) ∙ ap (λ b. b && nat_le (summaries_levels xs) (m - 1)) t

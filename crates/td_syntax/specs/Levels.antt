@@ -1,8 +1,8 @@
 -- How deep an expression is.
 use Rattle.std.specs.Prelude.{ℕ, suc, max, List, [], ◌∷◌, Option, Some, None}
 use Rattle.td_syntax.specs.declared.tree.Named.{Named}
-use Rattle.td_syntax.specs.declared.tree.Summary.{Summary}
-use Rattle.td_syntax.specs.declared.tree.Summary.TheVariants as summary
+use Rattle.td_syntax.specs.declared.tree.SummaryTerm.{SummaryTerm}
+use Rattle.td_syntax.specs.declared.tree.SummaryTerm.TheVariants as summary
 use Rattle.td_syntax.specs.declared.tree.Groups.{Groups}
 use Rattle.td_syntax.specs.declared.tree.Groups.TheVariants as groups
 use Rattle.td_syntax.specs.declared.tree.Expr.{Expr}
@@ -18,11 +18,11 @@ abbrev pub deepest_named : List (Named ℕ) → ℕ
 deepest_named [] = 0
 deepest_named (n ∷ ns) = max n.value (deepest_named ns)
 
-abbrev pub of_summary : Summary ℕ → ℕ
+abbrev pub of_summary : SummaryTerm ℕ → ℕ
 of_summary summary.Count = 0
 of_summary (summary.Of a n) = n
 
-abbrev pub deepest_summary : List (Named (Summary ℕ)) → ℕ
+abbrev pub deepest_summary : List (Named (SummaryTerm ℕ)) → ℕ
 deepest_summary [] = 0
 deepest_summary (s ∷ ss) = max (of_summary s.value) (deepest_summary ss)
 

@@ -4,7 +4,7 @@ ghost use Rattle.std.specs.Prelude.{◌≡◌, nat_le};
 ghost use Rattle.td_syntax.specs.Levels.{levels, named_levels};
 ghost use Rattle.td_syntax.specs.ForProofs.Parts.{list_levels, summaries_levels, summary_levels, groups_levels};
 
-use crate::tree::{Expr, Groups, Named, Summary};
+use crate::tree::{Expr, Groups, Named, SummaryTerm};
 use sqlite_items::Boxed;
 
 #[cycle(within)]
@@ -32,17 +32,17 @@ fn named_within(all: &[Named<Boxed<Expr>>], most: usize) -> bool
 }
 
 #[cycle(within)]
-fn summary_within(summary: &Summary<Boxed<Expr>>, most: usize) -> bool
+fn summary_within(summary: &SummaryTerm<Boxed<Expr>>, most: usize) -> bool
     ensures { result ≡ nat_le (summary_levels summary.now) most }
 {
     match summary {
-        Summary::Count => true,
-        Summary::Of(_, term) => within(term.get(), most),
+        SummaryTerm::Count => true,
+        SummaryTerm::Of(_, term) => within(term.get(), most),
     }
 }
 
 #[cycle(within)]
-fn summaries_within(all: &[Named<Summary<Boxed<Expr>>>], most: usize) -> bool
+fn summaries_within(all: &[Named<SummaryTerm<Boxed<Expr>>>], most: usize) -> bool
     ensures { result ≡ nat_le (summaries_levels all.now) most }
 {
     for a in all {

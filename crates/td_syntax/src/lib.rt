@@ -14,5 +14,5 @@ pub mod tree;
 pub use script::{Action, Definition, Opening, Statement};
 pub use tree::{
     Aggregate, Attributes, BinaryOperator, Expr, Extension, Groups, Named, Nesting, Renaming,
-    Summary, TypeExpr, UnaryOperator,
+    SummaryTerm, TypeExpr, UnaryOperator,
 };

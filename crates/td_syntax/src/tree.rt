@@ -103,7 +103,7 @@ pub enum Extension {
 
 /// What a summary makes of each group: its size, or an aggregate of a term.
 #[derive(Drop)]
-pub enum Summary<T> {
+pub enum SummaryTerm<T> {
     Count,
     Of(Aggregate, T),
 }
@@ -145,6 +145,6 @@ pub enum Expr {
     Aggregate(Aggregate, Boxed<Expr>, Option<Boxed<Expr>>),
     If(Boxed<Expr>, Boxed<Expr>, Boxed<Expr>),
     Extend(Extension, Boxed<Expr>, Items<Named<Boxed<Expr>>>),
-    Summarize(Boxed<Expr>, Groups<Boxed<Expr>>, Items<Named<Summary<Boxed<Expr>>>>),
+    Summarize(Boxed<Expr>, Groups<Boxed<Expr>>, Items<Named<SummaryTerm<Boxed<Expr>>>>),
     With(Items<Named<Boxed<Expr>>>, Boxed<Expr>),
 }

@@ -6,7 +6,7 @@ use Rattle.std.specs.Str.{IsCharBoundary}
 use Rattle.std.proofs.lemmas.Bool.Decides.{nat_tests}
 use Rattle.std.proofs.lemmas.List.{drop-drop}
 use Rattle.std.proofs.lemmas.Str.{IsUtf8-drop, IsCharBoundary-from_drop}
-use Rattle.td_tokens.specs.declared.token.Kind.{Kind}
+use Rattle.td_tokens.specs.declared.token.TokenKind.{TokenKind}
 use Rattle.td_tokens.specs.declared.piece.Piece.{Piece}
 use Rattle.td_tokens.specs.Lex.{Text, Spanned, open_after, most_open}
 use Rattle.td_tokens.specs.Lexer.{lexeme, front, Lexed, piece_then, lexed, reading, open_behind, where_shallow, next_piece}
@@ -53,7 +53,7 @@ piece_of : (depth : ℕ) (o : Option Piece) (x : ℕ × ℕ) → option_and_then
 piece_of depth None x h = absurd (none_some h)
 piece_of depth (Some p) x h = let s = shallow_found (nat_le (open_behind depth p.kind) most_open) p.length (open_behind depth p.kind) x h in (p, refl, s.0, s.1)
 
-later_some : (more : ℕ → Lexed) (depth at : ℕ) (bs : Text) (o : Option Kind) (n : ℕ) → nat_le (open_behind depth o) most_open ≡ true
+later_some : (more : ℕ → Lexed) (depth at : ℕ) (bs : Text) (o : Option TokenKind) (n : ℕ) → nat_le (open_behind depth o) most_open ≡ true
     → is_some (piece_then more depth at bs o n) ≡ is_some (more (open_behind depth o))
 later_some more depth at bs None n fits = refl
 later_some more depth at bs (Some k) n fits =
@@ -102,7 +102,7 @@ not_shallow : (deep : Bool) (x : ℕ × ℕ) → cond deep (Some x) None ≡ Non
 not_shallow true x h = absurd (none_some (sym h))
 not_shallow false x h = refl
 
-later_none : (more : ℕ → Lexed) (depth at : ℕ) (bs : Text) (o : Option Kind) (n : ℕ) → depth ≤ most_open → nat_le (open_behind depth o) most_open ≡ false
+later_none : (more : ℕ → Lexed) (depth at : ℕ) (bs : Text) (o : Option TokenKind) (n : ℕ) → depth ≤ most_open → nat_le (open_behind depth o) most_open ≡ false
     → is_some (piece_then more depth at bs o n) ≡ false
 later_none more depth at bs None n h deep = absurd (grind (arith, nat_tests))
 later_none more depth at bs (Some k) n h deep =

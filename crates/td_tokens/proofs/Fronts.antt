@@ -7,8 +7,8 @@ use Rattle.std.specs.List.{list_all}
 use Rattle.std.specs.Prelude.{nat_le, option_map, slice_index}
 use Rattle.td_values.specs.Names.{is_letter, goes_on_in_name}
 use Rattle.td_tokens.specs.declared.token.Word.{Word}
-use Rattle.td_tokens.specs.declared.token.Kind.{Kind}
-use Rattle.td_tokens.specs.declared.token.Kind.TheVariants as kind
+use Rattle.td_tokens.specs.declared.token.TokenKind.{TokenKind}
+use Rattle.td_tokens.specs.declared.token.TokenKind.TheVariants as kind
 use Rattle.td_tokens.specs.declared.piece.Piece.{Piece}
 use Rattle.td_tokens.specs.Words.{Spelling}
 use Rattle.td_tokens.specs.Lex.{Text, Lexeme, name, text, first, begins_with, is_blank, is_plain, run, keyword_of, value, largest_int, symbol_at, EndsComment, closing, inside, IsSkipped, a_blank, a_comment, IsQuoted, closing_quote, doubled_quote, character, IsFront, a_keyword, a_name, an_int, a_text, a_symbol}
@@ -132,7 +132,7 @@ text_found (b ∷ c ∷ bs) at m h =
 -- a piece, as the clauses have it
 pub data Stands (bs : Text) : Piece → Type 0 where
   white_space : {n : ℕ} → IsSkipped bs n → Stands bs (record { kind = None; length = n })
-  a_token : {k : Kind} {n : ℕ} → IsFront bs (lexeme k (take n bs)) n → Stands bs (record { kind = Some k; length = n })
+  a_token : {k : TokenKind} {n : ℕ} → IsFront bs (lexeme k (take n bs)) n → Stands bs (record { kind = Some k; length = n })
 
 letter_no_blank : (b : ℕ) → is_letter b ≡ true → is_blank b ≡ false
 letter_no_blank b h = grind (arith, nat_tests)
@@ -150,7 +150,7 @@ run_first : (bs : Text) → goes_on_in_name (first bs) ≡ true → first (run b
 run_first [] h = refl
 run_first (b ∷ bs) h = ap first (run_is b bs h)
 
-run_goes : (bs : Text) (k : Kind) → is_blank (first bs) ≡ false → goes_on_in_name (first bs) ≡ true → run_kind (run bs) ≡ Some k → front bs ≡ Some (record { kind = Some k; length = length (run bs) })
+run_goes : (bs : Text) (k : TokenKind) → is_blank (first bs) ≡ false → goes_on_in_name (first bs) ≡ true → run_kind (run bs) ≡ Some k → front bs ≡ Some (record { kind = Some k; length = length (run bs) })
 unfolding front
 run_goes bs k no_blank goes is = rw (no_blank, goes, is) refl
 
@@ -163,13 +163,13 @@ skipped_goes (a_comment {n} {bs} d) =
 
 -- the function finds this token
 abbrev pub IsFound : Text → Lexeme → ℕ → Type 0
-IsFound bs l n = (k : Kind) × (front bs ≡ Some (record { kind = Some k; length = n })) × (lexeme k (take n bs) ≡ l)
+IsFound bs l n = (k : TokenKind) × (front bs ≡ Some (record { kind = Some k; length = n })) × (lexeme k (take n bs) ≡ l)
 
-name_kind_goes : (bs : Text) (k : Kind) → is_letter (first bs) ≡ true → name_kind (run bs) ≡ Some k → run_kind (run bs) ≡ Some k
+name_kind_goes : (bs : Text) (k : TokenKind) → is_letter (first bs) ≡ true → name_kind (run bs) ≡ Some k → run_kind (run bs) ≡ Some k
 unfolding run_kind
 name_kind_goes bs k letter is = rw (run_first bs (letter_goes_on (first bs) letter), letter) is
 
-int_kind_goes : (bs : Text) (k : Kind) → is_ascii_digit (first bs) ≡ true → int_kind (run bs) ≡ Some k → run_kind (run bs) ≡ Some k
+int_kind_goes : (bs : Text) (k : TokenKind) → is_ascii_digit (first bs) ≡ true → int_kind (run bs) ≡ Some k → run_kind (run bs) ≡ Some k
 unfolding run_kind
 int_kind_goes bs k digit is = rw (run_first bs (digit_goes_on (first bs) digit), digit_no_letter (first bs) digit) is
 
@@ -201,7 +201,7 @@ front_goes (a_keyword {bs} {v} letter is) =
 front_goes (a_name {bs} letter is short) =
     (kind.Name, run_goes bs kind.Name (letter_no_blank (first bs) letter) (letter_goes_on (first bs) letter) (name_kind_goes bs kind.Name letter (short_kind (run bs) is short)), ap name (take_run bs))
 front_goes (an_int {bs} digit all small) =
-    let k : Kind = kind.Int (value (run bs)) in
+    let k : TokenKind = kind.Int (value (run bs)) in
     (k, run_goes bs k (digit_no_blank (first bs) digit) (digit_goes_on (first bs) digit) (int_kind_goes bs k digit (small_kind (run bs) all small)), refl)
 front_goes (a_text {n} {bs} {cs} d) =
     let e : 1 + n ≡ suc n = omega arith in
@@ -215,23 +215,23 @@ mapped f None y h = absurd (none_some h)
 mapped f (Some x) y h = (x, refl, (let e : ◌≡◌ {A = Option _} (Some (f x)) (Some y) = h in cc))
 
 -- a kind of a run, as the clauses have it
-abbrev pub IsRunToken : Text → Kind → Type 0
+abbrev pub IsRunToken : Text → TokenKind → Type 0
 IsRunToken bs k = IsFront bs (lexeme k (run bs)) (length (run bs))
 
-name_found_by : (bs : Text) (k : Kind) (o : Option Word) → is_letter (first bs) ≡ true → keyword_of (run bs) ≡ o → word_or_name o (run bs) ≡ Some k → IsRunToken bs k
+name_found_by : (bs : Text) (k : TokenKind) (o : Option Word) → is_letter (first bs) ≡ true → keyword_of (run bs) ≡ o → word_or_name o (run bs) ≡ Some k → IsRunToken bs k
 name_found_by bs k (Some v) letter is h =
     let e : kind.Word v ≡ k = cc in
     subst (IsRunToken bs) e (a_keyword letter is)
 name_found_by bs k None letter is h =
     elim (ways (nat_le (length (run bs)) 64) (Some kind.Name) None (Some k) h) [
-      | inl q ↦ (let e' : ◌≡◌ {A = Option Kind} (Some kind.Name) (Some k) = q.1 in
+      | inl q ↦ (let e' : ◌≡◌ {A = Option TokenKind} (Some kind.Name) (Some k) = q.1 in
           let e : kind.Name ≡ k = cc in
           let short : length (run bs) ≤ 64 = grind (arith, nat_tests, q.0) in
           subst (IsRunToken bs) e (a_name letter is short))
       | inr q ↦ absurd (none_some q.1)
     ]
 
-name_found : (bs : Text) (k : Kind) → is_letter (first bs) ≡ true → name_kind (run bs) ≡ Some k → IsRunToken bs k
+name_found : (bs : Text) (k : TokenKind) → is_letter (first bs) ≡ true → name_kind (run bs) ≡ Some k → IsRunToken bs k
 unfolding name_kind
 name_found bs k letter h = name_found_by bs k (keyword_of (run bs)) letter refl h
 
@@ -240,11 +240,11 @@ digit_first : (bs : Text) → goes_on_in_name (first bs) ≡ true → list_all i
 digit_first [] goes all = absurd (let no : ⊥ = cc in no)
 digit_first (b ∷ bs) goes all = (both (is_ascii_digit b) (list_all is_ascii_digit (run bs)) (subst (λ xs. list_all is_ascii_digit xs ≡ true) (run_is b bs goes) all)).0
 
-int_found : (bs : Text) (k : Kind) → goes_on_in_name (first bs) ≡ true → int_kind (run bs) ≡ Some k → IsRunToken bs k
+int_found : (bs : Text) (k : TokenKind) → goes_on_in_name (first bs) ≡ true → int_kind (run bs) ≡ Some k → IsRunToken bs k
 unfolding int_kind
 int_found bs k goes h =
     elim (ways (list_all is_ascii_digit (run bs) && nat_le (value (run bs)) largest_int) (Some (kind.Int (value (run bs)))) None (Some k) h) [
-      | inl q ↦ (let e' : ◌≡◌ {A = Option Kind} (Some (kind.Int (value (run bs)))) (Some k) = q.1 in
+      | inl q ↦ (let e' : ◌≡◌ {A = Option TokenKind} (Some (kind.Int (value (run bs)))) (Some k) = q.1 in
           let e : kind.Int (value (run bs)) ≡ k = cc in
           let parts = both (list_all is_ascii_digit (run bs)) (nat_le (value (run bs)) largest_int) q.0 in
           let small : value (run bs) ≤ largest_int = grind (arith, nat_tests, parts.1) in
@@ -252,7 +252,7 @@ int_found bs k goes h =
       | inr q ↦ absurd (none_some q.1)
     ]
 
-run_found : (bs : Text) (k : Kind) → goes_on_in_name (first bs) ≡ true → run_kind (run bs) ≡ Some k → IsRunToken bs k
+run_found : (bs : Text) (k : TokenKind) → goes_on_in_name (first bs) ≡ true → run_kind (run bs) ≡ Some k → IsRunToken bs k
 unfolding run_kind
 run_found bs k goes h =
     elim (ways (is_letter (first (run bs))) (name_kind (run bs)) (int_kind (run bs)) (Some k) h) [
@@ -262,7 +262,7 @@ run_found bs k goes h =
 
 run_stands : (bs : Text) (p : Piece) → goes_on_in_name (first bs) ≡ true → run_piece (run bs) ≡ Some p → Stands bs p
 run_stands bs p goes h =
-    let m = mapped (λ (k : Kind). record { kind = Some k; length = length (run bs) }) (run_kind (run bs)) p h in
+    let m = mapped (λ (k : TokenKind). record { kind = Some k; length = length (run bs) }) (run_kind (run bs)) p h in
     subst (Stands bs) m.2 (a_token (subst (λ xs. IsFront bs (lexeme m.0 xs) (length (run bs))) (sym (take_run bs)) (run_found bs m.0 goes m.1)))
 
 text_stands : (bs : Text) (p : Piece) → taking (text_end false 1 bs) ≡ Some p → Stands (39 ∷ bs) p

@@ -8,8 +8,8 @@ use Rattle.std.specs.Str.Parse.{ParsesUnsigned}
 use Rattle.std.proofs.lemmas.Bool.Decides.{nat_tests}
 use Rattle.std.proofs.lemmas.Str.Parse.{IsNumeralModel, numerals_by_fold, parse_plain}
 use Rattle.td_values.specs.Names.{goes_on_in_name}
-use Rattle.td_tokens.specs.declared.token.Kind.{Kind}
-use Rattle.td_tokens.specs.declared.token.Kind.TheVariants as kind
+use Rattle.td_tokens.specs.declared.token.TokenKind.{TokenKind}
+use Rattle.td_tokens.specs.declared.token.TokenKind.TheVariants as kind
 use Rattle.td_tokens.specs.Lex.{Text, value, largest_int}
 use Rattle.td_tokens.specs.Lexer.{int_kind}
 
@@ -33,7 +33,7 @@ nonempty [] goes = absurd (let no : ⊥ = cc in no)
 nonempty (b ∷ bs) goes = omega arith
 
 -- an integer that is not too large
-abbrev pub in_range : ℕ → Option Kind
+abbrev pub in_range : ℕ → Option TokenKind
 in_range v = cond (nat_le v largest_int) (Some (kind.Int v)) None
 
 -- A run is an integer where it parses as one in range.

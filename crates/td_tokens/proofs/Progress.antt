@@ -6,8 +6,8 @@ use Rattle.std.proofs.lemmas.Bool.Decides.{nat_tests}
 use Rattle.std.proofs.lemmas.List.{map-append, drop-drop, append-nil}
 use Rattle.std.proofs.lemmas.List.Elements.{All-nil, All-push}
 use Rattle.std.proofs.lemmas.Str.{IsUtf8-drop}
-use Rattle.td_tokens.specs.declared.token.Kind.{Kind}
-use Rattle.td_tokens.specs.declared.token.Kind.TheVariants as kind
+use Rattle.td_tokens.specs.declared.token.TokenKind.{TokenKind}
+use Rattle.td_tokens.specs.declared.token.TokenKind.TheVariants as kind
 use Rattle.td_tokens.specs.declared.token.Token.{Token}
 use Rattle.td_tokens.specs.declared.piece.Piece.{Piece}
 use Rattle.td_tokens.specs.Lex.{Text, Spanned, open_after, most_open}
@@ -39,7 +39,7 @@ after_one ts t None = refl
 after_one ts t (Some us) = ap Some (sym (append_assoc ts (t ∷ []) us))
 
 -- the bytes of a token do not count for brackets
-pub same_open : (depth : ℕ) (k : Kind) (bs : Text) → open_after depth (lexeme k bs) ≡ open_after depth (lexeme k [])
+pub same_open : (depth : ℕ) (k : TokenKind) (bs : Text) → open_after depth (lexeme k bs) ≡ open_after depth (lexeme k [])
 same_open depth (kind.Word v) bs = refl
 same_open depth kind.Name bs = refl
 same_open depth (kind.Int n) bs = refl
@@ -89,7 +89,7 @@ module _ {source : Text} {ts : List Token} {start depth : ℕ} {rest : Text} (re
   utf8_after : IsUtf8 (drop p.length rest)
   utf8_after = IsUtf8-drop rest p.length read.utf8 boundary
 
-  step : (o : Option Kind) → p.kind ≡ o → lexed 0 depth start rest ≡ piece_then (λ d. lexed 0 d (start + p.length) (drop p.length rest)) depth start rest o p.length
+  step : (o : Option TokenKind) → p.kind ≡ o → lexed 0 depth start rest ≡ piece_then (λ d. lexed 0 d (start + p.length) (drop p.length rest)) depth start rest o p.length
   step o e = piece_step rest depth start p cut is ∙ ap (λ x. piece_then (λ d. lexed 0 d (start + p.length) (drop p.length rest)) depth start rest x p.length) e
 
   -- white space adds no token
@@ -104,7 +104,7 @@ module _ {source : Text} {ts : List Token} {start depth : ℕ} {rest : Text} (re
   }
 
   -- a token is added
-  pub read_token : (k : Kind) (t : Token) → p.kind ≡ Some k → t.kind ≡ k → t.text.now ≡ take p.length rest → t.start ≡ start → t.end ≡ start + p.length → open_after depth (lexeme k []) ≤ most_open → IsReadTo source (ts ++ t ∷ []) (start + p.length) (open_after depth (lexeme k [])) (drop p.length rest)
+  pub read_token : (k : TokenKind) (t : Token) → p.kind ≡ Some k → t.kind ≡ k → t.text.now ≡ take p.length rest → t.start ≡ start → t.end ≡ start + p.length → open_after depth (lexeme k []) ≤ most_open → IsReadTo source (ts ++ t ∷ []) (start + p.length) (open_after depth (lexeme k [])) (drop p.length rest)
   read_token k t some kind_is text_is start_is end_is shallow =
       let spanned : spanned_of t ≡ record { lexeme = lexeme k (take p.length rest); start = start; end = start + p.length } = (λ i. record { lexeme = lexeme (kind_is i) (text_is i); start = start_is i; end = end_is i }) in
       let fits : nat_le (open_after depth (lexeme k [])) most_open ≡ true = grind (arith, nat_tests) in
@@ -125,7 +125,7 @@ module _ {source : Text} {ts : List Token} {start depth : ℕ} {rest : Text} (re
       }
 
   -- too many brackets are open
-  pub read_too_deep : (k : Kind) → p.kind ≡ Some k → most_open < open_after depth (lexeme k []) → reading source ≡ None
+  pub read_too_deep : (k : TokenKind) → p.kind ≡ Some k → most_open < open_after depth (lexeme k []) → reading source ≡ None
   read_too_deep k some deep =
       let past : nat_le (open_after depth (lexeme k [])) most_open ≡ false = grind (arith, nat_tests) in
       read.whole

@@ -5,8 +5,8 @@ use Rattle.std.specs.List.{list_all}
 use Rattle.std.specs.Str.{byte}
 use Rattle.td_values.specs.Names.{is_letter, goes_on_in_name}
 use Rattle.td_tokens.specs.declared.token.Word.{Word}
-use Rattle.td_tokens.specs.declared.token.Kind.{Kind}
-use Rattle.td_tokens.specs.declared.token.Kind.TheVariants as kind
+use Rattle.td_tokens.specs.declared.token.TokenKind.{TokenKind}
+use Rattle.td_tokens.specs.declared.token.TokenKind.TheVariants as kind
 use Rattle.td_tokens.specs.declared.piece.Piece.{Piece}
 use Rattle.td_tokens.specs.Words.{Spelling}
 use Rattle.td_tokens.specs.Lex.{Text, Lexeme, word, name, int, text, Spanned, first, begins_with, is_blank, is_plain, run, keyword_of, value, largest_int, symbol_at, open_after, most_open}
@@ -23,7 +23,7 @@ undoubled after_quote (b ∷ bs) =
     if b == byte "'" && not after_quote then undoubled true bs else b ∷ undoubled false bs
 
 -- what a token of this kind is, which takes these bytes
-abbrev pub lexeme : Kind → Text → Lexeme
+abbrev pub lexeme : TokenKind → Text → Lexeme
 lexeme (kind.Word v) bs = word v
 lexeme kind.Name bs = name bs
 lexeme (kind.Int n) bs = int n
@@ -42,18 +42,18 @@ text_end after_quote at (b ∷ bs) =
     if b == byte "'" then text_end (not after_quote) (at + 1) bs
     else (if after_quote then Some at else (if is_plain b then text_end false (at + 1) bs else None))
 
-unfoldable pub int_kind : Text → Option Kind
+unfoldable pub int_kind : Text → Option TokenKind
 int_kind bs = if list_all is_ascii_digit bs && nat_le (value bs) largest_int then Some (kind.Int (value bs)) else None
 
-abbrev pub word_or_name : Option Word → Text → Option Kind
+abbrev pub word_or_name : Option Word → Text → Option TokenKind
 word_or_name (Some v) bs = Some (kind.Word v)
 word_or_name None bs = if nat_le (length bs) 64 then Some kind.Name else None
 
-unfoldable pub name_kind : Text → Option Kind
+unfoldable pub name_kind : Text → Option TokenKind
 name_kind bs = word_or_name (keyword_of bs) bs
 
 -- what a whole run is
-unfoldable pub run_kind : Text → Option Kind
+unfoldable pub run_kind : Text → Option TokenKind
 run_kind bs = if is_letter (first bs) then name_kind bs else int_kind bs
 
 abbrev pub skipping : Option ℕ → Option Piece
@@ -90,7 +90,7 @@ token_then more depth t =
     if nat_le (open_after depth t.lexeme) most_open then option_map (λ ts. t ∷ ts) (more (open_after depth t.lexeme)) else None
 
 -- a token of this kind and length first, or white space
-abbrev pub piece_then : (ℕ → Lexed) → ℕ → ℕ → Text → Option Kind → ℕ → Lexed
+abbrev pub piece_then : (ℕ → Lexed) → ℕ → ℕ → Text → Option TokenKind → ℕ → Lexed
 piece_then more depth at bs None n = more depth
 piece_then more depth at bs (Some k) n = token_then more depth (record { lexeme = lexeme k (take n bs); start = at; end = at + n })
 
@@ -111,7 +111,7 @@ abbrev pub lexemes : Text → Option (List Lexeme)
 lexemes bs = option_map (map (λ (t : Spanned). t.lexeme)) (reading bs)
 
 -- how many brackets are open behind a piece
-abbrev pub open_behind : ℕ → Option Kind → ℕ
+abbrev pub open_behind : ℕ → Option TokenKind → ℕ
 open_behind depth None = depth
 open_behind depth (Some k) = open_after depth (lexeme k [])
 

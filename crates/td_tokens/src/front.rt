@@ -7,7 +7,7 @@ ghost use Rattle.td_tokens.specs.Lex.{is_blank, is_plain, run};
 ghost use Rattle.td_tokens.specs.Lexer as spec;
 
 use crate::piece::Piece;
-use crate::token::Kind;
+use crate::token::TokenKind;
 use crate::words::{keyword, symbol};
 
 const LARGEST_INT: u64 = 9_223_372_036_854_775_807;
@@ -86,13 +86,13 @@ fn text_end(rest: &[u8]) -> Option<usize>
 
 /// The integer that a run of letters, digits, `_` and `#` writes, where it has digits alone.
 #[tactic(auto, unfolding(crate::specs::Lexer::int_kind))]
-fn int_kind(run: &str) -> Option<Kind>
+fn int_kind(run: &str) -> Option<TokenKind>
     requires { goes_on_in_name (slice_index run.now 0) ≡ true }
     ensures { result ≡ spec.int_kind run.now }
 {
     let value = run.parse::<u64>().ok()?;
     if value <= LARGEST_INT {
-        Some(Kind::Int(value))
+        Some(TokenKind::Int(value))
     } else {
         None
     }
@@ -100,19 +100,19 @@ fn int_kind(run: &str) -> Option<Kind>
 
 /// What a run that begins with a letter is.
 #[tactic(auto, unfolding(crate::specs::Lexer::name_kind))]
-fn name_kind(run: &str) -> Option<Kind>
+fn name_kind(run: &str) -> Option<TokenKind>
     ensures { result ≡ spec.name_kind run.now }
 {
     match keyword(run.as_bytes()) {
-        Some(word) => Some(Kind::Word(word)),
-        None if run.len() <= LONGEST_NAME => Some(Kind::Name),
+        Some(word) => Some(TokenKind::Word(word)),
+        None if run.len() <= LONGEST_NAME => Some(TokenKind::Name),
         None => None,
     }
 }
 
 /// What a run is, if it is a token.
 #[tactic(auto, unfolding(crate::specs::Lexer::run_kind))]
-fn run_kind(run: &str) -> Option<Kind>
+fn run_kind(run: &str) -> Option<TokenKind>
     requires { goes_on_in_name (slice_index run.now 0) ≡ true }
     ensures { result ≡ spec.run_kind run.now }
 {
@@ -150,7 +150,7 @@ pub fn front(text: &str) -> Option<Piece>
         run_piece(text)
     } else if first == b'\'' {
         text_end(&bytes[1..]).map(|length| Piece {
-            kind: Some(Kind::Text),
+            kind: Some(TokenKind::Text),
             length,
         })
     } else if let [b'/', b'*', inside @ ..] = bytes {

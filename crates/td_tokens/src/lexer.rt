@@ -9,19 +9,19 @@ ghost use Rattle.td_tokens.specs.View.{spanned_of};
 
 use crate::error::TokenError;
 use crate::front::front;
-use crate::token::{Kind, Token, Word};
+use crate::token::{Token, TokenKind, Word};
 use std::alloc::Global;
 
 /// How many of `(` and `{` may be open at once in a text.
 const MOST_OPEN: usize = 64;
 
-fn open_after(depth: usize, kind: Kind) -> usize
+fn open_after(depth: usize, kind: TokenKind) -> usize
     requires { depth ≤ 64 }
     ensures { result ≡ open_after depth (lexeme kind []) }
 {
     match kind {
-        Kind::Word(Word::OpenParenthesis | Word::OpenBrace) => depth + 1,
-        Kind::Word(Word::CloseParenthesis | Word::CloseBrace) => depth.saturating_sub(1),
+        TokenKind::Word(Word::OpenParenthesis | Word::OpenBrace) => depth + 1,
+        TokenKind::Word(Word::CloseParenthesis | Word::CloseBrace) => depth.saturating_sub(1),
         _ => depth,
     }
 }
@@ -60,7 +60,7 @@ pub fn tokens(alloc: Global, source: &str) -> Result<Vec<Token<'_>>, TokenError>
     Ok(found)
 }
 
-fn open_behind(depth: usize, kind: Option<Kind>) -> usize
+fn open_behind(depth: usize, kind: Option<TokenKind>) -> usize
     requires { depth ≤ 64 }
     ensures { result ≡ open_behind depth kind }
 {

@@ -23,4 +23,4 @@ mod words;
 
 pub use error::TokenError;
 pub use lexer::{tokens, tokens_end};
-pub use token::{Kind, Token, Word};
+pub use token::{Token, TokenKind, Word};

@@ -93,7 +93,7 @@ pub enum Word {
 
 /// What a token is, with the value of an integer.
 #[derive(Clone, Copy, PartialEq, Eq)]
-pub enum Kind {
+pub enum TokenKind {
     Word(Word),
     Name,
     Int(u64),
@@ -103,7 +103,7 @@ pub enum Kind {
 /// A token and the part of the source that it takes: the bytes from `start` up to `end`, in UTF-8.
 #[derive(Clone, Copy)]
 pub struct Token<'a> {
-    pub kind: Kind,
+    pub kind: TokenKind,
     pub text: &'a str,
     pub start: usize,
     pub end: usize,
@@ -112,7 +112,7 @@ pub struct Token<'a> {
 impl Token<'_> {
     /// The characters of a text literal: without its quotes, and each doubled quote inside once.
     pub fn characters(&self, alloc: Global) -> Result<String, AllocError>
-        requires { self.now.kind ≡ Kind.Text }
+        requires { self.now.kind ≡ TokenKind.Text }
         ensures { IfOk result (λ s. text (string_bytes s) ≡ lexeme_of self.now) }
     {
         let mut characters = String::new(alloc);

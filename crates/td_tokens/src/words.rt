@@ -7,7 +7,7 @@ ghost use Rattle.td_tokens.specs.Lexer.{sign_piece, symbol_piece};
 ghost use Rattle.td_tokens.specs.Lex.{keyword_of, begins_with};
 
 use crate::piece::Piece;
-use crate::token::{Kind, Word};
+use crate::token::{TokenKind, Word};
 
 const KEYWORDS: [(&[u8], Word); 61] = [
     (b"ADD", Word::Add),
@@ -142,7 +142,7 @@ fn symbol_in(table: &[(&[u8], Word)], bytes: &[u8]) -> Option<Piece>
 {
     for (spelling, word) in table {
         if begins(bytes, spelling) {
-            let kind = Some(Kind::Word(*word));
+            let kind = Some(TokenKind::Word(*word));
             return Some(Piece {
                 kind,
                 length: spelling.len(),

@@ -15,7 +15,7 @@ use Rattle.td_headings.specs.Catalogues.{CatalogueData}
 use Rattle.td_headings.specs.Definitions.{Defines, names_of_relvars}
 use Rattle.td_headings.specs.Statements.{TypesStatement}
 use Rattle.td_headings.specs.declared.statement.TypedStatement.{TypedStatement}
-use Rattle.td_type_errors.specs.Diagnoses.{IsIllTypedQuery, IsIllTypedStatement, IsIllTypedDefinition, IsDefinition, IsDefined, FindsDefinition}
+use Rattle.td_type_errors.specs.Diagnoses.{IsQueryWithoutType, IsStatementWithoutType, IsDefinitionWithoutType, IsDefinition, IsDefined, FindsDefinition}
 
 some_same : {A : Type 0} (a b : A) → Some a ≡ Some b → a ≡ b
 some_same a b h = cc
@@ -33,20 +33,20 @@ one_script : (text : Text) (a b : List Definition) → IsScript text a → IsScr
 one_script text a b p q = some_same a b (sym ((reader_decides_scripts text a).1 p) ∙ (reader_decides_scripts text b).1 q)
 
 -- ---- a text that is not read
-pub unread_query : (c : CatalogueData) (text : Text) → ((tree : Expr) → ¬ (IsQuery text tree)) → ¬ (IsIllTypedQuery c text)
+pub unread_query : (c : CatalogueData) (text : Text) → ((tree : Expr) → ¬ (IsQuery text tree)) → ¬ (IsQueryWithoutType c text)
 unread_query c text none h = none h.0 h.1
 
-pub unread_statement : (c : CatalogueData) (text : Text) → ((tree : Statement) → ¬ (IsStatement text tree)) → ¬ (IsIllTypedStatement c text)
+pub unread_statement : (c : CatalogueData) (text : Text) → ((tree : Statement) → ¬ (IsStatement text tree)) → ¬ (IsStatementWithoutType c text)
 unread_statement c text none h = none h.0 h.1
 
-pub no_definition : (c : CatalogueData) (text : Text) → ((tree : Definition) → ¬ (IsDefinition text tree)) → ¬ (IsIllTypedDefinition c text)
+pub no_definition : (c : CatalogueData) (text : Text) → ((tree : Definition) → ¬ (IsDefinition text tree)) → ¬ (IsDefinitionWithoutType c text)
 no_definition c text none h = none h.0 h.1
 
 -- ---- one that is well typed
-pub typed_query : (c : CatalogueData) (text : Text) (a : Expr) (u : Typed) (k : TypeKind) → IsQuery text a → Types c.schema (names_of_relvars c) a u k → ¬ (IsIllTypedQuery c text)
+pub typed_query : (c : CatalogueData) (text : Text) (a : Expr) (u : Typed) (k : TypeKind) → IsQuery text a → Types c.schema (names_of_relvars c) a u k → ¬ (IsQueryWithoutType c text)
 typed_query c text a u k read types h = h.2 u k (subst (λ (e : Expr). Types c.schema (names_of_relvars c) e u k) (one_query text a h.0 read h.1) types)
 
-pub typed_statement : (c : CatalogueData) (text : Text) (a : Statement) (x : TypedStatement) → IsStatement text a → TypesStatement c a x → ¬ (IsIllTypedStatement c text)
+pub typed_statement : (c : CatalogueData) (text : Text) (a : Statement) (x : TypedStatement) → IsStatement text a → TypesStatement c a x → ¬ (IsStatementWithoutType c text)
 typed_statement c text a x read types h = h.2 x (subst (λ (s : Statement). TypesStatement c s x) (one_statement text a h.0 read h.1) types)
 
 one_definition : (text : Text) (a b : Definition) → IsDefinition text a → IsDefinition text b → a ≡ b
@@ -60,7 +60,7 @@ not_one text trees shown read is longer tree other = longer (ap length (is ∙ o
 pub is_first : (text : Text) (trees shown : List Definition) (x : Definition) → FindsDefinition text (Some trees) → shown ≡ trees → x ≡ get_or shown 0 x → IsDefinition text x
 is_first text trees shown x found same is = subst (IsDefinition text) (sym (is ∙ ap (λ xs. get_or xs 0 x) (same ∙ found.1))) found.2
 
-pub typed_definition : (c d : CatalogueData) (text : Text) (a : Definition) → IsDefinition text a → Defines c a d → ¬ (IsIllTypedDefinition c text)
+pub typed_definition : (c d : CatalogueData) (text : Text) (a : Definition) → IsDefinition text a → Defines c a d → ¬ (IsDefinitionWithoutType c text)
 typed_definition c d text a read types h = h.2 d (subst (λ (x : Definition). Defines c x d) (one_definition text a h.0 read h.1) types)
 
 pub is_defined : (c d : CatalogueData) (text : Text) (a : Definition) → IsDefinition text a → Defines c a d → IsDefined c text d

@@ -14,12 +14,12 @@ use Rattle.td_headings.specs.Statements.{TypesNoStatement}
 use Rattle.td_type_errors.specs.declared.diagnostic.Diagnostic.{Diagnostic}
 
 -- the text is read as a query that has no type over the relvars
-abbrev pub IsIllTypedQuery : CatalogueData → Text → Type 0
-IsIllTypedQuery c bytes = (tree : Expr) × IsQuery bytes tree × IsIllTyped c.schema (names_of_relvars c) tree
+abbrev pub IsQueryWithoutType : CatalogueData → Text → Type 0
+IsQueryWithoutType c bytes = (tree : Expr) × IsQuery bytes tree × IsIllTyped c.schema (names_of_relvars c) tree
 
 -- the text is read as a statement that no rule types
-abbrev pub IsIllTypedStatement : CatalogueData → Text → Type 0
-IsIllTypedStatement c bytes = (tree : Statement) × IsStatement bytes tree × TypesNoStatement c tree
+abbrev pub IsStatementWithoutType : CatalogueData → Text → Type 0
+IsStatementWithoutType c bytes = (tree : Statement) × IsStatement bytes tree × TypesNoStatement c tree
 
 -- the text is this definition alone
 abbrev pub IsDefinition : Text → Definition → Type 0
@@ -29,13 +29,13 @@ IsDefinition bytes tree = IsScript bytes (tree ∷ [])
 abbrev pub DefinesNothing : CatalogueData → Definition → Type 0
 DefinesNothing c tree = (d : CatalogueData) → ¬ (Defines c tree d)
 
-abbrev pub IsIllTypedDefinition : CatalogueData → Text → Type 0
-IsIllTypedDefinition c bytes = (tree : Definition) × IsDefinition bytes tree × DefinesNothing c tree
+abbrev pub IsDefinitionWithoutType : CatalogueData → Text → Type 0
+IsDefinitionWithoutType c bytes = (tree : Definition) × IsDefinition bytes tree × DefinesNothing c tree
 
 -- something is found exactly where this is so
-abbrev pub IsFound : {A : Type 0} → Type 0 → Option A → Type 0
-IsFound IsWrong None = ¬ IsWrong
-IsFound IsWrong (Some found) = IsWrong
+abbrev pub FindsWhere : {A : Type 0} → Type 0 → Option A → Type 0
+FindsWhere IsWrong None = ¬ IsWrong
+FindsWhere IsWrong (Some found) = IsWrong
 
 -- the text is the definition that is found alone, or none
 abbrev pub FindsDefinition : Text → Option (List Definition) → Type 0
@@ -53,6 +53,6 @@ pub record IsDefined (c : CatalogueData) (bytes : Text) (d : CatalogueData) : Ty
   pub none : ((tree : Definition) → ¬ (IsDefinition bytes tree)) → d ≡ c
 
 -- Where nothing is told, what is defined grows by the definition that the text is; else it stays.
-abbrev pub Grows : CatalogueData → Text → Option Diagnostic → CatalogueData → Type 0
-Grows c bytes None d = IsDefined c bytes d
-Grows c bytes (Some told) d = d ≡ c
+abbrev pub IsCatalogueAfter : CatalogueData → Text → Option Diagnostic → CatalogueData → Type 0
+IsCatalogueAfter c bytes None d = IsDefined c bytes d
+IsCatalogueAfter c bytes (Some told) d = d ≡ c

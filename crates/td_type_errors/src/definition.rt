@@ -1,6 +1,6 @@
 //! Definitions: names that are there before, types, openings, keys and conditions.
 
-use crate::diagnostic::{Diagnostic, Fault};
+use crate::diagnostic::{DiagnosisError, Diagnostic};
 use crate::headings::unlike;
 use crate::parts::Explainer;
 use crate::sentence::Sentence;
@@ -21,13 +21,13 @@ use td_values::{Heading, Name, TypeKind};
 const NAME: usize = 1;
 
 impl Explainer<'_> {
-    fn defined_before<T>(&self, name: &Name, at: usize) -> Result<T, Fault> {
+    fn defined_before<T>(&self, name: &Name, at: usize) -> Result<T, DiagnosisError> {
         let sentence = Sentence::of(self.alloc, name.as_str()).say(" is defined before");
         self.fault(at, sentence)
     }
 
     // That a possrep's name is new, and none of THE_.
-    fn check_selector(&self, name: &Name, at: usize) -> Result<(), Fault> {
+    fn check_selector(&self, name: &Name, at: usize) -> Result<(), DiagnosisError> {
         if begins_with_the(name) {
             let words = "the name of a selector does not begin with THE_";
             return self.fault(at, Sentence::of(self.alloc, words));
@@ -40,17 +40,21 @@ impl Explainer<'_> {
     }
 
     // The components of a possrep as the attributes of a tuple.
-    fn components(&self, fields: &[Named<TypeExpr>], first: usize) -> Result<Heading, Fault> {
+    fn components(
+        &self,
+        fields: &[Named<TypeExpr>],
+        first: usize,
+    ) -> Result<Heading, DiagnosisError> {
         check_fields(fields, self, first)?;
         match components_written(self.alloc, self.schema(), fields) {
             Ok(kinds) => Ok(kind_columns(self.alloc, kinds.as_slice())?),
             Err(TypeError::IllTyped) => Err(self.no_type(first)),
-            Err(TypeError::OutOfMemory) => Err(Fault::OutOfMemory),
+            Err(TypeError::OutOfMemory) => Err(DiagnosisError::OutOfMemory),
         }
     }
 
     // That an expression is a truth value.
-    fn check_truth(&self, tree: &Expr, at: usize, scope: &Scope<'_>) -> Result<(), Fault> {
+    fn check_truth(&self, tree: &Expr, at: usize, scope: &Scope<'_>) -> Result<(), DiagnosisError> {
         let kind = self.kind_of(tree, at, scope)?;
         if is_boolean(kind.get()) {
             return Ok(());
@@ -64,7 +68,7 @@ impl Explainer<'_> {
         possrep: &Option<Name>,
         fields: &[Named<TypeExpr>],
         limit: &Option<Boxed<Expr>>,
-    ) -> Result<(), Fault> {
+    ) -> Result<(), DiagnosisError> {
         if self.schema().type_named(name).is_some() {
             return self.defined_before(name, NAME);
         }
@@ -86,7 +90,7 @@ impl Explainer<'_> {
         fields: &[Named<TypeExpr>],
         first: usize,
         limit: &Option<Boxed<Expr>>,
-    ) -> Result<(), Fault> {
+    ) -> Result<(), DiagnosisError> {
         let heading = self.components(fields, first)?;
         match limit {
             Some(limit) => {
@@ -98,7 +102,7 @@ impl Explainer<'_> {
     }
 
     // The heading of a value over the relvars; the value is that of what is told in words.
-    fn relation_at(&self, tree: &Expr, at: usize, of: &str) -> Result<Heading, Fault> {
+    fn relation_at(&self, tree: &Expr, at: usize, of: &str) -> Result<Heading, DiagnosisError> {
         let kind = self.kind_of(tree, at, &Scope::Relvars(self.schema()))?;
         match relation_heading(kind.get()) {
             Some(heading) => Ok(heading.copy()?),
@@ -107,7 +111,7 @@ impl Explainer<'_> {
     }
 
     // The heading of a base relvar, whose opening begins at a mark.
-    fn opening(&self, opening: &Opening, at: usize) -> Result<Heading, Fault> {
+    fn opening(&self, opening: &Opening, at: usize) -> Result<Heading, DiagnosisError> {
         let first = sum(&[at, 1]);
         match opening {
             Opening::Empty(fields) => heading_of(self, fields.as_slice(), first),
@@ -123,7 +127,12 @@ impl Explainer<'_> {
     }
 
     // That the value of INIT has the heading that is written before it.
-    fn check_value_of(&self, heading: &Heading, tree: &Expr, at: usize) -> Result<(), Fault> {
+    fn check_value_of(
+        &self,
+        heading: &Heading,
+        tree: &Expr,
+        at: usize,
+    ) -> Result<(), DiagnosisError> {
         let own = self.relation_at(tree, at, "INIT")?;
         match unlike(self.alloc, &own, heading, "the heading") {
             Some(sentence) => self.fault(at, sentence),
@@ -137,7 +146,7 @@ impl Explainer<'_> {
         first: usize,
         name: &Name,
         heading: &Heading,
-    ) -> Result<(), Fault> {
+    ) -> Result<(), DiagnosisError> {
         let mut at = first;
         for key in keys {
             let list = sum(&[at, 1]);
@@ -148,7 +157,7 @@ impl Explainer<'_> {
     }
 
     // That no relvar has the name.
-    fn check_relvar_name(&self, name: &Name) -> Result<(), Fault> {
+    fn check_relvar_name(&self, name: &Name) -> Result<(), DiagnosisError> {
         if self.schema().relvar(name).is_some() {
             return self.defined_before(name, NAME);
         }
@@ -156,7 +165,7 @@ impl Explainer<'_> {
     }
 
     // That no constraint has the name.
-    fn check_constraint_name(&self, name: &Name) -> Result<(), Fault> {
+    fn check_constraint_name(&self, name: &Name) -> Result<(), DiagnosisError> {
         for test in self.catalogue.tests() {
             if let Test::Constraint(before, _) = test {
                 if before == name {
@@ -167,25 +176,30 @@ impl Explainer<'_> {
         Ok(())
     }
 
-    fn check_base(&self, name: &Name, opening: &Opening, keys: &[Attributes]) -> Result<(), Fault> {
+    fn check_base(
+        &self,
+        name: &Name,
+        opening: &Opening,
+        keys: &[Attributes],
+    ) -> Result<(), DiagnosisError> {
         self.check_relvar_name(name)?;
         let heading = self.opening(opening, 3)?;
         let first = sum(&[3, opening_width(opening)]);
         self.check_keys(keys, first, name, &heading)
     }
 
-    fn check_virtual(&self, name: &Name, tree: &Expr) -> Result<(), Fault> {
+    fn check_virtual(&self, name: &Name, tree: &Expr) -> Result<(), DiagnosisError> {
         self.check_relvar_name(name)?;
         self.relation_at(tree, 3, "VIRTUAL")?;
         Ok(())
     }
 
-    fn check_constraint(&self, name: &Name, tree: &Expr) -> Result<(), Fault> {
+    fn check_constraint(&self, name: &Name, tree: &Expr) -> Result<(), DiagnosisError> {
         self.check_constraint_name(name)?;
         self.check_truth(tree, 2, &Scope::Relvars(self.schema()))
     }
 
-    fn check_definition(&self, definition: &Definition) -> Result<(), Fault> {
+    fn check_definition(&self, definition: &Definition) -> Result<(), DiagnosisError> {
         match definition {
             Definition::Type(name, possrep, fields, limit) => {
                 self.check_type(name, possrep, fields.as_slice(), limit)

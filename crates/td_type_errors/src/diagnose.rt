@@ -2,7 +2,7 @@
 
 ghost use Rattle.std.specs.Prelude.{◌≡◌, IfOk, OnErr};
 ghost use Rattle.std.specs.Str.{IsCharBoundary};
-ghost use Rattle.td_type_errors.specs.Diagnoses.{Diagnoses, FindsDefinition, Grows, IsDefinition, IsFound, IsIllTypedDefinition, IsIllTypedQuery, IsIllTypedStatement};
+ghost use Rattle.td_type_errors.specs.Diagnoses.{Diagnoses, FindsDefinition, IsCatalogueAfter, IsDefinition, FindsWhere, IsDefinitionWithoutType, IsQueryWithoutType, IsStatementWithoutType};
 
 use crate::definition::explain_definition;
 use crate::diagnostic::Diagnostic;
@@ -33,7 +33,7 @@ fn ill_typed_query(
     catalogue: &Catalogue,
     text: &str,
 ) -> Result<Option<Boxed<Expr>>, AllocError>
-    ensures { IfOk result (IsFound (IsIllTypedQuery catalogue.now text.now)) }
+    ensures { IfOk result (FindsWhere (IsQueryWithoutType catalogue.now text.now)) }
 {
     let tree = match read_expr(alloc, text) {
         Ok(tree) => tree,
@@ -54,7 +54,7 @@ fn ill_typed_statement(
     catalogue: &Catalogue,
     text: &str,
 ) -> Result<Option<Statement>, AllocError>
-    ensures { IfOk result (IsFound (IsIllTypedStatement catalogue.now text.now)) }
+    ensures { IfOk result (FindsWhere (IsStatementWithoutType catalogue.now text.now)) }
 {
     let statement = match read_statement(alloc, text) {
         Ok(statement) => statement,
@@ -77,7 +77,7 @@ pub fn diagnose_query(
     catalogue: &Catalogue,
     text: &str,
 ) -> Result<Option<Diagnostic>, AllocError>
-    ensures { IfOk result (Diagnoses (IsIllTypedQuery catalogue.now text.now) text.now) }
+    ensures { IfOk result (Diagnoses (IsQueryWithoutType catalogue.now text.now) text.now) }
 {
     let Some(tree) = ill_typed_query(alloc, catalogue, text)? else {
         return Ok(None);
@@ -93,7 +93,7 @@ pub fn diagnose_statement(
     catalogue: &Catalogue,
     text: &str,
 ) -> Result<Option<Diagnostic>, AllocError>
-    ensures { IfOk result (Diagnoses (IsIllTypedStatement catalogue.now text.now) text.now) }
+    ensures { IfOk result (Diagnoses (IsStatementWithoutType catalogue.now text.now) text.now) }
 {
     let Some(statement) = ill_typed_statement(alloc, catalogue, text)? else {
         return Ok(None);
@@ -126,8 +126,8 @@ fn define_read(
     tree: &Definition,
 ) -> Result<Option<Diagnostic>, AllocError>
     requires { IsDefinition text.now tree.now }
-    ensures told { IfOk result (Diagnoses (IsIllTypedDefinition catalogue.old text.now) text.now) }
-    ensures grows { IfOk result (λ told. Grows catalogue.old text.now told catalogue.new) }
+    ensures told { IfOk result (Diagnoses (IsDefinitionWithoutType catalogue.old text.now) text.now) }
+    ensures grows { IfOk result (λ told. IsCatalogueAfter catalogue.old text.now told catalogue.new) }
     ensures kept { OnErr result (catalogue.new ≡ catalogue.old) }
 {
     match catalogue.define(alloc, tree) {
@@ -147,8 +147,8 @@ pub fn define_or_diagnose(
     catalogue: &mut Catalogue,
     text: &str,
 ) -> Result<Option<Diagnostic>, AllocError>
-    ensures told { IfOk result (Diagnoses (IsIllTypedDefinition catalogue.old text.now) text.now) }
-    ensures grows { IfOk result (λ told. Grows catalogue.old text.now told catalogue.new) }
+    ensures told { IfOk result (Diagnoses (IsDefinitionWithoutType catalogue.old text.now) text.now) }
+    ensures grows { IfOk result (λ told. IsCatalogueAfter catalogue.old text.now told catalogue.new) }
     ensures kept { OnErr result (catalogue.new ≡ catalogue.old) }
 {
     match definition(alloc, text)? {

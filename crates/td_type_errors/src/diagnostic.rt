@@ -13,23 +13,23 @@ pub struct Diagnostic {
 
 /// Why a check ends.
 #[derive(Drop)]
-pub enum Fault {
+pub enum DiagnosisError {
     Found(Diagnostic),
     OutOfMemory,
 }
 
-impl Fault {
+impl DiagnosisError {
     /// What a check that ended found.
     pub fn told(self) -> Result<Diagnostic, AllocError> {
         match self {
-            Fault::Found(diagnostic) => Ok(diagnostic),
-            Fault::OutOfMemory => Err(AllocError),
+            DiagnosisError::Found(diagnostic) => Ok(diagnostic),
+            DiagnosisError::OutOfMemory => Err(AllocError),
         }
     }
 }
 
-impl From<AllocError> for Fault {
-    fn from(_e: AllocError) -> Fault {
-        Fault::OutOfMemory
+impl From<AllocError> for DiagnosisError {
+    fn from(_e: AllocError) -> DiagnosisError {
+        DiagnosisError::OutOfMemory
     }
 }

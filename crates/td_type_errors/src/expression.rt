@@ -1,6 +1,6 @@
 //! Names, and operators of one, two and three operands.
 
-use crate::diagnostic::Fault;
+use crate::diagnostic::DiagnosisError;
 use crate::headings::no_attribute;
 use crate::nearest::{Nearest, look_in_scope};
 use crate::operators::{binary_word, binary_words, branch_words, unary_words};
@@ -10,7 +10,7 @@ use crate::widths::{sum, width};
 use td_schema::Scope;
 use td_schema::kinds::{is_boolean, tuple_heading};
 use td_syntax::tree::{BinaryOperator, Expr, UnaryOperator};
-use td_tokens::{Kind, Word};
+use td_tokens::{TokenKind, Word};
 use td_values::{Name, TypeKind};
 
 impl Explainer<'_> {
@@ -20,7 +20,7 @@ impl Explainer<'_> {
         tree: &'t Expr,
         at: usize,
         scope: &Scope<'_>,
-    ) -> Result<Step<'t>, Fault> {
+    ) -> Result<Step<'t>, DiagnosisError> {
         let Some((operand, before)) = first_operand(tree) else {
             return self.step_without_operand(tree, at, scope);
         };
@@ -36,7 +36,7 @@ impl Explainer<'_> {
         tree: &'t Expr,
         at: usize,
         scope: &Scope<'_>,
-    ) -> Result<Step<'t>, Fault> {
+    ) -> Result<Step<'t>, DiagnosisError> {
         match tree {
             Expr::Name(name) => self.name(name, at, scope),
             Expr::Call(name, all) => self.call(name, all.as_slice(), at, scope),
@@ -58,7 +58,7 @@ impl Explainer<'_> {
         at: usize,
         first: usize,
         scope: &Scope<'_>,
-    ) -> Result<Step<'t>, Fault> {
+    ) -> Result<Step<'t>, DiagnosisError> {
         match tree {
             Expr::Unary(operator, _) => self.unary(*operator, kind, first),
             Expr::Binary(operator, a, b) => {
@@ -87,14 +87,24 @@ impl Explainer<'_> {
         }
     }
 
-    fn name<'t>(&self, name: &Name, at: usize, scope: &Scope<'_>) -> Result<Step<'t>, Fault> {
+    fn name<'t>(
+        &self,
+        name: &Name,
+        at: usize,
+        scope: &Scope<'_>,
+    ) -> Result<Step<'t>, DiagnosisError> {
         let mut nearest = Nearest::new(self.alloc, name);
         look_in_scope(scope, &mut nearest);
         let sentence = Sentence::of(self.alloc, name.as_str()).say(" is no name here");
         self.fault(at, sentence.near(nearest.found(), " is"))
     }
 
-    fn unary<T>(&self, operator: UnaryOperator, kind: &TypeKind, at: usize) -> Result<T, Fault> {
+    fn unary<T>(
+        &self,
+        operator: UnaryOperator,
+        kind: &TypeKind,
+        at: usize,
+    ) -> Result<T, DiagnosisError> {
         let (word, wanted) = unary_words(operator);
         self.takes(at, word, wanted, kind)
     }
@@ -102,8 +112,8 @@ impl Explainer<'_> {
     // The word of a binary operator at a mark.
     fn word_at(&self, at: usize, operator: BinaryOperator) -> &'static str {
         match self.mark(at) {
-            Some(Kind::Word(Word::Semijoin)) => "SEMIJOIN",
-            Some(Kind::Word(Word::Semiminus)) => "SEMIMINUS",
+            Some(TokenKind::Word(Word::Semijoin)) => "SEMIJOIN",
+            Some(TokenKind::Word(Word::Semiminus)) => "SEMIMINUS",
             _ => binary_word(operator),
         }
     }
@@ -116,7 +126,7 @@ impl Explainer<'_> {
         left: &TypeKind,
         at: usize,
         scope: &Scope<'_>,
-    ) -> Result<Step<'t>, Fault> {
+    ) -> Result<Step<'t>, DiagnosisError> {
         let between = sum(&[at, width(a)]);
         let word = self.word_at(between, operator);
         match self.kind(b, scope) {
@@ -136,7 +146,7 @@ impl Explainer<'_> {
         kind: &TypeKind,
         at: usize,
         operand: usize,
-    ) -> Result<T, Fault> {
+    ) -> Result<T, DiagnosisError> {
         let Some(heading) = tuple_heading(kind) else {
             return self.takes(operand, "FROM", "a tuple", kind);
         };
@@ -145,7 +155,12 @@ impl Explainer<'_> {
     }
 
     /// That a condition is a truth value; what it is the condition of is told in words.
-    pub fn check_condition(&self, at: usize, of: &str, kind: &TypeKind) -> Result<(), Fault> {
+    pub fn check_condition(
+        &self,
+        at: usize,
+        of: &str,
+        kind: &TypeKind,
+    ) -> Result<(), DiagnosisError> {
         if is_boolean(kind) {
             return Ok(());
         }
@@ -166,7 +181,7 @@ impl Explainer<'_> {
         kind: &TypeKind,
         at: usize,
         scope: &Scope<'_>,
-    ) -> Result<Step<'t>, Fault> {
+    ) -> Result<Step<'t>, DiagnosisError> {
         self.check_condition(at, "IF", kind)?;
         let first = sum(&[at, width(a), 1]);
         let second = sum(&[first, width(b), 1]);
@@ -183,7 +198,7 @@ impl Explainer<'_> {
         left: &TypeKind,
         at: usize,
         scope: &Scope<'_>,
-    ) -> Result<Step<'t>, Fault> {
+    ) -> Result<Step<'t>, DiagnosisError> {
         match self.kind(tree, scope) {
             Ok(right) => self.fault(at, branch_words(self.alloc, left, right.get())),
             Err(error) => into_part(error, tree, at),

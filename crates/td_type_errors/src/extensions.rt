@@ -1,16 +1,16 @@
 //! Forms with named parts: TUPLE, EXTEND, SUMMARIZE and WITH.
 
-use crate::diagnostic::Fault;
+use crate::diagnostic::DiagnosisError;
 use crate::forms::called_as;
 use crate::headings::beyond;
 use crate::nearest::repeated_part;
-use crate::parts::{Explainer, Part, Step, into_part, step_within, untyped};
+use crate::parts::{Explainer, MarkedTerm, Step, into_part, step_within, untyped};
 use crate::widths::{front, groups_width, named_width, sum, summaries_width, summary_width, width};
 use sqlite_items::{Boxed, Items};
 use td_schema::kinds::relation_heading;
 use td_schema::lists::attributes_of;
 use td_schema::{Scope, TypeError};
-use td_syntax::tree::{Attributes, Expr, Extension, Groups, Named, Summary};
+use td_syntax::tree::{Attributes, Expr, Extension, Groups, Named, SummaryTerm};
 use td_tuples::columns_in;
 use td_values::{Heading, TypeKind};
 
@@ -21,7 +21,7 @@ impl Explainer<'_> {
         all: &'t [Named<Boxed<Expr>>],
         at: usize,
         scope: &Scope<'_>,
-    ) -> Result<Step<'t>, Fault> {
+    ) -> Result<Step<'t>, DiagnosisError> {
         let first = sum(&[at, 1]);
         let mut at = first;
         for item in all {
@@ -36,7 +36,11 @@ impl Explainer<'_> {
     }
 
     // TUPLE, whose parts have types.
-    fn tuple_of_twins<T>(&self, all: &[Named<Boxed<Expr>>], first: usize) -> Result<T, Fault> {
+    fn tuple_of_twins<T>(
+        &self,
+        all: &[Named<Boxed<Expr>>],
+        first: usize,
+    ) -> Result<T, DiagnosisError> {
         match repeated_part(self.alloc, all)? {
             Some((place, name)) => {
                 self.twice(name, sum(&[first, named_width(front(all, place), 1)]))
@@ -51,14 +55,14 @@ impl Explainer<'_> {
         all: &'t [Named<Boxed<Expr>>],
         first: usize,
         scope: &Scope<'_>,
-    ) -> Result<Option<Part<'t>>, Fault> {
+    ) -> Result<Option<MarkedTerm<'t>>, DiagnosisError> {
         let mut at = first;
         for item in all {
             let tree = item.value.get();
             let marks = width(tree);
             if let Err(error) = self.kind(tree, scope) {
                 let (_, at) = self.item_at(at, marks);
-                return Ok(Some(untyped(error, Part { tree, at })?));
+                return Ok(Some(untyped(error, MarkedTerm { tree, at })?));
             }
             at = sum(&[at, marks, 2]);
         }
@@ -75,7 +79,11 @@ impl Explainer<'_> {
     }
 
     /// That no two of these items have one name.
-    pub fn check_item_names(&self, all: &[Named<Boxed<Expr>>], first: usize) -> Result<(), Fault> {
+    pub fn check_item_names(
+        &self,
+        all: &[Named<Boxed<Expr>>],
+        first: usize,
+    ) -> Result<(), DiagnosisError> {
         match repeated_part(self.alloc, all)? {
             Some((place, name)) => self.twice(name, self.item_name_at(all, place, first)),
             None => Ok(()),
@@ -91,7 +99,7 @@ impl Explainer<'_> {
         kind: &TypeKind,
         at: usize,
         scope: &Scope<'_>,
-    ) -> Result<Step<'t>, Fault> {
+    ) -> Result<Step<'t>, DiagnosisError> {
         let Some(heading) = relation_heading(kind) else {
             return self.takes(at, "EXTEND", "a relation", kind);
         };
@@ -112,7 +120,7 @@ impl Explainer<'_> {
         first: usize,
         called: &str,
         heading: &Heading,
-    ) -> Result<(), Fault> {
+    ) -> Result<(), DiagnosisError> {
         if extension != Extension::Add {
             return Ok(());
         }
@@ -132,7 +140,7 @@ impl Explainer<'_> {
         called: &str,
         heading: &Heading,
         scope: &Scope<'_>,
-    ) -> Result<Result<Heading, Part<'t>>, Fault> {
+    ) -> Result<Result<Heading, MarkedTerm<'t>>, DiagnosisError> {
         let at = sum(&[at, 1]);
         match groups {
             Groups::Whole => Ok(Ok(Heading::new(self.alloc)?)),
@@ -147,7 +155,7 @@ impl Explainer<'_> {
         at: usize,
         called: &str,
         heading: &Heading,
-    ) -> Result<Heading, Fault> {
+    ) -> Result<Heading, DiagnosisError> {
         self.check_attributes(attributes, at, called, heading)?;
         match attributes_of(self.alloc, attributes, heading) {
             Ok(names) => Ok(columns_in(self.alloc, names.as_slice(), heading)?),
@@ -162,10 +170,10 @@ impl Explainer<'_> {
         called: &str,
         heading: &Heading,
         scope: &Scope<'_>,
-    ) -> Result<Result<Heading, Part<'t>>, Fault> {
+    ) -> Result<Result<Heading, MarkedTerm<'t>>, DiagnosisError> {
         match self.kind(tree, scope) {
             Ok(kind) => Ok(Ok(self.groups_of(kind.get(), at, called, heading)?)),
-            Err(error) => Ok(Err(untyped(error, Part { tree, at })?)),
+            Err(error) => Ok(Err(untyped(error, MarkedTerm { tree, at })?)),
         }
     }
 
@@ -175,7 +183,7 @@ impl Explainer<'_> {
         at: usize,
         called: &str,
         heading: &Heading,
-    ) -> Result<Heading, Fault> {
+    ) -> Result<Heading, DiagnosisError> {
         let Some(own) = relation_heading(kind) else {
             return self.takes(at, "PER", "a relation", kind);
         };
@@ -188,19 +196,19 @@ impl Explainer<'_> {
     // The first summary of a term that has no type, in the scope of the terms.
     fn faulty_summary<'t>(
         &self,
-        all: &'t [Named<Summary<Boxed<Expr>>>],
+        all: &'t [Named<SummaryTerm<Boxed<Expr>>>],
         first: usize,
         scope: &Scope<'_>,
-    ) -> Result<Option<Part<'t>>, Fault> {
+    ) -> Result<Option<MarkedTerm<'t>>, DiagnosisError> {
         let mut at = first;
         for item in all {
             let marks = summary_width(&item.value);
-            if let Summary::Of(aggregate, a) = &item.value {
+            if let SummaryTerm::Of(aggregate, a) = &item.value {
                 let tree = a.get();
                 let term = sum(&[self.item_at(at, marks).1, 1]);
                 match self.kind(tree, scope) {
                     Ok(kind) => self.check_terms(*aggregate, term, kind.get())?,
-                    Err(error) => return Ok(Some(untyped(error, Part { tree, at: term })?)),
+                    Err(error) => return Ok(Some(untyped(error, MarkedTerm { tree, at: term })?)),
                 }
             }
             at = sum(&[at, marks, 2]);
@@ -211,7 +219,7 @@ impl Explainer<'_> {
     // The mark of the name of the summary at this place.
     fn summary_name_at(
         &self,
-        all: &[Named<Summary<Boxed<Expr>>>],
+        all: &[Named<SummaryTerm<Boxed<Expr>>>],
         place: usize,
         first: usize,
     ) -> usize {
@@ -225,10 +233,10 @@ impl Explainer<'_> {
     // That summaries have names of their own, none of them that of an attribute of the groups.
     fn check_summary_names(
         &self,
-        all: &[Named<Summary<Boxed<Expr>>>],
+        all: &[Named<SummaryTerm<Boxed<Expr>>>],
         first: usize,
         heading: &Heading,
-    ) -> Result<(), Fault> {
+    ) -> Result<(), DiagnosisError> {
         if let Some((place, name)) = repeated_part(self.alloc, all)? {
             return self.twice(name, self.summary_name_at(all, place, first));
         }
@@ -246,11 +254,11 @@ impl Explainer<'_> {
         &self,
         a: &Expr,
         groups: &'t Groups<Boxed<Expr>>,
-        all: &'t [Named<Summary<Boxed<Expr>>>],
+        all: &'t [Named<SummaryTerm<Boxed<Expr>>>],
         kind: &TypeKind,
         at: usize,
         scope: &Scope<'_>,
-    ) -> Result<Step<'t>, Fault> {
+    ) -> Result<Step<'t>, DiagnosisError> {
         let Some(heading) = relation_heading(kind) else {
             return self.takes(at, "SUMMARIZE", "a relation", kind);
         };
@@ -260,7 +268,7 @@ impl Explainer<'_> {
         let terms = Scope::Within(heading, &*scope);
         let part = match grouping {
             Ok(grouping) => self.check_summaries(all, first, &grouping, &terms)?,
-            Err(part) => return Ok(Step::Part(part)),
+            Err(part) => return Ok(Step::MarkedTerm(part)),
         };
         match part {
             Some(part) => step_within(heading, part),
@@ -271,11 +279,11 @@ impl Explainer<'_> {
     // The first summary of a term that has no type. Where there is none, the names are as they have to be.
     fn check_summaries<'t>(
         &self,
-        all: &'t [Named<Summary<Boxed<Expr>>>],
+        all: &'t [Named<SummaryTerm<Boxed<Expr>>>],
         first: usize,
         grouping: &Heading,
         scope: &Scope<'_>,
-    ) -> Result<Option<Part<'t>>, Fault> {
+    ) -> Result<Option<MarkedTerm<'t>>, DiagnosisError> {
         let part = self.faulty_summary(all, first, scope)?;
         if part.is_none() {
             self.check_summary_names(all, first, grouping)?;
@@ -290,7 +298,7 @@ impl Explainer<'_> {
         body: &'t Expr,
         at: usize,
         scope: &Scope<'_>,
-    ) -> Result<Step<'t>, Fault> {
+    ) -> Result<Step<'t>, DiagnosisError> {
         let mut kinds: Items<Named<TypeKind>> = Items::new(self.alloc);
         let mut at = sum(&[at, 1]);
         for item in all {
@@ -300,12 +308,12 @@ impl Explainer<'_> {
             match self.give(&mut kinds, item, scope) {
                 Ok(()) => at = sum(&[at, marks, 2]),
                 Err(TypeError::IllTyped) => {
-                    return Ok(Step::Behind(kinds, Part { tree, at: value }));
+                    return Ok(Step::Behind(kinds, MarkedTerm { tree, at: value }));
                 }
-                Err(TypeError::OutOfMemory) => return Err(Fault::OutOfMemory),
+                Err(TypeError::OutOfMemory) => return Err(DiagnosisError::OutOfMemory),
             }
         }
-        Ok(Step::Behind(kinds, Part { tree: body, at }))
+        Ok(Step::Behind(kinds, MarkedTerm { tree: body, at }))
     }
 
     // Adds the kind that an item of WITH has behind those before it.

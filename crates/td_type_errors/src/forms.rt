@@ -1,6 +1,6 @@
 //! Forms of one relation, with attributes, a condition or a term.
 
-use crate::diagnostic::Fault;
+use crate::diagnostic::DiagnosisError;
 use crate::expression::called;
 use crate::headings::no_attribute;
 use crate::nearest::repeated;
@@ -24,7 +24,7 @@ impl Explainer<'_> {
         at: usize,
         called: &str,
         heading: &Heading,
-    ) -> Result<(), Fault> {
+    ) -> Result<(), DiagnosisError> {
         if heading.type_of(name).is_some() {
             return Ok(());
         }
@@ -32,7 +32,12 @@ impl Explainer<'_> {
     }
 
     // That no name is given twice. The first one stands at a mark, and so many apart each further one.
-    fn check_distinct(&self, names: &[Name], first: usize, apart: usize) -> Result<(), Fault> {
+    fn check_distinct(
+        &self,
+        names: &[Name],
+        first: usize,
+        apart: usize,
+    ) -> Result<(), DiagnosisError> {
         match repeated(self.alloc, names)? {
             Some((place, name)) => self.twice(name, sum(&[first, place.saturating_mul(apart)])),
             None => Ok(()),
@@ -40,7 +45,7 @@ impl Explainer<'_> {
     }
 
     /// That a name is given twice.
-    pub fn twice<T>(&self, name: &Name, at: usize) -> Result<T, Fault> {
+    pub fn twice<T>(&self, name: &Name, at: usize) -> Result<T, DiagnosisError> {
         let sentence = Sentence::of(self.alloc, name.as_str()).say(" is given twice");
         self.fault(at, sentence)
     }
@@ -52,7 +57,7 @@ impl Explainer<'_> {
         at: usize,
         called: &str,
         heading: &Heading,
-    ) -> Result<(), Fault> {
+    ) -> Result<(), DiagnosisError> {
         let (names, first) = match attributes {
             Attributes::Only(names) => (names.as_slice(), at),
             Attributes::AllBut(names) => (names.as_slice(), sum(&[at, 2])),
@@ -70,7 +75,7 @@ impl Explainer<'_> {
         attributes: &Attributes,
         kind: &TypeKind,
         at: usize,
-    ) -> Result<T, Fault> {
+    ) -> Result<T, DiagnosisError> {
         let Some(heading) = kind_heading(kind) else {
             let words = "only a relation or a tuple has attributes, and this is ";
             let sentence = Sentence::of(self.alloc, words)
@@ -90,7 +95,7 @@ impl Explainer<'_> {
         kind: &TypeKind,
         at: usize,
         scope: &Scope<'_>,
-    ) -> Result<Step<'t>, Fault> {
+    ) -> Result<Step<'t>, DiagnosisError> {
         let Some(heading) = relation_heading(kind) else {
             return self.takes(at, "WHERE", "a relation", kind);
         };
@@ -109,7 +114,7 @@ impl Explainer<'_> {
         first: usize,
         called: &str,
         heading: &Heading,
-    ) -> Result<(), Fault> {
+    ) -> Result<(), DiagnosisError> {
         self.check_distinct(&old_names(self.alloc, renamings)?, first, 3)?;
         let second = sum(&[first, 2]);
         for (place, renaming) in renamings.iter().enumerate() {
@@ -122,7 +127,7 @@ impl Explainer<'_> {
     }
 
     /// That there is an attribute of the name already.
-    pub fn is_there<T>(&self, name: &Name, at: usize, called: &str) -> Result<T, Fault> {
+    pub fn is_there<T>(&self, name: &Name, at: usize, called: &str) -> Result<T, DiagnosisError> {
         let sentence = Sentence::of(self.alloc, called)
             .say(" has an attribute ")
             .say(name.as_str())
@@ -136,7 +141,7 @@ impl Explainer<'_> {
         renamings: &[Renaming],
         kind: &TypeKind,
         at: usize,
-    ) -> Result<T, Fault> {
+    ) -> Result<T, DiagnosisError> {
         let Some(heading) = relation_heading(kind) else {
             return self.takes(at, "RENAME", "a relation", kind);
         };
@@ -158,7 +163,7 @@ impl Explainer<'_> {
         name: &Name,
         kind: &TypeKind,
         at: usize,
-    ) -> Result<T, Fault> {
+    ) -> Result<T, DiagnosisError> {
         let word = match nesting {
             Nesting::Group => "GROUP",
             Nesting::Wrap => "WRAP",
@@ -180,7 +185,7 @@ impl Explainer<'_> {
         kind: &TypeKind,
         at: usize,
         heading: &Heading,
-    ) -> Result<(), Fault> {
+    ) -> Result<(), DiagnosisError> {
         let (word, wanted, inner) = match nesting {
             Nesting::Group => ("UNGROUP", "a relation", relation_heading(kind)),
             Nesting::Wrap => ("UNWRAP", "a tuple", tuple_heading(kind)),
@@ -210,7 +215,7 @@ impl Explainer<'_> {
         at: usize,
         word: &str,
         name: &Name,
-    ) -> Result<T, Fault> {
+    ) -> Result<T, DiagnosisError> {
         let sentence = Sentence::of(self.alloc, inner.as_str())
             .say(" stands beside ")
             .say(name.as_str())
@@ -228,7 +233,7 @@ impl Explainer<'_> {
         name: &Name,
         kind: &TypeKind,
         at: usize,
-    ) -> Result<T, Fault> {
+    ) -> Result<T, DiagnosisError> {
         let word = match nesting {
             Nesting::Group => "UNGROUP",
             Nesting::Wrap => "UNWRAP",
@@ -245,7 +250,12 @@ impl Explainer<'_> {
     }
 
     // An aggregate over terms of another type.
-    fn unsuited<T>(&self, aggregate: Aggregate, at: usize, kind: &TypeKind) -> Result<T, Fault> {
+    fn unsuited<T>(
+        &self,
+        aggregate: Aggregate,
+        at: usize,
+        kind: &TypeKind,
+    ) -> Result<T, DiagnosisError> {
         let (word, wanted) = aggregate_words(aggregate);
         self.takes(at, word, wanted, kind)
     }
@@ -256,7 +266,7 @@ impl Explainer<'_> {
         aggregate: Aggregate,
         kind: &TypeKind,
         at: usize,
-    ) -> Result<T, Fault> {
+    ) -> Result<T, DiagnosisError> {
         let (word, wanted) = aggregate_words(aggregate);
         let Some(heading) = relation_heading(kind) else {
             return self.takes(at, word, "a relation", kind);
@@ -285,7 +295,7 @@ impl Explainer<'_> {
         kind: &TypeKind,
         at: usize,
         scope: &Scope<'_>,
-    ) -> Result<Step<'t>, Fault> {
+    ) -> Result<Step<'t>, DiagnosisError> {
         let Some(heading) = relation_heading(kind) else {
             return self.takes(at, aggregate_words(aggregate).0, "a relation", kind);
         };
@@ -302,7 +312,7 @@ impl Explainer<'_> {
         aggregate: Aggregate,
         at: usize,
         kind: &TypeKind,
-    ) -> Result<(), Fault> {
+    ) -> Result<(), DiagnosisError> {
         if suits(aggregate, kind) {
             return Ok(());
         }

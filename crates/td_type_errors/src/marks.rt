@@ -6,18 +6,18 @@
 //! its expression or in front of it.
 
 use std::alloc::{AllocError, Global};
-use td_tokens::{Kind, TokenError, Word, tokens};
+use td_tokens::{TokenError, TokenKind, Word, tokens};
 
 /// A token, and the byte at which it begins.
 #[derive(Clone, Copy)]
 pub struct Mark {
-    pub kind: Kind,
+    pub kind: TokenKind,
     pub place: usize,
 }
 
-fn is_mark(kind: Kind) -> bool {
+fn is_mark(kind: TokenKind) -> bool {
     match kind {
-        Kind::Word(word) => !matches!(
+        TokenKind::Word(word) => !matches!(
             word,
             Word::OpenParenthesis
                 | Word::CloseParenthesis
@@ -42,14 +42,14 @@ pub fn marks_of(alloc: Global, text: &str) -> Result<Vec<Mark>, AllocError> {
     let mut marks = Vec::new(alloc);
     let mut is_behind_not = false;
     for token in &tokens {
-        let is_second = is_behind_not && token.kind == Kind::Word(Word::Matching);
+        let is_second = is_behind_not && token.kind == TokenKind::Word(Word::Matching);
         if is_mark(token.kind) && !is_second {
             marks.push(Mark {
                 kind: token.kind,
                 place: token.start,
             })?;
         }
-        is_behind_not = token.kind == Kind::Word(Word::Not);
+        is_behind_not = token.kind == TokenKind::Word(Word::Not);
     }
     Ok(marks)
 }

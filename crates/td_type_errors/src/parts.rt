@@ -1,6 +1,6 @@
 //! How a fault is found: from an expression without a type to its innermost part that has none.
 
-use crate::diagnostic::Fault;
+use crate::diagnostic::DiagnosisError;
 use crate::marks::{Mark, marks_of};
 use crate::sentence::Sentence;
 use crate::widths::sum;
@@ -10,13 +10,13 @@ use td_grammar::reader::LEVELS;
 use td_headings::Catalogue;
 use td_schema::{Schema, Scope, TypeError};
 use td_syntax::tree::{Expr, Named};
-use td_tokens::{Kind, Word};
+use td_tokens::{TokenKind, Word};
 use td_typing::type_in;
 use td_values::{Heading, TypeKind};
 
 /// An expression, and its first mark by its number.
 #[derive(Clone, Copy, Drop)]
-pub struct Part<'t> {
+pub struct MarkedTerm<'t> {
     pub tree: &'t Expr,
     pub at: usize,
 }
@@ -25,9 +25,9 @@ pub struct Part<'t> {
 /// these names of WITH.
 #[derive(Drop)]
 pub enum Step<'t> {
-    Part(Part<'t>),
-    Within(Heading, Part<'t>),
-    Behind(Items<Named<TypeKind>>, Part<'t>),
+    MarkedTerm(MarkedTerm<'t>),
+    Within(Heading, MarkedTerm<'t>),
+    Behind(Items<Named<TypeKind>>, MarkedTerm<'t>),
 }
 
 /// What an explanation goes by: what is defined, and the marks of the text.
@@ -39,16 +39,23 @@ pub struct Explainer<'c> {
 }
 
 /// A part that has no kind, where that is not for want of memory.
-pub fn untyped<'t>(error: TypeError, part: Part<'t>) -> Result<Part<'t>, Fault> {
+pub fn untyped<'t>(
+    error: TypeError,
+    part: MarkedTerm<'t>,
+) -> Result<MarkedTerm<'t>, DiagnosisError> {
     match error {
         TypeError::IllTyped => Ok(part),
-        TypeError::OutOfMemory => Err(Fault::OutOfMemory),
+        TypeError::OutOfMemory => Err(DiagnosisError::OutOfMemory),
     }
 }
 
 /// The step to a part in the same scope that has no kind.
-pub fn into_part<'t>(error: TypeError, tree: &'t Expr, at: usize) -> Result<Step<'t>, Fault> {
-    Ok(Step::Part(untyped(error, Part { tree, at })?))
+pub fn into_part<'t>(
+    error: TypeError,
+    tree: &'t Expr,
+    at: usize,
+) -> Result<Step<'t>, DiagnosisError> {
+    Ok(Step::MarkedTerm(untyped(error, MarkedTerm { tree, at })?))
 }
 
 /// The step to a part within a tuple of the heading that has no kind.
@@ -57,12 +64,15 @@ pub fn into_part_within<'t>(
     heading: &Heading,
     tree: &'t Expr,
     at: usize,
-) -> Result<Step<'t>, Fault> {
-    step_within(heading, untyped(error, Part { tree, at })?)
+) -> Result<Step<'t>, DiagnosisError> {
+    step_within(heading, untyped(error, MarkedTerm { tree, at })?)
 }
 
 /// The step to a part within a tuple of the heading.
-pub fn step_within<'t>(heading: &Heading, part: Part<'t>) -> Result<Step<'t>, Fault> {
+pub fn step_within<'t>(
+    heading: &Heading,
+    part: MarkedTerm<'t>,
+) -> Result<Step<'t>, DiagnosisError> {
     Ok(Step::Within(heading.copy()?, part))
 }
 
@@ -84,7 +94,7 @@ impl<'c> Explainer<'c> {
         self.catalogue.schema()
     }
 
-    pub fn mark(&self, at: usize) -> Option<Kind> {
+    pub fn mark(&self, at: usize) -> Option<TokenKind> {
         match self.marks.get(at) {
             Some(mark) => Some(mark.kind),
             None => None,
@@ -103,13 +113,13 @@ impl<'c> Explainer<'c> {
     }
 
     /// That a check ends with this sentence at a mark.
-    pub fn fault<T>(&self, at: usize, sentence: Sentence) -> Result<T, Fault> {
+    pub fn fault<T>(&self, at: usize, sentence: Sentence) -> Result<T, DiagnosisError> {
         Err(sentence.told_at(self.place(at)))
     }
 
     /// The name of an item that begins at a mark, and whose value has so many; and its value.
     pub fn item_at(&self, at: usize, value: usize) -> (usize, usize) {
-        if self.mark(sum(&[at, 1])) == Some(Kind::Word(Word::Assign)) {
+        if self.mark(sum(&[at, 1])) == Some(TokenKind::Word(Word::Assign)) {
             (at, sum(&[at, 2]))
         } else {
             (sum(&[at, value, 1]), at)
@@ -128,11 +138,11 @@ impl<'c> Explainer<'c> {
         tree: &Expr,
         at: usize,
         scope: &Scope<'_>,
-    ) -> Result<Boxed<TypeKind>, Fault> {
+    ) -> Result<Boxed<TypeKind>, DiagnosisError> {
         match self.kind(tree, scope) {
             Ok(kind) => Ok(kind),
             Err(TypeError::IllTyped) => Err(self.explain(LEVELS, tree, at, scope)),
-            Err(TypeError::OutOfMemory) => Err(Fault::OutOfMemory),
+            Err(TypeError::OutOfMemory) => Err(DiagnosisError::OutOfMemory),
         }
     }
 
@@ -140,10 +150,10 @@ impl<'c> Explainer<'c> {
     fn within(
         &self,
         levels: usize,
-        part: &Part<'_>,
+        part: &MarkedTerm<'_>,
         heading: &Heading,
         scope: &Scope<'_>,
-    ) -> Fault {
+    ) -> DiagnosisError {
         self.explain(levels, part.tree, part.at, &Scope::Within(heading, &*scope))
     }
 
@@ -151,15 +161,15 @@ impl<'c> Explainer<'c> {
     fn behind(
         &self,
         levels: usize,
-        part: &Part<'_>,
+        part: &MarkedTerm<'_>,
         names: &[Named<TypeKind>],
         scope: &Scope<'_>,
-    ) -> Fault {
+    ) -> DiagnosisError {
         self.explain(levels, part.tree, part.at, &Scope::Given(names, &*scope))
     }
 
     /// What is told where no sentence is better.
-    pub fn no_type(&self, at: usize) -> Fault {
+    pub fn no_type(&self, at: usize) -> DiagnosisError {
         Sentence::of(self.alloc, "this has no type").told_at(self.place(at))
     }
 
@@ -170,7 +180,7 @@ impl<'c> Explainer<'c> {
         word: &str,
         wanted: &str,
         kind: &TypeKind,
-    ) -> Result<T, Fault> {
+    ) -> Result<T, DiagnosisError> {
         let sentence = Sentence::of(self.alloc, word)
             .say(" takes ")
             .say(wanted)
@@ -181,13 +191,19 @@ impl<'c> Explainer<'c> {
 
     /// Why an expression of at most so many levels has no type.
     #[cycle(explain)]
-    pub fn explain(&self, levels: usize, tree: &Expr, at: usize, scope: &Scope<'_>) -> Fault {
+    pub fn explain(
+        &self,
+        levels: usize,
+        tree: &Expr,
+        at: usize,
+        scope: &Scope<'_>,
+    ) -> DiagnosisError {
         if levels == 0 {
             return self.no_type(at);
         }
         let inner = levels - 1;
         match self.step(tree, at, scope) {
-            Ok(Step::Part(part)) => self.explain(inner, part.tree, part.at, scope),
+            Ok(Step::MarkedTerm(part)) => self.explain(inner, part.tree, part.at, scope),
             Ok(Step::Within(heading, part)) => self.within(inner, &part, &heading, scope),
             Ok(Step::Behind(names, part)) => self.behind(inner, &part, names.as_slice(), scope),
             Err(fault) => fault,

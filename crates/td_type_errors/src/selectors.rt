@@ -1,6 +1,6 @@
 //! Selectors, THE_ and RELATION.
 
-use crate::diagnostic::Fault;
+use crate::diagnostic::DiagnosisError;
 use crate::headings::unlike;
 use crate::nearest::Nearest;
 use crate::parts::{Explainer, Step, into_part};
@@ -22,7 +22,7 @@ impl Explainer<'_> {
         all: &'t [Boxed<Expr>],
         at: usize,
         scope: &Scope<'_>,
-    ) -> Result<Step<'t>, Fault> {
+    ) -> Result<Step<'t>, DiagnosisError> {
         if begins_with_the(name) {
             return self.component(name, all, at, scope);
         }
@@ -38,7 +38,7 @@ impl Explainer<'_> {
         self.selector(name, representation, all, at, scope)
     }
 
-    fn no_selector<T>(&self, name: &Name, at: usize) -> Result<T, Fault> {
+    fn no_selector<T>(&self, name: &Name, at: usize) -> Result<T, DiagnosisError> {
         if let Some((_, representation)) = self.schema().type_named(name) {
             let sentence = Sentence::of(self.alloc, "the selector of the type ")
                 .say(name.as_str())
@@ -59,7 +59,7 @@ impl Explainer<'_> {
         wanted: usize,
         count: usize,
         at: usize,
-    ) -> Result<(), Fault> {
+    ) -> Result<(), DiagnosisError> {
         if wanted == count {
             return Ok(());
         }
@@ -83,7 +83,7 @@ impl Explainer<'_> {
         all: &'t [Boxed<Expr>],
         at: usize,
         scope: &Scope<'_>,
-    ) -> Result<Step<'t>, Fault> {
+    ) -> Result<Step<'t>, DiagnosisError> {
         let mut operand = sum(&[at, 1]);
         let components = representation.components.as_slice();
         for (place, a) in all.iter().enumerate() {
@@ -105,7 +105,7 @@ impl Explainer<'_> {
         kind: &TypeKind,
         components: &[Named<TypeKind>],
         at: usize,
-    ) -> Result<(), Fault> {
+    ) -> Result<(), DiagnosisError> {
         let Some(component) = components.get(place) else {
             return Ok(());
         };
@@ -131,7 +131,7 @@ impl Explainer<'_> {
         all: &'t [Boxed<Expr>],
         at: usize,
         scope: &Scope<'_>,
-    ) -> Result<Step<'t>, Fault> {
+    ) -> Result<Step<'t>, DiagnosisError> {
         self.check_count(name, 1, all.len(), at)?;
         let Some(a) = all.first() else {
             return Err(self.no_type(at));
@@ -150,7 +150,7 @@ impl Explainer<'_> {
         kind: &TypeKind,
         at: usize,
         operand: usize,
-    ) -> Result<T, Fault> {
+    ) -> Result<T, DiagnosisError> {
         let component = name.as_str().strip_prefix("THE_").unwrap_or("");
         match user_name(kind) {
             Some(ty) => self.no_component_of(ty, component, at),
@@ -165,7 +165,12 @@ impl Explainer<'_> {
         }
     }
 
-    fn no_component_of<T>(&self, ty: &Name, component: &str, at: usize) -> Result<T, Fault> {
+    fn no_component_of<T>(
+        &self,
+        ty: &Name,
+        component: &str,
+        at: usize,
+    ) -> Result<T, DiagnosisError> {
         let Some((_, representation)) = self.schema().type_named(ty) else {
             return Err(self.no_type(at));
         };
@@ -188,7 +193,7 @@ impl Explainer<'_> {
         heading: &Heading,
         called: &str,
         scope: &Scope<'_>,
-    ) -> Result<Step<'t>, Fault> {
+    ) -> Result<Step<'t>, DiagnosisError> {
         let mut at = first;
         for a in all {
             let tree = a.get();
@@ -208,7 +213,7 @@ impl Explainer<'_> {
         at: usize,
         heading: &Heading,
         called: &str,
-    ) -> Result<(), Fault> {
+    ) -> Result<(), DiagnosisError> {
         let Some(own) = tuple_heading(kind) else {
             return self.takes(at, "RELATION", "tuples", kind);
         };
@@ -224,7 +229,7 @@ impl Explainer<'_> {
         all: &'t [Boxed<Expr>],
         at: usize,
         scope: &Scope<'_>,
-    ) -> Result<Step<'t>, Fault> {
+    ) -> Result<Step<'t>, DiagnosisError> {
         let first = sum(&[at, 1]);
         let Some(a) = all.first() else {
             return Err(self.no_type(at));
@@ -242,7 +247,7 @@ impl Explainer<'_> {
         first: usize,
         kind: &TypeKind,
         scope: &Scope<'_>,
-    ) -> Result<Step<'t>, Fault> {
+    ) -> Result<Step<'t>, DiagnosisError> {
         match tuple_heading(kind) {
             Some(heading) => self.tuples(all, first, heading, "the first tuple", scope),
             None => self.takes(first, "RELATION", "tuples", kind),
@@ -256,7 +261,7 @@ impl Explainer<'_> {
         all: &'t [Boxed<Expr>],
         at: usize,
         scope: &Scope<'_>,
-    ) -> Result<Step<'t>, Fault> {
+    ) -> Result<Step<'t>, DiagnosisError> {
         let first = sum(&[at, 1]);
         let heading = heading_of(self, fields, first)?;
         let tuples = sum(&[first, fields_width(fields)]);

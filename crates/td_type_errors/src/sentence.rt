@@ -1,6 +1,6 @@
 //! Sentences while they are written, with types and lists of names cut to a length that a sentence bears.
 
-use crate::diagnostic::{Diagnostic, Fault};
+use crate::diagnostic::{DiagnosisError, Diagnostic};
 use std::alloc::Global;
 use td_syntax::tree::Named;
 use td_values::{Heading, Name, TypeKind};
@@ -120,15 +120,15 @@ impl Sentence {
     }
 
     /// The end of a check that finds this at a byte of the text.
-    pub fn told_at(self, place: usize) -> Fault {
+    pub fn told_at(self, place: usize) -> DiagnosisError {
         let Sentence { text, is_whole } = self;
         if is_whole {
-            Fault::Found(Diagnostic {
+            DiagnosisError::Found(Diagnostic {
                 place,
                 message: text,
             })
         } else {
-            Fault::OutOfMemory
+            DiagnosisError::OutOfMemory
         }
     }
 }

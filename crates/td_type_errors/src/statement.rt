@@ -1,6 +1,6 @@
 //! Statements: targets, sources, conditions and items.
 
-use crate::diagnostic::{Diagnostic, Fault};
+use crate::diagnostic::{DiagnosisError, Diagnostic};
 use crate::headings::unlike;
 use crate::nearest::Nearest;
 use crate::parts::Explainer;
@@ -16,7 +16,7 @@ use td_syntax::tree::{Expr, Named};
 use td_values::{Heading, Name, TypeKind};
 
 impl<'c> Explainer<'c> {
-    fn no_relvar<T>(&self, name: &Name, at: usize) -> Result<T, Fault> {
+    fn no_relvar<T>(&self, name: &Name, at: usize) -> Result<T, DiagnosisError> {
         let mut nearest = Nearest::new(self.alloc, name);
         nearest.look_at_relvars(self.schema());
         let sentence = Sentence::of(self.alloc, name.as_str()).say(" is no relvar");
@@ -24,7 +24,7 @@ impl<'c> Explainer<'c> {
     }
 
     // The heading of a target, which is a relvar that is stored.
-    fn target(&self, name: &Name, at: usize) -> Result<&Heading, Fault> {
+    fn target(&self, name: &Name, at: usize) -> Result<&Heading, DiagnosisError> {
         let Some((place, heading)) = self.catalogue.relvar(name) else {
             return self.no_relvar(name, at);
         };
@@ -45,7 +45,7 @@ impl<'c> Explainer<'c> {
         tree: &Expr,
         at: usize,
         word: &str,
-    ) -> Result<(), Fault> {
+    ) -> Result<(), DiagnosisError> {
         let heading = self.target(target, name)?;
         let kind = self.kind_of(tree, at, &Scope::Relvars(self.schema()))?;
         self.check_source_kind(kind.get(), at, word, target.as_str(), heading)
@@ -58,7 +58,7 @@ impl<'c> Explainer<'c> {
         word: &str,
         name: &str,
         heading: &Heading,
-    ) -> Result<(), Fault> {
+    ) -> Result<(), DiagnosisError> {
         let Some(own) = relation_heading(kind) else {
             return self.no_relation(at, word, name, kind);
         };
@@ -74,7 +74,7 @@ impl<'c> Explainer<'c> {
         word: &str,
         name: &str,
         kind: &TypeKind,
-    ) -> Result<T, Fault> {
+    ) -> Result<T, DiagnosisError> {
         let sentence = Sentence::of(self.alloc, word).say(" takes a relation");
         if let TypeKind::Tuple(_) = kind {
             let hint = "; this is a tuple: write RELATION { TUPLE { .. } }";
@@ -95,7 +95,7 @@ impl<'c> Explainer<'c> {
         condition: &Expr,
         at: usize,
         scope: &Scope<'_>,
-    ) -> Result<(), Fault> {
+    ) -> Result<(), DiagnosisError> {
         let kind = self.kind_of(condition, at, scope)?;
         self.check_condition(at, of, kind.get())
     }
@@ -107,7 +107,7 @@ impl<'c> Explainer<'c> {
         at: usize,
         word: &str,
         heading: &Heading,
-    ) -> Result<(), Fault> {
+    ) -> Result<(), DiagnosisError> {
         let scope = Scope::Relvars(self.schema());
         self.check_truth_of(word, condition, at, &Scope::Within(heading, &scope))
     }
@@ -120,7 +120,7 @@ impl<'c> Explainer<'c> {
         item: &Name,
         target: &Name,
         heading: &Heading,
-    ) -> Result<(), Fault> {
+    ) -> Result<(), DiagnosisError> {
         let Some(ty) = heading.type_of(item) else {
             return Ok(());
         };
@@ -143,7 +143,7 @@ impl<'c> Explainer<'c> {
         first: usize,
         target: &Name,
         heading: &Heading,
-    ) -> Result<(), Fault> {
+    ) -> Result<(), DiagnosisError> {
         let scope = Scope::Relvars(self.schema());
         let mut at = first;
         for item in all {
@@ -160,7 +160,7 @@ impl<'c> Explainer<'c> {
         target: &Name,
         heading: &Heading,
         scope: &Scope<'_>,
-    ) -> Result<(), Fault> {
+    ) -> Result<(), DiagnosisError> {
         self.check_attribute(&item.name, at, target.as_str(), heading)?;
         let value = sum(&[at, 2]);
         let kind = self.kind_of(item.value.get(), value, scope)?;
@@ -173,7 +173,7 @@ impl<'c> Explainer<'c> {
         target: &Name,
         condition: &Option<Boxed<Expr>>,
         at: usize,
-    ) -> Result<(), Fault> {
+    ) -> Result<(), DiagnosisError> {
         let heading = self.target(target, sum(&[at, 1]))?;
         match condition {
             Some(condition) => {
@@ -190,7 +190,7 @@ impl<'c> Explainer<'c> {
         condition: &Option<Boxed<Expr>>,
         all: &[Named<Boxed<Expr>>],
         at: usize,
-    ) -> Result<(), Fault> {
+    ) -> Result<(), DiagnosisError> {
         let heading = self.target(target, sum(&[at, 1]))?;
         match condition {
             Some(condition) => {
@@ -202,7 +202,7 @@ impl<'c> Explainer<'c> {
         }
     }
 
-    fn check_action(&self, action: &Action, at: usize) -> Result<(), Fault> {
+    fn check_action(&self, action: &Action, at: usize) -> Result<(), DiagnosisError> {
         let (name, source) = (sum(&[at, 1]), sum(&[at, 2]));
         match action {
             Action::Assign(target, a) => self.check_source(target, at, a.get(), source, ":="),
@@ -214,7 +214,7 @@ impl<'c> Explainer<'c> {
         }
     }
 
-    fn check_actions(&self, actions: &[Action], first: usize) -> Result<(), Fault> {
+    fn check_actions(&self, actions: &[Action], first: usize) -> Result<(), DiagnosisError> {
         let mut at = first;
         for action in actions {
             self.check_action(action, at)?;
@@ -228,14 +228,14 @@ impl<'c> Explainer<'c> {
         condition: &Expr,
         actions: &[Action],
         others: &[Action],
-    ) -> Result<(), Fault> {
+    ) -> Result<(), DiagnosisError> {
         self.check_truth_of("IF", condition, 1, &Scope::Relvars(self.schema()))?;
         let first = sum(&[2, width(condition)]);
         self.check_actions(actions, first)?;
         self.check_actions(others, sum(&[first, actions_width(actions), 1]))
     }
 
-    fn check_statement(&self, statement: &Statement) -> Result<(), Fault> {
+    fn check_statement(&self, statement: &Statement) -> Result<(), DiagnosisError> {
         match statement {
             Statement::Assignment(actions) => self.check_actions(actions.as_slice(), 0),
             Statement::Conditional(condition, actions, others) => {
@@ -245,7 +245,7 @@ impl<'c> Explainer<'c> {
     }
 
     /// What a check found.
-    pub fn told(&self, checked: Result<(), Fault>) -> Result<Diagnostic, AllocError> {
+    pub fn told(&self, checked: Result<(), DiagnosisError>) -> Result<Diagnostic, AllocError> {
         match checked {
             Ok(()) => self.no_type(0).told(),
             Err(fault) => fault.told(),

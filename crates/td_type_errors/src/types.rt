@@ -1,6 +1,6 @@
 //! Types as they are written.
 
-use crate::diagnostic::Fault;
+use crate::diagnostic::DiagnosisError;
 use crate::nearest::{Nearest, repeated_part};
 use crate::parts::Explainer;
 use crate::sentence::Sentence;
@@ -26,7 +26,7 @@ impl Sentence {
     }
 }
 
-fn check_name(explainer: &Explainer<'_>, name: &Name, at: usize) -> Result<(), Fault> {
+fn check_name(explainer: &Explainer<'_>, name: &Name, at: usize) -> Result<(), DiagnosisError> {
     if explainer.schema().type_named(name).is_some() {
         return Ok(());
     }
@@ -42,7 +42,7 @@ fn check_name(explainer: &Explainer<'_>, name: &Name, at: usize) -> Result<(), F
 
 // That a type is one.
 #[cycle(check_type)]
-fn check_type(ty: &TypeExpr, explainer: &Explainer<'_>, at: usize) -> Result<(), Fault> {
+fn check_type(ty: &TypeExpr, explainer: &Explainer<'_>, at: usize) -> Result<(), DiagnosisError> {
     match ty {
         TypeExpr::Boolean | TypeExpr::Integer | TypeExpr::Char => Ok(()),
         TypeExpr::User(name) => check_name(explainer, name, at),
@@ -58,7 +58,7 @@ pub fn check_fields(
     fields: &[Named<TypeExpr>],
     explainer: &Explainer<'_>,
     first: usize,
-) -> Result<(), Fault> {
+) -> Result<(), DiagnosisError> {
     let mut at = first;
     for field in fields {
         check_type(&field.value, explainer, sum(&[at, 1]))?;
@@ -71,7 +71,7 @@ fn check_names(
     fields: &[Named<TypeExpr>],
     explainer: &Explainer<'_>,
     first: usize,
-) -> Result<(), Fault> {
+) -> Result<(), DiagnosisError> {
     match repeated_part(explainer.alloc, fields)? {
         Some((place, name)) => {
             explainer.twice(name, sum(&[first, fields_width(front(fields, place))]))
@@ -85,11 +85,11 @@ pub fn heading_of(
     explainer: &Explainer<'_>,
     fields: &[Named<TypeExpr>],
     first: usize,
-) -> Result<Heading, Fault> {
+) -> Result<Heading, DiagnosisError> {
     check_fields(fields, explainer, first)?;
     match heading_written(explainer.alloc, explainer.schema(), fields) {
         Ok(heading) => Ok(heading),
         Err(TypeError::IllTyped) => Err(explainer.no_type(first)),
-        Err(TypeError::OutOfMemory) => Err(Fault::OutOfMemory),
+        Err(TypeError::OutOfMemory) => Err(DiagnosisError::OutOfMemory),
     }
 }

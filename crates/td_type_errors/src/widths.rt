@@ -2,7 +2,7 @@
 
 use sqlite_items::{Boxed, Items};
 use td_syntax::script::{Action, Opening};
-use td_syntax::tree::{Attributes, Expr, Groups, Named, Summary, TypeExpr, UnaryOperator};
+use td_syntax::tree::{Attributes, Expr, Groups, Named, SummaryTerm, TypeExpr, UnaryOperator};
 
 /// The sum of these numbers; the greatest one where it is larger.
 pub fn sum(numbers: &[usize]) -> usize {
@@ -76,12 +76,12 @@ pub fn named_width(all: &[Named<Boxed<Expr>>], beside: usize) -> usize {
 
 /// Of named summaries.
 #[cycle(width)]
-pub fn summaries_width(all: &[Named<Summary<Boxed<Expr>>>]) -> usize {
+pub fn summaries_width(all: &[Named<SummaryTerm<Boxed<Expr>>>]) -> usize {
     let mut marks = 0;
     for a in all {
         let term = match &a.value {
-            Summary::Count => 0,
-            Summary::Of(_, term) => width(term.get()),
+            SummaryTerm::Count => 0,
+            SummaryTerm::Of(_, term) => width(term.get()),
         };
         marks = sum(&[marks, 3, term]);
     }
@@ -139,10 +139,10 @@ pub fn width(tree: &Expr) -> usize {
 }
 
 /// Of a summary without its name.
-pub fn summary_width(summary: &Summary<Boxed<Expr>>) -> usize {
+pub fn summary_width(summary: &SummaryTerm<Boxed<Expr>>) -> usize {
     match summary {
-        Summary::Count => 1,
-        Summary::Of(_, term) => sum(&[1, width(term.get())]),
+        SummaryTerm::Count => 1,
+        SummaryTerm::Of(_, term) => sum(&[1, width(term.get())]),
     }
 }
 

@@ -20,7 +20,7 @@ use Rattle.td_tuples.specs.declared.items.Summary.{Summary}
 use Rattle.td_tuples.specs.declared.items.Summary.TheVariants as summary
 use Rattle.td_algebra.specs.declared.errors.Stop.{Stop}
 use Rattle.td_algebra.specs.declared.errors.Stop.TheVariants.{Untyped}
-use Rattle.td_algebra.specs.Extending.{Meaning, typed_field, field_at, fields_at, extended_at}
+use Rattle.td_algebra.specs.Extending.{TermMeaning, typed_field, field_at, fields_at, extended_at}
 use Rattle.td_algebra.specs.Functions.{relation_from, restricted, extended, summarized}
 use Rattle.td_algebra.specs.Raising.{all_of, alone, and_all, and_then}
 use Rattle.td_algebra.specs.Restricting.{select}
@@ -95,7 +95,7 @@ module _ (s : SchemaData) where
     if_typed true i d e is = ((λ j. (i.name, is.0 j)), is.1)
     if_typed false i d e is = absurd (true≢false (sym e))
 
-    module _ (m : Meaning E) where
+    module _ (m : TermMeaning E) where
       field_gives : (t : Attrs) (i : Item E) → OrError (IsOf i.ty) (m i.term t) → OrError (IsField i) (field_at m t i)
       field_gives t i give = goes_on (IsOf i.ty) (IsField i) (typed_field i.name i.ty) (m i.term t) give (λ d is. if_typed (is_eq (ty_order (type_of d) i.ty)) i d (type_itself (type_of d) i.ty is.0) is)
 
@@ -129,7 +129,7 @@ module _ (s : SchemaData) where
     most_gives [] each = error_is Empty
     most_gives (d ∷ ds) each = best_has d ds (each d (inl refl)) (λ x m. each x (inr m))
 
-  module _ {E : Type 0} (m : Meaning E) (v : E) (ts : List Attrs) where
+  module _ {E : Type 0} (m : TermMeaning E) (v : E) (ts : List Attrs) where
     over_values : (f : List Datum → Result Datum Stop) (k : TypeKind) → Each (λ t. GivesValue s k (m v t)) ts → ((ds : List Datum) → Each (HasKind s k) ds → GivesValue s k (f ds)) → GivesValue s k (and_then (all_of (m v) ts) f)
     over_values f k each made = goes_on (Each (HasKind s k)) (HasKind s k) f (all_of (m v) ts) (all_are (HasKind s k) (m v) ts each) made
 
@@ -146,15 +146,15 @@ module _ (s : SchemaData) where
 
   module _ {E : Type 0} where
     -- over tuples of the heading each summary gives a value of its item's type
-    abbrev pub SummariesGive : Header → Meaning E → List (Item (Summary E)) → Type 0
+    abbrev pub SummariesGive : Header → TermMeaning E → List (Item (Summary E)) → Type 0
     SummariesGive h m [] = Unit {0}
     SummariesGive h m (i ∷ is) = ((ts : List Attrs) → Each (IsTupleOver s h) ts → OrError (IsOf i.ty) (summary_over m ts i.term)) × SummariesGive h m is
 
-    over_group : (h : Header) (m : Meaning E) (is : List (Item (Summary E))) (ts : List Attrs) → Each (IsTupleOver s h) ts → SummariesGive h m is → TermsGive (λ x. summary_over m ts x) is
+    over_group : (h : Header) (m : TermMeaning E) (is : List (Item (Summary E))) (ts : List Attrs) → Each (IsTupleOver s h) ts → SummariesGive h m is → TermsGive (λ x. summary_over m ts x) is
     over_group h m [] ts each give = tt
     over_group h m (i ∷ is) ts each give = (give.0 ts each, over_group h m is ts each give.1)
 
-    pub summarization_is : (m : Meaning E) (is : List (Item (Summary E))) (h k : Header) (r per : RowsData) → IsRelationOver s h r → IsRelationOver s k per → SummariesGive h m is → GivesRelation s (extended_columns is k) (summarized m is r per)
+    pub summarization_is : (m : TermMeaning E) (is : List (Item (Summary E))) (h k : Header) (r per : RowsData) → IsRelationOver s h r → IsRelationOver s k per → SummariesGive h m is → GivesRelation s (extended_columns is k) (summarized m is r per)
     unfolding summarized
     summarization_is m is h k r per rel pers give = extension_is (over_groups m r per.heading) is k per pers (λ u has.
         over_group h m is (group_of r per.heading u)

@@ -16,7 +16,7 @@ use Rattle.td_schema.specs.Schemas.{SchemaData}
 use Rattle.td_schema.specs.Scopes as scopes
 use Rattle.td_schema.specs.Scopes.{Scope, or_outer, with_names}
 use Rattle.td_meaning.specs.Mean as mean
-use Rattle.td_meaning.specs.Mean.{Names, Relvars, or_else, same_text}
+use Rattle.td_meaning.specs.Mean.{Names, Relvars, or_else, are_equal_names}
 use Rattle.td_typing.specs.Trees.{named}
 use Rattle.td_typing.proofs.KindLemmas as kinds
 use Rattle.td_type_soundness.specs.Meanings.{HasKind, IsTupleOver, IsMeant, AreMeant}
@@ -43,7 +43,7 @@ module _ (s : SchemaData) (relvars : Relvars) where
           subst (λ o. IsMeant s relvars m (or_else o (names x))) (sym e) (local_is (kind_of (type_of d)) m d one (attribute_has s h t x (type_of d) d has typed e))
 
   pub given_are : (n : Name) (k : TypeKind) (d : Datum) (scope : Scope) (names : Names) → HasKind s k d → AreMeant s relvars scope names → AreMeant s relvars (scopes.with_name n k scope) (mean.given n d names)
-  given_are n k d scope names has are x m is = by (same_text n x) is
+  given_are n k d scope names has are x m is = by (are_equal_names n x) is
     where
       by : (b : Bool) → (if b then Some (local k) else scope x) ≡ Some m → IsMeant s relvars m (if b then Some d else names x)
       by true e = local_is k m d e has

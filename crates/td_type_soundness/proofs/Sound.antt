@@ -15,7 +15,7 @@ use Rattle.td_tuples.specs.Items.{columns_of, extended_columns}
 use Rattle.td_tuples.specs.declared.items.Item.{Item}
 use Rattle.td_tuples.specs.declared.items.Summary as typed_summary
 use Rattle.td_syntax.specs.declared.tree.Named.{Named}
-use Rattle.td_syntax.specs.declared.tree.Summary.{Summary}
+use Rattle.td_syntax.specs.declared.tree.SummaryTerm.{SummaryTerm}
 use Rattle.td_syntax.specs.declared.tree.Groups.{Groups}
 use Rattle.td_syntax.specs.declared.tree.Expr.{Expr}
 use Rattle.td_typed_trees.specs.declared.tree.TypedGroups.{TypedGroups}
@@ -158,7 +158,7 @@ module _ (s : SchemaData) (relvars : Relvars) (selection : Selection) (selects :
     give_items scope names meant types.no_items = tt
     give_items scope names meant (types.next_item a rest) = (gives scope names meant a, give_items scope names meant rest)
 
-    give_summaries : (scope : Scope) (names : Names) (h : Header) {xs : List (Named (Summary Expr))} {is : List (Item (typed_summary.Summary Typed))} → ((w : Attrs) → IsTupleOver s h w → AreMeant s relvars scope (mean.within w names)) → TypesSummaries s scope xs is → SummariesGive s h (terms m names) is
+    give_summaries : (scope : Scope) (names : Names) (h : Header) {xs : List (Named (SummaryTerm Expr))} {is : List (Item (typed_summary.Summary Typed))} → ((w : Attrs) → IsTupleOver s h w → AreMeant s relvars scope (mean.within w names)) → TypesSummaries s scope xs is → SummariesGive s h (terms m names) is
     give_summaries scope names h meant types.no_summaries = tt
     give_summaries scope names h meant (types.count rest) = ((λ ts are. (refl, tt)), give_summaries scope names h meant rest)
     give_summaries scope names h meant (types.of_terms {o} {u} {k} a may rest) = (

@@ -20,7 +20,7 @@ use Rattle.td_algebra.specs.Summaries.{in_64_bits}
 use Rattle.td_schema.specs.Kinds.{same_heading, agree_on_types}
 use Rattle.td_schema.specs.Operators as tables
 use Rattle.td_schema.specs.Schemas.{SchemaData}
-use Rattle.td_operators.specs.Operators.{if_alike, related, decided, calculated, of_truths, of_integers, of_relations, concatenated, same, member, is_subset, is_proper_subset, of_alike, less, at_most, operate, as_value}
+use Rattle.td_operators.specs.Operators.{if_alike, related, decided, calculated, of_truths, of_integers, of_relations, concatenated, are_equal, member, is_subset, is_proper_subset, of_alike, less, at_most, operate, as_value}
 use Rattle.td_operators.specs.Values.{truth_of, integer_of, text_of, tuple_in, rows_of, both}
 use Rattle.td_type_soundness.specs.Meanings.{OrError, GivesValue, HasKind, IsTupleOver, IsRelationOver, GivesRelation}
 use Rattle.td_type_soundness.proofs.Errors.{goes_on, both_are, error_is}
@@ -193,8 +193,8 @@ module _ (s : SchemaData) where
   binary_gives binary.Or i j k d e h p q = by_truths i j k d e p q binary.Or (λ a b. (refl, tt)) h
   binary_gives binary.Xor i j k d e h p q = by_truths i j k d e p q binary.Xor (λ a b. (refl, tt)) h
   binary_gives binary.And i j k d e h p q = by_truths i j k d e p q binary.And (λ a b. (refl, tt)) h
-  binary_gives binary.Equals i j k d e h p q = a_truth i j k d e p q (same d e) (equals i j k h)
-  binary_gives binary.Differs i j k d e h p q = a_truth i j k d e p q (not (same d e)) (equals i j k h)
+  binary_gives binary.Equals i j k d e h p q = a_truth i j k d e p q (are_equal d e) (equals i j k h)
+  binary_gives binary.Differs i j k d e h p q = a_truth i j k d e p q (not (are_equal d e)) (equals i j k h)
   binary_gives binary.Less i j k d e h p q = by_less i j k d e p q (orders i j k h)
   binary_gives binary.Greater i j k d e h p q = by_less j i k e d q p (turned i j k (orders i j k h))
   binary_gives binary.AtMost i j k d e h p q = by_at_most i j k d e p q (orders i j k h)

@@ -16,7 +16,7 @@ use Rattle.td_typed_trees.specs.declared.tree.Typed.TheVariants as t
 use Rattle.td_typed_trees.specs.declared.tree.Typed.TheOpen.{Typed-F}
 use Rattle.td_typed_trees.specs.declared.tree.Typed.TheFolds.{fold-roll-Typed}
 use Rattle.td_typed_trees.specs.declared.tree.Typed.TheShapes.{former-Typed-Summarize-2-at-13}
-use Rattle.td_typed_trees.specs.Mentions.{Mentions, mentioned, mentioned_step, of_all, of_items, of_named, of_summary, of_summaries}
+use Rattle.td_typed_trees.specs.Mentions.{Mentions, mentioned, mentioned_step, of_all, of_items, of_named, mentioned_by_summary, of_summaries}
 use Rattle.td_typed_trees.specs.ForProofs.Mentioned.{list_mentioned, items_mentioned, named_mentioned, summary_mentioned, summaries_mentioned, groups_mentioned}
 
 list_of : (all : List Typed) → of_all (map mentioned all) ≡ list_mentioned all
@@ -78,7 +78,7 @@ of_aggregate a (summary.Or b) = search (rules, the_lemmas)
 abbrev summary_item_of : Item (Summary Typed) → Item (Summary Mentions)
 summary_item_of = former-Typed-Summarize-2-at-13.map Typed Mentions mentioned
 
-of_one : (n : List ℕ) (ty : Ty) (s : Summary Typed) → of_summary (summary_item_of (record { name = n; ty = ty; term = s })).term ≡ summary_mentioned s
+of_one : (n : List ℕ) (ty : Ty) (s : Summary Typed) → mentioned_by_summary (summary_item_of (record { name = n; ty = ty; term = s })).term ≡ summary_mentioned s
 of_one n ty summary.Count = refl
 of_one n ty (summary.Sum a) = refl
 of_one n ty (summary.Max a) = refl

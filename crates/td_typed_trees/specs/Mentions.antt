@@ -28,22 +28,22 @@ abbrev pub of_named : List (Named Mentions) → Mentions
 of_named [] = []
 of_named (n ∷ ns) = n.value ++ of_named ns
 
-abbrev pub of_summary : Summary Mentions → Mentions
-of_summary summary.Count = []
-of_summary (summary.Sum m) = m
-of_summary (summary.Max m) = m
-of_summary (summary.Min m) = m
-of_summary (summary.And m) = m
-of_summary (summary.Or m) = m
+abbrev pub mentioned_by_summary : Summary Mentions → Mentions
+mentioned_by_summary summary.Count = []
+mentioned_by_summary (summary.Sum m) = m
+mentioned_by_summary (summary.Max m) = m
+mentioned_by_summary (summary.Min m) = m
+mentioned_by_summary (summary.And m) = m
+mentioned_by_summary (summary.Or m) = m
 
 abbrev pub of_summaries : List (Item (Summary Mentions)) → Mentions
 of_summaries [] = []
-of_summaries (i ∷ is) = of_summary i.term ++ of_summaries is
+of_summaries (i ∷ is) = mentioned_by_summary i.term ++ of_summaries is
 
-abbrev pub of_groups : TypedGroups Mentions → Mentions
-of_groups groups.Whole = []
-of_groups (groups.Per m) = m
-of_groups (groups.By ns) = []
+abbrev pub mentioned_by_groups : TypedGroups Mentions → Mentions
+mentioned_by_groups groups.Whole = []
+mentioned_by_groups (groups.Per m) = m
+mentioned_by_groups (groups.By ns) = []
 
 abbrev pub mentioned_step : Typed-F Mentions → Mentions
 mentioned_step (Typed-F.Integer n) = []
@@ -63,10 +63,10 @@ mentioned_step (Typed-F.Where a b) = a ++ b
 mentioned_step (Typed-F.Rename a ns) = a
 mentioned_step (Typed-F.Nest o a ns n) = a
 mentioned_step (Typed-F.Unnest o a n) = a
-mentioned_step (Typed-F.Aggregate a s) = a ++ of_summary s
+mentioned_step (Typed-F.Aggregate a s) = a ++ mentioned_by_summary s
 mentioned_step (Typed-F.If a b c) = a ++ (b ++ c)
 mentioned_step (Typed-F.Extend a all) = a ++ of_items all
-mentioned_step (Typed-F.Summarize a g all) = a ++ (of_groups g ++ of_summaries all)
+mentioned_step (Typed-F.Summarize a g all) = a ++ (mentioned_by_groups g ++ of_summaries all)
 mentioned_step (Typed-F.With all a) = of_named all ++ a
 
 abbrev pub mentioned : Typed → Mentions

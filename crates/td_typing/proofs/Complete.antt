@@ -10,7 +10,7 @@ use Rattle.td_tuples.specs.declared.items.Item.{Item}
 use Rattle.td_tuples.specs.declared.items.Summary as typed_summary
 use Rattle.td_tuples.specs.declared.items.Summary.TheVariants as typed_summaries
 use Rattle.td_syntax.specs.declared.tree.Named.{Named}
-use Rattle.td_syntax.specs.declared.tree.Summary.{Summary}
+use Rattle.td_syntax.specs.declared.tree.SummaryTerm.{SummaryTerm}
 use Rattle.td_syntax.specs.declared.tree.Groups.{Groups}
 use Rattle.td_syntax.specs.declared.tree.Expr.{Expr}
 use Rattle.td_typed_trees.specs.declared.tree.TypedGroups.{TypedGroups}
@@ -125,7 +125,7 @@ module _ (cat : SchemaData) where
         goes (spec.infer_item s (name_inferred cat (named n a))) (item_of n k u) (λ y. each (spec.infer_item s) (done ++ y ∷ []) (named_inferred cat xs)) (goes (infer cat a s) (typing u k) (λ y. Some (item_of n y.kind y.tree)) (complete d))
         ∙ complete_items rest (done ++ item_of n k u ∷ []) ∙ ap Some (append_assoc done (item_of n k u ∷ []) is)
 
-    complete_summaries : {s : Scope} {xs : List (Named (Summary Expr))} {is : List (Item (typed_summary.Summary Typed))} → TypesSummaries cat s xs is → (done : List (Item (typed_summary.Summary Typed))) → each (spec.infer_summary s) done (summaries_inferred cat xs) ≡ Some (done ++ is)
+    complete_summaries : {s : Scope} {xs : List (Named (SummaryTerm Expr))} {is : List (Item (typed_summary.Summary Typed))} → TypesSummaries cat s xs is → (done : List (Item (typed_summary.Summary Typed))) → each (spec.infer_summary s) done (summaries_inferred cat xs) ≡ Some (done ++ is)
     complete_summaries types.no_summaries done = ap Some (sym (append-nil done))
     complete_summaries (types.count {s} {n} {xs} {is} rest) done = complete_summaries rest (done ++ item_of n kind.Integer typed_summaries.Count ∷ []) ∙ ap Some (append_assoc done (item_of n kind.Integer typed_summaries.Count ∷ []) is)
     complete_summaries (types.of_terms {s} {n} {o} {a} {u} {k} {xs} {is} d may rest) done =

@@ -10,8 +10,8 @@ use Rattle.td_syntax.specs.declared.tree.Aggregate.{Aggregate}
 use Rattle.td_syntax.specs.declared.tree.Attributes.{Attributes}
 use Rattle.td_syntax.specs.declared.tree.Renaming.{Renaming}
 use Rattle.td_syntax.specs.declared.tree.Named.{Named}
-use Rattle.td_syntax.specs.declared.tree.Summary.{Summary}
-use Rattle.td_syntax.specs.declared.tree.Summary.TheVariants as summary
+use Rattle.td_syntax.specs.declared.tree.SummaryTerm.{SummaryTerm}
+use Rattle.td_syntax.specs.declared.tree.SummaryTerm.TheVariants as summary
 use Rattle.td_syntax.specs.declared.tree.Groups.{Groups}
 use Rattle.td_syntax.specs.declared.tree.Groups.TheVariants as groups
 use Rattle.td_syntax.specs.declared.tree.TypeExpr.{TypeExpr}
@@ -102,25 +102,25 @@ module _ (cat : SchemaData) where
 
   -- ---- summaries
 
-  abbrev mapped : Named (Summary Expr) → Named (Summary Inferred)
+  abbrev mapped : Named (SummaryTerm Expr) → Named (SummaryTerm Inferred)
   mapped = former-Expr-Summarize-2-at-5.map Expr Inferred (infer cat)
 
-  one_mapped : (n : Name) (x : Summary Expr) → mapped (named n x) ≡ named n (summary_inferred cat x)
+  one_mapped : (n : Name) (x : SummaryTerm Expr) → mapped (named n x) ≡ named n (summary_inferred cat x)
   one_mapped n summary.Count = refl
   one_mapped n (summary.Of o a) = refl
 
-  all_mapped : (xs : List (Named (Summary Expr))) → map mapped xs ≡ summaries_inferred cat xs
+  all_mapped : (xs : List (Named (SummaryTerm Expr))) → map mapped xs ≡ summaries_inferred cat xs
   all_mapped [] = refl
   all_mapped (x ∷ xs) = ap (λ y. y ∷ map mapped xs) (one_mapped x.name x.value) ∙ ap (λ ys. named x.name (summary_inferred cat x.value) ∷ ys) (all_mapped xs)
 
-  summary_names_inferred : (xs : List (Named (Summary Expr))) → names (summaries_inferred cat xs) ≡ names xs
+  summary_names_inferred : (xs : List (Named (SummaryTerm Expr))) → names (summaries_inferred cat xs) ≡ names xs
   summary_names_inferred [] = refl
   summary_names_inferred (x ∷ xs) = ap (λ ns. x.name ∷ ns) (summary_names_inferred xs)
 
-  told : (f : Inferred) (g : Groups Inferred) (xs : List (Named (Summary Expr))) → infer_summarize f g (names (map mapped xs)) (map mapped xs) ≡ infer_summarize f g (names xs) (summaries_inferred cat xs)
+  told : (f : Inferred) (g : Groups Inferred) (xs : List (Named (SummaryTerm Expr))) → infer_summarize f g (names (map mapped xs)) (map mapped xs) ≡ infer_summarize f g (names xs) (summaries_inferred cat xs)
   told f g xs = ap (λ ys. infer_summarize f g (names ys) ys) (all_mapped xs) ∙ ap (λ ns. infer_summarize f g ns (summaries_inferred cat xs)) (summary_names_inferred xs)
 
-  pub of_summarize : (a : Expr) (g : Groups Expr) (xs : List (Named (Summary Expr))) → infer cat (e.Summarize a g xs) ≡ infer_summarize (infer cat a) (groups_inferred cat g) (names xs) (summaries_inferred cat xs)
+  pub of_summarize : (a : Expr) (g : Groups Expr) (xs : List (Named (SummaryTerm Expr))) → infer cat (e.Summarize a g xs) ≡ infer_summarize (infer cat a) (groups_inferred cat g) (names xs) (summaries_inferred cat xs)
   of_summarize a groups.Whole xs = ap (infer cat) (sym (e.rolls-Summarize a groups.Whole xs)) ∙ (fold-roll-Expr Inferred (infer_step cat) (Expr-F.Summarize a groups.Whole xs) ∙ told (infer cat a) groups.Whole xs)
   of_summarize a (groups.Per p) xs = ap (infer cat) (sym (e.rolls-Summarize a (groups.Per p) xs)) ∙ (fold-roll-Expr Inferred (infer_step cat) (Expr-F.Summarize a (groups.Per p) xs) ∙ told (infer cat a) (groups.Per (infer cat p)) xs)
   of_summarize a (groups.By ns) xs = ap (infer cat) (sym (e.rolls-Summarize a (groups.By ns) xs)) ∙ (fold-roll-Expr Inferred (infer_step cat) (Expr-F.Summarize a (groups.By ns) xs) ∙ told (infer cat a) (groups.By ns) xs)

@@ -2,7 +2,7 @@
 -- in.
 use Rattle.std.proofs.Common.{◌≡◌, ◌≤◌, ◌<◌, ◌+◌, ◌*◌, ℕ, zero, suc, max, List, [], ◌∷◌, length, get_or, Option, ap, ◌∙◌, arith}
 use Rattle.td_syntax.specs.declared.tree.Named.{Named}
-use Rattle.td_syntax.specs.declared.tree.Summary.{Summary}
+use Rattle.td_syntax.specs.declared.tree.SummaryTerm.{SummaryTerm}
 use Rattle.td_syntax.specs.declared.tree.Extension.{Extension}
 use Rattle.td_syntax.specs.declared.tree.Groups.{Groups}
 use Rattle.td_syntax.specs.declared.tree.TypeExpr.{TypeExpr}
@@ -23,7 +23,7 @@ named_item [] i d h = omega (arith, h)
 named_item (x ∷ xs) zero d h = omega arith
 named_item (x ∷ xs) (suc i) d h = omega (arith, named_item xs i d (omega (arith, h)))
 
-summary_item : (xs : List (Named (Summary Expr))) (i : ℕ) (d : Named (Summary Expr)) → i < length xs → summary_levels (get_or xs i d).value ≤ summaries_levels xs
+summary_item : (xs : List (Named (SummaryTerm Expr))) (i : ℕ) (d : Named (SummaryTerm Expr)) → i < length xs → summary_levels (get_or xs i d).value ≤ summaries_levels xs
 summary_item [] i d h = omega (arith, h)
 summary_item (x ∷ xs) zero d h = omega arith
 summary_item (x ∷ xs) (suc i) d h = omega (arith, summary_item xs i d (omega (arith, h)))
@@ -35,8 +35,8 @@ in_list xs i x a h is value = let e = ap levels value ∙ ap levels is in omega 
 pub in_named : (xs : List (Named Expr)) (i : ℕ) (x : Named Expr) (a : Expr) → i < length xs → x ≡ get_or xs i x → a ≡ x.value → levels a ≤ named_levels xs
 in_named xs i x a h is value = let e = ap levels value ∙ ap (λ (y : Named Expr). levels y.value) is in omega (arith, e, named_item xs i x h)
 
-pub in_summaries : (xs : List (Named (Summary Expr))) (i : ℕ) (x : Named (Summary Expr)) → i < length xs → x ≡ get_or xs i x → summary_levels x.value ≤ summaries_levels xs
-in_summaries xs i x h is = let e = ap (λ (y : Named (Summary Expr)). summary_levels y.value) is in omega (arith, e, summary_item xs i x h)
+pub in_summaries : (xs : List (Named (SummaryTerm Expr))) (i : ℕ) (x : Named (SummaryTerm Expr)) → i < length xs → x ≡ get_or xs i x → summary_levels x.value ≤ summaries_levels xs
+in_summaries xs i x h is = let e = ap (λ (y : Named (SummaryTerm Expr)). summary_levels y.value) is in omega (arith, e, summary_item xs i x h)
 
 -- ---- a form with a list, as its parts are handed on
 
@@ -55,5 +55,5 @@ extend_falls a o b c xs ys is one same = omega (arith, ap levels is, of_extend o
 pub with_falls : (a b c : Expr) (xs ys : List (Named Expr)) → a ≡ e.With xs b → c ≡ b → ys ≡ xs → 5 * max (named_levels ys) (levels c) + 2 < 5 * levels a
 with_falls a b c xs ys is one same = omega (arith, ap levels is, of_with xs b, ap levels one, ap named_levels same)
 
-pub summarize_falls : (a b c : Expr) (g : Groups Expr) (xs ys : List (Named (Summary Expr))) → a ≡ e.Summarize b g xs → c ≡ b → ys ≡ xs → 5 * max (levels c) (max (groups_levels g) (summaries_levels ys)) + 3 < 5 * levels a
+pub summarize_falls : (a b c : Expr) (g : Groups Expr) (xs ys : List (Named (SummaryTerm Expr))) → a ≡ e.Summarize b g xs → c ≡ b → ys ≡ xs → 5 * max (levels c) (max (groups_levels g) (summaries_levels ys)) + 3 < 5 * levels a
 summarize_falls a b c g xs ys is one same = omega (arith, ap levels is, of_summarize b g xs, ap levels one, ap summaries_levels same)

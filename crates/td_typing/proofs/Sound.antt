@@ -19,8 +19,8 @@ use Rattle.td_syntax.specs.declared.tree.Aggregate.{Aggregate}
 use Rattle.td_syntax.specs.declared.tree.Attributes.{Attributes}
 use Rattle.td_syntax.specs.declared.tree.Renaming.{Renaming}
 use Rattle.td_syntax.specs.declared.tree.Named.{Named}
-use Rattle.td_syntax.specs.declared.tree.Summary.{Summary}
-use Rattle.td_syntax.specs.declared.tree.Summary.TheVariants as summary
+use Rattle.td_syntax.specs.declared.tree.SummaryTerm.{SummaryTerm}
+use Rattle.td_syntax.specs.declared.tree.SummaryTerm.TheVariants as summary
 use Rattle.td_syntax.specs.declared.tree.Groups.{Groups}
 use Rattle.td_syntax.specs.declared.tree.Groups.TheVariants as groups
 use Rattle.td_syntax.specs.declared.tree.TypeExpr.{TypeExpr}
@@ -348,11 +348,11 @@ module _ (cat : SchemaData) where
   strip_groups (groups.Per a) = groups.Per a.0
   strip_groups (groups.By xs) = groups.By xs
 
-  abbrev strip_summary : Summary Known → Summary Expr
+  abbrev strip_summary : SummaryTerm Known → SummaryTerm Expr
   strip_summary summary.Count = summary.Count
   strip_summary (summary.Of o a) = summary.Of o a.0
 
-  abbrev strip_named : Named (Summary Known) → Named (Summary Expr)
+  abbrev strip_named : Named (SummaryTerm Known) → Named (SummaryTerm Expr)
   strip_named x = named x.name (strip_summary x.value)
 
   groups_known : (s : Scope) (h : Header) (g : Groups Known) (p : Grouping) → spec.infer_groups h (groups_inferred cat (strip_groups g)) s ≡ Some p → TypesGroups cat s h (strip_groups g) p.groups p.heading
@@ -368,7 +368,7 @@ module _ (cat : SchemaData) where
       let q = inverted (attributes_of xs h) (λ ns. Some (grouping (typed_groups.By ns) (columns_in ns h))) p j in
       subst (λ (z : Grouping). TypesGroups cat s h (groups.By xs) z.groups z.heading) (some_same (grouping (typed_groups.By q.0) (columns_in q.0 h)) p q.2) (types.by q.1)
 
-  summary_next : (s : Scope) (n : Name) (x : Summary Known) (f : Item (typed_summary.Summary Typed)) (xs : List (Named (Summary Expr))) (is : List (Item (typed_summary.Summary Typed))) → spec.infer_summary_at s n (summary_inferred cat (strip_summary x)) ≡ Some f → TypesSummaries cat s xs is → TypesSummaries cat s (named n (strip_summary x) ∷ xs) (f ∷ is)
+  summary_next : (s : Scope) (n : Name) (x : SummaryTerm Known) (f : Item (typed_summary.Summary Typed)) (xs : List (Named (SummaryTerm Expr))) (is : List (Item (typed_summary.Summary Typed))) → spec.infer_summary_at s n (summary_inferred cat (strip_summary x)) ≡ Some f → TypesSummaries cat s xs is → TypesSummaries cat s (named n (strip_summary x) ∷ xs) (f ∷ is)
   unfolding spec.summed
   summary_next s n summary.Count f xs is h rest = subst (λ g. TypesSummaries cat s (named n summary.Count ∷ xs) (g ∷ is)) (some_same (item_of n kind.Integer typed_summaries.Count) f h) (types.count rest)
   summary_next s n (summary.Of o a) f xs is h rest =
@@ -376,7 +376,7 @@ module _ (cat : SchemaData) where
       let may = tested (suits o q.0.kind) (item_of n q.0.kind (summary_of o q.0.tree)) f q.2 in
       subst (λ z. TypesSummaries cat s (named n (summary.Of o a.0) ∷ xs) (z ∷ is)) may.1 (types.of_terms (a.1 s q.0 q.1) may.0 rest)
 
-  summaries_known : (s : Scope) (xs : List (Named (Summary Known))) (done is : List (Item (typed_summary.Summary Typed))) → each (spec.infer_summary s) done (summaries_inferred cat (map strip_named xs)) ≡ Some is → (js : List (Item (typed_summary.Summary Typed))) × (done ++ js ≡ is) × TypesSummaries cat s (map strip_named xs) js
+  summaries_known : (s : Scope) (xs : List (Named (SummaryTerm Known))) (done is : List (Item (typed_summary.Summary Typed))) → each (spec.infer_summary s) done (summaries_inferred cat (map strip_named xs)) ≡ Some is → (js : List (Item (typed_summary.Summary Typed))) × (done ++ js ≡ is) × TypesSummaries cat s (map strip_named xs) js
   unfolding spec.infer_summary
   summaries_known s [] done is h = ([], append-nil done ∙ some_same done is h, types.no_summaries)
   summaries_known s (x ∷ xs) done is h =
@@ -384,7 +384,7 @@ module _ (cat : SchemaData) where
       let rest = summaries_known s xs (done ++ p.0 ∷ []) is p.2 in
       (p.0 ∷ rest.0, sym (append_assoc done (p.0 ∷ []) rest.0) ∙ rest.1, summary_next s x.name x.value p.0 (map strip_named xs) rest.0 p.1 rest.2)
 
-  by_summarize : (r : Expr) (g : Groups Known) (xs : List (Named (Summary Known))) → Sound r → Sound (e.Summarize r (strip_groups g) (map strip_named xs))
+  by_summarize : (r : Expr) (g : Groups Known) (xs : List (Named (SummaryTerm Known))) → Sound r → Sound (e.Summarize r (strip_groups g) (map strip_named xs))
   unfolding spec.infer_summarize spec.infer_summaries spec.summarized
   by_summarize r g xs known s x h =
       let gi = groups_inferred cat (strip_groups g) in
@@ -399,18 +399,18 @@ module _ (cat : SchemaData) where
       settled s (e.Summarize r (strip_groups g) (map strip_named xs)) (typing (t.Summarize p.0.tree gs.0.groups is.0) (kind.Relation (extended_columns is.0 gs.0.heading))) x new.1
       (types.summarize (at_kind s r p.0.tree p.0.kind (kind.Relation q.0) (relation p.0.kind q.0 q.1) (known s p.0 p.1)) (groups_known s q.0 g gs.0 gs.1) new.0 (subst (λ js. TypesSummaries cat (within_tuple q.0 s) (map strip_named xs) js) all.1 all.2))
 
-  abbrev mapped : Named (Summary Known) → Named (Summary Expr)
+  abbrev mapped : Named (SummaryTerm Known) → Named (SummaryTerm Expr)
   mapped = former-Expr-Summarize-2-at-5.map Known Expr (λ a. a.0)
 
-  one_mapped : (n : Name) (x : Summary Known) → mapped (named n x) ≡ named n (strip_summary x)
+  one_mapped : (n : Name) (x : SummaryTerm Known) → mapped (named n x) ≡ named n (strip_summary x)
   one_mapped n summary.Count = refl
   one_mapped n (summary.Of o a) = refl
 
-  all_mapped : (xs : List (Named (Summary Known))) → map mapped xs ≡ map strip_named xs
+  all_mapped : (xs : List (Named (SummaryTerm Known))) → map mapped xs ≡ map strip_named xs
   all_mapped [] = refl
   all_mapped (x ∷ xs) = ap (λ y. y ∷ map mapped xs) (one_mapped x.name x.value) ∙ ap (λ ys. strip_named x ∷ ys) (all_mapped xs)
 
-  stripped : (a : Expr) (g : Groups Expr) (xs : List (Named (Summary Known))) → Sound (e.Summarize a g (map strip_named xs)) → Sound (roll-Expr (Expr-F.Summarize a g (map mapped xs)))
+  stripped : (a : Expr) (g : Groups Expr) (xs : List (Named (SummaryTerm Known))) → Sound (e.Summarize a g (map strip_named xs)) → Sound (roll-Expr (Expr-F.Summarize a g (map mapped xs)))
   stripped a g xs h = subst (λ ys. Sound (roll-Expr (Expr-F.Summarize a g ys))) (sym (all_mapped xs)) (subst Sound (sym (e.rolls-Summarize a g (map strip_named xs))) h)
 
   -- ---- all forms

@@ -9,7 +9,7 @@ use Rattle.td_values.specs.declared.TypeKind.TheVariants as kind
 use Rattle.td_tuples.specs.declared.items.Item.{Item}
 use Rattle.td_tuples.specs.declared.items.Summary as typed_summary
 use Rattle.td_syntax.specs.declared.tree.Named.{Named}
-use Rattle.td_syntax.specs.declared.tree.Summary.{Summary}
+use Rattle.td_syntax.specs.declared.tree.SummaryTerm.{SummaryTerm}
 use Rattle.td_syntax.specs.declared.tree.Groups.{Groups}
 use Rattle.td_syntax.specs.declared.tree.Expr.{Expr}
 use Rattle.td_syntax.specs.declared.tree.TypeExpr.{TypeExpr, map-TypeExpr}
@@ -210,7 +210,7 @@ module _ (c d : SchemaData) (f : IsEarlier c d) where
     stay_items s w keep types.no_items = types.no_items
     stay_items s w keep (types.next_item a rest) = types.next_item (stays s w keep a) (stay_items s w keep rest)
 
-    stay_summaries : (s w : Scope) {xs : List (Named (Summary Expr))} {is : List (Item (typed_summary.Summary Typed))} → KeepsNames s w → TypesSummaries c s xs is → TypesSummaries d w xs is
+    stay_summaries : (s w : Scope) {xs : List (Named (SummaryTerm Expr))} {is : List (Item (typed_summary.Summary Typed))} → KeepsNames s w → TypesSummaries c s xs is → TypesSummaries d w xs is
     stay_summaries s w keep types.no_summaries = types.no_summaries
     stay_summaries s w keep (types.count rest) = types.count (stay_summaries s w keep rest)
     stay_summaries s w keep (types.of_terms a may rest) = types.of_terms (stays s w keep a) may (stay_summaries s w keep rest)

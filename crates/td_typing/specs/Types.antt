@@ -21,8 +21,8 @@ use Rattle.td_syntax.specs.declared.tree.Aggregate.{Aggregate}
 use Rattle.td_syntax.specs.declared.tree.Attributes.{Attributes}
 use Rattle.td_syntax.specs.declared.tree.Renaming.{Renaming}
 use Rattle.td_syntax.specs.declared.tree.Named.{Named}
-use Rattle.td_syntax.specs.declared.tree.Summary.{Summary}
-use Rattle.td_syntax.specs.declared.tree.Summary.TheVariants as summary
+use Rattle.td_syntax.specs.declared.tree.SummaryTerm.{SummaryTerm}
+use Rattle.td_syntax.specs.declared.tree.SummaryTerm.TheVariants as summary
 use Rattle.td_syntax.specs.declared.tree.Groups.{Groups}
 use Rattle.td_syntax.specs.declared.tree.Groups.TheVariants as groups
 use Rattle.td_syntax.specs.declared.tree.TypeExpr.{TypeExpr}
@@ -153,7 +153,7 @@ mutual
         → TypesItems cat (within_tuple h s) xs is
         → Types cat s (e.Extend o a xs) (t.Extend u is) (kind.Relation (extended_columns is h))
     -- terms that see the relation's attributes; new names are distinct and not among those of the groups
-    summarize : {s : Scope} {a : Expr} {g : Groups Expr} {xs : List (Named (Summary Expr))} {u : Typed}
+    summarize : {s : Scope} {a : Expr} {g : Groups Expr} {xs : List (Named (SummaryTerm Expr))} {u : Typed}
         {gs : TypedGroups Typed} {is : List (Item (typed_summary.Summary Typed))} {h k : Header}
         → Types cat s a u (kind.Relation h)
         → TypesGroups cat s h g gs k
@@ -198,13 +198,13 @@ mutual
 
   -- summaries whose terms are of one scope, as new attributes: COUNT is an INTEGER, an aggregate has its terms' kind
   pub data TypesSummaries (cat : SchemaData)
-      : Scope → List (Named (Summary Expr)) → List (Item (typed_summary.Summary Typed)) → Type 0 where
+      : Scope → List (Named (SummaryTerm Expr)) → List (Item (typed_summary.Summary Typed)) → Type 0 where
     no_summaries : {s : Scope} → TypesSummaries cat s [] []
-    count : {s : Scope} {n : Name} {xs : List (Named (Summary Expr))} {is : List (Item (typed_summary.Summary Typed))}
+    count : {s : Scope} {n : Name} {xs : List (Named (SummaryTerm Expr))} {is : List (Item (typed_summary.Summary Typed))}
         → TypesSummaries cat s xs is
         → TypesSummaries cat s (named n summary.Count ∷ xs) (item_of n kind.Integer typed_summaries.Count ∷ is)
     of_terms : {s : Scope} {n : Name} {o : Aggregate} {a : Expr} {u : Typed} {k : TypeKind}
-        {xs : List (Named (Summary Expr))} {is : List (Item (typed_summary.Summary Typed))}
+        {xs : List (Named (SummaryTerm Expr))} {is : List (Item (typed_summary.Summary Typed))}
         → Types cat s a u k
         → suits o k ≡ true
         → TypesSummaries cat s xs is

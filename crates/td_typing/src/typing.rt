@@ -27,7 +27,7 @@ use td_schema::schema::begins_with_the;
 use td_schema::{Schema, Scope, TypeError};
 use td_syntax::tree::{
     Aggregate, Attributes, BinaryOperator, Expr, Extension, Groups, Named, Nesting, Renaming,
-    Summary, TypeExpr, UnaryOperator,
+    SummaryTerm, TypeExpr, UnaryOperator,
 };
 use td_tuples::Item;
 use td_typed_trees::tree::{Typed, Typing};
@@ -381,14 +381,14 @@ fn summary(
     alloc: Global,
     schema: &Schema,
     name: &Name,
-    summary: &Summary<Boxed<Expr>>,
+    summary: &SummaryTerm<Boxed<Expr>>,
     scope: &Scope,
 ) -> Result<Item<td_tuples::Summary<Boxed<Typed>>>, TypeError>
     ensures { Gives (spec.infer_summary_at (visible scope.now) name.now (summary_inferred schema.now summary.now)) result }
 {
     match summary {
-        Summary::Count => Ok(counted(name)?),
-        Summary::Of(aggregate, a) => {
+        SummaryTerm::Count => Ok(counted(name)?),
+        SummaryTerm::Of(aggregate, a) => {
             let a = typing(alloc, schema, a.get(), scope)?;
             summed(name, *aggregate, a)
         }
@@ -400,7 +400,7 @@ fn summary(
 fn summaries(
     alloc: Global,
     schema: &Schema,
-    xs: &[Named<Summary<Boxed<Expr>>>],
+    xs: &[Named<SummaryTerm<Boxed<Expr>>>],
     scope: &Scope,
 ) -> Result<Items<Item<td_tuples::Summary<Boxed<Typed>>>>, TypeError>
     ensures { Gives (spec.infer_summaries (summaries_inferred schema.now xs.now) (visible scope.now)) result }
@@ -419,7 +419,7 @@ fn summarization(
     schema: &Schema,
     a: &Expr,
     by: &Groups<Boxed<Expr>>,
-    xs: &[Named<Summary<Boxed<Expr>>>],
+    xs: &[Named<SummaryTerm<Boxed<Expr>>>],
     scope: &Scope,
 ) -> Result<Typing, TypeError>
     ensures { Gives (spec.infer_summarize (infer schema.now a.now) (groups_inferred schema.now by.now) (names xs.now) (summaries_inferred schema.now xs.now) (visible scope.now)) result }

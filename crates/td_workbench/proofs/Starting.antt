@@ -13,7 +13,7 @@ use Rattle.td_listings.specs.Writings.{WritesFront}
 use Rattle.td_semantics.specs.Scripts.{Opens}
 use Rattle.td_semantics.specs.declared.error.ScriptError.{ScriptError}
 use Rattle.td_semantics.specs.declared.error.ScriptError.TheVariants.{Syntax, IllTyped, OpeningRaised, OpeningBroken, OutOfMemory}
-use Rattle.td_replica.specs.NewSites.{opened}
+use Rattle.td_replica.specs.NewSites.{newly_opened}
 use Rattle.td_semantics.specs.Databases.{DatabaseData}
 use Rattle.td_replica.specs.Seen.{Seen, is_limit}
 use Rattle.td_journal.specs.Reopening.{IsNew}
@@ -30,13 +30,13 @@ use Rattle.td_workbench.specs.declared.run.Ended.{Ended}
 use Rattle.td_workbench.specs.declared.run.Ended.TheVariants as ended
 use Rattle.td_workbench.proofs.Serving.{ends_later, writes_nothing}
 
-pub new_sites_more : (script : List ℕ) (limit first n : ℕ) → new_sites script limit first n ++ opened script (first + n) limit ∷ [] ≡ new_sites script limit first (n + 1)
-new_sites_more script limit first zero = let e : first + 0 ≡ first = omega arith in ap (λ (k : ℕ). opened script k limit ∷ []) e
+pub new_sites_more : (script : List ℕ) (limit first n : ℕ) → new_sites script limit first n ++ newly_opened script (first + n) limit ∷ [] ≡ new_sites script limit first (n + 1)
+new_sites_more script limit first zero = let e : first + 0 ≡ first = omega arith in ap (λ (k : ℕ). newly_opened script k limit ∷ []) e
 new_sites_more script limit first (suc n) =
     let here : first + suc n ≡ suc first + n = omega arith in
     let count : suc n + 1 ≡ suc (n + 1) = omega arith in
-    ap (λ (k : ℕ). opened script first limit ∷ (new_sites script limit (suc first) n ++ opened script k limit ∷ [])) here
-    ∙ ap (λ (ss : Sites). opened script first limit ∷ ss) (new_sites_more script limit (suc first) n)
+    ap (λ (k : ℕ). newly_opened script first limit ∷ (new_sites script limit (suc first) n ++ newly_opened script k limit ∷ [])) here
+    ∙ ap (λ (ss : Sites). newly_opened script first limit ∷ ss) (new_sites_more script limit (suc first) n)
     ∙ ap (λ (k : ℕ). new_sites script limit first k) (sym count)
 
 -- they are of one script
@@ -158,7 +158,7 @@ module _ {S L : Type 0} (b : Workbench S L) (Begin : Sites → List S → Type 0
       let over : RunsOut (AnswersLine b c) state [] mid.left [] state = record { at_end = has.at_end refl; go_on = tt; printed = (refl, refl) } in
       let run : Ends (AnswersLine b c) state [] (reads_left has.bytes) has.bytes from told (Ok tt) state mid told = ([], (has.read, inr over), writes_nothing told) in
       let runs : ProgramRuns b Begin End options old from w (Ok tt) old mid told =
-      record { bytes = has.bytes; script = has.text; raws = []; says = says_alone now from mid kept true has; opened = opens; accepted = accepted; begun = begun; begin = begin; catalogue = c; of_script = of; told = told; ready_told = wrote; ended = begun; end = all_end begun; ends = run } in
+      record { bytes = has.bytes; script = has.text; raws = []; says = says_alone now from mid kept true has; newly_opened = opens; accepted = accepted; begun = begun; begin = begin; catalogue = c; of_script = of; told = told; ready_told = wrote; ended = begun; end = all_end begun; ends = run } in
       subst (λ (n : L). ProgramRuns b Begin End options old from w r n left after) same
       (subst (λ (x : Result (Unit {0}) Ended). ProgramRuns b Begin End options old from w x old left after) (sym is)
       (subst (λ (x : Input). ProgramRuns b Begin End options old from w (Ok tt) old x after) (sym unread) (subst (λ (x : Output). ProgramRuns b Begin End options old from w (Ok tt) old mid x) (sym unwritten) runs)))
@@ -173,7 +173,7 @@ module _ {S L : Type 0} (b : Workbench S L) (Begin : Sites → List S → Type 0
         script = has.text;
         raws = raw_lines more;
         says = has.leads more (λ last. absurd (false≢true last));
-        opened = opens;
+        newly_opened = opens;
         accepted = accepted;
         begun = begun;
         begin = begin;

@@ -10,7 +10,7 @@ use Rattle.td_semantics.specs.Databases.{DatabaseData}
 use Rattle.td_semantics.specs.Scripts.{Opens}
 use Rattle.td_semantics.specs.declared.error.ScriptError.{ScriptError}
 use Rattle.td_semantics.specs.declared.error.ScriptError.TheVariants.{Syntax, IllTyped, OpeningRaised, OpeningBroken, OutOfMemory}
-use Rattle.td_replica.specs.NewSites.{opened}
+use Rattle.td_replica.specs.NewSites.{newly_opened}
 use Rattle.td_listings.specs.Texts.{shown_raise}
 use Rattle.td_answers.specs.Sites.{Sites}
 use Rattle.td_workbench.specs.declared.opening.Options.{Options}
@@ -49,7 +49,7 @@ most_script_bytes = 65536
 -- new sites, whose numbers follow one another
 abbrev pub new_sites : List ℕ → ℕ → ℕ → ℕ → Sites
 new_sites script limit first zero = []
-new_sites script limit first (suc n) = opened script first limit ∷ new_sites script limit (suc first) n
+new_sites script limit first (suc n) = newly_opened script first limit ∷ new_sites script limit (suc first) n
 
 pub record IsAccepted (options : Options) (script : List ℕ) (sites : Sites) : Type 0 where
   pub text : is_utf8 script ≡ true

@@ -13,7 +13,7 @@ use Rattle.td_assign.specs.ForProofs.Given.{AreChanges, assigned_by}
 use Rattle.td_assign.specs.ForProofs.Turning.{Gives}
 use Rattle.td_assign.specs.ForProofs.Lists.{given_to}
 use Rattle.td_headings.specs.declared.statement.TypedStatement.{TypedStatement}
-use Rattle.td_semantics.specs.Sources.{chosen}
+use Rattle.td_semantics.specs.Sources.{chosen_assignments}
 use Rattle.td_semantics.specs.Steps.{IsRead, Steps, TellsTest, failing_with, with_all}
 use Rattle.td_assign.specs.declared.changes.Change.{Change}
 use Rattle.td_semantics.specs.declared.outcome.Outcome.{Outcome}
@@ -49,7 +49,7 @@ AreAssignedTo d xs (Refused o) = Refuses d xs o
 
 -- what decides which assignments a statement makes
 abbrev pub chosen_by : DatabaseData → TypedStatement → Result (List TypedAssignment) Stop
-chosen_by d x = chosen d.catalogue (stored_relvars d.stored) x
+chosen_by d x = chosen_assignments d.catalogue (stored_relvars d.stored) x
 
 -- what a statement comes to: what the assignments do that it makes, or its condition raises
 pub data IsMade (d : DatabaseData) (x : TypedStatement) (m : Prepared) : Type 0 where

@@ -16,7 +16,7 @@ use Rattle.td_algebra.specs.declared.errors.Stop.{Stop}
 use Rattle.td_algebra.specs.KeyIndexes.{has_named}
 use Rattle.td_algebra.specs.Nested.{relation_value}
 use Rattle.td_headings.specs.Expressions.{places_of}
-use Rattle.td_operators.specs.Operators.{same}
+use Rattle.td_operators.specs.Operators.{are_equal}
 use Rattle.td_meaning.specs.Mean.{Names, Relvars, Selection, mean, mean_relvar, mean_where, truth_in, within}
 use Rattle.td_meaning.specs.Seen.{relvars_at}
 use Rattle.td_meaning.specs.Selections.{selection}
@@ -29,7 +29,7 @@ Field = List ℕ × Datum
 -- the value is this one; where there is none, it is not
 abbrev pub is_value : Option Datum → Datum → Bool
 is_value None d = false
-is_value (Some e) d = same e d
+is_value (Some e) d = are_equal e d
 
 -- t has the value at the name
 abbrev pub has_value : Field → Attrs → Bool

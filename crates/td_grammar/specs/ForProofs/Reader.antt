@@ -5,8 +5,8 @@ use denote.Enum.Bare.{sameb}
 use Rattle.td_tokens.specs.contracts.token.Word.{the_type}
 use Rattle.td_tokens.specs.declared.token.Word.{Word}
 use Rattle.td_tokens.specs.declared.token.Word.TheVariants as w
-use Rattle.td_tokens.specs.declared.token.Kind.{Kind}
-use Rattle.td_tokens.specs.declared.token.Kind.TheVariants as k
+use Rattle.td_tokens.specs.declared.token.TokenKind.{TokenKind}
+use Rattle.td_tokens.specs.declared.token.TokenKind.TheVariants as k
 use Rattle.td_tokens.specs.Lex.{Text, Lexeme, word, name, int, text}
 use Rattle.td_tokens.specs.Lexer.{lexemes}
 use Rattle.td_grammar.specs.declared.forms.Form.{Form}
@@ -27,8 +27,8 @@ use Rattle.td_syntax.specs.declared.tree.Aggregate.TheVariants as aggregate
 use Rattle.td_syntax.specs.declared.tree.Nesting.{Nesting}
 use Rattle.td_syntax.specs.declared.tree.Nesting.TheVariants as nesting
 use Rattle.td_syntax.specs.declared.tree.Extension.TheVariants as extension
-use Rattle.td_syntax.specs.declared.tree.Summary.{Summary}
-use Rattle.td_syntax.specs.declared.tree.Summary.TheVariants as summary
+use Rattle.td_syntax.specs.declared.tree.SummaryTerm.{SummaryTerm}
+use Rattle.td_syntax.specs.declared.tree.SummaryTerm.TheVariants as summary
 use Rattle.td_syntax.specs.declared.tree.Groups.{Groups}
 use Rattle.td_syntax.specs.declared.tree.Groups.TheVariants as groups
 use Rattle.td_syntax.specs.declared.tree.Expr.{Expr}
@@ -67,14 +67,14 @@ refuse = λ ts. None
 unfoldable pub same_word : Word → Word → Bool
 same_word = sameb the_type
 
-abbrev pub kind_of : Lexeme → Kind
+abbrev pub kind_of : Lexeme → TokenKind
 kind_of (word v) = k.Word v
 kind_of (name x) = k.Name
 kind_of (int n) = k.Int n
 kind_of (text s) = k.Text
 
 -- the kind of the token at a place
-abbrev pub look : Tokens → Option Kind
+abbrev pub look : Tokens → Option TokenKind
 look [] = None
 look (x ∷ ts) = Some (kind_of x)
 
@@ -238,7 +238,7 @@ type_word type w.Tuple = (do h ← heading_of type; pure (t.Tuple h))
 type_word type w.Relation = (do h ← heading_of type; pure (t.Relation h))
 type_word type _ = refuse
 
-abbrev pub type_by : Reader TypeExpr → Option Kind → Reader TypeExpr
+abbrev pub type_by : Reader TypeExpr → Option TokenKind → Reader TypeExpr
 type_by type (Some (k.Word v)) = λ ts. type_word type v (tail ts)
 type_by type (Some k.Name) = (do x ← take_name; pure (t.User x))
 type_by type _ = refuse
@@ -391,39 +391,39 @@ module _ (reads : ℕ → Form → Reader Expr) (b : ℕ) where
         then (do expect w.OpenParenthesis; xs ← listed w.CloseParenthesis (named_at naming.After); pure (e.Extend extension.Add a xs))
         else (do expect w.Colon; expect w.OpenBrace; xs ← listed w.CloseBrace (named_at naming.Assigned); pure (e.Extend extension.Assign a xs))
 
-  unfoldable pub counted : Reader (Summary Expr)
+  unfoldable pub counted : Reader (SummaryTerm Expr)
   counted = do
     opened ← eat w.OpenParenthesis
     shut opened
     pure summary.Count
 
-  unfoldable pub summed : Aggregate → Reader (Summary Expr)
+  unfoldable pub summed : Aggregate → Reader (SummaryTerm Expr)
   summed g = do
     expect w.OpenParenthesis
     a ← inner
     expect w.CloseParenthesis
     pure (summary.Of g a)
 
-  abbrev pub summed_by : Option Aggregate → Reader (Summary Expr)
+  abbrev pub summed_by : Option Aggregate → Reader (SummaryTerm Expr)
   summed_by None = refuse
   summed_by (Some g) = summed g
 
-  abbrev pub summary_word : Word → Reader (Summary Expr)
+  abbrev pub summary_word : Word → Reader (SummaryTerm Expr)
   summary_word v = if same_word v w.Count then counted else summed_by (aggregate_of v)
 
-  abbrev pub summary_by : Option Kind → Reader (Summary Expr)
+  abbrev pub summary_by : Option TokenKind → Reader (SummaryTerm Expr)
   summary_by (Some (k.Word v)) = λ ts. summary_word v (tail ts)
   summary_by _ = refuse
 
-  unfoldable pub summary_at : Reader (Summary Expr)
+  unfoldable pub summary_at : Reader (SummaryTerm Expr)
   summary_at = λ ts. summary_by (look ts) ts
 
-  unfoldable pub named_summary : Naming → Reader (Named (Summary Expr))
+  unfoldable pub named_summary : Naming → Reader (Named (SummaryTerm Expr))
   named_summary naming.After = (do s ← summary_at; expect w.As; x ← take_name; pure (record { name = x; value = s }))
   named_summary naming.Assigned = (do x ← take_name; expect w.Assign; s ← summary_at; pure (record { name = x; value = s }))
   named_summary naming.Beside = refuse
 
-  unfoldable pub summaries : Reader (List (Named (Summary Expr)))
+  unfoldable pub summaries : Reader (List (Named (SummaryTerm Expr)))
   summaries = do
     adds ← eat w.Add
     if adds
@@ -461,7 +461,7 @@ module _ (reads : ℕ → Form → Reader Expr) (b : ℕ) where
   primary_word w.Summarize = summarize
   primary_word v = primary_aggregate (aggregate_of v)
 
-  abbrev pub primary_by : Option Kind → Reader Expr
+  abbrev pub primary_by : Option TokenKind → Reader Expr
   primary_by None = refuse
   primary_by (Some (k.Int n)) = (do z ← take_integer; pure (e.Integer z))
   primary_by (Some k.Text) = (do s ← take_text; pure (e.Text s))
@@ -514,7 +514,7 @@ module _ (reads : ℕ → Form → Reader Expr) (b : ℕ) where
   relational_word w.Unwrap a = λ ts. unnest_turn nesting.Wrap a (tail ts)
   relational_word v a = binary_turn additive_at a
 
-  abbrev pub relational_by : Option Kind → Expr → Reader Expr
+  abbrev pub relational_by : Option TokenKind → Expr → Reader Expr
   relational_by (Some (k.Word v)) a = relational_word v a
   relational_by _ a = refuse
 

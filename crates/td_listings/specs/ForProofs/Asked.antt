@@ -13,7 +13,7 @@ use Rattle.td_semantics.specs.declared.answer.Answer.{Answer}
 use Rattle.td_semantics.specs.declared.answer.Answer.TheVariants.{Value, Raised}
 use Rattle.td_semantics.specs.declared.outcome.Outcome.{Outcome}
 use Rattle.td_replica.specs.Seen.{Seen, Leaves}
-use Rattle.td_listings.specs.Texts.{reason, relvars_lines, value_at}
+use Rattle.td_listings.specs.Texts.{reason, relvars_lines, relvar_value}
 
 -- the words of the reason, if there is one
 abbrev pub reason_words : Outcome → List ℕ
@@ -42,11 +42,11 @@ meant (Raised e) = Err (stop_of e)
 
 -- it is what the relvar at the place has after the story
 abbrev pub IsValueAt : Seen → ℕ → Answer RowsData → Type 0
-IsValueAt s n a = (d : DatabaseData) → Leaves s d → value_at d n ≡ meant a
+IsValueAt s n a = (d : DatabaseData) → Leaves s d → relvar_value d n ≡ meant a
 
 -- it was told after the story
 abbrev pub WasToldAt : Seen → ℕ → Answer RowsData → Type 0
-WasToldAt s n a = (d : DatabaseData) × Leaves s d × (value_at d n ≡ meant a)
+WasToldAt s n a = (d : DatabaseData) × Leaves s d × (relvar_value d n ≡ meant a)
 
 -- these are the lines of the relvars after the story
 abbrev pub AreRelvars : Seen → List ℕ → List ℕ → Type 0

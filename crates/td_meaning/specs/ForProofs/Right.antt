@@ -8,7 +8,7 @@ use Rattle.td_algebra.specs.contracts.errors.Stop as stop
 use Rattle.td_typed_trees.specs.declared.tree.Typed.{Typed}
 use Rattle.td_algebra.specs.declared.errors.Stop.{Stop}
 use Rattle.td_meaning.specs.declared.environment.Environment.{Environment}
-use Rattle.td_meaning.specs.declared.parts.Part.{Part}
+use Rattle.td_meaning.specs.declared.parts.HoistedTerm.{HoistedTerm}
 use Rattle.td_meaning.specs.ForProofs.Levels.{levels}
 use Rattle.td_meaning.specs.Parts.{AreRight, known_value}
 use Rattle.td_meaning.specs.Seen.{mean_in}
@@ -16,7 +16,7 @@ use Rattle.td_meaning.specs.Seen.{mean_in}
 pub answers_set : IsSet (Result Datum Stop)
 answers_set = Coded-set (coded_result datum_code stop.the_row.coded)
 
-pub AreRight-prop : (env : Environment) (ps : List Part) → IsProp (AreRight env ps)
+pub AreRight-prop : (env : Environment) (ps : List HoistedTerm) → IsProp (AreRight env ps)
 AreRight-prop env ps = Π_prop (λ p. Π_prop (λ h. Π_prop (λ names. answers_set (mean_in env p.tree.now names) (known_value p.value))))
 
 -- the levels of the deepest of these

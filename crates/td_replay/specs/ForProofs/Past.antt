@@ -16,7 +16,7 @@ use Rattle.td_stamps.specs.Entries.{stamp_of}
 use Rattle.td_stamps.specs.declared.entry.Stamp.{Stamp}
 use Rattle.td_stamps.specs.Story.{Story}
 use Rattle.td_semantics.specs.Databases.{DatabaseData, stored_relvars}
-use Rattle.td_relvars.specs.Evaluated.{Says}
+use Rattle.td_relvars.specs.Evaluated.{EvaluatesTo}
 use Rattle.td_relvars.specs.Parts.{AreCopies, Copies}
 use Rattle.td_replica.specs.Stories.{IsStory}
 use Rattle.td_semantics.specs.declared.answer.Answer.{Answer}
@@ -68,7 +68,7 @@ pub record SaysAfter (script : List ℕ) (es : List Entry) (n : ℕ) (x : Expres
   pub state : DatabaseData
   pub outcomes : Outcomes
   pub story : IsStory script (take n es) outcomes state
-  pub says : Says state.catalogue (stored_relvars state.stored) x r
+  pub says : EvaluatesTo state.catalogue (stored_relvars state.stored) x r
 
 -- so many entries end with that of the stamp
 pub record EndsWith (at : Stamp) (es : List Entry) (n : ℕ) : Type 0 where

@@ -19,8 +19,8 @@ use Rattle.td_syntax.specs.declared.tree.Aggregate.{Aggregate}
 use Rattle.td_syntax.specs.declared.tree.Attributes.{Attributes}
 use Rattle.td_syntax.specs.declared.tree.Renaming.{Renaming}
 use Rattle.td_syntax.specs.declared.tree.Named.{Named}
-use Rattle.td_syntax.specs.declared.tree.Summary.{Summary}
-use Rattle.td_syntax.specs.declared.tree.Summary.TheVariants as summary
+use Rattle.td_syntax.specs.declared.tree.SummaryTerm.{SummaryTerm}
+use Rattle.td_syntax.specs.declared.tree.SummaryTerm.TheVariants as summary
 use Rattle.td_syntax.specs.declared.tree.Groups.{Groups}
 use Rattle.td_syntax.specs.declared.tree.Groups.TheVariants as groups
 use Rattle.td_syntax.specs.declared.tree.TypeExpr.{TypeExpr}
@@ -235,20 +235,20 @@ infer_groups h (groups.By xs) s = grouped_by h xs
 unfoldable pub summed : Name → Aggregate → Typing → Option (Item (typed_summary.Summary Typed))
 summed n o a = where_true (suits o a.kind) (item_of n a.kind (summary_of o a.tree))
 
-abbrev pub infer_summary_at : Scope → Name → Summary Inferred → Option (Item (typed_summary.Summary Typed))
+abbrev pub infer_summary_at : Scope → Name → SummaryTerm Inferred → Option (Item (typed_summary.Summary Typed))
 infer_summary_at s n summary.Count = Some (item_of n kind.Integer typed_summaries.Count)
 infer_summary_at s n (summary.Of o f) = where_some (f s) (summed n o)
 
-unfoldable pub infer_summary : Scope → Named (Summary Inferred) → Option (Item (typed_summary.Summary Typed))
+unfoldable pub infer_summary : Scope → Named (SummaryTerm Inferred) → Option (Item (typed_summary.Summary Typed))
 infer_summary s x = infer_summary_at s x.name x.value
 
-unfoldable pub infer_summaries : List (Named (Summary Inferred)) → Scope → Option (List (Item (typed_summary.Summary Typed)))
+unfoldable pub infer_summaries : List (Named (SummaryTerm Inferred)) → Scope → Option (List (Item (typed_summary.Summary Typed)))
 infer_summaries xs s = each (infer_summary s) [] xs
 
 unfoldable pub summarized : List Name → Typed → Grouping → List (Item (typed_summary.Summary Typed)) → Option Typing
 summarized ns u g is = where_true (may_extend extension.Add ns g.heading) (typing (t.Summarize u g.groups is) (kind.Relation (extended_columns is g.heading)))
 
-unfoldable pub infer_summarize : Inferred → Groups Inferred → List Name → List (Named (Summary Inferred)) → Inferred
+unfoldable pub infer_summarize : Inferred → Groups Inferred → List Name → List (Named (SummaryTerm Inferred)) → Inferred
 infer_summarize r g ns xs s = where_some (r s) (λ x. where_some (relation_heading x.kind) (λ h. where_some (infer_groups h g s) (λ p. where_some (infer_summaries xs (within_tuple h s)) (summarized ns x.tree p))))
 
 -- ---- WITH
@@ -317,9 +317,9 @@ groups_inferred cat groups.Whole = groups.Whole
 groups_inferred cat (groups.Per a) = groups.Per (infer cat a)
 groups_inferred cat (groups.By xs) = groups.By xs
 
-abbrev pub summary_inferred : SchemaData → Summary Expr → Summary Inferred
+abbrev pub summary_inferred : SchemaData → SummaryTerm Expr → SummaryTerm Inferred
 summary_inferred cat summary.Count = summary.Count
 summary_inferred cat (summary.Of o a) = summary.Of o (infer cat a)
 
-abbrev pub summaries_inferred : SchemaData → List (Named (Summary Expr)) → List (Named (Summary Inferred))
-summaries_inferred cat xs = map (λ (x : Named (Summary Expr)). named x.name (summary_inferred cat x.value)) xs
+abbrev pub summaries_inferred : SchemaData → List (Named (SummaryTerm Expr)) → List (Named (SummaryTerm Inferred))
+summaries_inferred cat xs = map (λ (x : Named (SummaryTerm Expr)). named x.name (summary_inferred cat x.value)) xs

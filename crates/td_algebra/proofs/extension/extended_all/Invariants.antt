@@ -5,10 +5,10 @@ use Rattle.td_tuples.specs.Parts.{Fits}
 use Rattle.td_algebra.specs.Raising.{and_all, all_of}
 use Rattle.td_algebra.specs.ForProofs.Gathered.{so_far}
 use Rattle.td_tuples.specs.Items.{extended_columns}
-use Rattle.td_algebra.specs.Extending.{Meaning, Means, extended_at}
+use Rattle.td_algebra.specs.Extending.{TermMeaning, Means, extended_at}
 use Rattle.td_algebra.proofs.extension.extended_all.Given as goal
 
 abbrev pub invariant-loop-tuple : goal.invariant-loop-tuple
 invariant-loop-tuple g l =
-    ((m : Meaning _) → All (λ t. All (λ i. Means (λ p q. g.F.Fn.post l.f (p, (q, tt))) m i.term t) l.items) l.tuples → and_all (so_far l.gathered.answers.items l.gathered.least) (all_of (extended_at m l.items) (drop l.tuple-index l.tuples)) ≡ all_of (extended_at m l.items) l.tuples)
+    ((m : TermMeaning _) → All (λ t. All (λ i. Means (λ p q. g.F.Fn.post l.f (p, (q, tt))) m i.term t) l.items) l.tuples → and_all (so_far l.gathered.answers.items l.gathered.least) (all_of (extended_at m l.items) (drop l.tuple-index l.tuples)) ≡ all_of (extended_at m l.items) l.tuples)
     × ((h : Header) → All (Fits h) l.tuples → IfOk (so_far l.gathered.answers.items l.gathered.least) (λ us. All (Fits (extended_columns l.items h)) us))

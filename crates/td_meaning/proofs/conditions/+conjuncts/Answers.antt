@@ -1,7 +1,7 @@
 use Rattle.std.proofs.Common.{ap, subst, arith}
 use Rattle.std.proofs.lemmas.Result.{on_ok_weaker}
 use Rattle.td_meaning.specs.ForProofs.Checks.{AddsChecks, deepest_check}
-use Rattle.td_meaning.specs.Seen.{mean_in, visible}
+use Rattle.td_meaning.specs.Seen.{mean_in, names_bound}
 use Rattle.td_meaning.proofs.Ready.{adds_both, adds_one, deeper}
 use Rattle.td_meaning.proofs.conditions.+conjuncts.Goals as goal
 
@@ -9,7 +9,7 @@ pub returns-in_ok-add_checks-in-Binary-clause-means : goal.returns-in_ok-add_che
 returns-in_ok-add_checks-in-Binary-clause-means g t c =
     let h = c.args.heading.now in
     let env = c.args.evaluator.now.env.now in
-    let names = visible c.args.scope.now in
+    let names = names_bound c.args.scope.now in
     let old = c.args.checks.now.items in
     let mid = c.add_checks.new.checks.items in
     let new = c.add_checks-in-Binary.new.checks.items in
@@ -22,7 +22,7 @@ returns-in_ok-add_checks-in-Binary-clause-means g t c =
 pub returns-in_ok-check_of-in_default-clause-means : goal.returns-in_ok-check_of-in_default-clause-means
 returns-in_ok-check_of-in_default-clause-means g t c =
     on_ok_weaker c.add_check.result
-    (λ same. adds_one c.args.evaluator.now.env.now (visible c.args.scope.now) c.args.heading.now c.args.tree.now c.in_ok-check_of-in_default.field-0 c.args.checks.now.items c.add_check.new.checks.items
+    (λ same. adds_one c.args.evaluator.now.env.now (names_bound c.args.scope.now) c.args.heading.now c.args.tree.now c.in_ok-check_of-in_default.field-0 c.args.checks.now.items c.add_check.new.checks.items
     c.in_ok-check_of-in_default.ensures.means same)
     c.add_check.ensures
 

@@ -2,7 +2,7 @@ use Rattle.std.proofs.Common.{IfSome, refl, ap, ◌∙◌, sym, subst, rules}
 use Rattle.td_meaning.specs.declared.conditions.Check.TheVariants as check
 use Rattle.td_meaning.specs.ForProofs.Checks.{IsSide, check_holds, side_value}
 use Rattle.td_meaning.specs.Mean.{truth_in, within}
-use Rattle.td_meaning.specs.Seen.{mean_in, visible}
+use Rattle.td_meaning.specs.Seen.{mean_in, names_bound}
 use Rattle.td_meaning.proofs.Ready.{compares}
 use Rattle.td_meaning.proofs.conditions.check_of.Goals as goal
 
@@ -11,7 +11,7 @@ unfolding check_holds
 returns-in-Some-clause-means g c =
     let h = c.args.heading.now in
     let m = mean_in c.args.evaluator.now.env.now in
-    let names = visible c.args.scope.now in
+    let names = names_bound c.args.scope.now in
     let sides = subst (λ o. IfSome o (λ p. IsSide m names h c.get.result.now p.0 × IsSide m names h c.get-in-Binary.result.now p.1)) c.in-Some.is c.in_ok-first-in-Binary.ensures in
     compares c.args.evaluator.now.env.now names h c.args.tree.now c.in-Binary.a c.in-Binary.b c.in-Binary.operator (check.Comparison c.in-Binary.operator c.in-Some.first c.in-Some.second) (λ u. side_value u c.in-Some.first) (λ u. side_value u c.in-Some.second)
     c.in-Binary.is (c.is_comparison.ensures c.if-is_comparison.true) (λ u. refl)

@@ -6,7 +6,7 @@ use Rattle.td_algebra.specs.Functions.{extended, project_of, restricted}
 use Rattle.td_algebra.specs.Raising.{Answers, AnswersBy, and_then}
 use Rattle.td_algebra.specs.declared.errors.Stop.{Stop}
 use Rattle.td_algebra.proofs.Bridges.{restricts_to, extends_to, summarizes_to}
-use Rattle.td_meaning.specs.declared.scope.Held.{Held}
+use Rattle.td_meaning.specs.declared.scope.KnownValue.{KnownValue}
 use Rattle.td_operators.specs.ForProofs.Lent.{operand_value}
 use Rattle.td_meaning.specs.ForProofs.Over.{terms, list_meant, items_meant, all_meant, over_aggregate, over_extend, over_summarize, summarized_over}
 use Rattle.td_operators.specs.ForProofs.Turns.{turn}
@@ -20,7 +20,7 @@ use Rattle.td_meaning.specs.Parts.{AreRight}
 use Rattle.td_meaning.proofs.Deepest.{in_deepest}
 use Rattle.td_meaning.proofs.Ready.{check_within, hold_goes, hold_stops}
 use Rattle.td_meaning.proofs.Rightness.{error_means, right_in_slice, told_error, value_means}
-use Rattle.td_meaning.specs.Seen.{held_value, all_given, mean_in, relvars_there, visible}
+use Rattle.td_meaning.specs.Seen.{held_value, all_given, mean_in, relvars_there, names_bound}
 use Rattle.td_meaning.specs.Selections.{admits, no_relvars, selection}
 use Rattle.td_meaning.proofs.Falls.{in_list, in_items, in_named, term_within, summary_within, of_term, of_term_if, of_those, select_falls, relation_falls, tuple_falls, extend_falls, with_falls, summarize_falls}
 use Rattle.td_meaning.proofs.Forms.{of_component, of_relvar, of_unary, of_binary, of_from, of_project, of_where, of_rename, of_nest, of_unnest, of_aggregate, of_if, of_extend, of_summarize, of_with}
@@ -33,7 +33,7 @@ use Rattle.td_meaning.proofs.evaluator.+evaluation.Goals as goal
 pub Evaluator::restricted_to-returns : goal.Evaluator::restricted_to-returns
 unfolding truth_at
 Evaluator::restricted_to-returns g t c = λ a are.
-    let names = visible c.args.scope.now in
+    let names = names_bound c.args.scope.now in
     let h = c.args.ts.now.heading in
     let m = truth_at (mean_in c.args.self.now.env.now a) names in
     restricts_to m c.args.ts.now c.restrict.result (c.restrict.ensures m (λ k d lt r gave.
@@ -43,7 +43,7 @@ Evaluator::restricted_to-returns g t c = λ a are.
 pub Evaluator::restricted-returns : goal.Evaluator::restricted-returns
 Evaluator::restricted-returns g t c =
     let m = mean_in c.args.self.now.env.now in
-    let names = visible c.args.scope.now in
+    let names = names_bound c.args.scope.now in
     let a = c.args.c.now in
     let ts = c.args.ts.now in
     let are = subst (λ (r : RowsData). AreChecks m names r.heading a c.in_ok-checks.checks.items) c.get.ensures (subst (λ h. AreChecks m names h a c.in_ok-checks.checks.items) c.heading.ensures c.in_ok-checks.ensures.means) in
@@ -55,7 +55,7 @@ pub Evaluator::restricted-returns-in-Some : goal.Evaluator::restricted-returns-i
 unfolding truth_at
 Evaluator::restricted-returns-in-Some g t c =
     let m = mean_in c.args.self.now.env.now in
-    let names = visible c.args.scope.now in
+    let names = names_bound c.args.scope.now in
     let a = c.args.c.now in
     let ts = c.args.ts.now in
     let part = c.in-Some.part in
@@ -72,7 +72,7 @@ Evaluator::extended-extend-requires g t c = λ k d lt i x among p q is_term is_t
 
 pub Evaluator::extended-returns : goal.Evaluator::extended-returns
 Evaluator::extended-returns g t c =
-    let m = terms (mean_in c.args.self.now.env.now) (visible c.args.scope.now) in
+    let m = terms (mean_in c.args.self.now.env.now) (names_bound c.args.scope.now) in
     extends_to m c.args.items.now c.args.ts.now c.extend.result (c.extend.ensures m (λ k d lt i x among p q a is_term is_tuple gave.
     subst (λ e. Answers a (m e (get_or c.args.ts.now.tuples k d))) is_term (subst (λ u. Answers a (m p.now u)) is_tuple gave)))
 
@@ -82,7 +82,7 @@ Evaluator::summarized-summarize-requires g t c = λ k d lt i x among. of_term _ 
 
 pub Evaluator::summarized-returns : goal.Evaluator::summarized-returns
 Evaluator::summarized-returns g t c =
-    let m = terms (mean_in c.args.self.now.env.now) (visible c.args.scope.now) in
+    let m = terms (mean_in c.args.self.now.env.now) (names_bound c.args.scope.now) in
     summarizes_to m c.args.items.now c.args.ts.now c.args.us.now c.summarize.result (c.summarize.ensures m (λ k d lt i x among. of_term _ (get_or c.args.items.now i x).term (λ e le p q a is_term is_tuple gave.
     subst (λ e. Answers a (m e (get_or c.args.ts.now.tuples k d))) is_term (subst (λ u. Answers a (m p.now u)) is_tuple gave))))
 
@@ -92,14 +92,14 @@ Evaluator::summarized_in_runs-summarize_by-requires g t c = λ k d lt i x among.
 
 pub Evaluator::summarized_in_runs-returns : goal.Evaluator::summarized_in_runs-returns
 Evaluator::summarized_in_runs-returns g t c =
-    let m = terms (mean_in c.args.self.now.env.now) (visible c.args.scope.now) in
+    let m = terms (mean_in c.args.self.now.env.now) (names_bound c.args.scope.now) in
     summarizes_to m c.args.items.now c.args.ts.now (project_of c.args.names.now c.args.ts.now) c.summarize_by.result (c.summarize_by.ensures m (λ k d lt i x among. of_term _ (get_or c.args.items.now i x).term (λ e le p q a is_term is_tuple gave.
     subst (λ e. Answers a (m e (get_or c.args.ts.now.tuples k d))) is_term (subst (λ u. Answers a (m p.now u)) is_tuple gave))))
 
 pub Evaluator::aggregated_at-returns : goal.Evaluator::aggregated_at-returns
 Evaluator::aggregated_at-returns g t c =
     let m = mean_in c.args.self.now.env.now in
-    let names = visible c.args.scope.now in
+    let names = names_bound c.args.scope.now in
     let h = c.args.ts.now.heading in
     let side = c.args.side.now in
     let summary = c.args.summary.now in
@@ -112,7 +112,7 @@ Evaluator::aggregated_at-returns g t c =
 pub Evaluator::aggregated-aggregated_at-requires : goal.Evaluator::aggregated-aggregated_at-requires
 Evaluator::aggregated-aggregated_at-requires g t c =
     let m = mean_in c.args.self.now.env.now in
-    let names = visible c.args.scope.now in
+    let names = names_bound c.args.scope.now in
     λ κs within. (omega (arith, c.decreases), (within, subst (λ h. IfSome c.in_ok-side.side (λ s. OfTerm (λ e. IsSide m names h e s) c.args.summary.now)) c.heading.ensures c.in_ok-side.ensures))
 
 -- ---- measures
@@ -151,14 +151,14 @@ Evaluator::by_form-with-requires g t c = λ κs within. (omega (arith, c.decreas
 
 pub Evaluator::values-loop-tree-init : goal.Evaluator::values-loop-tree-init
 Evaluator::values-loop-tree-init g t c =
-    let f = at (visible c.args.scope.now) in
+    let f = at (names_bound c.args.scope.now) in
     let ms = list_meant (mean_in c.args.self.now.env.now) c.args.trees.now in
     turn_begins f ms ∙ ap (λ xs. turn f xs ms) (sym c.new-found.ensures.items)
 
 pub Evaluator::values-loop-tree-preserved : goal.Evaluator::values-loop-tree-preserved
 Evaluator::values-loop-tree-preserved g t c =
     let m = mean_in c.args.self.now.env.now in
-    let names = visible c.args.scope.now in
+    let names = names_bound c.args.scope.now in
     let xs = c.args.trees.now in
     let i = c.loop-tree.tree-index in
     c.loop-tree.invariant
@@ -168,7 +168,7 @@ Evaluator::values-loop-tree-preserved g t c =
 pub Evaluator::values-returns-in_err-value : goal.Evaluator::values-returns-in_err-value
 Evaluator::values-returns-in_err-value g t c =
     let m = mean_in c.args.self.now.env.now in
-    let names = visible c.args.scope.now in
+    let names = names_bound c.args.scope.now in
     let xs = c.args.trees.now in
     let h = fails {A = Datum} (λ (v : Vec Datum Global). v.items) c.in_err-value.field-0.0 (m c.get.result.now names) (in_turn (at names) (list_meant m xs))
     (λ e stop. c.loop-tree.invariant ∙ value_stops m names xs c.loop-tree.tree-index c.tree-item.result c.get.result.now c.loop-tree.found.items c.loop-tree-test.true c.tree-item.is c.get.ensures e stop)
@@ -177,14 +177,14 @@ Evaluator::values-returns-in_err-value g t c =
 
 pub Evaluator::fields-loop-item-init : goal.Evaluator::fields-loop-item-init
 Evaluator::fields-loop-item-init g t c =
-    let f = named_at (visible c.args.scope.now) in
+    let f = named_at (names_bound c.args.scope.now) in
     let ms = items_meant (mean_in c.args.self.now.env.now) c.args.items.now in
     turn_begins f ms ∙ ap (λ xs. turn f xs ms) (sym c.new-found.ensures.items)
 
 pub Evaluator::fields-loop-item-preserved : goal.Evaluator::fields-loop-item-preserved
 Evaluator::fields-loop-item-preserved g t c =
     let m = mean_in c.args.self.now.env.now in
-    let names = visible c.args.scope.now in
+    let names = names_bound c.args.scope.now in
     let xs = c.args.items.now in
     let i = c.loop-item.item-index in
     c.loop-item.invariant
@@ -194,7 +194,7 @@ Evaluator::fields-loop-item-preserved g t c =
 pub Evaluator::fields-returns-in_err-value : goal.Evaluator::fields-returns-in_err-value
 Evaluator::fields-returns-in_err-value g t c =
     let m = mean_in c.args.self.now.env.now in
-    let names = visible c.args.scope.now in
+    let names = names_bound c.args.scope.now in
     let xs = c.args.items.now in
     let h = fails {A = Datum} (λ (v : Vec (List ℕ × Datum) Global). v.items) c.in_err-value.field-0.0 (m c.get.result.now names) (in_turn (named_at names) (items_meant m xs))
     (λ e stop. c.loop-item.invariant ∙ field_stops m names xs c.loop-item.item-index c.item-item.result c.get.result.now c.loop-item.found.items c.loop-item-test.true c.item-item.is c.get.ensures e stop)
@@ -204,7 +204,7 @@ Evaluator::fields-returns-in_err-value g t c =
 pub Evaluator::introduced-loop-x-preserved : goal.Evaluator::introduced-loop-x-preserved
 Evaluator::introduced-loop-x-preserved g t c =
     let m = mean_in c.args.self.now.env.now in
-    let outer = visible c.args.scope.now in
+    let outer = names_bound c.args.scope.now in
     let xs = c.args.xs.now in
     let i = c.loop-x.x-index in
     let a = c.get.result.now in
@@ -217,10 +217,10 @@ Evaluator::introduced-loop-x-preserved g t c =
 pub Evaluator::introduced-returns-in_err-value : goal.Evaluator::introduced-returns-in_err-value
 Evaluator::introduced-returns-in_err-value g t c =
     let m = mean_in c.args.self.now.env.now in
-    let outer = visible c.args.scope.now in
+    let outer = names_bound c.args.scope.now in
     let xs = c.args.xs.now in
     let a = c.get.result.now in
-    let h = fails {A = Datum} (λ (v : List (Named Held)). all_given v outer) c.in_err-value.field-0.0 (m a (all_given c.as_slice.result.now outer)) (introduced (all_meant m xs) outer)
+    let h = fails {A = Datum} (λ (v : List (Named KnownValue)). all_given v outer) c.in_err-value.field-0.0 (m a (all_given c.as_slice.result.now outer)) (introduced (all_meant m xs) outer)
     (λ e stop. c.loop-x.invariant ∙ name_stops m (all_given c.loop-x.found outer) xs c.loop-x.x-index c.x-item.result a c.loop-x-test.true c.x-item.is c.get.ensures e
     (ap (λ fs. m a (all_given fs outer)) (sym c.as_slice.ensures) ∙ stop))
     c.in_err-value.ensures in
@@ -229,7 +229,7 @@ Evaluator::introduced-returns-in_err-value g t c =
 pub Evaluator::all_hold-loop-check-preserved : goal.Evaluator::all_hold-loop-check-preserved
 Evaluator::all_hold-loop-check-preserved g t c =
     let m = mean_in c.args.self.now.env.now in
-    let names = visible c.args.scope.now in
+    let names = names_bound c.args.scope.now in
     let u = c.args.t.now in
     let k = c.check-item.result in
     c.loop-check.invariant
@@ -238,7 +238,7 @@ Evaluator::all_hold-loop-check-preserved g t c =
 pub Evaluator::all_hold-returns-in_err-holds_at : goal.Evaluator::all_hold-returns-in_err-holds_at
 Evaluator::all_hold-returns-in_err-holds_at g t c =
     let m = mean_in c.args.self.now.env.now in
-    let names = visible c.args.scope.now in
+    let names = names_bound c.args.scope.now in
     let u = c.args.t.now in
     let k = c.check-item.result in
     let h = fails {A = Bool} (λ (b : Bool). b) c.in_err-holds_at.field-0.0 (check_holds m names u k) (all_hold m names u c.args.checks.now)
@@ -252,7 +252,7 @@ Evaluator::admits-of-requires g t c = g.met.W.Wanted.allows_none
 pub Evaluator::admits-returns-in-Some : goal.Evaluator::admits-returns-in-Some
 unfolding admits relvars_there
 Evaluator::admits-returns-in-Some g t c =
-    let names = visible c.args.scope.now in
+    let names = names_bound c.args.scope.now in
     let earlier = selection c.args.earlier.now in
     subst (λ l. Answers c.truth.result (admits earlier l names)) (sym c.in-Some.is)
     (subst (λ e. Answers c.truth.result (truth_in (mean no_relvars earlier e) names)) c.get.ensures
@@ -264,7 +264,7 @@ pub Evaluator::extension-returns : goal.Evaluator::extension-returns
 unfolding over_extend
 Evaluator::extension-returns g t c =
     let m = mean_in c.args.self.now.env.now in
-    let names = visible c.args.scope.now in
+    let names = names_bound c.args.scope.now in
     made_over (rows_in (m c.args.r.now) names) (extended (terms m names) c.args.items.now) c.in_ok-ts.ts c.get.result.now c.in_ok-ts.ensures c.get.ensures
     c.in_ok-extended_by.field-0 c.relation_value.result c.in_ok-extended_by.ensures c.relation_value.ensures
 
@@ -272,7 +272,7 @@ pub Evaluator::extension-returns-in_err-extended_by : goal.Evaluator::extension-
 unfolding over_extend
 Evaluator::extension-returns-in_err-extended_by g t c =
     let m = mean_in c.args.self.now.env.now in
-    let names = visible c.args.scope.now in
+    let names = names_bound c.args.scope.now in
     let f = extended (terms m names) c.args.items.now in
     let h = fails {A = RowsData} (λ (d : Datum). d) c.in_err-extended_by.field-0.0 (f c.get.result.now) (over_extend m c.args.r.now c.args.items.now names)
     (λ e stop. stops_over (rows_in (m c.args.r.now) names) f c.in_ok-ts.ts c.get.result.now c.in_ok-ts.ensures c.get.ensures e stop)
@@ -283,7 +283,7 @@ pub Evaluator::summarization-returns : goal.Evaluator::summarization-returns
 unfolding over_summarize
 Evaluator::summarization-returns g t c =
     let m = mean_in c.args.self.now.env.now in
-    let names = visible c.args.scope.now in
+    let names = names_bound c.args.scope.now in
     made_over (rows_in (m c.args.r.now) names) (summarized_over m c.args.by.now c.args.items.now names) c.in_ok-ts.ts c.get.result.now c.in_ok-ts.ensures c.get.ensures
     c.in_ok-summarized_by.field-0 c.relation_value.result c.in_ok-summarized_by.ensures c.relation_value.ensures
 
@@ -291,7 +291,7 @@ pub Evaluator::summarization-returns-in_err-summarized_by : goal.Evaluator::summ
 unfolding over_summarize
 Evaluator::summarization-returns-in_err-summarized_by g t c =
     let m = mean_in c.args.self.now.env.now in
-    let names = visible c.args.scope.now in
+    let names = names_bound c.args.scope.now in
     let f = summarized_over m c.args.by.now c.args.items.now names in
     let h = fails {A = RowsData} (λ (d : Datum). d) c.in_err-summarized_by.field-0.0 (f c.get.result.now) (over_summarize m c.args.r.now c.args.by.now c.args.items.now names)
     (λ e stop. stops_over (rows_in (m c.args.r.now) names) f c.in_ok-ts.ts c.get.result.now c.in_ok-ts.ensures c.get.ensures e stop)
@@ -302,96 +302,96 @@ Evaluator::summarization-returns-in_err-summarized_by g t c =
 
 pub Evaluator::by_form-returns-in-Relvar : goal.Evaluator::by_form-returns-in-Relvar
 Evaluator::by_form-returns-in-Relvar g t c =
-    let names = visible c.args.scope.now in
+    let names = names_bound c.args.scope.now in
     let is = ap (mean_in c.args.self.now.env.now) c.in-Relvar.is ∙ of_relvar (relvars_there c.args.self.now.env.now) (selection c.args.self.now.env.now.selectors.now) c.in-Relvar.place in
     subst (λ f. Answers c.relvar.result (f names)) (sym is) (c.relvar.ensures names)
 
 pub Evaluator::operand-returns-in-Relvar : goal.Evaluator::operand-returns-in-Relvar
-Evaluator::operand-returns-in-Relvar g t c = c.relvar_operand.ensures (visible c.args.scope.now)
+Evaluator::operand-returns-in-Relvar g t c = c.relvar_operand.ensures (names_bound c.args.scope.now)
 
 pub Evaluator::by_form-returns-in-Unary : goal.Evaluator::by_form-returns-in-Unary
 Evaluator::by_form-returns-in-Unary g t c =
     let m = mean_in c.args.self.now.env.now in
     let is = ap m c.in-Unary.is ∙ of_unary (relvars_there c.args.self.now.env.now) (selection c.args.self.now.env.now.selectors.now) c.in-Unary.operator c.in-Unary.a ∙ ap (λ a. mean_by (operate_on c.in-Unary.operator) (m a)) (sym c.get-in-Unary.ensures) in
-    subst (λ f. Answers c.unary.result (f (visible c.args.scope.now))) (sym is) c.unary.ensures
+    subst (λ f. Answers c.unary.result (f (names_bound c.args.scope.now))) (sym is) c.unary.ensures
 
 pub Evaluator::by_form-returns-in-Binary : goal.Evaluator::by_form-returns-in-Binary
 Evaluator::by_form-returns-in-Binary g t c =
     let m = mean_in c.args.self.now.env.now in
     let is = ap m c.in-Binary.is ∙ of_binary (relvars_there c.args.self.now.env.now) (selection c.args.self.now.env.now.selectors.now) c.in-Binary.operator c.in-Binary.a c.in-Binary.b ∙ (λ i. mean_binary c.in-Binary.operator (m (sym c.get-in-Binary.ensures i)) (m (sym c.get-in-Binary-2.ensures i))) in
-    subst (λ f. Answers c.binary.result (f (visible c.args.scope.now))) (sym is) c.binary.ensures
+    subst (λ f. Answers c.binary.result (f (names_bound c.args.scope.now))) (sym is) c.binary.ensures
 
 pub Evaluator::by_form-returns-in-Component : goal.Evaluator::by_form-returns-in-Component
 Evaluator::by_form-returns-in-Component g t c =
     let m = mean_in c.args.self.now.env.now in
     let is = ap m c.in-Component.is ∙ of_component (relvars_there c.args.self.now.env.now) (selection c.args.self.now.env.now.selectors.now) c.in-Component.at c.in-Component.a ∙ ap (λ a. mean_by (component_at c.in-Component.at) (m a)) (sym c.get.ensures) in
-    subst (λ f. Answers c.component.result (f (visible c.args.scope.now))) (sym is) c.component.ensures
+    subst (λ f. Answers c.component.result (f (names_bound c.args.scope.now))) (sym is) c.component.ensures
 
 pub Evaluator::by_form-returns-in-From : goal.Evaluator::by_form-returns-in-From
 Evaluator::by_form-returns-in-From g t c =
     let m = mean_in c.args.self.now.env.now in
     let is = ap m c.in-From.is ∙ of_from (relvars_there c.args.self.now.env.now) (selection c.args.self.now.env.now.selectors.now) c.in-From.name c.in-From.a ∙ ap (λ a. mean_by (attribute_at c.in-From.name) (m a)) (sym c.get-in-From.ensures) in
-    subst (λ f. Answers c.attribute.result (f (visible c.args.scope.now))) (sym is) c.attribute.ensures
+    subst (λ f. Answers c.attribute.result (f (names_bound c.args.scope.now))) (sym is) c.attribute.ensures
 
 pub Evaluator::by_form-returns-in-Project : goal.Evaluator::by_form-returns-in-Project
 Evaluator::by_form-returns-in-Project g t c =
     let m = mean_in c.args.self.now.env.now in
     let is = ap m c.in-Project.is ∙ of_project (relvars_there c.args.self.now.env.now) (selection c.args.self.now.env.now.selectors.now) c.in-Project.a c.in-Project.names ∙ (λ i. mean_by (part_at (sym c.as_slice-in-Project.ensures i)) (m (sym c.get-in-Project.ensures i))) in
-    subst (λ f. Answers c.projection.result (f (visible c.args.scope.now))) (sym is) c.projection.ensures
+    subst (λ f. Answers c.projection.result (f (names_bound c.args.scope.now))) (sym is) c.projection.ensures
 
 pub Evaluator::by_form-returns-in-Where : goal.Evaluator::by_form-returns-in-Where
 Evaluator::by_form-returns-in-Where g t c =
     let m = mean_in c.args.self.now.env.now in
     let is = ap m c.in-Where.is ∙ of_where (relvars_there c.args.self.now.env.now) (selection c.args.self.now.env.now.selectors.now) c.in-Where.r c.in-Where.c ∙ (λ i. mean_where (m (sym c.get-in-Where.ensures i)) (m (sym c.get-in-Where-2.ensures i))) in
-    subst (λ f. Answers c.restriction.result (f (visible c.args.scope.now))) (sym is) c.restriction.ensures
+    subst (λ f. Answers c.restriction.result (f (names_bound c.args.scope.now))) (sym is) c.restriction.ensures
 
 pub Evaluator::by_form-returns-in-Rename : goal.Evaluator::by_form-returns-in-Rename
 Evaluator::by_form-returns-in-Rename g t c =
     let m = mean_in c.args.self.now.env.now in
     let is = ap m c.in-Rename.is ∙ of_rename (relvars_there c.args.self.now.env.now) (selection c.args.self.now.env.now.selectors.now) c.in-Rename.a c.in-Rename.items ∙ (λ i. mean_by (with_new_names (sym c.as_slice-in-Rename.ensures i)) (m (sym c.get-in-Rename.ensures i))) in
-    subst (λ f. Answers c.renaming.result (f (visible c.args.scope.now))) (sym is) c.renaming.ensures
+    subst (λ f. Answers c.renaming.result (f (names_bound c.args.scope.now))) (sym is) c.renaming.ensures
 
 pub Evaluator::by_form-returns-in-Nest : goal.Evaluator::by_form-returns-in-Nest
 Evaluator::by_form-returns-in-Nest g t c =
     let m = mean_in c.args.self.now.env.now in
     let is = ap m c.in-Nest.is ∙ of_nest (relvars_there c.args.self.now.env.now) (selection c.args.self.now.env.now.selectors.now) c.in-Nest.operator c.in-Nest.a c.in-Nest.names c.in-Nest.name ∙ (λ i. mean_by (nested c.in-Nest.operator (sym c.as_slice-in-Nest.ensures i) c.in-Nest.name) (m (sym c.get-in-Nest.ensures i))) in
-    subst (λ f. Answers c.nesting.result (f (visible c.args.scope.now))) (sym is) c.nesting.ensures
+    subst (λ f. Answers c.nesting.result (f (names_bound c.args.scope.now))) (sym is) c.nesting.ensures
 
 pub Evaluator::by_form-returns-in-Unnest : goal.Evaluator::by_form-returns-in-Unnest
 Evaluator::by_form-returns-in-Unnest g t c =
     let m = mean_in c.args.self.now.env.now in
     let is = ap m c.in-Unnest.is ∙ of_unnest (relvars_there c.args.self.now.env.now) (selection c.args.self.now.env.now.selectors.now) c.in-Unnest.operator c.in-Unnest.a c.in-Unnest.name ∙ ap (λ a. mean_by (unnested c.in-Unnest.operator c.in-Unnest.name) (m a)) (sym c.get-in-Unnest.ensures) in
-    subst (λ f. Answers c.unnesting.result (f (visible c.args.scope.now))) (sym is) c.unnesting.ensures
+    subst (λ f. Answers c.unnesting.result (f (names_bound c.args.scope.now))) (sym is) c.unnesting.ensures
 
 pub Evaluator::by_form-returns-in-Aggregate : goal.Evaluator::by_form-returns-in-Aggregate
 Evaluator::by_form-returns-in-Aggregate g t c =
     let m = mean_in c.args.self.now.env.now in
     let is = ap m c.in-Aggregate.is ∙ of_aggregate (relvars_there c.args.self.now.env.now) (selection c.args.self.now.env.now.selectors.now) c.in-Aggregate.r c.in-Aggregate.summary ∙ ap (λ r. over_aggregate m r c.in-Aggregate.summary) (sym c.get-in-Aggregate.ensures) in
-    subst (λ f. Answers c.aggregation.result (f (visible c.args.scope.now))) (sym is) c.aggregation.ensures
+    subst (λ f. Answers c.aggregation.result (f (names_bound c.args.scope.now))) (sym is) c.aggregation.ensures
 
 pub Evaluator::by_form-returns-in-If : goal.Evaluator::by_form-returns-in-If
 Evaluator::by_form-returns-in-If g t c =
     let m = mean_in c.args.self.now.env.now in
     let is = ap m c.in-If.is ∙ of_if (relvars_there c.args.self.now.env.now) (selection c.args.self.now.env.now.selectors.now) c.in-If.c c.in-If.a c.in-If.b ∙ (λ i. mean_if (m (sym c.get-in-If.ensures i)) (m (sym c.get-in-If-2.ensures i)) (m (sym c.get-in-If-3.ensures i))) in
-    subst (λ f. Answers c.choice.result (f (visible c.args.scope.now))) (sym is) c.choice.ensures
+    subst (λ f. Answers c.choice.result (f (names_bound c.args.scope.now))) (sym is) c.choice.ensures
 
 pub Evaluator::by_form-returns-in-Extend : goal.Evaluator::by_form-returns-in-Extend
 Evaluator::by_form-returns-in-Extend g t c =
     let m = mean_in c.args.self.now.env.now in
     let is = ap m c.in-Extend.is ∙ of_extend (relvars_there c.args.self.now.env.now) (selection c.args.self.now.env.now.selectors.now) c.in-Extend.r c.in-Extend.items ∙ (λ i. over_extend m (sym c.get-in-Extend.ensures i) (sym c.as_slice-in-Extend.ensures i)) in
-    subst (λ f. Answers c.extension.result (f (visible c.args.scope.now))) (sym is) c.extension.ensures
+    subst (λ f. Answers c.extension.result (f (names_bound c.args.scope.now))) (sym is) c.extension.ensures
 
 pub Evaluator::by_form-returns-in-Summarize : goal.Evaluator::by_form-returns-in-Summarize
 Evaluator::by_form-returns-in-Summarize g t c =
     let m = mean_in c.args.self.now.env.now in
     let is = ap m c.in-Summarize.is ∙ of_summarize (relvars_there c.args.self.now.env.now) (selection c.args.self.now.env.now.selectors.now) c.in-Summarize.r c.in-Summarize.by c.in-Summarize.items ∙ (λ i. over_summarize m (sym c.get-in-Summarize.ensures i) c.in-Summarize.by (sym c.as_slice-in-Summarize.ensures i)) in
-    subst (λ f. Answers c.summarization.result (f (visible c.args.scope.now))) (sym is) c.summarization.ensures
+    subst (λ f. Answers c.summarization.result (f (names_bound c.args.scope.now))) (sym is) c.summarization.ensures
 
 pub Evaluator::by_form-returns-in-With : goal.Evaluator::by_form-returns-in-With
 Evaluator::by_form-returns-in-With g t c =
     let m = mean_in c.args.self.now.env.now in
     let is = ap m c.in-With.is ∙ of_with (relvars_there c.args.self.now.env.now) (selection c.args.self.now.env.now.selectors.now) c.in-With.xs c.in-With.body ∙ (λ i. mean_with (all_meant m (sym c.as_slice-in-With.ensures i)) (m (sym c.get-in-With.ensures i))) in
-    subst (λ f. Answers c.with.result (f (visible c.args.scope.now))) (sym is) c.with.ensures
+    subst (λ f. Answers c.with.result (f (names_bound c.args.scope.now))) (sym is) c.with.ensures
 
 -- ---- what is known
 
@@ -415,10 +415,10 @@ Evaluator::closed_value-returns-in_default g t c = error_means c.args.self.now.e
     (told_error c.in-Err-Raised.field-0 c.in-Err-Raised.stop _ (search (rules, c.in-Err-Raised.field-0-is)) c.in-Err-Raised.ensures) c.in_default.not-Untyped
 
 pub Evaluator::evaluate-returns-in-Some : goal.Evaluator::evaluate-returns-in-Some
-Evaluator::evaluate-returns-in-Some g t c = subst (λ m. Answers c.value_known.result m) (sym (c.in-Some.ensures (visible c.args.scope.now))) c.value_known.ensures
+Evaluator::evaluate-returns-in-Some g t c = subst (λ m. Answers c.value_known.result m) (sym (c.in-Some.ensures (names_bound c.args.scope.now))) c.value_known.ensures
 
 pub Evaluator::operand-returns-in-Some : goal.Evaluator::operand-returns-in-Some
-Evaluator::operand-returns-in-Some g t c = subst (λ m. AnswersBy operand_value c.operand_known.result m) (sym (c.in-Some.ensures (visible c.args.scope.now))) c.operand_known.ensures
+Evaluator::operand-returns-in-Some g t c = subst (λ m. AnswersBy operand_value c.operand_known.result m) (sym (c.in-Some.ensures (names_bound c.args.scope.now))) c.operand_known.ensures
 
 pub Evaluator::keep-invariant_of-around : goal.Evaluator::keep-invariant_of-around
 Evaluator::keep-invariant_of-around g t c = record { right = subst (AreRight c.args.self.now.env.now) (sym c.as_slice.ensures.value) c.requires; allowed = c.args.self.now.allowed }
@@ -438,7 +438,7 @@ pub Evaluator::around_part-returns-in_err-inner : goal.Evaluator::around_part-re
 unfolding mean_both mean_by
 Evaluator::around_part-returns-in_err-inner g t c =
     let m = mean_in c.args.self.now.env.now in
-    let names = visible c.args.scope.now in
+    let names = names_bound c.args.scope.now in
     let part = c.has_parts.ensures.has c.if-not-has_parts.false c.args.names.now in
     let rest : Datum → Result Datum Stop = λ d. and_then (m c.args.b.now names) (operate binary.AtLeast d) in
     let known = ap (λ w. and_then (and_then w (part_at c.args.names.now)) rest) c.in_ok-around.ensures ∙ ap (λ w. and_then w rest) part.1 in
@@ -448,12 +448,12 @@ pub Evaluator::at_least-returns-in-Some : goal.Evaluator::at_least-returns-in-So
 unfolding mean_both
 Evaluator::at_least-returns-in-Some g t c =
     let m = mean_in c.args.self.now.env.now in
-    let names = visible c.args.scope.now in
+    let names = names_bound c.args.scope.now in
     subst (λ w. Answers c.around_part.result (and_then w (λ d. and_then (m c.args.b.now names) (operate binary.AtLeast d)))) (sym (c.in-Some.ensures.means names)) c.around_part.ensures
 
 pub Evaluator::at_most-returns-in-Some : goal.Evaluator::at_most-returns-in-Some
 unfolding mean_both
 Evaluator::at_most-returns-in-Some g t c =
     let m = mean_in c.args.self.now.env.now in
-    let names = visible c.args.scope.now in
+    let names = names_bound c.args.scope.now in
     subst (λ w. Answers c.within_part.result (and_then (m c.args.a.now names) (λ d. and_then w (operate binary.AtMost d)))) (sym (c.in-Some.ensures.means names)) c.within_part.ensures

@@ -8,7 +8,7 @@ use Rattle.td_operators.specs.ForProofs.Turns.{turn}
 use Rattle.td_meaning.specs.Mean.{at, named_at, introduced}
 use Rattle.td_operators.specs.Operators.{in_turn}
 use Rattle.td_meaning.specs.Parts.{AreRight}
-use Rattle.td_meaning.specs.Seen.{all_given, mean_in, visible}
+use Rattle.td_meaning.specs.Seen.{all_given, mean_in, names_bound}
 use Rattle.td_meaning.proofs.evaluator.+evaluation.Given as goal
 
 abbrev pub decreases-Evaluator::by_form : goal.decreases-Evaluator::by_form
@@ -118,8 +118,8 @@ decreases-Evaluator::restricted g l = 12 * levels l.c.now + 7 + weight l.self.no
 
 abbrev pub invariant-Evaluator::all_hold-loop-check : goal.invariant-Evaluator::all_hold-loop-check
 invariant-Evaluator::all_hold-loop-check g l =
-    all_hold (mean_in l.self.env.now) (visible l.scope) l.t l.checks
-    ≡ all_hold (mean_in l.self.env.now) (visible l.scope) l.t (drop l.check-index l.checks)
+    all_hold (mean_in l.self.env.now) (names_bound l.scope) l.t l.checks
+    ≡ all_hold (mean_in l.self.env.now) (names_bound l.scope) l.t (drop l.check-index l.checks)
 
 abbrev pub decreases-Evaluator::restriction : goal.decreases-Evaluator::restriction
 decreases-Evaluator::restriction g l = 12 * max (levels l.r.now) (levels l.c.now) + 9 + weight l.self.now.env.now.selectors.now
@@ -168,18 +168,18 @@ decreases-Evaluator::summarization g l = 12 * max (levels l.r.now) (max (groups_
 
 abbrev pub invariant-Evaluator::values-loop-tree : goal.invariant-Evaluator::values-loop-tree
 invariant-Evaluator::values-loop-tree g l =
-    in_turn (at (visible l.scope)) (list_meant (mean_in l.self.env.now) l.trees)
-    ≡ turn (at (visible l.scope)) l.found.items (list_meant (mean_in l.self.env.now) (drop l.tree-index l.trees))
+    in_turn (at (names_bound l.scope)) (list_meant (mean_in l.self.env.now) l.trees)
+    ≡ turn (at (names_bound l.scope)) l.found.items (list_meant (mean_in l.self.env.now) (drop l.tree-index l.trees))
 
 abbrev pub invariant-Evaluator::fields-loop-item : goal.invariant-Evaluator::fields-loop-item
 invariant-Evaluator::fields-loop-item g l =
-    in_turn (named_at (visible l.scope)) (items_meant (mean_in l.self.env.now) l.items)
-    ≡ turn (named_at (visible l.scope)) l.found.items (items_meant (mean_in l.self.env.now) (drop l.item-index l.items))
+    in_turn (named_at (names_bound l.scope)) (items_meant (mean_in l.self.env.now) l.items)
+    ≡ turn (named_at (names_bound l.scope)) l.found.items (items_meant (mean_in l.self.env.now) (drop l.item-index l.items))
 
 abbrev pub invariant-Evaluator::introduced-loop-x : goal.invariant-Evaluator::introduced-loop-x
 invariant-Evaluator::introduced-loop-x g l =
-    introduced (all_meant (mean_in l.self.env.now) l.xs) (visible l.scope)
-    ≡ introduced (all_meant (mean_in l.self.env.now) (drop l.x-index l.xs)) (all_given l.found (visible l.scope))
+    introduced (all_meant (mean_in l.self.env.now) l.xs) (names_bound l.scope)
+    ≡ introduced (all_meant (mean_in l.self.env.now) (drop l.x-index l.xs)) (all_given l.found (names_bound l.scope))
 
 abbrev pub decreases-Evaluator::restricted_by : goal.decreases-Evaluator::restricted_by
 decreases-Evaluator::restricted_by g l = 12 * levels l.c.now + 8 + weight l.self.now.env.now.selectors.now

@@ -1,8 +1,8 @@
 use Rattle.std.proofs.Common.{◌≤◌, IfOk, ap, drop, length, sym, subst, ◌∙◌, arith}
 use Rattle.std.specs.List.{All, filter}
 use Rattle.td_semantics.specs.Databases.{Belongs, DatabaseData, stored_relvars}
-use Rattle.td_relvars.specs.Evaluated.{Says}
-use Rattle.td_relvars.specs.Parts.{over, part_of}
+use Rattle.td_relvars.specs.Evaluated.{EvaluatesTo}
+use Rattle.td_relvars.specs.Parts.{with_copies, part_of}
 use Rattle.td_replay.specs.Noted.{opened_by}
 use Rattle.td_replay.specs.ForProofs.Past.{is_changed_in}
 use Rattle.td_replay.specs.ForProofs.Told.{IsLogged, Log}
@@ -59,7 +59,7 @@ returns c = λ script es m kept.
     let now = c.undo_behind.new.part.copies in
     let t = c.requires.typed in
     let x = c.args.query.now in
-    let says = subst (λ (z : DatabaseData). IfOk c.value_over.result (Says z.catalogue (over now (stored_relvars z.stored)) x)) c.database-database.ensures.same c.value_over.ensures in
+    let says = subst (λ (z : DatabaseData). IfOk c.value_over.result (EvaluatesTo z.catalogue (with_copies now (stored_relvars z.stored)) x)) c.database-database.ensures.same c.value_over.ensures in
     let behind = c.split_at.ensures.back ∙ ap (drop c.args.kept) (c.deref.ensures.value ∙ sym c.deref-4.ensures.value) in
     let named = c.deref-2.ensures.value ∙ c.in_ok-relvars.ensures in
     let read = c.deref-3.ensures.value ∙ c.in_ok-places.ensures ∙ (λ i. filter (is_changed_in (behind i)) (named i)) in

@@ -1,5 +1,5 @@
 use Rattle.std.proofs.Common.{◌≡◌, ap, sym, ◌∙◌, subst}
-use Rattle.td_semantics.specs.Databases.{Belongs, DatabaseData, IsDatabase, put}
+use Rattle.td_semantics.specs.Databases.{Belongs, DatabaseData, IsDatabase, with_relation}
 use Rattle.td_relvars.specs.ForProofs.Kept.{AreFirst, keys_of, rows_of}
 use Rattle.td_relvars.specs.Keys.{key_at}
 use Rattle.td_relvars.proofs.Bases.{first_set, rows_set}
@@ -24,4 +24,4 @@ returns-clause-stored c =
     let n = c.args.relvar in
     let b = c.args.base in
     let xs = c.self.inside.stored.items in
-    ap rows_of c.set_at.ensures ∙ rows_set xs n b ∙ put_set n b.rows (rows_of xs) ∙ ap (λ (d : DatabaseData). put n b.rows d.stored) c.self.view_is
+    ap rows_of c.set_at.ensures ∙ rows_set xs n b ∙ put_set n b.rows (rows_of xs) ∙ ap (λ (d : DatabaseData). with_relation n b.rows d.stored) c.self.view_is

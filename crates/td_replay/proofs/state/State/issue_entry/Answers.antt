@@ -3,7 +3,7 @@ use Rattle.td_headings.specs.Catalogues.{CatalogueData}
 use Rattle.td_stamps.specs.Sets.{Holding}
 use Rattle.td_semantics.specs.Databases.{DatabaseData}
 use Rattle.td_semantics.specs.Steps.{IsUnreadText}
-use Rattle.td_replica.specs.Calls.{Issues, IssuesEntry, entry_of, written}
+use Rattle.td_replica.specs.Calls.{Issues, IssuesEntry, entry_of, latest_dialect}
 use Rattle.td_replay.specs.ForProofs.Judged.{IsRefusal}
 use Rattle.td_replay.specs.ForProofs.Told.{IsLogged, outcomes_of}
 use Rattle.td_replica.specs.Seen.{Contents, Seen, always_open, is_limit}
@@ -49,7 +49,7 @@ refusal-requires-clause-unread c =
     let known = next_is_known s text e next in
     let ran = rw c.in-Ok-None.field-0-is at c.in-Ok-None.ensures.ran in
     let same = c.catalogue.ensures.same ∙ ap (λ (z : DatabaseData). z.catalogue) (c.database.ensures.same ∙ ran.0) in
-    subst (λ (k : CatalogueData). IsUnreadText k written text) (sym same)
+    subst (λ (k : CatalogueData). IsUnreadText k latest_dialect text) (sym same)
     (subst (λ (n : ℕ). IsUnreadText i.told.engine.catalogue n text) known.dialect_is (subst (λ (t : List ℕ). IsUnreadText i.told.engine.catalogue e.dialect t) known.text_is ran.2))
 
 pub returns-in-Ok-None-clause-issues : goal.returns-in-Ok-None-clause-issues

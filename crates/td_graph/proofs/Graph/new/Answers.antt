@@ -1,6 +1,6 @@
 use Rattle.std.proofs.Common.{ℕ, map, Vec, Global, ap, ◌∙◌}
 use Rattle.td_graph.proofs.Walks.{one_place}
-use Rattle.td_graph.proofs.Links.new.Goals as goal
+use Rattle.td_graph.proofs.Graph.new.Goals as goal
 
 pub loop-place-preserved : goal.loop-place-preserved
 loop-place-preserved c =
