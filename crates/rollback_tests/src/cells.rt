@@ -178,7 +178,7 @@ impl Machine for Cells {
         if reading.is_first { &[0] } else { &[0, 1] }
     }
 
-    fn tie_places(&self, _alloc: Global, _labels: &mut Vec<usize>) -> Result<(), AllocError> {
+    fn merge_components(&self, _alloc: Global, _labels: &mut Vec<usize>) -> Result<(), AllocError> {
         Ok(())
     }
 

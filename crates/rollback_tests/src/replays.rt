@@ -1,4 +1,4 @@
-//! Stories of two cells, told again with late entries.
+//! Histories of two cells, told again with late entries.
 
 use crate::cells::{Cells, Did};
 use crate::taking::{begun, take};

@@ -2,18 +2,18 @@
 
 ghost use Rattle.std.specs.Prelude.{◌≡◌, ◌≤◌, ◌+◌, [], ℕ, OnErr, OnOk};
 ghost use Rattle.td_stamps.specs.Sets.{union};
-ghost use Rattle.td_stamps.specs.Story.{Story};
+ghost use Rattle.td_stamps.specs.History.{History};
 ghost use Rattle.td_rollback.specs.Touched.{Runs};
 ghost use Rattle.rollback_tests.specs.Steps.{IsFootprint, IsTarget, Step, zeros};
 
 use crate::cells::{Cells, Did};
 use std::alloc::Global;
-use td_rollback::retell;
+use td_rollback::replay_with;
 use td_stamps::{Entry, Held, PrepareError, Stamp};
 
 /// Before any batch.
 pub fn begun(alloc: Global) -> (Held, Vec<(Stamp, Did)>, Cells)
-    ensures { Story Step zeros result.0.entries result.1.items result.2 }
+    ensures { History Step zeros result.0.entries result.1.items result.2 }
 {
     (Held::new(alloc, 100), Vec::new(alloc), Cells::new())
 }
@@ -27,14 +27,14 @@ pub fn take(
     batch: &[Entry],
     meter: &mut u64,
 ) -> Result<(), PrepareError>
-    requires { Story Step zeros held.old.entries log.old.items cells.old }
-    ensures story { Story Step zeros held.new.entries log.new.items cells.new }
+    requires { History Step zeros held.old.entries log.old.items cells.old }
+    ensures history { History Step zeros held.new.entries log.new.items cells.new }
     ensures held { OnOk result (held.new.entries ≡ union held.old.entries batch.now) }
     ensures kept { OnErr result ((held.new ≡ held.old) × (log.new.items ≡ log.old.items) × (cells.new ≡ cells.old)) }
     ensures counted { (n : ℕ) → Runs IsFootprint IsTarget [] held.old.entries (union held.old.entries batch.now) n → meter.new ≤ meter.old + n }
 {
     let prepared = held.prepare(alloc, batch)?;
-    retell(alloc, cells, held.entries(), log, prepared.entries(), meter)?;
+    replay_with(alloc, cells, held.entries(), log, prepared.entries(), meter)?;
     held.commit(prepared);
     Ok(())
 }

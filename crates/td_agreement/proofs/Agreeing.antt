@@ -12,9 +12,9 @@ use Rattle.td_semantics.specs.Answers.{TellsRelvar}
 use Rattle.td_semantics.specs.Databases.{DatabaseData}
 use Rattle.td_replica.specs.Laws.{HoldTheSame}
 use Rattle.td_replica.specs.Seen.{Seen}
-use Rattle.td_replica.specs.Stories.{IsStory}
+use Rattle.td_replica.specs.Histories.{IsHistory}
 use Rattle.td_semantics.specs.declared.outcome.Outcome.{Outcome}
-use Rattle.td_replica.proofs.Agreeing.{sites_agree, story_is_one}
+use Rattle.td_replica.proofs.Agreeing.{sites_agree, history_is_unique}
 use Rattle.td_agreement.specs.Laws.{AnswersAgree, ExchangeIsMerge, PastAnswersAgree, ValuesAgree, VectorsAgree}
 use Rattle.td_agreement.proofs.Fronts.{one_front}
 use Rattle.td_agreement.proofs.Meanings.{asks_one, tells_one}
@@ -28,11 +28,11 @@ answers_agree s t same text r q p o =
 
 -- one script and one front leave one database
 one_left :
-    (script other : List ℕ) (es fs : List Entry) (os ps : List (Stamp × Outcome)) (d e : DatabaseData) → script ≡ other → es ≡ fs → IsStory script es os d
-    → IsStory other fs ps e → d ≡ e
+    (script other : List ℕ) (es fs : List Entry) (os ps : List (Stamp × Outcome)) (d e : DatabaseData) → script ≡ other → es ≡ fs → IsHistory script es os d
+    → IsHistory other fs ps e → d ≡ e
 one_left script other es fs os ps d e scripts entries told asked =
-    let here = subst (λ (gs : List Entry). IsStory other gs os d) entries (subst (λ (t : List ℕ). IsStory t es os d) scripts told) in
-    (story_is_one other fs os ps d e here asked).1
+    let here = subst (λ (gs : List Entry). IsHistory other gs os d) entries (subst (λ (t : List ℕ). IsHistory t es os d) scripts told) in
+    (history_is_unique other fs os ps d e here asked).1
 
 pub past_answers_agree : PastAnswersAgree
 past_answers_agree s t same text at r q (front, ends, p) (other, stops, o) =

@@ -14,9 +14,9 @@ use Rattle.td_stamps.specs.declared.entry.Stamp.{Stamp}
 use Rattle.td_stamps.proofs.Merges.{same_set}
 use Rattle.td_semantics.specs.Databases.{DatabaseData, stored_relvars}
 use Rattle.td_semantics.specs.Differences.{AreDifferences, Differs}
-use Rattle.td_replica.specs.Stories.{IsStory}
+use Rattle.td_replica.specs.Histories.{IsHistory}
 use Rattle.td_semantics.specs.declared.outcome.Outcome.{Outcome}
-use Rattle.td_replica.proofs.Agreeing.{story_is_one}
+use Rattle.td_replica.proofs.Agreeing.{history_is_unique}
 use Rattle.td_replica.proofs.Places.{one_place}
 use Rattle.td_changes.specs.Laws.{ChangesAgree}
 
@@ -68,11 +68,11 @@ agree old new xs ys a b x there =
 
 -- ---- of two sites
 one_left :
-    (script text : List ℕ) (es fs : List Entry) (os ps : List (Stamp × Outcome)) (d e : DatabaseData) → script ≡ text → es ≡ fs → IsStory script es os d
-    → IsStory text fs ps e → d ≡ e
+    (script text : List ℕ) (es fs : List Entry) (os ps : List (Stamp × Outcome)) (d e : DatabaseData) → script ≡ text → es ≡ fs → IsHistory script es os d
+    → IsHistory text fs ps e → d ≡ e
 one_left script text es fs os ps d e scripts entries told asked =
-    let here = subst (λ (gs : List Entry). IsStory text gs os d) entries (subst (λ (t : List ℕ). IsStory t es os d) scripts told) in
-    (story_is_one text fs os ps d e here asked).1
+    let here = subst (λ (gs : List Entry). IsHistory text gs os d) entries (subst (λ (t : List ℕ). IsHistory t es os d) scripts told) in
+    (history_is_unique text fs os ps d e here asked).1
 
 pub changes_agree : ChangesAgree
 changes_agree s t same at xs ys p q x there =

@@ -1,4 +1,4 @@
--- What a statement changed: how the base relvars differ just before and just after its place in the story.
+-- What a statement changed: how the base relvars differ just before and just after its place in the history.
 use Rattle.std.specs.Prelude.{◌≡◌, ℕ, true, false, List, [], ◌∷◌, ◌++◌, Result, Ok, Err}
 use Rattle.td_relations.specs.Deltas.{DeltaData}
 use Rattle.td_stamps.specs.Entries.{stamp_of}

@@ -1,4 +1,4 @@
--- Calls on sets are events of worlds.
+-- Calls on sets are events of executions.
 use Rattle.std.proofs.Common.{◌≡◌, inl, inr, ℕ, ◌≤◌, Bool, true, false, cond, eqb, ◌||◌, List, [], ◌∷◌, ◌++◌, length, None, Ok, refl, sym, ap, subst, ◌∙◌, arith}
 use Rattle.std.proofs.lemmas.Bool.{eqb-true, or_cases, or_right, cases_Bool}
 use Rattle.std.proofs.lemmas.Bool.Decides.{nat_tests}
@@ -10,7 +10,7 @@ use Rattle.td_stamps.specs.Checks.{first_clash, last_seq, last_clock, next_of}
 use Rattle.td_stamps.proofs.Merges.{head_has, no_first_clash, union_has_both, union_is_set}
 use Rattle.td_stamps.proofs.Next.{seq_at_most, clock_at_most, next_free, put_last, next_comes_last}
 use Rattle.td_stamps.proofs.SetLemmas.{set-put}
-use Rattle.td_executions.specs.Worlds.{World, empty_world, Event, issue, send, deliver, reopen, with_held, with_issued, with_sent, with_set, new_entry, Reached, IsKnown}
+use Rattle.td_executions.specs.GlobalStates.{GlobalState, initial_state, Event, issue, send, deliver, reopen, with_held, with_issued, with_sent, with_set, new_entry, Reached, IsKnown}
 use Rattle.td_executions.specs.Calls.{Sets, Call, issues, sends, takes, comes_back, with_one, with_all_sent, AllHeld, AllSent, KeepsSent, Does, Mirrors}
 use Rattle.td_executions.specs.Laws.{CallsAreEvents, NoCallClashes}
 use Rattle.td_executions.proofs.Sound.{reached_is_sound, none_clash}
@@ -89,22 +89,22 @@ abbrev send_events : ℕ → List Entry → List Event → List Event
 send_events site [] evs = evs
 send_events site (e ∷ es) evs = send site e ∷ send_events site es evs
 
-abbrev sent_world : World → List Entry → World
-sent_world u [] = u
-sent_world u (e ∷ es) = with_sent (sent_world u es) e
+abbrev sent_state : GlobalState → List Entry → GlobalState
+sent_state u [] = u
+sent_state u (e ∷ es) = with_sent (sent_state u es) e
 
-sent_holds : (u : World) (es : List Entry) (t : ℕ) → (sent_world u es).held t ≡ u.held t
+sent_holds : (u : GlobalState) (es : List Entry) (t : ℕ) → (sent_state u es).held t ≡ u.held t
 sent_holds u [] t = refl
 sent_holds u (e ∷ es) t = sent_holds u es t
 
-sent_has : (u : World) (es : List Entry) (x : Entry) → has (sent_world u es).sent x ≡ has (es ++ u.sent) x
+sent_has : (u : GlobalState) (es : List Entry) (x : Entry) → has (sent_state u es).sent x ≡ has (es ++ u.sent) x
 sent_has u [] x = refl
 sent_has u (e ∷ es) x = ap (λ b. same x e || b) (sent_has u es x)
 
-reach_sends : (site : ℕ) (es : List Entry) (evs : List Event) (u : World) → Reached evs u → ((e : Entry) → has es e ≡ true → has (u.held site) e ≡ true) → Reached (send_events site es evs) (sent_world u es)
+reach_sends : (site : ℕ) (es : List Entry) (evs : List Event) (u : GlobalState) → Reached evs u → ((e : Entry) → has es e ≡ true → has (u.held site) e ≡ true) → Reached (send_events site es evs) (sent_state u es)
 reach_sends site [] evs u reached h = reached
 reach_sends site (e ∷ es) evs u reached h =
-    (sent_world u es, reach_sends site es evs u reached (λ x in'. h x (or_right _ _ in')), (ap (λ (l : List Entry). has l e) (sent_holds u es site) ∙ h e (head_has e es), refl))
+    (sent_state u es, reach_sends site es evs u reached (λ x in'. h x (or_right _ _ in')), (ap (λ (l : List Entry). has l e) (sent_holds u es site) ∙ h e (head_has e es), refl))
 
 -- ---- entries are delivered
 
@@ -112,11 +112,11 @@ abbrev take_events : ℕ → List Entry → List Event → List Event
 take_events site [] evs = evs
 take_events site (e ∷ es) evs = deliver site e ∷ take_events site es evs
 
-abbrev taken_world : ℕ → World → List Entry → World
-taken_world site u [] = u
-taken_world site u (e ∷ es) = with_set (taken_world site u es) site (e ∷ (taken_world site u es).held site)
+abbrev taken_state : ℕ → GlobalState → List Entry → GlobalState
+taken_state site u [] = u
+taken_state site u (e ∷ es) = with_set (taken_state site u es) site (e ∷ (taken_state site u es).held site)
 
-taken_sent : (site : ℕ) (u : World) (es : List Entry) → (taken_world site u es).sent ≡ u.sent
+taken_sent : (site : ℕ) (u : GlobalState) (es : List Entry) → (taken_state site u es).sent ≡ u.sent
 taken_sent site u [] = refl
 taken_sent site u (e ∷ es) = taken_sent site u es
 
@@ -124,23 +124,23 @@ or_grouped : (a b c : Bool) → (a || (b || c)) ≡ ((a || b) || c)
 or_grouped true b c = refl
 or_grouped false b c = refl
 
-taken_has : (site : ℕ) (u : World) (es : List Entry) (x : Entry) → has ((taken_world site u es).held site) x ≡ (has es x || has (u.held site) x)
+taken_has : (site : ℕ) (u : GlobalState) (es : List Entry) (x : Entry) → has ((taken_state site u es).held site) x ≡ (has es x || has (u.held site) x)
 taken_has site u [] x = refl
 taken_has site u (e ∷ es) x =
-    ap (λ (l : List Entry). has l x) (at_site (taken_world site u es).held site (e ∷ (taken_world site u es).held site))
+    ap (λ (l : List Entry). has l x) (at_site (taken_state site u es).held site (e ∷ (taken_state site u es).held site))
     ∙ ap (λ b. same x e || b) (taken_has site u es x) ∙ or_grouped (same x e) (has es x) (has (u.held site) x)
 
-taken_elsewhere : (site : ℕ) (u : World) (es : List Entry) (t : ℕ) → eqb t site ≡ false → (taken_world site u es).held t ≡ u.held t
+taken_elsewhere : (site : ℕ) (u : GlobalState) (es : List Entry) (t : ℕ) → eqb t site ≡ false → (taken_state site u es).held t ≡ u.held t
 taken_elsewhere site u [] t away = refl
-taken_elsewhere site u (e ∷ es) t away = elsewhere (taken_world site u es).held site (e ∷ (taken_world site u es).held site) t away ∙ taken_elsewhere site u es t away
+taken_elsewhere site u (e ∷ es) t away = elsewhere (taken_state site u es).held site (e ∷ (taken_state site u es).held site) t away ∙ taken_elsewhere site u es t away
 
-reach_takes : (site : ℕ) (es : List Entry) (evs : List Event) (u : World) → Reached evs u → ((e : Entry) → has es e ≡ true → has u.sent e ≡ true) → Reached (take_events site es evs) (taken_world site u es)
+reach_takes : (site : ℕ) (es : List Entry) (evs : List Event) (u : GlobalState) → Reached evs u → ((e : Entry) → has es e ≡ true → has u.sent e ≡ true) → Reached (take_events site es evs) (taken_state site u es)
 reach_takes site [] evs u reached h = reached
 reach_takes site (e ∷ es) evs u reached h =
-    (taken_world site u es, reach_takes site es evs u reached (λ x in'. h x (or_right _ _ in')), (ap (λ (l : List Entry). has l e) (taken_sent site u es) ∙ h e (head_has e es), refl))
+    (taken_state site u es, reach_takes site es evs u reached (λ x in'. h x (or_right _ _ in')), (ap (λ (l : List Entry). has l e) (taken_sent site u es) ∙ h e (head_has e es), refl))
 
 -- what is held and what was sent doesn't clash
-known_apart : (evs : List Event) (u : World) (w : Sets) → Reached evs u → Mirrors w u → (site : ℕ) (es : List Entry) → AllSent w es → NoClash (w.held site ++ es)
+known_apart : (evs : List Event) (u : GlobalState) (w : Sets) → Reached evs u → Mirrors w u → (site : ℕ) (es : List Entry) → AllSent w es → NoClash (w.held site ++ es)
 known_apart evs u w reached mirrors site es sent x y in_x in_y = none_clash u (reached_is_sound next_comes_last evs u reached) x y (known x in_x) (known y in_y)
   where
     known : (z : Entry) → has (w.held site ++ es) z ≡ true → IsKnown u z
@@ -158,7 +158,7 @@ or_turned false false = refl
 -- ---- each call
 
 abbrev Follows : Sets → Type 0
-Follows w = (evs : List Event) × (u : World) × Reached evs u × Mirrors w u
+Follows w = (evs : List Event) × (u : GlobalState) × Reached evs u × Mirrors w u
 
 after_issue : (w : Sets) (site dialect : ℕ) (text : List ℕ) (n : ℕ × ℕ) → next_of site (w.held site) ≡ Ok n → 1 ≤ dialect → dialect ≤ 2 → length text ≤ 8192 → Follows w
     → Follows (with_one w site (w.held site ++ new_entry site n dialect text ∷ []))
@@ -181,7 +181,7 @@ append_same es xs ys x alike = list_any-append (same x) es xs ∙ ap (λ b. has 
 after_send : (w : Sets) (site : ℕ) (es : List Entry) → AllHeld w site es → Follows w → Follows (with_all_sent w es)
 after_send w site es holds (evs, u, reached, mirrors) = (
   send_events site es evs,
-  sent_world u es,
+  sent_state u es,
   reach_sends site es evs u reached (λ e in'. sym (mirrors.held site e) ∙ holds e in'),
   record {
     held = λ t x. mirrors.held t x ∙ sym (ap (λ (l : List Entry). has l x) (sent_holds u es t));
@@ -194,7 +194,7 @@ after_take : (w : Sets) (site : ℕ) (es : List Entry) → AllSent w es → Foll
 after_take w site es sent (evs, u, reached, mirrors) =
     let apart = known_apart evs u w reached mirrors site es sent in (
       take_events site es evs,
-      taken_world site u es,
+      taken_state site u es,
       reach_takes site es evs u reached (λ e in'. sym (mirrors.sent e) ∙ sent e in'),
       record {
         held = λ t x. held_same apart t x;
@@ -203,7 +203,7 @@ after_take w site es sent (evs, u, reached, mirrors) =
       },
     )
   where
-    held_same : NoClash (w.held site ++ es) → (t : ℕ) (x : Entry) → has (with_held w.held site (union (w.held site) es) t) x ≡ has ((taken_world site u es).held t) x
+    held_same : NoClash (w.held site ++ es) → (t : ℕ) (x : Entry) → has (with_held w.held site (union (w.held site) es) t) x ≡ has ((taken_state site u es).held t) x
     held_same apart t x = elim (cases_Bool (eqb t site)) [
       | inl is ↦
           ap (λ (l : List Entry). has l x) (ap (λ b. cond b (union (w.held site) es) (w.held t)) is)
@@ -211,7 +211,7 @@ after_take w site es sent (evs, u, reached, mirrors) =
           ∙ or_turned (has (w.held site) x) (has es x)
           ∙ ap (λ b. has es x || b) (mirrors.held site x)
           ∙ sym (taken_has site u es x)
-          ∙ ap (λ s. has ((taken_world site u es).held s) x) (sym (eqb-true t site is))
+          ∙ ap (λ s. has ((taken_state site u es).held s) x) (sym (eqb-true t site is))
       | inr away ↦
           ap (λ (l : List Entry). has l x) (elsewhere w.held site (union (w.held site) es) t away)
           ∙ mirrors.held t x
@@ -239,7 +239,7 @@ after_call w (takes site es) v (sent, is) follows = subst Follows (sym is) (afte
 after_call w (comes_back site es) v (set, part, keeps, is) follows = subst Follows (sym is) (after_coming w site es set part keeps follows)
 
 pub calls_are_events : CallsAreEvents
-calls_are_events [] w is = subst Follows (sym is) ([], empty_world, refl, record { held = λ site e. refl; sent = λ e. refl; sets = λ site. refl })
+calls_are_events [] w is = subst Follows (sym is) ([], initial_state, refl, record { held = λ site e. refl; sent = λ e. refl; sets = λ site. refl })
 calls_are_events (c ∷ cs) w (before, done, does) = after_call before c w does (calls_are_events cs before done)
 
 clashless : (w : Sets) → Follows w → (site : ℕ) (batch : List Entry) → AllSent w batch → first_clash (w.held site) batch ≡ None

@@ -8,7 +8,7 @@ use Rattle.td_stamps.specs.Entries.{same, clash}
 use Rattle.td_stamps.specs.Laws.{NextComesLast}
 use Rattle.td_stamps.specs.Sets.{has}
 use Rattle.td_stamps.proofs.EntryLemmas.{same-is, same-refl, clash-refl, clash-sym}
-use Rattle.td_executions.specs.Worlds.{World, empty_world, Event, issue, send, deliver, reopen, with_held, with_issued, with_sent, with_set, new_entry, Happens, Reached, IsKnown, NoneReopens}
+use Rattle.td_executions.specs.GlobalStates.{GlobalState, initial_state, Event, issue, send, deliver, reopen, with_held, with_issued, with_sent, with_set, new_entry, Happens, Reached, IsKnown, NoneReopens}
 
 -- ---- members
 
@@ -59,12 +59,12 @@ more held site e t x h = elim (cases (eqb t site)) [
 -- ---- what every event keeps
 
 -- own entries of a site don't clash; what was sent is held where it was issued; what is held elsewhere was sent
-pub record IsSound (w : World) : Type 0 where
+pub record IsSound (w : GlobalState) : Type 0 where
   pub apart : (s : ℕ) (x y : Entry) → has (w.held s) x ≡ true → has (w.held s) y ≡ true → x.site ≡ s → y.site ≡ s → clash x y ≡ false
   pub own : (x : Entry) → has w.sent x ≡ true → has (w.held x.site) x ≡ true
   pub others : (s : ℕ) (x : Entry) → has (w.held s) x ≡ true → eqb x.site s ≡ false → has w.sent x ≡ true
 
-nothing_is_sound : IsSound empty_world
+nothing_is_sound : IsSound initial_state
 nothing_is_sound = record {
   apart = λ s x y hx hy px py. absurd (false≢true hx);
   own = λ x h. absurd (false≢true h);
@@ -72,7 +72,7 @@ nothing_is_sound = record {
 }
 
 -- whatever is known is held where it was issued
-pub known_is_held : (w : World) → IsSound w → (x : Entry) → IsKnown w x → has (w.held x.site) x ≡ true
+pub known_is_held : (w : GlobalState) → IsSound w → (x : Entry) → IsKnown w x → has (w.held x.site) x ≡ true
 known_is_held w sound x (inl sent) = sound.own x sent
 known_is_held w sound x (inr (s, h)) = elim (cases (eqb x.site s)) [
   | inl is ↦ subst (λ t. has (w.held t) x ≡ true) (sym (eqb-true x.site s is)) h
@@ -81,7 +81,7 @@ known_is_held w sound x (inr (s, h)) = elim (cases (eqb x.site s)) [
 
 -- ---- each event
 
-sent_entry : (w : World) (s : ℕ) (e : Entry) → IsSound w → has (w.held s) e ≡ true → IsSound (with_sent w e)
+sent_entry : (w : GlobalState) (s : ℕ) (e : Entry) → IsSound w → has (w.held s) e ≡ true → IsSound (with_sent w e)
 sent_entry w s e sound h = record {
   apart = sound.apart;
   own = λ x hx. elim (member e w.sent x hx) [
@@ -92,13 +92,13 @@ sent_entry w s e sound h = record {
 }
 
 -- an entry of the site, among what it holds and one that was sent, is held by it
-own_of : (w : World) (s : ℕ) (e x : Entry) → IsSound w → has w.sent e ≡ true → has (e ∷ w.held s) x ≡ true → x.site ≡ s → has (w.held s) x ≡ true
+own_of : (w : GlobalState) (s : ℕ) (e x : Entry) → IsSound w → has w.sent e ≡ true → has (e ∷ w.held s) x ≡ true → x.site ≡ s → has (w.held s) x ≡ true
 own_of w s e x sound sent hx own = elim (member e (w.held s) x hx) [
   | inl is ↦ subst (λ t. has (w.held t) x ≡ true) own (subst (λ (y : Entry). has (w.held y.site) y ≡ true) (sym is) (sound.own e sent))
   | inr old ↦ old
 ]
 
-delivered : (w : World) (s : ℕ) (e : Entry) → IsSound w → has w.sent e ≡ true → IsSound (with_set w s (e ∷ w.held s))
+delivered : (w : GlobalState) (s : ℕ) (e : Entry) → IsSound w → has w.sent e ≡ true → IsSound (with_set w s (e ∷ w.held s))
 delivered w s e sound sent = record {
   apart = λ t x y hx hy px py. elim (cases (eqb t s)) [
     | inl is ↦
@@ -123,7 +123,7 @@ delivered w s e sound sent = record {
   ];
 }
 
-reopened : (w : World) (s : ℕ) (es : List Entry) → IsSound w → ((e : Entry) → has es e ≡ true → has (w.held s) e ≡ true) → ((e : Entry) → e.site ≡ s → has w.sent e ≡ true → has es e ≡ true)
+reopened : (w : GlobalState) (s : ℕ) (es : List Entry) → IsSound w → ((e : Entry) → has es e ≡ true → has (w.held s) e ≡ true) → ((e : Entry) → e.site ≡ s → has w.sent e ≡ true → has es e ≡ true)
     → IsSound (with_set w s es)
 reopened w s es sound part keeps = record {
   apart = λ t x y hx hy px py. sound.apart t x y (was t x hx) (was t y hy) px py;
@@ -156,7 +156,7 @@ next_apart held e x y next old hx hy = elim (member e held x hx) [
   ]
 ]
 
-issued_entry : (w : World) (s : ℕ) (e : Entry) → IsSound w → e.site ≡ s → ((z : Entry) → has (w.held s) z ≡ true → clash e z ≡ false) → IsSound (with_issued w s e)
+issued_entry : (w : GlobalState) (s : ℕ) (e : Entry) → IsSound w → e.site ≡ s → ((z : Entry) → has (w.held s) z ≡ true → clash e z ≡ false) → IsSound (with_issued w s e)
 issued_entry w s e sound own_site next = record {
   apart = λ t x y hx hy px py. elim (cases (eqb t s)) [
     | inl is ↦
@@ -182,23 +182,23 @@ issued_entry w s e sound own_site next = record {
   ];
 }
 
--- ---- every world
+-- ---- every execution
 
-after_event : NextComesLast → (w : World) (ev : Event) (v : World) → IsSound w → Happens w ev v → IsSound v
+after_event : NextComesLast → (w : GlobalState) (ev : Event) (v : GlobalState) → IsSound w → Happens w ev v → IsSound v
 after_event law w (issue s dialect text) v sound (n, numbers, low, high, short, is) =
     let e = new_entry s n dialect text in subst IsSound (sym is) (issued_entry w s e sound refl (law s (w.held s) e refl numbers).1)
 after_event law w (send s e) v sound (h, is) = subst IsSound (sym is) (sent_entry w s e sound h)
 after_event law w (deliver s e) v sound (h, is) = subst IsSound (sym is) (delivered w s e sound h)
 after_event law w (reopen s es) v sound (part, keeps, is) = subst IsSound (sym is) (reopened w s es sound part keeps)
 
-pub reached_is_sound : NextComesLast → (evs : List Event) (w : World) → Reached evs w → IsSound w
+pub reached_is_sound : NextComesLast → (evs : List Event) (w : GlobalState) → Reached evs w → IsSound w
 reached_is_sound law [] w is = subst IsSound (sym is) nothing_is_sound
 reached_is_sound law (ev ∷ evs) w (before, reached, happens) = after_event law before ev w (reached_is_sound law evs before reached) happens
 
 apart_sites : (e f : Entry) → eqb e.site f.site ≡ false → clash e f ≡ false
 apart_sites e f other = rw other refl
 
-pub none_clash : (w : World) → IsSound w → (e f : Entry) → IsKnown w e → IsKnown w f → clash e f ≡ false
+pub none_clash : (w : GlobalState) → IsSound w → (e f : Entry) → IsKnown w e → IsKnown w f → clash e f ≡ false
 none_clash w sound e f known_e known_f = elim (cases (eqb e.site f.site)) [
   | inl is ↦
       let same_site : e.site ≡ f.site = eqb-true e.site f.site is in
@@ -208,11 +208,11 @@ none_clash w sound e f known_e known_f = elim (cases (eqb e.site f.site)) [
 
 -- ---- what was issued
 
-pub issued_held : (evs : List Event) (w : World) → Reached evs w → NoneReopens evs → (x : Entry) → has w.issued x ≡ true → has (w.held x.site) x ≡ true
-issued_held [] w is none x h = absurd (false≢true (ap (λ (v : World). has v.issued x) (sym is) ∙ h))
+pub issued_held : (evs : List Event) (w : GlobalState) → Reached evs w → NoneReopens evs → (x : Entry) → has w.issued x ≡ true → has (w.held x.site) x ≡ true
+issued_held [] w is none x h = absurd (false≢true (ap (λ (v : GlobalState). has v.issued x) (sym is) ∙ h))
 issued_held (issue s dialect text ∷ evs) w (before, reached, (n, numbers, low, high, short, is)) none x h =
     let e = new_entry s n dialect text in
-    let P : World → Type 0 = λ v. has v.issued x ≡ true → has (v.held x.site) x ≡ true in
+    let P : GlobalState → Type 0 = λ v. has v.issued x ≡ true → has (v.held x.site) x ≡ true in
     let kept : P (with_issued before s e) = λ hx. elim (member e before.issued x hx) [
       | inl new ↦
           let at_home : x.site ≡ s = ap (λ (y : Entry). y.site) new in
@@ -221,11 +221,11 @@ issued_held (issue s dialect text ∷ evs) w (before, reached, (n, numbers, low,
     ] in
     subst P (sym is) kept h
 issued_held (send s e ∷ evs) w (before, reached, (sends, is)) none x h =
-    let P : World → Type 0 = λ v. has v.issued x ≡ true → has (v.held x.site) x ≡ true in
+    let P : GlobalState → Type 0 = λ v. has v.issued x ≡ true → has (v.held x.site) x ≡ true in
     let kept : P (with_sent before e) = issued_held evs before reached none x in
     subst P (sym is) kept h
 issued_held (deliver s e ∷ evs) w (before, reached, (sent, is)) none x h =
-    let P : World → Type 0 = λ v. has v.issued x ≡ true → has (v.held x.site) x ≡ true in
+    let P : GlobalState → Type 0 = λ v. has v.issued x ≡ true → has (v.held x.site) x ≡ true in
     let kept : P (with_set before s (e ∷ before.held s)) = λ hx. more before.held s e x.site x (issued_held evs before reached none x hx) in
     subst P (sym is) kept h
 issued_held (reopen s es ∷ evs) w reached none x h = absurd none

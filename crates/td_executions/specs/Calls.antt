@@ -4,7 +4,7 @@ use Rattle.std.specs.Prelude.{◌≡◌, ℕ, ◌≤◌, true, List, [], ◌∷�
 use Rattle.td_stamps.specs.declared.entry.Entry.{Entry}
 use Rattle.td_stamps.specs.Sets.{has, union, is_set}
 use Rattle.td_stamps.specs.Checks.{next_of}
-use Rattle.td_executions.specs.Worlds.{World, with_held, new_entry}
+use Rattle.td_executions.specs.GlobalStates.{GlobalState, with_held, new_entry}
 
 -- the set that each site holds, and what was ever sent
 pub record Sets : Type 0 where
@@ -55,8 +55,8 @@ abbrev pub Done : List Call → Sets → Type 0
 Done [] w = w ≡ no_sets
 Done (c ∷ cs) w = (before : Sets) × Done cs before × Does before c w
 
--- in the world each site holds what it holds here, and the same was sent
-pub record Mirrors (w : Sets) (u : World) : Type 0 where
+-- in the execution each site holds what it holds here, and the same was sent
+pub record Mirrors (w : Sets) (u : GlobalState) : Type 0 where
   pub held : (site : ℕ) (e : Entry) → has (w.held site) e ≡ has (u.held site) e
   pub sent : (e : Entry) → has w.sent e ≡ has u.sent e
   pub sets : (site : ℕ) → is_set (w.held site) ≡ true

@@ -1,4 +1,4 @@
 -- The definitions of the crate.
-pub mod Worlds
+pub mod GlobalStates
 pub mod Calls
 pub mod Laws

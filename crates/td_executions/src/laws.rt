@@ -1,12 +1,12 @@
-//! The laws of worlds.
+//! The laws of executions.
 
-ghost use Rattle.td_executions.specs.Laws.{CallsAreEvents, IssuedIsHeld, NoCallClashes, SentIsHeld, WorldHasNoClash};
+ghost use Rattle.td_executions.specs.Laws.{CallsAreEvents, IssuedIsHeld, NoCallClashes, SentIsHeld, ExecutionHasNoClash};
 
 use td_stamps::laws::next_comes_last;
 
-/// No two entries of a world clash, at whichever sites they are or were sent.
+/// No two entries of a execution clash, at whichever sites they are or were sent.
 pub fn world_has_no_clash()
-    ensures { WorldHasNoClash }
+    ensures { ExecutionHasNoClash }
 {
     next_comes_last();
 }
@@ -23,8 +23,8 @@ pub fn issued_is_held()
     ensures { IssuedIsHeld }
 {}
 
-/// Calls on many sites, as their contracts tell them, are events of a world; so no batch of what was sent is refused
-/// for a clash.
+/// Calls on many sites, as their contracts tell them, are events of a execution; so no batch of what was sent is
+/// refused for a clash.
 pub fn calls_are_events()
     ensures events { CallsAreEvents }
     ensures clash { NoCallClashes }

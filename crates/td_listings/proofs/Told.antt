@@ -1,4 +1,4 @@
--- What sites tell, over the one story that they have.
+-- What sites tell, over the one history that they have.
 use Rattle.std.proofs.Common.{◌≡◌, ℕ, true, false, List, Option, None, Some, Result, Ok, Err, refl, sym, ap, subst, ◌∙◌, true≢false}
 use Rattle.td_values.specs.Headings.{Header}
 use Rattle.td_values.specs.Rows.{RowsData}
@@ -16,11 +16,11 @@ use Rattle.td_semantics.specs.Steps.{Steps, unread, raised, refused, done}
 use Rattle.td_semantics.specs.declared.outcome.Outcome.{Outcome}
 use Rattle.td_stamps.specs.declared.entry.Entry.{Entry}
 use Rattle.td_stamps.specs.declared.entry.Stamp.{Stamp}
-use Rattle.td_stamps.specs.Story.{Story, nothing_ran, next_ran}
+use Rattle.td_stamps.specs.History.{History, nothing_ran, next_ran}
 use Rattle.td_replica.specs.Calls.{TellsValue}
-use Rattle.td_replica.specs.Laws.{StoryIsOne}
+use Rattle.td_replica.specs.Laws.{HistoryIsUnique}
 use Rattle.td_replica.specs.Seen.{Seen, IsTold, Leaves}
-use Rattle.td_replica.specs.Stories.{IsStory, StepsEntry}
+use Rattle.td_replica.specs.Histories.{IsHistory, StepsEntry}
 use Rattle.td_replica.specs.declared.refusal.ValueError.TheVariants.{Broken, Unknown}
 use Rattle.td_listings.specs.ForProofs.Asked.{IsOpenOn, IsValueAt, StandsAt, WasToldAt, meant}
 use Rattle.td_listings.specs.Texts.{relvar_value}
@@ -33,20 +33,20 @@ step_keeps d e dialect text o (raised a b) = refl
 step_keeps d e dialect text o (refused a b x y) = refl
 step_keeps d e dialect text o (done a b x) = refl
 
-story_keeps : (d e : DatabaseData) (es : List Entry) (os : List (Stamp × Outcome)) → Story StepsEntry d es os e → e.catalogue ≡ d.catalogue
-story_keeps d e es os nothing_ran = refl
-story_keeps d e es os (next_ran {t = t} {e = x} {es = xs} {o = o} {os = ps} step rest) = story_keeps t e xs ps rest ∙ step_keeps d t x.dialect x.text o step
+history_keeps : (d e : DatabaseData) (es : List Entry) (os : List (Stamp × Outcome)) → History StepsEntry d es os e → e.catalogue ≡ d.catalogue
+history_keeps d e es os nothing_ran = refl
+history_keeps d e es os (next_ran {t = t} {e = x} {es = xs} {o = o} {os = ps} step rest) = history_keeps t e xs ps rest ∙ step_keeps d t x.dialect x.text o step
 
--- the database after the story is that of the script's catalogue
+-- the database after the history is that of the script's catalogue
 pub script_of : (s : Seen) (os : List (Stamp × Outcome)) (d : DatabaseData) → IsTold s os d → IsScriptOf s.script d.catalogue
-script_of s os d t = subst (IsScriptOf s.script) (sym (story_keeps t.opening d s.entries os t.runs)) t.opens.script
+script_of s os d t = subst (IsScriptOf s.script) (sym (history_keeps t.opening d s.entries os t.runs)) t.opens.script
 
-module _ (one_story : StoryIsOne) (one_script : ScriptIsOne) (s : Seen) (c : CatalogueData) (open_on : IsOpenOn s c) where
+module _ (one_history : HistoryIsUnique) (one_script : ScriptIsOne) (s : Seen) (c : CatalogueData) (open_on : IsOpenOn s c) where
   pub of_catalogue : (d : DatabaseData) → Leaves s d → c ≡ d.catalogue
   of_catalogue d l = one_script s.script c d.catalogue open_on.script (script_of s l.0 d l.1)
 
   one_database : (d e : DatabaseData) → Leaves s d → Leaves s e → d ≡ e
-  one_database d e k l = (one_story s.script s.entries k.0 l.0 d e k.1 l.1).1
+  one_database d e k l = (one_history s.script s.entries k.0 l.0 d e k.1 l.1).1
 
   said : (a : Answer RowsData) (m : Result RowsData Stop) → SaysRelation a m → m ≡ meant a
   said (Value r) m h = h

@@ -1,4 +1,4 @@
--- What texts are those of a site: each is told of the story of what it holds.
+-- What texts are those of a site: each is told of the history of what it holds.
 use Rattle.std.specs.Prelude.{◌≡◌, ℕ, List, length, Ok, Err}
 use Rattle.td_values.specs.Rows.{RowsData}
 use Rattle.td_values.specs.declared.raises.Raise.{Raise}

@@ -15,7 +15,7 @@ use crate::words::{show_number, show_raise, show_reason, show_stamp};
 use std::alloc::{AllocError, Global};
 use td_headings::Catalogue;
 use td_relations::Relation;
-use td_replica::laws::story_is_one;
+use td_replica::laws::history_is_unique;
 use td_replica::{Replica, TellError, ValueError};
 use td_semantics::laws::script_opens_one;
 use td_semantics::{Answer, Outcome};
@@ -81,7 +81,7 @@ pub(crate) fn value_at<R: Replica>(
     ensures value { IfOk result (IsValueAt (R.seen replica.now) place) }
     ensures told { IfOk result (WasToldAt (R.seen replica.now) place) }
 {
-    story_is_one();
+    history_is_unique();
     script_opens_one();
     match replica.value_of(alloc, name) {
         Ok(answer) => Ok(answer),
@@ -111,7 +111,7 @@ fn show_relvars<R: Replica>(
     requires { IsOpenOn (R.seen replica.now) catalogue.now }
     ensures { OnOk result (AreRelvars (R.seen replica.now) (string_bytes out.old) (string_bytes out.new)) }
 {
-    story_is_one();
+    history_is_unique();
     script_opens_one();
     for place in 0..catalogue.schema().relvar_count() {
         let name = name_at(catalogue, place);

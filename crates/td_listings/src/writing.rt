@@ -19,7 +19,7 @@ use td_replica::Replica;
 use td_semantics::laws::script_opens_one;
 use td_semantics::{CatalogueError, catalogue_of};
 
-// A replica's story is sound. It costs nothing.
+// A replica's history is sound. It costs nothing.
 fn sound<R: Replica>(replica: &R)
     ensures { IsSound (R.seen replica.now) }
 {

@@ -25,8 +25,8 @@ use Rattle.td_assign.proofs.Leading.{undone_leads_back}
 use Rattle.td_assign.proofs.Listed.{Changes}
 use Rattle.td_stamps.specs.declared.entry.Entry.{Entry}
 use Rattle.td_stamps.specs.declared.entry.Stamp.{Stamp}
-use Rattle.td_stamps.specs.Story.{Story}
-use Rattle.td_stamps.proofs.Stories as stories
+use Rattle.td_stamps.specs.History.{History}
+use Rattle.td_stamps.proofs.Histories as histories
 use Rattle.td_rollback.proofs.Ends.{Ended, last_off}
 use Rattle.td_semantics.proofs.OneOpening.{one_opening}
 use Rattle.td_semantics.specs.Answers.{SaysValue}
@@ -37,7 +37,7 @@ use Rattle.td_replay.specs.Noted.{IsLegalDatabase, Notes, opened_by}
 use Rattle.td_replay.specs.ForProofs.Going.{catalogue_stays, stays_sound}
 use Rattle.td_replay.specs.ForProofs.Past.{AreAt, HaveCopies, SaysAfter, Types, is_changed, is_changed_in}
 use Rattle.td_replay.specs.ForProofs.Told.{IsLogged, Log, outcomes_of}
-use Rattle.td_replay.proofs.Telling.{logged_story, outcomes_alone}
+use Rattle.td_replay.proofs.Telling.{logged_history, outcomes_alone}
 
 neither_true : (a b : Bool) → (a || b) ≡ false → (a ≡ false) × (b ≡ false)
 neither_true false b h = (refl, h)
@@ -67,11 +67,11 @@ module _ (o : DatabaseData) (good : IsLegalDatabase o) (es : List Entry) (log : 
 
   off : Ended Notes o (take i es) (take i log) e q at.state
   off = last_off Notes o at.state (take i es) (take i log) e q
-      (subst (λ (ps : Log). Story Notes o (take i es ++ e ∷ []) ps at.state) (take_more log i p within)
-      (subst (λ (fs : List Entry). Story Notes o fs (take (i + 1) log) at.state) (take_more es i x (omega (arith, each, within))) at.story))
+      (subst (λ (ps : Log). History Notes o (take i es ++ e ∷ []) ps at.state) (take_more log i p within)
+      (subst (λ (fs : List Entry). History Notes o fs (take (i + 1) log) at.state) (take_more es i x (omega (arith, each, within))) at.history))
 
   before_sound : IsLegalDatabase off.state
-  before_sound = stories.kept Notes IsLegalDatabase (λ s t f r notes was. stays_sound s t f r was notes) o off.state (take i es) (take i log) off.story good
+  before_sound = histories.kept Notes IsLegalDatabase (λ s t f r notes was. stays_sound s t f r was notes) o off.state (take i es) (take i log) off.history good
 
   after_sound : IsLegalDatabase at.state
   after_sound = stays_sound off.state at.state e q.1 before_sound off.step
@@ -90,7 +90,7 @@ module _ (o : DatabaseData) (good : IsLegalDatabase o) (es : List Entry) (log : 
       let back = undone_leads_back off.state at.state q.1.delta.items before_sound.0 after_sound.0 (catalogue_stays off.state at.state e q.1 before_sound off.step) off.step.delta in
       record {
         state = off.state;
-        story = off.story;
+        history = off.history;
         copied = subst (λ (z : Copies). AreCopies z off.state.stored) (sym is) (subst (AreCopies (undone_part q.1.delta.items copies)) back (copies_undone q.1.delta.items copies at.state.stored at.copied));
         all = subst (HaveCopies o.catalogue places) (sym is) (λ m there base. let had = at.all m there base in still_there q.1.delta.items copies m had.0 had.1);
         others = λ m never.
@@ -123,13 +123,13 @@ module _ (c : CatalogueData) (text : List ℕ) (x : Expression) (t : Types c tex
   pub query_in : IsIn c x
   query_in = record { tree = query_tree; attributes = t.types.attributes; under = t.types.under }
 
--- ---- two stories of one script
+-- ---- two histories of one script
 pub one_catalogue : (script : List ℕ) (es fs : List Entry) (log others : Log) (d u : DatabaseData) → IsLogged script es log d → IsLogged script fs others u → u.catalogue ≡ d.catalogue
 one_catalogue script es fs log others d u l m = ap (λ (z : DatabaseData). z.catalogue) (one_opening script None None (opened_by u.catalogue) (opened_by d.catalogue) m.opens l.opens).0
 
 -- ---- what is told anew
 pub says_anew : {E : Type 0} (script : List ℕ) (es : List Entry) (kept : ℕ) (log : Log) (d : DatabaseData) → IsLogged script (take kept es) log d → (x : Expression) (r : Result (Answer Datum) E) → IfOk r (EvaluatesTo d.catalogue (stored_relvars d.stored) x) → IfOk r (SaysAfter script es kept x)
-says_anew script es kept log d l x (Ok r) says = record { state = d; outcomes = outcomes_of log; story = logged_story script (take kept es) log d l; says = says }
+says_anew script es kept log d l x (Ok r) says = record { state = d; outcomes = outcomes_of log; history = logged_history script (take kept es) log d l; says = says }
 says_anew script es kept log d l x (Err e) says = tt
 
 -- ---- all entries, and the first ones
@@ -138,15 +138,15 @@ module _ (script : List ℕ) (es : List Entry) (log : Log) (d : DatabaseData) (l
   origin = opened_by d.catalogue
 
   pub as_many : length es ≡ length log
-  as_many = sym (stories.as_many Notes origin d es log l.runs)
+  as_many = sym (histories.as_many Notes origin d es log l.runs)
 
   at_end : (places : List ℕ) (copies : Copies) → AreCopies copies d.stored → HaveCopies d.catalogue places copies → AreAt origin d es log places (length log) copies
   at_end places copies are have =
       let each = as_many in
       record {
         state = d;
-        story = subst (λ (fs : List Entry). Story Notes origin fs (take (length log) log) d) (sym (take_all (length log) es (omega (arith, each))))
-            (subst (λ (ps : Log). Story Notes origin es ps d) (sym (take_all (length log) log (omega arith))) l.runs);
+        history = subst (λ (fs : List Entry). History Notes origin fs (take (length log) log) d) (sym (take_all (length log) es (omega (arith, each))))
+            (subst (λ (ps : Log). History Notes origin es ps d) (sym (take_all (length log) log (omega arith))) l.runs);
         copied = are;
         all = have;
         others = λ m never. refl;
@@ -160,12 +160,12 @@ module _ (script : List ℕ) (es : List Entry) (log : Log) (d : DatabaseData) (l
 
   module _ (places : List ℕ) (kept : ℕ) (copies : Copies) (at : AreAt origin d es log places kept copies) where
     pub was_sound : IsLegalDatabase at.state
-    was_sound = stories.kept Notes IsLegalDatabase (λ s t e r notes good. stays_sound s t e r good notes) origin at.state (take kept es) (take kept log) at.story l.sound
+    was_sound = histories.kept Notes IsLegalDatabase (λ s t e r notes good. stays_sound s t e r good notes) origin at.state (take kept es) (take kept log) at.history l.sound
 
     pub was_of : at.state.catalogue ≡ d.catalogue
     was_of =
         let P : DatabaseData → Type 0 = λ z. IsLegalDatabase z × (z.catalogue ≡ d.catalogue) in
-        (stories.kept Notes P (λ s t e r notes good. (stays_sound s t e r good.0 notes, catalogue_stays s t e r good.0 notes ∙ good.1)) origin at.state (take kept es) (take kept log) at.story (l.sound, refl)).1
+        (histories.kept Notes P (λ s t e r notes good. (stays_sound s t e r good.0 notes, catalogue_stays s t e r good.0 notes ∙ good.1)) origin at.state (take kept es) (take kept log) at.history (l.sound, refl)).1
 
     -- those that the query reads and that changed since have copies
     abbrev AreRead : Expression → Type 0
@@ -189,7 +189,7 @@ module _ (script : List ℕ) (es : List Entry) (log : Log) (d : DatabaseData) (l
         record {
           state = at.state;
           outcomes = outcomes_of (take kept log);
-          story = record { opening = origin; opens = l.opens; runs = outcomes_alone origin at.state (take kept es) (take kept log) at.story };
+          history = record { opening = origin; opens = l.opens; runs = outcomes_alone origin at.state (take kept es) (take kept log) at.history };
           says = subst (SaysValue r) there says;
         }
 

@@ -22,7 +22,7 @@ runs_are_there s batch fresh sound fits never =
     let st = sound.told.1 in
     counting.runs_are_there (IsFootprintOf st.opening) (AreTargetsOf st.opening) [] s.entries (union s.entries batch) (union_is_more s.entries batch s.limit fresh sound.set fits) (λ n runs. never n (st.opening, st.opens, runs))
 
--- over what the story began with
+-- over what the history began with
 pub from_the_opening : (s : Seen) (batch : List Entry) (n : ℕ) (log : Log) (d : DatabaseData) → IsLogged s.script s.entries log d → RunsIn s batch n → RunsOver (opened_by d.catalogue) s.entries (union s.entries batch) n
 from_the_opening s batch n log d l h =
     let same = (one_opening s.script None None h.0 (opened_by d.catalogue) h.1 l.opens).0 in

@@ -23,7 +23,7 @@ use Rattle.td_replica.specs.declared.refusal.AskError.{AskError}
 use Rattle.td_replica.specs.declared.refusal.AskError.TheVariants as ask_error
 use Rattle.td_semantics.proofs.OneOpening.{one_catalogue}
 use Rattle.td_replay.specs.ForProofs.Past.{EndsWith, SaysAfter, TellsQuery, Types, as_past, entry_at}
-use Rattle.td_replay.proofs.Telling.{story_catalogue}
+use Rattle.td_replay.proofs.Telling.{history_catalogue}
 use Rattle.td_values.specs.Data.{Datum}
 
 -- ---- the entry of a stamp, sought by halves
@@ -94,7 +94,7 @@ module _ (s : Seen) (c : CatalogueData) (live : s.live ≡ true) (defines : IsSc
 
       pub asks_at : (r : Answer Datum) → SaysAfter s.script s.entries n x r → AsksAt s text at (Ok r)
       asks_at r h =
-          let is = one_catalogue s.script c h.state.catalogue defines (story_catalogue s.script (take n s.entries) h.outcomes h.state h.story) in (
+          let is = one_catalogue s.script c h.state.catalogue defines (history_catalogue s.script (take n s.entries) h.outcomes h.state h.history) in (
             take n s.entries,
             ends_at,
             record {
@@ -102,7 +102,7 @@ module _ (s : Seen) (c : CatalogueData) (live : s.live ≡ true) (defines : IsSc
               query = t.query;
               expression = x;
               live = live;
-              leaves = (h.outcomes, h.story);
+              leaves = (h.outcomes, h.history);
               reads = t.reads;
               types = subst (λ (z : CatalogueData). IsExpression z no_tuple t.query x) is t.types;
               says = h.says;

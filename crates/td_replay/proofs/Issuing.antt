@@ -15,11 +15,11 @@ use Rattle.td_replica.specs.Calls.{entry_of, numbered, latest_dialect, Issues, I
 use Rattle.td_replay.specs.ForProofs.Judged.{IsRefusal}
 use Rattle.td_replay.specs.ForProofs.Told.{IsLogged, Log, Numbers, Outcomes, TellsOutcome, outcomes_of}
 use Rattle.td_replica.specs.Seen.{Seen, with_entries}
-use Rattle.td_replica.specs.Stories.{IsStory}
+use Rattle.td_replica.specs.Histories.{IsHistory}
 use Rattle.td_replica.specs.declared.calls.Issued.{Issued}
 use Rattle.td_replica.specs.declared.refusal.IssueError.{IssueError}
 use Rattle.td_replica.specs.declared.refusal.IssueError.TheVariants as issue_error
-use Rattle.td_replay.proofs.Telling.{logged_more, logged_story, outcomes_more, story_catalogue}
+use Rattle.td_replay.proofs.Telling.{logged_more, logged_history, outcomes_more, history_catalogue}
 
 -- what is known where a text has a next entry
 pub record IsNext (s : Seen) (text : List ℕ) (e : Entry) : Type 0 where
@@ -60,35 +60,35 @@ pub issues_entry : (s after : Seen) (text : List ℕ) (e : Entry) (i : Issued) (
     → i.stamp ≡ stamp_of e → after ≡ with_entries s (s.entries ++ e ∷ []) → IssuesEntry s text i after
 issues_entry s after text e i log longer d end live l next tells stamp is =
     let known = next_is_known s text e next in
-    let before = logged_story s.script s.entries log d l in
-    let now = logged_story s.script (s.entries ++ e ∷ []) longer end (logged_more s.script s.entries log d l longer end e tells.ran tells.runs) in
+    let before = logged_history s.script s.entries log d l in
+    let now = logged_history s.script (s.entries ++ e ∷ []) longer end (logged_more s.script s.entries log d l longer end e tells.ran tells.runs) in
     let all = outcomes_more log longer e tells.ran i.outcome i.stamp tells.runs.log_is tells.told stamp in
-    let are : IsStory s.script (s.entries ++ e ∷ []) (outcomes_of log ++ (i.stamp, i.outcome) ∷ []) end = subst (λ (ps : Outcomes). IsStory s.script (s.entries ++ e ∷ []) ps end) all now in
+    let are : IsHistory s.script (s.entries ++ e ∷ []) (outcomes_of log ++ (i.stamp, i.outcome) ∷ []) end = subst (λ (ps : Outcomes). IsHistory s.script (s.entries ++ e ∷ []) ps end) all now in
     record {
       entry = e;
       live = live;
-      statement = record { catalogue = d.catalogue; statement = tells.statement; defines = story_catalogue s.script s.entries (outcomes_of log) d before; read = subst (λ k. IsRead d.catalogue k text tells.statement) known.dialect_is (subst (λ t. IsRead d.catalogue e.dialect t tells.statement) known.text_is tells.read) };
+      statement = record { catalogue = d.catalogue; statement = tells.statement; defines = history_catalogue s.script s.entries (outcomes_of log) d before; read = subst (λ k. IsRead d.catalogue k text tells.statement) known.dialect_is (subst (λ t. IsRead d.catalogue e.dialect t tells.statement) known.text_is tells.read) };
       next = next;
       stamp = stamp;
       last = is;
       union = ap (λ (z : Seen). z.entries) is ∙ sym (union_last s.site s.entries e known.site known.numbers);
       before = outcomes_of log;
       were = (d, before);
-      are = subst (λ (z : Seen). (f : DatabaseData) × IsStory z.script z.entries (outcomes_of log ++ (i.stamp, i.outcome) ∷ []) f) (sym is) (end, are);
+      are = subst (λ (z : Seen). (f : DatabaseData) × IsHistory z.script z.entries (outcomes_of log ++ (i.stamp, i.outcome) ∷ []) f) (sym is) (end, are);
     }
 
-pub issues_refusal : (s after : Seen) (text : List ℕ) (os : Outcomes) (d : DatabaseData) (error : IssueError) → s.live ≡ true → IsStory s.script s.entries os d → after ≡ s → IsRefusal d.catalogue text error → Issues s text (Err error) after
+pub issues_refusal : (s after : Seen) (text : List ℕ) (os : Outcomes) (d : DatabaseData) (error : IssueError) → s.live ≡ true → IsHistory s.script s.entries os d → after ≡ s → IsRefusal d.catalogue text error → Issues s text (Err error) after
 issues_refusal s after text os d issue_error.Syntax live st same h = ((live, same), h)
-issues_refusal s after text os d issue_error.IllTyped live st same h = ((live, same), record { catalogue = d.catalogue; statement = h.0; defines = story_catalogue s.script s.entries os d st; reads = h.1; refused = h.2 })
+issues_refusal s after text os d issue_error.IllTyped live st same h = ((live, same), record { catalogue = d.catalogue; statement = h.0; defines = history_catalogue s.script s.entries os d st; reads = h.1; refused = h.2 })
 issues_refusal s after text os d issue_error.OutOfMemory live st same h = ((live, same), h)
 issues_refusal s after text os d issue_error.Broken live st same h = absurd h
 issues_refusal s after text os d issue_error.ClockEnd live st same h = absurd h
 issues_refusal s after text os d issue_error.Full live st same h = absurd h
 issues_refusal s after text os d issue_error.JournalWrite live st same h = absurd h
 
-pub issues_no_entry : (s : Seen) (text : List ℕ) (os : Outcomes) (d : DatabaseData) (error : IssueError) (x : TypedStatement) → s.live ≡ true → IsStory s.script s.entries os d → IsRead d.catalogue latest_dialect text x → length text ≤ 8192 → Numbers s text (Err error) → Issues s text (Err error) s
-issues_no_entry s text os d issue_error.ClockEnd x live st read short h = ((live, refl), record { catalogue = d.catalogue; statement = x; defines = story_catalogue s.script s.entries os d st; read = read }, h)
-issues_no_entry s text os d issue_error.Full x live st read short h = ((live, refl), record { catalogue = d.catalogue; statement = x; defines = story_catalogue s.script s.entries os d st; read = read }, h)
+pub issues_no_entry : (s : Seen) (text : List ℕ) (os : Outcomes) (d : DatabaseData) (error : IssueError) (x : TypedStatement) → s.live ≡ true → IsHistory s.script s.entries os d → IsRead d.catalogue latest_dialect text x → length text ≤ 8192 → Numbers s text (Err error) → Issues s text (Err error) s
+issues_no_entry s text os d issue_error.ClockEnd x live st read short h = ((live, refl), record { catalogue = d.catalogue; statement = x; defines = history_catalogue s.script s.entries os d st; read = read }, h)
+issues_no_entry s text os d issue_error.Full x live st read short h = ((live, refl), record { catalogue = d.catalogue; statement = x; defines = history_catalogue s.script s.entries os d st; read = read }, h)
 issues_no_entry s text os d issue_error.OutOfMemory x live st read short h = ((live, refl), short)
 issues_no_entry s text os d issue_error.Broken x live st read short h = absurd h
 issues_no_entry s text os d issue_error.Syntax x live st read short h = absurd h

@@ -1,4 +1,4 @@
--- Stories, entry by entry.
+-- Histories, entry by entry.
 use Rattle.std.proofs.Common.{◌≡◌, ℕ, ◌+◌, ◌<◌, List, [], ◌∷◌, ◌++◌, length, get_or, take, Option, None, Some, refl, sym, ap, subst, ◌∙◌}
 use Rattle.std.proofs.lemmas.List.{map-append, take_more}
 use Rattle.td_algebra.specs.declared.errors.Stop.{Stop}
@@ -9,14 +9,14 @@ use Rattle.td_headings.specs.declared.statement.TypedStatement.{TypedStatement}
 use Rattle.td_stamps.specs.declared.entry.Entry.{Entry}
 use Rattle.td_stamps.specs.declared.entry.Stamp.{Stamp}
 use Rattle.td_stamps.specs.Entries.{stamp_of}
-use Rattle.td_stamps.specs.Story.{Story, nothing_ran, next_ran}
-use Rattle.td_stamps.proofs.Stories as stories
+use Rattle.td_stamps.specs.History.{History, nothing_ran, next_ran}
+use Rattle.td_stamps.proofs.Histories as histories
 use Rattle.td_semantics.specs.Databases.{DatabaseData}
 use Rattle.td_semantics.specs.Scripts.{IsScriptOf, OpensOn}
 use Rattle.td_semantics.specs.Steps.{IsRead, IsUnreadText, Steps, TellsTest, unread, raised, refused, done}
 use Rattle.td_semantics.specs.declared.outcome.Outcome.{Outcome}
 use Rattle.td_semantics.specs.declared.outcome.Outcome.TheVariants as outcome
-use Rattle.td_replica.specs.Stories.{IsStory, StepsEntry}
+use Rattle.td_replica.specs.Histories.{IsHistory, StepsEntry}
 use Rattle.td_replay.specs.Noted.{IsLegalDatabase, Notes, opened_by, or_none}
 use Rattle.td_replay.specs.ForProofs.Going.{stays_sound}
 use Rattle.td_replay.specs.ForProofs.Told.{IsLogged, Log, Outcomes, RunsNext, RunsSome, outcomes_of}
@@ -53,14 +53,14 @@ read_is d e dialect text o (raised {x = x} p h) other = (x, p)
 read_is d e dialect text o (refused {x = x} p h i j) other = (x, p)
 read_is d e dialect text o (done {x = x} p h i) other = (x, p)
 
--- ---- a story
-pub story_catalogue : (script : List ℕ) (es : List Entry) (os : Outcomes) (d : DatabaseData) → IsStory script es os d → IsScriptOf script d.catalogue
-story_catalogue script es os d st =
+-- ---- a history
+pub history_catalogue : (script : List ℕ) (es : List Entry) (os : Outcomes) (d : DatabaseData) → IsHistory script es os d → IsScriptOf script d.catalogue
+history_catalogue script es os d st =
     let P : DatabaseData → Type 0 = λ e. IsScriptOf script e.catalogue in
-    stories.kept StepsEntry P (λ s t e o step is. subst (IsScriptOf script) (sym (same_catalogue s t e.dialect e.text o step)) is) st.opening d es os st.runs st.opens.script
+    histories.kept StepsEntry P (λ s t e o step is. subst (IsScriptOf script) (sym (same_catalogue s t e.dialect e.text o step)) is) st.opening d es os st.runs st.opens.script
 
 -- ---- with what is kept of each step
-pub outcomes_alone : (s t : DatabaseData) (es : List Entry) (log : Log) → Story Notes s es log t → Story StepsEntry s es (outcomes_of log) t
+pub outcomes_alone : (s t : DatabaseData) (es : List Entry) (log : Log) → History Notes s es log t → History StepsEntry s es (outcomes_of log) t
 outcomes_alone s t es log nothing_ran = nothing_ran
 outcomes_alone s t es log (next_ran {t = v} {es = fs} {os = ps} notes rest) = next_ran notes.step (outcomes_alone v t fs ps rest)
 
@@ -68,25 +68,25 @@ pub one_opened : (script : List ℕ) (d : DatabaseData) → OpensOn script None 
 one_opened script d h = let stored = ap or_none h.opens in λ i. record { catalogue = d.catalogue; stored = stored i }
 
 module _ (script : List ℕ) (es : List Entry) (log : Log) (d : DatabaseData) (l : IsLogged script es log d) where
-  pub logged_story : IsStory script es (outcomes_of log) d
-  logged_story = record { opening = opened_by d.catalogue; opens = l.opens; runs = outcomes_alone (opened_by d.catalogue) d es log l.runs }
+  pub logged_history : IsHistory script es (outcomes_of log) d
+  logged_history = record { opening = opened_by d.catalogue; opens = l.opens; runs = outcomes_alone (opened_by d.catalogue) d es log l.runs }
 
   pub logged_sound : IsLegalDatabase d
-  logged_sound = stories.kept Notes IsLegalDatabase (λ s t e r notes good. stays_sound s t e r good notes) (opened_by d.catalogue) d es log l.runs l.sound
+  logged_sound = histories.kept Notes IsLegalDatabase (λ s t e r notes good. stays_sound s t e r good notes) (opened_by d.catalogue) d es log l.runs l.sound
 
-  -- a story of the same script, with other entries
-  pub told_on : (fs : List Entry) (all : Log) (u : DatabaseData) → opened_by u.catalogue ≡ opened_by d.catalogue → Story Notes (opened_by d.catalogue) fs all u → IsLogged script fs all u
+  -- a history of the same script, with other entries
+  pub told_on : (fs : List Entry) (all : Log) (u : DatabaseData) → opened_by u.catalogue ≡ opened_by d.catalogue → History Notes (opened_by d.catalogue) fs all u → IsLogged script fs all u
   told_on fs all u same runs = record {
     opens = subst (OpensOn script None) (sym same) l.opens;
     sound = subst IsLegalDatabase (sym same) l.sound;
-    runs = subst (λ (o : DatabaseData). Story Notes o fs all u) (sym same) runs;
+    runs = subst (λ (o : DatabaseData). History Notes o fs all u) (sym same) runs;
   }
 
   -- one entry more
   pub logged_more : (longer : Log) (after : DatabaseData) (e : Entry) (r : Ran) → RunsNext d log e r after longer → IsLogged script (es ++ e ∷ []) longer after
   logged_more longer after e r next =
       told_on (es ++ e ∷ []) longer after (ap opened_by (same_catalogue d after e.dialect e.text r.outcome next.notes.step))
-      (subst (λ (ps : Log). Story Notes (opened_by d.catalogue) (es ++ e ∷ []) ps after) (sym next.log_is) (stories.one_more Notes (opened_by d.catalogue) d after es log e r l.runs next.notes))
+      (subst (λ (ps : Log). History Notes (opened_by d.catalogue) (es ++ e ∷ []) ps after) (sym next.log_is) (histories.one_more Notes (opened_by d.catalogue) d after es log e r l.runs next.notes))
 
 pub begun : (script : List ℕ) (d : DatabaseData) → IsLegalDatabase d → OpensOn script None d → IsLogged script [] [] d
 begun script d good h =
@@ -94,7 +94,7 @@ begun script d good h =
     record {
       opens = subst (OpensOn script None) (sym same) h;
       sound = subst IsLegalDatabase (sym same) good;
-      runs = subst (λ (o : DatabaseData). Story Notes o [] [] d) (sym same) nothing_ran;
+      runs = subst (λ (o : DatabaseData). History Notes o [] [] d) (sym same) nothing_ran;
     }
 
 -- the outcomes, with that of one entry more

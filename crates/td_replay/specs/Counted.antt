@@ -10,7 +10,7 @@ use Rattle.td_semantics.specs.Scripts.{OpensOn}
 use Rattle.td_replica.specs.Seen.{IsSound, Seen}
 use Rattle.td_replay.specs.Noted.{AreTargetsOf, IsFootprintOf}
 
--- the old entries and all, in stories that began with the database
+-- the old entries and all, in histories that began with the database
 abbrev pub RunsOver : DatabaseData → List Entry → List Entry → ℕ → Type 0
 RunsOver o old new n = Runs (IsFootprintOf o) (AreTargetsOf o) [] old new n
 

@@ -1,5 +1,5 @@
 -- What a site keeps of a step: its outcome, the differences that it made, its targets and its footprint; and from where
--- its story began.
+-- its history began.
 use Rattle.std.specs.Prelude.{◌≡◌, ℕ, suc, Bool, if◌then◌else◌, [], ◌∷◌, Result, Ok, Err}
 use Rattle.std.specs.List.{Contains}
 use Rattle.td_algebra.specs.declared.errors.Stop.{Stop}
@@ -37,7 +37,7 @@ or_none (Err e) = []
 abbrev pub opened_by : CatalogueData → DatabaseData
 opened_by c = record { catalogue = c; stored = or_none (opening c) }
 
--- of an entry, in stories that began with the database
+-- of an entry, in histories that began with the database
 abbrev pub IsFootprintOf : DatabaseData → Entry → ℕ → Type 0
 IsFootprintOf o e n = IsInFootprint o.catalogue e.dialect e.text n
 

@@ -142,7 +142,7 @@ impl Machine for Engine {
         reading.footprint.as_slice()
     }
 
-    fn tie_places(&self, alloc: Global, labels: &mut Vec<usize>) -> Result<(), AllocError> {
+    fn merge_components(&self, alloc: Global, labels: &mut Vec<usize>) -> Result<(), AllocError> {
         tie_tests(alloc, self.database.catalogue(), labels)
     }
 

@@ -16,7 +16,7 @@ use crate::engine::Engine;
 use std::alloc::{AllocError, Global};
 use td_assign::Ran;
 use td_relvars::Database;
-use td_rollback::{Machine, retell};
+use td_rollback::{Machine, replay_with};
 use td_semantics::{Meter, Outcome, ScriptError};
 use td_stamps::{Entry, Held, Stamp};
 
@@ -123,7 +123,7 @@ impl Told {
         ensures few { meter.new.count ≤ meter.old.count + length new.now }
         ensures counted { (n : ℕ) → RunsOver (opened_by self.old.engine.catalogue) old.now new.now n → meter.new.count ≤ meter.old.count + n }
     {
-        retell(alloc, &mut self.engine, old, &mut self.log, new, meter)
+        replay_with(alloc, &mut self.engine, old, &mut self.log, new, meter)
     }
 
     /// Tells more entries than were told, in this way. Want of memory leaves all as it was.

@@ -86,7 +86,7 @@ pub record IsIllTypedStatement (script text : List ℕ) : Type 0 where
   pub reads : grammar.IsStatementIn latest_dialect text statement
   pub refused : (x : TypedStatement) → typed.TypesStatement catalogue statement x → ⊥
 
--- it is told with its stamp and its outcome, which is the last of the story's
+-- it is told with its stamp and its outcome, which is the last of the history's
 pub record IssuesEntry (s : Seen) (text : List ℕ) (i : Issued) (after : Seen) : Type 0 where
   pub entry : Entry
   pub live : s.live ≡ true
@@ -126,7 +126,7 @@ Takes s batch (Err take_error.Full) after = Stays s after × (check_of s.entries
 Takes s batch (Err take_error.OutOfMemory) after = Stays s after × (list_all in_range batch ≡ true)
 Takes s batch (Err take_error.JournalWrite) after = (n : ℕ) × (check_of s.entries s.limit batch ≡ Ok n) × (0 < n) × Closes s (union s.entries batch) after
 
--- ---- ask: what a query means over the relvars that the story leaves
+-- ---- ask: what a query means over the relvars that the history leaves
 
 pub record AsksQuery (s : Seen) (text : List ℕ) (r : Answer Datum) : Type 0 where
   pub database : DatabaseData
@@ -152,7 +152,7 @@ Asks s text (Err ask_error.Syntax) = (s.live ≡ true) × ((e : Expr) → IsQuer
 Asks s text (Err ask_error.IllTyped) = (s.live ≡ true) × IsIllTypedQuery s.script text
 Asks s text (Err ask_error.OutOfMemory) = (s.live ≡ true) × (length text ≤ query_bytes)
 
--- ---- value_of: what a relvar has after the story
+-- ---- value_of: what a relvar has after the history
 
 abbrev pub TellsValue : Seen → List ℕ → Result (Answer RowsData) ValueError → Type 0
 TellsValue s x (Ok a) = (s.live ≡ true) × (d : DatabaseData) × Leaves s d × TellsRelvar d x (Ok a)
@@ -160,7 +160,7 @@ TellsValue s x (Err value_error.Broken) = s.live ≡ false
 TellsValue s x (Err value_error.Unknown) = (s.live ≡ true) × (d : DatabaseData) × Leaves s d × TellsRelvar d x (Err relvar_error.Unknown)
 TellsValue s x (Err value_error.OutOfMemory) = s.live ≡ true
 
--- ---- outcomes: those of the story, in stamp order
+-- ---- outcomes: those of the history, in stamp order
 
 abbrev pub TellsOutcomes : Seen → Result (List (Stamp × Outcome)) TellError → Type 0
 TellsOutcomes s (Ok os) = (s.live ≡ true) × AreOutcomes s os

@@ -1,5 +1,5 @@
 -- The definitions of the crate.
-pub mod Stories
+pub mod Histories
 pub mod Seen
 pub mod Calls
 pub mod Past

@@ -8,7 +8,7 @@ use Rattle.td_stamps.specs.declared.entry.Entry.{Entry}
 use Rattle.td_stamps.specs.declared.entry.Stamp.{Stamp}
 use Rattle.td_semantics.specs.Databases.{DatabaseData}
 use Rattle.td_semantics.specs.declared.outcome.Outcome.{Outcome}
-use Rattle.td_replica.specs.Stories.{IsStory}
+use Rattle.td_replica.specs.Histories.{IsHistory}
 
 pub record Seen : Type 0 where
   pub script : List ℕ
@@ -33,9 +33,9 @@ with_entries s es = record { script = s.script; site = s.site; limit = s.limit; 
 abbrev pub holding : Seen → Holding
 holding s = record { entries = s.entries; limit = s.limit }
 
--- the outcomes of the story of what it holds, and the database after it
+-- the outcomes of the history of what it holds, and the database after it
 abbrev pub IsTold : Seen → List (Stamp × Outcome) → DatabaseData → Type 0
-IsTold s os d = IsStory s.script s.entries os d
+IsTold s os d = IsHistory s.script s.entries os d
 
 abbrev pub AreOutcomes : Seen → List (Stamp × Outcome) → Type 0
 AreOutcomes s os = (d : DatabaseData) × IsTold s os d

@@ -1,10 +1,10 @@
-//! What every kind of site is: the trait of sites with the contracts of its calls, what a site is seen as, the story of
-//! the entries that it holds, and the laws of these.
+//! What every kind of site is: the trait of sites with the contracts of its calls, what a site is seen as, the history
+//! of the entries that it holds, and the laws of these.
 //!
 //! Begin with `Replica`, the trait of all kinds of sites, and `specs/Calls.antt`, what its calls answer and leave.
 //! `Opens` opens a site from a script.
 //!
-//! Definitions to trust, in `specs/`: Calls, Laws, NewSites, Past, Seen, Stories.
+//! Definitions to trust, in `specs/`: Calls, Laws, NewSites, Past, Seen, Histories.
 //!
 //! td_replica has next to no code, and knows no kind of site. Kinds of sites, journals, meetings and whatever shows
 //! sites stand on it, so that none of them waits for evaluation.

@@ -11,14 +11,14 @@ use Rattle.td_rollback.specs.Going.{AreAlikeBut}
 use Rattle.td_rollback.specs.Touched.{Runs}
 use Rattle.td_rollback.specs.ForProofs.Standing.{Begun, Left, Stands}
 use Rattle.td_rollback.specs.ForProofs.Ways.{Way}
-use Rattle.td_rollback.specs.declared.turns.Turn.{Turn}
-use Rattle.td_rollback.specs.declared.turns.Turn.TheVariants.{Kept, Again, Fresh}
+use Rattle.td_rollback.specs.declared.turns.ReplayedRecord.{ReplayedRecord}
+use Rattle.td_rollback.specs.declared.turns.ReplayedRecord.TheVariants.{Kept, Again, Fresh}
 use Rattle.td_rollback.proofs.Members.{has_at}
 use Rattle.td_rollback.proofs.More as more
 use Rattle.td_rollback.proofs.Selecting as selecting
 use Rattle.td_rollback.proofs.Standing as standing
 
-abbrev pub StandsIn : {S R : Type 0} (w : Way S R) (b : Begun S R) → ℕ → ℕ → List ℕ → List (Turn R) → S → ℕ → Type 0
+abbrev pub StandsIn : {S R : Type 0} (w : Way S R) (b : Begun S R) → ℕ → ℕ → List ℕ → List (ReplayedRecord R) → S → ℕ → Type 0
 StandsIn w b at i names turns u count = Stands w b (record { old = drop at b.old; log = drop at b.log; before = take i b.new; new = drop i b.new }) names turns u count
 
 -- the entry that comes next, where a replay stands
@@ -29,7 +29,7 @@ pub record Coming {S R : Type 0} (w : Way S R) (b : Begun S R) : Type 0 where
   pub is : entry ≡ get_or b.new i entry
   pub at : ℕ
   pub names : List ℕ
-  pub turns : List (Turn R)
+  pub turns : List (ReplayedRecord R)
   pub state : S
   pub count : ℕ
   pub stands : StandsIn w b at i names turns state count
@@ -45,7 +45,7 @@ pub record Old {S R : Type 0} (w : Way S R) (b : Begun S R) (a : Coming w b) : T
   pub other : Stamp × R
 
 module _ {S R : Type 0} (w : Way S R) (b : Begun S R) (a : Coming w b) where
-  abbrev Standing : Left R → List ℕ → List (Turn R) → S → ℕ → Type 0
+  abbrev Standing : Left R → List ℕ → List (ReplayedRecord R) → S → ℕ → Type 0
   Standing l names turns u count = Stands w b l names turns u count
 
   left_is : (es fs ws xs : List Entry) (ps qs : List (Stamp × R)) (gs hs : List Entry) → es ≡ fs → ps ≡ qs → ws ≡ xs → gs ≡ hs → ◌≡◌ {A = Left R} (record { old = es; log = ps; before = ws; new = gs }) (record { old = fs; log = qs; before = xs; new = hs })
@@ -82,7 +82,7 @@ module _ {S R : Type 0} (w : Way S R) (b : Begun S R) (a : Coming w b) where
     fresh_stands v p now most stamp step adds few =
         let t = standing.fresh_turn w b (drop a.at b.old) (drop (a.i + 1) b.new) (take a.i b.new) (drop a.at b.log) a.entry a.names a.turns a.state a.count comes_fresh lacks v p.1 now most step adds few in
         let turn : a.turns ++ Fresh (stamp_of a.entry, p.1) ∷ [] ≡ a.turns ++ Fresh p ∷ [] = ap (λ (k : Stamp). a.turns ++ Fresh (k, p.1) ∷ []) (sym stamp) in
-        subst (λ (ts : List (Turn R)). StandsIn w b a.at (a.i + 1) now ts v most) turn (subst (λ (l : Left R). Standing l now (a.turns ++ Fresh (stamp_of a.entry, p.1) ∷ []) v most) (left_is _ _ _ _ _ _ _ _ refl refl (sym before_is) refl) t)
+        subst (λ (ts : List (ReplayedRecord R)). StandsIn w b a.at (a.i + 1) now ts v most) turn (subst (λ (l : Left R). Standing l now (a.turns ++ Fresh (stamp_of a.entry, p.1) ∷ []) v most) (left_is _ _ _ _ _ _ _ _ refl refl (sym before_is) refl) t)
 
   -- ---- an old one
   module _ (o : Old w b a) where
@@ -110,7 +110,7 @@ module _ {S R : Type 0} (w : Way S R) (b : Begun S R) (a : Coming w b) where
       again_stands v p now most stamp step adds few =
           let t = standing.again_turn w b (drop (a.at + 1) b.old) (drop (a.i + 1) b.new) (take a.i b.new) (drop (a.at + 1) b.log) a.entry a.names a.turns a.state a.count q.0 q.1 comes_old met v p.1 now most step adds few in
           let turn : a.turns ++ Again (stamp_of a.entry, p.1) ∷ [] ≡ a.turns ++ Again p ∷ [] = ap (λ (k : Stamp). a.turns ++ Again (k, p.1) ∷ []) (sym stamp) in
-          subst (λ (ts : List (Turn R)). StandsIn w b (a.at + 1) (a.i + 1) now ts v most) turn (subst (λ (l : Left R). Standing l now (a.turns ++ Again (stamp_of a.entry, p.1) ∷ []) v most) (left_is _ _ _ _ _ _ _ _ refl refl (sym before_is) refl) t)
+          subst (λ (ts : List (ReplayedRecord R)). StandsIn w b (a.at + 1) (a.i + 1) now ts v most) turn (subst (λ (l : Left R). Standing l now (a.turns ++ Again (stamp_of a.entry, p.1) ∷ []) v most) (left_is _ _ _ _ _ _ _ _ refl refl (sym before_is) refl) t)
 
     module _ (unmet : ((n : ℕ) × Contains (w.footprint_in q.1) n × Contains a.names n) → ⊥) where
       pub may_redo : (t : S) × w.Step a.state a.entry q.1 t

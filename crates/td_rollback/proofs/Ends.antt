@@ -1,13 +1,13 @@
--- The end of a story, taken off; and what two sets of entries begin with alike.
+-- The end of a history, taken off; and what two sets of entries begin with alike.
 use Rattle.std.proofs.Common.{◌≡◌, ◌↔◌, ◌≤◌, ◌<◌, ◌+◌, IfOk, Result, Ok, Err, ℕ, zero, suc, List, [], ◌∷◌, ◌++◌, drop, take, get_or, length, length-append, true, refl, ap, sym, subst, ◌∙◌, arith}
 use Rattle.std.specs.List.{Contains}
 use Rattle.std.proofs.lemmas.List.{drop_more, take_more}
 use Rattle.td_stamps.specs.declared.entry.Entry.{Entry}
 use Rattle.td_stamps.specs.declared.entry.Stamp.{Stamp}
 use Rattle.td_stamps.specs.Entries.{same, stamp_of}
-use Rattle.td_stamps.specs.Story.{Story, nothing_ran, next_ran}
+use Rattle.td_stamps.specs.History.{History, nothing_ran, next_ran}
 use Rattle.td_stamps.proofs.EntryLemmas.{same-refl}
-use Rattle.td_stamps.proofs.Stories as stories
+use Rattle.td_stamps.proofs.Histories as histories
 use Rattle.td_rollback.specs.Going.{AreAlikeBut}
 use Rattle.td_rollback.specs.Touched.{AreMore, Runs, fresh, touched, untouched}
 use Rattle.td_rollback.specs.ForProofs.Ways.{Way}
@@ -18,17 +18,17 @@ use Rattle.td_rollback.proofs.Selecting as selecting
 module _ {S R : Type 0} (Step : S → Entry → R → S → Type 0) where
   pub record Ended (s : S) (es : List Entry) (ps : List (Stamp × R)) (e : Entry) (p : Stamp × R) (u : S) : Type 0 where
     pub state : S
-    pub story : Story Step s es ps state
+    pub history : History Step s es ps state
     pub step : Step state e p.1 u
     pub stamp : p.0 ≡ stamp_of e
 
   longer : (s t u : S) (x e : Entry) (r : R) (es : List Entry) (ps : List (Stamp × R)) (p : Stamp × R) → Step s x r t → Ended t es ps e p u → Ended s (x ∷ es) ((stamp_of x, r) ∷ ps) e p u
-  longer s t u x e r es ps p step k = record { state = k.state; story = next_ran step k.story; step = k.step; stamp = k.stamp }
+  longer s t u x e r es ps p step k = record { state = k.state; history = next_ran step k.history; step = k.step; stamp = k.stamp }
 
-  pub last_off : (s u : S) (es : List Entry) (ps : List (Stamp × R)) (e : Entry) (p : Stamp × R) → Story Step s (es ++ e ∷ []) (ps ++ p ∷ []) u → Ended s es ps e p u
-  last_off s u [] [] e p (next_ran step nothing_ran) = record { state = s; story = nothing_ran; step = step; stamp = refl }
-  last_off s u [] (q ∷ ps) e p st = absurd (let n = stories.as_many Step s u (e ∷ []) (q ∷ (ps ++ p ∷ [])) st in let k = length-append ps (p ∷ []) in omega (arith, n, k))
-  last_off s u (x ∷ es) [] e p st = absurd (let n = stories.as_many Step s u (x ∷ (es ++ e ∷ [])) (p ∷ []) st in let k = length-append es (e ∷ []) in omega (arith, n, k))
+  pub last_off : (s u : S) (es : List Entry) (ps : List (Stamp × R)) (e : Entry) (p : Stamp × R) → History Step s (es ++ e ∷ []) (ps ++ p ∷ []) u → Ended s es ps e p u
+  last_off s u [] [] e p (next_ran step nothing_ran) = record { state = s; history = nothing_ran; step = step; stamp = refl }
+  last_off s u [] (q ∷ ps) e p st = absurd (let n = histories.as_many Step s u (e ∷ []) (q ∷ (ps ++ p ∷ [])) st in let k = length-append ps (p ∷ []) in omega (arith, n, k))
+  last_off s u (x ∷ es) [] e p st = absurd (let n = histories.as_many Step s u (x ∷ (es ++ e ∷ [])) (p ∷ []) st in let k = length-append es (e ∷ []) in omega (arith, n, k))
   last_off s u (x ∷ es) (q ∷ ps) e p (next_ran {t = t} {o = r} step rest) = longer s t u x e r es ps p step (last_off t u es ps e p rest)
 
 -- ---- what is at the front of both is not run
@@ -48,13 +48,13 @@ module _ (F T : Entry → ℕ → Type 0) where
       let rest : take k es ≡ take k fs = cc in
       runs_behind k es fs n rest (inside e f es fs n first h)
 
--- ---- two stories, one after the other
-pub joined : {S R : Type 0} (Step : S → Entry → R → S → Type 0) (s t u : S) (es fs : List Entry) (ps qs : List (Stamp × R)) → Story Step s es ps t → Story Step t fs qs u → Story Step s (es ++ fs) (ps ++ qs) u
+-- ---- two histories, one after the other
+pub joined : {S R : Type 0} (Step : S → Entry → R → S → Type 0) (s t u : S) (es fs : List Entry) (ps qs : List (Stamp × R)) → History Step s es ps t → History Step t fs qs u → History Step s (es ++ fs) (ps ++ qs) u
 joined Step s t u es fs ps qs nothing_ran after = after
 joined Step s t u es fs ps qs (next_ran {t = v} {es = gs} {os = os} step rest) after = next_ran step (joined Step v t u gs fs os qs rest after)
 
 -- ---- one entry less
-module _ {S R : Type 0} (w : Way S R) (s : S) (good : w.Sound s) (es : List Entry) (ps : List (Stamp × R)) (i : ℕ) (d : Stamp × R) (x : Entry) (in_es : i < length es) (in_ps : i < length ps) (u : S) (st : Story w.Step s (take (i + 1) es) (take (i + 1) ps) u) where
+module _ {S R : Type 0} (w : Way S R) (s : S) (good : w.Sound s) (es : List Entry) (ps : List (Stamp × R)) (i : ℕ) (d : Stamp × R) (x : Entry) (in_es : i < length es) (in_ps : i < length ps) (u : S) (st : History w.Step s (take (i + 1) es) (take (i + 1) ps) u) where
   abbrev pub e : Entry
   e = get_or es i x
 
@@ -62,17 +62,17 @@ module _ {S R : Type 0} (w : Way S R) (s : S) (good : w.Sound s) (es : List Entr
   p = get_or ps i d
 
   pub off : Ended w.Step s (take i es) (take i ps) e p u
-  off = last_off w.Step s u (take i es) (take i ps) e p (subst (λ (qs : List (Stamp × R)). Story w.Step s (take i es ++ e ∷ []) qs u) (take_more ps i d in_ps) (subst (λ (fs : List Entry). Story w.Step s fs (take (i + 1) ps) u) (take_more es i x in_es) st))
+  off = last_off w.Step s u (take i es) (take i ps) e p (subst (λ (qs : List (Stamp × R)). History w.Step s (take i es ++ e ∷ []) qs u) (take_more ps i d in_ps) (subst (λ (fs : List Entry). History w.Step s fs (take (i + 1) ps) u) (take_more es i x in_es) st))
 
   pub off_sound : w.Sound off.state
-  off_sound = stories.kept w.Step w.Sound (λ a b f r step h. w.goes.stay_sound a b f r h step) s off.state (take i es) (take i ps) off.story good
+  off_sound = histories.kept w.Step w.Sound (λ a b f r step h. w.goes.stay_sound a b f r h step) s off.state (take i es) (take i ps) off.history good
 
-  pub off_behind : (last : S) → Story w.Step u (drop (i + 1) es) (drop (i + 1) ps) last → Story w.Step off.state (drop i es) (drop i ps) last
+  pub off_behind : (last : S) → History w.Step u (drop (i + 1) es) (drop (i + 1) ps) last → History w.Step off.state (drop i es) (drop i ps) last
   off_behind last behind =
       let here = next_ran off.step behind in
       let first : (stamp_of e, p.1) ∷ drop (i + 1) ps ≡ drop i ps = ap (λ (k : Stamp). (k, p.1) ∷ drop (i + 1) ps) (sym off.stamp) ∙ sym (drop_more ps i d in_ps) in
-      subst (λ (fs : List Entry). Story w.Step off.state fs (drop i ps) last) (sym (drop_more es i x in_es))
-      (subst (λ (qs : List (Stamp × R)). Story w.Step off.state (e ∷ drop (i + 1) es) qs last) first here)
+      subst (λ (fs : List Entry). History w.Step off.state fs (drop i ps) last) (sym (drop_more es i x in_es))
+      (subst (λ (qs : List (Stamp × R)). History w.Step off.state (e ∷ drop (i + 1) es) qs last) first here)
 
   pub off_targets : (n : ℕ) → Contains (w.targets_in p.1) n ↔ w.Target e n
   off_targets = w.goes.name_targets off.state u e p.1 off_sound off.step
@@ -82,9 +82,9 @@ module _ {S R : Type 0} (w : Way S R) (s : S) (good : w.Sound s) (es : List Entr
   off_elsewhere k le t v same change = selecting.one_changes w (drop k es) e t u v (has_behind k es i x le in_es) same (λ n never. change n (λ h. never ((off_targets n).0 h)))
 
 -- the entry at the place, and its record
-module _ {S R : Type 0} (w : Way S R) (s : S) (good : w.Sound s) (es : List Entry) (ps : List (Stamp × R)) (last : S) (st : Story w.Step s es ps last) (i : ℕ) (d : Stamp × R) (x : Entry) (in_es : i < length es) (in_ps : i < length ps) where
+module _ {S R : Type 0} (w : Way S R) (s : S) (good : w.Sound s) (es : List Entry) (ps : List (Stamp × R)) (last : S) (st : History w.Step s es ps last) (i : ℕ) (d : Stamp × R) (x : Entry) (in_es : i < length es) (in_ps : i < length ps) where
   pub targets_at : (n : ℕ) → Contains (w.targets_in (get_or ps i d).1) n ↔ w.Target (get_or es i x) n
-  targets_at = let front = stories.front w.Step s last es ps st (i + 1) in off_targets w s good es ps i d x in_es in_ps front.0 front.1
+  targets_at = let front = histories.front w.Step s last es ps st (i + 1) in off_targets w s good es ps i d x in_es in_ps front.0 front.1
 
 -- ---- alike but for targets of old entries, and so but for those of the new ones
 pub alike_behind : {S : Type 0} (Target : Entry → ℕ → Type 0) (Alike : S → S → ℕ → Type 0) (es fs : List Entry) → AreMore es fs → (s t : S) → AreAlikeBut Alike Target es s t → AreAlikeBut Alike Target fs s t
@@ -100,7 +100,7 @@ rejoined zero xs = refl
 rejoined (suc k) [] = refl
 rejoined (suc k) (x ∷ xs) = ap (λ l. x ∷ l) (rejoined k xs)
 
-pub with_front : {S R : Type 0} (Step : S → Entry → R → S → Type 0) (first mid last : S) (old all : List Entry) (k : ℕ) (ps qs : List (Stamp × R)) → take k old ≡ take k all → Story Step first (take k old) ps mid → Story Step mid (drop k all) qs last → Story Step first all (ps ++ qs) last
+pub with_front : {S R : Type 0} (Step : S → Entry → R → S → Type 0) (first mid last : S) (old all : List Entry) (k : ℕ) (ps qs : List (Stamp × R)) → take k old ≡ take k all → History Step first (take k old) ps mid → History Step mid (drop k all) qs last → History Step first all (ps ++ qs) last
 with_front Step first mid last old all k ps qs alike front behind =
-    subst (λ (es : List Entry). Story Step first es (ps ++ qs) last) (rejoined k all)
-    (joined Step first mid last (take k all) (drop k all) ps qs (subst (λ (es : List Entry). Story Step first es ps mid) alike front) behind)
+    subst (λ (es : List Entry). History Step first es (ps ++ qs) last) (rejoined k all)
+    (joined Step first mid last (take k all) (drop k all) ps qs (subst (λ (es : List Entry). History Step first es ps mid) alike front) behind)

@@ -1,4 +1,4 @@
--- Stories in two parts.
+-- Histories in two parts.
 use Rattle.std.proofs.Common.{◌≡◌, ◌≤◌, ◌+◌, ◌&&◌, ◌||◌, ◌⊎◌, inl, inr, ⊎_elim, ℕ, zero, suc, Result, Ok, Err, Bool, true, false, List, [], ◌∷◌, map, drop, take, length, refl, ap, sym, subst, ◌∙◌, arith}
 use mathlib.Core.Bool.{true≢false}
 use Rattle.std.specs.Prelude.{not, OnErr, OnOk}
@@ -8,12 +8,12 @@ use Rattle.td_stamps.specs.declared.entry.Entry.{Entry}
 use Rattle.td_stamps.specs.declared.entry.Stamp.{Stamp}
 use Rattle.td_stamps.specs.Entries.{same, stamp_of}
 use Rattle.td_stamps.specs.Sets.{apart, has, is_set}
-use Rattle.td_stamps.specs.Story.{Story, nothing_ran, next_ran}
+use Rattle.td_stamps.specs.History.{History, nothing_ran, next_ran}
 use Rattle.td_stamps.proofs.EntryLemmas.{same-refl}
 use Rattle.td_stamps.proofs.SetLemmas.{first_holds, rest_holds}
-use Rattle.td_stamps.proofs.Stories as stories
+use Rattle.td_stamps.proofs.Histories as histories
 use Rattle.td_rollback.specs.Labels.{AllOrNone, starts_in}
-use Rattle.td_rollback.specs.Parts.{AreMarked, KeepsTo, MarkedAlone, Mixes, UnmarkedAlone, WovenIsStory, marked, unmarked, woven}
+use Rattle.td_rollback.specs.Parts.{AreMarked, KeepsTo, MarkedAlone, Mixes, UnmarkedAlone, InterleavedIsHistory, marked, unmarked, interleaved}
 use Rattle.td_rollback.specs.Touched.{AreMore, IsTargetOf, IsTouched, Runs, none_left, fresh, touched, untouched}
 use Rattle.td_rollback.specs.ForProofs.Marked.{AreFlagged, AreParted, new_one, no_more, old_one, with_flagged}
 use Rattle.td_rollback.specs.ForProofs.Ways.{Way}
@@ -103,7 +103,7 @@ module _ {S R : Type 0} (w : Way S R) where
     marked_alone s t rest (true ∷ bs) es log good fine keep (next_ran {t = u} {e = e} {es = fs} {o = r} {os = ps} step behind) =
         next_ran (step_within s rest u e r good fine keep.0 step) (marked_alone u t rest bs fs ps (w.goes.stay_sound s u e r good step) fine keep.1 behind)
     marked_alone s t rest (false ∷ bs) es log good fine keep (next_ran {t = u} {e = e} {es = fs} {o = r} {os = ps} step behind) =
-        subst (λ (z : S). Story w.Step z (marked bs fs) (marked bs ps) (mix t rest)) (stays_within s rest u e r good fine keep.0 step) (marked_alone u t rest bs fs ps (w.goes.stay_sound s u e r good step) fine keep.1 behind)
+        subst (λ (z : S). History w.Step z (marked bs fs) (marked bs ps) (mix t rest)) (stays_within s rest u e r good fine keep.0 step) (marked_alone u t rest bs fs ps (w.goes.stay_sound s u e r good step) fine keep.1 behind)
 
   -- of the other places, by the part that they are
   module _ (part : ℕ → Bool) (mix : S → S → S) (m : Mixes w.Sound w.Alike part mix) where
@@ -123,16 +123,16 @@ module _ {S R : Type 0} (w : Way S R) where
     unmarked_alone s t rest (false ∷ bs) es log good fine keep (next_ran {t = u} {e = e} {es = fs} {o = r} {os = ps} step behind) =
         next_ran (step_without rest s u e r fine good keep.0 step) (unmarked_alone u t rest bs fs ps (w.goes.stay_sound s u e r good step) fine keep.1 behind)
     unmarked_alone s t rest (true ∷ bs) es log good fine keep (next_ran {t = u} {e = e} {es = fs} {o = r} {os = ps} step behind) =
-        subst (λ (z : S). Story w.Step z (unmarked bs fs) (unmarked bs ps) (mix rest t)) (stays_without rest s u e r fine good keep.0 step) (unmarked_alone u t rest bs fs ps (w.goes.stay_sound s u e r good step) fine keep.1 behind)
+        subst (λ (z : S). History w.Step z (unmarked bs fs) (unmarked bs ps) (mix rest t)) (stays_without rest s u e r fine good keep.0 step) (unmarked_alone u t rest bs fs ps (w.goes.stay_sound s u e r good step) fine keep.1 behind)
 
-    pub woven_is_story : WovenIsStory w.Sound w.Step w.Footprint part mix
-    woven_is_story s t u v [] [] log others good fine keep nothing_ran nothing_ran = nothing_ran
-    woven_is_story s t u v [] (e ∷ es) log others good fine keep one other = absurd keep
-    woven_is_story s t u v (b ∷ bs) [] log others good fine keep one other = absurd keep
-    woven_is_story s t u v (true ∷ bs) (e ∷ es) log others good fine keep (next_ran {t = z} {o = r} {os = ps} step behind) other =
-        next_ran (step_within part mix m s t z e r good fine keep.0 step) (woven_is_story z t u v bs es ps others (w.goes.stay_sound s z e r good step) fine keep.1 behind other)
-    woven_is_story s t u v (false ∷ bs) (e ∷ es) log others good fine keep one (next_ran {t = z} {o = r} {os = ps} step behind) =
-        next_ran (step_without s t z e r good fine keep.0 step) (woven_is_story s z u v bs es log ps good (w.goes.stay_sound t z e r fine step) keep.1 one behind)
+    pub interleaved_is_history : InterleavedIsHistory w.Sound w.Step w.Footprint part mix
+    interleaved_is_history s t u v [] [] log others good fine keep nothing_ran nothing_ran = nothing_ran
+    interleaved_is_history s t u v [] (e ∷ es) log others good fine keep one other = absurd keep
+    interleaved_is_history s t u v (b ∷ bs) [] log others good fine keep one other = absurd keep
+    interleaved_is_history s t u v (true ∷ bs) (e ∷ es) log others good fine keep (next_ran {t = z} {o = r} {os = ps} step behind) other =
+        next_ran (step_within part mix m s t z e r good fine keep.0 step) (interleaved_is_history z t u v bs es ps others (w.goes.stay_sound s z e r good step) fine keep.1 behind other)
+    interleaved_is_history s t u v (false ∷ bs) (e ∷ es) log others good fine keep one (next_ran {t = z} {o = r} {os = ps} step behind) =
+        next_ran (step_without s t z e r good fine keep.0 step) (interleaved_is_history s z u v bs es log ps good (w.goes.stay_sound t z e r fine step) keep.1 one behind)
 
 -- ---- marks on old and new entries
 all_of_marked : (p : Entry → Bool) (bs : List Bool) (es : List Entry) → list_all p es ≡ true → list_all p (marked bs es) ≡ true
@@ -192,7 +192,7 @@ all_marked es fs flags (b ∷ bs) F part (old_one {flags = gs} {es = ds} {fs = h
 
 module _ {S R : Type 0} (w : Way S R) (part : ℕ → Bool) where
   -- each record says which of the two its entry keeps to
-  pub records_mark : (s t : S) (es : List Entry) (log : List (Stamp × R)) → w.Sound s → Story w.Step s es log t → ((q : Stamp × R) → Contains log q → AllOrNone part (w.footprint_in q.1)) → AreMarked w.Footprint part (map (λ (p : Stamp × R). starts_in part (w.footprint_in p.1)) log) es
+  pub records_mark : (s t : S) (es : List Entry) (log : List (Stamp × R)) → w.Sound s → History w.Step s es log t → ((q : Stamp × R) → Contains log q → AllOrNone part (w.footprint_in q.1)) → AreMarked w.Footprint part (map (λ (p : Stamp × R). starts_in part (w.footprint_in p.1)) log) es
   records_mark s t es log good nothing_ran each = tt
   records_mark s t es log good (next_ran {t = u} {e = e} {es = fs} {o = r} {os = ps} step behind) each = (
     λ n h. each (stamp_of e, r) (item_first (stamp_of e, r) ps) n ((w.goes.name_footprint s u e r good step n).1 h),
@@ -226,7 +226,7 @@ module _ {S R : Type 0} (w : Way S R) (part : ℕ → Bool) where
   runs_marked ran es fs flags (false ∷ bs) n all (old_one {flags = gs} {es = ds} {fs = hs} rest) keep new (untouched is never p) = runs_marked ran ds hs gs bs n all rest keep.1 new.1 p
 
   -- what is not in the part stays as it is
-  pub outside_stays : (s t : S) (bs : List Bool) (es : List Entry) (log : List (Stamp × R)) (n : ℕ) → w.Sound s → AreMarked w.Footprint part bs es → part n ≡ false → Story w.Step s (marked bs es) log t → w.Alike s t n
+  pub outside_stays : (s t : S) (bs : List Bool) (es : List Entry) (log : List (Stamp × R)) (n : ℕ) → w.Sound s → AreMarked w.Footprint part bs es → part n ≡ false → History w.Step s (marked bs es) log t → w.Alike s t n
   outside_stays s t [] [] log n good keep out nothing_ran = w.goes.alike_self s n
   outside_stays s t [] (e ∷ es) log n good keep out h = absurd keep
   outside_stays s t (b ∷ bs) [] log n good keep out h = absurd keep
@@ -235,11 +235,11 @@ module _ {S R : Type 0} (w : Way S R) (part : ℕ → Bool) where
       w.goes.alike_through s u t n (w.goes.change_targets s u e r n good step (λ h. true≢false (sym (keep.0 n (w.goes.hang_on_targets e n h)) ∙ out)))
       (outside_stays u t bs es ps n (w.goes.stay_sound s u e r good step) keep.1 out behind)
 
-  -- ---- the story of what is marked, told again, and the others as they were
+  -- ---- the history of what is marked, replayed, and the others as they were
   module _ (mix : S → S → S) (m : Mixes w.Sound w.Alike part mix) (first last : S) (good : w.Sound first) (es fs : List Entry) (flags bs : List Bool) (log : List (Stamp × R)) (flagged : AreFlagged es flags fs) (keep : AreMarked w.Footprint part bs es)
-      (story : Story w.Step first es log last) where
+      (history : History w.Step first es log last) where
     last_sound : w.Sound last
-    last_sound = stories.kept w.Step w.Sound (λ s t e r step h. w.goes.stay_sound s t e r h step) first last es log story good
+    last_sound = histories.kept w.Step w.Sound (λ s t e r step h. w.goes.stay_sound s t e r h step) first last es log history good
 
     mixed_self : (s : S) → w.Sound s → mix s s ≡ s
     mixed_self s fine = m.one (mix s s) s (m.stay_sound s s fine fine) fine (λ n. by_mark (part n) (λ is. m.inside s s n fine fine is) (λ is. m.outside s s n fine fine is))
@@ -250,17 +250,17 @@ module _ {S R : Type 0} (w : Way S R) (part : ℕ → Bool) where
     pub begun_sound : w.Sound begun
     begun_sound = m.stay_sound first last good last_sound
 
-    pub begun_story : Story w.Step begun (marked bs es) (marked bs log) last
-    begun_story = subst (λ (z : S). Story w.Step begun (marked bs es) (marked bs log) z) (mixed_self last last_sound) (marked_alone w part mix m first last last bs es log good last_sound keep story)
+    pub begun_history : History w.Step begun (marked bs es) (marked bs log) last
+    begun_history = subst (λ (z : S). History w.Step begun (marked bs es) (marked bs log) z) (mixed_self last last_sound) (marked_alone w part mix m first last last bs es log good last_sound keep history)
 
-    module _ (end : S) (all : List (Stamp × R)) (new : AreMarked w.Footprint part (with_flagged flags bs) fs) (told : Story w.Step begun (marked (with_flagged flags bs) fs) all end) where
+    module _ (end : S) (all : List (Stamp × R)) (new : AreMarked w.Footprint part (with_flagged flags bs) fs) (told : History w.Step begun (marked (with_flagged flags bs) fs) all end) where
       end_sound : w.Sound end
-      end_sound = stories.kept w.Step w.Sound (λ s t e r step h. w.goes.stay_sound s t e r h step) begun end (marked (with_flagged flags bs) fs) all told begun_sound
+      end_sound = histories.kept w.Step w.Sound (λ s t e r step h. w.goes.stay_sound s t e r h step) begun end (marked (with_flagged flags bs) fs) all told begun_sound
 
-      others : Story w.Step first (unmarked (with_flagged flags bs) fs) (unmarked bs log) begun
+      others : History w.Step first (unmarked (with_flagged flags bs) fs) (unmarked bs log) begun
       others =
-          subst (λ (ds : List Entry). Story w.Step first ds (unmarked bs log) begun) (sym (unmarked_same es fs flags bs w.Footprint part flagged keep))
-          (subst (λ (z : S). Story w.Step z (unmarked bs es) (unmarked bs log) begun) (mixed_self first good) (unmarked_alone w part mix m first last first bs es log good good keep story))
+          subst (λ (ds : List Entry). History w.Step first ds (unmarked bs log) begun) (sym (unmarked_same es fs flags bs w.Footprint part flagged keep))
+          (subst (λ (z : S). History w.Step z (unmarked bs es) (unmarked bs log) begun) (mixed_self first good) (unmarked_alone w part mix m first last first bs es log good good keep history))
 
       from_first : mix begun first ≡ first
       from_first = m.one (mix begun first) first (m.stay_sound begun first begun_sound good) good (λ n. by_mark (part n)
@@ -272,11 +272,11 @@ module _ {S R : Type 0} (w : Way S R) (part : ℕ → Bool) where
           (λ is. m.inside end begun n end_sound begun_sound is)
           (λ is. w.goes.alike_through (mix end begun) begun end n (m.outside end begun n end_sound begun_sound is) (outside_stays begun end (with_flagged flags bs) fs all n begun_sound new is told)))
 
-      pub told_again : Story w.Step first fs (woven (with_flagged flags bs) all (unmarked bs log)) end
+      pub told_again : History w.Step first fs (interleaved (with_flagged flags bs) all (unmarked bs log)) end
       told_again =
-          subst (λ (z : S). Story w.Step z fs (woven (with_flagged flags bs) all (unmarked bs log)) end) from_first
-          (subst (λ (z : S). Story w.Step (mix begun first) fs (woven (with_flagged flags bs) all (unmarked bs log)) z) to_end
-          (woven_is_story w part mix m begun first end begun (with_flagged flags bs) fs all (unmarked bs log) begun_sound good new told others))
+          subst (λ (z : S). History w.Step z fs (interleaved (with_flagged flags bs) all (unmarked bs log)) end) from_first
+          (subst (λ (z : S). History w.Step (mix begun first) fs (interleaved (with_flagged flags bs) all (unmarked bs log)) z) to_end
+          (interleaved_is_history w part mix m begun first end begun (with_flagged flags bs) fs all (unmarked bs log) begun_sound good new told others))
 
 pub none_marked : {X : Type 0} (bs : List Bool) → marked {X = X} bs [] ≡ []
 none_marked [] = refl
@@ -287,16 +287,16 @@ none_unmarked [] = refl
 none_unmarked (b ∷ bs) = refl
 
 -- ---- the marks are those of a part
-pub parted : {S R : Type 0} (w : Way S R) (part : ℕ → Bool) (Closed : (ℕ → Bool) → Type 0) → Closed part → (s t : S) (es fs : List Entry) (log : List (Stamp × R)) (flags bs cs : List Bool) → w.Sound s → Story w.Step s es log t → AreFlagged es flags fs
+pub parted : {S R : Type 0} (w : Way S R) (part : ℕ → Bool) (Closed : (ℕ → Bool) → Type 0) → Closed part → (s t : S) (es fs : List Entry) (log : List (Stamp × R)) (flags bs cs : List Bool) → w.Sound s → History w.Step s es log t → AreFlagged es flags fs
     → ((q : Stamp × R) → Contains log q → AllOrNone part (w.footprint_in q.1)) → bs ≡ map (λ (p : Stamp × R). starts_in part (w.footprint_in p.1)) log → cs ≡ with_flagged flags bs
     → ((n : ℕ) → IsTargetOf w.Footprint (marked flags fs) n → part n ≡ true) → AreParted Closed w.Footprint es fs bs cs
-parted w part Closed closed s t es fs log flags bs cs good story flagged each bs_is cs_is within =
-    let keep = subst (λ (xs : List Bool). AreMarked w.Footprint part xs es) (sym bs_is) (records_mark w part s t es log good story each) in
+parted w part Closed closed s t es fs log flags bs cs good history flagged each bs_is cs_is within =
+    let keep = subst (λ (xs : List Bool). AreMarked w.Footprint part xs es) (sym bs_is) (records_mark w part s t es log good history each) in
     let new = all_marked es fs flags bs w.Footprint part flagged keep (λ x h n foot. within n (x, h, foot)) in
     record { part = part; flags = flags; closed = closed; flagged = flagged; marks_are = cs_is; old = keep; new = subst (λ (xs : List Bool). AreMarked w.Footprint part xs fs) (sym cs_is) new }
 
--- ---- a story cut in two
-pub cut : {S R : Type 0} (Step : S → Entry → R → S → Type 0) (s t : S) (es : List Entry) (log : List (Stamp × R)) → Story Step s es log t → (n : ℕ) → (u : S) × Story Step s (take n es) (take n log) u × Story Step u (drop n es) (drop n log) t
+-- ---- a history cut in two
+pub cut : {S R : Type 0} (Step : S → Entry → R → S → Type 0) (s t : S) (es : List Entry) (log : List (Stamp × R)) → History Step s es log t → (n : ℕ) → (u : S) × History Step s (take n es) (take n log) u × History Step u (drop n es) (drop n log) t
 cut Step s t es log nothing_ran zero = (s, nothing_ran, nothing_ran)
 cut Step s t es log nothing_ran (suc n) = (s, nothing_ran, nothing_ran)
 cut Step s t es log (next_ran step rest) zero = (s, nothing_ran, next_ran step rest)
@@ -314,13 +314,13 @@ pub in_room : {A E : Type 0} (m : Result A E) (l n k : ℕ) → OnOk m (l ≡ n)
 in_room (Ok a) l n k h j = omega (arith, h)
 in_room (Err e) l n k h j = omega (arith, j)
 
--- ---- what is parted and not told again is put together as it was
-pub woven_back : {X : Type 0} (bs : List Bool) (xs : List X) → length bs ≡ length xs → woven bs (marked bs xs) (unmarked bs xs) ≡ xs
-woven_back [] [] each = refl
-woven_back [] (x ∷ xs) each = absurd (omega (arith, each))
-woven_back (b ∷ bs) [] each = absurd (omega (arith, each))
-woven_back (true ∷ bs) (x ∷ xs) each = ap (λ l. x ∷ l) (woven_back bs xs (omega (arith, each)))
-woven_back (false ∷ bs) (x ∷ xs) each = ap (λ l. x ∷ l) (woven_back bs xs (omega (arith, each)))
+-- ---- what is parted and not replayed is put together as it was
+pub interleaved_back : {X : Type 0} (bs : List Bool) (xs : List X) → length bs ≡ length xs → interleaved bs (marked bs xs) (unmarked bs xs) ≡ xs
+interleaved_back [] [] each = refl
+interleaved_back [] (x ∷ xs) each = absurd (omega (arith, each))
+interleaved_back (b ∷ bs) [] each = absurd (omega (arith, each))
+interleaved_back (true ∷ bs) (x ∷ xs) each = ap (λ l. x ∷ l) (interleaved_back bs xs (omega (arith, each)))
+interleaved_back (false ∷ bs) (x ∷ xs) each = ap (λ l. x ∷ l) (interleaved_back bs xs (omega (arith, each)))
 
 pub fewer_marked : {X : Type 0} (bs : List Bool) (xs : List X) → length (marked bs xs) ≤ length xs
 fewer_marked [] xs = omega arith

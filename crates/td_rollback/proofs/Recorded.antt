@@ -1,4 +1,4 @@
--- The records of a story name the places of its entries.
+-- The records of a history name the places of its entries.
 use Rattle.std.proofs.Common.{◌≡◌, ◌↔◌, ⊎_elim, ℕ, Bool, true, false, if◌then◌else◌, List, ◌∷◌, refl, sym, subst, ◌∙◌}
 use mathlib.Core.Bool.{true≢false}
 use Rattle.std.specs.List.{Contains}
@@ -6,7 +6,7 @@ use Rattle.td_stamps.specs.declared.entry.Entry.{Entry}
 use Rattle.td_stamps.specs.declared.entry.Stamp.{Stamp}
 use Rattle.td_stamps.specs.Entries.{same}
 use Rattle.td_stamps.specs.Sets.{has}
-use Rattle.td_stamps.specs.Story.{nothing_ran, next_ran}
+use Rattle.td_stamps.specs.History.{nothing_ran, next_ran}
 use Rattle.td_stamps.proofs.EntryLemmas.{same-is, same-refl}
 use Rattle.td_rollback.specs.Counts.{recorded}
 use Rattle.td_rollback.specs.Laws.{RecordsName}

@@ -1,10 +1,10 @@
--- A replay is the story of all entries.
+-- A replay is the history of all entries.
 use Rattle.std.proofs.Common.{◌≡◌, ℕ, List, ◌∷◌, true, sym, subst}
 use Rattle.td_stamps.specs.declared.entry.Entry.{Entry}
 use Rattle.td_stamps.specs.Sets.{has}
-use Rattle.td_stamps.specs.Story.{nothing_ran, next_ran}
+use Rattle.td_stamps.specs.History.{nothing_ran, next_ran}
 use Rattle.td_rollback.specs.Going.{AreAlikeBut}
-use Rattle.td_rollback.specs.Laws.{ReplayIsStory}
+use Rattle.td_rollback.specs.Laws.{ReplayIsHistory}
 use Rattle.td_rollback.specs.Replays.{ended, ran_fresh, ran_again, kept}
 use Rattle.td_rollback.specs.Touched.{IsTargetOf, IsTouched}
 use Rattle.td_rollback.specs.ForProofs.Ways.{Way}
@@ -39,13 +39,13 @@ module _ {S R : Type 0} (w : Way S R) where
   pub may_redo : (ran : List Entry) (s t u : S) (e : Entry) (r : R) → w.Sound s → w.Sound u → AreAlike ran s u → w.Step s e r t → (IsTouched w.Footprint w.Target ran e → ⊥) → (v : S) × w.Step u e r v
   may_redo ran s t u e r good fine same was clear = w.goes.by_footprint s t u e r good fine (λ n foot. same n (λ h. clear (n, foot, h))) was
 
-  pub replay_is_story : ReplayIsStory w.Sound w.Step w.Alike w.Footprint w.Target
-  replay_is_story ran s u end last es fs old all good fine same nothing_ran ended = nothing_ran
-  replay_is_story ran s u end last es fs old all good fine same story (ran_fresh {fs = gs} {t = v} {e = e} {r = r} {all = more} step rest) =
-      next_ran step (replay_is_story (e ∷ ran) s v end last es gs old more good (w.goes.stay_sound u v e r fine step) (one_goes ran s u v e r fine same step) story rest)
-  replay_is_story ran s u end last es fs old all good fine same (next_ran {t = t} was behind) (ran_again {es = hs} {fs = gs} {t = v} {e = e} {q = q} {r = r} {old = before} {all = more} step rest) =
-      next_ran step (replay_is_story (e ∷ ran) t v end last hs gs before more (w.goes.stay_sound s t e q good was) (w.goes.stay_sound u v e r fine step) (both_go ran s t u v e q r good fine same was step) behind rest)
-  replay_is_story ran s u end last es fs old all good fine same (next_ran {t = t} was behind) (kept {es = hs} {fs = gs} {t = v} {e = e} {r = r} {old = before} {all = more} clear again rest) =
+  pub replay_is_history : ReplayIsHistory w.Sound w.Step w.Alike w.Footprint w.Target
+  replay_is_history ran s u end last es fs old all good fine same nothing_ran ended = nothing_ran
+  replay_is_history ran s u end last es fs old all good fine same history (ran_fresh {fs = gs} {t = v} {e = e} {r = r} {all = more} step rest) =
+      next_ran step (replay_is_history (e ∷ ran) s v end last es gs old more good (w.goes.stay_sound u v e r fine step) (one_goes ran s u v e r fine same step) history rest)
+  replay_is_history ran s u end last es fs old all good fine same (next_ran {t = t} was behind) (ran_again {es = hs} {fs = gs} {t = v} {e = e} {q = q} {r = r} {old = before} {all = more} step rest) =
+      next_ran step (replay_is_history (e ∷ ran) t v end last hs gs before more (w.goes.stay_sound s t e q good was) (w.goes.stay_sound u v e r fine step) (both_go ran s t u v e q r good fine same was step) behind rest)
+  replay_is_history ran s u end last es fs old all good fine same (next_ran {t = t} was behind) (kept {es = hs} {fs = gs} {t = v} {e = e} {r = r} {old = before} {all = more} clear again rest) =
       let k = may_redo ran s t u e r good fine same was clear in
       let step : w.Step u e r v = subst (w.Step u e r) (sym (again k.0 e k.1)) k.1 in
-      next_ran step (replay_is_story ran t v end last hs gs before more (w.goes.stay_sound s t e r good was) (w.goes.stay_sound u v e r fine step) (go_as_one ran s t u v e r good fine same was step) behind rest)
+      next_ran step (replay_is_history ran t v end last hs gs before more (w.goes.stay_sound s t e r good was) (w.goes.stay_sound u v e r fine step) (go_as_one ran s t u v e r good fine same was step) behind rest)

@@ -5,29 +5,29 @@ use Rattle.td_stamps.specs.declared.entry.Entry.{Entry}
 use Rattle.td_stamps.specs.declared.entry.Stamp.{Stamp}
 use Rattle.td_stamps.specs.Entries.{same, stamp_of}
 use Rattle.td_stamps.specs.Sets.{has}
-use Rattle.td_stamps.specs.Story.{Story, nothing_ran, next_ran}
+use Rattle.td_stamps.specs.History.{History, nothing_ran, next_ran}
 use Rattle.td_stamps.proofs.EntryLemmas.{same-refl}
-use Rattle.td_stamps.proofs.Stories as stories
+use Rattle.td_stamps.proofs.Histories as histories
 use Rattle.td_rollback.specs.Touched.{AreMore, IsTargetOf, IsTouched, Runs, fresh, touched, untouched}
 use Rattle.td_rollback.specs.Turns.{settled}
 use Rattle.td_rollback.specs.ForProofs.Standing.{Begun, Stands, passed}
 use Rattle.td_rollback.specs.ForProofs.Ways.{Way}
-use Rattle.td_rollback.specs.declared.turns.Turn.{Turn}
-use Rattle.td_rollback.specs.declared.turns.Turn.TheVariants.{Kept, Again, Fresh}
+use Rattle.td_rollback.specs.declared.turns.ReplayedRecord.{ReplayedRecord}
+use Rattle.td_rollback.specs.declared.turns.ReplayedRecord.TheVariants.{Kept, Again, Fresh}
 use Rattle.td_rollback.proofs.Members.{has_cases, has_first, has_later, has_none, number_none}
 use Rattle.td_rollback.proofs.More as more
 use Rattle.td_rollback.proofs.More.{not_fresh}
 use Rattle.td_rollback.proofs.Selecting as selecting
 use Rattle.td_rollback.proofs.Settling.{again_last, again_passed, fresh_last, fresh_passed, kept_last, kept_passed, one_further}
 
--- ---- a story's first entry
+-- ---- a history's first entry
 pub record Headed {S R : Type 0} (Step : S → Entry → R → S → Type 0) (s : S) (e : Entry) (es : List Entry) (k : Stamp) (r : R) (old : List (Stamp × R)) (last : S) : Type 0 where
   pub state : S
   pub stamp : k ≡ stamp_of e
   pub step : Step s e r state
-  pub behind : Story Step state es old last
+  pub behind : History Step state es old last
 
-headed : {S R : Type 0} (Step : S → Entry → R → S → Type 0) (s : S) (e : Entry) (es : List Entry) (k : Stamp) (r : R) (old : List (Stamp × R)) (last : S) → Story Step s (e ∷ es) ((k, r) ∷ old) last → Headed Step s e es k r old last
+headed : {S R : Type 0} (Step : S → Entry → R → S → Type 0) (s : S) (e : Entry) (es : List Entry) (k : Stamp) (r : R) (old : List (Stamp × R)) (last : S) → History Step s (e ∷ es) ((k, r) ∷ old) last → Headed Step s e es k r old last
 headed Step s e es k r old last (next_ran {t = t} step rest) = record { state = t; stamp = refl; step = step; behind = rest }
 
 -- ---- counts, taken apart
@@ -53,11 +53,11 @@ module _ (F T : Entry → ℕ → Type 0) where
 
 -- ---- turns
 module _ {S R : Type 0} (w : Way S R) (b : Begun S R) where
-  abbrev StandsAt : List Entry → List (Stamp × R) → List Entry → List Entry → List ℕ → List (Turn R) → S → ℕ → Type 0
+  abbrev StandsAt : List Entry → List (Stamp × R) → List Entry → List Entry → List ℕ → List (ReplayedRecord R) → S → ℕ → Type 0
   StandsAt es old before fs names turns u count = Stands w b (record { old = es; log = old; before = before; new = fs }) names turns u count
 
-  pub begins : (last : S) → w.Sound b.state → Story w.Step b.state b.old b.log last → AreMore b.old b.new → StandsAt b.old b.log [] b.new [] [] b.state b.count
-  begins last sound story among = record {
+  pub begins : (last : S) → w.Sound b.state → History w.Step b.state b.old b.log last → AreMore b.old b.new → StandsAt b.old b.log [] b.new [] [] b.state b.count
+  begins last sound history among = record {
     ran = [];
     was = b.state;
     last = last;
@@ -65,7 +65,7 @@ module _ {S R : Type 0} (w : Way S R) (b : Begun S R) where
     is_sound = sound;
     alike = λ n never. w.goes.alike_self b.state n;
     named = λ n. (λ h. number_none n h, λ h. has_none h.0 h.1);
-    rest = story;
+    rest = history;
     done = nothing_ran;
     left = refl;
     more = among;
@@ -82,7 +82,7 @@ module _ {S R : Type 0} (w : Way S R) (b : Begun S R) where
     λ h. (adds n).1 (⊎_elim (λ is. inl (subst (λ (f : Entry). w.Target f n) is h.2)) (λ later. inr ((named n).1 (h.0, later, h.2))) (has_cases e h.0 ran h.1)),
   )
 
-  module _ (es fs before : List Entry) (old : List (Stamp × R)) (e : Entry) (names : List ℕ) (turns : List (Turn R)) (u : S) (count : ℕ) where
+  module _ (es fs before : List Entry) (old : List (Stamp × R)) (e : Entry) (names : List ℕ) (turns : List (ReplayedRecord R)) (u : S) (count : ℕ) where
     -- a fresh entry
     module _ (s : StandsAt es old before (e ∷ fs) names turns u count) (lacks : has es e ≡ false) where
       pub fresh_counted : (n : ℕ) → Runs w.Footprint w.Target [] b.old b.new n → count + 1 ≤ b.count + n
@@ -98,7 +98,7 @@ module _ {S R : Type 0} (w : Way S R) (b : Begun S R) where
         alike = selecting.one_goes w s.ran s.was u v e r s.is_sound s.alike step;
         named = more_names s.ran e names now s.named adds;
         rest = s.rest;
-        done = subst (λ ps. Story w.Step b.state (before ++ e ∷ []) ps v) (sym (fresh_last b.log turns (stamp_of e, r))) (stories.one_more w.Step b.state u v before (settled b.log turns) e r s.done step);
+        done = subst (λ ps. History w.Step b.state (before ++ e ∷ []) ps v) (sym (fresh_last b.log turns (stamp_of e, r))) (histories.one_more w.Step b.state u v before (settled b.log turns) e r s.done step);
         left = ap (λ n. drop n b.log) (fresh_passed turns (stamp_of e, r)) ∙ s.left;
         more = more.fresh_on e es fs lacks s.more;
         counted = λ n h.
@@ -147,7 +147,7 @@ module _ {S R : Type 0} (w : Way S R) (b : Begun S R) where
           alike = selecting.both_go w s.ran s.was head.state u v e q r s.was_sound s.is_sound s.alike head.step step;
           named = more_names s.ran e names now s.named adds;
           rest = head.behind;
-          done = subst (λ ps. Story w.Step b.state (before ++ e ∷ []) ps v) (sym (again_last b.log turns (stamp_of e, r))) (stories.one_more w.Step b.state u v before (settled b.log turns) e r s.done step);
+          done = subst (λ ps. History w.Step b.state (before ++ e ∷ []) ps v) (sym (again_last b.log turns (stamp_of e, r))) (histories.one_more w.Step b.state u v before (settled b.log turns) e r s.done step);
           left = ap (λ n. drop n b.log) (again_passed turns (stamp_of e, r)) ∙ one_further (passed turns) b.log (k, q) old s.left;
           more = more.old_on e es fs s.more;
           counted = λ n h.
@@ -175,7 +175,7 @@ module _ {S R : Type 0} (w : Way S R) (b : Begun S R) where
               alike = selecting.go_as_one w s.ran s.was head.state u v e q s.was_sound s.is_sound s.alike head.step step;
               named = s.named;
               rest = head.behind;
-              done = subst (λ ps. Story w.Step b.state (before ++ e ∷ []) ps v) record_is (stories.one_more w.Step b.state u v before (settled b.log turns) e q s.done step);
+              done = subst (λ ps. History w.Step b.state (before ++ e ∷ []) ps v) record_is (histories.one_more w.Step b.state u v before (settled b.log turns) e q s.done step);
               left = ap (λ n. drop n b.log) (kept_passed turns) ∙ one_further (passed turns) b.log (k, q) old s.left;
               more = more.old_on e es fs s.more;
               counted = λ n h. let m = s.counted n h in (m.0, runs_untouched w.Footprint w.Target s.ran es fs e e m.0 (same-refl e) (not_touched unmet) m.1, m.2);

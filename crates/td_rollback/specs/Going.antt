@@ -3,7 +3,7 @@ use Rattle.std.specs.Prelude.{◌≡◌, ◌↔◌, ℕ, List}
 use Rattle.std.specs.List.{Contains}
 use Rattle.td_stamps.specs.declared.entry.Entry.{Entry}
 use Rattle.td_stamps.specs.declared.entry.Stamp.{Stamp}
-use Rattle.td_stamps.specs.Story.{Story}
+use Rattle.td_stamps.specs.History.{History}
 use Rattle.td_rollback.specs.Touched.{IsTargetOf}
 
 -- the state is sound, and began with o
@@ -14,7 +14,7 @@ SoundFrom Sound origin o s = Sound s × (origin s ≡ o)
 pub record Begins {S R : Type 0} (Sound : S → Type 0) (origin : S → S) (Step : S → Entry → R → S → Type 0) (o : S) (es : List Entry) (log : List (Stamp × R)) (s : S) : Type 0 where
   pub sound : Sound o
   pub origin_is : origin o ≡ origin s
-  pub story : Story Step o es log s
+  pub history : History Step o es log s
 
 -- the states are alike at each place that is no target of these entries
 abbrev pub AreAlikeBut : {S : Type 0} → (S → S → ℕ → Type 0) → (Entry → ℕ → Type 0) → List Entry → S → S → Type 0

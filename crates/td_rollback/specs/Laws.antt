@@ -5,7 +5,7 @@ use Rattle.td_stamps.specs.declared.entry.Entry.{Entry}
 use Rattle.td_stamps.specs.declared.entry.Stamp.{Stamp}
 use Rattle.td_stamps.specs.Checks.{check_of}
 use Rattle.td_stamps.specs.Sets.{has, is_set, union}
-use Rattle.td_stamps.specs.Story.{Story}
+use Rattle.td_stamps.specs.History.{History}
 use Rattle.td_rollback.specs.Counts.{recorded, runs_of}
 use Rattle.td_rollback.specs.Going.{AreAlikeBut}
 use Rattle.td_rollback.specs.Replays.{Replays}
@@ -33,17 +33,17 @@ abbrev pub RunsAreCounted : (Entry → ℕ → Type 0) → (Entry → ℕ → Ty
 RunsAreCounted Footprint Target =
     (old new : List Entry) (footprint targets : Entry → List ℕ) → AreMore old new → ListsPlaces Footprint footprint old → ListsPlaces Target targets new → Runs Footprint Target [] old new (runs_of footprint targets [] old new)
 
--- the records of a story name the footprints and the targets of its entries
+-- the records of a history name the footprints and the targets of its entries
 abbrev pub RecordsName : {S R : Type 0} → (S → Type 0) → (S → Entry → R → S → Type 0) → (Entry → ℕ → Type 0) → (R → List ℕ) → Type 0
 RecordsName {S = S} {R = R} Sound Step Places names_in =
-    (s t : S) (es : List Entry) (log : List (Stamp × R)) → Sound s → Story Step s es log t → ListsPlaces Places (recorded names_in es log) es
+    (s t : S) (es : List Entry) (log : List (Stamp × R)) → Sound s → History Step s es log t → ListsPlaces Places (recorded names_in es log) es
 
 -- A replay from a state that is alike to the one before the old entries, but for targets of those that ran, is the
--- story of all entries.
-abbrev pub ReplayIsStory : {S R : Type 0} → (S → Type 0) → (S → Entry → R → S → Type 0) → (S → S → ℕ → Type 0) → (Entry → ℕ → Type 0) → (Entry → ℕ → Type 0) → Type 0
-ReplayIsStory {S = S} {R = R} Sound Step Alike Footprint Target =
+-- history of all entries.
+abbrev pub ReplayIsHistory : {S R : Type 0} → (S → Type 0) → (S → Entry → R → S → Type 0) → (S → S → ℕ → Type 0) → (Entry → ℕ → Type 0) → (Entry → ℕ → Type 0) → Type 0
+ReplayIsHistory {S = S} {R = R} Sound Step Alike Footprint Target =
     (ran : List Entry) (s u end last : S) (es fs : List Entry) (old all : List (Stamp × R)) → Sound s → Sound u → AreAlikeBut Alike Target ran s u
-    → Story Step s es old last → Replays Step Footprint Target ran u es old fs all end → Story Step u fs all end
+    → History Step s es old last → Replays Step Footprint Target ran u es old fs all end → History Step u fs all end
 
 -- a set and what it is with a batch that is not refused are old and new entries
 abbrev pub UnionIsMore : Type 0

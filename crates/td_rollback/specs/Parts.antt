@@ -1,8 +1,8 @@
--- Stories in two parts. Some places are in the part, and each entry keeps to these, or to the others.
+-- Histories in two parts. Some places are in the part, and each entry keeps to these, or to the others.
 use Rattle.std.specs.Prelude.{◌≡◌, ℕ, Bool, true, false, List, [], ◌∷◌}
 use Rattle.td_stamps.specs.declared.entry.Entry.{Entry}
 use Rattle.td_stamps.specs.declared.entry.Stamp.{Stamp}
-use Rattle.td_stamps.specs.Story.{Story}
+use Rattle.td_stamps.specs.History.{History}
 
 -- what is asked of the mixture of two states: it has the places of the part from the one, and all others from the
 -- other one; and states that are alike at every place are one
@@ -37,26 +37,26 @@ unmarked (true ∷ bs) (x ∷ xs) = unmarked bs xs
 unmarked (false ∷ bs) (x ∷ xs) = x ∷ unmarked bs xs
 
 -- both together again
-abbrev pub woven : {X : Type 0} → List Bool → List X → List X → List X
-woven [] xs ys = []
-woven (true ∷ bs) [] ys = woven bs [] ys
-woven (true ∷ bs) (x ∷ xs) ys = x ∷ woven bs xs ys
-woven (false ∷ bs) xs [] = woven bs xs []
-woven (false ∷ bs) xs (y ∷ ys) = y ∷ woven bs xs ys
+abbrev pub interleaved : {X : Type 0} → List Bool → List X → List X → List X
+interleaved [] xs ys = []
+interleaved (true ∷ bs) [] ys = interleaved bs [] ys
+interleaved (true ∷ bs) (x ∷ xs) ys = x ∷ interleaved bs xs ys
+interleaved (false ∷ bs) xs [] = interleaved bs xs []
+interleaved (false ∷ bs) xs (y ∷ ys) = y ∷ interleaved bs xs ys
 
--- A story is the story of the marked entries on the part, whatever the other places have.
+-- A history is the history of the marked entries on the part, whatever the other places have.
 abbrev pub MarkedAlone : {S R : Type 0} → (S → Type 0) → (S → Entry → R → S → Type 0) → (Entry → ℕ → Type 0) → (ℕ → Bool) → (S → S → S) → Type 0
 MarkedAlone {S = S} {R = R} Sound Step Footprint part mix =
-    (s t rest : S) (marks : List Bool) (es : List Entry) (log : List (Stamp × R)) → Sound s → Sound rest → AreMarked Footprint part marks es → Story Step s es log t
-    → Story Step (mix s rest) (marked marks es) (marked marks log) (mix t rest)
+    (s t rest : S) (marks : List Bool) (es : List Entry) (log : List (Stamp × R)) → Sound s → Sound rest → AreMarked Footprint part marks es → History Step s es log t
+    → History Step (mix s rest) (marked marks es) (marked marks log) (mix t rest)
 
 abbrev pub UnmarkedAlone : {S R : Type 0} → (S → Type 0) → (S → Entry → R → S → Type 0) → (Entry → ℕ → Type 0) → (ℕ → Bool) → (S → S → S) → Type 0
 UnmarkedAlone {S = S} {R = R} Sound Step Footprint part mix =
-    (s t rest : S) (marks : List Bool) (es : List Entry) (log : List (Stamp × R)) → Sound s → Sound rest → AreMarked Footprint part marks es → Story Step s es log t
-    → Story Step (mix rest s) (unmarked marks es) (unmarked marks log) (mix rest t)
+    (s t rest : S) (marks : List Bool) (es : List Entry) (log : List (Stamp × R)) → Sound s → Sound rest → AreMarked Footprint part marks es → History Step s es log t
+    → History Step (mix rest s) (unmarked marks es) (unmarked marks log) (mix rest t)
 
--- The story of the marked entries and that of the others are the story of all.
-abbrev pub WovenIsStory : {S R : Type 0} → (S → Type 0) → (S → Entry → R → S → Type 0) → (Entry → ℕ → Type 0) → (ℕ → Bool) → (S → S → S) → Type 0
-WovenIsStory {S = S} {R = R} Sound Step Footprint part mix =
+-- The history of the marked entries and that of the others are the history of all.
+abbrev pub InterleavedIsHistory : {S R : Type 0} → (S → Type 0) → (S → Entry → R → S → Type 0) → (Entry → ℕ → Type 0) → (ℕ → Bool) → (S → S → S) → Type 0
+InterleavedIsHistory {S = S} {R = R} Sound Step Footprint part mix =
     (s t u v : S) (marks : List Bool) (es : List Entry) (log others : List (Stamp × R)) → Sound s → Sound t → AreMarked Footprint part marks es
-    → Story Step s (marked marks es) log u → Story Step t (unmarked marks es) others v → Story Step (mix s t) es (woven marks log others) (mix u v)
+    → History Step s (marked marks es) log u → History Step t (unmarked marks es) others v → History Step (mix s t) es (interleaved marks log others) (mix u v)

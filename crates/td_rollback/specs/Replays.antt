@@ -1,4 +1,4 @@
--- Replay of a story with more entries, for any state and any step that leaves a record: an old entry that is not
+-- Replay of a history with more entries, for any state and any step that leaves a record: an old entry that is not
 -- touched keeps its record, and its change is made again; every other entry is run.
 use Rattle.std.specs.Prelude.{◌≡◌, ℕ, List, [], ◌∷◌}
 use Rattle.td_stamps.specs.declared.entry.Entry.{Entry}

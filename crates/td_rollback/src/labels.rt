@@ -142,7 +142,7 @@ pub(crate) fn part_of<M: Machine>(
     let mut labels = Vec::new(alloc);
     tie(alloc, &mut labels, places)?;
     tie_all::<M>(alloc, &mut labels, log)?;
-    machine.tie_places(alloc, &mut labels)?;
+    machine.merge_components(alloc, &mut labels)?;
     let label = first_label(&labels, places);
     Ok(Part { labels, label })
 }

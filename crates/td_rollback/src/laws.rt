@@ -1,9 +1,9 @@
 //! The laws of replay.
 
-ghost use Rattle.td_rollback.specs.Laws.{RecordsName, ReplayIsStory, RunsAreCounted, RunsAreFew, RunsAreOne, RunsAreThere, UnionIsMore};
+ghost use Rattle.td_rollback.specs.Laws.{RecordsName, ReplayIsHistory, RunsAreCounted, RunsAreFew, RunsAreOne, RunsAreThere, UnionIsMore};
 ghost use Rattle.std.specs.Prelude.{ℕ, Bool};
 ghost use Rattle.td_rollback.specs.Going.{SoundFrom};
-ghost use Rattle.td_rollback.specs.Parts.{MarkedAlone, Mixes, UnmarkedAlone, WovenIsStory};
+ghost use Rattle.td_rollback.specs.Parts.{MarkedAlone, Mixes, UnmarkedAlone, InterleavedIsHistory};
 
 use crate::machine::Machine;
 
@@ -16,15 +16,15 @@ pub fn runs_are_one<M: Machine>()
     ensures counted { (o : M) → RunsAreCounted (M.footprint o) (M.targets o) }
 {}
 
-/// The records of a story name the footprint and the targets of each of its entries.
+/// The records of a history name the footprint and the targets of each of its entries.
 pub fn records_name<M: Machine>()
     ensures footprint { (o : M) → RecordsName (SoundFrom M.sound M.origin o) M.steps (M.footprint o) M.footprint_in }
     ensures targets { (o : M) → RecordsName (SoundFrom M.sound M.origin o) M.steps (M.targets o) M.targets_in }
 {}
 
-/// A replay that runs only what new entries touch is the story of all entries.
-pub fn replay_is_story<M: Machine>()
-    ensures { (o : M) → ReplayIsStory (SoundFrom M.sound M.origin o) M.steps M.alike (M.footprint o) (M.targets o) }
+/// A replay that runs only what new entries touch is the history of all entries.
+pub fn replay_is_history<M: Machine>()
+    ensures { (o : M) → ReplayIsHistory (SoundFrom M.sound M.origin o) M.steps M.alike (M.footprint o) (M.targets o) }
 {}
 
 /// What is held, and that with a batch which is not refused, are old and new entries.
@@ -32,10 +32,10 @@ pub fn union_is_more()
     ensures { UnionIsMore }
 {}
 
-/// Entries that keep to a part of the places have a story of their own, whatever the others change, and so have the
-/// others; and the two are the story of all.
+/// Entries that keep to a part of the places have a history of their own, whatever the others change, and so have the
+/// others; and the two are the history of all.
 pub fn parts_are_apart<M: Machine>()
     ensures marked { (o : M) (part : ℕ → Bool) (mix : M → M → M) → Mixes (SoundFrom M.sound M.origin o) M.alike part mix → MarkedAlone (SoundFrom M.sound M.origin o) M.steps (M.footprint o) part mix }
     ensures unmarked { (o : M) (part : ℕ → Bool) (mix : M → M → M) → Mixes (SoundFrom M.sound M.origin o) M.alike part mix → UnmarkedAlone (SoundFrom M.sound M.origin o) M.steps (M.footprint o) part mix }
-    ensures woven { (o : M) (part : ℕ → Bool) (mix : M → M → M) → Mixes (SoundFrom M.sound M.origin o) M.alike part mix → WovenIsStory (SoundFrom M.sound M.origin o) M.steps (M.footprint o) part mix }
+    ensures interleaved { (o : M) (part : ℕ → Bool) (mix : M → M → M) → Mixes (SoundFrom M.sound M.origin o) M.alike part mix → InterleavedIsHistory (SoundFrom M.sound M.origin o) M.steps (M.footprint o) part mix }
 {}

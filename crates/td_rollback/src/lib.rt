@@ -1,12 +1,12 @@
-//! Rollback and replay: a story whose end is taken back, and told again with more entries.
+//! Rollback and replay: the end of a history is taken back, and replayed with more entries.
 //!
-//! Begin with the trait `Machine`, and `retell`, which leads a machine to the end of a story with more entries.
+//! Begin with the trait `Machine`, and `replay_with`, which leads a machine to the end of a history with more entries.
 //!
 //! td_rollback knows entries, stamps and places, which are numbers, and no statement. Its trait `Machine` says what is
 //! asked of whatever runs entries: an entry is read, which tells its footprint, and run by what was read; a step leaves
 //! a record, changes its targets alone, and goes by its footprint. It has the log of its caller: `labels` ties places
 //! and finds the part that fresh entries are about, `marks` parts entries and records by it, `replay` and `undoing` go
-//! through the story of that part, `turns` tells what becomes of its records, and `retelling` puts all together.
+//! through the history of that part, `turns` tells what becomes of its records, and `replaying` puts all together.
 #![tactic(auto)]
 
 mod labels;
@@ -15,10 +15,10 @@ mod machine;
 mod marks;
 mod names;
 mod replay;
-mod retelling;
+mod replaying;
 mod turns;
 mod undoing;
 
 pub use labels::tie;
 pub use machine::Machine;
-pub use retelling::retell;
+pub use replaying::replay_with;

@@ -35,16 +35,16 @@ pub trait Machine {
     /// The two states have the same at the place.
     ghost alike: { Self → Self → ℕ → Type 0 };
 
-    /// What stories of one kind began with: no step changes it.
+    /// What histories of one kind began with: no step changes it.
     ghost origin: { Self → Self };
 
-    /// The places that the entry depends on, in a story of that origin.
+    /// The places that the entry depends on, in a history of that origin.
     ghost footprint: { Self → EntryData → ℕ → Type 0 };
 
     /// The places that it may change.
     ghost targets: { Self → EntryData → ℕ → Type 0 };
 
-    /// This was read of the entry, in a story of that origin.
+    /// This was read of the entry, in a history of that origin.
     ghost is_read: { Self → EntryData → Self.Reading → Type 0 };
 
     /// These places as the record of a run names them.
@@ -61,7 +61,7 @@ pub trait Machine {
     /// The state that has the places of a part from the first state, and all others from the second one.
     ghost mix: { (ℕ → Bool) → Self → Self → Self };
 
-    /// What is asked of states in stories of that origin ties no place of the part to one that is not in it.
+    /// What is asked of states in histories of that origin ties no place of the part to one that is not in it.
     ghost closed: { Self → (ℕ → Bool) → Type 0 };
 
     /// Runs the entry. Where memory is wanting nothing has changed, but the run may have been counted.
@@ -116,7 +116,7 @@ pub trait Machine {
         ensures { (o : Self) (e : EntryData) → is_read o e reading.now → (n : ℕ) → footprint o e n → Contains result.now n };
 
     /// Ties the places that what is asked of states ties.
-    fn tie_places(&self, alloc: Global, labels: &mut Vec<usize>) -> Result<(), AllocError>
+    fn merge_components(&self, alloc: Global, labels: &mut Vec<usize>) -> Result<(), AllocError>
         ensures closed { OnOk result ((label : Option ℕ) → closed (origin self.now) (has_label labels.new.items label)) }
         ensures coarser { IsCoarser labels.old.items labels.new.items };
 
@@ -139,6 +139,6 @@ pub trait Machine {
     /// States are mixed place by place, and stay sound.
     ghost mixes: { (o : Self) (part : ℕ → Bool) → closed o part → Mixes (SoundFrom sound origin o) alike part (mix part) };
 
-    /// Steps go by their records, in each story.
+    /// Steps go by their records, in each history.
     ghost goes: { (o : Self) → GoByRecords (SoundFrom sound origin o) steps alike (footprint o) (targets o) footprint_in targets_in };
 }

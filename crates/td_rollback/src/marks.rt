@@ -2,7 +2,7 @@
 
 ghost use Rattle.std.specs.Prelude.{◌≡◌, ◌≤◌, ◌+◌, ◌++◌, IfOk, length, map, vec_capacity};
 ghost use Rattle.td_rollback.specs.Labels.{has_label, starts_in};
-ghost use Rattle.td_rollback.specs.Parts.{marked, unmarked, woven};
+ghost use Rattle.td_rollback.specs.Parts.{marked, unmarked, interleaved};
 ghost use Rattle.td_rollback.specs.ForProofs.Marked as spec;
 ghost use Rattle.td_rollback.specs.ForProofs.Marked.{AreFlagged};
 ghost use Rattle.td_rollback.specs.Touched.{AreMore};
@@ -115,14 +115,14 @@ pub(crate) fn split<X: Drop>(
 }
 
 /// Moves both together again, behind what is there.
-pub(crate) fn weave<X: Drop>(
+pub(crate) fn interleave<X: Drop>(
     marks: Vec<bool>,
     within: Vec<X>,
     without: Vec<X>,
     room: Vec<X>,
 ) -> Vec<X>
     requires { length room.items + length marks.items ≤ vec_capacity room }
-    ensures { result.items ≡ room.items ++ woven marks.items within.items without.items }
+    ensures { result.items ≡ room.items ++ interleaved marks.items within.items without.items }
 {
     let mut all = room;
     let mut firsts = within.into_iter();

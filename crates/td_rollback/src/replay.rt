@@ -3,7 +3,7 @@
 ghost use Rattle.std.specs.Prelude.{◌≡◌, ◌≤◌, ◌+◌, ◌++◌, ◌∷◌, ◌↔◌, ◌⊎◌, [], ℕ, IfOk, IfSome, OnOk, length};
 ghost use Rattle.std.specs.List.{Contains};
 ghost use Rattle.td_stamps.specs.Entries.{stamp_of};
-ghost use Rattle.td_stamps.specs.Story.{Story};
+ghost use Rattle.td_stamps.specs.History.{History};
 ghost use Rattle.td_stamps.specs.declared.entry.Entry.{Entry as EntryData};
 ghost use Rattle.td_stamps.specs.declared.entry.Stamp.{Stamp as StampData};
 ghost use Rattle.td_rollback.specs.Going.{AreAlikeBut};
@@ -13,7 +13,7 @@ ghost use Rattle.td_rollback.specs.ForProofs.Standing.{AreRead, Ran};
 
 use crate::machine::Machine;
 use crate::names::{add, meets};
-use crate::turns::Turn;
+use crate::turns::ReplayedRecord;
 use std::alloc::{AllocError, Global};
 use td_stamps::{Entry, Stamp};
 
@@ -104,19 +104,19 @@ fn run_again<M: Machine>(
     alloc: Global,
     machine: &mut M,
     names: &mut Vec<usize>,
-    turns: &mut Vec<Turn<M::Record>>,
+    turns: &mut Vec<ReplayedRecord<M::Record>>,
     entry: &Entry,
     meter: &mut M::Meter,
 ) -> Result<(), AllocError>
     requires { M.sound machine.old }
-    ensures turn { OnOk result ((p : StampData × M.Record) × Ran M.steps machine.old entry.now p machine.new × (turns.new.items ≡ turns.old.items ++ Turn.Again p ∷ [])) }
+    ensures turn { OnOk result ((p : StampData × M.Record) × Ran M.steps machine.old entry.now p machine.new × (turns.new.items ≡ turns.old.items ++ ReplayedRecord.Again p ∷ [])) }
     ensures names { OnOk result ((n : ℕ) → Contains names.new.items n ↔ (M.targets (M.origin machine.old) entry.now n ⊎ Contains names.old.items n)) }
     ensures elsewhere { (n : ℕ) → (M.targets (M.origin machine.old) entry.now n → ⊥) → M.alike machine.old machine.new n }
     ensures origin { M.origin machine.new ≡ M.origin machine.old }
     ensures counted { M.count meter.new ≤ M.count meter.old + 1 }
 {
     let again = run_anew(alloc, machine, names, entry, meter)?;
-    turns.push(Turn::Again(again))?;
+    turns.push(ReplayedRecord::Again(again))?;
     Ok(())
 }
 
@@ -125,21 +125,21 @@ fn run_fresh<M: Machine>(
     alloc: Global,
     machine: &mut M,
     names: &mut Vec<usize>,
-    turns: &mut Vec<Turn<M::Record>>,
+    turns: &mut Vec<ReplayedRecord<M::Record>>,
     entry: &Entry,
     reading: Option<&M::Reading>,
     meter: &mut M::Meter,
 ) -> Result<(), AllocError>
     requires sound { M.sound machine.old }
     requires read { IfSome reading (λ r. M.is_read (M.origin machine.old) entry.now r.now) }
-    ensures turn { OnOk result ((p : StampData × M.Record) × Ran M.steps machine.old entry.now p machine.new × (turns.new.items ≡ turns.old.items ++ Turn.Fresh p ∷ [])) }
+    ensures turn { OnOk result ((p : StampData × M.Record) × Ran M.steps machine.old entry.now p machine.new × (turns.new.items ≡ turns.old.items ++ ReplayedRecord.Fresh p ∷ [])) }
     ensures names { OnOk result ((n : ℕ) → Contains names.new.items n ↔ (M.targets (M.origin machine.old) entry.now n ⊎ Contains names.old.items n)) }
     ensures elsewhere { (n : ℕ) → (M.targets (M.origin machine.old) entry.now n → ⊥) → M.alike machine.old machine.new n }
     ensures origin { M.origin machine.new ≡ M.origin machine.old }
     ensures counted { M.count meter.new ≤ M.count meter.old + 1 }
 {
     let first = run_as_read(alloc, machine, names, entry, reading, meter)?;
-    turns.push(Turn::Fresh(first))?;
+    turns.push(ReplayedRecord::Fresh(first))?;
     Ok(())
 }
 
@@ -147,17 +147,17 @@ fn run_fresh<M: Machine>(
 fn keep<M: Machine>(
     alloc: Global,
     machine: &mut M,
-    turns: &mut Vec<Turn<M::Record>>,
+    turns: &mut Vec<ReplayedRecord<M::Record>>,
     ran: &M::Record,
 ) -> Result<(), AllocError>
     requires { M.sound machine.old × ((t : M) × (e : EntryData) × M.steps machine.old e ran.now t) }
-    ensures turn { OnOk result (turns.new.items ≡ turns.old.items ++ Turn.Kept ∷ []) }
+    ensures turn { OnOk result (turns.new.items ≡ turns.old.items ++ ReplayedRecord.Kept ∷ []) }
     ensures after { (t : M) → (e : EntryData) → M.steps machine.old e ran.now t → OnOk result (machine.new ≡ t) }
     ensures elsewhere { (n : ℕ) → (Contains (M.targets_in ran.now) n → ⊥) → M.alike machine.old machine.new n }
     ensures origin { M.origin machine.new ≡ M.origin machine.old }
 {
     machine.redo(alloc, ran)?;
-    turns.push(Turn::Kept)?;
+    turns.push(ReplayedRecord::Kept)?;
     Ok(())
 }
 
@@ -172,13 +172,13 @@ pub(crate) fn replay_end<M: Machine>(
     new: &[Entry],
     readings: &[(Entry, M::Reading)],
     meter: &mut M::Meter,
-) -> Result<Vec<Turn<M::Record>>, AllocError>
+) -> Result<Vec<ReplayedRecord<M::Record>>, AllocError>
     requires sound { M.sound machine.old }
     requires read { AreRead (M.is_read (M.origin machine.old)) readings.now }
-    requires story { (last : M) × Story M.steps machine.old old.now log.now last }
+    requires history { (last : M) × History M.steps machine.old old.now log.now last }
     requires each { length log.now ≡ length old.now }
     requires more { AreMore old.now new.now }
-    ensures story { IfOk result (λ turns. Story M.steps machine.old new.now (settled log.now turns.items) machine.new) }
+    ensures history { IfOk result (λ turns. History M.steps machine.old new.now (settled log.now turns.items) machine.new) }
     ensures many { IfOk result (λ turns. length turns.items ≡ length new.now) }
     ensures counted { (n : ℕ) → Runs (M.footprint (M.origin machine.old)) (M.targets (M.origin machine.old)) [] old.now new.now n → M.count meter.new ≤ M.count meter.old + n }
     ensures elsewhere { AreAlikeBut M.alike (M.targets (M.origin machine.old)) new.now machine.old machine.new }

@@ -1,7 +1,7 @@
-//! The end of a story, taken back.
+//! The end of a history, taken back.
 
 ghost use Rattle.std.specs.Prelude.{◌≡◌, ◌≤◌, OnOk, length, drop, take};
-ghost use Rattle.td_stamps.specs.Story.{Story};
+ghost use Rattle.td_stamps.specs.History.{History};
 ghost use Rattle.td_rollback.specs.Going.{AreAlikeBut, Begins};
 
 use crate::machine::Machine;
@@ -29,11 +29,11 @@ pub(crate) fn undo_end<M: Machine>(
     log: &[(Stamp, M::Record)],
     kept: usize,
 ) -> Result<(), AllocError>
-    requires story { (o : M) × Begins M.sound M.origin M.steps o old.now log.now machine.old }
+    requires history { (o : M) × Begins M.sound M.origin M.steps o old.now log.now machine.old }
     requires each { length log.now ≡ length old.now }
     requires kept { kept ≤ length old.now }
     ensures front { (o : M) → Begins M.sound M.origin M.steps o old.now log.now machine.old → OnOk result (Begins M.sound M.origin M.steps o (take kept old.now) (take kept log.now) machine.new) }
-    ensures behind { OnOk result (Story M.steps machine.new (drop kept old.now) (drop kept log.now) machine.old) }
+    ensures behind { OnOk result (History M.steps machine.new (drop kept old.now) (drop kept log.now) machine.old) }
     ensures elsewhere { AreAlikeBut M.alike (M.targets (M.origin machine.old)) (drop kept old.now) machine.old machine.new }
     ensures origin { M.origin machine.new ≡ M.origin machine.old }
 {

@@ -22,7 +22,7 @@ pub struct Told {
 
 /// What a site tells otherwise after a meeting.
 #[derive(Drop)]
-pub struct Retold {
+pub struct ReplayedPart {
     /// For the end of the meeting's line.
     pub line_end: String,
     /// Lines behind it.
@@ -31,35 +31,39 @@ pub struct Retold {
 
 // What becomes of a statement with another outcome now.
 #[derive(Clone, Copy, PartialEq, Eq)]
-enum Turn {
+enum ReplayedRecord {
     Refused,
     Done,
     OtherReason,
 }
 
-const TURNS: [Turn; 3] = [Turn::Refused, Turn::Done, Turn::OtherReason];
+const TURNS: [ReplayedRecord; 3] = [
+    ReplayedRecord::Refused,
+    ReplayedRecord::Done,
+    ReplayedRecord::OtherReason,
+];
 
 // A statement with another outcome now.
 #[derive(Clone, Copy, Drop)]
 struct Turned<'a> {
     stamp: Stamp,
-    turn: Turn,
+    turn: ReplayedRecord,
     outcome: &'a Outcome,
 }
 
-fn turn_of(before: &Outcome, after: &Outcome) -> Turn {
+fn turn_of(before: &Outcome, after: &Outcome) -> ReplayedRecord {
     match (is_refused(before), is_refused(after)) {
-        (false, _) => Turn::Refused,
-        (true, false) => Turn::Done,
-        (true, true) => Turn::OtherReason,
+        (false, _) => ReplayedRecord::Refused,
+        (true, false) => ReplayedRecord::Done,
+        (true, true) => ReplayedRecord::OtherReason,
     }
 }
 
-fn words_of(turn: Turn) -> &'static str {
+fn words_of(turn: ReplayedRecord) -> &'static str {
     match turn {
-        Turn::Refused => "refused now",
-        Turn::Done => "done now",
-        Turn::OtherReason => "refused for another reason now",
+        ReplayedRecord::Refused => "refused now",
+        ReplayedRecord::Done => "done now",
+        ReplayedRecord::OtherReason => "refused for another reason now",
     }
 }
 
@@ -105,7 +109,7 @@ fn push_turned(
     out: &mut String,
     all: &[Turned<'_>],
     site: u16,
-    turn: Turn,
+    turn: ReplayedRecord,
 ) -> Result<(), AllocError> {
     let mut count: usize = 0;
     for it in all {
@@ -132,7 +136,7 @@ fn push_named(
     out: &mut String,
     all: &[Turned<'_>],
     site: u16,
-    turn: Turn,
+    turn: ReplayedRecord,
 ) -> Result<(), AllocError> {
     let mut named: usize = 0;
     for it in all {
@@ -207,24 +211,26 @@ impl Told {
     }
 
     // The difference to what is told now.
-    fn retold(
+    fn replayed_log(
         &self,
         alloc: Global,
         catalogue: &Catalogue,
         now: &Told,
-    ) -> Result<Retold, AllocError> {
+    ) -> Result<ReplayedPart, AllocError> {
         let came = count_of(&now.outcomes, self.site).saturating_sub(count_of(
             &self.outcomes,
             self.site,
         ));
-        let mut retold = Retold {
+        let mut replayed_log = ReplayedPart {
             line_end: turns_in(alloc, self.site, &self.outcomes, &now.outcomes)?,
             lines: String::new(alloc),
         };
         let found = redone_since(alloc, &self.done, &now.done)?;
-        push_redone(&mut retold, catalogue, &self.done, &now.done, &found)?;
-        retold.lines.push_str(own_words(alloc, came)?.as_str())?;
-        Ok(retold)
+        push_redone(&mut replayed_log, catalogue, &self.done, &now.done, &found)?;
+        replayed_log
+            .lines
+            .push_str(own_words(alloc, came)?.as_str())?;
+        Ok(replayed_log)
     }
 
     /// What the site tells otherwise now. It costs two walks along what is held, and along what the statements that
@@ -234,13 +240,13 @@ impl Told {
         alloc: Global,
         catalogue: &Catalogue,
         site: &R,
-    ) -> Result<Retold, TellError> {
+    ) -> Result<ReplayedPart, TellError> {
         let now = match Told::by(alloc, site) {
             Ok(now) => now,
             Err(error) => return Err(error),
         };
-        match self.retold(alloc, catalogue, &now) {
-            Ok(retold) => Ok(retold),
+        match self.replayed_log(alloc, catalogue, &now) {
+            Ok(replayed_log) => Ok(replayed_log),
             Err(_) => Err(TellError::OutOfMemory),
         }
     }

@@ -40,14 +40,14 @@ abbrev pub meant : Answer RowsData → Result RowsData Stop
 meant (Value r) = Ok r
 meant (Raised e) = Err (stop_of e)
 
--- it is what the relvar at the place has after the story
+-- it is what the relvar at the place has after the history
 abbrev pub IsValueAt : Seen → ℕ → Answer RowsData → Type 0
 IsValueAt s n a = (d : DatabaseData) → Leaves s d → relvar_value d n ≡ meant a
 
--- it was told after the story
+-- it was told after the history
 abbrev pub WasToldAt : Seen → ℕ → Answer RowsData → Type 0
 WasToldAt s n a = (d : DatabaseData) × Leaves s d × (relvar_value d n ≡ meant a)
 
--- these are the lines of the relvars after the story
+-- these are the lines of the relvars after the history
 abbrev pub AreRelvars : Seen → List ℕ → List ℕ → Type 0
 AreRelvars s old new = (d : DatabaseData) → Leaves s d → new ≡ old ++ relvars_lines d

@@ -14,11 +14,11 @@ use Rattle.td_assign.specs.declared.ran.Ran.{Ran}
 use Rattle.td_stamps.specs.declared.entry.Entry.{Entry}
 use Rattle.td_stamps.specs.Entries.{stamp_of}
 use Rattle.td_stamps.specs.declared.entry.Stamp.{Stamp}
-use Rattle.td_stamps.specs.Story.{Story}
+use Rattle.td_stamps.specs.History.{History}
 use Rattle.td_semantics.specs.Databases.{DatabaseData, stored_relvars}
 use Rattle.td_relvars.specs.Evaluated.{EvaluatesTo}
 use Rattle.td_relvars.specs.Parts.{AreCopies, Copies}
-use Rattle.td_replica.specs.Stories.{IsStory}
+use Rattle.td_replica.specs.Histories.{IsHistory}
 use Rattle.td_semantics.specs.declared.answer.Answer.{Answer}
 use Rattle.td_replica.specs.declared.refusal.AskError.{AskError}
 use Rattle.td_replica.specs.declared.refusal.AskError.TheVariants as ask_error
@@ -44,7 +44,7 @@ is_changed_in log n = list_any (λ (p : Stamp × Ran). is_changed p.1.delta.item
 -- as it is now
 pub record AreAt (o now : DatabaseData) (es : List Entry) (log : Log) (places : List ℕ) (n : ℕ) (copies : Copies) : Type 0 where
   pub state : DatabaseData
-  pub story : Story Notes o (take n es) (take n log) state
+  pub history : History Notes o (take n es) (take n log) state
   pub copied : AreCopies copies state.stored
   pub all : HaveCopies o.catalogue places copies
   pub others : (m : ℕ) → is_changed_in (drop n log) m ≡ false → stored_relvars now.stored m ≡ stored_relvars state.stored m
@@ -67,7 +67,7 @@ TellsQuery c text (Err ask_error.OutOfMemory) = length text ≤ 8192
 pub record SaysAfter (script : List ℕ) (es : List Entry) (n : ℕ) (x : Expression) (r : Answer Datum) : Type 0 where
   pub state : DatabaseData
   pub outcomes : Outcomes
-  pub story : IsStory script (take n es) outcomes state
+  pub history : IsHistory script (take n es) outcomes state
   pub says : EvaluatesTo state.catalogue (stored_relvars state.stored) x r
 
 -- so many entries end with that of the stamp

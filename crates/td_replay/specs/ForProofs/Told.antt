@@ -7,7 +7,7 @@ use Rattle.td_stamps.specs.declared.entry.Entry.{Entry}
 use Rattle.td_stamps.specs.declared.entry.Stamp.{Stamp}
 use Rattle.td_stamps.specs.Entries.{stamp_of}
 use Rattle.td_stamps.specs.Sets.{Holding}
-use Rattle.td_stamps.specs.Story.{Story}
+use Rattle.td_stamps.specs.History.{History}
 use Rattle.td_semantics.specs.Databases.{DatabaseData}
 use Rattle.td_semantics.specs.Scripts.{OpensOn}
 use Rattle.td_semantics.specs.Steps.{IsRead, IsUnreadText}
@@ -38,7 +38,7 @@ outcomes_of log = map outcome_of log
 pub record IsLogged (script : List ℕ) (es : List Entry) (log : Log) (d : DatabaseData) : Type 0 where
   pub opens : OpensOn script None (opened_by d.catalogue)
   pub sound : IsLegalDatabase (opened_by d.catalogue)
-  pub runs : Story Notes (opened_by d.catalogue) es log d
+  pub runs : History Notes (opened_by d.catalogue) es log d
 
 -- one entry more ran, and left this record
 pub record RunsNext (d : DatabaseData) (log : Log) (e : Entry) (r : Ran) (after : DatabaseData) (longer : Log) : Type 0 where

@@ -4,16 +4,16 @@ use Rattle.std.specs.List.{All, Contains}
 use Rattle.td_stamps.specs.declared.entry.Entry.{Entry}
 use Rattle.td_stamps.specs.declared.entry.Stamp.{Stamp}
 use Rattle.td_stamps.specs.Entries.{stamp_of}
-use Rattle.td_stamps.specs.Story.{Story}
+use Rattle.td_stamps.specs.History.{History}
 use Rattle.td_rollback.specs.Going.{AreAlikeBut}
 use Rattle.td_rollback.specs.Touched.{AreMore, IsTargetOf, Runs}
 use Rattle.td_rollback.specs.Turns.{settled}
 use Rattle.td_rollback.specs.ForProofs.Ways.{Way}
-use Rattle.td_rollback.specs.declared.turns.Turn.{Turn}
-use Rattle.td_rollback.specs.declared.turns.Turn.TheVariants.{Kept, Again, Fresh}
+use Rattle.td_rollback.specs.declared.turns.ReplayedRecord.{ReplayedRecord}
+use Rattle.td_rollback.specs.declared.turns.ReplayedRecord.TheVariants.{Kept, Again, Fresh}
 
 -- how many old records the turns pass
-abbrev pub passed : {R : Type 0} → List (Turn R) → ℕ
+abbrev pub passed : {R : Type 0} → List (ReplayedRecord R) → ℕ
 passed [] = 0
 passed (Fresh p ∷ ts) = passed ts
 passed (Kept ∷ ts) = suc (passed ts)
@@ -45,7 +45,7 @@ pub record Left (R : Type 0) : Type 0 where
 
 -- After these turns the state is u: it is alike, but for targets of those that ran, to the state that was there before
 -- the old entries that are left, and no more ran than the count allows.
-pub record Stands {S R : Type 0} (w : Way S R) (b : Begun S R) (l : Left R) (names : List ℕ) (turns : List (Turn R)) (u : S) (count : ℕ) : Type 0 where
+pub record Stands {S R : Type 0} (w : Way S R) (b : Begun S R) (l : Left R) (names : List ℕ) (turns : List (ReplayedRecord R)) (u : S) (count : ℕ) : Type 0 where
   pub ran : List Entry
   pub was : S
   pub last : S
@@ -53,8 +53,8 @@ pub record Stands {S R : Type 0} (w : Way S R) (b : Begun S R) (l : Left R) (nam
   pub is_sound : w.Sound u
   pub alike : AreAlikeBut w.Alike w.Target ran was u
   pub named : (n : ℕ) → Contains names n ↔ IsTargetOf w.Target ran n
-  pub rest : Story w.Step was l.old l.log last
-  pub done : Story w.Step b.state l.before (settled b.log turns) u
+  pub rest : History w.Step was l.old l.log last
+  pub done : History w.Step b.state l.before (settled b.log turns) u
   pub left : drop (passed turns) b.log ≡ l.log
   pub more : AreMore l.old l.new
   pub counted : (n : ℕ) → Runs w.Footprint w.Target [] b.old b.new n → (m : ℕ) × Runs w.Footprint w.Target ran l.old l.new m × (count + m ≤ b.count + n)

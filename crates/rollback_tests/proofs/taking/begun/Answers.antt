@@ -1,4 +1,4 @@
-use Rattle.td_stamps.specs.Story.{nothing_ran}
+use Rattle.td_stamps.specs.History.{nothing_ran}
 use Rattle.rollback_tests.proofs.taking.begun.Goals as goal
 
 pub returns : goal.returns

@@ -8,7 +8,7 @@ use Rattle.td_listings.proofs.listings.show_relvars.Goals as goal
 
 pub loop-place-init : goal.loop-place-init
 loop-place-init g c = λ d leaves. ap (λ (k : CatalogueData). string_bytes c.args.out.now ++ relvars_from d 0 k.schema.relvars)
-    (of_catalogue c.story_is_one.ensures c.script_opens_one.ensures.script (g.R.Replica.seen c.args.replica.now) c.args.catalogue.now c.requires d leaves)
+    (of_catalogue c.history_is_unique.ensures c.script_opens_one.ensures.script (g.R.Replica.seen c.args.replica.now) c.args.catalogue.now c.requires d leaves)
 
 pub loop-place-preserved : goal.loop-place-preserved
 loop-place-preserved g c = λ d leaves.

@@ -8,5 +8,5 @@ returns-clause-marked g c = λ o part mix mixes. let m = g.M.Machine in parting.
 pub returns-clause-unmarked : goal.returns-clause-unmarked
 returns-clause-unmarked g c = λ o part mix mixes. let m = g.M.Machine in parting.unmarked_alone (way_of m.sound m.steps m.alike m.origin m.footprint m.targets m.footprint_in m.targets_in g.met.M.Machine.goes o) part mix mixes
 
-pub returns-clause-woven : goal.returns-clause-woven
-returns-clause-woven g c = λ o part mix mixes. let m = g.M.Machine in parting.woven_is_story (way_of m.sound m.steps m.alike m.origin m.footprint m.targets m.footprint_in m.targets_in g.met.M.Machine.goes o) part mix mixes
+pub returns-clause-interleaved : goal.returns-clause-interleaved
+returns-clause-interleaved g c = λ o part mix mixes. let m = g.M.Machine in parting.interleaved_is_history (way_of m.sound m.steps m.alike m.origin m.footprint m.targets m.footprint_in m.targets_in g.met.M.Machine.goes o) part mix mixes

@@ -16,7 +16,7 @@ loop-entry-init g c =
     let o = m.origin c.args.machine.now in
     let w = way_of m.sound m.steps m.alike m.origin m.footprint m.targets m.footprint_in m.targets_in g.met.M.Machine.goes o in
     let b : Begun g.row.M.Denot g.row.M-Record.Denot = record { state = c.args.machine.now; old = c.args.old.now; log = c.args.log.now; new = c.args.new.now; count = m.count c.args.meter.now } in
-    let stands = standing.begins w b c.requires.story.0 (c.requires.sound, refl) c.requires.story.1 c.requires.more in
+    let stands = standing.begins w b c.requires.history.0 (c.requires.sound, refl) c.requires.history.1 c.requires.more in
     record {
       within = omega arith;
       stands = rw (c.new-names.ensures.items, c.new-turns.ensures.items) stands;

@@ -8,7 +8,7 @@ use Rattle.td_replica.specs.Seen.{Contents, always_open}
 use Rattle.td_replay.specs.ForProofs.Past.{EndsWith, SaysAfter, TellsQuery, Types}
 use Rattle.td_replay.specs.ForProofs.Told.{outcomes_of}
 use Rattle.td_replay.proofs.Earlier.{asks_at, is_query, past_refusal}
-use Rattle.td_replay.proofs.Telling.{logged_story, story_catalogue}
+use Rattle.td_replay.proofs.Telling.{logged_history, history_catalogue}
 use Rattle.td_replay.proofs.state.State.ask_at.Goals as goal
 use Rattle.td_replay.proofs.state.State.ask_at.Goals.{in-Anew, in-Replay}
 
@@ -19,7 +19,7 @@ returns-in-Err-clause-asks c =
     let s = always_open k in
     let d = i.told.engine in
     let text = c.args.text.now in
-    let defines = story_catalogue i.script i.held.entries (outcomes_of i.told.log.items) d (logged_story i.script i.held.entries i.told.log.items d c.self.invariant.2) in
+    let defines = history_catalogue i.script i.held.entries (outcomes_of i.told.log.items) d (logged_history i.script i.held.entries i.told.log.items d c.self.invariant.2) in
     let same = c.catalogue.ensures.same ∙ ap (λ (z : DatabaseData). z.catalogue) c.database.ensures.same in
     let tells = subst (λ (z : CatalogueData). TellsQuery z text (Err c.in-Err.error)) same c.in-Err.ensures in
     let said = past_refusal s d.catalogue refl defines text c.args.at c.in-Err.error tells in
@@ -34,7 +34,7 @@ returns-in_default-clause-asks c =
     let d = i.told.engine in
     let text = c.args.text.now in
     let x = c.in-Ok.query in
-    let defines = story_catalogue i.script i.held.entries (outcomes_of i.told.log.items) d (logged_story i.script i.held.entries i.told.log.items d c.self.invariant.2) in
+    let defines = history_catalogue i.script i.held.entries (outcomes_of i.told.log.items) d (logged_history i.script i.held.entries i.told.log.items d c.self.invariant.2) in
     let same = c.catalogue.ensures.same ∙ ap (λ (z : DatabaseData). z.catalogue) c.database.ensures.same in
     let t = subst (λ (z : CatalogueData). Types z text x) same c.in-Ok.ensures in
     let query = is_query s d.catalogue refl defines text c.args.at x t in
@@ -66,7 +66,7 @@ returns-in-Ok-asked-clause-asks c =
     let text = c.args.text.now in
     let x = c.in-Ok.query in
     let n = c.in-Some.kept in
-    let defines = story_catalogue i.script i.held.entries (outcomes_of i.told.log.items) d (logged_story i.script i.held.entries i.told.log.items d c.self.invariant.2) in
+    let defines = history_catalogue i.script i.held.entries (outcomes_of i.told.log.items) d (logged_history i.script i.held.entries i.told.log.items d c.self.invariant.2) in
     let same = c.catalogue.ensures.same ∙ ap (λ (z : DatabaseData). z.catalogue) c.database.ensures.same in
     let t = subst (λ (z : CatalogueData). Types z text x) same c.in-Ok.ensures in
     let p = subst (λ (es : List Entry). EndsWith c.args.at es n) c.entries-entries.ensures.entries c.in-Some.ensures in

@@ -10,7 +10,7 @@ use Rattle.td_replica.specs.Seen.{Contents, Seen, always_open, is_limit}
 use Rattle.td_replica.specs.declared.calls.Issued.{Issued}
 use Rattle.td_replica.specs.declared.refusal.IssueError.TheVariants as issue_error
 use Rattle.td_replay.proofs.Issuing.{issues_entry, issues_refusal, next_is_known, next_is_last, next_may_be_added}
-use Rattle.td_replay.proofs.Telling.{logged_more, logged_sound, logged_story}
+use Rattle.td_replay.proofs.Telling.{logged_more, logged_sound, logged_history}
 use Rattle.td_replay.proofs.state.State.issue_entry.Goals as goal
 
 pub add_last-requires-clause-fits : goal.add_last-requires-clause-fits
@@ -59,14 +59,14 @@ returns-in-Ok-None-clause-issues c =
     let s = always_open k in
     let text = c.args.text.now in
     let d = i.told.engine in
-    let story = logged_story i.script i.held.entries i.told.log.items d c.self.invariant.2 in
+    let history = logged_history i.script i.held.entries i.told.log.items d c.self.invariant.2 in
     let ran = rw c.in-Ok-None.field-0-is at c.in-Ok-None.ensures.ran in
     let holds = rw c.in-Ok-None.field-0-is at c.in-Ok-None.ensures.holds in
     let with_held : Holding → Seen = λ h. record { script = i.script; site = i.site; limit = h.limit; entries = h.entries; live = true } in
     let after = with_held c.add_last.new.held in
     let same = c.catalogue.ensures.same ∙ ap (λ (z : DatabaseData). z.catalogue) (c.database.ensures.same ∙ ran.0) in
     let refused = subst (λ (k : CatalogueData). IsRefusal k text c.refusal.result) same c.refusal.ensures in
-    subst (λ (z : Contents). Issues (always_open z) text (Err c.refusal.result) after) c.self.view_is (issues_refusal s after text (outcomes_of i.told.log.items) d c.refusal.result refl story (ap with_held holds) refused)
+    subst (λ (z : Contents). Issues (always_open z) text (Err c.refusal.result) after) c.self.view_is (issues_refusal s after text (outcomes_of i.told.log.items) d c.refusal.result refl history (ap with_held holds) refused)
 
 pub invariant_of-self-2 : goal.invariant_of-self-2
 invariant_of-self-2 c =

@@ -1,7 +1,7 @@
 use Rattle.std.proofs.Common.{subst}
 use Rattle.td_replay.specs.ForProofs.Told.{outcomes_of}
 use Rattle.td_replica.specs.Seen.{Contents, IsSound, always_open}
-use Rattle.td_replay.proofs.Telling.{logged_story}
+use Rattle.td_replay.proofs.Telling.{logged_history}
 use Rattle.td_replay.proofs.state.State.site.Goals as goal
 
 pub returns-clause-sound : goal.returns-clause-sound
@@ -16,5 +16,5 @@ returns-clause-sound c =
       ranges = e.ranges;
       within = e.few;
       outcomes = outcomes_of i.told.log.items;
-      told = (i.told.engine, logged_story i.script i.held.entries i.told.log.items i.told.engine c.self.invariant.2);
+      told = (i.told.engine, logged_history i.script i.held.entries i.told.log.items i.told.engine c.self.invariant.2);
     })

@@ -1,5 +1,0 @@
-use Rattle.td_replica.proofs.Agreeing.{story_is_one}
-use Rattle.td_replica.proofs.laws.story_is_one.Goals as goal
-
-pub returns : goal.returns
-returns c = story_is_one

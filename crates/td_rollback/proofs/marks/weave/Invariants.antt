@@ -1,9 +1,0 @@
-use Rattle.std.proofs.Common.{◌≡◌, ◌≤◌, ◌+◌, ◌++◌, length, vec_capacity}
-use Rattle.td_rollback.specs.Parts.{woven}
-use Rattle.td_rollback.proofs.marks.weave.Given as goal
-
-abbrev pub invariant-loop-mark : goal.invariant-loop-mark
-invariant-loop-mark g l = record {
-  woven : l.all.items ++ woven l.mark-iterator.rest.items l.firsts.rest.items l.seconds.rest.items ≡ l.fn.room.items ++ woven l.fn.marks.items l.fn.within.items l.fn.without.items;
-  room : length l.all.items + length l.mark-iterator.rest.items ≤ vec_capacity l.all;
-}

@@ -1,0 +1,339 @@
+//! A history replayed with more entries.
+
+ghost use Rattle.std.specs.Prelude.{◌≡◌, ◌⊎◌, ◌≤◌, ◌+◌, ◌++◌, ◌∷◌, [], ℕ, List, IfOk, OnErr, OnOk, length, drop, take};
+ghost use Rattle.std.specs.List.{Contains};
+ghost use Rattle.td_stamps.specs.declared.entry.Entry.{Entry as EntryData};
+ghost use Rattle.td_stamps.specs.declared.entry.Stamp.{Stamp as StampData};
+ghost use Rattle.td_rollback.specs.Going.{AreAlikeBut, Begins};
+ghost use Rattle.td_rollback.specs.Parts.{marked, unmarked, interleaved};
+ghost use Rattle.td_rollback.specs.Touched.{AreMore, IsTargetOf, Runs};
+ghost use Rattle.td_rollback.specs.Turns.{replayed_log, settled};
+ghost use Rattle.td_rollback.specs.ForProofs.Marked.{AreAmong, AreParted};
+ghost use Rattle.td_rollback.specs.ForProofs.Standing.{AreRead};
+
+use crate::labels::part_of;
+use crate::machine::Machine;
+use crate::marks::{chosen, flags_of, interleave, marks_of, split, with_flagged};
+use crate::names::add;
+use crate::replay::replay_end;
+use crate::turns::{ReplayedRecord, settle};
+use crate::undoing::{common_of, undo_end};
+use std::alloc::{AllocError, Global};
+use std::mem::replace;
+use td_stamps::{Entry, Stamp};
+
+// Places among which are all that the old entries may change, by their records, and these places.
+fn places_beside<M: Machine>(
+    alloc: Global,
+    machine: &M,
+    old: &[Entry],
+    log: &[(Stamp, M::Record)],
+    fresh: &[usize],
+) -> Result<Vec<usize>, AllocError>
+    requires history { (o : M) × Begins M.sound M.origin M.steps o old.now log.now machine.now }
+    requires each { length log.now ≡ length old.now }
+    ensures old { IfOk result (λ v. (n : ℕ) → IsTargetOf (M.targets (M.origin machine.now)) old.now n → Contains v.items n) }
+    ensures fresh { IfOk result (λ v. (n : ℕ) → Contains fresh.now n → Contains v.items n) }
+{
+    let mut places = Vec::from_slice(alloc, fresh)?;
+    for record in log {
+        add(&mut places, M::targets_of(&record.1))?;
+    }
+    Ok(places)
+}
+
+// A copy of all that the new entries behind the first ones may change: those that are not old change these places
+// alone.
+fn save_end<M: Machine>(
+    alloc: Global,
+    machine: &M,
+    old: &[Entry],
+    log: &[(Stamp, M::Record)],
+    new: &[Entry],
+    kept: usize,
+    fresh: &[usize],
+) -> Result<M::Part, AllocError>
+    requires history { (o : M) × Begins M.sound M.origin M.steps o old.now log.now machine.now }
+    requires each { length log.now ≡ length old.now }
+    requires kept { kept ≤ length new.now }
+    requires fresh { AreAmong (M.targets (M.origin machine.now)) old.now new.now fresh.now }
+    ensures { IfOk result (λ p. (ns : List ℕ) × M.saved p ns machine.now × ((n : ℕ) → IsTargetOf (M.targets (M.origin machine.now)) (drop kept new.now) n → Contains ns n)) }
+{
+    let places = places_beside(alloc, machine, old, log, fresh)?;
+    machine.save(alloc, &places)
+}
+
+// Takes all back but what both begin with, and replays the rest.
+fn replay_from<M: Machine>(
+    alloc: Global,
+    machine: &mut M,
+    old: &[Entry],
+    log: &[(Stamp, M::Record)],
+    new: &[Entry],
+    kept: usize,
+    readings: &[(Entry, M::Reading)],
+    meter: &mut M::Meter,
+) -> Result<Vec<ReplayedRecord<M::Record>>, AllocError>
+    requires history { (o : M) × Begins M.sound M.origin M.steps o old.now log.now machine.old }
+    requires each { length log.now ≡ length old.now }
+    requires more { AreMore old.now new.now }
+    requires alike { take kept old.now ≡ take kept new.now }
+    requires in_old { kept ≤ length old.now }
+    requires in_new { kept ≤ length new.now }
+    requires read { AreRead (M.is_read (M.origin machine.old)) readings.now }
+    ensures history { (o : M) → Begins M.sound M.origin M.steps o old.now log.now machine.old → IfOk result (λ turns. Begins M.sound M.origin M.steps o new.now (take kept log.now ++ settled (drop kept log.now) turns.items) machine.new) }
+    ensures many { IfOk result (λ turns. kept + length turns.items ≡ length new.now) }
+    ensures counted { (n : ℕ) → Runs (M.footprint (M.origin machine.old)) (M.targets (M.origin machine.old)) [] old.now new.now n → M.count meter.new ≤ M.count meter.old + n }
+    ensures elsewhere { AreAlikeBut M.alike (M.targets (M.origin machine.old)) (drop kept new.now) machine.old machine.new }
+    ensures origin { M.origin machine.new ≡ M.origin machine.old }
+{
+    undo_end(alloc, machine, old, log, kept)?;
+    let (_, old_end) = old.split_at(kept);
+    let (_, log_end) = log.split_at(kept);
+    let (_, new_end) = new.split_at(kept);
+    replay_end(alloc, machine, old_end, log_end, new_end, readings, meter)
+}
+
+// What becomes of the records of a history that is replayed: so many of the first stay, and the others follow.
+#[derive(Drop)]
+struct ReplayedPart<R> {
+    kept: usize,
+    turns: Vec<ReplayedRecord<R>>,
+}
+
+// Leads the machine to the end of the history of the new entries, from the end of that of the old ones. It takes back
+// all old entries from the end to the first one that a new one stands before, makes the change of each again that is
+// not touched, and runs all others. Where memory is wanting the machine is as it was.
+fn replay_part<M: Machine>(
+    alloc: Global,
+    machine: &mut M,
+    old: &[Entry],
+    log: &[(Stamp, M::Record)],
+    new: &[Entry],
+    fresh: &[usize],
+    readings: &[(Entry, M::Reading)],
+    meter: &mut M::Meter,
+) -> Result<ReplayedPart<M::Record>, AllocError>
+    requires history { (o : M) × Begins M.sound M.origin M.steps o old.now log.now machine.old }
+    requires more { AreMore old.now new.now }
+    requires fresh { AreAmong (M.targets (M.origin machine.old)) old.now new.now fresh.now }
+    requires read { AreRead (M.is_read (M.origin machine.old)) readings.now }
+    ensures history { (o : M) → Begins M.sound M.origin M.steps o old.now log.now machine.old → IfOk result (λ r. Begins M.sound M.origin M.steps o new.now (replayed_log log.now r.kept r.turns.items) machine.new) }
+    ensures front { IfOk result (λ r. r.kept ≤ length log.now) }
+    ensures many { IfOk result (λ r. r.kept + length r.turns.items ≡ length new.now) }
+    ensures kept { OnErr result (machine.new ≡ machine.old) }
+    ensures counted { (n : ℕ) → Runs (M.footprint (M.origin machine.old)) (M.targets (M.origin machine.old)) [] old.now new.now n → M.count meter.new ≤ M.count meter.old + n }
+    ensures few { M.count meter.new ≤ M.count meter.old + length new.now }
+    ensures origin { M.origin machine.new ≡ M.origin machine.old }
+{
+    let kept = common_of(old, new);
+    let part = save_end(alloc, machine, old, log, new, kept, fresh)?;
+    match replay_from(alloc, machine, old, log, new, kept, readings, meter) {
+        Ok(turns) => Ok(ReplayedPart { kept, turns }),
+        Err(error) => {
+            machine.put_back(part);
+            Err(error)
+        }
+    }
+}
+
+/// Entries, and which of them are marked.
+#[derive(Drop)]
+struct Marked {
+    marks: Vec<bool>,
+    entries: Vec<Entry>,
+}
+
+/// So many of the entries that are read are kept as they were read, until they run: some MB. The others are read again.
+const MOST_READINGS: usize = 4_096;
+
+/// What is fresh: what was read of the first entries, and the places that all depend on.
+#[derive(Drop)]
+struct Fresh<R> {
+    readings: Vec<(Entry, R)>,
+    places: Vec<usize>,
+}
+
+// Keeps what was read of an entry, unless many are kept.
+fn keep_reading<R: Drop>(
+    readings: &mut Vec<(Entry, R)>,
+    entry: Entry,
+    reading: R,
+) -> Result<(), AllocError>
+    ensures { OnOk result ((readings.new.items ≡ readings.old.items ++ (entry, reading) ∷ []) ⊎ (readings.new.items ≡ readings.old.items)) }
+{
+    if readings.len() >= MOST_READINGS {
+        return Ok(());
+    }
+    readings.push((entry, reading))?;
+    Ok(())
+}
+
+// Reads the entries, of which each tells the places that it depends on.
+fn read_all<M: Machine>(
+    alloc: Global,
+    machine: &M,
+    entries: &[Entry],
+) -> Result<Fresh<M::Reading>, AllocError>
+    ensures places { IfOk result (λ f. (n : ℕ) → IsTargetOf (M.footprint (M.origin machine.now)) entries.now n → Contains f.places.items n) }
+    ensures read { IfOk result (λ f. AreRead (M.is_read (M.origin machine.now)) f.readings.items) }
+{
+    let mut readings = Vec::new(alloc);
+    let mut places = Vec::new(alloc);
+    for entry in entries {
+        let reading = machine.read(alloc, entry)?;
+        add(&mut places, M::places_of(&reading))?;
+        keep_reading(&mut readings, entry.copy()?, reading)?;
+    }
+    Ok(Fresh { readings, places })
+}
+
+// The marks, with the entries that are marked.
+fn marked_of(alloc: Global, entries: &[Entry], marks: Vec<bool>) -> Result<Marked, AllocError>
+    ensures marks { IfOk result (λ m. m.marks.items ≡ marks.items) }
+    ensures entries { IfOk result (λ m. m.entries.items ≡ marked marks.items entries.now) }
+{
+    let entries = chosen(alloc, entries, Vec::from_slice(alloc, &marks)?)?;
+    Ok(Marked { marks, entries })
+}
+
+// Marks the old entries and all that is to be told: those that keep to the part of the places of what is fresh. Answers
+// copies of those that are marked, and what is fresh.
+fn mark_all<M: Machine>(
+    alloc: Global,
+    machine: &M,
+    old: &[Entry],
+    log: &[(Stamp, M::Record)],
+    new: &[Entry],
+) -> Result<(Marked, Marked, Fresh<M::Reading>), AllocError>
+    requires history { (o : M) × Begins M.sound M.origin M.steps o old.now log.now machine.now }
+    requires more { AreMore old.now new.now }
+    ensures parted { IfOk result (λ p. AreParted (M.closed (M.origin machine.now)) (M.footprint (M.origin machine.now)) old.now new.now p.0.marks.items p.1.marks.items) }
+    ensures old { IfOk result (λ p. p.0.entries.items ≡ marked p.0.marks.items old.now) }
+    ensures new { IfOk result (λ p. p.1.entries.items ≡ marked p.1.marks.items new.now) }
+    ensures fresh { IfOk result (λ p. AreAmong (M.targets (M.origin machine.now)) p.0.entries.items p.1.entries.items p.2.places.items) }
+    ensures read { IfOk result (λ p. AreRead (M.is_read (M.origin machine.now)) p.2.readings.items) }
+{
+    let flags = flags_of(alloc, old, new)?;
+    let fresh = chosen(alloc, new, Vec::from_slice(alloc, &flags)?)?;
+    let fresh = read_all(alloc, machine, &fresh)?;
+    let part = part_of(alloc, machine, &fresh.places, log)?;
+    let marks = marks_of::<M>(alloc, &part, log)?;
+    let all = with_flagged(alloc, flags, Vec::from_slice(alloc, &marks)?)?;
+    let told = marked_of(alloc, old, marks)?;
+    let all = marked_of(alloc, new, all)?;
+    Ok((told, all, fresh))
+}
+
+// Replays what is marked, and leaves all else as it is: whatever may fail comes before the log changes.
+fn replay_marked<M: Machine>(
+    alloc: Global,
+    machine: &mut M,
+    log: &mut Vec<(Stamp, M::Record)>,
+    told: Marked,
+    all: Marked,
+    fresh: &[usize],
+    readings: &[(Entry, M::Reading)],
+    meter: &mut M::Meter,
+) -> Result<(), AllocError>
+    requires history { (o : M) × Begins M.sound M.origin M.steps o told.entries.items (marked told.marks.items log.old.items) machine.old }
+    requires more { AreMore told.entries.items all.entries.items }
+    requires each { length told.marks.items ≡ length log.old.items }
+    requires fresh { AreAmong (M.targets (M.origin machine.old)) told.entries.items all.entries.items fresh.now }
+    requires read { AreRead (M.is_read (M.origin machine.old)) readings.now }
+    ensures history { OnOk result ((records : List (StampData × M.Record)) × (log.new.items ≡ interleaved all.marks.items records (unmarked told.marks.items log.old.items)) × ((o : M) → Begins M.sound M.origin M.steps o told.entries.items (marked told.marks.items log.old.items) machine.old → Begins M.sound M.origin M.steps o all.entries.items records machine.new)) }
+    ensures kept { OnErr result ((machine.new ≡ machine.old) × (log.new.items ≡ log.old.items)) }
+    ensures counted { (n : ℕ) → Runs (M.footprint (M.origin machine.old)) (M.targets (M.origin machine.old)) [] told.entries.items all.entries.items n → M.count meter.new ≤ M.count meter.old + n }
+    ensures few { M.count meter.new ≤ M.count meter.old + length all.entries.items }
+    ensures origin { M.origin machine.new ≡ M.origin machine.old }
+{
+    let within = Vec::with_capacity(alloc, log.len())?;
+    let without = Vec::with_capacity(alloc, log.len())?;
+    let room = Vec::with_capacity(alloc, all.entries.len())?;
+    let told_room = Vec::with_capacity(alloc, told.marks.len())?;
+    let all_room = Vec::with_capacity(alloc, all.marks.len())?;
+    let marks = Vec::from_slice(alloc, &told.marks)?;
+    let records = replace(log, Vec::new(alloc));
+    let (within, without) = split(records, marks, within, without);
+    match replay_part(
+        alloc,
+        machine,
+        &told.entries,
+        &within,
+        &all.entries,
+        fresh,
+        readings,
+        meter,
+    ) {
+        Ok(ReplayedPart { kept, turns }) => {
+            let within = settle(within, kept, turns, room);
+            *log = interleave(all.marks, within, without, all_room);
+            Ok(())
+        }
+        Err(error) => {
+            *log = interleave(told.marks, within, without, told_room);
+            Err(error)
+        }
+    }
+}
+
+// Replays a history, as `replay_with` does, of entries that do not begin alike.
+fn replay_differing_end<M: Machine>(
+    alloc: Global,
+    machine: &mut M,
+    old: &[Entry],
+    log: &mut Vec<(Stamp, M::Record)>,
+    new: &[Entry],
+    meter: &mut M::Meter,
+) -> Result<(), AllocError>
+    requires history { (o : M) × Begins M.sound M.origin M.steps o old.now log.old.items machine.old }
+    requires more { AreMore old.now new.now }
+    ensures history { (o : M) → Begins M.sound M.origin M.steps o old.now log.old.items machine.old → OnOk result (Begins M.sound M.origin M.steps o new.now log.new.items machine.new) }
+    ensures kept { OnErr result ((machine.new ≡ machine.old) × (log.new.items ≡ log.old.items)) }
+    ensures counted { (n : ℕ) → Runs (M.footprint (M.origin machine.old)) (M.targets (M.origin machine.old)) [] old.now new.now n → M.count meter.new ≤ M.count meter.old + n }
+    ensures few { M.count meter.new ≤ M.count meter.old + length new.now }
+    ensures origin { M.origin machine.new ≡ M.origin machine.old }
+{
+    let (told, all, fresh) = mark_all(alloc, &*machine, old, log, new)?;
+    let Fresh { readings, places } = fresh;
+    replay_marked(alloc, machine, log, told, all, &places, &readings, meter)
+}
+
+/// Leads the machine to the end of the history of the new entries, from the end of that of the old ones, with a record
+/// of each in the log, whatever sound state of the machine's origin they began from.
+///
+/// What the fresh entries depend on is a part of the places, with all that is tied to one of these: by what is asked of
+/// states, or by an old entry behind the first fresh one that depends on both. It takes back the old entries behind
+/// the first fresh one that keep to that part, from the end; makes the change of each again that is not touched, and
+/// runs all others. No other entry is taken back or made again: its record stays.
+///
+/// Where memory is wanting all is as it was, and each run that was made is counted.
+///
+/// Besides what the machine's calls cost it walks a few times along the entries behind the first fresh one, and moves
+/// their records; an entry that keeps to the part costs a look at each of its places among the places named, of which
+/// each is kept once.
+pub fn replay_with<M: Machine>(
+    alloc: Global,
+    machine: &mut M,
+    old: &[Entry],
+    log: &mut Vec<(Stamp, M::Record)>,
+    new: &[Entry],
+    meter: &mut M::Meter,
+) -> Result<(), AllocError>
+    requires history { (o : M) × Begins M.sound M.origin M.steps o old.now log.old.items machine.old }
+    requires more { AreMore old.now new.now }
+    ensures history { (o : M) → Begins M.sound M.origin M.steps o old.now log.old.items machine.old → OnOk result (Begins M.sound M.origin M.steps o new.now log.new.items machine.new) }
+    ensures kept { OnErr result ((machine.new ≡ machine.old) × (log.new.items ≡ log.old.items)) }
+    ensures counted { (n : ℕ) → Runs (M.footprint (M.origin machine.old)) (M.targets (M.origin machine.old)) [] old.now new.now n → M.count meter.new ≤ M.count meter.old + n }
+    ensures few { M.count meter.new ≤ M.count meter.old + length new.now }
+    ensures origin { M.origin machine.new ≡ M.origin machine.old }
+{
+    let kept = common_of(old, new);
+    log.reserve(new.len())?;
+    let mut end = log.split_off(kept)?;
+    let (_, old_end) = old.split_at(kept);
+    let (_, new_end) = new.split_at(kept);
+    let told = replay_differing_end(alloc, machine, old_end, &mut end, new_end, meter);
+    log.append(&mut end).unwrap();
+    told
+}
