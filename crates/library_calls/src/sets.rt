@@ -8,7 +8,7 @@ mod tables;
 
 ghost use Rattle.std.specs.Prelude.{◌≡◌};
 
-use crate::turns::{ReplayedRecord, least_time, tell};
+use crate::turns::{Turn, least_time, tell};
 use anyhow::{Result, bail};
 use operators::{OF_ONE, OF_SETS, OF_TWO, OperandNames, Operator, count};
 use std::time::{Duration, Instant};
@@ -34,7 +34,7 @@ struct Operation<'a> {
     names: &'a OperandNames,
 }
 
-impl ReplayedRecord for Operation<'_> {
+impl Turn for Operation<'_> {
     fn take(&self, rt: &HostRuntime) -> Result<(Duration, usize)> {
         let start = Instant::now(rt)?;
         let count = count(rt.alloc(), self.operator, self.a, self.b, self.names)?;
@@ -49,7 +49,7 @@ struct Making<'a> {
     size: u32,
 }
 
-impl ReplayedRecord for Making<'_> {
+impl Turn for Making<'_> {
     fn take(&self, rt: &HostRuntime) -> Result<(Duration, usize)> {
         let tuples = self.table.tuples(rt.alloc(), 0, self.size)?;
         let heading = self.table.heading.copy()?;
@@ -66,7 +66,7 @@ struct Change<'a> {
     after: &'a Relation,
 }
 
-impl ReplayedRecord for Change<'_> {
+impl Turn for Change<'_> {
     // What is given is how many tuples there are then.
     fn take(&self, rt: &HostRuntime) -> Result<(Duration, usize)> {
         if !self.before.same_heading(self.after) {

@@ -5,7 +5,7 @@
 
 ghost use Rattle.std.specs.Prelude.{◌≡◌, IfOk, length};
 
-use crate::turns::{ReplayedRecord, least_time, ratio};
+use crate::turns::{Turn, least_time, ratio};
 use anyhow::Result;
 use std::alloc::{AllocError, Global};
 use std::time::{Duration, Instant};
@@ -46,7 +46,7 @@ struct Taking {
     count: u32,
 }
 
-impl ReplayedRecord for Taking {
+impl Turn for Taking {
     // What is given is how many it holds then.
     fn take(&self, rt: &HostRuntime) -> Result<(Duration, usize)> {
         let alloc = rt.alloc();

@@ -4,17 +4,13 @@ use anyhow::Result;
 use std::time::Duration;
 
 /// Something that is timed again and again.
-pub trait ReplayedRecord {
+pub trait Turn {
     /// How long it took once, and how much it gave, which is the same each time.
     fn take(&self, rt: &HostRuntime) -> Result<(Duration, usize)>;
 }
 
 /// The least time of so many turns, of one at least, and how much each gives.
-pub fn least_time<T: ReplayedRecord>(
-    rt: &HostRuntime,
-    turns: u32,
-    turn: &T,
-) -> Result<(Duration, usize)> {
+pub fn least_time<T: Turn>(rt: &HostRuntime, turns: u32, turn: &T) -> Result<(Duration, usize)> {
     let (mut least, count) = turn.take(rt)?;
     for _ in 1..turns {
         least = least.min(turn.take(rt)?.0);

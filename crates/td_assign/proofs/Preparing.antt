@@ -45,7 +45,7 @@ use Rattle.td_assign.specs.declared.changes.Change.{Change}
 use Rattle.td_semantics.specs.declared.outcome.Outcome.{Outcome}
 use Rattle.td_semantics.specs.declared.outcome.Outcome.TheVariants as outcome
 use Rattle.td_assign.specs.declared.running.Prepared.{Prepared}
-use Rattle.td_assign.specs.declared.running.Prepared.TheVariants.{Changes, ReplayedRecord, Refused}
+use Rattle.td_assign.specs.declared.running.Prepared.TheVariants.{Changes, InPlace, Refused}
 use Rattle.td_assign.proofs.Replacing.{all_replaced}
 use Rattle.td_semantics.proofs.Unique.{one_text}
 
@@ -182,7 +182,7 @@ module _ (c k : CatalogueData) (dialect : ℕ) (text : List ℕ) (o : Option Typ
 -- ---- what follows from each step
 pub judged : {E : Type 0} (d : DatabaseData) (xs : List TypedAssignment) (cs : List Change) → assigned_by d xs ≡ Ok (given_to cs) → (m : Result Prepared E) → IfOk m (IsJudged d cs) → IfOk m (AreAssignedTo d xs)
 judged d xs cs given (Ok (Changes v ds)) h = (given ∙ ap (λ ys. Ok (given_to ys)) (sym h.0), subst (λ ys. MayChange d ys ds.items) (sym h.0) h.1)
-judged d xs cs given (Ok (ReplayedRecord n x)) h = absurd h
+judged d xs cs given (Ok (InPlace n x)) h = absurd h
 judged d xs cs given (Ok (Refused o)) h = by_test cs given h
 judged d xs cs given (Err e) h = tt
 
@@ -198,7 +198,7 @@ module _ (d : DatabaseData) (dialect : ℕ) (text : List ℕ) (x : TypedStatemen
 
     all_made : (m : Prepared) → AreAssignedTo d xs m → IsPrepared d dialect text m
     all_made (Changes v ds) h = (done p (given_as d x xs is ∙ h.0) h.1.passes, h.1)
-    all_made (ReplayedRecord n y) h = (x, p, (xs, is, h))
+    all_made (InPlace n y) h = (x, p, (xs, is, h))
     all_made (Refused o) h = refuses o h
 
   none_made : (e : Raise) → chosen_by d x ≡ Err (stop_of e) → Steps d dialect text (outcome.Raised e) d

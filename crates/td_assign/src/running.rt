@@ -54,7 +54,7 @@ fn refusal(failure: TestFailure) -> Outcome
 #[derive(Drop)]
 pub(crate) enum Prepared {
     Changes(Vec<Change>, Vec<(usize, Delta)>),
-    ReplayedRecord(usize, Delta),
+    InPlace(usize, Delta),
     Refused(Outcome),
 }
 
@@ -104,7 +104,7 @@ fn assigned(
     ensures { IfOk result (AreAssignedTo database.now assignments.now) }
 {
     match sources::turn(alloc, database, assignments) {
-        Ok(Some((target, delta))) => Ok(Prepared::ReplayedRecord(target, delta)),
+        Ok(Some((target, delta))) => Ok(Prepared::InPlace(target, delta)),
         Ok(None) => evaluated(alloc, database, assignments),
         Err(Failure::Raised(raise)) => Ok(Prepared::Refused(Outcome::Raised(raise))),
         Err(Failure::OutOfMemory) => Err(AllocError),
@@ -346,7 +346,7 @@ pub fn run_read(
             put_all(alloc, database, changes)?;
             Ok(ran(Outcome::Done, delta, names))
         }
-        Prepared::ReplayedRecord(relvar, delta) => {
+        Prepared::InPlace(relvar, delta) => {
             let (outcome, delta) = turn(alloc, database, relvar, delta)?;
             Ok(ran(outcome, delta, names))
         }

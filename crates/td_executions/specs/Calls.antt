@@ -55,7 +55,7 @@ abbrev pub Done : List Call → Sets → Type 0
 Done [] w = w ≡ no_sets
 Done (c ∷ cs) w = (before : Sets) × Done cs before × Does before c w
 
--- in the execution each site holds what it holds here, and the same was sent
+-- in the state each site holds what it holds here, and the same was sent
 pub record Mirrors (w : Sets) (u : GlobalState) : Type 0 where
   pub held : (site : ℕ) (e : Entry) → has (w.held site) e ≡ has (u.held site) e
   pub sent : (e : Entry) → has w.sent e ≡ has u.sent e

@@ -1,4 +1,4 @@
--- GlobalStates of many sites that meet only now and then (the tentative writes of Terry et al. 1995, Bayou). A list of
+-- Executions of many sites that meet only now and then (the tentative writes of Terry et al. 1995, Bayou). A list of
 -- entries stands here for the set of them, whatever its order and repeats.
 use Rattle.std.specs.Prelude.{◌≡◌, ◌⊎◌, ℕ, ◌≤◌, true, ◌==◌, if◌then◌else◌, List, [], ◌∷◌, length, Ok}
 use Rattle.td_stamps.specs.declared.entry.Entry.{Entry}
@@ -49,7 +49,7 @@ Happens w (deliver site e) v = (has w.sent e ≡ true) × (v ≡ with_set w site
 Happens w (reopen site es) v =
     ((e : Entry) → has es e ≡ true → has (w.held site) e ≡ true) × ((e : Entry) → e.site ≡ site → has w.sent e ≡ true → has es e ≡ true) × (v ≡ with_set w site es)
 
--- these events, of which the last stands first, lead to the execution
+-- these events, of which the last stands first, lead to the state
 abbrev pub Reached : List Event → GlobalState → Type 0
 Reached [] w = w ≡ initial_state
 Reached (ev ∷ evs) w = (before : GlobalState) × Reached evs before × Happens before ev w

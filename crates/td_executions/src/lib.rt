@@ -1,4 +1,4 @@
-//! GlobalStates of many sites: what holds however entries are issued, sent, delivered, and lost by a site that comes
+//! Executions of many sites: what holds however entries are issued, sent, delivered, and lost by a site that comes
 //! back.
 //!
 //! Begin with `specs/Laws.antt`: no two entries of one execution clash.

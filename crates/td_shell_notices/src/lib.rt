@@ -1,7 +1,7 @@
 //! What a person is told beside answers: of a site's journal, of what a meeting changed, of what became of statements,
 //! and of the room that is left.
 //!
-//! Begin with `journal_text`, what was found of a journal, and `ReplayedPart`, what a meeting changed.
+//! Begin with `journal_text`, what was found of a journal, and `MeetingChanges`, what a meeting changed.
 #![tactic(auto)]
 
 mod changes;
@@ -16,7 +16,7 @@ mod room;
 pub use changes::push_change_count;
 pub use digest::digest_text;
 pub use journal::{failure_words, journal_text, lack_words, read_only_text};
-pub use meeting::{ReplayedPart, Told};
+pub use meeting::{MeetingChanges, Told};
 pub use outcomes::{log_text, push_outcome, raise_words, refused_text};
 pub use refusal::{file_words, refusal_text};
 pub use room::room_text;

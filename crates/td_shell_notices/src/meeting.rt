@@ -22,7 +22,7 @@ pub struct Told {
 
 /// What a site tells otherwise after a meeting.
 #[derive(Drop)]
-pub struct ReplayedPart {
+pub struct MeetingChanges {
     /// For the end of the meeting's line.
     pub line_end: String,
     /// Lines behind it.
@@ -31,48 +31,48 @@ pub struct ReplayedPart {
 
 // What becomes of a statement with another outcome now.
 #[derive(Clone, Copy, PartialEq, Eq)]
-enum ReplayedRecord {
+enum OutcomeChange {
     Refused,
     Done,
     OtherReason,
 }
 
-const TURNS: [ReplayedRecord; 3] = [
-    ReplayedRecord::Refused,
-    ReplayedRecord::Done,
-    ReplayedRecord::OtherReason,
+const OUTCOME_CHANGES: [OutcomeChange; 3] = [
+    OutcomeChange::Refused,
+    OutcomeChange::Done,
+    OutcomeChange::OtherReason,
 ];
 
 // A statement with another outcome now.
 #[derive(Clone, Copy, Drop)]
-struct Turned<'a> {
+struct ChangedOutcome<'a> {
     stamp: Stamp,
-    turn: ReplayedRecord,
+    change: OutcomeChange,
     outcome: &'a Outcome,
 }
 
-fn turn_of(before: &Outcome, after: &Outcome) -> ReplayedRecord {
+fn change_of(before: &Outcome, after: &Outcome) -> OutcomeChange {
     match (is_refused(before), is_refused(after)) {
-        (false, _) => ReplayedRecord::Refused,
-        (true, false) => ReplayedRecord::Done,
-        (true, true) => ReplayedRecord::OtherReason,
+        (false, _) => OutcomeChange::Refused,
+        (true, false) => OutcomeChange::Done,
+        (true, true) => OutcomeChange::OtherReason,
     }
 }
 
-fn words_of(turn: ReplayedRecord) -> &'static str {
-    match turn {
-        ReplayedRecord::Refused => "refused now",
-        ReplayedRecord::Done => "done now",
-        ReplayedRecord::OtherReason => "refused for another reason now",
+fn words_of(change: OutcomeChange) -> &'static str {
+    match change {
+        OutcomeChange::Refused => "refused now",
+        OutcomeChange::Done => "done now",
+        OutcomeChange::OtherReason => "refused for another reason now",
     }
 }
 
 // The statements with another outcome now. Both lists are in the order of stamps.
-fn turned_between<'a>(
+fn changed_between<'a>(
     alloc: Global,
     before: &[(Stamp, Outcome)],
     after: &'a [(Stamp, Outcome)],
-) -> Result<Vec<Turned<'a>>, AllocError> {
+) -> Result<Vec<ChangedOutcome<'a>>, AllocError> {
     let mut found = Vec::new(alloc);
     let mut old = before.iter();
     let mut next = old.next();
@@ -81,9 +81,9 @@ fn turned_between<'a>(
             && known == stamp
         {
             if !are_same(told, outcome) {
-                found.push(Turned {
+                found.push(ChangedOutcome {
                     stamp: *stamp,
-                    turn: turn_of(told, outcome),
+                    change: change_of(told, outcome),
                     outcome,
                 })?;
             }
@@ -105,15 +105,15 @@ fn is_or_are(count: usize) -> &'static str {
 }
 
 // Appends those issued at the site to which this happened, where there are any.
-fn push_turned(
+fn push_changed(
     out: &mut String,
-    all: &[Turned<'_>],
+    all: &[ChangedOutcome<'_>],
     site: u16,
-    turn: ReplayedRecord,
+    change: OutcomeChange,
 ) -> Result<(), AllocError> {
     let mut count: usize = 0;
     for it in all {
-        if it.stamp.site == site && it.turn == turn {
+        if it.stamp.site == site && it.change == change {
             count = count.saturating_add(1);
         }
     }
@@ -121,9 +121,9 @@ fn push_turned(
         return Ok(());
     }
     let are = is_or_are(count);
-    let words = words_of(turn);
+    let words = words_of(change);
     write!(out, "; of those issued here {count} {are} {words}: ")?;
-    push_named(out, all, site, turn)?;
+    push_named(out, all, site, change)?;
     if count > MOST_NAMED {
         let more = count.saturating_sub(MOST_NAMED);
         write!(out, " and {more} more")?;
@@ -134,13 +134,13 @@ fn push_turned(
 // Appends the first of them, with commas between.
 fn push_named(
     out: &mut String,
-    all: &[Turned<'_>],
+    all: &[ChangedOutcome<'_>],
     site: u16,
-    turn: ReplayedRecord,
+    change: OutcomeChange,
 ) -> Result<(), AllocError> {
     let mut named: usize = 0;
     for it in all {
-        if it.stamp.site == site && it.turn == turn && named < MOST_NAMED {
+        if it.stamp.site == site && it.change == change && named < MOST_NAMED {
             if named > 0 {
                 out.push_str(", ")?;
             }
@@ -151,7 +151,7 @@ fn push_named(
     Ok(())
 }
 
-fn push_others(out: &mut String, all: &[Turned<'_>], site: u16) -> Result<(), AllocError> {
+fn push_others(out: &mut String, all: &[ChangedOutcome<'_>], site: u16) -> Result<(), AllocError> {
     let count = all.iter().filter(|it| it.stamp.site != site).count();
     if count > 0 {
         let are = is_or_are(count);
@@ -163,16 +163,16 @@ fn push_others(out: &mut String, all: &[Turned<'_>], site: u16) -> Result<(), Al
     Ok(())
 }
 
-fn turns_in(
+fn changes_in(
     alloc: Global,
     site: u16,
     before: &[(Stamp, Outcome)],
     after: &[(Stamp, Outcome)],
 ) -> Result<String, AllocError> {
-    let all = turned_between(alloc, before, after)?;
+    let all = changed_between(alloc, before, after)?;
     let mut out = String::new(alloc);
-    for turn in TURNS {
-        push_turned(&mut out, &all, site, turn)?;
+    for change in OUTCOME_CHANGES {
+        push_changed(&mut out, &all, site, change)?;
     }
     push_others(&mut out, &all, site)?;
     Ok(out)
@@ -211,26 +211,24 @@ impl Told {
     }
 
     // The difference to what is told now.
-    fn replayed_log(
+    fn meeting_changes(
         &self,
         alloc: Global,
         catalogue: &Catalogue,
         now: &Told,
-    ) -> Result<ReplayedPart, AllocError> {
+    ) -> Result<MeetingChanges, AllocError> {
         let came = count_of(&now.outcomes, self.site).saturating_sub(count_of(
             &self.outcomes,
             self.site,
         ));
-        let mut replayed_log = ReplayedPart {
-            line_end: turns_in(alloc, self.site, &self.outcomes, &now.outcomes)?,
+        let mut changes = MeetingChanges {
+            line_end: changes_in(alloc, self.site, &self.outcomes, &now.outcomes)?,
             lines: String::new(alloc),
         };
         let found = redone_since(alloc, &self.done, &now.done)?;
-        push_redone(&mut replayed_log, catalogue, &self.done, &now.done, &found)?;
-        replayed_log
-            .lines
-            .push_str(own_words(alloc, came)?.as_str())?;
-        Ok(replayed_log)
+        push_redone(&mut changes, catalogue, &self.done, &now.done, &found)?;
+        changes.lines.push_str(own_words(alloc, came)?.as_str())?;
+        Ok(changes)
     }
 
     /// What the site tells otherwise now. It costs two walks along what is held, and along what the statements that
@@ -240,13 +238,13 @@ impl Told {
         alloc: Global,
         catalogue: &Catalogue,
         site: &R,
-    ) -> Result<ReplayedPart, TellError> {
+    ) -> Result<MeetingChanges, TellError> {
         let now = match Told::by(alloc, site) {
             Ok(now) => now,
             Err(error) => return Err(error),
         };
-        match self.replayed_log(alloc, catalogue, &now) {
-            Ok(replayed_log) => Ok(replayed_log),
+        match self.meeting_changes(alloc, catalogue, &now) {
+            Ok(changes) => Ok(changes),
             Err(_) => Err(TellError::OutOfMemory),
         }
     }

@@ -2,7 +2,7 @@
 //! values come from what another statement changes now.
 
 use crate::changes::{Change, are_one, copies_of, push_changes};
-use crate::meeting::{MOST_NAMED, ReplayedPart};
+use crate::meeting::{MOST_NAMED, MeetingChanges};
 use crate::outcomes::is_refused;
 use std::alloc::{AllocError, Global};
 use td_changes::Changes;
@@ -86,7 +86,7 @@ fn push_line(
 
 // Appends the stamps of the first of them, with commas between, and what these changed before and change now.
 fn push_first(
-    out: &mut ReplayedPart,
+    out: &mut MeetingChanges,
     catalogue: &Catalogue,
     before: &[DoneHere],
     now: &[DoneHere],
@@ -110,7 +110,7 @@ fn push_first(
 
 /// Appends which of them there are, where there are any.
 pub(crate) fn push_redone(
-    out: &mut ReplayedPart,
+    out: &mut MeetingChanges,
     catalogue: &Catalogue,
     before: &[DoneHere],
     now: &[DoneHere],

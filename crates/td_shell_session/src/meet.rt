@@ -13,7 +13,7 @@ use td_journal_files::Notes;
 use td_meeting::{MeetingError, answer, finish, greet, settle};
 use td_replica::{Replica, TakeError, Taken, TellError};
 use td_semantics::Meter;
-use td_shell_notices::{ReplayedPart, Told, room_text};
+use td_shell_notices::{MeetingChanges, Told, room_text};
 
 const NO_ADDRESS: &str =
     "fault address: an address is numbers and a port, as 127.0.0.1:7001 or [::1]:7001\n";
@@ -129,7 +129,7 @@ fn with_changes<R: Changes>(
 ) -> Result<String, AllocError> {
     let mut out = String::from_str(alloc, line.trim_ascii_end())?;
     match before.compare(alloc, catalogue, site) {
-        Ok(ReplayedPart { line_end, lines }) => {
+        Ok(MeetingChanges { line_end, lines }) => {
             out.push_str(line_end.as_str())?;
             out.push_str("\n")?;
             out.push_str(lines.as_str())?;

@@ -19,7 +19,7 @@ use Rattle.td_assign.specs.declared.changes.Change.{Change}
 use Rattle.td_semantics.specs.declared.outcome.Outcome.{Outcome}
 use Rattle.td_semantics.specs.declared.outcome.Outcome.TheVariants.{Done, Raised}
 use Rattle.td_assign.specs.declared.running.Prepared.{Prepared}
-use Rattle.td_assign.specs.declared.running.Prepared.TheVariants.{Changes, ReplayedRecord, Refused}
+use Rattle.td_assign.specs.declared.running.Prepared.TheVariants.{Changes, InPlace, Refused}
 
 abbrev pub failing_after : DatabaseData → List Change → Option (Test × Option Stop)
 failing_after d cs = failing_with d (given_to cs)
@@ -33,7 +33,7 @@ pub record MayChange (d : DatabaseData) (cs : List Change) (ds : List (ℕ × De
 -- with these changes the tests decide
 abbrev pub IsJudged : DatabaseData → List Change → Prepared → Type 0
 IsJudged d cs (Changes v ds) = (v.items ≡ cs) × MayChange d cs ds.items
-IsJudged d cs (ReplayedRecord n x) = ⊥
+IsJudged d cs (InPlace n x) = ⊥
 IsJudged d cs (Refused o) = (t : Test) × (e : Option Stop) × (failing_after d cs ≡ Some (t, e)) × TellsTest d.catalogue t e o
 
 -- a source raises, or a test decides
@@ -44,7 +44,7 @@ pub data Refuses (d : DatabaseData) (xs : List TypedAssignment) : Outcome → Ty
 -- what assignments come to
 abbrev pub AreAssignedTo : DatabaseData → List TypedAssignment → Prepared → Type 0
 AreAssignedTo d xs (Changes v ds) = (assigned_by d xs ≡ Ok (given_to v.items)) × MayChange d v.items ds.items
-AreAssignedTo d xs (ReplayedRecord n x) = Gives d xs n x
+AreAssignedTo d xs (InPlace n x) = Gives d xs n x
 AreAssignedTo d xs (Refused o) = Refuses d xs o
 
 -- what decides which assignments a statement makes
@@ -63,5 +63,5 @@ MakesTurn d x n y = (xs : List TypedAssignment) × (chosen_by d x ≡ Ok xs) × 
 -- what a text comes to
 abbrev pub IsPrepared : DatabaseData → ℕ → List ℕ → Prepared → Type 0
 IsPrepared d dialect text (Changes v ds) = Steps d dialect text Done (with_all d (given_to v.items)) × MayChange d v.items ds.items
-IsPrepared d dialect text (ReplayedRecord n y) = (x : TypedStatement) × IsRead d.catalogue dialect text x × MakesTurn d x n y
+IsPrepared d dialect text (InPlace n y) = (x : TypedStatement) × IsRead d.catalogue dialect text x × MakesTurn d x n y
 IsPrepared d dialect text (Refused o) = Steps d dialect text o d
