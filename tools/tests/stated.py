@@ -1,4 +1,4 @@
-"""The examples of tools/refuse, with what each site shows, worked out by the rules of docs/LANGUAGE.md.
+"""The examples of ./td test memory, with what each site shows, worked out by the rules of docs/LANGUAGE.md.
 
 Each is the example of its name in docs/EXAMPLES.md, and that of its name in crates/library_calls, `call`.
 """
