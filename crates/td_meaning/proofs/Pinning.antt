@@ -151,7 +151,7 @@ pub narrows : (r : RowsData) (cs : List Check) (x : KeyIndexData) (fs : List (Li
     → IsRelationOf x.heading (λ u. Contains x.tuples u × (has_named x.key sought u ≡ true)) s → Narrows r cs s
 narrows r cs x fs sought s rows index are is part = record {
   heading = part.heading ∙ index.heading;
-  are_equal = λ m names q alike. narrowed q r s (has_named x.key sought) x index part (λ t has none.
+  same = λ m names q alike. narrowed q r s (has_named x.key sought) x index part (λ t has none.
       let f = has_fits r rows t has in
       alike t f ∙ fails r.heading cs t f m names fs x.key are (ap (λ v. has_named x.key v t) (sym is) ∙ none));
 }

@@ -158,7 +158,7 @@ module _ {S L : Type 0} (b : Workbench S L) (Begin : Sites → List S → Type 0
       let over : RunsOut (AnswersLine b c) state [] mid.left [] state = record { at_end = has.at_end refl; go_on = tt; printed = (refl, refl) } in
       let run : Ends (AnswersLine b c) state [] (reads_left has.bytes) has.bytes from told (Ok tt) state mid told = ([], (has.read, inr over), writes_nothing told) in
       let runs : ProgramRuns b Begin End options old from w (Ok tt) old mid told =
-      record { bytes = has.bytes; script = has.text; raws = []; says = says_alone now from mid kept true has; newly_opened = opens; accepted = accepted; begun = begun; begin = begin; catalogue = c; of_script = of; told = told; ready_told = wrote; ended = begun; end = all_end begun; ends = run } in
+      record { bytes = has.bytes; script = has.text; raws = []; says = says_alone now from mid kept true has; opened = opens; accepted = accepted; begun = begun; begin = begin; catalogue = c; of_script = of; told = told; ready_told = wrote; ended = begun; end = all_end begun; ends = run } in
       subst (λ (n : L). ProgramRuns b Begin End options old from w r n left after) same
       (subst (λ (x : Result (Unit {0}) Ended). ProgramRuns b Begin End options old from w x old left after) (sym is)
       (subst (λ (x : Input). ProgramRuns b Begin End options old from w (Ok tt) old x after) (sym unread) (subst (λ (x : Output). ProgramRuns b Begin End options old from w (Ok tt) old mid x) (sym unwritten) runs)))
@@ -173,7 +173,7 @@ module _ {S L : Type 0} (b : Workbench S L) (Begin : Sites → List S → Type 0
         script = has.text;
         raws = raw_lines more;
         says = has.leads more (λ last. absurd (false≢true last));
-        newly_opened = opens;
+        opened = opens;
         accepted = accepted;
         begun = begun;
         begin = begin;
