@@ -1,0 +1,523 @@
+//! The loop.
+
+use crate::calls::Calls;
+use crate::client::Client;
+use crate::limits::{MOST_ACCEPTED, MOST_CALLED, MOST_CLIENTS, STOP_TIME, TICK, TURN};
+use crate::meets::{Loss, MeetingReport, MeetingSide, Meets, PeerRefusal, StepResult};
+use crate::outbox::Outbox;
+use crate::peer::Peer;
+use crate::server::Server;
+use crate::transfer::{Progress, Readiness};
+use mio::net::{TcpListener, TcpStream};
+use mio::{Events, Interest, Poll, Token};
+use std::alloc::Global;
+use std::hash::RandomState;
+use std::io;
+use std::net::{IpAddr, Net, SocketAddr};
+use std::random::RandomSource;
+use std::time::{Clock, Duration, Instant};
+
+/// Where a site listens, and whom it calls.
+#[derive(Clone, Copy, Debug)]
+pub struct LoopOptions<'a> {
+    pub clients: SocketAddr,
+    /// Where peers call, if they may.
+    pub peers: Option<SocketAddr>,
+    /// The addresses of the peers that are met; all, where there are none.
+    pub allowed: &'a [IpAddr],
+    /// The peers that are called.
+    pub calls: &'a [SocketAddr],
+    /// Milliseconds between two calls of a peer.
+    pub every: u64,
+}
+
+const CLIENTS: usize = 0;
+
+const PEERS: usize = 1;
+
+const FIRST_CLIENT: usize = 2;
+
+const FIRST_ACCEPTED: usize = 66;
+
+const FIRST_CALLED: usize = 74;
+
+const MOST_EVENTS: usize = 78;
+
+/// The bytes of one read of a peer.
+const BUFFER: usize = 65_536;
+
+/// The listeners, the connections, and the peers to call.
+#[derive(Drop)]
+pub struct EventLoop {
+    alloc: Global,
+    poll: Poll,
+    client_listener: Option<TcpListener>,
+    peer_listener: Option<TcpListener>,
+    has_pending_clients: bool,
+    has_pending_peers: bool,
+    allowed: Vec<IpAddr>,
+    clients: Vec<Option<Client>>,
+    accepted: Vec<Option<Peer>>,
+    called: Vec<Option<Peer>>,
+    calls: Calls,
+    buffer: Vec<u8>,
+}
+
+fn listen<N: Net>(net: &N, poll: &Poll, at: SocketAddr, token: usize) -> io::Result<TcpListener> {
+    let mut listener = TcpListener::bind(net, at)?;
+    poll.registry()
+        .register(&mut listener, Token(token), Interest::READABLE)?;
+    Ok(listener)
+}
+
+fn empty_slots<T: Drop>(alloc: Global, count: usize) -> io::Result<Vec<Option<T>>> {
+    let mut slots = Vec::with_capacity(alloc, count)?;
+    for _ in 0..count {
+        match slots.push(None) {
+            Ok(()) => {}
+            Err(_) => return Err(io::ErrorKind::OutOfMemory.into()),
+        }
+    }
+    Ok(slots)
+}
+
+fn free_slot<T: Drop>(slots: &[Option<T>]) -> Option<usize> {
+    slots.iter().position(|slot| slot.is_none())
+}
+
+// The client that is idle longest; none where each has an answer under way.
+fn idlest_client(clients: &[Option<Client>]) -> Option<usize> {
+    let mut idlest = None;
+    let mut longest = 0;
+    for (i, client) in clients.iter().enumerate() {
+        if let Some(client) = client
+            && let Some(idle) = client.idle()
+            && idle >= longest
+        {
+            idlest = Some(i);
+            longest = idle;
+        }
+    }
+    idlest
+}
+
+fn millis(spent: Duration) -> u64 {
+    spent
+        .as_secs()
+        .saturating_mul(1000)
+        .saturating_add(u64::from(spent.subsec_millis()))
+}
+
+// Gives each meeting its turn; tells whether one can go on at once.
+fn turn_peers<M: Meets>(
+    peers: &mut [Option<Peer>],
+    first: usize,
+    site: &mut M,
+    calls: &mut Calls,
+    buffer: &mut [u8],
+    now: u64,
+) -> bool {
+    let mut is_busy = false;
+    for (i, slot) in peers.iter_mut().enumerate() {
+        let meeting = first.saturating_add(i);
+        let (progress, loss) = match slot {
+            Some(peer) => peer.take_turn(meeting, site, buffer, now),
+            None => (Progress::Waiting, None),
+        };
+        match progress {
+            Progress::Busy => is_busy = true,
+            Progress::Waiting => {}
+            Progress::Ended => {
+                end_meeting(slot, meeting, site, calls, loss, now);
+                *slot = None;
+            }
+        }
+    }
+    is_busy
+}
+
+fn end_meeting<M: Meets>(
+    slot: &Option<Peer>,
+    meeting: usize,
+    site: &mut M,
+    calls: &mut Calls,
+    loss: Option<Loss>,
+    now: u64,
+) {
+    if let Some(peer) = slot {
+        let report = peer.report(meeting, loss);
+        let outcome = site.end(&report);
+        if report.side == MeetingSide::First {
+            calls.end(report.peer, outcome, now);
+        }
+    }
+}
+
+fn stop_peers<M: Meets>(
+    peers: &mut [Option<Peer>],
+    first: usize,
+    site: &mut M,
+    calls: &mut Calls,
+    now: u64,
+) {
+    for (i, slot) in peers.iter_mut().enumerate() {
+        let meeting = first.saturating_add(i);
+        end_meeting(slot, meeting, site, calls, Some(Loss::Stopped), now);
+        *slot = None;
+    }
+}
+
+fn add_readiness_of_client(clients: &mut [Option<Client>], slot: usize, readiness: Readiness) {
+    if let Some(Some(client)) = clients.get_mut(slot) {
+        client.add_readiness(readiness);
+    }
+}
+
+fn add_readiness_of_peer(peers: &mut [Option<Peer>], slot: usize, readiness: Readiness) {
+    if let Some(Some(peer)) = peers.get_mut(slot) {
+        peer.add_readiness(readiness);
+    }
+}
+
+impl EventLoop {
+    /// Listens for clients and peers. A port of 0 leaves the choice to the system.
+    pub fn bind<N: Net + AllocGlobal>(net: &N, options: &LoopOptions<'_>) -> io::Result<EventLoop> {
+        let alloc = net.alloc();
+        let poll = Poll::new(net)?;
+        let client_listener = listen(net, &poll, options.clients, CLIENTS)?;
+        let peer_listener = match options.peers {
+            Some(at) => Some(listen(net, &poll, at, PEERS)?),
+            None => None,
+        };
+        Ok(EventLoop {
+            alloc,
+            poll,
+            client_listener: Some(client_listener),
+            peer_listener,
+            has_pending_clients: true,
+            has_pending_peers: true,
+            allowed: options.allowed.to_vec(alloc)?,
+            clients: empty_slots(alloc, MOST_CLIENTS)?,
+            accepted: empty_slots(alloc, MOST_ACCEPTED)?,
+            called: empty_slots(alloc, MOST_CALLED)?,
+            calls: Calls::new(alloc, options.calls, options.every)?,
+            buffer: Vec::from_elem(alloc, 0u8, BUFFER)?,
+        })
+    }
+
+    /// Where it listens for clients.
+    pub fn client_address(&self) -> io::Result<SocketAddr> {
+        match &self.client_listener {
+            Some(listener) => listener.local_addr(),
+            None => Err(io::ErrorKind::NotConnected.into()),
+        }
+    }
+
+    /// Where it listens for peers, if it does.
+    pub fn peer_address(&self) -> io::Result<Option<SocketAddr>> {
+        match &self.peer_listener {
+            Some(listener) => Ok(Some(listener.local_addr()?)),
+            None => Ok(None),
+        }
+    }
+
+    fn add_readiness(&mut self, token: usize, readiness: Readiness) {
+        if token == CLIENTS {
+            self.has_pending_clients = true;
+        } else if token == PEERS {
+            self.has_pending_peers = true;
+        } else if token < FIRST_ACCEPTED {
+            add_readiness_of_client(&mut self.clients, token - FIRST_CLIENT, readiness);
+        } else if token < FIRST_CALLED {
+            add_readiness_of_peer(&mut self.accepted, token - FIRST_ACCEPTED, readiness);
+        } else {
+            add_readiness_of_peer(&mut self.called, token - FIRST_CALLED, readiness);
+        }
+    }
+
+    // Waits for events, and takes note of them.
+    fn wait(&mut self, events: &mut Events, is_busy: bool) -> io::Result<()> {
+        let wait = if is_busy { 0 } else { TICK };
+        self.poll.poll(events, Some(Duration::from_millis(wait)))?;
+        for event in events.iter() {
+            let readiness = Readiness {
+                is_readable: event.is_readable() || event.is_read_closed() || event.is_error(),
+                is_writable: event.is_writable() || event.is_write_closed() || event.is_error(),
+            };
+            self.add_readiness(event.token().0, readiness);
+        }
+        Ok(())
+    }
+
+    fn add_client<H: RandomSource>(
+        &mut self,
+        host: &H,
+        stream: TcpStream,
+        now: u64,
+    ) -> io::Result<()> {
+        let free = match free_slot(&self.clients) {
+            Some(slot) => Some(slot),
+            None => idlest_client(&self.clients),
+        };
+        let Some(slot) = free else {
+            return Ok(());
+        };
+        let keys = RandomState::new(host)?;
+        let mut client = Client::new(self.alloc, keys, stream, now);
+        self.poll.registry().register(
+            client.stream_mut(),
+            Token(FIRST_CLIENT.saturating_add(slot)),
+            Interest::READABLE | Interest::WRITABLE,
+        )?;
+        if let Some(held) = self.clients.get_mut(slot) {
+            *held = Some(client);
+        }
+        Ok(())
+    }
+
+    fn accept_clients<H: RandomSource>(&mut self, host: &H, now: u64) {
+        if !self.has_pending_clients {
+            return;
+        }
+        for _ in 0..TURN {
+            let accepted = match &self.client_listener {
+                Some(listener) => listener.accept(),
+                None => return,
+            };
+            match accepted {
+                Ok((stream, _)) => {
+                    let _ = self.add_client(host, stream, now);
+                }
+                Err(error) if error.kind() == io::ErrorKind::WouldBlock => {
+                    self.has_pending_clients = false;
+                    return;
+                }
+                // As where no descriptors are left: the next turn tries again.
+                Err(_) => return,
+            }
+        }
+    }
+
+    fn is_allowed(&self, peer: SocketAddr) -> bool {
+        let address = peer.ip().to_canonical();
+        self.allowed.is_empty() || self.allowed.iter().any(|allowed| *allowed == address)
+    }
+
+    fn register(&self, peer: &mut Peer, token: usize) -> io::Result<()> {
+        self.poll.registry().register(
+            peer.stream_mut(),
+            Token(token),
+            Interest::READABLE | Interest::WRITABLE,
+        )
+    }
+
+    fn add_accepted(&mut self, mut peer: Peer, slot: usize) -> io::Result<()> {
+        self.register(&mut peer, FIRST_ACCEPTED.saturating_add(slot))?;
+        if let Some(held) = self.accepted.get_mut(slot) {
+            *held = Some(peer);
+        }
+        Ok(())
+    }
+
+    fn add_called(&mut self, mut peer: Peer, slot: usize) -> io::Result<()> {
+        self.register(&mut peer, FIRST_CALLED.saturating_add(slot))?;
+        if let Some(held) = self.called.get_mut(slot) {
+            *held = Some(peer);
+        }
+        Ok(())
+    }
+
+    fn meet_accepted<M: Meets>(
+        &mut self,
+        site: &mut M,
+        stream: TcpStream,
+        address: SocketAddr,
+        now: u64,
+    ) {
+        if !self.is_allowed(address) {
+            return site.refuse(address, PeerRefusal::Address);
+        }
+        match free_slot(&self.accepted) {
+            Some(slot) => {
+                let peer = Peer::accepted(self.alloc, stream, address, now);
+                let _ = self.add_accepted(peer, slot);
+            }
+            None => site.refuse(address, PeerRefusal::Crowded),
+        }
+    }
+
+    fn accept_peers<M: Meets>(&mut self, site: &mut M, now: u64) {
+        if !self.has_pending_peers {
+            return;
+        }
+        for _ in 0..TURN {
+            let accepted = match &self.peer_listener {
+                Some(listener) => listener.accept(),
+                None => return,
+            };
+            match accepted {
+                Ok((stream, address)) => self.meet_accepted(site, stream, address, now),
+                Err(error) if error.kind() == io::ErrorKind::WouldBlock => {
+                    self.has_pending_peers = false;
+                    return;
+                }
+                Err(_) => return,
+            }
+        }
+    }
+
+    // Begins a meeting with a peer in this slot.
+    fn call<N: Net, M: Meets>(
+        &mut self,
+        net: &N,
+        site: &mut M,
+        address: SocketAddr,
+        slot: usize,
+        now: u64,
+    ) {
+        let meeting = MOST_ACCEPTED.saturating_add(slot);
+        let mut greeting = Outbox::new(self.alloc);
+        let mut loss = None;
+        if site.greet(meeting, &mut greeting) == StepResult::Continue {
+            let added = match TcpStream::connect(net, address) {
+                Ok(stream) => {
+                    let peer = Peer::called(self.alloc, stream, address, greeting, now);
+                    self.add_called(peer, slot)
+                }
+                Err(error) => Err(error),
+            };
+            if added.is_ok() {
+                return;
+            }
+            loss = Some(Loss::Disconnected);
+        }
+        let outcome = site.end(&MeetingReport {
+            meeting,
+            peer: address,
+            side: MeetingSide::First,
+            loss,
+        });
+        self.calls.end(address, outcome, now);
+    }
+
+    // Calls a peer that is due.
+    fn call_due<N: Net, M: Meets>(&mut self, net: &N, site: &mut M, now: u64) {
+        if let Some(peer) = site.next_wish() {
+            self.calls.wish(peer);
+        }
+        let Some(slot) = free_slot(&self.called) else {
+            return;
+        };
+        if let Some(address) = self.calls.next_due(now) {
+            self.call(net, site, address, slot, now);
+        }
+    }
+
+    // Gives each client its turn; tells whether one can go on at once.
+    fn turn_clients<S: Server>(&mut self, server: &mut S, now: u64) -> bool {
+        let mut is_busy = false;
+        for slot in &mut self.clients {
+            let progress = match slot {
+                Some(client) => client.take_turn(server, now),
+                None => Progress::Waiting,
+            };
+            match progress {
+                Progress::Busy => is_busy = true,
+                Progress::Waiting => {}
+                Progress::Ended => *slot = None,
+            }
+        }
+        is_busy
+    }
+
+    // Gives all their turn; tells whether one can go on at once.
+    fn turn<S: Server, H: Net + RandomSource>(
+        &mut self,
+        host: &H,
+        server: &mut S,
+        now: u64,
+    ) -> bool {
+        self.accept_clients(host, now);
+        self.accept_peers(server, now);
+        self.call_due(host, server, now);
+        let has_busy_client = self.turn_clients(server, now);
+        let has_busy_peer = turn_peers(
+            &mut self.accepted,
+            0,
+            server,
+            &mut self.calls,
+            &mut self.buffer,
+            now,
+        );
+        let has_busy_call = turn_peers(
+            &mut self.called,
+            MOST_ACCEPTED,
+            server,
+            &mut self.calls,
+            &mut self.buffer,
+            now,
+        );
+        has_busy_client || has_busy_peer || has_busy_call
+    }
+
+    // Sends what is left of answers; tells whether some is left.
+    fn send_rests(&mut self) -> bool {
+        let mut is_left = false;
+        for slot in &mut self.clients {
+            let progress = match slot {
+                Some(client) => client.send_rest(),
+                None => Progress::Ended,
+            };
+            if progress == Progress::Ended {
+                *slot = None;
+            } else {
+                is_left = true;
+            }
+        }
+        is_left
+    }
+
+    // Ends all meetings, and sends the answers that are under way.
+    fn stop<S: Server, H: Clock>(
+        &mut self,
+        host: &H,
+        server: &mut S,
+        events: &mut Events,
+    ) -> io::Result<()> {
+        self.client_listener = None;
+        self.peer_listener = None;
+        stop_peers(&mut self.accepted, 0, server, &mut self.calls, 0);
+        stop_peers(&mut self.called, MOST_ACCEPTED, server, &mut self.calls, 0);
+        let begun = Instant::now(host)?;
+        for _ in 0..u64::MAX {
+            if !self.send_rests() || millis(begun.elapsed(host)?) > STOP_TIME {
+                return Ok(());
+            }
+            self.wait(events, false)?;
+        }
+        Ok(())
+    }
+
+    /// Serves clients and peers, and calls the peers that are due, until the server is to end: then no more is accepted,
+    /// answers that are under way are sent, for five seconds at most, and meetings are cut. An error is one of the
+    /// system's own: it refuses to wait, or tells no time.
+    pub fn run<S: Server, H: Net + Clock + RandomSource>(
+        &mut self,
+        host: &H,
+        server: &mut S,
+    ) -> io::Result<()> {
+        let mut events = Events::with_capacity(self.alloc, MOST_EVENTS)?;
+        let begun = Instant::now(host)?;
+        let mut is_busy = false;
+        for _ in 0..u64::MAX {
+            if server.is_stopping() {
+                return self.stop(host, server, &mut events);
+            }
+            self.wait(&mut events, is_busy)?;
+            let now = millis(begun.elapsed(host)?);
+            server.pass_time(now);
+            is_busy = self.turn(host, server, now);
+        }
+        Ok(())
+    }
+}

@@ -1,0 +1,59 @@
+//! What a peer has sent.
+
+ghost use Rattle.std.specs.Prelude.{◌≤◌, ◌↔◌, IsTrue, length, vec_len};
+
+use crate::limits::MOST_BYTES;
+use std::alloc::Global;
+use std::io;
+use std::io::Read;
+
+/// The bytes of a peer, `MOST_BYTES` at most.
+#[derive(Drop)]
+pub(crate) struct Inbox {
+    bytes: Vec<u8>,
+    has_ended: bool,
+    ghost within: { vec_len bytes ≤ 1048576 },
+}
+
+impl Inbox {
+    pub(crate) fn new(alloc: Global) -> Inbox {
+        Inbox {
+            bytes: Vec::new(alloc),
+            has_ended: false,
+        }
+    }
+
+    pub(crate) fn bytes(&self) -> &[u8]
+        ensures { length result.now ≤ MOST_BYTES }
+    {
+        &self.bytes
+    }
+
+    /// Whether no more is read: as much came as is kept, or the peer sends nothing more.
+    pub(crate) fn is_closed(&self) -> bool {
+        self.has_ended || self.is_full()
+    }
+
+    /// Whether as much came as is kept.
+    pub(crate) fn is_full(&self) -> bool
+        ensures { IsTrue result ↔ (MOST_BYTES ≤ vec_len self.now.bytes) }
+    {
+        self.bytes.len() >= MOST_BYTES
+    }
+
+    /// Reads once, through the buffer. A read of no byte is the end.
+    pub(crate) fn read_from<R: Read>(
+        &mut self,
+        reader: &mut R,
+        buffer: &mut [u8],
+    ) -> io::Result<usize> {
+        let room = (MOST_BYTES - self.bytes.len()).min(buffer.len());
+        let part = &mut buffer[..room];
+        let count = reader.read(part)?;
+        self.bytes.extend_from_slice(&part[..count])?;
+        if count == 0 {
+            self.has_ended = true;
+        }
+        Ok(count)
+    }
+}

@@ -1,0 +1,93 @@
+//! A site that meets others.
+
+use crate::outbox::Outbox;
+use std::net::SocketAddr;
+
+/// The side of a meeting on which a site is.
+#[derive(Clone, Copy, Debug, PartialEq, Eq)]
+pub enum MeetingSide {
+    /// It called the other site.
+    First,
+    /// It was called.
+    Second,
+}
+
+/// Why a meeting ended between its steps.
+#[derive(Clone, Copy, Debug, PartialEq, Eq)]
+pub enum Loss {
+    /// The peer sent and took no byte for 30 seconds.
+    Silent,
+    /// The peer sent and took less than 1 KiB a second, or for ten minutes.
+    Slow,
+    /// The connection failed, or was not made.
+    Disconnected,
+    /// The program ends.
+    Stopped,
+}
+
+/// Why a peer is not met.
+#[derive(Clone, Copy, Debug, PartialEq, Eq)]
+pub enum PeerRefusal {
+    /// Its address is none of those that are allowed.
+    Address,
+    /// As many peers are met as can be.
+    Crowded,
+}
+
+/// What follows a step.
+#[derive(Clone, Copy, Debug, PartialEq, Eq)]
+pub enum StepResult {
+    /// What was written is sent, and the peer is awaited.
+    Continue,
+    /// What was written is sent, and the meeting ends.
+    Part,
+    /// The meeting ends at once, and what was written is dropped.
+    Stop,
+}
+
+/// What a meeting came to.
+#[derive(Clone, Copy, Debug, PartialEq, Eq)]
+pub enum MeetingOutcome {
+    /// All that was to be exchanged was.
+    Complete,
+    /// Some of it was. A peer that was called is called again at once.
+    Partial,
+    /// Nothing was. A peer that was called is called again later each time.
+    Failed,
+}
+
+/// A meeting that ended.
+#[derive(Clone, Copy, Debug, PartialEq, Eq)]
+pub struct MeetingReport {
+    /// Its number, below `MOST_MEETINGS`. A meeting that begins later may have it too.
+    pub meeting: usize,
+    pub peer: SocketAddr,
+    pub side: MeetingSide,
+    /// Why it ended, where no step says so.
+    pub loss: Option<Loss>,
+}
+
+/// A site that meets others. Meetings overlap: each step is given the number of its meeting, under which the site may
+/// keep what came of it until the meeting ends.
+pub trait Meets {
+    /// The first step: writes the site's greeting.
+    fn greet(&mut self, meeting: usize, out: &mut Outbox) -> StepResult;
+
+    /// The second step: reads a greeting, and writes the site's own and the entries that the peer lacks.
+    fn answer(&mut self, meeting: usize, greeting: &[u8], out: &mut Outbox) -> StepResult;
+
+    /// The third step: reads a greeting and entries, and writes what the peer lacks.
+    fn settle(&mut self, meeting: usize, reply: &[u8], out: &mut Outbox) -> StepResult;
+
+    /// The fourth step: reads entries.
+    fn finish(&mut self, meeting: usize, entries: &[u8]);
+
+    /// Takes note of a meeting that ended.
+    fn end(&mut self, report: &MeetingReport) -> MeetingOutcome;
+
+    /// Takes note of a peer that is not met.
+    fn refuse(&mut self, peer: SocketAddr, refusal: PeerRefusal);
+
+    /// A peer that is to be called now, each told once. One that the loop does not call is left out.
+    fn next_wish(&mut self) -> Option<SocketAddr>;
+}

@@ -1,0 +1,63 @@
+//! What a peer is sent.
+
+ghost use Rattle.std.specs.Prelude.{◌≤◌, ◌↔◌, IsTrue, vec_len};
+
+use crate::limits::MOST_BYTES;
+use std::alloc::Global;
+use std::io;
+use std::io::{ErrorKind, Write};
+
+/// The bytes that the steps of a meeting have written for a peer, `MOST_BYTES` at most. A write that finds no room
+/// fails with `StorageFull`.
+#[derive(Drop)]
+pub struct Outbox {
+    bytes: Vec<u8>,
+    sent: usize,
+    ghost within: { vec_len bytes ≤ 1048576 },
+    ghost ordered: { sent ≤ vec_len bytes },
+}
+
+impl Outbox {
+    pub fn new(alloc: Global) -> Outbox {
+        Outbox {
+            bytes: Vec::new(alloc),
+            sent: 0,
+        }
+    }
+
+    /// Whether no write finds room.
+    pub fn is_full(&self) -> bool
+        ensures { IsTrue result ↔ (MOST_BYTES ≤ vec_len self.now.bytes) }
+    {
+        self.bytes.len() >= MOST_BYTES
+    }
+
+    /// Whether all of it is sent.
+    pub(crate) fn is_sent(&self) -> bool
+        ensures { IsTrue result ↔ (vec_len self.now.bytes ≤ self.now.sent) }
+    {
+        self.sent >= self.bytes.len()
+    }
+
+    /// Sends some of the bytes that are not sent yet, by one write.
+    pub(crate) fn send_to<W: Write>(&mut self, writer: &mut W) -> io::Result<usize> {
+        let count = writer.write(&self.bytes[self.sent..])?;
+        self.sent += count;
+        Ok(count)
+    }
+}
+
+impl Write for Outbox {
+    fn write(&mut self, buf: &[u8]) -> io::Result<usize> {
+        let count = (MOST_BYTES - self.bytes.len()).min(buf.len());
+        if count == 0 && !buf.is_empty() {
+            return Err(ErrorKind::StorageFull.into());
+        }
+        self.bytes.extend_from_slice(&buf[..count])?;
+        Ok(count)
+    }
+
+    fn flush(&mut self) -> io::Result<()> {
+        Ok(())
+    }
+}

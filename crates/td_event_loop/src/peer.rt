@@ -1,0 +1,291 @@
+//! A meeting, step by step, over a socket that never blocks.
+
+use crate::inbox::Inbox;
+use crate::limits::TURN;
+use crate::meets::{Loss, MeetingReport, MeetingSide, Meets, StepResult};
+use crate::outbox::Outbox;
+use crate::pace::Pace;
+use crate::transfer::{Progress, Readiness, Transfer, transfer_of};
+use mio::net::TcpStream;
+use std::alloc::Global;
+use std::io::Read;
+use std::net::{Shutdown, SocketAddr};
+use td_stream_bounds::{Extent, StreamScanner, greeting_extent};
+
+/// What is awaited.
+#[derive(Clone, Copy, Debug, PartialEq, Eq)]
+enum Stage {
+    /// The second site waits for a greeting.
+    Greeting,
+    /// The second site has answered, and waits for entries, which begin at this offset.
+    Entries(usize),
+    /// The first site has greeted, and waits for the answer.
+    Reply,
+    /// The last bytes are sent, by this side.
+    Parting(MeetingSide),
+    /// The first site has sent all, and drops what it is sent: the connection would be reset at once if it was closed
+    /// with bytes unread, and the last bytes lost.
+    Draining,
+}
+
+/// A meeting with a peer: its socket, what came and what is to go.
+#[derive(Drop)]
+pub(crate) struct Peer {
+    stream: TcpStream,
+    address: SocketAddr,
+    stage: Stage,
+    readiness: Readiness,
+    pace: Pace,
+    inbox: Inbox,
+    scanner: Option<StreamScanner>,
+    outbox: Outbox,
+}
+
+impl Peer {
+    /// A meeting that a peer begins.
+    pub(crate) fn accepted(
+        alloc: Global,
+        stream: TcpStream,
+        address: SocketAddr,
+        now: u64,
+    ) -> Peer {
+        Peer {
+            stream,
+            address,
+            stage: Stage::Greeting,
+            readiness: Readiness {
+                is_readable: true,
+                is_writable: true,
+            },
+            pace: Pace::new(now),
+            inbox: Inbox::new(alloc),
+            scanner: None,
+            outbox: Outbox::new(alloc),
+        }
+    }
+
+    /// A meeting that this site begins, with its greeting. An event tells when the connection is made.
+    pub(crate) fn called(
+        alloc: Global,
+        stream: TcpStream,
+        address: SocketAddr,
+        greeting: Outbox,
+        now: u64,
+    ) -> Peer {
+        Peer {
+            stream,
+            address,
+            stage: Stage::Reply,
+            readiness: Readiness {
+                is_readable: false,
+                is_writable: false,
+            },
+            pace: Pace::new(now),
+            inbox: Inbox::new(alloc),
+            scanner: None,
+            outbox: greeting,
+        }
+    }
+
+    pub(crate) fn stream_mut(&mut self) -> &mut TcpStream {
+        &mut self.stream
+    }
+
+    pub(crate) fn add_readiness(&mut self, readiness: Readiness) {
+        self.readiness.add(readiness);
+    }
+
+    fn side(&self) -> MeetingSide {
+        match self.stage {
+            Stage::Greeting | Stage::Entries(_) => MeetingSide::Second,
+            Stage::Reply | Stage::Draining => MeetingSide::First,
+            Stage::Parting(side) => side,
+        }
+    }
+
+    pub(crate) fn report(&self, meeting: usize, loss: Option<Loss>) -> MeetingReport {
+        MeetingReport {
+            meeting,
+            peer: self.address,
+            side: self.side(),
+            loss,
+        }
+    }
+
+    // Whether the greeting has come whole, or never will.
+    fn has_greeting(&mut self) -> bool {
+        if self.scanner.is_some() {
+            return true;
+        }
+        match greeting_extent(self.inbox.bytes()) {
+            Extent::Whole(end) => {
+                self.scanner = Some(StreamScanner::new(end));
+                true
+            }
+            Extent::Never => true,
+            Extent::Open => self.inbox.is_closed(),
+        }
+    }
+
+    // Whether the entries have come whole, or never will. Without a greeting they never will.
+    fn has_entries(&mut self) -> bool {
+        match &mut self.scanner {
+            Some(scanner) => match scanner.advance(self.inbox.bytes()) {
+                Extent::Open => self.inbox.is_closed(),
+                _ => true,
+            },
+            None => true,
+        }
+    }
+
+    fn answer<M: Meets>(&mut self, meeting: usize, site: &mut M) -> Progress {
+        let bytes = self.inbox.bytes();
+        let end = match greeting_extent(bytes) {
+            Extent::Whole(end) => end,
+            _ => bytes.len(),
+        };
+        self.stage = match site.answer(meeting, &bytes[..end], &mut self.outbox) {
+            StepResult::Continue => Stage::Entries(end),
+            StepResult::Part => Stage::Parting(MeetingSide::Second),
+            StepResult::Stop => return Progress::Ended,
+        };
+        Progress::Busy
+    }
+
+    fn finish<M: Meets>(&mut self, meeting: usize, entries_at: usize, site: &mut M) -> Progress {
+        let bytes = self.inbox.bytes();
+        let from = entries_at.min(bytes.len());
+        site.finish(meeting, &bytes[from..]);
+        Progress::Ended
+    }
+
+    fn settle<M: Meets>(&mut self, meeting: usize, site: &mut M) -> Progress {
+        if site.settle(meeting, self.inbox.bytes(), &mut self.outbox) == StepResult::Stop {
+            return Progress::Ended;
+        }
+        self.stage = Stage::Parting(MeetingSide::First);
+        Progress::Busy
+    }
+
+    fn part(&mut self, side: MeetingSide) -> Progress {
+        let _ = self.stream.shutdown(Shutdown::Write);
+        if side == MeetingSide::First && self.inbox.is_full() {
+            self.stage = Stage::Draining;
+            return Progress::Busy;
+        }
+        Progress::Ended
+    }
+
+    // Whether all has come that the next step needs.
+    fn is_ready(&mut self) -> bool {
+        match self.stage {
+            Stage::Greeting => self.has_greeting(),
+            Stage::Entries(_) => self.has_entries(),
+            Stage::Reply => self.has_greeting() && self.has_entries(),
+            Stage::Parting(_) => self.outbox.is_sent(),
+            Stage::Draining => false,
+        }
+    }
+
+    // Takes the next step, if it can be taken.
+    fn take_step<M: Meets>(&mut self, meeting: usize, site: &mut M) -> Progress {
+        if !self.is_ready() {
+            return Progress::Waiting;
+        }
+        match self.stage {
+            Stage::Greeting => self.answer(meeting, site),
+            Stage::Entries(at) => self.finish(meeting, at, site),
+            Stage::Reply => self.settle(meeting, site),
+            Stage::Parting(side) => self.part(side),
+            Stage::Draining => Progress::Waiting,
+        }
+    }
+
+    fn write(&mut self) -> Progress {
+        match transfer_of(self.outbox.send_to(&mut self.stream)) {
+            Transfer::Bytes(0) | Transfer::Failed => Progress::Ended,
+            Transfer::Bytes(count) => {
+                self.pace.add_bytes(count);
+                Progress::Busy
+            }
+            Transfer::Blocked => {
+                self.readiness.is_writable = false;
+                Progress::Busy
+            }
+        }
+    }
+
+    fn read(&mut self, buffer: &mut [u8]) -> Progress {
+        match transfer_of(self.inbox.read_from(&mut self.stream, buffer)) {
+            Transfer::Failed => Progress::Ended,
+            Transfer::Bytes(count) => {
+                self.pace.add_bytes(count);
+                Progress::Busy
+            }
+            Transfer::Blocked => {
+                self.readiness.is_readable = false;
+                Progress::Busy
+            }
+        }
+    }
+
+    fn drain(&mut self, buffer: &mut [u8]) -> Progress {
+        match transfer_of(self.stream.read(buffer)) {
+            Transfer::Bytes(0) | Transfer::Failed => Progress::Ended,
+            Transfer::Bytes(count) => {
+                self.pace.add_bytes(count);
+                Progress::Busy
+            }
+            Transfer::Blocked => {
+                self.readiness.is_readable = false;
+                Progress::Waiting
+            }
+        }
+    }
+
+    // Reads or writes once, where that can be.
+    fn transfer(&mut self, buffer: &mut [u8]) -> Progress {
+        if !self.outbox.is_sent() && self.readiness.is_writable {
+            return self.write();
+        }
+        if self.readiness.is_readable && !self.inbox.is_closed() {
+            return self.read(buffer);
+        }
+        Progress::Waiting
+    }
+
+    /// Gives the peer its turn: some reads and writes, and one step at most; and why the meeting ended, where no step
+    /// says so.
+    pub(crate) fn take_turn<M: Meets>(
+        &mut self,
+        meeting: usize,
+        site: &mut M,
+        buffer: &mut [u8],
+        now: u64,
+    ) -> (Progress, Option<Loss>) {
+        self.pace.pass(now);
+        let loss = self.pace.loss();
+        if self.stage == Stage::Draining {
+            let progress = match loss {
+                Some(_) => Progress::Ended,
+                None => self.drain(buffer),
+            };
+            return (progress, None);
+        }
+        if loss.is_some() {
+            return (Progress::Ended, loss);
+        }
+        for _ in 0..TURN {
+            match self.take_step(meeting, site) {
+                Progress::Waiting => {}
+                progress => return (progress, None),
+            }
+            match self.transfer(buffer) {
+                Progress::Busy => {}
+                Progress::Waiting => return (Progress::Waiting, None),
+                Progress::Ended => return (Progress::Ended, Some(Loss::Disconnected)),
+            }
+        }
+        (Progress::Busy, None)
+    }
+}

@@ -1,0 +1,16 @@
+//! What the loop serves.
+
+use crate::meets::Meets;
+use http_server::Service;
+
+/// A service of HTTP over a site that meets others.
+pub trait Server: Service + Meets {
+    /// How many requests were answered.
+    fn answered(&self) -> u64;
+
+    /// Takes note of the time, in milliseconds since the loop began. It is told before each turn.
+    fn pass_time(&mut self, now: u64);
+
+    /// Whether the program is to end.
+    fn is_stopping(&self) -> bool;
+}

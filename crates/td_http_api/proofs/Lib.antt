@@ -1,0 +1,3 @@
+-- The lemmas of the crate.
+mod Tokens
+mod Weaker

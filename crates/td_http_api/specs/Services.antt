@@ -1,0 +1,56 @@
+-- What comes of a request.
+use Rattle.std.specs.Prelude.{◌≡◌, ◌⊎◌, ◌≤◌, ℕ, List, [], Option, Some, codes}
+use Rattle.http.specs.declared.request.Request.{Request}
+use Rattle.http.specs.Request.{head_of}
+use Rattle.http_server.specs.declared.response.Response.{Response}
+use Rattle.http_uri.specs.Uri.{uri_path}
+use Rattle.td_http_api.specs.declared.guard.Guard.{Guard}
+use Rattle.td_http_api.specs.Answers.{Answer, Answering, IsAnswer}
+use Rattle.td_http_api.specs.Calls.{ApiCall}
+use Rattle.td_http_api.specs.Guards.{Admits}
+use Rattle.td_http_api.specs.Requests.{AsksFor}
+
+-- a fault: the desk is as it was
+pub record RespondsWithFault {D : Type 0} (old : D) (response : Response) (new : D) : Type 0 where
+  pub kept : new ≡ old
+  pub status : 400 ≤ response.status
+
+-- of calls that fit, the desk made one, and answered
+pub record Makes {D : Type 0} (Fits : ApiCall → Type 0) (answers : Answering D) (old : D) (answer : Option Answer) (new : D) : Type 0 where
+  pub call : ApiCall
+  pub fits : Fits call
+  pub answered : answers old call answer new
+
+-- the response is what the desk answers to a call that fits
+abbrev pub Responds : {D : Type 0} → (ApiCall → Type 0) → Answering D → D → Response → D → Type 0
+Responds Fits answers old response new = (answer : Answer) × IsAnswer answer response × Makes Fits answers old (Some answer) new
+
+-- memory ran out before a call that fits was made, or behind it
+abbrev pub LacksMemory : {D : Type 0} → (ApiCall → Type 0) → Answering D → D → D → Type 0
+LacksMemory Fits answers old new = (new ≡ old) ⊎ ((answer : Option Answer) × Makes Fits answers old answer new)
+
+-- a fault, or what the desk answers to a call that fits
+abbrev pub ComesTo : {D : Type 0} → (ApiCall → Type 0) → Answering D → D → Response → D → Type 0
+ComesTo Fits answers old response new = RespondsWithFault old response new ⊎ Responds Fits answers old response new
+
+-- the request is let in, and asks for the call
+abbrev pub MayCall : Guard → Request (List ℕ) → ApiCall → Type 0
+MayCall guard request call = Admits guard request × AsksFor request call
+
+-- the page, for which no token is asked
+pub record ShowsPage {D : Type 0} (old : D) (request : Request (List ℕ)) (new : D) : Type 0 where
+  pub path : uri_path (head_of request).uri ≡ codes "/"
+  pub kept : new ≡ old
+
+-- A response is the page, a fault that leaves the desk as it was, the desk's answer to the call that a request asks for
+-- which is let in, or an empty 503 where memory ran out.
+abbrev pub Serves : {D : Type 0} → Answering D → Guard → D → Request (List ℕ) → Response → D → Type 0
+Serves answers guard old request response new =
+    ShowsPage old request new
+    ⊎ (RespondsWithFault old response new
+    ⊎ (Responds (MayCall guard request) answers old response new
+    ⊎ (IsAnswer (record { status = 503; text = [] }) response × LacksMemory (MayCall guard request) answers old new)))
+
+-- a call keeps the guard, and serves the request
+abbrev pub Leads : {D : Type 0} → Answering D → Guard → D → Request (List ℕ) → Response → Guard → D → Type 0
+Leads answers guard old request response kept new = (kept ≡ guard) × Serves answers guard old request response new

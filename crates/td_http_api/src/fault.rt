@@ -1,0 +1,55 @@
+//! Why a request is not answered with what it asks for.
+
+ghost use Rattle.std.specs.Prelude.{◌≤◌};
+
+use http::StatusCode;
+use thiserror::Error;
+
+/// A fault of a request.
+#[derive(Clone, Copy, Debug, PartialEq, Eq, Error)]
+pub(crate) enum Fault<'a> {
+    #[error("the request names another host")]
+    Host,
+    #[error("the request comes from another page")]
+    Origin,
+    #[error("the token is lacking or another one")]
+    Token,
+    #[error("the body has to be application/json")]
+    ContentType,
+    #[error("nothing is at this path")]
+    Path,
+    #[error("this path takes {0}")]
+    Method(&'static str),
+    #[error("the path takes no ?{0}")]
+    Query(&'a str),
+    #[error("the body is no JSON in UTF-8")]
+    Json,
+    #[error("a member of the body comes twice")]
+    Twice,
+    #[error("the body is no object")]
+    NoObject,
+    #[error("{0} is no member that this path takes")]
+    Unknown(&'a str),
+    #[error("the body lacks {0}")]
+    Lacks(&'static str),
+    #[error("{0} has to be a text")]
+    NoText(&'static str),
+    #[error("{0} has to be a whole number from 0 on")]
+    NoCount(&'static str),
+}
+
+impl Fault<'_> {
+    pub(crate) fn status(&self) -> StatusCode
+        ensures { 400 ≤ result }
+    {
+        match self {
+            Fault::Host => StatusCode::MISDIRECTED_REQUEST,
+            Fault::Origin => StatusCode::FORBIDDEN,
+            Fault::Token => StatusCode::UNAUTHORIZED,
+            Fault::ContentType => StatusCode::UNSUPPORTED_MEDIA_TYPE,
+            Fault::Path => StatusCode::NOT_FOUND,
+            Fault::Method(_) => StatusCode::METHOD_NOT_ALLOWED,
+            _ => StatusCode::BAD_REQUEST,
+        }
+    }
+}

@@ -1,0 +1,137 @@
+//! What is sent.
+
+ghost use Rattle.std.specs.Prelude.{◌≡◌, ◌++◌, ◌≤◌, OnOk, string_bytes};
+ghost use Rattle.http_server.specs.Response.{IsBlank};
+ghost use Rattle.json.specs.Print.{print};
+ghost use Rattle.td_http_api.specs.Answers.{IsAnswer, fault_text};
+
+use crate::fault::Fault;
+use crate::page::{PAGE, POLICY};
+use bytes::Bytes;
+use http::StatusCode;
+use http_header::{
+    ALLOW, CACHE_CONTROL, CONTENT_SECURITY_POLICY, CONTENT_TYPE, HeaderName, HeaderValue,
+    REFERRER_POLICY, WWW_AUTHENTICATE, X_CONTENT_TYPE_OPTIONS,
+};
+use http_server::Response;
+use json::Writer;
+use std::alloc::{AllocError, Global};
+
+fn put(response: &mut Response, name: HeaderName, value: HeaderValue) -> Result<(), AllocError>
+    ensures status { response.new.status ≡ response.old.status }
+    ensures body { response.new.body ≡ response.old.body }
+{
+    response.add_header(name, value)
+}
+
+fn put_common(response: &mut Response) -> Result<(), AllocError>
+    ensures status { response.new.status ≡ response.old.status }
+    ensures body { response.new.body ≡ response.old.body }
+{
+    put(
+        response,
+        X_CONTENT_TYPE_OPTIONS,
+        HeaderValue::from_static("nosniff"),
+    )?;
+    put(
+        response,
+        CACHE_CONTROL,
+        HeaderValue::from_static("no-store"),
+    )
+}
+
+pub(crate) fn put_page(response: &mut Response) -> Result<(), AllocError> {
+    put(
+        response,
+        CONTENT_TYPE,
+        HeaderValue::from_static("text/html; charset=utf-8"),
+    )?;
+    put(
+        response,
+        CONTENT_SECURITY_POLICY,
+        HeaderValue::from_static(POLICY),
+    )?;
+    put(
+        response,
+        REFERRER_POLICY,
+        HeaderValue::from_static("no-referrer"),
+    )?;
+    put_common(response)?;
+    response.body.push(Bytes::from_static(PAGE.as_bytes()))
+}
+
+pub(crate) fn put_json(
+    response: &mut Response,
+    status: StatusCode,
+    out: Writer,
+) -> Result<(), AllocError>
+    requires { IsBlank response.old }
+    ensures { OnOk result (IsAnswer (record { status = status; text = out.before ++ print out.tokens })
+        response.new) }
+{
+    put(
+        response,
+        CONTENT_TYPE,
+        HeaderValue::from_static("application/json"),
+    )?;
+    put_common(response)?;
+    response.body.push(Bytes::from_vec(out.into_inner())?)?;
+    response.status = status;
+    Ok(())
+}
+
+pub(crate) fn put_table(response: &mut Response, table: String) -> Result<(), AllocError>
+    requires { IsBlank response.old }
+    ensures { OnOk result (IsAnswer (record { status = 200; text = string_bytes table })
+        response.new) }
+{
+    put(
+        response,
+        CONTENT_TYPE,
+        HeaderValue::from_static("text/csv; charset=utf-8"),
+    )?;
+    put_common(response)?;
+    response.body.push(Bytes::from_string(table)?)
+}
+
+pub(crate) fn put_words(
+    alloc: Global,
+    response: &mut Response,
+    status: StatusCode,
+    words: &str,
+) -> Result<(), AllocError>
+    requires { IsBlank response.old }
+    ensures { OnOk result (IsAnswer (record { status = status; text = fault_text words.now })
+        response.new) }
+{
+    let mut out = Writer::new(Vec::new(alloc));
+    out.begin_object()?;
+    out.key("fault")?;
+    out.string(words)?;
+    out.end_object()?;
+    put_json(response, status, out)
+}
+
+// A 401 has to name its scheme, and a 405 the methods.
+pub(crate) fn put_fault(
+    alloc: Global,
+    response: &mut Response,
+    fault: &Fault<'_>,
+) -> Result<(), AllocError>
+    requires { IsBlank response.old }
+    ensures { OnOk result (400 ≤ response.new.status) }
+{
+    let words = format!(in alloc; "{fault}")?;
+    put_words(alloc, response, fault.status(), words.as_str())?;
+    match fault {
+        Fault::Token => put(
+            response,
+            WWW_AUTHENTICATE,
+            HeaderValue::from_static("Bearer"),
+        ),
+        Fault::Method("POST") => put(response, ALLOW, HeaderValue::from_static("POST")),
+        Fault::Method("GET") => put(response, ALLOW, HeaderValue::from_static("GET")),
+        Fault::Method(_) => put(response, ALLOW, HeaderValue::from_static("GET, HEAD")),
+        _ => Ok(()),
+    }
+}

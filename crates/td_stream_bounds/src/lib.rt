@@ -1,0 +1,20 @@
+//! Where the bytes of a peer end: how far a greeting, or a stream of entries, reaches in the bytes that have come so
+//! far.
+//!
+//! Begin with `greeting_extent`, and with `StreamScanner`, whose `advance` goes on where the last call stopped.
+//!
+//! `specs/Extents.antt` defines how far each reaches, and laws tie these definitions to the frames of td_frames.
+//!
+//! td_stream_bounds knows the lengths in frames and no sites: it reads no text, no number and no version vector, so a
+//! greeting or a stream that it finds whole may still be refused by its reader.
+#![tactic(auto)]
+
+mod extent;
+mod frame;
+mod greeting;
+pub mod laws;
+mod stream;
+
+pub use extent::Extent;
+pub use greeting::greeting_extent;
+pub use stream::StreamScanner;
