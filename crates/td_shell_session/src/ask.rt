@@ -29,7 +29,8 @@ fn unread(alloc: Global, text: &str) -> Result<String, AllocError> {
     Ok(out)
 }
 
-fn not_asked(
+/// Why a query is not answered.
+pub fn not_asked(
     alloc: Global,
     catalogue: &Catalogue,
     text: &str,
@@ -68,7 +69,8 @@ fn shown(alloc: Global, value: Value, mode: Mode) -> Result<String, AllocError> 
     }
 }
 
-fn not_asked_at(
+/// Why a query about a past place is not answered.
+pub fn not_asked_at(
     alloc: Global,
     catalogue: &Catalogue,
     text: &str,

@@ -268,9 +268,9 @@ fn end<F: Sink>(end: Result<bool, SessionEnd>, faults: &mut F) -> u8 {
     }
 }
 
-// A site that holds nothing, as one must that is to come back from a journal; or the status, where it is told why there
-// is none.
-fn open_new<R: Opens, F: Sink>(
+/// A site that holds nothing, as one must that is to come back from a journal; or the status, where it is told why there
+/// is none.
+pub fn open_new<R: Opens, F: Sink>(
     alloc: Global,
     words: &ShellOptions<'_>,
     script: &str,
@@ -334,8 +334,8 @@ fn refusal_by_bytes<R: Opens + Drop, H: Files + AllocGlobal>(
     }
 }
 
-// Tells why a journal is not gone on with: what its file says of that, or else what it has.
-fn unkept<R: Opens + Drop, H: Files + AllocGlobal, F: Sink>(
+/// Tells why a journal is not gone on with: what its file says of that, or else what it has.
+pub fn unkept<R: Opens + Drop, H: Files + AllocGlobal, F: Sink>(
     alloc: Global,
     words: &ShellOptions<'_>,
     name: &str,
@@ -436,8 +436,8 @@ fn start_keeping<
     }
 }
 
-// The name of the site's journal, where it keeps one; or the status, where it is told why that is not opened.
-fn journal_name<H: Files + AllocGlobal + Clone + Drop, F: Sink>(
+/// The name of the site's journal, where it keeps one; or the status, where it is told why that is not opened.
+pub fn journal_name<H: Files + AllocGlobal + Clone + Drop, F: Sink>(
     alloc: Global,
     words: &ShellOptions<'_>,
     host: &H,

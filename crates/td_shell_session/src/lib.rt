@@ -33,7 +33,11 @@ mod wording;
 pub mod words;
 
 pub use access::Access;
+pub use ask::{not_asked, not_asked_at};
 pub use command::{Terminal, program};
 pub use ended::SessionEnd;
+pub use issue::not_issued;
+pub use meet::not_met;
 pub use shell::{Shell, converse};
 pub use td_terminals::Shown;
+pub use wording::{BROKEN, NO_MEMORY, UNCHANGED};

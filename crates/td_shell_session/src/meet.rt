@@ -70,7 +70,8 @@ fn take_words(alloc: Global, error: TakeError, notes: &Notes) -> Result<String, 
     String::from_str(alloc, words)
 }
 
-fn not_met(alloc: Global, error: MeetingError, notes: &Notes) -> Result<String, AllocError> {
+/// Why a meeting did not come to its end.
+pub fn not_met(alloc: Global, error: MeetingError, notes: &Notes) -> Result<String, AllocError> {
     let words = match error {
         MeetingError::Broken => BROKEN,
         MeetingError::OutOfMemory => NO_MEMORY,
