@@ -498,9 +498,9 @@ impl EventLoop {
         Ok(())
     }
 
-    /// Serves clients and peers, and calls the peers that are due, until the server is to end: then no more is accepted,
-    /// answers that are under way are sent, for five seconds at most, and meetings are cut. An error is one of the
-    /// system's own: it refuses to wait, or tells no time.
+    /// Serves clients and peers, and calls the peers that are due, until the server is to end: then no more is
+    /// accepted, answers that are under way are sent, for five seconds at most, and meetings are cut. An error is one
+    /// of the system's own: it refuses to wait, or tells no time.
     pub fn run<S: Server, H: Net + Clock + RandomSource>(
         &mut self,
         host: &H,

@@ -180,7 +180,7 @@ impl Peer {
     fn is_ready(&mut self) -> bool {
         match self.stage {
             Stage::Greeting => self.has_greeting(),
-            Stage::Entries(_) => self.has_entries(),
+            Stage::Entries(_) => self.outbox.is_sent() && self.has_entries(),
             Stage::Reply => self.has_greeting() && self.has_entries(),
             Stage::Parting(_) => self.outbox.is_sent(),
             Stage::Draining => false,
