@@ -27,6 +27,7 @@ TESTS = {
     "shell": "transcripts of the shell, at a terminal too",
     "journals": "journals that are cut, damaged, locked and refused, and the program killed while it writes",
     "sockets": "programs that meet over loopback, and peers that damage, cut, flood and are silent",
+    "servers": "servers that meet by themselves, are killed, and have hostile clients and peers",
     "memory": "runs without memory, and streams that fail",
     "differential": "random lines over both kinds of sites",
     "model": "random statements and queries with a model in Python",

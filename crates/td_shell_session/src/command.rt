@@ -268,8 +268,8 @@ fn end<F: Sink>(end: Result<bool, SessionEnd>, faults: &mut F) -> u8 {
     }
 }
 
-/// A site that holds nothing, as one must that is to come back from a journal; or the status, where it is told why there
-/// is none.
+/// A site that holds nothing, as one must that is to come back from a journal; or the status, where it is told why
+/// there is none.
 pub fn open_new<R: Opens, F: Sink>(
     alloc: Global,
     words: &ShellOptions<'_>,

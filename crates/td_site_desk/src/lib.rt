@@ -1,0 +1,22 @@
+//! A site behind a server: what programs and a browser ask of it by HTTP, and its meetings with other sites.
+//!
+//! Begin with `SiteDesk`, a `Desk` over any kind of site, and `SiteServer`, what the event loop serves.
+//!
+//! td_site_desk moves no bytes. It changes a site by `Replica::issue` and by the steps of a meeting alone.
+#![tactic(auto)]
+
+mod desk;
+mod exchange;
+mod inquiries;
+mod keys;
+mod meetings;
+mod reversals;
+mod server;
+mod statements;
+mod steps;
+mod values;
+mod words;
+
+pub use desk::{Peers, SiteDesk};
+pub use reversals::Reversals;
+pub use server::SiteServer;

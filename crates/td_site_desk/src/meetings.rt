@@ -1,0 +1,129 @@
+//! What came of meetings.
+
+use crate::words::{write_count, write_text, write_truth};
+use std::alloc::{AllocError, Global};
+use std::collections::VecDeque;
+use td_event_loop::{Loss, MOST_MEETINGS, MeetingOutcome, MeetingReport, MeetingSide};
+use td_http_api::Writer;
+
+/// So many meetings are told that ended.
+const MOST_TOLD: usize = 32;
+
+/// What a step came to: in words, and whether the meeting did what it is for.
+#[derive(Drop)]
+pub(crate) struct Note {
+    pub(crate) outcome: MeetingOutcome,
+    pub(crate) words: String,
+}
+
+/// A meeting that ended.
+#[derive(Drop)]
+struct Meeting {
+    peer: String,
+    is_called: bool,
+    is_met: bool,
+    words: String,
+    ended: u64,
+}
+
+/// What came of the meetings under way, each under its number, and of the last ones that ended.
+#[derive(Drop)]
+pub(crate) struct Meetings {
+    alloc: Global,
+    notes: Vec<Option<Note>>,
+    ended: VecDeque<Meeting>,
+}
+
+fn loss_words(loss: Option<Loss>) -> &'static str {
+    match loss {
+        Some(Loss::Silent) => "the other site was silent for 30 seconds",
+        Some(Loss::Slow) => "the other site was too slow",
+        Some(Loss::Disconnected) => "the connection failed, or was not made",
+        Some(Loss::Stopped) => "this program ended",
+        None => "there was no memory to tell",
+    }
+}
+
+impl Meetings {
+    pub(crate) fn new(alloc: Global) -> Result<Meetings, AllocError> {
+        let mut notes = Vec::with_capacity(alloc, MOST_MEETINGS)?;
+        for _ in 0..MOST_MEETINGS {
+            notes.push(None)?;
+        }
+        Ok(Meetings {
+            alloc,
+            notes,
+            ended: VecDeque::new(alloc),
+        })
+    }
+
+    /// Keeps what a step of a meeting came to.
+    pub(crate) fn note(&mut self, meeting: usize, note: Note) {
+        if let Some(kept) = self.notes.get_mut(meeting) {
+            *kept = Some(note);
+        }
+    }
+
+    fn take_note(&mut self, meeting: usize) -> Option<Note> {
+        match self.notes.get_mut(meeting) {
+            Some(kept) => kept.take(),
+            None => None,
+        }
+    }
+
+    fn keep(&mut self, report: &MeetingReport, note: Note, now: u64) -> Result<(), AllocError> {
+        let peer = report.peer;
+        let peer = format!(in self.alloc; "{peer}")?;
+        if self.ended.len() >= MOST_TOLD {
+            let _ = self.ended.pop_front();
+        }
+        self.ended.push_back(Meeting {
+            peer,
+            is_called: report.side == MeetingSide::First,
+            is_met: note.outcome != MeetingOutcome::Failed,
+            words: note.words,
+            ended: now,
+        })?;
+        Ok(())
+    }
+
+    /// Ends a meeting; the answer is what it came to, with a line for whoever watches.
+    pub(crate) fn end(
+        &mut self,
+        report: &MeetingReport,
+        now: u64,
+    ) -> Result<(MeetingOutcome, String), AllocError> {
+        let note = match self.take_note(report.meeting) {
+            Some(note) if report.loss.is_none() => note,
+            _ => Note {
+                outcome: MeetingOutcome::Failed,
+                words: String::from_str(self.alloc, loss_words(report.loss))?,
+            },
+        };
+        let outcome = note.outcome;
+        let peer = report.peer;
+        let way = match report.side {
+            MeetingSide::First => "to",
+            MeetingSide::Second => "from",
+        };
+        let line = format!(in self.alloc; "meeting {way} {peer}: {}\n", note.words)?;
+        self.keep(report, note, now)?;
+        Ok((outcome, line))
+    }
+
+    /// Appends the last meetings that ended, the last one first.
+    pub(crate) fn write(&self, out: &mut Writer, now: u64) -> Result<(), AllocError> {
+        out.key("meetings")?;
+        out.begin_array()?;
+        for meeting in self.ended.iter().rev() {
+            out.begin_object()?;
+            write_text(out, "peer", meeting.peer.as_str())?;
+            write_truth(out, "called", meeting.is_called)?;
+            write_truth(out, "met", meeting.is_met)?;
+            write_text(out, "words", meeting.words.as_str())?;
+            write_count(out, "seconds", now.saturating_sub(meeting.ended) / 1000)?;
+            out.end_object()?;
+        }
+        out.end_array()
+    }
+}

@@ -1,0 +1,174 @@
+//! Statements that were done here and are refused now.
+
+use crate::words::{is_same, read_stamp};
+use std::alloc::{AllocError, Global};
+use std::fs::{OpenFile, OpenOptions};
+use std::io::Write;
+use std::os::unix::fs::OpenOptionsExt;
+use std::rt::Files;
+use std::{fs, io};
+use td_listings::show_stamp;
+use td_paths::{Unreadable, read_plain};
+use td_replica::Replica;
+use td_semantics::Outcome;
+use td_stamps::Stamp;
+
+/// The rights of a file that its owner alone may read and write.
+const OWN: u32 = 0o600;
+
+/// The statements of this site that were done and are refused now, until a person has seen that; and those that are
+/// done. The reversed ones stand in a file beside the journal, a stamp on each line.
+#[derive(Drop)]
+pub struct Reversals {
+    alloc: Global,
+    name: Option<String>,
+    done: Vec<Stamp>,
+    reversed: Vec<Stamp>,
+}
+
+// Whether a statement of the site is among these of the site, which are in order.
+fn has(stamps: &[Stamp], stamp: &Stamp) -> bool {
+    stamps
+        .binary_search_by(|it| it.clock.cmp(&stamp.clock))
+        .is_ok()
+}
+
+// The stamps of a text, one on each line, or why they are none.
+fn stamps_of(alloc: Global, text: &str) -> Result<Vec<Stamp>, Unreadable> {
+    let mut stamps = Vec::new(alloc);
+    for line in text.lines() {
+        let Some(stamp) = read_stamp(line) else {
+            return Err(Unreadable::Failed);
+        };
+        if stamps.push(stamp).is_err() {
+            return Err(Unreadable::OutOfMemory);
+        }
+    }
+    stamps.sort_unstable_by_key(|stamp| stamp.clock);
+    Ok(stamps)
+}
+
+// The stamps of a file: none where there is no file.
+fn stamps_in<H: Files + AllocGlobal>(
+    alloc: Global,
+    host: &H,
+    name: &str,
+) -> Result<Vec<Stamp>, Unreadable> {
+    let bytes = match read_plain(host, name) {
+        Ok(bytes) => bytes,
+        Err(Unreadable::Missing) => return Ok(Vec::new(alloc)),
+        Err(error) => return Err(error),
+    };
+    match String::from_utf8(bytes) {
+        Ok(text) => stamps_of(alloc, text.as_str()),
+        Err(_) => Err(Unreadable::Failed),
+    }
+}
+
+// Writes a file anew, and hands it to the disk.
+fn write_synced<H: Files>(host: &H, name: &str, text: &str) -> io::Result<()> {
+    let mut file = OpenOptions::new()
+        .write(true)
+        .create(true)
+        .truncate(true)
+        .mode(OWN)
+        .open(host, name)?;
+    file.write_all(text.as_bytes())?;
+    file.sync_all()
+}
+
+impl Reversals {
+    /// Those that the file of this name has, if there is one. A file that is there and cannot be read is told, since it
+    /// would be written over.
+    pub fn open<H: Files + AllocGlobal>(
+        alloc: Global,
+        host: &H,
+        name: Option<String>,
+    ) -> Result<Reversals, Unreadable> {
+        let reversed = match &name {
+            Some(name) => stamps_in(alloc, host, name.as_str())?,
+            None => Vec::new(alloc),
+        };
+        Ok(Reversals {
+            alloc,
+            name,
+            done: Vec::new(alloc),
+            reversed,
+        })
+    }
+
+    /// Whether a statement of the site was done and is refused now.
+    pub(crate) fn contains(&self, stamp: &Stamp) -> bool {
+        has(&self.reversed, stamp)
+    }
+
+    /// Notes a statement that is done: the last one of the site.
+    pub(crate) fn add_done(&mut self, stamp: Stamp) -> Result<(), AllocError> {
+        self.done.push(stamp)?;
+        Ok(())
+    }
+
+    // What is done now, and what was done and is refused now.
+    fn review(
+        &self,
+        own: u16,
+        outcomes: &[(Stamp, Outcome)],
+    ) -> Result<(Vec<Stamp>, Vec<Stamp>), AllocError> {
+        let mut done = Vec::new(self.alloc);
+        let mut reversed = Vec::new(self.alloc);
+        for (stamp, outcome) in outcomes {
+            if stamp.site != own {
+                continue;
+            }
+            if matches!(outcome, Outcome::Done) {
+                done.push(*stamp)?;
+            } else if has(&self.done, stamp) || has(&self.reversed, stamp) {
+                reversed.push(*stamp)?;
+            }
+        }
+        Ok((done, reversed))
+    }
+
+    /// Looks at all statements of the site anew; tells how many were done before and are refused now.
+    pub(crate) fn update<R: Replica>(&mut self, site: &R) -> Result<usize, AllocError> {
+        let Ok(outcomes) = site.outcomes(self.alloc) else {
+            return Ok(0);
+        };
+        let (done, reversed) = self.review(site.site(), &outcomes)?;
+        let more = reversed
+            .iter()
+            .filter(|stamp| !has(&self.reversed, stamp))
+            .count();
+        self.done = done;
+        self.reversed = reversed;
+        Ok(more)
+    }
+
+    /// Lets go of a statement that a person has seen; tells whether it was there.
+    pub(crate) fn remove(&mut self, stamp: &Stamp) -> bool {
+        let before = self.reversed.len();
+        self.reversed.retain(|it| !is_same(it, stamp));
+        self.reversed.len() < before
+    }
+
+    fn text(&self) -> Result<String, AllocError> {
+        let mut text = String::new(self.alloc);
+        for stamp in &self.reversed {
+            show_stamp(&mut text, stamp)?;
+            text.push_str("\n")?;
+        }
+        Ok(text)
+    }
+
+    /// Writes the file anew: beside it, on the disk, and then in its place. The answer is whether that was done.
+    pub(crate) fn save<H: Files>(&self, host: &H) -> Result<bool, AllocError> {
+        let Some(name) = &self.name else {
+            return Ok(true);
+        };
+        let name = name.as_str();
+        let beside = format!(in self.alloc; "{name}.new")?;
+        let text = self.text()?;
+        let is_written = write_synced(host, beside.as_str(), text.as_str()).is_ok();
+        Ok(is_written && fs::rename(host, beside.as_str(), name).is_ok())
+    }
+}

@@ -1,0 +1,86 @@
+//! What the event loop serves.
+
+use crate::desk::SiteDesk;
+use bytes::Bytes;
+use http::Request;
+use http_server::{Response, Service};
+use std::alloc::AllocError;
+use std::net::SocketAddr;
+use std::rt::Runtime;
+use td_event_loop::{
+    MeetingOutcome, MeetingReport, Meets, Outbox, PeerRefusal, Server, StepResult,
+};
+use td_http_api::Api;
+use td_replica::Replica;
+
+/// A site that is asked by HTTP and meets others.
+#[derive(Drop)]
+pub struct SiteServer<'a, R: Drop, H> {
+    api: Api<SiteDesk<'a, R, H>>,
+    answered: u64,
+}
+
+impl<'a, R: Drop, H> SiteServer<'a, R, H> {
+    pub fn new(api: Api<SiteDesk<'a, R, H>>) -> SiteServer<'a, R, H> {
+        SiteServer { api, answered: 0 }
+    }
+}
+
+impl<R: Replica + Drop, H: Runtime + AllocGlobal> Service for SiteServer<'_, R, H> {
+    ghost answers = { λ _ _ _ _. Unit {0} };
+
+    fn call(
+        &mut self,
+        request: &Request<Bytes>,
+        response: &mut Response,
+    ) -> Result<(), AllocError> {
+        // The interface of HTTP answers every request.
+        let _ = self.api.call(request, response);
+        self.answered = self.answered.saturating_add(1);
+        Ok(())
+    }
+}
+
+impl<R: Replica + Drop, H: Runtime + AllocGlobal> Meets for SiteServer<'_, R, H> {
+    fn greet(&mut self, meeting: usize, out: &mut Outbox) -> StepResult {
+        self.api.desk.greet(meeting, out)
+    }
+
+    fn answer(&mut self, meeting: usize, greeting: &[u8], out: &mut Outbox) -> StepResult {
+        self.api.desk.answer(meeting, greeting, out)
+    }
+
+    fn settle(&mut self, meeting: usize, reply: &[u8], out: &mut Outbox) -> StepResult {
+        self.api.desk.settle(meeting, reply, out)
+    }
+
+    fn finish(&mut self, meeting: usize, entries: &[u8]) {
+        self.api.desk.finish(meeting, entries)
+    }
+
+    fn end(&mut self, report: &MeetingReport) -> MeetingOutcome {
+        self.api.desk.end(report)
+    }
+
+    fn refuse(&mut self, peer: SocketAddr, refusal: PeerRefusal) {
+        self.api.desk.refuse(peer, refusal)
+    }
+
+    fn next_wish(&mut self) -> Option<SocketAddr> {
+        self.api.desk.next_wish()
+    }
+}
+
+impl<R: Replica + Drop, H: Runtime + AllocGlobal> Server for SiteServer<'_, R, H> {
+    fn answered(&self) -> u64 {
+        self.answered
+    }
+
+    fn is_stopping(&self) -> bool {
+        self.api.desk.is_stopping()
+    }
+
+    fn pass_time(&mut self, now: u64) {
+        self.api.desk.pass_time(now)
+    }
+}

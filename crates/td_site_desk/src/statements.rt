@@ -1,0 +1,196 @@
+//! Statements that clients issue.
+
+ghost use Rattle.std.specs.Prelude.{◌≡◌, ◌⊎◌};
+ghost use Rattle.td_site_desk.specs.Sites.{IsIssued};
+
+use crate::desk::SiteDesk;
+use crate::inquiries::STAMP_WORDS;
+use crate::keys::KeyedText;
+use crate::words::{fault, read_stamp, reason_of, stamp_text, write_text, write_truth};
+use std::alloc::{AllocError, Global};
+use std::rt::Runtime;
+use td_http_api::{StatusCode, Writer};
+use td_replica::{IssueError, Issued, Replica};
+use td_shell_notices::lack_words;
+use td_shell_session::not_issued;
+use td_stamps::Stamp;
+
+/// A key is at most so long.
+const MOST_KEY_BYTES: usize = 128;
+
+fn status_of(error: IssueError) -> StatusCode {
+    match error {
+        IssueError::Syntax | IssueError::IllTyped => StatusCode::UNPROCESSABLE_ENTITY,
+        IssueError::ClockEnd | IssueError::Full => StatusCode::INSUFFICIENT_STORAGE,
+        IssueError::Broken | IssueError::JournalWrite => StatusCode::INTERNAL_SERVER_ERROR,
+        IssueError::OutOfMemory => StatusCode::SERVICE_UNAVAILABLE,
+    }
+}
+
+fn write_issued(
+    alloc: Global,
+    out: &mut Writer,
+    stamp: &Stamp,
+    reason: Option<&str>,
+) -> Result<StatusCode, AllocError> {
+    let text = stamp_text(alloc, stamp)?;
+    write_text(out, "stamp", text.as_str())?;
+    match reason {
+        Some(reason) => write_text(out, "refused", reason)?,
+        None => write_truth(out, "done", true)?,
+    }
+    Ok(StatusCode::OK)
+}
+
+impl<R: Replica + Drop, H: Runtime + AllocGlobal> SiteDesk<'_, R, H> {
+    // Keeps what became of a statement: what fails for want of memory here is told by no answer, since the site has
+    // taken the statement.
+    fn keep_issued(&mut self, issued: &Issued, keyed: Option<KeyedText>, reason: Option<&str>)
+        ensures { R.seen self.new.site ≡ R.seen self.old.site }
+    {
+        if reason.is_none() {
+            let _ = self.reversals.add_done(issued.stamp);
+        }
+        let Some(keyed) = keyed else {
+            return;
+        };
+        let copy = match reason {
+            None => Ok(None),
+            Some(reason) => match String::from_str(self.alloc, reason) {
+                Ok(reason) => Ok(Some(reason)),
+                Err(error) => Err(error),
+            },
+        };
+        if let Ok(reason) = copy {
+            let _ = self.keys.keep(keyed, issued.stamp, reason);
+        }
+    }
+
+    // Tells what became of a statement that was issued.
+    fn tell_issued(
+        &mut self,
+        issued: &Issued,
+        keyed: Option<KeyedText>,
+        out: &mut Writer,
+    ) -> Result<StatusCode, AllocError>
+        ensures { R.seen self.new.site ≡ R.seen self.old.site }
+    {
+        let reason = reason_of(self.alloc, &issued.outcome)?;
+        let words = match &reason {
+            Some(reason) => Some(reason.as_str()),
+            None => None,
+        };
+        self.keep_issued(issued, keyed, words);
+        write_issued(self.alloc, out, &issued.stamp, words)
+    }
+
+    fn tell_not_issued(
+        &self,
+        text: &str,
+        error: IssueError,
+        out: &mut Writer,
+    ) -> Result<StatusCode, AllocError> {
+        let words = not_issued(self.alloc, &self.catalogue, text, error, self.notes)?;
+        if error == IssueError::JournalWrite {
+            self.tell_line(words.as_str());
+        }
+        fault(out, status_of(error), words.as_str())
+    }
+
+    fn issue_new(
+        &mut self,
+        text: &str,
+        keyed: Option<KeyedText>,
+        out: &mut Writer,
+    ) -> Result<StatusCode, AllocError>
+        ensures { IsIssued (R.seen self.old.site) text.now (R.seen self.new.site) }
+    {
+        match self.site.issue(self.alloc, text, &mut self.meter) {
+            Ok(issued) => self.tell_issued(&issued, keyed, out),
+            Err(error) => self.tell_not_issued(text, error, out),
+        }
+    }
+
+    // Answers a statement whose key was seen; none where it is to be issued.
+    fn tell_known(
+        &self,
+        text: &str,
+        key: Option<&str>,
+        out: &mut Writer,
+    ) -> Result<Option<StatusCode>, AllocError> {
+        if self.is_lacking {
+            return Ok(Some(fault(out, StatusCode::SERVICE_UNAVAILABLE, lack_words())?));
+        }
+        let Some(key) = key else {
+            return Ok(None);
+        };
+        if key.len() > MOST_KEY_BYTES {
+            let words = "a key has at most 128 bytes";
+            return Ok(Some(fault(out, StatusCode::BAD_REQUEST, words)?));
+        }
+        let Some(keyed) = self.keys.find(key) else {
+            return Ok(None);
+        };
+        if !keyed.has_text(text) {
+            let words = "another statement was issued under this key: nothing was issued now";
+            return Ok(Some(fault(out, StatusCode::CONFLICT, words)?));
+        }
+        let reason = match &keyed.reason {
+            Some(reason) => Some(reason.as_str()),
+            None => None,
+        };
+        Ok(Some(write_issued(self.alloc, out, &keyed.stamp, reason)?))
+    }
+
+    pub(crate) fn issue_once(
+        &mut self,
+        text: &str,
+        key: Option<&str>,
+        out: &mut Writer,
+    ) -> Result<StatusCode, AllocError>
+        ensures { (R.seen self.new.site ≡ R.seen self.old.site)
+            ⊎ IsIssued (R.seen self.old.site) text.now (R.seen self.new.site) }
+    {
+        if let Some(status) = self.tell_known(text, key, out)? {
+            return Ok(status);
+        }
+        let keyed = self.copy_of_keyed(text, key)?;
+        self.issue_new(text, keyed, out)
+    }
+
+    fn remove_reversal(&mut self, stamp: &Stamp) -> bool
+        ensures { R.seen self.new.site ≡ R.seen self.old.site }
+    {
+        stamp.site == self.site.site() && self.reversals.remove(stamp)
+    }
+
+    fn copy_of_keyed(
+        &self,
+        text: &str,
+        key: Option<&str>,
+    ) -> Result<Option<KeyedText>, AllocError> {
+        match key {
+            None => Ok(None),
+            Some(key) => Ok(Some(self.keys.copy(key, text)?)),
+        }
+    }
+
+    pub(crate) fn acknowledge_stamp(
+        &mut self,
+        text: &str,
+        out: &mut Writer,
+    ) -> Result<StatusCode, AllocError>
+        ensures { R.seen self.new.site ≡ R.seen self.old.site }
+    {
+        let Some(stamp) = read_stamp(text) else {
+            return fault(out, StatusCode::BAD_REQUEST, STAMP_WORDS);
+        };
+        if !self.remove_reversal(&stamp) {
+            let words = "no statement of this stamp was done here and is refused";
+            return fault(out, StatusCode::NOT_FOUND, words);
+        }
+        self.save_reversals();
+        write_truth(out, "acknowledged", true)?;
+        Ok(StatusCode::OK)
+    }
+}
