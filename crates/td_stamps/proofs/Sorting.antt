@@ -1,6 +1,6 @@
 -- A sorted list of entries, walked once: its repeats are neighbours, and its clashes are found by the greatest number
 -- so far of each site.
-use Rattle.std.proofs.Common.{◌≡◌, ◌+◌, ◌≢◌, ℕ, suc, ◌-◌, ◌<◌, ◌≤◌, Bool, true, false, ◌&&◌, ◌||◌, cond, if◌then◌else◌, eqb, ltb, leb, List, [], ◌∷◌, ◌++◌, length, get_or, max, Option, Some, None, unwrap_or, Vec, Global, refl, sym, ap, subst, ◌∙◌, inl, inr, arith, take, drop}
+use Rattle.std.proofs.Common.{◌≡◌, ◌+◌, ◌≢◌, ℕ, suc, ◌-◌, ◌<◌, ◌≤◌, Bool, true, false, ◌&&◌, ◌||◌, cond, if◌then◌else◌, eqb, ltb, leb, List, [], ◌∷◌, ◌++◌, length, get_or, max, Option, Some, None, Vec, Global, refl, sym, ap, subst, ◌∙◌, inl, inr, arith, take, drop}
 use mathlib.Core.Bool.{false≢true}
 use Rattle.std.specs.List.{list_any, list_all, slice_get}
 use Rattle.std.specs.List.Sorted.{IsSortedBy, IsPermutation}
@@ -267,12 +267,12 @@ at_number m n = elim (cases_Bool (ltb m n)) [
   | inr not_less ↦ rw not_less (elim (eqb m n) as (λ b. tree.is_at (λ _. cond b Equal Greater) n ≡ b) [ true ↦ refl | false ↦ refl ])
 ]
 
--- the greatest numbers, kept by site in a map, with one entry more
-pub latest_push : (f g : ℕ → Option ℕ) (xs : List Entry) (e : Entry) → ((q : ℕ) → unwrap_or (f q) 0 ≡ last_seq q xs) → last_seq e.site xs < e.seq
-    → ((q : ℕ) → g q ≡ cond (tree.is_at (nat_cmp e.site) q) (Some e.seq) (f q)) → (q : ℕ) → unwrap_or (g q) 0 ≡ last_seq q (xs ++ e ∷ [])
-latest_push f g xs e kept high puts q =
-    ap (λ o. unwrap_or o 0) (puts q ∙ ap (λ b. cond b (Some e.seq) (f q)) (at_number e.site q))
-    ∙ (elim (eqb e.site q) as (λ b. eqb e.site q ≡ b → unwrap_or (cond b (Some e.seq) (f q)) 0 ≡ (if b then max (last_seq q xs) e.seq else last_seq q xs)) [
+-- the greatest numbers, kept by site in a list, with one entry more
+pub latest_push : (ns ms : List ℕ) (xs : List Entry) (e : Entry) → ((q : ℕ) → get_or ns q 0 ≡ last_seq q xs) → last_seq e.site xs < e.seq
+    → ((q : ℕ) → get_or ms q 0 ≡ (if eqb e.site q then e.seq else get_or ns q 0)) → (q : ℕ) → get_or ms q 0 ≡ last_seq q (xs ++ e ∷ [])
+latest_push ns ms xs e kept high puts q =
+    puts q
+    ∙ (elim (eqb e.site q) as (λ b. eqb e.site q ≡ b → (if b then e.seq else get_or ns q 0) ≡ (if b then max (last_seq q xs) e.seq else last_seq q xs)) [
       | true ↦ λ is. let here : e.site ≡ q = grind (arith, nat_tests) in let less = subst (λ n. last_seq n xs < e.seq) here high in omega arith
       | false ↦ λ _. kept q
     ] refl)
@@ -307,6 +307,13 @@ module _ (held batch all : List Entry) (set : is_set held ≡ true) (moved : IsP
       → MatchOption o (first_clash held batch ≢ None) (λ v. Joins held batch v.items)
   joined_in_order in_held in_batch None hit = clash_in_order hit
   joined_in_order in_held in_batch (Some v) parts = let ok = clear_in_order parts.0 in subst (Joins held batch) (sym (parts.1 ∙ ok.1)) (joins held batch set in_held in_batch ok.0)
+
+-- a set and one entry
+pub joined_one : (held : List Entry) (e : Entry) → is_set held ≡ true → list_all in_range held ≡ true → list_all in_range (e ∷ []) ≡ true
+    → (o : Option (Vec Entry Global)) → MatchOption o (list_any (clash e) held ≡ true) (λ v. (list_any (clash e) held ≡ false) × (v.items ≡ put e held))
+    → MatchOption o (first_clash held (e ∷ []) ≢ None) (λ v. Joins held (e ∷ []) v.items)
+joined_one held e set in_held in_e None hit = λ clear. first_clash-hit held [] e [] (list_any-append (clash e) held [] ∙ ap (λ b. b || false) hit) clear
+joined_one held e set in_held in_e (Some v) parts = subst (Joins held (e ∷ [])) (sym parts.1) (joins held (e ∷ []) set in_held in_e (rw parts.0 refl))
 
 -- the first that clashes, where there is no clash before it
 first_clash-at : (seen es : List Entry) (e : Entry) (rest : List Entry) → first_clash seen es ≡ None → list_any (clash e) (seen ++ es) ≡ true → first_clash seen (es ++ e ∷ rest) ≡ Some e

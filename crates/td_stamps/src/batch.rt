@@ -41,7 +41,8 @@ pub fn fresh_in(held: &[Entry], batch: &[Entry]) -> usize
     fresh
 }
 
-fn clashes_any(entry: &Entry, others: &[Entry]) -> bool
+/// Whether it clashes with one of the others.
+pub fn clashes_any(entry: &Entry, others: &[Entry]) -> bool
     ensures { result ≡ list_any (clash entry.now) others.now }
 {
     others.iter().any(|x| entry.clashes(x))

@@ -1,7 +1,5 @@
-use Rattle.std.proofs.Common.{◌≡◌, ℕ, [], ◌++◌, None, unwrap_or}
-use Rattle.std.specs.BTreeMap as tree
+use Rattle.std.proofs.Common.{◌≡◌, ℕ, [], ◌++◌, None, get_or}
 use Rattle.std.specs.Vec.Iter.{into_iter_items}
-use Rattle.std.specs.Ordering.{nat_cmp}
 use Rattle.td_stamps.specs.Sets.{union}
 use Rattle.td_stamps.specs.Checks.{first_clash, last_seq}
 use Rattle.td_stamps.proofs.merge.without_repeats.Given as goal
@@ -11,5 +9,5 @@ invariant-loop-entry l = record {
   seen : l.fn.sorted.items ≡ l.yielded ++ into_iter_items l.entry-iterator;
   clear : first_clash [] l.yielded ≡ None;
   items : l.entries.items ≡ union [] l.yielded;
-  latest : (site : ℕ) → unwrap_or (tree.get nat_cmp l.latest site) 0 ≡ last_seq site l.entries.items;
+  latest : (site : ℕ) → get_or l.latest.items site 0 ≡ last_seq site l.entries.items;
 }
