@@ -1,5 +1,5 @@
 -- What an operator's contract says is what its function gives: for the crates above.
-use Rattle.std.proofs.Common.{◌≡◌, ℕ, zero, suc, inl, inr, Bool, true, List, [], ◌∷◌, ◌++◌, map, Result, Ok, Err, refl, sym, ap, ◌∙◌, subst, append_assoc, arith}
+use Rattle.std.proofs.Common.{◌≡◌, ℕ, zero, suc, length, inl, inr, Bool, true, List, [], ◌∷◌, ◌++◌, map, Result, Ok, Err, refl, sym, ap, ◌∙◌, subst, append_assoc, arith}
 use Rattle.std.specs.FinSet as set
 use Rattle.std.specs.List.{filter, flat_map, fold}
 use Rattle.std.specs.Ordering.{eq_by_cmp}
@@ -24,6 +24,7 @@ use Rattle.td_values.specs.declared.raises.Raise.TheVariants.{Overflow, Divide, 
 use Rattle.td_algebra.specs.declared.errors.Stop.TheVariants.{Untyped, Error}
 use Rattle.td_tuples.specs.declared.items.Item.{Item}
 use Rattle.td_tuples.specs.declared.items.Summary.{Summary}
+use Rattle.td_algebra.specs.Counts.{IsLengthOf}
 use Rattle.td_algebra.specs.Closures.{HasColumns, IsBinary, Closed}
 use Rattle.td_algebra.specs.ForProofs.Steps.{has_value, links}
 use Rattle.td_tuples.specs.Items.{extended_columns}
@@ -308,6 +309,17 @@ module _ (R : Stop → Type 0) (h : Header) (P : Attrs → Type 0) where
   answers (Err e) (Err OutOfMemory) x u = tt
   answers (Err e) (Err (Wanting w)) x u = tt
 
+  -- how many tuples there are, or the error
+  counts : {W : Type 0} (m : Result RowsData Stop) (a : Result ℕ (Fault W)) → UnlessRaised R (IsRelationOf h P) m → Unless R (IsLengthOf h P) a → Answers a (and_then m (λ s. Ok (length s.tuples)))
+  counts (Ok r) (Ok n) x u = ap Ok (sym (u.1 r x.1))
+  counts (Ok r) (Err (Raised e)) x u = absurd (x.0 e u.0)
+  counts (Ok r) (Err OutOfMemory) x u = tt
+  counts (Ok r) (Err (Wanting w)) x u = tt
+  counts (Err e) (Ok n) x u = absurd (u.0 e x.0)
+  counts (Err e) (Err (Raised f)) x u = ap Err (same_stop e f (omega (arith, x.1 f u.0, u.1 e x.0)))
+  counts (Err e) (Err OutOfMemory) x u = tt
+  counts (Err e) (Err (Wanting w)) x u = tt
+
 module _ (m : Attrs → Result Bool Stop) (r : RowsData) where
   by_walk : (w : Result (List Bool) Stop) → all_of m r.tuples ≡ w → Unless (RaisedIn m r) (IsRelationOf r.heading (Restricted m r)) (told (and_then w (λ bs. Ok (relation_from r.heading (select r.tuples bs)))))
   by_walk (Ok bs) is = restricts m r bs (relation_from r.heading (select r.tuples bs)) is (relation_of_is r.heading (tuple_set (select r.tuples bs)))
@@ -333,6 +345,9 @@ module _ {E : Type 0} (m : TermMeaning E) (items : List (Item E)) (r : RowsData)
   pub extends_to : {W : Type 0} (a : Result RowsData (Fault W)) → Unless (RaisedBy m items r) (IsRelationOf (extended_columns items r.heading) (Extended m items r)) a → Answers a (extended m items r)
   unfolding extended
   extends_to a u = answers (RaisedBy m items r) (extended_columns items r.heading) (Extended m items r) (extended m items r) a (by_items (all_of (extended_at m items) r.tuples) refl) u
+
+  pub counts_to : {W : Type 0} (a : Result ℕ (Fault W)) → Unless (RaisedBy m items r) (IsLengthOf (extended_columns items r.heading) (Extended m items r)) a → Answers a (and_then (extended m items r) (λ s. Ok (length s.tuples)))
+  counts_to a u = counts (RaisedBy m items r) (extended_columns items r.heading) (Extended m items r) (extended m items r) a extended_is u
 
 pub summarizes_to : {E W : Type 0} (m : TermMeaning E) (items : List (Item (Summary E))) (r per : RowsData) (a : Result RowsData (Fault W))
     → Unless (RaisedBy (over_groups m r per.heading) items per) (IsRelationOf (extended_columns items per.heading) (Extended (over_groups m r per.heading) items per)) a → Answers a (summarized m items r per)

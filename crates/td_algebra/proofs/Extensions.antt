@@ -80,13 +80,16 @@ module _ {E : Type 0} (m : TermMeaning E) (items : List (Item E)) where
               omega (arith, first, below),
         )
 
-    pub extends : (h : Header) (us : List Attrs) (s : RowsData) → all_of (extended_at m items) r.tuples ≡ Ok us → IsRelation h (set.from_list us) s → UnlessRaised (RaisedBy m items r) (IsRelationOf h (Extended m items r)) (Ok s)
-    extends h us s all is = (
-      λ e (j, t, in_, has, k).
-          let (d, raised, below) = raise_seen j t e in_ k in
-          subst (Tells (extended_at m items) r.tuples) all (tells (extended_at m items) r.tuples) t ((has_listed r t).0 has) d raised,
-      by_list h us (Extended m items r) s is (λ u. (
-        λ there. let (t, in_, gives) = answers_from (extended_at m items) r.tuples us u all there in (t, (has_listed r t).1 in_, gives),
-        λ (t, has, gives). answers_there (extended_at m items) r.tuples us t u all ((has_listed r t).0 has) gives,
-      )),
+    pub none_raised : (us : List Attrs) → all_of (extended_at m items) r.tuples ≡ Ok us → (e : Stop) → RaisedBy m items r e → ⊥
+    none_raised us all e (j, t, in_, has, k) =
+        let (d, raised, below) = raise_seen j t e in_ k in
+        subst (Tells (extended_at m items) r.tuples) all (tells (extended_at m items) r.tuples) t ((has_listed r t).0 has) d raised
+
+    pub are_extended : (us : List Attrs) → all_of (extended_at m items) r.tuples ≡ Ok us → (u : Attrs) → Contains us u ↔ Extended m items r u
+    are_extended us all u = (
+      λ there. let (t, in_, gives) = answers_from (extended_at m items) r.tuples us u all there in (t, (has_listed r t).1 in_, gives),
+      λ (t, has, gives). answers_there (extended_at m items) r.tuples us t u all ((has_listed r t).0 has) gives,
     )
+
+    pub extends : (h : Header) (us : List Attrs) (s : RowsData) → all_of (extended_at m items) r.tuples ≡ Ok us → IsRelation h (set.from_list us) s → UnlessRaised (RaisedBy m items r) (IsRelationOf h (Extended m items r)) (Ok s)
+    extends h us s all is = (none_raised us all, by_list h us (Extended m items r) s is (are_extended us all))

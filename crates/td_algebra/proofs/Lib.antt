@@ -35,3 +35,6 @@ pub mod Beside
 pub mod FirstNames
 pub mod Keyed
 pub mod Beyond
+pub mod Distinct
+pub mod PairCounts
+pub mod NewNames

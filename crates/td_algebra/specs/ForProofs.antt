@@ -6,4 +6,5 @@ pub mod Opened
 pub mod Links
 pub mod Ends
 pub mod Gathered
+pub mod Checking
 pub mod Origins

@@ -1,5 +1,6 @@
 pub mod Stops
 pub mod Operators
+pub mod Counts
 pub mod Nested
 pub mod Keys
 pub mod KeyIndexes

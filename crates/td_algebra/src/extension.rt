@@ -11,16 +11,19 @@ ghost use Rattle.td_relations.specs.Sets.{IsRelationOf};
 ghost use Rattle.td_tuples.specs.Parts.{Fits};
 ghost use Rattle.td_tuples.specs.Unions.{tuple_of};
 ghost use Rattle.td_algebra.specs.Raising.{Answers, AnswersBy, Unless, all_of};
+ghost use Rattle.td_algebra.specs.Counts.{IsLengthOf};
 ghost use Rattle.td_algebra.specs.Extending as spec;
 ghost use Rattle.td_tuples.specs.Items.{column_of, extended_columns};
+ghost use Rattle.td_algebra.specs.ForProofs.Checking.{AreNew, checked};
 ghost use Rattle.td_algebra.specs.Extending.{TermMeaning, TakesBoth, Means, TakesItems, MeansItems, Extended, RaisedBy};
 
 use crate::errors::{Fault, Stop};
+use crate::fronts::has_name;
 use crate::gathered::Gathered;
 use std::alloc::{AllocError, Global};
 use td_relations::Relation;
 use td_tuples::{Item, beside, extended_columns, tuple_of};
-use td_values::{Name, TdType, Tuple, Value, has_type};
+use td_values::{Heading, Name, TdType, Tuple, Value, has_type};
 
 // Whether the value has the type.
 fn is_of(value: &Value, ty: &TdType) -> bool
@@ -132,4 +135,88 @@ pub fn extend<E, W, F: Fn(&E, &Tuple) -> Result<Value, Fault<W>>>(
     };
     let heading = extended_columns(alloc, items, relation.heading())?;
     Ok(Relation::from_tuples(heading, tuples))
+}
+
+// Whether the heading has none of the items' names.
+fn are_new<E>(heading: &Heading, items: &[Item<E>]) -> bool
+    ensures { IsTrue result → AreNew heading.now items.now }
+{
+    for item in items {
+        if has_name(heading, &item.name) {
+            return false;
+        }
+    }
+    true
+}
+
+// The least error that the items raise at the tuple, if they raise one.
+fn check_at<E, W, F: Fn(&E, &Tuple) -> Result<Value, Fault<W>>>(
+    alloc: Global,
+    items: &[Item<E>],
+    tuple: &Tuple,
+    f: &F,
+) -> Result<(), Fault<W>>
+    requires { TakesItems (F.pre f.now) items.now tuple.now }
+    ensures { (m : TermMeaning E) → MeansItems (F.post f.now) m items.now tuple.now → Answers result (checked (spec.extended_at m items.now tuple.now)) }
+{
+    match fields_at(alloc, items, tuple, f) {
+        Ok(_) => Ok(()),
+        Err(fault) => Err(fault),
+    }
+}
+
+// The least error that the items raise at these tuples, if they raise one.
+fn check_all<E, W, F: Fn(&E, &Tuple) -> Result<Value, Fault<W>>>(
+    alloc: Global,
+    tuples: &[Tuple],
+    items: &[Item<E>],
+    f: &F,
+) -> Result<Vec<()>, Fault<W>>
+    requires { All (TakesItems (F.pre f.now) items.now) tuples.now }
+    ensures { (m : TermMeaning E) → All (MeansItems (F.post f.now) m items.now) tuples.now → AnswersBy (λ v. v.items) result (all_of (λ t. checked (spec.extended_at m items.now t)) tuples.now) }
+{
+    let mut gathered = Gathered::new(alloc);
+    for tuple in tuples {
+        gathered.note(check_at(alloc, items, tuple, f))?;
+    }
+    gathered.finish()
+}
+
+// How many tuples the extension by new names has: as many as the relation.
+fn new_extension_len<E, W, F: Fn(&E, &Tuple) -> Result<Value, Fault<W>>>(
+    alloc: Global,
+    relation: &Relation,
+    items: &[Item<E>],
+    f: &F,
+) -> Result<usize, Fault<W>>
+    requires terms { All (TakesItems (F.pre f.now) items.now) relation.now.tuples }
+    requires new { AreNew relation.now.heading items.now }
+    ensures { (m : TermMeaning E) → All (MeansItems (F.post f.now) m items.now) relation.now.tuples →
+        Unless (RaisedBy m items.now relation.now) (IsLengthOf (extended_columns items.now relation.now.heading) (Extended m items.now relation.now)) result }
+{
+    match check_all(alloc, relation.tuples(), items, f) {
+        Ok(_) => Ok(relation.tuples().len()),
+        Err(fault) => Err(fault),
+    }
+}
+
+/// How many tuples `extend` gives, or the least error that it raises. Where every item's name is new to the relation,
+/// no tuple is made.
+pub fn extension_len<E, W, F: Fn(&E, &Tuple) -> Result<Value, Fault<W>>>(
+    alloc: Global,
+    relation: &Relation,
+    items: &[Item<E>],
+    f: &F,
+) -> Result<usize, Fault<W>>
+    requires { All (TakesItems (F.pre f.now) items.now) relation.now.tuples }
+    ensures { (m : TermMeaning E) → All (MeansItems (F.post f.now) m items.now) relation.now.tuples →
+        Unless (RaisedBy m items.now relation.now) (IsLengthOf (extended_columns items.now relation.now.heading) (Extended m items.now relation.now)) result }
+{
+    if are_new(relation.heading(), items) {
+        return new_extension_len(alloc, relation, items, f);
+    }
+    match extend(alloc, relation, items, f) {
+        Ok(extended) => Ok(extended.tuples().len()),
+        Err(fault) => Err(fault),
+    }
 }

@@ -21,6 +21,7 @@ mod fronts;
 mod gathered;
 mod groups;
 mod index;
+mod join_counts;
 mod joins;
 mod key_changes;
 mod key_index;
@@ -42,8 +43,9 @@ mod wraps;
 
 pub use closure::{is_binary, tclose};
 pub use errors::{Fault, Stop};
-pub use extension::extend;
+pub use extension::{extend, extension_len};
 pub use groups::group;
+pub use join_counts::{join_len, join_len_by, join_len_of_indexed};
 pub use joins::{compose, join};
 pub use key_index::{KeyIndex, place_in};
 pub use keyed_joins::{compose_by, compose_of_indexed, join_by, join_of_indexed};

@@ -1,7 +1,7 @@
 -- Steps of the loops over lists of operands.
-use Rattle.std.proofs.Common.{◌≡◌, ◌<◌, ◌+◌, ◌++◌, ℕ, List, [], ◌∷◌, length, get_or, drop, true, false, cond, Option, None, Some, Result, Ok, Err, refl, sym, ap, ◌∙◌}
+use Rattle.std.proofs.Common.{◌≡◌, ◌<◌, ◌+◌, ◌++◌, ℕ, List, [], ◌∷◌, length, get_or, drop, true, false, cond, Option, None, Some, Result, Ok, Err, pos, refl, sym, ap, ◌∙◌}
 use Rattle.std.proofs.lemmas.List.{drop_more}
-use Rattle.td_values.specs.Data.{Datum}
+use Rattle.td_values.specs.Data.{Datum, integer}
 use Rattle.td_values.specs.Rows.{RowsData}
 use Rattle.td_syntax.specs.declared.tree.Named.{Named}
 use Rattle.td_tuples.specs.declared.items.Item.{Item}
@@ -16,7 +16,9 @@ use Rattle.td_meaning.specs.ForProofs.Latest.{latest}
 use Rattle.td_meaning.specs.ForProofs.Over.{Means, list_meant, items_meant, item_meant, all_meant}
 use Rattle.td_meaning.specs.Mean.{Names, at, named_at, introduced, given, are_equal_names}
 use Rattle.td_operators.specs.ForProofs.Turns.{turn}
-use Rattle.td_operators.specs.Operators.{as_value}
+use Rattle.td_operators.specs.Operators.{as_value, operate_on}
+use Rattle.td_operators.proofs.KindLemmas.{rows_back}
+use Rattle.td_syntax.specs.declared.tree.UnaryOperator.TheVariants as unary
 use Rattle.td_meaning.specs.Seen.{all_given, held_value}
 
 -- an error that was answered within, as the answer
@@ -106,3 +108,18 @@ module _ (all : Result RowsData Stop) (f : RowsData → Result RowsData Stop) (t
 
   pub stops_over : (e : Stop) → f us ≡ Err e → and_then all (λ r. and_then (f r) as_value) ≡ Err e
   stops_over e stop = over_first ∙ ap (λ w. and_then w as_value) stop
+
+-- ---- how many tuples a relation has that is made
+counted_value : (w : Result RowsData Stop) → and_then (and_then w as_value) (operate_on unary.Count) ≡ and_then (and_then w (λ r. Ok (length r.tuples))) (λ n. Ok (integer (pos n)))
+counted_value (Ok r) = ap (λ v. and_then v (λ (s : RowsData). Ok (integer (pos (length s.tuples))))) (rows_back (relation_value r) r refl)
+counted_value (Err e) = refl
+
+module _ (all : Result RowsData Stop) (f : RowsData → Result RowsData Stop) (ts us : RowsData) (first : all ≡ Ok ts) (lent : us ≡ ts) where
+  count_over : and_then (and_then all (λ r. and_then (f r) as_value)) (operate_on unary.Count) ≡ and_then (and_then (f us) (λ r. Ok (length r.tuples))) (λ n. Ok (integer (pos n)))
+  count_over = ap (λ w. and_then w (operate_on unary.Count)) (over_first all f ts us first lent) ∙ counted_value (f us)
+
+  pub counted_over : (n : ℕ) → and_then (f us) (λ r. Ok (length r.tuples)) ≡ Ok n → and_then (and_then all (λ r. and_then (f r) as_value)) (operate_on unary.Count) ≡ Ok (integer (pos n))
+  counted_over n made = count_over ∙ ap (λ w. and_then w (λ k. Ok (integer (pos k)))) made
+
+  pub count_stops : (e : Stop) → and_then (f us) (λ r. Ok (length r.tuples)) ≡ Err e → and_then (and_then all (λ r. and_then (f r) as_value)) (operate_on unary.Count) ≡ Err e
+  count_stops e stop = count_over ∙ ap (λ w. and_then w (λ k. Ok (integer (pos k)))) stop

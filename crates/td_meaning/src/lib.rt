@@ -12,6 +12,7 @@
 
 mod closed;
 mod conditions;
+mod counts;
 pub mod environment;
 mod evaluation;
 mod evaluator;

@@ -39,7 +39,10 @@ impl<W: Wanted> Evaluator<'_, W> {
     ) -> Result<Value, Fault<W>>
         ensures { Answers result (spec.mean_by (operators.operate_on operator) (mean_in self.now.env.now a.now) (names_bound scope.now)) }
     {
-        operate_on(self.alloc, operator, self.operand(a, &*scope)?)
+        match operator {
+            UnaryOperator::Count => self.count(a, scope),
+            _ => operate_on(self.alloc, operator, self.operand(a, &*scope)?),
+        }
     }
 
     #[cycle(evaluation)]

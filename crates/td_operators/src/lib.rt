@@ -10,6 +10,7 @@
 #![tactic(auto)]
 
 mod comparisons;
+mod counts;
 mod inclusions;
 pub mod operand;
 mod operators;
@@ -19,6 +20,7 @@ mod relations;
 mod tuples;
 
 pub use comparisons::holds;
+pub use counts::{count_of_join, count_value};
 pub use inclusions::{has_parts, is_within_part};
 pub use operand::{Lease, Operand, rows_of};
 pub use operators::{

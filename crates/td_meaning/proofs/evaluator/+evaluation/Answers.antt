@@ -1,17 +1,18 @@
-use Rattle.std.proofs.Common.{◌+◌, ℕ, Bool, IfSome, Result, List, Vec, Global, drop, rules, get_or, Ok, sym, ap, ◌∙◌, subst, arith}
+use Rattle.std.proofs.Common.{◌+◌, ℕ, Bool, IfSome, Result, List, Vec, Global, drop, length, rules, get_or, Ok, sym, ap, ◌∙◌, subst, arith}
 use Rattle.td_values.specs.Data.{Datum}
 use Rattle.td_values.specs.Rows.{RowsData}
 use Rattle.td_syntax.specs.declared.tree.Named.{Named}
 use Rattle.td_algebra.specs.Functions.{extended, project_of, restricted}
 use Rattle.td_algebra.specs.Raising.{Answers, AnswersBy, and_then}
 use Rattle.td_algebra.specs.declared.errors.Stop.{Stop}
-use Rattle.td_algebra.proofs.Bridges.{restricts_to, extends_to, summarizes_to}
+use Rattle.td_algebra.proofs.Bridges.{counts_to, restricts_to, extends_to, summarizes_to}
 use Rattle.td_meaning.specs.declared.scope.KnownValue.{KnownValue}
 use Rattle.td_operators.specs.ForProofs.Lent.{operand_value}
 use Rattle.td_meaning.specs.ForProofs.Over.{terms, list_meant, items_meant, all_meant, over_aggregate, over_extend, over_summarize, summarized_over}
 use Rattle.td_operators.specs.ForProofs.Turns.{turn}
 use Rattle.td_meaning.specs.Mean.{at, named_at, introduced, truth_at, truth_in, rows_in, mean, mean_both, mean_by, mean_binary, mean_where, mean_if, mean_with}
 use Rattle.td_syntax.specs.declared.tree.BinaryOperator.TheVariants as binary
+use Rattle.td_syntax.specs.declared.tree.UnaryOperator.TheVariants as unary
 use Rattle.td_operators.specs.Operators.{component_at, in_turn, operate, operate_on, attribute_at, part_at, with_new_names, nested, unnested}
 use Rattle.td_tuples.specs.Parts.{Fits}
 use Rattle.td_algebra.specs.Summaries.{OfTerm}
@@ -24,7 +25,7 @@ use Rattle.td_meaning.specs.Seen.{held_value, all_given, mean_in, relvars_there,
 use Rattle.td_meaning.specs.Selections.{admits, no_relvars, selection}
 use Rattle.td_meaning.proofs.Falls.{in_list, in_items, in_named, term_within, summary_within, of_term, of_term_if, of_those, select_falls, relation_falls, tuple_falls, extend_falls, with_falls, summarize_falls}
 use Rattle.td_meaning.proofs.Forms.{of_component, of_relvar, of_unary, of_binary, of_from, of_project, of_where, of_rename, of_nest, of_unnest, of_aggregate, of_if, of_extend, of_summarize, of_with}
-use Rattle.td_meaning.proofs.Walks.{value_goes, value_stops, field_goes, field_stops, name_goes, name_stops, one_more_given, fails, made_over, stops_over}
+use Rattle.td_meaning.proofs.Walks.{value_goes, value_stops, field_goes, field_stops, name_goes, name_stops, one_more_given, count_stops, counted_over, fails, made_over, stops_over}
 use Rattle.td_operators.proofs.Turns.{turn_begins}
 use Rattle.td_meaning.proofs.evaluator.+evaluation.Goals as goal
 
@@ -297,6 +298,48 @@ Evaluator::summarization-returns-in_err-summarized_by g t c =
     (λ e stop. stops_over (rows_in (m c.args.r.now) names) f c.in_ok-ts.ts c.get.result.now c.in_ok-ts.ensures c.get.ensures e stop)
     c.in_err-summarized_by.ensures in
     search (rules, h)
+
+-- ---- counts
+
+pub Evaluator::extended_len-extension_len-requires : goal.Evaluator::extended_len-extension_len-requires
+Evaluator::extended_len-extension_len-requires g t c = λ k d lt i x among p q is_term is_tuple.
+    (omega (arith, c.decreases, term_within c.args.items.now i x p.now among is_term), λ a m. m)
+
+pub Evaluator::extended_len-returns : goal.Evaluator::extended_len-returns
+Evaluator::extended_len-returns g t c =
+    let m = terms (mean_in c.args.self.now.env.now) (names_bound c.args.scope.now) in
+    counts_to m c.args.items.now c.args.ts.now c.extension_len.result (c.extension_len.ensures m (λ k d lt i x among p q a is_term is_tuple gave.
+    subst (λ e. Answers a (m e (get_or c.args.ts.now.tuples k d))) is_term (subst (λ u. Answers a (m p.now u)) is_tuple gave)))
+
+pub Evaluator::extended_len_by-invariant_of-around : goal.Evaluator::extended_len_by-invariant_of-around
+Evaluator::extended_len_by-invariant_of-around g t c = record { right = right_in_slice c.args.self.now.env.now c.in_ok-parts.field-0 c.in-Some.parts c.as_slice.result.now c.in_ok-parts.ensures c.in-Some.is c.as_slice.ensures.value; allowed = c.args.self.now.allowed }
+
+pub Evaluator::extension_count-returns : goal.Evaluator::extension_count-returns
+unfolding mean_by over_extend
+Evaluator::extension_count-returns g t c =
+    let m = mean_in c.args.self.now.env.now in
+    let names = names_bound c.args.scope.now in
+    subst (Answers c.count_value.result) (sym (counted_over (rows_in (m c.args.r.now) names) (extended (terms m names) c.args.items.now) c.in_ok-ts.ts c.get.result.now c.in_ok-ts.ensures c.get.ensures c.in_ok-count.count c.in_ok-count.ensures)) c.count_value.ensures
+
+pub Evaluator::extension_count-returns-in_err-count : goal.Evaluator::extension_count-returns-in_err-count
+unfolding mean_by over_extend
+Evaluator::extension_count-returns-in_err-count g t c =
+    let m = mean_in c.args.self.now.env.now in
+    let names = names_bound c.args.scope.now in
+    let f = extended (terms m names) c.args.items.now in
+    let h = fails {A = ℕ} (λ (d : Datum). d) c.in_err-count.field-0.0 (and_then (f c.get.result.now) (λ (r : RowsData). Ok (length r.tuples))) (mean_by (operate_on unary.Count) (over_extend m c.args.r.now c.args.items.now) names)
+    (λ e stop. count_stops (rows_in (m c.args.r.now) names) f c.in_ok-ts.ts c.get.result.now c.in_ok-ts.ensures c.get.ensures e stop)
+    c.in_err-count.ensures in
+    search (rules, h)
+
+pub Evaluator::count_by_form-extension_count-requires : goal.Evaluator::count_by_form-extension_count-requires
+Evaluator::count_by_form-extension_count-requires g t c = λ κs within. (omega (arith, c.decreases, extend_falls c.args.a.now c.in-Extend.r _ c.in-Extend.items _ c.in-Extend.is c.get-in-Extend.ensures c.as_slice.ensures), within)
+
+pub Evaluator::count_by_form-returns-in-Extend : goal.Evaluator::count_by_form-returns-in-Extend
+Evaluator::count_by_form-returns-in-Extend g t c =
+    let m = mean_in c.args.self.now.env.now in
+    let is = ap m c.in-Extend.is ∙ of_extend (relvars_there c.args.self.now.env.now) (selection c.args.self.now.env.now.selectors.now) c.in-Extend.r c.in-Extend.items ∙ (λ i. over_extend m (sym c.get-in-Extend.ensures i) (sym c.as_slice.ensures i)) in
+    subst (λ f. Answers c.extension_count.result (mean_by (operate_on unary.Count) f (names_bound c.args.scope.now))) (sym is) c.extension_count.ensures
 
 -- ---- forms
 

@@ -27,7 +27,31 @@ abbrev pub decreases-Evaluator::truth : goal.decreases-Evaluator::truth
 decreases-Evaluator::truth g l = 12 * levels l.a.now + 2 + weight l.self.now.env.now.selectors.now
 
 abbrev pub decreases-Evaluator::unary : goal.decreases-Evaluator::unary
-decreases-Evaluator::unary g l = 12 * levels l.a.now + 2 + weight l.self.now.env.now.selectors.now
+decreases-Evaluator::unary g l = 12 * levels l.a.now + 5 + weight l.self.now.env.now.selectors.now
+
+abbrev pub decreases-Evaluator::join_count : goal.decreases-Evaluator::join_count
+decreases-Evaluator::join_count g l = 12 * max (levels l.a.now) (levels l.b.now) + 2 + weight l.self.now.env.now.selectors.now
+
+abbrev pub decreases-Evaluator::extended_len-extension_len : goal.decreases-Evaluator::extended_len-extension_len
+decreases-Evaluator::extended_len-extension_len g l = 12 * levels l.e.now + 2 + weight l.self.now.env.now.selectors.now
+
+abbrev pub decreases-Evaluator::extended_len : goal.decreases-Evaluator::extended_len
+decreases-Evaluator::extended_len g l = 12 * item_levels l.items.now + 4 + weight l.self.now.env.now.selectors.now
+
+abbrev pub decreases-Evaluator::extended_len_by : goal.decreases-Evaluator::extended_len_by
+decreases-Evaluator::extended_len_by g l = 12 * item_levels l.items.now + 7 + weight l.self.now.env.now.selectors.now
+
+abbrev pub decreases-Evaluator::extension_count : goal.decreases-Evaluator::extension_count
+decreases-Evaluator::extension_count g l = 12 * max (levels l.r.now) (item_levels l.items.now) + 8 + weight l.self.now.env.now.selectors.now
+
+abbrev pub decreases-Evaluator::count_of_value : goal.decreases-Evaluator::count_of_value
+decreases-Evaluator::count_of_value g l = 12 * levels l.a.now + 2 + weight l.self.now.env.now.selectors.now
+
+abbrev pub decreases-Evaluator::count_by_form : goal.decreases-Evaluator::count_by_form
+decreases-Evaluator::count_by_form g l = 12 * levels l.a.now + 3 + weight l.self.now.env.now.selectors.now
+
+abbrev pub decreases-Evaluator::count : goal.decreases-Evaluator::count
+decreases-Evaluator::count g l = 12 * levels l.a.now + 4 + weight l.self.now.env.now.selectors.now
 
 abbrev pub decreases-Evaluator::component : goal.decreases-Evaluator::component
 decreases-Evaluator::component g l = 12 * levels l.a.now + 2 + weight l.self.now.env.now.selectors.now
