@@ -2,3 +2,4 @@
 pub mod Fronts
 pub mod Meanings
 pub mod Agreeing
+pub mod Interleaved
