@@ -1,10 +1,11 @@
 -- Flags on new entries, one after the other.
-use Rattle.std.proofs.Common.{◌≡◌, ◌<◌, ◌≤◌, ◌+◌, ℕ, Bool, true, false, List, [], ◌∷◌, ◌++◌, append_assoc, append-nil, drop, get_or, length, refl, ap, sym, subst, ◌∙◌}
+use Rattle.std.proofs.Common.{◌≡◌, ◌<◌, ◌≤◌, ◌+◌, ◌-◌, ℕ, zero, suc, Bool, true, false, List, [], ◌∷◌, ◌++◌, append_assoc, append-nil, drop, get_or, length, length-drop, replicate, refl, ap, sym, subst, ◌∙◌, arith}
 use Rattle.std.proofs.lemmas.List.{drop_all, drop_more}
 use Rattle.td_stamps.specs.declared.entry.Entry.{Entry}
 use Rattle.td_stamps.specs.Entries.{same}
 use Rattle.td_stamps.specs.Sets.{has}
 use Rattle.td_stamps.proofs.EntryLemmas.{same-is}
+use Rattle.td_rollback.specs.Parts.{marked}
 use Rattle.td_rollback.specs.Touched.{AreMore}
 use Rattle.td_rollback.specs.ForProofs.Marked.{AreFlagged, new_one, no_more, old_one}
 use Rattle.td_rollback.proofs.More as more
@@ -12,17 +13,32 @@ use Rattle.td_rollback.proofs.More as more
 abbrev pub Flagged : List Entry → List Entry → ℕ → ℕ → List Bool → Type 0
 Flagged old new at i flags = (rest : List Bool) → AreFlagged (drop at old) rest (drop i new) → AreFlagged old (flags ++ rest) new
 
-module _ (old new : List Entry) (at i : ℕ) (flags : List Bool) (e : Entry) (within : i < length new) (is : e ≡ get_or new i e) (among : AreMore (drop at old) (drop i new)) (flagged : Flagged old new at i flags) where
+-- those that are flagged were chosen
+abbrev pub Chosen : List Entry → ℕ → List Bool → List Entry → Type 0
+Chosen new i flags fresh = (rest : List Bool) → marked (flags ++ rest) new ≡ fresh ++ marked rest (drop i new)
+
+module _ (new : List Entry) (i : ℕ) (e : Entry) (within : i < length new) (is : e ≡ get_or new i e) where
   new_is : drop i new ≡ e ∷ drop (i + 1) new
   new_is = drop_more new i e within ∙ ap (λ (x : Entry). x ∷ drop (i + 1) new) (sym is)
 
+  module _ (flags : List Bool) (fresh : List Entry) (chosen : Chosen new i flags fresh) where
+    next_chosen : (b : Bool) (rest : List Bool) → marked ((flags ++ b ∷ []) ++ rest) new ≡ fresh ++ marked (b ∷ rest) (e ∷ drop (i + 1) new)
+    next_chosen b rest = ap (λ (fl : List Bool). marked fl new) (append_assoc flags (b ∷ []) rest) ∙ chosen (b ∷ rest) ∙ ap (λ (es : List Entry). fresh ++ marked (b ∷ rest) es) new_is
+
+    pub old_chosen : Chosen new (i + 1) (flags ++ false ∷ []) fresh
+    old_chosen rest = next_chosen false rest
+
+    pub new_chosen : Chosen new (i + 1) (flags ++ true ∷ []) (fresh ++ e ∷ [])
+    new_chosen rest = next_chosen true rest ∙ sym (append_assoc fresh (e ∷ []) (marked rest (drop (i + 1) new)))
+
+module _ (old new : List Entry) (at i : ℕ) (flags : List Bool) (e : Entry) (within : i < length new) (is : e ≡ get_or new i e) (among : AreMore (drop at old) (drop i new)) (flagged : Flagged old new at i flags) where
   among_first : AreMore (drop at old) (e ∷ drop (i + 1) new)
-  among_first = subst (λ (fs : List Entry). AreMore (drop at old) fs) new_is among
+  among_first = subst (λ (fs : List Entry). AreMore (drop at old) fs) (new_is new i e within is) among
 
   with_next : (b : Bool) (rest : List Bool) → AreFlagged (drop at old) (b ∷ rest) (e ∷ drop (i + 1) new) → AreFlagged old ((flags ++ b ∷ []) ++ rest) new
   with_next b rest h =
       subst (λ (fl : List Bool). AreFlagged old fl new) (sym (append_assoc flags (b ∷ []) rest))
-      (flagged (b ∷ rest) (subst (λ (fs : List Entry). AreFlagged (drop at old) (b ∷ rest) fs) (sym new_is) h))
+      (flagged (b ∷ rest) (subst (λ (fs : List Entry). AreFlagged (drop at old) (b ∷ rest) fs) (sym (new_is new i e within is)) h))
 
   module _ (y : Entry) (in_old : at < length old) (at_is : y ≡ get_or old at y) (one : same e y ≡ true) where
     old_is : drop at old ≡ e ∷ drop (at + 1) old
@@ -50,13 +66,27 @@ module _ (old new : List Entry) (at i : ℕ) (flags : List Bool) (e : Entry) (wi
     pub new_flagged : Flagged old new at (i + 1) (flags ++ true ∷ [])
     new_flagged rest h = with_next true rest (new_one lacks h)
 
-none_behind : (es : List Entry) → AreMore es [] → es ≡ []
-none_behind [] among = refl
-none_behind (e ∷ es) among = more.none_left e es among
+-- ---- once as many are left of both
+all_flagged : (es : List Entry) → AreFlagged es (replicate (length es) false) es
+all_flagged [] = no_more
+all_flagged (e ∷ es) = old_one (all_flagged es)
 
-pub flagged_all : (old new : List Entry) (at i : ℕ) (flags : List Bool) → length new ≤ i → AreMore (drop at old) (drop i new) → Flagged old new at i flags → AreFlagged old flags new
-flagged_all old new at i flags all among flagged =
-    let new_is : drop i new ≡ [] = drop_all i new all in
-    let old_is : drop at old ≡ [] = none_behind (drop at old) (subst (λ (fs : List Entry). AreMore (drop at old) fs) new_is among) in
-    let none : AreFlagged (drop at old) [] (drop i new) = subst (λ (fs : List Entry). AreFlagged (drop at old) [] fs) (sym new_is) (subst (λ (es : List Entry). AreFlagged es [] []) (sym old_is) no_more) in
-    subst (λ (fl : List Bool). AreFlagged old fl new) (append-nil flags) (flagged [] none)
+none_chosen : (n : ℕ) (es : List Entry) → marked (replicate n false) es ≡ []
+none_chosen zero es = refl
+none_chosen (suc n) [] = refl
+none_chosen (suc n) (e ∷ es) = none_chosen n es
+
+module _ (old new : List Entry) (at i n : ℕ) (flags : List Bool) (many : n ≡ length new - i) where
+  left : n ≡ length (drop i new)
+  left = many ∙ sym (length-drop i new)
+
+  pub flagged_end : AreMore (drop at old) (drop i new) → length new - i ≤ length old - at → Flagged old new at i flags → AreFlagged old (flags ++ replicate n false) new
+  flagged_end among few flagged =
+      let in_old = length-drop at old in
+      let in_new = length-drop i new in
+      let one : drop at old ≡ drop i new = more.all_old (drop at old) (drop i new) among (omega (arith, few, in_old, in_new)) in
+      flagged (replicate n false) (subst (λ (es : List Entry). AreFlagged es (replicate n false) (drop i new)) (sym one)
+      (subst (λ (m : ℕ). AreFlagged (drop i new) (replicate m false) (drop i new)) (sym left) (all_flagged (drop i new))))
+
+pub chosen_end : (new : List Entry) (i n : ℕ) (flags : List Bool) (fresh : List Entry) → Chosen new i flags fresh → fresh ≡ marked (flags ++ replicate n false) new
+chosen_end new i n flags fresh chosen = sym (chosen (replicate n false) ∙ ap (λ (es : List Entry). fresh ++ es) (none_chosen n (drop i new)) ∙ append-nil fresh)

@@ -12,3 +12,5 @@ pub mod Ends
 pub mod Parting
 pub mod Tying
 pub mod Flagging
+pub mod Unmarked
+pub mod Placing

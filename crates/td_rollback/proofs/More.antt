@@ -1,13 +1,16 @@
 -- Old entries among new ones: the first new one is the first old one, or it is fresh.
-use Rattle.std.proofs.Common.{◌≡◌, ℕ, zero, suc, ◌||◌, ⊎_elim, true, false, List, [], ◌∷◌, drop, take, refl, ap, sym, subst, ◌∙◌}
+use Rattle.std.proofs.Common.{◌≡◌, ℕ, zero, suc, ◌||◌, inl, inr, ⊎_elim, arith, true, false, List, [], ◌∷◌, drop, take, length, ◌≤◌, refl, ap, sym, subst, ◌∙◌}
 use mathlib.Core.Bool.{true≢false, false≢true}
 use Rattle.std.specs.List.{list_all}
 use Rattle.std.specs.Prelude.{IsOk}
-use Rattle.std.proofs.lemmas.Bool.{or_left}
+use Rattle.std.proofs.lemmas.Bool.{cases_Bool, or_left}
+use Rattle.std.proofs.lemmas.Bool.Decides.{nat_tests}
 use Rattle.td_stamps.specs.declared.entry.Entry.{Entry}
-use Rattle.td_stamps.specs.Entries.{before, same}
+use Rattle.td_stamps.specs.Entries.{before, same, stamp_of}
+use Rattle.td_stamps.specs.ForProofs.{tie}
 use Rattle.td_stamps.specs.Sets.{apart, has, is_set}
 use Rattle.td_stamps.proofs.EntryLemmas.{same-is, same-refl}
+use Rattle.td_stamps.proofs.Merges.{stamps_differ}
 use Rattle.td_stamps.proofs.SetLemmas.{absent_below, adds_up, first_holds, fits, not_same, rest_holds}
 use Rattle.td_rollback.specs.Laws.{UnionIsMore}
 use Rattle.td_rollback.specs.Touched.{AreMore}
@@ -62,6 +65,50 @@ other_is_fresh e y es fs other more = ⊎_elim
     let low = first_before e y fs (first_holds (list_all (apart e) fs) (is_set fs) more.new_set) later in
     ap (λ b. b || has es e) (not_same e y low) ∙ absent_below e y es low (first_holds (list_all (apart y) es) (is_set es) more.old_set))
     (has_cases e y fs (more.among y (has_first y es)))
+
+-- ---- by counts
+pub no_fewer : (es fs : List Entry) → AreMore es fs → length es ≤ length fs
+no_fewer [] fs more = omega arith
+no_fewer (y ∷ es) [] more = none_left y es more
+no_fewer (y ∷ es) (e ∷ fs) more = elim (cases_Bool (same e y)) [
+  | inl is ↦ let le = no_fewer es fs (same_on e y es fs is more) in omega (arith, le)
+  | inr other ↦ let le = no_fewer (y ∷ es) fs (fresh_on e (y ∷ es) fs (other_is_fresh e y es fs other more) more) in omega (arith, le)
+]
+
+-- where the new ones are no more they are the old ones
+pub all_old : (es fs : List Entry) → AreMore es fs → length fs ≤ length es → es ≡ fs
+all_old [] [] more few = refl
+all_old [] (e ∷ fs) more few = absurd (omega (arith, few))
+all_old (y ∷ es) [] more few = none_left y es more
+all_old (y ∷ es) (e ∷ fs) more few = elim (cases_Bool (same e y)) [
+  | inl is ↦ let rest = all_old es fs (same_on e y es fs is more) (omega (arith, few)) in (λ i. sym (same-is e y is) i ∷ rest i)
+  | inr other ↦ let le = no_fewer (y ∷ es) fs (fresh_on e (y ∷ es) fs (other_is_fresh e y es fs other more) more) in absurd (omega (arith, le, few))
+]
+
+-- ---- by stamps
+tied_self : (e : Entry) → tie e e ≡ true
+tied_self e = grind (arith, nat_tests)
+
+one_stamp : (e y : Entry) → tie e y ≡ true → stamp_of e ≡ stamp_of y
+one_stamp e y tied =
+    let clocks : e.clock ≡ y.clock = grind (arith, nat_tests) in
+    let sites : e.site ≡ y.site = grind (arith, nat_tests) in
+    (λ i. record { clock = clocks i; site = sites i })
+
+-- where a new entry and an old one have one stamp they are one
+pub same_by_stamp : (es fs : List Entry) (e y : Entry) → AreMore es fs → has es y ≡ true → has fs e ≡ true → tie e y ≡ same e y
+same_by_stamp es fs e y more old new = elim (cases_Bool (tie e y)) [
+  | inl tied ↦
+      let is : e ≡ y = stamps_differ fs more.new_set e y new (more.among y old) (one_stamp e y tied) in
+      tied ∙ sym (subst (λ (z : Entry). same e z ≡ true) is (same-refl e))
+  | inr differs ↦ differs ∙ sym (other differs)
+]
+  where
+    other : tie e y ≡ false → same e y ≡ false
+    other differs = elim (cases_Bool (same e y)) [
+      | inl is ↦ absurd (false≢true (sym differs ∙ subst (λ (z : Entry). tie e z ≡ true) (same-is e y is) (tied_self e)))
+      | inr not_one ↦ not_one
+    ]
 
 -- behind what both begin with
 pub more_behind : (k : ℕ) (es fs : List Entry) → take k es ≡ take k fs → AreMore es fs → AreMore (drop k es) (drop k fs)

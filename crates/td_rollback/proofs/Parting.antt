@@ -1,5 +1,5 @@
 -- Histories in two parts.
-use Rattle.std.proofs.Common.{◌≡◌, ◌≤◌, ◌+◌, ◌&&◌, ◌||◌, ◌⊎◌, inl, inr, ⊎_elim, ℕ, zero, suc, Result, Ok, Err, Bool, true, false, List, [], ◌∷◌, map, drop, take, length, refl, ap, sym, subst, ◌∙◌, arith}
+use Rattle.std.proofs.Common.{◌≡◌, ◌≤◌, ◌&&◌, ◌||◌, ◌⊎◌, inl, inr, ⊎_elim, ℕ, zero, suc, Result, Ok, Err, Bool, true, false, List, [], ◌∷◌, map, drop, take, length, refl, ap, sym, subst, ◌∙◌, arith}
 use mathlib.Core.Bool.{true≢false}
 use Rattle.std.specs.Prelude.{not, OnErr, OnOk}
 use Rattle.std.specs.List.{Contains, list_all}
@@ -310,9 +310,9 @@ pub on_err : {A E P Q : Type 0} (m : Result A E) → (P → Q) → OnErr m P →
 on_err (Ok a) f h = h
 on_err (Err e) f h = f h
 
-pub in_room : {A E : Type 0} (m : Result A E) (l n k : ℕ) → OnOk m (l ≡ n) → OnErr m (l ≡ k) → l ≤ k + n
-in_room (Ok a) l n k h j = omega (arith, h)
-in_room (Err e) l n k h j = omega (arith, j)
+pub within_room : {A E : Type 0} (m : Result A E) (l n k most : ℕ) → n ≤ most → k ≤ most → OnOk m (l ≤ n) → OnErr m (l ≡ k) → l ≤ most
+within_room (Ok a) l n k most le few h j = omega (arith, h, le)
+within_room (Err e) l n k most le few h j = omega (arith, j, few)
 
 -- ---- what is parted and not replayed is put together as it was
 pub interleaved_back : {X : Type 0} (bs : List Bool) (xs : List X) → length bs ≡ length xs → interleaved bs (marked bs xs) (unmarked bs xs) ≡ xs
@@ -321,6 +321,13 @@ interleaved_back [] (x ∷ xs) each = absurd (omega (arith, each))
 interleaved_back (b ∷ bs) [] each = absurd (omega (arith, each))
 interleaved_back (true ∷ bs) (x ∷ xs) each = ap (λ l. x ∷ l) (interleaved_back bs xs (omega (arith, each)))
 interleaved_back (false ∷ bs) (x ∷ xs) each = ap (λ l. x ∷ l) (interleaved_back bs xs (omega (arith, each)))
+
+pub fewer_interleaved : {X : Type 0} (bs : List Bool) (xs ys : List X) → length (interleaved bs xs ys) ≤ length bs
+fewer_interleaved [] xs ys = omega arith
+fewer_interleaved (true ∷ bs) [] ys = let le = fewer_interleaved bs [] ys in omega (arith, le)
+fewer_interleaved (true ∷ bs) (x ∷ xs) ys = let le = fewer_interleaved bs xs ys in omega (arith, le)
+fewer_interleaved (false ∷ bs) xs [] = let le = fewer_interleaved bs xs [] in omega (arith, le)
+fewer_interleaved (false ∷ bs) xs (y ∷ ys) = let le = fewer_interleaved bs xs ys in omega (arith, le)
 
 pub fewer_marked : {X : Type 0} (bs : List Bool) (xs : List X) → length (marked bs xs) ≤ length xs
 fewer_marked [] xs = omega arith

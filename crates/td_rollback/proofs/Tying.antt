@@ -6,7 +6,7 @@ use Rattle.std.proofs.lemmas.List.{take_more}
 use Rattle.std.proofs.lemmas.List.Elements.{Contains-append_cases}
 use Rattle.std.proofs.lemmas.Option.{slice_get-get_or}
 use Rattle.td_rollback.specs.Labels.{AllOrNone, AreTied, IsCoarser, has_label, is_of}
-use Rattle.td_rollback.proofs.Members.{number_first, number_none}
+use Rattle.td_rollback.proofs.Members.{number_cases, number_first, number_none}
 
 same_number : (n : ℕ) → n == n ≡ true
 same_number n = by (n == n) refl
@@ -74,8 +74,15 @@ tied_on xs ys ns c t n h = (
 )
 
 -- tied to the first one, each of them
-pub each_tied : (xs ns : List ℕ) (first : ℕ) → ((n : ℕ) → Contains ns n → (n < length xs) × (slice_get xs n ≡ slice_get xs first)) → AreTied xs ns
+each_tied : (xs ns : List ℕ) (first : ℕ) → ((n : ℕ) → Contains ns n → (n < length xs) × (slice_get xs n ≡ slice_get xs first)) → AreTied xs ns
 each_tied xs ns first each n h = ((each n h).0, λ m k. (each m k).1 ∙ sym (each n h).1)
+
+-- of the first one and others
+pub tied_others : (xs ns ps : List ℕ) (first : ℕ) → ns ≡ first ∷ ps → first < length xs → ((n : ℕ) → Contains ps n → (n < length xs) × (slice_get xs n ≡ slice_get xs first)) → AreTied xs ns
+tied_others xs ns ps first is lt each = each_tied xs ns first (λ n h. ⊎_elim
+    (λ one. subst (λ (m : ℕ). (m < length xs) × (slice_get xs m ≡ slice_get xs first)) one (lt, refl))
+    (λ later. each n later)
+    (number_cases first n ps (subst (λ (qs : List ℕ). Contains qs n) is h)))
 
 pub all_or_none : (xs ns : List ℕ) (label : Option ℕ) → AreTied xs ns → AllOrNone (has_label xs label) ns
 all_or_none xs [] label t n h = number_none n h

@@ -1,6 +1,6 @@
 //! Labels of places, by which places are tied.
 
-ghost use Rattle.std.specs.Prelude.{◌≡◌, ◌<◌, ◌==◌, ℕ, if◌then◌else◌, length, map, IfOk, OnOk, slice_get, true};
+ghost use Rattle.std.specs.Prelude.{◌≡◌, ◌<◌, ◌==◌, ℕ, if◌then◌else◌, length, map, IfOk, IsTrue, OnOk, slice_get, true};
 ghost use Rattle.std.specs.List.{Contains};
 ghost use Rattle.td_stamps.specs.declared.entry.Stamp.{Stamp as StampData};
 ghost use Rattle.td_rollback.specs.Labels.{AllOrNone, AreTied, IsCoarser, has_label, starts_in};
@@ -64,11 +64,11 @@ pub fn tie(alloc: Global, labels: &mut Vec<usize>, places: &[usize]) -> Result<(
     ensures tied { OnOk result (AreTied labels.new.items places.now) }
     ensures coarser { IsCoarser labels.old.items labels.new.items }
 {
-    let Some(first) = places.first() else {
+    let Some((first, others)) = places.split_first() else {
         return Ok(());
     };
     reach(labels, *first)?;
-    for place in places {
+    for place in others {
         reach(labels, *place)?;
         tie_two(alloc, labels, *first, *place)?;
     }
@@ -97,6 +97,24 @@ impl Part {
     }
 }
 
+// Whether the places have one label.
+fn are_tied(labels: &[usize], places: &[usize]) -> bool
+    ensures { IsTrue result → AreTied labels.now places.now }
+{
+    let Some((first, others)) = places.split_first() else {
+        return true;
+    };
+    if *first >= labels.len() {
+        return false;
+    }
+    for place in others {
+        if *place >= labels.len() || labels[*place] != labels[*first] {
+            return false;
+        }
+    }
+    true
+}
+
 // Ties the places of each record.
 fn tie_all<M: Machine>(
     alloc: Global,
@@ -107,7 +125,10 @@ fn tie_all<M: Machine>(
     ensures coarser { IsCoarser labels.old.items labels.new.items }
 {
     for record in log {
-        tie(alloc, labels, M::footprint_of(&record.1))?;
+        let places = M::footprint_of(&record.1);
+        if !are_tied(&*labels, places) {
+            tie(alloc, labels, places)?;
+        }
     }
     Ok(())
 }

@@ -4,9 +4,10 @@
 //!
 //! td_rollback knows entries, stamps and places, which are numbers, and no statement. Its trait `Machine` says what is
 //! asked of whatever runs entries: an entry is read, which tells its footprint, and run by what was read; a step leaves
-//! a record, changes its targets alone, and goes by its footprint. It has the log of its caller: `labels` ties places
-//! and finds the part that fresh entries are about, `marks` parts entries and records by it, `replay` and `undoing` go
-//! through the history of that part, `turns` tells what becomes of its records, and `replaying` puts all together.
+//! a record, changes its targets alone, and goes by its footprint. It has the log of its caller: `stamps` tells old
+//! entries from fresh ones, `labels` ties places and finds the part that fresh entries are about, `marks` parts entries
+//! and records by it, `replay` and `undoing` go through the history of that part, `turns` tells what becomes of its
+//! records, and `replaying` puts all together.
 #![tactic(auto)]
 
 mod labels;
@@ -16,6 +17,7 @@ mod marks;
 mod names;
 mod replay;
 mod replaying;
+mod stamps;
 mod turns;
 mod undoing;
 

@@ -1,6 +1,7 @@
 //! Marks on entries: which of them a replay is about.
 
-ghost use Rattle.std.specs.Prelude.{◌≡◌, ◌≤◌, ◌+◌, ◌++◌, IfOk, length, map, vec_capacity};
+ghost use Rattle.std.specs.Prelude.{◌≡◌, ◌≤◌, ◌+◌, ◌++◌, false, IfOk, IsTrue, drop, length, map, take, vec_capacity};
+ghost use Rattle.std.specs.List.{list_any};
 ghost use Rattle.td_rollback.specs.Labels.{has_label, starts_in};
 ghost use Rattle.td_rollback.specs.Parts.{marked, unmarked, interleaved};
 ghost use Rattle.td_rollback.specs.ForProofs.Marked as spec;
@@ -9,6 +10,7 @@ ghost use Rattle.td_rollback.specs.Touched.{AreMore};
 
 use crate::labels::Part;
 use crate::machine::Machine;
+use crate::stamps::is_old;
 use std::alloc::{AllocError, Global};
 use td_stamps::{Entry, Stamp};
 
@@ -27,39 +29,65 @@ pub(crate) fn marks_of<M: Machine>(
     Ok(marks)
 }
 
-/// A flag for each of the new entries: whether it is not old.
-pub(crate) fn flags_of(alloc: Global, old: &[Entry], new: &[Entry]) -> Result<Vec<bool>, AllocError>
+/// Entries of which some are marked: a mark for each, and copies of those that are marked, which share the texts.
+#[derive(Drop)]
+pub(crate) struct Marked {
+    pub marks: Vec<bool>,
+    pub entries: Vec<Entry>,
+}
+
+/// Marks the new entries that are not old. Once as many are left of the old ones as of the new ones, these are the
+/// same, and none of them is looked at.
+pub(crate) fn mark_fresh(alloc: Global, old: &[Entry], new: &[Entry]) -> Result<Marked, AllocError>
     requires { AreMore old.now new.now }
-    ensures { IfOk result (λ v. AreFlagged old.now v.items new.now) }
+    ensures flags { IfOk result (λ m. AreFlagged old.now m.marks.items new.now) }
+    ensures entries { IfOk result (λ m. m.entries.items ≡ marked m.marks.items new.now) }
 {
     let mut flags = Vec::with_capacity(alloc, new.len())?;
+    let mut fresh = Vec::new(alloc);
     let mut at = 0;
-    for entry in new {
-        if at < old.len() && entry.is_same(&old[at]) {
+    let mut passed = 0;
+    while old.len() - at < new.len() - passed {
+        let entry = &new[passed];
+        if at < old.len() && is_old(entry, &old[at]) {
             flags.push(false)?;
             at += 1;
         } else {
+            fresh.push(entry.copy()?)?;
             flags.push(true)?;
         }
+        passed += 1;
     }
-    Ok(flags)
+    flags.resize(new.len(), false)?;
+    Ok(Marked {
+        marks: flags,
+        entries: fresh,
+    })
+}
+
+/// Whether none is marked.
+pub(crate) fn are_unmarked(marks: &[bool]) -> bool
+    ensures { IsTrue result → list_any (λ b. b) marks.now ≡ false }
+{
+    !marks.contains(&true)
 }
 
 /// A mark for each of the new entries: that which an old one has, and one for each that is flagged.
 pub(crate) fn with_flagged(
     alloc: Global,
-    flags: Vec<bool>,
-    marks: Vec<bool>,
+    flags: &[bool],
+    marks: &[bool],
 ) -> Result<Vec<bool>, AllocError>
-    ensures { IfOk result (λ v. v.items ≡ spec.with_flagged flags.items marks.items) }
+    ensures { IfOk result (λ v. v.items ≡ spec.with_flagged flags.now marks.now) }
 {
     let mut all = Vec::with_capacity(alloc, flags.len())?;
-    let mut rest = marks.into_iter();
-    for flag in flags {
-        if flag {
+    let mut olds = marks.iter();
+    let mut rest = flags.iter();
+    while let Some(flag) = rest.next() {
+        if *flag {
             all.push(true)?;
-        } else if let Some(mark) = rest.next() {
-            all.push(mark)?;
+        } else {
+            all.push(olds.next().copied().unwrap_or(false))?;
         }
     }
     Ok(all)
@@ -70,15 +98,16 @@ pub(crate) fn with_flagged(
 pub(crate) fn chosen(
     alloc: Global,
     entries: &[Entry],
-    marks: Vec<bool>,
+    marks: &[bool],
 ) -> Result<Vec<Entry>, AllocError>
-    ensures { IfOk result (λ v. v.items ≡ marked marks.items entries.now) }
+    ensures { IfOk result (λ v. v.items ≡ marked marks.now entries.now) }
 {
     let mut chosen = Vec::new(alloc);
-    let mut rest = entries.iter();
-    for mark in marks {
-        if let Some(entry) = rest.next() {
-            if mark {
+    let mut entries = entries.iter();
+    let mut rest = marks.iter();
+    while let Some(mark) = rest.next() {
+        if let Some(entry) = entries.next() {
+            if *mark {
                 chosen.push(entry.copy()?)?;
             }
         }
@@ -90,21 +119,22 @@ pub(crate) fn chosen(
 #[tactic(auto, using(crate::proofs::Parting::none_marked, crate::proofs::Parting::none_unmarked))]
 pub(crate) fn split<X: Drop>(
     items: Vec<X>,
-    marks: Vec<bool>,
+    marks: &[bool],
     first: Vec<X>,
     second: Vec<X>,
 ) -> (Vec<X>, Vec<X>)
     requires first { length first.items + length items.items ≤ vec_capacity first }
     requires second { length second.items + length items.items ≤ vec_capacity second }
-    ensures marked { result.0.items ≡ first.items ++ marked marks.items items.items }
-    ensures unmarked { result.1.items ≡ second.items ++ unmarked marks.items items.items }
+    ensures marked { result.0.items ≡ first.items ++ marked marks.now items.items }
+    ensures unmarked { result.1.items ≡ second.items ++ unmarked marks.now items.items }
 {
     let mut within = first;
     let mut without = second;
-    let mut rest = items.into_iter();
-    for mark in marks {
-        if let Some(item) = rest.next() {
-            if mark {
+    let mut items = items.into_iter();
+    let mut rest = marks.iter();
+    while let Some(mark) = rest.next() {
+        if let Some(item) = items.next() {
+            if *mark {
                 within.push(item).unwrap();
             } else {
                 without.push(item).unwrap();
@@ -116,19 +146,20 @@ pub(crate) fn split<X: Drop>(
 
 /// Moves both together again, behind what is there.
 pub(crate) fn interleave<X: Drop>(
-    marks: Vec<bool>,
+    marks: &[bool],
     within: Vec<X>,
     without: Vec<X>,
     room: Vec<X>,
 ) -> Vec<X>
-    requires { length room.items + length marks.items ≤ vec_capacity room }
-    ensures { result.items ≡ room.items ++ interleaved marks.items within.items without.items }
+    requires { length room.items + length marks.now ≤ vec_capacity room }
+    ensures { result.items ≡ room.items ++ interleaved marks.now within.items without.items }
 {
     let mut all = room;
     let mut firsts = within.into_iter();
     let mut seconds = without.into_iter();
-    for mark in marks {
-        if mark {
+    let mut rest = marks.iter();
+    while let Some(mark) = rest.next() {
+        if *mark {
             if let Some(item) = firsts.next() {
                 all.push(item).unwrap();
             }
@@ -137,4 +168,23 @@ pub(crate) fn interleave<X: Drop>(
         }
     }
     all
+}
+
+/// Puts the items in at the places of their marks, of which the first is that behind the first so many, while items are
+/// left. Each moves all that is behind it.
+pub(crate) fn insert_marked<X: Drop>(all: &mut Vec<X>, kept: usize, marks: &[bool], items: Vec<X>)
+    requires front { kept ≤ length all.old.items }
+    requires room { length all.old.items + length items.items ≤ vec_capacity all.old }
+    requires others { length (drop kept all.old.items) ≡ length (unmarked marks.now marks.now) }
+    ensures { all.new.items ≡ take kept all.old.items ++ interleaved marks.now items.items (drop kept all.old.items) }
+{
+    let mut items = items.into_iter();
+    for place in 0..marks.len() {
+        if items.len() == 0 {
+            return;
+        }
+        if marks[place] {
+            all.insert(kept + place, items.next().unwrap()).unwrap();
+        }
+    }
 }

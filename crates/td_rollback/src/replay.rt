@@ -13,6 +13,7 @@ ghost use Rattle.td_rollback.specs.ForProofs.Standing.{AreRead, Ran};
 
 use crate::machine::Machine;
 use crate::names::{add, meets};
+use crate::stamps::is_old;
 use crate::turns::ReplayedRecord;
 use std::alloc::{AllocError, Global};
 use td_stamps::{Entry, Stamp};
@@ -188,7 +189,7 @@ pub(crate) fn replay_end<M: Machine>(
     let mut names = Vec::new(alloc);
     let mut at = 0;
     for entry in new {
-        if at < old.len() && entry.is_same(&old[at]) {
+        if at < old.len() && is_old(entry, &old[at]) {
             let ran = &log[at].1;
             at += 1;
             if meets(&names, M::footprint_of(ran)) {

@@ -8,12 +8,15 @@ ghost use Rattle.td_rollback.specs.Going.{AreAlikeBut, Begins};
 ghost use Rattle.td_rollback.specs.Parts.{marked, unmarked, interleaved};
 ghost use Rattle.td_rollback.specs.Touched.{AreMore, IsTargetOf, Runs};
 ghost use Rattle.td_rollback.specs.Turns.{replayed_log, settled};
-ghost use Rattle.td_rollback.specs.ForProofs.Marked.{AreAmong, AreParted};
+ghost use Rattle.td_rollback.specs.ForProofs.Marked.{AreAmong, AreParted, with_flagged};
 ghost use Rattle.td_rollback.specs.ForProofs.Standing.{AreRead};
 
 use crate::labels::part_of;
 use crate::machine::Machine;
-use crate::marks::{chosen, flags_of, interleave, marks_of, split, with_flagged};
+use crate::marks::{
+    Marked, are_unmarked, chosen, insert_marked, interleave, mark_fresh, marks_of, split,
+    with_flagged,
+};
 use crate::names::add;
 use crate::replay::replay_end;
 use crate::turns::{ReplayedRecord, settle};
@@ -137,13 +140,6 @@ fn replay_part<M: Machine>(
     }
 }
 
-/// Entries, and which of them are marked.
-#[derive(Drop)]
-struct Marked {
-    marks: Vec<bool>,
-    entries: Vec<Entry>,
-}
-
 /// So many of the entries that are read are kept as they were read, until they run: some MB. The others are read again.
 const MOST_READINGS: usize = 4_096;
 
@@ -188,13 +184,33 @@ fn read_all<M: Machine>(
     Ok(Fresh { readings, places })
 }
 
-// The marks, with the entries that are marked.
-fn marked_of(alloc: Global, entries: &[Entry], marks: Vec<bool>) -> Result<Marked, AllocError>
-    ensures marks { IfOk result (λ m. m.marks.items ≡ marks.items) }
-    ensures entries { IfOk result (λ m. m.entries.items ≡ marked marks.items entries.now) }
+// The marked old entries, and all that is marked with what is fresh. Where no old one is marked that is what is fresh.
+fn mark_both(
+    alloc: Global,
+    old: &[Entry],
+    new: &[Entry],
+    marks: Vec<bool>,
+    fresh: Marked,
+) -> Result<(Marked, Marked), AllocError>
+    requires { fresh.entries.items ≡ marked fresh.marks.items new.now }
+    ensures old_marks { IfOk result (λ p. p.0.marks.items ≡ marks.items) }
+    ensures old { IfOk result (λ p. p.0.entries.items ≡ marked marks.items old.now) }
+    ensures new_marks { IfOk result (λ p. p.1.marks.items ≡ with_flagged fresh.marks.items marks.items) }
+    ensures new { IfOk result (λ p. p.1.entries.items ≡ marked p.1.marks.items new.now) }
 {
-    let entries = chosen(alloc, entries, Vec::from_slice(alloc, &marks)?)?;
-    Ok(Marked { marks, entries })
+    if are_unmarked(&marks) {
+        let entries = Vec::new(alloc);
+        return Ok((Marked { marks, entries }, fresh));
+    }
+    let all = with_flagged(alloc, &fresh.marks, &marks)?;
+    let entries = chosen(alloc, old, &marks)?;
+    let all_entries = chosen(alloc, new, &all)?;
+    let told = Marked { marks, entries };
+    let all = Marked {
+        marks: all,
+        entries: all_entries,
+    };
+    Ok((told, all))
 }
 
 // Marks the old entries and all that is to be told: those that keep to the part of the places of what is fresh. Answers
@@ -214,19 +230,66 @@ fn mark_all<M: Machine>(
     ensures fresh { IfOk result (λ p. AreAmong (M.targets (M.origin machine.now)) p.0.entries.items p.1.entries.items p.2.places.items) }
     ensures read { IfOk result (λ p. AreRead (M.is_read (M.origin machine.now)) p.2.readings.items) }
 {
-    let flags = flags_of(alloc, old, new)?;
-    let fresh = chosen(alloc, new, Vec::from_slice(alloc, &flags)?)?;
-    let fresh = read_all(alloc, machine, &fresh)?;
-    let part = part_of(alloc, machine, &fresh.places, log)?;
+    let fresh = mark_fresh(alloc, old, new)?;
+    let read = read_all(alloc, machine, &fresh.entries)?;
+    let part = part_of(alloc, machine, &read.places, log)?;
     let marks = marks_of::<M>(alloc, &part, log)?;
-    let all = with_flagged(alloc, flags, Vec::from_slice(alloc, &marks)?)?;
-    let told = marked_of(alloc, old, marks)?;
-    let all = marked_of(alloc, new, all)?;
-    Ok((told, all, fresh))
+    let (told, all) = mark_both(alloc, old, new, marks, fresh)?;
+    Ok((told, all, read))
 }
 
-// Replays what is marked, and leaves all else as it is: whatever may fail comes before the log changes.
-fn replay_marked<M: Machine>(
+/// So many records at most are put into a log in place, of which each moves all that is behind it.
+const MOST_INSERTED: usize = 8;
+
+// Runs what is marked where no old entry is. No record is taken out of the log: those of the fresh entries come between
+// those behind the first so many.
+fn replay_beside<M: Machine>(
+    alloc: Global,
+    machine: &mut M,
+    log: &mut Vec<(Stamp, M::Record)>,
+    kept: usize,
+    all: Marked,
+    fresh: &[usize],
+    readings: &[(Entry, M::Reading)],
+    meter: &mut M::Meter,
+) -> Result<(), AllocError>
+    requires history { (o : M) × Begins M.sound M.origin M.steps o [] [] machine.old }
+    requires more { AreMore [] all.entries.items }
+    requires front { kept ≤ length log.old.items }
+    requires others { length (drop kept log.old.items) ≡ length (unmarked all.marks.items all.marks.items) }
+    requires fresh { AreAmong (M.targets (M.origin machine.old)) [] all.entries.items fresh.now }
+    requires read { AreRead (M.is_read (M.origin machine.old)) readings.now }
+    ensures history { OnOk result ((records : List (StampData × M.Record)) × (log.new.items ≡ take kept log.old.items ++ interleaved all.marks.items records (drop kept log.old.items)) × ((o : M) → Begins M.sound M.origin M.steps o [] [] machine.old → Begins M.sound M.origin M.steps o all.entries.items records machine.new)) }
+    ensures kept { OnErr result ((machine.new ≡ machine.old) × (log.new.items ≡ log.old.items)) }
+    ensures counted { (n : ℕ) → Runs (M.footprint (M.origin machine.old)) (M.targets (M.origin machine.old)) [] [] all.entries.items n → M.count meter.new ≤ M.count meter.old + n }
+    ensures few { M.count meter.new ≤ M.count meter.old + length all.entries.items }
+    ensures origin { M.origin machine.new ≡ M.origin machine.old }
+{
+    let none = Vec::new(alloc);
+    let old = Vec::new(alloc);
+    let room = Vec::with_capacity(alloc, all.entries.len())?;
+    log.reserve(all.entries.len())?;
+    match replay_part(
+        alloc,
+        machine,
+        &none,
+        &old,
+        &all.entries,
+        fresh,
+        readings,
+        meter,
+    ) {
+        Ok(ReplayedPart { kept: front, turns }) => {
+            let records = settle(old, front, turns, room);
+            insert_marked(log, kept, &all.marks, records);
+            Ok(())
+        }
+        Err(error) => Err(error),
+    }
+}
+
+// Replays what is marked, and puts the records together anew: whatever may fail comes before the log changes.
+fn replay_parted<M: Machine>(
     alloc: Global,
     machine: &mut M,
     log: &mut Vec<(Stamp, M::Record)>,
@@ -250,11 +313,9 @@ fn replay_marked<M: Machine>(
     let within = Vec::with_capacity(alloc, log.len())?;
     let without = Vec::with_capacity(alloc, log.len())?;
     let room = Vec::with_capacity(alloc, all.entries.len())?;
-    let told_room = Vec::with_capacity(alloc, told.marks.len())?;
-    let all_room = Vec::with_capacity(alloc, all.marks.len())?;
-    let marks = Vec::from_slice(alloc, &told.marks)?;
+    let log_room = Vec::with_capacity(alloc, told.marks.len().max(all.marks.len()))?;
     let records = replace(log, Vec::new(alloc));
-    let (within, without) = split(records, marks, within, without);
+    let (within, without) = split(records, &told.marks, within, without);
     match replay_part(
         alloc,
         machine,
@@ -267,36 +328,104 @@ fn replay_marked<M: Machine>(
     ) {
         Ok(ReplayedPart { kept, turns }) => {
             let within = settle(within, kept, turns, room);
-            *log = interleave(all.marks, within, without, all_room);
+            *log = interleave(&all.marks, within, without, log_room);
             Ok(())
         }
         Err(error) => {
-            *log = interleave(told.marks, within, without, told_room);
+            *log = interleave(&told.marks, within, without, log_room);
             Err(error)
         }
     }
 }
 
-// Replays a history, as `replay_with` does, of entries that do not begin alike.
+// Replays what is marked of the entries behind the first so many, whose records are taken out of the log and put back.
+fn replay_behind<M: Machine>(
+    alloc: Global,
+    machine: &mut M,
+    log: &mut Vec<(Stamp, M::Record)>,
+    kept: usize,
+    told: Marked,
+    all: Marked,
+    fresh: &[usize],
+    readings: &[(Entry, M::Reading)],
+    meter: &mut M::Meter,
+) -> Result<(), AllocError>
+    requires history { (o : M) × Begins M.sound M.origin M.steps o told.entries.items (marked told.marks.items (drop kept log.old.items)) machine.old }
+    requires more { AreMore told.entries.items all.entries.items }
+    requires front { kept ≤ length log.old.items }
+    requires each { length told.marks.items ≡ length (drop kept log.old.items) }
+    requires fresh { AreAmong (M.targets (M.origin machine.old)) told.entries.items all.entries.items fresh.now }
+    requires read { AreRead (M.is_read (M.origin machine.old)) readings.now }
+    ensures history { OnOk result ((records : List (StampData × M.Record)) × (log.new.items ≡ take kept log.old.items ++ interleaved all.marks.items records (unmarked told.marks.items (drop kept log.old.items))) × ((o : M) → Begins M.sound M.origin M.steps o told.entries.items (marked told.marks.items (drop kept log.old.items)) machine.old → Begins M.sound M.origin M.steps o all.entries.items records machine.new)) }
+    ensures kept { OnErr result ((machine.new ≡ machine.old) × (log.new.items ≡ log.old.items)) }
+    ensures counted { (n : ℕ) → Runs (M.footprint (M.origin machine.old)) (M.targets (M.origin machine.old)) [] told.entries.items all.entries.items n → M.count meter.new ≤ M.count meter.old + n }
+    ensures few { M.count meter.new ≤ M.count meter.old + length all.entries.items }
+    ensures origin { M.origin machine.new ≡ M.origin machine.old }
+{
+    log.reserve(all.marks.len().saturating_sub(told.marks.len()))?;
+    let mut end = log.split_off(kept)?;
+    let ran = replay_parted(alloc, machine, &mut end, told, all, fresh, readings, meter);
+    log.append(&mut end).unwrap();
+    ran
+}
+
+// Replays what is marked of the entries behind the first so many, and leaves all else as it is.
+fn replay_marked<M: Machine>(
+    alloc: Global,
+    machine: &mut M,
+    log: &mut Vec<(Stamp, M::Record)>,
+    kept: usize,
+    told: Marked,
+    all: Marked,
+    fresh: &[usize],
+    readings: &[(Entry, M::Reading)],
+    meter: &mut M::Meter,
+) -> Result<(), AllocError>
+    requires history { (o : M) × Begins M.sound M.origin M.steps o told.entries.items (marked told.marks.items (drop kept log.old.items)) machine.old }
+    requires more { AreMore told.entries.items all.entries.items }
+    requires front { kept ≤ length log.old.items }
+    requires each { length told.marks.items ≡ length (drop kept log.old.items) }
+    requires told { (es : List EntryData) × (told.entries.items ≡ marked told.marks.items es) × (length es ≡ length told.marks.items) }
+    requires others { length (unmarked told.marks.items (drop kept log.old.items)) ≡ length (unmarked all.marks.items all.marks.items) }
+    requires fresh { AreAmong (M.targets (M.origin machine.old)) told.entries.items all.entries.items fresh.now }
+    requires read { AreRead (M.is_read (M.origin machine.old)) readings.now }
+    ensures history { OnOk result ((records : List (StampData × M.Record)) × (log.new.items ≡ take kept log.old.items ++ interleaved all.marks.items records (unmarked told.marks.items (drop kept log.old.items))) × ((o : M) → Begins M.sound M.origin M.steps o told.entries.items (marked told.marks.items (drop kept log.old.items)) machine.old → Begins M.sound M.origin M.steps o all.entries.items records machine.new)) }
+    ensures kept { OnErr result ((machine.new ≡ machine.old) × (log.new.items ≡ log.old.items)) }
+    ensures counted { (n : ℕ) → Runs (M.footprint (M.origin machine.old)) (M.targets (M.origin machine.old)) [] told.entries.items all.entries.items n → M.count meter.new ≤ M.count meter.old + n }
+    ensures few { M.count meter.new ≤ M.count meter.old + length all.entries.items }
+    ensures origin { M.origin machine.new ≡ M.origin machine.old }
+{
+    if told.entries.is_empty() && all.entries.len() <= MOST_INSERTED {
+        return replay_beside(alloc, machine, log, kept, all, fresh, readings, meter);
+    }
+    replay_behind(alloc, machine, log, kept, told, all, fresh, readings, meter)
+}
+
+// Replays a history, as `replay_with` does, of entries that do not begin alike: those behind the first so many.
 fn replay_differing_end<M: Machine>(
     alloc: Global,
     machine: &mut M,
     old: &[Entry],
     log: &mut Vec<(Stamp, M::Record)>,
+    kept: usize,
     new: &[Entry],
     meter: &mut M::Meter,
 ) -> Result<(), AllocError>
-    requires history { (o : M) × Begins M.sound M.origin M.steps o old.now log.old.items machine.old }
+    requires history { (o : M) × Begins M.sound M.origin M.steps o old.now (drop kept log.old.items) machine.old }
+    requires front { kept ≤ length log.old.items }
     requires more { AreMore old.now new.now }
-    ensures history { (o : M) → Begins M.sound M.origin M.steps o old.now log.old.items machine.old → OnOk result (Begins M.sound M.origin M.steps o new.now log.new.items machine.new) }
+    ensures history { OnOk result ((records : List (StampData × M.Record)) × (log.new.items ≡ take kept log.old.items ++ records) × ((o : M) → Begins M.sound M.origin M.steps o old.now (drop kept log.old.items) machine.old → Begins M.sound M.origin M.steps o new.now records machine.new)) }
     ensures kept { OnErr result ((machine.new ≡ machine.old) × (log.new.items ≡ log.old.items)) }
     ensures counted { (n : ℕ) → Runs (M.footprint (M.origin machine.old)) (M.targets (M.origin machine.old)) [] old.now new.now n → M.count meter.new ≤ M.count meter.old + n }
     ensures few { M.count meter.new ≤ M.count meter.old + length new.now }
     ensures origin { M.origin machine.new ≡ M.origin machine.old }
 {
-    let (told, all, fresh) = mark_all(alloc, &*machine, old, log, new)?;
+    let (_, records) = log.split_at(kept);
+    let (told, all, fresh) = mark_all(alloc, &*machine, old, records, new)?;
     let Fresh { readings, places } = fresh;
-    replay_marked(alloc, machine, log, told, all, &places, &readings, meter)
+    replay_marked(
+        alloc, machine, log, kept, told, all, &places, &readings, meter,
+    )
 }
 
 /// Leads the machine to the end of the history of the new entries, from the end of that of the old ones, with a record
@@ -309,9 +438,9 @@ fn replay_differing_end<M: Machine>(
 ///
 /// Where memory is wanting all is as it was, and each run that was made is counted.
 ///
-/// Besides what the machine's calls cost it walks a few times along the entries behind the first fresh one, and moves
-/// their records; an entry that keeps to the part costs a look at each of its places among the places named, of which
-/// each is kept once.
+/// Besides what the machine's calls cost it walks a few times along the entries behind the first fresh one, by their
+/// stamps and not by their texts, and moves their records; an entry that keeps to the part costs a look at each of its
+/// places among the places named, of which each is kept once.
 pub fn replay_with<M: Machine>(
     alloc: Global,
     machine: &mut M,
@@ -329,11 +458,7 @@ pub fn replay_with<M: Machine>(
     ensures origin { M.origin machine.new ≡ M.origin machine.old }
 {
     let kept = common_of(old, new);
-    log.reserve(new.len())?;
-    let mut end = log.split_off(kept)?;
     let (_, old_end) = old.split_at(kept);
     let (_, new_end) = new.split_at(kept);
-    let told = replay_differing_end(alloc, machine, old_end, &mut end, new_end, meter);
-    log.append(&mut end).unwrap();
-    told
+    replay_differing_end(alloc, machine, old_end, log, kept, new_end, meter)
 }

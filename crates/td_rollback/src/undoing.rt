@@ -3,19 +3,22 @@
 ghost use Rattle.std.specs.Prelude.{◌≡◌, ◌≤◌, OnOk, length, drop, take};
 ghost use Rattle.td_stamps.specs.History.{History};
 ghost use Rattle.td_rollback.specs.Going.{AreAlikeBut, Begins};
+ghost use Rattle.td_rollback.specs.Touched.{AreMore};
 
 use crate::machine::Machine;
+use crate::stamps::is_old;
 use std::alloc::{AllocError, Global};
 use td_stamps::{Entry, Stamp};
 
 // How many entries the two begin with alike.
 pub(crate) fn common_of(old: &[Entry], new: &[Entry]) -> usize
+    requires { AreMore old.now new.now }
     ensures alike { take result old.now ≡ take result new.now }
     ensures in_old { result ≤ length old.now }
     ensures in_new { result ≤ length new.now }
 {
     let mut common = 0;
-    while common < old.len() && common < new.len() && old[common].is_same(&new[common]) {
+    while common < old.len() && common < new.len() && is_old(&new[common], &old[common]) {
         common += 1;
     }
     common

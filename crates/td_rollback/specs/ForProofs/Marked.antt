@@ -15,7 +15,7 @@ pub data AreFlagged : List Entry → List Bool → List Entry → Type 0 where
 abbrev pub with_flagged : List Bool → List Bool → List Bool
 with_flagged [] marks = []
 with_flagged (true ∷ flags) marks = true ∷ with_flagged flags marks
-with_flagged (false ∷ flags) [] = with_flagged flags []
+with_flagged (false ∷ flags) [] = false ∷ with_flagged flags []
 with_flagged (false ∷ flags) (b ∷ marks) = b ∷ with_flagged flags marks
 
 -- a part, and marks for the old entries and for all, which say who keeps to it

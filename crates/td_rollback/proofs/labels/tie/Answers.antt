@@ -1,7 +1,7 @@
 use Rattle.std.proofs.Common.{◌≡◌, ◌<◌, ℕ, List, length, slice_get, slice_index_or, refl, sym, subst, arith}
 use Rattle.std.specs.List.{Contains}
 use Rattle.std.proofs.lemmas.List.{take_all}
-use Rattle.td_rollback.proofs.Tying.{coarser_through, each_tied, item_more}
+use Rattle.td_rollback.proofs.Tying.{coarser_through, item_more, tied_others}
 use Rattle.td_rollback.proofs.labels.tie.Goals as goal
 
 pub loop-place-preserved : goal.loop-place-preserved
@@ -11,7 +11,7 @@ loop-place-preserved c =
     let xs = l.labels.items in
     let ys = c.reach-in-loop-place.new.labels.items in
     let zs = c.tie_two.new.labels.items in
-    let ps = c.args.places.now in
+    let ps = c.in-Some.others.now in
     let p = slice_index_or ps l.place-index 0 in
     let coarse = coarser_through xs ys zs c.in_ok-reach-2.ensures.coarser c.in_ok-tie_two.ensures.coarser in
     let longer = coarse.longer in
@@ -29,6 +29,7 @@ loop-place-preserved c =
 pub returns-clause-tied : goal.returns-clause-tied
 returns-clause-tied c =
     let l = c.loop-place in
-    let ps = c.args.places.now in
+    let ps = c.in-Some.others.now in
     let end = c.loop-place-test.false in
-    each_tied l.labels.items ps c.in-Some.first.now (λ n h. l.invariant.each n (subst (λ (qs : List ℕ). Contains qs n) (sym (take_all l.place-index ps (omega (arith, end)))) h))
+    tied_others l.labels.items c.args.places.now ps c.in-Some.first.now c.in-Some.ensures.cases.0 l.invariant.first
+    (λ n h. l.invariant.each n (subst (λ (qs : List ℕ). Contains qs n) (sym (take_all l.place-index ps (omega (arith, end)))) h))

@@ -6,8 +6,9 @@ use Rattle.td_rollback.specs.ForProofs.Standing.{Begun}
 use Rattle.td_rollback.specs.ForProofs.Ways.{way_of}
 use Rattle.td_rollback.proofs.Coming as coming
 use Rattle.td_rollback.proofs.Coming.{Coming, Old}
+use Rattle.td_rollback.proofs.Members.{has_at}
 use Rattle.td_rollback.proofs.Standing as standing
-use Rattle.td_rollback.proofs.replay.replay_end.Goals.{then-at-old+then-is_same+then-meets+in_ok-run_again, then-at-old+then-is_same+else-meets+in_ok-keep, else-at-old+in_ok-run_fresh, else-at-old-via-then-at-old+else-is_same, else-at-old-via-else-at-old}
+use Rattle.td_rollback.proofs.replay.replay_end.Goals.{then-at-old+then-is_old+then-meets+in_ok-run_again, then-at-old+then-is_old+else-meets+in_ok-keep, else-at-old+in_ok-run_fresh, else-at-old-via-then-at-old+else-is_old, else-at-old-via-else-at-old}
 use Rattle.td_rollback.proofs.replay.replay_end.Goals as goal
 
 pub loop-entry-init : goal.loop-entry-init
@@ -25,6 +26,13 @@ loop-entry-init g c =
       many = ap length c.new-turns.ensures.items;
     }
 
+pub is_old-requires : goal.is_old-requires
+is_old-requires g c =
+    let l = c.loop-entry in
+    let old = c.args.old.now in
+    let new = c.args.new.now in
+    (old, new, c.requires.more, has_at old l.at c.index-old-at.result c.if-at-old.true c.index-old-at.is, has_at new l.entry-index c.entry-item.result c.loop-entry-test.true c.entry-item.is)
+
 pub returns-in_err-run_again-clause-counted : goal.returns-in_err-run_again-clause-counted
 returns-in_err-run_again-clause-counted g c = λ n runs.
     let m = g.M.Machine in
@@ -32,7 +40,7 @@ returns-in_err-run_again-clause-counted g c = λ n runs.
     let w = way_of m.sound m.steps m.alike m.origin m.footprint m.targets m.footprint_in m.targets_in g.met.M.Machine.goes (m.origin c.args.machine.now) in
     let b : Begun g.row.M.Denot g.row.M-Record.Denot = record { state = c.args.machine.now; old = c.args.old.now; log = c.args.log.now; new = c.args.new.now; count = m.count c.args.meter.now } in
     let a : Coming w b = record { i = l.entry-index; entry = c.entry-item.result; within = c.loop-entry-test.true; is = c.entry-item.is; at = l.at; names = l.names.items; turns = l.turns.items; state = l.machine; count = m.count l.meter; stands = l.invariant.stands; elsewhere = l.invariant.elsewhere } in
-    let o : Old w b a = record { old = c.index-old-at.result; within = c.if-at-old.true; is = c.index-old-at.is; one = sym c.is_same.ensures ∙ c.if-is_same.true; each = c.requires.each; other = c.index-log-at.result } in
+    let o : Old w b a = record { old = c.index-old-at.result; within = c.if-at-old.true; is = c.index-old-at.is; one = sym c.is_old.ensures ∙ c.if-is_old.true; each = c.requires.each; other = c.index-log-at.result } in
     let met = subst (λ (ns : List ℕ). (k : ℕ) × Contains ns k × Contains l.names.items k) c.footprint_of.ensures (subst (λ (ns : List ℕ). (k : ℕ) × Contains c.footprint_of.result.now k × Contains ns k) c.deref.ensures.value (c.meets.ensures.0 c.if-meets.true)) in
     let most = coming.again_counted w b a o met n runs in
     let few = c.run_again.ensures.counted in
@@ -55,7 +63,7 @@ returns-in_err-run_fresh-clause-counted g c = λ n runs.
     let b : Begun g.row.M.Denot g.row.M-Record.Denot = record { state = c.args.machine.now; old = c.args.old.now; log = c.args.log.now; new = c.args.new.now; count = m.count c.args.meter.now } in
     let a : Coming w b = record { i = l.entry-index; entry = c.entry-item.result; within = c.loop-entry-test.true; is = c.entry-item.is; at = l.at; names = l.names.items; turns = l.turns.items; state = l.machine; count = m.count l.meter; stands = l.invariant.stands; elsewhere = l.invariant.elsewhere } in
     let lacks : has (drop l.at c.args.old.now) c.entry-item.result ≡ false = elim c.else-at-old.branch [
-      | else-at-old-via-then-at-old+else-is_same k ↦ coming.lacks_before w b a k.index-old-at.result k.if-at-old.true k.index-old-at.is (sym k.is_same.ensures ∙ k.if-is_same.false)
+      | else-at-old-via-then-at-old+else-is_old k ↦ coming.lacks_before w b a k.index-old-at.result k.if-at-old.true k.index-old-at.is (sym k.is_old.ensures ∙ k.if-is_old.false)
       | else-at-old-via-else-at-old k ↦ coming.lacks_at_end w b a (let end = k.if-at-old.false in omega (arith, end))
     ] in
     let most = coming.fresh_counted w b a lacks n runs in
@@ -78,7 +86,7 @@ keep-requires g c =
     let w = way_of m.sound m.steps m.alike m.origin m.footprint m.targets m.footprint_in m.targets_in g.met.M.Machine.goes (m.origin c.args.machine.now) in
     let b : Begun g.row.M.Denot g.row.M-Record.Denot = record { state = c.args.machine.now; old = c.args.old.now; log = c.args.log.now; new = c.args.new.now; count = m.count c.args.meter.now } in
     let a : Coming w b = record { i = l.entry-index; entry = c.entry-item.result; within = c.loop-entry-test.true; is = c.entry-item.is; at = l.at; names = l.names.items; turns = l.turns.items; state = l.machine; count = m.count l.meter; stands = l.invariant.stands; elsewhere = l.invariant.elsewhere } in
-    let o : Old w b a = record { old = c.index-old-at.result; within = c.if-at-old.true; is = c.index-old-at.is; one = sym c.is_same.ensures ∙ c.if-is_same.true; each = c.requires.each; other = c.index-log-at.result } in
+    let o : Old w b a = record { old = c.index-old-at.result; within = c.if-at-old.true; is = c.index-old-at.is; one = sym c.is_old.ensures ∙ c.if-is_old.true; each = c.requires.each; other = c.index-log-at.result } in
     let unmet : (k : ℕ) × Contains (m.footprint_in (get_or c.args.log.now l.at c.index-log-at.result).1) k × Contains l.names.items k → ⊥ = λ h.
     true≢false (sym (c.meets.ensures.1 (subst (λ (ns : List ℕ). (k : ℕ) × Contains c.footprint_of.result.now k × Contains ns k) (sym c.deref.ensures.value) (subst (λ (ns : List ℕ). (k : ℕ) × Contains ns k × Contains l.names.items k) (sym c.footprint_of.ensures) h))) ∙ c.if-meets.false) in
     let may = coming.may_redo w b a o unmet in
@@ -91,7 +99,7 @@ returns-in_err-keep-clause-elsewhere g c =
     let w = way_of m.sound m.steps m.alike m.origin m.footprint m.targets m.footprint_in m.targets_in g.met.M.Machine.goes (m.origin c.args.machine.now) in
     let b : Begun g.row.M.Denot g.row.M-Record.Denot = record { state = c.args.machine.now; old = c.args.old.now; log = c.args.log.now; new = c.args.new.now; count = m.count c.args.meter.now } in
     let a : Coming w b = record { i = l.entry-index; entry = c.entry-item.result; within = c.loop-entry-test.true; is = c.entry-item.is; at = l.at; names = l.names.items; turns = l.turns.items; state = l.machine; count = m.count l.meter; stands = l.invariant.stands; elsewhere = l.invariant.elsewhere } in
-    let o : Old w b a = record { old = c.index-old-at.result; within = c.if-at-old.true; is = c.index-old-at.is; one = sym c.is_same.ensures ∙ c.if-is_same.true; each = c.requires.each; other = c.index-log-at.result } in
+    let o : Old w b a = record { old = c.index-old-at.result; within = c.if-at-old.true; is = c.index-old-at.is; one = sym c.is_old.ensures ∙ c.if-is_old.true; each = c.requires.each; other = c.index-log-at.result } in
     coming.old_elsewhere w b a o c.keep.new.machine c.keep.ensures.elsewhere
 
 pub loop-entry-preserved : goal.loop-entry-preserved
@@ -103,8 +111,8 @@ loop-entry-preserved g c =
     let a : Coming w b = record { i = l.entry-index; entry = c.entry-item.result; within = c.loop-entry-test.true; is = c.entry-item.is; at = l.at; names = l.names.items; turns = l.turns.items; state = l.machine; count = m.count l.meter; stands = l.invariant.stands; elsewhere = l.invariant.elsewhere } in
     let many = l.invariant.many in
     elim c.if-at-old.branch [
-      | then-at-old+then-is_same+then-meets+in_ok-run_again k ↦
-          let o : Old w b a = record { old = k.index-old-at.result; within = k.if-at-old.true; is = k.index-old-at.is; one = sym k.is_same.ensures ∙ k.if-is_same.true; each = c.requires.each; other = k.index-log-at.result } in
+      | then-at-old+then-is_old+then-meets+in_ok-run_again k ↦
+          let o : Old w b a = record { old = k.index-old-at.result; within = k.if-at-old.true; is = k.index-old-at.is; one = sym k.is_old.ensures ∙ k.if-is_old.true; each = c.requires.each; other = k.index-log-at.result } in
           let met = subst (λ (ns : List ℕ). (n : ℕ) × Contains ns n × Contains l.names.items n) k.footprint_of.ensures (subst (λ (ns : List ℕ). (n : ℕ) × Contains k.footprint_of.result.now n × Contains ns n) k.deref.ensures.value (k.meets.ensures.0 k.if-meets.true)) in
           let ran = k.in_ok-run_again.ensures.turn in
           let adds = subst (λ (q : g.row.M.Denot). (n : ℕ) → Contains k.run_again.new.names.items n ↔ (m.targets q c.entry-item.result n ⊎ Contains l.names.items n)) l.invariant.origin k.in_ok-run_again.ensures.names in
@@ -120,8 +128,8 @@ loop-entry-preserved g c =
             origin = ap m.origin k.machine-is ∙ k.run_again.ensures.origin ∙ l.invariant.origin;
             many = ap length items ∙ length-append l.turns.items _ ∙ omega (arith, many);
           }
-      | then-at-old+then-is_same+else-meets+in_ok-keep k ↦
-          let o : Old w b a = record { old = k.index-old-at.result; within = k.if-at-old.true; is = k.index-old-at.is; one = sym k.is_same.ensures ∙ k.if-is_same.true; each = c.requires.each; other = k.index-log-at.result } in
+      | then-at-old+then-is_old+else-meets+in_ok-keep k ↦
+          let o : Old w b a = record { old = k.index-old-at.result; within = k.if-at-old.true; is = k.index-old-at.is; one = sym k.is_old.ensures ∙ k.if-is_old.true; each = c.requires.each; other = k.index-log-at.result } in
           let unmet : (n : ℕ) × Contains (m.footprint_in (get_or c.args.log.now l.at k.index-log-at.result).1) n × Contains l.names.items n → ⊥ = λ h.
           true≢false (sym (k.meets.ensures.1 (subst (λ (ns : List ℕ). (n : ℕ) × Contains k.footprint_of.result.now n × Contains ns n) (sym k.deref.ensures.value) (subst (λ (ns : List ℕ). (n : ℕ) × Contains ns n × Contains l.names.items n) (sym k.footprint_of.ensures) h))) ∙ k.if-meets.false) in
           let stands = coming.kept_stands w b a o unmet k.keep.new.machine (λ t step. k.in_ok-keep.ensures.after t c.entry-item.result step) in
@@ -137,7 +145,7 @@ loop-entry-preserved g c =
           }
       | else-at-old+in_ok-run_fresh k ↦
           let lacks : has (drop l.at c.args.old.now) c.entry-item.result ≡ false = elim k.else-at-old.branch [
-            | else-at-old-via-then-at-old+else-is_same j ↦ coming.lacks_before w b a j.index-old-at.result j.if-at-old.true j.index-old-at.is (sym j.is_same.ensures ∙ j.if-is_same.false)
+            | else-at-old-via-then-at-old+else-is_old j ↦ coming.lacks_before w b a j.index-old-at.result j.if-at-old.true j.index-old-at.is (sym j.is_old.ensures ∙ j.if-is_old.false)
             | else-at-old-via-else-at-old j ↦ coming.lacks_at_end w b a (let end = j.if-at-old.false in omega (arith, end))
           ] in
           let ran = k.in_ok-run_fresh.ensures.turn in

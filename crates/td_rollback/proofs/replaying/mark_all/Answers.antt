@@ -18,16 +18,15 @@ returns-clause-parted g c =
     let p = c.in_ok-part.part in
     let part : ℕ → Bool = has_label p.labels.items p.label in
     let new = c.args.new.now in
-    let flags = c.in_ok-flags.flags.items in
+    let flags = c.in_ok-fresh.fresh.marks.items in
     let b = c.requires.history.1 in
-    let bs_is = c.in_ok-told.ensures.marks ∙ c.in_ok-marks.ensures in
-    let marks_is = c.in_ok-from_slice-2.ensures.items ∙ c.deref-4.ensures.value ∙ sym c.in_ok-told.ensures.marks in
-    let cs_is = c.in_ok-all-2.ensures.marks ∙ c.in_ok-all.ensures ∙ ap (with_flagged flags) marks_is in
-    let fresh_is : c.deref-2.result.now ≡ marked flags new = c.deref-2.ensures.value ∙ c.in_ok-fresh.ensures ∙ ap (λ (xs : List Bool). marked xs new) (c.in_ok-from_slice.ensures.items ∙ c.deref.ensures.value) in
+    let bs_is = c.in_ok-told.ensures.old_marks ∙ c.in_ok-marks.ensures in
+    let cs_is = c.in_ok-told.ensures.new_marks ∙ ap (with_flagged flags) (sym c.in_ok-told.ensures.old_marks) in
+    let fresh_is : c.deref.result.now ≡ marked flags new = c.deref.ensures.value ∙ c.in_ok-fresh.ensures.entries in
     let within = λ (n : ℕ) (h : IsTargetOf (m.footprint o) (marked flags new) n).
-    c.in_ok-part.ensures.places n (subst (λ (ns : List ℕ). Contains ns n) (sym c.deref-3.ensures.value) (c.in_ok-fresh-2.ensures.places n (subst (λ (es : List Entry). IsTargetOf (m.footprint o) es n) (sym fresh_is) h))) in
-    parted w part (m.closed o) c.in_ok-part.ensures.closed c.requires.history.0 c.args.machine.now c.args.old.now new c.args.log.now flags c.in_ok-told.told.marks.items c.in_ok-all-2.all.marks.items
-    (b.sound, b.origin_is) b.history c.in_ok-flags.ensures c.in_ok-part.ensures.records bs_is cs_is within
+    c.in_ok-part.ensures.places n (subst (λ (ns : List ℕ). Contains ns n) (sym c.deref-2.ensures.value) (c.in_ok-read.ensures.places n (subst (λ (es : List Entry). IsTargetOf (m.footprint o) es n) (sym fresh_is) h))) in
+    parted w part (m.closed o) c.in_ok-part.ensures.closed c.requires.history.0 c.args.machine.now c.args.old.now new c.args.log.now flags c.in_ok-told.told.marks.items c.in_ok-told.all.marks.items
+    (b.sound, b.origin_is) b.history c.in_ok-fresh.ensures.flags c.in_ok-part.ensures.records bs_is cs_is within
 
 pub returns-clause-fresh : goal.returns-clause-fresh
 returns-clause-fresh g c = λ e n h t.
@@ -37,12 +36,13 @@ returns-clause-fresh g c = λ e n h t.
     let old = c.args.old.now in
     let new = c.args.new.now in
     let p = returns-clause-parted g c in
-    let flags = c.in_ok-flags.flags.items in
-    let fresh_is : c.deref-2.result.now ≡ marked flags new = c.deref-2.ensures.value ∙ c.in_ok-fresh.ensures ∙ ap (λ (xs : List Bool). marked xs new) (c.in_ok-from_slice.ensures.items ∙ c.deref.ensures.value) in
-    let marks_is = c.in_ok-from_slice-2.ensures.items ∙ c.deref-4.ensures.value ∙ sym c.in_ok-told.ensures.marks in
-    let all_is : c.in_ok-all-2.all.entries.items ≡ marked (with_flagged flags c.in_ok-told.told.marks.items) new = c.in_ok-all-2.ensures.entries ∙ ap (λ (xs : List Bool). marked xs new) (c.in_ok-all.ensures ∙ ap (with_flagged flags) marks_is) in
-    let told_is : c.in_ok-told.told.entries.items ≡ marked c.in_ok-told.told.marks.items old = c.in_ok-told.ensures.entries ∙ ap (λ (xs : List Bool). marked xs old) (sym c.in_ok-told.ensures.marks) in
-    let here : has (marked (with_flagged flags c.in_ok-told.told.marks.items) new) e ≡ true = subst (λ (es : List Entry). has es e ≡ true) all_is h in
+    let flags = c.in_ok-fresh.fresh.marks.items in
+    let bs = c.in_ok-told.told.marks.items in
+    let fresh_is : c.deref.result.now ≡ marked flags new = c.deref.ensures.value ∙ c.in_ok-fresh.ensures.entries in
+    let marks_is = sym c.in_ok-told.ensures.old_marks in
+    let all_is : c.in_ok-told.all.entries.items ≡ marked (with_flagged flags bs) new = c.in_ok-told.ensures.new ∙ ap (λ (xs : List Bool). marked xs new) (c.in_ok-told.ensures.new_marks ∙ ap (with_flagged flags) marks_is) in
+    let told_is : c.in_ok-told.told.entries.items ≡ marked bs old = c.in_ok-told.ensures.old ∙ ap (λ (xs : List Bool). marked xs old) marks_is in
+    let here : has (marked (with_flagged flags bs) new) e ≡ true = subst (λ (es : List Entry). has es e ≡ true) all_is h in
     ⊎_elim (λ told. inl (subst (λ (es : List Entry). has es e ≡ true) (sym told_is) told))
-    (λ flagged. inr (c.in_ok-fresh-2.ensures.places n (e, subst (λ (es : List Entry). has es e ≡ true) (sym fresh_is) flagged, w.goes.hang_on_targets e n t)))
-    (came old new flags c.in_ok-told.told.marks.items (m.footprint o) p.part c.in_ok-flags.ensures p.old e here)
+    (λ flagged. inr (c.in_ok-read.ensures.places n (e, subst (λ (es : List Entry). has es e ≡ true) (sym fresh_is) flagged, w.goes.hang_on_targets e n t)))
+    (came old new flags bs (m.footprint o) p.part c.in_ok-fresh.ensures.flags p.old e here)

@@ -1,69 +1,57 @@
-use Rattle.std.proofs.Common.{◌≡◌, ◌++◌, [], List, ap, sym, subst, ◌∙◌}
+use Rattle.std.proofs.Common.{◌≡◌, ◌∷◌, ◌++◌, [], List, drop, take, length, eqb-true, vec_len, refl, ap, sym, subst, ◌∙◌, arith}
 use Rattle.td_stamps.specs.declared.entry.Entry.{Entry}
 use Rattle.td_stamps.specs.declared.entry.Stamp.{Stamp}
 use Rattle.td_rollback.specs.Going.{Begins}
-use Rattle.td_rollback.specs.Parts.{marked, unmarked, interleaved}
-use Rattle.td_rollback.specs.Touched.{Runs}
-use Rattle.td_rollback.specs.Turns.{replayed_log}
-use Rattle.td_rollback.specs.ForProofs.Marked.{AreAmong}
-use Rattle.td_rollback.proofs.Parting.{interleaved_back}
+use Rattle.td_rollback.specs.Parts.{interleaved, marked, unmarked}
+use Rattle.td_rollback.proofs.Parting as parting
+use Rattle.td_rollback.proofs.Unmarked.{all_stay, none_chosen, unmarked_by}
 use Rattle.td_rollback.proofs.replaying.replay_marked.Goals as goal
 
-pub returns-in-Ok-clause-history : goal.returns-in-Ok-clause-history
-returns-in-Ok-clause-history g c =
+none_in : {X : Type 0} (xs : List X) → length xs ≡ 0 → xs ≡ []
+none_in [] none = refl
+none_in (x ∷ xs) none = absurd (omega (arith, none))
+
+pub replay_beside-requires-clause-history : goal.replay_beside-requires-clause-history
+replay_beside-requires-clause-history g c =
     let m = g.M.Machine in
-    let log = c.args.log.now.items in
     let bs = c.args.told.marks.items in
-    let marks_is = c.in_ok-marks.ensures.items ∙ c.deref.ensures.value in
-    let log_is = ap (λ v. v.items) c.replace-records.ensures.value in
-    let within : c.split-within.result.0.items ≡ marked bs log = c.split-within.ensures.marked ∙ (λ i. c.in_ok-within.ensures.items i ++ marked (marks_is i) (log_is i)) in
-    let without : c.split-within.result.1.items ≡ unmarked bs log = c.split-within.ensures.unmarked ∙ (λ i. c.in_ok-without.ensures.items i ++ unmarked (marks_is i) (log_is i)) in
-    let slice = c.deref-3.ensures.value in
-    let kept = c.in-Ok.field-0.kept in
-    let turns = c.in-Ok.field-0.turns.items in
-    let records = c.settle-within.result.items in
-    let records_is : records ≡ replayed_log c.deref-3.result.now kept turns = c.settle-within.ensures ∙ (λ i. c.in_ok-room.ensures.items i ++ replayed_log (sym slice i) kept turns) in (
-      records,
-      c.interleave.ensures ∙ (λ i. c.in_ok-all_room.ensures.items i ++ interleaved c.args.all.marks.items records (without i)),
-      λ o begun.
-          let from = subst (λ (ps : List (Stamp × g.row.M-Record.Denot)). Begins m.sound m.origin m.steps o c.deref-2.result.now ps c.args.machine.now) (sym (slice ∙ within))
-          (subst (λ (es : List Entry). Begins m.sound m.origin m.steps o es (marked bs log) c.args.machine.now) (sym c.deref-2.ensures.value) begun) in
-          let to = c.in-Ok.ensures.history o from in
-          subst (λ (ps : List (Stamp × g.row.M-Record.Denot)). Begins m.sound m.origin m.steps o c.args.all.entries.items ps c.replay_part.new.machine) (sym records_is)
-          (subst (λ (es : List Entry). Begins m.sound m.origin m.steps o es (replayed_log c.deref-3.result.now kept turns) c.replay_part.new.machine) c.deref-4.ensures.value to),
+    let log = drop c.args.kept c.args.log.now.items in
+    let o = c.requires.history.0 in
+    let zero = eqb-true (vec_len c.args.told.entries) 0 (sym c.is_empty.ensures ∙ c.if-is_empty.true) in
+    let ok = c.args.told.entries.ok.0 in
+    let empty = none_in c.args.told.entries.items (omega (arith, zero, ok)) in
+    let none = unmarked_by bs c.requires.told.0 c.requires.told.2 (sym c.requires.told.1 ∙ empty) in (
+      o,
+      subst (λ (ps : List (Stamp × g.row.M-Record.Denot)). Begins m.sound m.origin m.steps o [] ps c.args.machine.now) (none_chosen bs log none)
+          (subst (λ (es : List Entry). Begins m.sound m.origin m.steps o es (marked bs log) c.args.machine.now) empty c.requires.history.1),
     )
 
-pub returns-in-Ok-clause-counted : goal.returns-in-Ok-clause-counted
-returns-in-Ok-clause-counted g c = λ n runs.
-    let m = g.M.Machine in
-    let o = m.origin c.args.machine.now in
-    c.replay_part.ensures.counted n
-    (subst (λ (es : List Entry). Runs (m.footprint o) (m.targets o) [] c.deref-2.result.now es n) (sym c.deref-4.ensures.value)
-    (subst (λ (es : List Entry). Runs (m.footprint o) (m.targets o) [] es c.args.all.entries.items n) (sym c.deref-2.ensures.value) runs))
-
-pub returns-in-Err-clause-counted : goal.returns-in-Err-clause-counted
-returns-in-Err-clause-counted g c = λ n runs.
-    let m = g.M.Machine in
-    let o = m.origin c.args.machine.now in
-    c.replay_part.ensures.counted n
-    (subst (λ (es : List Entry). Runs (m.footprint o) (m.targets o) [] c.deref-2.result.now es n) (sym c.deref-4.ensures.value)
-    (subst (λ (es : List Entry). Runs (m.footprint o) (m.targets o) [] es c.args.all.entries.items n) (sym c.deref-2.ensures.value) runs))
-
-pub returns-in-Err-clause-kept : goal.returns-in-Err-clause-kept
-returns-in-Err-clause-kept g c =
-    let log = c.args.log.now.items in
+pub replay_beside-requires-clause-others : goal.replay_beside-requires-clause-others
+replay_beside-requires-clause-others g c =
     let bs = c.args.told.marks.items in
-    let marks_is = c.in_ok-marks.ensures.items ∙ c.deref.ensures.value in
-    let log_is = ap (λ v. v.items) c.replace-records.ensures.value in
-    let within : c.split-within.result.0.items ≡ marked bs log = c.split-within.ensures.marked ∙ (λ i. c.in_ok-within.ensures.items i ++ marked (marks_is i) (log_is i)) in
-    let without : c.split-within.result.1.items ≡ unmarked bs log = c.split-within.ensures.unmarked ∙ (λ i. c.in_ok-without.ensures.items i ++ unmarked (marks_is i) (log_is i)) in (
-      c.in-Err.ensures.kept,
-      c.interleave-in-Err.ensures ∙ (λ i. c.in_ok-told_room.ensures.items i ++ interleaved bs (within i) (without i)) ∙ interleaved_back bs log c.requires.each,
-    )
+    let log = drop c.args.kept c.args.log.now.items in
+    let zero = eqb-true (vec_len c.args.told.entries) 0 (sym c.is_empty.ensures ∙ c.if-is_empty.true) in
+    let ok = c.args.told.entries.ok.0 in
+    let empty = none_in c.args.told.entries.items (omega (arith, zero, ok)) in
+    let none = unmarked_by bs c.requires.told.0 c.requires.told.2 (sym c.requires.told.1 ∙ empty) in
+    let each = c.requires.each in
+    ap length (sym (all_stay bs log (omega (arith, each)) none)) ∙ c.requires.others
 
-pub replay_part-requires-clause-fresh : goal.replay_part-requires-clause-fresh
-replay_part-requires-clause-fresh g c =
+pub returns-then-len-le-MOST_INSERTED-clause-history : goal.returns-then-len-le-MOST_INSERTED-clause-history
+returns-then-len-le-MOST_INSERTED-clause-history g c =
     let m = g.M.Machine in
-    let o = m.origin c.args.machine.now in
-    subst (λ (es : List Entry). AreAmong (m.targets o) es c.deref-4.result.now c.args.fresh.now) (sym c.deref-2.ensures.value)
-    (subst (λ (fs : List Entry). AreAmong (m.targets o) c.args.told.entries.items fs c.args.fresh.now) (sym c.deref-4.ensures.value) c.requires.fresh)
+    let bs = c.args.told.marks.items in
+    let log = drop c.args.kept c.args.log.now.items in
+    let zero = eqb-true (vec_len c.args.told.entries) 0 (sym c.is_empty.ensures ∙ c.if-is_empty.true) in
+    let ok = c.args.told.entries.ok.0 in
+    let empty = none_in c.args.told.entries.items (omega (arith, zero, ok)) in
+    let none = unmarked_by bs c.requires.told.0 c.requires.told.2 (sym c.requires.told.1 ∙ empty) in
+    let each = c.requires.each in
+    let stays : unmarked bs log ≡ log = all_stay bs log (omega (arith, each)) none in
+    parting.on_ok c.replay_beside.result (λ ran. (
+      ran.0,
+      ran.1 ∙ ap (λ (ps : List (Stamp × g.row.M-Record.Denot)). take c.args.kept c.args.log.now.items ++ interleaved c.args.all.marks.items ran.0 ps) (sym stays),
+      λ o begun. ran.2 o (subst (λ (ps : List (Stamp × g.row.M-Record.Denot)). Begins m.sound m.origin m.steps o [] ps c.args.machine.now) (none_chosen bs log none)
+          (subst (λ (es : List Entry). Begins m.sound m.origin m.steps o es (marked bs log) c.args.machine.now) empty begun)),
+    ))
+    c.replay_beside.ensures.history
