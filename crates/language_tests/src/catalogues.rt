@@ -222,124 +222,6 @@ fn unlike(alloc: Global, script: &str, table: &[(Question, &str)]) -> Result<Str
     unlike_over(alloc, &catalogue, table)
 }
 
-#[test]
-fn what_is_under_texts(rt: HostRuntime) -> Result<()> {
-    let script = "
-VAR S BASE RELATION { SNO CHAR, STATUS INTEGER, CITY CHAR } KEY { SNO };
-VAR SP BASE RELATION { SNO CHAR, PNO CHAR, QTY INTEGER } KEY { SNO, PNO };
-VAR LS VIRTUAL ( S WHERE CITY = 'London' );
-CONSTRAINT C1 IS_EMPTY ( SP NOT MATCHING S );
-CONSTRAINT C2 IS_EMPTY ( LS WHERE STATUS < 10 );
-VAR MOST BASE RELATION { N INTEGER } KEY { };
-CONSTRAINT C3 IS_EMPTY ( MOST WHERE N < COUNT ( LS ) );
-VAR BOX BASE RELATION { K CHAR, CONTENTS RELATION { A INTEGER } } KEY { K };
-";
-    let table: &[(Question, &str)] = &[
-        (Question::Counts, "0 5 7"),
-        // a target stands once
-        (
-            Question::Targets(
-                "UPDATE BOX ( K := 'x' ), INSERT S LS, MOST := EXTEND TABLE_DEE ADD ( COUNT ( S ) AS N ), DELETE S WHERE SNO = 'S2';",
-            ),
-            "0 3 4 ",
-        ),
-        // also one of both lists
-        (
-            Question::Targets(
-                "IF IS_EMPTY ( SP ) THEN DELETE S, UPDATE BOX ( K := 'x' ); ELSE INSERT S LS, DELETE MOST; END IF;",
-            ),
-            "0 3 4 ",
-        ),
-        (Question::Under("1"), ": 0 0"),
-        (Question::Under("S"), "0 : 0 0"),
-        (Question::Under("LS"), "0 : 1 0"),
-        (Question::Under("SP JOIN LS"), "0 1 : 1 0"),
-        (
-            Question::Under("IS_EMPTY ( MOST WHERE N < COUNT ( LS ) )"),
-            "0 3 : 1 0",
-        ),
-        (Question::Under("WITH MOST AS S : S"), "3 : 0 0"),
-    ];
-    let unlike = unlike(rt.alloc(), script, table)?;
-    assert!(rt; unlike.as_str() == "", "{unlike}");
-    Ok(())
-}
-
-#[test]
-fn keys_are_counted_as_they_are_written(rt: HostRuntime) -> Result<()> {
-    let script =
-        "TYPE T POSSREP U { X INTEGER }; TYPE U POSSREP T { X INTEGER }; VAR R BASE RELATION { A T, B U } KEY { A } KEY { A, B } KEY { A };";
-    let unlike = unlike(rt.alloc(), script, &[(Question::Counts, "2 1 3")])?;
-    assert!(rt; unlike.as_str() == "", "{unlike}");
-    Ok(())
-}
-
-#[test]
-fn possreps_under_expressions(rt: HostRuntime) -> Result<()> {
-    let script = "
-TYPE T POSSREP { X INTEGER };
-TYPE U POSSREP { Y INTEGER CONSTRAINT THE_X ( T ( Y ) ) > 0 };
-TYPE W POSSREP { Z INTEGER };
-VAR V VIRTUAL ( RELATION { TUPLE { A U ( 1 ) } } );";
-    let table: &[(Question, &str)] = &[
-        (Question::Under("T ( 1 )"), ": 0 1"),
-        (Question::Under("U ( 1 )"), ": 0 2"),
-        (Question::Under("V"), ": 1 2"),
-        (
-            Question::Under("IF IS_EMPTY ( V ) THEN W ( 1 ) ELSE W ( 2 ) END IF"),
-            ": 1 3",
-        ),
-    ];
-    let unlike = unlike(rt.alloc(), script, table)?;
-    assert!(rt; unlike.as_str() == "", "{unlike}");
-    Ok(())
-}
-
-#[test]
-fn a_chain_stands_once(rt: HostRuntime) -> Result<()> {
-    let script = "
-VAR V0 BASE RELATION { A INTEGER } KEY { A };
-VAR V1 VIRTUAL ( V0 JOIN V0 );
-VAR V2 VIRTUAL ( V1 JOIN V1 );
-VAR V3 VIRTUAL ( V2 JOIN V2 );";
-    let unlike = unlike(
-        rt.alloc(),
-        script,
-        &[(Question::Under("V3 UNION V2"), "0 : 3 0")],
-    )?;
-    assert!(rt; unlike.as_str() == "", "{unlike}");
-    Ok(())
-}
-
-#[test]
-fn expressions_of_definitions(rt: HostRuntime) -> Result<()> {
-    let script = "
-VAR R BASE RELATION { A INTEGER } KEY { A };
-CONSTRAINT C IS_EMPTY ( R );
-VAR Q BASE INIT ( R ) KEY { A };";
-    let table: &[(Question, &str)] = &[
-        (Question::Stored(0), "[] []"),
-        (Question::Stored(1), "[0 : 0 0] [0 : 0 0]"),
-        (Question::Stored(2), "[] []"),
-        (Question::Stored(3), "[] []"),
-    ];
-    let unlike = unlike(rt.alloc(), script, table)?;
-    assert!(rt; unlike.as_str() == "", "{unlike}");
-    Ok(())
-}
-
-// (its key is not judged by who asks for a catalogue)
-#[test]
-fn a_relvar_that_is_not_lent_is_untyped(rt: HostRuntime) -> Result<()> {
-    let script = "
-VAR R BASE INIT ( RELATION { TUPLE { A 1 }, TUPLE { A 2 } } ) KEY { };
-VAR V VIRTUAL ( R WHERE A > 3 );
-VAR Q BASE RELATION { A INTEGER } KEY { A };";
-    let unlike = unlike(rt.alloc(), script, &[(Question::Value("Q"), "untyped")])?;
-    assert!(rt; unlike.as_str() == "", "{unlike}");
-    Ok(())
-}
-
 const SUPPLIERS: &str = "
 VAR S BASE RELATION { SNO CHAR, STATUS INTEGER, CITY CHAR } KEY { SNO };
 VAR SP BASE RELATION { SNO CHAR, PNO CHAR, QTY INTEGER } KEY { SNO, PNO };
@@ -348,109 +230,216 @@ VAR NAMES VIRTUAL ( S { SNO } );
 VAR MOST BASE RELATION { N INTEGER } KEY { };
 ";
 
-#[test]
-fn constraints_that_are_watched_and_safe(rt: HostRuntime) -> Result<()> {
-    let table: &[(Question, &str)] = &[
-        (
-            Question::Growth("IS_EMPTY ( SP NOT MATCHING S )"),
-            "safe watched",
-        ),
-        (
-            Question::Growth("IS_EMPTY ( SP NOT MATCHING NAMES )"),
-            "safe watched",
-        ),
-        (
-            Question::Growth("IS_EMPTY ( SP NOT MATCHING LS )"),
-            "neither watched",
-        ),
-        (
-            Question::Growth("IS_EMPTY ( LS WHERE STATUS < 10 )"),
-            "watched both",
-        ),
-        (
-            Question::Growth("IS_EMPTY ( MOST WHERE N < COUNT ( LS ) )"),
-            "neither both",
-        ),
-        (Question::Growth("SP { SNO } <= S { SNO }"), "safe watched"),
-        (Question::Growth("NAMES >= SP { SNO }"), "safe watched"),
-        (
-            Question::Growth(
-                "IS_EMPTY ( SP NOT MATCHING S ) AND IS_EMPTY ( LS WHERE STATUS < 10 )",
-            ),
-            "neither watched",
-        ),
-        (
-            Question::Growth("IS_EMPTY ( ( S JOIN SP ) WHERE QTY < STATUS )"),
-            "watched watched",
-        ),
-        (
-            Question::Growth("IS_EMPTY ( S { SNO } MINUS SP { SNO } )"),
-            "watched neither",
-        ),
-        (
-            Question::Growth(
-                "IS_EMPTY ( ( EXTEND ( S UNION S ) ADD ( 10 / STATUS AS X ) ) WHERE X < 0 )",
-            ),
-            "watched both",
-        ),
-        (Question::Growth("NOT IS_EMPTY ( S )"), "neither both"),
-        (
-            Question::Growth("COUNT ( S ) < COUNT ( SP )"),
-            "neither neither",
-        ),
-        (Question::Growth("TRUE"), "both both"),
-    ];
-    let unlike = unlike(rt.alloc(), SUPPLIERS, table)?;
-    assert!(rt; unlike.as_str() == "", "{unlike}");
-    Ok(())
+/// What is asked over what a script defines, each question with what is told.
+struct Case {
+    name: &'static str,
+    script: &'static str,
+    table: &'static [(Question, &'static str)],
 }
 
+const CASES: &[Case] = &[
+    Case {
+        name: "what is under texts",
+        script: "
+VAR S BASE RELATION { SNO CHAR, STATUS INTEGER, CITY CHAR } KEY { SNO };
+VAR SP BASE RELATION { SNO CHAR, PNO CHAR, QTY INTEGER } KEY { SNO, PNO };
+VAR LS VIRTUAL ( S WHERE CITY = 'London' );
+CONSTRAINT C1 IS_EMPTY ( SP NOT MATCHING S );
+CONSTRAINT C2 IS_EMPTY ( LS WHERE STATUS < 10 );
+VAR MOST BASE RELATION { N INTEGER } KEY { };
+CONSTRAINT C3 IS_EMPTY ( MOST WHERE N < COUNT ( LS ) );
+VAR BOX BASE RELATION { K CHAR, CONTENTS RELATION { A INTEGER } } KEY { K };
+",
+        table: &[
+            (Question::Counts, "0 5 7"),
+            // a target stands once
+            (
+                Question::Targets(
+                    "UPDATE BOX ( K := 'x' ), INSERT S LS, MOST := EXTEND TABLE_DEE ADD ( COUNT ( S ) AS N ), DELETE S WHERE SNO = 'S2';",
+                ),
+                "0 3 4 ",
+            ),
+            // also one of both lists
+            (
+                Question::Targets(
+                    "IF IS_EMPTY ( SP ) THEN DELETE S, UPDATE BOX ( K := 'x' ); ELSE INSERT S LS, DELETE MOST; END IF;",
+                ),
+                "0 3 4 ",
+            ),
+            (Question::Under("1"), ": 0 0"),
+            (Question::Under("S"), "0 : 0 0"),
+            (Question::Under("LS"), "0 : 1 0"),
+            (Question::Under("SP JOIN LS"), "0 1 : 1 0"),
+            (
+                Question::Under("IS_EMPTY ( MOST WHERE N < COUNT ( LS ) )"),
+                "0 3 : 1 0",
+            ),
+            (Question::Under("WITH MOST AS S : S"), "3 : 0 0"),
+        ],
+    },
+    Case {
+        name: "keys are counted as they are written",
+        script: "TYPE T POSSREP U { X INTEGER }; TYPE U POSSREP T { X INTEGER }; VAR R BASE RELATION { A T, B U } KEY { A } KEY { A, B } KEY { A };",
+        table: &[(Question::Counts, "2 1 3")],
+    },
+    Case {
+        name: "possreps under expressions",
+        script: "
+TYPE T POSSREP { X INTEGER };
+TYPE U POSSREP { Y INTEGER CONSTRAINT THE_X ( T ( Y ) ) > 0 };
+TYPE W POSSREP { Z INTEGER };
+VAR V VIRTUAL ( RELATION { TUPLE { A U ( 1 ) } } );",
+        table: &[
+            (Question::Under("T ( 1 )"), ": 0 1"),
+            (Question::Under("U ( 1 )"), ": 0 2"),
+            (Question::Under("V"), ": 1 2"),
+            (
+                Question::Under("IF IS_EMPTY ( V ) THEN W ( 1 ) ELSE W ( 2 ) END IF"),
+                ": 1 3",
+            ),
+        ],
+    },
+    Case {
+        name: "a chain stands once",
+        script: "
+VAR V0 BASE RELATION { A INTEGER } KEY { A };
+VAR V1 VIRTUAL ( V0 JOIN V0 );
+VAR V2 VIRTUAL ( V1 JOIN V1 );
+VAR V3 VIRTUAL ( V2 JOIN V2 );",
+        table: &[(Question::Under("V3 UNION V2"), "0 : 3 0")],
+    },
+    Case {
+        name: "expressions of definitions",
+        script: "
+VAR R BASE RELATION { A INTEGER } KEY { A };
+CONSTRAINT C IS_EMPTY ( R );
+VAR Q BASE INIT ( R ) KEY { A };",
+        table: &[
+            (Question::Stored(0), "[] []"),
+            (Question::Stored(1), "[0 : 0 0] [0 : 0 0]"),
+            (Question::Stored(2), "[] []"),
+            (Question::Stored(3), "[] []"),
+        ],
+    },
+    // (its key is not judged by who asks for a catalogue)
+    Case {
+        name: "a relvar that is not lent is untyped",
+        script: "
+VAR R BASE INIT ( RELATION { TUPLE { A 1 }, TUPLE { A 2 } } ) KEY { };
+VAR V VIRTUAL ( R WHERE A > 3 );
+VAR Q BASE RELATION { A INTEGER } KEY { A };",
+        table: &[(Question::Value("Q"), "untyped")],
+    },
+    Case {
+        name: "constraints that are watched and safe",
+        script: SUPPLIERS,
+        table: &[
+            (
+                Question::Growth("IS_EMPTY ( SP NOT MATCHING S )"),
+                "safe watched",
+            ),
+            (
+                Question::Growth("IS_EMPTY ( SP NOT MATCHING NAMES )"),
+                "safe watched",
+            ),
+            (
+                Question::Growth("IS_EMPTY ( SP NOT MATCHING LS )"),
+                "neither watched",
+            ),
+            (
+                Question::Growth("IS_EMPTY ( LS WHERE STATUS < 10 )"),
+                "watched both",
+            ),
+            (
+                Question::Growth("IS_EMPTY ( MOST WHERE N < COUNT ( LS ) )"),
+                "neither both",
+            ),
+            (Question::Growth("SP { SNO } <= S { SNO }"), "safe watched"),
+            (Question::Growth("NAMES >= SP { SNO }"), "safe watched"),
+            (
+                Question::Growth(
+                    "IS_EMPTY ( SP NOT MATCHING S ) AND IS_EMPTY ( LS WHERE STATUS < 10 )",
+                ),
+                "neither watched",
+            ),
+            (
+                Question::Growth("IS_EMPTY ( ( S JOIN SP ) WHERE QTY < STATUS )"),
+                "watched watched",
+            ),
+            (
+                Question::Growth("IS_EMPTY ( S { SNO } MINUS SP { SNO } )"),
+                "watched neither",
+            ),
+            (
+                Question::Growth(
+                    "IS_EMPTY ( ( EXTEND ( S UNION S ) ADD ( 10 / STATUS AS X ) ) WHERE X < 0 )",
+                ),
+                "watched both",
+            ),
+            (Question::Growth("NOT IS_EMPTY ( S )"), "neither both"),
+            (
+                Question::Growth("COUNT ( S ) < COUNT ( SP )"),
+                "neither neither",
+            ),
+            (Question::Growth("TRUE"), "both both"),
+        ],
+    },
+    Case {
+        name: "constraints that refer",
+        script: SUPPLIERS,
+        table: &[
+            (
+                Question::References("IS_EMPTY ( SP NOT MATCHING S )"),
+                "PNO QTY SNO | SNO ",
+            ),
+            (
+                Question::References("SP { SNO } <= S { SNO }"),
+                "SNO | SNO ",
+            ),
+            (
+                Question::References("S { SNO } >= SP { SNO }"),
+                "SNO | SNO ",
+            ),
+            (
+                Question::References("IS_EMPTY ( SP { SNO } MINUS S { SNO } )"),
+                "SNO | SNO ",
+            ),
+            (
+                Question::References("IS_EMPTY ( SP { SNO } NOT MATCHING S )"),
+                "SNO | SNO ",
+            ),
+            (
+                Question::References("IS_EMPTY ( ( SP WHERE QTY < 5 ) NOT MATCHING S )"),
+                "PNO QTY SNO | none ",
+            ),
+            (
+                Question::References(
+                    "SP { SNO } <= S { SNO } AND IS_EMPTY ( MOST NOT MATCHING S )",
+                ),
+                "SNO N | none ",
+            ),
+            (Question::References("COUNT ( SP ) < 5"), "| none "),
+            (
+                Question::References("IS_EMPTY ( LS NOT MATCHING S )"),
+                "none | none ",
+            ),
+            (
+                Question::References("S { SNO } <= SP { SNO }"),
+                "none | none ",
+            ),
+            (
+                Question::References("IS_EMPTY ( SP MATCHING S )"),
+                "none | none ",
+            ),
+        ],
+    },
+];
+
 #[test]
-fn constraints_that_refer(rt: HostRuntime) -> Result<()> {
-    let table: &[(Question, &str)] = &[
-        (
-            Question::References("IS_EMPTY ( SP NOT MATCHING S )"),
-            "PNO QTY SNO | SNO ",
-        ),
-        (
-            Question::References("SP { SNO } <= S { SNO }"),
-            "SNO | SNO ",
-        ),
-        (
-            Question::References("S { SNO } >= SP { SNO }"),
-            "SNO | SNO ",
-        ),
-        (
-            Question::References("IS_EMPTY ( SP { SNO } MINUS S { SNO } )"),
-            "SNO | SNO ",
-        ),
-        (
-            Question::References("IS_EMPTY ( SP { SNO } NOT MATCHING S )"),
-            "SNO | SNO ",
-        ),
-        (
-            Question::References("IS_EMPTY ( ( SP WHERE QTY < 5 ) NOT MATCHING S )"),
-            "PNO QTY SNO | none ",
-        ),
-        (
-            Question::References("SP { SNO } <= S { SNO } AND IS_EMPTY ( MOST NOT MATCHING S )"),
-            "SNO N | none ",
-        ),
-        (Question::References("COUNT ( SP ) < 5"), "| none "),
-        (
-            Question::References("IS_EMPTY ( LS NOT MATCHING S )"),
-            "none | none ",
-        ),
-        (
-            Question::References("S { SNO } <= SP { SNO }"),
-            "none | none ",
-        ),
-        (
-            Question::References("IS_EMPTY ( SP MATCHING S )"),
-            "none | none ",
-        ),
-    ];
-    let unlike = unlike(rt.alloc(), SUPPLIERS, table)?;
-    assert!(rt; unlike.as_str() == "", "{unlike}");
+fn what_catalogues_tell(rt: HostRuntime) -> Result<()> {
+    for case in CASES {
+        let unlike = unlike(rt.alloc(), case.script, case.table)?;
+        assert!(rt; unlike.is_empty(), "{}: {unlike}", case.name);
+    }
     Ok(())
 }

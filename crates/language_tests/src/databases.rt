@@ -1,5 +1,5 @@
 //! Statements that are run over a database, taken back and made again; copies of relvars that are put back; and which
-//! test fails then.
+//! test fails then. What statements answer is shown by examples.
 
 ghost use Rattle.td_semantics.specs.Databases.{IsLegal};
 
@@ -10,22 +10,12 @@ use td_constraints::{first_failure, first_failure_after};
 use td_grammar::LATEST;
 use td_relations::Relation;
 use td_relvars::Database;
-use td_semantics::{Answer, BrokenTest, Meter, Outcome, RelvarError, TestFailure};
+use td_semantics::{Answer, BrokenTest, Meter, RelvarError, TestFailure};
 use td_values::{Kind, Name, Value, show};
-
-/// What a step does: runs a statement, or asks what a relvar has, or what is stored of it.
-#[derive(Clone, Copy)]
-enum Step<'a> {
-    Run(&'a str),
-    Held(&'a str),
-    Stored(&'a str),
-}
 
 /// What is done with a database.
 #[derive(Clone, Copy)]
 enum Task<'a> {
-    /// Each step, with its answer.
-    Steps(&'a [(Step<'a>, &'a str)]),
     /// The statement is run, taken back and made again.
     BackAndOn(&'a str),
     /// The statement is run, and then a copy of these relvars put back that was made before.
@@ -50,15 +40,6 @@ fn held(alloc: Global, database: &Database, name: &str) -> Result<String> {
     }
 }
 
-// A copy of what is stored of the relvar of this name, if it is a base relvar.
-fn stored(alloc: Global, database: &Database, name: &str) -> Result<String> {
-    let name = Name::new(alloc, name)?;
-    match database.base_of(&name) {
-        Some(base) => shown(alloc, base.copy_relation(alloc)?),
-        None => Ok(String::from_str(alloc, "nothing")?),
-    }
-}
-
 // The test that fails, if one does.
 fn failing(alloc: Global, failure: &Option<TestFailure>) -> Result<String> {
     let Some(failure) = failure else {
@@ -78,47 +59,6 @@ fn failing(alloc: Global, failure: &Option<TestFailure>) -> Result<String> {
 fn first_failing(alloc: Global, database: &Database) -> Result<String> {
     let failure = first_failure(alloc, database)?;
     failing(alloc, &failure)
-}
-
-// What became of the statement, and how many relvars it changed.
-fn told(alloc: Global, ran: &Ran) -> Result<String> {
-    let outcome = match &ran.outcome {
-        Outcome::Done => "done",
-        Outcome::Unread => "unread",
-        Outcome::Raised(_) => "raised",
-        Outcome::BreaksKey(_) | Outcome::BreaksConstraint(_) => "broken",
-    };
-    Ok(format!(in alloc; "{outcome} {}", ran.delta.len())?)
-}
-
-fn answered(alloc: Global, database: &mut Database, meter: &mut Meter, step: Step) -> Result<String>
-    requires { IsLegal database.old }
-    ensures { IsLegal database.new }
-{
-    match step {
-        Step::Run(text) => told(alloc, &run(alloc, &mut *database, text, LATEST, meter)?),
-        Step::Held(name) => held(alloc, &*database, name),
-        Step::Stored(name) => stored(alloc, &*database, name),
-    }
-}
-
-// The first step whose answer is not as it stands there, with the answer.
-fn unlike_at(
-    alloc: Global,
-    database: &mut Database,
-    meter: &mut Meter,
-    steps: &[(Step, &str)],
-) -> Result<String>
-    requires { IsLegal database.old }
-{
-    for n in 0..steps.len() {
-        let (step, expected) = &steps[n];
-        let found = answered(alloc, &mut *database, &mut *meter, *step)?;
-        if found.as_str() != *expected {
-            return Ok(format!(in alloc; "{n}: {found}")?);
-        }
-    }
-    Ok(String::new(alloc))
 }
 
 fn named(alloc: Global, ran: &Ran) -> Result<String> {
@@ -198,7 +138,6 @@ fn done(alloc: Global, database: &mut Database, meter: &mut Meter, task: Task) -
     requires { IsLegal database.old }
 {
     match task {
-        Task::Steps(steps) => unlike_at(alloc, database, meter, steps),
         Task::BackAndOn(text) => back_and_on(alloc, database, meter, text),
         Task::PutBackBehind(relvars, text) => {
             put_back_behind(alloc, database, meter, relvars, text)
@@ -213,51 +152,6 @@ fn done_over(alloc: Global, meter: &mut Meter, script: &str, task: Task) -> Resu
         Ok(mut database) => done(alloc, &mut database, meter, task),
         Err(_) => Ok(String::from_str(alloc, "not opened")?),
     }
-}
-
-#[test]
-fn statements(rt: HostRuntime) -> Result<()> {
-    let script = "
-VAR S BASE RELATION { SNO CHAR, STATUS INTEGER } KEY { SNO };
-VAR SP BASE RELATION { SNO CHAR, PNO CHAR } KEY { SNO, PNO };
-VAR SHARES VIRTUAL ( EXTEND S ADD ( 100 / STATUS AS SHARE ) );
-CONSTRAINT C1 IS_EMPTY ( SP NOT MATCHING S );
-";
-    let steps: &[(Step, &str)] = &[
-        (
-            Step::Run(
-                "INSERT SP RELATION { TUPLE { SNO 'S1', PNO 'P1' } }, INSERT S RELATION { TUPLE { SNO 'S1', STATUS 20 } };",
-            ),
-            "done 2",
-        ),
-        (
-            Step::Held("SHARES"),
-            "RELATION { SHARE INTEGER, SNO CHAR, STATUS INTEGER } { TUPLE { SHARE 5, SNO 'S1', STATUS 20 } }",
-        ),
-        (Step::Run("DELETE S;"), "broken 0"),
-        (
-            Step::Stored("S"),
-            "RELATION { SNO CHAR, STATUS INTEGER } { TUPLE { SNO 'S1', STATUS 20 } }",
-        ),
-        (Step::Stored("SHARES"), "nothing"),
-        // a target that changes back is none that changed
-        (Step::Run("DELETE SP, UPDATE S ( STATUS := 0 );"), "done 2"),
-        (
-            Step::Run("UPDATE S ( STATUS := 1 ), UPDATE S ( STATUS := 0 );"),
-            "done 0",
-        ),
-        (Step::Held("SHARES"), "raised divide"),
-        (Step::Run("S := S WHERE 1 / STATUS = 1;"), "raised 0"),
-        // what has no reading, and what is ill typed
-        (Step::Run("INSERT S;"), "unread 0"),
-        (Step::Run("INSERT SHARES S;"), "unread 0"),
-        (Step::Run("INSERT Q X;"), "unread 0"),
-        (Step::Held("NOSUCH"), "unknown"),
-    ];
-    let mut meter = Meter::new(&rt);
-    let unlike = done_over(rt.alloc(), &mut meter, script, Task::Steps(steps))?;
-    assert!(rt; unlike.as_str() == "", "{unlike}");
-    Ok(())
 }
 
 const SCRIPT: &str = "

@@ -1,5 +1,6 @@
-//! What texts of the language are read as, where they go wrong, what is typed and meant by them, and how statements are
-//! run and constraints judged: what only calls can tell. What else there is of it is shown by examples.
+//! Where texts of the language go wrong, what catalogues tell of them, what trees mean, how statements are taken back
+//! and made again, copies put back, constraints judged, and tuples found by keys: what only calls can tell. What else
+//! there is of it is shown by examples.
 //!
 //! These tests stand apart from the crates that they call, since a crate is proved once more for the tests in it.
 #![tactic(auto)]
@@ -12,8 +13,6 @@ mod databases;
 mod lookups;
 #[cfg(test)]
 mod places;
-#[cfg(test)]
-mod readings;
 #[cfg(test)]
 mod trees;
 

@@ -13,7 +13,7 @@ use td_headings::type_expr;
 use td_relations::Relation;
 use td_relvars::Database;
 use td_tuples::tuple_of;
-use td_values::{Kind, Name, Text, Tuple, Value, show, show_tuple_into};
+use td_values::{Kind, Name, Text, Tuple, Value, show_tuple_into};
 
 /// The relvars of a database, which counts how often what they have is lent, copied and found by a first key.
 #[derive(Drop)]
@@ -81,75 +81,45 @@ const SCRIPT: &str = "
         TUPLE { SNO 'S1', PNO 'P1', QTY 300 }, TUPLE { SNO 'S1', PNO 'P2', QTY 200 } } ) KEY { SNO, PNO };
     VAR LONDON VIRTUAL ( S WHERE CITY = 'London' );";
 
-// The value of the query, and how often what relvars have was found by a first key, copied and lent.
-fn evaluated(alloc: Global, database: &Database, text: &str) -> Result<(String, u32, u32, u32)> {
+// These counts, and whether a whole relvar was lent.
+fn words_of_counts(alloc: Global, keyed: u32, copied: u32, lent: u32) -> Result<String> {
+    let whole = if lent > 0 { "lent" } else { "not lent" };
+    Ok(format!(in alloc; "{keyed} by a key, {copied} copied, {whole}")?)
+}
+
+// How often what relvars have is found by a first key and copied where the query is evaluated, and whether a whole
+// relvar is lent; or the error that it raises. The queries' values are shown by examples/look-ups-by-first-keys.td.
+fn asked(alloc: Global, database: &Database, text: &str) -> Result<String> {
     let read = read_expr(alloc, text)?;
     let expr = type_expr(alloc, database.catalogue(), read.get())?;
     let lookup = Counted::of(database);
     let tuple = tuple_of(alloc, Vec::new(alloc))?;
-    let shown = match eval(alloc, &expr, &lookup, &tuple) {
-        Ok(value) => show(alloc, &value)?,
-        Err(Fault::Raised(stop)) => format!(in alloc; "{stop}")?,
+    match eval(alloc, &expr, &lookup, &tuple) {
+        Ok(_) => words_of_counts(
+            alloc,
+            lookup.keyed.get(),
+            lookup.copied.get(),
+            lookup.lent.get(),
+        ),
+        Err(Fault::Raised(stop)) => Ok(format!(in alloc; "{stop}")?),
         Err(Fault::OutOfMemory) => Err(AllocError)?,
-    };
-    Ok((
-        shown,
-        lookup.keyed.get(),
-        lookup.copied.get(),
-        lookup.lent.get(),
-    ))
+    }
 }
 
-// A query, its value, whether it asks by a first key, and whether it has a whole relvar lent.
-const QUERIES: &[(&str, &str, bool, bool)] = &[
-    (
-        "S WHERE SNO = 'S1'",
-        "RELATION { CITY CHAR, SNO CHAR, STATUS INTEGER } { TUPLE { CITY 'London', SNO 'S1', STATUS 20 } }",
-        true,
-        false,
-    ),
-    (
-        "S WHERE SNO = 'S3'",
-        "RELATION { CITY CHAR, SNO CHAR, STATUS INTEGER } { }",
-        true,
-        false,
-    ),
-    (
-        "S WHERE SNO = 'S1' AND STATUS = 10",
-        "RELATION { CITY CHAR, SNO CHAR, STATUS INTEGER } { }",
-        true,
-        false,
-    ),
-    (
-        "S WHERE SNO = 'S1' AND SNO = 'S2'",
-        "RELATION { CITY CHAR, SNO CHAR, STATUS INTEGER } { }",
-        true,
-        false,
-    ),
-    (
-        "SP WHERE SNO = 'S1' AND PNO = 'P2'",
-        "RELATION { PNO CHAR, QTY INTEGER, SNO CHAR } { TUPLE { PNO 'P2', QTY 200, SNO 'S1' } }",
-        true,
-        false,
-    ),
-    (
-        "SP WHERE PNO = 'P2'",
-        "RELATION { PNO CHAR, QTY INTEGER, SNO CHAR } { TUPLE { PNO 'P2', QTY 200, SNO 'S1' } }",
-        false,
-        true,
-    ),
-    (
-        "S WHERE STATUS = 10",
-        "RELATION { CITY CHAR, SNO CHAR, STATUS INTEGER } { TUPLE { CITY 'Paris', SNO 'S2', STATUS 10 } }",
-        false,
-        true,
-    ),
-    (
-        "LONDON WHERE SNO = 'S1'",
-        "RELATION { CITY CHAR, SNO CHAR, STATUS INTEGER } { TUPLE { CITY 'London', SNO 'S1', STATUS 20 } }",
-        false,
-        true,
-    ),
+const BY_KEY: &str = "1 by a key, 0 copied, not lent";
+
+const LENT: &str = "0 by a key, 0 copied, lent";
+
+// A query, and what it asks for.
+const QUERIES: &[(&str, &str)] = &[
+    ("S WHERE SNO = 'S1'", BY_KEY),
+    ("S WHERE SNO = 'S3'", BY_KEY),
+    ("S WHERE SNO = 'S1' AND STATUS = 10", BY_KEY),
+    ("S WHERE SNO = 'S1' AND SNO = 'S2'", BY_KEY),
+    ("SP WHERE SNO = 'S1' AND PNO = 'P2'", BY_KEY),
+    ("SP WHERE PNO = 'P2'", LENT),
+    ("S WHERE STATUS = 10", LENT),
+    ("LONDON WHERE SNO = 'S1'", LENT),
 ];
 
 #[test]
@@ -159,15 +129,9 @@ fn first_keys_are_asked_by(rt: HostRuntime) -> Result<()> {
         assert!(rt; false, "the script is not opened");
         return Ok(());
     };
-    for (text, value, is_keyed, is_lent) in QUERIES {
-        let (shown, keyed, copied, lent) = evaluated(alloc, &database, text)?;
-        assert!(rt; shown.as_str() == *value, "{text} is {shown}");
-        assert!(rt;
-            keyed == u32::from(*is_keyed),
-            "{text} asks {keyed} times by a key"
-        );
-        assert!(rt; copied == 0, "{text} copies {copied} relvars");
-        assert!(rt; (lent > 0) == *is_lent, "{text} has {lent} relvars lent");
+    for (text, expected) in QUERIES {
+        let asked = asked(alloc, &database, text)?;
+        assert!(rt; asked.as_str() == *expected, "{text}: {asked}");
     }
     Ok(())
 }
@@ -197,6 +161,46 @@ fn values(alloc: Global, names: &[(&str, &str)]) -> Result<Tuple> {
     Ok(tuple_of(alloc, attributes)?)
 }
 
+/// A relvar, a text for each of some attributes, and the tuples that it has with these, if they are its first key.
+struct Finding {
+    relvar: &'static str,
+    attributes: &'static [(&'static str, &'static str)],
+    tuples: &'static str,
+}
+
+const FINDINGS: &[Finding] = &[
+    Finding {
+        relvar: "S",
+        attributes: &[("SNO", "S2")],
+        tuples: "TUPLE { CITY 'Paris', SNO 'S2', STATUS 10 }",
+    },
+    Finding {
+        relvar: "S",
+        attributes: &[("SNO", "S9")],
+        tuples: "",
+    },
+    Finding {
+        relvar: "SP",
+        attributes: &[("PNO", "P1"), ("SNO", "S1")],
+        tuples: "TUPLE { PNO 'P1', QTY 300, SNO 'S1' }",
+    },
+    Finding {
+        relvar: "SP",
+        attributes: &[("SNO", "S1")],
+        tuples: "not its first key",
+    },
+    Finding {
+        relvar: "S",
+        attributes: &[("CITY", "Paris")],
+        tuples: "not its first key",
+    },
+    Finding {
+        relvar: "LONDON",
+        attributes: &[("SNO", "S1")],
+        tuples: "no base relvar",
+    },
+];
+
 #[test]
 fn tuples_are_found_by_first_keys(rt: HostRuntime) -> Result<()> {
     let alloc = rt.alloc();
@@ -204,29 +208,14 @@ fn tuples_are_found_by_first_keys(rt: HostRuntime) -> Result<()> {
         assert!(rt; false, "the script is not opened");
         return Ok(());
     };
-    let one = found(alloc, &database, "S", &values(alloc, &[("SNO", "S2")])?)?;
-    assert!(rt;
-        one.as_str() == "TUPLE { CITY 'Paris', SNO 'S2', STATUS 10 }",
-        "{one}"
-    );
-    let none = found(alloc, &database, "S", &values(alloc, &[("SNO", "S9")])?)?;
-    assert!(rt; none.is_empty(), "{none}");
-    let both = values(alloc, &[("PNO", "P1"), ("SNO", "S1")])?;
-    let two = found(alloc, &database, "SP", &both)?;
-    assert!(rt;
-        two.as_str() == "TUPLE { PNO 'P1', QTY 300, SNO 'S1' }",
-        "{two}"
-    );
-    let part = found(alloc, &database, "SP", &values(alloc, &[("SNO", "S1")])?)?;
-    assert!(rt; part.as_str() == "not its first key", "{part}");
-    let other = found(alloc, &database, "S", &values(alloc, &[("CITY", "Paris")])?)?;
-    assert!(rt; other.as_str() == "not its first key", "{other}");
-    let virtual_one = found(
-        alloc,
-        &database,
-        "LONDON",
-        &values(alloc, &[("SNO", "S1")])?,
-    )?;
-    assert!(rt; virtual_one.as_str() == "no base relvar", "{virtual_one}");
+    for finding in FINDINGS {
+        let values = values(alloc, finding.attributes)?;
+        let found = found(alloc, &database, finding.relvar, &values)?;
+        assert!(rt;
+            found.as_str() == finding.tuples,
+            "{}: {found}",
+            finding.relvar
+        );
+    }
     Ok(())
 }

@@ -1,0 +1,3 @@
+VAR P BASE RELATION { PNO CHAR } KEY { PNO };
+ü
+.begin
