@@ -32,12 +32,14 @@ pub fn catalogue_for<R: Replica>(alloc: Global, sites: &[R]) -> Result<Catalogue
     }
 }
 
+// The line that is told where no site has the number.
 fn no_site() -> Reply
     ensures { Says (λ words. words ≡ codes "fault site\n") result }
 {
     Reply::Fixed("fault site\n")
 }
 
+// Issues the statement at the site of this number.
 fn issue_in<R: Replica>(
     alloc: Global,
     sites: &mut [R],
@@ -55,6 +57,7 @@ fn issue_in<R: Replica>(
     }
 }
 
+// Asks the query of the site of this number.
 fn query_in<R: Replica>(alloc: Global, sites: &[R], number: u32, text: &str) -> Reply
     ensures { Says (TellsIn (TellsAsked text.now) number (map R.seen sites.now)) result }
 {
@@ -64,6 +67,7 @@ fn query_in<R: Replica>(alloc: Global, sites: &[R], number: u32, text: &str) -> 
     }
 }
 
+// Asks the query of the site of this number, just after the entry of this clock and origin.
 fn query_at_in<R: Replica>(
     alloc: Global,
     sites: &[R],
@@ -80,6 +84,7 @@ fn query_at_in<R: Replica>(
     }
 }
 
+// Has the sites of these two numbers meet; it tells of a site fault where they are not two sites.
 fn meet_in<R: Replica>(
     alloc: Global,
     sites: &mut [R],
@@ -97,6 +102,7 @@ fn meet_in<R: Replica>(
     }
 }
 
+// Lists the site of this number.
 fn listing_in<R: Replica>(alloc: Global, catalogue: &Catalogue, sites: &[R], number: u32) -> Reply
     requires { AreOfScript catalogue.now (map R.seen sites.now) }
     ensures { Says (TellsIn TellsListing number (map R.seen sites.now)) result }
@@ -107,6 +113,7 @@ fn listing_in<R: Replica>(alloc: Global, catalogue: &Catalogue, sites: &[R], num
     }
 }
 
+// Logs the site of this number.
 fn log_in<R: Replica>(alloc: Global, sites: &[R], number: u32) -> Reply
     ensures { Says (TellsIn TellsLog number (map R.seen sites.now)) result }
 {
@@ -116,6 +123,7 @@ fn log_in<R: Replica>(alloc: Global, sites: &[R], number: u32) -> Reply
     }
 }
 
+// Tells the version vector of the site of this number.
 fn vector_in<R: Replica>(alloc: Global, sites: &[R], number: u32) -> Reply
     ensures { Says (TellsIn TellsVector number (map R.seen sites.now)) result }
 {
@@ -125,6 +133,7 @@ fn vector_in<R: Replica>(alloc: Global, sites: &[R], number: u32) -> Reply
     }
 }
 
+// Tells the table that the relvar has at the site of this number.
 fn table_in<R: Replica>(
     alloc: Global,
     catalogue: &Catalogue,
@@ -141,6 +150,7 @@ fn table_in<R: Replica>(
     }
 }
 
+// Has the site of this number wait at the address for a caller, and meet it.
 fn serve_in<R: Replica, L: Links>(
     alloc: Global,
     sites: &mut [R],
@@ -160,6 +170,7 @@ fn serve_in<R: Replica, L: Links>(
     }
 }
 
+// Has the site of this number meet the one that serves at the address.
 fn call_in<R: Replica, L: Links>(
     alloc: Global,
     sites: &mut [R],
@@ -179,6 +190,7 @@ fn call_in<R: Replica, L: Links>(
     }
 }
 
+// Reads the line as a command, and does what that asks for.
 fn reply_to<R: Replica, L: Links>(
     alloc: Global,
     catalogue: &Catalogue,

@@ -7,6 +7,7 @@ use td_listings::{ListError, TableError};
 use td_replica::{AskError, IssueError, PastError};
 use td_values::Raise;
 
+/// The line of an error that an expression raises.
 pub(crate) fn raised_line(raise: Raise) -> &'static str
     ensures { result.now ≡ spec.raised_line raise }
 {
@@ -19,6 +20,7 @@ pub(crate) fn raised_line(raise: Raise) -> &'static str
     }
 }
 
+/// The line that tells why a statement is not issued.
 pub(crate) fn issue_fault(error: IssueError) -> &'static str
     ensures { result.now ≡ spec.issue_fault error }
 {
@@ -33,6 +35,7 @@ pub(crate) fn issue_fault(error: IssueError) -> &'static str
     }
 }
 
+/// The line that tells why a query is not answered.
 pub(crate) fn ask_fault(error: AskError) -> &'static str
     ensures { result.now ≡ spec.ask_fault error }
 {
@@ -44,6 +47,7 @@ pub(crate) fn ask_fault(error: AskError) -> &'static str
     }
 }
 
+/// The line that tells why a query just after an entry is not answered.
 pub(crate) fn past_fault(error: PastError) -> &'static str
     ensures { result.now ≡ spec.past_fault error }
 {
@@ -56,6 +60,7 @@ pub(crate) fn past_fault(error: PastError) -> &'static str
     }
 }
 
+/// The line that tells why a site is not listed, or its log or version vector not told.
 pub(crate) fn list_fault(error: ListError) -> &'static str
     ensures { result.now ≡ spec.list_fault error }
 {
@@ -65,6 +70,7 @@ pub(crate) fn list_fault(error: ListError) -> &'static str
     }
 }
 
+/// The line that tells why the table of a relvar is not told.
 pub(crate) fn table_fault(error: TableError) -> &'static str
     ensures { result.now ≡ spec.table_fault error }
 {

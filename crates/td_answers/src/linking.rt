@@ -20,6 +20,7 @@ use td_meeting::{MeetingError, answer, finish, greet, settle};
 use td_replica::{Replica, Taken};
 use td_semantics::Meter;
 
+// The line that tells why no link was opened.
 fn link_fault(error: LinkError) -> &'static str
     ensures { result.now ≡ spec.link_fault error }
 {
@@ -77,7 +78,7 @@ fn call_over<R: Replica, C: Channel>(
 }
 
 // Serves over a link that was just opened, which is closed behind it.
-fn served<R: Replica, L: Link + Drop>(
+fn serve_link<R: Replica, L: Link + Drop>(
     alloc: Global,
     site: &mut R,
     link: L,
@@ -92,7 +93,7 @@ fn served<R: Replica, L: Link + Drop>(
 }
 
 // Calls over a link that was just opened, which is closed behind it.
-fn called<R: Replica, L: Link + Drop>(
+fn call_link<R: Replica, L: Link + Drop>(
     alloc: Global,
     site: &mut R,
     link: L,
@@ -107,7 +108,12 @@ fn called<R: Replica, L: Link + Drop>(
 }
 
 // What two steps ended in. The room for its line was taken before the first.
-fn told(line: String, done: &str, number: u32, met: Result<Taken, MeetingError>) -> Reply
+fn reply_of_meeting(
+    line: String,
+    done: &str,
+    number: u32,
+    met: Result<Taken, MeetingError>,
+) -> Reply
     requires blank { IsBlank line }
     requires short { length done.now ≤ 6 }
     ensures { Says (λ words. words ≡ linked_answer done.now number met) result }
@@ -136,7 +142,7 @@ pub(crate) fn serve<R: Replica, L: Links>(
         Err(fault) => return Reply::Fixed(fault),
     };
     match links.serve(alloc, address) {
-        Ok(link) => told(line, "served", number, served(alloc, site, link, meter)),
+        Ok(link) => reply_of_meeting(line, "served", number, serve_link(alloc, site, link, meter)),
         Err(error) => Reply::Fixed(link_fault(error)),
     }
 }
@@ -159,7 +165,7 @@ pub(crate) fn call<R: Replica, L: Links>(
         Err(fault) => return Reply::Fixed(fault),
     };
     match links.call(alloc, address) {
-        Ok(link) => told(line, "called", number, called(alloc, site, link, meter)),
+        Ok(link) => reply_of_meeting(line, "called", number, call_link(alloc, site, link, meter)),
         Err(error) => Reply::Fixed(link_fault(error)),
     }
 }

@@ -54,6 +54,7 @@ fn meeting<R: Replica>(
     }
 }
 
+// The line that tells why a site took no entries; only that of a clash is written into the room.
 fn take_fault(line: String, error: TakeError) -> Reply
     requires { IsBlank line }
     ensures { Says (λ words. words ≡ spec.take_fault error) result }
@@ -68,6 +69,7 @@ fn take_fault(line: String, error: TakeError) -> Reply
     }
 }
 
+// The line that tells why a frame was not read, before which so many fresh entries were taken.
 fn frame_fault(line: String, error: FrameError, taken: usize) -> Reply
     requires { IsBlank line }
     ensures { Says (λ words. words ≡ spec.frame_fault error taken) result }

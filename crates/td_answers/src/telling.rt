@@ -39,6 +39,7 @@ pub(crate) fn issue<R: Replica>(alloc: Global, site: &mut R, text: &str, meter: 
     }
 }
 
+// The line that shows the value.
 fn value_line(alloc: Global, value: &Value) -> Result<String, AllocError>
     ensures { IfOk result (λ line. string_bytes line ≡ reply_line (told.Value value.now)) }
 {
@@ -48,7 +49,7 @@ fn value_line(alloc: Global, value: &Value) -> Result<String, AllocError>
 }
 
 // The line of what a query means.
-fn said(alloc: Global, asked: &Answer) -> Result<Reply, AllocError>
+fn reply_of_answer(alloc: Global, asked: &Answer) -> Result<Reply, AllocError>
     ensures { IfOk result (Says (λ words. words ≡ reply_line asked.now)) }
 {
     match asked {
@@ -65,12 +66,13 @@ pub(crate) fn query<R: Replica>(alloc: Global, site: &R, text: &str) -> Reply
         Ok(asked) => asked,
         Err(error) => return Reply::Fixed(ask_fault(error)),
     };
-    match said(alloc, &asked) {
+    match reply_of_answer(alloc, &asked) {
         Ok(reply) => reply,
         Err(_) => Reply::Fixed("fault memory\n"),
     }
 }
 
+// The stamp of this clock and origin; 0.0 where the origin is more than 65,535.
 fn stamp_at(clock: u64, origin: u32) -> Stamp
     ensures { result ≡ spec.stamp_at (clock, origin) }
 {
@@ -95,7 +97,7 @@ pub(crate) fn query_at<R: Replica>(
         Ok(past) => past,
         Err(error) => return Reply::Fixed(past_fault(error)),
     };
-    match said(alloc, &past) {
+    match reply_of_answer(alloc, &past) {
         Ok(reply) => reply,
         Err(_) => Reply::Fixed("fault memory\n"),
     }
@@ -122,6 +124,7 @@ pub(crate) fn log<R: Replica>(alloc: Global, site: &R) -> Reply
     }
 }
 
+// The line of the version vector of the entries that the site holds.
 fn vector_line<R: Replica>(alloc: Global, site: &R) -> Result<String, ListError>
     ensures { MatchResult result (λ text. CountsEntries (R.seen site.now) (Ok (string_bytes text))) (λ e. CountsEntries (R.seen site.now) (Err e)) }
 {

@@ -26,6 +26,7 @@ pub(crate) fn blank_line(alloc: Global) -> Option<String>
     String::with_capacity(alloc, LINE_BYTES).ok()
 }
 
+// Appends the words into the room that is left.
 fn put(line: &mut String, words: &str)
     requires { string_len line.old + length words.now ≤ string_capacity line.old }
     ensures bytes { string_bytes line.new ≡ string_bytes line.old ++ words.now }
@@ -35,6 +36,7 @@ fn put(line: &mut String, words: &str)
     line.push_str(words).unwrap()
 }
 
+// Appends the number, of at most 20 digits.
 fn put_number(line: &mut String, n: u64)
     requires { string_len line.old + 20 ≤ string_capacity line.old }
     ensures bytes { string_bytes line.new ≡ string_bytes line.old ++ decimal n }
@@ -45,6 +47,7 @@ fn put_number(line: &mut String, n: u64)
     put(line, buffer.format(n));
 }
 
+// Appends the stamp: its clock, a dot and its site.
 fn put_stamp(line: &mut String, stamp: &Stamp)
     requires { string_len line.old + 41 ≤ string_capacity line.old }
     ensures bytes { string_bytes line.new ≡ string_bytes line.old ++ shown.shown_stamp stamp.now }
@@ -56,6 +59,7 @@ fn put_stamp(line: &mut String, stamp: &Stamp)
     put_number(line, u64::from(stamp.site));
 }
 
+// The word for an error.
 fn raise_words(raise: Raise) -> &'static str
     ensures { result.now ≡ shown.shown_raise raise }
 {
@@ -68,6 +72,7 @@ fn raise_words(raise: Raise) -> &'static str
     }
 }
 
+// Appends that a statement is refused for the error that it raised.
 fn put_raised(line: &mut String, raise: Raise)
     requires { string_len line.old + 30 ≤ string_capacity line.old }
     ensures bytes { string_bytes line.new ≡ string_bytes line.old ++ shown.shown_outcome (became.Raised raise) }
@@ -78,6 +83,7 @@ fn put_raised(line: &mut String, raise: Raise)
     put(line, raise_words(raise));
 }
 
+// Appends the name, of at most 64 bytes.
 fn put_name(line: &mut String, name: &Name)
     requires { string_len line.old + 64 ≤ string_capacity line.old }
     ensures bytes { string_bytes line.new ≡ string_bytes line.old ++ name.now }
@@ -87,6 +93,7 @@ fn put_name(line: &mut String, name: &Name)
     put(line, name.as_str());
 }
 
+// Appends the words, and behind them the name of what is broken.
 fn put_broken(line: &mut String, words: &str, name: &Name)
     requires short { length words.now ≤ 26 }
     requires room { string_len line.old + 90 ≤ string_capacity line.old }
@@ -98,6 +105,7 @@ fn put_broken(line: &mut String, words: &str, name: &Name)
     put_name(line, name);
 }
 
+// Appends what became of a statement.
 fn put_outcome(line: &mut String, outcome: &Outcome)
     requires { string_len line.old + 90 ≤ string_capacity line.old }
     ensures bytes { string_bytes line.new ≡ string_bytes line.old ++ shown.shown_outcome outcome.now }

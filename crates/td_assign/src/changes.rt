@@ -15,7 +15,7 @@ pub struct Change {
 }
 
 /// What the target is given, if anything.
-pub(crate) fn given_to(changes: &[Change], target: usize) -> Option<&Relation>
+pub(crate) fn given_relation(changes: &[Change], target: usize) -> Option<&Relation>
     ensures { MatchOption result (spec.given_to changes.now target ≡ None) (λ r. spec.given_to changes.now target ≡ Some r.now) }
 {
     for change in changes {

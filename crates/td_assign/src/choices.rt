@@ -12,7 +12,7 @@ use td_relvars::Database;
 use td_semantics::Failure;
 
 /// The assignments that the statement makes: of a conditional one, its condition over the database decides.
-pub(crate) fn chosen<'s>(
+pub(crate) fn choose_assignments<'s>(
     alloc: Global,
     database: &Database,
     statement: &'s TypedStatement,

@@ -13,7 +13,7 @@ use td_relations::{Delta, Relation};
 use td_relvars::Database;
 
 // What turns the old relation into the new one, if they differ.
-fn turning(alloc: Global, old: &Relation, new: &Relation) -> Result<Option<Delta>, AllocError>
+fn turning_delta(alloc: Global, old: &Relation, new: &Relation) -> Result<Option<Delta>, AllocError>
     requires { old.now.heading ≡ new.now.heading }
     ensures { IfOk result (λ o. MatchOption o (old.now ≡ new.now) (Turns old.now new.now)) }
 {
@@ -38,7 +38,7 @@ fn difference(
     ensures { IfOk result (λ o. MatchOption o (stored_relvars database.now.stored change.now.target ≡ Ok change.now.relation) (DiffersBy (stored_relvars database.now.stored) change.now)) }
 {
     match database.base_at(change.target) {
-        Some(base) => turning(alloc, base.relation(), &change.relation),
+        Some(base) => turning_delta(alloc, base.relation(), &change.relation),
         None => unreachable!(),
     }
 }

@@ -23,7 +23,7 @@ ghost use Rattle.td_semantics.specs.Steps.{Steps};
 ghost use Rattle.td_assign.specs.Readings.{IsReadText};
 
 use crate::changes::Change;
-use crate::choices::chosen;
+use crate::choices::choose_assignments;
 use crate::deltas::differences;
 use crate::names::{Names, names_with, no_names};
 use crate::ran::Ran;
@@ -59,7 +59,11 @@ pub(crate) enum Prepared {
 }
 
 // With these changes made, the tests decide.
-fn judged(alloc: Global, database: &Database, changes: Vec<Change>) -> Result<Prepared, AllocError>
+fn judge_changes(
+    alloc: Global,
+    database: &Database,
+    changes: Vec<Change>,
+) -> Result<Prepared, AllocError>
     requires changes { AreChanges database.now.catalogue changes.items }
     requires legal { IsLegal database.now }
     ensures { IfOk result (IsJudged database.now changes.items) }
@@ -77,7 +81,7 @@ fn judged(alloc: Global, database: &Database, changes: Vec<Change>) -> Result<Pr
 }
 
 // What the assignments make of the database, each source evaluated whole.
-fn evaluated(
+fn evaluate_sources(
     alloc: Global,
     database: &Database,
     assignments: &[TypedAssignment],
@@ -87,14 +91,14 @@ fn evaluated(
     ensures { IfOk result (AreAssignedTo database.now assignments.now) }
 {
     match changes(alloc, database, assignments) {
-        Ok(changes) => judged(alloc, database, changes),
+        Ok(changes) => judge_changes(alloc, database, changes),
         Err(Failure::Raised(raise)) => Ok(Prepared::Refused(Outcome::Raised(raise))),
         Err(Failure::OutOfMemory) => Err(AllocError),
     }
 }
 
 // What the assignments make of the database.
-fn assigned(
+fn prepare_assignments(
     alloc: Global,
     database: &Database,
     assignments: &[TypedAssignment],
@@ -105,14 +109,14 @@ fn assigned(
 {
     match sources::turn(alloc, database, assignments) {
         Ok(Some((target, delta))) => Ok(Prepared::InPlace(target, delta)),
-        Ok(None) => evaluated(alloc, database, assignments),
+        Ok(None) => evaluate_sources(alloc, database, assignments),
         Err(Failure::Raised(raise)) => Ok(Prepared::Refused(Outcome::Raised(raise))),
         Err(Failure::OutOfMemory) => Err(AllocError),
     }
 }
 
 // What the statement makes of the database.
-fn made_by(
+fn prepare_statement(
     alloc: Global,
     database: &Database,
     statement: &TypedStatement,
@@ -121,8 +125,8 @@ fn made_by(
     requires legal { IsLegal database.now }
     ensures { IfOk result (IsMade database.now statement.now) }
 {
-    match chosen(alloc, database, statement) {
-        Ok(assignments) => assigned(alloc, database, assignments),
+    match choose_assignments(alloc, database, statement) {
+        Ok(assignments) => prepare_assignments(alloc, database, assignments),
         Err(Failure::Raised(raise)) => Ok(Prepared::Refused(Outcome::Raised(raise))),
         Err(Failure::OutOfMemory) => Err(AllocError),
     }
@@ -142,7 +146,7 @@ fn prepare(
     match &reading.statement {
         Some(statement) => {
             let names = names_with(alloc, statement, &reading.footprint)?;
-            let prepared = made_by(alloc, database, statement)?;
+            let prepared = prepare_statement(alloc, database, statement)?;
             Ok((prepared, names))
         }
         None => Ok((Prepared::Refused(Outcome::Unread), no_names(alloc))),
@@ -190,7 +194,7 @@ fn put_all(alloc: Global, database: &mut Database, changes: Vec<Change>) -> Resu
 }
 
 // Makes the one change, which takes nothing out, and takes it back where a test fails or memory is wanting for them.
-fn tried(
+fn try_change(
     alloc: Global,
     database: &mut Database,
     changes: &[(usize, Delta)],
@@ -260,7 +264,7 @@ fn tried_with_way(
 }
 
 // Makes the one change and tests it: with a way back where it takes something out.
-fn made(
+fn make_change(
     alloc: Global,
     database: &mut Database,
     changes: &[(usize, Delta)],
@@ -272,7 +276,7 @@ fn made(
     ensures { IsTried database.old changes.now result database.new }
 {
     if grows {
-        tried(alloc, database, changes)
+        try_change(alloc, database, changes)
     } else {
         tried_with_way(alloc, database, changes)
     }
@@ -298,7 +302,7 @@ fn turn(
     // (what is kept of each statement for ever: with no room for more)
     let mut changes = Vec::with_capacity(alloc, 1)?;
     changes.push((relvar, delta))?;
-    match made(alloc, database, &changes, grows)? {
+    match make_change(alloc, database, &changes, grows)? {
         Some(failure) => Ok((refusal(failure), Vec::new(alloc))),
         None => Ok((Outcome::Done, changes)),
     }

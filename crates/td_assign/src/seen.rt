@@ -5,7 +5,7 @@ ghost use Rattle.td_semantics.specs.Given as spec;
 ghost use Rattle.td_relvars.specs.Keys.{first_key};
 ghost use Rattle.td_semantics.specs.Databases.{stored_relvars};
 
-use crate::changes::{Change, given_to};
+use crate::changes::{Change, given_relation};
 use td_algebra::{KeyIndex, Stop};
 use td_eval::Lookup;
 use td_relations::Relation;
@@ -27,7 +27,7 @@ impl Lookup for Seen<'_> {
 
     fn lent(&self, relvar: usize) -> Result<&Relation, Stop> {
         if self.target == relvar {
-            if let Some(relation) = given_to(self.changes, relvar) {
+            if let Some(relation) = given_relation(self.changes, relvar) {
                 return Ok(relation);
             }
         }
@@ -42,7 +42,7 @@ impl Lookup for Seen<'_> {
         if self.target != relvar {
             return self.database.indexes(relvar);
         }
-        match given_to(self.changes, relvar) {
+        match given_relation(self.changes, relvar) {
             Some(_) => &[],
             None => self.database.indexes(relvar),
         }
@@ -62,7 +62,7 @@ impl Lookup for Replaced<'_> {
     ghost first_keys = { λ s. first_key s.database.now.catalogue };
 
     fn lent(&self, relvar: usize) -> Result<&Relation, Stop> {
-        match given_to(self.changes, relvar) {
+        match given_relation(self.changes, relvar) {
             Some(relation) => Ok(relation),
             None => self.database.lent(relvar),
         }
@@ -73,7 +73,7 @@ impl Lookup for Replaced<'_> {
     }
 
     fn indexes(&self, relvar: usize) -> &[KeyIndex] {
-        match given_to(self.changes, relvar) {
+        match given_relation(self.changes, relvar) {
             Some(_) => &[],
             None => self.database.indexes(relvar),
         }

@@ -13,7 +13,7 @@ ghost use Rattle.td_semantics.specs.Sources.{source_means, sources};
 use crate::changes::{Change, give};
 use crate::seen::Seen;
 use std::alloc::{AllocError, Global};
-use td_eval::lacking;
+use td_eval::lacking_tuples;
 use td_headings::TypedAssignment;
 use td_relations::{Delta, Relation};
 use td_relvars::Database;
@@ -92,7 +92,7 @@ fn addition(
     ensures { TellsAddition database.now assignment.now result }
 {
     let catalogue = database.catalogue();
-    td_eval::added(
+    td_eval::added_tuples(
         alloc,
         catalogue,
         &assignment.source,
@@ -114,7 +114,7 @@ fn growth_by(
     match database.base_at(target) {
         Some(base) => {
             let before = base.relation();
-            let inserted = lacking(alloc, more, before)?;
+            let inserted = lacking_tuples(alloc, more, before)?;
             before.rows_fit();
             inserted.rows_fit();
             let deleted = Relation::empty(alloc, inserted.heading().copy()?);
@@ -125,7 +125,7 @@ fn growth_by(
 }
 
 // The change that puts in what the source adds to its target, if it is the target united with more.
-fn added(
+fn insertion_delta(
     alloc: Global,
     database: &Database,
     assignment: &TypedAssignment,
@@ -154,7 +154,7 @@ fn rows_fit(database: &Database, relvar: usize, delta: &Delta)
 }
 
 // The change that the source makes of its target, if it takes tuples out of it, or puts changed ones in their place.
-fn exchanged(
+fn change_delta(
     alloc: Global,
     database: &Database,
     assignment: &TypedAssignment,
@@ -174,7 +174,7 @@ fn exchanged(
     }
 }
 
-fn alone(
+fn single_delta(
     alloc: Global,
     database: &Database,
     assignment: &TypedAssignment,
@@ -182,8 +182,8 @@ fn alone(
     requires { IsAssigned database.now.catalogue assignment.now }
     ensures { TellsAlone database.now assignment.now result }
 {
-    match added(alloc, database, assignment) {
-        Ok(None) => exchanged(alloc, database, assignment),
+    match insertion_delta(alloc, database, assignment) {
+        Ok(None) => change_delta(alloc, database, assignment),
         told => told,
     }
 }
@@ -202,7 +202,7 @@ pub(crate) fn turn(
     let [assignment] = assignments else {
         return Ok(None);
     };
-    match alone(alloc, database, assignment) {
+    match single_delta(alloc, database, assignment) {
         Ok(Some(delta)) => Ok(Some((assignment.target, delta))),
         Ok(None) => Ok(None),
         Err(failure) => Err(failure),

@@ -136,7 +136,7 @@ fn go_back(relation: &mut Relation, indexes: &mut Vec<KeyIndex>, delta: &Delta, 
 }
 
 // The keys behind the first one.
-fn others(keys: &[Items<Name>]) -> &[Items<Name>] {
+fn other_keys(keys: &[Items<Name>]) -> &[Items<Name>] {
     match keys.split_first() {
         Some((_, others)) => others,
         None => &[],
@@ -279,7 +279,7 @@ impl Base {
             &mut self.indexes,
             &mut self.awaited,
             &self.relation,
-            others(keys),
+            other_keys(keys),
         );
     }
 
@@ -302,7 +302,7 @@ impl Base {
             &mut self.indexes,
             &mut self.awaited,
             &self.relation,
-            others(keys),
+            other_keys(keys),
         );
         Ok(())
     }
@@ -326,7 +326,7 @@ impl Base {
             &mut self.indexes,
             &mut self.awaited,
             &self.relation,
-            others(keys),
+            other_keys(keys),
         );
         Ok(())
     }

@@ -103,7 +103,7 @@ impl Model for WayBack {
 }
 
 // The relation with these tuples too, in the room that there is. It takes no memory, and costs a sort.
-fn refilled(left: Relation, back: Return) -> Relation
+fn refill_relation(left: Relation, back: Return) -> Relation
     requires room { length left.tuples + length back.deleted.items ≤ vec_capacity back.room.list }
     requires fit { All (λ t. heading_of t ≡ header_fields left.heading) back.deleted.items }
     ensures { IsRelation left.heading (set.union (body left) (tuple_set back.deleted.items)) result }
@@ -170,7 +170,7 @@ impl WayBack {
             many: _,
         } = self;
         let left = std::mem::replace(relation, nothing);
-        *relation = refilled(left, back);
+        *relation = refill_relation(left, back);
         index.refill(by_key.deleted, by_key.room.list);
     }
 }

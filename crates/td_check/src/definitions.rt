@@ -50,7 +50,7 @@ impl<'a> Checker<'a> {
             report.count_refused();
             return self.tell_type(report, piece, found);
         }
-        let unknown = self.names.unknown(report.alloc, tokens)?;
+        let unknown = self.names.unknown_names(report.alloc, tokens)?;
         let is_judged = if unknown.is_empty() {
             !self.names.names_refused(tokens)
         } else {
@@ -65,6 +65,7 @@ impl<'a> Checker<'a> {
         self.names.lose(tokens)
     }
 
+    // Tells what is ill typed in the piece, at the place in the script at which that is found.
     fn tell_type(
         &self,
         report: &mut Report<'_>,
@@ -135,6 +136,7 @@ impl<'a> Checker<'a> {
         self.names.lose(&tokens_of(report.alloc, front)?)
     }
 
+    // Counts the piece as a definition, and defines it or tells why it is refused.
     fn judge(
         &mut self,
         report: &mut Report<'_>,
@@ -154,7 +156,7 @@ impl<'a> Checker<'a> {
 
 /// Judges each definition of a script, from a byte on, after those before it that were accepted. It takes the time of
 /// reading and typing the script, and for each definition a walk along the script.
-pub fn check_definitions(
+pub(crate) fn check_definitions(
     report: &mut Report<'_>,
     script: &str,
     from: usize,

@@ -49,6 +49,7 @@ fn usage(alloc: Global, command: &str) -> Result<String, AllocError> {
     format!(in alloc; "Usage: {command} SCRIPT\n{HELP}")
 }
 
+// Writes the usage that was asked for; the answer is the exit status, 0 or 2.
 fn put_usage<K: Sink>(told: Result<String, AllocError>, sink: &mut K) -> u8 {
     let Ok(text) = told else {
         return UNCHECKED;
@@ -59,6 +60,7 @@ fn put_usage<K: Sink>(told: Result<String, AllocError>, sink: &mut K) -> u8 {
     }
 }
 
+// Checks the script in the file and writes what is found; the answer is the exit status, 0, 1 or 2.
 fn check<H: Files + AllocGlobal, K: Sink, F: Sink>(
     command: &str,
     host: &H,

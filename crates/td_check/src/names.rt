@@ -19,6 +19,7 @@ pub struct Names<'a> {
     lost: Vec<&'a str>,
 }
 
+// The word of the language at this place; None where a name or a literal stands there, or nothing.
 fn word_at(tokens: &[Token<'_>], at: usize) -> Option<Word> {
     match tokens.get(at)?.kind {
         TokenKind::Word(word) => Some(word),
@@ -86,6 +87,7 @@ fn name_of<'a>(tokens: &[Token<'a>]) -> Option<&'a str> {
     }
 }
 
+// Whether the name is among these, at the cost of a walk along them.
 fn has(names: &[&str], name: &str) -> bool {
     names.iter().any(|known| *known == name)
 }
@@ -133,7 +135,7 @@ impl<'a> Names<'a> {
     }
 
     /// The names in a definition that neither it nor one before it defines, each once.
-    pub fn unknown(
+    pub(crate) fn unknown_names(
         &self,
         alloc: Global,
         tokens: &[Token<'a>],
@@ -154,20 +156,20 @@ impl<'a> Names<'a> {
     }
 
     /// Whether a definition that was refused would have defined the name.
-    pub fn is_lost(&self, name: &str) -> bool {
+    pub(crate) fn is_lost(&self, name: &str) -> bool {
         let component = name.strip_prefix("THE_").unwrap_or(name);
         has(&self.refused, name) || has(&self.lost, component)
     }
 
     /// Whether a definition names a type, a relvar or a constraint that was refused.
-    pub fn names_refused(&self, tokens: &[Token<'_>]) -> bool {
+    pub(crate) fn names_refused(&self, tokens: &[Token<'_>]) -> bool {
         tokens.iter().enumerate().any(|(at, token)| {
             at != 1 && token.kind == TokenKind::Name && has(&self.refused, token.text)
         })
     }
 
     /// Whether a definition has the name of one of its kind before it.
-    pub fn is_twice(&self, tokens: &[Token<'a>]) -> bool {
+    pub(crate) fn is_twice(&self, tokens: &[Token<'a>]) -> bool {
         match tokens {
             [first, name, ..] => {
                 let own = (first.kind, name.text);

@@ -5,7 +5,7 @@ use td_tokens::{Token, TokenError, TokenKind, Word, tokens, tokens_end};
 
 /// From the first token of a definition to behind its last one, and where it begins in the script.
 #[derive(Clone, Copy)]
-pub struct DefinitionSpan<'a> {
+pub(crate) struct DefinitionSpan<'a> {
     pub text: &'a str,
     pub begin: usize,
 }
@@ -20,7 +20,7 @@ pub fn tokens_of<'a>(alloc: Global, text: &'a str) -> Result<Vec<Token<'a>>, All
 }
 
 // The piece that a text has between two bytes.
-fn cut(text: &str, begin: usize, end: usize) -> DefinitionSpan<'_> {
+fn span_between(text: &str, begin: usize, end: usize) -> DefinitionSpan<'_> {
     let (front, _) = text.split_at(text.floor_char_boundary(end));
     let (_, text) = front.split_at(front.floor_char_boundary(begin));
     DefinitionSpan { text, begin }
@@ -75,7 +75,7 @@ fn cut_tokens<'a>(
         };
         let piece = match current {
             Some(left) if is_left(left, token.kind) => {
-                found.push(cut(script, left.begin, left.end))?;
+                found.push(span_between(script, left.begin, left.end))?;
                 fresh
             }
             Some(left) => left,
@@ -83,7 +83,7 @@ fn cut_tokens<'a>(
         };
         let piece = with_token(piece, token.kind, end);
         if token.kind == TokenKind::Word(Word::Semicolon) {
-            found.push(cut(script, piece.begin, piece.end))?;
+            found.push(span_between(script, piece.begin, piece.end))?;
             current = None;
         } else {
             current = Some(piece);
@@ -93,7 +93,7 @@ fn cut_tokens<'a>(
 }
 
 // Where reading goes on behind what is no token: behind the next semicolon, but nowhere behind an open comment.
-fn resumed(script: &str, place: usize) -> usize {
+fn resume_behind(script: &str, place: usize) -> usize {
     let (_, rest) = script.split_at(script.floor_char_boundary(place));
     match rest.find(';') {
         Some(at) if !rest.starts_with("/*") => place.saturating_add(at).saturating_add(1),
@@ -114,17 +114,17 @@ fn front_pieces<'a>(
     let left = cut_tokens(script, from, &tokens, found)?;
     if fault.is_empty() {
         if let Some(left) = left {
-            found.push(cut(script, left.begin, left.end))?;
+            found.push(span_between(script, left.begin, left.end))?;
         }
         return Ok(script.len());
     }
     let place = from.saturating_add(front.len());
-    let next = resumed(script, place);
+    let next = resume_behind(script, place);
     let begin = match left {
         Some(left) => left.begin,
         None => place,
     };
-    found.push(cut(script, begin, next))?;
+    found.push(span_between(script, begin, next))?;
     Ok(next)
 }
 

@@ -5,7 +5,7 @@ use td_parse_errors::{Position, caret, line_of, position_of};
 
 /// What was told so far, and how many definitions that was about.
 #[derive(Drop)]
-pub struct Report<'a> {
+pub(crate) struct Report<'a> {
     pub alloc: Global,
     file: &'a str,
     told: String,
@@ -36,7 +36,8 @@ impl<'a> Report<'a> {
         self.told.push_str(&told)
     }
 
-    pub fn count_definition(&mut self) {
+    /// Counts a definition, whatever is found of it.
+    pub(crate) fn count_definition(&mut self) {
         self.definitions = self.definitions.saturating_add(1);
     }
 
@@ -46,11 +47,12 @@ impl<'a> Report<'a> {
     }
 
     /// Counts a definition as not judged, since it names what was refused.
-    pub fn count_unjudged(&mut self) {
+    pub(crate) fn count_unjudged(&mut self) {
         self.unjudged = self.unjudged.saturating_add(1);
     }
 
-    pub fn is_bad(&self) -> bool {
+    /// Whether a definition, or the script, was refused; one that is not judged does not count.
+    pub(crate) fn is_bad(&self) -> bool {
         self.refused > 0
     }
 

@@ -101,7 +101,7 @@ fn after<'a>(front: &str, line: &'a str) -> Option<&'a str>
 }
 
 // What is before the first such character, and what is after it.
-fn parted(c: char, line: &str) -> Option<(&str, &str)>
+fn split_at_character(c: char, line: &str) -> Option<(&str, &str)>
     requires { c < 128 }
     ensures { option_map both_texts result ≡ parted c line.now }
 {
@@ -120,7 +120,7 @@ fn site_and_text(mark: char, line: &str) -> Option<(u32, &str)>
     requires { mark < 128 }
     ensures { option_map beside_number result ≡ spec.site_and_text mark line.now }
 {
-    let (site, text) = parted(mark, line)?;
+    let (site, text) = split_at_character(mark, line)?;
     let site = number(site)?;
     Some((site, text_of(text)))
 }
@@ -141,7 +141,7 @@ fn is_word(word: &str) -> bool
 fn site_and_word(words: &str) -> Option<(u32, &str)>
     ensures { option_map beside_number result ≡ spec.site_and_word words.now }
 {
-    let (site, word) = parted(' ', words)?;
+    let (site, word) = split_at_character(' ', words)?;
     if !is_word(word) {
         return None;
     }
@@ -149,16 +149,16 @@ fn site_and_word(words: &str) -> Option<(u32, &str)>
     Some((site, word))
 }
 
-fn meeting(words: &str) -> Option<Command<'_>>
+fn parse_meet(words: &str) -> Option<Command<'_>>
     ensures { option_map meant result ≡ spec.of_pair spec.meet (spec.two_sites words.now) }
 {
-    let (first, second) = parted(' ', words)?;
+    let (first, second) = split_at_character(' ', words)?;
     let first = number(first)?;
     let second = number(second)?;
     Some(Command::Meet { first, second })
 }
 
-fn listing(word: &str) -> Option<Command<'static>>
+fn parse_listing(word: &str) -> Option<Command<'static>>
     ensures { option_map meant result ≡ spec.of_site spec.listing word.now }
 {
     let site = number(word)?;
@@ -179,7 +179,7 @@ fn vector(word: &str) -> Option<Command<'static>>
     Some(Command::Vector { site })
 }
 
-fn table(words: &str) -> Option<Command<'_>>
+fn parse_table(words: &str) -> Option<Command<'_>>
     ensures { option_map meant result ≡ spec.of_pair spec.table (spec.site_and_word words.now) }
 {
     let (site, relvar) = site_and_word(words)?;
@@ -211,7 +211,7 @@ fn issue(line: &str) -> Option<Command<'_>>
 fn stamp_in(word: &str) -> Option<(u64, u32)>
     ensures { result ≡ spec.stamp_in word.now }
 {
-    let (clock, origin) = parted('.', word)?;
+    let (clock, origin) = split_at_character('.', word)?;
     let clock = number_within(clock.as_bytes(), NO_CLOCK)?;
     let origin = number(origin)?;
     Some((clock, origin))
@@ -242,7 +242,7 @@ fn at_stamp(text: &str) -> Option<(&str, (u64, u32))>
     Some((front, stamp))
 }
 
-fn asked(site: u32, text: &str) -> Command<'_>
+fn ask_command(site: u32, text: &str) -> Command<'_>
     ensures { meant result ≡ spec.query_form site text.now }
 {
     match at_stamp(text) {
@@ -260,18 +260,18 @@ fn query(line: &str) -> Option<Command<'_>>
     ensures { option_map meant result ≡ spec.of_pair spec.query_form (spec.site_and_text 63 line.now) }
 {
     let (site, text) = site_and_text('?', line)?;
-    Some(asked(site, text))
+    Some(ask_command(site, text))
 }
 
 // The form of a line that begins with this word, which has a dot.
-fn dotted<'a>(word: &str, rest: &'a str) -> Option<Command<'a>>
+fn dot_command<'a>(word: &str, rest: &'a str) -> Option<Command<'a>>
     ensures { option_map meant result ≡ spec.dotted word.now rest.now }
 {
     if word == ".meet" {
-        return meeting(rest);
+        return parse_meet(rest);
     }
     if word == ".listing" {
-        return listing(rest);
+        return parse_listing(rest);
     }
     if word == ".log" {
         return log(rest);
@@ -280,7 +280,7 @@ fn dotted<'a>(word: &str, rest: &'a str) -> Option<Command<'a>>
         return vector(rest);
     }
     if word == ".csv" {
-        return table(rest);
+        return parse_table(rest);
     }
     if word == ".serve" {
         return serve(rest);
@@ -294,8 +294,8 @@ fn dotted<'a>(word: &str, rest: &'a str) -> Option<Command<'a>>
 fn dot_form(line: &str) -> Option<Command<'_>>
     ensures { option_map meant result ≡ spec.dot_form line.now }
 {
-    let (word, rest) = parted(' ', line)?;
-    dotted(word, rest)
+    let (word, rest) = split_at_character(' ', line)?;
+    dot_command(word, rest)
 }
 
 fn text_form(line: &str) -> Option<Command<'_>>

@@ -15,7 +15,7 @@ use td_sockets::TcpLinks;
 use td_workbench::program;
 
 // A word that is no UTF-8 is refused as the command line library refuses words.
-fn refused(rt: &HostRuntime) -> ExitCode {
+fn refuse_words(rt: &HostRuntime) -> ExitCode {
     let _told = eprintln!(rt; "error: a word of the command line is not UTF-8");
     ExitCode::from(2)
 }
@@ -24,7 +24,7 @@ fn main(rt: HostRuntime) -> ExitCode {
     let alloc = rt.alloc();
     let words = match env::args(&rt) {
         Ok(words) => words,
-        Err(error) if error.kind() == ErrorKind::InvalidData => return refused(&rt),
+        Err(error) if error.kind() == ErrorKind::InvalidData => return refuse_words(&rt),
         Err(_) => return ExitCode::FAILURE,
     };
     let Ok(words) = words.collect::<Vec<String>>(alloc) else {

@@ -30,7 +30,7 @@ use td_syntax::tree::BinaryOperator;
 use td_typed_trees::tree::Typed;
 
 // The expression that the relvar is united with, if the tree is such a union.
-fn united_with(tree: &Typed, relvar: usize) -> Option<&Typed>
+fn union_operand(tree: &Typed, relvar: usize) -> Option<&Typed>
     ensures { MatchOption result (Unit {0}) (λ more. tree.now ≡ typed.Binary binary.Union (typed.Relvar relvar) more.now) }
 {
     match tree {
@@ -60,7 +60,7 @@ fn rows_of_part<L: Lookup>(
 
 /// What an expression of the catalogue adds to the base relvar at the place, where it is that relvar united with more:
 /// the relation that is more, which alone is evaluated. None where the expression has another form.
-pub fn added<L: Lookup>(
+pub fn added_tuples<L: Lookup>(
     alloc: Global,
     catalogue: &Catalogue,
     expr: &TypedExpr,
@@ -74,7 +74,7 @@ pub fn added<L: Lookup>(
     ensures { TellsAdded (L.relvars lookup.now relvar) (and_then (tree_means catalogue.now (L.relvars lookup.now) expr.now.tree no_attrs) spec.rows_of) result }
 {
     catalogue.was_defined();
-    let Some(part) = united_with(expr.get().tree.get(), relvar) else {
+    let Some(part) = union_operand(expr.get().tree.get(), relvar) else {
         return Ok(None);
     };
     match rows_of_part(alloc, expr, lookup, part) {

@@ -65,7 +65,7 @@ pub(crate) fn found(
 }
 
 // The value that a literal says.
-fn literal(tree: &Typed) -> Result<Option<Value>, AllocError>
+fn literal_value(tree: &Typed) -> Result<Option<Value>, AllocError>
     ensures { IfOk result (λ o. IfSome o (IsLiteral tree.now)) }
 {
     match tree {
@@ -76,7 +76,8 @@ fn literal(tree: &Typed) -> Result<Option<Value>, AllocError>
     }
 }
 
-fn local(tree: &Typed) -> Option<&Name>
+// The name, where the expression is nothing but a local one.
+fn local_name(tree: &Typed) -> Option<&Name>
     ensures { IfSome result (λ n. tree.now ≡ typed.Local n.now) }
 {
     match tree {
@@ -104,13 +105,13 @@ fn is_and(operator: BinaryOperator) -> bool
 }
 
 // The name and the value of operands that are an attribute and a literal.
-fn compared(a: &Typed, b: &Typed) -> Result<Option<(Name, Value)>, AllocError>
+fn attribute_and_literal(a: &Typed, b: &Typed) -> Result<Option<(Name, Value)>, AllocError>
     ensures { IfOk result (λ o. IfSome o (λ f. IsConjunction (typed.Binary binary.Equals a.now b.now) (f ∷ []))) }
 {
-    let Some(name) = local(a) else {
+    let Some(name) = local_name(a) else {
         return Ok(None);
     };
-    match literal(b)? {
+    match literal_value(b)? {
         Some(value) => Ok(Some((name.copy()?, value))),
         None => Ok(None),
     }
@@ -121,7 +122,10 @@ fn equality(tree: &Typed) -> Result<Option<(Name, Value)>, AllocError>
     ensures { IfOk result (λ o. IfSome o (λ f. IsConjunction tree.now (f ∷ []))) }
 {
     match tree {
-        Typed::Binary(operator, a, b) if is_equals(*operator) => compared(a.get(), b.get()),
+        Typed::Binary(operator, a, b) if is_equals(*operator) => attribute_and_literal(
+            a.get(),
+            b.get(),
+        ),
         _ => Ok(None),
     }
 }
@@ -198,6 +202,7 @@ fn key_values(
     Ok(Some(tuple_of(alloc, given)?))
 }
 
+// Whether the tuple has this value at this name; one without the name has it not.
 fn has_value(tuple: &Tuple, given: &(Name, Value)) -> bool
     ensures { result ≡ spec.has_value given.now tuple.now }
 {
@@ -219,6 +224,7 @@ fn has_all(tuple: &Tuple, values: &[(Name, Value)]) -> bool
     true
 }
 
+// Whether the heading has an attribute of this name.
 fn is_column(heading: &Heading, name: &Name) -> bool
     ensures { result ≡ is_some (by_name.get heading.now name.now) }
 {
@@ -238,11 +244,7 @@ fn has_names(heading: &Heading, values: &[(Name, Value)]) -> bool
 }
 
 // The tuples of the part that have all these values.
-fn restricted_to(
-    alloc: Global,
-    part: &Relation,
-    values: &[(Name, Value)],
-) -> Result<Relation, Fault>
+fn with_values(alloc: Global, part: &Relation, values: &[(Name, Value)]) -> Result<Relation, Fault>
     ensures { (m : _) → SaysValues values.now part.now m → Answers result (functions.restricted m part.now) }
 {
     restrict(
@@ -277,12 +279,13 @@ fn where_by_key<L: Lookup>(
         return Ok(None);
     };
     if has_names(part.heading(), &values) {
-        Ok(Some(restricted_to(alloc, &part, &values)?))
+        Ok(Some(with_values(alloc, &part, &values)?))
     } else {
         Ok(None)
     }
 }
 
+// Whether one of these base relvars is at the place.
 fn is_base(bases: &[BaseUnder], place: usize) -> bool
     ensures { IsTrue result → Contains (places_of bases.now) place }
 {

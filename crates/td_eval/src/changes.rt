@@ -19,10 +19,10 @@ ghost use Rattle.td_eval.specs.ForProofs.Environments.{MeanTheirs, all_known};
 ghost use Rattle.td_eval.specs.declared.forms.Form.TheVariants.{Changed};
 ghost use Rattle.td_eval.specs.ForProofs.Forms.{TellsForm, form_means};
 
-use crate::evaluation::{environment, known_bases, leased};
+use crate::evaluation::{environment, known_bases, lease_of};
 use crate::forms::{Change, Form, form_of};
 use crate::lookup::Lookup;
-use crate::naming::lacking;
+use crate::naming::lacking_tuples;
 use crate::relvars::{all_relvars, those};
 use crate::settling::{Findings, Virtuals, names_of, settle};
 use crate::valued::raise_of;
@@ -35,7 +35,7 @@ use td_relations::{Delta, Relation, minus};
 use td_semantics::Failure;
 
 // The change that takes these tuples of the relation out.
-fn without(alloc: Global, relation: &Relation, gone: Relation) -> Result<Delta, AllocError>
+fn deletion_of(alloc: Global, relation: &Relation, gone: Relation) -> Result<Delta, AllocError>
     requires { (m : Attrs → Result Bool Stop) × (restricted m relation.now ≡ Ok gone) }
     ensures { IfOk result (IsDifference relation.now (minus_of relation.now gone)) }
 {
@@ -44,7 +44,7 @@ fn without(alloc: Global, relation: &Relation, gone: Relation) -> Result<Delta, 
 }
 
 // The change that puts the second ones in their place.
-fn replaced(
+fn replacement_of(
     alloc: Global,
     relation: &Relation,
     gone: &Relation,
@@ -54,7 +54,7 @@ fn replaced(
     requires heading { more.now.heading ≡ relation.now.heading }
     ensures { IfOk result (IsDifference relation.now (union_of (minus_of relation.now gone.now) more.now)) }
 {
-    let inserted = lacking(alloc, more, relation)?;
+    let inserted = lacking_tuples(alloc, more, relation)?;
     let deleted = minus(alloc, gone, more)?;
     Ok(Delta::of(inserted, deleted))
 }
@@ -83,7 +83,7 @@ fn update<W: Wanted>(
     if !more.same_heading(tuples.get()) {
         return Err(Fault::Raised(Stop::Untyped));
     }
-    Ok(replaced(alloc, tuples.get(), &gone, &more)?)
+    Ok(replacement_of(alloc, tuples.get(), &gone, &more)?)
 }
 
 // The change that makes what an expression of this form means of the relation.
@@ -101,7 +101,7 @@ fn exchange<W: Wanted>(
     match form {
         Form::Less(condition) => {
             let gone = select(alloc, env, parts, tuples, condition, &Bindings::Nothing)?;
-            Ok(without(alloc, tuples.get(), gone)?)
+            Ok(deletion_of(alloc, tuples.get(), gone)?)
         }
         Form::Changed(change) => update(alloc, env, parts, tuples, change),
     }
@@ -207,7 +207,7 @@ pub fn changed<L: Lookup>(
     let Some(form) = form_of(expr.get().tree.get(), relvar) else {
         return Ok(None);
     };
-    let Ok(tuples) = leased(lookup, relvar) else {
+    let Ok(tuples) = lease_of(lookup, relvar) else {
         return Ok(None);
     };
     match change_by_part(alloc, expr, lookup, &tuples, &form) {

@@ -11,7 +11,11 @@ use td_typed_trees::{Mention, add_mentions};
 
 /// The place, among those under the expression, of the virtual relvar that is defined at this one, if it is not known.
 /// They stand in order of definition.
-pub(crate) fn unknown_at(virtuals: &[VirtualUnder], known: &[bool], place: usize) -> Option<usize> {
+pub(crate) fn first_unknown(
+    virtuals: &[VirtualUnder],
+    known: &[bool],
+    place: usize,
+) -> Option<usize> {
     let at = virtuals.partition_point(|under| under.place < place);
     if at < virtuals.len() && virtuals[at].place == place && at < known.len() && !known[at] {
         Some(at)
@@ -20,6 +24,7 @@ pub(crate) fn unknown_at(virtuals: &[VirtualUnder], known: &[bool], place: usize
     }
 }
 
+// What `sure` finds in the first of these expressions in which it finds one.
 #[cycle(sure)]
 fn sure_in_list(
     virtuals: &[VirtualUnder],
@@ -34,6 +39,7 @@ fn sure_in_list(
     None
 }
 
+// What `sure` finds in the term of the first of these items in which it finds one.
 #[cycle(sure)]
 fn sure_in_items(
     virtuals: &[VirtualUnder],
@@ -48,6 +54,7 @@ fn sure_in_items(
     None
 }
 
+// What `sure` finds in the value of the first of these names in which it finds one.
 #[cycle(sure)]
 fn sure_in_names(
     virtuals: &[VirtualUnder],
@@ -62,6 +69,7 @@ fn sure_in_names(
     None
 }
 
+// What `sure` finds in the relation that gives the groups, if an expression does.
 #[cycle(sure)]
 fn sure_in_groups(
     virtuals: &[VirtualUnder],
@@ -88,7 +96,7 @@ fn takes_both(operator: BinaryOperator) -> bool {
 pub(crate) fn sure(virtuals: &[VirtualUnder], known: &[bool], tree: &Typed) -> Option<usize> {
     match tree {
         Typed::Integer(_) | Typed::Text(_) | Typed::Truth(_) | Typed::Local(_) => None,
-        Typed::Relvar(place) => unknown_at(virtuals, known, *place),
+        Typed::Relvar(place) => first_unknown(virtuals, known, *place),
         Typed::Select(_, trees) | Typed::Relation(_, trees) => {
             sure_in_list(virtuals, known, trees.as_slice())
         }
@@ -142,6 +150,7 @@ fn is_dear(tree: &Typed) -> bool {
     }
 }
 
+// Whether a virtual relvar that is not known stands anywhere in the expression, evaluated or not.
 fn names_unknown(
     alloc: Global,
     virtuals: &[VirtualUnder],
@@ -152,7 +161,7 @@ fn names_unknown(
     add_mentions(&mut mentions, tree)?;
     Ok(
         mentions.iter().any(|mention| match mention {
-            Mention::Relvar(place) => unknown_at(virtuals, known, *place).is_some(),
+            Mention::Relvar(place) => first_unknown(virtuals, known, *place).is_some(),
             Mention::Possrep(_) => false,
         }),
     )

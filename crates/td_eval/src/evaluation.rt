@@ -25,7 +25,7 @@ use td_typed_trees::tree::Typed;
 use td_values::{Kind, Tuple, Value};
 
 // What the base relvar at the place has, with what the look-up keeps beside it.
-pub(crate) fn leased<L: Lookup>(lookup: &L, relvar: usize) -> Result<Lease<'_>, Stop>
+pub(crate) fn lease_of<L: Lookup>(lookup: &L, relvar: usize) -> Result<Lease<'_>, Stop>
     ensures { MatchResult result (λ r. L.relvars lookup.now relvar ≡ Ok r) (λ e. L.relvars lookup.now relvar ≡ Err e) }
 {
     match lookup.lent(relvar) {
@@ -34,12 +34,13 @@ pub(crate) fn leased<L: Lookup>(lookup: &L, relvar: usize) -> Result<Lease<'_>, 
     }
 }
 
+// What the base relvar has, lent by the look-up, beside its place.
 fn known_base<'a, L: Lookup>(lookup: &'a L, base: &BaseUnder) -> Known<'a>
     ensures { result ≡ base_known (L.relvars lookup.now) base.now }
 {
     Known {
         place: base.place,
-        value: leased(lookup, base.place),
+        value: lease_of(lookup, base.place),
     }
 }
 

@@ -28,6 +28,7 @@ pub(crate) enum Form<'t> {
     Changed(Change<'t>),
 }
 
+/// Whether the expression is nothing but the relvar at this place.
 pub(crate) fn is_relvar(tree: &Typed, relvar: usize) -> bool
     ensures { IsTrue result → tree.now ≡ typed.Relvar relvar }
 {
@@ -37,7 +38,8 @@ pub(crate) fn is_relvar(tree: &Typed, relvar: usize) -> bool
     }
 }
 
-fn negated(tree: &Typed) -> Option<&Typed>
+// The operand of NOT, if the expression is one.
+fn negation_operand(tree: &Typed) -> Option<&Typed>
     ensures { MatchOption result (Unit {0}) (λ c. tree.now ≡ typed.Unary unary.Not c.now) }
 {
     match tree {
@@ -47,7 +49,7 @@ fn negated(tree: &Typed) -> Option<&Typed>
 }
 
 // The condition by which the tree selects tuples of the relvar, if it does no more.
-fn selected(tree: &Typed, relvar: usize) -> Option<&Typed>
+fn selection_condition(tree: &Typed, relvar: usize) -> Option<&Typed>
     ensures { MatchOption result (Unit {0}) (λ c. tree.now ≡ typed.Where (typed.Relvar relvar) c.now) }
 {
     match tree {
@@ -66,17 +68,18 @@ fn selected(tree: &Typed, relvar: usize) -> Option<&Typed>
 fn rest(tree: &Typed, relvar: usize) -> Option<&Typed>
     ensures { MatchOption result (Unit {0}) (λ c. tree.now ≡ typed.Where (typed.Relvar relvar) (typed.Unary unary.Not c.now)) }
 {
-    match selected(tree, relvar) {
-        Some(condition) => negated(condition),
+    match selection_condition(tree, relvar) {
+        Some(condition) => negation_operand(condition),
         None => None,
     }
 }
 
+// The change, if the tree selects tuples of the relvar by a condition and extends them, and does no more.
 fn changed(tree: &Typed, relvar: usize) -> Option<Change<'_>>
     ensures { MatchOption result (Unit {0}) (λ x. tree.now ≡ typed.Extend (typed.Where (typed.Relvar relvar) x.condition.now) x.items.now) }
 {
     match tree {
-        Typed::Extend(tuples, items) => match selected(tuples.get(), relvar) {
+        Typed::Extend(tuples, items) => match selection_condition(tuples.get(), relvar) {
             Some(condition) => Some(Change {
                 condition,
                 items: items.as_slice(),
@@ -87,6 +90,7 @@ fn changed(tree: &Typed, relvar: usize) -> Option<Change<'_>>
     }
 }
 
+// Whether the two expressions are one and the same, compared part by part.
 fn are_same(a: &Typed, b: &Typed) -> bool
     ensures { IsTrue result → a.now ≡ b.now }
 {
@@ -94,7 +98,7 @@ fn are_same(a: &Typed, b: &Typed) -> bool
 }
 
 // Both halves of an UPDATE, if they are of one condition.
-fn united<'t>(others: &Typed, tuples: &'t Typed, relvar: usize) -> Option<Change<'t>>
+fn update_of_halves<'t>(others: &Typed, tuples: &'t Typed, relvar: usize) -> Option<Change<'t>>
     ensures { MatchOption result (Unit {0}) (λ x. (others.now ≡ typed.Where (typed.Relvar relvar) (typed.Unary unary.Not x.condition.now)) × (tuples.now ≡ typed.Extend (typed.Where (typed.Relvar relvar) x.condition.now) x.items.now)) }
 {
     let Some(condition) = rest(others, relvar) else {
@@ -110,12 +114,13 @@ fn united<'t>(others: &Typed, tuples: &'t Typed, relvar: usize) -> Option<Change
     }
 }
 
-fn updated(tree: &Typed, relvar: usize) -> Option<Change<'_>>
+// The change, if the tree is an UPDATE: the tuples that stay, united with those that are changed.
+fn update_in(tree: &Typed, relvar: usize) -> Option<Change<'_>>
     ensures { MatchOption result (Unit {0}) (λ x. tree.now ≡ typed.Binary binary.Union (typed.Where (typed.Relvar relvar) (typed.Unary unary.Not x.condition.now)) (typed.Extend (typed.Where (typed.Relvar relvar) x.condition.now) x.items.now)) }
 {
     match tree {
         Typed::Binary(BinaryOperator::Union, others, tuples) => {
-            united(others.get(), tuples.get(), relvar)
+            update_of_halves(others.get(), tuples.get(), relvar)
         }
         _ => None,
     }
@@ -127,7 +132,7 @@ pub(crate) fn form_of(tree: &Typed, relvar: usize) -> Option<Form<'_>>
 {
     match rest(tree, relvar) {
         Some(condition) => Some(Form::Less(condition)),
-        None => match updated(tree, relvar) {
+        None => match update_in(tree, relvar) {
             Some(change) => Some(Form::Changed(change)),
             None => None,
         },

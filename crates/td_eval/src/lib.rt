@@ -22,9 +22,9 @@ mod relvars;
 mod settling;
 pub mod valued;
 
-pub use addition::added;
+pub use addition::added_tuples;
 pub use changes::changed;
 pub use evaluation::eval;
 pub use lookup::Lookup;
-pub use naming::lacking;
+pub use naming::lacking_tuples;
 pub use valued::{relation, truth, value};

@@ -18,6 +18,7 @@ fn shared_name(fields: &[(Name, TdType)], at: usize, name: &Name) -> Result<Name
     }
 }
 
+// The attribute, its name shared with the field at the place if that has the same one.
 fn shared_attribute(
     alloc: Global,
     fields: &[(Name, TdType)],
@@ -31,7 +32,7 @@ fn shared_attribute(
 }
 
 // The tuple, its names shared with the heading.
-fn named_as(alloc: Global, heading: &Heading, tuple: &Tuple) -> Result<Tuple, AllocError>
+fn tuple_with_names_of(alloc: Global, heading: &Heading, tuple: &Tuple) -> Result<Tuple, AllocError>
     ensures { IfOk result (λ t. t ≡ tuple.now) }
 {
     let fields = heading.fields();
@@ -43,6 +44,7 @@ fn named_as(alloc: Global, heading: &Heading, tuple: &Tuple) -> Result<Tuple, Al
     Tuple::of(alloc, shared)
 }
 
+// The tuples in the same order, the names of each shared with the heading.
 fn all_named_as(
     alloc: Global,
     heading: &Heading,
@@ -52,7 +54,7 @@ fn all_named_as(
 {
     let mut named = Vec::with_capacity(alloc, tuples.len())?;
     for tuple in tuples {
-        named.push(named_as(alloc, heading, tuple)?)?;
+        named.push(tuple_with_names_of(alloc, heading, tuple)?)?;
     }
     Ok(named)
 }
@@ -75,7 +77,11 @@ fn with_names_of(
 /// the names of its text, for each tuple its own: who keeps the tuples would keep these too, and read them wherever an
 /// attribute is asked for by name. It costs what `minus` of td_relations does, and a list for each tuple that is
 /// lacking; values are shared.
-pub fn lacking(alloc: Global, more: &Relation, relation: &Relation) -> Result<Relation, AllocError>
+pub fn lacking_tuples(
+    alloc: Global,
+    more: &Relation,
+    relation: &Relation,
+) -> Result<Relation, AllocError>
     requires { more.now.heading ≡ relation.now.heading }
     ensures { IfOk result (IsRelation more.now.heading (set.difference (body more.now) (body relation.now))) }
 {

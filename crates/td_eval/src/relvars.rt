@@ -18,7 +18,7 @@ use td_typed_trees::expression::{Selector, VirtualUnder};
 use td_typed_trees::tree::Typed;
 
 // The answer, with the error that it may be.
-fn kept<'a>(answer: Result<Relation, Fault>) -> Result<Result<Lease<'a>, Stop>, AllocError>
+fn kept_relation<'a>(answer: Result<Relation, Fault>) -> Result<Result<Lease<'a>, Stop>, AllocError>
     ensures { Keeps answer result }
 {
     match answer {
@@ -28,6 +28,7 @@ fn kept<'a>(answer: Result<Relation, Fault>) -> Result<Result<Lease<'a>, Stop>, 
     }
 }
 
+// The relation that the expression has in an environment without virtual relvars.
 #[tactic(auto, unfolding(td_meaning::specs::Mean::rows_in))]
 fn rows(alloc: Global, env: &Environment, tree: &Typed) -> Result<Relation, Fault>
     requires { none_virtual env.now.virtuals.now ≡ true }
@@ -36,6 +37,7 @@ fn rows(alloc: Global, env: &Environment, tree: &Typed) -> Result<Relation, Faul
     relation_of(td_meaning::eval(alloc, env, &[], tree, &Bindings::Nothing)?)
 }
 
+// What the virtual relvar has over these relvars, or the error that it raises, beside its place.
 #[tactic(auto, unfolding(td_meaning::specs::Seen::relvars_there))]
 fn known_virtual<'a>(
     alloc: Global,
@@ -50,7 +52,7 @@ fn known_virtual<'a>(
         virtuals: &[],
         selectors,
     };
-    let value = kept(rows(alloc, &env, under.tree.get()))?;
+    let value = kept_relation(rows(alloc, &env, under.tree.get()))?;
     Ok(Known {
         place: under.place,
         value,
@@ -74,6 +76,7 @@ fn add_virtuals<'a>(
     Ok(())
 }
 
+// What the relvar has, lent once more, or its error.
 fn share<'a>(known: &'a Known<'_>) -> Known<'a>
     ensures { result ≡ known.now }
 {
@@ -87,6 +90,7 @@ fn share<'a>(known: &'a Known<'_>) -> Known<'a>
     }
 }
 
+// What the relvars have, in the same order, each lent once more.
 fn share_all<'a>(alloc: Global, relvars: &'a [Known<'_>]) -> Result<Vec<Known<'a>>, AllocError>
     ensures { IfOk result (λ v. v.items ≡ relvars.now) }
 {

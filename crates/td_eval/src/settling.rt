@@ -10,7 +10,7 @@ ghost use Rattle.td_meaning.specs.Parts.{AreRight, known_value};
 ghost use Rattle.td_operators.specs.Operators.{as_value};
 ghost use Rattle.td_operators.specs.Values as spec;
 
-use crate::deciding::{decider, sure, unknown_at};
+use crate::deciding::{decider, first_unknown, sure};
 use crate::forms::is_relvar;
 use std::alloc::{AllocError, Global};
 use td_algebra::{Fault, Stop};
@@ -68,6 +68,7 @@ struct Begun<'a> {
 }
 
 impl<'a> Begun<'a> {
+    // The task as it begins: nothing within it was a task before.
     fn of(task: Task<'a>) -> Begun<'a> {
         Begun {
             task,
@@ -96,6 +97,7 @@ pub(crate) fn names_of(alloc: Global, virtuals: &[VirtualUnder]) -> Result<Vec<T
     Ok(names)
 }
 
+// The relation that the value is; any other value is an error.
 fn held_relation(value: Value) -> Result<KnownValue, Stop>
     ensures { known_value result ≡ and_then (spec.rows_of value) as_value }
 {
@@ -106,7 +108,7 @@ fn held_relation(value: Value) -> Result<KnownValue, Stop>
 }
 
 // The relation, or the error that is raised.
-fn held<W>(answer: Result<Value, Fault<W>>) -> Result<Result<KnownValue, Stop>, Fault<W>>
+fn settled_value<W>(answer: Result<Value, Fault<W>>) -> Result<Result<KnownValue, Stop>, Fault<W>>
     ensures { IfOk result (λ v. (m : Result Datum Stop) → Answers answer m → known_value v ≡ and_then (and_then m spec.rows_of) as_value) }
 {
     match answer {
@@ -129,7 +131,13 @@ fn keep_virtual<'a>(
     requires right { AreRight env.now parts.old.items }
     ensures { AreRight env.now parts.new.items }
 {
-    let value = held(td_meaning::eval(alloc, env, parts, under.tree.get(), &Bindings::Nothing))?;
+    let value = settled_value(td_meaning::eval(
+        alloc,
+        env,
+        parts,
+        under.tree.get(),
+        &Bindings::Nothing,
+    ))?;
     if is_relvar(name, under.place) {
         put(alloc, parts, name, value)?;
     }
@@ -156,6 +164,7 @@ fn settle_virtual<'a>(
     Ok(())
 }
 
+// Does the task: puts the value of its expression, or the error that it raises, among the parts.
 fn settle_task<'a>(
     alloc: Global,
     env: &Environment<'_>,
@@ -225,7 +234,7 @@ fn step<'a>(
     }
     match settle_task(alloc, env, findings, virtuals, begun.task) {
         Ok(()) => Ok(None),
-        Err(Fault::Wanting(place)) => match unknown_at(virtuals.under, &findings.known, place) {
+        Err(Fault::Wanting(place)) => match first_unknown(virtuals.under, &findings.known, place) {
             Some(at) => Ok(Some(Task::Virtual(at))),
             None => Ok(None),
         },
@@ -233,6 +242,7 @@ fn step<'a>(
     }
 }
 
+// Puts a task behind those that were begun, of which the last one is done first.
 fn begin<'a>(begun: &mut Vec<Begun<'a>>, next: Begun<'a>) -> Result<(), AllocError> {
     begun.push(next)?;
     Ok(())
@@ -276,7 +286,7 @@ pub(crate) fn settle<'a>(
     requires right { AreRight env.now findings.old.parts.items }
     ensures { AreRight env.now findings.new.parts.items }
 {
-    match unknown_at(virtuals.under, &findings.known, place) {
+    match first_unknown(virtuals.under, &findings.known, place) {
         Some(at) => work(alloc, env, findings, virtuals, Task::Virtual(at)),
         None => Ok(()),
     }

@@ -50,6 +50,7 @@ pub fn value<L: Lookup>(
     }
 }
 
+// The relation that the value is, of which the caller knows that it is one.
 fn relation_in(value: Value) -> Relation
     requires { IsOk (spec.rows_of value) }
     ensures { spec.rows_of value ≡ Ok result }
@@ -80,6 +81,7 @@ pub fn relation<L: Lookup>(
     }
 }
 
+// The truth value that the value is, of which the caller knows that it is one.
 fn truth_in(value: Value) -> bool
     requires { IsOk (spec.truth_of value) }
     ensures { spec.truth_of value ≡ Ok result }

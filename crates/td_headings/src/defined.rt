@@ -9,7 +9,7 @@ ghost use Rattle.td_headings.specs.ForProofs.Changes.{Changes};
 ghost use Rattle.td_headings.specs.ForProofs.TestNames.{constraint_names};
 ghost use Rattle.td_headings.specs.declared.defined.Test.TheVariants as test;
 
-use crate::opening::{condition, keys_of, limits, opened, value};
+use crate::opening::{condition, keys_of, limits, type_opening, value};
 use crate::test_list::TestList;
 use sqlite_items::{Boxed, Items};
 use std::alloc::{AllocError, Global};
@@ -169,7 +169,7 @@ impl Definitions {
     ) -> Result<(), TypeError>
         ensures { Changes self.old (after.base_after self.old name.now opening.now keys.now) result self.new }
     {
-        let (heading, init) = opened(alloc, &self.schema, opening)?;
+        let (heading, init) = type_opening(alloc, &self.schema, opening)?;
         let keys = keys_of(alloc, &heading, keys)?;
         let place = self.origins.as_slice().len();
         let tests = key_tests(alloc, place, keys.as_slice())?;

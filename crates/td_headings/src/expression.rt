@@ -83,7 +83,7 @@ pub(crate) fn virtuals_at(
 }
 
 // A copy of a CONSTRAINT, which shares its expression.
-fn shared(limit: &Option<Shared<Typed>>) -> Result<Option<Shared<Typed>>, AllocError>
+fn share_limit(limit: &Option<Shared<Typed>>) -> Result<Option<Shared<Typed>>, AllocError>
     ensures { IfOk result (λ o. o ≡ limit.now) }
 {
     match limit {
@@ -103,7 +103,7 @@ fn selector_at(
 {
     match (schema.representation_at(place), limits.get(place)) {
         (Some(representation), Some(limit)) => {
-            let limit = shared(limit)?;
+            let limit = share_limit(limit)?;
             let components = Items::from_vec(names(alloc, representation.components.as_slice())?);
             let possrep = representation.possrep.copy()?;
             Ok(Some(Selector {

@@ -103,7 +103,7 @@ pub(crate) fn condition(
 }
 
 // The heading of a value beside which one is written.
-fn beside(
+fn heading_beside_written(
     written: Heading,
     tree: Shared<Typed>,
     heading: Heading,
@@ -117,7 +117,7 @@ fn beside(
 }
 
 /// The heading of a base relvar, and what it holds at first, if that is written.
-pub(crate) fn opened(
+pub(crate) fn type_opening(
     alloc: Global,
     schema: &Schema,
     opening: &Opening,
@@ -133,7 +133,7 @@ pub(crate) fn opened(
         Opening::Init(Some(fields), expr) => {
             let written = heading_written(alloc, schema, fields.as_slice())?;
             let (tree, heading) = value(alloc, schema, expr.get())?;
-            beside(written, tree, heading)
+            heading_beside_written(written, tree, heading)
         }
     }
 }

@@ -93,7 +93,11 @@ pub(crate) fn in_order(places: Vec<usize>) -> Vec<usize>
 }
 
 // The places that are reached, ascending, each once.
-fn ascending<L: Leads>(alloc: Global, links: &L, starts: &[usize]) -> Result<Vec<usize>, AllocError>
+fn reached_in_order<L: Leads>(
+    alloc: Global,
+    links: &L,
+    starts: &[usize],
+) -> Result<Vec<usize>, AllocError>
     ensures { IfOk result (λ v. AreThose (ReachedFrom (L.links links.now) starts.now) v.items) }
 {
     let places = reached(alloc, links, starts)?;
@@ -110,7 +114,7 @@ pub(crate) fn relvars_reached(
     ensures { IfOk result (λ v. AreThose (IsReached origins.now tree.now) v.items) }
 {
     let starts = relvars_named(alloc, tree)?;
-    ascending(alloc, &Relvars { alloc, origins }, &starts)
+    reached_in_order(alloc, &Relvars { alloc, origins }, &starts)
 }
 
 // The places of the possreps that the expression of the relvar at this place names, if it is virtual.
@@ -151,5 +155,5 @@ pub(crate) fn possreps_selected(
     ensures { IfOk result (λ v. AreThose (IsSelected origins.now limits.now tree.now relvars.now) v.items) }
 {
     let starts = starts_of(alloc, origins, tree, relvars)?;
-    ascending(alloc, &Possreps { alloc, limits }, &starts)
+    reached_in_order(alloc, &Possreps { alloc, limits }, &starts)
 }

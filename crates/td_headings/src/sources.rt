@@ -23,7 +23,7 @@ use td_values::{Name, TypeKind};
 
 // The target's tuples for which the condition is false.
 #[tactic(auto, unfolding(crate::specs::ForProofs::Sources::others))]
-fn others(
+fn type_remaining(
     alloc: Global,
     schema: &Schema,
     target: &Name,
@@ -43,7 +43,7 @@ fn others(
 
 // The target's tuples for which the condition is true.
 #[tactic(auto, unfolding(crate::specs::ForProofs::Sources::selected))]
-fn selected(
+fn type_selected(
     alloc: Global,
     schema: &Schema,
     target: &Name,
@@ -75,7 +75,7 @@ fn no_tuples(alloc: Global, schema: &Schema, target: &Name) -> Result<Typing, Ty
 
 // These tuples with new values.
 #[tactic(auto, unfolding(crate::specs::ForProofs::Sources::changed))]
-fn changed(
+fn type_changed(
     alloc: Global,
     schema: &Schema,
     scope: &Scope,
@@ -94,7 +94,7 @@ fn changed(
 }
 
 #[tactic(auto, unfolding(crate::specs::ForProofs::Sources::inserted))]
-fn inserted(
+fn type_insertion(
     alloc: Global,
     schema: &Schema,
     target: &Name,
@@ -109,7 +109,7 @@ fn inserted(
 }
 
 #[tactic(auto, unfolding(crate::specs::ForProofs::Sources::all_updated))]
-fn all_updated(
+fn type_update_of_all(
     alloc: Global,
     schema: &Schema,
     target: &Name,
@@ -119,11 +119,11 @@ fn all_updated(
 {
     let scope = Scope::Relvars(schema);
     let relvar = named(alloc, target, &scope)?;
-    changed(alloc, schema, &scope, relvar, values)
+    type_changed(alloc, schema, &scope, relvar, values)
 }
 
 #[tactic(auto, unfolding(crate::specs::ForProofs::Sources::updated))]
-fn updated(
+fn type_update(
     alloc: Global,
     schema: &Schema,
     target: &Name,
@@ -132,9 +132,9 @@ fn updated(
 ) -> Result<Typing, TypeError>
     ensures { Gives (spec.updated schema.now target.now condition.now values.now) result }
 {
-    let others = others(alloc, schema, target, condition)?;
-    let selected = selected(alloc, schema, target, condition)?;
-    let changed = changed(alloc, schema, &Scope::Relvars(schema), selected, values)?;
+    let others = type_remaining(alloc, schema, target, condition)?;
+    let selected = type_selected(alloc, schema, target, condition)?;
+    let changed = type_changed(alloc, schema, &Scope::Relvars(schema), selected, values)?;
     by_binary(alloc, BinaryOperator::Union, others, changed)
 }
 
@@ -143,14 +143,19 @@ fn found(alloc: Global, schema: &Schema, action: &Action) -> Result<Typing, Type
 {
     match action {
         Action::Assign(_, source) => typing(alloc, schema, source.get(), &Scope::Relvars(schema)),
-        Action::Insert(target, tuples) => inserted(alloc, schema, target, tuples.get()),
+        Action::Insert(target, tuples) => type_insertion(alloc, schema, target, tuples.get()),
         Action::Delete(target, None) => no_tuples(alloc, schema, target),
-        Action::Delete(target, Some(condition)) => others(alloc, schema, target, condition.get()),
+        Action::Delete(target, Some(condition)) => type_remaining(
+            alloc,
+            schema,
+            target,
+            condition.get(),
+        ),
         Action::Update(target, None, values) => {
-            all_updated(alloc, schema, target, values.as_slice())
+            type_update_of_all(alloc, schema, target, values.as_slice())
         }
         Action::Update(target, Some(condition), values) => {
-            updated(alloc, schema, target, condition.get(), values.as_slice())
+            type_update(alloc, schema, target, condition.get(), values.as_slice())
         }
     }
 }

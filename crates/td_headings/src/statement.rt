@@ -60,7 +60,11 @@ fn target_of(action: &Action) -> &Name
 
 // The base relvar of this name.
 #[tactic(auto, unfolding(crate::specs::ForProofs::Sources::real))]
-fn real<'a>(schema: &'a Schema, origins: &[Origin], name: &Name) -> Option<(usize, &'a Heading)>
+fn base_relvar<'a>(
+    schema: &'a Schema,
+    origins: &[Origin],
+    name: &Name,
+) -> Option<(usize, &'a Heading)>
     ensures { MatchOption result (sources.real schema.now origins.now name.now ≡ None) (λ r. sources.real schema.now origins.now name.now ≡ Some (r.0, r.1.now)) }
 {
     let Some((place, heading)) = schema.relvar(name) else {
@@ -83,7 +87,7 @@ fn is_relation_of(kind: &TypeKind, heading: &Heading) -> bool
 
 // The place of an action's target, which has this name, with the action's source.
 #[tactic(auto, unfolding(crate::specs::ForProofs::Sources::assigned))]
-fn assigned(
+fn target_and_source(
     alloc: Global,
     schema: &Schema,
     origins: &[Origin],
@@ -92,7 +96,7 @@ fn assigned(
 ) -> Result<(usize, Typing), TypeError>
     ensures { Gives (sources.assigned schema.now origins.now target.now action.now) result }
 {
-    let Some((place, heading)) = real(schema, origins, target) else {
+    let Some((place, heading)) = base_relvar(schema, origins, target) else {
         return Err(TypeError::IllTyped);
     };
     let typing = source(alloc, schema, action)?;
@@ -102,7 +106,7 @@ fn assigned(
     Ok((place, typing))
 }
 
-fn assignment(
+fn type_assignment(
     alloc: Global,
     catalogue: &Catalogue,
     action: &Action,
@@ -111,7 +115,7 @@ fn assignment(
     ensures refused { result ≡ Err type_error.IllTyped → (x : typed.TypedAssignment) → IsAssignment catalogue.now action.now x → ⊥ }
 {
     let (schema, origins) = (catalogue.schema(), catalogue.origins());
-    let (target, Typing { tree, kind }) = match assigned(
+    let (target, Typing { tree, kind }) = match target_and_source(
         alloc,
         schema,
         origins,
@@ -126,7 +130,7 @@ fn assignment(
     Ok(TypedAssignment { target, source })
 }
 
-fn assignments(
+fn type_assignments(
     alloc: Global,
     catalogue: &Catalogue,
     actions: &[Action],
@@ -136,7 +140,7 @@ fn assignments(
 {
     let mut found = Items::new(alloc);
     for action in actions {
-        match assignment(alloc, catalogue, action) {
+        match type_assignment(alloc, catalogue, action) {
             Ok(assignment) => found.push(assignment)?,
             Err(error) => return Err(error),
         }
@@ -145,7 +149,7 @@ fn assignments(
 }
 
 // The condition of a statement, in which no tuple is in scope.
-fn conditioned(alloc: Global, catalogue: &Catalogue, expr: &Expr) -> Result<TypedExpr, TypeError>
+fn type_condition(alloc: Global, catalogue: &Catalogue, expr: &Expr) -> Result<TypedExpr, TypeError>
     ensures typed { IfOk result (IsCondition catalogue.now expr.now) }
     ensures refused { result ≡ Err type_error.IllTyped → (u : Expression) → IsCondition catalogue.now expr.now u → ⊥ }
 {
@@ -157,7 +161,7 @@ fn conditioned(alloc: Global, catalogue: &Catalogue, expr: &Expr) -> Result<Type
     Ok(expression)
 }
 
-fn unconditional(
+fn type_unconditional(
     alloc: Global,
     catalogue: &Catalogue,
     actions: &[Action],
@@ -165,13 +169,13 @@ fn unconditional(
     ensures typed { IfOk result (TypesStatement catalogue.now (statements.Assignment actions.now)) }
     ensures refused { result ≡ Err type_error.IllTyped → TypesNoStatement catalogue.now (statements.Assignment actions.now) }
 {
-    match assignments(alloc, catalogue, actions) {
+    match type_assignments(alloc, catalogue, actions) {
         Ok(assignments) => Ok(TypedStatement::Assignment(assignments)),
         Err(error) => Err(error),
     }
 }
 
-fn conditional(
+fn type_conditional(
     alloc: Global,
     catalogue: &Catalogue,
     expr: &Expr,
@@ -181,15 +185,15 @@ fn conditional(
     ensures typed { IfOk result (TypesStatement catalogue.now (statements.Conditional expr.now actions.now others.now)) }
     ensures refused { result ≡ Err type_error.IllTyped → TypesNoStatement catalogue.now (statements.Conditional expr.now actions.now others.now) }
 {
-    let condition = match conditioned(alloc, catalogue, expr) {
+    let condition = match type_condition(alloc, catalogue, expr) {
         Ok(condition) => condition,
         Err(error) => return Err(error),
     };
-    let made = match assignments(alloc, catalogue, actions) {
+    let made = match type_assignments(alloc, catalogue, actions) {
         Ok(made) => made,
         Err(error) => return Err(error),
     };
-    match assignments(alloc, catalogue, others) {
+    match type_assignments(alloc, catalogue, others) {
         Ok(otherwise) => Ok(TypedStatement::Conditional(condition, made, otherwise)),
         Err(error) => Err(error),
     }
@@ -206,8 +210,8 @@ pub fn type_statement(
     ensures refused { result ≡ Err type_error.IllTyped → TypesNoStatement catalogue.now statement.now }
 {
     match statement {
-        Statement::Assignment(actions) => unconditional(alloc, catalogue, actions.as_slice()),
-        Statement::Conditional(expr, actions, others) => conditional(
+        Statement::Assignment(actions) => type_unconditional(alloc, catalogue, actions.as_slice()),
+        Statement::Conditional(expr, actions, others) => type_conditional(
             alloc,
             catalogue,
             expr.get(),

@@ -40,6 +40,7 @@ fn is_minus(operator: BinaryOperator) -> bool
     }
 }
 
+// Whether the operator's result has the heading of its first operand.
 fn has_left_heading(operator: BinaryOperator) -> bool
     ensures { result ≡ spec.has_left_heading operator }
 {
@@ -53,7 +54,7 @@ fn has_left_heading(operator: BinaryOperator) -> bool
 }
 
 // The operands of the NOT MATCHING, if the expression is one.
-fn unmatched(tree: &Typed) -> Option<(&Typed, &Typed)>
+fn not_matching_operands(tree: &Typed) -> Option<(&Typed, &Typed)>
     ensures { IfSome result (λ p. tree.now ≡ form.Binary binary.NotMatching p.0.now p.1.now) }
 {
     match tree {
@@ -69,7 +70,7 @@ fn unmatched(tree: &Typed) -> Option<(&Typed, &Typed)>
 }
 
 // The operands of the MINUS, if the expression is one.
-fn without(tree: &Typed) -> Option<(&Typed, &Typed)>
+fn minus_operands(tree: &Typed) -> Option<(&Typed, &Typed)>
     ensures { IfSome result (λ p. tree.now ≡ form.Binary binary.Minus p.0.now p.1.now) }
 {
     match tree {
@@ -85,7 +86,7 @@ fn without(tree: &Typed) -> Option<(&Typed, &Typed)>
 }
 
 // The operand of IS_EMPTY, if the constraint is that.
-fn emptied(tree: &Typed) -> Option<&Typed>
+fn is_empty_operand(tree: &Typed) -> Option<&Typed>
     ensures { IfSome result (λ a. tree.now ≡ form.Unary unary.IsEmpty a.now) }
 {
     match tree {
@@ -103,10 +104,10 @@ fn emptied(tree: &Typed) -> Option<&Typed>
 fn left_over(operand: &Typed) -> Option<(&Typed, &Typed)>
     ensures { IfSome result (λ p. SaysWithin p.0.now p.1.now (form.Unary unary.IsEmpty operand.now)) }
 {
-    if let Some(sides) = unmatched(operand) {
+    if let Some(sides) = not_matching_operands(operand) {
         return Some(sides);
     }
-    let Some(sides) = without(operand) else {
+    let Some(sides) = minus_operands(operand) else {
         return None;
     };
     Some(sides)
@@ -139,7 +140,8 @@ fn sides(tree: &Typed) -> Option<(&Typed, &Typed)>
 
 // ---- names
 
-fn copied(alloc: Global, names: &[Name]) -> Result<Vec<Name>, AllocError>
+// The same names in a list of their own.
+fn copy_names(alloc: Global, names: &[Name]) -> Result<Vec<Name>, AllocError>
     ensures { IfOk result (λ v. v.items ≡ names.now) }
 {
     let mut copies = Vec::with_capacity(alloc, names.len())?;
@@ -150,7 +152,7 @@ fn copied(alloc: Global, names: &[Name]) -> Result<Vec<Name>, AllocError>
 }
 
 // The one list behind the other.
-fn joined(names: Vec<Name>, others: Vec<Name>) -> Result<Vec<Name>, AllocError>
+fn append_names(names: Vec<Name>, others: Vec<Name>) -> Result<Vec<Name>, AllocError>
     ensures { IfOk result (λ v. v.items ≡ names.items ++ others.items) }
 {
     let mut all = names;
@@ -159,6 +161,7 @@ fn joined(names: Vec<Name>, others: Vec<Name>) -> Result<Vec<Name>, AllocError>
     Ok(all)
 }
 
+// The names of the heading's attributes, in its order.
 fn names_in(alloc: Global, heading: &Heading) -> Result<Vec<Name>, AllocError>
     ensures { IfOk result (λ v. v.items ≡ names_of heading.now) }
 {
@@ -170,6 +173,7 @@ fn names_in(alloc: Global, heading: &Heading) -> Result<Vec<Name>, AllocError>
     Ok(names)
 }
 
+// Whether the heading has an attribute of this name.
 fn has_name(heading: &Heading, name: &Name) -> bool
     ensures { result ≡ is_in (names_of heading.now) name.now }
 {
@@ -186,6 +190,7 @@ fn heading_at(catalogue: &Catalogue, place: usize) -> Option<&Heading>
     }
 }
 
+// The names of the attributes of the relvar at the place; None where no relvar is there.
 fn relvar_names(
     alloc: Global,
     catalogue: &Catalogue,
@@ -209,7 +214,7 @@ fn names_of_tree(
 {
     match tree {
         Typed::Relvar(place) => relvar_names(alloc, catalogue, *place),
-        Typed::Project(_, names) => Ok(Some(copied(alloc, names.as_slice())?)),
+        Typed::Project(_, names) => Ok(Some(copy_names(alloc, names.as_slice())?)),
         Typed::Where(a, _) => {
             let Some(names) = names_of_tree(alloc, catalogue, a.get())? else {
                 return Ok(None);
@@ -250,6 +255,7 @@ fn part_names(tree: &Typed, relvar: usize) -> Option<&[Name]>
     }
 }
 
+// Whether the expression is nothing but the relvar at this place.
 fn is_relvar(tree: &Typed, relvar: usize) -> bool
     ensures { result ≡ true → tree.now ≡ form.Relvar relvar }
 {
@@ -263,10 +269,10 @@ fn is_relvar(tree: &Typed, relvar: usize) -> bool
 fn matches_whole(tree: &Typed, relvar: usize) -> Option<&Typed>
     ensures { IfSome result (λ a. tree.now ≡ form.Unary unary.IsEmpty (form.Binary binary.NotMatching a.now (form.Relvar relvar))) }
 {
-    let Some(operand) = emptied(tree) else {
+    let Some(operand) = is_empty_operand(tree) else {
         return None;
     };
-    let Some(pair) = unmatched(operand) else {
+    let Some(pair) = not_matching_operands(operand) else {
         return None;
     };
     if is_relvar(pair.1, relvar) {
@@ -276,6 +282,7 @@ fn matches_whole(tree: &Typed, relvar: usize) -> Option<&Typed>
     }
 }
 
+// The names of an operand that does not read the relvar, if the constraint says that it matches the whole relvar.
 fn refers_to_whole(
     alloc: Global,
     catalogue: &Catalogue,
@@ -298,6 +305,7 @@ fn refers_to_whole(
     Ok(Some(names))
 }
 
+// The names of a part of the relvar, if the constraint says that what does not read the relvar is within it.
 fn refers_to_part(
     alloc: Global,
     catalogue: &Catalogue,
@@ -315,12 +323,13 @@ fn refers_to_part(
         return Ok(None);
     };
     if is_unread(alloc, catalogue, known, relvar, pair.0)? {
-        Ok(Some(copied(alloc, names)?))
+        Ok(Some(copy_names(alloc, names)?))
     } else {
         Ok(None)
     }
 }
 
+// No names, if the constraint does not read the relvar; None if it does.
 fn refers_nowhere(
     alloc: Global,
     catalogue: &Catalogue,
@@ -358,6 +367,7 @@ fn refers_once(
     refers_nowhere(alloc, catalogue, known, relvar, tree)
 }
 
+// The names by which the constraint refers to the relvar, of an AND those of both operands; None if one has none.
 fn refers(
     alloc: Global,
     catalogue: &Catalogue,
@@ -379,7 +389,7 @@ fn refers(
             let Some(right) = refers(alloc, catalogue, known, relvar, b.get())? else {
                 return Ok(None);
             };
-            Ok(Some(joined(left, right)?))
+            Ok(Some(append_names(left, right)?))
         }
         _ => refers_once(alloc, catalogue, known, relvar, tree),
     }
@@ -437,9 +447,10 @@ fn part_at(
     let Some(names) = part_names(tree, place) else {
         return Ok(None);
     };
-    Ok(Some(copied(alloc, names)?))
+    Ok(Some(copy_names(alloc, names)?))
 }
 
+// Whether the name is one of these, and of both headings.
 fn is_shared(one: &Heading, other: &Heading, names: &[Name], name: &Name) -> bool
     ensures { result ≡ is_shared one.now other.now names.now name.now }
 {

@@ -34,6 +34,7 @@ pub(crate) fn is_not_matching(operator: BinaryOperator) -> bool
 
 // ---- what has all that it had
 
+// Whether the relvar at the place is noted as one that widens; one beyond the list is not.
 fn is_known(wide: &[bool], place: usize) -> bool
     ensures { result ≡ slice_index_or wide.now place false }
 {
@@ -43,6 +44,7 @@ fn is_known(wide: &[bool], place: usize) -> bool
     }
 }
 
+// Whether the relvar at the place is the one that grows, or is noted as one that widens.
 fn relvar_widens(catalogue: &Catalogue, wide: &[bool], relvar: usize, place: usize) -> bool
     requires { AreWide catalogue.now relvar wide.now }
     ensures { result ≡ true → Widens catalogue.now relvar (tree.Relvar place) }
@@ -53,6 +55,7 @@ fn relvar_widens(catalogue: &Catalogue, wide: &[bool], relvar: usize, place: usi
     is_known(wide, place)
 }
 
+// Whether the form tells that the expression has all that it had where the relvar grows; it costs the form's depth.
 fn widens(catalogue: &Catalogue, wide: &[bool], relvar: usize, tree: &Typed) -> bool
     requires { AreWide catalogue.now relvar wide.now }
     ensures { result ≡ true → Widens catalogue.now relvar tree.now }
@@ -65,6 +68,7 @@ fn widens(catalogue: &Catalogue, wide: &[bool], relvar: usize, tree: &Typed) -> 
     }
 }
 
+// Whether the expression that defines the virtual relvar at the place widens; false where none is there.
 fn virtual_widens(catalogue: &Catalogue, wide: &[bool], relvar: usize, place: usize) -> bool
     requires { AreWide catalogue.now relvar wide.now }
     ensures { result ≡ true → Widens catalogue.now relvar (tree.Relvar place) }
@@ -75,12 +79,14 @@ fn virtual_widens(catalogue: &Catalogue, wide: &[bool], relvar: usize, place: us
     }
 }
 
+// A list of so many relvars, by place, of which none is noted as one that widens.
 fn none_wide(alloc: Global, relvars: usize) -> Result<Vec<bool>, AllocError>
     ensures { IfOk result (λ v. v.items ≡ replicate relvars false) }
 {
     vec![in alloc; false; relvars]
 }
 
+// Notes whether the relvar at the place widens; nothing of a place beyond the list.
 fn put_at(wide: &mut Vec<bool>, place: usize, made: bool)
     ensures { wide.new.items ≡ slice_set wide.old.items place made }
 {
@@ -89,6 +95,7 @@ fn put_at(wide: &mut Vec<bool>, place: usize, made: bool)
     }
 }
 
+// Which relvars widen, by place: only these virtual ones, which come in order of definition, are looked at.
 fn wide_virtuals(
     alloc: Global,
     catalogue: &Catalogue,
@@ -108,7 +115,7 @@ fn wide_virtuals(
 // ---- constraints
 
 // Whether it is safe that the expression is empty: it is what stays, without what a relation that widens matches.
-fn matched(
+fn is_match_safe(
     alloc: Global,
     catalogue: &Catalogue,
     known: &[Growth],
@@ -176,7 +183,7 @@ fn safe(
 {
     match tree {
         Typed::Unary(operator, a) => {
-            let matches = matched(alloc, catalogue, known, wide, relvar, a.get())?;
+            let matches = is_match_safe(alloc, catalogue, known, wide, relvar, a.get())?;
             if matches && is_emptiness(*operator) {
                 return Ok(true);
             }
@@ -206,6 +213,7 @@ fn safe(
     }
 }
 
+// Whether nothing in the constraint reads the relvar, by which it is safe.
 fn unread_is_safe(
     alloc: Global,
     catalogue: &Catalogue,

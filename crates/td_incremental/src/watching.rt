@@ -28,18 +28,21 @@ pub(crate) enum Growth {
 
 // ---- of forms by those of their parts
 
+// This growth, if the rest of the form does not read the relvar, and else anything.
 fn if_unread(unread: bool, growth: Growth) -> Growth
     ensures { result ≡ spec.if_unread unread growth }
 {
     if unread { growth } else { Growth::Other }
 }
 
+// What it makes of the gained tuples, if the test holds, and else anything.
 fn spreads_if(test: bool) -> Growth
     ensures { result ≡ spec.spreads_if test }
 {
     if test { Growth::Spreads } else { Growth::Other }
 }
 
+// Whether each tuple of the result comes of one of the first operand, whatever else that has.
 fn goes_by_left(operator: BinaryOperator) -> bool
     ensures { result ≡ words.goes_by_left operator }
 {
@@ -54,6 +57,7 @@ fn goes_by_left(operator: BinaryOperator) -> bool
     }
 }
 
+// Whether each tuple of the result comes of one of the second operand, whatever else that has.
 fn goes_by_right(operator: BinaryOperator) -> bool
     ensures { result ≡ words.goes_by_right operator }
 {
@@ -75,6 +79,7 @@ fn is_union(operator: BinaryOperator) -> bool
     }
 }
 
+// The growth of an operator's result, by those of its two operands.
 fn of_both(operator: BinaryOperator, left: Growth, right: Growth) -> Growth
     ensures { result ≡ spec.of_both operator left right }
 {
@@ -93,6 +98,7 @@ fn of_both(operator: BinaryOperator, left: Growth, right: Growth) -> Growth
     }
 }
 
+// The growth of WRAP or GROUP, by that of its operand: what GROUP makes of one that gains may be anything.
 fn of_nest(nesting: Nesting, growth: Growth) -> Growth
     ensures { result ≡ spec.of_nest nesting growth }
 {
@@ -107,6 +113,7 @@ fn of_nest(nesting: Nesting, growth: Growth) -> Growth
 
 // ---- of relvars
 
+// The relvar that grows spreads, another base relvar is unread, and a virtual one grows as is noted.
 fn relvar_growth(catalogue: &Catalogue, known: &[Growth], relvar: usize, place: usize) -> Growth
     requires { AreGrowths catalogue.now relvar known.now }
     ensures { IsGrowth catalogue.now relvar (tree.Relvar place) result }
@@ -124,6 +131,7 @@ fn relvar_growth(catalogue: &Catalogue, known: &[Growth], relvar: usize, place: 
     }
 }
 
+// Whether it is known that the relvar at the place neither is the one that grows nor reads it.
 fn is_unread_relvar(catalogue: &Catalogue, known: &[Growth], relvar: usize, place: usize) -> bool
     requires { AreGrowths catalogue.now relvar known.now }
     ensures { result ≡ true → IsUnread catalogue.now relvar (tree.Relvar place) }
@@ -134,6 +142,7 @@ fn is_unread_relvar(catalogue: &Catalogue, known: &[Growth], relvar: usize, plac
     }
 }
 
+// Whether it is known of the relvars at all these places that they neither are the one that grows nor read it.
 fn all_unread(catalogue: &Catalogue, known: &[Growth], relvar: usize, places: &[usize]) -> bool
     requires { AreGrowths catalogue.now relvar known.now }
     ensures { result ≡ true → All (λ m. IsUnread catalogue.now relvar (tree.Relvar m)) places.now }
@@ -165,6 +174,7 @@ pub(crate) fn is_unread(
     Ok(all_unread(catalogue, known, relvar, &places))
 }
 
+// Whether nothing in the terms of these items reads the relvar.
 fn terms_unread(
     alloc: Global,
     catalogue: &Catalogue,
@@ -248,6 +258,7 @@ pub(crate) fn is_and(operator: BinaryOperator) -> bool
     }
 }
 
+// Whether the operator tells, of two relations, whether the first is within the second.
 pub(crate) fn is_at_most(operator: BinaryOperator) -> bool
     ensures { result ≡ spec.is_at_most operator }
 {
@@ -257,6 +268,7 @@ pub(crate) fn is_at_most(operator: BinaryOperator) -> bool
     }
 }
 
+// Whether the operator tells, of two relations, whether the second is within the first.
 pub(crate) fn is_at_least(operator: BinaryOperator) -> bool
     ensures { result ≡ spec.is_at_least operator }
 {
@@ -286,7 +298,7 @@ fn of_comparison(operator: BinaryOperator, left: Growth, right: Growth) -> bool
 }
 
 // Whether the constraint is watched. It costs its size.
-fn watched(
+fn is_tree_watched(
     alloc: Global,
     catalogue: &Catalogue,
     known: &[Growth],
@@ -303,8 +315,8 @@ fn watched(
         }
         Typed::Binary(operator, a, b) => {
             if is_and(*operator) {
-                let left = watched(alloc, catalogue, known, relvar, a.get())?;
-                let right = watched(alloc, catalogue, known, relvar, b.get())?;
+                let left = is_tree_watched(alloc, catalogue, known, relvar, a.get())?;
+                let right = is_tree_watched(alloc, catalogue, known, relvar, b.get())?;
                 Ok(left && right)
             } else {
                 let left = tree_growth(alloc, catalogue, known, relvar, a.get())?;
@@ -318,12 +330,14 @@ fn watched(
 
 // ---- of virtual relvars, in order of definition
 
+// A list of so many relvars, by place, each of which may gain anything.
 fn nothing_known(alloc: Global, relvars: usize) -> Result<Vec<Growth>, AllocError>
     ensures { IfOk result (λ v. v.items ≡ replicate relvars growth.Other) }
 {
     vec![in alloc; Growth::Other; relvars]
 }
 
+// Notes the growth of the relvar at the place; nothing of a place beyond the list.
 fn put_at(known: &mut Vec<Growth>, place: usize, growth: Growth)
     ensures { known.new.items ≡ slice_set known.old.items place growth }
 {
@@ -332,6 +346,7 @@ fn put_at(known: &mut Vec<Growth>, place: usize, growth: Growth)
     }
 }
 
+// The growth of the expression that defines the virtual relvar at the place; anything where none is there.
 fn virtual_growth(
     alloc: Global,
     catalogue: &Catalogue,
@@ -348,6 +363,7 @@ fn virtual_growth(
     }
 }
 
+// The growths of these virtual relvars, which come in order of definition, by place; all others may gain anything.
 pub(crate) fn virtual_growths(
     alloc: Global,
     catalogue: &Catalogue,
@@ -377,5 +393,5 @@ pub fn is_watched(
 {
     let expression = expr.get();
     let known = virtual_growths(alloc, catalogue, expression.virtuals.as_slice(), relvar)?;
-    watched(alloc, catalogue, &known, relvar, expression.tree.get())
+    is_tree_watched(alloc, catalogue, &known, relvar, expression.tree.get())
 }

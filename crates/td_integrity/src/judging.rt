@@ -19,7 +19,7 @@ ghost use Rattle.td_semantics.specs.Tests as spec;
 ghost use Rattle.td_semantics.specs.Tests.{failing, judgement, or_behind};
 
 use crate::keyed::tell_apart_by;
-use crate::losses::{none_is_missed, stored};
+use crate::losses::{none_is_missed, stored_relation};
 use crate::ways::{Narrowed, Way, way_of};
 use std::alloc::{AllocError, Global};
 use td_algebra::{KeyIndex, tell_apart, tell_apart_from};
@@ -116,7 +116,7 @@ fn judge_key<L: Lookup>(
     requires before { MatchOption changes (Unit {0}) (λ cs. KeyBefore (L.relvars lookup.now) cs.now relvar key.now) }
     ensures { IfOk result (λ b. and_then (L.relvars lookup.now relvar) (λ r. Ok (spec.is_key key.now r.tuples)) ≡ Ok b) }
 {
-    let relation = stored(lookup, relvar);
+    let relation = stored_relation(lookup, relvar);
     match changes {
         Some(changes) => is_key_after(alloc, lookup, changes, relvar, relation, key),
         None => is_key(alloc, relation, key),
@@ -187,7 +187,7 @@ fn judge<L: Lookup>(
 }
 
 // The test, as it is told.
-fn broken(catalogue: &Catalogue, test: &Test) -> Result<BrokenTest, AllocError>
+fn broken_test(catalogue: &Catalogue, test: &Test) -> Result<BrokenTest, AllocError>
     requires { HasRelvar catalogue.now test.now }
     ensures { IfOk result (λ b. b ≡ title catalogue.now test.now) }
 {
@@ -208,7 +208,7 @@ fn report(
     requires { HasRelvar catalogue.now test.now }
     ensures { IfOk result (IsReport catalogue.now (Some (test.now, option_map stop_of raised))) }
 {
-    let test = broken(catalogue, test)?;
+    let test = broken_test(catalogue, test)?;
     Ok(Some(TestFailure { test, raised }))
 }
 

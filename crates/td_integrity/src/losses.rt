@@ -30,7 +30,7 @@ pub(crate) fn parts_of(alloc: Global, names: &[Name], delta: &Delta) -> Result<R
 }
 
 /// What a relvar has, of which it is known to be a relation.
-pub(crate) fn stored<L: Lookup>(lookup: &L, relvar: usize) -> &Relation
+pub(crate) fn stored_relation<L: Lookup>(lookup: &L, relvar: usize) -> &Relation
     requires { HasRelation (L.relvars lookup.now relvar) }
     ensures { L.relvars lookup.now relvar ≡ Ok result.now }
 {
@@ -61,7 +61,7 @@ fn found_by(alloc: Global, tuples: &Relation, relation: &Relation) -> Result<Rel
 }
 
 // Those that match no tuple of the relvar: by searches where its tuples are kept by the names that both have.
-fn unmatched<L: Lookup>(
+fn without_match<L: Lookup>(
     alloc: Global,
     lookup: &L,
     relvar: usize,
@@ -82,7 +82,7 @@ fn unmatched<L: Lookup>(
 }
 
 // Those that match a tuple of the relvar, in the same way.
-fn matched<L: Lookup>(
+fn with_match<L: Lookup>(
     alloc: Global,
     lookup: &L,
     relvar: usize,
@@ -113,12 +113,12 @@ pub(crate) fn none_is_missed<L: Lookup>(
     requires { AreReferring losses.now (L.relvars lookup.now) }
     ensures { IfOk result (IsToldOf losses.now (L.relvars lookup.now)) }
 {
-    let there = stored(lookup, losses.referred);
-    let gone = unmatched(alloc, lookup, losses.referred, there, &losses.parts)?;
+    let there = stored_relation(lookup, losses.referred);
+    let gone = without_match(alloc, lookup, losses.referred, there, &losses.parts)?;
     if gone.is_empty() {
         return Ok(true);
     }
-    let referring = stored(lookup, losses.referring);
-    let missed = matched(alloc, lookup, losses.referring, referring, &gone)?;
+    let referring = stored_relation(lookup, losses.referring);
+    let missed = with_match(alloc, lookup, losses.referring, referring, &gone)?;
     Ok(missed.is_empty())
 }

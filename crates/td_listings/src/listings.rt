@@ -22,6 +22,7 @@ use td_semantics::{Answer, Outcome};
 use td_stamps::Stamp;
 use td_values::{Name, Raise, Tuple, show_tuple_into};
 
+// Appends the line of a tuple.
 fn show_line(out: &mut String, tuple: &Tuple) -> Result<(), AllocError>
     ensures { OnOk result (string_bytes out.new ≡ string_bytes out.old ++ spec.tuple_line tuple.now) }
 {
@@ -29,6 +30,7 @@ fn show_line(out: &mut String, tuple: &Tuple) -> Result<(), AllocError>
     out.push_str("\n")
 }
 
+// Appends a line for each tuple, in their order.
 fn show_tuples(out: &mut String, tuples: &[Tuple]) -> Result<(), AllocError>
     ensures { OnOk result (string_bytes out.new ≡ string_bytes out.old ++ flat_map spec.tuple_line tuples.now) }
 {
@@ -38,6 +40,7 @@ fn show_tuples(out: &mut String, tuples: &[Tuple]) -> Result<(), AllocError>
     Ok(())
 }
 
+// Appends the line of a relvar with its name and the number of its tuples, and a line for each of these.
 fn show_relation(out: &mut String, name: &Name, relation: &Relation) -> Result<(), AllocError>
     ensures { OnOk result (string_bytes out.new ≡ string_bytes out.old ++ spec.relvar_lines name.now (Ok relation.now)) }
 {
@@ -49,6 +52,7 @@ fn show_relation(out: &mut String, name: &Name, relation: &Relation) -> Result<(
     show_tuples(out, relation.tuples())
 }
 
+// Appends the line of a relvar whose value is an error.
 fn show_raised(out: &mut String, name: &Name, raise: Raise) -> Result<(), AllocError>
     ensures { OnOk result (string_bytes out.new ≡ string_bytes out.old ++ spec.relvar_lines name.now (Err (stop_of raise))) }
 {
@@ -59,6 +63,7 @@ fn show_raised(out: &mut String, name: &Name, raise: Raise) -> Result<(), AllocE
     out.push_str("\n")
 }
 
+// Appends the lines of a relvar, by what it has or raises.
 fn show_answer(out: &mut String, name: &Name, answer: &Answer<Relation>) -> Result<(), AllocError>
     ensures { OnOk result (string_bytes out.new ≡ string_bytes out.old ++ spec.relvar_lines name.now (meant answer.now)) }
 {
@@ -102,6 +107,7 @@ fn name_at(catalogue: &Catalogue, place: usize) -> &Name
     }
 }
 
+// Appends the lines of each relvar in order of place, at the cost of the evaluation of each virtual one.
 fn show_relvars<R: Replica>(
     alloc: Global,
     out: &mut String,
@@ -121,6 +127,7 @@ fn show_relvars<R: Replica>(
     Ok(())
 }
 
+// Appends the line of an entry that was refused, with its stamp; nothing of one that was done.
 fn show_refusal(out: &mut String, stamp: &Stamp, outcome: &Outcome) -> Result<(), AllocError>
     ensures { OnOk result (string_bytes out.new ≡ string_bytes out.old ++ spec.refused_line (stamp.now, outcome.now)) }
 {
@@ -136,6 +143,7 @@ fn show_refusal(out: &mut String, stamp: &Stamp, outcome: &Outcome) -> Result<()
     }
 }
 
+// Appends the lines of those entries that were refused, in their order.
 fn show_refused(out: &mut String, outcomes: &[(Stamp, Outcome)]) -> Result<(), AllocError>
     ensures { OnOk result (string_bytes out.new ≡ string_bytes out.old ++ flat_map spec.refused_line outcomes.now) }
 {
@@ -145,6 +153,7 @@ fn show_refused(out: &mut String, outcomes: &[(Stamp, Outcome)]) -> Result<(), A
     Ok(())
 }
 
+// Appends the line that tells how many entries are held.
 fn show_held(out: &mut String, count: usize) -> Result<(), AllocError>
     ensures { OnOk result (string_bytes out.new ≡ string_bytes out.old ++ spec.held_line count) }
 {
@@ -153,6 +162,7 @@ fn show_held(out: &mut String, count: usize) -> Result<(), AllocError>
     out.push_str("\n")
 }
 
+// The listing of an open site, with the outcomes of its entries and their number.
 fn listed<R: Replica>(
     alloc: Global,
     catalogue: &Catalogue,

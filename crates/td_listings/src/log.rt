@@ -11,12 +11,14 @@ use td_replica::{Replica, TellError};
 use td_semantics::Outcome;
 use td_stamps::{Entry, Stamp};
 
+// The character as a line shows it: a space for a control character of ASCII.
 fn showing(c: char) -> char
     ensures { result ≡ spec.showing c }
 {
     if c < ' ' || c == '\u{7f}' { ' ' } else { c }
 }
 
+// Appends the text so that it stays on one line, a space for each control character of ASCII.
 fn show_showing(out: &mut String, text: &str) -> Result<(), AllocError>
     ensures { OnOk result (string_bytes out.new ≡ string_bytes out.old ++ map spec.showing text.now) }
 {
@@ -26,6 +28,7 @@ fn show_showing(out: &mut String, text: &str) -> Result<(), AllocError>
     Ok(())
 }
 
+// Appends the stamp of the entry, and its number among those of its site.
 fn show_entry(out: &mut String, entry: &Entry) -> Result<(), AllocError>
     ensures { OnOk result (string_bytes out.new ≡ string_bytes out.old ++ spec.entry_words entry.now) }
 {
@@ -34,6 +37,7 @@ fn show_entry(out: &mut String, entry: &Entry) -> Result<(), AllocError>
     show_number(out, u64::from(entry.seq))
 }
 
+// Appends the line of an entry: its stamp and number, what became of it, and its text.
 fn show_line(out: &mut String, entry: &Entry, outcome: &Outcome) -> Result<(), AllocError>
     ensures { OnOk result (string_bytes out.new ≡ string_bytes out.old ++ spec.log_line entry.now outcome.now) }
 {
@@ -45,6 +49,7 @@ fn show_line(out: &mut String, entry: &Entry, outcome: &Outcome) -> Result<(), A
     out.push_str("\n")
 }
 
+// Appends a line for each entry with the outcome at the same place, up to the end of the shorter list.
 fn show_lines(
     out: &mut String,
     entries: &[Entry],
@@ -61,6 +66,7 @@ fn show_lines(
     Ok(())
 }
 
+// The log of these entries and their outcomes, which stand at the same places.
 fn log_lines(
     alloc: Global,
     entries: &[Entry],

@@ -14,6 +14,7 @@ use std::io::Write;
 use td_relations::Relation;
 use td_values::{Heading, Kind, Name, Tuple, Value, show};
 
+// The text of a field: that of a text is its own, any other value is shown.
 fn cell(alloc: Global, value: &Value) -> Result<String, AllocError>
     ensures { IfOk result (λ text. string_bytes text ≡ spec.cell value.now) }
 {
@@ -23,6 +24,7 @@ fn cell(alloc: Global, value: &Value) -> Result<String, AllocError>
     }
 }
 
+// The texts of the attributes' values, in their order.
 fn cells(alloc: Global, attributes: &[(Name, Value)]) -> Result<Vec<String>, AllocError>
     ensures { IfOk result (λ v. map string_bytes v.items ≡ spec.cells (attrs_of attributes.now)) }
 {
@@ -33,6 +35,7 @@ fn cells(alloc: Global, attributes: &[(Name, Value)]) -> Result<Vec<String>, All
     Ok(cells)
 }
 
+// The bytes of the texts, borrowed.
 fn fields<'a>(alloc: Global, cells: &'a [String]) -> Result<Vec<&'a [u8]>, AllocError>
     ensures { IfOk result (λ v. map (λ f. f.now) v.items ≡ map string_bytes cells.now) }
 {
@@ -43,6 +46,7 @@ fn fields<'a>(alloc: Global, cells: &'a [String]) -> Result<Vec<&'a [u8]>, Alloc
     Ok(fields)
 }
 
+// The bytes of the names of the heading's attributes, in its order and borrowed.
 fn names<'a>(alloc: Global, heading: &'a Heading) -> Result<Vec<&'a [u8]>, AllocError>
     ensures { IfOk result (λ v. map (λ f. f.now) v.items ≡ spec.column_names heading.now) }
 {
@@ -65,6 +69,7 @@ fn write_record<W: Write + Drop>(writer: &mut Writer<W>, fields: &[&[u8]]) -> Re
     }
 }
 
+// Writes the record of the attribute names.
 fn write_names<W: Write + Drop>(
     alloc: Global,
     writer: &mut Writer<W>,
@@ -78,6 +83,7 @@ fn write_names<W: Write + Drop>(
     write_record(writer, names.as_slice())
 }
 
+// Writes the record of a tuple behind the others, a field for each value.
 fn write_tuple<W: Write + Drop>(
     alloc: Global,
     writer: &mut Writer<W>,
@@ -92,6 +98,7 @@ fn write_tuple<W: Write + Drop>(
     write_record(writer, fields.as_slice())
 }
 
+// Writes a record for each tuple, in their order.
 fn write_tuples<W: Write + Drop>(
     alloc: Global,
     writer: &mut Writer<W>,
@@ -106,6 +113,7 @@ fn write_tuples<W: Write + Drop>(
     Ok(())
 }
 
+// Writes the record of the attribute names, and one for each tuple.
 fn write_relation<W: Write + Drop>(
     alloc: Global,
     writer: &mut Writer<W>,

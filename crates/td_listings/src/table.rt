@@ -16,6 +16,7 @@ use td_replica::Replica;
 use td_semantics::Answer;
 use td_values::{Heading, Name};
 
+// Whether the name is this text.
 fn is_named(text: &str, name: &Name) -> bool
     ensures { result ≡ same_text text.now name.now }
 {
@@ -37,7 +38,8 @@ fn relvar_of<'a>(catalogue: &'a Catalogue, text: &str) -> Option<(usize, &'a Nam
     None
 }
 
-fn rendered(alloc: Global, answer: &Answer<Relation>) -> Result<Vec<u8>, TableError>
+// The table of a relvar that has this relation, or the error that it raises in place of one.
+fn render_table(alloc: Global, answer: &Answer<Relation>) -> Result<Vec<u8>, TableError>
     ensures { MatchResult result (λ text. Renders answer.now (Ok text.items)) (λ e. Renders answer.now (Err e)) }
 {
     match answer {
@@ -73,7 +75,7 @@ pub fn table_text<R: Replica>(
         Ok(answer) => answer,
         Err(_) => return Err(TableError::OutOfMemory),
     };
-    match rendered(alloc, &answer) {
+    match render_table(alloc, &answer) {
         Ok(text) => Ok(text),
         Err(error) => Err(error),
     }

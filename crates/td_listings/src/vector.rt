@@ -8,6 +8,7 @@ use crate::words::show_number;
 use std::alloc::{AllocError, Global};
 use td_stamps::Vector;
 
+// Appends a site and its number, with a space before them and a colon between.
 fn show_site(out: &mut String, site: u16, number: u32) -> Result<(), AllocError>
     ensures { OnOk result (string_bytes out.new ≡ string_bytes out.old ++ spec.site_word (site, number)) }
 {
@@ -17,6 +18,7 @@ fn show_site(out: &mut String, site: u16, number: u32) -> Result<(), AllocError>
     show_number(out, u64::from(number))
 }
 
+// Appends each site with its number, in their order.
 fn show_sites(out: &mut String, sites: &[(u16, u32)]) -> Result<(), AllocError>
     ensures { OnOk result (string_bytes out.new ≡ string_bytes out.old ++ flat_map spec.site_word sites.now) }
 {

@@ -40,6 +40,7 @@ pub fn show_raise(out: &mut String, raise: Raise) -> Result<(), AllocError>
     }
 }
 
+// Appends the words, and behind them the name.
 fn show_named(out: &mut String, words: &str, name: &Name) -> Result<(), AllocError>
     ensures { OnOk result (string_bytes out.new ≡ string_bytes out.old ++ (words.now ++ name.now)) }
 {

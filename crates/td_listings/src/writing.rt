@@ -75,7 +75,7 @@ pub fn listing<R: Replica, K: Sink>(
 }
 
 // The table by the catalogue of the site's script.
-fn tabulated<R: Replica>(alloc: Global, replica: &R, name: &str) -> Result<Vec<u8>, TableError>
+fn tabulate<R: Replica>(alloc: Global, replica: &R, name: &str) -> Result<Vec<u8>, TableError>
     ensures { MatchResult result (λ text. IsOfScript (R.seen replica.now) name.now (Ok text.items)) (λ e. IsOfScript (R.seen replica.now) name.now (Err e)) }
 {
     let catalogue = match script_catalogue(alloc, replica) {
@@ -96,7 +96,7 @@ pub fn export<R: Replica, K: Sink>(
     ensures aside { Keeps (K.aside sink.old) (K.aside sink.new) }
 {
     sound(replica);
-    let text = match tabulated(alloc, replica, name) {
+    let text = match tabulate(alloc, replica, name) {
         Ok(text) => text,
         Err(TableError::Unknown) => return Err(ExportError::Unknown),
         Err(TableError::NoAttributes) => return Err(ExportError::NoAttributes),

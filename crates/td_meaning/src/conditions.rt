@@ -253,7 +253,7 @@ pub(crate) fn side_of_summary<W: Wanted>(
 }
 
 /// Whether the comparison is true at the tuple.
-pub(crate) fn compared<W>(
+pub(crate) fn compare_at_tuple<W>(
     alloc: Global,
     operator: BinaryOperator,
     a: &Side,

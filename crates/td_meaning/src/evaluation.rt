@@ -32,7 +32,7 @@ impl<W: Wanted> Evaluator<'_, W> {
             Typed::Integer(n) => Ok(integer_value(*n)),
             Typed::Text(text) => Ok(text_value(text.copy()?)),
             Typed::Truth(b) => Ok(truth_value(*b)),
-            Typed::Local(name) => self.local(name, scope),
+            Typed::Local(name) => self.local_value(name, scope),
             Typed::Relvar(place) => self.relvar(*place),
             Typed::Select(place, trees) => self.selection(*place, trees.as_slice(), scope),
             Typed::Component(at, a) => self.component(*at, a.get(), scope),
@@ -81,7 +81,7 @@ pub fn keep<'a, W: Wanted>(
     requires allowed { W.allows env.now.virtuals.now ≡ true }
     ensures { AreRight env.now parts.new.items }
 {
-    let evaluator: Evaluator<'_, W> = Evaluator::beside(alloc, env, parts.as_slice());
+    let evaluator: Evaluator<'_, W> = Evaluator::with_parts(alloc, env, parts.as_slice());
     let value = evaluator.closed_value(tree)?;
     Ok(put_if(alloc, parts, tree, value)?)
 }
@@ -100,7 +100,7 @@ pub fn eval<W: Wanted>(
     requires allowed { W.allows env.now.virtuals.now ≡ true }
     ensures { Answers result (mean_in env.now tree.now (names_bound scope.now)) }
 {
-    Evaluator::beside(alloc, env, parts).evaluate(tree, scope)
+    Evaluator::with_parts(alloc, env, parts).evaluate(tree, scope)
 }
 
 /// The tuples of which the condition is true, or the least error that it raises at one. Its parts that name nothing
@@ -119,7 +119,7 @@ pub fn select<W: Wanted>(
     requires allowed { W.allows env.now.virtuals.now ≡ true }
     ensures { Answers result (functions.restricted (truth_at (mean_in env.now condition.now) (names_bound scope.now)) ts.now) }
 {
-    Evaluator::beside(alloc, env, parts).restricted_by(ts, condition, scope)
+    Evaluator::with_parts(alloc, env, parts).restrict_by_condition(ts, condition, scope)
 }
 
 /// The tuples with the items' values, as EXTEND gives them: the values that have names of attributes in place of these.
@@ -135,5 +135,5 @@ pub fn extend_all<W: Wanted>(
     requires allowed { W.allows env.now.virtuals.now ≡ true }
     ensures { Answers result (functions.extended (terms (mean_in env.now) (names_bound scope.now)) items.now ts.now) }
 {
-    Evaluator::beside(alloc, env, parts).extended_by(ts, items, scope)
+    Evaluator::with_parts(alloc, env, parts).extend_by_items(ts, items, scope)
 }

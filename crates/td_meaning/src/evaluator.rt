@@ -42,7 +42,7 @@ impl<'a, W: Wanted> Evaluator<'a, W> {
     }
 
     /// Where the values of these parts are known.
-    pub(crate) fn beside(
+    pub(crate) fn with_parts(
         alloc: Global,
         env: &'a Environment<'a>,
         parts: &'a [HoistedTerm<'a>],

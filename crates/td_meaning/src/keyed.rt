@@ -77,7 +77,7 @@ fn equality<'c>(check: &'c Check<'_>, width: usize) -> Option<(usize, &'c Value)
 // The value that the attribute at the place must have by one of the equalities that the condition begins with, which
 // raise nothing.
 #[cycle(pins)]
-fn pinned<'c>(checks: &'c [Check<'_>], width: usize, place: usize) -> Option<&'c Value>
+fn pinned_value<'c>(checks: &'c [Check<'_>], width: usize, place: usize) -> Option<&'c Value>
     ensures { IfSome result (λ d. PinsAt checks.now width place d.now) }
 {
     let Some((first, rest)) = checks.split_first() else {
@@ -89,7 +89,7 @@ fn pinned<'c>(checks: &'c [Check<'_>], width: usize, place: usize) -> Option<&'c
     if at == place {
         Some(value)
     } else {
-        pinned(rest, width, place)
+        pinned_value(rest, width, place)
     }
 }
 
@@ -105,7 +105,7 @@ fn key_values(
     let width = heading.fields().len();
     let mut values = Vec::with_capacity(alloc, key.len())?;
     for name in key {
-        let Some(value) = pinned(checks, width, place_in(heading, name)) else {
+        let Some(value) = pinned_value(checks, width, place_in(heading, name)) else {
             return Ok(None);
         };
         values.push((name.copy()?, copy(alloc, value)?))?;

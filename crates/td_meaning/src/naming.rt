@@ -32,7 +32,7 @@ fn add_held(
 impl<W: Wanted> Evaluator<'_, W> {
     #[cycle(evaluation)]
     #[tactic(auto, unfolding(crate::specs::Mean::introduced))]
-    fn introduced(
+    fn introduce(
         &self,
         xs: &[Named<Boxed<Typed>>],
         scope: &Bindings,
@@ -58,7 +58,7 @@ impl<W: Wanted> Evaluator<'_, W> {
     ) -> Result<Value, Fault<W>>
         ensures { Answers result (spec.mean_with (all_meant (mean_in self.now.env.now) xs.now) (mean_in self.now.env.now body.now) (names_bound scope.now)) }
     {
-        let found = self.introduced(xs, scope)?;
+        let found = self.introduce(xs, scope)?;
         self.evaluate(body, &Bindings::Given(found.as_slice(), &*scope))
     }
 }

@@ -109,7 +109,7 @@ impl<W: Wanted> Evaluator<'_, W> {
     /// What is known at each of the tuples, or nothing beside what is known already: over one tuple nothing is
     /// evaluated twice.
     #[cycle(evaluation)]
-    pub(crate) fn prepared<'a, 'e: 'a, 't: 'a>(
+    pub(crate) fn prepare<'a, 'e: 'a, 't: 'a>(
         &'e self,
         terms: Terms<'t>,
         tuples: usize,

@@ -42,7 +42,7 @@ fn lent<'a, W>(known: Result<&'a Lease<'a>, Fault<W>>) -> Result<Operand<'a>, Fa
     }
 }
 
-fn made<'a, W>(answer: Result<Value, Fault<W>>) -> Result<Operand<'a>, Fault<W>>
+fn made_operand<'a, W>(answer: Result<Value, Fault<W>>) -> Result<Operand<'a>, Fault<W>>
     ensures { (m : Result Datum Stop) → Answers answer m → AnswersBy operand_value result m }
 {
     match answer {
@@ -53,7 +53,7 @@ fn made<'a, W>(answer: Result<Value, Fault<W>>) -> Result<Operand<'a>, Fault<W>>
 
 impl<W: Wanted> Evaluator<'_, W> {
     #[tactic(auto, unfolding(crate::specs::Mean::mean_local))]
-    pub(crate) fn local(&self, name: &Name, scope: &Bindings) -> Result<Value, Fault<W>>
+    pub(crate) fn local_value(&self, name: &Name, scope: &Bindings) -> Result<Value, Fault<W>>
         ensures { Answers result (spec.mean_local name.now (names_bound scope.now)) }
     {
         match scope.find(name) {
@@ -94,7 +94,7 @@ impl<W: Wanted> Evaluator<'_, W> {
     {
         match self.known(tree) {
             Some(value) => operand_known(self.alloc, value),
-            None => made(W::unknown(self.env, place)),
+            None => made_operand(W::unknown(self.env, place)),
         }
     }
 

@@ -14,8 +14,8 @@ use crate::scope::Bindings;
 use crate::wanting::Wanted;
 use td_algebra::{Fault, Stop};
 use td_operators::{
-    attribute_at, component_at, has_parts, is_within_part, nested, operate, operate_on, part_at,
-    truth_value, unnested, with_new_names,
+    attribute_at, component_at, has_parts, is_within_part, nest, operate, operate_on, part_at,
+    truth_value, unnest, with_new_names,
 };
 use td_syntax::tree::{BinaryOperator, Nesting, UnaryOperator};
 use td_typed_trees::tree::Typed;
@@ -111,7 +111,7 @@ impl<W: Wanted> Evaluator<'_, W> {
     ) -> Result<Value, Fault<W>>
         ensures { Answers result (spec.mean_by (operators.nested nesting names.now name.now) (mean_in self.now.env.now a.now) (names_bound scope.now)) }
     {
-        nested(self.alloc, nesting, names, name, self.operand(a, &*scope)?)
+        nest(self.alloc, nesting, names, name, self.operand(a, &*scope)?)
     }
 
     #[cycle(evaluation)]
@@ -125,7 +125,7 @@ impl<W: Wanted> Evaluator<'_, W> {
     ) -> Result<Value, Fault<W>>
         ensures { Answers result (spec.mean_by (operators.unnested nesting name.now) (mean_in self.now.env.now a.now) (names_bound scope.now)) }
     {
-        unnested(self.alloc, nesting, name, self.operand(a, &*scope)?)
+        unnest(self.alloc, nesting, name, self.operand(a, &*scope)?)
     }
 
     #[cycle(evaluation)]

@@ -9,7 +9,7 @@ ghost use Rattle.td_typed_trees.specs.declared.tree.Typed.{Typed};
 ghost use Rattle.td_meaning.specs.Seen.{mean_in, names_bound};
 
 use crate::closed::Terms;
-use crate::conditions::{Check, checks_of, compared};
+use crate::conditions::{Check, checks_of, compare_at_tuple};
 use crate::evaluator::Evaluator;
 use crate::keyed::found_by_key;
 use crate::scope::Bindings;
@@ -28,7 +28,7 @@ impl<W: Wanted> Evaluator<'_, W> {
         ensures { Answers result (check_holds (mean_in self.now.env.now) (names_bound scope.now) t.now check.now) }
     {
         match check {
-            Check::Comparison(operator, a, b) => compared(self.alloc, *operator, a, b, t),
+            Check::Comparison(operator, a, b) => compare_at_tuple(self.alloc, *operator, a, b, t),
             Check::Other(tree) => self.truth(*tree, &Bindings::Within(t, &*scope)),
         }
     }
@@ -46,7 +46,7 @@ impl<W: Wanted> Evaluator<'_, W> {
     }
 
     #[cycle(evaluation)]
-    fn restricted_to(
+    fn restrict_by_checks(
         &self,
         ts: &Relation,
         checks: &[Check<'_>],
@@ -65,18 +65,7 @@ impl<W: Wanted> Evaluator<'_, W> {
     }
 
     #[cycle(evaluation)]
-    fn restricted(&self, ts: &Lease<'_>, c: &Typed, scope: &Bindings) -> Result<Relation, Fault<W>>
-        ensures { Answers result (functions.restricted (truth_at (mean_in self.now.env.now c.now) (names_bound scope.now)) ts.now) }
-    {
-        let checks = checks_of(&*self, &*scope, ts.get().heading(), &*c)?;
-        match found_by_key(self.alloc, &*ts, checks.as_slice())? {
-            Some(part) => self.restricted_to(&part, checks.as_slice(), scope),
-            None => self.restricted_to(ts.get(), checks.as_slice(), scope),
-        }
-    }
-
-    #[cycle(evaluation)]
-    pub(crate) fn restricted_by(
+    fn restrict_prepared(
         &self,
         ts: &Lease<'_>,
         c: &Typed,
@@ -84,7 +73,23 @@ impl<W: Wanted> Evaluator<'_, W> {
     ) -> Result<Relation, Fault<W>>
         ensures { Answers result (functions.restricted (truth_at (mean_in self.now.env.now c.now) (names_bound scope.now)) ts.now) }
     {
-        match self.prepared(Terms::Condition(c), ts.get().len())? {
+        let checks = checks_of(&*self, &*scope, ts.get().heading(), &*c)?;
+        match found_by_key(self.alloc, &*ts, checks.as_slice())? {
+            Some(part) => self.restrict_by_checks(&part, checks.as_slice(), scope),
+            None => self.restrict_by_checks(ts.get(), checks.as_slice(), scope),
+        }
+    }
+
+    #[cycle(evaluation)]
+    pub(crate) fn restrict_by_condition(
+        &self,
+        ts: &Lease<'_>,
+        c: &Typed,
+        scope: &Bindings,
+    ) -> Result<Relation, Fault<W>>
+        ensures { Answers result (functions.restricted (truth_at (mean_in self.now.env.now c.now) (names_bound scope.now)) ts.now) }
+    {
+        match self.prepare(Terms::Condition(c), ts.get().len())? {
             Some(parts) => {
                 let around: Evaluator<'_, W> = Evaluator {
                     alloc: self.alloc,
@@ -92,9 +97,9 @@ impl<W: Wanted> Evaluator<'_, W> {
                     parts: parts.as_slice(),
                     wanted: PhantomData,
                 };
-                around.restricted(ts, c, scope)
+                around.restrict_prepared(ts, c, scope)
             }
-            None => self.restricted(ts, c, scope),
+            None => self.restrict_prepared(ts, c, scope),
         }
     }
 
@@ -109,6 +114,6 @@ impl<W: Wanted> Evaluator<'_, W> {
         ensures { Answers result (spec.mean_where (mean_in self.now.env.now r.now) (mean_in self.now.env.now c.now) (names_bound scope.now)) }
     {
         let ts = self.rows(r, &*scope)?;
-        Ok(relation_value(self.restricted_by(&ts, c, scope)?))
+        Ok(relation_value(self.restrict_by_condition(&ts, c, scope)?))
     }
 }

@@ -72,7 +72,7 @@ impl<W: Wanted> Evaluator<'_, W> {
 
     #[cycle(evaluation)]
     #[tactic(auto, unfolding(crate::specs::Selections::selected))]
-    fn selected(
+    fn select(
         &self,
         earlier: &[Selector],
         selector: &Selector,
@@ -100,7 +100,7 @@ impl<W: Wanted> Evaluator<'_, W> {
     {
         let found = self.values(trees, scope)?;
         match selector_at(self.env.selectors, place) {
-            Some((earlier, selector)) => self.selected(earlier, selector, found),
+            Some((earlier, selector)) => self.select(earlier, selector, found),
             None => Err(Fault::Raised(Stop::Untyped)),
         }
     }

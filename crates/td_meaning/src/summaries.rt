@@ -45,7 +45,7 @@ impl<W: Wanted> Evaluator<'_, W> {
     }
 
     #[cycle(evaluation)]
-    fn aggregated_at(
+    fn aggregate_with_side(
         &self,
         side: &Option<Side>,
         ts: &Relation,
@@ -67,7 +67,7 @@ impl<W: Wanted> Evaluator<'_, W> {
     }
 
     #[cycle(evaluation)]
-    fn aggregated(
+    fn aggregate_prepared(
         &self,
         ts: &Relation,
         summary: &Summary<Boxed<Typed>>,
@@ -76,11 +76,11 @@ impl<W: Wanted> Evaluator<'_, W> {
         ensures { Answers result (summary_over (terms (mean_in self.now.env.now) (names_bound scope.now)) ts.now.tuples summary.now) }
     {
         let side = side_of_summary(&*self, &*scope, ts.heading(), summary)?;
-        self.aggregated_at(&side, ts, summary, scope)
+        self.aggregate_with_side(&side, ts, summary, scope)
     }
 
     #[cycle(evaluation)]
-    fn aggregated_by(
+    fn aggregate_by_summary(
         &self,
         ts: &Relation,
         summary: &Summary<Boxed<Typed>>,
@@ -88,7 +88,7 @@ impl<W: Wanted> Evaluator<'_, W> {
     ) -> Result<Value, Fault<W>>
         ensures { Answers result (summary_over (terms (mean_in self.now.env.now) (names_bound scope.now)) ts.now.tuples summary.now) }
     {
-        match self.prepared(Terms::Summary(summary), ts.len())? {
+        match self.prepare(Terms::Summary(summary), ts.len())? {
             Some(parts) => {
                 let around: Evaluator<'_, W> = Evaluator {
                     alloc: self.alloc,
@@ -96,9 +96,9 @@ impl<W: Wanted> Evaluator<'_, W> {
                     parts: parts.as_slice(),
                     wanted: PhantomData,
                 };
-                around.aggregated(ts, summary, scope)
+                around.aggregate_prepared(ts, summary, scope)
             }
-            None => self.aggregated(ts, summary, scope),
+            None => self.aggregate_prepared(ts, summary, scope),
         }
     }
 
@@ -113,12 +113,12 @@ impl<W: Wanted> Evaluator<'_, W> {
         ensures { Answers result (over.over_aggregate (mean_in self.now.env.now) r.now summary.now (names_bound scope.now)) }
     {
         let ts = self.rows(r, &*scope)?;
-        self.aggregated_by(ts.get(), summary, scope)
+        self.aggregate_by_summary(ts.get(), summary, scope)
     }
 
     #[cycle(evaluation)]
     #[tactic(auto, unfolding(crate::specs::ForProofs::Over::terms))]
-    fn summarized(
+    fn summarize_per(
         &self,
         ts: &Relation,
         us: &Relation,
@@ -141,7 +141,7 @@ impl<W: Wanted> Evaluator<'_, W> {
     // Per the relation's own parts: the runs of one sort.
     #[cycle(evaluation)]
     #[tactic(auto, unfolding(crate::specs::ForProofs::Over::terms))]
-    fn summarized_in_runs(
+    fn summarize_in_runs(
         &self,
         ts: &Relation,
         names: &[Name],
@@ -163,7 +163,7 @@ impl<W: Wanted> Evaluator<'_, W> {
 
     #[cycle(evaluation)]
     #[tactic(auto, unfolding(crate::specs::ForProofs::Over::summarized_over, crate::specs::Mean::groups_at))]
-    fn groups_summarized(
+    fn summarize_prepared(
         &self,
         ts: &Relation,
         groups: &TypedGroups<Boxed<Typed>>,
@@ -175,20 +175,18 @@ impl<W: Wanted> Evaluator<'_, W> {
         match groups {
             TypedGroups::Whole => {
                 let us = table_dee(self.alloc)?;
-                self.summarized(ts, &us, items, scope)
+                self.summarize_per(ts, &us, items, scope)
             }
             TypedGroups::Per(a) => {
                 let us = self.rows(a.get(), &*scope)?;
-                self.summarized(ts, us.get(), items, scope)
+                self.summarize_per(ts, us.get(), items, scope)
             }
-            TypedGroups::By(names) => {
-                self.summarized_in_runs(ts, names.as_slice(), items, scope)
-            }
+            TypedGroups::By(names) => { self.summarize_in_runs(ts, names.as_slice(), items, scope) }
         }
     }
 
     #[cycle(evaluation)]
-    fn summarized_by(
+    fn summarize_by_groups(
         &self,
         ts: &Relation,
         groups: &TypedGroups<Boxed<Typed>>,
@@ -197,7 +195,7 @@ impl<W: Wanted> Evaluator<'_, W> {
     ) -> Result<Relation, Fault<W>>
         ensures { Answers result (over.summarized_over (mean_in self.now.env.now) groups.now items.now (names_bound scope.now) ts.now) }
     {
-        match self.prepared(Terms::Summaries(items), ts.len())? {
+        match self.prepare(Terms::Summaries(items), ts.len())? {
             Some(parts) => {
                 let around: Evaluator<'_, W> = Evaluator {
                     alloc: self.alloc,
@@ -205,9 +203,9 @@ impl<W: Wanted> Evaluator<'_, W> {
                     parts: parts.as_slice(),
                     wanted: PhantomData,
                 };
-                around.groups_summarized(ts, groups, items, scope)
+                around.summarize_prepared(ts, groups, items, scope)
             }
-            None => self.groups_summarized(ts, groups, items, scope),
+            None => self.summarize_prepared(ts, groups, items, scope),
         }
     }
 
@@ -223,6 +221,6 @@ impl<W: Wanted> Evaluator<'_, W> {
         ensures { Answers result (over.over_summarize (mean_in self.now.env.now) r.now by.now items.now (names_bound scope.now)) }
     {
         let ts = self.rows(r, &*scope)?;
-        Ok(relation_value(self.summarized_by(ts.get(), by, items, scope)?))
+        Ok(relation_value(self.summarize_by_groups(ts.get(), by, items, scope)?))
     }
 }

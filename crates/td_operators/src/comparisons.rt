@@ -43,7 +43,7 @@ fn at_most(u: &Value, v: &Value) -> Option<bool>
 }
 
 // The answer of a comparison that copies nothing.
-fn compared(operator: BinaryOperator, u: &Value, v: &Value) -> Option<bool>
+fn compare_in_place(operator: BinaryOperator, u: &Value, v: &Value) -> Option<bool>
     ensures { IfSome result (λ b. spec.operate operator u.now v.now ≡ Ok (boolean b)) }
 {
     match operator {
@@ -67,7 +67,7 @@ pub fn holds<W>(
 ) -> Result<bool, Fault<W>>
     ensures { Answers result (and_then (spec.operate operator u.now v.now) truth_of) }
 {
-    match compared(operator, u, v) {
+    match compare_in_place(operator, u, v) {
         Some(truth) => Ok(truth),
         None => {
             let first = Operand::Made(copy(alloc, u)?);

@@ -14,7 +14,7 @@ ghost use Rattle.td_values.specs.Data.{Datum, boolean};
 
 use crate::operand::{Lease, Operand, Shape, rows_of, shape_of};
 use crate::operators::{is_empty, part_at};
-use crate::pairs::{operate, related_to};
+use crate::pairs::{operate, relate_operands};
 use crate::parts::truth_value;
 use std::alloc::{AllocError, Global};
 use td_algebra::{Fault, Stop};
@@ -58,7 +58,7 @@ fn is_within<W>(
     }
     r.get().rows_fit();
     whole.get().rows_fit();
-    let others = related_to(alloc, BinaryOperator::NotMatching, r, whole)?;
+    let others = relate_operands(alloc, BinaryOperator::NotMatching, r, whole)?;
     Ok(truth_value(is_empty(others.tuples())))
 }
 

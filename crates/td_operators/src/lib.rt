@@ -24,7 +24,7 @@ pub use counts::{count_of_join, count_value};
 pub use inclusions::{has_parts, is_within_part};
 pub use operand::{Lease, Operand, rows_of};
 pub use operators::{
-    attribute_at, component_at, nested, operate_on, part_at, unnested, with_new_names,
+    attribute_at, component_at, nest, operate_on, part_at, unnest, with_new_names,
 };
 pub use pairs::operate;
 pub use parts::{integer_value, relation_value, text_value, truth_of, truth_value, tuple_value};

@@ -25,7 +25,7 @@ use td_syntax::tree::{Nesting, UnaryOperator};
 use td_tuples::is_in;
 use td_values::{Heading, Name, Raise, Tuple, Value, copy};
 
-fn negated<W>(n: i64) -> Result<Value, Fault<W>>
+fn negation<W>(n: i64) -> Result<Value, Fault<W>>
     ensures { Answers result (spec.within_64_bits (neg_ℤ n)) }
 {
     match n.checked_neg() {
@@ -42,7 +42,7 @@ fn has_pairs(heading: &Heading) -> bool
     is_binary(heading)
 }
 
-fn closed<W>(alloc: Global, r: &Relation) -> Result<Value, Fault<W>>
+fn transitive_closure<W>(alloc: Global, r: &Relation) -> Result<Value, Fault<W>>
     ensures { Answers result (spec.closed r.now) }
 {
     if !has_pairs(r.heading()) {
@@ -82,10 +82,10 @@ pub fn operate_on<W>(
 {
     match operator {
         UnaryOperator::Not => Ok(truth_value(!truth_of(&operand)?)),
-        UnaryOperator::Negate => negated(integer_of(&operand)?),
+        UnaryOperator::Negate => negation(integer_of(&operand)?),
         UnaryOperator::Closure => {
             let rows = rows_of(operand)?;
-            closed(alloc, rows.get())
+            transitive_closure(alloc, rows.get())
         }
         UnaryOperator::TupleFrom => {
             let rows = rows_of(operand)?;
@@ -160,7 +160,7 @@ pub fn with_new_names<W>(
     Ok(relation_value(rename_of(alloc, rows.get(), items)?))
 }
 
-fn nested_of(
+fn nest_relation(
     alloc: Global,
     nesting: Nesting,
     names: &[Name],
@@ -176,7 +176,7 @@ fn nested_of(
 }
 
 /// GROUP and WRAP of the attributes at these names.
-pub fn nested<W>(
+pub fn nest<W>(
     alloc: Global,
     nesting: Nesting,
     names: &[Name],
@@ -186,7 +186,7 @@ pub fn nested<W>(
     ensures { Answers result (spec.nested nesting names.now name.now (operand_value operand.entry)) }
 {
     let rows = rows_of(operand)?;
-    Ok(relation_value(nested_of(alloc, nesting, names, name, rows.get())?))
+    Ok(relation_value(nest_relation(alloc, nesting, names, name, rows.get())?))
 }
 
 fn has_relations(heading: &Heading, name: &Name) -> bool
@@ -203,7 +203,7 @@ fn has_tuples(heading: &Heading, name: &Name) -> bool
     is_tuple_valued(heading, name)
 }
 
-fn ungrouped<W>(alloc: Global, name: &Name, r: &Relation) -> Result<Relation, Fault<W>>
+fn ungroup_relation<W>(alloc: Global, name: &Name, r: &Relation) -> Result<Relation, Fault<W>>
     ensures { Answers result (spec.unnested_of nesting.Group name.now r.now) }
 {
     if !has_relations(r.heading(), name) {
@@ -212,7 +212,7 @@ fn ungrouped<W>(alloc: Global, name: &Name, r: &Relation) -> Result<Relation, Fa
     Ok(ungroup_of(alloc, r, name)?)
 }
 
-fn unwrapped<W>(alloc: Global, name: &Name, r: &Relation) -> Result<Relation, Fault<W>>
+fn unwrap_relation<W>(alloc: Global, name: &Name, r: &Relation) -> Result<Relation, Fault<W>>
     ensures { Answers result (spec.unnested_of nesting.Wrap name.now r.now) }
 {
     if !has_tuples(r.heading(), name) {
@@ -221,7 +221,7 @@ fn unwrapped<W>(alloc: Global, name: &Name, r: &Relation) -> Result<Relation, Fa
     Ok(unwrap_of(alloc, r, name)?)
 }
 
-fn unnested_of<W>(
+fn unnest_relation<W>(
     alloc: Global,
     nesting: Nesting,
     name: &Name,
@@ -230,13 +230,13 @@ fn unnested_of<W>(
     ensures { Answers result (spec.unnested_of nesting name.now r.now) }
 {
     match nesting {
-        Nesting::Group => ungrouped(alloc, name, r),
-        Nesting::Wrap => unwrapped(alloc, name, r),
+        Nesting::Group => ungroup_relation(alloc, name, r),
+        Nesting::Wrap => unwrap_relation(alloc, name, r),
     }
 }
 
 /// UNGROUP and UNWRAP of the attribute of this name.
-pub fn unnested<W>(
+pub fn unnest<W>(
     alloc: Global,
     nesting: Nesting,
     name: &Name,
@@ -245,6 +245,6 @@ pub fn unnested<W>(
     ensures { Answers result (spec.unnested nesting name.now (operand_value operand.entry)) }
 {
     let rows = rows_of(operand)?;
-    let opened = unnested_of(alloc, nesting, name, rows.get())?;
+    let opened = unnest_relation(alloc, nesting, name, rows.get())?;
     Ok(relation_value(opened))
 }

@@ -25,7 +25,7 @@ use td_values::{Heading, Kind, Raise, Text, Tuple, Value, equal, equal_headings}
 
 // ---- truth values, integers, texts
 
-fn decided<W>(operator: BinaryOperator, a: bool, b: bool) -> Result<Value, Fault<W>>
+fn combine_truths<W>(operator: BinaryOperator, a: bool, b: bool) -> Result<Value, Fault<W>>
     ensures { Answers result (spec.decided operator a b) }
 {
     match operator {
@@ -46,7 +46,7 @@ fn of_truths<W>(
 {
     let a = truth_of(u)?;
     let b = truth_of(v)?;
-    decided(operator, a, b)
+    combine_truths(operator, a, b)
 }
 
 fn quotient<W>(m: i64, n: i64) -> Result<Value, Fault<W>>
@@ -88,7 +88,7 @@ fn product<W>(m: i64, n: i64) -> Result<Value, Fault<W>>
     }
 }
 
-fn calculated<W>(operator: BinaryOperator, m: i64, n: i64) -> Result<Value, Fault<W>>
+fn calculate<W>(operator: BinaryOperator, m: i64, n: i64) -> Result<Value, Fault<W>>
     ensures { Answers result (spec.calculated operator m n) }
 {
     match operator {
@@ -110,11 +110,11 @@ fn of_integers<W>(
 {
     let m = integer_of(u)?;
     let n = integer_of(v)?;
-    calculated(operator, m, n)
+    calculate(operator, m, n)
 }
 
 // The one text behind the other.
-fn joined(alloc: Global, s: &Text, t: &Text) -> Result<Text, AllocError>
+fn append_text(alloc: Global, s: &Text, t: &Text) -> Result<Text, AllocError>
     ensures { IfOk result (λ u. u ≡ s.now ++ t.now) }
 {
     let mut text = String::from_str(alloc, s.as_str())?;
@@ -123,12 +123,12 @@ fn joined(alloc: Global, s: &Text, t: &Text) -> Result<Text, AllocError>
 }
 
 #[tactic(auto, unfolding(crate::specs::Operators::concatenated))]
-fn concatenated<W>(alloc: Global, u: &Operand<'_>, v: &Operand<'_>) -> Result<Value, Fault<W>>
+fn concatenate<W>(alloc: Global, u: &Operand<'_>, v: &Operand<'_>) -> Result<Value, Fault<W>>
     ensures { Answers result (spec.concatenated (operand_value u.now) (operand_value v.now)) }
 {
     let s = text_of(u)?;
     let t = text_of(v)?;
-    Ok(text_value(joined(alloc, s, t)?))
+    Ok(text_value(append_text(alloc, s, t)?))
 }
 
 // ---- values of any kind
@@ -188,7 +188,7 @@ fn have_one_heading(r: &Relation, s: &Relation) -> bool
     r.same_heading(s)
 }
 
-fn united<W>(alloc: Global, r: &Relation, s: &Relation) -> Result<Relation, Fault<W>>
+fn union_of_one_heading<W>(alloc: Global, r: &Relation, s: &Relation) -> Result<Relation, Fault<W>>
     ensures { Answers result (spec.related binary.Union r.now s.now) }
 {
     if !have_one_heading(r, s) {
@@ -197,7 +197,11 @@ fn united<W>(alloc: Global, r: &Relation, s: &Relation) -> Result<Relation, Faul
     Ok(union_of(alloc, r, s)?)
 }
 
-fn common<W>(alloc: Global, r: &Relation, s: &Relation) -> Result<Relation, Fault<W>>
+fn intersection_of_one_heading<W>(
+    alloc: Global,
+    r: &Relation,
+    s: &Relation,
+) -> Result<Relation, Fault<W>>
     ensures { Answers result (spec.related binary.Intersect r.now s.now) }
 {
     if !have_one_heading(r, s) {
@@ -206,7 +210,11 @@ fn common<W>(alloc: Global, r: &Relation, s: &Relation) -> Result<Relation, Faul
     Ok(intersect_of(alloc, r, s)?)
 }
 
-fn remaining<W>(alloc: Global, r: &Relation, s: &Relation) -> Result<Relation, Fault<W>>
+fn difference_of_one_heading<W>(
+    alloc: Global,
+    r: &Relation,
+    s: &Relation,
+) -> Result<Relation, Fault<W>>
     ensures { Answers result (spec.related binary.Minus r.now s.now) }
 {
     if !have_one_heading(r, s) {
@@ -215,7 +223,7 @@ fn remaining<W>(alloc: Global, r: &Relation, s: &Relation) -> Result<Relation, F
     Ok(minus_of(alloc, r, s)?)
 }
 
-fn related<W>(
+fn relate<W>(
     alloc: Global,
     operator: BinaryOperator,
     r: &Relation,
@@ -228,16 +236,16 @@ fn related<W>(
         BinaryOperator::Compose => Ok(compose_of(alloc, r, s)?),
         BinaryOperator::Matching => Ok(matching_of(alloc, r, s)?),
         BinaryOperator::NotMatching => Ok(not_matching_of(alloc, r, s)?),
-        BinaryOperator::Union => united(alloc, r, s),
-        BinaryOperator::Intersect => common(alloc, r, s),
-        BinaryOperator::Minus => remaining(alloc, r, s),
+        BinaryOperator::Union => union_of_one_heading(alloc, r, s),
+        BinaryOperator::Intersect => intersection_of_one_heading(alloc, r, s),
+        BinaryOperator::Minus => difference_of_one_heading(alloc, r, s),
         _ => Err(Fault::Raised(Stop::Untyped)),
     }
 }
 
 // What a join or a match makes by an index of the second relation, where the names that both have are the first of its
 // key.
-fn related_by(
+fn relate_by_second(
     alloc: Global,
     operator: BinaryOperator,
     r: &Relation,
@@ -257,7 +265,7 @@ fn related_by(
 }
 
 // What a join or a match makes by an index of the first relation.
-fn related_from(
+fn relate_by_first(
     alloc: Global,
     operator: BinaryOperator,
     r: &Relation,
@@ -289,7 +297,7 @@ fn seeks_in_first(operator: BinaryOperator, first: usize, second: usize) -> bool
 }
 
 // What a join or a match makes by an index that is kept of the second relation, if one serves.
-fn related_by_kept(
+fn relate_by_kept_second(
     alloc: Global,
     operator: BinaryOperator,
     r: &Relation,
@@ -298,7 +306,7 @@ fn related_by_kept(
     ensures { IfOk result (λ o. IfSome o (λ n. spec.related operator r.now s.now ≡ Ok n)) }
 {
     for index in s.indexes() {
-        if let Some(made) = related_by(alloc, operator, r, s.get(), index)? {
+        if let Some(made) = relate_by_second(alloc, operator, r, s.get(), index)? {
             return Ok(Some(made));
         }
     }
@@ -306,7 +314,7 @@ fn related_by_kept(
 }
 
 // What a join or a match makes by an index that is kept of the first relation, if one serves.
-fn related_from_kept(
+fn relate_by_kept_first(
     alloc: Global,
     operator: BinaryOperator,
     r: &Lease<'_>,
@@ -318,7 +326,7 @@ fn related_from_kept(
         return Ok(None);
     }
     for index in r.indexes() {
-        if let Some(made) = related_from(alloc, operator, r.get(), s, index)? {
+        if let Some(made) = relate_by_first(alloc, operator, r.get(), s, index)? {
             return Ok(Some(made));
         }
     }
@@ -327,7 +335,7 @@ fn related_from_kept(
 
 // The tuples of the smaller relation are sought in the larger one where that is kept by such a key, and else the other
 // way round.
-fn related_by_any(
+fn relate_by_any_index(
     alloc: Global,
     operator: BinaryOperator,
     r: &Lease<'_>,
@@ -336,20 +344,20 @@ fn related_by_any(
     ensures { IfOk result (λ o. IfSome o (λ n. spec.related operator r.now s.now ≡ Ok n)) }
 {
     if s.get().len() < r.get().len() {
-        match related_from_kept(alloc, operator, r, s.get())? {
+        match relate_by_kept_first(alloc, operator, r, s.get())? {
             Some(made) => Ok(Some(made)),
-            None => related_by_kept(alloc, operator, r.get(), s),
+            None => relate_by_kept_second(alloc, operator, r.get(), s),
         }
     } else {
-        match related_by_kept(alloc, operator, r.get(), s)? {
+        match relate_by_kept_second(alloc, operator, r.get(), s)? {
             Some(made) => Ok(Some(made)),
-            None => related_from_kept(alloc, operator, r, s.get()),
+            None => relate_by_kept_first(alloc, operator, r, s.get()),
         }
     }
 }
 
 /// What an operator makes of two relations, by an index that is kept of one of them where that serves.
-pub(crate) fn related_to<W>(
+pub(crate) fn relate_operands<W>(
     alloc: Global,
     operator: BinaryOperator,
     r: &Lease<'_>,
@@ -357,9 +365,9 @@ pub(crate) fn related_to<W>(
 ) -> Result<Relation, Fault<W>>
     ensures { Answers result (spec.related operator r.now s.now) }
 {
-    match related_by_any(alloc, operator, r, s)? {
+    match relate_by_any_index(alloc, operator, r, s)? {
         Some(made) => Ok(made),
-        None => related(alloc, operator, r.get(), s.get()),
+        None => relate(alloc, operator, r.get(), s.get()),
     }
 }
 
@@ -374,11 +382,11 @@ fn of_relations<W>(
 {
     let r = rows_of(u)?;
     let s = rows_of(v)?;
-    Ok(relation_value(related_to(alloc, operator, &r, &s)?))
+    Ok(relation_value(relate_operands(alloc, operator, &r, &s)?))
 }
 
 #[tactic(auto, unfolding(crate::specs::Operators::member))]
-fn member<W>(u: Operand<'_>, v: Operand<'_>) -> Result<Value, Fault<W>>
+fn membership<W>(u: Operand<'_>, v: Operand<'_>) -> Result<Value, Fault<W>>
     ensures { Answers result (spec.member (operand_value u.entry) (operand_value v.entry)) }
 {
     let tuple = tuple_of(&u)?;
@@ -465,12 +473,12 @@ pub fn operate<W>(
         BinaryOperator::Greater => less(v, u),
         BinaryOperator::AtMost => at_most(u, v),
         BinaryOperator::AtLeast => at_most(v, u),
-        BinaryOperator::In => member(u, v),
+        BinaryOperator::In => membership(u, v),
         BinaryOperator::Add
         | BinaryOperator::Subtract
         | BinaryOperator::Multiply
         | BinaryOperator::Divide => of_integers(operator, &u, &v),
-        BinaryOperator::Concatenate => concatenated(alloc, &u, &v),
+        BinaryOperator::Concatenate => concatenate(alloc, &u, &v),
         BinaryOperator::Join
         | BinaryOperator::Union
         | BinaryOperator::Intersect

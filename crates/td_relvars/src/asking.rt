@@ -23,7 +23,7 @@ fn is_base(catalogue: &Catalogue, place: usize) -> bool
 }
 
 // The name of a relvar as a typed expression.
-fn named(
+fn name_expression(
     alloc: Global,
     catalogue: &Catalogue,
     name: &Name,
@@ -67,7 +67,7 @@ fn evaluated(
     requires { IsRelvar database.now.catalogue name.now place heading.now }
     ensures { TellsAt database.now place result }
 {
-    let expr = named(alloc, database.catalogue(), name, place, heading)?;
+    let expr = name_expression(alloc, database.catalogue(), name, place, heading)?;
     match relation(alloc, database.catalogue(), heading, &expr, database) {
         Ok(relation) => Ok(Answer::Value(relation)),
         Err(Failure::Raised(error)) => Ok(Answer::Raised(error)),

@@ -285,7 +285,7 @@ fn go_back_at(stored: &mut Vec<Option<Base>>, relvar: usize, delta: &Delta, way:
 }
 
 // What is stored at the place.
-fn stored_at(stored: &[Option<Base>], place: usize) -> Option<&Base>
+fn base_stored_at(stored: &[Option<Base>], place: usize) -> Option<&Base>
     ensures { option_copied result ≡ option_flatten (slice_get stored.now place) }
 {
     match stored.get(place) {
@@ -325,7 +325,7 @@ impl Database {
         ensures rows { option_map (λ (b : BaseData). b.rows) (option_copied result) ≡ spec.stored_at self.now place }
         ensures key { IfSome result (λ b. b.now.key ≡ key_at self.now.catalogue place) }
     {
-        match stored_at(&self.stored, place) {
+        match base_stored_at(&self.stored, place) {
             Some(base) => Some(base),
             None => None,
         }

@@ -53,7 +53,7 @@ fn put_init(alloc: Global, database: &mut Database, place: usize) -> Result<(), 
 }
 
 // Each relvar sees those before it.
-fn opened(alloc: Global, catalogue: Catalogue) -> Result<Database, Failure>
+fn open_in_order(alloc: Global, catalogue: Catalogue) -> Result<Database, Failure>
     ensures { Fills catalogue result }
 {
     let mut database = match Database::empty(alloc, catalogue) {
@@ -70,7 +70,7 @@ fn opened(alloc: Global, catalogue: Catalogue) -> Result<Database, Failure>
 }
 
 // The database, where every test is true.
-fn judged(alloc: Global, database: Database) -> Result<Database, ScriptError>
+fn judge_tests(alloc: Global, database: Database) -> Result<Database, ScriptError>
     ensures { Judges database result }
 {
     match first_failure(alloc, database.catalogue(), &database) {
@@ -96,11 +96,11 @@ impl Database {
             Err(CatalogueError::IllTyped) => return Err(ScriptError::IllTyped),
             Err(CatalogueError::OutOfMemory) => return Err(ScriptError::OutOfMemory),
         };
-        let database = match opened(alloc, catalogue) {
+        let database = match open_in_order(alloc, catalogue) {
             Ok(database) => database,
             Err(Failure::Raised(error)) => return Err(ScriptError::OpeningRaised(error)),
             Err(Failure::OutOfMemory) => return Err(ScriptError::OutOfMemory),
         };
-        judged(alloc, database)
+        judge_tests(alloc, database)
     }
 }

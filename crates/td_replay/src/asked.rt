@@ -7,7 +7,7 @@ ghost use Rattle.td_replay.specs.ForProofs.Asked.{Answers, TellsNamed};
 ghost use Rattle.td_replay.specs.ForProofs.Past.{SaysAfter, TellsQuery, Types};
 ghost use Rattle.td_replay.specs.ForProofs.Told.{IsLogged, Log};
 
-use crate::past::{changed_in, undo_behind};
+use crate::past::{changed_relvars, undo_behind};
 use crate::told::{Told, tell_all};
 use std::alloc::{AllocError, Global};
 use td_grammar::{ReadError, read_expr};
@@ -73,7 +73,7 @@ pub(crate) fn ask_back(
     let database = told.engine.database();
     let relvars = reads(alloc, query)?;
     let (_, behind) = told.log.split_at(kept);
-    let places = changed_in(alloc, behind, &relvars)?;
+    let places = changed_relvars(alloc, behind, &relvars)?;
     let mut part = database.copy_with_keys_at(alloc, &places)?;
     undo_behind(alloc, &mut part, &told.log, kept)?;
     value_over(alloc, database, &part, query)

@@ -29,7 +29,7 @@ fn is_changed_in(log: &[(Stamp, Ran)], relvar: usize) -> bool
 }
 
 /// Those of these relvars that one of the statements changed. It costs a look at their changes for each relvar.
-pub(crate) fn changed_in(
+pub(crate) fn changed_relvars(
     alloc: Global,
     log: &[(Stamp, Ran)],
     relvars: &[usize],

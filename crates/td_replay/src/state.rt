@@ -35,6 +35,7 @@ use td_semantics::{Answer, Meter, Outcome};
 use td_stamps::{Entry, Held, NextError, PrepareError, Stamp};
 use td_values::{Name, Text};
 
+// Whether the entry's clock, or its site where the clocks are equal, comes before that of the stamp.
 fn is_before(entry: &Entry, at: Stamp) -> bool
     ensures { result ≡ before entry.now (entry_at at) }
 {
@@ -51,7 +52,7 @@ fn count_before(entries: &[Entry], at: Stamp) -> usize
 }
 
 // How many entries there are up to that of this stamp.
-fn kept_to(entries: &[Entry], at: Stamp) -> Option<usize>
+fn length_up_to(entries: &[Entry], at: Stamp) -> Option<usize>
     requires { is_set entries.now ≡ true }
     ensures { MatchOption result (HasNoPlace at entries.now) (EndsWith at entries.now) }
 {
@@ -65,6 +66,7 @@ fn kept_to(entries: &[Entry], at: Stamp) -> Option<usize>
     None
 }
 
+// The same refusal, of a query just after an entry.
 fn past_error(error: AskError) -> PastError
     ensures { result ≡ as_past error }
 {
@@ -199,6 +201,7 @@ impl State {
         }
     }
 
+    /// Issues a statement: adds the site's next entry with this text, and runs it.
     pub fn issue(
         &mut self,
         alloc: Global,
@@ -265,6 +268,7 @@ impl State {
         })
     }
 
+    /// What a query means over the database after all entries that are held.
     pub fn ask(&self, alloc: Global, text: &str) -> Result<Answer, AskError>
         ensures { Asks (always_open self.now) text.now result }
     {
@@ -290,7 +294,7 @@ impl State {
             Err(error) => return Err(past_error(error)),
         };
         let entries = self.held.entries();
-        let Some(kept) = kept_to(entries, at) else {
+        let Some(kept) = length_up_to(entries, at) else {
             return Err(PastError::NoPlace);
         };
         let asked = match way {
@@ -312,18 +316,20 @@ impl State {
             (λ changes. TellsChanges (always_open self.now) at (Ok changes.now))
             (λ error. TellsChanges (always_open self.now) at (Err error)) }
     {
-        let Some(kept) = kept_to(self.held.entries(), at) else {
+        let Some(kept) = length_up_to(self.held.entries(), at) else {
             return Err(ChangedError::NoPlace);
         };
         Ok(self.told.log[kept - 1].1.delta.as_slice())
     }
 
+    /// What the relvar of this name has after all entries that are held, or the error that it raises.
     pub fn value_of(&self, alloc: Global, name: &Name) -> Result<Answer<Relation>, ValueError>
         ensures { TellsValue (always_open self.now) name.now result }
     {
         asked::value_of(alloc, self.told.engine.database(), name)
     }
 
+    /// What became of each entry that is held, with its stamp, in stamp order.
     pub fn outcomes(&self, alloc: Global) -> Result<Vec<(Stamp, Outcome)>, TellError>
         ensures { MatchResult result (λ v. TellsOutcomes (always_open self.now) (Ok v.items)) (λ e. TellsOutcomes (always_open self.now) (Err e)) }
     {
@@ -339,6 +345,7 @@ impl State {
         &self.held
     }
 
+    /// The number of the site, from 1 on.
     pub fn site(&self) -> u16
         ensures number { result ≡ self.now.site }
         ensures sound { IsSound (always_open self.now) }

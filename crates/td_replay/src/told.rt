@@ -40,6 +40,7 @@ impl Drop for Told {
     }
 }
 
+// Whether the text of the statement has no reading or no typing.
 fn is_unread(outcome: &Outcome) -> bool
     ensures { IsTrue result ↔ (outcome.now ≡ became.Unread) }
 {
@@ -154,7 +155,7 @@ impl Told {
 }
 
 // What the script opens. It opened before, so no refusal but want of memory comes.
-fn opening(alloc: Global, script: &str) -> Result<Database, AllocError>
+fn open_database(alloc: Global, script: &str) -> Result<Database, AllocError>
     requires { IsAccepted script.now }
     ensures opens { IfOk result (OpensOn script.now None) }
     ensures legal { IfOk result IsLegal }
@@ -179,7 +180,7 @@ pub(crate) fn tell_all(
     ensures counted { meter.new.count ≤ meter.old.count + length entries.now }
     ensures told { IfOk result (λ t. IsLogged script.now entries.now t.log.items t.engine) }
 {
-    let mut told = Told::begun(alloc, opening(alloc, script)?);
+    let mut told = Told::begun(alloc, open_database(alloc, script)?);
     for entry in entries {
         told.run_next(alloc, entry, meter)?;
     }

@@ -49,6 +49,7 @@ impl Action {
             .saturating_add(CLOSING.len())
     }
 
+    /// Adds a tuple as the language writes it, whether or not a statement still has room for it.
     pub(crate) fn push(&mut self, tuple: &str) -> Result<(), AllocError> {
         if self.count > 0 {
             self.text.push_str(BETWEEN)?;

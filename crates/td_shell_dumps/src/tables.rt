@@ -55,6 +55,7 @@ struct Actions {
     texts: Vec<String>,
 }
 
+// Adds the action, with its end, unless it inserts no tuples.
 fn push_action(actions: &mut Vec<String>, action: Action) -> Result<(), AllocError> {
     if action.count > 0 {
         actions.push(action.end()?)?;
@@ -154,6 +155,7 @@ fn one_by_one(alloc: Global, all: &[Actions]) -> Result<Vec<DumpStatement>, Allo
     Ok(insertions)
 }
 
+// The statements of all actions: one where it has room for them, or else one for each; none of no actions.
 fn insertions_of(alloc: Global, all: &[Actions]) -> Result<Vec<DumpStatement>, AllocError> {
     if all.iter().all(|actions| actions.texts.is_empty()) {
         return Ok(Vec::new(alloc));

@@ -18,6 +18,7 @@ pub struct Trial {
     pub lines: String,
 }
 
+// Appends a line about a statement without effect: its number from 1 on, its relvar, and why.
 fn push_refused(
     out: &mut String,
     number: usize,
@@ -36,6 +37,7 @@ fn push_refused(
     out.push_str("\n")
 }
 
+// Issues each statement at the site, counts those without effect, and writes a line for each of the first ten.
 fn try_all<O: Opens>(
     alloc: Global,
     site: &mut O,

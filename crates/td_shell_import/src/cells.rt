@@ -18,10 +18,12 @@ impl From<AllocError> for Unread {
     }
 }
 
+// Whether the byte is NUL, LF or CR, with which a cell is refused as a text.
 fn stands_in_no_text(byte: &u8) -> bool {
     *byte == 0 || *byte == b'\n' || *byte == b'\r'
 }
 
+// The cell as a text, with its blanks, if it is one line of UTF-8 without NUL.
 fn text_in(alloc: Global, cell: &[u8]) -> Result<Kind, Unread> {
     let Ok(text) = str::from_utf8(cell) else {
         return Err(Unread::Fault(CellFault::NoUtf8));
@@ -32,6 +34,7 @@ fn text_in(alloc: Global, cell: &[u8]) -> Result<Kind, Unread> {
     Ok(Kind::Char(Text::from_str(alloc, text)?))
 }
 
+// The cell as an integer of 64 bits; an empty cell has a fault of its own.
 fn integer_in(cell: &[u8]) -> Result<Kind, Unread> {
     if cell.is_empty() {
         return Err(Unread::Fault(CellFault::Empty));
@@ -45,6 +48,7 @@ fn integer_in(cell: &[u8]) -> Result<Kind, Unread> {
     }
 }
 
+// The cell as TRUE or FALSE, whatever the case of its letters; an empty cell has a fault of its own.
 fn boolean_in(cell: &[u8]) -> Result<Kind, Unread> {
     if cell.is_empty() {
         return Err(Unread::Fault(CellFault::Empty));
@@ -64,7 +68,7 @@ pub fn is_plain(kind: &TypeKind) -> bool {
 }
 
 /// The value of a cell. Blanks around a number or a truth value mean nothing; those of a text stay.
-pub fn value_in(alloc: Global, kind: &TypeKind, cell: &[u8]) -> Result<Value, Unread> {
+pub(crate) fn value_in(alloc: Global, kind: &TypeKind, cell: &[u8]) -> Result<Value, Unread> {
     let kind = match kind {
         TypeKind::Integer => integer_in(cell.trim_ascii())?,
         TypeKind::Boolean => boolean_in(cell.trim_ascii())?,

@@ -7,17 +7,19 @@ use td_terminals::push_in_line;
 use td_values::{Heading, Name, TdType};
 
 /// The bytes as a text to be told in one line.
-pub(crate) fn told(alloc: Global, bytes: &[u8]) -> Result<String, AllocError> {
+pub(crate) fn printable_text(alloc: Global, bytes: &[u8]) -> Result<String, AllocError> {
     let text = String::from_utf8_lossy(alloc, bytes)?;
     let mut told = String::with_capacity(alloc, text.len())?;
     push_in_line(&mut told, text.as_str())?;
     Ok(told)
 }
 
+// Whether the cell, without blanks around it, is the attribute's name.
 fn is_title(cell: &[u8], name: &Name) -> bool {
     cell.trim_ascii() == name.as_str().as_bytes()
 }
 
+// Whether the title of this column names the attribute; no title stands behind the last column.
 fn has_title(titles: &ByteRecord, at: usize, name: &Name) -> bool {
     titles.get(at).is_some_and(|cell| is_title(cell, name))
 }
@@ -43,14 +45,16 @@ fn column_of(alloc: Global, titles: &ByteRecord, name: &Name) -> Result<usize, I
     }
 }
 
+// Refuses a title that names no attribute.
 fn check_title(alloc: Global, fields: &[(Name, TdType)], title: &[u8]) -> Result<(), ImportFault> {
     if fields.iter().any(|field| is_title(title, &field.0)) {
         return Ok(());
     }
-    let name = told(alloc, title)?;
+    let name = printable_text(alloc, title)?;
     Err(ImportFault::UnknownColumn { name })
 }
 
+// Refuses the titles where one names no attribute of the heading, and tells the first such.
 fn check_titles(alloc: Global, heading: &Heading, titles: &ByteRecord) -> Result<(), ImportFault> {
     for at in 0..titles.len() {
         if let Some(title) = titles.get(at) {

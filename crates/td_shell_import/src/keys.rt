@@ -31,6 +31,7 @@ fn values_at(alloc: Global, row: &Row, places: &[usize]) -> Result<String, Alloc
     Ok(text)
 }
 
+// Whether all values of the two rows are written alike.
 fn is_same_tuple(first: &Row, second: &Row) -> bool {
     first.literals.as_slice() == second.literals.as_slice()
 }

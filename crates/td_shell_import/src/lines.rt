@@ -28,10 +28,12 @@ impl<'a> Lines<'a> {
         }
     }
 
+    // Whether the next byte is CR or LF; false at the end of the file.
     fn is_blank(&self) -> bool {
         matches!(self.file.get(self.at), Some(b'\r' | b'\n'))
     }
 
+    // Goes on by one byte, and counts a line where that byte ends one.
     fn step(&mut self) {
         if self.ends_at(self.at) {
             self.line = self.line.saturating_add(1);
@@ -40,7 +42,7 @@ impl<'a> Lines<'a> {
     }
 
     /// The line of the first byte behind so many that is no line end. What is counted once is not counted again.
-    pub fn line_behind(&mut self, bytes: u64) -> u64 {
+    pub(crate) fn line_behind(&mut self, bytes: u64) -> u64 {
         for _ in self.at..self.file.len() {
             if self.at as u64 >= bytes && !self.is_blank() {
                 break;

@@ -1,7 +1,7 @@
 //! The rows of a file, each read and checked.
 
 use crate::cells::{Unread, is_plain, value_in};
-use crate::columns::{columns_of, told};
+use crate::columns::{columns_of, printable_text};
 use crate::error::{CellFault, ImportFault};
 use crate::lines::Lines;
 use crate::literals::Literals;
@@ -18,6 +18,7 @@ pub struct Row {
     pub literals: Vec<String>,
 }
 
+// Why a record is not read: there is no memory for it, or the file is none of comma-separated values.
 fn unreadable(error: &Error) -> ImportFault {
     match error.kind() {
         ErrorKind::OutOfMemory => ImportFault::OutOfMemory,
@@ -25,6 +26,7 @@ fn unreadable(error: &Error) -> ImportFault {
     }
 }
 
+// The line in which the record begins, counted from 1; 0 where its place is not known.
 fn line_of(lines: &mut Lines<'_>, record: &ByteRecord) -> u64 {
     match record.position() {
         Some(position) => lines.line_behind(position.byte()),
@@ -32,6 +34,7 @@ fn line_of(lines: &mut Lines<'_>, record: &ByteRecord) -> u64 {
     }
 }
 
+// The fault of a cell, with its line, its attribute and what stands in it, fit for one line of an answer.
 fn cell_fault(
     alloc: Global,
     line: u64,
@@ -42,7 +45,7 @@ fn cell_fault(
     Ok(ImportFault::Cell {
         line,
         name: String::from_str(alloc, name.as_str())?,
-        cell: told(alloc, cell)?,
+        cell: printable_text(alloc, cell)?,
         fault,
     })
 }
@@ -62,6 +65,7 @@ fn written_in<L: Literals>(
     }
 }
 
+// The cell as the language writes its value, if it has one of the attribute's type.
 fn literal_in<L: Literals>(
     alloc: Global,
     literals: &L,
@@ -82,6 +86,7 @@ fn literal_in<L: Literals>(
     }
 }
 
+// The record's cells as a row, in the order of the heading; a cell that is not there is an empty one.
 fn row_in<L: Literals>(
     alloc: Global,
     literals: &L,
@@ -101,6 +106,7 @@ fn row_in<L: Literals>(
     })
 }
 
+// The record as a row, if it has as many cells as are wanted and its INSERT has at most so many bytes.
 fn checked_row<L: Literals>(
     alloc: Global,
     literals: &L,

@@ -31,6 +31,7 @@ fn tuple_bytes(heading: &Heading, row: &Row) -> usize {
     bytes
 }
 
+// How many bytes an INSERT into the relvar has without its tuples.
 fn frame_bytes(relvar: &Name) -> usize {
     relvar
         .as_str()
@@ -43,6 +44,7 @@ pub(crate) fn is_short(relvar: &Name, heading: &Heading, row: &Row, most_bytes: 
     frame_bytes(relvar).saturating_add(tuple_bytes(heading, row)) <= most_bytes
 }
 
+// Appends the row as a tuple of the language: each attribute's name with its literal.
 fn push_tuple(text: &mut String, heading: &Heading, row: &Row) -> Result<(), AllocError> {
     text.push_str("TUPLE {")?;
     for (at, (field, literal)) in heading.fields().iter().zip(&row.literals).enumerate() {

@@ -139,7 +139,7 @@ fn call_in(rest: &str) -> DotCommand<'_> {
     }
 }
 
-fn refused_in(rest: &str) -> DotCommand<'static> {
+fn refused_command(rest: &str) -> DotCommand<'static> {
     match rest {
         "" => DotCommand::Refused { is_own: false },
         "here" => DotCommand::Refused { is_own: true },
@@ -206,7 +206,7 @@ pub fn command_of(line: &str) -> DotCommand<'_> {
         ".tables" => without_words(DotCommand::Tables, rest, ".tables"),
         ".schema" => schema_in(rest),
         ".log" => without_words(DotCommand::Log, rest, ".log"),
-        ".refused" => refused_in(rest),
+        ".refused" => refused_command(rest),
         ".digest" => digest_in(rest),
         ".listing" => without_words(DotCommand::Listing, rest, ".listing"),
         ".vector" => without_words(DotCommand::Vector, rest, ".vector"),

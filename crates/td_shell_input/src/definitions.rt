@@ -9,7 +9,7 @@ pub struct Defined<'a> {
     pub rest: &'a [u8],
 }
 
-fn parted(bytes: &[u8], end: usize) -> Defined<'_> {
+fn part_definition(bytes: &[u8], end: usize) -> Defined<'_> {
     match bytes.split_at_checked(end) {
         Some((text, rest)) => Defined { text, rest },
         None => Defined {
@@ -25,10 +25,10 @@ pub fn definition_at(script: &[u8]) -> Defined<'_> {
     for (at, byte) in script.iter().enumerate() {
         scan.step(*byte, script.get(at.saturating_add(1)).copied());
         if scan.is_behind_end() {
-            return parted(script, at.saturating_add(1));
+            return part_definition(script, at.saturating_add(1));
         }
     }
-    parted(script, script.len())
+    part_definition(script, script.len())
 }
 
 // What is behind a comment that stands in front.
@@ -65,7 +65,7 @@ fn word(text: &[u8]) -> (&[u8], &[u8]) {
 }
 
 /// The name that a definition defines: its second word.
-pub fn defined_by(definition: &[u8]) -> &[u8] {
+pub fn defined_name(definition: &[u8]) -> &[u8] {
     let (_kind, behind) = word(definition);
     let (name, _behind) = word(behind);
     name

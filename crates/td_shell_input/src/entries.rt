@@ -34,7 +34,7 @@ pub fn push_entry(out: &mut String, dialect: u8, text: &str) -> Result<(), Alloc
 }
 
 // What a backslash and this character stand for.
-fn unescaped(c: char) -> Option<char> {
+fn unescape(c: char) -> Option<char> {
     match c {
         '\\' => Some('\\'),
         'n' => Some('\n'),
@@ -58,7 +58,7 @@ fn text_in(alloc: Global, quoted: &str) -> Result<Option<String>, AllocError> {
                 _ => None,
             },
             '\\' => match rest.next() {
-                Some(c) => unescaped(c),
+                Some(c) => unescape(c),
                 None => None,
             },
             c => Some(c),

@@ -12,6 +12,6 @@ pub mod entries;
 pub mod scan;
 
 pub use commands::{DotCommand, Mode, command_of};
-pub use definitions::{Defined, defined_by, definition_at, script_front};
+pub use definitions::{Defined, defined_name, definition_at, script_front};
 pub use entries::{DumpedEntry, entry_in, push_entry};
 pub use scan::{Scan, Standing};

@@ -166,12 +166,12 @@ impl Scan {
         if !self.has_open_quote && self.goes_on() {
             return Standing::Open;
         }
-        self.ended()
+        self.standing_at_end()
     }
 
     /// What the text is where no line follows. A comment without its end is no blank: the text is one that has no
     /// reading.
-    pub fn ended(&self) -> Standing {
+    pub fn standing_at_end(&self) -> Standing {
         if self.last.is_none() && self.place != Place::Comment {
             return Standing::Empty;
         }

@@ -16,6 +16,7 @@ use td_shell_tables::relation_table;
 use td_stamps::Stamp;
 use td_values::{Kind, Value, show};
 
+// Why a text is no query: it is too long, goes wrong at a place that is shown, or is a command but for its dot.
 fn unread(alloc: Global, text: &str) -> Result<String, AllocError> {
     if text.len() > MOST_BYTES {
         let bytes = text.len();
@@ -44,12 +45,14 @@ pub fn not_asked(
     }
 }
 
+// The value as the language writes it, with a line end.
 fn literal(alloc: Global, value: &Value) -> Result<String, AllocError> {
     let mut out = show(alloc, value)?;
     out.push_str("\n")?;
     Ok(out)
 }
 
+// The relation as comma-separated values under its attributes' names; one without attributes gives a fault.
 fn csv_text(alloc: Global, relation: &Relation) -> Result<String, AllocError> {
     if relation.heading().is_empty() {
         return String::from_str(alloc, "fault csv: the relation has no attributes\n");
@@ -61,7 +64,8 @@ fn csv_text(alloc: Global, relation: &Relation) -> Result<String, AllocError> {
     }
 }
 
-fn shown(alloc: Global, value: Value, mode: Mode) -> Result<String, AllocError> {
+// The value as the mode has it; one that is no relation is written as a literal in each mode.
+fn value_text(alloc: Global, value: Value, mode: Mode) -> Result<String, AllocError> {
     match (value.kind, mode) {
         (Kind::Relation(rows), Mode::Table) => relation_table(alloc, rows.heading(), rows.tuples()),
         (Kind::Relation(rows), Mode::Csv) => csv_text(alloc, &Relation::of(rows)),
@@ -90,9 +94,10 @@ pub fn not_asked_at(
     }
 }
 
+// The value as the mode has it, or what the error means that the evaluation raised.
 fn answer(alloc: Global, asked: Answer, mode: Mode) -> Result<String, AllocError> {
     match asked {
-        Answer::Value(value) => shown(alloc, value, mode),
+        Answer::Value(value) => value_text(alloc, value, mode),
         Answer::Raised(raise) => {
             let mut out = String::from_str(alloc, raise_words(raise))?;
             out.push_str("\n")?;

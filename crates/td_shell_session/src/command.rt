@@ -80,6 +80,7 @@ fn no_script<F: Sink>(script: &str, error: Unreadable, faults: &mut F) -> u8 {
     BAD_WORDS
 }
 
+// What is said on the output of faults where a session breaks off.
 fn ended_words(ended: SessionEnd) -> &'static str {
     match ended {
         SessionEnd::OutOfMemory => "fault memory: there is not enough memory to go on\n",
@@ -290,7 +291,7 @@ pub fn open_new<R: Opens, F: Sink>(
 }
 
 // That a journal cannot be used, and why.
-fn fault_journal(alloc: Global, name: &str, why: &str) -> Result<String, AllocError> {
+fn journal_fault_words(alloc: Global, name: &str, why: &str) -> Result<String, AllocError> {
     format!(in alloc; "fault journal {name}: {why}\n")
 }
 
@@ -317,11 +318,11 @@ fn refusal_by_bytes<R: Opens + Drop, H: Files + AllocGlobal>(
 {
     let contents = match read_contents(host, name) {
         Ok(contents) => contents,
-        Err(error) => return fault_journal(alloc, name, error.words()),
+        Err(error) => return journal_fault_words(alloc, name, error.words()),
     };
     let mut journal = Device::new(contents.bytes.as_slice());
     match take_journal(alloc, site, &mut journal, meter) {
-        Ok(_) => fault_journal(alloc, name, file_words(Refusal::Other)),
+        Ok(_) => journal_fault_words(alloc, name, file_words(Refusal::Other)),
         Err(error) => refusal_text(
             alloc,
             name,
@@ -335,7 +336,7 @@ fn refusal_by_bytes<R: Opens + Drop, H: Files + AllocGlobal>(
 }
 
 /// Tells why a journal is not gone on with: what its file says of that, or else what it has.
-pub fn unkept<R: Opens + Drop, H: Files + AllocGlobal, F: Sink>(
+pub fn tell_unkept<R: Opens + Drop, H: Files + AllocGlobal, F: Sink>(
     alloc: Global,
     words: &ShellOptions<'_>,
     name: &str,
@@ -346,11 +347,14 @@ pub fn unkept<R: Opens + Drop, H: Files + AllocGlobal, F: Sink>(
     faults: &mut F,
 ) -> u8 {
     if let Some(refusal) = notes.refusal() {
-        return refuse(fault_journal(alloc, name, file_words(refusal)), faults);
+        return refuse(
+            journal_fault_words(alloc, name, file_words(refusal)),
+            faults,
+        );
     }
     if notes.failure().is_some() {
         let why = failure_words(notes.failure());
-        return refuse(fault_journal(alloc, name, why), faults);
+        return refuse(journal_fault_words(alloc, name, why), faults);
     }
     match open_new::<R, _>(alloc, words, script, faults) {
         Ok(site) => {
@@ -375,7 +379,7 @@ fn start_reading<
     let alloc = run.alloc;
     let contents = match read_contents(run.host, name) {
         Ok(contents) => contents,
-        Err(error) => return refuse(fault_journal(alloc, name, error.words()), run.faults),
+        Err(error) => return refuse(journal_fault_words(alloc, name, error.words()), run.faults),
     };
     let mut journal = Device::new(contents.bytes.as_slice());
     match take_journal(alloc, site, &mut journal, run.meter) {
@@ -423,7 +427,7 @@ fn start_keeping<
             run_at::<_, R, _, _, _, _, _>(run, found, site, behind)
         }
         Err(StoreError::OutOfMemory) => end(Err(SessionEnd::OutOfMemory), run.faults),
-        Err(StoreError::JournalFile) => unkept::<R, _, _>(
+        Err(StoreError::JournalFile) => tell_unkept::<R, _, _>(
             alloc,
             run.words,
             name,

@@ -6,7 +6,7 @@ use td_shell_input::{Scan, Standing};
 
 /// The lines that were typed since the last answer.
 #[derive(Drop)]
-pub struct Draft {
+pub(crate) struct Draft {
     text: String,
     scan: Scan,
     is_too_long: bool,
@@ -23,8 +23,8 @@ impl Draft {
     }
 
     /// What the lines are, where no other one follows.
-    pub fn ended(&self) -> Standing {
-        self.scan.ended()
+    pub fn standing_at_end(&self) -> Standing {
+        self.scan.standing_at_end()
     }
 
     /// Whether another line has to follow.

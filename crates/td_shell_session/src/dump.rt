@@ -1,7 +1,7 @@
 //! A site as a script that makes it again.
 
 use crate::issue::issue;
-use crate::lists::told;
+use crate::lists::statements_with_outcomes;
 use crate::new_file::{NotWritten, write_new};
 use std::alloc::{AllocError, Global};
 use std::fs::File;
@@ -19,7 +19,7 @@ use td_stamps::{Entry, Stamp};
 const OF_JOURNALS: &str = ".tdj";
 
 /// The script, as it stands in front of the statements of a dump.
-pub fn script_text(alloc: Global, script: &str) -> Result<String, AllocError> {
+pub(crate) fn script_text(alloc: Global, script: &str) -> Result<String, AllocError> {
     let mut text = String::from_str(alloc, script)?;
     text.push_str(".begin\n")?;
     Ok(text)
@@ -70,6 +70,7 @@ fn dump_of(
     Ok(dump)
 }
 
+// What is told of a dump that is written: how many statements it has, and how many it leaves out, if any.
 fn dumped_words(alloc: Global, file: &str, dump: &History) -> Result<String, AllocError> {
     let kept = dump.kept;
     let left_out = dump.left_out;
@@ -82,12 +83,16 @@ fn dumped_words(alloc: Global, file: &str, dump: &History) -> Result<String, All
 }
 
 /// Whether a name is one of a journal, or of a file beside one.
-pub fn is_of_journals(file: &str) -> bool {
+pub(crate) fn is_of_journals(file: &str) -> bool {
     file.contains(OF_JOURNALS)
 }
 
 /// Why a text is not written to a new file.
-pub fn unwritten_words(alloc: Global, file: &str, error: NotWritten) -> Result<String, AllocError> {
+pub(crate) fn unwritten_words(
+    alloc: Global,
+    file: &str,
+    error: NotWritten,
+) -> Result<String, AllocError> {
     match error {
         NotWritten::IsThere => format!(in alloc;
             "fault file: {file} is there already, and is not written over; name another file\n"
@@ -112,7 +117,7 @@ pub fn dump<R: Replica, H: Files<File = File>>(
             "fault file: {file} is a name for journals; a dump goes to another one\n"
         );
     }
-    let dump = match told(alloc, site) {
+    let dump = match statements_with_outcomes(alloc, site) {
         Ok((entries, outcomes)) => dump_of(alloc, site.script(), entries, &outcomes)?,
         Err(words) => return String::from_str(alloc, words),
     };
@@ -131,6 +136,7 @@ fn is_of_dialect(alloc: Global, entry: &DumpedEntry) -> Result<bool, AllocError>
     }
 }
 
+// Issues the statement of an entry, if its text is a statement of the dialect that the entry names.
 fn issue_dumped<R: Changes>(
     alloc: Global,
     catalogue: &Catalogue,

@@ -3,7 +3,7 @@
 use crate::ended::SessionEnd;
 use crate::issue::{not_issued, push_issued};
 use crate::relvars::relvar_named;
-use crate::wording::counted;
+use crate::wording::count_words;
 use std::alloc::{AllocError, Global};
 use td_headings::{Catalogue, Origin};
 use td_io::{Sink, put};
@@ -42,6 +42,7 @@ struct Progress {
     last: Option<Stamp>,
 }
 
+// What is said of a file with a fault, of which nothing is imported.
 fn fault_words(alloc: Global, fault: ImportFault) -> Result<String, AllocError> {
     let words = fault.to_string(alloc)?;
     format!(in alloc; "fault import: {words}; nothing is imported\n")
@@ -81,6 +82,7 @@ impl<R: Replica> Literals for SiteLiterals<'_, R> {
     }
 }
 
+// The rows of the file as the target's heading has them; those for a base relvar are checked for its keys too.
 fn checked_rows<R: Replica>(
     alloc: Global,
     site: &R,
@@ -105,6 +107,7 @@ fn checked_rows<R: Replica>(
     Ok(rows)
 }
 
+// The lines in which the first and the last of these rows begin, in words; empty where there are no rows.
 fn lines_of(alloc: Global, rows: &[Row]) -> Result<String, AllocError> {
     match (rows.first(), rows.last()) {
         (Some(first), Some(last)) => {
@@ -117,7 +120,7 @@ fn lines_of(alloc: Global, rows: &[Row]) -> Result<String, AllocError> {
 }
 
 // What is said of a statement that was refused: the rows before it are there, and those behind it are not.
-fn stopped(
+fn refused_row_words(
     alloc: Global,
     progress: &Progress,
     all: usize,
@@ -129,12 +132,14 @@ fn stopped(
     format!(in alloc; "{why}\nimported {imported} of {all} rows: it stops at {lines}\n")
 }
 
-fn refused(alloc: Global, issued: &Issued) -> Result<String, AllocError> {
+// The stamp of a statement that was refused, and why it was.
+fn refused_words(alloc: Global, issued: &Issued) -> Result<String, AllocError> {
     let mut out = String::new(alloc);
     push_issued(&mut out, issued)?;
     Ok(out)
 }
 
+// Appends the stamp of the first statement, that of the last where there are several, and a line end.
 fn push_stamps(out: &mut String, progress: &Progress) -> Result<(), AllocError> {
     if let Some(first) = &progress.first {
         show_stamp(out, first)?;
@@ -148,9 +153,10 @@ fn push_stamps(out: &mut String, progress: &Progress) -> Result<(), AllocError> 
     out.push_str("\n")
 }
 
-fn imported(alloc: Global, progress: &Progress) -> Result<String, AllocError> {
-    let rows = counted(alloc, progress.rows, "row")?;
-    let statements = counted(alloc, progress.statements, "statement")?;
+// What is told of an import that came to its end: how many rows and statements it has, and their stamps.
+fn imported_words(alloc: Global, progress: &Progress) -> Result<String, AllocError> {
+    let rows = count_words(alloc, progress.rows, "row")?;
+    let statements = count_words(alloc, progress.statements, "statement")?;
     let mut out = format!(in alloc; "imported {rows} by {statements}: ")?;
     push_stamps(&mut out, progress)?;
     Ok(out)
@@ -180,7 +186,7 @@ fn note_issued(
     progress: &mut Progress,
 ) -> Result<Option<Stop>, AllocError> {
     if !matches!(&issued.outcome, Outcome::Done) {
-        let why = refused(alloc, issued)?;
+        let why = refused_words(alloc, issued)?;
         return Ok(Some(Stop { why, count }));
     }
     progress.rows = progress.rows.saturating_add(count);
@@ -214,6 +220,7 @@ fn insert_some<R: Replica>(
     }
 }
 
+// Inserts the rows, one statement after the other, until one is refused or not issued, and tells how far that came.
 fn insert_all<R: Replica, F: Sink>(
     alloc: Global,
     site: &mut R,
@@ -239,7 +246,7 @@ fn insert_all<R: Replica, F: Sink>(
         }
         let stop = insert_some(alloc, site, target, left, &mut progress, meter, notes)?;
         if let Some(Stop { why, count }) = stop {
-            return stopped(
+            return refused_row_words(
                 alloc,
                 &progress,
                 rows.len(),
@@ -249,7 +256,7 @@ fn insert_all<R: Replica, F: Sink>(
         }
         tell(alloc, &progress, before, rows.len(), faults)?;
     }
-    imported(alloc, &progress)
+    imported_words(alloc, &progress)
 }
 
 /// Inserts the rows of a file into the relvar of this name: all rows are checked first, and then inserted by as few

@@ -38,6 +38,7 @@ pub struct Inputs {
     reads: u64,
 }
 
+// Takes the file's next line, without LF and a CR before it; None where nothing of the file is left.
 fn line_at(alloc: Global, file: &mut ReadFile) -> Result<Option<Vec<u8>>, AllocError> {
     let rest = file.bytes.get(file.at..).unwrap_or(b"".as_slice());
     if rest.is_empty() {
@@ -53,7 +54,8 @@ fn line_at(alloc: Global, file: &mut ReadFile) -> Result<Option<Vec<u8>>, AllocE
     Ok(Some(line))
 }
 
-fn kept(alloc: Global, line: &RawLine) -> Result<Next, AllocError> {
+// What comes with a line that was typed: its content, that it is too long to be kept, or the input's end.
+fn keep_line(alloc: Global, line: &RawLine) -> Result<Next, AllocError> {
     match &line.bytes {
         Some(bytes) if bytes.is_empty() && line.is_last => Ok(Next::End),
         Some(bytes) => Ok(Next::Line(Vec::from_slice(alloc, content(bytes))?)),
@@ -73,7 +75,7 @@ impl Inputs {
     }
 
     /// Has these texts come in place of what is typed. An empty line between them ends each.
-    pub fn read_texts(&mut self, texts: &[&str]) -> Result<(), AllocError> {
+    pub(crate) fn read_texts(&mut self, texts: &[&str]) -> Result<(), AllocError> {
         let mut bytes = Vec::new(self.alloc);
         for text in texts {
             bytes.extend_from_slice(text.as_bytes())?;
@@ -85,17 +87,17 @@ impl Inputs {
     }
 
     /// Whether the next line is one that is typed.
-    pub fn is_typed(&self) -> bool {
+    pub(crate) fn is_typed(&self) -> bool {
         self.files.is_empty()
     }
 
     /// Whether the next line is one that is typed, and is not there yet.
-    pub fn would_wait<S: Source>(&self, source: &S) -> bool {
+    pub(crate) fn would_wait<S: Source>(&self, source: &S) -> bool {
         self.is_typed() && !has_line(source.buffer())
     }
 
     /// Has the lines of a file come next. The answer is whether so many files may be read within one another.
-    pub fn read_file(&mut self, bytes: Vec<u8>) -> Result<bool, AllocError> {
+    pub(crate) fn read_file(&mut self, bytes: Vec<u8>) -> Result<bool, AllocError> {
         if self.files.len() >= MOST_FILES {
             return Ok(false);
         }
@@ -103,13 +105,14 @@ impl Inputs {
         Ok(true)
     }
 
+    // Reads the next line that is typed; behind the last one it gives the input's end, and reads nothing.
     fn typed_line<S: Source>(&mut self, source: &mut S) -> Result<Next, SessionEnd> {
         if self.is_over {
             return Ok(Next::End);
         }
         let line = read_line(self.alloc, source, &mut self.reads, LINE_BYTES)?;
         self.is_over = line.is_last;
-        Ok(kept(self.alloc, &line)?)
+        Ok(keep_line(self.alloc, &line)?)
     }
 
     /// The next line.

@@ -16,12 +16,14 @@ use td_shell_notices::{failure_words, push_change_count, push_outcome};
 // The words that begin a definition.
 const DEFINITIONS: [&[u8]; 3] = [b"VAR", b"TYPE", b"CONSTRAINT"];
 
+// Whether the first word of the text, whatever the case of its letters, is one that begins a definition.
 fn is_definition(text: &str) -> bool {
     let text = text.trim_ascii_start();
     let word = text.split_once(' ').map_or(text, |parts| parts.0);
     DEFINITIONS.iter().any(|definition| word.as_bytes().eq_ignore_ascii_case(definition))
 }
 
+// Why a text is no statement: it is too long, it is a definition, or it goes wrong at a place that is shown.
 fn unread(alloc: Global, text: &str) -> Result<String, AllocError> {
     if text.len() > MOST_BYTES {
         let bytes = text.len();
@@ -42,7 +44,7 @@ fn unread(alloc: Global, text: &str) -> Result<String, AllocError> {
 }
 
 /// What is said where what the site accepts is not on the disk.
-pub fn journal_words(alloc: Global, notes: &Notes) -> Result<String, AllocError> {
+pub(crate) fn journal_words(alloc: Global, notes: &Notes) -> Result<String, AllocError> {
     let why = failure_words(notes.failure());
     format!(in alloc;
         "fault journal: the journal cannot be written: {why}. This is not kept, and all before it stands. Mend that, end the program and start it again\n"
@@ -70,7 +72,7 @@ pub fn not_issued(
 }
 
 /// The stamp of a statement and what became of it.
-pub fn push_issued(out: &mut String, issued: &Issued) -> Result<(), AllocError> {
+pub(crate) fn push_issued(out: &mut String, issued: &Issued) -> Result<(), AllocError> {
     show_stamp(out, &issued.stamp)?;
     out.push_str(" ")?;
     push_outcome(out, &issued.outcome)

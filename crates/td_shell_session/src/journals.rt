@@ -46,6 +46,7 @@ fn names_in<H: Files + AllocGlobal + Clone + Drop>(
     Ok(names)
 }
 
+// Appends a blank and the name of a journal, with what stands in front of it for its folder.
 fn push_name(out: &mut String, front: &str, name: &str) -> Result<(), AllocError> {
     out.push_str(" ")?;
     out.push_str(front)?;
@@ -69,7 +70,7 @@ fn names_there<H: Files + AllocGlobal + Clone + Drop>(
 
 /// Why the journal of this name is not opened, where it is not there and was not to be begun, or is there and was to
 /// be.
-pub fn unfit_words<H: Files + AllocGlobal + Clone + Drop>(
+pub(crate) fn unfit_words<H: Files + AllocGlobal + Clone + Drop>(
     alloc: Global,
     host: &H,
     words: &ShellOptions<'_>,

@@ -9,7 +9,7 @@ use td_shell_notices::{digest_text, log_text, refused_text};
 use td_stamps::{Entry, Stamp};
 
 /// What the site holds with what became of each statement, or what is said in its place.
-pub fn told<R: Replica>(
+pub(crate) fn statements_with_outcomes<R: Replica>(
     alloc: Global,
     site: &R,
 ) -> Result<(&[Entry], Vec<(Stamp, Outcome)>), &'static str> {
@@ -25,7 +25,7 @@ pub fn told<R: Replica>(
 
 /// Each statement that the site holds, with what became of it.
 pub fn log<R: Replica>(alloc: Global, site: &R) -> Result<String, AllocError> {
-    match told(alloc, site) {
+    match statements_with_outcomes(alloc, site) {
         Ok((entries, outcomes)) => log_text(alloc, entries, &outcomes),
         Err(words) => String::from_str(alloc, words),
     }
@@ -40,9 +40,13 @@ pub fn vector<R: Replica>(alloc: Global, site: &R) -> Result<String, AllocError>
 }
 
 /// Each statement that has no effect, of the site alone where so asked.
-pub fn refused<R: Replica>(alloc: Global, site: &R, is_own: bool) -> Result<String, AllocError> {
+pub(crate) fn refused_statements<R: Replica>(
+    alloc: Global,
+    site: &R,
+    is_own: bool,
+) -> Result<String, AllocError> {
     let number = is_own.then_some(site.site());
-    match told(alloc, site) {
+    match statements_with_outcomes(alloc, site) {
         Ok((entries, outcomes)) => refused_text(alloc, entries, &outcomes, number),
         Err(words) => String::from_str(alloc, words),
     }

@@ -18,6 +18,7 @@ use td_shell_notices::{MeetingChanges, Told, room_text};
 const NO_ADDRESS: &str =
     "fault address: an address is numbers and a port, as 127.0.0.1:7001 or [::1]:7001\n";
 
+// Why there is no link to another site.
 fn not_linked(alloc: Global, error: LinkError) -> Result<String, AllocError> {
     match error {
         LinkError::NetFault => {
@@ -30,12 +31,14 @@ fn not_linked(alloc: Global, error: LinkError) -> Result<String, AllocError> {
     }
 }
 
+// What is said where the link fails in a meeting: why, and how many new statements came before.
 fn broken_off(alloc: Global, why: &str, taken: usize) -> Result<String, AllocError> {
     format!(in alloc;
         "{why}; {taken} new statements came before, and the next meeting brings the rest\n"
     )
 }
 
+// Why nothing more is read of what the other end sends; where the link fails, also how many statements came.
 fn frame_words(alloc: Global, error: FrameError, taken: usize) -> Result<String, AllocError> {
     let words = match error {
         FrameError::OutOfMemory => NO_MEMORY,
@@ -53,6 +56,7 @@ fn frame_words(alloc: Global, error: FrameError, taken: usize) -> Result<String,
     String::from_str(alloc, words)
 }
 
+// Why the site does not take what the other one sent.
 fn take_words(alloc: Global, error: TakeError, notes: &Notes) -> Result<String, AllocError> {
     let words = match error {
         TakeError::Broken => BROKEN,
@@ -97,6 +101,7 @@ pub struct Meeting {
     pub is_done: bool,
 }
 
+// A meeting that is not done, of which nothing but this text is told.
 fn not_begun(text: Result<String, AllocError>) -> Result<Meeting, AllocError> {
     Ok(Meeting {
         text: text?,
@@ -104,6 +109,7 @@ fn not_begun(text: Result<String, AllocError>) -> Result<Meeting, AllocError> {
     })
 }
 
+// The line of a meeting that came to its end: how many statements were new here.
 fn met_words(alloc: Global, fresh: usize) -> Result<String, AllocError> {
     if fresh == 1 {
         return String::from_str(alloc, "met: 1 statement was new here\n");
@@ -112,7 +118,7 @@ fn met_words(alloc: Global, fresh: usize) -> Result<String, AllocError> {
 }
 
 // What a site told before a meeting, or why nothing is begun.
-fn told_before<R: Changes>(alloc: Global, site: &R) -> Result<Told, &'static str> {
+fn outcomes_before<R: Changes>(alloc: Global, site: &R) -> Result<Told, &'static str> {
     match Told::by(alloc, site) {
         Ok(told) => Ok(told),
         Err(TellError::Broken) => Err(BROKEN),
@@ -159,6 +165,7 @@ enum Unmet {
     BrokenOff(MeetingError),
 }
 
+// What is said of a meeting; where it began, even if it broke off, also what the site tells otherwise since.
 fn met<R: Changes>(
     alloc: Global,
     catalogue: &Catalogue,
@@ -184,6 +191,7 @@ fn tell_waiting<F: Sink>(alloc: Global, word: &str, faults: &mut F) -> Result<()
     Ok(())
 }
 
+// Waits at the address for a site and meets it; a failure tells how far the meeting came.
 fn serve<R: Replica, L: Links>(
     alloc: Global,
     site: &mut R,
@@ -204,6 +212,7 @@ fn serve<R: Replica, L: Links>(
     }
 }
 
+// Calls the site at the address and meets it; a failure tells how far the meeting came.
 fn call<R: Replica, L: Links>(
     alloc: Global,
     site: &mut R,
@@ -239,7 +248,7 @@ pub fn meet<R: Changes, L: Links, F: Sink>(
     let Ok(address) = word.parse::<SocketAddr>() else {
         return not_begun(String::from_str(alloc, NO_ADDRESS));
     };
-    let before = match told_before(alloc, site) {
+    let before = match outcomes_before(alloc, site) {
         Ok(before) => before,
         Err(words) => return not_begun(String::from_str(alloc, words)),
     };

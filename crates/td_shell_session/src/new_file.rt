@@ -12,7 +12,7 @@ const OWN: u32 = 0o600;
 
 /// Why a file is not written.
 #[derive(Clone, Copy, Debug, PartialEq, Eq)]
-pub enum NotWritten {
+pub(crate) enum NotWritten {
     /// There is one of this name already.
     IsThere,
     /// There is one with `.part` behind the name already, as a stop may leave it.
@@ -52,7 +52,7 @@ fn give_name<H: Files<File = File>>(host: &H, part: &str, name: &str) -> Result<
 }
 
 /// Writes the bytes to a file that is not there yet, not even as a link: first beside it, and then under its name.
-pub fn write_new<H: Files<File = File>>(
+pub(crate) fn write_new<H: Files<File = File>>(
     alloc: Global,
     host: &H,
     name: &str,

@@ -58,6 +58,7 @@ pub fn no_script_words(error: NoScript) -> &'static str {
     }
 }
 
+// Which key or constraint does not hold of what the script has the relvars hold at first, in words.
 fn broken_words(alloc: Global, broken: &BrokenTest) -> Result<String, AllocError> {
     match broken {
         BrokenTest::Key(relvar) => {
@@ -86,7 +87,7 @@ fn mistakes_in(alloc: Global, file: &str, script: &str, words: &str) -> Result<S
 }
 
 /// Why a script of this file opens no site, in words.
-pub fn unopened_words(
+pub(crate) fn unopened_words(
     alloc: Global,
     file: &str,
     script: &str,

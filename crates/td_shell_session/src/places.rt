@@ -5,6 +5,7 @@ use td_parse_errors::{Reading, is_too_deep, place_of_fault};
 use td_terminals::push_statement;
 use unicode_width::UnicodeWidthStr;
 
+// Appends a line with a caret behind this many blanks.
 fn push_caret(out: &mut String, column: usize) -> Result<(), AllocError> {
     for _ in 0..column {
         out.push(' ')?;
@@ -13,7 +14,7 @@ fn push_caret(out: &mut String, column: usize) -> Result<(), AllocError> {
 }
 
 /// Appends the line in which the byte stands, and a caret under it.
-pub fn push_place(out: &mut String, text: &str, at: usize) -> Result<(), AllocError> {
+pub(crate) fn push_place(out: &mut String, text: &str, at: usize) -> Result<(), AllocError> {
     let Some((front, behind)) = text.split_at_checked(at) else {
         return Ok(());
     };

@@ -6,9 +6,9 @@ use std::str;
 use td_headings::{Catalogue, Origin};
 use td_replica::{Replica, ValueError};
 use td_semantics::Answer;
-use td_shell_input::{defined_by, definition_at};
+use td_shell_input::{defined_name, definition_at};
 use td_shell_notices::raise_words;
-use td_shell_tables::{Column, Side, laid_out};
+use td_shell_tables::{Column, Side, lay_out};
 use td_values::{Heading, Name, TdType, TypeKind, show_type};
 
 // What `.tables` tells in its columns.
@@ -46,6 +46,7 @@ pub fn relvar_named<'a>(
     None
 }
 
+// Whether the relvar at this place of the script is virtual or base, as `.tables` tells it.
 fn kind_words(catalogue: &Catalogue, place: usize) -> &'static str {
     match catalogue.origin(place) {
         Some(Origin::Virtual(_)) => "virtual",
@@ -53,6 +54,7 @@ fn kind_words(catalogue: &Catalogue, place: usize) -> &'static str {
     }
 }
 
+// The heading as the language writes it in a relation type, without the word RELATION.
 fn heading_text(alloc: Global, heading: &Heading) -> Result<String, AllocError> {
     let ty = TdType {
         kind: TypeKind::Relation(heading.copy()?),
@@ -78,11 +80,13 @@ fn count_text<R: Replica>(alloc: Global, site: &R, name: &Name) -> Result<String
     }
 }
 
+// Adds a cell, unless there was no memory to make it.
 fn push_cell(cells: &mut Vec<String>, cell: Result<String, AllocError>) -> Result<(), AllocError> {
     cells.push(cell?)?;
     Ok(())
 }
 
+// The cells of `.tables` for the relvar at this place; its value is found for the number of its tuples.
 fn row<R: Replica>(
     alloc: Global,
     catalogue: &Catalogue,
@@ -113,9 +117,10 @@ pub fn relvars<R: Replica>(
     for place in 0..catalogue.schema().relvar_count() {
         rows.push(row(alloc, catalogue, site, place)?)?;
     }
-    laid_out(alloc, &COLUMNS, &rows)
+    lay_out(alloc, &COLUMNS, &rows)
 }
 
+// Appends a definition without the blanks around it, and a line end; nothing of one that is no UTF-8.
 fn push_definition(out: &mut String, definition: &[u8]) -> Result<(), AllocError> {
     if let Ok(text) = str::from_utf8(definition) {
         out.push_str(text.trim_ascii())?;
@@ -136,7 +141,7 @@ pub fn schema(alloc: Global, script: &str, name: Option<&str>) -> Result<String,
             break;
         }
         let definition = definition_at(rest);
-        if defined_by(definition.text) == name.as_bytes() {
+        if defined_name(definition.text) == name.as_bytes() {
             push_definition(&mut out, definition.text)?;
         }
         rest = definition.rest;

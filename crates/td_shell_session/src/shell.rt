@@ -9,7 +9,7 @@ use crate::help::HELP;
 use crate::import::import;
 use crate::inputs::{Inputs, Next};
 use crate::issue::issue;
-use crate::lists::{digest, log, refused, vector};
+use crate::lists::{digest, log, refused_statements, vector};
 use crate::meet::{Meeting, Way, meet};
 use crate::relvars::{relvars, schema};
 use crate::tables::{dump_tables, export};
@@ -95,7 +95,7 @@ fn prompt<K: Sink>(
     draft: &Draft,
     sink: &mut K,
 ) -> Result<(), SessionEnd> {
-    if draft.ended() != Standing::Empty {
+    if draft.standing_at_end() != Standing::Empty {
         return Ok(put(sink, b".. ")?);
     }
     let prompt = format!(in alloc; "{site}> ")?;
@@ -188,7 +188,7 @@ impl<
     }
 
     /// Whether a fault was answered, or an import stopped.
-    pub fn has_faults(&self) -> bool {
+    pub(crate) fn has_faults(&self) -> bool {
         self.has_faults
     }
 
@@ -216,6 +216,7 @@ impl<
         )
     }
 
+    // The answer to a text that was typed; a statement is issued only where the site may be changed.
     fn answer_text(&mut self, standing: Standing, text: &str) -> Result<String, AllocError> {
         match standing {
             Standing::Statement if self.access != Access::Open => closed_text(
@@ -238,7 +239,7 @@ impl<
     // Answers the text that was typed, if there is one, and begins the next one.
     fn finish<K: Sink>(&mut self, sink: &mut K) -> Result<(), SessionEnd> {
         let draft = mem::replace(&mut self.draft, Draft::new(self.alloc));
-        let standing = draft.ended();
+        let standing = draft.standing_at_end();
         if standing == Standing::Empty {
             return Ok(());
         }
@@ -283,6 +284,7 @@ impl<
         Ok(text)
     }
 
+    // Imports a file where the site may be changed; it notes a fault unless the file has rows and all come in.
     fn import<F: Sink>(
         &mut self,
         file: &str,
@@ -328,7 +330,7 @@ impl<
             DotCommand::Tables => relvars(alloc, &self.catalogue, &self.site),
             DotCommand::Schema(name) => schema(alloc, self.site.script(), name),
             DotCommand::Log => log(alloc, &self.site),
-            DotCommand::Refused { is_own } => refused(alloc, &self.site, is_own),
+            DotCommand::Refused { is_own } => refused_statements(alloc, &self.site, is_own),
             DotCommand::Vector => vector(alloc, &self.site),
             DotCommand::Digest(of) => digest(alloc, &self.site, of),
             DotCommand::Read(file) => read(alloc, self.host, inputs, file),
@@ -371,6 +373,7 @@ impl<
         }
     }
 
+    // Carries out the command of a line, writes its answer and its time, and tells whether the session goes on.
     fn command<K: Sink, F: Sink>(
         &mut self,
         line: &str,

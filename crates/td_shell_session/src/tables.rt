@@ -2,7 +2,7 @@
 
 use crate::dump::{is_of_journals, script_text, unwritten_words};
 use crate::new_file::{NotWritten, write_new};
-use crate::wording::{BROKEN, UNCHANGED, counted};
+use crate::wording::{BROKEN, UNCHANGED, count_words};
 use std::alloc::{AllocError, Global};
 use std::fs;
 use std::fs::File;
@@ -17,6 +17,7 @@ use td_shell_dumps::{DumpStatement, Tables, Trial, Untold, refused_insertions, t
 use td_shell_input::push_entry;
 use td_values::Name;
 
+// Why what the relvars of a site have is not dumped.
 fn untold_words(alloc: Global, untold: Untold) -> Result<String, AllocError> {
     match untold {
         Untold::OutOfMemory => String::from_str(alloc, UNCHANGED),
@@ -43,6 +44,7 @@ fn text_of(
     Ok(text)
 }
 
+// Writes the script and the statements to a new file; the inner result tells why it is not written.
 fn write_text<H: Files<File = File>>(
     alloc: Global,
     host: &H,
@@ -74,10 +76,10 @@ fn dumped_words(
     tables: &Tables,
     refused: usize,
 ) -> Result<String, AllocError> {
-    let statements = counted(alloc, tables.insertions.len(), "statement")?;
-    let relvars = counted(alloc, tables.relvars, "base relvar")?;
-    let tuples = counted(alloc, tables.tuples, "tuple")?;
-    let refused = counted(alloc, refused, "refused statement")?;
+    let statements = count_words(alloc, tables.insertions.len(), "statement")?;
+    let relvars = count_words(alloc, tables.relvars, "base relvar")?;
+    let tuples = count_words(alloc, tables.tuples, "tuple")?;
+    let refused = count_words(alloc, refused, "refused statement")?;
     format!(in alloc;
         "dumped the script and {tuples} of {relvars} by {statements} to {file}\nit forgets the history: who issued what and when, past answers, and {refused}\nchange its script before sites start with it, if only by a comment: so sites of the old script do not meet them\n"
     )
@@ -88,7 +90,7 @@ fn push_warning(alloc: Global, out: &mut String, trial: &Trial) -> Result<(), Al
     if trial.refused == 0 {
         return Ok(());
     }
-    let refused = counted(alloc, trial.refused, "statement")?;
+    let refused = count_words(alloc, trial.refused, "statement")?;
     write!(
         out,
         "WARNING: {refused} of the file would be refused by themselves, and it does not make this site's tables again:\n"
@@ -122,7 +124,7 @@ fn write_tables<O: Opens + Drop, R: Replica, H: Files<File = File>>(
 
 /// Writes the script, and behind it statements that insert what the base relvars have now, to a file that is not there
 /// yet. They are tried at a new site first, and those that it refuses are told.
-pub fn dump_tables<O: Opens + Drop, R: Replica, H: Files<File = File>>(
+pub(crate) fn dump_tables<O: Opens + Drop, R: Replica, H: Files<File = File>>(
     alloc: Global,
     host: &H,
     catalogue: &Catalogue,

@@ -26,7 +26,7 @@ fn fault_in(alloc: Global, told: Option<&Diagnostic>, text: &str) -> Result<Stri
 }
 
 /// Appends that a command begins with a dot, where the text is one but for that.
-pub fn push_command(out: &mut String, text: &str) -> Result<(), AllocError> {
+pub(crate) fn push_command(out: &mut String, text: &str) -> Result<(), AllocError> {
     let alloc = *out.allocator();
     let typed = text.trim_ascii();
     let dotted = format!(in alloc; ".{typed}")?;
@@ -39,7 +39,11 @@ pub fn push_command(out: &mut String, text: &str) -> Result<(), AllocError> {
 }
 
 /// Why a query is ill typed.
-pub fn query_fault(alloc: Global, catalogue: &Catalogue, text: &str) -> Result<String, AllocError> {
+pub(crate) fn query_fault(
+    alloc: Global,
+    catalogue: &Catalogue,
+    text: &str,
+) -> Result<String, AllocError> {
     let told = diagnose_query(alloc, catalogue, text)?;
     let mut out = fault_in(alloc, told.as_ref(), text)?;
     push_command(&mut out, text)?;
@@ -47,7 +51,7 @@ pub fn query_fault(alloc: Global, catalogue: &Catalogue, text: &str) -> Result<S
 }
 
 /// Why a statement is ill typed.
-pub fn statement_fault(
+pub(crate) fn statement_fault(
     alloc: Global,
     catalogue: &Catalogue,
     text: &str,

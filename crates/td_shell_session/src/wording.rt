@@ -13,11 +13,11 @@ pub const BROKEN: &str =
     "fault broken: the journal of this site has failed; end the program and start it again\n";
 
 /// What is said where a site is only read.
-pub const READ_ONLY: &str =
+pub(crate) const READ_ONLY: &str =
     "fault read-only: this session changes nothing; start it without --read-only for that\n";
 
 /// So many of something, whose word takes an s where there is not one.
-pub fn counted(alloc: Global, count: usize, what: &str) -> Result<String, AllocError> {
+pub(crate) fn count_words(alloc: Global, count: usize, what: &str) -> Result<String, AllocError> {
     if count == 1 {
         return format!(in alloc; "1 {what}");
     }

@@ -13,6 +13,7 @@ them, and .quit ends the program.
 td_shell check SCRIPT, or td_check SCRIPT, tells each mistake in the definitions, with
 its line and column, and runs nothing.";
 
+// The option of a journal that is only read; it needs --journal, and stands beside neither --new nor --forget.
 fn read_only<'a>(alloc: Global) -> Result<Arg<'a>, AllocError> {
     Arg::new(alloc, "read-only")
         .long("read-only")
@@ -84,6 +85,7 @@ fn with_site<'a>(alloc: Global, command: Command<'a>) -> Result<Command<'a>, All
     command.arg(limit)
 }
 
+// The words that the program takes, with their help.
 fn command<'a>(alloc: Global) -> Result<Command<'a>, AllocError> {
     let command = Command::new(alloc, "td_shell")
         .version("1.0")

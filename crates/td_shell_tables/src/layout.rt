@@ -29,12 +29,14 @@ fn title_widths(alloc: Global, columns: &[Column<'_>]) -> Result<Vec<usize>, All
     Ok(widths)
 }
 
+// Makes each column at least as wide as its cell in the row.
 fn widen(widths: &mut [usize], row: &[String]) {
     for (width, cell) in widths.iter_mut().zip(row) {
         *width = (*width).max(cell.as_str().width());
     }
 }
 
+// Appends the character so many times.
 fn push_many(out: &mut String, c: char, count: usize) -> Result<(), AllocError> {
     for _ in 0..count {
         out.push(c)?;
@@ -67,6 +69,7 @@ fn push_cell(
     }
 }
 
+// Appends the line of the titles, each at the side of its column at which the cells stand.
 fn push_titles(
     out: &mut String,
     columns: &[Column<'_>],
@@ -82,6 +85,7 @@ fn push_titles(
     out.push_str("\n")
 }
 
+// Appends a line of dashes as wide as the columns, with their gaps.
 fn push_rule(out: &mut String, widths: &[usize]) -> Result<(), AllocError> {
     for (at, width) in widths.iter().enumerate() {
         if at > 0 {
@@ -92,6 +96,7 @@ fn push_rule(out: &mut String, widths: &[usize]) -> Result<(), AllocError> {
     out.push_str("\n")
 }
 
+// Appends the line of a row, whose cells stand in the order of the columns.
 fn push_row(
     out: &mut String,
     columns: &[Column<'_>],
@@ -108,6 +113,7 @@ fn push_row(
     out.push_str("\n")
 }
 
+// The columns' widths: each has room for its title and for its widest cell.
 fn widths_of(
     alloc: Global,
     columns: &[Column<'_>],
@@ -122,7 +128,7 @@ fn widths_of(
 
 /// The columns' titles, a rule, and a line for each row, in which cells stand in the order of the columns. Widths are
 /// those of a terminal's columns. It costs the length of what it gives.
-pub fn laid_out(
+pub fn lay_out(
     alloc: Global,
     columns: &[Column<'_>],
     rows: &[Vec<String>],

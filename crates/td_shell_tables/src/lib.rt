@@ -8,5 +8,5 @@
 pub mod layout;
 pub mod relations;
 
-pub use layout::{Column, Side, laid_out};
+pub use layout::{Column, Side, lay_out};
 pub use relations::{counted_tuples, relation_table};

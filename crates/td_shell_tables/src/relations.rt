@@ -1,10 +1,11 @@
 //! Relations as tables.
 
-use crate::layout::{Column, Side, laid_out};
+use crate::layout::{Column, Side, lay_out};
 use std::alloc::{AllocError, Global};
 use td_terminals::push_in_line;
 use td_values::{Heading, Kind, Name, TdType, Tuple, TypeKind, Value, show};
 
+// At which side values of this type stand: integers at the right, and all others at the left.
 fn side_of(kind: &TypeKind) -> Side {
     match kind {
         TypeKind::Integer => Side::Right,
@@ -12,6 +13,7 @@ fn side_of(kind: &TypeKind) -> Side {
     }
 }
 
+// A column for each attribute, with its name for the title, in their order.
 fn columns_of<'a>(
     alloc: Global,
     fields: &'a [(Name, TdType)],
@@ -33,6 +35,7 @@ fn in_line(alloc: Global, text: &str) -> Result<String, AllocError> {
     Ok(line)
 }
 
+// The value in one line: a text as it stands, and any other value as the language writes it.
 fn cell(alloc: Global, value: &Value) -> Result<String, AllocError> {
     match &value.kind {
         Kind::Char(text) => in_line(alloc, text.as_str()),
@@ -40,6 +43,7 @@ fn cell(alloc: Global, value: &Value) -> Result<String, AllocError> {
     }
 }
 
+// The tuple's values as cells, in the order of its attributes.
 fn cells(alloc: Global, tuple: &Tuple) -> Result<Vec<String>, AllocError> {
     let mut cells = Vec::with_capacity(alloc, tuple.attributes().len())?;
     for (_name, value) in tuple.attributes() {
@@ -48,6 +52,7 @@ fn cells(alloc: Global, tuple: &Tuple) -> Result<Vec<String>, AllocError> {
     Ok(cells)
 }
 
+// The cells of each tuple, in the order of the tuples.
 fn rows_of(alloc: Global, tuples: &[Tuple]) -> Result<Vec<Vec<String>>, AllocError> {
     let mut rows = Vec::with_capacity(alloc, tuples.len())?;
     for tuple in tuples {
@@ -77,7 +82,7 @@ pub fn relation_table(
     } else {
         let columns = columns_of(alloc, heading.fields())?;
         let rows = rows_of(alloc, tuples)?;
-        laid_out(alloc, &columns, &rows)?
+        lay_out(alloc, &columns, &rows)?
     };
     let count = counted_tuples(alloc, tuples.len())?;
     out.push_str(count.as_str())?;

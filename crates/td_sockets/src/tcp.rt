@@ -15,14 +15,14 @@ fn most_silence() -> Duration {
 }
 
 // A stream each read and write of which has a limit.
-fn limited(stream: TcpStream) -> io::Result<TcpStream> {
+fn with_time_limits(stream: TcpStream) -> io::Result<TcpStream> {
     stream.set_read_timeout(Some(most_silence()))?;
     stream.set_write_timeout(Some(most_silence()))?;
     Ok(stream)
 }
 
 fn link<C: Clock + Drop>(opened: io::Result<TcpStream>, clock: C) -> Result<Paced<C>, LinkError> {
-    match opened.and_then(limited) {
+    match opened.and_then(with_time_limits) {
         Ok(stream) => Ok(Paced::new(stream, clock)),
         Err(_) => Err(LinkError::NetFault),
     }

@@ -21,20 +21,20 @@ use td_values::{Heading, Name, TypeKind};
 const NAME: usize = 1;
 
 impl Explainer<'_> {
-    fn defined_before<T>(&self, name: &Name, at: usize) -> Result<T, DiagnosisError> {
+    fn report_earlier_definition<T>(&self, name: &Name, at: usize) -> Result<T, DiagnosisError> {
         let sentence = Sentence::of(self.alloc, name.as_str()).say(" is defined before");
-        self.fault(at, sentence)
+        self.report(at, sentence)
     }
 
     // That a possrep's name is new, and none of THE_.
     fn check_selector(&self, name: &Name, at: usize) -> Result<(), DiagnosisError> {
         if begins_with_the(name) {
             let words = "the name of a selector does not begin with THE_";
-            return self.fault(at, Sentence::of(self.alloc, words));
+            return self.report(at, Sentence::of(self.alloc, words));
         }
         if self.schema().possrep(name).is_some() {
             let words = "a type before has the selector ";
-            return self.fault(at, Sentence::of(self.alloc, words).say(name.as_str()));
+            return self.report(at, Sentence::of(self.alloc, words).say(name.as_str()));
         }
         Ok(())
     }
@@ -59,7 +59,7 @@ impl Explainer<'_> {
         if is_boolean(kind.get()) {
             return Ok(());
         }
-        self.takes(at, "CONSTRAINT", "BOOLEAN", kind.get())
+        self.report_operand_kind(at, "CONSTRAINT", "BOOLEAN", kind.get())
     }
 
     fn check_type(
@@ -70,7 +70,7 @@ impl Explainer<'_> {
         limit: &Option<Boxed<Expr>>,
     ) -> Result<(), DiagnosisError> {
         if self.schema().type_named(name).is_some() {
-            return self.defined_before(name, NAME);
+            return self.report_earlier_definition(name, NAME);
         }
         match possrep {
             Some(possrep) => {
@@ -106,12 +106,12 @@ impl Explainer<'_> {
         let kind = self.kind_of(tree, at, &Scope::Relvars(self.schema()))?;
         match relation_heading(kind.get()) {
             Some(heading) => Ok(heading.copy()?),
-            None => self.takes(at, of, "a relation", kind.get()),
+            None => self.report_operand_kind(at, of, "a relation", kind.get()),
         }
     }
 
     // The heading of a base relvar, whose opening begins at a mark.
-    fn opening(&self, opening: &Opening, at: usize) -> Result<Heading, DiagnosisError> {
+    fn heading_of_opening(&self, opening: &Opening, at: usize) -> Result<Heading, DiagnosisError> {
         let first = sum(&[at, 1]);
         match opening {
             Opening::Empty(fields) => heading_of(self, fields.as_slice(), first),
@@ -135,7 +135,7 @@ impl Explainer<'_> {
     ) -> Result<(), DiagnosisError> {
         let own = self.relation_at(tree, at, "INIT")?;
         match unlike(self.alloc, &own, heading, "the heading") {
-            Some(sentence) => self.fault(at, sentence),
+            Some(sentence) => self.report(at, sentence),
             None => Ok(()),
         }
     }
@@ -159,7 +159,7 @@ impl Explainer<'_> {
     // That no relvar has the name.
     fn check_relvar_name(&self, name: &Name) -> Result<(), DiagnosisError> {
         if self.schema().relvar(name).is_some() {
-            return self.defined_before(name, NAME);
+            return self.report_earlier_definition(name, NAME);
         }
         Ok(())
     }
@@ -169,7 +169,7 @@ impl Explainer<'_> {
         for test in self.catalogue.tests() {
             if let Test::Constraint(before, _) = test {
                 if before == name {
-                    return self.defined_before(name, NAME);
+                    return self.report_earlier_definition(name, NAME);
                 }
             }
         }
@@ -183,7 +183,7 @@ impl Explainer<'_> {
         keys: &[Attributes],
     ) -> Result<(), DiagnosisError> {
         self.check_relvar_name(name)?;
-        let heading = self.opening(opening, 3)?;
+        let heading = self.heading_of_opening(opening, 3)?;
         let first = sum(&[3, opening_width(opening)]);
         self.check_keys(keys, first, name, &heading)
     }
@@ -214,12 +214,12 @@ impl Explainer<'_> {
 }
 
 /// Why a definition, which is the text's tree, is not well typed after what the catalogue has.
-pub fn explain_definition(
+pub(crate) fn explain_definition(
     alloc: Global,
     catalogue: &Catalogue,
     text: &str,
     tree: &Definition,
 ) -> Result<Diagnostic, AllocError> {
     let explainer = Explainer::new(alloc, catalogue, text)?;
-    explainer.told(explainer.check_definition(tree))
+    explainer.diagnostic(explainer.check_definition(tree))
 }

@@ -17,7 +17,7 @@ use td_syntax::tree::Expr;
 use td_typing::type_in;
 
 // The diagnostic at a place that lies in the text, between two characters.
-fn placed(text: &str, found: Diagnostic) -> Diagnostic
+fn place_in_text(text: &str, found: Diagnostic) -> Diagnostic
     ensures { IsCharBoundary text.now result.place }
 {
     let Diagnostic { place, message } = found;
@@ -83,7 +83,7 @@ pub fn diagnose_query(
         return Ok(None);
     };
     let found = explain_query(alloc, catalogue, text, tree.get())?;
-    Ok(Some(placed(text, found)))
+    Ok(Some(place_in_text(text, found)))
 }
 
 /// What is wrong with a statement that is read and not well typed. It takes the time that a query takes, for each of
@@ -99,7 +99,7 @@ pub fn diagnose_statement(
         return Ok(None);
     };
     let found = explain_statement(alloc, catalogue, text, &statement)?;
-    Ok(Some(placed(text, found)))
+    Ok(Some(place_in_text(text, found)))
 }
 
 // The definition that the text is, if it is one alone.
@@ -134,7 +134,7 @@ fn define_read(
         Ok(()) => Ok(None),
         Err(TypeError::IllTyped) => {
             let found = explain_definition(alloc, &*catalogue, text, tree)?;
-            Ok(Some(placed(text, found)))
+            Ok(Some(place_in_text(text, found)))
         }
         Err(TypeError::OutOfMemory) => Err(AllocError),
     }

@@ -13,14 +13,14 @@ pub struct Diagnostic {
 
 /// Why a check ends.
 #[derive(Drop)]
-pub enum DiagnosisError {
+pub(crate) enum DiagnosisError {
     Found(Diagnostic),
     OutOfMemory,
 }
 
 impl DiagnosisError {
     /// What a check that ended found.
-    pub fn told(self) -> Result<Diagnostic, AllocError> {
+    pub(crate) fn diagnostic(self) -> Result<Diagnostic, AllocError> {
         match self {
             DiagnosisError::Found(diagnostic) => Ok(diagnostic),
             DiagnosisError::OutOfMemory => Err(AllocError),

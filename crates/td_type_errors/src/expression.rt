@@ -65,14 +65,27 @@ impl Explainer<'_> {
                 self.binary(*operator, a.get(), b.get(), kind, first, scope)
             }
             Expr::From(name, a) => self.attribute(name, a.get(), kind, at, first),
-            Expr::Project(a, attributes) => self.projection(a.get(), attributes, kind, first),
+            Expr::Project(a, attributes) => self.report_projection(
+                a.get(),
+                attributes,
+                kind,
+                first,
+            ),
             Expr::Where(a, b) => self.restriction(a.get(), b.get(), kind, first, scope),
-            Expr::Rename(a, all) => self.renaming(a.get(), all.as_slice(), kind, first),
+            Expr::Rename(a, all) => self.report_renaming(a.get(), all.as_slice(), kind, first),
             Expr::Nest(nesting, a, attributes, name) => {
-                self.nesting(*nesting, a.get(), attributes, name, kind, first)
+                self.report_nesting(*nesting, a.get(), attributes, name, kind, first)
             }
-            Expr::Unnest(nesting, a, name) => self.unnesting(*nesting, a.get(), name, kind, first),
-            Expr::Aggregate(aggregate, _, None) => self.lone_aggregate(*aggregate, kind, first),
+            Expr::Unnest(nesting, a, name) => self.report_unnesting(
+                *nesting,
+                a.get(),
+                name,
+                kind,
+                first,
+            ),
+            Expr::Aggregate(aggregate, _, None) => self.report_lone_aggregate(
+                *aggregate, kind, first,
+            ),
             Expr::Aggregate(aggregate, a, Some(b)) => {
                 self.aggregation(*aggregate, a.get(), b.get(), kind, first, scope)
             }
@@ -96,7 +109,7 @@ impl Explainer<'_> {
         let mut nearest = Nearest::new(self.alloc, name);
         look_in_scope(scope, &mut nearest);
         let sentence = Sentence::of(self.alloc, name.as_str()).say(" is no name here");
-        self.fault(at, sentence.near(nearest.found(), " is"))
+        self.report(at, sentence.near(nearest.found(), " is"))
     }
 
     fn unary<T>(
@@ -106,7 +119,7 @@ impl Explainer<'_> {
         at: usize,
     ) -> Result<T, DiagnosisError> {
         let (word, wanted) = unary_words(operator);
-        self.takes(at, word, wanted, kind)
+        self.report_operand_kind(at, word, wanted, kind)
     }
 
     // The word of a binary operator at a mark.
@@ -132,7 +145,7 @@ impl Explainer<'_> {
         match self.kind(b, scope) {
             Ok(right) => {
                 let sentence = binary_words(self.alloc, operator, word, left, right.get());
-                self.fault(between, sentence)
+                self.report(between, sentence)
             }
             Err(error) => into_part(error, b, sum(&[between, 1])),
         }
@@ -148,14 +161,14 @@ impl Explainer<'_> {
         operand: usize,
     ) -> Result<T, DiagnosisError> {
         let Some(heading) = tuple_heading(kind) else {
-            return self.takes(operand, "FROM", "a tuple", kind);
+            return self.report_operand_kind(operand, "FROM", "a tuple", kind);
         };
-        let sentence = no_attribute(self.alloc, called(a, "this tuple"), heading, name);
-        self.fault(at, sentence)
+        let sentence = no_attribute(self.alloc, name_or_words(a, "this tuple"), heading, name);
+        self.report(at, sentence)
     }
 
     /// That a condition is a truth value; what it is the condition of is told in words.
-    pub fn check_condition(
+    pub(crate) fn check_condition(
         &self,
         at: usize,
         of: &str,
@@ -169,7 +182,7 @@ impl Explainer<'_> {
             .say(" is ")
             .kind(kind)
             .say("; it must be BOOLEAN");
-        self.fault(at, sentence)
+        self.report(at, sentence)
     }
 
     // IF, whose condition is of this kind.
@@ -200,7 +213,7 @@ impl Explainer<'_> {
         scope: &Scope<'_>,
     ) -> Result<Step<'t>, DiagnosisError> {
         match self.kind(tree, scope) {
-            Ok(right) => self.fault(at, branch_words(self.alloc, left, right.get())),
+            Ok(right) => self.report(at, branch_words(self.alloc, left, right.get())),
             Err(error) => into_part(error, tree, at),
         }
     }
@@ -226,7 +239,7 @@ fn first_operand(tree: &Expr) -> Option<(&Expr, usize)> {
 }
 
 /// What an operand is called: its name, if it is one, and else in these words.
-pub fn called<'t>(tree: &'t Expr, words: &'t str) -> &'t str {
+pub(crate) fn name_or_words<'t>(tree: &'t Expr, words: &'t str) -> &'t str {
     match tree {
         Expr::Name(name) => name.as_str(),
         _ => words,

@@ -1,10 +1,10 @@
 //! Forms with named parts: TUPLE, EXTEND, SUMMARIZE and WITH.
 
 use crate::diagnostic::DiagnosisError;
-use crate::forms::called_as;
-use crate::headings::beyond;
-use crate::nearest::repeated_part;
-use crate::parts::{Explainer, MarkedTerm, Step, into_part, step_within, untyped};
+use crate::forms::name_or_kind_words;
+use crate::headings::extra_attributes;
+use crate::nearest::first_repeated_part;
+use crate::parts::{Explainer, MarkedTerm, Step, into_part, part_without_type, step_within};
 use crate::widths::{front, groups_width, named_width, sum, summaries_width, summary_width, width};
 use sqlite_items::{Boxed, Items};
 use td_schema::kinds::relation_heading;
@@ -41,16 +41,16 @@ impl Explainer<'_> {
         all: &[Named<Boxed<Expr>>],
         first: usize,
     ) -> Result<T, DiagnosisError> {
-        match repeated_part(self.alloc, all)? {
+        match first_repeated_part(self.alloc, all)? {
             Some((place, name)) => {
-                self.twice(name, sum(&[first, named_width(front(all, place), 1)]))
+                self.report_repeated_name(name, sum(&[first, named_width(front(all, place), 1)]))
             }
             None => Err(self.no_type(first)),
         }
     }
 
     /// The first of these named expressions that has no type.
-    pub fn faulty_item<'t>(
+    pub(crate) fn faulty_item<'t>(
         &self,
         all: &'t [Named<Boxed<Expr>>],
         first: usize,
@@ -62,7 +62,7 @@ impl Explainer<'_> {
             let marks = width(tree);
             if let Err(error) = self.kind(tree, scope) {
                 let (_, at) = self.item_at(at, marks);
-                return Ok(Some(untyped(error, MarkedTerm { tree, at })?));
+                return Ok(Some(part_without_type(error, MarkedTerm { tree, at })?));
             }
             at = sum(&[at, marks, 2]);
         }
@@ -70,7 +70,12 @@ impl Explainer<'_> {
     }
 
     /// The mark of the name of the item at this place.
-    pub fn item_name_at(&self, all: &[Named<Boxed<Expr>>], place: usize, first: usize) -> usize {
+    pub(crate) fn item_name_at(
+        &self,
+        all: &[Named<Boxed<Expr>>],
+        place: usize,
+        first: usize,
+    ) -> usize {
         let at = sum(&[first, named_width(front(all, place), 2)]);
         match all.get(place) {
             Some(item) => self.item_at(at, width(item.value.get())).0,
@@ -79,13 +84,16 @@ impl Explainer<'_> {
     }
 
     /// That no two of these items have one name.
-    pub fn check_item_names(
+    pub(crate) fn check_item_names(
         &self,
         all: &[Named<Boxed<Expr>>],
         first: usize,
     ) -> Result<(), DiagnosisError> {
-        match repeated_part(self.alloc, all)? {
-            Some((place, name)) => self.twice(name, self.item_name_at(all, place, first)),
+        match first_repeated_part(self.alloc, all)? {
+            Some((place, name)) => self.report_repeated_name(
+                name,
+                self.item_name_at(all, place, first),
+            ),
             None => Ok(()),
         }
     }
@@ -101,14 +109,14 @@ impl Explainer<'_> {
         scope: &Scope<'_>,
     ) -> Result<Step<'t>, DiagnosisError> {
         let Some(heading) = relation_heading(kind) else {
-            return self.takes(at, "EXTEND", "a relation", kind);
+            return self.report_operand_kind(at, "EXTEND", "a relation", kind);
         };
         let first = sum(&[at, width(a)]);
         if let Some(part) = self.faulty_item(all, first, &Scope::Within(heading, &*scope))? {
             return step_within(heading, part);
         }
         self.check_item_names(all, first)?;
-        self.check_added(extension, all, first, called_as(a, kind), heading)?;
+        self.check_added(extension, all, first, name_or_kind_words(a, kind), heading)?;
         Err(self.no_type(at))
     }
 
@@ -126,14 +134,18 @@ impl Explainer<'_> {
         }
         for (place, item) in all.iter().enumerate() {
             if heading.type_of(&item.name).is_some() {
-                return self.is_there(&item.name, self.item_name_at(all, place, first), called);
+                return self.report_existing_name(
+                    &item.name,
+                    self.item_name_at(all, place, first),
+                    called,
+                );
             }
         }
         Ok(())
     }
 
     // The part of SUMMARIZE PER or BY that has no type, or the attributes of the groups.
-    fn grouped<'t>(
+    fn check_groups<'t>(
         &self,
         groups: &'t Groups<Boxed<Expr>>,
         at: usize,
@@ -144,12 +156,14 @@ impl Explainer<'_> {
         let at = sum(&[at, 1]);
         match groups {
             Groups::Whole => Ok(Ok(Heading::new(self.alloc)?)),
-            Groups::Per(a) => self.grouped_per(a.get(), at, called, heading, scope),
-            Groups::By(attributes) => Ok(Ok(self.grouped_by(attributes, at, called, heading)?)),
+            Groups::Per(a) => self.check_groups_per(a.get(), at, called, heading, scope),
+            Groups::By(attributes) => Ok(Ok(self.check_groups_by(
+                attributes, at, called, heading,
+            )?)),
         }
     }
 
-    fn grouped_by(
+    fn check_groups_by(
         &self,
         attributes: &Attributes,
         at: usize,
@@ -163,7 +177,7 @@ impl Explainer<'_> {
         }
     }
 
-    fn grouped_per<'t>(
+    fn check_groups_per<'t>(
         &self,
         tree: &'t Expr,
         at: usize,
@@ -173,7 +187,7 @@ impl Explainer<'_> {
     ) -> Result<Result<Heading, MarkedTerm<'t>>, DiagnosisError> {
         match self.kind(tree, scope) {
             Ok(kind) => Ok(Ok(self.groups_of(kind.get(), at, called, heading)?)),
-            Err(error) => Ok(Err(untyped(error, MarkedTerm { tree, at })?)),
+            Err(error) => Ok(Err(part_without_type(error, MarkedTerm { tree, at })?)),
         }
     }
 
@@ -185,10 +199,10 @@ impl Explainer<'_> {
         heading: &Heading,
     ) -> Result<Heading, DiagnosisError> {
         let Some(own) = relation_heading(kind) else {
-            return self.takes(at, "PER", "a relation", kind);
+            return self.report_operand_kind(at, "PER", "a relation", kind);
         };
-        match beyond(self.alloc, own, heading, called) {
-            Some(sentence) => self.fault(at, sentence),
+        match extra_attributes(self.alloc, own, heading, called) {
+            Some(sentence) => self.report(at, sentence),
             None => Ok(own.copy()?),
         }
     }
@@ -208,7 +222,10 @@ impl Explainer<'_> {
                 let term = sum(&[self.item_at(at, marks).1, 1]);
                 match self.kind(tree, scope) {
                     Ok(kind) => self.check_terms(*aggregate, term, kind.get())?,
-                    Err(error) => return Ok(Some(untyped(error, MarkedTerm { tree, at: term })?)),
+                    Err(error) => return Ok(Some(part_without_type(
+                        error,
+                        MarkedTerm { tree, at: term },
+                    )?)),
                 }
             }
             at = sum(&[at, marks, 2]);
@@ -237,13 +254,13 @@ impl Explainer<'_> {
         first: usize,
         heading: &Heading,
     ) -> Result<(), DiagnosisError> {
-        if let Some((place, name)) = repeated_part(self.alloc, all)? {
-            return self.twice(name, self.summary_name_at(all, place, first));
+        if let Some((place, name)) = first_repeated_part(self.alloc, all)? {
+            return self.report_repeated_name(name, self.summary_name_at(all, place, first));
         }
         for (place, item) in all.iter().enumerate() {
             if heading.type_of(&item.name).is_some() {
                 let at = self.summary_name_at(all, place, first);
-                return self.is_there(&item.name, at, "each group");
+                return self.report_existing_name(&item.name, at, "each group");
             }
         }
         Ok(())
@@ -260,11 +277,17 @@ impl Explainer<'_> {
         scope: &Scope<'_>,
     ) -> Result<Step<'t>, DiagnosisError> {
         let Some(heading) = relation_heading(kind) else {
-            return self.takes(at, "SUMMARIZE", "a relation", kind);
+            return self.report_operand_kind(at, "SUMMARIZE", "a relation", kind);
         };
         let list = sum(&[at, width(a)]);
         let first = sum(&[list, groups_width(groups)]);
-        let grouping = self.grouped(groups, list, called_as(a, kind), heading, scope)?;
+        let grouping = self.check_groups(
+            groups,
+            list,
+            name_or_kind_words(a, kind),
+            heading,
+            scope,
+        )?;
         let terms = Scope::Within(heading, &*scope);
         let part = match grouping {
             Ok(grouping) => self.check_summaries(all, first, &grouping, &terms)?,

@@ -1,9 +1,9 @@
 //! Forms of one relation, with attributes, a condition or a term.
 
 use crate::diagnostic::DiagnosisError;
-use crate::expression::called;
+use crate::expression::name_or_words;
 use crate::headings::no_attribute;
-use crate::nearest::repeated;
+use crate::nearest::first_repeated_name;
 use crate::operators::aggregate_words;
 use crate::parts::{Explainer, Step, into_part_within};
 use crate::sentence::Sentence;
@@ -18,7 +18,7 @@ use td_values::{Heading, Name, TypeKind};
 
 impl Explainer<'_> {
     /// That there is an attribute of this name.
-    pub fn check_attribute(
+    pub(crate) fn check_attribute(
         &self,
         name: &Name,
         at: usize,
@@ -28,7 +28,7 @@ impl Explainer<'_> {
         if heading.type_of(name).is_some() {
             return Ok(());
         }
-        self.fault(at, no_attribute(self.alloc, called, heading, name))
+        self.report(at, no_attribute(self.alloc, called, heading, name))
     }
 
     // That no name is given twice. The first one stands at a mark, and so many apart each further one.
@@ -38,20 +38,27 @@ impl Explainer<'_> {
         first: usize,
         apart: usize,
     ) -> Result<(), DiagnosisError> {
-        match repeated(self.alloc, names)? {
-            Some((place, name)) => self.twice(name, sum(&[first, place.saturating_mul(apart)])),
+        match first_repeated_name(self.alloc, names)? {
+            Some((place, name)) => self.report_repeated_name(
+                name,
+                sum(&[first, place.saturating_mul(apart)]),
+            ),
             None => Ok(()),
         }
     }
 
     /// That a name is given twice.
-    pub fn twice<T>(&self, name: &Name, at: usize) -> Result<T, DiagnosisError> {
+    pub(crate) fn report_repeated_name<T>(
+        &self,
+        name: &Name,
+        at: usize,
+    ) -> Result<T, DiagnosisError> {
         let sentence = Sentence::of(self.alloc, name.as_str()).say(" is given twice");
-        self.fault(at, sentence)
+        self.report(at, sentence)
     }
 
     /// That an attribute list, which begins at a mark, names attributes that are there, each once.
-    pub fn check_attributes(
+    pub(crate) fn check_attributes(
         &self,
         attributes: &Attributes,
         at: usize,
@@ -69,7 +76,7 @@ impl Explainer<'_> {
     }
 
     /// The part of a relation or of a tuple.
-    pub fn projection<T>(
+    pub(crate) fn report_projection<T>(
         &self,
         a: &Expr,
         attributes: &Attributes,
@@ -81,10 +88,10 @@ impl Explainer<'_> {
             let sentence = Sentence::of(self.alloc, words)
                 .kind(kind)
                 .say("; brackets may be missing");
-            return self.fault(at, sentence);
+            return self.report(at, sentence);
         };
         let list = sum(&[at, width(a)]);
-        self.check_attributes(attributes, list, called_as(a, kind), heading)?;
+        self.check_attributes(attributes, list, name_or_kind_words(a, kind), heading)?;
         Err(self.no_type(list))
     }
 
@@ -97,7 +104,7 @@ impl Explainer<'_> {
         scope: &Scope<'_>,
     ) -> Result<Step<'t>, DiagnosisError> {
         let Some(heading) = relation_heading(kind) else {
-            return self.takes(at, "WHERE", "a relation", kind);
+            return self.report_operand_kind(at, "WHERE", "a relation", kind);
         };
         let at = sum(&[at, width(a), 1]);
         match self.kind(condition, &Scope::Within(heading, &*scope)) {
@@ -120,22 +127,31 @@ impl Explainer<'_> {
         for (place, renaming) in renamings.iter().enumerate() {
             let name = &renaming.to;
             if heading.type_of(name).is_some() && !is_renamed(renamings, name) {
-                return self.is_there(name, sum(&[second, place.saturating_mul(3)]), called);
+                return self.report_existing_name(
+                    name,
+                    sum(&[second, place.saturating_mul(3)]),
+                    called,
+                );
             }
         }
         self.check_distinct(&new_names(self.alloc, renamings)?, second, 3)
     }
 
     /// That there is an attribute of the name already.
-    pub fn is_there<T>(&self, name: &Name, at: usize, called: &str) -> Result<T, DiagnosisError> {
+    pub(crate) fn report_existing_name<T>(
+        &self,
+        name: &Name,
+        at: usize,
+        called: &str,
+    ) -> Result<T, DiagnosisError> {
         let sentence = Sentence::of(self.alloc, called)
             .say(" has an attribute ")
             .say(name.as_str())
             .say(" already");
-        self.fault(at, sentence)
+        self.report(at, sentence)
     }
 
-    pub fn renaming<T>(
+    pub(crate) fn report_renaming<T>(
         &self,
         a: &Expr,
         renamings: &[Renaming],
@@ -143,9 +159,9 @@ impl Explainer<'_> {
         at: usize,
     ) -> Result<T, DiagnosisError> {
         let Some(heading) = relation_heading(kind) else {
-            return self.takes(at, "RENAME", "a relation", kind);
+            return self.report_operand_kind(at, "RENAME", "a relation", kind);
         };
-        let (first, called) = (sum(&[at, width(a), 1]), called_as(a, kind));
+        let (first, called) = (sum(&[at, width(a), 1]), name_or_kind_words(a, kind));
         for (place, renaming) in renamings.iter().enumerate() {
             let at = sum(&[first, place.saturating_mul(3)]);
             self.check_attribute(&renaming.from, at, called, heading)?;
@@ -155,7 +171,7 @@ impl Explainer<'_> {
     }
 
     /// GROUP and WRAP
-    pub fn nesting<T>(
+    pub(crate) fn report_nesting<T>(
         &self,
         nesting: Nesting,
         a: &Expr,
@@ -169,12 +185,12 @@ impl Explainer<'_> {
             Nesting::Wrap => "WRAP",
         };
         let Some(heading) = relation_heading(kind) else {
-            return self.takes(at, word, "a relation", kind);
+            return self.report_operand_kind(at, word, "a relation", kind);
         };
         let list = sum(&[at, width(a), 1]);
-        let called = called_as(a, kind);
+        let called = name_or_kind_words(a, kind);
         self.check_attributes(attributes, list, called, heading)?;
-        self.is_there(name, sum(&[list, attributes_width(attributes), 1]), called)
+        self.report_existing_name(name, sum(&[list, attributes_width(attributes), 1]), called)
     }
 
     // That an attribute gives way to those inside it.
@@ -198,18 +214,18 @@ impl Explainer<'_> {
                 .say(name.as_str())
                 .say(" is ")
                 .kind(kind);
-            return self.fault(at, sentence);
+            return self.report(at, sentence);
         };
         for field in inner.fields() {
             if field.0 != *name && heading.type_of(&field.0).is_some() {
-                return self.stands_beside(&field.0, at, word, name);
+                return self.report_attribute_beside(&field.0, at, word, name);
             }
         }
         Ok(())
     }
 
     // That there is an attribute inside one, and another of its name beside it.
-    fn stands_beside<T>(
+    fn report_attribute_beside<T>(
         &self,
         inner: &Name,
         at: usize,
@@ -222,11 +238,11 @@ impl Explainer<'_> {
             .say(" and inside it; ")
             .say(word)
             .say(" gives it once");
-        self.fault(at, sentence)
+        self.report(at, sentence)
     }
 
     /// UNGROUP and UNWRAP
-    pub fn unnesting<T>(
+    pub(crate) fn report_unnesting<T>(
         &self,
         nesting: Nesting,
         a: &Expr,
@@ -239,10 +255,10 @@ impl Explainer<'_> {
             Nesting::Wrap => "UNWRAP",
         };
         let Some(heading) = relation_heading(kind) else {
-            return self.takes(at, word, "a relation", kind);
+            return self.report_operand_kind(at, word, "a relation", kind);
         };
         let at = sum(&[at, width(a), 1]);
-        self.check_attribute(name, at, called_as(a, kind), heading)?;
+        self.check_attribute(name, at, name_or_kind_words(a, kind), heading)?;
         if let Some(ty) = heading.type_of(name) {
             self.check_inner(nesting, name, &ty.kind, at, heading)?;
         }
@@ -250,18 +266,18 @@ impl Explainer<'_> {
     }
 
     // An aggregate over terms of another type.
-    fn unsuited<T>(
+    fn report_unsuited_terms<T>(
         &self,
         aggregate: Aggregate,
         at: usize,
         kind: &TypeKind,
     ) -> Result<T, DiagnosisError> {
         let (word, wanted) = aggregate_words(aggregate);
-        self.takes(at, word, wanted, kind)
+        self.report_operand_kind(at, word, wanted, kind)
     }
 
     /// An aggregate over a relation of one attribute.
-    pub fn lone_aggregate<T>(
+    pub(crate) fn report_lone_aggregate<T>(
         &self,
         aggregate: Aggregate,
         kind: &TypeKind,
@@ -269,7 +285,7 @@ impl Explainer<'_> {
     ) -> Result<T, DiagnosisError> {
         let (word, wanted) = aggregate_words(aggregate);
         let Some(heading) = relation_heading(kind) else {
-            return self.takes(at, word, "a relation", kind);
+            return self.report_operand_kind(at, word, "a relation", kind);
         };
         match heading.fields() {
             [field] => {
@@ -280,9 +296,14 @@ impl Explainer<'_> {
                     .say(field.0.as_str())
                     .say(" is ")
                     .kind(&field.1.kind);
-                self.fault(at, sentence)
+                self.report(at, sentence)
             }
-            _ => self.takes(at, word, "a relation of one attribute, or a term too", kind),
+            _ => self.report_operand_kind(
+                at,
+                word,
+                "a relation of one attribute, or a term too",
+                kind,
+            ),
         }
     }
 
@@ -297,17 +318,17 @@ impl Explainer<'_> {
         scope: &Scope<'_>,
     ) -> Result<Step<'t>, DiagnosisError> {
         let Some(heading) = relation_heading(kind) else {
-            return self.takes(at, aggregate_words(aggregate).0, "a relation", kind);
+            return self.report_operand_kind(at, aggregate_words(aggregate).0, "a relation", kind);
         };
         let at = sum(&[at, width(a)]);
         match self.kind(term, &Scope::Within(heading, &*scope)) {
-            Ok(kind) => self.unsuited(aggregate, at, kind.get()),
+            Ok(kind) => self.report_unsuited_terms(aggregate, at, kind.get()),
             Err(error) => into_part_within(error, heading, term, at),
         }
     }
 
     /// That terms suit an aggregate.
-    pub fn check_terms(
+    pub(crate) fn check_terms(
         &self,
         aggregate: Aggregate,
         at: usize,
@@ -316,7 +337,7 @@ impl Explainer<'_> {
         if suits(aggregate, kind) {
             return Ok(());
         }
-        self.unsuited(aggregate, at, kind)
+        self.report_unsuited_terms(aggregate, at, kind)
     }
 }
 
@@ -346,9 +367,9 @@ fn new_names(alloc: Global, renamings: &[Renaming]) -> Result<Vec<Name>, AllocEr
 }
 
 /// What an operand with attributes is called.
-pub fn called_as<'t>(tree: &'t Expr, kind: &TypeKind) -> &'t str {
+pub(crate) fn name_or_kind_words<'t>(tree: &'t Expr, kind: &TypeKind) -> &'t str {
     match kind {
-        TypeKind::Tuple(_) => called(tree, "this tuple"),
-        _ => called(tree, "this relation"),
+        TypeKind::Tuple(_) => name_or_words(tree, "this tuple"),
+        _ => name_or_words(tree, "this relation"),
     }
 }

@@ -19,12 +19,12 @@ fn lone_count(first: &Heading, second: &Heading) -> usize {
 
 impl Sentence {
     // With a list of the attributes of the first heading that the second lacks.
-    fn lone(self, first: &Heading, second: &Heading) -> Sentence {
+    fn with_lone_attributes(self, first: &Heading, second: &Heading) -> Sentence {
         let mut sentence = self;
         let mut count: usize = 0;
         for field in first.fields() {
             if second.type_of(&field.0).is_none() {
-                sentence = sentence.listed(count, &field.0);
+                sentence = sentence.with_listed_name(count, &field.0);
                 count = count.saturating_add(1);
             }
         }
@@ -32,18 +32,21 @@ impl Sentence {
     }
 
     // With those attributes of the operand on a side that the other operand lacks.
-    fn alone(self, side: &str, own: &Heading, other: &Heading) -> Sentence {
+    fn with_side_alone(self, side: &str, own: &Heading, other: &Heading) -> Sentence {
         let verb = if lone_count(own, other) == 1 {
             " is on the "
         } else {
             " are on the "
         };
-        self.lone(own, other).say(verb).say(side).say(" alone")
+        self.with_lone_attributes(own, other)
+            .say(verb)
+            .say(side)
+            .say(" alone")
     }
 }
 
 // The first attribute that both headings have, with two types.
-fn differing<'a>(
+fn first_type_difference<'a>(
     first: &'a Heading,
     second: &'a Heading,
 ) -> Option<(&'a Name, &'a TdType, &'a TdType)> {
@@ -68,7 +71,12 @@ fn near_of_many<'a>(alloc: Global, heading: &'a Heading, name: &'a Name) -> Opti
 }
 
 /// That what is called so has no attribute of the name; what it has, or the nearest name where it has many.
-pub fn no_attribute(alloc: Global, subject: &str, heading: &Heading, name: &Name) -> Sentence {
+pub(crate) fn no_attribute(
+    alloc: Global,
+    subject: &str,
+    heading: &Heading,
+    name: &Name,
+) -> Sentence {
     let sentence = Sentence::of(alloc, subject)
         .say(" has no attribute ")
         .say(name.as_str())
@@ -85,29 +93,34 @@ pub fn no_attribute(alloc: Global, subject: &str, heading: &Heading, name: &Name
 /// How the heading of what stands here differs from that of what is called so; nothing where it does not.
 pub fn unlike(alloc: Global, here: &Heading, there: &Heading, called: &str) -> Option<Sentence> {
     if lone_count(there, here) == 0 {
-        return beyond(alloc, here, there, called);
+        return extra_attributes(alloc, here, there, called);
     }
-    let sentence = Sentence::of(alloc, "this lacks ").lone(there, here);
+    let sentence = Sentence::of(alloc, "this lacks ").with_lone_attributes(there, here);
     if lone_count(here, there) == 0 {
         return Some(sentence.say(", which ").say(called).say(" has"));
     }
     Some(
         sentence
             .say(" and has ")
-            .lone(here, there)
+            .with_lone_attributes(here, there)
             .say(", unlike ")
             .say(called),
     )
 }
 
 /// What the heading of what stands here has that the one of what is called so lacks, or has with another type.
-pub fn beyond(alloc: Global, here: &Heading, there: &Heading, called: &str) -> Option<Sentence> {
+pub(crate) fn extra_attributes(
+    alloc: Global,
+    here: &Heading,
+    there: &Heading,
+    called: &str,
+) -> Option<Sentence> {
     if lone_count(here, there) == 0 {
         return differing_words(alloc, here, there, " here and ", " in ", called);
     }
     Some(
         Sentence::of(alloc, "this has ")
-            .lone(here, there)
+            .with_lone_attributes(here, there)
             .say(", which ")
             .say(called)
             .say(" lacks"),
@@ -123,7 +136,7 @@ fn differing_words(
     at_second: &str,
     called: &str,
 ) -> Option<Sentence> {
-    let (name, ty, other) = differing(first, second)?;
+    let (name, ty, other) = first_type_difference(first, second)?;
     Some(
         Sentence::of(alloc, name.as_str())
             .say(" is ")
@@ -136,7 +149,7 @@ fn differing_words(
 }
 
 /// Which common attribute of two operands has two types, if one has.
-pub fn two_types(alloc: Global, left: &Heading, right: &Heading) -> Option<Sentence> {
+pub(crate) fn two_types(alloc: Global, left: &Heading, right: &Heading) -> Option<Sentence> {
     differing_words(alloc, left, right, " on the left and ", " on the right", "")
 }
 
@@ -148,15 +161,15 @@ pub fn sides(alloc: Global, left: &Heading, right: &Heading) -> Option<Sentence>
     }
     let sentence = Sentence::new(alloc);
     if on_right == 0 {
-        return Some(sentence.alone("left", left, right));
+        return Some(sentence.with_side_alone("left", left, right));
     }
     if on_left == 0 {
-        return Some(sentence.alone("right", right, left));
+        return Some(sentence.with_side_alone("right", right, left));
     }
     Some(
         sentence
-            .alone("left", left, right)
+            .with_side_alone("left", left, right)
             .say(", ")
-            .alone("right", right, left),
+            .with_side_alone("right", right, left),
     )
 }

@@ -10,7 +10,7 @@ use td_tokens::{TokenError, TokenKind, Word, tokens};
 
 /// A token, and the byte at which it begins.
 #[derive(Clone, Copy)]
-pub struct Mark {
+pub(crate) struct Mark {
     pub kind: TokenKind,
     pub place: usize,
 }

@@ -26,7 +26,7 @@ fn is_one_edit_away(alloc: Global, a: &str, b: &str) -> bool {
 /// The nearest of the names that were looked at: the first in letters of other cases, else the first that is one edit
 /// away.
 #[derive(Clone, Copy, Drop)]
-pub struct Nearest<'a> {
+pub(crate) struct Nearest<'a> {
     alloc: Global,
     wanted: &'a Name,
     found: Option<&'a Name>,
@@ -60,13 +60,13 @@ impl<'a> Nearest<'a> {
         self.found
     }
 
-    pub fn look_at_attributes(&mut self, heading: &'a Heading) {
+    pub(crate) fn look_at_attributes(&mut self, heading: &'a Heading) {
         for field in heading.fields() {
             self.look(&field.0);
         }
     }
 
-    pub fn look_at_relvars(&mut self, schema: &'a Schema) {
+    pub(crate) fn look_at_relvars(&mut self, schema: &'a Schema) {
         for place in 0..schema.relvar_count() {
             if let Some((name, _)) = schema.relvar_at(place) {
                 self.look(name);
@@ -74,7 +74,7 @@ impl<'a> Nearest<'a> {
         }
     }
 
-    pub fn look_at_types(&mut self, schema: &'a Schema) {
+    pub(crate) fn look_at_types(&mut self, schema: &'a Schema) {
         for place in 0..schema.type_count() {
             if let Some(representation) = schema.representation_at(place) {
                 self.look(representation.possrep.ty());
@@ -82,7 +82,7 @@ impl<'a> Nearest<'a> {
         }
     }
 
-    pub fn look_at_selectors(&mut self, schema: &'a Schema) {
+    pub(crate) fn look_at_selectors(&mut self, schema: &'a Schema) {
         for place in 0..schema.type_count() {
             if let Some(representation) = schema.representation_at(place) {
                 self.look(representation.possrep.name());
@@ -98,7 +98,7 @@ impl<'a> Nearest<'a> {
 }
 
 /// Looks at the names in scope, the innermost first.
-pub fn look_in_scope<'a>(scope: &'a Scope<'a>, nearest: &mut Nearest<'a>) {
+pub(crate) fn look_in_scope<'a>(scope: &'a Scope<'a>, nearest: &mut Nearest<'a>) {
     match scope {
         Scope::Nothing => {}
         Scope::Relvars(schema) => nearest.look_at_relvars(schema),
@@ -115,7 +115,10 @@ pub fn look_in_scope<'a>(scope: &'a Scope<'a>, nearest: &mut Nearest<'a>) {
 
 /// The first name that stands before it too, with its place. The longest front of distinct names ends there. Halving
 /// finds it, so that a name is hashed at most once for each bit of the length, and once more.
-pub fn repeated(alloc: Global, names: &[Name]) -> Result<Option<(usize, &Name)>, AllocError> {
+pub(crate) fn first_repeated_name(
+    alloc: Global,
+    names: &[Name],
+) -> Result<Option<(usize, &Name)>, AllocError> {
     if are_distinct(alloc, names)? {
         return Ok(None);
     }
@@ -138,12 +141,12 @@ pub fn repeated(alloc: Global, names: &[Name]) -> Result<Option<(usize, &Name)>,
 }
 
 /// The first of these parts that has the name of one before it, by its place and name.
-pub fn repeated_part<T>(
+pub(crate) fn first_repeated_part<T>(
     alloc: Global,
     parts: &[Named<T>],
 ) -> Result<Option<(usize, &Name)>, AllocError> {
     let names = names(alloc, parts)?;
-    let Some((place, _)) = repeated(alloc, &names)? else {
+    let Some((place, _)) = first_repeated_name(alloc, &names)? else {
         return Ok(None);
     };
     match parts.get(place) {

@@ -7,7 +7,7 @@ use td_syntax::tree::{Aggregate, BinaryOperator, UnaryOperator};
 use td_values::TypeKind;
 
 /// A unary operator as it is written, and what it takes.
-pub fn unary_words(operator: UnaryOperator) -> (&'static str, &'static str) {
+pub(crate) fn unary_words(operator: UnaryOperator) -> (&'static str, &'static str) {
     match operator {
         UnaryOperator::Not => ("NOT", "BOOLEAN"),
         UnaryOperator::Negate => ("-", "INTEGER"),
@@ -19,7 +19,7 @@ pub fn unary_words(operator: UnaryOperator) -> (&'static str, &'static str) {
 }
 
 /// An aggregate as it is written, and the terms that it takes.
-pub fn aggregate_words(aggregate: Aggregate) -> (&'static str, &'static str) {
+pub(crate) fn aggregate_words(aggregate: Aggregate) -> (&'static str, &'static str) {
     match aggregate {
         Aggregate::Sum => ("SUM", "INTEGER"),
         Aggregate::Max => ("MAX", "INTEGER or CHAR"),
@@ -30,7 +30,7 @@ pub fn aggregate_words(aggregate: Aggregate) -> (&'static str, &'static str) {
 }
 
 /// A binary operator as it is written.
-pub fn binary_word(operator: BinaryOperator) -> &'static str {
+pub(crate) fn binary_word(operator: BinaryOperator) -> &'static str {
     match operator {
         BinaryOperator::Or => "OR",
         BinaryOperator::Xor => "XOR",
@@ -84,10 +84,10 @@ fn difference(alloc: Global, left: &TypeKind, right: &TypeKind) -> Option<Senten
 }
 
 // Two types where one is wanted.
-fn compared(alloc: Global, word: &str, left: &TypeKind, right: &TypeKind) -> Sentence {
+fn comparison_words(alloc: Global, word: &str, left: &TypeKind, right: &TypeKind) -> Sentence {
     let sentence = Sentence::of(alloc, word).say(" compares ");
     match difference(alloc, left, right) {
-        Some(words) => sentence.say("values of one type; ").then(words),
+        Some(words) => sentence.say("values of one type; ").followed_by(words),
         None => sentence
             .kind(left)
             .say(" with ")
@@ -104,13 +104,13 @@ fn is_ordered(kind: &TypeKind) -> bool {
     )
 }
 
-fn ordered(alloc: Global, word: &str, left: &TypeKind, right: &TypeKind) -> Sentence {
+fn order_words(alloc: Global, word: &str, left: &TypeKind, right: &TypeKind) -> Sentence {
     let unordered = if !is_ordered(left) {
         left
     } else if !is_ordered(right) {
         right
     } else {
-        return compared(alloc, word, left, right);
+        return comparison_words(alloc, word, left, right);
     };
     Sentence::of(alloc, word)
         .say(" compares ")
@@ -118,17 +118,19 @@ fn ordered(alloc: Global, word: &str, left: &TypeKind, right: &TypeKind) -> Sent
         .say("; only INTEGER, CHAR and relations are ordered")
 }
 
-fn member(alloc: Global, left: &TypeKind, right: &TypeKind) -> Sentence {
+fn membership_words(alloc: Global, left: &TypeKind, right: &TypeKind) -> Sentence {
     if let (TypeKind::Tuple(g), TypeKind::Relation(h)) = (left, right) {
         if let Some(words) = sides(alloc, g, h) {
-            return Sentence::of(alloc, "IN takes a tuple of the relation's heading; ").then(words);
+            return Sentence::of(alloc, "IN takes a tuple of the relation's heading; ").followed_by(
+                words,
+            );
         }
     }
     operands(alloc, "IN", "a tuple and a relation", left, right)
 }
 
 // Two operands that are not both relations. Where the left one alone is none, a condition may have swallowed it.
-fn relations(alloc: Global, word: &str, left: &TypeKind, right: &TypeKind) -> Sentence {
+fn relation_words(alloc: Global, word: &str, left: &TypeKind, right: &TypeKind) -> Sentence {
     let hint = match (left, right) {
         (TypeKind::Relation(_), _) => "",
         (_, TypeKind::Relation(_)) => "; brackets before it may be missing",
@@ -138,31 +140,31 @@ fn relations(alloc: Global, word: &str, left: &TypeKind, right: &TypeKind) -> Se
 }
 
 // Two relations, whose common attributes have one type.
-fn joined(alloc: Global, word: &str, left: &TypeKind, right: &TypeKind) -> Sentence {
+fn join_words(alloc: Global, word: &str, left: &TypeKind, right: &TypeKind) -> Sentence {
     if let (TypeKind::Relation(g), TypeKind::Relation(h)) = (left, right) {
         if let Some(words) = two_types(alloc, g, h) {
             return Sentence::of(alloc, word)
                 .say(" takes common attributes of one type; ")
-                .then(words);
+                .followed_by(words);
         }
     }
-    relations(alloc, word, left, right)
+    relation_words(alloc, word, left, right)
 }
 
 // Two relations of one heading.
-fn united(alloc: Global, word: &str, left: &TypeKind, right: &TypeKind) -> Sentence {
+fn union_words(alloc: Global, word: &str, left: &TypeKind, right: &TypeKind) -> Sentence {
     if let (TypeKind::Relation(g), TypeKind::Relation(h)) = (left, right) {
         if let Some(words) = sides(alloc, g, h) {
             return Sentence::of(alloc, word)
                 .say(" takes relations of one heading; ")
-                .then(words);
+                .followed_by(words);
         }
     }
-    relations(alloc, word, left, right)
+    relation_words(alloc, word, left, right)
 }
 
 /// What is wrong with the operands of a binary operator, which is written so.
-pub fn binary_words(
+pub(crate) fn binary_words(
     alloc: Global,
     operator: BinaryOperator,
     word: &str,
@@ -173,18 +175,20 @@ pub fn binary_words(
         BinaryOperator::Or | BinaryOperator::Xor | BinaryOperator::And => {
             operands(alloc, word, "BOOLEAN on both sides", left, right)
         }
-        BinaryOperator::Equals | BinaryOperator::Differs => compared(alloc, word, left, right),
+        BinaryOperator::Equals | BinaryOperator::Differs => comparison_words(
+            alloc, word, left, right,
+        ),
         BinaryOperator::Less
         | BinaryOperator::Greater
         | BinaryOperator::AtMost
-        | BinaryOperator::AtLeast => ordered(alloc, word, left, right),
-        BinaryOperator::In => member(alloc, left, right),
+        | BinaryOperator::AtLeast => order_words(alloc, word, left, right),
+        BinaryOperator::In => membership_words(alloc, left, right),
         BinaryOperator::Join
         | BinaryOperator::Compose
         | BinaryOperator::Matching
-        | BinaryOperator::NotMatching => joined(alloc, word, left, right),
+        | BinaryOperator::NotMatching => join_words(alloc, word, left, right),
         BinaryOperator::Union | BinaryOperator::Intersect | BinaryOperator::Minus => {
-            united(alloc, word, left, right)
+            union_words(alloc, word, left, right)
         }
         BinaryOperator::Add
         | BinaryOperator::Subtract
@@ -195,7 +199,7 @@ pub fn binary_words(
 }
 
 /// What is wrong with the branches of IF.
-pub fn branch_words(alloc: Global, left: &TypeKind, right: &TypeKind) -> Sentence {
+pub(crate) fn branch_words(alloc: Global, left: &TypeKind, right: &TypeKind) -> Sentence {
     Sentence::of(alloc, "the branches of IF are ")
         .kind(left)
         .say(" and ")

@@ -16,7 +16,7 @@ use td_values::{Heading, TypeKind};
 
 /// An expression, and its first mark by its number.
 #[derive(Clone, Copy, Drop)]
-pub struct MarkedTerm<'t> {
+pub(crate) struct MarkedTerm<'t> {
     pub tree: &'t Expr,
     pub at: usize,
 }
@@ -32,14 +32,14 @@ pub enum Step<'t> {
 
 /// What an explanation goes by: what is defined, and the marks of the text.
 #[derive(Drop)]
-pub struct Explainer<'c> {
+pub(crate) struct Explainer<'c> {
     pub alloc: Global,
     pub catalogue: &'c Catalogue,
     marks: Vec<Mark>,
 }
 
 /// A part that has no kind, where that is not for want of memory.
-pub fn untyped<'t>(
+pub(crate) fn part_without_type<'t>(
     error: TypeError,
     part: MarkedTerm<'t>,
 ) -> Result<MarkedTerm<'t>, DiagnosisError> {
@@ -50,26 +50,26 @@ pub fn untyped<'t>(
 }
 
 /// The step to a part in the same scope that has no kind.
-pub fn into_part<'t>(
+pub(crate) fn into_part<'t>(
     error: TypeError,
     tree: &'t Expr,
     at: usize,
 ) -> Result<Step<'t>, DiagnosisError> {
-    Ok(Step::MarkedTerm(untyped(error, MarkedTerm { tree, at })?))
+    Ok(Step::MarkedTerm(part_without_type(error, MarkedTerm { tree, at })?))
 }
 
 /// The step to a part within a tuple of the heading that has no kind.
-pub fn into_part_within<'t>(
+pub(crate) fn into_part_within<'t>(
     error: TypeError,
     heading: &Heading,
     tree: &'t Expr,
     at: usize,
 ) -> Result<Step<'t>, DiagnosisError> {
-    step_within(heading, untyped(error, MarkedTerm { tree, at })?)
+    step_within(heading, part_without_type(error, MarkedTerm { tree, at })?)
 }
 
 /// The step to a part within a tuple of the heading.
-pub fn step_within<'t>(
+pub(crate) fn step_within<'t>(
     heading: &Heading,
     part: MarkedTerm<'t>,
 ) -> Result<Step<'t>, DiagnosisError> {
@@ -113,12 +113,12 @@ impl<'c> Explainer<'c> {
     }
 
     /// That a check ends with this sentence at a mark.
-    pub fn fault<T>(&self, at: usize, sentence: Sentence) -> Result<T, DiagnosisError> {
-        Err(sentence.told_at(self.place(at)))
+    pub fn report<T>(&self, at: usize, sentence: Sentence) -> Result<T, DiagnosisError> {
+        Err(sentence.into_error_at(self.place(at)))
     }
 
     /// The name of an item that begins at a mark, and whose value has so many; and its value.
-    pub fn item_at(&self, at: usize, value: usize) -> (usize, usize) {
+    pub(crate) fn item_at(&self, at: usize, value: usize) -> (usize, usize) {
         if self.mark(sum(&[at, 1])) == Some(TokenKind::Word(Word::Assign)) {
             (at, sum(&[at, 2]))
         } else {
@@ -133,7 +133,7 @@ impl<'c> Explainer<'c> {
     }
 
     /// The kind of a whole expression, or why it has no type.
-    pub fn kind_of(
+    pub(crate) fn kind_of(
         &self,
         tree: &Expr,
         at: usize,
@@ -169,12 +169,12 @@ impl<'c> Explainer<'c> {
     }
 
     /// What is told where no sentence is better.
-    pub fn no_type(&self, at: usize) -> DiagnosisError {
-        Sentence::of(self.alloc, "this has no type").told_at(self.place(at))
+    pub(crate) fn no_type(&self, at: usize) -> DiagnosisError {
+        Sentence::of(self.alloc, "this has no type").into_error_at(self.place(at))
     }
 
     /// That what stands at a mark takes something else.
-    pub fn takes<T>(
+    pub(crate) fn report_operand_kind<T>(
         &self,
         at: usize,
         word: &str,
@@ -186,12 +186,12 @@ impl<'c> Explainer<'c> {
             .say(wanted)
             .say("; this is ")
             .kind(kind);
-        self.fault(at, sentence)
+        self.report(at, sentence)
     }
 
     /// Why an expression of at most so many levels has no type.
     #[cycle(explain)]
-    pub fn explain(
+    pub(crate) fn explain(
         &self,
         levels: usize,
         tree: &Expr,

@@ -44,12 +44,12 @@ impl Explainer<'_> {
                 .say(name.as_str())
                 .say(" is ")
                 .say(representation.possrep.name().as_str());
-            return self.fault(at, sentence);
+            return self.report(at, sentence);
         }
         let mut nearest = Nearest::new(self.alloc, name);
         nearest.look_at_selectors(self.schema());
         let sentence = Sentence::of(self.alloc, "no type has the selector ").say(name.as_str());
-        self.fault(at, sentence.near(nearest.found(), " is one"))
+        self.report(at, sentence.near(nearest.found(), " is one"))
     }
 
     // That there are as many operands as are wanted.
@@ -72,7 +72,7 @@ impl Explainer<'_> {
             .say("; here ")
             .say(verb)
             .number(count);
-        self.fault(at, sentence)
+        self.report(at, sentence)
     }
 
     // The operand of a selector that has no type, or one of another type than its component.
@@ -121,7 +121,7 @@ impl Explainer<'_> {
             .kind(kind)
             .say("; it must be ")
             .kind(wanted);
-        self.fault(at, sentence)
+        self.report(at, sentence)
     }
 
     // THE_ of an operand of a user type.
@@ -160,7 +160,7 @@ impl Explainer<'_> {
                     .say(component)
                     .say("; this is ")
                     .kind(kind);
-                self.fault(operand, sentence)
+                self.report(operand, sentence)
             }
         }
     }
@@ -182,7 +182,7 @@ impl Explainer<'_> {
             .say("; it has ")
             .say(none)
             .names(components);
-        self.fault(at, sentence)
+        self.report(at, sentence)
     }
 
     // The first of the operands that has no type, or that is no tuple of the heading, which is called so.
@@ -215,10 +215,10 @@ impl Explainer<'_> {
         called: &str,
     ) -> Result<(), DiagnosisError> {
         let Some(own) = tuple_heading(kind) else {
-            return self.takes(at, "RELATION", "tuples", kind);
+            return self.report_operand_kind(at, "RELATION", "tuples", kind);
         };
         match unlike(self.alloc, own, heading, called) {
-            Some(sentence) => self.fault(at, sentence),
+            Some(sentence) => self.report(at, sentence),
             None => Ok(()),
         }
     }
@@ -250,12 +250,12 @@ impl Explainer<'_> {
     ) -> Result<Step<'t>, DiagnosisError> {
         match tuple_heading(kind) {
             Some(heading) => self.tuples(all, first, heading, "the first tuple", scope),
-            None => self.takes(first, "RELATION", "tuples", kind),
+            None => self.report_operand_kind(first, "RELATION", "tuples", kind),
         }
     }
 
     /// RELATION with its heading.
-    pub fn headed_relation<'t>(
+    pub(crate) fn headed_relation<'t>(
         &self,
         fields: &[Named<TypeExpr>],
         all: &'t [Boxed<Expr>],

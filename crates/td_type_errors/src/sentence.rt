@@ -13,7 +13,7 @@ const MOST_NAMES: usize = 12;
 
 /// A sentence that is written from left to right. A want of memory is noted, and told at its end.
 #[derive(Drop)]
-pub struct Sentence {
+pub(crate) struct Sentence {
     text: String,
     is_whole: bool,
 }
@@ -46,7 +46,7 @@ impl Sentence {
     }
 
     /// With another sentence behind it.
-    pub fn then(self, rest: Sentence) -> Sentence {
+    pub(crate) fn followed_by(self, rest: Sentence) -> Sentence {
         let Sentence { text, is_whole } = rest;
         let mut whole = self.say(&text);
         whole.is_whole = whole.is_whole && is_whole;
@@ -82,7 +82,7 @@ impl Sentence {
     }
 
     /// With a further name of a list, of which so many names stand before it. Behind the most names stand dots.
-    pub fn listed(self, before: usize, name: &Name) -> Sentence {
+    pub(crate) fn with_listed_name(self, before: usize, name: &Name) -> Sentence {
         if before > MOST_NAMES {
             self
         } else if before == MOST_NAMES {
@@ -97,7 +97,7 @@ impl Sentence {
     pub fn names<T>(self, parts: &[Named<T>]) -> Sentence {
         let mut sentence = self;
         for (place, part) in parts.iter().enumerate() {
-            sentence = sentence.listed(place, &part.name);
+            sentence = sentence.with_listed_name(place, &part.name);
         }
         sentence
     }
@@ -106,7 +106,7 @@ impl Sentence {
     pub fn attributes(self, heading: &Heading) -> Sentence {
         let mut sentence = self;
         for (place, field) in heading.fields().iter().enumerate() {
-            sentence = sentence.listed(place, &field.0);
+            sentence = sentence.with_listed_name(place, &field.0);
         }
         sentence
     }
@@ -120,7 +120,7 @@ impl Sentence {
     }
 
     /// The end of a check that finds this at a byte of the text.
-    pub fn told_at(self, place: usize) -> DiagnosisError {
+    pub(crate) fn into_error_at(self, place: usize) -> DiagnosisError {
         let Sentence { text, is_whole } = self;
         if is_whole {
             DiagnosisError::Found(Diagnostic {
@@ -146,6 +146,6 @@ fn inner_words(kind: &TypeKind) -> &str {
 }
 
 /// Whether a list of so many names is shown whole.
-pub fn is_shown_whole(names: usize) -> bool {
+pub(crate) fn is_shown_whole(names: usize) -> bool {
     names <= MOST_NAMES
 }

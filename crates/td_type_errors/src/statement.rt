@@ -16,23 +16,23 @@ use td_syntax::tree::{Expr, Named};
 use td_values::{Heading, Name, TypeKind};
 
 impl<'c> Explainer<'c> {
-    fn no_relvar<T>(&self, name: &Name, at: usize) -> Result<T, DiagnosisError> {
+    fn report_unknown_relvar<T>(&self, name: &Name, at: usize) -> Result<T, DiagnosisError> {
         let mut nearest = Nearest::new(self.alloc, name);
         nearest.look_at_relvars(self.schema());
         let sentence = Sentence::of(self.alloc, name.as_str()).say(" is no relvar");
-        self.fault(at, sentence.near(nearest.found(), " is"))
+        self.report(at, sentence.near(nearest.found(), " is"))
     }
 
     // The heading of a target, which is a relvar that is stored.
     fn target(&self, name: &Name, at: usize) -> Result<&Heading, DiagnosisError> {
         let Some((place, heading)) = self.catalogue.relvar(name) else {
-            return self.no_relvar(name, at);
+            return self.report_unknown_relvar(name, at);
         };
         if let Some(Origin::Virtual(_)) = self.catalogue.origin(place) {
             let sentence = Sentence::of(self.alloc, name.as_str()).say(
                 " is a virtual relvar, which no statement changes",
             );
-            return self.fault(at, sentence);
+            return self.report(at, sentence);
         }
         Ok(heading)
     }
@@ -60,15 +60,15 @@ impl<'c> Explainer<'c> {
         heading: &Heading,
     ) -> Result<(), DiagnosisError> {
         let Some(own) = relation_heading(kind) else {
-            return self.no_relation(at, word, name, kind);
+            return self.report_no_relation(at, word, name, kind);
         };
         match unlike(self.alloc, own, heading, name) {
-            Some(sentence) => self.fault(at, sentence),
+            Some(sentence) => self.report(at, sentence),
             None => Ok(()),
         }
     }
 
-    fn no_relation<T>(
+    fn report_no_relation<T>(
         &self,
         at: usize,
         word: &str,
@@ -78,14 +78,14 @@ impl<'c> Explainer<'c> {
         let sentence = Sentence::of(self.alloc, word).say(" takes a relation");
         if let TypeKind::Tuple(_) = kind {
             let hint = "; this is a tuple: write RELATION { TUPLE { .. } }";
-            return self.fault(at, sentence.say(hint));
+            return self.report(at, sentence.say(hint));
         }
         let sentence = sentence
             .say(" of the heading of ")
             .say(name)
             .say("; this is ")
             .kind(kind);
-        self.fault(at, sentence)
+        self.report(at, sentence)
     }
 
     // That what is the condition of what is told in words is a truth value.
@@ -134,7 +134,7 @@ impl<'c> Explainer<'c> {
             .say(target.as_str())
             .say("; this is ")
             .kind(kind);
-        self.fault(at, sentence)
+        self.report(at, sentence)
     }
 
     fn check_items(
@@ -245,16 +245,19 @@ impl<'c> Explainer<'c> {
     }
 
     /// What a check found.
-    pub fn told(&self, checked: Result<(), DiagnosisError>) -> Result<Diagnostic, AllocError> {
+    pub(crate) fn diagnostic(
+        &self,
+        checked: Result<(), DiagnosisError>,
+    ) -> Result<Diagnostic, AllocError> {
         match checked {
-            Ok(()) => self.no_type(0).told(),
-            Err(fault) => fault.told(),
+            Ok(()) => self.no_type(0).diagnostic(),
+            Err(fault) => fault.diagnostic(),
         }
     }
 }
 
 /// Why a query, which is the text's tree, has no type.
-pub fn explain_query(
+pub(crate) fn explain_query(
     alloc: Global,
     catalogue: &Catalogue,
     text: &str,
@@ -263,18 +266,18 @@ pub fn explain_query(
     let explainer = Explainer::new(alloc, catalogue, text)?;
     let scope = Scope::Relvars(catalogue.schema());
     match explainer.kind_of(tree, 0, &scope) {
-        Ok(_) => explainer.no_type(0).told(),
-        Err(fault) => fault.told(),
+        Ok(_) => explainer.no_type(0).diagnostic(),
+        Err(fault) => fault.diagnostic(),
     }
 }
 
 /// Why a statement, which is the text's tree, is not well typed.
-pub fn explain_statement(
+pub(crate) fn explain_statement(
     alloc: Global,
     catalogue: &Catalogue,
     text: &str,
     tree: &Statement,
 ) -> Result<Diagnostic, AllocError> {
     let explainer = Explainer::new(alloc, catalogue, text)?;
-    explainer.told(explainer.check_statement(tree))
+    explainer.diagnostic(explainer.check_statement(tree))
 }

@@ -1,7 +1,7 @@
 //! Types as they are written.
 
 use crate::diagnostic::DiagnosisError;
-use crate::nearest::{Nearest, repeated_part};
+use crate::nearest::{Nearest, first_repeated_part};
 use crate::parts::Explainer;
 use crate::sentence::Sentence;
 use crate::widths::{fields_width, front, sum, type_width};
@@ -19,7 +19,7 @@ impl Sentence {
             .say(if count == 0 { "" } else { ", " });
         for place in 0..count {
             if let Some(representation) = schema.representation_at(place) {
-                sentence = sentence.listed(place, representation.possrep.ty());
+                sentence = sentence.with_listed_name(place, representation.possrep.ty());
             }
         }
         sentence
@@ -37,7 +37,7 @@ fn check_name(explainer: &Explainer<'_>, name: &Name, at: usize) -> Result<(), D
         Some(near) => sentence.say(near.as_str()).say(" is"),
         None => sentence.types(explainer.schema()),
     };
-    explainer.fault(at, sentence)
+    explainer.report(at, sentence)
 }
 
 // That a type is one.
@@ -54,7 +54,7 @@ fn check_type(ty: &TypeExpr, explainer: &Explainer<'_>, at: usize) -> Result<(),
 
 /// That fields, of which the first begins at a mark, have types, and each a name of its own.
 #[cycle(check_type)]
-pub fn check_fields(
+pub(crate) fn check_fields(
     fields: &[Named<TypeExpr>],
     explainer: &Explainer<'_>,
     first: usize,
@@ -72,9 +72,9 @@ fn check_names(
     explainer: &Explainer<'_>,
     first: usize,
 ) -> Result<(), DiagnosisError> {
-    match repeated_part(explainer.alloc, fields)? {
+    match first_repeated_part(explainer.alloc, fields)? {
         Some((place, name)) => {
-            explainer.twice(name, sum(&[first, fields_width(front(fields, place))]))
+            explainer.report_repeated_name(name, sum(&[first, fields_width(front(fields, place))]))
         }
         None => Ok(()),
     }

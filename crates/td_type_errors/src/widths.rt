@@ -20,7 +20,7 @@ pub fn front<T>(all: &[T], count: usize) -> &[T] {
 }
 
 /// Of an attribute list.
-pub fn attributes_width(attributes: &Attributes) -> usize {
+pub(crate) fn attributes_width(attributes: &Attributes) -> usize {
     match attributes {
         Attributes::Only(names) => names.as_slice().len(),
         Attributes::AllBut(names) => sum(&[2, names.as_slice().len()]),
@@ -29,7 +29,7 @@ pub fn attributes_width(attributes: &Attributes) -> usize {
 
 /// Of a type as it is written.
 #[cycle(type_width)]
-pub fn type_width(ty: &TypeExpr) -> usize {
+pub(crate) fn type_width(ty: &TypeExpr) -> usize {
     match ty {
         TypeExpr::Boolean | TypeExpr::Integer | TypeExpr::Char | TypeExpr::User(_) => 1,
         TypeExpr::Tuple(fields) | TypeExpr::Relation(fields) => {
@@ -40,7 +40,7 @@ pub fn type_width(ty: &TypeExpr) -> usize {
 
 /// Of fields as they are written.
 #[cycle(type_width)]
-pub fn fields_width(fields: &[Named<TypeExpr>]) -> usize {
+pub(crate) fn fields_width(fields: &[Named<TypeExpr>]) -> usize {
     let mut all = 0;
     for field in fields {
         all = sum(&[all, 1, type_width(&field.value)]);
@@ -66,7 +66,7 @@ fn list_width(all: &[Boxed<Expr>]) -> usize {
 
 /// Of named expressions, each with so many marks beside it.
 #[cycle(width)]
-pub fn named_width(all: &[Named<Boxed<Expr>>], beside: usize) -> usize {
+pub(crate) fn named_width(all: &[Named<Boxed<Expr>>], beside: usize) -> usize {
     let mut marks = 0;
     for a in all {
         marks = sum(&[marks, beside, width(a.value.get())]);
@@ -76,7 +76,7 @@ pub fn named_width(all: &[Named<Boxed<Expr>>], beside: usize) -> usize {
 
 /// Of named summaries.
 #[cycle(width)]
-pub fn summaries_width(all: &[Named<SummaryTerm<Boxed<Expr>>>]) -> usize {
+pub(crate) fn summaries_width(all: &[Named<SummaryTerm<Boxed<Expr>>>]) -> usize {
     let mut marks = 0;
     for a in all {
         let term = match &a.value {
@@ -90,7 +90,7 @@ pub fn summaries_width(all: &[Named<SummaryTerm<Boxed<Expr>>>]) -> usize {
 
 /// Of what stands between the relation of SUMMARIZE and its summaries.
 #[cycle(width)]
-pub fn groups_width(groups: &Groups<Boxed<Expr>>) -> usize {
+pub(crate) fn groups_width(groups: &Groups<Boxed<Expr>>) -> usize {
     match groups {
         Groups::Whole => 0,
         Groups::Per(a) => sum(&[1, width(a.get())]),
@@ -139,7 +139,7 @@ pub fn width(tree: &Expr) -> usize {
 }
 
 /// Of a summary without its name.
-pub fn summary_width(summary: &SummaryTerm<Boxed<Expr>>) -> usize {
+pub(crate) fn summary_width(summary: &SummaryTerm<Boxed<Expr>>) -> usize {
     match summary {
         SummaryTerm::Count => 1,
         SummaryTerm::Of(_, term) => sum(&[1, width(term.get())]),
@@ -169,7 +169,7 @@ fn action_width(action: &Action) -> usize {
 }
 
 /// Of actions that are made at once.
-pub fn actions_width(actions: &[Action]) -> usize {
+pub(crate) fn actions_width(actions: &[Action]) -> usize {
     let mut marks = 0;
     for action in actions {
         marks = sum(&[marks, action_width(action)]);
@@ -178,7 +178,7 @@ pub fn actions_width(actions: &[Action]) -> usize {
 }
 
 /// Of what a base relvar holds at first.
-pub fn opening_width(opening: &Opening) -> usize {
+pub(crate) fn opening_width(opening: &Opening) -> usize {
     match opening {
         Opening::Empty(fields) => sum(&[1, fields_width(fields.as_slice())]),
         Opening::Init(None, a) => sum(&[1, width(a.get())]),

@@ -19,6 +19,7 @@ use td_journal::Journals;
 use td_replica::Opens;
 use td_semantics::Meter;
 
+// The exit status of a run: 0 after an accepted script, 1 after a refused one or where the run stopped.
 fn status(end: Result<bool, Ended>) -> u8
     ensures { result ≡ status_of end }
 {
@@ -65,7 +66,7 @@ fn tell<K: Sink, F: Sink>(alloc: Global, error: &Error, sink: &mut K, faults: &m
 }
 
 // Tells on the output of faults that a journal failed.
-fn tell_journal<F: Sink>(alloc: Global, name: &str, faults: &mut F) -> u8
+fn report_journal_failure<F: Sink>(alloc: Global, name: &str, faults: &mut F) -> u8
     ensures { TellsJournal name.now result (output_of F.Sink faults.old) (output_of F.Sink faults.new) }
 {
     let Ok(text) = journal_fault(alloc, name) else {
@@ -77,6 +78,7 @@ fn tell_journal<F: Sink>(alloc: Global, name: &str, faults: &mut F) -> u8
     }
 }
 
+// The line that tells that the journal of this name failed.
 fn journal_fault(alloc: Global, name: &str) -> Result<String, AllocError>
     ensures { IfOk result (λ text. string_bytes text ≡ journal_fault name.now) }
 {
@@ -94,7 +96,7 @@ fn end_journaled<F: Sink>(alloc: Global, end: Result<bool, Stopped>, faults: &mu
     match end {
         Ok(accepted) => status(Ok(accepted)),
         Err(Stopped::Run(e)) => status(Err(e)),
-        Err(Stopped::JournalFile(name)) => tell_journal(alloc, &name, faults),
+        Err(Stopped::JournalFile(name)) => report_journal_failure(alloc, &name, faults),
     }
 }
 

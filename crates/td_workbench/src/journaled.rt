@@ -35,6 +35,7 @@ pub enum Stopped {
     JournalFile(String),
 }
 
+// The name of a site's journal: the prefix, the site's number and `.tdj`.
 fn journal_name(alloc: Global, prefix: &str, site: u16) -> Result<String, AllocError>
     ensures { IfOk result (λ name. string_bytes name ≡ journal_name prefix.now site) }
 {
@@ -124,6 +125,7 @@ fn keep_opened<R: Opens + Drop, J: Journals>(
     }
 }
 
+// The end of a run, as that of one over journals.
 fn as_run(end: Result<bool, Ended>) -> Result<bool, Stopped>
     ensures { result ≡ run_of end }
 {

@@ -41,6 +41,7 @@ pub struct Opened<R: Drop> {
     pub ready: String,
 }
 
+// A site of this number that holds nothing, or why its script is refused.
 fn open_site<R: Opens + Drop>(
     alloc: Global,
     script: &str,
@@ -86,6 +87,7 @@ fn open_sites<R: Opens + Drop>(
     Ok(sites)
 }
 
+// The line that tells how many sites are ready.
 fn ready_text(alloc: Global, sites: u16) -> Result<String, AllocError>
     ensures { IfOk result (λ text. string_bytes text ≡ ready sites) }
 {
@@ -96,6 +98,7 @@ fn ready_text(alloc: Global, sites: u16) -> Result<String, AllocError>
     Ok(out)
 }
 
+// What the script opens: its sites, their catalogue, and the line that tells of them.
 fn open_text<R: Opens + Drop>(
     alloc: Global,
     options: &Options,

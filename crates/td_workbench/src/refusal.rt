@@ -14,6 +14,7 @@ use td_listings::show_raise;
 use td_semantics::{BrokenTest, ScriptError};
 use td_values::{Name, Raise};
 
+// The line of a script whose opening raises an error.
 fn raised_text(alloc: Global, raise: Raise) -> Result<String, AllocError>
     ensures { IfOk result (λ text. string_bytes text ≡ script_fault (open_error.OpeningRaised raise)) }
 {
@@ -24,6 +25,7 @@ fn raised_text(alloc: Global, raise: Raise) -> Result<String, AllocError>
     Ok(out)
 }
 
+// The line of these words and, behind them, the name.
 fn named_text(alloc: Global, words: &str, name: &Name) -> Result<String, AllocError>
     ensures { IfOk result (λ text. string_bytes text ≡ words.now ++ name.now ++ codes "\n") }
 {
@@ -34,6 +36,7 @@ fn named_text(alloc: Global, words: &str, name: &Name) -> Result<String, AllocEr
     Ok(out)
 }
 
+// The line of a script whose opening breaks a key or a constraint.
 fn broken_text(alloc: Global, broken: &BrokenTest) -> Result<String, AllocError>
     ensures { IfOk result (λ text. string_bytes text ≡ script_fault (open_error.OpeningBroken broken.now)) }
 {

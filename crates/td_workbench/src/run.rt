@@ -99,6 +99,7 @@ fn answer_read<R: Replica, L: Links, K: Sink>(
     }
 }
 
+// How a run ends where no line is read: that no reads are left counts as a read fault.
 fn not_read(e: LineError) -> Ended
     ensures { result ≡ ended_by e }
 {

@@ -31,6 +31,7 @@ pub enum Unready {
     ReadFault,
 }
 
+// Why there is no script where a line of it is not read: that no reads are left counts as a read fault.
 fn unread(e: LineError) -> Unready
     ensures { result ≡ unready_by e }
 {

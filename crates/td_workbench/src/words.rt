@@ -24,6 +24,7 @@ Standard input holds a script, a line `.begin`, and then lines:
                    (as 127.0.0.1:7001 or [::1]:7001; nothing is encrypted)
   .quit            ends the program";
 
+// The options that the program takes, with their ranges and defaults, and its help.
 fn command<'a>(alloc: Global) -> Result<Command<'a>, AllocError> {
     let sites = Arg::new(alloc, "sites")
         .long("sites")

@@ -6,9 +6,9 @@ use Rattle.td_answers.proofs.linking.call.Goals as goal
 
 pub returns-in-Ok-call-clause-answered : goal.returns-in-Ok-call-clause-answered
 returns-in-Ok-call-clause-answered g c =
-    says_more _ _ c.told.result
-    (λ text. tells_linked CallsOver g.L.Links.calls (codes "called") c.args.number c.args.address.now (g.R.Replica.seen c.args.site.now) c.in-Ok.ready.0 text (g.R.Replica.seen c.called.new.site) c.args.links.now c.call.new.self c.called.result c.in-Ok.ensures.0 c.call.ensures.asked c.called.ensures.called)
-    c.told.ensures
+    says_more _ _ c.reply_of_meeting.result
+    (λ text. tells_linked CallsOver g.L.Links.calls (codes "called") c.args.number c.args.address.now (g.R.Replica.seen c.args.site.now) c.in-Ok.ready.0 text (g.R.Replica.seen c.call_link.new.site) c.args.links.now c.call.new.self c.call_link.result c.in-Ok.ensures.0 c.call.ensures.asked c.call_link.ensures.called)
+    c.reply_of_meeting.ensures
 
 pub returns-in-Err-call-clause-answered : goal.returns-in-Err-call-clause-answered
 returns-in-Err-call-clause-answered g c =

@@ -6,12 +6,12 @@ use Rattle.td_answers.specs.Answers.{TellsPast, reply_line}
 use Rattle.td_answers.proofs.Saying.{says_more}
 use Rattle.td_answers.proofs.telling.query_at.Goals as goal
 
-pub returns-in-Ok-said : goal.returns-in-Ok-said
-returns-in-Ok-said g c =
+pub returns-in-Ok-reply_of_answer : goal.returns-in-Ok-reply_of_answer
+returns-in-Ok-reply_of_answer g c =
     let text = c.args.text.now in
     let s = g.R.Replica.seen c.args.site.now in
-    says_more (λ (words : List ℕ). words ≡ reply_line c.in-Ok.past) (TellsPast text (c.args.clock, c.args.origin) s) c.in-Ok-said.reply
-    (λ words is. record { answer = Ok c.in-Ok.past; asks = subst (λ (m : Stamp). AsksAt s text m (Ok c.in-Ok.past)) c.stamp_at.ensures c.in-Ok.ensures.asks; line = is }) c.in-Ok-said.ensures
+    says_more (λ (words : List ℕ). words ≡ reply_line c.in-Ok.past) (TellsPast text (c.args.clock, c.args.origin) s) c.in-Ok-reply_of_answer.reply
+    (λ words is. record { answer = Ok c.in-Ok.past; asks = subst (λ (m : Stamp). AsksAt s text m (Ok c.in-Ok.past)) c.stamp_at.ensures c.in-Ok.ensures.asks; line = is }) c.in-Ok-reply_of_answer.ensures
 
 pub returns : goal.returns
 returns g c = record { answer = Err past_error.OutOfMemory; asks = (c.in-Ok.ensures.asks.2.live, c.in-Ok.ensures.asks.2.reads.short); line = refl }

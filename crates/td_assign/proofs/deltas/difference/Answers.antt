@@ -9,4 +9,4 @@ returns c =
     let d = c.args.database.now in
     let x = c.args.change.now in
     let before = c.relation.result.now in
-    told (stored_relvars d.stored) x before (looked_up (slice_get d.stored x.target) before (sym c.in-Some.ensures.rows ∙ ap Some (sym c.relation.ensures))) c.turning.result c.turning.ensures
+    told (stored_relvars d.stored) x before (looked_up (slice_get d.stored x.target) before (sym c.in-Some.ensures.rows ∙ ap Some (sym c.relation.ensures))) c.turning_delta.result c.turning_delta.ensures

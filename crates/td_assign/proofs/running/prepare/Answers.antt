@@ -6,8 +6,8 @@ use Rattle.td_assign.proofs.Naming.{names_unread, targets_read}
 use Rattle.td_assign.proofs.Preparing.{prepared, read_is, unread_is}
 use Rattle.td_assign.proofs.running.prepare.Goals as goal
 
-pub made_by-requires-clause-typed : goal.made_by-requires-clause-typed
-made_by-requires-clause-typed c =
+pub prepare_statement-requires-clause-typed : goal.prepare_statement-requires-clause-typed
+prepare_statement-requires-clause-typed c =
     let k = c.args.database.now.catalogue in
     let (dialect, text, reads) = c.requires.read in
     let is = read_is k k dialect text c.args.reading.now.statement refl reads.statement c.in-Some.statement c.in-Some.is in

@@ -6,8 +6,8 @@ use Rattle.td_relvars.proofs.Stores.{looked_up}
 use Rattle.td_assign.proofs.Turning.{apart_from_none, growth_is, of_target}
 use Rattle.td_assign.proofs.sources.growth_by.Goals as goal
 
-pub lacking-requires : goal.lacking-requires
-lacking-requires c =
+pub lacking_tuples-requires : goal.lacking_tuples-requires
+lacking_tuples-requires c =
     let d = c.args.database.now in
     let n = c.args.target in
     let before = c.relation-before.result.now in

@@ -5,8 +5,8 @@ use Rattle.td_assign.specs.ForProofs.Turning.{Gives}
 use Rattle.td_assign.proofs.Turning.{gives_alone, one_alone, raises_alone}
 use Rattle.td_assign.proofs.sources.turn.Goals as goal
 
-pub alone-requires : goal.alone-requires
-alone-requires c =
+pub single_delta-requires : goal.single_delta-requires
+single_delta-requires c =
     let d = c.args.database.now in
     let a = c.assignment-item.result in
     subst (IsAssigned d.catalogue) (sym c.assignment-item.is) (All-get_or (IsAssigned d.catalogue) c.args.assignments.now 0 a c.in-len1.len_at_least c.requires)

@@ -5,7 +5,7 @@ use Rattle.td_meaning.specs.Mean.{Names, Relvars, Selection, mean, mean_relvar, 
 use Rattle.td_eval.specs.ForProofs.ByKey.{GivesKey, SaysIfAny, all_columns, all_values}
 use Rattle.td_eval.proofs.ByKey.{decided_there, error_told, found_of, part_says, same_restricted, some_of}
 use Rattle.td_eval.proofs.by_key.where_by_key.Given.{Over}
-use Rattle.td_eval.proofs.by_key.where_by_key.Goals.{After-restricted_to}
+use Rattle.td_eval.proofs.by_key.where_by_key.Goals.{After-with_values}
 use Rattle.td_eval.proofs.by_key.where_by_key.Goals as goal
 
 pub returns-in_err-part : goal.returns-in_err-part
@@ -16,8 +16,8 @@ returns-in_err-part g c = λ r s names is.
     rw (p.1, p.2) (error_told r s names c.args.place c.args.condition.now m o c.in-Some-2.sought c.in_err-part.field-0.0 is c.in_err-part.ensures)
 
 -- what the part has of the relvar
-says : (g : Over) (c : After-restricted_to g) (r : Relvars) (s : Selection) (names : Names) → r c.args.place ≡ g.L.Lookup.relvars c.args.lookup.now c.args.place
-    → SaysIfAny relation_value (some_of c.restricted_to.result) (mean_where (mean_relvar r c.args.place) (mean r s c.args.condition.now) names)
+says : (g : Over) (c : After-with_values g) (r : Relvars) (s : Selection) (names : Names) → r c.args.place ≡ g.L.Lookup.relvars c.args.lookup.now c.args.place
+    → SaysIfAny relation_value (some_of c.with_values.result) (mean_where (mean_relvar r c.args.place) (mean r s c.args.condition.now) names)
 says g c r s names is =
     let condition = c.args.condition.now in
     let m = g.L.Lookup.relvars c.args.lookup.now c.args.place in
@@ -31,16 +31,16 @@ says g c r s names is =
     let (rows, has, those) = found_of m o key sought part (rw c.in-Some-3.is at c.in_ok-part.ensures) c.in-Some-first_key.ensures in
     let columns = ap (all_columns fs) (sym c.heading.ensures) ∙ ap (λ vs. all_columns vs c.heading.result.now) (sym c.deref-2.ensures.value) ∙ sym c.has_names.ensures ∙ c.if-has_names.true in
     let decided = decided_there r s names condition fs conjunction rows key sought part those columns held in
-    part_says r s names c.args.place condition m rows part is has (same_restricted r s names condition fs conjunction rows key sought part those columns held) c.restricted_to.result
-    (c.restricted_to.ensures (truth_at (mean r s condition) names) (λ t there. decided t there ∙ ap (λ vs. Ok (all_values vs t)) (sym c.deref-then-has_names.ensures.value)))
+    part_says r s names c.args.place condition m rows part is has (same_restricted r s names condition fs conjunction rows key sought part those columns held) c.with_values.result
+    (c.with_values.ensures (truth_at (mean r s condition) names) (λ t there. decided t there ∙ ap (λ vs. Ok (all_values vs t)) (sym c.deref-then-has_names.ensures.value)))
 
-pub returns-in_err-restricted_to : goal.returns-in_err-restricted_to
-returns-in_err-restricted_to g c = λ r s names is.
-    let h = says g (goal.at.returns-in_err-restricted_to g c).After-restricted_to r s names is in
-    let p = err_from_is_err_and c.from_residual-in_err-restricted_to.result c.from_residual-in_err-restricted_to.ensures.1 in
-    rw (p.1, p.2) (rw c.in_err-restricted_to.was at h)
+pub returns-in_err-with_values : goal.returns-in_err-with_values
+returns-in_err-with_values g c = λ r s names is.
+    let h = says g (goal.at.returns-in_err-with_values g c).After-with_values r s names is in
+    let p = err_from_is_err_and c.from_residual-in_err-with_values.result c.from_residual-in_err-with_values.ensures.1 in
+    rw (p.1, p.2) (rw c.in_err-with_values.was at h)
 
 pub returns-then-has_names : goal.returns-then-has_names
 returns-then-has_names g c = λ r s names is.
-    let h = says g (goal.at.returns-then-has_names g c).After-restricted_to r s names is in
-    rw c.in_ok-restricted_to.was at h
+    let h = says g (goal.at.returns-then-has_names g c).After-with_values r s names is in
+    rw c.in_ok-with_values.was at h

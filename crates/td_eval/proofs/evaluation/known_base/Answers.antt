@@ -10,4 +10,4 @@ as_told m (Err e) h = sym h
 pub returns : goal.returns
 returns g c =
     let place = c.args.base.now.place in
-    ap (λ v. record { place = place; value = v }) (as_told (g.L.Lookup.relvars c.args.lookup.now place) c.leased.result c.leased.ensures)
+    ap (λ v. record { place = place; value = v }) (as_told (g.L.Lookup.relvars c.args.lookup.now place) c.lease_of.result c.lease_of.ensures)

@@ -3,10 +3,10 @@ use Rattle.td_incremental.specs.References.{HasNames}
 use Rattle.td_incremental.proofs.Naming.{left_named, project_named, where_named}
 use Rattle.td_incremental.proofs.references.+names_of_tree.Goals as goal
 
-pub returns-in_ok-copied-in-Project : goal.returns-in_ok-copied-in-Project
-returns-in_ok-copied-in-Project t c =
-    project_named c.args.catalogue.now c.args.tree.now c.in-Project.field-0 c.in-Project.names c.in_ok-copied-in-Project.field-0.items
-    c.in-Project.is (c.in_ok-copied-in-Project.ensures ∙ c.as_slice.ensures)
+pub returns-in_ok-copy_names-in-Project : goal.returns-in_ok-copy_names-in-Project
+returns-in_ok-copy_names-in-Project t c =
+    project_named c.args.catalogue.now c.args.tree.now c.in-Project.field-0 c.in-Project.names c.in_ok-copy_names-in-Project.field-0.items
+    c.in-Project.is (c.in_ok-copy_names-in-Project.ensures ∙ c.as_slice.ensures)
 
 pub returns-in-Some : goal.returns-in-Some
 returns-in-Some t c =

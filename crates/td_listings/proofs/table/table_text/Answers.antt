@@ -20,12 +20,12 @@ returns-in-Err g c =
     let has = has_table c.args.catalogue.now c.args.name.now c.in-Some.place c.in-Some.name.now c.in-Some.heading.now c.in-Some.ensures (λ e. false≢true (c.if-is_empty.ensures.1 e)) in
     (sym c.is_open.ensures ∙ c.if-not-is_open.false, c.in-Some.place, has)
 
-pub returns-in-Ok-rendered : goal.returns-in-Ok-rendered
-returns-in-Ok-rendered g c =
+pub returns-in-Ok-render_table : goal.returns-in-Ok-render_table
+returns-in-Ok-render_table g c =
     let has = has_table c.args.catalogue.now c.args.name.now c.in-Some.place c.in-Some.name.now c.in-Some.heading.now c.in-Some.ensures (λ e. false≢true (c.if-is_empty.ensures.1 e)) in
-    tabulated c.args.catalogue.now (g.R.Replica.seen c.args.replica.now) c.args.name.now c.in-Some.place c.in-Ok.answer (sym c.is_open.ensures ∙ c.if-not-is_open.false) has c.in-Ok.ensures.told (Ok c.in-Ok-rendered.text.items) c.in-Ok-rendered.ensures
+    tabulated c.args.catalogue.now (g.R.Replica.seen c.args.replica.now) c.args.name.now c.in-Some.place c.in-Ok.answer (sym c.is_open.ensures ∙ c.if-not-is_open.false) has c.in-Ok.ensures.told (Ok c.in-Ok-render_table.text.items) c.in-Ok-render_table.ensures
 
 pub returns : goal.returns
 returns g c =
     let has = has_table c.args.catalogue.now c.args.name.now c.in-Some.place c.in-Some.name.now c.in-Some.heading.now c.in-Some.ensures (λ e. false≢true (c.if-is_empty.ensures.1 e)) in
-    tabulated c.args.catalogue.now (g.R.Replica.seen c.args.replica.now) c.args.name.now c.in-Some.place c.in-Ok.answer (sym c.is_open.ensures ∙ c.if-not-is_open.false) has c.in-Ok.ensures.told (Err c.in-Err-rendered.error) c.in-Err-rendered.ensures
+    tabulated c.args.catalogue.now (g.R.Replica.seen c.args.replica.now) c.args.name.now c.in-Some.place c.in-Ok.answer (sym c.is_open.ensures ∙ c.if-not-is_open.false) has c.in-Ok.ensures.told (Err c.in-Err-render_table.error) c.in-Err-render_table.ensures

@@ -31,9 +31,9 @@ use Rattle.td_meaning.proofs.evaluator.+evaluation.Goals as goal
 
 -- ---- closures
 
-pub Evaluator::restricted_to-returns : goal.Evaluator::restricted_to-returns
+pub Evaluator::restrict_by_checks-returns : goal.Evaluator::restrict_by_checks-returns
 unfolding truth_at
-Evaluator::restricted_to-returns g t c = λ a are.
+Evaluator::restrict_by_checks-returns g t c = λ a are.
     let names = names_bound c.args.scope.now in
     let h = c.args.ts.now.heading in
     let m = truth_at (mean_in c.args.self.now.env.now a) names in
@@ -41,20 +41,20 @@ Evaluator::restricted_to-returns g t c = λ a are.
     let fit = subst (Fits h) (sym gave.shows) (c.rows_fit.ensures.fit k d lt) in
     subst (λ x. Answers r (m x)) gave.shows (subst (Answers r) (are gave.shown.now fit) gave.says.met)))
 
-pub Evaluator::restricted-returns : goal.Evaluator::restricted-returns
-Evaluator::restricted-returns g t c =
+pub Evaluator::restrict_prepared-returns : goal.Evaluator::restrict_prepared-returns
+Evaluator::restrict_prepared-returns g t c =
     let m = mean_in c.args.self.now.env.now in
     let names = names_bound c.args.scope.now in
     let a = c.args.c.now in
     let ts = c.args.ts.now in
     let are = subst (λ (r : RowsData). AreChecks m names r.heading a c.in_ok-checks.checks.items) c.get.ensures (subst (λ h. AreChecks m names h a c.in_ok-checks.checks.items) c.heading.ensures c.in_ok-checks.ensures.means) in
-    subst (λ r. Answers c.restricted_to-in-None.result (restricted (truth_at (m a) names) r)) c.get-in-None.ensures
-    (c.restricted_to-in-None.ensures a
+    subst (λ r. Answers c.restrict_by_checks-in-None.result (restricted (truth_at (m a) names) r)) c.get-in-None.ensures
+    (c.restrict_by_checks-in-None.ensures a
     (subst (λ (r : RowsData). AreChecks m names r.heading a c.as_slice-in-None.result.now) (sym c.get-in-None.ensures) (subst (AreChecks m names ts.heading a) (sym c.as_slice-in-None.ensures.value) are)))
 
-pub Evaluator::restricted-returns-in-Some : goal.Evaluator::restricted-returns-in-Some
+pub Evaluator::restrict_prepared-returns-in-Some : goal.Evaluator::restrict_prepared-returns-in-Some
 unfolding truth_at
-Evaluator::restricted-returns-in-Some g t c =
+Evaluator::restrict_prepared-returns-in-Some g t c =
     let m = mean_in c.args.self.now.env.now in
     let names = names_bound c.args.scope.now in
     let a = c.args.c.now in
@@ -64,41 +64,41 @@ Evaluator::restricted-returns-in-Some g t c =
     let narrow = rw c.in-Some.is at c.in_ok-part.ensures in
     let sought = subst (AreChecks m names ts.heading a) (sym c.as_slice.ensures.value) are in
     let here = subst (AreChecks m names ts.heading a) (sym c.as_slice-in-Some.ensures.value) are in
-    subst (Answers c.restricted_to.result) (narrow.same m names (truth_at (m a) names) (λ u f. sym (sought u f)))
-    (c.restricted_to.ensures a (subst (λ h. AreChecks m names h a c.as_slice-in-Some.result.now) (sym narrow.heading) here))
+    subst (Answers c.restrict_by_checks.result) (narrow.same m names (truth_at (m a) names) (λ u f. sym (sought u f)))
+    (c.restrict_by_checks.ensures a (subst (λ h. AreChecks m names h a c.as_slice-in-Some.result.now) (sym narrow.heading) here))
 
-pub Evaluator::extended-extend-requires : goal.Evaluator::extended-extend-requires
-Evaluator::extended-extend-requires g t c = λ k d lt i x among p q is_term is_tuple.
+pub Evaluator::extend_prepared-extend-requires : goal.Evaluator::extend_prepared-extend-requires
+Evaluator::extend_prepared-extend-requires g t c = λ k d lt i x among p q is_term is_tuple.
     (omega (arith, c.decreases, term_within c.args.items.now i x p.now among is_term), λ a m. m)
 
-pub Evaluator::extended-returns : goal.Evaluator::extended-returns
-Evaluator::extended-returns g t c =
+pub Evaluator::extend_prepared-returns : goal.Evaluator::extend_prepared-returns
+Evaluator::extend_prepared-returns g t c =
     let m = terms (mean_in c.args.self.now.env.now) (names_bound c.args.scope.now) in
     extends_to m c.args.items.now c.args.ts.now c.extend.result (c.extend.ensures m (λ k d lt i x among p q a is_term is_tuple gave.
     subst (λ e. Answers a (m e (get_or c.args.ts.now.tuples k d))) is_term (subst (λ u. Answers a (m p.now u)) is_tuple gave)))
 
-pub Evaluator::summarized-summarize-requires : goal.Evaluator::summarized-summarize-requires
-Evaluator::summarized-summarize-requires g t c = λ k d lt i x among. of_term _ (get_or c.args.items.now i x).term (λ e le p q is_term is_tuple.
+pub Evaluator::summarize_per-summarize-requires : goal.Evaluator::summarize_per-summarize-requires
+Evaluator::summarize_per-summarize-requires g t c = λ k d lt i x among. of_term _ (get_or c.args.items.now i x).term (λ e le p q is_term is_tuple.
     (omega (arith, c.decreases, summary_within c.args.items.now i x e p.now among le is_term), λ a m. m))
 
-pub Evaluator::summarized-returns : goal.Evaluator::summarized-returns
-Evaluator::summarized-returns g t c =
+pub Evaluator::summarize_per-returns : goal.Evaluator::summarize_per-returns
+Evaluator::summarize_per-returns g t c =
     let m = terms (mean_in c.args.self.now.env.now) (names_bound c.args.scope.now) in
     summarizes_to m c.args.items.now c.args.ts.now c.args.us.now c.summarize.result (c.summarize.ensures m (λ k d lt i x among. of_term _ (get_or c.args.items.now i x).term (λ e le p q a is_term is_tuple gave.
     subst (λ e. Answers a (m e (get_or c.args.ts.now.tuples k d))) is_term (subst (λ u. Answers a (m p.now u)) is_tuple gave))))
 
-pub Evaluator::summarized_in_runs-summarize_by-requires : goal.Evaluator::summarized_in_runs-summarize_by-requires
-Evaluator::summarized_in_runs-summarize_by-requires g t c = λ k d lt i x among. of_term _ (get_or c.args.items.now i x).term (λ e le p q is_term is_tuple.
+pub Evaluator::summarize_in_runs-summarize_by-requires : goal.Evaluator::summarize_in_runs-summarize_by-requires
+Evaluator::summarize_in_runs-summarize_by-requires g t c = λ k d lt i x among. of_term _ (get_or c.args.items.now i x).term (λ e le p q is_term is_tuple.
     (omega (arith, c.decreases, summary_within c.args.items.now i x e p.now among le is_term), λ a m. m))
 
-pub Evaluator::summarized_in_runs-returns : goal.Evaluator::summarized_in_runs-returns
-Evaluator::summarized_in_runs-returns g t c =
+pub Evaluator::summarize_in_runs-returns : goal.Evaluator::summarize_in_runs-returns
+Evaluator::summarize_in_runs-returns g t c =
     let m = terms (mean_in c.args.self.now.env.now) (names_bound c.args.scope.now) in
     summarizes_to m c.args.items.now c.args.ts.now (project_of c.args.names.now c.args.ts.now) c.summarize_by.result (c.summarize_by.ensures m (λ k d lt i x among. of_term _ (get_or c.args.items.now i x).term (λ e le p q a is_term is_tuple gave.
     subst (λ e. Answers a (m e (get_or c.args.ts.now.tuples k d))) is_term (subst (λ u. Answers a (m p.now u)) is_tuple gave))))
 
-pub Evaluator::aggregated_at-returns : goal.Evaluator::aggregated_at-returns
-Evaluator::aggregated_at-returns g t c =
+pub Evaluator::aggregate_with_side-returns : goal.Evaluator::aggregate_with_side-returns
+Evaluator::aggregate_with_side-returns g t c =
     let m = mean_in c.args.self.now.env.now in
     let names = names_bound c.args.scope.now in
     let h = c.args.ts.now.heading in
@@ -110,8 +110,8 @@ Evaluator::aggregated_at-returns g t c =
     let there = subst (λ x. IfSome side (λ s. IsSide m names h x s)) (sym is_term) is_side in
     subst (λ x. Answers a (terms m names x (get_or c.args.ts.now.tuples k d))) is_term (subst (λ u. Answers a (terms m names p.now u)) is_tuple (gave h fit there))) sides)
 
-pub Evaluator::aggregated-aggregated_at-requires : goal.Evaluator::aggregated-aggregated_at-requires
-Evaluator::aggregated-aggregated_at-requires g t c =
+pub Evaluator::aggregate_prepared-aggregate_with_side-requires : goal.Evaluator::aggregate_prepared-aggregate_with_side-requires
+Evaluator::aggregate_prepared-aggregate_with_side-requires g t c =
     let m = mean_in c.args.self.now.env.now in
     let names = names_bound c.args.scope.now in
     λ κs within. (omega (arith, c.decreases), (within, subst (λ h. IfSome c.in_ok-side.side (λ s. OfTerm (λ e. IsSide m names h e s) c.args.summary.now)) c.heading.ensures c.in_ok-side.ensures))
@@ -124,8 +124,8 @@ Evaluator::values-evaluate-requires g t c = λ κs within. (omega (arith, c.decr
 pub Evaluator::fields-evaluate-requires : goal.Evaluator::fields-evaluate-requires
 Evaluator::fields-evaluate-requires g t c = λ κs within. (omega (arith, c.decreases, in_items c.args.items.now c.loop-item.item-index c.item-item.result _ c.loop-item-test.true c.item-item.is c.get.ensures), within)
 
-pub Evaluator::introduced-evaluate-requires : goal.Evaluator::introduced-evaluate-requires
-Evaluator::introduced-evaluate-requires g t c = λ κs within. (omega (arith, c.decreases, in_named c.args.xs.now c.loop-x.x-index c.x-item.result _ c.loop-x-test.true c.x-item.is c.get.ensures), within)
+pub Evaluator::introduce-evaluate-requires : goal.Evaluator::introduce-evaluate-requires
+Evaluator::introduce-evaluate-requires g t c = λ κs within. (omega (arith, c.decreases, in_named c.args.xs.now c.loop-x.x-index c.x-item.result _ c.loop-x-test.true c.x-item.is c.get.ensures), within)
 
 pub Evaluator::all_hold-holds_at-requires : goal.Evaluator::all_hold-holds_at-requires
 Evaluator::all_hold-holds_at-requires g t c = λ κs within. (omega (arith, c.decreases, check_within c.args.checks.now c.loop-check.check-index c.check-item.result c.check-item.result c.loop-check-test.true c.check-item.is), within)
@@ -202,8 +202,8 @@ Evaluator::fields-returns-in_err-value g t c =
     c.in_err-value.ensures in
     search (rules, h)
 
-pub Evaluator::introduced-loop-x-preserved : goal.Evaluator::introduced-loop-x-preserved
-Evaluator::introduced-loop-x-preserved g t c =
+pub Evaluator::introduce-loop-x-preserved : goal.Evaluator::introduce-loop-x-preserved
+Evaluator::introduce-loop-x-preserved g t c =
     let m = mean_in c.args.self.now.env.now in
     let outer = names_bound c.args.scope.now in
     let xs = c.args.xs.now in
@@ -215,8 +215,8 @@ Evaluator::introduced-loop-x-preserved g t c =
     ∙ ap (introduced (all_meant m (drop (i + 1) xs)))
     (sym (one_more_given c.loop-x.found c.add_held.new.found c.x-item.result.name c.in_ok-add_held.ensures.0 c.in_ok-value.value outer c.in_ok-add_held.ensures.1 c.in_ok-add_held.ensures.2))
 
-pub Evaluator::introduced-returns-in_err-value : goal.Evaluator::introduced-returns-in_err-value
-Evaluator::introduced-returns-in_err-value g t c =
+pub Evaluator::introduce-returns-in_err-value : goal.Evaluator::introduce-returns-in_err-value
+Evaluator::introduce-returns-in_err-value g t c =
     let m = mean_in c.args.self.now.env.now in
     let outer = names_bound c.args.scope.now in
     let xs = c.args.xs.now in
@@ -267,17 +267,17 @@ Evaluator::extension-returns g t c =
     let m = mean_in c.args.self.now.env.now in
     let names = names_bound c.args.scope.now in
     made_over (rows_in (m c.args.r.now) names) (extended (terms m names) c.args.items.now) c.in_ok-ts.ts c.get.result.now c.in_ok-ts.ensures c.get.ensures
-    c.in_ok-extended_by.field-0 c.relation_value.result c.in_ok-extended_by.ensures c.relation_value.ensures
+    c.in_ok-extend_by_items.field-0 c.relation_value.result c.in_ok-extend_by_items.ensures c.relation_value.ensures
 
-pub Evaluator::extension-returns-in_err-extended_by : goal.Evaluator::extension-returns-in_err-extended_by
+pub Evaluator::extension-returns-in_err-extend_by_items : goal.Evaluator::extension-returns-in_err-extend_by_items
 unfolding over_extend
-Evaluator::extension-returns-in_err-extended_by g t c =
+Evaluator::extension-returns-in_err-extend_by_items g t c =
     let m = mean_in c.args.self.now.env.now in
     let names = names_bound c.args.scope.now in
     let f = extended (terms m names) c.args.items.now in
-    let h = fails {A = RowsData} (λ (d : Datum). d) c.in_err-extended_by.field-0.0 (f c.get.result.now) (over_extend m c.args.r.now c.args.items.now names)
+    let h = fails {A = RowsData} (λ (d : Datum). d) c.in_err-extend_by_items.field-0.0 (f c.get.result.now) (over_extend m c.args.r.now c.args.items.now names)
     (λ e stop. stops_over (rows_in (m c.args.r.now) names) f c.in_ok-ts.ts c.get.result.now c.in_ok-ts.ensures c.get.ensures e stop)
-    c.in_err-extended_by.ensures in
+    c.in_err-extend_by_items.ensures in
     search (rules, h)
 
 pub Evaluator::summarization-returns : goal.Evaluator::summarization-returns
@@ -286,33 +286,33 @@ Evaluator::summarization-returns g t c =
     let m = mean_in c.args.self.now.env.now in
     let names = names_bound c.args.scope.now in
     made_over (rows_in (m c.args.r.now) names) (summarized_over m c.args.by.now c.args.items.now names) c.in_ok-ts.ts c.get.result.now c.in_ok-ts.ensures c.get.ensures
-    c.in_ok-summarized_by.field-0 c.relation_value.result c.in_ok-summarized_by.ensures c.relation_value.ensures
+    c.in_ok-summarize_by_groups.field-0 c.relation_value.result c.in_ok-summarize_by_groups.ensures c.relation_value.ensures
 
-pub Evaluator::summarization-returns-in_err-summarized_by : goal.Evaluator::summarization-returns-in_err-summarized_by
+pub Evaluator::summarization-returns-in_err-summarize_by_groups : goal.Evaluator::summarization-returns-in_err-summarize_by_groups
 unfolding over_summarize
-Evaluator::summarization-returns-in_err-summarized_by g t c =
+Evaluator::summarization-returns-in_err-summarize_by_groups g t c =
     let m = mean_in c.args.self.now.env.now in
     let names = names_bound c.args.scope.now in
     let f = summarized_over m c.args.by.now c.args.items.now names in
-    let h = fails {A = RowsData} (λ (d : Datum). d) c.in_err-summarized_by.field-0.0 (f c.get.result.now) (over_summarize m c.args.r.now c.args.by.now c.args.items.now names)
+    let h = fails {A = RowsData} (λ (d : Datum). d) c.in_err-summarize_by_groups.field-0.0 (f c.get.result.now) (over_summarize m c.args.r.now c.args.by.now c.args.items.now names)
     (λ e stop. stops_over (rows_in (m c.args.r.now) names) f c.in_ok-ts.ts c.get.result.now c.in_ok-ts.ensures c.get.ensures e stop)
-    c.in_err-summarized_by.ensures in
+    c.in_err-summarize_by_groups.ensures in
     search (rules, h)
 
 -- ---- counts
 
-pub Evaluator::extended_len-extension_len-requires : goal.Evaluator::extended_len-extension_len-requires
-Evaluator::extended_len-extension_len-requires g t c = λ k d lt i x among p q is_term is_tuple.
+pub Evaluator::count_prepared_extension-extension_len-requires : goal.Evaluator::count_prepared_extension-extension_len-requires
+Evaluator::count_prepared_extension-extension_len-requires g t c = λ k d lt i x among p q is_term is_tuple.
     (omega (arith, c.decreases, term_within c.args.items.now i x p.now among is_term), λ a m. m)
 
-pub Evaluator::extended_len-returns : goal.Evaluator::extended_len-returns
-Evaluator::extended_len-returns g t c =
+pub Evaluator::count_prepared_extension-returns : goal.Evaluator::count_prepared_extension-returns
+Evaluator::count_prepared_extension-returns g t c =
     let m = terms (mean_in c.args.self.now.env.now) (names_bound c.args.scope.now) in
     counts_to m c.args.items.now c.args.ts.now c.extension_len.result (c.extension_len.ensures m (λ k d lt i x among p q a is_term is_tuple gave.
     subst (λ e. Answers a (m e (get_or c.args.ts.now.tuples k d))) is_term (subst (λ u. Answers a (m p.now u)) is_tuple gave)))
 
-pub Evaluator::extended_len_by-invariant_of-around : goal.Evaluator::extended_len_by-invariant_of-around
-Evaluator::extended_len_by-invariant_of-around g t c = record { right = right_in_slice c.args.self.now.env.now c.in_ok-parts.field-0 c.in-Some.parts c.as_slice.result.now c.in_ok-parts.ensures c.in-Some.is c.as_slice.ensures.value; allowed = c.args.self.now.allowed }
+pub Evaluator::count_extension-invariant_of-around : goal.Evaluator::count_extension-invariant_of-around
+Evaluator::count_extension-invariant_of-around g t c = record { right = right_in_slice c.args.self.now.env.now c.in_ok-parts.field-0 c.in-Some.parts c.as_slice.result.now c.in_ok-parts.ensures c.in-Some.is c.as_slice.ensures.value; allowed = c.args.self.now.allowed }
 
 pub Evaluator::extension_count-returns : goal.Evaluator::extension_count-returns
 unfolding mean_by over_extend
@@ -438,17 +438,17 @@ Evaluator::by_form-returns-in-With g t c =
 
 -- ---- what is known
 
-pub Evaluator::restricted_by-invariant_of-around : goal.Evaluator::restricted_by-invariant_of-around
-Evaluator::restricted_by-invariant_of-around g t c = record { right = right_in_slice c.args.self.now.env.now c.in_ok-parts.field-0 c.in-Some.parts c.as_slice.result.now c.in_ok-parts.ensures c.in-Some.is c.as_slice.ensures.value; allowed = c.args.self.now.allowed }
+pub Evaluator::restrict_by_condition-invariant_of-around : goal.Evaluator::restrict_by_condition-invariant_of-around
+Evaluator::restrict_by_condition-invariant_of-around g t c = record { right = right_in_slice c.args.self.now.env.now c.in_ok-parts.field-0 c.in-Some.parts c.as_slice.result.now c.in_ok-parts.ensures c.in-Some.is c.as_slice.ensures.value; allowed = c.args.self.now.allowed }
 
-pub Evaluator::aggregated_by-invariant_of-around : goal.Evaluator::aggregated_by-invariant_of-around
-Evaluator::aggregated_by-invariant_of-around g t c = record { right = right_in_slice c.args.self.now.env.now c.in_ok-parts.field-0 c.in-Some.parts c.as_slice.result.now c.in_ok-parts.ensures c.in-Some.is c.as_slice.ensures.value; allowed = c.args.self.now.allowed }
+pub Evaluator::aggregate_by_summary-invariant_of-around : goal.Evaluator::aggregate_by_summary-invariant_of-around
+Evaluator::aggregate_by_summary-invariant_of-around g t c = record { right = right_in_slice c.args.self.now.env.now c.in_ok-parts.field-0 c.in-Some.parts c.as_slice.result.now c.in_ok-parts.ensures c.in-Some.is c.as_slice.ensures.value; allowed = c.args.self.now.allowed }
 
-pub Evaluator::extended_by-invariant_of-around : goal.Evaluator::extended_by-invariant_of-around
-Evaluator::extended_by-invariant_of-around g t c = record { right = right_in_slice c.args.self.now.env.now c.in_ok-parts.field-0 c.in-Some.parts c.as_slice.result.now c.in_ok-parts.ensures c.in-Some.is c.as_slice.ensures.value; allowed = c.args.self.now.allowed }
+pub Evaluator::extend_by_items-invariant_of-around : goal.Evaluator::extend_by_items-invariant_of-around
+Evaluator::extend_by_items-invariant_of-around g t c = record { right = right_in_slice c.args.self.now.env.now c.in_ok-parts.field-0 c.in-Some.parts c.as_slice.result.now c.in_ok-parts.ensures c.in-Some.is c.as_slice.ensures.value; allowed = c.args.self.now.allowed }
 
-pub Evaluator::summarized_by-invariant_of-around : goal.Evaluator::summarized_by-invariant_of-around
-Evaluator::summarized_by-invariant_of-around g t c = record { right = right_in_slice c.args.self.now.env.now c.in_ok-parts.field-0 c.in-Some.parts c.as_slice.result.now c.in_ok-parts.ensures c.in-Some.is c.as_slice.ensures.value; allowed = c.args.self.now.allowed }
+pub Evaluator::summarize_by_groups-invariant_of-around : goal.Evaluator::summarize_by_groups-invariant_of-around
+Evaluator::summarize_by_groups-invariant_of-around g t c = record { right = right_in_slice c.args.self.now.env.now c.in_ok-parts.field-0 c.in-Some.parts c.as_slice.result.now c.in_ok-parts.ensures c.in-Some.is c.as_slice.ensures.value; allowed = c.args.self.now.allowed }
 
 pub Evaluator::closed_value-returns-in-Ok : goal.Evaluator::closed_value-returns-in-Ok
 Evaluator::closed_value-returns-in-Ok g t c = value_means c.args.self.now.env.now c.args.tree.now (held_value c.hold.result) (c.in-Ok.ensures ∙ ap Ok (sym c.hold.ensures))
@@ -472,8 +472,8 @@ Evaluator::keep-returns-in-Ok g t c = c.put_if.ensures c.args.self.now.env.now c
 pub Evaluator::keep_all-keep-requires : goal.Evaluator::keep_all-keep-requires
 Evaluator::keep_all-keep-requires g t c = λ κs within. (omega (arith, c.decreases, in_deepest c.args.trees.now c.loop-tree.tree-index c.tree-item.result c.loop-tree-test.true c.tree-item.is), (within, c.loop-tree.invariant))
 
-pub Evaluator::prepared-add_parts-requires : goal.Evaluator::prepared-add_parts-requires
-Evaluator::prepared-add_parts-requires g t c = λ κs within. (omega (arith, c.decreases), (within, subst (AreRight c.args.self.now.env.now) (sym c.in_ok-parts.ensures) c.args.self.now.right))
+pub Evaluator::prepare-add_parts-requires : goal.Evaluator::prepare-add_parts-requires
+Evaluator::prepare-add_parts-requires g t c = λ κs within. (omega (arith, c.decreases), (within, subst (AreRight c.args.self.now.env.now) (sym c.in_ok-parts.ensures) c.args.self.now.right))
 
 -- ---- parts that are not made
 

@@ -32,14 +32,14 @@ decreases-Evaluator::unary g l = 12 * levels l.a.now + 5 + weight l.self.now.env
 abbrev pub decreases-Evaluator::join_count : goal.decreases-Evaluator::join_count
 decreases-Evaluator::join_count g l = 12 * max (levels l.a.now) (levels l.b.now) + 2 + weight l.self.now.env.now.selectors.now
 
-abbrev pub decreases-Evaluator::extended_len-extension_len : goal.decreases-Evaluator::extended_len-extension_len
-decreases-Evaluator::extended_len-extension_len g l = 12 * levels l.e.now + 2 + weight l.self.now.env.now.selectors.now
+abbrev pub decreases-Evaluator::count_prepared_extension-extension_len : goal.decreases-Evaluator::count_prepared_extension-extension_len
+decreases-Evaluator::count_prepared_extension-extension_len g l = 12 * levels l.e.now + 2 + weight l.self.now.env.now.selectors.now
 
-abbrev pub decreases-Evaluator::extended_len : goal.decreases-Evaluator::extended_len
-decreases-Evaluator::extended_len g l = 12 * item_levels l.items.now + 4 + weight l.self.now.env.now.selectors.now
+abbrev pub decreases-Evaluator::count_prepared_extension : goal.decreases-Evaluator::count_prepared_extension
+decreases-Evaluator::count_prepared_extension g l = 12 * item_levels l.items.now + 4 + weight l.self.now.env.now.selectors.now
 
-abbrev pub decreases-Evaluator::extended_len_by : goal.decreases-Evaluator::extended_len_by
-decreases-Evaluator::extended_len_by g l = 12 * item_levels l.items.now + 7 + weight l.self.now.env.now.selectors.now
+abbrev pub decreases-Evaluator::count_extension : goal.decreases-Evaluator::count_extension
+decreases-Evaluator::count_extension g l = 12 * item_levels l.items.now + 7 + weight l.self.now.env.now.selectors.now
 
 abbrev pub decreases-Evaluator::extension_count : goal.decreases-Evaluator::extension_count
 decreases-Evaluator::extension_count g l = 12 * max (levels l.r.now) (item_levels l.items.now) + 8 + weight l.self.now.env.now.selectors.now
@@ -107,8 +107,8 @@ decreases-Evaluator::relation g l = 12 * list_levels l.trees.now + 3 + weight l.
 abbrev pub decreases-Evaluator::admits : goal.decreases-Evaluator::admits
 decreases-Evaluator::admits g l = 12 * limit_levels l.limit.now + 3 + weight l.earlier.now
 
-abbrev pub decreases-Evaluator::selected : goal.decreases-Evaluator::selected
-decreases-Evaluator::selected g l = 12 * limit_levels l.selector.now.limit + 4 + weight l.earlier.now
+abbrev pub decreases-Evaluator::select : goal.decreases-Evaluator::select
+decreases-Evaluator::select g l = 12 * limit_levels l.selector.now.limit + 4 + weight l.earlier.now
 
 abbrev pub decreases-Evaluator::selection : goal.decreases-Evaluator::selection
 decreases-Evaluator::selection g l = 12 * list_levels l.trees.now + 5 + weight l.self.now.env.now.selectors.now
@@ -119,8 +119,8 @@ decreases-Evaluator::fields g l = 12 * item_levels l.items.now + 2 + weight l.se
 abbrev pub decreases-Evaluator::tuple : goal.decreases-Evaluator::tuple
 decreases-Evaluator::tuple g l = 12 * item_levels l.items.now + 3 + weight l.self.now.env.now.selectors.now
 
-abbrev pub decreases-Evaluator::introduced : goal.decreases-Evaluator::introduced
-decreases-Evaluator::introduced g l = 12 * named_levels l.xs.now + 2 + weight l.self.now.env.now.selectors.now
+abbrev pub decreases-Evaluator::introduce : goal.decreases-Evaluator::introduce
+decreases-Evaluator::introduce g l = 12 * named_levels l.xs.now + 2 + weight l.self.now.env.now.selectors.now
 
 abbrev pub decreases-Evaluator::with : goal.decreases-Evaluator::with
 decreases-Evaluator::with g l = 12 * max (named_levels l.xs.now) (levels l.body.now) + 3 + weight l.self.now.env.now.selectors.now
@@ -131,14 +131,14 @@ decreases-Evaluator::holds_at g l = 12 * check_levels l.check.now + 3 + weight l
 abbrev pub decreases-Evaluator::all_hold : goal.decreases-Evaluator::all_hold
 decreases-Evaluator::all_hold g l = 12 * deepest_check l.checks.now + 4 + weight l.self.now.env.now.selectors.now
 
-abbrev pub decreases-Evaluator::restricted_to-restrict : goal.decreases-Evaluator::restricted_to-restrict
-decreases-Evaluator::restricted_to-restrict g l = 12 * deepest_check l.checks.now + 5 + weight l.self.now.env.now.selectors.now
+abbrev pub decreases-Evaluator::restrict_by_checks-restrict : goal.decreases-Evaluator::restrict_by_checks-restrict
+decreases-Evaluator::restrict_by_checks-restrict g l = 12 * deepest_check l.checks.now + 5 + weight l.self.now.env.now.selectors.now
 
-abbrev pub decreases-Evaluator::restricted_to : goal.decreases-Evaluator::restricted_to
-decreases-Evaluator::restricted_to g l = 12 * deepest_check l.checks.now + 6 + weight l.self.now.env.now.selectors.now
+abbrev pub decreases-Evaluator::restrict_by_checks : goal.decreases-Evaluator::restrict_by_checks
+decreases-Evaluator::restrict_by_checks g l = 12 * deepest_check l.checks.now + 6 + weight l.self.now.env.now.selectors.now
 
-abbrev pub decreases-Evaluator::restricted : goal.decreases-Evaluator::restricted
-decreases-Evaluator::restricted g l = 12 * levels l.c.now + 7 + weight l.self.now.env.now.selectors.now
+abbrev pub decreases-Evaluator::restrict_prepared : goal.decreases-Evaluator::restrict_prepared
+decreases-Evaluator::restrict_prepared g l = 12 * levels l.c.now + 7 + weight l.self.now.env.now.selectors.now
 
 abbrev pub invariant-Evaluator::all_hold-loop-check : goal.invariant-Evaluator::all_hold-loop-check
 invariant-Evaluator::all_hold-loop-check g l =
@@ -151,41 +151,41 @@ decreases-Evaluator::restriction g l = 12 * max (levels l.r.now) (levels l.c.now
 abbrev pub decreases-Evaluator::at_tuple : goal.decreases-Evaluator::at_tuple
 decreases-Evaluator::at_tuple g l = 12 * levels l.term.now + 2 + weight l.self.now.env.now.selectors.now
 
-abbrev pub decreases-Evaluator::aggregated_at-aggregate : goal.decreases-Evaluator::aggregated_at-aggregate
-decreases-Evaluator::aggregated_at-aggregate g l = 12 * levels l.e.now + 3 + weight l.self.now.env.now.selectors.now
+abbrev pub decreases-Evaluator::aggregate_with_side-aggregate : goal.decreases-Evaluator::aggregate_with_side-aggregate
+decreases-Evaluator::aggregate_with_side-aggregate g l = 12 * levels l.e.now + 3 + weight l.self.now.env.now.selectors.now
 
-abbrev pub decreases-Evaluator::aggregated_at : goal.decreases-Evaluator::aggregated_at
-decreases-Evaluator::aggregated_at g l = 12 * summary_levels l.summary.now + 4 + weight l.self.now.env.now.selectors.now
+abbrev pub decreases-Evaluator::aggregate_with_side : goal.decreases-Evaluator::aggregate_with_side
+decreases-Evaluator::aggregate_with_side g l = 12 * summary_levels l.summary.now + 4 + weight l.self.now.env.now.selectors.now
 
-abbrev pub decreases-Evaluator::aggregated : goal.decreases-Evaluator::aggregated
-decreases-Evaluator::aggregated g l = 12 * summary_levels l.summary.now + 5 + weight l.self.now.env.now.selectors.now
+abbrev pub decreases-Evaluator::aggregate_prepared : goal.decreases-Evaluator::aggregate_prepared
+decreases-Evaluator::aggregate_prepared g l = 12 * summary_levels l.summary.now + 5 + weight l.self.now.env.now.selectors.now
 
 abbrev pub decreases-Evaluator::aggregation : goal.decreases-Evaluator::aggregation
 decreases-Evaluator::aggregation g l = 12 * max (levels l.r.now) (summary_levels l.summary.now) + 8 + weight l.self.now.env.now.selectors.now
 
-abbrev pub decreases-Evaluator::extended-extend : goal.decreases-Evaluator::extended-extend
-decreases-Evaluator::extended-extend g l = 12 * levels l.e.now + 2 + weight l.self.now.env.now.selectors.now
+abbrev pub decreases-Evaluator::extend_prepared-extend : goal.decreases-Evaluator::extend_prepared-extend
+decreases-Evaluator::extend_prepared-extend g l = 12 * levels l.e.now + 2 + weight l.self.now.env.now.selectors.now
 
-abbrev pub decreases-Evaluator::extended : goal.decreases-Evaluator::extended
-decreases-Evaluator::extended g l = 12 * item_levels l.items.now + 4 + weight l.self.now.env.now.selectors.now
+abbrev pub decreases-Evaluator::extend_prepared : goal.decreases-Evaluator::extend_prepared
+decreases-Evaluator::extend_prepared g l = 12 * item_levels l.items.now + 4 + weight l.self.now.env.now.selectors.now
 
 abbrev pub decreases-Evaluator::extension : goal.decreases-Evaluator::extension
 decreases-Evaluator::extension g l = 12 * max (levels l.r.now) (item_levels l.items.now) + 8 + weight l.self.now.env.now.selectors.now
 
-abbrev pub decreases-Evaluator::summarized-summarize : goal.decreases-Evaluator::summarized-summarize
-decreases-Evaluator::summarized-summarize g l = 12 * levels l.e.now + 2 + weight l.self.now.env.now.selectors.now
+abbrev pub decreases-Evaluator::summarize_per-summarize : goal.decreases-Evaluator::summarize_per-summarize
+decreases-Evaluator::summarize_per-summarize g l = 12 * levels l.e.now + 2 + weight l.self.now.env.now.selectors.now
 
-abbrev pub decreases-Evaluator::summarized : goal.decreases-Evaluator::summarized
-decreases-Evaluator::summarized g l = 12 * summaries_levels l.items.now + 4 + weight l.self.now.env.now.selectors.now
+abbrev pub decreases-Evaluator::summarize_per : goal.decreases-Evaluator::summarize_per
+decreases-Evaluator::summarize_per g l = 12 * summaries_levels l.items.now + 4 + weight l.self.now.env.now.selectors.now
 
-abbrev pub decreases-Evaluator::summarized_in_runs-summarize_by : goal.decreases-Evaluator::summarized_in_runs-summarize_by
-decreases-Evaluator::summarized_in_runs-summarize_by g l = 12 * levels l.e.now + 2 + weight l.self.now.env.now.selectors.now
+abbrev pub decreases-Evaluator::summarize_in_runs-summarize_by : goal.decreases-Evaluator::summarize_in_runs-summarize_by
+decreases-Evaluator::summarize_in_runs-summarize_by g l = 12 * levels l.e.now + 2 + weight l.self.now.env.now.selectors.now
 
-abbrev pub decreases-Evaluator::summarized_in_runs : goal.decreases-Evaluator::summarized_in_runs
-decreases-Evaluator::summarized_in_runs g l = 12 * summaries_levels l.items.now + 4 + weight l.self.now.env.now.selectors.now
+abbrev pub decreases-Evaluator::summarize_in_runs : goal.decreases-Evaluator::summarize_in_runs
+decreases-Evaluator::summarize_in_runs g l = 12 * summaries_levels l.items.now + 4 + weight l.self.now.env.now.selectors.now
 
-abbrev pub decreases-Evaluator::groups_summarized : goal.decreases-Evaluator::groups_summarized
-decreases-Evaluator::groups_summarized g l = 12 * max (groups_levels l.groups.now) (summaries_levels l.items.now) + 5 + weight l.self.now.env.now.selectors.now
+abbrev pub decreases-Evaluator::summarize_prepared : goal.decreases-Evaluator::summarize_prepared
+decreases-Evaluator::summarize_prepared g l = 12 * max (groups_levels l.groups.now) (summaries_levels l.items.now) + 5 + weight l.self.now.env.now.selectors.now
 
 abbrev pub decreases-Evaluator::summarization : goal.decreases-Evaluator::summarization
 decreases-Evaluator::summarization g l = 12 * max (levels l.r.now) (max (groups_levels l.by.now) (summaries_levels l.items.now)) + 8 + weight l.self.now.env.now.selectors.now
@@ -200,22 +200,22 @@ invariant-Evaluator::fields-loop-item g l =
     in_turn (named_at (names_bound l.scope)) (items_meant (mean_in l.self.env.now) l.items)
     ≡ turn (named_at (names_bound l.scope)) l.found.items (items_meant (mean_in l.self.env.now) (drop l.item-index l.items))
 
-abbrev pub invariant-Evaluator::introduced-loop-x : goal.invariant-Evaluator::introduced-loop-x
-invariant-Evaluator::introduced-loop-x g l =
+abbrev pub invariant-Evaluator::introduce-loop-x : goal.invariant-Evaluator::introduce-loop-x
+invariant-Evaluator::introduce-loop-x g l =
     introduced (all_meant (mean_in l.self.env.now) l.xs) (names_bound l.scope)
     ≡ introduced (all_meant (mean_in l.self.env.now) (drop l.x-index l.xs)) (all_given l.found (names_bound l.scope))
 
-abbrev pub decreases-Evaluator::restricted_by : goal.decreases-Evaluator::restricted_by
-decreases-Evaluator::restricted_by g l = 12 * levels l.c.now + 8 + weight l.self.now.env.now.selectors.now
+abbrev pub decreases-Evaluator::restrict_by_condition : goal.decreases-Evaluator::restrict_by_condition
+decreases-Evaluator::restrict_by_condition g l = 12 * levels l.c.now + 8 + weight l.self.now.env.now.selectors.now
 
-abbrev pub decreases-Evaluator::aggregated_by : goal.decreases-Evaluator::aggregated_by
-decreases-Evaluator::aggregated_by g l = 12 * summary_levels l.summary.now + 7 + weight l.self.now.env.now.selectors.now
+abbrev pub decreases-Evaluator::aggregate_by_summary : goal.decreases-Evaluator::aggregate_by_summary
+decreases-Evaluator::aggregate_by_summary g l = 12 * summary_levels l.summary.now + 7 + weight l.self.now.env.now.selectors.now
 
-abbrev pub decreases-Evaluator::extended_by : goal.decreases-Evaluator::extended_by
-decreases-Evaluator::extended_by g l = 12 * item_levels l.items.now + 7 + weight l.self.now.env.now.selectors.now
+abbrev pub decreases-Evaluator::extend_by_items : goal.decreases-Evaluator::extend_by_items
+decreases-Evaluator::extend_by_items g l = 12 * item_levels l.items.now + 7 + weight l.self.now.env.now.selectors.now
 
-abbrev pub decreases-Evaluator::summarized_by : goal.decreases-Evaluator::summarized_by
-decreases-Evaluator::summarized_by g l = 12 * max (groups_levels l.groups.now) (summaries_levels l.items.now) + 7 + weight l.self.now.env.now.selectors.now
+abbrev pub decreases-Evaluator::summarize_by_groups : goal.decreases-Evaluator::summarize_by_groups
+decreases-Evaluator::summarize_by_groups g l = 12 * max (groups_levels l.groups.now) (summaries_levels l.items.now) + 7 + weight l.self.now.env.now.selectors.now
 
 abbrev pub decreases-Evaluator::closed_value : goal.decreases-Evaluator::closed_value
 decreases-Evaluator::closed_value g l = 12 * levels l.tree.now + 2 + weight l.self.now.env.now.selectors.now
@@ -229,8 +229,8 @@ decreases-Evaluator::keep_all g l = 12 * deepest_in l.trees.now + 4 + weight l.s
 abbrev pub decreases-Evaluator::add_parts : goal.decreases-Evaluator::add_parts
 decreases-Evaluator::add_parts g l = 12 * terms_levels l.terms + 5 + weight l.self.now.env.now.selectors.now
 
-abbrev pub decreases-Evaluator::prepared : goal.decreases-Evaluator::prepared
-decreases-Evaluator::prepared g l = 12 * terms_levels l.terms + 6 + weight l.self.now.env.now.selectors.now
+abbrev pub decreases-Evaluator::prepare : goal.decreases-Evaluator::prepare
+decreases-Evaluator::prepare g l = 12 * terms_levels l.terms + 6 + weight l.self.now.env.now.selectors.now
 
 abbrev pub invariant-Evaluator::keep_all-loop-tree : goal.invariant-Evaluator::keep_all-loop-tree
 invariant-Evaluator::keep_all-loop-tree g l = AreRight l.self.env.now l.parts.items

@@ -15,4 +15,4 @@ pub returns-in-None : goal.returns-in-None
 returns-in-None g c = λ names.
     let e = c.args.self.now.env.now in
     let is = ap (mean_in e) c.requires.tree ∙ of_relvar (relvars_there e) (selection e.selectors.now) c.args.place in
-    subst (λ f. AnswersBy operand_value c.made.result (f names)) (sym is) (c.made.ensures (mean_relvar (relvars_there e) c.args.place names) (c.unknown.ensures names))
+    subst (λ f. AnswersBy operand_value c.made_operand.result (f names)) (sym is) (c.made_operand.ensures (mean_relvar (relvars_there e) c.args.place names) (c.unknown.ensures names))

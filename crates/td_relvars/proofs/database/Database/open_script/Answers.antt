@@ -2,4 +2,4 @@ use Rattle.td_relvars.proofs.Told.{legal}
 use Rattle.td_relvars.proofs.database.Database.open_script.Goals as goal
 
 pub returns-clause-legal : goal.returns-clause-legal
-returns-clause-legal c = legal c.in-Ok-opened.database c.judged.result c.judged.ensures
+returns-clause-legal c = legal c.in-Ok-open_in_order.database c.judge_tests.result c.judge_tests.ensures

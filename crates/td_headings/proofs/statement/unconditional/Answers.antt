@@ -1,5 +1,0 @@
-use Rattle.td_headings.specs.Statements.{types_assignment}
-use Rattle.td_headings.proofs.statement.unconditional.Goals as goal
-
-pub returns-in-Ok-clause-typed : goal.returns-in-Ok-clause-typed
-returns-in-Ok-clause-typed c = types_assignment c.in-Ok.ensures.typed
