@@ -2,6 +2,7 @@
 
 use crate::calls::Calls;
 use crate::client::Client;
+use crate::console::Console;
 use crate::limits::{MOST_ACCEPTED, MOST_CALLED, MOST_CLIENTS, STOP_TIME, TICK, TURN};
 use crate::meets::{Loss, MeetingReport, MeetingSide, Meets, PeerRefusal, StepResult};
 use crate::outbox::Outbox;
@@ -14,6 +15,7 @@ use std::alloc::Global;
 use std::hash::RandomState;
 use std::io;
 use std::net::{IpAddr, Net, SocketAddr};
+use std::os::fd::RawFd;
 use std::random::RandomSource;
 use std::time::{Clock, Duration, Instant};
 
@@ -31,22 +33,25 @@ pub struct LoopOptions<'a> {
     pub every: u64,
 }
 
+// The tokens: of the two listeners, the console, and each slot.
 const CLIENTS: usize = 0;
 
 const PEERS: usize = 1;
 
-const FIRST_CLIENT: usize = 2;
+const CONSOLE: usize = 2;
 
-const FIRST_ACCEPTED: usize = 66;
+const FIRST_CLIENT: usize = 3;
 
-const FIRST_CALLED: usize = 74;
+const FIRST_ACCEPTED: usize = FIRST_CLIENT + MOST_CLIENTS;
 
-const MOST_EVENTS: usize = 78;
+const FIRST_CALLED: usize = FIRST_ACCEPTED + MOST_ACCEPTED;
+
+const MOST_EVENTS: usize = FIRST_CALLED + MOST_CALLED;
 
 /// The bytes of one read of a peer.
 const BUFFER: usize = 65_536;
 
-/// The listeners, the connections, and the peers to call.
+/// The listeners, the console, the connections, and the peers to call.
 #[derive(Drop)]
 pub struct EventLoop {
     alloc: Global,
@@ -55,6 +60,7 @@ pub struct EventLoop {
     peer_listener: Option<TcpListener>,
     has_pending_clients: bool,
     has_pending_peers: bool,
+    console: Option<Console>,
     allowed: Vec<IpAddr>,
     clients: Vec<Option<Client>>,
     accepted: Vec<Option<Peer>>,
@@ -196,6 +202,7 @@ impl EventLoop {
             peer_listener,
             has_pending_clients: true,
             has_pending_peers: true,
+            console: None,
             allowed: options.allowed.to_vec(alloc)?,
             clients: empty_slots(alloc, MOST_CLIENTS)?,
             accepted: empty_slots(alloc, MOST_ACCEPTED)?,
@@ -221,11 +228,27 @@ impl EventLoop {
         }
     }
 
+    /// Has the server read its console whenever that can be read. The descriptor is a pipe, a terminal or a socket: the
+    /// system watches no file.
+    pub fn watch_console(&mut self, descriptor: RawFd) -> io::Result<()> {
+        let registry = self.poll.registry();
+        self.console = Some(Console::watch(registry, descriptor, Token(CONSOLE))?);
+        Ok(())
+    }
+
+    fn add_readiness_of_console(&mut self, readiness: Readiness) {
+        if let Some(console) = &mut self.console {
+            console.add_readiness(readiness);
+        }
+    }
+
     fn add_readiness(&mut self, token: usize, readiness: Readiness) {
         if token == CLIENTS {
             self.has_pending_clients = true;
         } else if token == PEERS {
             self.has_pending_peers = true;
+        } else if token == CONSOLE {
+            self.add_readiness_of_console(readiness);
         } else if token < FIRST_ACCEPTED {
             add_readiness_of_client(&mut self.clients, token - FIRST_CLIENT, readiness);
         } else if token < FIRST_CALLED {
@@ -430,6 +453,17 @@ impl EventLoop {
         is_busy
     }
 
+    // Has the server read its console, if that can be read.
+    fn turn_console<S: Server>(&mut self, server: &mut S) {
+        let progress = match &mut self.console {
+            Some(console) => console.take_turn(self.poll.registry(), Token(CONSOLE), server),
+            None => Progress::Waiting,
+        };
+        if progress == Progress::Ended {
+            self.console = None;
+        }
+    }
+
     // Gives all their turn; tells whether one can go on at once.
     fn turn<S: Server, H: Net + RandomSource>(
         &mut self,
@@ -437,6 +471,7 @@ impl EventLoop {
         server: &mut S,
         now: u64,
     ) -> bool {
+        self.turn_console(server);
         self.accept_clients(host, now);
         self.accept_peers(server, now);
         self.call_due(host, server, now);

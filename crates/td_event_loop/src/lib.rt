@@ -4,11 +4,13 @@
 //! Begin with `EventLoop::bind` and its `run`, over a `Server`: a service of HTTP that `Meets` other sites.
 //!
 //! td_event_loop knows HTTP by http_server, and of a meeting the order of its steps and where the bytes of each end. It
-//! knows no entries: a step gets bytes, and writes bytes, and the site keeps what it came to.
+//! knows no entries: a step gets bytes, and writes bytes, and the site keeps what it came to. Of a console it knows
+//! when the server can read it.
 #![tactic(auto)]
 
 mod calls;
 mod client;
+mod console;
 mod event_loop;
 mod inbox;
 mod limits;

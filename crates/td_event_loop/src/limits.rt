@@ -10,7 +10,7 @@ pub const MOST_ACCEPTED: usize = 8;
 pub const MOST_CALLED: usize = 4;
 
 /// The most meetings at once.
-pub const MOST_MEETINGS: usize = 12;
+pub const MOST_MEETINGS: usize = MOST_ACCEPTED + MOST_CALLED;
 
 /// The most bytes of a meeting that are kept of a peer, and that are kept for it.
 pub const MOST_BYTES: usize = 1_048_576;

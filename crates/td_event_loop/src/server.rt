@@ -11,6 +11,9 @@ pub trait Server: Service + Meets {
     /// Takes note of the time, in milliseconds since the loop began. It is told before each turn.
     fn pass_time(&mut self, now: u64);
 
+    /// Reads its console once: that can be read without a wait. The answer is whether more may come.
+    fn read_console(&mut self) -> bool;
+
     /// Whether the program is to end.
     fn is_stopping(&self) -> bool;
 }

@@ -18,7 +18,8 @@
 //!   `type`) and, where they are counted, `tuples`.
 //! - `Refused`: `refused` in the order of stamps, each with `stamp`, `reason`, `text` and `reversed`, true where it was
 //!   done here and nobody has acknowledged that it is refused.
-//! - `Log`: `log`, each with `stamp`, `text` and either `done` or `refused`, the reason.
+//! - `Log`: `log` in the order of stamps, each as in `Refused`, or with `stamp`, `done`, `changed` (of each relvar the
+//!   first tuples that it took out and put in, in words) and `text`.
 //! - `Script`: `script`.
 //! - `Query`: of a relation `heading`, `rows` (lists of values in its order) and `total`, how many tuples there are in
 //!   all; of another value `value`; or `raised`.

@@ -2,7 +2,7 @@
 
 /// One script and one style, told by their digests, nothing from elsewhere, and calls to this site alone.
 pub(crate) const POLICY: &str = "default-src 'none'; \
-    script-src 'sha256-88d3bfw42jWGm/qzVJOTSc80KJnNGcYG374zIuibHuA='; \
+    script-src 'sha256-LoRaYfIP5gzyuYxmA/5GtqdYQC2N/KCA7m50Syyfrok='; \
     style-src 'sha256-HTyxlaeNlyoxQ/dcNaaescyj1dNobVmquuAy4PmmmvQ='; \
     img-src data:; connect-src 'self'; base-uri 'none'; form-action 'none'; frame-ancestors 'none'; \
     require-trusted-types-for 'script'; trusted-types 'none'";
@@ -61,6 +61,8 @@ pre { font: 14px/1.4 ui-monospace, monospace; white-space: pre; overflow-x: auto
 <div id="answer" aria-live="polite"></div></section>
 <section><h2>Refused statements</h2><table id="refused"></table>
 <p class="quiet" id="unrefused">None is refused.</p></section>
+<section><details id="log"><summary>Statements, the last first, and what each changed</summary>
+<table id="statements"></table><p class="quiet" id="logged"></p></details></section>
 </div>
 </main>
 <script>
@@ -272,6 +274,25 @@ function showRefused(refused) {
     addRow(reversals, [it.stamp, element('td', it.reason, 'fault'), it.text, acts]);
   }
 }
+// The log is asked anew only where the site holds other statements: it depends on these alone.
+let logged = null;
+async function refreshLog(site) {
+  const held = JSON.stringify(site.vector);
+  if (!byId('log').open || held === logged) return;
+  const reply = await call('/api/log');
+  if (reply.fault) throw new Error(reply.fault);
+  showLog(reply.log);
+  logged = held;
+}
+function showLog(log) {
+  const table = byId('statements'), shown = log.slice(-PAGE).reverse();
+  table.textContent = '';
+  if (shown.length) addHead(table, ['stamp', 'changed', 'statement']);
+  for (const it of shown) {
+    addRow(table, [it.stamp, it.done ? it.changed : element('td', 'refused: ' + it.reason, 'fault'), it.text]);
+  }
+  byId('logged').textContent = shown.length + ' of ' + log.length + (log.length === 1 ? ' statement' : ' statements');
+}
 let asking = false;
 async function refresh() {
   if (asking) return;
@@ -286,10 +307,12 @@ async function refresh() {
     const refused = await call('/api/refused');
     if (refused.fault) throw new Error(refused.fault);
     showRefused(refused.refused);
+    await refreshLog(site);
   } catch (e) { byId('state').textContent = 'no answer: ' + e.message; }
   asking = false;
 }
 byId('counts').onchange = refresh;
+byId('log').ontoggle = refresh;
 byId('script').ontoggle = async () => {
   if (!byId('script').open) return;
   try {

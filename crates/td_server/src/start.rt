@@ -4,6 +4,8 @@ use crate::token::open_token;
 use crate::words::ServerOptions;
 use std::alloc::{AllocError, Global};
 use std::net::SocketAddr;
+use std::os::fd::AsRawFd;
+use td_changes::Changes;
 use td_event_loop::{EventLoop, LoopOptions};
 use td_http_api::{Api, Guard};
 use td_io::Device;
@@ -15,7 +17,7 @@ use td_replay::Site;
 use td_replica::Replica;
 use td_semantics::Meter;
 use td_shell_notices::{journal_text, lack_words};
-use td_shell_session::command::{journal_name, open_new, unkept};
+use td_shell_session::command::{journal_name, open_new, tell_unkept};
 use td_shell_session::open::{no_script_words, script_in};
 use td_site_desk::{Peers, Reversals, SiteDesk, SiteServer};
 
@@ -26,10 +28,12 @@ const BAD_WORDS: u8 = 2;
 
 const BAD_JOURNAL: u8 = 3;
 
+// Writes a text to the output of faults; nothing hangs on whether that is seen.
 fn complain(rt: &HostRuntime, text: &str) {
     let _ = eprint!(rt; "{text}");
 }
 
+// Tells that memory ran out, and returns the exit status for that.
 fn wanting_memory(rt: &HostRuntime) -> u8 {
     complain(rt, "fault memory: there is not enough memory to go on\n");
     FAULT
@@ -54,14 +58,17 @@ fn tell_addresses(rt: &HostRuntime, event_loop: &EventLoop, client: SocketAddr, 
     }
 }
 
-// Serves the site until the program is to end.
-fn serve<R: Replica + Drop>(
-    rt: &HostRuntime,
-    words: &ServerOptions<'_>,
-    token: &str,
-    desk: SiteDesk<'_, R, HostRuntime>,
-) -> u8 {
-    let alloc = rt.alloc();
+// Has standard input read beside the sockets, if the system can tell when it has something.
+fn watch_console(rt: &HostRuntime, event_loop: &mut EventLoop) {
+    if let Err(error) = event_loop.watch_console(rt.stdin().as_raw_fd()) {
+        let _ = eprintln!(rt;
+            "fault console: standard input is not read: {error}; give it a pipe or a terminal"
+        );
+    }
+}
+
+// Listens as the words say, or tells why not.
+fn listen(rt: &HostRuntime, words: &ServerOptions<'_>) -> Option<EventLoop> {
     let options = LoopOptions {
         clients: words.clients,
         peers: words.peers,
@@ -69,12 +76,25 @@ fn serve<R: Replica + Drop>(
         calls: &words.calls,
         every: words.every.saturating_mul(1000),
     };
-    let mut event_loop = match EventLoop::bind(rt, &options) {
-        Ok(event_loop) => event_loop,
+    match EventLoop::bind(rt, &options) {
+        Ok(event_loop) => Some(event_loop),
         Err(error) => {
             let _ = eprintln!(rt; "fault net: an address cannot be listened at: {error}");
-            return FAULT;
+            None
         }
+    }
+}
+
+// Serves the site until the program is to end.
+fn serve<R: Changes + Drop>(
+    rt: &HostRuntime,
+    words: &ServerOptions<'_>,
+    token: &str,
+    desk: SiteDesk<'_, R, HostRuntime>,
+) -> u8 {
+    let alloc = rt.alloc();
+    let Some(mut event_loop) = listen(rt, words) else {
+        return FAULT;
     };
     let client = event_loop.client_address().unwrap_or(words.clients);
     let Ok(hosts) = hosts_of(alloc, client) else {
@@ -84,6 +104,9 @@ fn serve<R: Replica + Drop>(
         return wanting_memory(rt);
     };
     tell_addresses(rt, &event_loop, client, token);
+    if words.has_console {
+        watch_console(rt, &mut event_loop);
+    }
     let mut server = SiteServer::new(Api::new(alloc, desk, guard));
     match event_loop.run(rt, &mut server) {
         Ok(()) => 0,
@@ -95,7 +118,7 @@ fn serve<R: Replica + Drop>(
 }
 
 // Tells what was found of the journal; the answer is whether the site issues nothing until it has met another one.
-fn tell_journal<R: Replica>(
+fn report_journal<R: Replica>(
     rt: &HostRuntime,
     words: &ServerOptions<'_>,
     notes: &Notes,
@@ -119,7 +142,7 @@ fn tell_journal<R: Replica>(
 }
 
 // The desk of a site that came back.
-fn desk_of<'a, R: Replica + Drop>(
+fn desk_of<'a, R: Changes + Drop>(
     rt: &'a HostRuntime,
     words: &ServerOptions<'_>,
     notes: &'a Notes,
@@ -129,7 +152,7 @@ fn desk_of<'a, R: Replica + Drop>(
     reversals: Reversals,
 ) -> Result<SiteDesk<'a, R, HostRuntime>, AllocError> {
     let alloc = rt.alloc();
-    let is_lacking = tell_journal(rt, words, notes, name, &site)?;
+    let is_lacking = report_journal(rt, words, notes, name, &site)?;
     let catalogue = script_catalogue(alloc, &site)?;
     let peers = Peers {
         addresses: words.calls.clone()?,
@@ -177,7 +200,7 @@ fn reversals_of(rt: &HostRuntime, journal: &str) -> Result<Reversals, u8> {
 }
 
 // Serves a site that came back from its journal.
-fn serve_kept<R: Replica + Drop>(
+fn serve_kept<R: Changes + Drop>(
     rt: &HostRuntime,
     words: &ServerOptions<'_>,
     notes: &Notes,
@@ -223,7 +246,7 @@ fn start_site(rt: &HostRuntime, words: &ServerOptions<'_>, script: &str) -> u8 {
     ) {
         Ok(site) => serve_kept(rt, words, &notes, name.as_str(), site, meter),
         Err(StoreError::OutOfMemory) => wanting_memory(rt),
-        Err(StoreError::JournalFile) => unkept::<Site, _, _>(
+        Err(StoreError::JournalFile) => tell_unkept::<Site, _, _>(
             alloc,
             &words.site,
             name.as_str(),
@@ -237,7 +260,7 @@ fn start_site(rt: &HostRuntime, words: &ServerOptions<'_>, script: &str) -> u8 {
 }
 
 /// Serves a site as the words say, and returns the exit status.
-pub fn start_server(rt: &HostRuntime, words: &ServerOptions<'_>) -> u8 {
+pub(crate) fn start_server(rt: &HostRuntime, words: &ServerOptions<'_>) -> u8 {
     let name = words.site.script;
     let file = match read_plain(rt, name) {
         Ok(file) => file,

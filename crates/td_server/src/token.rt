@@ -1,12 +1,13 @@
 //! The token that clients show.
 
 use std::alloc::{AllocError, Global};
-use std::fs;
 use std::fs::{File, OpenOptions};
-use std::io::Write;
+use std::io::{ErrorKind, Write};
 use std::os::unix::fs::{OpenOptionsExt, PermissionsExt};
+use std::path::Path;
 use std::random::RandomSource;
 use std::rt::Files;
+use std::{fs, io};
 use td_paths::read_plain;
 
 /// The rights of a file that its owner alone may read and write.
@@ -22,7 +23,7 @@ const MOST: usize = 256;
 
 /// Why there is no token.
 #[derive(Clone, Copy, Debug, PartialEq, Eq)]
-pub enum NoToken {
+pub(crate) enum NoToken {
     OutOfMemory,
     /// The file cannot be made, or not be read.
     File,
@@ -39,6 +40,7 @@ impl From<AllocError> for NoToken {
 }
 
 impl NoToken {
+    /// What is told of a file that gives no token.
     pub fn words(self) -> &'static str {
         match self {
             NoToken::OutOfMemory => "there is not enough memory",
@@ -59,6 +61,7 @@ fn new_token<H: RandomSource>(alloc: Global, host: &H) -> Result<String, NoToken
     Ok(format!(in alloc; "{number:032x}")?)
 }
 
+// Whether a token may have this byte.
 fn is_letter(byte: u8) -> bool {
     byte.is_ascii_alphanumeric() || byte == b'-' || byte == b'_'
 }
@@ -83,8 +86,37 @@ fn read_token<H: Files + AllocGlobal>(
     Ok(String::from_str(alloc, token)?)
 }
 
-/// The token in the file of this name, which is made with a new one where it is not there.
-pub fn open_token<H: Files<File = File> + RandomSource + AllocGlobal>(
+// Hands the folder of a file that was made to the disk, on file systems that can.
+fn sync_folder<H: Files<File = File>>(host: &H, name: &str) -> io::Result<()> {
+    let folder = match Path::new(name).parent() {
+        Some(folder) if !folder.as_str().is_empty() => folder,
+        _ => Path::new("."),
+    };
+    match File::open(host, folder)?.sync_all() {
+        Err(error)
+            if matches!(
+                error.kind(),
+                ErrorKind::Unsupported | ErrorKind::InvalidInput
+            ) => { Ok(()) }
+        synced => synced,
+    }
+}
+
+// Writes a file that is not there yet, and hands it to the disk with its name.
+fn write_synced<H: Files<File = File>>(host: &H, name: &str, text: &str) -> io::Result<()> {
+    let mut file = OpenOptions::new()
+        .write(true)
+        .create_new(true)
+        .mode(OWN)
+        .open(host, name)?;
+    file.write_all(text.as_bytes())?;
+    file.sync_all()?;
+    sync_folder(host, name)
+}
+
+/// The token in the file of this name, which is made with a new one where it is not there. A new one is on the disk
+/// before it is told.
+pub(crate) fn open_token<H: Files<File = File> + RandomSource + AllocGlobal>(
     alloc: Global,
     host: &H,
     name: &str,
@@ -96,16 +128,8 @@ pub fn open_token<H: Files<File = File> + RandomSource + AllocGlobal>(
         return read_token(alloc, host, name);
     }
     let token = new_token(alloc, host)?;
-    let made = OpenOptions::new()
-        .write(true)
-        .create_new(true)
-        .mode(OWN)
-        .open(host, name);
-    let Ok(mut file) = made else {
-        return Err(NoToken::File);
-    };
     let line = format!(in alloc; "{}\n", token.as_str())?;
-    match file.write_all(line.as_str().as_bytes()) {
+    match write_synced(host, name, line.as_str()) {
         Ok(()) => Ok(token),
         Err(_) => Err(NoToken::File),
     }

@@ -9,14 +9,15 @@ use td_shell_session::words::ShellOptions as SiteWords;
 
 const BEHIND: &str = "\
 SCRIPT has the definitions. The program prints the address of its page with a token
-behind #, and a line for each meeting and fault. POST /api/stop ends it.
+behind #, and a line for each meeting and fault. POST /api/stop ends it, and with
+--console a line stop on standard input.
 
 An ADDRESS is numbers and a port, as 127.0.0.1:7001 or [::1]:7001. Peers are not asked
 who they are: serve them on a network of your own, or name them by --allow.";
 
 /// What the words ask for.
 #[derive(Drop)]
-pub struct ServerOptions<'a> {
+pub(crate) struct ServerOptions<'a> {
     pub site: SiteWords<'a>,
     pub clients: SocketAddr,
     pub peers: Option<SocketAddr>,
@@ -26,6 +27,8 @@ pub struct ServerOptions<'a> {
     pub every: u64,
     /// The name of the file that has the token, if it is none beside the journal.
     pub token_file: Option<&'a str>,
+    /// Whether lines of standard input are read.
+    pub has_console: bool,
 }
 
 /// What is to be done.
@@ -38,6 +41,7 @@ pub enum Given<'a> {
     Refused(String),
 }
 
+// An option with a value.
 fn option<'a>(alloc: Global, name: &'a str, value: &'a str, help: &'a str) -> Arg<'a> {
     Arg::new(alloc, name)
         .long(name)
@@ -46,6 +50,7 @@ fn option<'a>(alloc: Global, name: &'a str, value: &'a str, help: &'a str) -> Ar
         .action(ArgAction::Set)
 }
 
+// An option with a value that may be given again, where each value counts.
 fn list<'a>(alloc: Global, name: &'a str, value: &'a str, help: &'a str) -> Arg<'a> {
     Arg::new(alloc, name)
         .long(name)
@@ -54,6 +59,7 @@ fn list<'a>(alloc: Global, name: &'a str, value: &'a str, help: &'a str) -> Arg<
         .action(ArgAction::Append)
 }
 
+// An option without a value.
 fn flag<'a>(alloc: Global, name: &'a str, help: &'a str) -> Arg<'a> {
     Arg::new(alloc, name)
         .long(name)
@@ -100,7 +106,7 @@ fn with_journal<'a>(alloc: Global, command: Command<'a>) -> Result<Command<'a>, 
     command.arg(journal.required(true))?.arg(new)?.arg(forget)
 }
 
-// With whom it serves.
+// With whom it serves, and who may end it.
 fn with_clients<'a>(alloc: Global, command: Command<'a>) -> Result<Command<'a>, AllocError> {
     let clients = option(alloc, "clients", "ADDRESS", "Where it listens for clients");
     let clients = clients.default_value("127.0.0.1:7080");
@@ -110,7 +116,12 @@ fn with_clients<'a>(alloc: Global, command: Command<'a>) -> Result<Command<'a>, 
         "FILE",
         "Has the token that clients show; the journal's name with .token if left out",
     );
-    command.arg(clients)?.arg(token)
+    let console = flag(
+        alloc,
+        "console",
+        "Reads lines of standard input: stop ends the program",
+    );
+    command.arg(clients)?.arg(token)?.arg(console)
 }
 
 // With whom it meets.
@@ -145,6 +156,7 @@ fn with_peers<'a>(alloc: Global, command: Command<'a>) -> Result<Command<'a>, Al
     command.arg(peers)?.arg(call)?.arg(every)?.arg(allow)
 }
 
+// The words that the program takes, with its help.
 fn command<'a>(alloc: Global) -> Result<Command<'a>, AllocError> {
     let command = Command::new(alloc, "td_server")
         .version("1.0")
@@ -156,6 +168,7 @@ fn command<'a>(alloc: Global) -> Result<Command<'a>, AllocError> {
     with_peers(alloc, command)
 }
 
+// Refuses a word of an option that is no address; the refusal has no text where memory ran out.
 fn no_address<'a>(alloc: Global, option: &str, word: &str) -> Given<'a> {
     match format!(in alloc; "error: --{option} {word}: this is no address\n") {
         Ok(text) => Given::Refused(text),
@@ -178,6 +191,7 @@ fn addresses<'a>(
     Ok(Ok(all))
 }
 
+// The addresses without ports that are given, or the first word that is none.
 fn hosts<'a>(
     alloc: Global,
     given: Option<&[&'a str]>,
@@ -192,6 +206,7 @@ fn hosts<'a>(
     Ok(Ok(all))
 }
 
+// What the words say of the site and its journal, in the form that opening a site takes.
 fn site_words<'a>(alloc: Global, matches: &ArgMatches<'a>) -> SiteWords<'a> {
     SiteWords {
         script: matches.get_str("script").unwrap_or(""),
@@ -206,6 +221,7 @@ fn site_words<'a>(alloc: Global, matches: &ArgMatches<'a>) -> SiteWords<'a> {
     }
 }
 
+// What words that fit the options ask for, or the refusal of the first address that is none.
 fn words_in<'a>(alloc: Global, matches: &ArgMatches<'a>) -> Result<Given<'a>, AllocError> {
     let clients = matches.get_str("clients").unwrap_or("");
     let Ok(clients) = clients.parse::<SocketAddr>() else {
@@ -234,10 +250,12 @@ fn words_in<'a>(alloc: Global, matches: &ArgMatches<'a>) -> Result<Given<'a>, Al
         allowed,
         every: matches.get_one::<u64>("every").unwrap_or(60),
         token_file: matches.get_str("token-file"),
+        has_console: matches.get_flag("console"),
     }))
 }
 
-fn told_of<'a>(alloc: Global, error: &Error) -> Given<'a> {
+// What is told in place of a run: a text that the words ask for, or why they are refused.
+fn given_of_error<'a>(alloc: Global, error: &Error) -> Given<'a> {
     let Ok(text) = error.to_string(alloc) else {
         return Given::Refused(String::new(alloc));
     };
@@ -255,7 +273,7 @@ pub fn read_words<'a>(alloc: Global, words: &'a [String]) -> Given<'a> {
     };
     let matches = match command.try_get_matches_from(words) {
         Ok(matches) => matches,
-        Err(error) => return told_of(alloc, &error),
+        Err(error) => return given_of_error(alloc, &error),
     };
     match words_in(alloc, &matches) {
         Ok(given) => given,

@@ -32,6 +32,7 @@ pub(crate) fn copies_of(
     Ok(copies)
 }
 
+// Whether both put the same tuples into the same relvar, and took the same ones out of it.
 fn is_one(change: &Change, other: &Change) -> bool {
     change.relvar == other.relvar
         && change.inserted.tuples() == other.inserted.tuples()
@@ -78,12 +79,19 @@ fn push_tuples(out: &mut String, sign: &str, tuples: &[Tuple]) -> Result<(), All
     Ok(())
 }
 
-fn push_change(out: &mut String, catalogue: &Catalogue, change: &Change) -> Result<(), AllocError> {
-    if let Some((name, _)) = catalogue.schema().relvar_at(change.relvar) {
+// Appends the relvar's name, and the first tuples that were taken out of it and put in, each behind its sign.
+fn push_change(
+    out: &mut String,
+    catalogue: &Catalogue,
+    relvar: usize,
+    deleted: &Relation,
+    inserted: &Relation,
+) -> Result<(), AllocError> {
+    if let Some((name, _)) = catalogue.schema().relvar_at(relvar) {
         out.push_str(name.as_str())?;
     }
-    push_tuples(out, " - ", change.deleted.tuples())?;
-    push_tuples(out, " + ", change.inserted.tuples())
+    push_tuples(out, " - ", deleted.tuples())?;
+    push_tuples(out, " + ", inserted.tuples())
 }
 
 /// Appends what a statement changed: of each relvar the tuples that it took out and put in.
@@ -99,7 +107,38 @@ pub(crate) fn push_changes(
         if place > 0 {
             out.push_str("; ")?;
         }
-        push_change(out, catalogue, change)?;
+        push_change(
+            out,
+            catalogue,
+            change.relvar,
+            &change.deleted,
+            &change.inserted,
+        )?;
     }
     Ok(())
+}
+
+/// What a statement changed, in one line: of each relvar the first tuples that it took out and put in.
+pub fn changes_text(
+    alloc: Global,
+    catalogue: &Catalogue,
+    changes: &[(usize, Delta)],
+) -> Result<String, AllocError> {
+    let mut out = String::new(alloc);
+    if changes.is_empty() {
+        out.push_str("nothing")?;
+    }
+    for (place, (relvar, delta)) in changes.iter().enumerate() {
+        if place > 0 {
+            out.push_str("; ")?;
+        }
+        push_change(
+            &mut out,
+            catalogue,
+            *relvar,
+            delta.deleted(),
+            delta.inserted(),
+        )?;
+    }
+    Ok(out)
 }

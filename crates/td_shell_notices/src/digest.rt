@@ -17,6 +17,7 @@ fn feed(hasher: &mut Sha256, entry: &Entry) {
     hasher.update(text);
 }
 
+// Appends the digest in hexadecimal digits, with a blank before each eight of them, and a line end.
 fn push_digest(out: &mut String, digest: &[u8; 32]) -> Result<(), AllocError> {
     for (at, byte) in digest.iter().enumerate() {
         if at % 4 == 0 {

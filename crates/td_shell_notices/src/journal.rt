@@ -8,7 +8,8 @@ use td_replica::Replica;
 const UNKEPT: &str =
     "nothing is kept: without --journal all statements are forgotten when the program ends\n";
 
-fn statements(alloc: Global, count: usize) -> Result<String, AllocError> {
+// `1 statement`, or how many there are.
+fn count_of_statements(alloc: Global, count: usize) -> Result<String, AllocError> {
     if count == 1 {
         return String::from_str(alloc, "1 statement");
     }
@@ -34,10 +35,11 @@ fn held_text<R: Replica>(
         .iter()
         .filter(|entry| entry.site == number)
         .count();
-    let all = statements(alloc, held.len())?;
+    let all = count_of_statements(alloc, held.len())?;
     format!(in alloc; "journal {name}: {how}{all}, {own} of them this site's\n")
 }
 
+// The name of the file beside the journal that keeps a cut; the first one's has no number.
 fn name_of_cut(alloc: Global, name: &str, number: u32) -> Result<String, AllocError> {
     if number == 1 {
         return format!(in alloc; "{name}.cut");

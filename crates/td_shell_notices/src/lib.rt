@@ -13,7 +13,7 @@ mod redone;
 mod refusal;
 mod room;
 
-pub use changes::push_change_count;
+pub use changes::{changes_text, push_change_count};
 pub use digest::digest_text;
 pub use journal::{failure_words, journal_text, lack_words, read_only_text};
 pub use meeting::{MeetingChanges, Told};

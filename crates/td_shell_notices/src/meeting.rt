@@ -51,6 +51,7 @@ struct ChangedOutcome<'a> {
     outcome: &'a Outcome,
 }
 
+// What becomes of a statement whose outcomes before and after are known to differ.
 fn change_of(before: &Outcome, after: &Outcome) -> OutcomeChange {
     match (is_refused(before), is_refused(after)) {
         (false, _) => OutcomeChange::Refused,
@@ -59,6 +60,7 @@ fn change_of(before: &Outcome, after: &Outcome) -> OutcomeChange {
     }
 }
 
+// What is told of statements with this change, behind `is` or `are`.
 fn words_of(change: OutcomeChange) -> &'static str {
     match change {
         OutcomeChange::Refused => "refused now",
@@ -93,6 +95,7 @@ fn changed_between<'a>(
     Ok(found)
 }
 
+// How many of the statements the site issued.
 fn count_of(outcomes: &[(Stamp, Outcome)], site: u16) -> usize {
     outcomes
         .iter()
@@ -151,6 +154,7 @@ fn push_named(
     Ok(())
 }
 
+// Appends how many statements of other sites have another outcome now; nothing where none has.
 fn push_others(out: &mut String, all: &[ChangedOutcome<'_>], site: u16) -> Result<(), AllocError> {
     let count = all.iter().filter(|it| it.stamp.site != site).count();
     if count > 0 {
@@ -163,6 +167,7 @@ fn push_others(out: &mut String, all: &[ChangedOutcome<'_>], site: u16) -> Resul
     Ok(())
 }
 
+// The end of a meeting's line: the site's own statements with another outcome now, and how many others have one.
 fn changes_in(
     alloc: Global,
     site: u16,

@@ -18,6 +18,7 @@ pub fn raise_words(raise: Raise) -> &'static str {
     }
 }
 
+// Appends the words and the name of what a statement breaks.
 fn push_named(out: &mut String, words: &str, name: &Name) -> Result<(), AllocError> {
     out.push_str(words)?;
     out.push_str(name.as_str())

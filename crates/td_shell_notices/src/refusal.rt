@@ -42,6 +42,7 @@ fn line_of_difference(bytes: &[u8], script: &str) -> usize {
     line
 }
 
+// Why the file is not read as a journal of this site and script, and what is to be done where anything can be.
 fn not_read(
     alloc: Global,
     contents: &Contents,
@@ -82,6 +83,7 @@ fn not_read(
     }
 }
 
+// Why the site does not take what its journal has, and what is to be done.
 fn not_taken(alloc: Global, error: TakeError, limit: usize) -> Result<String, AllocError> {
     match error {
         TakeError::Full => format!(in alloc;

@@ -3,6 +3,7 @@
 ghost use Rattle.std.specs.Prelude.{◌≡◌};
 ghost use Rattle.td_site_desk.specs.Sites.{Changes};
 
+use crate::console::PartialLine;
 use crate::inquiries::SiteView;
 use crate::keys::Keys;
 use crate::meetings::Meetings;
@@ -12,12 +13,12 @@ use crate::words::{fault, write_text, write_truth};
 use std::alloc::{AllocError, Global};
 use std::net::SocketAddr;
 use std::rt::Runtime;
+use td_changes::Changes;
 use td_headings::Catalogue;
 use td_http_api::{Desk, Inquiry, StatusCode, Writer};
 use td_io::Device;
 use td_journal_files::Notes;
 use td_listings::{ExportError, export};
-use td_replica::Replica;
 use td_semantics::Meter;
 use td_shell_notices::raise_words;
 use td_shell_session::{BROKEN, NO_MEMORY};
@@ -42,6 +43,7 @@ pub struct SiteDesk<'a, R: Drop, H> {
     pub(crate) meetings: Meetings,
     pub(crate) keys: Keys,
     pub(crate) reversals: Reversals,
+    pub(crate) console: PartialLine,
     /// Its journal lacks statements that it had once, so it issues none until it has met another site.
     pub(crate) is_lacking: bool,
     pub(crate) is_stopping: bool,
@@ -54,7 +56,7 @@ fn push_words(out: &mut String, words: &str) -> Result<StatusCode, AllocError> {
     Ok(StatusCode::INTERNAL_SERVER_ERROR)
 }
 
-impl<'a, R: Replica + Drop, H: Runtime + AllocGlobal> SiteDesk<'a, R, H> {
+impl<'a, R: Changes + Drop, H: Runtime + AllocGlobal> SiteDesk<'a, R, H> {
     /// A site that was opened, with the peers that it calls. Where its journal lacks statements that it had once, it
     /// issues none before it has met another site.
     pub fn new(
@@ -82,6 +84,7 @@ impl<'a, R: Replica + Drop, H: Runtime + AllocGlobal> SiteDesk<'a, R, H> {
             meetings: Meetings::new(alloc)?,
             keys: Keys::new(alloc),
             reversals,
+            console: PartialLine::new(),
             is_lacking,
             is_stopping: false,
             now: 0,
@@ -92,6 +95,7 @@ impl<'a, R: Replica + Drop, H: Runtime + AllocGlobal> SiteDesk<'a, R, H> {
         self.is_stopping
     }
 
+    /// Takes note of the time, in milliseconds since the event loop began.
     pub(crate) fn pass_time(&mut self, now: u64) {
         self.now = now;
     }
@@ -101,6 +105,7 @@ impl<'a, R: Replica + Drop, H: Runtime + AllocGlobal> SiteDesk<'a, R, H> {
         let _ = print!(self.host; "{line}");
     }
 
+    // Lends what the answers about the site need; nothing in it changes the site.
     fn view(&self) -> SiteView<'_, R> {
         SiteView {
             alloc: self.alloc,
@@ -110,6 +115,7 @@ impl<'a, R: Replica + Drop, H: Runtime + AllocGlobal> SiteDesk<'a, R, H> {
         }
     }
 
+    // Appends what the site is and holds, whether it lacks statements, its peers, and its last meetings.
     fn tell_site(&self, out: &mut Writer) -> Result<StatusCode, AllocError> {
         self.view().tell_site(out)?;
         write_truth(out, "lacking", self.is_lacking)?;
@@ -124,6 +130,7 @@ impl<'a, R: Replica + Drop, H: Runtime + AllocGlobal> SiteDesk<'a, R, H> {
         Ok(StatusCode::OK)
     }
 
+    // Appends the value of a query: now, or as it was just behind the statement of a stamp.
     fn query(
         &self,
         text: &str,
@@ -140,6 +147,7 @@ impl<'a, R: Replica + Drop, H: Runtime + AllocGlobal> SiteDesk<'a, R, H> {
         }
     }
 
+    // Appends why a relvar is not exported, and returns the status.
     fn refused_table(
         &self,
         error: ExportError,
@@ -168,6 +176,7 @@ impl<'a, R: Replica + Drop, H: Runtime + AllocGlobal> SiteDesk<'a, R, H> {
         }
     }
 
+    // Has one of the peers called soon; a later wish takes the place of one that is still open.
     fn wish_for(&mut self, text: &str, out: &mut Writer) -> Result<StatusCode, AllocError>
         ensures { R.seen self.new.site ≡ R.seen self.old.site }
     {
@@ -184,6 +193,7 @@ impl<'a, R: Replica + Drop, H: Runtime + AllocGlobal> SiteDesk<'a, R, H> {
         Ok(StatusCode::ACCEPTED)
     }
 
+    // Notes that the program is to end, and answers with status 202.
     fn stop_soon(&mut self, out: &mut Writer) -> Result<StatusCode, AllocError>
         ensures { R.seen self.new.site ≡ R.seen self.old.site }
     {
@@ -192,6 +202,7 @@ impl<'a, R: Replica + Drop, H: Runtime + AllocGlobal> SiteDesk<'a, R, H> {
         Ok(StatusCode::ACCEPTED)
     }
 
+    // Answers an inquiry, which leaves the site as it was.
     fn inquire(&self, inquiry: &Inquiry<'_>, out: &mut Writer) -> Result<StatusCode, AllocError> {
         match *inquiry {
             Inquiry::Site => self.tell_site(out),
@@ -214,6 +225,7 @@ impl<'a, R: Replica + Drop, H: Runtime + AllocGlobal> SiteDesk<'a, R, H> {
         }
     }
 
+    // Appends a relvar as comma-separated values, or why it is not exported, and returns the status.
     fn export_table(&self, relvar: &str, out: &mut String) -> Result<StatusCode, AllocError> {
         let mut table = Vec::new(self.alloc);
         let told = export(self.alloc, &self.site, relvar, &mut Device::new(&mut table));
@@ -230,9 +242,10 @@ impl<'a, R: Replica + Drop, H: Runtime + AllocGlobal> SiteDesk<'a, R, H> {
     }
 }
 
-impl<R: Replica + Drop, H: Runtime + AllocGlobal> Desk for SiteDesk<'_, R, H> {
-    // No call changes the site but a statement, which is issued.
-    ghost answers = { λ old call answer new. Changes call (R.seen old.site) (R.seen new.site) };
+impl<R: Changes + Drop, H: Runtime + AllocGlobal> Desk for SiteDesk<'_, R, H> {
+    // No call changes the site but a statement, which is issued, or answered by a fault where it has no key.
+    ghost answers = { λ old call answer new.
+        Changes call answer (R.seen old.site) (R.seen new.site) };
 
     #[tactic(auto, using(crate::proofs::Told::stays))]
     fn tell(&self, inquiry: &Inquiry<'_>, out: &mut Writer) -> Result<StatusCode, AllocError> {

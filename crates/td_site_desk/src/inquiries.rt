@@ -6,11 +6,12 @@ use crate::words::{
     fault, is_same, read_stamp, reason_of, stamp_text, write_count, write_text, write_truth,
 };
 use std::alloc::{AllocError, Global};
+use td_changes::Changes;
 use td_headings::{Catalogue, Origin};
 use td_http_api::{StatusCode, Writer};
-use td_replica::{AskError, PastError, Replica, TellError};
+use td_replica::{AskError, PastError, TellError};
 use td_semantics::{Answer, Meter, Outcome};
-use td_shell_notices::raise_words;
+use td_shell_notices::{changes_text, raise_words};
 use td_shell_session::{BROKEN, UNCHANGED, not_asked, not_asked_at};
 use td_stamps::{Entry, Stamp};
 
@@ -23,6 +24,7 @@ pub(crate) struct SiteView<'a, R> {
     pub(crate) reversals: &'a Reversals,
 }
 
+// The status where a query is not answered.
 fn status_of(error: AskError) -> StatusCode {
     match error {
         AskError::Syntax | AskError::IllTyped => StatusCode::UNPROCESSABLE_ENTITY,
@@ -31,6 +33,7 @@ fn status_of(error: AskError) -> StatusCode {
     }
 }
 
+// The status where a query about a past place is not answered.
 fn status_of_past(error: PastError) -> StatusCode {
     match error {
         PastError::Syntax | PastError::IllTyped | PastError::NoPlace => {
@@ -41,12 +44,13 @@ fn status_of_past(error: PastError) -> StatusCode {
     }
 }
 
+// Appends a stamp as the member `stamp`.
 fn write_stamp(alloc: Global, out: &mut Writer, stamp: &Stamp) -> Result<(), AllocError> {
     let text = stamp_text(alloc, stamp)?;
     write_text(out, "stamp", text.as_str())
 }
 
-impl<R: Replica> SiteView<'_, R> {
+impl<R: Changes> SiteView<'_, R> {
     /// Appends what the site is and what it holds.
     pub(crate) fn tell_site(&self, out: &mut Writer) -> Result<(), AllocError> {
         write_count(out, "site", u64::from(self.site.site()))?;
@@ -60,6 +64,7 @@ impl<R: Replica> SiteView<'_, R> {
         self.tell_vector(out)
     }
 
+    // Appends the version vector of what the site holds, without members where the site is not open.
     fn tell_vector(&self, out: &mut Writer) -> Result<(), AllocError> {
         out.key("vector")?;
         out.begin_object()?;
@@ -72,6 +77,7 @@ impl<R: Replica> SiteView<'_, R> {
         out.end_object()
     }
 
+    // Appends a relvar with its kind and heading, and where asked its number of tuples, null if it has no value.
     fn tell_relvar(
         &self,
         index: usize,
@@ -117,6 +123,19 @@ impl<R: Replica> SiteView<'_, R> {
         out.end_array()
     }
 
+    // That a statement is done, and what it changed.
+    fn tell_changes(&self, stamp: &Stamp, out: &mut Writer) -> Result<(), AllocError> {
+        write_truth(out, "done", true)?;
+        match self.site.changed_by(*stamp) {
+            Ok(changes) => {
+                let changed = changes_text(self.alloc, self.catalogue, changes)?;
+                write_text(out, "changed", changed.as_str())
+            }
+            Err(_) => Ok(()),
+        }
+    }
+
+    // Appends a statement with its stamp, and with what it changed or why it is refused.
     fn tell_entry(
         &self,
         entry: &Entry,
@@ -132,7 +151,7 @@ impl<R: Replica> SiteView<'_, R> {
                 write_text(out, "reason", reason.as_str())?;
                 write_truth(out, "reversed", is_own && self.reversals.contains(&stamp))?;
             }
-            None => write_truth(out, "done", true)?,
+            None => self.tell_changes(&stamp, out)?,
         }
         write_text(out, "text", entry.text.as_str())?;
         out.end_object()
@@ -195,6 +214,7 @@ impl<R: Replica> SiteView<'_, R> {
         Ok(StatusCode::OK)
     }
 
+    // Appends the value, or the error that the evaluation raised; the status is 200 for both.
     fn tell_answer(
         &self,
         answer: &Answer,

@@ -2,9 +2,13 @@
 //!
 //! Begin with `SiteDesk`, a `Desk` over any kind of site, and `SiteServer`, what the event loop serves.
 //!
-//! td_site_desk moves no bytes. It changes a site by `Replica::issue` and by the steps of a meeting alone.
+//! Its definitions stand in `specs/`: in Sites what a call does to the site, and with which status it is answered.
+//!
+//! td_site_desk moves no bytes but those of the console. It changes a site by `Replica::issue` and by the steps of a
+//! meeting alone.
 #![tactic(auto)]
 
+mod console;
 mod desk;
 mod exchange;
 mod inquiries;

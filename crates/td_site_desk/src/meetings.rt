@@ -3,6 +3,7 @@
 use crate::words::{write_count, write_text, write_truth};
 use std::alloc::{AllocError, Global};
 use std::collections::VecDeque;
+use std::net::SocketAddr;
 use td_event_loop::{Loss, MOST_MEETINGS, MeetingOutcome, MeetingReport, MeetingSide};
 use td_http_api::Writer;
 
@@ -19,14 +20,22 @@ pub(crate) struct Note {
 /// A meeting that ended.
 #[derive(Drop)]
 struct Meeting {
-    peer: String,
+    peer: SocketAddr,
     is_called: bool,
     is_met: bool,
     words: String,
     ended: u64,
 }
 
-/// What came of the meetings under way, each under its number, and of the last ones that ended.
+impl Meeting {
+    // Whether this site called, or was called, at the same address. Each call comes from another port.
+    fn is_with(&self, report: &MeetingReport) -> bool {
+        self.is_called == (report.side == MeetingSide::First) && self.peer.ip() == report.peer.ip()
+    }
+}
+
+/// What came of the meetings under way, each under its number, and of the last ones that ended: of those in a row that
+/// came to the same at one address, the last one.
 #[derive(Drop)]
 pub(crate) struct Meetings {
     alloc: Global,
@@ -34,6 +43,7 @@ pub(crate) struct Meetings {
     ended: VecDeque<Meeting>,
 }
 
+// What is told of a meeting that was lost, or of which no step left a note.
 fn loss_words(loss: Option<Loss>) -> &'static str {
     match loss {
         Some(Loss::Silent) => "the other site was silent for 30 seconds",
@@ -64,6 +74,7 @@ impl Meetings {
         }
     }
 
+    // What the last step of a meeting came to, which is kept no longer; none where no step left a note.
     fn take_note(&mut self, meeting: usize) -> Option<Note> {
         match self.notes.get_mut(meeting) {
             Some(kept) => kept.take(),
@@ -71,14 +82,26 @@ impl Meetings {
         }
     }
 
+    // Drops the last meeting at this address, if it came to the same.
+    fn drop_repeated(&mut self, report: &MeetingReport, words: &str) {
+        if let Some(last) = self.ended.iter().rposition(|it| it.is_with(report))
+            && self
+                .ended
+                .get(last)
+                .is_some_and(|it| it.words.as_str() == words)
+        {
+            let _ = self.ended.remove(last);
+        }
+    }
+
+    // Keeps a meeting among the last ones that ended, in place of the last at its address if that came to the same.
     fn keep(&mut self, report: &MeetingReport, note: Note, now: u64) -> Result<(), AllocError> {
-        let peer = report.peer;
-        let peer = format!(in self.alloc; "{peer}")?;
+        self.drop_repeated(report, note.words.as_str());
         if self.ended.len() >= MOST_TOLD {
             let _ = self.ended.pop_front();
         }
         self.ended.push_back(Meeting {
-            peer,
+            peer: report.peer,
             is_called: report.side == MeetingSide::First,
             is_met: note.outcome != MeetingOutcome::Failed,
             words: note.words,
@@ -117,7 +140,9 @@ impl Meetings {
         out.begin_array()?;
         for meeting in self.ended.iter().rev() {
             out.begin_object()?;
-            write_text(out, "peer", meeting.peer.as_str())?;
+            let peer = meeting.peer;
+            let peer = format!(in self.alloc; "{peer}")?;
+            write_text(out, "peer", peer.as_str())?;
             write_truth(out, "called", meeting.is_called)?;
             write_truth(out, "met", meeting.is_met)?;
             write_text(out, "words", meeting.words.as_str())?;

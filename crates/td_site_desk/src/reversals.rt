@@ -151,6 +151,7 @@ impl Reversals {
         self.reversed.len() < before
     }
 
+    // The text of the file: the stamps of the reversed statements, one on each line.
     fn text(&self) -> Result<String, AllocError> {
         let mut text = String::new(self.alloc);
         for stamp in &self.reversed {

@@ -7,11 +7,11 @@ use http_server::{Response, Service};
 use std::alloc::AllocError;
 use std::net::SocketAddr;
 use std::rt::Runtime;
+use td_changes::Changes;
 use td_event_loop::{
     MeetingOutcome, MeetingReport, Meets, Outbox, PeerRefusal, Server, StepResult,
 };
 use td_http_api::Api;
-use td_replica::Replica;
 
 /// A site that is asked by HTTP and meets others.
 #[derive(Drop)]
@@ -26,7 +26,7 @@ impl<'a, R: Drop, H> SiteServer<'a, R, H> {
     }
 }
 
-impl<R: Replica + Drop, H: Runtime + AllocGlobal> Service for SiteServer<'_, R, H> {
+impl<R: Changes + Drop, H: Runtime + AllocGlobal> Service for SiteServer<'_, R, H> {
     ghost answers = { λ _ _ _ _. Unit {0} };
 
     fn call(
@@ -41,7 +41,7 @@ impl<R: Replica + Drop, H: Runtime + AllocGlobal> Service for SiteServer<'_, R, 
     }
 }
 
-impl<R: Replica + Drop, H: Runtime + AllocGlobal> Meets for SiteServer<'_, R, H> {
+impl<R: Changes + Drop, H: Runtime + AllocGlobal> Meets for SiteServer<'_, R, H> {
     fn greet(&mut self, meeting: usize, out: &mut Outbox) -> StepResult {
         self.api.desk.greet(meeting, out)
     }
@@ -71,7 +71,7 @@ impl<R: Replica + Drop, H: Runtime + AllocGlobal> Meets for SiteServer<'_, R, H>
     }
 }
 
-impl<R: Replica + Drop, H: Runtime + AllocGlobal> Server for SiteServer<'_, R, H> {
+impl<R: Changes + Drop, H: Runtime + AllocGlobal> Server for SiteServer<'_, R, H> {
     fn answered(&self) -> u64 {
         self.answered
     }
@@ -82,5 +82,9 @@ impl<R: Replica + Drop, H: Runtime + AllocGlobal> Server for SiteServer<'_, R, H
 
     fn pass_time(&mut self, now: u64) {
         self.api.desk.pass_time(now)
+    }
+
+    fn read_console(&mut self) -> bool {
+        self.api.desk.read_console()
     }
 }

@@ -1,7 +1,8 @@
 //! Statements that clients issue.
 
-ghost use Rattle.std.specs.Prelude.{◌≡◌, ◌⊎◌};
-ghost use Rattle.td_site_desk.specs.Sites.{IsIssued};
+ghost use Rattle.std.specs.Prelude.{◌≡◌, ◌⊎◌, ◌≤◌, IfOk, IfSome, option_copied};
+ghost use Rattle.std.specs.Result.{result_ok};
+ghost use Rattle.td_site_desk.specs.Sites.{IsIssued, IsUnissued};
 
 use crate::desk::SiteDesk;
 use crate::inquiries::STAMP_WORDS;
@@ -9,8 +10,9 @@ use crate::keys::KeyedText;
 use crate::words::{fault, read_stamp, reason_of, stamp_text, write_text, write_truth};
 use std::alloc::{AllocError, Global};
 use std::rt::Runtime;
+use td_changes::Changes;
 use td_http_api::{StatusCode, Writer};
-use td_replica::{IssueError, Issued, Replica};
+use td_replica::{IssueError, Issued};
 use td_shell_notices::lack_words;
 use td_shell_session::not_issued;
 use td_stamps::Stamp;
@@ -18,7 +20,10 @@ use td_stamps::Stamp;
 /// A key is at most so long.
 const MOST_KEY_BYTES: usize = 128;
 
-fn status_of(error: IssueError) -> StatusCode {
+// The status of the answer to a statement that is not issued.
+fn status_of(error: IssueError) -> StatusCode
+    ensures { 400 ≤ result }
+{
     match error {
         IssueError::Syntax | IssueError::IllTyped => StatusCode::UNPROCESSABLE_ENTITY,
         IssueError::ClockEnd | IssueError::Full => StatusCode::INSUFFICIENT_STORAGE,
@@ -27,12 +32,15 @@ fn status_of(error: IssueError) -> StatusCode {
     }
 }
 
+// Appends the stamp of a statement, and that it is done or why it is refused; the status is 200 for both.
 fn write_issued(
     alloc: Global,
     out: &mut Writer,
     stamp: &Stamp,
     reason: Option<&str>,
-) -> Result<StatusCode, AllocError> {
+) -> Result<StatusCode, AllocError>
+    ensures { IfOk result (λ status. status ≡ 200) }
+{
     let text = stamp_text(alloc, stamp)?;
     write_text(out, "stamp", text.as_str())?;
     match reason {
@@ -42,7 +50,7 @@ fn write_issued(
     Ok(StatusCode::OK)
 }
 
-impl<R: Replica + Drop, H: Runtime + AllocGlobal> SiteDesk<'_, R, H> {
+impl<R: Changes + Drop, H: Runtime + AllocGlobal> SiteDesk<'_, R, H> {
     // Keeps what became of a statement: what fails for want of memory here is told by no answer, since the site has
     // taken the statement.
     fn keep_issued(&mut self, issued: &Issued, keyed: Option<KeyedText>, reason: Option<&str>)
@@ -73,7 +81,8 @@ impl<R: Replica + Drop, H: Runtime + AllocGlobal> SiteDesk<'_, R, H> {
         keyed: Option<KeyedText>,
         out: &mut Writer,
     ) -> Result<StatusCode, AllocError>
-        ensures { R.seen self.new.site ≡ R.seen self.old.site }
+        ensures kept { R.seen self.new.site ≡ R.seen self.old.site }
+        ensures status { IfOk result (λ status. status ≡ 200) }
     {
         let reason = reason_of(self.alloc, &issued.outcome)?;
         let words = match &reason {
@@ -84,12 +93,15 @@ impl<R: Replica + Drop, H: Runtime + AllocGlobal> SiteDesk<'_, R, H> {
         write_issued(self.alloc, out, &issued.stamp, words)
     }
 
+    // Answers why a statement is not issued, and tells whoever watches too where the journal was not written.
     fn tell_not_issued(
         &self,
         text: &str,
         error: IssueError,
         out: &mut Writer,
-    ) -> Result<StatusCode, AllocError> {
+    ) -> Result<StatusCode, AllocError>
+        ensures { IfOk result (λ status. 400 ≤ status) }
+    {
         let words = not_issued(self.alloc, &self.catalogue, text, error, self.notes)?;
         if error == IssueError::JournalWrite {
             self.tell_line(words.as_str());
@@ -97,13 +109,15 @@ impl<R: Replica + Drop, H: Runtime + AllocGlobal> SiteDesk<'_, R, H> {
         fault(out, status_of(error), words.as_str())
     }
 
+    // Issues a statement whose key, if it has one, is new here, and answers what became of it.
     fn issue_new(
         &mut self,
         text: &str,
         keyed: Option<KeyedText>,
         out: &mut Writer,
     ) -> Result<StatusCode, AllocError>
-        ensures { IsIssued (R.seen self.old.site) text.now (R.seen self.new.site) }
+        ensures { IsIssued (R.seen self.old.site) text.now (result_ok result)
+            (R.seen self.new.site) }
     {
         match self.site.issue(self.alloc, text, &mut self.meter) {
             Ok(issued) => self.tell_issued(&issued, keyed, out),
@@ -111,13 +125,16 @@ impl<R: Replica + Drop, H: Runtime + AllocGlobal> SiteDesk<'_, R, H> {
         }
     }
 
-    // Answers a statement whose key was seen; none where it is to be issued.
+    // Answers a statement that is not to be issued: one whose key was seen, or a fault.
     fn tell_known(
         &self,
         text: &str,
         key: Option<&str>,
         out: &mut Writer,
-    ) -> Result<Option<StatusCode>, AllocError> {
+    ) -> Result<Option<StatusCode>, AllocError>
+        ensures { option_copied key.entry ≡ None
+            → IfOk result (λ known. IfSome known (λ status. 400 ≤ status)) }
+    {
         if self.is_lacking {
             return Ok(Some(fault(out, StatusCode::SERVICE_UNAVAILABLE, lack_words())?));
         }
@@ -142,14 +159,16 @@ impl<R: Replica + Drop, H: Runtime + AllocGlobal> SiteDesk<'_, R, H> {
         Ok(Some(write_issued(self.alloc, out, &keyed.stamp, reason)?))
     }
 
+    /// Issues a statement, or gives the kept answer where its key was seen, or a fault where it is not to be issued.
     pub(crate) fn issue_once(
         &mut self,
         text: &str,
         key: Option<&str>,
         out: &mut Writer,
     ) -> Result<StatusCode, AllocError>
-        ensures { (R.seen self.new.site ≡ R.seen self.old.site)
-            ⊎ IsIssued (R.seen self.old.site) text.now (R.seen self.new.site) }
+        ensures { IsIssued (R.seen self.old.site) text.now (result_ok result) (R.seen self.new.site)
+            ⊎ IsUnissued (R.seen self.old.site) (option_copied key.entry) (result_ok result)
+            (R.seen self.new.site) }
     {
         if let Some(status) = self.tell_known(text, key, out)? {
             return Ok(status);
@@ -158,12 +177,14 @@ impl<R: Replica + Drop, H: Runtime + AllocGlobal> SiteDesk<'_, R, H> {
         self.issue_new(text, keyed, out)
     }
 
+    // Lets go of a reversed statement, if it is one of this site; tells whether it was there.
     fn remove_reversal(&mut self, stamp: &Stamp) -> bool
         ensures { R.seen self.new.site ≡ R.seen self.old.site }
     {
         stamp.site == self.site.site() && self.reversals.remove(stamp)
     }
 
+    // Copies of a statement and its key, taken before it is issued; none where it has no key.
     fn copy_of_keyed(
         &self,
         text: &str,
@@ -175,6 +196,7 @@ impl<R: Replica + Drop, H: Runtime + AllocGlobal> SiteDesk<'_, R, H> {
         }
     }
 
+    /// Takes a statement off the list of reversed ones, since a person has seen it, and writes the list anew.
     pub(crate) fn acknowledge_stamp(
         &mut self,
         text: &str,

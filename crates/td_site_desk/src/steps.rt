@@ -7,6 +7,7 @@ use td_meeting::{MeetingError, answer, finish, greet, settle};
 use td_replica::{Replica, Taken};
 use td_semantics::Meter;
 
+/// The first step: appends the greeting of the site to what is to be sent.
 pub(crate) fn greet_into<R: Replica>(
     alloc: Global,
     site: &R,
@@ -15,6 +16,7 @@ pub(crate) fn greet_into<R: Replica>(
     greet(alloc, site, &mut Device::new(out))
 }
 
+/// The second step: reads a greeting, and appends the site's own with the entries that the peer lacks.
 pub(crate) fn answer_bytes<R: Replica>(
     alloc: Global,
     site: &R,
@@ -28,6 +30,7 @@ pub(crate) fn answer_bytes<R: Replica>(
     answer(alloc, site, &mut link)
 }
 
+/// The third step: takes the entries of a reply as one batch, and appends those that the peer lacks.
 pub(crate) fn settle_bytes<R: Replica>(
     alloc: Global,
     site: &mut R,
@@ -42,6 +45,7 @@ pub(crate) fn settle_bytes<R: Replica>(
     settle(alloc, site, &mut link, meter)
 }
 
+/// The fourth step: takes the entries of the peer as one batch.
 pub(crate) fn finish_bytes<R: Replica>(
     alloc: Global,
     site: &mut R,

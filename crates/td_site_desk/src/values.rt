@@ -36,6 +36,7 @@ pub(crate) fn write_heading(
     out.end_array()
 }
 
+// Appends a tuple as an array of its values, in the order of its attributes.
 fn write_tuple(alloc: Global, out: &mut Writer, tuple: &Tuple) -> Result<(), AllocError> {
     out.begin_array()?;
     for (_, value) in tuple.attributes() {
@@ -51,6 +52,7 @@ pub(crate) struct Range {
     pub(crate) count: Option<u64>,
 }
 
+// Appends the heading, the number of all tuples, and the tuples of the range, in one walk along all of them.
 fn write_rows(
     alloc: Global,
     out: &mut Writer,

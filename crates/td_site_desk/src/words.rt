@@ -1,5 +1,7 @@
 //! Words of stamps and outcomes.
 
+ghost use Rattle.std.specs.Prelude.{◌≡◌, IfOk};
+
 use std::alloc::{AllocError, Global};
 use td_http_api::{StatusCode, Writer};
 use td_listings::show_stamp;
@@ -21,6 +23,7 @@ pub(crate) fn is_same(one: &Stamp, other: &Stamp) -> bool {
     one.clock == other.clock && one.site == other.site
 }
 
+/// The text of a stamp, as `CLOCK.SITE`.
 pub(crate) fn stamp_text(alloc: Global, stamp: &Stamp) -> Result<String, AllocError> {
     let mut text = String::new(alloc);
     show_stamp(&mut text, stamp)?;
@@ -39,16 +42,19 @@ pub(crate) fn reason_of(alloc: Global, outcome: &Outcome) -> Result<Option<Strin
     Ok(Some(String::from_str(alloc, reason)?))
 }
 
+/// Appends a member whose value is a text.
 pub(crate) fn write_text(out: &mut Writer, name: &str, text: &str) -> Result<(), AllocError> {
     out.key(name)?;
     out.string(text)
 }
 
+/// Appends a member whose value is a number.
 pub(crate) fn write_count(out: &mut Writer, name: &str, count: u64) -> Result<(), AllocError> {
     out.key(name)?;
     out.u64(count)
 }
 
+/// Appends a member whose value is a truth value.
 pub(crate) fn write_truth(out: &mut Writer, name: &str, truth: bool) -> Result<(), AllocError> {
     out.key(name)?;
     out.boolean(truth)
@@ -65,7 +71,9 @@ pub(crate) fn fault(
     out: &mut Writer,
     status: StatusCode,
     words: &str,
-) -> Result<StatusCode, AllocError> {
+) -> Result<StatusCode, AllocError>
+    ensures { IfOk result (λ told. told ≡ status) }
+{
     write_fault(out, words)?;
     Ok(status)
 }
