@@ -14,6 +14,7 @@ use std::alloc::{AllocError, Global};
 use td_relations::Relation;
 use td_values::{Rows, Tuple};
 
+// Appends a copy of the tuple where it is to be kept.
 fn put(kept: &mut Vec<Tuple>, keep: bool, tuple: &Tuple) -> Result<(), AllocError>
     ensures { OnOk result (kept.new.items ≡ kept.old.items ++ cond keep (tuple.now ∷ []) []) }
 {

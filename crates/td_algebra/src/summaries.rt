@@ -17,6 +17,7 @@ use td_relations::Relation;
 use td_tuples::Summary;
 use td_values::{Kind, Raise, Tuple, Value, compare, copy};
 
+// The value of an integer.
 fn integer_value(n: i64) -> Value
     ensures { result ≡ integer n }
 {
@@ -25,6 +26,7 @@ fn integer_value(n: i64) -> Value
     }
 }
 
+// The value of a truth value.
 fn truth_value(b: bool) -> Value
     ensures { result ≡ boolean b }
 {
@@ -33,6 +35,7 @@ fn truth_value(b: bool) -> Value
     }
 }
 
+// The integer that a value holds; 0 of a value of another type.
 fn number_in(value: &Value) -> i64
     ensures { result ≡ spec.number_in value.now }
 {
@@ -42,6 +45,7 @@ fn number_in(value: &Value) -> i64
     }
 }
 
+// Whether a value is TRUE; one of another type is not.
 fn is_true(value: &Value) -> bool
     ensures { result ≡ spec.is_true value.now }
 {
@@ -51,6 +55,7 @@ fn is_true(value: &Value) -> bool
     }
 }
 
+// The sum of integer values, wide enough not to overflow.
 fn whole_sum(values: &[Value]) -> i128
     ensures { result ≡ spec.whole_sum values.now }
 {
@@ -61,6 +66,7 @@ fn whole_sum(values: &[Value]) -> i128
     sum
 }
 
+// The sum of integer values; an overflow where it is out of the range of INTEGER.
 fn sum_of<W>(values: &[Value]) -> Result<Value, Fault<W>>
     ensures { Answers result (spec.sum_of values.now) }
 {
@@ -70,18 +76,21 @@ fn sum_of<W>(values: &[Value]) -> Result<Value, Fault<W>>
     }
 }
 
+// The greater one of two values, the first where they are equal.
 fn greater<'a>(a: &'a Value, b: &'a Value) -> &'a Value
     ensures { result.now ≡ spec.greater a.now b.now }
 {
     if compare(a, b).is_lt() { b } else { a }
 }
 
+// The lesser one of two values, the first where they are equal.
 fn lesser<'a>(a: &'a Value, b: &'a Value) -> &'a Value
     ensures { result.now ≡ spec.lesser_of a.now b.now }
 {
     if compare(b, a).is_lt() { b } else { a }
 }
 
+// A copy of the greatest of the values, which raises an error where there are none.
 fn greatest<W>(alloc: Global, values: &[Value]) -> Result<Value, Fault<W>>
     ensures { Answers result (spec.most spec.greater values.now) }
 {
@@ -97,6 +106,7 @@ fn greatest<W>(alloc: Global, values: &[Value]) -> Result<Value, Fault<W>>
     }
 }
 
+// A copy of the least of the values, which raises an error where there are none.
 fn least<W>(alloc: Global, values: &[Value]) -> Result<Value, Fault<W>>
     ensures { Answers result (spec.most spec.lesser_of values.now) }
 {
@@ -112,18 +122,21 @@ fn least<W>(alloc: Global, values: &[Value]) -> Result<Value, Fault<W>>
     }
 }
 
+// Whether all values are TRUE, as they are where there are none.
 fn are_all_true(values: &[Value]) -> bool
     ensures { result ≡ list_all spec.is_true values.now }
 {
     values.iter().all(|v| is_true(v))
 }
 
+// Whether one of the values is TRUE.
 fn is_any_true(values: &[Value]) -> bool
     ensures { result ≡ list_any spec.is_true values.now }
 {
     values.iter().any(|v| is_true(v))
 }
 
+// The term that a summary aggregates; None of COUNT.
 fn term_of<E>(summary: &Summary<E>) -> Option<&E>
     ensures { option_copied result ≡ spec.term_of summary.now }
 {
@@ -184,6 +197,7 @@ fn values_at<E, W, F: Fn(&E, &Tuple) -> Result<Value, Fault<W>>>(
     gathered.finish()
 }
 
+// The number of tuples, as a value.
 fn number_of(tuples: &[Tuple]) -> Value
     ensures { result ≡ integer (pos (length tuples.now)) }
 {

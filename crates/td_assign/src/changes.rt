@@ -26,6 +26,7 @@ pub(crate) fn given_relation(changes: &[Change], target: usize) -> Option<&Relat
     None
 }
 
+// The place of the first change of a target; None where nothing is given to it.
 fn place_of(changes: &[Change], target: usize) -> Option<usize>
     ensures { result ≡ position (is_target target) changes.now }
 {

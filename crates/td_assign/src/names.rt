@@ -36,6 +36,7 @@ fn in_order(places: Vec<usize>) -> Vec<usize>
     places
 }
 
+// Whether one of the places is a target.
 fn meets(targets: &[usize], places: &[usize]) -> bool
     ensures { IsTrue result ↔ ((n : ℕ) × Contains places.now n × Contains targets.now n) }
 {
@@ -78,6 +79,7 @@ fn condition_read(alloc: Global, statement: &TypedStatement) -> Result<Vec<usize
     }
 }
 
+// The list of this place alone.
 fn only(alloc: Global, place: usize) -> Result<Vec<usize>, AllocError>
     ensures { IfOk result (λ v. (n : ℕ) → Contains v.items n ↔ (n ≡ place)) }
 {

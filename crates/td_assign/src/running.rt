@@ -308,6 +308,7 @@ fn turn(
     }
 }
 
+// What a run of a statement is told as: its outcome, its changes and its relvars.
 fn ran(outcome: Outcome, delta: Vec<(usize, Delta)>, names: Names) -> Ran
     ensures outcome { result.outcome ≡ outcome }
     ensures delta { result.delta ≡ delta }

@@ -45,6 +45,7 @@ fn source(
     }
 }
 
+// Evaluates the source of an assignment, with what the assignments before it give, and gives it to the target.
 fn add_source(
     alloc: Global,
     database: &Database,
@@ -174,6 +175,7 @@ fn change_delta(
     }
 }
 
+// The change that a single assignment makes of its target; None where its source has no form of which that is told.
 fn single_delta(
     alloc: Global,
     database: &Database,

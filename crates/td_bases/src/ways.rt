@@ -24,6 +24,7 @@ struct Room {
 }
 
 impl Room {
+    // No room yet.
     fn none(alloc: Global) -> Room {
         Room {
             list: Vec::new(alloc),
@@ -50,6 +51,7 @@ pub(crate) struct Rooms {
 }
 
 impl Rooms {
+    /// No room yet, neither for the relation nor for the index.
     pub(crate) fn none(alloc: Global) -> Rooms {
         Rooms {
             relation: Room::none(alloc),
@@ -123,6 +125,8 @@ fn refill_relation(left: Relation, back: Return) -> Relation
 }
 
 impl WayBack {
+    /// The way back from a change of the relation, made before the change: it keeps what that deletes, and reserves the
+    /// room to put it back.
     pub(crate) fn from(
         alloc: Global,
         relation: &Relation,

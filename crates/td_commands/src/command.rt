@@ -125,12 +125,14 @@ fn site_and_text(mark: char, line: &str) -> Option<(u32, &str)>
     Some((site, text_of(text)))
 }
 
+// Whether none of the bytes is a space.
 fn has_no_space(word: &[u8]) -> bool
     ensures { result ≡ list_all (λ b. not (b == 32)) word.now }
 {
     word.iter().all(|b| *b != b' ')
 }
 
+// Whether a text is a word of a command: not empty, and without spaces.
 fn is_word(word: &str) -> bool
     ensures { result ≡ spec.is_word word.now }
 {
@@ -149,6 +151,7 @@ fn site_and_word(words: &str) -> Option<(u32, &str)>
     Some((site, word))
 }
 
+// The meeting of two sites, from their numbers with one space between; None where it is anything else.
 fn parse_meet(words: &str) -> Option<Command<'_>>
     ensures { option_map meant result ≡ spec.of_pair spec.meet (spec.two_sites words.now) }
 {
@@ -158,6 +161,7 @@ fn parse_meet(words: &str) -> Option<Command<'_>>
     Some(Command::Meet { first, second })
 }
 
+// The listing of a site, from its number; None where the word is none.
 fn parse_listing(word: &str) -> Option<Command<'static>>
     ensures { option_map meant result ≡ spec.of_site spec.listing word.now }
 {
@@ -165,6 +169,7 @@ fn parse_listing(word: &str) -> Option<Command<'static>>
     Some(Command::Listing { site })
 }
 
+// The log of a site, from its number; None where the word is none.
 fn log(word: &str) -> Option<Command<'static>>
     ensures { option_map meant result ≡ spec.of_site spec.log word.now }
 {
@@ -172,6 +177,7 @@ fn log(word: &str) -> Option<Command<'static>>
     Some(Command::Log { site })
 }
 
+// The version vector of a site, from its number; None where the word is none.
 fn vector(word: &str) -> Option<Command<'static>>
     ensures { option_map meant result ≡ spec.of_site spec.vector word.now }
 {
@@ -179,6 +185,7 @@ fn vector(word: &str) -> Option<Command<'static>>
     Some(Command::Vector { site })
 }
 
+// The table of a relvar at a site, from the site's number and the relvar's name.
 fn parse_table(words: &str) -> Option<Command<'_>>
     ensures { option_map meant result ≡ spec.of_pair spec.table (spec.site_and_word words.now) }
 {
@@ -186,6 +193,7 @@ fn parse_table(words: &str) -> Option<Command<'_>>
     Some(Command::Table { site, relvar })
 }
 
+// That a site serves at an address, from the site's number and the address.
 fn serve(words: &str) -> Option<Command<'_>>
     ensures { option_map meant result ≡ spec.of_pair spec.serve (spec.site_and_word words.now) }
 {
@@ -193,6 +201,7 @@ fn serve(words: &str) -> Option<Command<'_>>
     Some(Command::Serve { site, address })
 }
 
+// That a site calls an address, from the site's number and the address.
 fn call(words: &str) -> Option<Command<'_>>
     ensures { option_map meant result ≡ spec.of_pair spec.call (spec.site_and_word words.now) }
 {
@@ -200,6 +209,7 @@ fn call(words: &str) -> Option<Command<'_>>
     Some(Command::Call { site, address })
 }
 
+// A statement for a site, from a line of its number, a colon and the text; None where the line has another form.
 fn issue(line: &str) -> Option<Command<'_>>
     ensures { option_map meant result ≡ spec.of_pair spec.issue (spec.site_and_text 58 line.now) }
 {
@@ -225,6 +235,7 @@ fn parted_last(c: char, line: &str) -> Option<(&str, &str)>
     line.rsplit_once(c)
 }
 
+// The text before its last character, which is to be a space.
 fn before_space(text: &str) -> Option<&str>
     ensures { option_copied result ≡ spec.before_space text.now }
 {
@@ -242,6 +253,7 @@ fn at_stamp(text: &str) -> Option<(&str, (u64, u32))>
     Some((front, stamp))
 }
 
+// The query of a text at a site: at a stamp where the text tells one, otherwise of what the site holds now.
 fn ask_command(site: u32, text: &str) -> Command<'_>
     ensures { meant result ≡ spec.query_form site text.now }
 {
@@ -256,6 +268,7 @@ fn ask_command(site: u32, text: &str) -> Command<'_>
     }
 }
 
+// A query of a site, from a line of its number, a question mark and the text; None where the line has another form.
 fn query(line: &str) -> Option<Command<'_>>
     ensures { option_map meant result ≡ spec.of_pair spec.query_form (spec.site_and_text 63 line.now) }
 {
@@ -291,6 +304,7 @@ fn dot_command<'a>(word: &str, rest: &'a str) -> Option<Command<'a>>
     None
 }
 
+// The command of a line that begins with a word and a space; None where the word is no command, or takes other words.
 fn dot_form(line: &str) -> Option<Command<'_>>
     ensures { option_map meant result ≡ spec.dot_form line.now }
 {
@@ -298,6 +312,7 @@ fn dot_form(line: &str) -> Option<Command<'_>>
     dot_command(word, rest)
 }
 
+// The statement or the query that a line holds for a site; None where it holds neither.
 fn text_form(line: &str) -> Option<Command<'_>>
     ensures { option_map meant result ≡ spec.text_form line.now }
 {
@@ -307,6 +322,7 @@ fn text_form(line: &str) -> Option<Command<'_>>
     }
 }
 
+// The command that a line holds, empty ones and `.quit` included; None where the line has no form of a command.
 fn form(line: &str) -> Option<Command<'_>>
     ensures { option_map meant result ≡ form_of line.now }
 {

@@ -19,6 +19,7 @@ pub(crate) struct Client {
     pace: Pace,
 }
 
+// The limits of a client's connection.
 fn config() -> Config {
     Config {
         limits: Limits::default(),
@@ -46,6 +47,7 @@ impl Client {
         &mut self.stream
     }
 
+    /// Notes what an event says the socket is ready for, beside what is noted already.
     pub(crate) fn add_readiness(&mut self, readiness: Readiness) {
         self.readiness.add(readiness);
     }
@@ -59,6 +61,7 @@ impl Client {
         }
     }
 
+    // Whether the client takes too long: to take an answer that is under way, or else to send its request.
     fn is_late(&self) -> bool {
         if self.connection.wants_write() {
             self.pace.quiet() > ANSWER_TIME || self.pace.waited() > WHOLE_ANSWER_TIME
@@ -67,6 +70,7 @@ impl Client {
         }
     }
 
+    // Sends what the socket takes of an answer; ended where it fails or takes nothing.
     fn write(&mut self) -> Progress {
         match transfer_of(self.connection.write_to(&mut self.stream)) {
             Transfer::Bytes(0) | Transfer::Failed => Progress::Ended,
@@ -81,6 +85,7 @@ impl Client {
         }
     }
 
+    // Reads what has come of a request; ended where the socket fails.
     fn read(&mut self) -> Progress {
         match transfer_of(self.connection.read_from(&mut self.stream)) {
             Transfer::Failed => Progress::Ended,

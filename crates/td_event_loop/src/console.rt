@@ -29,6 +29,7 @@ impl Console {
         })
     }
 
+    /// Notes that the console can be read, where an event says so.
     pub(crate) fn add_readiness(&mut self, readiness: Readiness) {
         self.is_readable = self.is_readable || readiness.is_readable;
     }

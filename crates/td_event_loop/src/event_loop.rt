@@ -69,6 +69,7 @@ pub struct EventLoop {
     buffer: Vec<u8>,
 }
 
+// A listener at this address, whose events bear the token.
 fn listen<N: Net>(net: &N, poll: &Poll, at: SocketAddr, token: usize) -> io::Result<TcpListener> {
     let mut listener = TcpListener::bind(net, at)?;
     poll.registry()
@@ -76,6 +77,7 @@ fn listen<N: Net>(net: &N, poll: &Poll, at: SocketAddr, token: usize) -> io::Res
     Ok(listener)
 }
 
+// So many slots, none of them taken.
 fn empty_slots<T: Drop>(alloc: Global, count: usize) -> io::Result<Vec<Option<T>>> {
     let mut slots = Vec::with_capacity(alloc, count)?;
     for _ in 0..count {
@@ -87,6 +89,7 @@ fn empty_slots<T: Drop>(alloc: Global, count: usize) -> io::Result<Vec<Option<T>
     Ok(slots)
 }
 
+// The first slot that is not taken; None where all are.
 fn free_slot<T: Drop>(slots: &[Option<T>]) -> Option<usize> {
     slots.iter().position(|slot| slot.is_none())
 }
@@ -107,6 +110,7 @@ fn idlest_client(clients: &[Option<Client>]) -> Option<usize> {
     idlest
 }
 
+// A time in whole milliseconds; the greatest number where it is longer.
 fn millis(spent: Duration) -> u64 {
     spent
         .as_secs()
@@ -142,6 +146,8 @@ fn turn_peers<M: Meets>(
     is_busy
 }
 
+// Tells the site that the meeting of a slot ends; where this site began it, its outcome decides when the peer is called
+// again.
 fn end_meeting<M: Meets>(
     slot: &Option<Peer>,
     meeting: usize,
@@ -159,6 +165,7 @@ fn end_meeting<M: Meets>(
     }
 }
 
+// Ends all these meetings as stopped, and empties their slots.
 fn stop_peers<M: Meets>(
     peers: &mut [Option<Peer>],
     first: usize,
@@ -173,12 +180,14 @@ fn stop_peers<M: Meets>(
     }
 }
 
+// Notes what an event says the client of a slot is ready for; an empty slot ignores it.
 fn add_readiness_of_client(clients: &mut [Option<Client>], slot: usize, readiness: Readiness) {
     if let Some(Some(client)) = clients.get_mut(slot) {
         client.add_readiness(readiness);
     }
 }
 
+// Notes what an event says the peer of a slot is ready for; an empty slot ignores it.
 fn add_readiness_of_peer(peers: &mut [Option<Peer>], slot: usize, readiness: Readiness) {
     if let Some(Some(peer)) = peers.get_mut(slot) {
         peer.add_readiness(readiness);
@@ -236,12 +245,14 @@ impl EventLoop {
         Ok(())
     }
 
+    // Notes what an event says the console is ready for, if there is one.
     fn add_readiness_of_console(&mut self, readiness: Readiness) {
         if let Some(console) = &mut self.console {
             console.add_readiness(readiness);
         }
     }
 
+    // Notes what an event says, at the listener, the console, the client or the peer that its token belongs to.
     fn add_readiness(&mut self, token: usize, readiness: Readiness) {
         if token == CLIENTS {
             self.has_pending_clients = true;
@@ -272,6 +283,8 @@ impl EventLoop {
         Ok(())
     }
 
+    // Takes a client into a free slot, or into that of the idlest client; where each has an answer under way, it drops
+    // the new one.
     fn add_client<H: RandomSource>(
         &mut self,
         host: &H,
@@ -298,6 +311,7 @@ impl EventLoop {
         Ok(())
     }
 
+    // Accepts the clients that wait, at most TURN of them; the rest waits for the next turn.
     fn accept_clients<H: RandomSource>(&mut self, host: &H, now: u64) {
         if !self.has_pending_clients {
             return;
@@ -321,11 +335,13 @@ impl EventLoop {
         }
     }
 
+    // Whether a peer may meet this site: its address is a listed one, or none are listed.
     fn is_allowed(&self, peer: SocketAddr) -> bool {
         let address = peer.ip().to_canonical();
         self.allowed.is_empty() || self.allowed.iter().any(|allowed| *allowed == address)
     }
 
+    // Has the socket of a peer watched, whose events bear the token.
     fn register(&self, peer: &mut Peer, token: usize) -> io::Result<()> {
         self.poll.registry().register(
             peer.stream_mut(),
@@ -334,6 +350,7 @@ impl EventLoop {
         )
     }
 
+    // Takes a meeting that the peer began into a slot, and has its socket watched.
     fn add_accepted(&mut self, mut peer: Peer, slot: usize) -> io::Result<()> {
         self.register(&mut peer, FIRST_ACCEPTED.saturating_add(slot))?;
         if let Some(held) = self.accepted.get_mut(slot) {
@@ -342,6 +359,7 @@ impl EventLoop {
         Ok(())
     }
 
+    // Takes a meeting that this site began into a slot, and has its socket watched.
     fn add_called(&mut self, mut peer: Peer, slot: usize) -> io::Result<()> {
         self.register(&mut peer, FIRST_CALLED.saturating_add(slot))?;
         if let Some(held) = self.called.get_mut(slot) {
@@ -350,6 +368,8 @@ impl EventLoop {
         Ok(())
     }
 
+    // Begins the meeting of a connection that was accepted; the site hears of one that is refused, for its address or
+    // because no slot is free.
     fn meet_accepted<M: Meets>(
         &mut self,
         site: &mut M,
@@ -369,6 +389,7 @@ impl EventLoop {
         }
     }
 
+    // Accepts the peers that wait, at most TURN of them; the rest waits for the next turn.
     fn accept_peers<M: Meets>(&mut self, site: &mut M, now: u64) {
         if !self.has_pending_peers {
             return;

@@ -23,6 +23,7 @@ impl Inbox {
         }
     }
 
+    /// All that has come so far.
     pub(crate) fn bytes(&self) -> &[u8]
         ensures { length result.now ≤ MOST_BYTES }
     {

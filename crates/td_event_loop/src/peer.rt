@@ -91,10 +91,12 @@ impl Peer {
         &mut self.stream
     }
 
+    /// Notes what an event says the socket is ready for, beside what is noted already.
     pub(crate) fn add_readiness(&mut self, readiness: Readiness) {
         self.readiness.add(readiness);
     }
 
+    // Whether this site began the meeting, as its first side, or is the second one.
     fn side(&self) -> MeetingSide {
         match self.stage {
             Stage::Greeting | Stage::Entries(_) => MeetingSide::Second,
@@ -103,6 +105,7 @@ impl Peer {
         }
     }
 
+    /// What the site is told of the meeting at its end.
     pub(crate) fn report(&self, meeting: usize, loss: Option<Loss>) -> MeetingReport {
         MeetingReport {
             meeting,
@@ -138,6 +141,7 @@ impl Peer {
         }
     }
 
+    // Answers the greeting that came; then it waits for entries, sends its last bytes, or ends, as the site decides.
     fn answer<M: Meets>(&mut self, meeting: usize, site: &mut M) -> Progress {
         let bytes = self.inbox.bytes();
         let end = match greeting_extent(bytes) {
@@ -152,6 +156,7 @@ impl Peer {
         Progress::Busy
     }
 
+    // Hands the entries that came to the site, as the last step of the meeting.
     fn finish<M: Meets>(&mut self, meeting: usize, entries_at: usize, site: &mut M) -> Progress {
         let bytes = self.inbox.bytes();
         let from = entries_at.min(bytes.len());
@@ -159,6 +164,8 @@ impl Peer {
         Progress::Ended
     }
 
+    // Hands what the peer replied to the site, which writes the entries that the peer lacks; ended where the site
+    // stops.
     fn settle<M: Meets>(&mut self, meeting: usize, site: &mut M) -> Progress {
         if site.settle(meeting, self.inbox.bytes(), &mut self.outbox) == StepResult::Stop {
             return Progress::Ended;
@@ -167,6 +174,7 @@ impl Peer {
         Progress::Busy
     }
 
+    // Sends no more; where the inbox is full, the first site goes on to drain the socket, otherwise the meeting ends.
     fn part(&mut self, side: MeetingSide) -> Progress {
         let _ = self.stream.shutdown(Shutdown::Write);
         if side == MeetingSide::First && self.inbox.is_full() {
@@ -201,6 +209,7 @@ impl Peer {
         }
     }
 
+    // Sends what the socket takes of the outbox; ended where it fails or takes nothing.
     fn write(&mut self) -> Progress {
         match transfer_of(self.outbox.send_to(&mut self.stream)) {
             Transfer::Bytes(0) | Transfer::Failed => Progress::Ended,
@@ -215,6 +224,7 @@ impl Peer {
         }
     }
 
+    // Reads what has come into the inbox; ended where the socket fails.
     fn read(&mut self, buffer: &mut [u8]) -> Progress {
         match transfer_of(self.inbox.read_from(&mut self.stream, buffer)) {
             Transfer::Failed => Progress::Ended,
@@ -229,6 +239,7 @@ impl Peer {
         }
     }
 
+    // Reads what has come and drops it; ended where the other side has closed or the socket fails.
     fn drain(&mut self, buffer: &mut [u8]) -> Progress {
         match transfer_of(self.stream.read(buffer)) {
             Transfer::Bytes(0) | Transfer::Failed => Progress::Ended,

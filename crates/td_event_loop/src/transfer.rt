@@ -22,6 +22,7 @@ pub(crate) enum Transfer {
     Failed,
 }
 
+/// What a read or a write came to; one that would block or is interrupted counts as blocked.
 pub(crate) fn transfer_of(count: io::Result<usize>) -> Transfer {
     match count {
         Ok(count) => Transfer::Bytes(count),

@@ -66,6 +66,7 @@ pub fn read_entries<S: Source>(
     }
 }
 
+// The head of an entry's frame in the second version: its letter, its numbers and the length of its text.
 fn head_bytes(site: u16, seq: u32, clock: u64, dialect: u8, length: u16) -> [u8; 18]
     ensures { result ≡ 69 ∷ (to_be_bytes w16 site ++ to_be_bytes w32 seq ++ to_be_bytes w64 clock ++ dialect ∷ to_be_bytes w16 length) }
 {

@@ -28,6 +28,7 @@ fn entry_with(alloc: Global, head: Head, text: String) -> Result<Entry, AllocErr
     })
 }
 
+// Reads the text behind a head, as an entry; a text that is too long or no UTF-8 is a bad frame.
 fn read_text<S: Source>(alloc: Global, source: &mut S, head: Head) -> Result<Entry, FrameError>
     ensures told { (bytes : List ℕ) × Consumes (S.left source.old) (S.left source.new) bytes
         × Told result (text_at head bytes) (S.left source.new) (S.failures source.old) (S.failures source.new) }
@@ -49,6 +50,7 @@ fn read_text<S: Source>(alloc: Global, source: &mut S, head: Head) -> Result<Ent
     }
 }
 
+// Reads the rest of an entry's frame, behind its letter: the head of this version, and the text.
 fn read_entry<S: Source>(
     alloc: Global,
     source: &mut S,
@@ -66,6 +68,7 @@ fn read_entry<S: Source>(
     }
 }
 
+// Reads what is behind a frame's letter: None where it ends the stream, and a bad frame where the letter is no other.
 fn after_letter<S: Source>(
     alloc: Global,
     source: &mut S,

@@ -9,6 +9,7 @@ ghost use Rattle.td_frames.specs.Spelling as spelled;
 
 use td_io::{Failed, Sink, write_all};
 
+// The begin of a greeting: its letters, the version of the formats, and the site.
 fn head_bytes(site: u16) -> [u8; 7]
     ensures { result ≡ spelled.head_frame site }
 {
@@ -16,6 +17,7 @@ fn head_bytes(site: u16) -> [u8; 7]
     [b'H', b'T', b'D', b'B', 2, s[0], s[1]]
 }
 
+// One place of a version vector: a site and the sequence number up to which it is held.
 fn place_bytes(place: &(u16, u32)) -> [u8; 6]
     ensures { result ≡ spelled.place place.now }
 {
@@ -24,6 +26,7 @@ fn place_bytes(place: &(u16, u32)) -> [u8; 6]
     [s[0], s[1], n[0], n[1], n[2], n[3]]
 }
 
+// Writes the places of a version vector, in their order.
 fn put_places<K: Sink>(sink: &mut K, places: &[(u16, u32)]) -> Result<(), Failed>
     ensures bytes { Writes (K.held sink.old) (K.held sink.new) result (flat_map spelled.place places.now) }
     ensures count { Counts (K.faults sink.old) (K.faults sink.new) result }
@@ -35,6 +38,7 @@ fn put_places<K: Sink>(sink: &mut K, places: &[(u16, u32)]) -> Result<(), Failed
     Ok(())
 }
 
+// Writes a version vector: the count of its places, then each of them.
 fn put_vector<K: Sink>(sink: &mut K, places: &[(u16, u32)]) -> Result<(), Failed>
     requires { length places.now < 65536 }
     ensures bytes { Writes (K.held sink.old) (K.held sink.new) result (spelled.vector_frame places.now) }
@@ -46,6 +50,7 @@ fn put_vector<K: Sink>(sink: &mut K, places: &[(u16, u32)]) -> Result<(), Failed
     put_places(sink, places)
 }
 
+// Writes a script behind its length.
 fn put_script<K: Sink>(sink: &mut K, script: &str) -> Result<(), Failed>
     requires { length script.now ≤ 65536 }
     ensures bytes { Writes (K.held sink.old) (K.held sink.new) result (spelled.script_frame script.now) }

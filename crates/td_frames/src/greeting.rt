@@ -28,6 +28,7 @@ pub struct Greeting {
     pub vector: Vector,
 }
 
+// Reads the letters that a greeting begins with; any others are an error of their own.
 fn read_magic<S: Source>(source: &mut S) -> Result<(), FrameError>
     ensures told { (bytes : List ℕ) × Consumes (S.left source.old) (S.left source.new) bytes
         × ReadsValue magic_at bytes result (S.left source.new) (S.failures source.old) (S.failures source.new) }
@@ -44,6 +45,7 @@ fn read_magic<S: Source>(source: &mut S) -> Result<(), FrameError>
     Ok(())
 }
 
+// Reads the version of the formats, which is to be the second.
 fn read_version<S: Source>(source: &mut S) -> Result<(), FrameError>
     ensures told { (bytes : List ℕ) × Consumes (S.left source.old) (S.left source.new) bytes
         × ReadsValue version_at bytes result (S.left source.new) (S.failures source.old) (S.failures source.new) }
@@ -60,6 +62,7 @@ fn read_version<S: Source>(source: &mut S) -> Result<(), FrameError>
     Ok(())
 }
 
+// Reads how many places a version vector has.
 fn read_count<S: Source>(source: &mut S) -> Result<u16, FrameError>
     ensures told { (bytes : List ℕ) × Consumes (S.left source.old) (S.left source.new) bytes
         × ReadsValue count_at bytes result (S.left source.new) (S.failures source.old) (S.failures source.new) }
@@ -110,6 +113,7 @@ fn read_number<S: Source>(source: &mut S) -> Result<u32, FrameError>
     Ok(number)
 }
 
+// Reads the length of a script; one beyond SCRIPT_BYTES is a bad frame.
 fn read_length<S: Source>(source: &mut S) -> Result<u32, FrameError>
     ensures told { (bytes : List ℕ) × Consumes (S.left source.old) (S.left source.new) bytes
         × ReadsValue length_at bytes result (S.left source.new) (S.failures source.old) (S.failures source.new) }
@@ -146,6 +150,7 @@ fn read_text_of<S: Source>(alloc: Global, source: &mut S, length: u32) -> Result
     }
 }
 
+// Reads a script: its length, then its text.
 fn read_script<S: Source>(alloc: Global, source: &mut S) -> Result<Text, FrameError>
     ensures told { (bytes : List ℕ) × Consumes (S.left source.old) (S.left source.new) bytes
         × ReadsValue script_at bytes result (S.left source.new) (S.failures source.old) (S.failures source.new) }
@@ -178,6 +183,7 @@ fn read_place<S: Source>(source: &mut S, last: u16, vector: &mut Vector) -> Resu
     }
 }
 
+// Reads so many places of a version vector; their sites are to rise.
 fn read_places<S: Source>(alloc: Global, source: &mut S, count: u16) -> Result<Vector, FrameError>
     ensures told { (bytes : List ℕ) × Consumes (S.left source.old) (S.left source.new) bytes
         × ReadsValue (sites_at count 0 by_site.empty) bytes result (S.left source.new) (S.failures source.old) (S.failures source.new) }
@@ -194,6 +200,7 @@ fn read_places<S: Source>(alloc: Global, source: &mut S, count: u16) -> Result<V
     Ok(vector)
 }
 
+// Reads a version vector: the count of its places, then each of them.
 fn read_vector<S: Source>(alloc: Global, source: &mut S) -> Result<Vector, FrameError>
     ensures told { (bytes : List ℕ) × Consumes (S.left source.old) (S.left source.new) bytes
         × ReadsValue vector_at bytes result (S.left source.new) (S.failures source.old) (S.failures source.new) }
@@ -205,6 +212,7 @@ fn read_vector<S: Source>(alloc: Global, source: &mut S) -> Result<Vector, Frame
     }
 }
 
+// Reads the begin of a greeting, and gives the site that it tells.
 fn read_head<S: Source>(source: &mut S) -> Result<u16, FrameError>
     ensures told { (bytes : List ℕ) × Consumes (S.left source.old) (S.left source.new) bytes
         × ReadsValue head_at bytes result (S.left source.new) (S.failures source.old) (S.failures source.new) }

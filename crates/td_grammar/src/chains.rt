@@ -18,6 +18,7 @@ use std::alloc::Global;
 use td_syntax::tree::{Expr, Nesting, UnaryOperator};
 use td_tokens::token::{TokenKind, Word};
 
+// The projection of a tree: what stands behind it is a list of attributes in braces, `{a, b}` or `{ALL BUT c}`.
 #[tactic(auto, unfolding(crate::specs::ForProofs::Reader::project_turn))]
 fn project(alloc: Global, tokens: &mut Cursor<'_>, left: Tree) -> Result<Tree, ReadError>
     ensures { Gives (spec.project_turn left tokens.old) result tokens.new }
@@ -26,6 +27,7 @@ fn project(alloc: Global, tokens: &mut Cursor<'_>, left: Tree) -> Result<Tree, R
     Ok(Boxed::new(alloc, Expr::Project(left, kept))?)
 }
 
+// What follows RENAME behind a relation: `(a AS b, ..)`, or the same list in braces.
 #[tactic(auto, unfolding(crate::specs::ForProofs::Reader::rename_turn))]
 fn rename(alloc: Global, tokens: &mut Cursor<'_>, left: Tree) -> Result<Tree, ReadError>
     ensures { Gives (spec.rename_turn left tokens.old) result tokens.new }
@@ -39,6 +41,7 @@ fn rename(alloc: Global, tokens: &mut Cursor<'_>, left: Tree) -> Result<Tree, Re
     Ok(Boxed::new(alloc, Expr::Rename(left, renamings))?)
 }
 
+// What follows GROUP or WRAP behind a relation: `{a, b} AS c`, in round brackets or without.
 #[tactic(auto, unfolding(crate::specs::ForProofs::Reader::nest_turn))]
 fn nest(
     alloc: Global,
@@ -56,6 +59,7 @@ fn nest(
     Ok(Boxed::new(alloc, Expr::Nest(nesting, left, inside, name))?)
 }
 
+// What follows UNGROUP or UNWRAP behind a relation: the name of an attribute, in round brackets or without.
 #[tactic(auto, unfolding(crate::specs::ForProofs::Reader::unnest_turn))]
 fn unnest(
     alloc: Global,
@@ -115,6 +119,7 @@ fn operators<O: Fn(&mut Cursor<'_>) -> Result<Tree, ReadError> + Drop>(
 }
 
 impl<F: Fn(Global, &mut Cursor<'_>, usize, usize, Form) -> Result<Tree, ReadError>> Grammar<F> {
+    /// A primary expression, and any projections behind it: `r {a, b} {a}`. It takes at most `levels` of them.
     pub fn projection(&self, tokens: &mut Cursor<'_>) -> Result<Tree, ReadError>
         requires { Nests self.now.depth (F.pre self.now.nested) (F.post self.now.nested) }
         ensures { Gives (spec.projection_at (reads self.now.depth) self.now.levels tokens.old) result tokens.new }
@@ -124,6 +129,7 @@ impl<F: Fn(Global, &mut Cursor<'_>, usize, usize, Form) -> Result<Tree, ReadErro
         climb(tokens, PROJECTION, self.levels, first, turn)
     }
 
+    // The operand of a prefix operator that is taken already, which may itself begin with one: `-x`.
     #[tactic(auto, unfolding(crate::specs::ForProofs::Reader::prefix))]
     fn prefix(&self, tokens: &mut Cursor<'_>, operator: UnaryOperator) -> Result<Tree, ReadError>
         requires { Nests self.now.depth (F.pre self.now.nested) (F.post self.now.nested) }
@@ -133,6 +139,7 @@ impl<F: Fn(Global, &mut Cursor<'_>, usize, usize, Form) -> Result<Tree, ReadErro
         Ok(self.tree(Expr::Unary(operator, operand))?)
     }
 
+    // An attribute of a tuple: `a FROM t`, where the tuple may itself begin with a prefix.
     #[tactic(auto, unfolding(crate::specs::ForProofs::Reader::attribute_from))]
     fn attribute_from(&self, tokens: &mut Cursor<'_>) -> Result<Tree, ReadError>
         requires { Nests self.now.depth (F.pre self.now.nested) (F.post self.now.nested) }
@@ -144,6 +151,7 @@ impl<F: Fn(Global, &mut Cursor<'_>, usize, usize, Form) -> Result<Tree, ReadErro
         Ok(self.tree(Expr::From(name, tuple))?)
     }
 
+    /// `-x`, `TCLOSE r`, `TUPLE FROM r`, `a FROM t`, or a projection where none of them begins.
     #[tactic(auto, unfolding(crate::specs::ForProofs::Reader::prefixed_at))]
     pub fn prefixed(&self, tokens: &mut Cursor<'_>) -> Result<Tree, ReadError>
         requires { Nests self.now.depth (F.pre self.now.nested) (F.post self.now.nested) }
@@ -168,6 +176,7 @@ impl<F: Fn(Global, &mut Cursor<'_>, usize, usize, Form) -> Result<Tree, ReadErro
         self.projection(tokens)
     }
 
+    /// Operands with `*` and `/` between, from the left: `x * y / z`.
     pub fn multiplicative(&self, tokens: &mut Cursor<'_>) -> Result<Tree, ReadError>
         requires { Nests self.now.depth (F.pre self.now.nested) (F.post self.now.nested) }
         ensures { Gives (spec.multiplicative_at (reads self.now.depth) self.now.levels tokens.old) result tokens.new }
@@ -176,6 +185,7 @@ impl<F: Fn(Global, &mut Cursor<'_>, usize, usize, Form) -> Result<Tree, ReadErro
         operators(self.alloc, tokens, MULTIPLICATIVE, self.levels, operand)
     }
 
+    /// Operands with `+`, `-` and `||` between, from the left: `x * y + z`.
     pub fn additive(&self, tokens: &mut Cursor<'_>) -> Result<Tree, ReadError>
         requires { Nests self.now.depth (F.pre self.now.nested) (F.post self.now.nested) }
         ensures { Gives (spec.additive_at (reads self.now.depth) self.now.levels tokens.old) result tokens.new }
@@ -184,6 +194,7 @@ impl<F: Fn(Global, &mut Cursor<'_>, usize, usize, Form) -> Result<Tree, ReadErro
         operators(self.alloc, tokens, ADDITIVE, self.levels, operand)
     }
 
+    // The condition that follows WHERE behind a relation, as any expression.
     #[tactic(auto, unfolding(crate::specs::ForProofs::Reader::where_turn))]
     fn restrict(&self, tokens: &mut Cursor<'_>, left: Tree) -> Result<Tree, ReadError>
         requires { Nests self.now.depth (F.pre self.now.nested) (F.post self.now.nested) }
@@ -204,6 +215,8 @@ impl<F: Fn(Global, &mut Cursor<'_>, usize, usize, Form) -> Result<Tree, ReadErro
         Ok(self.tree(Expr::Binary(operator, left, right))?)
     }
 
+    // Goes on from a tree by the word that comes next, and takes it: WHERE, RENAME, GROUP, WRAP, UNGROUP, UNWRAP, or an
+    // infix operator such as JOIN.
     fn relational_word(
         &self,
         tokens: &mut Cursor<'_>,
@@ -242,6 +255,8 @@ impl<F: Fn(Global, &mut Cursor<'_>, usize, usize, Form) -> Result<Tree, ReadErro
         }
     }
 
+    // Goes on from a tree by one relational operator and what follows it: `WHERE c`, `JOIN s`. It is `Syntax` where no
+    // word comes next.
     #[tactic(auto, unfolding(crate::specs::ForProofs::Reader::relational_turn))]
     fn relational_turn(&self, tokens: &mut Cursor<'_>, left: Tree) -> Result<Tree, ReadError>
         requires { Nests self.now.depth (F.pre self.now.nested) (F.post self.now.nested) }
@@ -253,6 +268,7 @@ impl<F: Fn(Global, &mut Cursor<'_>, usize, usize, Form) -> Result<Tree, ReadErro
         }
     }
 
+    /// An additive expression, and any relational operators behind it, from the left: `r JOIN s WHERE c`.
     pub fn relational(&self, tokens: &mut Cursor<'_>) -> Result<Tree, ReadError>
         requires { Nests self.now.depth (F.pre self.now.nested) (F.post self.now.nested) }
         ensures { Gives (spec.relational_at (reads self.now.depth) self.now.levels tokens.old) result tokens.new }
@@ -262,6 +278,8 @@ impl<F: Fn(Global, &mut Cursor<'_>, usize, usize, Form) -> Result<Tree, ReadErro
         climb(tokens, RELATIONAL, self.levels, first, turn)
     }
 
+    /// A relational expression, or two with one operator between: `x < y`, `t IN r`. A second operator is left where it
+    /// stands.
     pub fn comparison(&self, tokens: &mut Cursor<'_>) -> Result<Tree, ReadError>
         requires { Nests self.now.depth (F.pre self.now.nested) (F.post self.now.nested) }
         ensures { Gives (spec.comparison_at (reads self.now.depth) self.now.levels tokens.old) result tokens.new }
@@ -270,6 +288,7 @@ impl<F: Fn(Global, &mut Cursor<'_>, usize, usize, Form) -> Result<Tree, ReadErro
         operators(self.alloc, tokens, COMPARISON, 1, operand)
     }
 
+    /// `NOT x`, or a comparison where NOT does not come next.
     #[tactic(auto, unfolding(crate::specs::ForProofs::Reader::not_at))]
     pub fn negation(&self, tokens: &mut Cursor<'_>) -> Result<Tree, ReadError>
         requires { Nests self.now.depth (F.pre self.now.nested) (F.post self.now.nested) }
@@ -283,6 +302,7 @@ impl<F: Fn(Global, &mut Cursor<'_>, usize, usize, Form) -> Result<Tree, ReadErro
         self.comparison(tokens)
     }
 
+    /// Negations with AND between, from the left: `x AND NOT y`.
     pub fn conjunction(&self, tokens: &mut Cursor<'_>) -> Result<Tree, ReadError>
         requires { Nests self.now.depth (F.pre self.now.nested) (F.post self.now.nested) }
         ensures { Gives (spec.and_at (reads self.now.depth) self.now.levels tokens.old) result tokens.new }
@@ -291,6 +311,7 @@ impl<F: Fn(Global, &mut Cursor<'_>, usize, usize, Form) -> Result<Tree, ReadErro
         operators(self.alloc, tokens, CONJUNCTION, self.levels, operand)
     }
 
+    /// Conjunctions with OR and XOR between, from the left: `x OR y XOR z`.
     pub fn disjunction(&self, tokens: &mut Cursor<'_>) -> Result<Tree, ReadError>
         requires { Nests self.now.depth (F.pre self.now.nested) (F.post self.now.nested) }
         ensures { Gives (spec.or_at (reads self.now.depth) self.now.levels tokens.old) result tokens.new }
@@ -299,6 +320,7 @@ impl<F: Fn(Global, &mut Cursor<'_>, usize, usize, Form) -> Result<Tree, ReadErro
         operators(self.alloc, tokens, DISJUNCTION, self.levels, operand)
     }
 
+    // What follows WITH where names stand behind their expressions: `x AS a, .. : y`.
     #[tactic(auto, unfolding(crate::specs::ForProofs::Reader::with_after))]
     fn with_after(&self, tokens: &mut Cursor<'_>) -> Result<Tree, ReadError>
         requires { Nests self.now.depth (F.pre self.now.nested) (F.post self.now.nested) }
@@ -310,6 +332,7 @@ impl<F: Fn(Global, &mut Cursor<'_>, usize, usize, Form) -> Result<Tree, ReadErro
         Ok(self.tree(Expr::With(introduced, body))?)
     }
 
+    // What follows WITH where names stand before their expressions: `(a := x, ..) : y`.
     #[tactic(auto, unfolding(crate::specs::ForProofs::Reader::with_assigned))]
     fn with_assigned(&self, tokens: &mut Cursor<'_>) -> Result<Tree, ReadError>
         requires { Nests self.now.depth (F.pre self.now.nested) (F.post self.now.nested) }
@@ -322,6 +345,8 @@ impl<F: Fn(Global, &mut Cursor<'_>, usize, usize, Form) -> Result<Tree, ReadErro
         Ok(self.tree(Expr::With(introduced, body))?)
     }
 
+    // What follows WITH, in either of its spellings. A bracket with a name and `:=` behind it tells that names come
+    // first.
     #[tactic(auto, unfolding(crate::specs::ForProofs::Reader::with_at))]
     fn with(&self, tokens: &mut Cursor<'_>) -> Result<Tree, ReadError>
         requires { Nests self.now.depth (F.pre self.now.nested) (F.post self.now.nested) }
@@ -334,6 +359,8 @@ impl<F: Fn(Global, &mut Cursor<'_>, usize, usize, Form) -> Result<Tree, ReadErro
         }
     }
 
+    /// An expression of any form: WITH, or a disjunction. It is `Syntax` where the token behind the disjunction would
+    /// go on with it.
     #[tactic(auto, unfolding(crate::specs::ForProofs::Reader::expr_at, crate::specs::ForProofs::Reader::greedy))]
     pub fn expr(&self, tokens: &mut Cursor<'_>) -> Result<Tree, ReadError>
         requires { Nests self.now.depth (F.pre self.now.nested) (F.post self.now.nested) }

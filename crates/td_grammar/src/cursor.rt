@@ -39,6 +39,7 @@ impl<'a> Model for Cursor<'a> {
     ghost invariant = { λ t. (list_all fits (map lexeme_of t.rest.now) ≡ true) × (list_all fits (map lexeme_of t.skipped.now) ≡ true) };
 }
 
+/// Whether the two words are one keyword or symbol.
 #[tactic(auto, unfolding(crate::specs::ForProofs::Reader::same_word))]
 pub fn same_word(a: Word, b: Word) -> bool
     ensures { result ≡ spec.same_word a b }
@@ -46,6 +47,7 @@ pub fn same_word(a: Word, b: Word) -> bool
     a == b
 }
 
+// Whether the token is this keyword or symbol.
 fn is_word(word: Word, token: &Token<'_>) -> bool
     ensures { result ≡ spec.is_word word (lexeme_of token.now) }
 {
@@ -55,6 +57,7 @@ fn is_word(word: Word, token: &Token<'_>) -> bool
     }
 }
 
+// Whether a type may begin with the word.
 fn is_type_word(word: Word) -> bool
     ensures { result ≡ spec.is_type_word word }
 {
@@ -139,12 +142,14 @@ impl<'a> Cursor<'a> {
         }
     }
 
+    /// How many tokens are left.
     pub fn len(&self) -> usize
         ensures { result ≡ length self.now }
     {
         self.rest.len()
     }
 
+    /// Whether no token is left.
     pub fn is_empty(&self) -> bool
         ensures { result ≡ spec.is_over self.now }
     {
@@ -194,6 +199,7 @@ impl<'a> Cursor<'a> {
         }
     }
 
+    /// Passes over the next token, to which `refuse` goes back. It does nothing at the end.
     pub fn skip(&mut self)
         ensures { self.new ≡ spec.tail self.old }
     {

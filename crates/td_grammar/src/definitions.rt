@@ -18,6 +18,7 @@ use td_syntax::tree::Attributes;
 use td_tokens::token::Word;
 use td_values::Name;
 
+// Takes a name if one comes next, and else nothing.
 #[tactic(auto, unfolding(crate::specs::ForProofs::StatementReader::maybe_name))]
 fn maybe_name(alloc: Global, tokens: &mut Cursor<'_>) -> Result<Option<Name>, ReadError>
     ensures { Gives (spec.maybe_name tokens.old) result tokens.new }
@@ -28,6 +29,7 @@ fn maybe_name(alloc: Global, tokens: &mut Cursor<'_>) -> Result<Option<Name>, Re
     Ok(None)
 }
 
+// The keys of a relvar, one or more: `KEY {a} KEY {b, c}`.
 fn keys(alloc: Global, tokens: &mut Cursor<'_>) -> Result<Items<Attributes>, ReadError>
     ensures { Gives (spec.keys_at tokens.old) result tokens.new }
 {
@@ -72,6 +74,7 @@ impl<F: Fn(Global, &mut Cursor<'_>, usize, usize, Form) -> Result<Tree, ReadErro
         Ok(inside)
     }
 
+    // What a base relvar holds at first: `RELATION {a INTEGER}`, `INIT (x)`, or the two in this order.
     #[tactic(auto, unfolding(crate::specs::ForProofs::StatementReader::opening_at))]
     fn opening(&self, tokens: &mut Cursor<'_>) -> Result<Opening, ReadError>
         requires { Nests self.now.depth (F.pre self.now.nested) (F.post self.now.nested) }
@@ -88,6 +91,7 @@ impl<F: Fn(Global, &mut Cursor<'_>, usize, usize, Form) -> Result<Tree, ReadErro
         Ok(Opening::Init(None, self.bracketed(tokens)?))
     }
 
+    // What follows BASE or REAL: what the relvar of this name holds at first, its keys, and a semicolon.
     #[tactic(auto, unfolding(crate::specs::ForProofs::StatementReader::base_definition))]
     fn base_definition(&self, tokens: &mut Cursor<'_>, name: Name) -> Result<Definition, ReadError>
         requires { Nests self.now.depth (F.pre self.now.nested) (F.post self.now.nested) }
@@ -99,6 +103,7 @@ impl<F: Fn(Global, &mut Cursor<'_>, usize, usize, Form) -> Result<Tree, ReadErro
         Ok(Definition::Base(name, opening, keys))
     }
 
+    // What follows VIRTUAL: the expression whose value the relvar of this name has, `(x);`.
     #[tactic(auto, unfolding(crate::specs::ForProofs::StatementReader::virtual_definition))]
     fn virtual_definition(
         &self,
@@ -144,6 +149,7 @@ impl<F: Fn(Global, &mut Cursor<'_>, usize, usize, Form) -> Result<Tree, ReadErro
         Ok(Definition::Constraint(name, condition))
     }
 
+    // One definition of a script, which begins with TYPE, VAR or CONSTRAINT, with the semicolon that ends it.
     #[tactic(auto, unfolding(crate::specs::ForProofs::StatementReader::definition_at))]
     fn definition(&self, tokens: &mut Cursor<'_>) -> Result<Definition, ReadError>
         requires { Nests self.now.depth (F.pre self.now.nested) (F.post self.now.nested) }

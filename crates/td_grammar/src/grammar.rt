@@ -31,6 +31,8 @@ pub struct Grammar<F> {
 }
 
 impl<F: Fn(Global, &mut Cursor<'_>, usize, usize, Form) -> Result<Tree, ReadError>> Grammar<F> {
+    /// An expression of this form one level down, with a tree of at most so many levels, by the reader that `nested`
+    /// is.
     pub fn nested(
         &self,
         tokens: &mut Cursor<'_>,
@@ -58,6 +60,8 @@ impl<F: Fn(Global, &mut Cursor<'_>, usize, usize, Form) -> Result<Tree, ReadErro
         Boxed::new(self.alloc, form)
     }
 
+    /// An expression of this form, by the method that reads it. Whether its tree has too many levels is left to
+    /// `limited`.
     pub fn form(&self, tokens: &mut Cursor<'_>, form: Form) -> Result<Tree, ReadError>
         requires { Nests self.now.depth (F.pre self.now.nested) (F.post self.now.nested) }
         ensures { Gives (spec.form_at (reads self.now.depth) self.now.levels form tokens.old) result tokens.new }

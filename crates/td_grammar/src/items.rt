@@ -16,6 +16,7 @@ use td_syntax::tree::{Aggregate, Named, SummaryTerm};
 use td_tokens::token::{TokenKind, Word};
 
 impl<F: Fn(Global, &mut Cursor<'_>, usize, usize, Form) -> Result<Tree, ReadError>> Grammar<F> {
+    /// One or more expressions with commas between, and the word that closes them: `x, y}`.
     pub fn exprs_listed(&self, tokens: &mut Cursor<'_>, end: Word) -> Result<Items<Tree>, ReadError>
         requires { Nests self.now.depth (F.pre self.now.nested) (F.post self.now.nested) }
         ensures { Gives (spec.listed end (spec.inner (reads self.now.depth) self.now.levels) tokens.old) result tokens.new }
@@ -24,6 +25,7 @@ impl<F: Fn(Global, &mut Cursor<'_>, usize, usize, Form) -> Result<Tree, ReadErro
         listed(self.alloc, tokens, end, item)
     }
 
+    /// Any number of expressions with commas between, and the word that closes them: `x, y)`, or `)` alone.
     #[tactic(auto, unfolding(crate::specs::ForProofs::Reader::up_to))]
     pub fn exprs_up_to(&self, tokens: &mut Cursor<'_>, end: Word) -> Result<Items<Tree>, ReadError>
         requires { Nests self.now.depth (F.pre self.now.nested) (F.post self.now.nested) }
@@ -62,6 +64,7 @@ impl<F: Fn(Global, &mut Cursor<'_>, usize, usize, Form) -> Result<Tree, ReadErro
         }
     }
 
+    /// One or more expressions with names, with commas between: `x AS a, y AS b`.
     pub fn named_list(
         &self,
         tokens: &mut Cursor<'_>,
@@ -74,6 +77,7 @@ impl<F: Fn(Global, &mut Cursor<'_>, usize, usize, Form) -> Result<Tree, ReadErro
         list(self.alloc, tokens, item)
     }
 
+    /// One or more expressions with names, with commas between, and the word that closes them: `x AS a, y AS b)`.
     #[tactic(auto, unfolding(crate::specs::ForProofs::Reader::listed))]
     pub fn named_listed(
         &self,
@@ -89,6 +93,8 @@ impl<F: Fn(Global, &mut Cursor<'_>, usize, usize, Form) -> Result<Tree, ReadErro
         Ok(found)
     }
 
+    /// Any number of expressions with names, with commas between, and the word that closes them: `a x, b y}`, or `}`
+    /// alone.
     #[tactic(auto, unfolding(crate::specs::ForProofs::Reader::up_to))]
     pub fn named_up_to(
         &self,
@@ -105,6 +111,7 @@ impl<F: Fn(Global, &mut Cursor<'_>, usize, usize, Form) -> Result<Tree, ReadErro
         self.named_listed(tokens, end, naming)
     }
 
+    /// What follows COUNT in a summary: `()`, or nothing.
     #[tactic(auto, unfolding(crate::specs::ForProofs::Reader::counted))]
     pub fn counted(&self, tokens: &mut Cursor<'_>) -> Result<SummaryTerm<Tree>, ReadError>
         requires { Nests self.now.depth (F.pre self.now.nested) (F.post self.now.nested) }
@@ -115,6 +122,7 @@ impl<F: Fn(Global, &mut Cursor<'_>, usize, usize, Form) -> Result<Tree, ReadErro
         Ok(SummaryTerm::Count)
     }
 
+    /// What follows the word of an aggregate in a summary: its term in round brackets, `(x)`.
     #[tactic(auto, unfolding(crate::specs::ForProofs::Reader::summed))]
     pub fn summed(
         &self,
@@ -130,6 +138,8 @@ impl<F: Fn(Global, &mut Cursor<'_>, usize, usize, Form) -> Result<Tree, ReadErro
         Ok(SummaryTerm::Of(aggregate, term))
     }
 
+    /// A summary that begins with this word, which is taken already. A word with which none begins is refused, and
+    /// comes next again.
     pub fn summary_word(
         &self,
         tokens: &mut Cursor<'_>,
@@ -147,6 +157,7 @@ impl<F: Fn(Global, &mut Cursor<'_>, usize, usize, Form) -> Result<Tree, ReadErro
         }
     }
 
+    /// A summary without its name: `COUNT`, `COUNT()`, `SUM(x)`.
     #[tactic(auto, unfolding(crate::specs::ForProofs::Reader::summary_at))]
     pub fn summary(&self, tokens: &mut Cursor<'_>) -> Result<SummaryTerm<Tree>, ReadError>
         requires { Nests self.now.depth (F.pre self.now.nested) (F.post self.now.nested) }
@@ -188,6 +199,8 @@ impl<F: Fn(Global, &mut Cursor<'_>, usize, usize, Form) -> Result<Tree, ReadErro
         }
     }
 
+    /// One or more summaries with names, with commas between, and the word that closes them:
+    /// `SUM(x) AS a, COUNT AS b)`.
     pub fn summary_listed(
         &self,
         tokens: &mut Cursor<'_>,
@@ -201,6 +214,7 @@ impl<F: Fn(Global, &mut Cursor<'_>, usize, usize, Form) -> Result<Tree, ReadErro
         listed(self.alloc, tokens, end, item)
     }
 
+    /// The summaries of SUMMARIZE: `ADD (SUM(x) AS a, ..)` or `: {a := SUM(x), ..}`.
     #[tactic(auto, unfolding(crate::specs::ForProofs::Reader::summaries))]
     pub fn summaries(
         &self,

@@ -87,6 +87,7 @@ pub fn attributes(alloc: Global, tokens: &mut Cursor<'_>) -> Result<Attributes, 
     Ok(Attributes::Only(names(alloc, tokens)?))
 }
 
+// An attribute and its new name: `a AS b`.
 #[tactic(auto, unfolding(crate::specs::ForProofs::Reader::renaming_at))]
 fn renaming(alloc: Global, tokens: &mut Cursor<'_>) -> Result<Renaming, ReadError>
     ensures { Gives (spec.renaming_at tokens.old) result tokens.new }

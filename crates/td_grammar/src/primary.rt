@@ -15,6 +15,8 @@ use td_syntax::tree::{Aggregate, Expr, Extension, Groups, UnaryOperator};
 use td_tokens::token::{TokenKind, Word};
 
 impl<F: Fn(Global, &mut Cursor<'_>, usize, usize, Form) -> Result<Tree, ReadError>> Grammar<F> {
+    /// What follows a round bracket that is taken already: `x)`. The tree may have one level more than another nested
+    /// one, since brackets add none.
     #[tactic(auto, unfolding(crate::specs::ForProofs::Reader::brackets))]
     pub fn brackets(&self, tokens: &mut Cursor<'_>) -> Result<Tree, ReadError>
         requires { Nests self.now.depth (F.pre self.now.nested) (F.post self.now.nested) }
@@ -25,6 +27,8 @@ impl<F: Fn(Global, &mut Cursor<'_>, usize, usize, Form) -> Result<Tree, ReadErro
         Ok(inside)
     }
 
+    /// A name with arguments, `P(x, y)` or `P()`, or a name alone. A bracket with a name and `:=` behind it holds the
+    /// new values of an UPDATE, and no arguments.
     #[tactic(auto, unfolding(crate::specs::ForProofs::Reader::call))]
     pub fn call(&self, tokens: &mut Cursor<'_>) -> Result<Tree, ReadError>
         requires { Nests self.now.depth (F.pre self.now.nested) (F.post self.now.nested) }
@@ -39,6 +43,7 @@ impl<F: Fn(Global, &mut Cursor<'_>, usize, usize, Form) -> Result<Tree, ReadErro
         Ok(self.tree(Expr::Name(name))?)
     }
 
+    /// What follows TUPLE: attributes with their values, `{a x, b y}` or `{}`.
     #[tactic(auto, unfolding(crate::specs::ForProofs::Reader::tuple))]
     pub fn tuple(&self, tokens: &mut Cursor<'_>) -> Result<Tree, ReadError>
         requires { Nests self.now.depth (F.pre self.now.nested) (F.post self.now.nested) }
@@ -49,6 +54,7 @@ impl<F: Fn(Global, &mut Cursor<'_>, usize, usize, Form) -> Result<Tree, ReadErro
         Ok(self.tree(Expr::Tuple(items))?)
     }
 
+    /// What follows RELATION where a heading is written: `{a INTEGER} {t, ..}`, of which either list may be empty.
     #[tactic(auto, unfolding(crate::specs::ForProofs::Reader::headed))]
     pub fn headed(&self, tokens: &mut Cursor<'_>) -> Result<Tree, ReadError>
         requires { Nests self.now.depth (F.pre self.now.nested) (F.post self.now.nested) }
@@ -60,6 +66,7 @@ impl<F: Fn(Global, &mut Cursor<'_>, usize, usize, Form) -> Result<Tree, ReadErro
         Ok(self.tree(Expr::Relation(Some(heading), tuples))?)
     }
 
+    /// What follows RELATION where no heading is written: one or more tuples, `{t, ..}`.
     #[tactic(auto, unfolding(crate::specs::ForProofs::Reader::unheaded))]
     pub fn unheaded(&self, tokens: &mut Cursor<'_>) -> Result<Tree, ReadError>
         requires { Nests self.now.depth (F.pre self.now.nested) (F.post self.now.nested) }
@@ -70,6 +77,7 @@ impl<F: Fn(Global, &mut Cursor<'_>, usize, usize, Form) -> Result<Tree, ReadErro
         Ok(self.tree(Expr::Relation(None, tuples))?)
     }
 
+    /// What follows RELATION in an expression: its tuples, behind a heading or without one.
     #[tactic(auto, unfolding(crate::specs::ForProofs::Reader::relation))]
     pub fn relation(&self, tokens: &mut Cursor<'_>) -> Result<Tree, ReadError>
         requires { Nests self.now.depth (F.pre self.now.nested) (F.post self.now.nested) }
@@ -98,6 +106,8 @@ impl<F: Fn(Global, &mut Cursor<'_>, usize, usize, Form) -> Result<Tree, ReadErro
         Ok(self.tree(Expr::Unary(operator, operand))?)
     }
 
+    /// What follows the word of an aggregate in an expression: `(r, x)` or `(r)`, a relation and the term if it is
+    /// written.
     #[tactic(auto, unfolding(crate::specs::ForProofs::Reader::aggregated))]
     pub fn aggregated(
         &self,
@@ -118,6 +128,7 @@ impl<F: Fn(Global, &mut Cursor<'_>, usize, usize, Form) -> Result<Tree, ReadErro
         Ok(self.tree(Expr::Aggregate(aggregate, relation, None))?)
     }
 
+    /// What follows IF in an expression: `c THEN x ELSE y END IF`.
     #[tactic(auto, unfolding(crate::specs::ForProofs::Reader::choice))]
     pub fn choice(&self, tokens: &mut Cursor<'_>) -> Result<Tree, ReadError>
         requires { Nests self.now.depth (F.pre self.now.nested) (F.post self.now.nested) }
@@ -133,6 +144,7 @@ impl<F: Fn(Global, &mut Cursor<'_>, usize, usize, Form) -> Result<Tree, ReadErro
         Ok(self.tree(Expr::If(test, yes, no))?)
     }
 
+    /// What follows EXTEND: a relation and its new attributes, `r ADD (x AS a, ..)` or `r : {a := x, ..}`.
     #[tactic(auto, unfolding(crate::specs::ForProofs::Reader::extend))]
     pub fn extend(&self, tokens: &mut Cursor<'_>) -> Result<Tree, ReadError>
         requires { Nests self.now.depth (F.pre self.now.nested) (F.post self.now.nested) }
@@ -150,6 +162,7 @@ impl<F: Fn(Global, &mut Cursor<'_>, usize, usize, Form) -> Result<Tree, ReadErro
         Ok(self.tree(Expr::Extend(Extension::Assign, relation, assigned))?)
     }
 
+    /// The groups of SUMMARIZE: `PER r`, `BY {a, b}`, or the whole where neither word comes next.
     #[tactic(auto, unfolding(crate::specs::ForProofs::Reader::groups_at))]
     pub fn groups(&self, tokens: &mut Cursor<'_>) -> Result<Groups<Tree>, ReadError>
         requires { Nests self.now.depth (F.pre self.now.nested) (F.post self.now.nested) }
@@ -164,6 +177,7 @@ impl<F: Fn(Global, &mut Cursor<'_>, usize, usize, Form) -> Result<Tree, ReadErro
         Ok(Groups::Whole)
     }
 
+    /// What follows SUMMARIZE: a relation, its groups and its summaries, `r BY {a} ADD (SUM(x) AS b)`.
     #[tactic(auto, unfolding(crate::specs::ForProofs::Reader::summarize))]
     pub fn summarize(&self, tokens: &mut Cursor<'_>) -> Result<Tree, ReadError>
         requires { Nests self.now.depth (F.pre self.now.nested) (F.post self.now.nested) }
@@ -175,6 +189,8 @@ impl<F: Fn(Global, &mut Cursor<'_>, usize, usize, Form) -> Result<Tree, ReadErro
         Ok(self.tree(Expr::Summarize(relation, groups, summaries))?)
     }
 
+    /// A primary expression that begins with this word, which is taken already. A word with which none begins is
+    /// refused, and comes next again.
     pub fn primary_word(&self, tokens: &mut Cursor<'_>, word: Word) -> Result<Tree, ReadError>
         requires { Nests self.now.depth (F.pre self.now.nested) (F.post self.now.nested) }
         ensures { Gives (spec.primary_word (reads self.now.depth) self.now.levels word tokens.old) result tokens.new }
@@ -199,6 +215,7 @@ impl<F: Fn(Global, &mut Cursor<'_>, usize, usize, Form) -> Result<Tree, ReadErro
         }
     }
 
+    /// A primary expression: a literal, a name with arguments or without, or one that a word or a bracket begins.
     #[tactic(auto, unfolding(crate::specs::ForProofs::Reader::primary_at))]
     pub fn primary(&self, tokens: &mut Cursor<'_>) -> Result<Tree, ReadError>
         requires { Nests self.now.depth (F.pre self.now.nested) (F.post self.now.nested) }

@@ -66,7 +66,7 @@ fn query(alloc: Global, text: &str) -> Result<Tree, ReadError>
     }
 }
 
-// The tree of a statement, likewise.
+// The tree of a statement, as the reader's definition has it.
 #[tactic(auto, unfolding(crate::specs::ForProofs::StatementReader::read_statement))]
 fn statement(alloc: Global, text: &str) -> Result<Statement, ReadError>
     ensures { Tells (statements.read_statement text.now) result }
@@ -90,7 +90,7 @@ fn statement(alloc: Global, text: &str) -> Result<Statement, ReadError>
     }
 }
 
-// The tree of a statement of a form that the dialect has, likewise.
+// The tree of a statement, as the reader's definition has it. It is `Syntax` where the dialect lacks its form.
 #[tactic(auto, unfolding(crate::specs::ForProofs::StatementReader::read_statement_in))]
 fn statement_in(alloc: Global, text: &str, dialect: u8) -> Result<Statement, ReadError>
     ensures { Tells (statements.read_statement_in dialect text.now) result }
@@ -103,7 +103,7 @@ fn statement_in(alloc: Global, text: &str, dialect: u8) -> Result<Statement, Rea
     }
 }
 
-// The trees of a script's definitions, likewise.
+// The trees of a script's definitions, as the reader's definition has them.
 #[tactic(auto, unfolding(crate::specs::ForProofs::StatementReader::read_script))]
 fn script(alloc: Global, text: &str) -> Result<Items<Definition>, ReadError>
     ensures { Tells (statements.read_script text.now) result }

@@ -44,6 +44,7 @@ impl<F: Fn(Global, &mut Cursor<'_>, usize, usize, Form) -> Result<Tree, ReadErro
         Ok(None)
     }
 
+    // An assignment of a relation to a relvar: `R := x`.
     #[tactic(auto, unfolding(crate::specs::ForProofs::StatementReader::assigned))]
     fn assigned(&self, tokens: &mut Cursor<'_>) -> Result<Action, ReadError>
         requires { Nests self.now.depth (F.pre self.now.nested) (F.post self.now.nested) }
@@ -54,6 +55,7 @@ impl<F: Fn(Global, &mut Cursor<'_>, usize, usize, Form) -> Result<Tree, ReadErro
         Ok(Action::Assign(target, self.inner(tokens)?))
     }
 
+    // What follows INSERT: a relvar, and the relation that goes into it, `R x`.
     #[tactic(auto, unfolding(crate::specs::ForProofs::StatementReader::inserted))]
     fn inserted(&self, tokens: &mut Cursor<'_>) -> Result<Action, ReadError>
         requires { Nests self.now.depth (F.pre self.now.nested) (F.post self.now.nested) }
@@ -63,6 +65,7 @@ impl<F: Fn(Global, &mut Cursor<'_>, usize, usize, Form) -> Result<Tree, ReadErro
         Ok(Action::Insert(target, self.inner(tokens)?))
     }
 
+    // What follows DELETE: a relvar, and a condition if it is written, `R WHERE c`.
     #[tactic(auto, unfolding(crate::specs::ForProofs::StatementReader::deleted))]
     fn deleted(&self, tokens: &mut Cursor<'_>) -> Result<Action, ReadError>
         requires { Nests self.now.depth (F.pre self.now.nested) (F.post self.now.nested) }
@@ -72,6 +75,8 @@ impl<F: Fn(Global, &mut Cursor<'_>, usize, usize, Form) -> Result<Tree, ReadErro
         Ok(Action::Delete(target, self.behind(tokens, Word::Where)?))
     }
 
+    // What follows UPDATE: a relvar, a condition if it is written, and attributes with new values:
+    // `R WHERE c (a := x)`.
     #[tactic(auto, unfolding(crate::specs::ForProofs::StatementReader::updated))]
     fn updated(&self, tokens: &mut Cursor<'_>) -> Result<Action, ReadError>
         requires { Nests self.now.depth (F.pre self.now.nested) (F.post self.now.nested) }
@@ -82,6 +87,8 @@ impl<F: Fn(Global, &mut Cursor<'_>, usize, usize, Form) -> Result<Tree, ReadErro
         Ok(Action::Update(target, condition, self.sets(tokens)?))
     }
 
+    // One of the assignments of a statement: INSERT, DELETE, UPDATE, or `R := x`. The comma or semicolon behind it is
+    // not taken.
     #[tactic(auto, unfolding(crate::specs::ForProofs::StatementReader::action_at))]
     fn action(&self, tokens: &mut Cursor<'_>) -> Result<Action, ReadError>
         requires { Nests self.now.depth (F.pre self.now.nested) (F.post self.now.nested) }
@@ -112,7 +119,7 @@ impl<F: Fn(Global, &mut Cursor<'_>, usize, usize, Form) -> Result<Tree, ReadErro
         listed(self.alloc, tokens, Word::Semicolon, action)
     }
 
-    // Those behind ELSE, if it comes next, or none.
+    // The actions behind ELSE, if it comes next, and else none.
     #[tactic(auto, unfolding(crate::specs::ForProofs::StatementReader::otherwise))]
     fn otherwise(&self, tokens: &mut Cursor<'_>) -> Result<Items<Action>, ReadError>
         requires { Nests self.now.depth (F.pre self.now.nested) (F.post self.now.nested) }
@@ -124,6 +131,7 @@ impl<F: Fn(Global, &mut Cursor<'_>, usize, usize, Form) -> Result<Tree, ReadErro
         Ok(Items::new(self.alloc))
     }
 
+    // What follows IF in a statement: `c THEN .. ELSE .. END IF;`, whose ELSE may be missing.
     #[tactic(auto, unfolding(crate::specs::ForProofs::StatementReader::conditional))]
     fn conditional(&self, tokens: &mut Cursor<'_>) -> Result<Statement, ReadError>
         requires { Nests self.now.depth (F.pre self.now.nested) (F.post self.now.nested) }

@@ -23,6 +23,7 @@ pub struct Types<F> {
 }
 
 impl<F: Fn(Global, &mut Cursor<'_>, usize) -> Result<TypeExpr, ReadError>> Types<F> {
+    // A type one level down, by the reader that `nested` is.
     fn nested(&self, tokens: &mut Cursor<'_>) -> Result<TypeExpr, ReadError>
         requires { NestsTypes self.now.depth (F.pre self.now.nested) (F.post self.now.nested) }
         ensures { Gives (type_at self.now.depth tokens.old) result tokens.new }
@@ -30,6 +31,7 @@ impl<F: Fn(Global, &mut Cursor<'_>, usize) -> Result<TypeExpr, ReadError>> Types
         (self.nested)(self.alloc, tokens, self.depth)
     }
 
+    // An attribute or a component with its type: `a INTEGER`.
     #[tactic(auto, unfolding(crate::specs::ForProofs::Reader::field_of))]
     fn field(&self, tokens: &mut Cursor<'_>) -> Result<Named<TypeExpr>, ReadError>
         requires { NestsTypes self.now.depth (F.pre self.now.nested) (F.post self.now.nested) }
@@ -40,6 +42,7 @@ impl<F: Fn(Global, &mut Cursor<'_>, usize) -> Result<TypeExpr, ReadError>> Types
         Ok(Named { name, value })
     }
 
+    // One or more fields with commas between: `a INTEGER, b CHAR`.
     fn fields(&self, tokens: &mut Cursor<'_>) -> Result<Items<Named<TypeExpr>>, ReadError>
         requires { NestsTypes self.now.depth (F.pre self.now.nested) (F.post self.now.nested) }
         ensures { Gives (spec.list_at (spec.field_of (type_at self.now.depth)) tokens.old) result tokens.new }
@@ -48,6 +51,7 @@ impl<F: Fn(Global, &mut Cursor<'_>, usize) -> Result<TypeExpr, ReadError>> Types
         list(self.alloc, tokens, field)
     }
 
+    // A heading in braces, whose types lie one level down: `{a INTEGER, b CHAR}` or `{}`.
     #[tactic(auto, unfolding(crate::specs::ForProofs::Reader::heading_of))]
     fn heading(&self, tokens: &mut Cursor<'_>) -> Result<Items<Named<TypeExpr>>, ReadError>
         requires { NestsTypes self.now.depth (F.pre self.now.nested) (F.post self.now.nested) }
@@ -58,6 +62,8 @@ impl<F: Fn(Global, &mut Cursor<'_>, usize) -> Result<TypeExpr, ReadError>> Types
         up_to(self.alloc, tokens, Word::CloseBrace, field)
     }
 
+    // A type that begins with this word, which is taken already: behind TUPLE and RELATION comes a heading. A word with
+    // which none begins is refused, and comes next again.
     fn word(&self, tokens: &mut Cursor<'_>, word: Word) -> Result<TypeExpr, ReadError>
         requires { NestsTypes self.now.depth (F.pre self.now.nested) (F.post self.now.nested) }
         ensures { Gives (spec.type_word (type_at self.now.depth) word tokens.old) result tokens.new }
@@ -72,6 +78,7 @@ impl<F: Fn(Global, &mut Cursor<'_>, usize) -> Result<TypeExpr, ReadError>> Types
         }
     }
 
+    // A type: a word such as INTEGER, `TUPLE {..}`, `RELATION {..}`, or the name of a user-defined type.
     #[tactic(auto, unfolding(crate::specs::ForProofs::Reader::type_of))]
     fn type_expr(&self, tokens: &mut Cursor<'_>) -> Result<TypeExpr, ReadError>
         requires { NestsTypes self.now.depth (F.pre self.now.nested) (F.post self.now.nested) }
@@ -88,6 +95,7 @@ impl<F: Fn(Global, &mut Cursor<'_>, usize) -> Result<TypeExpr, ReadError>> Types
     }
 }
 
+/// A type in which types nest no deeper than `depth`. It is `Syntax` at depth 0.
 pub fn type_expr(
     alloc: Global,
     tokens: &mut Cursor<'_>,

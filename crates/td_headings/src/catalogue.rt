@@ -112,12 +112,14 @@ impl Catalogue {
         self.definitions.origins().get(place)
     }
 
+    /// The origins of the relvars, in the order of their definition.
     pub(crate) fn origins(&self) -> &[Origin]
         ensures { result.now ≡ self.now.origins }
     {
         self.definitions.origins()
     }
 
+    /// The constraints of the types, in the order of their definition; None for a type without one.
     pub(crate) fn limits(&self) -> &[Option<Shared<Typed>>]
         ensures { result.now ≡ self.now.limits }
     {

@@ -84,6 +84,7 @@ fn add_type(
     Ok(())
 }
 
+// The tests that the relvar of this place has each of its keys, in their order.
 fn key_tests(alloc: Global, place: usize, keys: &[Items<Name>]) -> Result<Vec<Test>, AllocError>
     ensures { IfOk result (λ v. v.items ≡ map (test.Key place) keys.now) }
 {
@@ -135,6 +136,8 @@ impl Definitions {
         self.tests.as_slice()
     }
 
+    // Adds a relvar with its heading, its origin and the tests of its keys; ill typed where there is a relvar of its
+    // name.
     fn put_relvar(
         &mut self,
         name: Name,
@@ -159,6 +162,7 @@ impl Definitions {
         Ok(())
     }
 
+    // Defines a base relvar, with a test for each of its keys.
     #[tactic(auto, unfolding(crate::specs::ForProofs::After::base_after))]
     fn define_base(
         &mut self,
@@ -177,6 +181,7 @@ impl Definitions {
         self.put_relvar(name, heading, Origin::Base(keys, init), tests)
     }
 
+    // Defines a virtual relvar, whose heading is that of its expression; it has no keys.
     #[tactic(auto, unfolding(crate::specs::ForProofs::After::virtual_after))]
     fn define_virtual(&mut self, alloc: Global, name: &Name, expr: &Expr) -> Result<(), TypeError>
         ensures { Changes self.old (after.virtual_after self.old name.now expr.now) result self.new }
@@ -186,6 +191,7 @@ impl Definitions {
         self.put_relvar(name, heading, Origin::Virtual(tree), Vec::new(alloc))
     }
 
+    // Defines a constraint, whose expression is a truth value over the relvars defined before.
     #[tactic(auto, unfolding(crate::specs::ForProofs::After::constraint_after))]
     fn define_constraint(
         &mut self,
@@ -200,6 +206,7 @@ impl Definitions {
         self.put_constraint(name, tree)
     }
 
+    // Adds the typed condition of a constraint to the tests, under its name.
     fn put_constraint(&mut self, name: Name, tree: Shared<Typed>) -> Result<(), TypeError>
         ensures { Changes self.old (after.named_after self.old name tree) result self.new }
     {
@@ -210,6 +217,7 @@ impl Definitions {
         Ok(())
     }
 
+    // Defines a type: its components, its possrep, and the constraint on them if it has one.
     #[tactic(auto, unfolding(crate::specs::ForProofs::After::type_after))]
     fn define_type(
         &mut self,
@@ -231,6 +239,7 @@ impl Definitions {
         self.put_type(representation, limit)
     }
 
+    // Adds a type to the schema, and its constraint to the limits.
     fn put_type(
         &mut self,
         representation: Representation,

@@ -42,6 +42,7 @@ fn value_of(alloc: Global, typing: Typing) -> Result<(Shared<Typed>, Heading), T
     Ok((Shared::new(alloc, typing.tree.into_inner())?, heading))
 }
 
+// The constraint of a type, as a condition; it sees the components alone, and no relvars.
 #[tactic(auto, unfolding(crate::specs::ForProofs::After::limit_after))]
 fn limit(
     alloc: Global,

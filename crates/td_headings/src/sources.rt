@@ -93,6 +93,7 @@ fn type_changed(
     extended(alloc, Extension::Assign, &names, tree, heading, found)
 }
 
+// INSERT as an expression: the union of the target and the tuples.
 #[tactic(auto, unfolding(crate::specs::ForProofs::Sources::inserted))]
 fn type_insertion(
     alloc: Global,
@@ -108,6 +109,7 @@ fn type_insertion(
     by_binary(alloc, BinaryOperator::Union, relvar, tuples)
 }
 
+// UPDATE without WHERE as an expression: every tuple of the target changed.
 #[tactic(auto, unfolding(crate::specs::ForProofs::Sources::all_updated))]
 fn type_update_of_all(
     alloc: Global,
@@ -122,6 +124,7 @@ fn type_update_of_all(
     type_changed(alloc, schema, &scope, relvar, values)
 }
 
+// UPDATE WHERE as an expression: the tuples that the condition leaves, and those that it selects, changed.
 #[tactic(auto, unfolding(crate::specs::ForProofs::Sources::updated))]
 fn type_update(
     alloc: Global,
@@ -138,6 +141,7 @@ fn type_update(
     by_binary(alloc, BinaryOperator::Union, others, changed)
 }
 
+// The source of an assignment of any form, as one typed expression over the relvars.
 fn found(alloc: Global, schema: &Schema, action: &Action) -> Result<Typing, TypeError>
     ensures { Gives (spec.found schema.now action.now) result }
 {

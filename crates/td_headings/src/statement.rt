@@ -47,6 +47,7 @@ pub enum TypedStatement {
     Conditional(TypedExpr, Items<TypedAssignment>, Items<TypedAssignment>),
 }
 
+// The name of the relvar that the assignment changes.
 fn target_of(action: &Action) -> &Name
     ensures { result.now ≡ spec.target_of action.now }
 {
@@ -76,6 +77,7 @@ fn base_relvar<'a>(
     }
 }
 
+// Whether a kind is that of the relations of this heading.
 fn is_relation_of(kind: &TypeKind, heading: &Heading) -> bool
     ensures { result ≡ kinds.same_kind (type_kind.Relation heading.now) kind.now }
 {
@@ -106,6 +108,7 @@ fn target_and_source(
     Ok((place, typing))
 }
 
+// Types one assignment: its target must be a base relvar, and its source a relation of the target's heading.
 fn type_assignment(
     alloc: Global,
     catalogue: &Catalogue,
@@ -130,6 +133,7 @@ fn type_assignment(
     Ok(TypedAssignment { target, source })
 }
 
+// Types the assignments in order, each by itself; gives the error of the first that has no type.
 fn type_assignments(
     alloc: Global,
     catalogue: &Catalogue,
@@ -161,6 +165,7 @@ fn type_condition(alloc: Global, catalogue: &Catalogue, expr: &Expr) -> Result<T
     Ok(expression)
 }
 
+// Types a statement that is a list of assignments.
 fn type_unconditional(
     alloc: Global,
     catalogue: &Catalogue,
@@ -175,6 +180,7 @@ fn type_unconditional(
     }
 }
 
+// Types a conditional statement: its condition, and the assignments of both branches.
 fn type_conditional(
     alloc: Global,
     catalogue: &Catalogue,

@@ -112,6 +112,7 @@ impl TestList {
         &self.tests
     }
 
+    // Whether one of the tests is the constraint of this name.
     fn has_constraint(&self, name: &Name) -> bool
         ensures { result ≡ list_any (is_constraint name.now) self.now }
     {

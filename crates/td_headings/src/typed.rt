@@ -192,6 +192,7 @@ pub fn reads(alloc: Global, expr: &TypedExpr) -> Result<Vec<usize>, AllocError>
     places_of(alloc, expr.get().bases.as_slice())
 }
 
+// The places of these base relvars, in the same order.
 fn places_of(alloc: Global, bases: &[BaseUnder]) -> Result<Vec<usize>, AllocError>
     ensures { IfOk result (λ v. v.items ≡ spec.places_of bases.now) }
 {

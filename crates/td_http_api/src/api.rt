@@ -34,6 +34,7 @@ pub struct Api<D> {
     guard: Guard,
 }
 
+// A writer of JSON text within an object that is opened, for the members of an answer.
 fn begin_answer(alloc: Global) -> Result<Writer, AllocError>
     ensures { IfOk result IsBegun }
 {
@@ -42,6 +43,7 @@ fn begin_answer(alloc: Global) -> Result<Writer, AllocError>
     Ok(out)
 }
 
+// Closes the object of an answer, and makes it the response's body, with this status.
 fn end_answer(
     response: &mut Response,
     status: StatusCode,
@@ -55,6 +57,7 @@ fn end_answer(
     put_json(response, status, out)
 }
 
+// The fault of a body that is no strict JSON; None where memory is wanting to read it.
 fn parse_fault(error: Error) -> Option<Fault<'static>> {
     match error {
         Error::OutOfMemory => None,
@@ -82,6 +85,7 @@ impl<D: Desk> Api<D> {
         Api { desk, alloc, guard }
     }
 
+    // Answers with a fault, in words and with its status.
     fn refuse(&self, response: &mut Response, fault: &Fault<'_>) -> Result<(), AllocError>
         requires { IsBlank response.old }
         ensures { OnOk result (400 ≤ response.new.status) }
@@ -89,6 +93,7 @@ impl<D: Desk> Api<D> {
         put_fault(self.alloc, response, fault)
     }
 
+    // Answers an inquiry with what the desk tells.
     fn tell(&self, inquiry: &Inquiry<'_>, response: &mut Response) -> Result<(), AllocError>
         requires { IsBlank response.old }
         ensures ok { OnOk result (ComesTo (λ call. call ≡ call_of inquiry.now) D.answers
@@ -99,6 +104,7 @@ impl<D: Desk> Api<D> {
         end_answer(response, status, out)
     }
 
+    // Answers with a relvar's table as text; where the desk gives none, with its words as a fault.
     fn export(&self, relvar: &str, response: &mut Response) -> Result<(), AllocError>
         requires { IsBlank response.old }
         ensures ok { OnOk result (ComesTo (λ call. call ≡ table relvar.now) D.answers self.now.desk
@@ -113,6 +119,8 @@ impl<D: Desk> Api<D> {
         }
     }
 
+    // Answers a GET request: the table of a relvar, or an inquiry, read from the path and from what stands behind its
+    // `?`.
     fn get(
         &self,
         route: Route<'_>,
@@ -134,6 +142,7 @@ impl<D: Desk> Api<D> {
         }
     }
 
+    // Answers the query that a body asks; a body that holds none gives its fault.
     fn query(&self, body: &Value<'_>, response: &mut Response) -> Result<(), AllocError>
         requires { IsBlank response.old }
         ensures ok { OnOk result (ComesTo (Posts (codes "/api/query") (value_view body.now))
@@ -145,6 +154,7 @@ impl<D: Desk> Api<D> {
         }
     }
 
+    // Issues the statement of a body, under its key; a body that holds none gives its fault, and issues nothing.
     fn issue(&mut self, body: &Value<'_>, response: &mut Response) -> Result<(), AllocError>
         requires { IsBlank response.old }
         ensures guard { self.new.guard ≡ self.old.guard }
@@ -162,6 +172,7 @@ impl<D: Desk> Api<D> {
         end_answer(response, status, out)
     }
 
+    // Acknowledges the refused statement whose stamp the body tells; a body without a stamp gives its fault.
     fn acknowledge(&mut self, body: &Value<'_>, response: &mut Response) -> Result<(), AllocError>
         requires { IsBlank response.old }
         ensures guard { self.new.guard ≡ self.old.guard }
@@ -179,6 +190,7 @@ impl<D: Desk> Api<D> {
         end_answer(response, status, out)
     }
 
+    // Has the site call soon the peer whose address the body tells; a body without an address gives its fault.
     fn meet(&mut self, body: &Value<'_>, response: &mut Response) -> Result<(), AllocError>
         requires { IsBlank response.old }
         ensures guard { self.new.guard ≡ self.old.guard }
@@ -196,6 +208,7 @@ impl<D: Desk> Api<D> {
         end_answer(response, status, out)
     }
 
+    // Ends the program soon; a body with any member gives its fault.
     fn stop(&mut self, body: &Value<'_>, response: &mut Response) -> Result<(), AllocError>
         requires { IsBlank response.old }
         ensures guard { self.new.guard ≡ self.old.guard }
@@ -212,6 +225,7 @@ impl<D: Desk> Api<D> {
         end_answer(response, status, out)
     }
 
+    // Answers what a POST request asks with its parsed body; a route that takes no body gives a fault.
     fn call(
         &mut self,
         route: Route<'_>,
@@ -237,6 +251,7 @@ impl<D: Desk> Api<D> {
         }
     }
 
+    // Answers a POST request: its body is to be strict JSON, and is to be said to be so.
     fn post(
         &mut self,
         route: Route<'_>,
@@ -267,6 +282,7 @@ impl<D: Desk> Api<D> {
         }
     }
 
+    // Answers with the page of the workbench, which takes GET and HEAD alone.
     fn page(&self, method: &str, response: &mut Response) -> Result<(), AllocError>
         requires { IsBlank response.old }
     {
@@ -277,6 +293,7 @@ impl<D: Desk> Api<D> {
         }
     }
 
+    // Answers a request by the method that its route takes; any other method gives a fault that names this one.
     fn call_by(
         &mut self,
         method: &str,
@@ -303,6 +320,8 @@ impl<D: Desk> Api<D> {
         }
     }
 
+    // Answers a request, whose host is checked first. The page is shown to everyone, all else only to a caller that
+    // passes the guard.
     fn answer(
         &mut self,
         request: &Request<Bytes>,

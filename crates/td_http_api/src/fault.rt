@@ -39,6 +39,7 @@ pub(crate) enum Fault<'a> {
 }
 
 impl Fault<'_> {
+    /// The status that a response with this fault has; 400 where none is more telling.
     pub(crate) fn status(&self) -> StatusCode
         ensures { 400 ≤ result }
     {

@@ -30,6 +30,7 @@ fn only(values: &HeaderMap<HeaderValue>, name: HeaderName) -> Option<&[u8]>
     }
 }
 
+// Whether a request has no header of this name.
 fn is_absent(values: &HeaderMap<HeaderValue>, name: HeaderName) -> bool
     ensures { IsTrue result → get_all values.now name ≡ [] }
 {
@@ -61,6 +62,7 @@ impl Guard {
         Ok(Guard { hosts, bearer })
     }
 
+    // Whether a Host header names one of the hosts of the server, in letters of any case.
     fn is_host(&self, host: &[u8]) -> bool
         ensures { IsTrue result → IsHost self.now.hosts.items host.now }
     {
@@ -72,6 +74,7 @@ impl Guard {
         false
     }
 
+    // Whether an origin is `http://` with one of the hosts of the server behind.
     fn is_origin(&self, origin: &[u8]) -> bool
         ensures { IsTrue result
             → ((host : List ℕ) × (origin.now ≡ codes "http://" ++ host)
@@ -93,6 +96,7 @@ impl Guard {
         }
     }
 
+    // Lets a request in that has no Origin header, or a single one that names the server itself.
     fn check_origin(&self, request: &Request<Bytes>) -> Result<(), Fault<'static>>
         ensures { OnOk result (HasOrigin self.now.hosts.items request.now) }
     {
@@ -105,6 +109,7 @@ impl Guard {
         }
     }
 
+    // Lets a request in whose single Authorization header bears the token; the comparison is that of `is_same`.
     fn check_token(&self, request: &Request<Bytes>) -> Result<(), Fault<'static>>
         ensures { OnOk result (Bears (string_bytes self.now.bearer) request.now) }
     {

@@ -17,6 +17,7 @@ use http_server::Response;
 use json::Writer;
 use std::alloc::{AllocError, Global};
 
+// Adds a header to the response.
 fn put(response: &mut Response, name: HeaderName, value: HeaderValue) -> Result<(), AllocError>
     ensures status { response.new.status ≡ response.old.status }
     ensures body { response.new.body ≡ response.old.body }
@@ -24,6 +25,7 @@ fn put(response: &mut Response, name: HeaderName, value: HeaderValue) -> Result<
     response.add_header(name, value)
 }
 
+// Adds the headers that every response has: no guessing of the content's type, and no caching.
 fn put_common(response: &mut Response) -> Result<(), AllocError>
     ensures status { response.new.status ≡ response.old.status }
     ensures body { response.new.body ≡ response.old.body }
@@ -40,6 +42,7 @@ fn put_common(response: &mut Response) -> Result<(), AllocError>
     )
 }
 
+/// Puts the page, with its policies, into a response.
 pub(crate) fn put_page(response: &mut Response) -> Result<(), AllocError> {
     put(
         response,
@@ -60,6 +63,7 @@ pub(crate) fn put_page(response: &mut Response) -> Result<(), AllocError> {
     response.body.push(Bytes::from_static(PAGE.as_bytes()))
 }
 
+/// Puts JSON text and its status into a response.
 pub(crate) fn put_json(
     response: &mut Response,
     status: StatusCode,
@@ -80,6 +84,7 @@ pub(crate) fn put_json(
     Ok(())
 }
 
+/// Puts a table in CSV into a response, whose status remains.
 pub(crate) fn put_table(response: &mut Response, table: String) -> Result<(), AllocError>
     requires { IsBlank response.old }
     ensures { OnOk result (IsAnswer (record { status = 200; text = string_bytes table })
@@ -94,6 +99,7 @@ pub(crate) fn put_table(response: &mut Response, table: String) -> Result<(), Al
     response.body.push(Bytes::from_string(table)?)
 }
 
+/// Puts words into a response, as the member `fault` of an object, with this status.
 pub(crate) fn put_words(
     alloc: Global,
     response: &mut Response,

@@ -32,6 +32,7 @@ fn table_at(path: &str) -> Option<&str>
     path.strip_prefix("/api/relvars/")?.strip_suffix(".csv")
 }
 
+/// The route of a path; one that is none of the fixed paths may name a table. None where nothing stands there.
 pub(crate) fn route_at(path: &str) -> Option<Route<'_>>
     ensures { IfSome result (λ route. IsPathOf route path.now) }
 {

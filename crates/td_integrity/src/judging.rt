@@ -200,6 +200,7 @@ fn broken_test(catalogue: &Catalogue, test: &Test) -> Result<BrokenTest, AllocEr
     }
 }
 
+// The failure of a test, with the error that its condition raised, if it did.
 fn report(
     catalogue: &Catalogue,
     test: &Test,

@@ -66,12 +66,14 @@ pub(crate) enum Way<'a> {
     Whole,
 }
 
+// Whether the changes have one of the relvar.
 fn is_changed(changes: &[(usize, Delta)], relvar: usize) -> bool
     ensures { result ≡ spec.is_changed changes.now relvar }
 {
     changes.iter().any(|change| change.0 == relvar)
 }
 
+// Whether the changes have one of any of the relvars.
 fn is_any_changed(changes: &[(usize, Delta)], relvars: &[usize]) -> bool
     ensures { result ≡ list_any (spec.is_changed changes.now) relvars.now }
 {

@@ -15,6 +15,7 @@ use td_frames::put_entry;
 use td_io::{Failed, Sink, write_all};
 use td_stamps::Entry;
 
+// The header of a journal up to its script: its letters, the version, the site and the script's length.
 fn head_bytes(site: u16, length: u32) -> [u8; 11]
     ensures { result ≡ codes "JTDB" ++ 2 ∷ (to_be_bytes w16 site ++ to_be_bytes w32 length) }
 {
@@ -63,6 +64,7 @@ pub(crate) fn put_header<K: Sink>(sink: &mut K, site: u16, script: &str) -> Resu
     write_all(sink, script.as_bytes())
 }
 
+// Writes the frames of the entries, in their order.
 fn put_entries<K: Sink>(sink: &mut K, entries: &[Entry]) -> Result<(), Failed>
     requires { list_all in_range entries.now ≡ true }
     ensures bytes { Writes (K.held sink.old) (K.held sink.new) result (entry_frames Second entries.now) }

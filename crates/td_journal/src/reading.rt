@@ -31,6 +31,7 @@ fn still(same: bool, read: u8, byte: u8) -> bool
     same && read == byte
 }
 
+// Whether a field is whole; the error where its bytes are not those that it is to have.
 fn judged(same: bool, is_whole: bool, error: JournalError) -> Result<bool, Unread>
     ensures { result ≡ cond same (Ok is_whole) (Err (Refused error)) }
 {
@@ -59,6 +60,7 @@ fn read_field<S: Source>(source: &mut S, field: &[u8], error: JournalError) -> R
     judged(same, true, error)
 }
 
+// The version of the formats that a byte tells; any byte but 1 and 2 is refused.
 fn version_of(byte: u8) -> Result<Option<Version>, Unread>
     ensures { result ≡ version_of byte }
 {
@@ -124,6 +126,7 @@ fn told_by(version: Version, owner: Result<bool, Unread>) -> Result<Option<Versi
     }
 }
 
+// Reads the version of a journal, and that it is this site's and of this script; None where the input ends before that.
 fn read_owned<S: Source>(source: &mut S, site: u16, script: &str) -> Result<Option<Version>, Unread>
     requires { length script.now ≤ 65536 }
     ensures told { (bytes : List ℕ) × Consumes (S.left source.old) (S.left source.new) bytes

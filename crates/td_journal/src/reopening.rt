@@ -44,6 +44,7 @@ pub struct Reopened<R> {
     pub version: Version,
 }
 
+// Why a site does not come back, of a journal that was not read.
 fn unread(error: Unread) -> ReopenError
     ensures { result ≡ proofs.unread error }
 {
@@ -54,6 +55,7 @@ fn unread(error: Unread) -> ReopenError
     }
 }
 
+// Why a site does not come back, of entries that it did not take.
 fn untaken(error: TakeError) -> ReopenError
     ensures { result ≡ proofs.untaken error }
 {

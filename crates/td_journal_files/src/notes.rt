@@ -31,6 +31,7 @@ pub enum Refusal {
 }
 
 impl Refusal {
+    /// The refusal that an error of the file system comes to.
     pub(crate) fn of(kind: ErrorKind) -> Refusal {
         match kind {
             ErrorKind::NotFound | ErrorKind::NotADirectory => Refusal::NoFolder,
@@ -53,6 +54,7 @@ pub enum SyncFailure {
 }
 
 impl SyncFailure {
+    /// The failure that an error of a write or a flush comes to.
     pub(crate) fn of(kind: ErrorKind) -> SyncFailure {
         match kind {
             ErrorKind::StorageFull | ErrorKind::QuotaExceeded | ErrorKind::FileTooLarge => {
@@ -105,18 +107,22 @@ impl Notes {
         self.lets_go.set(true);
     }
 
+    /// Whether the journals are to go on from what they have.
     pub(crate) fn is_let_go(&self) -> bool {
         self.lets_go.get()
     }
 
+    /// Notes what was found of a journal.
     pub(crate) fn find(&self, found: Found) {
         self.found.set(Some(found));
     }
 
+    /// Notes why the file of a journal is refused.
     pub(crate) fn refuse(&self, refusal: Refusal) {
         self.refusal.set(Some(refusal));
     }
 
+    /// Notes why a journal failed.
     pub(crate) fn fail(&self, failure: SyncFailure) {
         self.failure.set(Some(failure));
     }

@@ -69,6 +69,7 @@ impl Seen {
         }
     }
 
+    // Writes a length over the one that stands there, in as many digits as any length has.
     fn write(&self, length: u64) -> io::Result<()> {
         let mut text = *b"00000000000000000000\n";
         let mut rest = length;

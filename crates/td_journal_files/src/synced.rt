@@ -43,6 +43,7 @@ impl<'a, R> Synced<'a, R> {
 }
 
 impl<R: Files> Synced<'_, R> {
+    // Hands what is written to the disk; fails also where another file stands under the journal's name by then.
     fn sync(&self) -> Result<(), SyncFailure> {
         if let Err(error) = self.file.sync_data() {
             return Err(SyncFailure::of(error.kind()));

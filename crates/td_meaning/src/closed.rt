@@ -53,6 +53,7 @@ impl Reach {
         is_dear: true,
     };
 
+    // The reach of two expressions together: the outermost place that either reaches, and dear where either is.
     fn and(self, other: Reach) -> Reach {
         Reach {
             outermost: self.outermost.min(other.outermost),
@@ -61,11 +62,13 @@ impl Reach {
     }
 }
 
+// Whether the name is one of these names of WITH.
 fn has_name(names: &[Named<Boxed<Typed>>], name: &Name) -> bool {
     names.iter().any(|named| named.name == *name)
 }
 
 impl Bound<'_> {
+    // The place of the innermost scope, and 0 where nothing is bound.
     fn place(&self) -> usize {
         match self {
             Bound::Nothing => 0,
@@ -97,6 +100,7 @@ impl Bound<'_> {
     }
 }
 
+// The heading of the expression's known value; None where no value is known, or it is no relation.
 fn heading_found<'a>(knowledge: &'a Knowledge<'_>, tree: &Typed) -> Option<&'a Heading> {
     match part_known(knowledge.env, knowledge.parts, tree) {
         Some(value) => heading_known(value),
@@ -126,6 +130,7 @@ fn within<'a>(knowledge: &'a Knowledge<'_>, r: &Typed, outer: &'a Bound<'a>) -> 
     }
 }
 
+// Surveys the expressions in written order and returns how far they reach together.
 #[cycle(survey)]
 fn of_list<'t>(
     knowledge: &Knowledge<'_>,
@@ -143,6 +148,7 @@ fn of_list<'t>(
     Ok(reach)
 }
 
+// Surveys the terms of the items in written order and returns how far they reach together.
 #[cycle(survey)]
 fn of_items<'t>(
     knowledge: &Knowledge<'_>,
@@ -160,6 +166,7 @@ fn of_items<'t>(
     Ok(reach)
 }
 
+// Surveys the term of the summary and returns its reach. COUNT has no term and reaches nothing.
 #[cycle(survey)]
 fn of_summary<'t>(
     knowledge: &Knowledge<'_>,
@@ -179,6 +186,7 @@ fn of_summary<'t>(
     }
 }
 
+// Surveys the terms of the summaries in written order and returns how far they reach together.
 #[cycle(survey)]
 fn of_summaries<'t>(
     knowledge: &Knowledge<'_>,
@@ -203,7 +211,8 @@ fn of_summaries<'t>(
     Ok(reach)
 }
 
-// Each expression sees the names before it.
+// Surveys the expressions of WITH in written order, each within the names before it, and returns how far they reach
+// together.
 #[cycle(survey)]
 fn of_names<'t>(
     knowledge: &Knowledge<'_>,
@@ -223,7 +232,7 @@ fn of_names<'t>(
     Ok(reach)
 }
 
-// Of the forms that bind names.
+// Surveys the operands and terms of a form that binds names and returns its reach; any other form reaches nothing.
 #[cycle(survey)]
 fn of_terms<'t>(
     knowledge: &Knowledge<'_>,
@@ -269,6 +278,8 @@ fn of_terms<'t>(
     }
 }
 
+// Surveys the relation of PER, which stands outside the attributes of the tuples that are summarized, and returns its
+// reach. Groups without PER reach nothing.
 #[cycle(survey)]
 fn of_groups<'t>(
     knowledge: &Knowledge<'_>,
@@ -284,6 +295,8 @@ fn of_groups<'t>(
     }
 }
 
+// Surveys the operands of an expression and returns how far the whole reaches. A relvar, a selector and RELATION are
+// dear, and so is what has a dear operand.
 #[cycle(survey)]
 fn of_parts<'t>(
     knowledge: &Knowledge<'_>,
@@ -329,7 +342,7 @@ fn of_parts<'t>(
     }
 }
 
-// A relvar is lent where it stands.
+// Whether the value of an expression is worth keeping: that of a relvar is not, since it is lent where it stands.
 fn is_worth_keeping(tree: &Typed) -> bool {
     match tree {
         Typed::Relvar(_) => false,

@@ -41,6 +41,7 @@ pub(crate) enum Check<'a> {
     Other(&'a Typed),
 }
 
+// The value as a side, which has it at every tuple. It takes memory for a box.
 fn side_value(alloc: Global, value: Value) -> Result<Side, AllocError>
     ensures { IfOk result (λ s. (t : Attrs) → side_value t s ≡ Ok value) }
 {
@@ -57,6 +58,7 @@ fn side_meant(alloc: Global, meant: Binding<'_>) -> Result<Option<Side>, AllocEr
     }
 }
 
+// The value that is known of an expression as a side; None where it is an error or a relation.
 fn side_known(alloc: Global, value: &Result<KnownValue, Stop>) -> Result<Option<Side>, AllocError>
     ensures { IfOk result (λ o. IfSome o (λ s. (t : Attrs) → side_value t s ≡ known_value value.now)) }
 {
@@ -66,7 +68,8 @@ fn side_known(alloc: Global, value: &Result<KnownValue, Stop>) -> Result<Option<
     }
 }
 
-// The tuples' attributes hide the names around them.
+// The name as a side: an attribute of the heading, which hides the names around it, or else the value that the name
+// stands for in scope. It is None where that is a relation or the name is not in scope.
 fn side_local(
     alloc: Global,
     scope: &Bindings,
@@ -105,6 +108,7 @@ fn side_of<W: Wanted>(
     }
 }
 
+// Both operands of a comparison as sides; None where one of them cannot be a side.
 fn sides_of<W: Wanted>(
     evaluator: &Evaluator<'_, W>,
     scope: &Bindings,
@@ -132,7 +136,7 @@ fn is_and(operator: BinaryOperator) -> bool
     }
 }
 
-// Whether it compares the values of both operands.
+// Whether the operator compares the values of both operands.
 fn is_comparison(operator: BinaryOperator) -> bool
     ensures { IsTrue result → (a b : Meaning) → mean_binary operator a b ≡ mean_both operator a b }
 {
@@ -211,6 +215,7 @@ pub(crate) fn checks_of<'a, W: Wanted>(
     Ok(checks)
 }
 
+// The side's value at the tuple, lent; None where the tuple has no attribute at the side's place.
 fn value_at<'a>(side: &'a Side, tuple: &'a Tuple) -> Option<&'a Value>
     ensures { side_value tuple.now side.now ≡ known (option_copied result) }
 {

@@ -29,6 +29,7 @@ pub struct Environment<'a> {
     pub selectors: &'a [Selector],
 }
 
+// The relation of a known relvar, or the error that its expression raises.
 fn lease_of<'a, W>(known: &'a Known<'_>) -> Result<&'a Lease<'a>, Fault<W>>
     ensures { AnswersBy (λ r. r.now) result known.now.value }
 {
@@ -38,7 +39,7 @@ fn lease_of<'a, W>(known: &'a Known<'_>) -> Result<&'a Lease<'a>, Fault<W>>
     }
 }
 
-// What the one at the place has.
+// What the first of the relvars at the place has; None where none of them is at it.
 fn relvar_at<'a, W>(
     relvars: &'a [Known<'_>],
     place: usize,

@@ -28,7 +28,7 @@ pub(crate) struct Evaluator<'a, W: Wanted> {
 }
 
 impl<'a, W: Wanted> Evaluator<'a, W> {
-    /// Where nothing is known.
+    /// An evaluator over the environment that knows no parts.
     pub(crate) fn of(alloc: Global, env: &'a Environment<'a>) -> Evaluator<'a, W>
         requires { W.allows env.now.virtuals.now ≡ true }
         ensures { result.env.now ≡ env.now }
@@ -41,7 +41,7 @@ impl<'a, W: Wanted> Evaluator<'a, W> {
         }
     }
 
-    /// Where the values of these parts are known.
+    /// An evaluator over the environment that knows the values of these parts.
     pub(crate) fn with_parts(
         alloc: Global,
         env: &'a Environment<'a>,

@@ -24,6 +24,7 @@ fn is_equals(operator: BinaryOperator) -> bool
     }
 }
 
+// The place of the attribute that the side is; None where it is a value.
 fn attribute(side: &Side) -> Option<usize>
     ensures { IfSome result (λ p. side.now ≡ sides.Attribute p) }
 {
@@ -33,6 +34,7 @@ fn attribute(side: &Side) -> Option<usize>
     }
 }
 
+// The value that the side has at every tuple; None where it is an attribute.
 fn value(side: &Side) -> Option<&Value>
     ensures { IfSome result (λ d. side.now ≡ sides.Value d.now) }
 {
@@ -93,7 +95,7 @@ fn pinned_value<'c>(checks: &'c [Check<'_>], width: usize, place: usize) -> Opti
     }
 }
 
-// The key's names with these values, where each has one.
+// The names of the key, each with the value that the checks pin it to; None where they pin one of the names to nothing.
 fn key_values(
     alloc: Global,
     heading: &Heading,
@@ -113,7 +115,8 @@ fn key_values(
     Ok(Some(values))
 }
 
-// The tuples with these values, by an index of the relation.
+// The tuples of the relation that have the values to which the checks pin the key of its index; None where they do not
+// pin all names of the key.
 fn found(
     alloc: Global,
     relation: &Relation,

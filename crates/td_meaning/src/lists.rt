@@ -25,6 +25,7 @@ fn add_value(found: &mut Vec<Value>, value: Value) -> Result<(), AllocError>
     Ok(())
 }
 
+// Appends the value with a copy of the name.
 fn add_field(found: &mut Vec<(Name, Value)>, name: &Name, value: Value) -> Result<(), AllocError>
     ensures { OnOk result (found.new.items ≡ found.old.items ++ (name.now, value) ∷ []) }
 {
@@ -34,6 +35,7 @@ fn add_field(found: &mut Vec<(Name, Value)>, name: &Name, value: Value) -> Resul
 }
 
 impl<W: Wanted> Evaluator<'_, W> {
+    /// The values of the expressions, evaluated in written order: the first error stands.
     #[cycle(evaluation)]
     #[tactic(auto, unfolding(crate::specs::Mean::at))]
     pub(crate) fn values(
@@ -51,6 +53,8 @@ impl<W: Wanted> Evaluator<'_, W> {
         Ok(found)
     }
 
+    /// The value of RELATION: the relation of the expressions' values, evaluated in written order. It is untyped where
+    /// one of them is no tuple of the heading.
     #[cycle(evaluation)]
     #[tactic(auto, unfolding(crate::specs::Mean::mean_relation))]
     pub(crate) fn relation(
@@ -65,6 +69,7 @@ impl<W: Wanted> Evaluator<'_, W> {
         relation_over(self.alloc, heading, &found)
     }
 
+    // The names of the items with the values of their terms, evaluated in written order: the first error stands.
     #[cycle(evaluation)]
     #[tactic(auto, unfolding(crate::specs::Mean::named_at))]
     fn fields(
@@ -82,6 +87,7 @@ impl<W: Wanted> Evaluator<'_, W> {
         Ok(found)
     }
 
+    /// The value of TUPLE: evaluates the items' terms in written order, and the first error stands.
     #[cycle(evaluation)]
     #[tactic(auto, unfolding(crate::specs::Mean::mean_tuple))]
     pub(crate) fn tuple(

@@ -16,6 +16,7 @@ use td_syntax::tree::Named;
 use td_typed_trees::tree::Typed;
 use td_values::{Name, Value};
 
+// Appends the value with a copy of the name, held so that a relation can be lent.
 fn add_held(
     found: &mut Items<Named<KnownValue>>,
     name: &Name,
@@ -30,6 +31,8 @@ fn add_held(
 }
 
 impl<W: Wanted> Evaluator<'_, W> {
+    // The names of WITH with their values. Each expression is evaluated once, in written order, and sees the names
+    // before it; the first error stands.
     #[cycle(evaluation)]
     #[tactic(auto, unfolding(crate::specs::Mean::introduced))]
     fn introduce(
@@ -48,6 +51,7 @@ impl<W: Wanted> Evaluator<'_, W> {
         Ok(found)
     }
 
+    /// The value of WITH: evaluates the expressions of its names, then the body, which sees them all.
     #[cycle(evaluation)]
     #[tactic(auto, unfolding(crate::specs::Mean::mean_with))]
     pub(crate) fn with(

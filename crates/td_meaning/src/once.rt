@@ -36,6 +36,8 @@ impl<W: Wanted> Evaluator<'_, W> {
         }
     }
 
+    // The greatest parts of the terms that name nothing around them and are not among the known parts: what is still to
+    // be evaluated.
     fn parts_beside<'a>(
         &self,
         parts: &[HoistedTerm<'_>],
@@ -50,7 +52,8 @@ impl<W: Wanted> Evaluator<'_, W> {
         closed_parts(self.alloc, &knowledge, terms)
     }
 
-    // Where it comes to a virtual relvar that is not known, the part may not be needed.
+    // Adds the expression to the known parts with its value or the error that it raises. It adds nothing where the
+    // expression is untyped, nor where it comes to a virtual relvar that is not known, since it may not be needed.
     #[cycle(evaluation)]
     fn keep<'a>(&self, parts: &mut Vec<HoistedTerm<'a>>, tree: &'a Typed) -> Result<(), AllocError>
         requires { AreRight self.now.env.now parts.old.items }
@@ -69,6 +72,7 @@ impl<W: Wanted> Evaluator<'_, W> {
         }
     }
 
+    // Adds each of the expressions to the known parts, as `keep` does.
     #[cycle(evaluation)]
     fn keep_all<'a>(
         &self,

@@ -24,6 +24,7 @@ use td_operators::{Lease, Operand, relation_value, rows_of, truth_of};
 use td_typed_trees::tree::Typed;
 use td_values::{Name, Value};
 
+// The relation of a known relvar as a value: a copy, which shares its tuples. A fault is passed on.
 fn copied<W>(alloc: Global, known: Result<&Lease<'_>, Fault<W>>) -> Result<Value, Fault<W>>
     ensures { (m : Result RowsData Stop) → AnswersBy (λ r. r.now) known.entry m → Answers result (and_then m as_value) }
 {
@@ -33,6 +34,7 @@ fn copied<W>(alloc: Global, known: Result<&Lease<'_>, Fault<W>>) -> Result<Value
     }
 }
 
+// The relation of a known relvar as an operand, lent. A fault is passed on.
 fn lent<'a, W>(known: Result<&'a Lease<'a>, Fault<W>>) -> Result<Operand<'a>, Fault<W>>
     ensures { (m : Result RowsData Stop) → AnswersBy (λ r. r.now) known.entry m → AnswersBy operand_value result (and_then m as_value) }
 {
@@ -42,6 +44,7 @@ fn lent<'a, W>(known: Result<&'a Lease<'a>, Fault<W>>) -> Result<Operand<'a>, Fa
     }
 }
 
+// The value as an operand that is owned. A fault is passed on.
 fn made_operand<'a, W>(answer: Result<Value, Fault<W>>) -> Result<Operand<'a>, Fault<W>>
     ensures { (m : Result Datum Stop) → Answers answer m → AnswersBy operand_value result m }
 {
@@ -52,6 +55,7 @@ fn made_operand<'a, W>(answer: Result<Value, Fault<W>>) -> Result<Operand<'a>, F
 }
 
 impl<W: Wanted> Evaluator<'_, W> {
+    /// The value of a name, copied; it is untyped where the name is not in scope.
     #[tactic(auto, unfolding(crate::specs::Mean::mean_local))]
     pub(crate) fn local_value(&self, name: &Name, scope: &Bindings) -> Result<Value, Fault<W>>
         ensures { Answers result (spec.mean_local name.now (names_bound scope.now)) }
@@ -62,6 +66,8 @@ impl<W: Wanted> Evaluator<'_, W> {
         }
     }
 
+    /// The value of the relvar at the place, copied. Where none is known there, it is wanting if it is virtual and `W`
+    /// can say so, and otherwise untyped.
     #[tactic(auto, unfolding(crate::specs::Mean::mean_relvar))]
     pub(crate) fn relvar(&self, place: usize) -> Result<Value, Fault<W>>
         ensures { (names : Names) → Answers result (spec.mean_relvar (relvars_there self.now.env.now) place names) }
@@ -72,6 +78,8 @@ impl<W: Wanted> Evaluator<'_, W> {
         }
     }
 
+    // The value of a name as an operand: a relation of WITH is lent and any other value copied. It is untyped where the
+    // name is not in scope.
     #[tactic(auto, unfolding(crate::specs::Mean::mean_local))]
     fn local_operand<'a>(
         &self,
@@ -86,7 +94,8 @@ impl<W: Wanted> Evaluator<'_, W> {
         }
     }
 
-    // A virtual relvar is known as a part.
+    // The value of the relvar that the expression names, where the environment does not have it: a virtual relvar may
+    // be known as a part, and otherwise it is wanting or untyped, as `W` says.
     fn virtual_operand<'a>(&'a self, tree: &Typed, place: usize) -> Result<Operand<'a>, Fault<W>>
         requires tree { tree.now ≡ t.Relvar place }
         requires unknown { is_known place self.now.env.now.relvars.now ≡ false }
@@ -128,6 +137,7 @@ impl<W: Wanted> Evaluator<'_, W> {
         }
     }
 
+    /// The relation that the expression means, owned or lent; a value of another kind is untyped.
     #[cycle(evaluation)]
     #[tactic(auto, unfolding(crate::specs::Mean::rows_in))]
     pub(crate) fn rows<'a, 'e: 'a>(
@@ -140,6 +150,7 @@ impl<W: Wanted> Evaluator<'_, W> {
         rows_of(self.operand(a, &*scope)?)
     }
 
+    /// The truth value of the expression; a value of another kind is untyped.
     #[cycle(evaluation)]
     #[tactic(auto, unfolding(crate::specs::Mean::truth_in))]
     pub(crate) fn truth(&self, a: &Typed, scope: &Bindings) -> Result<bool, Fault<W>>

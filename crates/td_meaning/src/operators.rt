@@ -29,6 +29,7 @@ struct PartOf<'t> {
 }
 
 impl<W: Wanted> Evaluator<'_, W> {
+    /// The value of a unary operator. COUNT does not always evaluate its operand to a value; all others do.
     #[cycle(evaluation)]
     #[tactic(auto, unfolding(crate::specs::Mean::mean_by))]
     pub(crate) fn unary(
@@ -45,6 +46,8 @@ impl<W: Wanted> Evaluator<'_, W> {
         }
     }
 
+    /// The component at the place, from 0, of the value of an expression; it is untyped where that has no such
+    /// component.
     #[cycle(evaluation)]
     #[tactic(auto, unfolding(crate::specs::Mean::mean_by))]
     pub(crate) fn component(
@@ -59,6 +62,7 @@ impl<W: Wanted> Evaluator<'_, W> {
         component_at(self.alloc, at, &a)
     }
 
+    /// The attribute of the tuple that the expression means; it is untyped where that is no tuple or lacks the name.
     #[cycle(evaluation)]
     #[tactic(auto, unfolding(crate::specs::Mean::mean_by))]
     pub(crate) fn attribute(
@@ -73,6 +77,7 @@ impl<W: Wanted> Evaluator<'_, W> {
         attribute_at(self.alloc, name, &a)
     }
 
+    /// The part at these names of the tuple or relation that the expression means; any other value is untyped.
     #[cycle(evaluation)]
     #[tactic(auto, unfolding(crate::specs::Mean::mean_by))]
     pub(crate) fn projection(
@@ -86,6 +91,7 @@ impl<W: Wanted> Evaluator<'_, W> {
         part_at(self.alloc, names, self.operand(a, &*scope)?)
     }
 
+    /// The value of RENAME: each item is an old name with its new one. It is untyped where the operand is no relation.
     #[cycle(evaluation)]
     #[tactic(auto, unfolding(crate::specs::Mean::mean_by))]
     pub(crate) fn renaming(
@@ -99,6 +105,8 @@ impl<W: Wanted> Evaluator<'_, W> {
         with_new_names(self.alloc, items, self.operand(a, &*scope)?)
     }
 
+    /// The value of GROUP or WRAP: the attributes at these names become one attribute of the new name. It is untyped
+    /// where the operand is no relation.
     #[cycle(evaluation)]
     #[tactic(auto, unfolding(crate::specs::Mean::mean_by))]
     pub(crate) fn nesting(
@@ -114,6 +122,8 @@ impl<W: Wanted> Evaluator<'_, W> {
         nest(self.alloc, nesting, names, name, self.operand(a, &*scope)?)
     }
 
+    /// The value of UNGROUP or UNWRAP of the attribute of this name. It is untyped where the operand is no relation, or
+    /// the attribute is not relation-valued for UNGROUP or not tuple-valued for UNWRAP.
     #[cycle(evaluation)]
     #[tactic(auto, unfolding(crate::specs::Mean::mean_by))]
     pub(crate) fn unnesting(
@@ -128,6 +138,8 @@ impl<W: Wanted> Evaluator<'_, W> {
         unnest(self.alloc, nesting, name, self.operand(a, &*scope)?)
     }
 
+    // The value of AND: evaluates the second operand only where the first is true. An operand that is no truth value is
+    // untyped.
     #[cycle(evaluation)]
     #[tactic(auto, unfolding(crate::specs::Mean::mean_and))]
     fn both(&self, a: &Typed, b: &Typed, scope: &Bindings) -> Result<Value, Fault<W>>
@@ -141,6 +153,8 @@ impl<W: Wanted> Evaluator<'_, W> {
         }
     }
 
+    // The value of OR: evaluates the second operand only where the first is false. An operand that is no truth value is
+    // untyped.
     #[cycle(evaluation)]
     #[tactic(auto, unfolding(crate::specs::Mean::mean_or))]
     fn either(&self, a: &Typed, b: &Typed, scope: &Bindings) -> Result<Value, Fault<W>>
@@ -154,6 +168,8 @@ impl<W: Wanted> Evaluator<'_, W> {
         }
     }
 
+    // The value of an operator that takes the values of both operands: evaluates them in written order, and the first
+    // error stands.
     #[cycle(evaluation)]
     #[tactic(auto, unfolding(crate::specs::Mean::mean_both))]
     fn two(
@@ -187,6 +203,8 @@ impl<W: Wanted> Evaluator<'_, W> {
         }
     }
 
+    // Whether the first relation is within the whole's part at these names. Both expressions are evaluated in written
+    // order, and no part is made where both are relations.
     #[cycle(evaluation)]
     #[tactic(auto, unfolding(crate::specs::Mean::mean_both, crate::specs::Mean::mean_by))]
     fn within_part(
@@ -203,7 +221,8 @@ impl<W: Wanted> Evaluator<'_, W> {
         is_within_part(self.alloc, inner, names, around)
     }
 
-    // The whole comes first, and whether it has parts: their errors stand before those of the other side.
+    // Whether the whole's part at these names is around the second relation. The whole is evaluated first, and must be
+    // a tuple or a relation, so its errors stand before those of the second expression.
     #[cycle(evaluation)]
     #[tactic(auto, unfolding(crate::specs::Mean::mean_both, crate::specs::Mean::mean_by))]
     fn around_part(
@@ -223,6 +242,8 @@ impl<W: Wanted> Evaluator<'_, W> {
         is_within_part(self.alloc, inner, names, around)
     }
 
+    // The value of `<=`. Where its second operand is a projection that is not known, its whole is evaluated in its
+    // place.
     #[cycle(evaluation)]
     fn at_most(&self, a: &Typed, b: &Typed, scope: &Bindings) -> Result<Value, Fault<W>>
         ensures { Answers result (spec.mean_both binary.AtMost (mean_in self.now.env.now a.now) (mean_in self.now.env.now b.now) (names_bound scope.now)) }
@@ -233,6 +254,8 @@ impl<W: Wanted> Evaluator<'_, W> {
         }
     }
 
+    // The value of `>=`. Where its first operand is a projection that is not known, its whole is evaluated in its
+    // place.
     #[cycle(evaluation)]
     fn at_least(&self, a: &Typed, b: &Typed, scope: &Bindings) -> Result<Value, Fault<W>>
         ensures { Answers result (spec.mean_both binary.AtLeast (mean_in self.now.env.now a.now) (mean_in self.now.env.now b.now) (names_bound scope.now)) }
@@ -243,6 +266,8 @@ impl<W: Wanted> Evaluator<'_, W> {
         }
     }
 
+    /// The value of a binary operator. The first operand is evaluated first, and the second is not where AND or OR is
+    /// decided by the first or where the first raises an error.
     #[cycle(evaluation)]
     pub(crate) fn binary(
         &self,
@@ -262,6 +287,8 @@ impl<W: Wanted> Evaluator<'_, W> {
         }
     }
 
+    /// The value of IF: evaluates the condition and then one branch alone. A condition that is no truth value is
+    /// untyped.
     #[cycle(evaluation)]
     #[tactic(auto, unfolding(crate::specs::Mean::mean_if))]
     pub(crate) fn choice(

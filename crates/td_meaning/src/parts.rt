@@ -117,6 +117,7 @@ pub(crate) fn put_if<'a>(
     }
 }
 
+// A copy of the part, which shares its expression and its value.
 fn copy<'a>(part: &'a HoistedTerm<'_>) -> Result<HoistedTerm<'a>, AllocError>
     ensures { IfOk result (λ p. p ≡ part.now) }
 {

@@ -22,6 +22,8 @@ use td_typed_trees::tree::Typed;
 use td_values::{Tuple, Value};
 
 impl<W: Wanted> Evaluator<'_, W> {
+    // Whether the check is true at the tuple. A comparison takes the values of its sides there; any other expression is
+    // evaluated with the tuple's attributes in scope.
     #[cycle(evaluation)]
     #[tactic(auto, unfolding(crate::specs::ForProofs::Checks::check_holds))]
     fn holds_at(&self, check: &Check<'_>, t: &Tuple, scope: &Bindings) -> Result<bool, Fault<W>>
@@ -33,6 +35,8 @@ impl<W: Wanted> Evaluator<'_, W> {
         }
     }
 
+    // Whether all the checks are true at the tuple. They are asked in order, up to the first that is false or raises an
+    // error.
     #[cycle(evaluation)]
     fn all_hold(&self, checks: &[Check<'_>], t: &Tuple, scope: &Bindings) -> Result<bool, Fault<W>>
         ensures { Answers result (all_hold (mean_in self.now.env.now) (names_bound scope.now) t.now checks.now) }
@@ -45,6 +49,7 @@ impl<W: Wanted> Evaluator<'_, W> {
         Ok(true)
     }
 
+    // The tuples at which all the checks are true, or the least error that these raise at one.
     #[cycle(evaluation)]
     fn restrict_by_checks(
         &self,
@@ -64,6 +69,8 @@ impl<W: Wanted> Evaluator<'_, W> {
         )
     }
 
+    // The tuples of which the condition is true. It makes checks of the condition, and asks them of all tuples, or of
+    // those alone that an index finds where the checks begin with the values of its key.
     #[cycle(evaluation)]
     fn restrict_prepared(
         &self,
@@ -80,6 +87,8 @@ impl<W: Wanted> Evaluator<'_, W> {
         }
     }
 
+    /// The tuples of which the condition is true, or the least error that it raises at one. Where there are two tuples
+    /// or more, it first evaluates the parts of the condition that name nothing around them.
     #[cycle(evaluation)]
     pub(crate) fn restrict_by_condition(
         &self,
@@ -103,6 +112,8 @@ impl<W: Wanted> Evaluator<'_, W> {
         }
     }
 
+    /// The value of WHERE: evaluates the relation, then the condition at its tuples. It is untyped where the operand is
+    /// no relation.
     #[cycle(evaluation)]
     #[tactic(auto, unfolding(crate::specs::Mean::mean_where))]
     pub(crate) fn restriction(

@@ -73,6 +73,7 @@ pub(crate) fn value_meant(alloc: Global, meant: Binding<'_>) -> Result<Value, Al
     }
 }
 
+/// What a name stands for that has the held value: a relation or another value, lent.
 pub(crate) fn lent(held: &KnownValue) -> Binding<'_>
     ensures { meant_value result ≡ held_value held.now }
 {
@@ -82,7 +83,7 @@ pub(crate) fn lent(held: &KnownValue) -> Binding<'_>
     }
 }
 
-// What stands at the last of these that has the name.
+// The value of the last name of WITH that is the one sought; None where no name is. It looks at all of them.
 fn latest<'a>(names: &'a [Named<KnownValue>], name: &Name) -> Option<&'a KnownValue>
     ensures { option_copied result ≡ latest names.now name.now None }
 {
@@ -95,7 +96,7 @@ fn latest<'a>(names: &'a [Named<KnownValue>], name: &Name) -> Option<&'a KnownVa
     found
 }
 
-// The value at the first of these that is the name.
+// The value of the first component that has the name; None where no component has it.
 fn component<'a>(names: &[Name], values: &'a [Value], name: &Name) -> Option<&'a Value>
     ensures { option_copied result ≡ components names.now values.now name.now }
 {

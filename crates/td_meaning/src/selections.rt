@@ -47,6 +47,8 @@ fn user_value(alloc: Global, selector: &Selector, values: Vec<Value>) -> Result<
 }
 
 impl<W: Wanted> Evaluator<'_, W> {
+    // Whether the CONSTRAINT of a possrep is true of the components in scope: it sees no relvar and only the earlier
+    // selectors. A possrep without one admits all.
     #[cycle(evaluation)]
     #[tactic(auto, unfolding(crate::specs::Selections::admits))]
     fn admits(
@@ -70,6 +72,8 @@ impl<W: Wanted> Evaluator<'_, W> {
         }
     }
 
+    // What the selector makes of the values of its components: a value of its possrep, or the error of selectors where
+    // its CONSTRAINT is false of them.
     #[cycle(evaluation)]
     #[tactic(auto, unfolding(crate::specs::Selections::selected))]
     fn select(
@@ -88,6 +92,8 @@ impl<W: Wanted> Evaluator<'_, W> {
         }
     }
 
+    /// The value of the selector at the place: evaluates the expressions of its components in written order, then its
+    /// CONSTRAINT. It is untyped where no selector is at the place.
     #[cycle(evaluation)]
     #[tactic(auto, unfolding(crate::specs::Mean::mean_select))]
     pub(crate) fn selection(

@@ -44,6 +44,8 @@ impl<W: Wanted> Evaluator<'_, W> {
         }
     }
 
+    // The summary over all tuples of the relation. At each tuple the term has the value of its side, if it is known to
+    // have one, and otherwise is evaluated.
     #[cycle(evaluation)]
     fn aggregate_with_side(
         &self,
@@ -66,6 +68,8 @@ impl<W: Wanted> Evaluator<'_, W> {
         )
     }
 
+    // The summary over all tuples of the relation. It seeks the side of the term once, so that an attribute is found by
+    // its place at each tuple.
     #[cycle(evaluation)]
     fn aggregate_prepared(
         &self,
@@ -79,6 +83,8 @@ impl<W: Wanted> Evaluator<'_, W> {
         self.aggregate_with_side(&side, ts, summary, scope)
     }
 
+    // The summary over all tuples of the relation. Where there are two or more, it first evaluates the parts of the
+    // term that name nothing around them.
     #[cycle(evaluation)]
     fn aggregate_by_summary(
         &self,
@@ -102,6 +108,8 @@ impl<W: Wanted> Evaluator<'_, W> {
         }
     }
 
+    /// The value of an aggregate: evaluates the relation, then the term at its tuples. It is untyped where the operand
+    /// is no relation.
     #[cycle(evaluation)]
     #[tactic(auto, unfolding(crate::specs::ForProofs::Over::over_aggregate))]
     pub(crate) fn aggregation(
@@ -116,6 +124,8 @@ impl<W: Wanted> Evaluator<'_, W> {
         self.aggregate_by_summary(ts.get(), summary, scope)
     }
 
+    // The tuples of the second relation, each with the summaries over the tuples of the first that agree with it on the
+    // second one's names. It evaluates the terms at each tuple of a group.
     #[cycle(evaluation)]
     #[tactic(auto, unfolding(crate::specs::ForProofs::Over::terms))]
     fn summarize_per(
@@ -138,7 +148,8 @@ impl<W: Wanted> Evaluator<'_, W> {
         )
     }
 
-    // Per the relation's own parts: the runs of one sort.
+    // The relation's own parts at these names, each with the summaries over the tuples that have it. One sort of the
+    // tuples puts those of a group side by side.
     #[cycle(evaluation)]
     #[tactic(auto, unfolding(crate::specs::ForProofs::Over::terms))]
     fn summarize_in_runs(
@@ -161,6 +172,8 @@ impl<W: Wanted> Evaluator<'_, W> {
         )
     }
 
+    // SUMMARIZE of the relation by its groups: all tuples as one group, PER another relation, which it evaluates, or BY
+    // names of its own.
     #[cycle(evaluation)]
     #[tactic(auto, unfolding(crate::specs::ForProofs::Over::summarized_over, crate::specs::Mean::groups_at))]
     fn summarize_prepared(
@@ -185,6 +198,8 @@ impl<W: Wanted> Evaluator<'_, W> {
         }
     }
 
+    // SUMMARIZE of the relation by its groups. Where there are two tuples or more, it first evaluates the parts of the
+    // summaries' terms that name nothing around them.
     #[cycle(evaluation)]
     fn summarize_by_groups(
         &self,
@@ -209,6 +224,8 @@ impl<W: Wanted> Evaluator<'_, W> {
         }
     }
 
+    /// The value of SUMMARIZE: evaluates the relation, then the one of PER if there is one, and the terms at the tuples
+    /// of the groups. It is untyped where an operand is no relation.
     #[cycle(evaluation)]
     #[tactic(auto, unfolding(crate::specs::ForProofs::Over::over_summarize))]
     pub(crate) fn summarization(

@@ -37,6 +37,7 @@ pub struct MeetingRefusal {
     pub first_took: usize,
 }
 
+// The refusal of a meeting before the first site took anything.
 fn refusal(error: MeetingError) -> MeetingRefusal
     ensures { result ≡ record { error = error; first_took = 0 } }
 {
@@ -62,6 +63,7 @@ pub fn judge<A: Replica, B: Replica>(first: &A, second: &B) -> Result<(), Meetin
     Ok(())
 }
 
+// The greeting of a site, as bytes in memory.
 fn greeting_of<R: Replica>(alloc: Global, site: &R) -> Result<Vec<u8>, MeetingError>
     requires { (R.seen site.now).live ≡ true }
     ensures { MatchResult result (λ v. Greets (R.seen site.now) v.items) (λ e. e ≡ meeting_error.OutOfMemory) }

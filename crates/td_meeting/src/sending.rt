@@ -42,6 +42,7 @@ pub(crate) fn put_own<R: Replica, K: Sink>(
     put_greeting(sink, site.site(), site.script(), places)
 }
 
+// Writes an entry where the vector does not count it as held.
 fn put_lacking<K: Sink>(sink: &mut K, vector: &Vector, entry: &Entry) -> Result<(), Failed>
     requires { length entry.now.text ≤ 8192 }
     ensures bytes { Writes (K.held sink.old) (K.held sink.new) result (entry_frames Second (after_vector vector.now (entry.now ∷ []))) }

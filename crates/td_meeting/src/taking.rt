@@ -28,6 +28,7 @@ fn untaken(error: TakeError) -> MeetingError
     }
 }
 
+// Has the site take a batch; an error is told as one of the meeting.
 fn take_all<R: Replica>(
     alloc: Global,
     site: &mut R,
@@ -68,6 +69,7 @@ fn take_front<R: Replica>(
     }
 }
 
+// Why a meeting stops at an error of the stream. Where the stream was cut or not read, the site takes the batch first.
 fn stopped<R: Replica>(
     alloc: Global,
     site: &mut R,

@@ -14,13 +14,14 @@ use td_algebra::Fault;
 use td_syntax::tree::BinaryOperator;
 use td_values::{Kind, Value, copy, equal};
 
+// Whether the two values are equal. It copies neither.
 fn same(u: &Value, v: &Value) -> bool
     ensures { result ≡ spec.are_equal u.now v.now }
 {
     equal(u, v)
 }
 
-// Of two integers or two texts.
+// Whether the first value is less than the second, if they are two integers or two texts; None for all others.
 fn less(u: &Value, v: &Value) -> Option<bool>
     ensures { IfSome result (λ b. spec.less u.now v.now ≡ Ok (boolean b)) }
 {
@@ -31,7 +32,7 @@ fn less(u: &Value, v: &Value) -> Option<bool>
     }
 }
 
-// Of two integers or two texts.
+// Whether the first value is at most the second, if they are two integers or two texts; None for all others.
 fn at_most(u: &Value, v: &Value) -> Option<bool>
     ensures { IfSome result (λ b. spec.at_most u.now v.now ≡ Ok (boolean b)) }
 {

@@ -22,6 +22,7 @@ use td_syntax::tree::BinaryOperator;
 use td_tuples::columns_in;
 use td_values::{Heading, Kind, Name, Value, equal_headings};
 
+// Whether the two headings have the same names with the same types.
 fn are_one(g: &Heading, h: &Heading) -> bool
     ensures test { result ≡ spec.are_equal_headings g.now h.now }
     ensures same { IsTrue result → g.now ≡ h.now }
@@ -43,7 +44,8 @@ fn is_of_part(
     Ok(are_one(heading, &columns))
 }
 
-// Where it has the part's heading, it is within the part where none of its tuples lacks one of the whole that has it.
+// Whether the relation is within the part of the whole at these names: each of its tuples matches one of the whole. It
+// is untyped where the relation has another heading than the part.
 fn is_within<W>(
     alloc: Global,
     r: &Lease<'_>,
@@ -62,6 +64,8 @@ fn is_within<W>(
     Ok(truth_value(is_empty(others.tuples())))
 }
 
+// Whether the first operand is within the part of the whole at these names. It is untyped where one of them is no
+// relation, or the first has another heading than the part.
 #[tactic(auto, unfolding(crate::specs::ForProofs::Within::within_part))]
 fn are_within<W>(
     alloc: Global,
@@ -76,6 +80,7 @@ fn are_within<W>(
     is_within(alloc, &r, names, &s)
 }
 
+// Whether the operand is neither an integer, a text nor a tuple, so that `<=` takes it as a relation.
 fn is_other(operand: &Operand<'_>) -> bool
     ensures { IsTrue result → is_scalar (operand_value operand.now) ≡ false }
 {

@@ -126,6 +126,7 @@ impl<'a> Lease<'a> {
     }
 }
 
+/// The truth value of the operand; a value of another kind is untyped.
 pub(crate) fn truth_of<W>(operand: &Operand) -> Result<bool, Fault<W>>
     ensures { Answers result (spec.truth_of (operand_value operand.now)) }
 {
@@ -138,6 +139,7 @@ pub(crate) fn truth_of<W>(operand: &Operand) -> Result<bool, Fault<W>>
     }
 }
 
+/// The integer of the operand; a value of another kind is untyped.
 pub(crate) fn integer_of<W>(operand: &Operand) -> Result<i64, Fault<W>>
     ensures { Answers result (spec.integer_of (operand_value operand.now)) }
 {
@@ -150,6 +152,7 @@ pub(crate) fn integer_of<W>(operand: &Operand) -> Result<i64, Fault<W>>
     }
 }
 
+/// The text of the operand, lent; a value of another kind is untyped.
 pub(crate) fn text_of<'a, W>(operand: &'a Operand) -> Result<&'a Text, Fault<W>>
     ensures { AnswersBy (λ s. s.now) result (spec.text_of (operand_value operand.now)) }
 {
@@ -162,6 +165,7 @@ pub(crate) fn text_of<'a, W>(operand: &'a Operand) -> Result<&'a Text, Fault<W>>
     }
 }
 
+/// The tuple of the operand, lent; a value of another kind is untyped.
 pub(crate) fn tuple_of<'a, W>(operand: &'a Operand) -> Result<&'a Tuple, Fault<W>>
     ensures { AnswersBy (λ t. t.now) result (spec.tuple_in (operand_value operand.now)) }
 {
@@ -174,6 +178,7 @@ pub(crate) fn tuple_of<'a, W>(operand: &'a Operand) -> Result<&'a Tuple, Fault<W
     }
 }
 
+/// The components of the operand, lent, if it is a value of a possrep; a value of another kind is untyped.
 pub(crate) fn components_of<'a, W>(operand: &'a Operand) -> Result<&'a [Value], Fault<W>>
     ensures { AnswersBy (λ vs. vs.now) result (spec.components_of (operand_value operand.now)) }
 {
@@ -186,6 +191,8 @@ pub(crate) fn components_of<'a, W>(operand: &'a Operand) -> Result<&'a [Value], 
     }
 }
 
+/// What the operand is: an integer, or a text or a tuple, which is lent. A relation and any value of another kind is
+/// `Other`.
 pub(crate) fn shape_of<'a>(operand: &'a Operand) -> Shape<'a>
     ensures { HasShape result (operand_value operand.now) }
 {
@@ -200,6 +207,7 @@ pub(crate) fn shape_of<'a>(operand: &'a Operand) -> Shape<'a>
     }
 }
 
+// The relation that the value is, owned; a value of another kind is untyped. It takes no memory.
 fn own_rows<'a, W>(value: Value) -> Result<Lease<'a>, Fault<W>>
     ensures { Answers result (spec.rows_of value) }
 {

@@ -25,6 +25,7 @@ use td_syntax::tree::{Nesting, UnaryOperator};
 use td_tuples::is_in;
 use td_values::{Heading, Name, Raise, Tuple, Value, copy};
 
+// The integer with the other sign. That of the least integer raises an overflow.
 fn negation<W>(n: i64) -> Result<Value, Fault<W>>
     ensures { Answers result (spec.within_64_bits (neg_ℤ n)) }
 {
@@ -42,6 +43,7 @@ fn has_pairs(heading: &Heading) -> bool
     is_binary(heading)
 }
 
+// The transitive closure of the relation, as a value; it is untyped unless the relation has two attributes of one type.
 fn transitive_closure<W>(alloc: Global, r: &Relation) -> Result<Value, Fault<W>>
     ensures { Answers result (spec.closed r.now) }
 {
@@ -51,6 +53,7 @@ fn transitive_closure<W>(alloc: Global, r: &Relation) -> Result<Value, Fault<W>>
     Ok(relation_value(tclose_of(alloc, r)?))
 }
 
+// A copy of the one tuple of the list; a list of none or of several raises the error of cardinality.
 fn only_tuple<W>(tuples: &[Tuple]) -> Result<Value, Fault<W>>
     ensures { Answers result (spec.only_tuple tuples.now) }
 {
@@ -60,6 +63,7 @@ fn only_tuple<W>(tuples: &[Tuple]) -> Result<Value, Fault<W>>
     }
 }
 
+// The number of tuples as a value. It takes no memory.
 fn count(tuples: &[Tuple]) -> Value
     ensures { result ≡ integer (pos (length tuples.now)) }
 {
@@ -160,6 +164,7 @@ pub fn with_new_names<W>(
     Ok(relation_value(rename_of(alloc, rows.get(), items)?))
 }
 
+// GROUP or WRAP of the relation: its attributes at these names become one attribute of the new name.
 fn nest_relation(
     alloc: Global,
     nesting: Nesting,
@@ -189,6 +194,7 @@ pub fn nest<W>(
     Ok(relation_value(nest_relation(alloc, nesting, names, name, rows.get())?))
 }
 
+// Whether the heading has the name with relations as its values.
 fn has_relations(heading: &Heading, name: &Name) -> bool
     ensures test { result ≡ spec.is_relation_type (by_name.get heading.now name.now) }
     ensures valued { IsTrue result ↔ IsRelationValued name.now heading.now }
@@ -196,6 +202,7 @@ fn has_relations(heading: &Heading, name: &Name) -> bool
     is_relation_valued(heading, name)
 }
 
+// Whether the heading has the name with tuples as its values.
 fn has_tuples(heading: &Heading, name: &Name) -> bool
     ensures test { result ≡ spec.is_tuple_type (by_name.get heading.now name.now) }
     ensures valued { IsTrue result ↔ IsTupleValued name.now heading.now }
@@ -203,6 +210,7 @@ fn has_tuples(heading: &Heading, name: &Name) -> bool
     is_tuple_valued(heading, name)
 }
 
+// UNGROUP of the attribute of this name; it is untyped where that is missing or not relation-valued.
 fn ungroup_relation<W>(alloc: Global, name: &Name, r: &Relation) -> Result<Relation, Fault<W>>
     ensures { Answers result (spec.unnested_of nesting.Group name.now r.now) }
 {
@@ -212,6 +220,7 @@ fn ungroup_relation<W>(alloc: Global, name: &Name, r: &Relation) -> Result<Relat
     Ok(ungroup_of(alloc, r, name)?)
 }
 
+// UNWRAP of the attribute of this name; it is untyped where that is missing or not tuple-valued.
 fn unwrap_relation<W>(alloc: Global, name: &Name, r: &Relation) -> Result<Relation, Fault<W>>
     ensures { Answers result (spec.unnested_of nesting.Wrap name.now r.now) }
 {
@@ -221,6 +230,8 @@ fn unwrap_relation<W>(alloc: Global, name: &Name, r: &Relation) -> Result<Relati
     Ok(unwrap_of(alloc, r, name)?)
 }
 
+// UNGROUP or UNWRAP of the attribute of this name; it is untyped where the attribute is missing or not of the kind that
+// the operator opens.
 fn unnest_relation<W>(
     alloc: Global,
     nesting: Nesting,

@@ -25,6 +25,7 @@ use td_values::{Heading, Kind, Raise, Text, Tuple, Value, equal, equal_headings}
 
 // ---- truth values, integers, texts
 
+// Applies AND, OR or XOR to two truth values; any other operator is untyped.
 fn combine_truths<W>(operator: BinaryOperator, a: bool, b: bool) -> Result<Value, Fault<W>>
     ensures { Answers result (spec.decided operator a b) }
 {
@@ -36,6 +37,7 @@ fn combine_truths<W>(operator: BinaryOperator, a: bool, b: bool) -> Result<Value
     }
 }
 
+// Applies AND, OR or XOR to two operands; one that is no truth value is untyped.
 #[tactic(auto, unfolding(crate::specs::Operators::of_truths))]
 fn of_truths<W>(
     operator: BinaryOperator,
@@ -49,6 +51,8 @@ fn of_truths<W>(
     combine_truths(operator, a, b)
 }
 
+// The quotient of two integers, cut off towards zero. Division by 0 raises an error, and a quotient that does not fit
+// in 64 bits an overflow.
 fn quotient<W>(m: i64, n: i64) -> Result<Value, Fault<W>>
     ensures { Answers result (spec.quotient m n) }
 {
@@ -61,6 +65,7 @@ fn quotient<W>(m: i64, n: i64) -> Result<Value, Fault<W>>
     }
 }
 
+// The sum of two integers; one that does not fit in 64 bits raises an overflow.
 fn sum<W>(m: i64, n: i64) -> Result<Value, Fault<W>>
     ensures { Answers result (spec.within_64_bits (m +ℤ n)) }
 {
@@ -70,6 +75,7 @@ fn sum<W>(m: i64, n: i64) -> Result<Value, Fault<W>>
     }
 }
 
+// The difference of two integers; one that does not fit in 64 bits raises an overflow.
 fn difference<W>(m: i64, n: i64) -> Result<Value, Fault<W>>
     ensures { Answers result (spec.within_64_bits (m -ℤ n)) }
 {
@@ -79,6 +85,7 @@ fn difference<W>(m: i64, n: i64) -> Result<Value, Fault<W>>
     }
 }
 
+// The product of two integers; one that does not fit in 64 bits raises an overflow.
 fn product<W>(m: i64, n: i64) -> Result<Value, Fault<W>>
     ensures { Answers result (spec.within_64_bits (m *ℤ n)) }
 {
@@ -88,6 +95,7 @@ fn product<W>(m: i64, n: i64) -> Result<Value, Fault<W>>
     }
 }
 
+// Adds, subtracts, multiplies or divides two integers; any other operator is untyped.
 fn calculate<W>(operator: BinaryOperator, m: i64, n: i64) -> Result<Value, Fault<W>>
     ensures { Answers result (spec.calculated operator m n) }
 {
@@ -100,6 +108,7 @@ fn calculate<W>(operator: BinaryOperator, m: i64, n: i64) -> Result<Value, Fault
     }
 }
 
+// Adds, subtracts, multiplies or divides two operands; one that is no integer is untyped.
 #[tactic(auto, unfolding(crate::specs::Operators::of_integers))]
 fn of_integers<W>(
     operator: BinaryOperator,
@@ -122,6 +131,7 @@ fn append_text(alloc: Global, s: &Text, t: &Text) -> Result<Text, AllocError>
     Text::new(alloc, text)
 }
 
+// The text of the first operand with that of the second behind it; an operand that is no text is untyped.
 #[tactic(auto, unfolding(crate::specs::Operators::concatenated))]
 fn concatenate<W>(alloc: Global, u: &Operand<'_>, v: &Operand<'_>) -> Result<Value, Fault<W>>
     ensures { Answers result (spec.concatenated (operand_value u.now) (operand_value v.now)) }
@@ -133,24 +143,28 @@ fn concatenate<W>(alloc: Global, u: &Operand<'_>, v: &Operand<'_>) -> Result<Val
 
 // ---- values of any kind
 
+// Whether the two lists have equal tuples in the same order.
 fn same_tuples(ts: &[Tuple], us: &[Tuple]) -> bool
     ensures { IsTrue result ↔ (ts.now ≡ us.now) }
 {
     ts == us
 }
 
+// Whether two relations are equal, each given by its heading and its tuples.
 fn same_rows(g: &Heading, ts: &[Tuple], h: &Heading, us: &[Tuple]) -> bool
     ensures { IsTrue result ↔ ((g.now ≡ h.now) × (ts.now ≡ us.now)) }
 {
     equal_headings(g, h) && same_tuples(ts, us)
 }
 
+// Whether the two relations are equal: they have one heading and the same tuples.
 fn are_one(r: &Relation, s: &Relation) -> bool
     ensures { IsTrue result ↔ (relation_value r.now ≡ relation_value s.now) }
 {
     same_rows(r.heading(), r.tuples(), s.heading(), s.tuples())
 }
 
+// Whether the value is a relation that is equal to this one.
 fn is_relation(value: &Value, r: &Relation) -> bool
     ensures { IsTrue result ↔ (value.now ≡ relation_value r.now) }
 {
@@ -162,6 +176,7 @@ fn is_relation(value: &Value, r: &Relation) -> bool
     }
 }
 
+// Whether the values of the operands are equal, be they owned or lent. It copies neither.
 fn are_same(u: &Operand<'_>, v: &Operand<'_>) -> bool
     ensures { IsTrue result ↔ (operand_value u.now ≡ operand_value v.now) }
 {
@@ -173,6 +188,7 @@ fn are_same(u: &Operand<'_>, v: &Operand<'_>) -> bool
     }
 }
 
+// Whether the values of the operands are equal, as `=` and `<>` ask.
 fn same(u: &Operand<'_>, v: &Operand<'_>) -> bool
     ensures { result ≡ spec.are_equal (operand_value u.now) (operand_value v.now) }
 {
@@ -181,6 +197,7 @@ fn same(u: &Operand<'_>, v: &Operand<'_>) -> bool
 
 // ---- relations
 
+// Whether the two relations have the same names with the same types.
 fn have_one_heading(r: &Relation, s: &Relation) -> bool
     ensures test { result ≡ spec.are_equal_headings r.now.heading s.now.heading }
     ensures same { IsTrue result ↔ (r.now.heading ≡ s.now.heading) }
@@ -188,6 +205,7 @@ fn have_one_heading(r: &Relation, s: &Relation) -> bool
     r.same_heading(s)
 }
 
+// The union of two relations; it is untyped where they have two headings.
 fn union_of_one_heading<W>(alloc: Global, r: &Relation, s: &Relation) -> Result<Relation, Fault<W>>
     ensures { Answers result (spec.related binary.Union r.now s.now) }
 {
@@ -197,6 +215,7 @@ fn union_of_one_heading<W>(alloc: Global, r: &Relation, s: &Relation) -> Result<
     Ok(union_of(alloc, r, s)?)
 }
 
+// The intersection of two relations; it is untyped where they have two headings.
 fn intersection_of_one_heading<W>(
     alloc: Global,
     r: &Relation,
@@ -210,6 +229,7 @@ fn intersection_of_one_heading<W>(
     Ok(intersect_of(alloc, r, s)?)
 }
 
+// The tuples of the first relation that the second lacks; it is untyped where they have two headings.
 fn difference_of_one_heading<W>(
     alloc: Global,
     r: &Relation,
@@ -223,6 +243,8 @@ fn difference_of_one_heading<W>(
     Ok(minus_of(alloc, r, s)?)
 }
 
+// What an operator makes of two relations, by no kept index. An operator that takes no two relations to a relation is
+// untyped.
 fn relate<W>(
     alloc: Global,
     operator: BinaryOperator,
@@ -333,8 +355,8 @@ fn relate_by_kept_first(
     Ok(None)
 }
 
-// The tuples of the smaller relation are sought in the larger one where that is kept by such a key, and else the other
-// way round.
+// What a join or a match makes by a kept index of the larger relation, or else of the smaller one; None where none of
+// them serves.
 fn relate_by_any_index(
     alloc: Global,
     operator: BinaryOperator,
@@ -371,6 +393,8 @@ pub(crate) fn relate_operands<W>(
     }
 }
 
+// Applies an operator to two operands, by an index that is kept of one of them where that serves; an operand that is no
+// relation is untyped.
 #[tactic(auto, unfolding(crate::specs::Operators::of_relations))]
 fn of_relations<W>(
     alloc: Global,
@@ -385,6 +409,8 @@ fn of_relations<W>(
     Ok(relation_value(relate_operands(alloc, operator, &r, &s)?))
 }
 
+// Whether the tuple of the first operand is in the relation of the second. It is untyped where the first is no tuple or
+// the second no relation.
 #[tactic(auto, unfolding(crate::specs::Operators::member))]
 fn membership<W>(u: Operand<'_>, v: Operand<'_>) -> Result<Value, Fault<W>>
     ensures { Answers result (spec.member (operand_value u.entry) (operand_value v.entry)) }
@@ -396,18 +422,22 @@ fn membership<W>(u: Operand<'_>, v: Operand<'_>) -> Result<Value, Fault<W>>
 
 // ---- order
 
+// Whether each tuple of the first relation is in the second.
 fn is_part(r: &Relation, s: &Relation) -> bool
     ensures { result ≡ spec.is_subset r.now s.now }
 {
     is_subset(r, s)
 }
 
+// Whether each tuple of the first relation is in the second, which has more.
 fn is_proper_part(r: &Relation, s: &Relation) -> bool
     ensures { result ≡ spec.is_proper_subset r.now s.now }
 {
     is_part(r, s) && !is_part(s, r)
 }
 
+// Whether the first relation is a proper subset of the second. It is untyped where an operand is no relation, or they
+// have two headings.
 #[tactic(auto, unfolding(crate::specs::Operators::of_alike))]
 fn is_less<W>(u: Operand<'_>, v: Operand<'_>) -> Result<Value, Fault<W>>
     ensures { Answers result (spec.of_alike spec.is_proper_subset (operand_value u.entry) (operand_value v.entry)) }
@@ -420,6 +450,8 @@ fn is_less<W>(u: Operand<'_>, v: Operand<'_>) -> Result<Value, Fault<W>>
     Ok(truth_value(is_proper_part(r.get(), s.get())))
 }
 
+// Whether the first relation is a subset of the second. It is untyped where an operand is no relation, or they have two
+// headings.
 #[tactic(auto, unfolding(crate::specs::Operators::of_alike))]
 fn is_at_most<W>(u: Operand<'_>, v: Operand<'_>) -> Result<Value, Fault<W>>
     ensures { Answers result (spec.of_alike spec.is_subset (operand_value u.entry) (operand_value v.entry)) }
@@ -432,6 +464,8 @@ fn is_at_most<W>(u: Operand<'_>, v: Operand<'_>) -> Result<Value, Fault<W>>
     Ok(truth_value(is_part(r.get(), s.get())))
 }
 
+// Whether the first operand is less than the second: integers by size, texts by code points, relations by inclusion.
+// Operands of two kinds, and of any other kind, are untyped.
 fn less<W>(u: Operand<'_>, v: Operand<'_>) -> Result<Value, Fault<W>>
     ensures { Answers result (spec.less (operand_value u.entry) (operand_value v.entry)) }
 {
@@ -442,6 +476,8 @@ fn less<W>(u: Operand<'_>, v: Operand<'_>) -> Result<Value, Fault<W>>
     }
 }
 
+// Whether the first operand is at most the second: integers by size, texts by code points, relations by inclusion.
+// Operands of two kinds, and of any other kind, are untyped.
 fn at_most<W>(u: Operand<'_>, v: Operand<'_>) -> Result<Value, Fault<W>>
     ensures { Answers result (spec.at_most (operand_value u.entry) (operand_value v.entry)) }
 {

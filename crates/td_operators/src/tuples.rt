@@ -15,6 +15,7 @@ use td_algebra::{Fault, Stop};
 use td_relations::Relation;
 use td_values::{Heading, Kind, Tuple, Value, fits};
 
+// Whether the tuple has the names of the heading and no others, with values of their types.
 fn has_heading(heading: &Heading, tuple: &Tuple) -> bool
     ensures test { result ≡ spec.fits heading.now tuple.now }
     ensures fits { IsTrue result ↔ Fits heading.now tuple.now }
@@ -22,6 +23,7 @@ fn has_heading(heading: &Heading, tuple: &Tuple) -> bool
     fits(tuple, heading)
 }
 
+// A copy of the tuple that the value is; it is untyped where that is no tuple of the heading.
 fn tuple_over<W>(heading: &Heading, value: &Value) -> Result<Tuple, Fault<W>>
     ensures answers { Answers result (spec.tuple_over heading.now value.now) }
     ensures fits { IfOk result (Fits heading.now) }
@@ -42,6 +44,8 @@ fn add_tuple(found: &mut Vec<Tuple>, tuple: Tuple) -> Result<(), AllocError>
     Ok(())
 }
 
+// Copies of the tuples that the values are, in their order. It is untyped where one of the values is no tuple of the
+// heading.
 fn tuples_over<W>(
     alloc: Global,
     heading: &Heading,

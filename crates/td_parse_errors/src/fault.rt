@@ -23,24 +23,28 @@ fn is_there<T: Drop>(read: Result<T, ReadError>) -> Result<bool, AllocError>
     }
 }
 
+// Whether the text is read as a script. The only error is that memory runs out.
 fn is_script(alloc: Global, text: &str) -> Result<bool, AllocError>
     ensures { IfOk result (Decides Reading.Script text.now) }
 {
     is_there(read_script(alloc, text))
 }
 
+// Whether the text is read as a statement. The only error is that memory runs out.
 fn is_statement(alloc: Global, text: &str) -> Result<bool, AllocError>
     ensures { IfOk result (Decides Reading.Statement text.now) }
 {
     is_there(read_statement(alloc, text))
 }
 
+// Whether the text is read as a query. The only error is that memory runs out.
 fn is_query(alloc: Global, text: &str) -> Result<bool, AllocError>
     ensures { IfOk result (Decides Reading.Query text.now) }
 {
     is_there(read_expr(alloc, text))
 }
 
+// Whether the text has a tree in this reading. The only error is that memory runs out.
 fn is_read(alloc: Global, reading: Reading, text: &str) -> Result<bool, AllocError>
     ensures { IfOk result (Decides reading text.now) }
 {

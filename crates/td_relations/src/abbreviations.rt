@@ -85,6 +85,7 @@ impl Abbreviation {
         }
     }
 
+    // The rank of an abbreviation's kind, by which abbreviations of two kinds are ordered.
     fn kind(self) -> u8
         ensures { result ≡ rank (spec.value_of self) }
     {
@@ -95,6 +96,7 @@ impl Abbreviation {
         }
     }
 
+    // Compares two abbreviations: by what they hold where they are of one kind, otherwise by their kinds.
     fn compare(self, other: Abbreviation) -> Ordering
         ensures { result ≡ order (spec.value_of self) (spec.value_of other) }
     {
@@ -180,6 +182,7 @@ impl Abbreviated {
         self.tuple
     }
 
+    // Compares by the abbreviations first, and by the tuples' values where these are equal.
     fn compare(&self, other: &Abbreviated) -> Ordering
         ensures { result ≡ by_beginnings self.now other.now }
     {

@@ -46,6 +46,7 @@ fn put_all(out: &mut Vec<Tuple>, kept: bool, tuples: &[Tuple]) -> Result<(), All
     Ok(())
 }
 
+// Appends copies of the tuples, in their order.
 fn append(out: &mut Vec<Tuple>, tuples: &[Tuple]) -> Result<(), AllocError>
     ensures { OnOk result (out.new.items ≡ out.old.items ++ tuples.now) }
 {

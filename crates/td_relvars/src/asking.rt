@@ -16,6 +16,7 @@ use td_semantics::{Answer, Failure, RelvarError};
 use td_syntax::tree::Expr;
 use td_values::{Heading, Name};
 
+// Whether the relvar at the place is a base relvar; false where there is none.
 fn is_base(catalogue: &Catalogue, place: usize) -> bool
     ensures { result ≡ reached.is_base (slice_get catalogue.now.origins place) }
 {

@@ -138,6 +138,7 @@ fn empty_at(alloc: Global, catalogue: &Catalogue, place: usize) -> Result<Option
     }
 }
 
+// What each relvar has where it is empty, in the order of their definition; None for a virtual one.
 fn all_empty(alloc: Global, catalogue: &Catalogue) -> Result<Vec<Option<Base>>, AllocError>
     ensures empty { IfOk result (λ s. rows_of s.items ≡ opening.all_empty catalogue.now.origins catalogue.now.schema.relvars) }
     ensures keys { IfOk result (λ s. AreFirst catalogue.now (keys_of s.items)) }

@@ -111,6 +111,7 @@ enum Copied {
     WithKeys,
 }
 
+// A copy of a base relvar, with its tuples by keys where so asked.
 fn copy_base(alloc: Global, base: &Base, copied: Copied) -> Result<Base, AllocError>
     ensures { IfOk result (λ b. b ≡ base.now) }
 {

@@ -133,6 +133,7 @@ fn tie_all<M: Machine>(
     Ok(())
 }
 
+// The label of a place; None beyond the labels.
 fn label_at(labels: &[usize], place: usize) -> Option<usize>
     ensures { result ≡ slice_get labels.now place }
 {

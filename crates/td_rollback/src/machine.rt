@@ -130,9 +130,11 @@ pub trait Machine {
         requires { (s : Self) × (ns : List ℕ) × sound s × saved part ns s × (origin s ≡ origin self.old) }
         ensures { (s : Self) → (ns : List ℕ) → sound s → saved part ns s → origin s ≡ origin self.old → ((n : ℕ) → (Contains ns n → ⊥) → alike s self.old n) → self.new ≡ s };
 
+    /// The places on which a run hangs, by its record.
     fn footprint_of(ran: &Self::Record) -> &[usize]
         ensures { result.now ≡ footprint_in ran.now };
 
+    /// The places that a run may change, by its record.
     fn targets_of(ran: &Self::Record) -> &[usize]
         ensures { result.now ≡ targets_in ran.now };
 

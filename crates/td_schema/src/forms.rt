@@ -57,6 +57,8 @@ pub fn renamed_kind(
     Ok(TypeKind::Relation(renamed_columns(alloc, items, heading)?))
 }
 
+// The heading behind GROUP or WRAP: in place of the attributes at these names stands one of this name, of relations or
+// of tuples over them. Whether the name is new is not looked at.
 fn nested_columns(
     alloc: Global,
     nesting: Nesting,
@@ -90,6 +92,8 @@ pub fn nested_heading(
     Ok(nested_columns(alloc, nesting, names, name, heading)?)
 }
 
+// The heading of an attribute that UNGROUP or UNWRAP opens: of a relation for UNGROUP, of a tuple for UNWRAP, and none
+// of any other kind.
 fn inside(nesting: Nesting, kind: &TypeKind) -> Option<&Heading>
     ensures { option_copied result ≡ spec.inside nesting kind.now }
 {

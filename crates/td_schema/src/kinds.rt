@@ -113,6 +113,8 @@ pub(crate) fn are_new(names: &[Name], heading: &Heading) -> bool
     names.iter().all(|name| is_new(heading, name))
 }
 
+// Whether the heading lets the field stand beside its attributes: none has the field's name, or the one that has it has
+// the field's type too.
 fn may_stand_beside(heading: &Heading, field: &(Name, TdType)) -> bool
     ensures { result ≡ spec.may_stand_beside heading.now field.now }
 {
@@ -132,6 +134,7 @@ pub(crate) fn agree_on_types(first: &Heading, second: &Heading) -> bool
         .all(|field| may_stand_beside(first, field))
 }
 
+// Whether the heading has an attribute with the field's name and type.
 fn has_attribute(heading: &Heading, field: &(Name, TdType)) -> bool
     ensures { result ≡ spec.has_attribute heading.now field.now }
 {

@@ -53,7 +53,7 @@ pub(crate) fn attribute_names(alloc: Global, heading: &Heading) -> Result<Items<
     Ok(found)
 }
 
-/// These names, shared.
+/// A copy of the list, whose names share their characters with the first ones.
 pub fn copies(alloc: Global, names: &[Name]) -> Result<Items<Name>, AllocError>
     ensures { IfOk result (λ v. v ≡ names.now) }
 {
@@ -64,6 +64,7 @@ pub fn copies(alloc: Global, names: &[Name]) -> Result<Items<Name>, AllocError>
     Ok(copies)
 }
 
+// The names of the heading's attributes that are not among these, in name order.
 fn others(alloc: Global, names: &[Name], heading: &Heading) -> Result<Items<Name>, AllocError>
     ensures { IfOk result (λ v. v ≡ filter (is_out names.now) (names_of heading.now)) }
 {
@@ -71,6 +72,7 @@ fn others(alloc: Global, names: &[Name], heading: &Heading) -> Result<Items<Name
     attribute_names(alloc, &rest)
 }
 
+// The names that stand in the attribute list, be they those that stay or those that ALL BUT leaves out.
 fn listed(attributes: &Attributes) -> &[Name]
     ensures { result.now ≡ spec.listed attributes.now }
 {
@@ -80,6 +82,8 @@ fn listed(attributes: &Attributes) -> &[Name]
     }
 }
 
+// The attributes that the list means: those in it, in its order, or for ALL BUT all others of the heading, in name
+// order. Whether the names are attributes is not looked at.
 fn chosen(
     alloc: Global,
     attributes: &Attributes,
@@ -93,6 +97,7 @@ fn chosen(
     }
 }
 
+// Whether each name is an attribute's, and none stands twice.
 fn are_attributes(alloc: Global, names: &[Name], heading: &Heading) -> Result<bool, AllocError>
     ensures { IfOk result (λ b. b ≡ (spec.are_distinct names.now && are_there names.now heading.now)) }
 {
@@ -125,6 +130,7 @@ pub fn pairs_of(alloc: Global, renamings: &[Renaming]) -> Result<Items<(Name, Na
     Ok(pairs)
 }
 
+// The old names of the renamings, in their order.
 fn old_names(alloc: Global, items: &[(Name, Name)]) -> Result<Vec<Name>, AllocError>
     ensures { IfOk result (λ v. v.items ≡ spec.old_names items.now) }
 {
@@ -135,6 +141,7 @@ fn old_names(alloc: Global, items: &[(Name, Name)]) -> Result<Vec<Name>, AllocEr
     Ok(names)
 }
 
+// The names that the heading's attributes have after the renamings, in the order of their old names.
 fn names_after(
     alloc: Global,
     items: &[(Name, Name)],

@@ -25,6 +25,7 @@ fn where_true(test: bool, kind: TypeKind) -> Result<TypeKind, TypeError>
     }
 }
 
+// Whether there are exactly two attributes, and both have one type, as TCLOSE wants.
 fn are_of_one_type(fields: &[(Name, TdType)]) -> bool
     ensures { result ≡ spec.are_of_one_type fields.now }
 {
@@ -34,6 +35,7 @@ fn are_of_one_type(fields: &[(Name, TdType)]) -> bool
     }
 }
 
+// What TCLOSE gives: the operand's own kind, where it is a relation of two attributes of one type.
 #[tactic(auto, unfolding(crate::specs::Operators::closed_kind))]
 fn closed_kind(kind: &TypeKind) -> Result<TypeKind, TypeError>
     ensures { Gives (spec.closed_kind kind.now) result }
@@ -70,6 +72,8 @@ pub fn unary_kind(operator: UnaryOperator, kind: &TypeKind) -> Result<TypeKind, 
     }
 }
 
+// What JOIN gives: a relation with the attributes of both operands. They are relations whose common attributes have one
+// type.
 #[tactic(auto, unfolding(crate::specs::Operators::joined_kind))]
 fn joined_kind(alloc: Global, a: &TypeKind, b: &TypeKind) -> Result<TypeKind, TypeError>
     ensures { Gives (spec.joined_kind a.now b.now) result }
@@ -83,6 +87,8 @@ fn joined_kind(alloc: Global, a: &TypeKind, b: &TypeKind) -> Result<TypeKind, Ty
     Ok(TypeKind::Relation(joined(alloc, g, h)?))
 }
 
+// What COMPOSE gives: a relation with the attributes that only one operand has. They are relations whose common
+// attributes have one type.
 #[tactic(auto, unfolding(crate::specs::Operators::composed_kind))]
 fn composed_kind(alloc: Global, a: &TypeKind, b: &TypeKind) -> Result<TypeKind, TypeError>
     ensures { Gives (spec.composed_kind a.now b.now) result }
@@ -96,6 +102,8 @@ fn composed_kind(alloc: Global, a: &TypeKind, b: &TypeKind) -> Result<TypeKind, 
     Ok(TypeKind::Relation(composed_columns(alloc, g, h)?))
 }
 
+// What MATCHING and NOT MATCHING give: the kind of the first operand. Both are relations whose common attributes have
+// one type.
 #[tactic(auto, unfolding(crate::specs::Operators::matched_kind))]
 fn matched_kind(a: &TypeKind, b: &TypeKind) -> Result<TypeKind, TypeError>
     ensures { Gives (spec.matched_kind a.now b.now) result }
@@ -109,6 +117,7 @@ fn matched_kind(a: &TypeKind, b: &TypeKind) -> Result<TypeKind, TypeError>
     Ok(TypeKind::Relation(g.copy()?))
 }
 
+// What UNION, INTERSECT and MINUS give: the kind of both operands, which are relations of one heading.
 #[tactic(auto, unfolding(crate::specs::Operators::united_kind))]
 fn united_kind(a: &TypeKind, b: &TypeKind) -> Result<TypeKind, TypeError>
     ensures { Gives (spec.united_kind a.now b.now) result }
@@ -122,6 +131,7 @@ fn united_kind(a: &TypeKind, b: &TypeKind) -> Result<TypeKind, TypeError>
     Ok(TypeKind::Relation(g.copy()?))
 }
 
+// What a comparison of two relations gives: a truth value, where they have one heading.
 #[tactic(auto, unfolding(crate::specs::Operators::compared_kind))]
 fn compared_kind(a: &TypeKind, b: &TypeKind) -> Result<TypeKind, TypeError>
     ensures { Gives (spec.compared_kind a.now b.now) result }
@@ -132,6 +142,7 @@ fn compared_kind(a: &TypeKind, b: &TypeKind) -> Result<TypeKind, TypeError>
     where_true(same_heading(g, h), TypeKind::Boolean)
 }
 
+// What `<`, `>`, `<=` and `>=` give: a truth value, of two integers, two texts, or two relations of one heading.
 #[tactic(auto, unfolding(crate::specs::Operators::ordered_kind))]
 fn ordered_kind(a: &TypeKind, b: &TypeKind) -> Result<TypeKind, TypeError>
     ensures { Gives (spec.ordered_kind a.now b.now) result }
@@ -142,6 +153,7 @@ fn ordered_kind(a: &TypeKind, b: &TypeKind) -> Result<TypeKind, TypeError>
     compared_kind(a, b)
 }
 
+// What IN gives: a truth value, of a tuple and a relation of one heading.
 #[tactic(auto, unfolding(crate::specs::Operators::member_kind))]
 fn member_kind(a: &TypeKind, b: &TypeKind) -> Result<TypeKind, TypeError>
     ensures { Gives (spec.member_kind a.now b.now) result }
@@ -152,6 +164,7 @@ fn member_kind(a: &TypeKind, b: &TypeKind) -> Result<TypeKind, TypeError>
     where_true(same_heading(g, h), TypeKind::Boolean)
 }
 
+// What AND, OR and XOR give: a truth value, of two truth values.
 #[tactic(auto, unfolding(crate::specs::Operators::truth_kind))]
 fn truth_kind(a: &TypeKind, b: &TypeKind) -> Result<TypeKind, TypeError>
     ensures { Gives (spec.truth_kind a.now b.now) result }
@@ -159,6 +172,7 @@ fn truth_kind(a: &TypeKind, b: &TypeKind) -> Result<TypeKind, TypeError>
     where_true(is_boolean(a) && is_boolean(b), TypeKind::Boolean)
 }
 
+// What `+`, `-`, `*` and `/` give: an integer, of two integers.
 #[tactic(auto, unfolding(crate::specs::Operators::number_kind))]
 fn number_kind(a: &TypeKind, b: &TypeKind) -> Result<TypeKind, TypeError>
     ensures { Gives (spec.number_kind a.now b.now) result }
@@ -166,6 +180,7 @@ fn number_kind(a: &TypeKind, b: &TypeKind) -> Result<TypeKind, TypeError>
     where_true(is_integer(a) && is_integer(b), TypeKind::Integer)
 }
 
+// What `||` gives: a text, of two texts.
 #[tactic(auto, unfolding(crate::specs::Operators::text_kind))]
 fn text_kind(a: &TypeKind, b: &TypeKind) -> Result<TypeKind, TypeError>
     ensures { Gives (spec.text_kind a.now b.now) result }
@@ -173,6 +188,7 @@ fn text_kind(a: &TypeKind, b: &TypeKind) -> Result<TypeKind, TypeError>
     where_true(is_char(a) && is_char(b), TypeKind::Char)
 }
 
+// What `=` and `<>` give: a truth value, of two operands of one kind, whichever it is.
 #[tactic(auto, unfolding(crate::specs::Operators::equal_kind))]
 fn equal_kind(a: &TypeKind, b: &TypeKind) -> Result<TypeKind, TypeError>
     ensures { Gives (spec.equal_kind a.now b.now) result }

@@ -105,7 +105,7 @@ fn add_possrep(
 }
 
 impl Schema {
-    /// One in which nothing is defined.
+    /// A schema in which nothing is defined.
     pub fn new(alloc: Global) -> Schema
         ensures { result ≡ spec.empty_schema }
     {
@@ -196,6 +196,8 @@ impl Schema {
         Ok(())
     }
 
+    // Whether `add_type` takes the type: the name of its possrep does not begin with THE_, no type has its name, and no
+    // possrep has the name of its own.
     fn may_add(&self, representation: &Representation) -> bool
         ensures { result ≡ additions.may_add self.now representation.now }
     {

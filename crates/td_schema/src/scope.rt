@@ -45,6 +45,7 @@ fn latest<'a>(names: &'a [Named<TypeKind>], name: &Name) -> Option<&'a TypeKind>
     found
 }
 
+// The relvar that the name means, or none where the schema has no relvar of this name. The heading is shared.
 fn relvar_meant(schema: &Schema, name: &Name) -> Result<Option<Meant>, AllocError>
     ensures { IfOk result (λ m. m ≡ spec.relvars_of schema.now name.now) }
 {

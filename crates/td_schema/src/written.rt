@@ -75,6 +75,7 @@ pub fn heading_written(
     distinct_columns(alloc, fields.as_slice())
 }
 
+// The kind of a user-defined type that is written as its name. It is ill typed where the schema has no such type.
 fn user_written(schema: &Schema, name: &Name) -> Result<TypeKind, TypeError>
     ensures { Gives (where_true (is_some (type_named schema.now name.now)) (kind.User name.now)) result }
 {

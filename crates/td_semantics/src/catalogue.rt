@@ -12,6 +12,7 @@ use td_headings::Catalogue;
 use td_schema::error::TypeError;
 use td_syntax::script::Definition;
 
+// Defines the definitions in order, from nothing; gives the error of the first that is ill typed.
 fn define_all(alloc: Global, definitions: &[Definition]) -> Result<Catalogue, TypeError>
     ensures typed { IfOk result (DefinesAll nothing_defined definitions.now) }
     ensures refused { result ≡ Err type_error.IllTyped → (c : CatalogueData) → DefinesAll nothing_defined definitions.now c → ⊥ }

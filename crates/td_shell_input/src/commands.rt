@@ -55,6 +55,7 @@ pub enum DotCommand<'a> {
     Unknown(&'a str),
 }
 
+// The command where no words are behind it; otherwise how it is written.
 fn without_words<'a>(command: DotCommand<'a>, rest: &str, usage: &'static str) -> DotCommand<'a> {
     if rest.is_empty() {
         command
@@ -63,6 +64,7 @@ fn without_words<'a>(command: DotCommand<'a>, rest: &str, usage: &'static str) -
     }
 }
 
+// What `.schema` asks for: one definition by its name, or all of them without a name.
 fn schema_in(rest: &str) -> DotCommand<'_> {
     if rest.is_empty() {
         return DotCommand::Schema(None);
@@ -84,6 +86,7 @@ fn import_in(rest: &str) -> DotCommand<'_> {
     }
 }
 
+// The mode that `.mode` asks for, by its word.
 fn mode_in(rest: &str) -> DotCommand<'static> {
     match rest {
         "table" => DotCommand::Mode(Mode::Table),
@@ -93,6 +96,7 @@ fn mode_in(rest: &str) -> DotCommand<'static> {
     }
 }
 
+// Whether `.timer` turns the timer on or off.
 fn timer_in(rest: &str) -> DotCommand<'static> {
     match rest {
         "on" => DotCommand::Timer(true),
@@ -101,6 +105,7 @@ fn timer_in(rest: &str) -> DotCommand<'static> {
     }
 }
 
+// The file that `.read` names, all that is behind the word.
 fn read_in(rest: &str) -> DotCommand<'_> {
     match rest {
         "" => DotCommand::Misused(".read FILE"),
@@ -108,6 +113,7 @@ fn read_in(rest: &str) -> DotCommand<'_> {
     }
 }
 
+// The file that `.dump` names; with `--tables` in front it takes what the base relvars have.
 fn dump_in(rest: &str) -> DotCommand<'_> {
     let misused = DotCommand::Misused(".dump [--tables] FILE");
     let (word, file) = rest.split_once(' ').unwrap_or((rest, ""));
@@ -118,6 +124,7 @@ fn dump_in(rest: &str) -> DotCommand<'_> {
     }
 }
 
+// The folder that `.export` names, all that is behind the word.
 fn export_in(rest: &str) -> DotCommand<'_> {
     match rest {
         "" => DotCommand::Misused(".export FOLDER"),
@@ -125,6 +132,7 @@ fn export_in(rest: &str) -> DotCommand<'_> {
     }
 }
 
+// The address that `.serve` names, all that is behind the word.
 fn serve_in(rest: &str) -> DotCommand<'_> {
     match rest {
         "" => DotCommand::Misused(".serve ADDRESS"),
@@ -132,6 +140,7 @@ fn serve_in(rest: &str) -> DotCommand<'_> {
     }
 }
 
+// The address that `.call` names, all that is behind the word.
 fn call_in(rest: &str) -> DotCommand<'_> {
     match rest {
         "" => DotCommand::Misused(".call ADDRESS"),
@@ -139,6 +148,7 @@ fn call_in(rest: &str) -> DotCommand<'_> {
     }
 }
 
+// Which statements without effect `.refused` asks for: all of them, or with `here` those issued here alone.
 fn refused_command(rest: &str) -> DotCommand<'static> {
     match rest {
         "" => DotCommand::Refused { is_own: false },
@@ -155,6 +165,8 @@ fn is_plain_number(text: &str) -> bool {
         && (digits.len() == 1 || !text.starts_with('0'))
 }
 
+// What `.digest` asks for: all that is held, or what one site issued up to a number. Both are plain numbers with a
+// space between.
 fn digest_in(rest: &str) -> DotCommand<'static> {
     let misused = DotCommand::Misused(".digest [SITE NUMBER]");
     if rest.is_empty() {

@@ -24,10 +24,12 @@ pub struct Conditions {
     open: usize,
 }
 
+/// Whether a word goes on with this byte.
 pub fn goes_on_in_word(byte: &u8) -> bool {
     byte.is_ascii_alphanumeric() || *byte == b'_' || *byte == b'#'
 }
 
+// What the letters of a word come to with one more: how much of IF or END they are, in letters of any case.
 fn with_letter(letters: Letters, byte: u8) -> Letters {
     match (letters, byte) {
         (Letters::None, b'I' | b'i') => Letters::I,

@@ -9,6 +9,7 @@ pub struct Defined<'a> {
     pub rest: &'a [u8],
 }
 
+// Parts a script at a place; all of it is the definition where the place is beyond its end.
 fn part_definition(bytes: &[u8], end: usize) -> Defined<'_> {
     match bytes.split_at_checked(end) {
         Some((text, rest)) => Defined { text, rest },
@@ -50,6 +51,7 @@ fn without_blanks(text: &[u8]) -> &[u8] {
     rest
 }
 
+// Whether a byte is one of a word.
 fn is_in_word(byte: &u8) -> bool {
     byte.is_ascii_alphanumeric() || *byte == b'_' || *byte == b'#'
 }

@@ -13,6 +13,7 @@ pub struct DumpedEntry {
     pub text: String,
 }
 
+// Appends a character as it is written between the quotes of an entry's text.
 fn push_escaped(out: &mut String, c: char) -> Result<(), AllocError> {
     match c {
         '\'' => out.push_str("''"),

@@ -48,6 +48,7 @@ const BEGINNINGS: [&[u8]; 6] = [
     b"CONSTRAINT",
 ];
 
+// The word that a line begins with behind blanks; empty where it begins with something else.
 fn first_word(line: &[u8]) -> &[u8] {
     let line = line.trim_ascii_start();
     match line.iter().position(|byte| !goes_on_in_word(byte)) {
@@ -56,6 +57,7 @@ fn first_word(line: &[u8]) -> &[u8] {
     }
 }
 
+// Whether a line begins with a word that begins statements, in letters of any case.
 fn begins_statement(line: &[u8]) -> bool {
     let word = first_word(line);
     BEGINNINGS
@@ -112,6 +114,7 @@ impl Scan {
         }
     }
 
+    // Goes on by a byte that is in no quotes and no comment, behind which the next one stands.
     fn plain(&mut self, byte: u8, next: Option<u8>) {
         if byte == b'/' && next == Some(b'*') {
             self.passes = true;

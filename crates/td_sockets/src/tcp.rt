@@ -10,6 +10,7 @@ use td_answers::{LinkError, Links};
 // For how many seconds the other site may be silent while it is called, in one read, or in one write.
 const MOST_SECONDS: u64 = 30;
 
+// The limit of time of a call, a read and a write.
 fn most_silence() -> Duration {
     Duration::from_secs(MOST_SECONDS)
 }
@@ -21,6 +22,7 @@ fn with_time_limits(stream: TcpStream) -> io::Result<TcpStream> {
     Ok(stream)
 }
 
+// The link of a stream that was opened, with its limits of time; a fault of the net where it was not.
 fn link<C: Clock + Drop>(opened: io::Result<TcpStream>, clock: C) -> Result<Paced<C>, LinkError> {
     match opened.and_then(with_time_limits) {
         Ok(stream) => Ok(Paced::new(stream, clock)),

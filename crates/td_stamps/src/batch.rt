@@ -48,6 +48,7 @@ pub fn clashes_any(entry: &Entry, others: &[Entry]) -> bool
     others.iter().any(|x| entry.clashes(x))
 }
 
+// Whether the same entry is among the others; it walks along them.
 fn is_among(entry: &Entry, others: &[Entry]) -> bool
     ensures { result ≡ has others.now entry.now }
 {

@@ -90,6 +90,7 @@ pub fn tied_front(held: &[Entry], joined: &[Entry]) -> usize
     both
 }
 
+// Whether two entries have one stamp.
 fn is_tied(entry: &Entry, other: &Entry) -> bool
     ensures { result ≡ tie entry.now other.now }
 {
@@ -115,6 +116,7 @@ fn joined_with_one(
     Ok(Some(all))
 }
 
+// Appends copies of the entries, in their order.
 fn push_copies(to: &mut Vec<Entry>, entries: &[Entry]) -> Result<(), AllocError>
     ensures { OnOk result (to.new.items ≡ to.old.items ++ entries.now) }
 {
@@ -124,6 +126,7 @@ fn push_copies(to: &mut Vec<Entry>, entries: &[Entry]) -> Result<(), AllocError>
     Ok(())
 }
 
+// Sorts entries by their stamps; where memory is wanting they may stand in another order.
 fn sort_by_stamp(entries: &mut Vec<Entry>) -> Result<(), AllocError>
     ensures permutation { IsPermutation entries.old.items entries.new.items }
     ensures sorted { OnOk result (IsSortedBy before entries.new.items) }

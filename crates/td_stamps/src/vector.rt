@@ -57,6 +57,7 @@ impl Vector {
         self.numbers.len()
     }
 
+    /// Whether the vector has a number of no site.
     pub fn is_empty(&self) -> bool
         ensures { IsTrue result ↔ (map.len self.now ≡ 0) }
     {

@@ -7,6 +7,7 @@ ghost use Rattle.td_syntax.specs.ForProofs.Parts.{list_levels, summaries_levels,
 use crate::tree::{Expr, Groups, Named, SummaryTerm};
 use sqlite_items::Boxed;
 
+// Whether each of the expressions has at most `most` levels.
 #[cycle(within)]
 fn list_within(all: &[Boxed<Expr>], most: usize) -> bool
     ensures { result ≡ nat_le (list_levels all.now) most }
@@ -19,6 +20,7 @@ fn list_within(all: &[Boxed<Expr>], most: usize) -> bool
     true
 }
 
+// Whether each of the expressions with names has at most `most` levels.
 #[cycle(within)]
 fn named_within(all: &[Named<Boxed<Expr>>], most: usize) -> bool
     ensures { result ≡ nat_le (named_levels all.now) most }
@@ -31,6 +33,7 @@ fn named_within(all: &[Named<Boxed<Expr>>], most: usize) -> bool
     true
 }
 
+// Whether the summary's term has at most `most` levels; COUNT has no term.
 #[cycle(within)]
 fn summary_within(summary: &SummaryTerm<Boxed<Expr>>, most: usize) -> bool
     ensures { result ≡ nat_le (summary_levels summary.now) most }
@@ -41,6 +44,7 @@ fn summary_within(summary: &SummaryTerm<Boxed<Expr>>, most: usize) -> bool
     }
 }
 
+// Whether the terms of all summaries have at most `most` levels.
 #[cycle(within)]
 fn summaries_within(all: &[Named<SummaryTerm<Boxed<Expr>>>], most: usize) -> bool
     ensures { result ≡ nat_le (summaries_levels all.now) most }
@@ -53,6 +57,7 @@ fn summaries_within(all: &[Named<SummaryTerm<Boxed<Expr>>>], most: usize) -> boo
     true
 }
 
+// Whether the relation of PER has at most `most` levels; other groups hold no expression.
 #[cycle(within)]
 fn groups_within(groups: &Groups<Boxed<Expr>>, most: usize) -> bool
     ensures { result ≡ nat_le (groups_levels groups.now) most }

@@ -22,12 +22,14 @@ fn byte(bytes: &[u8], at: usize) -> u8
     if at < bytes.len() { bytes[at] } else { 0 }
 }
 
+// Whether the byte is white space: a space, a tab, a line feed or a carriage return.
 fn is_blank(b: u8) -> bool
     ensures { result ≡ is_blank b }
 {
     b == b' ' || b == b'\t' || b == b'\n' || b == b'\r'
 }
 
+// Whether the byte may stand in a name behind its first: an ASCII letter, a digit, `_` or `#`.
 fn goes_on_in_name(b: u8) -> bool
     ensures { result ≡ goes_on_in_name b }
 {

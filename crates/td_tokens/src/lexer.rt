@@ -15,6 +15,8 @@ use std::alloc::Global;
 /// How many of `(` and `{` may be open at once in a text.
 const MOST_OPEN: usize = 64;
 
+// How many brackets are open after a token of this kind, where `depth` were before. Round ones and braces count alike,
+// and a closing one changes nothing where none is open.
 fn open_after(depth: usize, kind: TokenKind) -> usize
     requires { depth ≤ 64 }
     ensures { result ≡ open_after depth (lexeme kind []) }
@@ -60,6 +62,7 @@ pub fn tokens(alloc: Global, source: &str) -> Result<Vec<Token<'_>>, TokenError>
     Ok(found)
 }
 
+// How many brackets are open behind a piece, where `depth` were before: white space changes nothing.
 fn open_behind(depth: usize, kind: Option<TokenKind>) -> usize
     requires { depth ≤ 64 }
     ensures { result ≡ open_behind depth kind }

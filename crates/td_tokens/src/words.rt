@@ -96,6 +96,7 @@ const SYMBOLS: [(&[u8], Word); 19] = [
     (b"/", Word::Slash),
 ];
 
+// Whether the words are the same, but for the case of ASCII letters.
 fn same_letters(a: &[u8], b: &[u8]) -> bool
     ensures { result ≡ str_eq_ignore_ascii_case a.now b.now }
 {
@@ -116,7 +117,7 @@ fn is_word(a: &[u8], b: &[u8]) -> bool
     }
 }
 
-// Most symbols of the table have another first byte, which costs no call.
+// Whether the bytes begin with the spelling. Most symbols of the table have another first byte, which costs no call.
 fn begins(bytes: &[u8], spelling: &[u8]) -> bool
     ensures { result ≡ begins_with spelling.now bytes.now }
 {
@@ -126,6 +127,8 @@ fn begins(bytes: &[u8], spelling: &[u8]) -> bool
     }
 }
 
+// The word of the first keyword in the table that these letters spell in either case, or none. It takes time linear in
+// the table.
 fn keyword_in(table: &[(&[u8], Word)], letters: &[u8]) -> Option<Word>
     ensures { result ≡ option_map (λ (k : Spelling). k.1) (find (λ (k : Spelling). str_eq_ignore_ascii_case k.0 letters.now) (map (λ k. (k.0.now, k.1)) table.now)) }
 {
@@ -137,6 +140,7 @@ fn keyword_in(table: &[(&[u8], Word)], letters: &[u8]) -> Option<Word>
     None
 }
 
+// The first symbol in the table with which the bytes begin, as a piece, or none. It takes time linear in the table.
 fn symbol_in(table: &[(&[u8], Word)], bytes: &[u8]) -> Option<Piece>
     ensures { result ≡ sign_piece (find (λ (s : Spelling). begins_with s.0 bytes.now) (map (λ s. (s.0.now, s.1)) table.now)) }
 {

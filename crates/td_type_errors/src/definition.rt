@@ -21,6 +21,7 @@ use td_values::{Heading, Name, TypeKind};
 const NAME: usize = 1;
 
 impl Explainer<'_> {
+    // Reports, at a mark, that this name is defined before.
     fn report_earlier_definition<T>(&self, name: &Name, at: usize) -> Result<T, DiagnosisError> {
         let sentence = Sentence::of(self.alloc, name.as_str()).say(" is defined before");
         self.report(at, sentence)
@@ -62,6 +63,8 @@ impl Explainer<'_> {
         self.report_operand_kind(at, "CONSTRAINT", "BOOLEAN", kind.get())
     }
 
+    // That a TYPE definition has a new name and a new selector, and components and a constraint that have types. A
+    // possrep without a name takes that of the type.
     fn check_type(
         &self,
         name: &Name,
@@ -140,6 +143,7 @@ impl Explainer<'_> {
         }
     }
 
+    // That the keys name attributes of the heading alone; the first one begins at a mark.
     fn check_keys(
         &self,
         keys: &[Attributes],
@@ -176,6 +180,7 @@ impl Explainer<'_> {
         Ok(())
     }
 
+    // That a base relvar has a new name, an opening with a heading, and keys of its attributes.
     fn check_base(
         &self,
         name: &Name,
@@ -188,17 +193,20 @@ impl Explainer<'_> {
         self.check_keys(keys, first, name, &heading)
     }
 
+    // That a virtual relvar has a new name and that its expression is a relation.
     fn check_virtual(&self, name: &Name, tree: &Expr) -> Result<(), DiagnosisError> {
         self.check_relvar_name(name)?;
         self.relation_at(tree, 3, "VIRTUAL")?;
         Ok(())
     }
 
+    // That a constraint has a new name and that its expression is a truth value over the relvars.
     fn check_constraint(&self, name: &Name, tree: &Expr) -> Result<(), DiagnosisError> {
         self.check_constraint_name(name)?;
         self.check_truth(tree, 2, &Scope::Relvars(self.schema()))
     }
 
+    // That a definition has no fault; otherwise gives the diagnostic of the first one found.
     fn check_definition(&self, definition: &Definition) -> Result<(), DiagnosisError> {
         match definition {
             Definition::Type(name, possrep, fields, limit) => {

@@ -31,6 +31,7 @@ impl Explainer<'_> {
         }
     }
 
+    // The step for an expression that does not begin with an operand: names, calls, TUPLE, RELATION and WITH.
     fn step_without_operand<'t>(
         &self,
         tree: &'t Expr,
@@ -100,6 +101,7 @@ impl Explainer<'_> {
         }
     }
 
+    // Reports that a name means nothing in the scope, with the nearest name that does.
     fn name<'t>(
         &self,
         name: &Name,
@@ -112,6 +114,7 @@ impl Explainer<'_> {
         self.report(at, sentence.near(nearest.found(), " is"))
     }
 
+    // Reports that an operator of one operand takes another kind than the operand has.
     fn unary<T>(
         &self,
         operator: UnaryOperator,
@@ -131,6 +134,7 @@ impl Explainer<'_> {
         }
     }
 
+    // Reports why the operands of an operator do not fit, or steps to the right operand where it has no kind itself.
     fn binary<'t>(
         &self,
         operator: BinaryOperator,

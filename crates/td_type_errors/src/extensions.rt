@@ -163,6 +163,7 @@ impl Explainer<'_> {
         }
     }
 
+    // The heading of the groups that BY makes; reports a listed name that is no attribute of the operand.
     fn check_groups_by(
         &self,
         attributes: &Attributes,
@@ -177,6 +178,7 @@ impl Explainer<'_> {
         }
     }
 
+    // The heading of the groups that PER makes, or the operand of PER where that has no kind itself.
     fn check_groups_per<'t>(
         &self,
         tree: &'t Expr,
@@ -191,6 +193,8 @@ impl Explainer<'_> {
         }
     }
 
+    // The heading of a relation behind PER; reports one that is no relation, or has attributes that the operand of
+    // SUMMARIZE lacks.
     fn groups_of(
         &self,
         kind: &TypeKind,

@@ -95,6 +95,8 @@ impl Explainer<'_> {
         Err(self.no_type(list))
     }
 
+    /// Reports that WHERE has an operand that is no relation or a condition that is no truth value, or steps to the
+    /// condition, within the operand's heading, where that has no type itself.
     pub fn restriction<'t>(
         &self,
         a: &Expr,
@@ -151,6 +153,7 @@ impl Explainer<'_> {
         self.report(at, sentence)
     }
 
+    /// Reports why RENAME has no type: an operand that is no relation, a name that it lacks, or new names that clash.
     pub(crate) fn report_renaming<T>(
         &self,
         a: &Expr,
@@ -341,6 +344,7 @@ impl Explainer<'_> {
     }
 }
 
+// Whether one of the renamings replaces this name.
 fn is_renamed(renamings: &[Renaming], name: &Name) -> bool {
     for renaming in renamings {
         if renaming.from == *name {
@@ -350,6 +354,7 @@ fn is_renamed(renamings: &[Renaming], name: &Name) -> bool {
     false
 }
 
+// The names that the renamings replace, in order.
 fn old_names(alloc: Global, renamings: &[Renaming]) -> Result<Vec<Name>, AllocError> {
     let mut names = Vec::with_capacity(alloc, renamings.len())?;
     for renaming in renamings {
@@ -358,6 +363,7 @@ fn old_names(alloc: Global, renamings: &[Renaming]) -> Result<Vec<Name>, AllocEr
     Ok(names)
 }
 
+// The names that the renamings introduce, in order.
 fn new_names(alloc: Global, renamings: &[Renaming]) -> Result<Vec<Name>, AllocError> {
     let mut names = Vec::with_capacity(alloc, renamings.len())?;
     for renaming in renamings {

@@ -15,6 +15,7 @@ pub(crate) struct Mark {
     pub place: usize,
 }
 
+// Whether tokens of this kind count as marks.
 fn is_mark(kind: TokenKind) -> bool {
     match kind {
         TokenKind::Word(word) => !matches!(

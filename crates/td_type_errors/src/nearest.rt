@@ -43,6 +43,7 @@ impl<'a> Nearest<'a> {
         }
     }
 
+    /// Compares a name with the wanted one, and keeps it where it is nearer than what was found before.
     pub fn look(&mut self, name: &'a Name) {
         if self.is_other_case {
             return;
@@ -60,12 +61,14 @@ impl<'a> Nearest<'a> {
         self.found
     }
 
+    /// Looks at the attributes of a heading.
     pub(crate) fn look_at_attributes(&mut self, heading: &'a Heading) {
         for field in heading.fields() {
             self.look(&field.0);
         }
     }
 
+    /// Looks at the names of all relvars.
     pub(crate) fn look_at_relvars(&mut self, schema: &'a Schema) {
         for place in 0..schema.relvar_count() {
             if let Some((name, _)) = schema.relvar_at(place) {
@@ -74,6 +77,7 @@ impl<'a> Nearest<'a> {
         }
     }
 
+    /// Looks at the names of all types that are defined.
     pub(crate) fn look_at_types(&mut self, schema: &'a Schema) {
         for place in 0..schema.type_count() {
             if let Some(representation) = schema.representation_at(place) {
@@ -82,6 +86,7 @@ impl<'a> Nearest<'a> {
         }
     }
 
+    /// Looks at the possreps, whose names are those of the selectors.
     pub(crate) fn look_at_selectors(&mut self, schema: &'a Schema) {
         for place in 0..schema.type_count() {
             if let Some(representation) = schema.representation_at(place) {
@@ -90,6 +95,7 @@ impl<'a> Nearest<'a> {
         }
     }
 
+    // Looks at the names that WITH gives.
     fn look_at_given(&mut self, names: &'a [Named<TypeKind>]) {
         for named in names {
             self.look(&named.name);

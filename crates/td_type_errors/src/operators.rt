@@ -104,6 +104,7 @@ fn is_ordered(kind: &TypeKind) -> bool {
     )
 }
 
+// Why an operator of order does not compare these types: one has no order, or they are not one type.
 fn order_words(alloc: Global, word: &str, left: &TypeKind, right: &TypeKind) -> Sentence {
     let unordered = if !is_ordered(left) {
         left
@@ -118,6 +119,7 @@ fn order_words(alloc: Global, word: &str, left: &TypeKind, right: &TypeKind) -> 
         .say("; only INTEGER, CHAR and relations are ordered")
 }
 
+// Why IN does not take these operands: what tells their headings apart, or that they are no tuple and relation.
 fn membership_words(alloc: Global, left: &TypeKind, right: &TypeKind) -> Sentence {
     if let (TypeKind::Tuple(g), TypeKind::Relation(h)) = (left, right) {
         if let Some(words) = sides(alloc, g, h) {

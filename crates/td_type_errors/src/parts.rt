@@ -94,6 +94,7 @@ impl<'c> Explainer<'c> {
         self.catalogue.schema()
     }
 
+    /// The kind of the token at a mark; None where the text has fewer marks.
     pub fn mark(&self, at: usize) -> Option<TokenKind> {
         match self.marks.get(at) {
             Some(mark) => Some(mark.kind),
@@ -146,6 +147,7 @@ impl<'c> Explainer<'c> {
         }
     }
 
+    // Why a part of at most so many levels has no type within a tuple of the heading.
     #[cycle(explain)]
     fn within(
         &self,
@@ -157,6 +159,7 @@ impl<'c> Explainer<'c> {
         self.explain(levels, part.tree, part.at, &Scope::Within(heading, &*scope))
     }
 
+    // Why a part of at most so many levels has no type behind these names of WITH.
     #[cycle(explain)]
     fn behind(
         &self,

@@ -38,6 +38,8 @@ impl Explainer<'_> {
         self.selector(name, representation, all, at, scope)
     }
 
+    // Reports that a name is no selector: where it is that of a type, with the type's selector, else with the nearest
+    // one.
     fn no_selector<T>(&self, name: &Name, at: usize) -> Result<T, DiagnosisError> {
         if let Some((_, representation)) = self.schema().type_named(name) {
             let sentence = Sentence::of(self.alloc, "the selector of the type ")
@@ -165,6 +167,7 @@ impl Explainer<'_> {
         }
     }
 
+    // Reports that a type has no such component, with the list of those it has.
     fn no_component_of<T>(
         &self,
         ty: &Name,

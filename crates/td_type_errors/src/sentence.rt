@@ -31,6 +31,7 @@ impl Sentence {
         Sentence::new(alloc).say(words)
     }
 
+    /// Appends these words.
     pub fn say(mut self, words: &str) -> Sentence {
         if self.text.push_str(words).is_err() {
             self.is_whole = false;
@@ -38,6 +39,7 @@ impl Sentence {
         self
     }
 
+    /// Appends a number in decimal digits.
     pub fn number(mut self, number: usize) -> Sentence {
         if write!(self.text, "{number}").is_err() {
             self.is_whole = false;
@@ -62,6 +64,7 @@ impl Sentence {
         }
     }
 
+    // Appends a heading in braces, with at most MOST_FIELDS of its attributes, and the kinds of these in short.
     fn heading(self, heading: &Heading) -> Sentence {
         let fields = heading.fields();
         let mut sentence = self.say("{ ");

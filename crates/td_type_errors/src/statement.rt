@@ -16,6 +16,7 @@ use td_syntax::tree::{Expr, Named};
 use td_values::{Heading, Name, TypeKind};
 
 impl<'c> Explainer<'c> {
+    // Reports, at a mark, that a name is no relvar, with the nearest one.
     fn report_unknown_relvar<T>(&self, name: &Name, at: usize) -> Result<T, DiagnosisError> {
         let mut nearest = Nearest::new(self.alloc, name);
         nearest.look_at_relvars(self.schema());
@@ -51,6 +52,7 @@ impl<'c> Explainer<'c> {
         self.check_source_kind(kind.get(), at, word, target.as_str(), heading)
     }
 
+    // That a source's kind is a relation of the target's heading; the sentence begins with the word of the action.
     fn check_source_kind(
         &self,
         kind: &TypeKind,
@@ -68,6 +70,7 @@ impl<'c> Explainer<'c> {
         }
     }
 
+    // Reports that a source is no relation; for a tuple it shows how to write a relation of it.
     fn report_no_relation<T>(
         &self,
         at: usize,
@@ -137,6 +140,7 @@ impl<'c> Explainer<'c> {
         self.report(at, sentence)
     }
 
+    // That each item of an UPDATE suits its attribute, and that no two items have one name.
     fn check_items(
         &self,
         all: &[Named<Boxed<Expr>>],
@@ -153,6 +157,7 @@ impl<'c> Explainer<'c> {
         self.check_item_names(all, first)
     }
 
+    // That an item of an UPDATE names an attribute of the target, and has its type.
     fn check_item(
         &self,
         item: &Named<Boxed<Expr>>,
@@ -202,6 +207,7 @@ impl<'c> Explainer<'c> {
         }
     }
 
+    // That an assignment, whose first mark is given, has a target that may change and a source that suits it.
     fn check_action(&self, action: &Action, at: usize) -> Result<(), DiagnosisError> {
         let (name, source) = (sum(&[at, 1]), sum(&[at, 2]));
         match action {
@@ -214,6 +220,7 @@ impl<'c> Explainer<'c> {
         }
     }
 
+    // That the assignments have no fault, the first of which begins at a mark.
     fn check_actions(&self, actions: &[Action], first: usize) -> Result<(), DiagnosisError> {
         let mut at = first;
         for action in actions {
@@ -223,6 +230,7 @@ impl<'c> Explainer<'c> {
         Ok(())
     }
 
+    // That IF has a condition that is a truth value, and assignments without fault in both branches.
     fn check_conditional(
         &self,
         condition: &Expr,
@@ -235,6 +243,7 @@ impl<'c> Explainer<'c> {
         self.check_actions(others, sum(&[first, actions_width(actions), 1]))
     }
 
+    // That a statement has no fault; otherwise gives the diagnostic of the first one found.
     fn check_statement(&self, statement: &Statement) -> Result<(), DiagnosisError> {
         match statement {
             Statement::Assignment(actions) => self.check_actions(actions.as_slice(), 0),

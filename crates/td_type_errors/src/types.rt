@@ -26,6 +26,7 @@ impl Sentence {
     }
 }
 
+// That a name is that of a type; otherwise reports the nearest type, or the list of all types.
 fn check_name(explainer: &Explainer<'_>, name: &Name, at: usize) -> Result<(), DiagnosisError> {
     if explainer.schema().type_named(name).is_some() {
         return Ok(());
@@ -67,6 +68,7 @@ pub(crate) fn check_fields(
     check_names(fields, explainer, first)
 }
 
+// That no two of the fields have one name; the first field begins at a mark.
 fn check_names(
     fields: &[Named<TypeExpr>],
     explainer: &Explainer<'_>,

@@ -48,6 +48,7 @@ pub(crate) fn fields_width(fields: &[Named<TypeExpr>]) -> usize {
     all
 }
 
+// Of the heading of RELATION, which may be left out.
 fn heading_width(heading: &Option<Items<Named<TypeExpr>>>) -> usize {
     match heading {
         Some(fields) => fields_width(fields.as_slice()),
@@ -55,6 +56,7 @@ fn heading_width(heading: &Option<Items<Named<TypeExpr>>>) -> usize {
     }
 }
 
+// Of the operands in a list.
 #[cycle(width)]
 fn list_width(all: &[Boxed<Expr>]) -> usize {
     let mut marks = 0;
@@ -154,6 +156,7 @@ fn condition_width(condition: &Option<Boxed<Expr>>) -> usize {
     }
 }
 
+// Of one assignment.
 fn action_width(action: &Action) -> usize {
     match action {
         Action::Assign(_, a) | Action::Insert(_, a) => sum(&[2, width(a.get())]),

@@ -17,6 +17,7 @@ pub enum Mention {
     Possrep(usize),
 }
 
+// Adds what the trees mention, in their order.
 #[cycle(mentions)]
 fn add_list(found: &mut Vec<Mention>, trees: &[Boxed<Typed>]) -> Result<(), AllocError>
     ensures { OnOk result (found.new.items ≡ found.old.items ++ list_mentioned trees.now) }
@@ -27,6 +28,7 @@ fn add_list(found: &mut Vec<Mention>, trees: &[Boxed<Typed>]) -> Result<(), Allo
     Ok(())
 }
 
+// Adds what the terms of the items mention, in their order.
 #[cycle(mentions)]
 fn add_items(found: &mut Vec<Mention>, items: &[Item<Boxed<Typed>>]) -> Result<(), AllocError>
     ensures { OnOk result (found.new.items ≡ found.old.items ++ items_mentioned items.now) }
@@ -37,6 +39,7 @@ fn add_items(found: &mut Vec<Mention>, items: &[Item<Boxed<Typed>>]) -> Result<(
     Ok(())
 }
 
+// Adds what the expressions of WITH mention, in their order.
 #[cycle(mentions)]
 fn add_named(found: &mut Vec<Mention>, names: &[Named<Boxed<Typed>>]) -> Result<(), AllocError>
     ensures { OnOk result (found.new.items ≡ found.old.items ++ named_mentioned names.now) }
@@ -47,6 +50,7 @@ fn add_named(found: &mut Vec<Mention>, names: &[Named<Boxed<Typed>>]) -> Result<
     Ok(())
 }
 
+// Adds what the summary's term mentions; COUNT has none.
 #[cycle(mentions)]
 fn add_summary(found: &mut Vec<Mention>, summary: &Summary<Boxed<Typed>>) -> Result<(), AllocError>
     ensures { OnOk result (found.new.items ≡ found.old.items ++ summary_mentioned summary.now) }
@@ -61,6 +65,7 @@ fn add_summary(found: &mut Vec<Mention>, summary: &Summary<Boxed<Typed>>) -> Res
     }
 }
 
+// Adds what the terms of the summaries mention, in their order.
 #[cycle(mentions)]
 fn add_summaries(
     found: &mut Vec<Mention>,
@@ -81,6 +86,7 @@ fn add_summaries(
     Ok(())
 }
 
+// Adds what the relation of PER mentions; other groups mention nothing.
 #[cycle(mentions)]
 fn add_groups(
     found: &mut Vec<Mention>,
@@ -145,7 +151,7 @@ pub fn add_mentions(found: &mut Vec<Mention>, tree: &Typed) -> Result<(), AllocE
     }
 }
 
-/// The places of the relvars among them, in their order.
+/// The places of the relvars among the mentions, in the order of the mentions.
 pub fn relvars_in(alloc: Global, mentions: &[Mention]) -> Result<Vec<usize>, AllocError>
     ensures { IfOk result (λ v. v.items ≡ relvars_in mentions.now) }
 {
@@ -158,7 +164,7 @@ pub fn relvars_in(alloc: Global, mentions: &[Mention]) -> Result<Vec<usize>, All
     Ok(places)
 }
 
-/// The places of the possreps among them, in their order.
+/// The places of the possreps among the mentions, in the order of the mentions.
 pub fn possreps_in(alloc: Global, mentions: &[Mention]) -> Result<Vec<usize>, AllocError>
     ensures { IfOk result (λ v. v.items ≡ possreps_in mentions.now) }
 {

@@ -12,24 +12,28 @@ use td_syntax::tree::{BinaryOperator, Named, Nesting, UnaryOperator};
 use td_tuples::{Item, Summary};
 use td_values::{Heading, Name, TdType, compare_headings, compare_types};
 
+// The order of unary operators: that in which they are declared.
 fn unary_operators(a: UnaryOperator, b: UnaryOperator) -> Ordering
     ensures { result ≡ Equal → a ≡ b }
 {
     (a as u8).cmp(&(b as u8))
 }
 
+// The order of binary operators: that in which they are declared.
 fn binary_operators(a: BinaryOperator, b: BinaryOperator) -> Ordering
     ensures { result ≡ Equal → a ≡ b }
 {
     (a as u8).cmp(&(b as u8))
 }
 
+// The order of nestings: that in which they are declared.
 fn nestings(a: Nesting, b: Nesting) -> Ordering
     ensures { result ≡ Equal → a ≡ b }
 {
     (a as u8).cmp(&(b as u8))
 }
 
+// The order of headings that `compare_headings` gives, under a contract that says that headings which tie are equal.
 #[tactic(auto, using(crate::proofs::Ties::same_heading))]
 fn headings(a: &Heading, b: &Heading) -> Ordering
     ensures { result ≡ Equal → a.now ≡ b.now }
@@ -37,12 +41,14 @@ fn headings(a: &Heading, b: &Heading) -> Ordering
     compare_headings(a, b)
 }
 
+// The order of lists of renamings, pair by pair, and where one begins with the other, the shorter first.
 fn renamings(a: &Items<(Name, Name)>, b: &Items<(Name, Name)>) -> Ordering
     ensures { result ≡ Equal → a.now ≡ b.now }
 {
     a.as_slice().cmp(b.as_slice())
 }
 
+// Goes on from `before` by two names.
 #[tactic(auto, using(crate::proofs::Ties::both_equal))]
 fn then_name(before: Ordering, a: &Name, b: &Name) -> Ordering
     ensures before { result ≡ Equal → before ≡ Equal }
@@ -51,6 +57,7 @@ fn then_name(before: Ordering, a: &Name, b: &Name) -> Ordering
     before.then(a.compare(b))
 }
 
+// Goes on from `before` by two lists of names, name by name, and where one begins with the other, the shorter first.
 #[tactic(auto, using(crate::proofs::Ties::both_equal))]
 fn then_names(before: Ordering, a: &Items<Name>, b: &Items<Name>) -> Ordering
     ensures before { result ≡ Equal → before ≡ Equal }
@@ -59,6 +66,7 @@ fn then_names(before: Ordering, a: &Items<Name>, b: &Items<Name>) -> Ordering
     before.then(a.as_slice().cmp(b.as_slice()))
 }
 
+// Goes on from `before` by two types.
 #[tactic(auto, using(crate::proofs::Ties::both_equal))]
 fn then_type(before: Ordering, a: &TdType, b: &TdType) -> Ordering
     ensures before { result ≡ Equal → before ≡ Equal }
@@ -67,6 +75,7 @@ fn then_type(before: Ordering, a: &TdType, b: &TdType) -> Ordering
     before.then(compare_types(a, b))
 }
 
+// The number of the summary's kind, by which summaries of two kinds are ordered.
 fn summary_rank(summary: &Summary<Boxed<Typed>>) -> u8 {
     match summary {
         Summary::Count => 0,
@@ -89,6 +98,7 @@ fn unlike_summaries(a: &Summary<Boxed<Typed>>, b: &Summary<Boxed<Typed>>) -> Ord
     }
 }
 
+// The number of the tree's form, by which trees of two forms are ordered.
 fn rank(tree: &Typed) -> u8 {
     match tree {
         Typed::Integer(_) => 0,
@@ -131,6 +141,7 @@ fn leaves(a: &Typed, b: &Typed) -> Ordering
     }
 }
 
+// Goes on from `before` by two lists of trees, tree by tree, and where one begins with the other, the shorter first.
 #[cycle(order)]
 fn then_list(before: Ordering, a: &[Boxed<Typed>], b: &[Boxed<Typed>]) -> Ordering
     ensures before { result ≡ Equal → before ≡ Equal }
@@ -145,6 +156,8 @@ fn then_list(before: Ordering, a: &[Boxed<Typed>], b: &[Boxed<Typed>]) -> Orderi
     ordering.then(a.len().cmp(&b.len()))
 }
 
+// Goes on from `before` by two lists of items, item by item: by its name, its type and its term. Where one list begins
+// with the other, the shorter comes first.
 #[cycle(order)]
 fn then_items(before: Ordering, a: &[Item<Boxed<Typed>>], b: &[Item<Boxed<Typed>>]) -> Ordering
     ensures before { result ≡ Equal → before ≡ Equal }
@@ -161,6 +174,8 @@ fn then_items(before: Ordering, a: &[Item<Boxed<Typed>>], b: &[Item<Boxed<Typed>
     ordering.then(a.len().cmp(&b.len()))
 }
 
+// Goes on from `before` by two lists of trees with names, one by one: by its name and its tree. Where one list begins
+// with the other, the shorter comes first.
 #[cycle(order)]
 fn then_named(before: Ordering, a: &[Named<Boxed<Typed>>], b: &[Named<Boxed<Typed>>]) -> Ordering
     ensures before { result ≡ Equal → before ≡ Equal }
@@ -176,6 +191,7 @@ fn then_named(before: Ordering, a: &[Named<Boxed<Typed>>], b: &[Named<Boxed<Type
     ordering.then(a.len().cmp(&b.len()))
 }
 
+// Goes on from `before` by two summaries: by their kinds, or for one kind by their terms.
 #[cycle(order)]
 #[tactic(auto, using(crate::proofs::Ties::both_equal))]
 fn then_summary(before: Ordering, a: &Summary<Boxed<Typed>>, b: &Summary<Boxed<Typed>>) -> Ordering
@@ -193,6 +209,8 @@ fn then_summary(before: Ordering, a: &Summary<Boxed<Typed>>, b: &Summary<Boxed<T
     }
 }
 
+// Goes on from `before` by two lists of summaries, item by item: by its name, its type and its summary. Where one list
+// begins with the other, the shorter comes first.
 #[cycle(order)]
 #[tactic(auto, using(crate::proofs::Ties::both_equal))]
 fn then_summaries(
@@ -222,6 +240,8 @@ fn then_summaries(
     ordering.then(a.len().cmp(&b.len()))
 }
 
+// Goes on from `before` by the groups of two SUMMARIZE: the whole first, then PER, then BY, and for one kind by the
+// relation or the names.
 #[cycle(order)]
 #[tactic(auto, using(crate::proofs::Ties::both_equal))]
 fn then_groups(
@@ -300,6 +320,8 @@ fn several(a: &Typed, b: &Typed) -> Ordering
     }
 }
 
+// Goes on from `before` by two trees: it orders those with one tree in them itself, and leaves the others to `several`.
+// Where `before` decides, it looks at neither.
 #[cycle(order)]
 fn then_tree(before: Ordering, a: &Typed, b: &Typed) -> Ordering
     ensures before { result ≡ Equal → before ≡ Equal }

@@ -70,6 +70,7 @@ pub fn named(alloc: Global, name: &Name, scope: &Scope) -> Result<Typing, TypeEr
     }
 }
 
+/// The operator over a typed operand; ill typed where the operator does not take an operand of that kind.
 #[tactic(auto, unfolding(crate::specs::ForProofs::Infer::by_unary))]
 pub fn by_unary(alloc: Global, operator: UnaryOperator, a: Typing) -> Result<Typing, TypeError>
     ensures { Gives (spec.by_unary operator a) result }
@@ -78,6 +79,7 @@ pub fn by_unary(alloc: Global, operator: UnaryOperator, a: Typing) -> Result<Typ
     Ok(typed(alloc, Typed::Unary(operator, a.tree), kind)?)
 }
 
+/// The operator between two typed operands; ill typed where the operator does not take operands of these kinds.
 #[tactic(auto, unfolding(crate::specs::ForProofs::Infer::by_binary))]
 pub fn by_binary(
     alloc: Global,
@@ -117,6 +119,7 @@ pub(crate) fn by_project(
     Ok(typed(alloc, Typed::Project(a.tree, names), kind)?)
 }
 
+/// RENAME of a relation; ill typed where the operand's kind does not bear these renamings.
 #[tactic(auto, unfolding(crate::specs::ForProofs::Infer::by_rename))]
 pub(crate) fn by_rename(
     alloc: Global,
@@ -182,6 +185,7 @@ pub(crate) fn by_unnest(
     Ok(typed(alloc, Typed::Unnest(nesting, a.tree, name.copy()?), kind)?)
 }
 
+/// The summary that computes this aggregate of the term over each group.
 pub(crate) fn summary_of(aggregate: Aggregate, term: Boxed<Typed>) -> Summary<Boxed<Typed>>
     ensures { result ≡ trees.summary_of aggregate term }
 {

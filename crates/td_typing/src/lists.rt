@@ -70,6 +70,7 @@ pub fn extended(
     Ok(typed(alloc, Typed::Extend(relation, items), kind)?)
 }
 
+// Whether a kind is that of the tuples of this heading.
 fn is_tuple_of(kind: &TypeKind, heading: &Heading) -> bool
     ensures { result ≡ kinds.same_kind (type_kind.Tuple heading.now) kind.now }
 {
@@ -79,12 +80,14 @@ fn is_tuple_of(kind: &TypeKind, heading: &Heading) -> bool
     }
 }
 
+// Whether each of the kinds is that of the tuples of this heading.
 fn are_tuples_of(all: &[TypeKind], heading: &Heading) -> bool
     ensures { result ≡ list_all (kinds.same_kind (type_kind.Tuple heading.now)) all.now }
 {
     all.iter().all(|kind| is_tuple_of(kind, heading))
 }
 
+// The relation of these operands, which are to be tuples of the heading; ill typed where one is not.
 #[tactic(auto, unfolding(crate::specs::ForProofs::Infer::relation_of))]
 fn relation_of(alloc: Global, operands: Operands, heading: Heading) -> Result<Typing, TypeError>
     ensures { Gives (spec.relation_of operands heading) result }
@@ -109,6 +112,7 @@ fn first_heading(all: &[TypeKind]) -> Result<Heading, TypeError>
     }
 }
 
+// The heading that is written, or where none is written that of the first operand.
 fn heading_meant(
     alloc: Global,
     schema: &Schema,

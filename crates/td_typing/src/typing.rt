@@ -33,6 +33,7 @@ use td_tuples::Item;
 use td_typed_trees::tree::{Typed, Typing};
 use td_values::{Heading, Name, TypeKind};
 
+// Types an operator of one operand: types the operand, then applies the rule of the operator.
 #[cycle(typing)]
 #[tactic(auto, unfolding(crate::specs::ForProofs::Infer::infer_by))]
 fn unary(
@@ -48,6 +49,7 @@ fn unary(
     by_unary(alloc, operator, a)
 }
 
+// Types FROM: types the operand, then takes the attribute of this name out of its heading.
 #[cycle(typing)]
 #[tactic(auto, unfolding(crate::specs::ForProofs::Infer::infer_by))]
 fn attribute(
@@ -63,6 +65,7 @@ fn attribute(
     by_from(alloc, name, a)
 }
 
+// Types the projection of the operand on these attributes.
 #[cycle(typing)]
 #[tactic(auto, unfolding(crate::specs::ForProofs::Infer::infer_by))]
 fn projection(
@@ -78,6 +81,7 @@ fn projection(
     by_project(alloc, attributes, a)
 }
 
+// Types RENAME: types the operand, then gives the attributes of its heading their new names.
 #[cycle(typing)]
 #[tactic(auto, unfolding(crate::specs::ForProofs::Infer::infer_by))]
 fn renaming(
@@ -93,6 +97,7 @@ fn renaming(
     by_rename(alloc, renamings, a)
 }
 
+// Types GROUP and WRAP: types the operand, then nests these attributes in a new one of this name.
 #[cycle(typing)]
 #[tactic(auto, unfolding(crate::specs::ForProofs::Infer::infer_by))]
 fn nesting(
@@ -110,6 +115,7 @@ fn nesting(
     by_nest(alloc, nesting, attributes, name, a)
 }
 
+// Types UNGROUP and UNWRAP: types the operand, then replaces the attribute of this name by those nested in it.
 #[cycle(typing)]
 #[tactic(auto, unfolding(crate::specs::ForProofs::Infer::infer_by))]
 fn unnesting(
@@ -126,6 +132,7 @@ fn unnesting(
     by_unnest(alloc, nesting, name, a)
 }
 
+// Types an aggregate without a term: types its operand, whose one attribute is the term.
 #[cycle(typing)]
 #[tactic(auto, unfolding(crate::specs::ForProofs::Infer::infer_by))]
 fn lone_aggregate(
@@ -141,6 +148,7 @@ fn lone_aggregate(
     by_lone(alloc, aggregate, a)
 }
 
+// Types an operator of two operands: types the left one, then the right one, in the same scope.
 #[cycle(typing)]
 #[tactic(auto, unfolding(crate::specs::ForProofs::Infer::infer_binary))]
 fn binary(
@@ -158,6 +166,7 @@ fn binary(
     by_binary(alloc, operator, a, b)
 }
 
+// Types IF: its condition must be a truth value, and both branches see the same scope.
 #[cycle(typing)]
 #[tactic(auto, unfolding(crate::specs::ForProofs::Infer::infer_if))]
 fn choice(
@@ -176,6 +185,8 @@ fn choice(
     chosen(alloc, a, b, c)
 }
 
+// Types WHERE: the condition sees the attributes of the operand before the scope around it. Ill typed where the operand
+// is no relation.
 #[cycle(typing)]
 #[tactic(auto, unfolding(crate::specs::ForProofs::Infer::infer_where))]
 fn restriction(
@@ -195,6 +206,8 @@ fn restriction(
     restricted(alloc, a, condition)
 }
 
+// Types an aggregate of a term, which sees the attributes of the operand before the scope around it. Ill typed where
+// the operand is no relation.
 #[cycle(typing)]
 #[tactic(auto, unfolding(crate::specs::ForProofs::Infer::infer_aggregate))]
 fn aggregation(
@@ -215,6 +228,7 @@ fn aggregation(
     aggregated(alloc, aggregate, tree, term)
 }
 
+// Types the expressions in order, all in the same scope; gives the error of the first that has no type.
 #[cycle(typing)]
 #[tactic(auto, unfolding(crate::specs::ForProofs::Infer::infer_operands))]
 fn operands(
@@ -235,6 +249,7 @@ fn operands(
     Ok(Operands { trees, kinds })
 }
 
+// Types the call of a selector: types its operands, then looks up the type that the selector belongs to.
 #[cycle(typing)]
 #[tactic(auto, unfolding(crate::specs::ForProofs::Infer::infer_selector))]
 fn selector(
@@ -250,6 +265,7 @@ fn selector(
     selected(alloc, schema, name, operands)
 }
 
+// Types THE_ of a component, whose name still begins with THE_; ill typed where it has not exactly one operand.
 #[cycle(typing)]
 #[tactic(auto, unfolding(crate::specs::ForProofs::Infer::infer_component, crate::specs::ForProofs::Infer::infer_by))]
 fn component(
@@ -268,6 +284,7 @@ fn component(
     component_of(alloc, schema, name, a)
 }
 
+// Types a call by its name: one that begins with THE_ reads a component, every other one is a selector.
 #[cycle(typing)]
 #[tactic(auto, unfolding(crate::specs::ForProofs::Infer::infer_call))]
 fn call(
@@ -286,6 +303,7 @@ fn call(
     }
 }
 
+// Types RELATION: its operands are tuples, of the written heading where one is written.
 #[cycle(typing)]
 #[tactic(auto, unfolding(crate::specs::ForProofs::Infer::infer_relation))]
 fn relation(
@@ -320,6 +338,7 @@ pub fn items(
     Ok(found)
 }
 
+// Types TUPLE, each of whose items becomes an attribute; the items do not see each other.
 #[cycle(typing)]
 #[tactic(auto, unfolding(crate::specs::ForProofs::Infer::infer_tuple))]
 fn tuple(
@@ -335,6 +354,8 @@ fn tuple(
     tuple_of(alloc, &names, items)
 }
 
+// Types the forms that compute attributes from the tuples of a relation, which the items see before the scope around
+// them. Ill typed where the operand is no relation.
 #[cycle(typing)]
 #[tactic(auto, unfolding(crate::specs::ForProofs::Infer::infer_extend))]
 fn extension(
@@ -356,6 +377,7 @@ fn extension(
     extended(alloc, extension, &names, tree, heading, items)
 }
 
+// Types the groups of SUMMARIZE over a relation of the heading; the operand of PER sees only the scope around.
 #[cycle(typing)]
 fn groups(
     alloc: Global,
@@ -376,6 +398,7 @@ fn groups(
     }
 }
 
+// Types one item of SUMMARIZE, COUNT or an aggregate of a term, as a new attribute of this name.
 #[cycle(typing)]
 fn summary(
     alloc: Global,
@@ -395,6 +418,7 @@ fn summary(
     }
 }
 
+// Types the items of SUMMARIZE in order, all in the same scope; gives the error of the first that has no type.
 #[cycle(typing)]
 #[tactic(auto, unfolding(crate::specs::ForProofs::Infer::infer_summaries, crate::specs::ForProofs::Infer::infer_summary))]
 fn summaries(
@@ -412,6 +436,8 @@ fn summaries(
     Ok(found)
 }
 
+// Types SUMMARIZE: the groups see the scope around, the items also the attributes of the operand. Ill typed where the
+// operand is no relation.
 #[cycle(typing)]
 #[tactic(auto, unfolding(crate::specs::ForProofs::Infer::infer_summarize))]
 fn summarization(
@@ -434,6 +460,7 @@ fn summarization(
     summarized(alloc, &names, tree, grouping, items)
 }
 
+// Types the expressions of WITH in order; each sees the names given before it.
 #[cycle(typing)]
 #[tactic(auto, unfolding(crate::specs::ForProofs::Infer::introduces))]
 fn introduced(
@@ -461,6 +488,7 @@ fn introduced(
     Ok(Introduced { trees, kinds })
 }
 
+// Types WITH: the body sees all the names given before the scope around it.
 #[cycle(typing)]
 #[tactic(auto, unfolding(crate::specs::ForProofs::Infer::infer_with))]
 fn with(

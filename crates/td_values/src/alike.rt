@@ -53,6 +53,8 @@ pub fn compare_values(a: &Tuple, b: &Tuple) -> Ordering
     compare_in_turn(&a.attributes, &b.attributes)
 }
 
+// The order of attribute lists by their values, one by one, whatever their names; where one begins with the other, the
+// shorter comes first.
 #[cycle(compare_values)]
 #[tactic(auto, using(crate::proofs::Walks::values_ended))]
 fn compare_in_turn(a: &[(Name, Value)], b: &[(Name, Value)]) -> Ordering
@@ -69,6 +71,8 @@ fn compare_in_turn(a: &[(Name, Value)], b: &[(Name, Value)]) -> Ordering
     a.len().cmp(&b.len())
 }
 
+// The order of values without the names of attributes, the headings of relations and the types of possreps. Components
+// of user values are compared whole.
 #[cycle(compare_values)]
 fn compare_bare(a: &Value, b: &Value) -> Ordering
     ensures { result ≡ order (bare a.now) (bare b.now) }
@@ -87,6 +91,8 @@ fn compare_bare(a: &Value, b: &Value) -> Ordering
     }
 }
 
+// The order of lists of tuples by their values alone, tuple by tuple; where one begins with the other, the shorter
+// comes first.
 #[cycle(compare_values)]
 #[tactic(auto, using(crate::proofs::Walks::bare_tuples_ended))]
 fn compare_bare_rows(a: &[Tuple], b: &[Tuple]) -> Ordering

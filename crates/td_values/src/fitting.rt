@@ -16,6 +16,7 @@ pub fn fits(tuple: &Tuple, heading: &Heading) -> bool
     fit_fields(&tuple.attributes, &heading.fields)
 }
 
+// Whether the attributes have the names and the types of the fields, one by one, and are as many.
 #[cycle(fits)]
 fn fit_fields(attributes: &[(Name, Value)], fields: &[(Name, TdType)]) -> bool
     ensures { IsTrue result ↔ (heading_of (attrs_of attributes.now) ≡ fields_of fields.now) }

@@ -49,12 +49,14 @@ impl Model for Name {
     ghost invariant = { λ a. IsTrue (is_name (string_bytes a.text.value)) };
 }
 
+// Whether the byte may stand in a name behind its first: an ASCII letter, a digit, `_` or `#`.
 fn goes_on(b: u8) -> bool
     ensures { result ≡ goes_on_in_name b }
 {
     b.is_ascii_alphanumeric() || b == b'_' || b == b'#'
 }
 
+// Whether each byte may stand in a name behind its first.
 fn all_go_on(bytes: &[u8]) -> bool
     ensures { result ≡ list_all goes_on_in_name bytes.now }
 {
@@ -74,6 +76,7 @@ pub fn is_name(text: &str) -> bool
     }
 }
 
+// A copy of the text on the heap, which the copies of a name share.
 fn shared(alloc: Global, text: &str) -> Result<Rc<String>, AllocError>
     ensures { IfOk result (λ t. string_bytes t.value ≡ text.now) }
 {

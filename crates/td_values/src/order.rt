@@ -23,6 +23,7 @@ pub fn compare_types(a: &TdType, b: &TdType) -> Ordering
     }
 }
 
+// The number of the type's kind, by which types of two kinds are ordered.
 fn type_rank(a: &TdType) -> u8
     ensures { result ≡ ty_rank a.now }
 {
@@ -73,6 +74,7 @@ pub fn compare_headings(a: &Heading, b: &Heading) -> Ordering
     compare_fields(&a.fields, &b.fields)
 }
 
+// The order of lists of fields: field by field, by its name and its type, a proper prefix first.
 #[cycle(compare_types)]
 #[tactic(auto, using(crate::proofs::Walks::fields_ended))]
 fn compare_fields(a: &[(Name, TdType)], b: &[(Name, TdType)]) -> Ordering
@@ -91,6 +93,7 @@ fn compare_fields(a: &[(Name, TdType)], b: &[(Name, TdType)]) -> Ordering
     a.len().cmp(&b.len())
 }
 
+/// The number of the value's kind, by which values of two kinds are ordered.
 pub(crate) fn kind_rank(a: &Value) -> u8
     ensures { result ≡ rank a.now }
 {
@@ -133,6 +136,7 @@ pub fn equal(a: &Value, b: &Value) -> bool
     compare(a, b).is_eq()
 }
 
+/// The order of the components of user values: one by one, a proper prefix first. It takes no memory.
 #[cycle(compare)]
 #[tactic(auto, using(crate::proofs::Walks::items_ended))]
 pub(crate) fn compare_items(a: &[Value], b: &[Value]) -> Ordering
@@ -157,6 +161,7 @@ pub fn compare_tuples(a: &Tuple, b: &Tuple) -> Ordering
     compare_attributes(&a.attributes, &b.attributes)
 }
 
+// The order of lists of attributes: one by one, by its name and its value, a proper prefix first.
 #[cycle(compare)]
 #[tactic(auto, using(crate::proofs::Walks::attrs_ended))]
 fn compare_attributes(a: &[(Name, Value)], b: &[(Name, Value)]) -> Ordering
@@ -175,6 +180,7 @@ fn compare_attributes(a: &[(Name, Value)], b: &[(Name, Value)]) -> Ordering
     a.len().cmp(&b.len())
 }
 
+// The order of lists of tuples: tuple by tuple, a proper prefix first.
 #[cycle(compare)]
 #[tactic(auto, using(crate::proofs::Walks::tuples_ended))]
 fn compare_rows(a: &[Tuple], b: &[Tuple]) -> Ordering

@@ -33,7 +33,7 @@ impl Raise {
         }
     }
 
-    /// The one of the lesser number.
+    /// The error of the lesser number, of the two.
     pub fn lesser(self, other: Raise) -> Raise
         ensures { result ≡ spec.lesser_raise self other }
     {

@@ -27,6 +27,7 @@ pub fn show_type(alloc: Global, t: &TdType) -> Result<String, AllocError>
     Ok(out)
 }
 
+// Appends the integer. The least one is written as a difference in brackets, since its digits alone are no literal.
 fn show_integer(out: &mut String, n: i64) -> Result<(), AllocError>
     ensures { OnOk result (string_bytes out.new ≡ string_bytes out.old ++ literal n) }
 {
@@ -37,6 +38,7 @@ fn show_integer(out: &mut String, n: i64) -> Result<(), AllocError>
     out.push_str(buffer.format(n))
 }
 
+// Appends the text as a literal: in quotes, with each quote inside doubled.
 fn show_text(out: &mut String, s: &str) -> Result<(), AllocError>
     ensures { OnOk result (string_bytes out.new ≡ string_bytes out.old ++ quoted s.now) }
 {
@@ -72,6 +74,7 @@ pub fn show_type_into(out: &mut String, t: &TdType) -> Result<(), AllocError>
     }
 }
 
+// Appends the heading in braces: `{ a INTEGER, b CHAR }`.
 #[cycle(show_type)]
 fn show_heading(out: &mut String, h: &Heading) -> Result<(), AllocError>
     ensures { OnOk result (string_bytes out.new ≡ string_bytes out.old ++ braced (shown_fields (header_fields h.now))) }
@@ -79,6 +82,7 @@ fn show_heading(out: &mut String, h: &Heading) -> Result<(), AllocError>
     show_fields(out, &h.fields)
 }
 
+// Appends the fields in braces, with commas between: `{ a INTEGER, b CHAR }` or `{ }`.
 #[cycle(show_type)]
 fn show_fields(out: &mut String, fields: &[(Name, TdType)]) -> Result<(), AllocError>
     ensures { OnOk result (string_bytes out.new ≡ string_bytes out.old ++ braced (shown_fields (fields_of fields.now))) }
@@ -133,6 +137,7 @@ pub fn show_tuple_into(out: &mut String, t: &Tuple) -> Result<(), AllocError>
     show_attributes(out, &t.attributes)
 }
 
+// Appends the components of a user value, behind a space and in round brackets: ` ( 1, 'x' )` or ` ( )`.
 #[cycle(show)]
 fn show_items(out: &mut String, items: &[Value]) -> Result<(), AllocError>
     ensures { OnOk result (string_bytes out.new ≡ string_bytes out.old ++ (codes " " ++ enclosed (codes "(") (codes ")") (shown_items (items_of items.now)))) }
@@ -151,6 +156,7 @@ fn show_items(out: &mut String, items: &[Value]) -> Result<(), AllocError>
     out.push_str(" )")
 }
 
+// Appends the attributes in braces, with commas between: `{ a 1, b 'x' }` or `{ }`.
 #[cycle(show)]
 fn show_attributes(out: &mut String, a: &[(Name, Value)]) -> Result<(), AllocError>
     ensures { OnOk result (string_bytes out.new ≡ string_bytes out.old ++ braced (shown_attrs (attrs_of a.now))) }
@@ -173,6 +179,7 @@ fn show_attributes(out: &mut String, a: &[(Name, Value)]) -> Result<(), AllocErr
     out.push_str(" }")
 }
 
+// Appends the tuples in braces, with commas between: `{ TUPLE { a 1 }, TUPLE { a 2 } }` or `{ }`.
 #[cycle(show)]
 fn show_tuples(out: &mut String, tuples: &[Tuple]) -> Result<(), AllocError>
     ensures { OnOk result (string_bytes out.new ≡ string_bytes out.old ++ braced (shown_tuples (tuples_of tuples.now))) }

@@ -38,6 +38,7 @@ impl Model for Text {
     ghost view = { λ a. kept_bytes a.kept };
 }
 
+// The text kept in the value itself, or none where it has more than `SHORT` bytes. It takes no memory.
 fn short(text: &str) -> Option<Kept>
     ensures variant { IsSome result ↔ (length text.now ≤ 16) }
     ensures bytes { IfSome result (λ k. kept_bytes k ≡ text.now) }
@@ -48,6 +49,7 @@ fn short(text: &str) -> Option<Kept>
     }
 }
 
+// A text whose characters are shared by its copies, however few they are.
 fn long(alloc: Global, text: String) -> Result<Text, AllocError>
     ensures { IfOk result (λ t. t ≡ string_bytes text) }
 {

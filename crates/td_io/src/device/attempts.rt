@@ -13,6 +13,7 @@ use std::io::{BufRead, BufReader, ErrorKind, Read, Write};
 /// Interruptions in a row that are a failure.
 const MOST_INTERRUPTIONS: u32 = 1_000;
 
+// Whether a call was interrupted, and is to be made again.
 fn is_interruption(e: &io::Error) -> bool {
     e.kind() == ErrorKind::Interrupted
 }
@@ -46,6 +47,7 @@ macro_rules! persist {
     }};
 }
 
+/// Reads some bytes; it goes on after interruptions.
 pub(super) fn read_on<R: Read>(inner: &mut R, buf: &mut [u8]) -> Result<usize, Failed>
     ensures bound { ReadsAtMost result buf.new }
     ensures bytes { ReadConsumes (R.remaining inner.old) (R.remaining inner.new) result buf.new }
@@ -105,6 +107,7 @@ fn read_of_line<R: Read>(inner: &mut BufReader<R>, buf: &mut [u8]) -> io::Result
     Ok(1 + take_of_line(inner, &mut buf[1..]))
 }
 
+/// Reads some bytes of a line, none behind its end; it goes on after interruptions.
 pub(super) fn read_of_line_on<R: Read>(
     inner: &mut BufReader<R>,
     buf: &mut [u8],
@@ -116,6 +119,7 @@ pub(super) fn read_of_line_on<R: Read>(
     persist!(read_of_line(inner, buf), n => Ok(n))
 }
 
+/// Writes some of the bytes, one at least where there are any; it goes on after interruptions.
 pub(super) fn write_on<W: Write>(inner: &mut W, bytes: &[u8]) -> Result<usize, Failed>
     ensures bound { WritesAtMost result bytes.now }
     ensures some { IfOk result (λ n. 0 < length bytes.now → 0 < n) }
@@ -124,12 +128,14 @@ pub(super) fn write_on<W: Write>(inner: &mut W, bytes: &[u8]) -> Result<usize, F
     persist!(inner.write(bytes), n => taken(n, bytes))
 }
 
+/// Flushes a writer; it goes on after interruptions.
 pub(super) fn flush_on<W: Write>(inner: &mut W) -> Result<(), Failed>
     ensures { Keeps (W.contents inner.old) (W.contents inner.new) }
 {
     persist!(inner.flush(), done => Ok(done))
 }
 
+/// Reads some bytes from a link; it goes on after interruptions.
 pub(super) fn read_side_on<L: Link>(inner: &mut L, buf: &mut [u8]) -> Result<usize, Failed>
     ensures bound { ReadsAtMost result buf.new }
     ensures bytes { ReadConsumes (L.remaining inner.old) (L.remaining inner.new) result buf.new }
@@ -138,6 +144,7 @@ pub(super) fn read_side_on<L: Link>(inner: &mut L, buf: &mut [u8]) -> Result<usi
     persist!(inner.read_side(buf), n => Ok(n))
 }
 
+/// Writes some of the bytes to a link, one at least where there are any; it goes on after interruptions.
 pub(super) fn write_side_on<L: Link>(inner: &mut L, bytes: &[u8]) -> Result<usize, Failed>
     ensures bound { WritesAtMost result bytes.now }
     ensures some { IfOk result (λ n. 0 < length bytes.now → 0 < n) }
@@ -147,6 +154,7 @@ pub(super) fn write_side_on<L: Link>(inner: &mut L, bytes: &[u8]) -> Result<usiz
     persist!(inner.write_side(bytes), n => taken(n, bytes))
 }
 
+/// Flushes what was written to a link; it goes on after interruptions.
 pub(super) fn flush_side_on<L: Link>(inner: &mut L) -> Result<(), Failed>
     ensures contents { Keeps (L.contents inner.old) (L.contents inner.new) }
     ensures remaining { Keeps (L.remaining inner.old) (L.remaining inner.new) }
