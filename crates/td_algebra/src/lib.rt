@@ -6,6 +6,19 @@
 //! Begin with `join`, `restrict` and `summarize`. `KeyIndex` is a relation by a key, and `join_by` and `matching_by`
 //! are the operators over one.
 //!
+//! ```
+//! let both = join(alloc, &suppliers, &shipments)?;
+//! let named = restrict(alloc, &both, |t: &Tuple| -> Result<bool, Fault> { Ok(t.get(&city).is_some()) })?;
+//! let totals = summarize_by(alloc, &shipments, &names, &summaries, &value)?;
+//! let index = KeyIndex::new(alloc, &suppliers, &key)?;
+//! let matched = matching_by(alloc, &shipments, &index)?;
+//! ```
+//!
+//! Costs: `restrict` is one pass. `join` of n tuples, the fewer, and m costs of the order of (n + m) log n comparisons
+//! and a sort of the result; `project`, `group` and `summarize_by` of n tuples cost n log n. A `KeyIndex` is a sort to
+//! make and a search to ask: where its key begins with the common names, `join_by` and `matching_by` cost a search for
+//! each tuple of the other operand, and `join_by` a sort of its result.
+//!
 //! Definitions to trust, in `specs/`: Closures, Extending, FunctionLaws, Nested, Operators, Raising, Restricting,
 //! Stops, Summaries.
 //!

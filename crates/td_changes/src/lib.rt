@@ -2,6 +2,14 @@
 //!
 //! Begin with `Changes::changed_by`: what the entry of a stamp changed.
 //!
+//! ```
+//! let issued = site.issue(alloc, "DELETE S;", &mut meter)?;
+//! let changes = site.changed_by(issued.stamp)?;
+//! ```
+//!
+//! Costs: in a site of td_replay a search for the stamp; the changes are lent as they are kept, and nothing is run or
+//! copied.
+//!
 //! Definitions to trust, in `specs/`: Changes, Laws.
 #![tactic(auto)]
 

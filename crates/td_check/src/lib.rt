@@ -1,6 +1,14 @@
 //! Checks a script of definitions, and tells the place of each mistake: the shell's program has it for a mode.
 //!
 //! Begin with `program`, over its words and streams.
+//!
+//! ```
+//! let status = td_check::program("td_check", &words, &rt, &mut sink, &mut faults);
+//! let (told, is_refused) = report_of(alloc, file, script.as_bytes())?;
+//! ```
+//!
+//! Costs: the time of reading and typing the script, and for each definition a walk along the script. The file is read
+//! whole.
 #![tactic(auto)]
 
 mod definitions;

@@ -3,6 +3,15 @@
 //! td_integrity judges the same over any look-up, so that statements are judged before they change a database.
 //!
 //! Begin with `first_failure`, over a database as it stands, and `first_failure_after`, behind changes.
+//!
+//! ```
+//! let failure = first_failure(alloc, &database)?;
+//! let ran = run(alloc, &mut database, "DELETE S WHERE STATUS < 20;", LATEST, &mut meter)?;
+//! let failure = first_failure_after(alloc, &database, &ran.delta)?;
+//! ```
+//!
+//! Costs: `first_failure` makes every test: a key of n tuples takes n log n comparisons, a constraint its evaluation.
+//! `first_failure_after` makes only the tests that read a changed relvar, each over as little as td_integrity needs.
 #![tactic(auto)]
 
 ghost use Rattle.std.specs.Prelude.{IfOk};

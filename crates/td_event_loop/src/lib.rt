@@ -3,6 +3,16 @@
 //!
 //! Begin with `EventLoop::bind` and its `run`, over a `Server`: a service of HTTP that `Meets` other sites.
 //!
+//! ```
+//! let options = LoopOptions { clients, peers, allowed: &allowed, calls: &calls, every: 30_000 };
+//! let mut event_loop = EventLoop::bind(&rt, &options)?;
+//! event_loop.watch_console(rt.stdin().as_raw_fd())?;
+//! event_loop.run(&rt, &mut server)?;
+//! ```
+//!
+//! Costs: a turn walks along all connections, at most 64 clients and 12 meetings; while an answer or a step of a
+//! meeting runs, all others wait. A meeting keeps at most 1 MiB of what its peer sent, and 1 MiB of what is sent to it.
+//!
 //! td_event_loop knows HTTP by http_server, and of a meeting the order of its steps and where the bytes of each end. It
 //! knows no entries: a step gets bytes, and writes bytes, and the site keeps what it came to. Of a console it knows
 //! when the server can read it.

@@ -2,6 +2,17 @@
 //!
 //! Begin with `put_greeting` and `read_greeting`, and `put_entry` and `read_entries`.
 //!
+//! ```
+//! put_greeting(&mut sink, 2, script, &[(2, 1)])?;
+//! put_entry(&mut sink, &entry)?;
+//! put_end(&mut sink)?;
+//! let greeting = read_greeting(alloc, &mut source)?;
+//! let (entries, end) = read_entries(alloc, &mut source, Version::Second, MOST_ENTRIES);
+//! ```
+//!
+//! Costs: linear in the bytes. Writing takes no memory and flushes nothing; reading takes room for the script, the
+//! version vector and the texts of the entries.
+//!
 //! Definitions to trust, in `specs/`: Reading, Spelling.
 //!
 //! td_frames knows entries and version vectors as numbers and bytes, and no site: whose script and number a greeting

@@ -2,6 +2,16 @@
 //!
 //! Begin with `reached`, the places that a walk along links comes to.
 //!
+//! ```
+//! let mut graph = Graph::new(alloc, 3)?;
+//! graph.add(0, 1)?;
+//! graph.add(1, 0)?;
+//! let places = reached(alloc, &graph, &[1])?;
+//! ```
+//!
+//! Costs: `reached` takes a mark for each place, and for each place that is reached a look at where it leads.
+//! `reached_by` is lent the marks, so a place that is not reached costs it nothing.
+//!
 //! Definitions to trust, in `specs/`: Links.
 //!
 //! td_graph knows places and links alone; what a relvar leads to is its user's matter.

@@ -2,6 +2,18 @@
 //!
 //! Begin with `Catalogue::define`, which types a definition behind those before it, `type_expr` and `type_statement`.
 //!
+//! ```
+//! let mut catalogue = Catalogue::new(alloc);
+//! let definitions = read_script(alloc, "VAR S BASE RELATION { SNO CHAR } KEY { SNO };")?;
+//! for definition in definitions.as_slice() {
+//!     catalogue.define(alloc, definition)?;
+//! }
+//! let expr = type_expr(alloc, &catalogue, read_expr(alloc, "COUNT ( S )")?.get())?;
+//! ```
+//!
+//! Costs: typing takes each part once, and comparisons of types, which may be exponential in its size. `type_expr` and
+//! `type_statement` also cost the size of the expressions of the virtual relvars under what is typed.
+//!
 //! Definitions to trust, in `specs/`: Catalogues, Definitions, Expressions, Reached, Statements.
 //!
 //! td_headings has what a script defines: beside the schema the CONSTRAINTs of possreps, where each relvar's value

@@ -3,6 +3,16 @@
 //! Begin with `Device`, which wraps a reader or a writer; `read_line` reads a line, and `put` writes a text and
 //! flushes.
 //!
+//! ```
+//! let mut source = Device::buffered(reader);
+//! let line = read_line(alloc, &mut source, &mut reads, 16_384)?;
+//! let mut sink = Device::new(writer);
+//! put(&mut sink, b"ready\n")?;
+//! ```
+//!
+//! Costs: `read_line` reads at most 256 bytes at once by a buffer, and one byte at once without one; it is linear in
+//! the line, and holds at most two bytes more than `most`. `put` is linear, and flushes each time.
+//!
 //! Definitions to trust, in `specs/`: Counted, Lines, Streams, Views.
 //!
 //! td_io knows bytes and lines, and not what they say. A device has a count of failures beside what it wraps;

@@ -3,6 +3,15 @@
 //! Begin with `keep_journal`, by which a new site comes back from its journal and goes on with it, and `Keeper`, which
 //! is a site.
 //!
+//! ```
+//! let site = Site::open_script(alloc, script, 1, 10_000)?;
+//! let mut keeper = keep_journal(alloc, &journals, "site.tdj", site, &mut meter)?;
+//! let issued = keeper.issue(alloc, "DELETE S;", &mut meter)?;
+//! ```
+//!
+//! Costs: `keep_journal` reads the journal once, takes room for its entries, and runs each once. A fresh entry costs
+//! two writes, and each call that has one a flush, which waits for the disk where the journal stands there.
+//!
 //! Definitions to trust, in `specs/`: Keepers, Keeping, Laws, Reading, Reopening, Spelling, Stores, Views, Written.
 //!
 //! td_journal sees a site as a `Replica` and knows no evaluation; a kind of site that a script opens is handed in by

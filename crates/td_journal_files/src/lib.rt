@@ -2,6 +2,16 @@
 //!
 //! Begin with `FileJournals`, which opens the journal of a name, and `Notes`, which tell what was found.
 //!
+//! ```
+//! let notes = Notes::new();
+//! let journals = FileJournals::new(&rt, &notes);
+//! let keeper = keep_journal(alloc, &journals, name, site, &mut meter)?;
+//! let found = notes.found();
+//! ```
+//!
+//! Costs: each flush waits until the disk has what was written, looks at the name once more, and notes the length in
+//! the file beside, for which it does not wait. A journal is read by a buffer; what is cut off it is copied first.
+//!
 //! td_journal_files knows files and nothing of what stands in them.
 #![tactic(auto)]
 

@@ -2,6 +2,15 @@
 //!
 //! Begin with `listing`, all that a site shows, `export`, a relvar as CSV, and `log_text`.
 //!
+//! ```
+//! listing(alloc, &site, &mut sink)?;
+//! export(alloc, &site, "S", &mut sink)?;
+//! let log = log_text(alloc, &site)?;
+//! ```
+//!
+//! Costs: linear in what is shown, and the evaluation of the virtual relvars under it. `listing` and `export` also read
+//! and type the script, build the text whole in memory, and flush once.
+//!
 //! Definitions to trust, in `specs/`: Calls, Laws, Sites, Tables, Texts, Writings.
 //!
 //! td_listings sees a site as a `Replica`; names and headings come from the catalogue of its script, which whoever

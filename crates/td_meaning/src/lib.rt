@@ -3,6 +3,16 @@
 //! Begin with `eval`, the value of a typed tree in an environment, and `select`, the tuples of which a condition is
 //! true. `Environment` has what the relvars have.
 //!
+//! ```
+//! let env = Environment { relvars: &[], virtuals: &[], selectors: &[] };
+//! let value = eval::<Infallible>(alloc, &env, &[], &tree, &Bindings::Nothing)?;
+//! let some = select::<Infallible>(alloc, &env, &[], &Lease::lent(&relation), &condition, &Bindings::Nothing)?;
+//! ```
+//!
+//! Costs: an expression costs its operators; the recursion nests as deep as it has levels. `select` is a pass, or a
+//! search where the condition begins with an equality for each name of a key by which the tuples are kept; parts of the
+//! condition that name nothing around them are evaluated once.
+//!
 //! Definitions to trust, in `specs/`: Mean, Selections.
 //!
 //! td_meaning evaluates typed trees over relvars that are given by their places; it knows no catalogue, and answers 'no

@@ -4,6 +4,17 @@
 //! Begin with `meet`, a meeting of two sites in memory, and its steps `greet`, `answer`, `settle` and `finish` over any
 //! readers and writers.
 //!
+//! ```
+//! let met = meet(alloc, &mut first, &mut second, &mut meter)?;
+//! greet(alloc, &first, &mut near)?;
+//! answer(alloc, &second, &mut far)?;
+//! let taken = settle(alloc, &mut first, &mut near, &mut meter)?;
+//! let taken = finish(alloc, &mut second, &mut far, &mut meter)?;
+//! ```
+//!
+//! Costs: a read or a write for each field, a pass over what is held for each version vector and each stream, and two
+//! takes. A step holds in memory the whole stream that it reads; `meet` holds the bytes of each step too.
+//!
 //! Definitions to trust, in `specs/`: Laws, Meetings, Reading, Steps, Writing.
 //!
 //! td_meeting sees a site as a `Replica` and the other one as bytes alone: it judges the other's script and number,

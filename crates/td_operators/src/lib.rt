@@ -3,6 +3,17 @@
 //! Begin with `operate`, a binary operator over two operands, and `operate_on`, a unary one. A `Lease` is a relation
 //! that is owned or lent, with its indexes.
 //!
+//! ```
+//! let one = Operand::Made(integer_value(1));
+//! let two = Operand::Made(integer_value(2));
+//! let three = operate::<Infallible>(alloc, BinaryOperator::Add, one, two)?;
+//! let lent = Operand::Lent(Lease::lent(&suppliers));
+//! let count = operate_on::<Infallible>(alloc, UnaryOperator::Count, lent)?;
+//! ```
+//!
+//! Costs: operators of relations cost what those of td_algebra do. A `Lease` of a lent relation copies nothing, and
+//! `count_of_join` costs what the join does, without its tuples and their sort.
+//!
 //! Definitions to trust, in `specs/`: Operators, Values.
 //!
 //! td_operators knows values and no trees; what it makes of a value of a wrong kind is 'no meaning', which typing rules

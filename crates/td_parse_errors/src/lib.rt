@@ -5,6 +5,16 @@
 //!
 //! Begin with `place_of_fault`, the byte at which a text goes wrong, and `position_of`, its line and column.
 //!
+//! ```
+//! if let Some(place) = place_of_fault(alloc, Reading::Query, text)? {
+//!     let Position { line, column } = position_of(text, place);
+//!     let under = caret(alloc, line_of(text, line), column)?;
+//! }
+//! ```
+//!
+//! Costs: `place_of_fault` costs the reading of the text, and `position_of` takes time linear in the place.
+//! `is_too_deep` takes the time of reading the text twice.
+//!
 //! td_parse_errors knows no names and no types: where the reading of a text stops, and how a place is told. Nothing of
 //! the program stands on it; td_check and other tools for who writes texts do.
 #![tactic(auto)]

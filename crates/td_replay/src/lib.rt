@@ -2,6 +2,18 @@
 //!
 //! Begin with `Site`, and its `issue`, `take` and `ask`. `PlainSite` answers the same by running all entries anew.
 //!
+//! ```
+//! let mut site = Site::open_script(alloc, script, 1, 10_000)?;
+//! let issued = site.issue(alloc, "DELETE S;", &mut meter)?;
+//! let taken = site.take(alloc, &batch, &mut meter)?;
+//! let answer = site.ask(alloc, "COUNT ( S )")?;
+//! ```
+//!
+//! Costs: `issue` runs one statement and appends one entry; `ask` evaluates the query over relvars that are lent.
+//! `take` of k entries with m held costs (k + m) log (k + m), a pass over the log, and a run of each fresh statement
+//! and of each later one that a fresh one may touch, where a `PlainSite` runs all; `ask_at` of a `Site` runs no
+//! statement.
+//!
 //! td_replay knows of the language no more than that a script opens a database and a text steps from one to the next.
 //! `engine` is that database as a machine, whose record is what `run` of td_assign tells; `told` runs entries in turn
 //! or tells more of them by rollback and replay, and keeps each one's record; `judged` and `asked` see texts and a

@@ -4,6 +4,13 @@
 //! Begin with `specs/Steps.antt`, what a statement makes of a database, and `catalogue_of`, the catalogue of a script.
 //! `Outcome` is what becomes of a statement, `Answer` what a query is answered.
 //!
+//! ```
+//! let catalogue = catalogue_of(alloc, "VAR S BASE RELATION { SNO CHAR } KEY { SNO };")?;
+//! let relvars = catalogue.schema().relvar_count();
+//! ```
+//!
+//! Costs: `catalogue_of` costs the reading and typing of the text, and evaluates nothing.
+//!
 //! Definitions to trust, in `specs/`: Answers, Databases, Differences, Given, Laws, Meanings, Openings, Raises,
 //! Reports, Scripts, Sources, Steps, Stored, Tests, Trees.
 //!

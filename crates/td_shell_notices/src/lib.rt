@@ -2,6 +2,16 @@
 //! and of the room that is left.
 //!
 //! Begin with `journal_text`, what was found of a journal, and `MeetingChanges`, what a meeting changed.
+//!
+//! ```
+//! let found = journal_text(alloc, Some(name), notes.found(), &site)?;
+//! let before = Told::by(alloc, &site)?;
+//! let taken = site.take(alloc, &batch, &mut meter)?;
+//! let changes = before.compare(alloc, &catalogue, &site)?;
+//! ```
+//!
+//! Costs: `Told` holds a copy of what each statement that was issued at the site changed. `compare` costs two walks
+//! along what is held, and along these changes; `digest_text` sorts what is held by its sites.
 #![tactic(auto)]
 
 mod changes;

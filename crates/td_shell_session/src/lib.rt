@@ -3,6 +3,17 @@
 //!
 //! Begin with `program`, the command line over its words and streams, and `converse`, a conversation at a site.
 //!
+//! ```
+//! let journals = FileJournals::new(&rt, &notes);
+//! let status = program::<Site, _, _, _, _, _, _>(
+//!     alloc, &words, &rt, &journals, &notes, &mut links, &mut meter, terminal, &mut source, &mut sink, &mut faults,
+//! );
+//! ```
+//!
+//! Costs: the opening of the script, and a run of each entry of the journal; then each line costs what its answer
+//! costs, which is built whole in memory. The output is flushed before it waits for more of the input and before a
+//! command.
+//!
 //! td_shell_session sees a site as `Replica` alone, beside what opens one and has it come back from its journal. No
 //! contract says what it prints: it is proved to return and to be safe, and what changes a site is called by its
 //! contracts.

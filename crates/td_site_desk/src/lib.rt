@@ -2,6 +2,16 @@
 //!
 //! Begin with `SiteDesk`, a `Desk` over any kind of site, and `SiteServer`, what the event loop serves.
 //!
+//! ```
+//! let catalogue = script_catalogue(alloc, &site)?;
+//! let reversals = Reversals::open(alloc, &rt, Some(name))?;
+//! let desk = SiteDesk::new(alloc, &rt, &notes, site, catalogue, meter, peers, reversals, false)?;
+//! let mut server = SiteServer::new(Api::new(alloc, desk, guard));
+//! ```
+//!
+//! Costs: `SiteDesk::new` goes through the outcomes of all that is held. A request costs what the calls of the site
+//! cost that it makes, and a statement waits for the flush of its journal.
+//!
 //! Its definitions stand in `specs/`: in Sites what a call does to the site, and with which status it is answered.
 //!
 //! td_site_desk moves no bytes but those of the console. It changes a site by `Replica::issue` and by the steps of a

@@ -5,6 +5,15 @@
 //!
 //! Begin with `Shown`, a writer to a terminal.
 //!
+//! ```
+//! let is_seen = rt.stdout().is_terminal();
+//! let mut sink = Device::new(Shown::new(alloc, writer, is_seen));
+//! put(&mut sink, text.as_bytes())?;
+//! ```
+//!
+//! Costs: linear in the text. To a terminal each write takes memory for the text that is shown; to anything else it is
+//! handed on as it is.
+//!
 //! td_terminals knows no site. No contract says what it prints: it is proved to return and to be safe.
 #![tactic(auto)]
 

@@ -8,6 +8,13 @@
 //!
 //! Begin with `tokens`, which gives the tokens of a text or the fault that it has.
 //!
+//! ```
+//! let found = tokens(alloc, "S WHERE STATUS > 10")?;
+//! let end = tokens_end("S WHERE STATUS ? 10");
+//! ```
+//!
+//! Costs: both take time linear in the text; `tokens` takes memory for its tokens alone, and `tokens_end` none.
+//!
 //! Definitions to trust, in `specs/`: Lex, Words.
 //!
 //! td_tokens knows characters and no grammar. A token lends its slice of the source.

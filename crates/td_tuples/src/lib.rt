@@ -5,6 +5,17 @@
 //! Begin with `cut`, the part of a tuple at some names, `beside`, two tuples as one, and `renamed`; of headings with
 //! `columns_in` and `joined`.
 //!
+//! ```
+//! let columns = columns_in(alloc, &names, &heading)?;
+//! let part = cut(alloc, &columns, &tuple)?;
+//! let both = beside(alloc, &first, &second)?;
+//! let exchanged = renamed(alloc, &[(from, to)], &tuple)?;
+//! let heading_of_both = joined(alloc, first_heading, second_heading)?;
+//! ```
+//!
+//! Costs: `cut` makes a search in the heading for each attribute; `beside` and `renamed` make a search and a shift for
+//! each, and `renamed` also looks at each item until one has the name.
+//!
 //! Definitions to trust, in `specs/`: Items, Nestings, Parts, Renamings, Unions.
 //!
 //! td_tuples sees a heading and a tuple as finite maps by name, so one theory serves both; what typing and keys say of

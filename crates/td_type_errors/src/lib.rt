@@ -6,6 +6,17 @@
 //! Begin with `diagnose_query` and `diagnose_statement`, which tell the place and a sentence of an ill-typed text, and
 //! `define_or_diagnose` for a definition.
 //!
+//! ```
+//! if let Some(found) = diagnose_query(alloc, &catalogue, text)? {
+//!     let position = position_of(text, found.place);
+//!     let line = format!(in alloc; "{}: {}", position.line, found.message)?;
+//! }
+//! let refused = define_or_diagnose(alloc, &mut catalogue, definition)?;
+//! ```
+//!
+//! Costs: `diagnose_query` takes the time of typing the query, at most as many times as it has levels;
+//! `diagnose_statement` takes that for each source and condition of the statement.
+//!
 //! td_type_errors has two layers. One decides by the calls of td_grammar, td_typing and td_headings whether something
 //! is to be told, and its contract says so; the other one finds the innermost part without a type and words it, and is
 //! only tested. Trees have no places: `marks` are the tokens that are as many for a tree however it is written, so a

@@ -3,6 +3,17 @@
 //!
 //! Begin with `program`, the command line over its words and streams, and `workbench`, lines over sites that are there.
 //!
+//! ```
+//! let status = program::<Site, _, _, _, _, _>(
+//!     alloc, &journals, &words, &mut links, &mut meter, &mut source, &mut sink, &mut faults,
+//! );
+//! workbench(alloc, &mut sites, &mut NoLinks, &mut meter, &mut source, &mut sink)?;
+//! ```
+//!
+//! Costs: `program` costs the opening of each site, reading and typing the script once more, and with journals a run of
+//! each of their entries; `workbench` reads and types the script at first. Then each line costs what its answer costs,
+//! and a flush unless the next line stands in the buffer whole and begins with no dot.
+//!
 //! Definitions to trust, in `specs/`: Exits, Journals, Programs, Runs, Scripts, Streams.
 //!
 //! td_workbench sees a site as what its lines are answered; it alone makes sites (`opening`), of any kind that `Opens`,
