@@ -259,6 +259,15 @@ fn start_site(rt: &HostRuntime, words: &ServerOptions<'_>, script: &str) -> u8 {
     }
 }
 
+// Says that the script's file has more than definitions, if it has: the server runs nothing of that.
+fn tell_left_out(rt: &HostRuntime, name: &str, behind: &[u8]) {
+    if behind.iter().any(|byte| !byte.is_ascii_whitespace()) {
+        let _ = eprintln!(rt;
+            "note: what stands behind .begin in {name} is not run; td_shell runs it once, with the same journal"
+        );
+    }
+}
+
 /// Serves a site as the words say, and returns the exit status.
 pub(crate) fn start_server(rt: &HostRuntime, words: &ServerOptions<'_>) -> u8 {
     let name = words.site.script;
@@ -271,7 +280,10 @@ pub(crate) fn start_server(rt: &HostRuntime, words: &ServerOptions<'_>) -> u8 {
         }
     };
     match script_in(rt.alloc(), &file) {
-        Ok(script) => start_site(rt, words, script.text.as_str()),
+        Ok(script) => {
+            tell_left_out(rt, name, script.behind.as_slice());
+            start_site(rt, words, script.text.as_str())
+        }
         Err(error) => {
             complain(rt, no_script_words(error));
             FAULT
