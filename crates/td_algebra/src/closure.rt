@@ -18,7 +18,7 @@ use td_relations::Relation;
 use td_values::{Heading, Name, Tuple, Value, compare_types, copy};
 
 // The value alone, under the name.
-fn single(alloc: Global, name: &Name, value: &Value) -> Result<Tuple, AllocError>
+fn single_attribute(alloc: Global, name: &Name, value: &Value) -> Result<Tuple, AllocError>
     ensures { IfOk result (λ t. t ≡ single name.now value.now) }
 {
     let mut attributes = Vec::with_capacity(alloc, 1)?;
@@ -37,13 +37,13 @@ fn add_single(
     ensures { OnOk result (out.new.items ≡ out.old.items ++ singles name.now (attribute_of at.now tuple.now)) }
 {
     if let Some(value) = tuple.get(at) {
-        out.push(single(alloc, name, value)?)?;
+        out.push(single_attribute(alloc, name, value)?)?;
     }
     Ok(())
 }
 
 // These tuples, each once, ascending.
-fn distinct(tuples: Vec<Tuple>) -> Vec<Tuple>
+fn sort_distinct(tuples: Vec<Tuple>) -> Vec<Tuple>
     ensures ascending { IsStrictlySortedBy attrs_order result.items }
     ensures same { tuple_set result.items ≡ tuple_set tuples.items }
 {
@@ -68,7 +68,7 @@ fn ends_of(
         add_single(alloc, &mut ends, tuple, first, first)?;
         add_single(alloc, &mut ends, tuple, second, first)?;
     }
-    Ok(distinct(ends))
+    Ok(sort_distinct(ends))
 }
 
 // Where the end stands.
@@ -94,7 +94,7 @@ fn place_at(
 {
     match tuple.get(at) {
         Some(value) => {
-            let end = single(alloc, name, value)?;
+            let end = single_attribute(alloc, name, value)?;
             Ok(place_of(ends, &end))
         }
         None => Ok(None),
@@ -199,7 +199,7 @@ fn add_pairs(
 }
 
 // The places that are reached from this one, by a step or more, by marks that are lent.
-fn beyond(
+fn reachable_beyond(
     alloc: Global,
     links: &Graph,
     place: usize,
@@ -231,7 +231,7 @@ fn pairs_of(
     let mut pairs = Vec::new(alloc);
     let mut marks = unmarked(alloc, links)?;
     for from in 0..ends.len() {
-        let places = beyond(alloc, links, from, &mut marks)?;
+        let places = reachable_beyond(alloc, links, from, &mut marks)?;
         add_pairs(alloc, &mut pairs, first, second, ends, from, &places)?;
     }
     Ok(pairs)

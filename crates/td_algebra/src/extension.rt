@@ -80,7 +80,7 @@ fn fields_at<E, W, F: Fn(&E, &Tuple) -> Result<Value, Fault<W>>>(
 }
 
 // The tuple with the items' values.
-fn extended_at<E, W, F: Fn(&E, &Tuple) -> Result<Value, Fault<W>>>(
+fn extend_tuple<E, W, F: Fn(&E, &Tuple) -> Result<Value, Fault<W>>>(
     alloc: Global,
     items: &[Item<E>],
     tuple: &Tuple,
@@ -99,7 +99,7 @@ fn extended_at<E, W, F: Fn(&E, &Tuple) -> Result<Value, Fault<W>>>(
 }
 
 // Each tuple with the items' values, or the least error of all.
-fn extended_all<E, W, F: Fn(&E, &Tuple) -> Result<Value, Fault<W>>>(
+fn extend_tuples<E, W, F: Fn(&E, &Tuple) -> Result<Value, Fault<W>>>(
     alloc: Global,
     tuples: &[Tuple],
     items: &[Item<E>],
@@ -111,7 +111,7 @@ fn extended_all<E, W, F: Fn(&E, &Tuple) -> Result<Value, Fault<W>>>(
 {
     let mut gathered = Gathered::new(alloc);
     for tuple in tuples {
-        gathered.note(extended_at(alloc, items, tuple, f))?;
+        gathered.note(extend_tuple(alloc, items, tuple, f))?;
     }
     gathered.finish()
 }
@@ -129,7 +129,7 @@ pub fn extend<E, W, F: Fn(&E, &Tuple) -> Result<Value, Fault<W>>>(
     ensures { (m : TermMeaning E) → All (MeansItems (F.post f.now) m items.now) relation.now.tuples →
         Unless (RaisedBy m items.now relation.now) (IsRelationOf (extended_columns items.now relation.now.heading) (Extended m items.now relation.now)) result }
 {
-    let tuples = match extended_all(alloc, relation.tuples(), items, f) {
+    let tuples = match extend_tuples(alloc, relation.tuples(), items, f) {
         Ok(tuples) => tuples,
         Err(fault) => return Err(fault),
     };
@@ -138,7 +138,7 @@ pub fn extend<E, W, F: Fn(&E, &Tuple) -> Result<Value, Fault<W>>>(
 }
 
 // Whether the heading has none of the items' names.
-fn are_new<E>(heading: &Heading, items: &[Item<E>]) -> bool
+fn names_are_new<E>(heading: &Heading, items: &[Item<E>]) -> bool
     ensures { IsTrue result → AreNew heading.now items.now }
 {
     for item in items {
@@ -183,7 +183,7 @@ fn check_all<E, W, F: Fn(&E, &Tuple) -> Result<Value, Fault<W>>>(
 }
 
 // How many tuples the extension by new names has: as many as the relation.
-fn new_extension_len<E, W, F: Fn(&E, &Tuple) -> Result<Value, Fault<W>>>(
+fn len_by_new_names<E, W, F: Fn(&E, &Tuple) -> Result<Value, Fault<W>>>(
     alloc: Global,
     relation: &Relation,
     items: &[Item<E>],
@@ -212,8 +212,8 @@ pub fn extension_len<E, W, F: Fn(&E, &Tuple) -> Result<Value, Fault<W>>>(
     ensures { (m : TermMeaning E) → All (MeansItems (F.post f.now) m items.now) relation.now.tuples →
         Unless (RaisedBy m items.now relation.now) (IsLengthOf (extended_columns items.now relation.now.heading) (Extended m items.now relation.now)) result }
 {
-    if are_new(relation.heading(), items) {
-        return new_extension_len(alloc, relation, items, f);
+    if names_are_new(relation.heading(), items) {
+        return len_by_new_names(alloc, relation, items, f);
     }
     match extend(alloc, relation, items, f) {
         Ok(extended) => Ok(extended.tuples().len()),

@@ -15,7 +15,7 @@ use td_tuples::{columns_in, columns_out, cut, with_attribute, with_column};
 use td_values::{Heading, Kind, Name, TdType, Tuple, TypeKind, Value};
 
 // The tuple's part at the outer names, with the relation of the tuples' parts at the inner ones at the name.
-fn with_group(
+fn group_of_run(
     alloc: Global,
     inner: &Heading,
     outer: &Heading,
@@ -37,7 +37,7 @@ fn with_group(
 }
 
 // Each value of the other attributes with its group: that of the first tuple of each run of the index.
-fn with_groups(
+fn groups_of_runs(
     alloc: Global,
     inner: &Heading,
     outer: &Heading,
@@ -53,7 +53,7 @@ fn with_groups(
         if !index.repeats(at) {
             let tuple = &index.tuples[at];
             let run = index.run(tuple);
-            out.push(with_group(alloc, inner, outer, name, tuple, run)?)?;
+            out.push(group_of_run(alloc, inner, outer, name, tuple, run)?)?;
         }
     }
     Ok(out)
@@ -72,7 +72,7 @@ pub fn group(
     let inner = columns_in(alloc, names, r.heading())?;
     let outer = columns_out(alloc, names, r.heading())?;
     let index = TupleIndex::new(alloc, r, &outer, r, &outer)?;
-    let tuples = with_groups(alloc, &inner, &outer, name, &index)?;
+    let tuples = groups_of_runs(alloc, &inner, &outer, name, &index)?;
     let ty = TdType {
         kind: TypeKind::Relation(inner),
     };

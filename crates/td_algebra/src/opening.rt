@@ -75,7 +75,7 @@ fn add_opened(
 }
 
 // This of each tuple.
-fn open_all(
+fn open_tuples(
     alloc: Global,
     r: &Relation,
     outer: &Heading,
@@ -93,13 +93,13 @@ fn open_all(
 }
 
 // The tuples made of the other attributes and a tuple of the value at the name.
-fn open(alloc: Global, r: &Relation, name: &Name) -> Result<Relation, AllocError>
+fn open_relation(alloc: Global, r: &Relation, name: &Name) -> Result<Relation, AllocError>
     ensures opened { IfOk result (IsRelationOf (opened_columns name.now r.now.heading) (Opened name.now r.now)) }
     ensures rows { OnOk result (AreRows r.now.heading r.now.tuples) }
 {
     let outer = columns_out(alloc, slice::from_ref(name), r.heading())?;
     let inner = inner_columns(alloc, r.heading(), name)?;
-    let tuples = open_all(alloc, r, &outer, name)?;
+    let tuples = open_tuples(alloc, r, &outer, name)?;
     let heading = joined(alloc, &outer, &inner)?;
     Ok(Relation::from_tuples(heading, tuples))
 }
@@ -110,7 +110,7 @@ pub fn ungroup(alloc: Global, r: &Relation, name: &Name) -> Result<Relation, All
     requires { IsRelationValued name.now r.now.heading }
     ensures { IfOk result (IsRelationOf (opened_columns name.now r.now.heading) (Ungrouped name.now r.now)) }
 {
-    let opened = open(alloc, r, name)?;
+    let opened = open_relation(alloc, r, name)?;
     Ok(opened)
 }
 
@@ -119,6 +119,6 @@ pub fn unwrap(alloc: Global, r: &Relation, name: &Name) -> Result<Relation, Allo
     requires { IsTupleValued name.now r.now.heading }
     ensures { IfOk result (IsRelationOf (opened_columns name.now r.now.heading) (Unwrapped name.now r.now)) }
 {
-    let opened = open(alloc, r, name)?;
+    let opened = open_relation(alloc, r, name)?;
     Ok(opened)
 }

@@ -25,7 +25,7 @@ fn put(kept: &mut Vec<Tuple>, keep: bool, tuple: &Tuple) -> Result<(), AllocErro
 }
 
 // The tuples at whose places it says so.
-pub(crate) fn selected(
+pub(crate) fn select_kept(
     alloc: Global,
     tuples: &[Tuple],
     keep: &[bool],
@@ -54,7 +54,7 @@ pub fn restrict<W, F: Fn(&Tuple) -> Result<bool, Fault<W>>>(
         Ok(keep) => keep,
         Err(fault) => return Err(fault),
     };
-    let kept = selected(alloc, relation.tuples(), &keep)?;
+    let kept = select_kept(alloc, relation.tuples(), &keep)?;
     let heading = relation.heading().copy()?;
     Ok(Relation::of(Rows::new(heading, kept)))
 }

@@ -84,7 +84,7 @@ fn greater<'a>(a: &'a Value, b: &'a Value) -> &'a Value
 }
 
 // The lesser one of two values, the first where they are equal.
-fn lesser<'a>(a: &'a Value, b: &'a Value) -> &'a Value
+fn lesser_of<'a>(a: &'a Value, b: &'a Value) -> &'a Value
     ensures { result.now ≡ spec.lesser_of a.now b.now }
 {
     if compare(b, a).is_lt() { b } else { a }
@@ -115,7 +115,7 @@ fn least<W>(alloc: Global, values: &[Value]) -> Result<Value, Fault<W>>
         Some((first, rest)) => {
             let mut best = first;
             for value in rest {
-                best = lesser(best, value);
+                best = lesser_of(best, value);
             }
             Ok(copy(alloc, best)?)
         }
@@ -205,7 +205,7 @@ fn number_of(tuples: &[Tuple]) -> Value
 }
 
 // The summary over these tuples.
-pub(crate) fn over_group<E, W, F: Fn(&E, &Tuple) -> Result<Value, Fault<W>>>(
+pub(crate) fn summarize_group<E, W, F: Fn(&E, &Tuple) -> Result<Value, Fault<W>>>(
     alloc: Global,
     tuples: &[Tuple],
     summary: &Summary<E>,
@@ -234,5 +234,5 @@ pub fn aggregate<E, W, F: Fn(&E, &Tuple) -> Result<Value, Fault<W>>>(
     requires { All (TakesTerm (F.pre f.now) summary.now) relation.now.tuples }
     ensures { (m : TermMeaning E) → All (MeansTerm (F.post f.now) m summary.now) relation.now.tuples → Answers result (spec.summary_over m relation.now.tuples summary.now) }
 {
-    over_group(alloc, relation.tuples(), summary, f)
+    summarize_group(alloc, relation.tuples(), summary, f)
 }

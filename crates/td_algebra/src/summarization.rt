@@ -16,14 +16,14 @@ ghost use Rattle.td_algebra.specs.Summaries.{TakesTerm, MeansTerm, over_groups, 
 use crate::errors::Fault;
 use crate::extension::extend;
 use crate::index::TupleIndex;
-use crate::summaries::over_group;
+use crate::summaries::summarize_group;
 use std::alloc::{AllocError, Global};
 use td_relations::Relation;
 use td_tuples::{Item, Summary, columns_in, cut};
 use td_values::{Heading, Name, Tuple, Value};
 
 // The summary over the tuples that the index has for this one.
-fn over_run<E, W, F: Fn(&E, &Tuple) -> Result<Value, Fault<W>>>(
+fn summarize_run<E, W, F: Fn(&E, &Tuple) -> Result<Value, Fault<W>>>(
     alloc: Global,
     index: &TupleIndex,
     tuple: &Tuple,
@@ -33,11 +33,11 @@ fn over_run<E, W, F: Fn(&E, &Tuple) -> Result<Value, Fault<W>>>(
     requires { All (TakesTerm (F.pre f.now) summary.now) index.now.tuples.items }
     ensures { (m : TermMeaning E) → All (MeansTerm (F.post f.now) m summary.now) index.now.tuples.items → Answers result (summary_over m (found index.now tuple.now) summary.now) }
 {
-    over_group(alloc, index.run(tuple), summary, f)
+    summarize_group(alloc, index.run(tuple), summary, f)
 }
 
 // Each tuple of the relation with the summaries over what the index has for it, whatever relation's tuples those are.
-fn over_index<E, W, F: Fn(&E, &Tuple) -> Result<Value, Fault<W>>>(
+fn summarize_groups<E, W, F: Fn(&E, &Tuple) -> Result<Value, Fault<W>>>(
     alloc: Global,
     groups: &TupleIndex,
     per: &Relation,
@@ -56,7 +56,7 @@ fn over_index<E, W, F: Fn(&E, &Tuple) -> Result<Value, Fault<W>>>(
         &|summary: &Summary<E>, tuple: &Tuple| -> Result<Value, Fault<W>>
             requires { All (TakesTerm (F.pre f.now) summary.now) groups.now.tuples.items }
             ensures { (m : TermMeaning E) → All (MeansTerm (F.post f.entry.now) m summary.now) groups.entry.now.tuples.items → Answers result (summary_over m (found groups.entry.now tuple.now) summary.now) }
-        { over_run(alloc, groups, tuple, summary, f) },
+        { summarize_run(alloc, groups, tuple, summary, f) },
     )
 }
 
@@ -76,7 +76,7 @@ pub fn summarize<E, W, F: Fn(&E, &Tuple) -> Result<Value, Fault<W>>>(
         (IsRelationOf (extended_columns items.now per.now.heading) (Extended (over_groups m relation.now per.now.heading) items.now per.now)) result }
 {
     let index = TupleIndex::new(alloc, relation, per.heading(), per, per.heading())?;
-    over_index(alloc, &index, per, items, f)
+    summarize_groups(alloc, &index, per, items, f)
 }
 
 // The part at the heading's names of the first tuple of each run.
@@ -98,7 +98,7 @@ fn parts_of_runs(
 }
 
 // The tuples' parts at these names, each once, and the relation's tuples by them: the runs of one sort.
-fn runs(
+fn sort_into_runs(
     alloc: Global,
     relation: &Relation,
     names: &[Name],
@@ -130,6 +130,6 @@ pub fn summarize_by<E, W, F: Fn(&E, &Tuple) -> Result<Value, Fault<W>>>(
         Unless (RaisedBy (over_groups m relation.now per.heading) items.now per)
         (IsRelationOf (extended_columns items.now per.heading) (Extended (over_groups m relation.now per.heading) items.now per)) result }
 {
-    let (index, per) = runs(alloc, relation, names)?;
-    over_index(alloc, &index, &per, items, f)
+    let (index, per) = sort_into_runs(alloc, relation, names)?;
+    summarize_groups(alloc, &index, &per, items, f)
 }

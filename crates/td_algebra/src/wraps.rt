@@ -12,7 +12,7 @@ use td_tuples::{columns_in, columns_out, cut, with_attribute, with_column};
 use td_values::{Heading, Kind, Name, TdType, Tuple, TypeKind, Value};
 
 // The tuple's part at the outer names, with its part at the inner ones as a value at the name.
-fn wrap_one(
+fn wrap_tuple(
     alloc: Global,
     inner: &Heading,
     outer: &Heading,
@@ -29,7 +29,7 @@ fn wrap_one(
 }
 
 // This of each tuple.
-fn wrap_all(
+fn wrap_tuples(
     alloc: Global,
     inner: &Heading,
     outer: &Heading,
@@ -40,7 +40,7 @@ fn wrap_all(
 {
     let mut out = Vec::with_capacity(alloc, tuples.len())?;
     for t in tuples {
-        out.push(wrap_one(alloc, inner, outer, name, t)?)?;
+        out.push(wrap_tuple(alloc, inner, outer, name, t)?)?;
     }
     Ok(out)
 }
@@ -56,7 +56,7 @@ pub fn wrap(
 {
     let inner = columns_in(alloc, names, r.heading())?;
     let outer = columns_out(alloc, names, r.heading())?;
-    let tuples = wrap_all(alloc, &inner, &outer, name, r.tuples())?;
+    let tuples = wrap_tuples(alloc, &inner, &outer, name, r.tuples())?;
     let ty = TdType {
         kind: TypeKind::Tuple(inner),
     };

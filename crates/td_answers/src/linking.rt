@@ -31,7 +31,7 @@ fn link_fault(error: LinkError) -> &'static str
 }
 
 // The address and room for the line, or the fault that keeps the network from being asked.
-fn ready(alloc: Global, address: &str) -> Result<(SocketAddr, String), &'static str>
+fn prepare_link(alloc: Global, address: &str) -> Result<(SocketAddr, String), &'static str>
     ensures { MatchResult result (λ r. IsAddress address.now r.0 × IsBlank r.1) (λ fault. IsUnready address.now fault.now) }
 {
     let Ok(address) = address.parse::<SocketAddr>() else {
@@ -137,7 +137,7 @@ pub(crate) fn serve<R: Replica, L: Links>(
     ensures journal { Says (λ text. text ≡ codes "fault journal\n" → R.failed site.old site.new) result }
     ensures journaled { R.journaled site.old → R.journaled site.new }
 {
-    let (address, line) = match ready(alloc, address) {
+    let (address, line) = match prepare_link(alloc, address) {
         Ok(ready) => ready,
         Err(fault) => return Reply::Fixed(fault),
     };
@@ -160,7 +160,7 @@ pub(crate) fn call<R: Replica, L: Links>(
     ensures journal { Says (λ text. text ≡ codes "fault journal\n" → R.failed site.old site.new) result }
     ensures journaled { R.journaled site.old → R.journaled site.new }
 {
-    let (address, line) = match ready(alloc, address) {
+    let (address, line) = match prepare_link(alloc, address) {
         Ok(ready) => ready,
         Err(fault) => return Reply::Fixed(fault),
     };

@@ -16,7 +16,7 @@ use td_values::Text;
 const MOST_TEXT: u16 = 8_192;
 
 // The entry of these fields and this text.
-fn entry_with(alloc: Global, head: Head, text: String) -> Result<Entry, AllocError>
+fn entry_of(alloc: Global, head: Head, text: String) -> Result<Entry, AllocError>
     ensures { IfOk result (λ e. e ≡ record { site = head.site; seq = head.seq; clock = head.clock; dialect = head.dialect; text = string_bytes text }) }
 {
     Ok(Entry {
@@ -44,7 +44,7 @@ fn read_text<S: Source>(alloc: Global, source: &mut S, head: Head) -> Result<Ent
     let Ok(text) = String::from_utf8(bytes) else {
         return Err(FrameError::BadFrame);
     };
-    match entry_with(alloc, head, text) {
+    match entry_of(alloc, head, text) {
         Ok(entry) => Ok(entry),
         Err(_) => Err(FrameError::OutOfMemory),
     }
@@ -69,7 +69,7 @@ fn read_entry<S: Source>(
 }
 
 // Reads what is behind a frame's letter: None where it ends the stream, and a bad frame where the letter is no other.
-fn after_letter<S: Source>(
+fn read_after_letter<S: Source>(
     alloc: Global,
     source: &mut S,
     version: Version,
@@ -104,6 +104,6 @@ pub fn read_frame<S: Source>(
     let mut letter = [0u8; 1];
     match read_field(source, &mut letter) {
         Err(e) => Err(e),
-        Ok(()) => after_letter(alloc, source, version, letter[0]),
+        Ok(()) => read_after_letter(alloc, source, version, letter[0]),
     }
 }

@@ -33,7 +33,11 @@ pub struct RawLine {
 }
 
 // What is kept of a line with these bytes more: nothing of one that is too long with any line end.
-fn longer(line: Option<Vec<u8>>, more: &[u8], most: usize) -> Result<Option<Vec<u8>>, AllocError>
+fn extend_line(
+    line: Option<Vec<u8>>,
+    more: &[u8],
+    most: usize,
+) -> Result<Option<Vec<u8>>, AllocError>
     ensures { IfOk result (λ l. option_map (λ v. v.items) l ≡ option_and_then (with_bytes most more.now) (option_map (λ v. v.items) line)) }
 {
     let Some(mut bytes) = line else {
@@ -47,7 +51,7 @@ fn longer(line: Option<Vec<u8>>, more: &[u8], most: usize) -> Result<Option<Vec<
 }
 
 // The line, unless it is too long.
-fn within(line: Option<Vec<u8>>, most: usize) -> Option<Vec<u8>>
+fn unless_too_long(line: Option<Vec<u8>>, most: usize) -> Option<Vec<u8>>
     ensures { option_map (λ v. v.items) result ≡ option_and_then (kept most) (option_map (λ v. v.items) line) }
 {
     let Some(bytes) = line else {
@@ -82,7 +86,7 @@ pub fn read_line<S: Source>(
             Ok(0) => {
                 *reads -= 1;
                 return Ok(RawLine {
-                    bytes: within(line, most),
+                    bytes: unless_too_long(line, most),
                     is_last: true,
                 });
             }
@@ -93,13 +97,13 @@ pub fn read_line<S: Source>(
             }
         };
         *reads -= length as u64;
-        match longer(line, &part[..length], most) {
+        match extend_line(line, &part[..length], most) {
             Ok(more) => line = more,
             Err(_) => return Err(LineError::OutOfMemory),
         }
         if part[length - 1] == b'\n' {
             return Ok(RawLine {
-                bytes: within(line, most),
+                bytes: unless_too_long(line, most),
                 is_last: false,
             });
         }

@@ -25,14 +25,14 @@ pub(crate) enum Unread {
 }
 
 // Whether a field still has the bytes that it is to have, after one byte more.
-fn still(same: bool, read: u8, byte: u8) -> bool
+fn is_still_same(same: bool, read: u8, byte: u8) -> bool
     ensures { result ≡ (same && (read == byte)) }
 {
     same && read == byte
 }
 
 // Whether a field is whole; the error where its bytes are not those that it is to have.
-fn judged(same: bool, is_whole: bool, error: JournalError) -> Result<bool, Unread>
+fn judge_field(same: bool, is_whole: bool, error: JournalError) -> Result<bool, Unread>
     ensures { result ≡ cond same (Ok is_whole) (Err (Refused error)) }
 {
     if same {
@@ -52,12 +52,12 @@ fn read_field<S: Source>(source: &mut S, field: &[u8], error: JournalError) -> R
     let mut same = true;
     for byte in field {
         match read_byte(source) {
-            Ok(Some(read)) => same = still(same, read, *byte),
-            Ok(None) => return judged(same, false, error),
+            Ok(Some(read)) => same = is_still_same(same, read, *byte),
+            Ok(None) => return judge_field(same, false, error),
             Err(_) => return Err(Unread::ReadFault),
         }
     }
-    judged(same, true, error)
+    judge_field(same, true, error)
 }
 
 // The version of the formats that a byte tells; any byte but 1 and 2 is refused.

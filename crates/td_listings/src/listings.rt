@@ -163,7 +163,7 @@ fn show_held(out: &mut String, count: usize) -> Result<(), AllocError>
 }
 
 // The listing of an open site, with the outcomes of its entries and their number.
-fn listed<R: Replica>(
+fn open_listing<R: Replica>(
     alloc: Global,
     catalogue: &Catalogue,
     replica: &R,
@@ -201,7 +201,7 @@ pub fn listing_text<R: Replica>(
         Err(TellError::Broken) => return Err(ListError::Broken),
         Err(TellError::OutOfMemory) => return Err(ListError::OutOfMemory),
     };
-    match listed(alloc, catalogue, replica, outcomes.as_slice(), held.len()) {
+    match open_listing(alloc, catalogue, replica, outcomes.as_slice(), held.len()) {
         Ok(text) => Ok(text),
         Err(_) => Err(ListError::OutOfMemory),
     }

@@ -19,7 +19,7 @@ fn showing(c: char) -> char
 }
 
 // Appends the text so that it stays on one line, a space for each control character of ASCII.
-fn show_showing(out: &mut String, text: &str) -> Result<(), AllocError>
+fn show_on_one_line(out: &mut String, text: &str) -> Result<(), AllocError>
     ensures { OnOk result (string_bytes out.new ≡ string_bytes out.old ++ map spec.showing text.now) }
 {
     for c in text.chars() {
@@ -45,7 +45,7 @@ fn show_line(out: &mut String, entry: &Entry, outcome: &Outcome) -> Result<(), A
     out.push_str(" ")?;
     show_outcome(out, outcome)?;
     out.push_str(": ")?;
-    show_showing(out, entry.text.as_str())?;
+    show_on_one_line(out, entry.text.as_str())?;
     out.push_str("\n")
 }
 

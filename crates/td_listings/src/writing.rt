@@ -20,7 +20,7 @@ use td_semantics::laws::script_opens_one;
 use td_semantics::{CatalogueError, catalogue_of};
 
 // A replica's history is sound. It costs nothing.
-fn sound<R: Replica>(replica: &R)
+fn history_is_sound<R: Replica>(replica: &R)
     ensures { IsSound (R.seen replica.now) }
 {
     let _site = replica.site();
@@ -31,7 +31,7 @@ pub fn script_catalogue<R: Replica>(alloc: Global, replica: &R) -> Result<Catalo
     ensures { IfOk result (IsScriptOf (R.seen replica.now).script) }
 {
     script_opens_one();
-    sound(replica);
+    history_is_sound(replica);
     match catalogue_of(alloc, replica.script()) {
         Ok(catalogue) => Ok(catalogue),
         Err(CatalogueError::OutOfMemory) => Err(AllocError),
@@ -41,7 +41,7 @@ pub fn script_catalogue<R: Replica>(alloc: Global, replica: &R) -> Result<Catalo
 }
 
 // The listing by the catalogue of the site's script.
-fn listed<R: Replica>(alloc: Global, replica: &R) -> Result<String, ListError>
+fn listing_by_script<R: Replica>(alloc: Global, replica: &R) -> Result<String, ListError>
     ensures { MatchResult result (λ text. Lists (R.seen replica.now) (Ok (string_bytes text))) (λ e. Lists (R.seen replica.now) (Err e)) }
 {
     if !replica.is_open() {
@@ -63,7 +63,7 @@ pub fn listing<R: Replica, K: Sink>(
     ensures writes { WritesListing (R.seen replica.now) (output_of K.Sink sink.old) (output_of K.Sink sink.new) result }
     ensures aside { Keeps (K.aside sink.old) (K.aside sink.new) }
 {
-    let text = match listed(alloc, replica) {
+    let text = match listing_by_script(alloc, replica) {
         Ok(text) => text,
         Err(ListError::Broken) => return Err(ListingError::Broken),
         Err(ListError::OutOfMemory) => return Err(ListingError::OutOfMemory),
@@ -95,7 +95,7 @@ pub fn export<R: Replica, K: Sink>(
     ensures writes { WritesTable (R.seen replica.now) name.now (output_of K.Sink sink.old) (output_of K.Sink sink.new) result }
     ensures aside { Keeps (K.aside sink.old) (K.aside sink.new) }
 {
-    sound(replica);
+    history_is_sound(replica);
     let text = match tabulate(alloc, replica, name) {
         Ok(text) => text,
         Err(TableError::Unknown) => return Err(ExportError::Unknown),

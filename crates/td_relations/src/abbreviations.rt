@@ -120,7 +120,7 @@ fn is_whole(value: &Value) -> bool
 }
 
 // What the first of these begins with.
-fn first(attributes: &[(Name, Value)]) -> Abbreviation
+fn first_abbreviation(attributes: &[(Name, Value)]) -> Abbreviation
     ensures value { spec.value_of result ≡ spec.first (attrs_of attributes.now) }
     ensures bytes { FirstIsOfBytes (attrs_of attributes.now) }
 {
@@ -131,12 +131,12 @@ fn first(attributes: &[(Name, Value)]) -> Abbreviation
 }
 
 // What the second of these begins with, where that says more than the first.
-fn second(attributes: &[(Name, Value)]) -> Abbreviation
+fn second_abbreviation(attributes: &[(Name, Value)]) -> Abbreviation
     ensures value { spec.value_of result ≡ spec.second (attrs_of attributes.now) }
     ensures bytes { SecondIsOfBytes (attrs_of attributes.now) }
 {
     match attributes.split_first() {
-        Some((attribute, rest)) if is_whole(&attribute.1) => first(rest),
+        Some((attribute, rest)) if is_whole(&attribute.1) => first_abbreviation(rest),
         _ => Abbreviation::Nothing,
     }
 }
@@ -170,8 +170,8 @@ impl Abbreviated {
     {
         let attributes = tuple.attributes();
         Abbreviated {
-            first: first(attributes),
-            second: second(attributes),
+            first: first_abbreviation(attributes),
+            second: second_abbreviation(attributes),
             tuple,
         }
     }
@@ -230,7 +230,11 @@ fn without_abbreviations(beside: Vec<Abbreviated>, room: Vec<Tuple>) -> Vec<Tupl
 }
 
 // The tuples in order.
-fn in_order_beside(tuples: Vec<Tuple>, beside: Vec<Abbreviated>, room: Vec<Tuple>) -> Vec<Tuple>
+fn sort_with_abbreviations(
+    tuples: Vec<Tuple>,
+    beside: Vec<Abbreviated>,
+    room: Vec<Tuple>,
+) -> Vec<Tuple>
     requires alike { AreAlike tuples.items }
     requires empty { (beside.items ≡ []) × (room.items ≡ []) }
     requires beside { vec_len tuples ≤ vec_capacity beside }
@@ -245,7 +249,7 @@ fn in_order_beside(tuples: Vec<Tuple>, beside: Vec<Abbreviated>, room: Vec<Tuple
 }
 
 // The tuples in order, with no more memory.
-fn in_order_alone(tuples: Vec<Tuple>) -> Vec<Tuple>
+fn sort_by_values(tuples: Vec<Tuple>) -> Vec<Tuple>
     requires { AreAlike tuples.items }
     ensures permutation { IsPermutation tuples.items result.items }
     ensures sorted { IsSorted attrs_order result.items }
@@ -256,7 +260,7 @@ fn in_order_alone(tuples: Vec<Tuple>) -> Vec<Tuple>
 }
 
 // Room for so many tuples beside what they begin with, and for as many alone.
-fn room(alloc: Global, count: usize) -> Result<(Vec<Abbreviated>, Vec<Tuple>), AllocError>
+fn room_for_sort(alloc: Global, count: usize) -> Result<(Vec<Abbreviated>, Vec<Tuple>), AllocError>
     ensures empty { IfOk result (λ v. (v.0.items ≡ []) × (v.1.items ≡ [])) }
     ensures room { IfOk result (λ v. (count ≤ vec_capacity v.0) × (count ≤ vec_capacity v.1)) }
 {
@@ -267,16 +271,16 @@ fn room(alloc: Global, count: usize) -> Result<(Vec<Abbreviated>, Vec<Tuple>), A
 
 /// These tuples in order, by their values alone, since they have one heading. Where there is memory for what they begin
 /// with, they are compared by that first.
-pub fn in_order(tuples: Vec<Tuple>) -> Vec<Tuple>
+pub fn sort_tuples(tuples: Vec<Tuple>) -> Vec<Tuple>
     requires { AreAlike tuples.items }
     ensures permutation { IsPermutation tuples.items result.items }
     ensures sorted { IsSorted attrs_order result.items }
 {
     if tuples.len() <= FEW {
-        return in_order_alone(tuples);
+        return sort_by_values(tuples);
     }
-    match room(*tuples.allocator(), tuples.len()) {
-        Ok((beside, room)) => in_order_beside(tuples, beside, room),
-        Err(_) => in_order_alone(tuples),
+    match room_for_sort(*tuples.allocator(), tuples.len()) {
+        Ok((beside, room)) => sort_with_abbreviations(tuples, beside, room),
+        Err(_) => sort_by_values(tuples),
     }
 }

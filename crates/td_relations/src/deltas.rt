@@ -5,7 +5,7 @@ ghost use Rattle.td_relations.specs.Sets.{body, IsRelation};
 ghost use Rattle.td_relations.specs.Deltas.{IsApplied, IsDelta, IsDifference, IsExchanged, inverse_of};
 
 use crate::Relation;
-use crate::merges::{apart, minus, union};
+use crate::merges::{differences, minus, union};
 use crate::places::exchange_few;
 use std::alloc::{AllocError, Global};
 use std::marker::Model;
@@ -89,7 +89,7 @@ pub fn difference(alloc: Global, old: &Relation, new: &Relation) -> Result<Delta
     requires { old.now.heading ≡ new.now.heading }
     ensures { IfOk result (IsDifference old.now new.now) }
 {
-    let (deleted, inserted) = apart(alloc, old, new)?;
+    let (deleted, inserted) = differences(alloc, old, new)?;
     Ok(Delta { inserted, deleted })
 }
 

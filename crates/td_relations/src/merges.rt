@@ -57,7 +57,7 @@ fn append(out: &mut Vec<Tuple>, tuples: &[Tuple]) -> Result<(), AllocError>
 }
 
 // How many tuples may be kept of the lists.
-fn room(xs: &[Tuple], ys: &[Tuple], kept: Kept) -> usize {
+fn room_for_merge(xs: &[Tuple], ys: &[Tuple], kept: Kept) -> usize {
     match (kept.first, kept.second) {
         (true, true) => xs.len() + ys.len(),
         (true, false) => xs.len(),
@@ -67,13 +67,13 @@ fn room(xs: &[Tuple], ys: &[Tuple], kept: Kept) -> usize {
 }
 
 // The tuples that are kept of two ascending lists of one heading, ascending.
-fn merged(alloc: Global, xs: &[Tuple], ys: &[Tuple], kept: Kept) -> Result<Vec<Tuple>, AllocError>
+fn merge(alloc: Global, xs: &[Tuple], ys: &[Tuple], kept: Kept) -> Result<Vec<Tuple>, AllocError>
     requires alike { All (λ t. All (λ u. heading_of t ≡ heading_of u) ys.now) xs.now }
     requires xs_ascend { IsStrictlySortedBy attrs_order xs.now }
     requires ys_ascend { IsStrictlySortedBy attrs_order ys.now }
     ensures { IfOk result (λ v. IsMerge kept xs.now ys.now v.items) }
 {
-    let mut out = Vec::with_capacity(alloc, room(xs, ys, kept))?;
+    let mut out = Vec::with_capacity(alloc, room_for_merge(xs, ys, kept))?;
     let mut i = 0;
     let mut j = 0;
     while i < xs.len() && j < ys.len() {
@@ -100,7 +100,11 @@ fn merged(alloc: Global, xs: &[Tuple], ys: &[Tuple], kept: Kept) -> Result<Vec<T
 
 // The tuples that the first of two ascending lists of one heading has alone, ascending, and those that the second has
 // alone.
-fn alone(alloc: Global, xs: &[Tuple], ys: &[Tuple]) -> Result<(Vec<Tuple>, Vec<Tuple>), AllocError>
+fn split_differences(
+    alloc: Global,
+    xs: &[Tuple],
+    ys: &[Tuple],
+) -> Result<(Vec<Tuple>, Vec<Tuple>), AllocError>
     requires alike { All (λ t. All (λ u. heading_of t ≡ heading_of u) ys.now) xs.now }
     requires xs_ascend { IsStrictlySortedBy attrs_order xs.now }
     requires ys_ascend { IsStrictlySortedBy attrs_order ys.now }
@@ -145,7 +149,7 @@ fn with_tuples(relation: &Relation, tuples: Vec<Tuple>) -> Result<Relation, Allo
 
 // The tuples that the first relation has alone, and those that the second has alone, shared. It costs as `union`, and
 // takes memory for what it answers.
-pub(crate) fn apart(
+pub(crate) fn differences(
     alloc: Global,
     a: &Relation,
     b: &Relation,
@@ -153,21 +157,21 @@ pub(crate) fn apart(
     requires { a.now.heading ≡ b.now.heading }
     ensures { IfOk result (λ v. IsRelation a.now.heading (set.difference (body a.now) (body b.now)) v.0 × IsRelation a.now.heading (set.difference (body b.now) (body a.now)) v.1) }
 {
-    let (firsts, seconds) = alone(alloc, a.tuples(), b.tuples())?;
+    let (firsts, seconds) = split_differences(alloc, a.tuples(), b.tuples())?;
     Ok((with_tuples(a, firsts)?, with_tuples(a, seconds)?))
 }
 
 // The relation of the tuples that are kept.
-fn combined(alloc: Global, a: &Relation, b: &Relation, kept: Kept) -> Result<Relation, AllocError>
+fn combine(alloc: Global, a: &Relation, b: &Relation, kept: Kept) -> Result<Relation, AllocError>
     requires { a.now.heading ≡ b.now.heading }
     ensures { IfOk result (IsRelationOf a.now.heading (λ t. is_kept kept (set.contains (body a.now) t) (set.contains (body b.now) t) ≡ true)) }
 {
-    let tuples = merged(alloc, a.tuples(), b.tuples(), kept)?;
+    let tuples = merge(alloc, a.tuples(), b.tuples(), kept)?;
     with_tuples(a, tuples)
 }
 
 // The tuples of the first relation that the second lacks, by a search for each.
-fn lacking(alloc: Global, a: &Relation, b: &Relation) -> Result<Vec<Tuple>, AllocError>
+fn lacking_tuples(alloc: Global, a: &Relation, b: &Relation) -> Result<Vec<Tuple>, AllocError>
     ensures { IfOk result (λ v. v.items ≡ filter (λ t. not (set.contains (body b.now) t)) a.now.tuples) }
 {
     let mut kept = Vec::new(alloc);
@@ -180,13 +184,13 @@ fn lacking(alloc: Global, a: &Relation, b: &Relation) -> Result<Vec<Tuple>, Allo
 }
 
 // The relation of these tuples.
-fn beyond(alloc: Global, a: &Relation, b: &Relation) -> Result<Relation, AllocError>
+fn minus_by_searches(alloc: Global, a: &Relation, b: &Relation) -> Result<Relation, AllocError>
     requires { a.now.heading ≡ b.now.heading }
     ensures { IfOk result (IsRelationOf a.now.heading (λ t. is_kept first_alone (set.contains (body a.now) t) (set.contains (body b.now) t) ≡ true)) }
 {
     a.rows_fit();
     b.rows_fit();
-    let tuples = lacking(alloc, a, b)?;
+    let tuples = lacking_tuples(alloc, a, b)?;
     with_tuples(a, tuples)
 }
 
@@ -200,7 +204,7 @@ pub fn union(alloc: Global, a: &Relation, b: &Relation) -> Result<Relation, Allo
         both: true,
         second: true,
     };
-    combined(alloc, a, b, kept)
+    combine(alloc, a, b, kept)
 }
 
 /// The tuples of both relations, shared. It costs as `union`.
@@ -213,7 +217,7 @@ pub fn intersect(alloc: Global, a: &Relation, b: &Relation) -> Result<Relation, 
         both: true,
         second: false,
     };
-    combined(alloc, a, b, kept)
+    combine(alloc, a, b, kept)
 }
 
 /// The tuples of the first relation that the second lacks, shared. It costs as `union`, or, where the first list is
@@ -223,14 +227,14 @@ pub fn minus(alloc: Global, a: &Relation, b: &Relation) -> Result<Relation, Allo
     ensures { IfOk result (IsRelation a.now.heading (set.difference (body a.now) (body b.now))) }
 {
     if a.len() <= b.len() / FEW {
-        return beyond(alloc, a, b);
+        return minus_by_searches(alloc, a, b);
     }
     let kept = Kept {
         first: true,
         both: false,
         second: false,
     };
-    combined(alloc, a, b, kept)
+    combine(alloc, a, b, kept)
 }
 
 // Whether the relation has each of the tuples.

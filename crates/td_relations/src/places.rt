@@ -128,7 +128,7 @@ fn is_below(tuples: &[Tuple], at: usize, tuple: &Tuple) -> bool
 }
 
 // Where the first tuple is, if the tuples still ascend with the second one there.
-fn place_of_both(tuples: &[Tuple], gone: &Tuple, more: &Tuple) -> Option<usize>
+fn replaceable_place(tuples: &[Tuple], gone: &Tuple, more: &Tuple) -> Option<usize>
     requires { IsStrictlySortedBy attrs_order tuples.now }
     ensures is { IfSome result (IsAt tuples.now gone.now) }
     ensures below { IfSome result (λ at. AreBelow tuples.now at more.now) }
@@ -150,7 +150,7 @@ pub fn exchange_one(tuples: &mut Vec<Tuple>, gone: &Tuple, more: Tuple)
     ensures ascending { IsStrictlySortedBy attrs_order tuples.new.items }
     ensures members { tuple_set tuples.new.items ≡ set.insert (set.remove (tuple_set tuples.old.items) gone.now) more }
 {
-    match place_of_both(tuples, gone, &more) {
+    match replaceable_place(tuples, gone, &more) {
         Some(at) => tuples[at] = more,
         None => {
             take_out(tuples, gone);

@@ -10,7 +10,7 @@ use std::alloc::{AllocError, Global};
 use td_stamps::Stamp;
 
 // Each place up to this one has a label.
-fn reach(labels: &mut Vec<usize>, place: usize) -> Result<(), AllocError>
+fn extend_to(labels: &mut Vec<usize>, place: usize) -> Result<(), AllocError>
     ensures reached { OnOk result (place < length labels.new.items) }
     ensures coarser { IsCoarser labels.old.items labels.new.items }
 {
@@ -22,7 +22,7 @@ fn reach(labels: &mut Vec<usize>, place: usize) -> Result<(), AllocError>
 }
 
 // The labels with the one in place of the other.
-fn relabelled(
+fn relabel(
     alloc: Global,
     labels: &[usize],
     from: usize,
@@ -54,7 +54,7 @@ fn tie_two(
     if from == to {
         return Ok(());
     }
-    *labels = relabelled(alloc, labels, from, to)?;
+    *labels = relabel(alloc, labels, from, to)?;
     Ok(())
 }
 
@@ -67,9 +67,9 @@ pub fn tie(alloc: Global, labels: &mut Vec<usize>, places: &[usize]) -> Result<(
     let Some((first, others)) = places.split_first() else {
         return Ok(());
     };
-    reach(labels, *first)?;
+    extend_to(labels, *first)?;
     for place in others {
-        reach(labels, *place)?;
+        extend_to(labels, *place)?;
         tie_two(alloc, labels, *first, *place)?;
     }
     Ok(())
@@ -116,7 +116,7 @@ fn are_tied(labels: &[usize], places: &[usize]) -> bool
 }
 
 // Ties the places of each record.
-fn tie_all<M: Machine>(
+fn tie_records<M: Machine>(
     alloc: Global,
     labels: &mut Vec<usize>,
     log: &[(Stamp, M::Record)],
@@ -163,7 +163,7 @@ pub(crate) fn part_of<M: Machine>(
 {
     let mut labels = Vec::new(alloc);
     tie(alloc, &mut labels, places)?;
-    tie_all::<M>(alloc, &mut labels, log)?;
+    tie_records::<M>(alloc, &mut labels, log)?;
     machine.merge_components(alloc, &mut labels)?;
     let label = first_label(&labels, places);
     Ok(Part { labels, label })

@@ -95,7 +95,7 @@ pub(crate) fn with_flagged(
 
 /// Copies of the marked entries; they share the texts.
 #[tactic(auto, using(crate::proofs::Parting::none_marked))]
-pub(crate) fn chosen(
+pub(crate) fn marked_entries(
     alloc: Global,
     entries: &[Entry],
     marks: &[bool],

@@ -6,7 +6,7 @@ ghost use Rattle.std.specs.List.{Contains};
 use std::alloc::AllocError;
 
 // Whether one of the places is named.
-pub(crate) fn meets(names: &[usize], places: &[usize]) -> bool
+pub(crate) fn names_any(names: &[usize], places: &[usize]) -> bool
     ensures { IsTrue result ↔ ((n : ℕ) × Contains places.now n × Contains names.now n) }
 {
     places.iter().any(|place| names.contains(place))

@@ -12,7 +12,7 @@ ghost use Rattle.td_rollback.specs.Turns.{settled};
 ghost use Rattle.td_rollback.specs.ForProofs.Standing.{AreRead, Ran};
 
 use crate::machine::Machine;
-use crate::names::{add, meets};
+use crate::names::{add, names_any};
 use crate::stamps::is_old;
 use crate::turns::ReplayedRecord;
 use std::alloc::{AllocError, Global};
@@ -145,7 +145,7 @@ fn run_fresh<M: Machine>(
 }
 
 // Makes the change of an old entry again.
-fn keep<M: Machine>(
+fn keep_record<M: Machine>(
     alloc: Global,
     machine: &mut M,
     turns: &mut Vec<ReplayedRecord<M::Record>>,
@@ -192,10 +192,10 @@ pub(crate) fn replay_end<M: Machine>(
         if at < old.len() && is_old(entry, &old[at]) {
             let ran = &log[at].1;
             at += 1;
-            if meets(&names, M::footprint_of(ran)) {
+            if names_any(&names, M::footprint_of(ran)) {
                 run_again(alloc, machine, &mut names, &mut turns, entry, meter)?;
             } else {
-                keep(alloc, machine, &mut turns, ran)?;
+                keep_record(alloc, machine, &mut turns, ran)?;
             }
         } else {
             let reading = reading_at::<M>(readings, turns.len().saturating_sub(at), entry);

@@ -14,7 +14,7 @@ ghost use Rattle.td_rollback.specs.ForProofs.Standing.{AreRead};
 use crate::labels::part_of;
 use crate::machine::Machine;
 use crate::marks::{
-    Marked, are_unmarked, chosen, insert_marked, interleave, mark_fresh, marks_of, split,
+    Marked, are_unmarked, insert_marked, interleave, mark_fresh, marked_entries, marks_of, split,
     with_flagged,
 };
 use crate::names::add;
@@ -203,8 +203,8 @@ fn mark_both(
         return Ok((Marked { marks, entries }, fresh));
     }
     let all = with_flagged(alloc, &fresh.marks, &marks)?;
-    let entries = chosen(alloc, old, &marks)?;
-    let all_entries = chosen(alloc, new, &all)?;
+    let entries = marked_entries(alloc, old, &marks)?;
+    let all_entries = marked_entries(alloc, new, &all)?;
     let told = Marked { marks, entries };
     let all = Marked {
         marks: all,

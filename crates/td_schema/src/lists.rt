@@ -73,7 +73,7 @@ fn others(alloc: Global, names: &[Name], heading: &Heading) -> Result<Items<Name
 }
 
 // The names that stand in the attribute list, be they those that stay or those that ALL BUT leaves out.
-fn listed(attributes: &Attributes) -> &[Name]
+fn named_attributes(attributes: &Attributes) -> &[Name]
     ensures { result.now ≡ spec.listed attributes.now }
 {
     match attributes {
@@ -84,7 +84,7 @@ fn listed(attributes: &Attributes) -> &[Name]
 
 // The attributes that the list means: those in it, in its order, or for ALL BUT all others of the heading, in name
 // order. Whether the names are attributes is not looked at.
-fn chosen(
+fn chosen_attributes(
     alloc: Global,
     attributes: &Attributes,
     heading: &Heading,
@@ -113,10 +113,10 @@ pub fn attributes_of(
 ) -> Result<Items<Name>, TypeError>
     ensures { Gives (spec.attributes_of attributes.now heading.now) result }
 {
-    if !are_attributes(alloc, listed(attributes), heading)? {
+    if !are_attributes(alloc, named_attributes(attributes), heading)? {
         return Err(TypeError::IllTyped);
     }
-    Ok(chosen(alloc, attributes, heading)?)
+    Ok(chosen_attributes(alloc, attributes, heading)?)
 }
 
 /// The renamings, each an old name with its new one.

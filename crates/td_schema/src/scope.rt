@@ -33,7 +33,7 @@ pub enum Meant {
 }
 
 // The kind at the last of these that has the name.
-fn latest<'a>(names: &'a [Named<TypeKind>], name: &Name) -> Option<&'a TypeKind>
+fn latest_kind<'a>(names: &'a [Named<TypeKind>], name: &Name) -> Option<&'a TypeKind>
     ensures { option_copied result ≡ latest names.now name.now None }
 {
     let mut found = None;
@@ -46,7 +46,7 @@ fn latest<'a>(names: &'a [Named<TypeKind>], name: &Name) -> Option<&'a TypeKind>
 }
 
 // The relvar that the name means, or none where the schema has no relvar of this name. The heading is shared.
-fn relvar_meant(schema: &Schema, name: &Name) -> Result<Option<Meant>, AllocError>
+fn find_relvar(schema: &Schema, name: &Name) -> Result<Option<Meant>, AllocError>
     ensures { IfOk result (λ m. m ≡ spec.relvars_of schema.now name.now) }
 {
     match schema.relvar(name) {
@@ -63,12 +63,12 @@ impl Scope<'_> {
     {
         match self {
             Scope::Nothing => Ok(None),
-            Scope::Relvars(schema) => relvar_meant(schema, name),
+            Scope::Relvars(schema) => find_relvar(schema, name),
             Scope::Within(heading, outer) => match heading.type_of(name) {
                 Some(ty) => Ok(Some(Meant::Local(ty.kind.copy()?))),
                 None => outer.find(name),
             },
-            Scope::Given(names, outer) => match latest(names, name) {
+            Scope::Given(names, outer) => match latest_kind(names, name) {
                 Some(kind) => Ok(Some(Meant::Local(kind.copy()?))),
                 None => outer.find(name),
             },

@@ -76,7 +76,7 @@ pub fn heading_written(
 }
 
 // The kind of a user-defined type that is written as its name. It is ill typed where the schema has no such type.
-fn user_written(schema: &Schema, name: &Name) -> Result<TypeKind, TypeError>
+fn user_kind(schema: &Schema, name: &Name) -> Result<TypeKind, TypeError>
     ensures { Gives (where_true (is_some (type_named schema.now name.now)) (kind.User name.now)) result }
 {
     match schema.type_named(name) {
@@ -95,7 +95,7 @@ pub fn written(alloc: Global, schema: &Schema, ty: &TypeExpr) -> Result<TypeKind
         TypeExpr::Boolean => Ok(TypeKind::Boolean),
         TypeExpr::Integer => Ok(TypeKind::Integer),
         TypeExpr::Char => Ok(TypeKind::Char),
-        TypeExpr::User(name) => user_written(schema, name),
+        TypeExpr::User(name) => user_kind(schema, name),
         TypeExpr::Tuple(fields) => match heading_written(alloc, schema, fields.as_slice()) {
             Ok(heading) => Ok(TypeKind::Tuple(heading)),
             Err(error) => Err(error),

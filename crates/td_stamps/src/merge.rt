@@ -13,7 +13,7 @@ use std::alloc::{AllocError, Global};
 
 /// The union of a set and a batch, or None where two entries clash. Takes time of order
 /// n log n in the number of all entries, and a walk over them for a batch of one.
-pub fn joined(
+pub fn join_batch(
     alloc: Global,
     held: &[Entry],
     batch: &[Entry],
@@ -24,7 +24,7 @@ pub fn joined(
     ensures { IfOk result (λ o. MatchOption o (first_clash held.now batch.now ≢ None) (λ v. Joins held.now batch.now v.items)) }
 {
     if let [entry] = batch {
-        return joined_with_one(alloc, held, entry);
+        return join_one(alloc, held, entry);
     }
     let mut all = Vec::with_capacity(alloc, held.len() + batch.len())?;
     push_copies(&mut all, held)?;
@@ -52,7 +52,7 @@ pub fn first_clash_in(
     while clear + 1 < clashing {
         let middle = clear + (clashing - clear) / 2;
         let (front, _) = batch.split_at(middle);
-        if joined(alloc, held, front)?.is_some() {
+        if join_batch(alloc, held, front)?.is_some() {
             clear = middle;
         } else {
             clashing = middle;
@@ -98,11 +98,7 @@ fn is_tied(entry: &Entry, other: &Entry) -> bool
 }
 
 /// The union of a set and one entry, or None where it clashes with one of the set.
-fn joined_with_one(
-    alloc: Global,
-    held: &[Entry],
-    entry: &Entry,
-) -> Result<Option<Vec<Entry>>, AllocError>
+fn join_one(alloc: Global, held: &[Entry], entry: &Entry) -> Result<Option<Vec<Entry>>, AllocError>
     requires { is_set held.now ≡ true }
     ensures { IfOk result (λ o. MatchOption o (list_any (clash entry.now) held.now ≡ true) (λ v. (list_any (clash entry.now) held.now ≡ false) × (v.items ≡ put entry.now held.now))) }
 {

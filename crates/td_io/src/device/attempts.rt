@@ -19,7 +19,7 @@ fn is_interruption(e: &io::Error) -> bool {
 }
 
 // A write of a buffer that has bytes takes one at least, or has failed.
-fn taken(n: usize, bytes: &[u8]) -> Result<usize, Failed>
+fn require_progress(n: usize, bytes: &[u8]) -> Result<usize, Failed>
     ensures some { IfOk result (λ m. 0 < length bytes.now → 0 < m) }
     ensures same { IfOk result (λ m. m ≡ n) }
     ensures none { OnErr result (n ≡ 0) }
@@ -125,7 +125,7 @@ pub(super) fn write_on<W: Write>(inner: &mut W, bytes: &[u8]) -> Result<usize, F
     ensures some { IfOk result (λ n. 0 < length bytes.now → 0 < n) }
     ensures bytes { WriteAppends (W.contents inner.old) (W.contents inner.new) result bytes.now }
 {
-    persist!(inner.write(bytes), n => taken(n, bytes))
+    persist!(inner.write(bytes), n => require_progress(n, bytes))
 }
 
 /// Flushes a writer; it goes on after interruptions.
@@ -151,7 +151,7 @@ pub(super) fn write_side_on<L: Link>(inner: &mut L, bytes: &[u8]) -> Result<usiz
     ensures bytes { WriteAppends (L.contents inner.old) (L.contents inner.new) result bytes.now }
     ensures remaining { Keeps (L.remaining inner.old) (L.remaining inner.new) }
 {
-    persist!(inner.write_side(bytes), n => taken(n, bytes))
+    persist!(inner.write_side(bytes), n => require_progress(n, bytes))
 }
 
 /// Flushes what was written to a link; it goes on after interruptions.

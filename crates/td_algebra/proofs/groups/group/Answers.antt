@@ -7,15 +7,15 @@ use Rattle.td_algebra.proofs.Grouping.{parts_fit, grouped_fit, grouped_made}
 use Rattle.td_algebra.proofs.KeyGroups.{by_parts}
 use Rattle.td_algebra.proofs.groups.group.Goals as goal
 
-pub with_groups-requires-clause-fit : goal.with_groups-requires-clause-fit
-with_groups-requires-clause-fit c =
+pub groups_of_runs-requires-clause-fit : goal.groups_of_runs-requires-clause-fit
+groups_of_runs-requires-clause-fit c =
     let index = c.in_ok-index.ensures in
     parts_fit c.args.r.now index.rows c.args.names.now c.in_ok-inner.inner c.in_ok-outer.outer
     (c.in_ok-inner.ensures ∙ ap (columns_in c.args.names.now) c.heading.ensures) (c.in_ok-outer.ensures ∙ ap (columns_out c.args.names.now) c.heading-2.ensures)
     c.in_ok-index.index.tuples.items index.entries
 
-pub with_groups-requires-clause-by_parts : goal.with_groups-requires-clause-by_parts
-with_groups-requires-clause-by_parts c = by_parts c.args.r.now (names_of c.in_ok-outer.outer) c.in_ok-index.index c.in_ok-index.ensures
+pub groups_of_runs-requires-clause-by_parts : goal.groups_of_runs-requires-clause-by_parts
+groups_of_runs-requires-clause-by_parts c = by_parts c.args.r.now (names_of c.in_ok-outer.outer) c.in_ok-index.index c.in_ok-index.ensures
 
 pub from_tuples-requires : goal.from_tuples-requires
 from_tuples-requires c =

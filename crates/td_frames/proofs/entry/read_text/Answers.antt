@@ -23,11 +23,11 @@ returns-in_default-clause-told g c =
     let not_text : IsUtf8 bytes → ⊥ = λ u. absurd (cc (c.in_default.ensures.succeeds u)) in
     (bytes, taken, (ap (text_at c.args.head) (sym (append-nil bytes)) ∙ text_not c.args.head bytes [] (omega arith) len not_text, count))
 
-pub returns-in-Ok-entry_with-clause-told : goal.returns-in-Ok-entry_with-clause-told
-returns-in-Ok-entry_with-clause-told g c =
+pub returns-in-Ok-entry_of-clause-told : goal.returns-in-Ok-entry_of-clause-told
+returns-in-Ok-entry_of-clause-told g c =
     let bytes = c.in-Ok.bytes.items in
     let (taken, len, count) = c.in-Ok.ensures.ok in
     let same : string_bytes c.in-Ok-from_utf8.text ≡ bytes = ap (λ v. v.items) c.in-Ok-from_utf8.ensures.ok in
     let whole : text_at c.args.head bytes ≡ Ok (with_text c.args.head bytes, []) = ap (text_at c.args.head) (sym (append-nil bytes)) ∙ text_whole c.args.head bytes [] (omega arith) len (subst IsUtf8 same (IsUtf8-string_bytes c.in-Ok-from_utf8.text)) in
-    let is : c.in-Ok-entry_with.entry ≡ with_text c.args.head bytes = c.in-Ok-entry_with.ensures ∙ ap (with_text c.args.head) same in
+    let is : c.in-Ok-entry_of.entry ≡ with_text c.args.head bytes = c.in-Ok-entry_of.ensures ∙ ap (with_text c.args.head) same in
     (bytes, taken, (whole ∙ ap (λ (e : Entry). Ok (e, [])) (sym is), count))

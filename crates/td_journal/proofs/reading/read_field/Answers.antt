@@ -13,7 +13,7 @@ returns-in-Ok-None-clause-told g c =
     let f = c.args.field.now in
     let all = subst (Consumes (g.S.Source.left c.args.source.now) (g.S.Source.left c.read_byte.new.source)) (append-nil done) (Consumes-trans _ _ _ _ _ taken last) in
     let told = field_cut f c.args.error done c.loop-byte.byte-index 0 c.loop-byte.same (g.S.Source.left c.read_byte.new.source) (g.S.Source.failures c.args.source.now) (g.S.Source.failures c.read_byte.new.source) c.loop-byte-test.true so_far end (c.in-Ok-None.ensures.count ∙ c.loop-byte.invariant.count) in
-    (done, all, field_as f f c.args.error done (cond c.loop-byte.same (Ok false) (Err (Refused c.args.error))) c.judged.result (g.S.Source.left c.read_byte.new.source) (g.S.Source.failures c.args.source.now) (g.S.Source.failures c.read_byte.new.source) refl (sym c.judged.ensures) told)
+    (done, all, field_as f f c.args.error done (cond c.loop-byte.same (Ok false) (Err (Refused c.args.error))) c.judge_field.result (g.S.Source.left c.read_byte.new.source) (g.S.Source.failures c.args.source.now) (g.S.Source.failures c.read_byte.new.source) refl (sym c.judge_field.ensures) told)
 
 pub loop-byte-preserved : goal.loop-byte-preserved
 loop-byte-preserved g c =
@@ -23,7 +23,7 @@ loop-byte-preserved g c =
       told = (
         done ++ read ∷ [],
         Consumes-trans _ _ _ _ _ taken (rw c.in-Ok-Some.field-0-is at c.in-Ok-Some.ensures.byte),
-        agrees_on c.args.field.now c.args.error done c.loop-byte.byte-index read 0 _ c.loop-byte.same c.still-same.result c.loop-byte-test.true refl c.still-same.ensures so_far,
+        agrees_on c.args.field.now c.args.error done c.loop-byte.byte-index read 0 _ c.loop-byte.same c.is_still_same-same.result c.loop-byte-test.true refl c.is_still_same-same.ensures so_far,
       );
       beside = Keeps-trans _ _ _ c.loop-byte.invariant.beside c.in-Ok-Some.ensures.beside;
       count = c.in-Ok-Some.ensures.count ∙ c.loop-byte.invariant.count;
@@ -34,4 +34,4 @@ returns-clause-told g c =
     let (done, taken, so_far) = c.loop-byte.invariant.told in
     let f = c.args.field.now in
     let told = field_whole f c.args.error done c.loop-byte.byte-index c.loop-byte.same _ _ _ (drop_all c.loop-byte.byte-index f c.loop-byte-test.false) so_far c.loop-byte.invariant.count in
-    (done, taken, field_as f f c.args.error done _ c.judged-2.result _ _ _ refl (sym c.judged-2.ensures) told)
+    (done, taken, field_as f f c.args.error done _ c.judge_field-2.result _ _ _ refl (sym c.judge_field-2.ensures) told)

@@ -12,21 +12,21 @@ returns-in_ok-copy-in-Some t c =
     ∙ ap (λ o. or_outer o (visible c.in-Within.outer.now x)) c.in-Some.ensures
     ∙ ap (λ s. visible s x) (sym c.in-Within.is)
 
-pub returns-in_ok-copy-in-Some-latest : goal.returns-in_ok-copy-in-Some-latest
-returns-in_ok-copy-in-Some-latest t c =
+pub returns-in_ok-copy-in-Some-latest_kind : goal.returns-in_ok-copy-in-Some-latest_kind
+returns-in_ok-copy-in-Some-latest_kind t c =
     let outer = visible c.in-Given.outer.now in
     let x = c.args.name.now in
-    ap (λ k. Some (local k)) c.in_ok-copy-in-Some-latest.ensures
-    ∙ ap (λ f. or_else f (outer x)) c.in-Some-latest.ensures
+    ap (λ k. Some (local k)) c.in_ok-copy-in-Some-latest_kind.ensures
+    ∙ ap (λ f. or_else f (outer x)) c.in-Some-latest_kind.ensures
     ∙ sym (last_given c.in-Given.names.now outer x None (outer x) refl)
     ∙ ap (λ s. visible s x) (sym c.in-Given.is)
 
-pub returns-in-None-latest : goal.returns-in-None-latest
-returns-in-None-latest t c =
+pub returns-in-None-latest_kind : goal.returns-in-None-latest_kind
+returns-in-None-latest_kind t c =
     let outer = visible c.in-Given.outer.now in
     let x = c.args.name.now in
-    subst (λ m. IfOk c.find-in-None-latest.result (λ r. r ≡ m))
-    (ap (λ f. or_else f (outer x)) c.in-None-latest.ensures
+    subst (λ m. IfOk c.find-in-None-latest_kind.result (λ r. r ≡ m))
+    (ap (λ f. or_else f (outer x)) c.in-None-latest_kind.ensures
     ∙ sym (last_given c.in-Given.names.now outer x None (outer x) refl)
     ∙ ap (λ s. visible s x) (sym c.in-Given.is))
-    c.find-in-None-latest.ensures
+    c.find-in-None-latest_kind.ensures

@@ -1,6 +1,0 @@
-use Rattle.std.proofs.Common.{take}
-use Rattle.td_algebra.specs.ForProofs.Checking.{AreNew}
-use Rattle.td_algebra.proofs.extension.are_new.Given as goal
-
-abbrev pub invariant-loop-item : goal.invariant-loop-item
-invariant-loop-item g l = AreNew l.heading (take l.item-index l.items)

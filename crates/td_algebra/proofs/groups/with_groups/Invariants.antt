@@ -1,6 +1,0 @@
-use Rattle.std.proofs.Common.{take}
-use Rattle.td_algebra.specs.ForProofs.Index.{AreGroups}
-use Rattle.td_algebra.proofs.groups.with_groups.Given as goal
-
-abbrev pub invariant-loop-at : goal.invariant-loop-at
-invariant-loop-at l = AreGroups l.inner l.outer l.name l.index.tuples.items (take l.at l.index.tuples.items) l.out.items
