@@ -43,6 +43,7 @@ use Rattle.td_headings.specs.Expressions.{IsTree}
 use Rattle.td_headings.specs.Reached.{named_relvars, named_possreps, possreps_within}
 use Rattle.td_headings.specs.declared.defined.Origin.{Origin}
 use Rattle.td_headings.specs.declared.defined.Origin.TheVariants as origin
+use Rattle.td_headings.proofs.Placed.{front_or_last}
 use Rattle.td_headings.proofs.WellTyped.{all_typed}
 use Rattle.td_eval.proofs.Named.{relvars_append, possreps_append}
 
@@ -227,15 +228,9 @@ module _ (c : CatalogueData) (defined : Defined c) (h : Header) (u : Typed) (k :
       let each = (all_typed c defined).limit_each in
       omega (arith, lt, each)
 
--- ---- what stands at a place stands in the front, or is the last
+-- ---- names that are defined earlier
 pub some_same : {A : Type 0} (a b : A) → Some a ≡ Some b → a ≡ b
 some_same a b h = cc
-
-pub front_or_last : {A P : Type 0} (xs : List A) (y : A) (n : ℕ) (z : A) → slice_get (xs ++ y ∷ []) n ≡ Some z → (slice_get xs n ≡ Some z → P) → (n ≡ length xs → y ≡ z → P) → P
-front_or_last [] y zero z h front last = last refl (some_same y z h)
-front_or_last [] y (suc n) z h front last = cc
-front_or_last (x ∷ xs) y zero z h front last = front h
-front_or_last (x ∷ xs) y (suc n) z h front last = front_or_last xs y n z h front (λ e. last (ap suc e))
 
 abbrev Earlier : CatalogueData → Type 0
 Earlier c = (n : ℕ) (u : Typed) → slice_get c.origins n ≡ Some (origin.Virtual u) → (w : ℕ) → Contains (named_relvars u) w → w < n

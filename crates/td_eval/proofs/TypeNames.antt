@@ -7,7 +7,7 @@ use Rattle.td_schema.specs.Schemas.{first_from, has_type_name, type_named}
 use Rattle.td_schema.specs.declared.schema.Representation.{Representation}
 use Rattle.td_headings.specs.Catalogues.{CatalogueData}
 use Rattle.td_headings.specs.Definitions.{Defines, type_, base, virtual, constraint, Defined, nothing_yet, next_definition, represented}
-use Rattle.td_eval.proofs.Placed.{front_or_last}
+use Rattle.td_headings.proofs.Placed.{front_or_last}
 
 -- ---- the first that passes stays the first, and where none does the next is it
 module _ {A : Type 0} (test : A → Bool) where

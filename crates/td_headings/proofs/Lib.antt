@@ -1,4 +1,5 @@
 pub mod Deciding
+pub mod KeptConstraints
 pub mod Placed
 pub mod TestNames
 pub mod Ascending

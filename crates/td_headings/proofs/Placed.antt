@@ -1,5 +1,5 @@
 -- What is put behind the others, by the fields of a catalogue.
-use Rattle.std.proofs.Common.{◌≡◌, ℕ, Bool, true, false, not, List, [], ◌∷◌, ◌++◌, map, length, Option, Some, None, is_none, Result, Ok, Err, refl, sym, ap, ◌∙◌}
+use Rattle.std.proofs.Common.{◌≡◌, ℕ, zero, suc, Bool, true, false, not, List, [], ◌∷◌, ◌++◌, map, length, Option, Some, None, is_none, slice_get, Result, Ok, Err, refl, sym, ap, ◌∙◌}
 use Rattle.td_values.specs.Headings.{Header}
 use Rattle.td_syntax.specs.declared.tree.Attributes.{Attributes}
 use Rattle.td_syntax.specs.declared.script.Opening.{Opening}
@@ -24,6 +24,13 @@ use Rattle.td_headings.specs.declared.defined.Test.TheVariants as test
 
 some_same : {A : Type 0} (a b : A) → Some a ≡ Some b → a ≡ b
 some_same a b h = cc
+
+-- what stands at a place of a list with one more stands there before it, or is the last
+pub front_or_last : {A P : Type 0} (xs : List A) (y : A) (n : ℕ) (z : A) → slice_get (xs ++ y ∷ []) n ≡ Some z → (slice_get xs n ≡ Some z → P) → (n ≡ length xs → y ≡ z → P) → P
+front_or_last [] y zero z h front last = last refl (some_same y z h)
+front_or_last [] y (suc n) z h front last = cc
+front_or_last (x ∷ xs) y zero z h front last = front h
+front_or_last (x ∷ xs) y (suc n) z h front last = front_or_last xs y n z h front (λ e. last (ap suc e))
 
 tested : {A : Type 0} (b : Bool) (a y : A) → where_true b a ≡ Some y → (b ≡ true) × (a ≡ y)
 tested true a y h = (refl, some_same a y h)

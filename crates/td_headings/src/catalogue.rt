@@ -1,14 +1,16 @@
 //! What a script has defined, each definition well typed after those before it.
 
-ghost use Rattle.std.specs.Prelude.{◌≡◌, Err, MatchOption, None, OnErr, OnOk, Some, slice_get};
+ghost use Rattle.std.specs.Prelude.{◌≡◌, Err, IfSome, MatchOption, None, OnErr, OnOk, Some, slice_get};
 ghost use Rattle.std.specs.Option.{option_copied};
 ghost use Rattle.td_schema.specs.Schemas as schemas;
 ghost use Rattle.td_schema.specs.declared.error.TypeError.TheVariants as type_error;
 ghost use Rattle.td_headings.specs.Catalogues as spec;
 ghost use Rattle.td_headings.specs.Definitions.{Defined, Defines};
+ghost use Rattle.td_headings.specs.Expressions.{IsConstraint, constraint_at};
 
 use crate::defined::{Definitions, Origin, Test};
-use std::alloc::Global;
+use crate::typed::{TypedExpr, constraint_exprs};
+use std::alloc::{AllocError, Global};
 use std::marker::Model;
 use td_schema::error::TypeError;
 use td_schema::schema::{Representation, Schema};
@@ -21,12 +23,17 @@ use td_values::{Heading, Name};
 /// after those before it.
 pub struct Catalogue {
     definitions: Definitions,
+    // for each test its expression, where it is a constraint and its expression is kept
+    constraints: Vec<Option<TypedExpr>>,
 }
 
 // By hand, since a derived one is proved anew at each place where a catalogue is dropped: this one is a call there.
 impl Drop for Catalogue {
     fn drop(self) {
-        let Catalogue { definitions: _ } = self;
+        let Catalogue {
+            definitions: _,
+            constraints: _,
+        } = self;
     }
 }
 
@@ -34,6 +41,7 @@ impl Model for Catalogue {
     ghost use Rattle.td_headings.specs.Catalogues.{CatalogueData};
     ghost use Rattle.td_headings.specs.ForProofs.Codes.{catalogue_code};
     ghost use Rattle.td_headings.specs.Definitions.{Defined};
+    ghost use Rattle.td_headings.specs.ForProofs.KeptConstraints.{AreKept};
 
     ghost Value = { CatalogueData };
 
@@ -41,7 +49,7 @@ impl Model for Catalogue {
 
     ghost view = { λ c. c.definitions };
 
-    ghost invariant = { λ c. Defined c.definitions };
+    ghost invariant = { λ c. Defined c.definitions × AreKept c.definitions c.constraints.items };
 }
 
 impl Catalogue {
@@ -51,6 +59,7 @@ impl Catalogue {
     {
         Catalogue {
             definitions: Definitions::new(alloc),
+            constraints: Vec::new(alloc),
         }
     }
 
@@ -126,12 +135,33 @@ impl Catalogue {
         self.definitions.limits()
     }
 
+    /// The expression of the constraint at this place among the tests, where it is kept.
+    pub(crate) fn kept_constraint(&self, place: usize) -> Option<&TypedExpr>
+        ensures { IfSome result (λ x. IsConstraint self.now (constraint_at self.now place) x.now) }
+    {
+        match self.constraints.get(place) {
+            Some(Some(expr)) => Some(expr),
+            _ => None,
+        }
+    }
+
+    /// Keeps the expressions of the constraints, which `constraint_expr` then shares: else it makes each anew at each
+    /// call. They cost their sizes, with those of the expressions of the virtual relvars under them. A definition that
+    /// is added later drops them.
+    pub fn keep_constraints(&mut self, alloc: Global) -> Result<(), AllocError>
+        ensures { self.new ≡ self.old }
+    {
+        self.constraints = constraint_exprs(alloc, self)?;
+        Ok(())
+    }
+
     /// Adds a definition behind the others, where it is well typed after them.
     pub fn define(&mut self, alloc: Global, definition: &Definition) -> Result<(), TypeError>
         ensures defined { OnOk result (Defines self.old definition.now self.new) }
         ensures kept { OnErr result (self.new ≡ self.old) }
         ensures refused { result ≡ Err type_error.IllTyped → (c : spec.CatalogueData) → Defines self.old definition.now c → ⊥ }
     {
+        self.constraints = Vec::new(alloc);
         self.definitions.define(alloc, definition)
     }
 }

@@ -7,6 +7,7 @@ ghost use Rattle.td_typing.specs.Types.{IsIllTyped};
 ghost use Rattle.td_headings.specs.Definitions.{names_of_relvars};
 ghost use Rattle.td_headings.specs.Expressions as spec;
 ghost use Rattle.td_headings.specs.Expressions.{IsExpression, IsTree, IsTyped, IsClosedExpression, no_tuple};
+ghost use Rattle.td_headings.specs.ForProofs.KeptConstraints.{AreKept};
 
 use crate::catalogue::Catalogue;
 use crate::defined::{Origin, Test};
@@ -136,8 +137,8 @@ fn constraint_at(tests: &[Test], place: usize) -> Option<&Shared<Typed>>
     }
 }
 
-/// The constraint at this place among what must be true, if a constraint stands there.
-pub fn constraint_expr(
+// The constraint at this place, if one stands there, with all that is under it.
+fn make_constraint_expr(
     alloc: Global,
     catalogue: &Catalogue,
     place: usize,
@@ -150,6 +151,36 @@ pub fn constraint_expr(
             Ok(Some(whole(alloc, catalogue, tree, TypeKind::Boolean)?))
         }
         None => Ok(None),
+    }
+}
+
+/// The expression of each test, where it is a constraint.
+pub(crate) fn constraint_exprs(
+    alloc: Global,
+    catalogue: &Catalogue,
+) -> Result<Vec<Option<TypedExpr>>, AllocError>
+    ensures { IfOk result (λ v. AreKept catalogue.now v.items) }
+{
+    let count = catalogue.tests().len();
+    let mut exprs = Vec::with_capacity(alloc, count)?;
+    for place in 0..count {
+        exprs.push(make_constraint_expr(alloc, catalogue, place)?)?;
+    }
+    Ok(exprs)
+}
+
+/// The constraint at this place among what must be true, if a constraint stands there. It is shared where the catalogue
+/// keeps it; else it costs its size, with those of the expressions of the virtual relvars under it.
+pub fn constraint_expr(
+    alloc: Global,
+    catalogue: &Catalogue,
+    place: usize,
+) -> Result<Option<TypedExpr>, AllocError>
+    ensures { IfOk result (λ o. MatchOption o (spec.constraint_at catalogue.now place ≡ None) (spec.IsConstraint catalogue.now (spec.constraint_at catalogue.now place))) }
+{
+    match catalogue.kept_constraint(place) {
+        Some(expr) => Ok(Some(expr.copy()?)),
+        None => make_constraint_expr(alloc, catalogue, place),
     }
 }
 

@@ -6,7 +6,7 @@ ghost use Rattle.td_headings.specs.Catalogues.{CatalogueData, nothing_defined};
 ghost use Rattle.td_semantics.specs.Scripts.{DefinesAll, IsCatalogue};
 
 use crate::error::CatalogueError;
-use std::alloc::Global;
+use std::alloc::{AllocError, Global};
 use td_grammar::{ReadError, read_script};
 use td_headings::Catalogue;
 use td_schema::error::TypeError;
@@ -27,7 +27,17 @@ fn define_all(alloc: Global, definitions: &[Definition]) -> Result<Catalogue, Ty
     Ok(catalogue)
 }
 
-/// What the definitions of a script make. It costs the reading and typing of the text.
+// The catalogue, which keeps the expressions of its constraints.
+fn keep_constraints(alloc: Global, catalogue: Catalogue) -> Result<Catalogue, AllocError>
+    ensures { IfOk result (λ c. c ≡ catalogue) }
+{
+    let mut catalogue = catalogue;
+    catalogue.keep_constraints(alloc)?;
+    Ok(catalogue)
+}
+
+/// What the definitions of a script make. It costs the reading and typing of the text, and the sizes of the constraints
+/// with those of the expressions of the virtual relvars under them.
 pub fn catalogue_of(alloc: Global, text: &str) -> Result<Catalogue, CatalogueError>
     ensures { IsCatalogue text.now result }
 {
@@ -37,7 +47,10 @@ pub fn catalogue_of(alloc: Global, text: &str) -> Result<Catalogue, CatalogueErr
         Err(ReadError::OutOfMemory) => return Err(CatalogueError::OutOfMemory),
     };
     match define_all(alloc, definitions.as_slice()) {
-        Ok(catalogue) => Ok(catalogue),
+        Ok(catalogue) => match keep_constraints(alloc, catalogue) {
+            Ok(catalogue) => Ok(catalogue),
+            Err(_) => Err(CatalogueError::OutOfMemory),
+        },
         Err(TypeError::IllTyped) => Err(CatalogueError::IllTyped),
         Err(TypeError::OutOfMemory) => Err(CatalogueError::OutOfMemory),
     }

@@ -2,7 +2,7 @@ use Rattle.std.proofs.Common.{ap, sym, subst, ◌∙◌, slice_get}
 use Rattle.td_values.specs.declared.TypeKind.TheVariants as kind
 use Rattle.td_headings.specs.Expressions.{IsTree, no_tuple, constraint_of}
 use Rattle.td_headings.proofs.WellTyped.{constraint_tree}
-use Rattle.td_headings.proofs.typed.constraint_expr.Goals as goal
+use Rattle.td_headings.proofs.typed.make_constraint_expr.Goals as goal
 
 pub whole-requires : goal.whole-requires
 whole-requires c =
