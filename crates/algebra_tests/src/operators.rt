@@ -1,16 +1,16 @@
-//! Operators that ask a function of tuples, of an error that no text of the language raises; by the rule that of the
-//! errors the least stands, and that only tuples that are asked count.
-use crate::samples::{Result, first, relation, shown};
+//! Operators that ask a function of tuples, of an error that no text of the language raises: by the rule that of the
+//! errors the least stands.
+use crate::samples::{Result, first, numbers};
 use std::alloc::Global;
 use td_algebra::{
-    Fault, Item, Stop, Summary, aggregate, extend, rename, restrict, summarize, summarize_by,
+    Fault, Item, Stop, Summary, aggregate, extend, restrict, summarize, summarize_by,
 };
 use td_relations::Relation;
-use td_values::{Kind, Name, Raise, TdType, Tuple, TypeKind, Value, show};
+use td_values::{Kind, Name, Raise, TdType, Tuple, TypeKind, Value};
 
 type Answer<T> = std::result::Result<T, Fault>;
 
-/// A term: the first number, which is below 0; at 0 it is untyped, and above it the last of the errors is raised.
+/// A term: the number, which is below 0; at 0 it is untyped, and above it the last of the errors is raised.
 #[derive(Clone, Copy)]
 struct Stops;
 
@@ -25,13 +25,16 @@ fn number(tuple: &Tuple) -> Answer<i64> {
     Err(Fault::Raised(Stop::Error(Raise::Cardinality)))
 }
 
+fn is_great(tuple: &Tuple) -> Answer<bool> {
+    Ok(number(tuple)? > 20)
+}
+
 fn value(_term: &Stops, tuple: &Tuple) -> Answer<Value> {
-    let n = number(tuple)?;
-    let kind = Kind::Integer(n);
+    let kind = Kind::Integer(number(tuple)?);
     Ok(Value { kind })
 }
 
-/// An operator that gives a relation.
+/// An operator that asks a function of tuples.
 #[derive(Clone, Copy)]
 enum Operator {
     Restrict,
@@ -39,120 +42,58 @@ enum Operator {
     Summarize,
     /// It takes all tuples as one group.
     SummarizeBy,
+    Aggregate,
 }
 
-/// What operators ask of tuples, at the name M: the term, and the greatest term.
-#[derive(Drop)]
-struct Asked {
-    terms: Vec<Item<Stops>>,
-    summaries: Vec<Item<Summary<Stops>>>,
-}
-
-fn item<T: Drop>(alloc: Global, term: T) -> Result<Item<T>> {
+// The term, at the name M.
+fn item<T: Drop>(alloc: Global, term: T) -> Result<Vec<Item<T>>> {
     let name = Name::new(alloc, "M")?;
     let ty = TdType {
         kind: TypeKind::Integer,
     };
-    Ok(Item { name, ty, term })
+    let mut items = Vec::new(alloc);
+    items.push(Item { name, ty, term })?;
+    Ok(items)
 }
 
-fn questions(alloc: Global) -> Result<Asked> {
-    let mut terms = Vec::new(alloc);
-    terms.push(item(alloc, Stops)?)?;
-    let mut summaries = Vec::new(alloc);
-    summaries.push(item(alloc, Summary::Max(Stops))?)?;
-    Ok(Asked { terms, summaries })
+fn is_untyped<T: Drop>(answer: Answer<T>) -> bool {
+    matches!(answer, Err(Fault::Raised(Stop::Untyped)))
 }
 
-// What the operator makes of the first relation, and of the second where it takes two.
-fn answer(
-    alloc: Global,
-    operator: Operator,
-    r: &Relation,
-    per: &Relation,
-    asked: &Asked,
-) -> Answer<Relation> {
-    match operator {
-        Operator::Restrict => restrict(alloc, r, |t: &Tuple| -> Answer<bool> {
-            Ok(number(t)? > 20)
-        }),
-        Operator::Extend => extend(alloc, r, &asked.terms, &value),
-        Operator::Summarize => summarize(alloc, r, per, &asked.summaries, &value),
-        Operator::SummarizeBy => summarize_by(alloc, r, &[], &asked.summaries, &value),
-    }
+// Whether what the operator makes of the relation, per itself where it takes two, is untyped.
+fn stops_untyped(alloc: Global, operator: Operator, r: &Relation) -> Result<bool> {
+    let greatest = Summary::Max(Stops);
+    Ok(match operator {
+        Operator::Restrict => is_untyped(restrict(alloc, r, is_great)),
+        Operator::Extend => is_untyped(extend(alloc, r, &item(alloc, Stops)?, &value)),
+        Operator::Summarize => {
+            let items = item(alloc, greatest)?;
+            is_untyped(summarize(alloc, r, r, &items, &value))
+        }
+        Operator::SummarizeBy => {
+            let items = item(alloc, greatest)?;
+            is_untyped(summarize_by(alloc, r, &[], &items, &value))
+        }
+        Operator::Aggregate => {
+            let sum = Summary::Sum(Stops);
+            is_untyped(aggregate(alloc, r, &sum, &value))
+        }
+    })
 }
 
-fn told(alloc: Global, answer: Answer<Relation>) -> Result<String> {
-    match answer {
-        Ok(relation) => shown(alloc, relation),
-        Err(fault) => Ok(format!(in alloc; "{fault}")?),
-    }
-}
-
-fn numbers(alloc: Global, rows: &[&[i64]]) -> Result<Relation> {
-    relation(alloc, &["N"], rows)
-}
-
-// What the operator makes of the relations of these numbers, at the name N.
-fn made(alloc: Global, operator: Operator, rows: &[&[i64]], per: &[&[i64]]) -> Result<String> {
-    let r = numbers(alloc, rows)?;
-    let per = numbers(alloc, per)?;
-    let asked = questions(alloc)?;
-    told(alloc, answer(alloc, operator, &r, &per, &asked))
-}
-
-/// A number below 0, 0, and one above it.
-const THREE: &[&[i64]] = &[&[-1], &[0], &[1]];
-
-const ZERO: &[&[i64]] = &[&[0]];
-
-const NONE: &[&[i64]] = &[];
+const OPERATORS: &[Operator] = &[
+    Operator::Restrict,
+    Operator::Extend,
+    Operator::Summarize,
+    Operator::SummarizeBy,
+    Operator::Aggregate,
+];
 
 #[test]
 fn what_is_untyped_stands_in_each_operator(rt: HostRuntime) -> Result<()> {
-    for operator in [
-        Operator::Restrict,
-        Operator::Extend,
-        Operator::Summarize,
-        Operator::SummarizeBy,
-    ] {
-        let told = made(rt.alloc(), operator, THREE, ZERO)?;
-        assert!(rt; told.as_str() == "untyped", "{told}");
+    let three = numbers(rt.alloc(), &[-1, 0, 1])?;
+    for (n, operator) in OPERATORS.iter().enumerate() {
+        assert!(rt; stops_untyped(rt.alloc(), *operator, &three)?, "{n}");
     }
-    Ok(())
-}
-
-#[test]
-fn where_nothing_is_asked_nothing_stands(rt: HostRuntime) -> Result<()> {
-    let none = "RELATION { M INTEGER, N INTEGER } { }";
-    let extended = made(rt.alloc(), Operator::Extend, NONE, ZERO)?;
-    assert!(rt; extended.as_str() == none, "{extended}");
-    let per_none = made(rt.alloc(), Operator::Summarize, THREE, NONE)?;
-    assert!(rt; per_none.as_str() == none, "{per_none}");
-    Ok(())
-}
-
-fn sum(alloc: Global, rows: &[&[i64]]) -> Result<String> {
-    let r = numbers(alloc, rows)?;
-    match aggregate(alloc, &r, &Summary::Sum(Stops), &value) {
-        Ok(value) => Ok(show(alloc, &value)?),
-        Err(fault) => Ok(format!(in alloc; "{fault}")?),
-    }
-}
-
-#[test]
-fn what_is_untyped_stands_in_a_summary(rt: HostRuntime) -> Result<()> {
-    assert!(rt; sum(rt.alloc(), THREE)?.as_str() == "untyped");
-    Ok(())
-}
-
-fn with_no_names_replaced(alloc: Global) -> Result<String> {
-    let dee = relation(alloc, &[], &[&[]])?;
-    shown(alloc, rename(alloc, &dee, &[])?)
-}
-
-#[test]
-fn no_names_are_replaced(rt: HostRuntime) -> Result<()> {
-    assert!(rt; with_no_names_replaced(rt.alloc())?.as_str() == "RELATION { } { TUPLE { } }");
     Ok(())
 }

@@ -1,12 +1,11 @@
-//! Where texts of the language go wrong, what catalogues tell of them, what trees mean, how statements are taken back
-//! and made again, copies put back, constraints judged, and tuples found by keys: what only calls can tell. What else
-//! there is of it is shown by examples.
+//! Where texts of the language go wrong, what trees mean, which calls of a look-up an evaluation makes, how constraints
+//! may be judged, and which test fails: what only calls can tell. What else there is of it is shown by examples.
 //!
 //! These tests stand apart from the crates that they call, since a crate is proved once more for the tests in it.
 #![tactic(auto)]
 
 #[cfg(test)]
-mod catalogues;
+mod constraints;
 #[cfg(test)]
 mod databases;
 #[cfg(test)]

@@ -1,8 +1,8 @@
-//! Where texts go wrong of which no program tells the place, worked out by hand from the grammar, and what is told
-//! behind the end of a text and of a line. Other places are shown by examples/shell/places and examples/check.
+//! Where texts go wrong of which no program tells the place, worked out by hand from the grammar. Other places are shown
+//! by examples/shell/places and examples/check.
 
 use crate::Result;
-use td_parse_errors::{Position, Reading, caret, place_of_fault, position_of};
+use td_parse_errors::{Reading, place_of_fault};
 
 // Texts with an `@` at the place, which is taken out; those without one are read. The shell asks nothing of a text
 // without words, and td_check ends a definition in front of a word that begins another one.
@@ -50,19 +50,9 @@ fn texts_stop_at_their_marks(rt: HostRuntime) -> Result<()> {
 // A query has 8,192 bytes at most, and none of these is the middle of a character.
 #[test]
 fn queries_that_are_too_long(rt: HostRuntime) -> Result<()> {
-    let blanks = " ".repeat(rt.alloc(), 8_190)?;
-    let letters = format!(in rt.alloc(); "{blanks} A@B")?;
-    assert!(rt; stops(&rt, Reading::Query, &letters)?);
-    let character = format!(in rt.alloc(); "{blanks}'@ü'")?;
-    assert!(rt; stops(&rt, Reading::Query, &character)?);
-    Ok(())
-}
-
-const TEXT: &str = "S WHERE\r\n\tCITY = 'Zürich'\n\n)";
-
-#[test]
-fn behind_a_text_and_a_line(rt: HostRuntime) -> Result<()> {
-    assert!(rt; position_of(TEXT, 100) == Position { line: 4, column: 2 });
-    assert!(rt; caret(rt.alloc(), "S", 5)?.as_str() == " ^");
+    for end in [" A@B", "'@ü'"] {
+        let text = format!(in rt.alloc(); "{end:>width$}", width = 8_194)?;
+        assert!(rt; stops(&rt, Reading::Query, &text)?, "{end}");
+    }
     Ok(())
 }

@@ -1,2 +1,0 @@
--- The proofs of the crate.
-pub mod Both

@@ -1,5 +1,0 @@
-//! Calls on one site.
-
-mod counts;
-mod site;
-mod worked;
