@@ -3,7 +3,7 @@
 //! The words are a kind of site (`plain`, `site` or `keeper`), the name of an example, and a call: `issue`, `take`,
 //! `ask`, `ask_at`, `value_of`, `outcomes`, `greet`, `answer`, `settle`, `finish`, `meet`, `start` or `reopen`; without
 //! words a meeting of sites. Standard output has what the two sites of the example show, a line `call`, what the call
-//! gave, and what the sites show then; behind a call that wanted memory a line `again`, what the same call gives then,
+//! gave, and what the sites show then; behind a call that was refused a line `again`, what the same call gives then,
 //! and what the sites show. The line behind `call` is written before anything else is done, so whoever refuses memory
 //! can have it refused from some place in the call up to its end. The status is 1 where memory was wanted for anything
 //! but the call.
@@ -17,11 +17,9 @@ mod shown;
 use anyhow::{Result, bail};
 use calls::{Call, call_named};
 use examples::{Example, example_named};
-use journals::{reopen_from, start_of};
-use scene::{Scene, opened, take_all};
+use journals::{begin_journal, opened, reopen_from, start_of, take_all};
+use scene::Scene;
 use shown::tell_journal;
-use td_io::Device;
-use td_journal::Keeper;
 use td_replay::{PlainSite, Site};
 use td_replica::{Opens, Replica};
 use td_semantics::Meter;
@@ -52,7 +50,7 @@ fn run_over<R: Replica + Drop, O: Opens + Drop>(
         &mut meter,
     )?;
     let mut scene = Scene::new(rt.alloc(), task.example, first, second)?;
-    scene.prepare(rt.alloc(), task.call, &mut meter)?;
+    scene.prepare(rt, task.call, &mut meter)?;
     match task.call {
         Call::Start => start_of(rt, scene.into_second()),
         Call::Reopen => reopen_from::<R, O>(rt, scene.into_second(), &mut meter),
@@ -66,23 +64,17 @@ fn run_opened<O: Opens + Drop>(rt: &HostRuntime, task: Task) -> Result<()> {
     run_over::<O, O>(rt, task, first, second)
 }
 
-fn kept<'a>(
-    rt: &HostRuntime,
-    number: u16,
-    journal: &'a mut Vec<u8>,
-) -> Result<Keeper<Site, Device<&'a mut Vec<u8>>>> {
-    let site = opened::<Site>(rt.alloc(), number)?;
-    match Keeper::start(site, Device::new(journal)) {
-        Ok(keeper) => Ok(keeper),
-        Err(_) => bail!("the journal is not begun"),
-    }
-}
-
 fn run_kept(rt: &HostRuntime, task: Task) -> Result<()> {
     let mut first_journal = Vec::with_capacity(rt.alloc(), MOST_WRITTEN)?;
     let mut second_journal = Vec::with_capacity(rt.alloc(), MOST_WRITTEN)?;
-    let first = kept(rt, task.example.first, &mut first_journal)?;
-    let second = kept(rt, task.example.second, &mut second_journal)?;
+    let first = begin_journal(
+        opened::<Site>(rt.alloc(), task.example.first)?,
+        &mut first_journal,
+    )?;
+    let second = begin_journal(
+        opened::<Site>(rt.alloc(), task.example.second)?,
+        &mut second_journal,
+    )?;
     run_over::<_, Site>(rt, task, first, second)?;
     tell_journal(rt, task.example.first, &first_journal)?;
     tell_journal(rt, task.example.second, &second_journal)

@@ -15,64 +15,29 @@ mod turns;
 use anyhow::{Result, bail};
 use std::env;
 
-/// Which calls are made.
-#[derive(Clone, Copy)]
-enum Calls {
-    /// Of the operators of relations.
-    Sets,
-    /// A batch of entries, put into a set of them.
-    Take,
-    /// Meetings at random until all sites hold all.
-    Scale,
-    /// One, on two sites of an example.
-    Call,
-}
-
-const ALL: [Calls; 4] = [Calls::Sets, Calls::Take, Calls::Scale, Calls::Call];
-
-impl Calls {
-    // The word by which they are asked for.
-    fn word(self) -> &'static str {
-        match self {
-            Calls::Sets => "sets",
-            Calls::Take => "take",
-            Calls::Scale => "scale",
-            Calls::Call => "call",
-        }
-    }
-
-    // What the words behind it ask for.
-    fn run(self, rt: &HostRuntime, words: &[String]) -> Result<()> {
-        match self {
-            Calls::Sets => sets::run(rt),
-            Calls::Take => taking::run(rt),
-            Calls::Scale => scale::run(rt, words),
-            Calls::Call => calling::run(rt, words),
-        }
+/// Makes the calls of this name, as the words behind it ask for.
+fn run(rt: &HostRuntime, name: &str, words: &[String]) -> Result<()> {
+    match name {
+        "sets" => sets::run(rt),
+        "take" => taking::run(rt),
+        "scale" => scale::run(rt, words),
+        "call" => calling::run(rt, words),
+        _ => bail!("the first word is none of `sets`, `take`, `scale` and `call`"),
     }
 }
 
 fn run_all(rt: &HostRuntime) -> Result<()> {
-    for calls in ALL {
-        println!(rt; "{}:", calls.word())?;
-        calls.run(rt, &[])?;
+    for name in ["sets", "take", "scale", "call"] {
+        println!(rt; "{name}:")?;
+        run(rt, name, &[])?;
     }
     Ok(())
-}
-
-fn run_named(rt: &HostRuntime, name: &str, words: &[String]) -> Result<()> {
-    for calls in ALL {
-        if calls.word() == name {
-            return calls.run(rt, words);
-        }
-    }
-    bail!("the first word is none of `sets`, `take`, `scale` and `call`")
 }
 
 fn main(rt: HostRuntime) -> Result<()> {
     let words = env::args(&rt)?.collect::<Vec<String>>(rt.alloc())?;
     match words.as_slice() {
-        [_, name, more @ ..] => run_named(&rt, name.as_str(), more),
+        [_, name, more @ ..] => run(&rt, name.as_str(), more),
         _ => run_all(&rt),
     }
 }

@@ -5,10 +5,10 @@
 
 ghost use Rattle.std.specs.Prelude.{◌≡◌, IfOk, length};
 
-use crate::turns::{Turn, least_time, ratio};
+use crate::turns::{Turn, least_time};
 use anyhow::Result;
 use std::alloc::{AllocError, Global};
-use std::time::{Duration, Instant};
+use std::time::Instant;
 use td_stamps::{Entry, Held};
 use td_values::Text;
 
@@ -41,14 +41,13 @@ fn entries_of(alloc: Global, site: u16, count: u32) -> Result<Vec<Entry>, AllocE
 }
 
 /// A site that holds so many entries takes as many of another one.
-#[derive(Clone, Copy)]
 struct Taking {
     count: u32,
 }
 
 impl Turn for Taking {
     // What is given is how many it holds then.
-    fn take(&self, rt: &HostRuntime) -> Result<(Duration, usize)> {
+    fn take(&self, rt: &HostRuntime) -> Result<(u128, usize)> {
         let alloc = rt.alloc();
         let mut held = Held::new(alloc, LIMIT);
         let own = held.prepare(alloc, &entries_of(alloc, 1, self.count)?)?;
@@ -57,20 +56,25 @@ impl Turn for Taking {
         let start = Instant::now(rt)?;
         let prepared = held.prepare(alloc, &batch)?;
         held.commit(prepared);
-        Ok((start.elapsed(rt)?, held.len()))
+        Ok((start.elapsed(rt)?.as_nanos(), held.len()))
     }
 }
 
 pub fn run(rt: &HostRuntime) -> Result<()> {
     let (small, few) = least_time(rt, TURNS, &Taking { count: 500 })?;
     let (large, many) = least_time(rt, TURNS, &Taking { count: 5_000 })?;
-    println!(rt; "held {few}")?;
-    println!(rt; "held {many}")?;
+    let tenths = if small == 0 {
+        0
+    } else {
+        large.saturating_mul(10) / small
+    };
+    println!(rt; "held {few}\nheld {many}")?;
     eprintln!(rt;
-        "take of {few}: {} us, of {many}: {} us, ratio {:.1}",
-        small.as_micros(),
-        large.as_micros(),
-        ratio(large, small)
+        "take of {few}: {} us, of {many}: {} us, ratio {}.{}",
+        small / 1_000,
+        large / 1_000,
+        tenths / 10,
+        tenths % 10
     )?;
     Ok(())
 }

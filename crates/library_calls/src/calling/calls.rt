@@ -1,14 +1,6 @@
-//! Calls, and what they end in.
+//! Calls, and those before them.
 
-use td_meeting::{MeetingError, MeetingRefusal, Met};
-use td_relations::Relation;
-use td_replica::{
-    AskError, IssueError, Issued, PastError, TakeError, Taken, TellError, ValueError,
-};
-use td_semantics::{Answer, Outcome};
-use td_stamps::Stamp;
-
-#[derive(Clone, Copy, PartialEq, Eq)]
+#[derive(Clone, Copy)]
 pub enum Call {
     Issue,
     Take,
@@ -43,99 +35,24 @@ const CALLS: [(&str, Call); 13] = [
 
 /// The call of this name, if there is one.
 pub fn call_named(name: &str) -> Option<Call> {
-    let (_, call) = CALLS.iter().find(|(word, _)| *word == name)?;
-    Some(*call)
-}
-
-/// What a call ended in.
-#[derive(Drop)]
-pub enum Ended {
-    Issued(Issued),
-    Taken(Taken),
-    Asked(Answer),
-    Valued(Answer<Relation>),
-    Told(Vec<(Stamp, Outcome)>),
-    Sent,
-    Met(Met),
-    /// Memory was wanting, after the first site of a meeting had taken so many fresh entries.
-    OutOfMemory(usize),
-    /// Anything else that no example comes to.
-    Refused,
-}
-
-pub fn issued(answer: Result<Issued, IssueError>) -> Ended {
-    match answer {
-        Ok(issued) => Ended::Issued(issued),
-        Err(IssueError::OutOfMemory) => Ended::OutOfMemory(0),
-        Err(_) => Ended::Refused,
+    for (word, call) in &CALLS {
+        if *word == name {
+            return Some(*call);
+        }
     }
+    None
 }
 
-pub fn taken(answer: Result<Taken, TakeError>) -> Ended {
-    match answer {
-        Ok(taken) => Ended::Taken(taken),
-        Err(TakeError::OutOfMemory) => Ended::OutOfMemory(0),
-        Err(_) => Ended::Refused,
-    }
-}
-
-pub fn asked(answer: Result<Answer, AskError>) -> Ended {
-    match answer {
-        Ok(asked) => Ended::Asked(asked),
-        Err(AskError::OutOfMemory) => Ended::OutOfMemory(0),
-        Err(_) => Ended::Refused,
-    }
-}
-
-pub fn asked_at(answer: Result<Answer, PastError>) -> Ended {
-    match answer {
-        Ok(asked) => Ended::Asked(asked),
-        Err(PastError::OutOfMemory) => Ended::OutOfMemory(0),
-        Err(_) => Ended::Refused,
-    }
-}
-
-pub fn valued(answer: Result<Answer<Relation>, ValueError>) -> Ended {
-    match answer {
-        Ok(answer) => Ended::Valued(answer),
-        Err(ValueError::OutOfMemory) => Ended::OutOfMemory(0),
-        Err(_) => Ended::Refused,
-    }
-}
-
-pub fn told(answer: Result<Vec<(Stamp, Outcome)>, TellError>) -> Ended {
-    match answer {
-        Ok(outcomes) => Ended::Told(outcomes),
-        Err(TellError::OutOfMemory) => Ended::OutOfMemory(0),
-        Err(_) => Ended::Refused,
-    }
-}
-
-pub fn sent(answer: Result<(), MeetingError>) -> Ended {
-    match answer {
-        Ok(()) => Ended::Sent,
-        Err(MeetingError::OutOfMemory) => Ended::OutOfMemory(0),
-        Err(_) => Ended::Refused,
-    }
-}
-
-pub fn received(answer: Result<Taken, MeetingError>) -> Ended {
-    match answer {
-        Ok(taken) => Ended::Taken(taken),
-        Err(MeetingError::OutOfMemory) => Ended::OutOfMemory(0),
-        Err(_) => Ended::Refused,
-    }
-}
-
-pub fn met(answer: Result<Met, MeetingRefusal>) -> Ended {
-    match answer {
-        Ok(met) => Ended::Met(met),
-        Err(
-            MeetingRefusal {
-                error: MeetingError::OutOfMemory,
-                first_took,
-            },
-        ) => Ended::OutOfMemory(first_took),
-        Err(_) => Ended::Refused,
+impl Call {
+    /// What is called before it.
+    pub fn before(self) -> &'static [Call] {
+        match self {
+            Call::Issue => &[],
+            Call::Take | Call::Greet | Call::Meet => &[Call::Issue],
+            Call::Answer => &[Call::Issue, Call::Greet],
+            Call::Settle => &[Call::Issue, Call::Greet, Call::Answer],
+            Call::Finish => &[Call::Issue, Call::Greet, Call::Answer, Call::Settle],
+            _ => &[Call::Issue, Call::Meet],
+        }
     }
 }

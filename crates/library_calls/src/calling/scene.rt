@@ -1,72 +1,98 @@
 //! Two sites, and a call on one of them or on both.
 
 use super::MOST_WRITTEN;
-use super::calls::{
-    Call, Ended, asked, asked_at, issued, met, received, sent, taken, told, valued,
-};
-use super::examples::{Example, QUERY, RELVAR, SCRIPT, Written};
-use super::shown::{tell_end, tell_site};
+use super::calls::Call;
+use super::examples::{Example, QUERY, RELVAR};
+use super::journals::batch_of;
+use super::shown::{Told, tell_site};
 use anyhow::{Result, bail};
 use std::alloc::Global;
+use std::fmt::Display;
 use std::mem;
 use td_io::{Device, Pair};
 use td_meeting::{answer, finish, greet, meet, settle};
-use td_replica::{Opens, Replica};
+use td_replica::Replica;
 use td_semantics::Meter;
-use td_stamps::Entry;
-use td_values::{Name, Text};
-
-/// The steps of a meeting, in order.
-const STEPS: [Call; 4] = [Call::Greet, Call::Answer, Call::Settle, Call::Finish];
-
-/// A site of the script that holds nothing.
-pub fn opened<O: Opens + Drop>(alloc: Global, number: u16) -> Result<O> {
-    match O::open_script(alloc, SCRIPT, number, 10_000) {
-        Ok(site) => Ok(site),
-        Err(_) => bail!("the site is not opened"),
-    }
-}
-
-fn batch_of(alloc: Global, written: &[Written]) -> Result<Vec<Entry>> {
-    let mut batch = Vec::new(alloc);
-    for (site, seq, clock, text) in written {
-        batch.push(Entry {
-            site: *site,
-            seq: *seq,
-            clock: *clock,
-            dialect: 2,
-            text: Text::from_str(alloc, text)?,
-        })?;
-    }
-    Ok(batch)
-}
-
-/// Has the site take these.
-pub fn take_all<R: Replica>(
-    alloc: Global,
-    site: &mut R,
-    written: &[Written],
-    meter: &mut Meter,
-) -> Result<()> {
-    let batch = batch_of(alloc, written)?;
-    match site.take(alloc, batch.as_slice(), meter) {
-        Ok(_) => Ok(()),
-        Err(_) => bail!("the entries are not taken"),
-    }
-}
+use td_stamps::{Entry, Stamp};
+use td_values::Name;
 
 /// Two sites, and what calls on them are given.
 #[derive(Drop)]
 pub struct Scene<R: Drop> {
     first: R,
     second: R,
+    given: Given,
+    /// What a step of a meeting reads, and what it writes.
+    heard: Vec<u8>,
+    written: Vec<u8>,
+}
+
+/// What calls on sites are given beside the bytes of a meeting.
+#[derive(Drop)]
+struct Given {
     statement: &'static str,
     relvar: Name,
     /// What the first site holds, which the second one takes.
     batch: Vec<Entry>,
-    /// What a step of a meeting reads, and what it writes.
-    heard: Vec<u8>,
-    written: Vec<u8>,
+    /// Just after the first entry: what all others changed is taken back or not run.
+    past: Stamp,
+    /// Whether what calls give is told.
+    is_told: bool,
+}
+
+fn given_by(alloc: Global, example: &Example) -> Result<Given> {
+    let batch = batch_of(alloc, example.first_held)?;
+    let Some(entry) = batch.first() else {
+        bail!("the first site holds nothing");
+    };
+    let past = entry.stamp();
+    Ok(Given {
+        statement: example.statement,
+        relvar: Name::new(alloc, RELVAR)?,
+        batch,
+        past,
+        is_told: false,
+    })
+}
+
+// Tells what a call gave, where that is told: first by a line that takes no memory. The result is whether it was
+// answered.
+fn ended<T: Told + Drop, E: Display + Drop>(
+    rt: &HostRuntime,
+    is_told: bool,
+    answer: std::result::Result<T, E>,
+) -> Result<bool> {
+    let is_ok = answer.is_ok();
+    if !is_told {
+        return Ok(is_ok);
+    }
+    match answer {
+        Ok(told) => {
+            println!(rt; "answered")?;
+            told.tell(rt)?;
+        }
+        Err(error) => println!(rt; "{error}")?,
+    }
+    Ok(is_ok)
+}
+
+// A call on the second site alone.
+fn call_one<R: Replica>(
+    rt: &HostRuntime,
+    site: &mut R,
+    given: &Given,
+    call: Call,
+    meter: &mut Meter,
+) -> Result<bool> {
+    let (alloc, is_told) = (rt.alloc(), given.is_told);
+    match call {
+        Call::Issue => ended(rt, is_told, site.issue(alloc, given.statement, meter)),
+        Call::Take => ended(rt, is_told, site.take(alloc, &given.batch, meter)),
+        Call::Ask => ended(rt, is_told, site.ask(alloc, QUERY)),
+        Call::AskAt => ended(rt, is_told, site.ask_at(alloc, QUERY, given.past, meter)),
+        Call::ValueOf => ended(rt, is_told, site.value_of(alloc, &given.relvar)),
+        _ => ended(rt, is_told, site.outcomes(alloc)),
+    }
 }
 
 impl<R: Replica + Drop> Scene<R> {
@@ -74,82 +100,39 @@ impl<R: Replica + Drop> Scene<R> {
         Ok(Scene {
             first,
             second,
-            statement: example.statement,
-            relvar: Name::new(alloc, RELVAR)?,
-            batch: batch_of(alloc, example.first_held)?,
+            given: given_by(alloc, example)?,
             heard: Vec::with_capacity(alloc, MOST_WRITTEN)?,
             written: Vec::with_capacity(alloc, MOST_WRITTEN)?,
         })
     }
 
     /// Calls what stands before the call in the example.
-    pub fn prepare(&mut self, alloc: Global, call: Call, meter: &mut Meter) -> Result<()> {
-        if call == Call::Issue {
-            return Ok(());
-        }
-        self.done(alloc, Call::Issue, meter)?;
-        match call {
-            Call::Ask | Call::AskAt | Call::ValueOf | Call::Outcomes | Call::Start | Call::Reopen =>
-                self.done(alloc, Call::Meet, meter),
-            Call::Answer | Call::Settle | Call::Finish => self.step_up_to(alloc, call, meter),
-            _ => Ok(()),
-        }
-    }
-
-    fn done(&mut self, alloc: Global, call: Call, meter: &mut Meter) -> Result<()> {
-        match self.called(alloc, call, meter) {
-            Ended::OutOfMemory(_) | Ended::Refused => bail!("a call before this one is refused"),
-            _ => Ok(()),
-        }
-    }
-
-    fn step_up_to(&mut self, alloc: Global, call: Call, meter: &mut Meter) -> Result<()> {
-        for step in STEPS {
-            if step == call {
-                return Ok(());
+    pub fn prepare(&mut self, rt: &HostRuntime, call: Call, meter: &mut Meter) -> Result<()> {
+        for before in call.before() {
+            if !self.call(rt, *before, meter)? {
+                bail!("a call before this one is refused");
             }
-            self.done(alloc, step, meter)?;
             mem::swap(&mut self.heard, &mut self.written);
             self.written.clear();
         }
+        self.given.is_told = true;
         Ok(())
     }
 
-    fn called(&mut self, alloc: Global, call: Call, meter: &mut Meter) -> Ended {
-        match call {
-            Call::Issue => issued(self.second.issue(alloc, self.statement, meter)),
-            Call::Take => taken(self.second.take(alloc, self.batch.as_slice(), meter)),
-            Call::Ask => asked(self.second.ask(alloc, QUERY)),
-            Call::AskAt => self.ask_at_first(alloc, meter),
-            Call::ValueOf => valued(self.second.value_of(alloc, &self.relvar)),
-            Call::Outcomes => told(self.second.outcomes(alloc)),
-            Call::Meet => met(meet(alloc, &mut self.first, &mut self.second, meter)),
-            _ => self.stepped(alloc, call, meter),
-        }
-    }
-
-    // Asks just after the first entry, so that what all others changed is taken back or not run.
-    fn ask_at_first(&self, alloc: Global, meter: &mut Meter) -> Ended {
-        let Ok(held) = self.second.held() else {
-            return Ended::Refused;
-        };
-        match held.entries().first() {
-            Some(entry) => asked_at(self.second.ask_at(alloc, QUERY, entry.stamp(), meter)),
-            None => Ended::Refused,
-        }
-    }
-
-    fn stepped(&mut self, alloc: Global, call: Call, meter: &mut Meter) -> Ended {
+    fn call(&mut self, rt: &HostRuntime, call: Call, meter: &mut Meter) -> Result<bool> {
+        let (alloc, is_told) = (rt.alloc(), self.given.is_told);
         let mut link = Device::link(Pair {
             reader: self.heard.as_slice(),
             writer: &mut self.written,
         });
+        let (first, second) = (&mut self.first, &mut self.second);
         match call {
-            Call::Greet => sent(greet(alloc, &self.first, &mut link)),
-            Call::Answer => sent(answer(alloc, &self.second, &mut link)),
-            Call::Settle => received(settle(alloc, &mut self.first, &mut link, meter)),
-            Call::Finish => received(finish(alloc, &mut self.second, &mut link, meter)),
-            _ => Ended::Refused,
+            Call::Greet => ended(rt, is_told, greet(alloc, first, &mut link)),
+            Call::Answer => ended(rt, is_told, answer(alloc, second, &mut link)),
+            Call::Settle => ended(rt, is_told, settle(alloc, first, &mut link, meter)),
+            Call::Finish => ended(rt, is_told, finish(alloc, second, &mut link, meter)),
+            Call::Meet => ended(rt, is_told, meet(alloc, first, second, meter)),
+            _ => call_one(rt, second, &self.given, call, meter),
         }
     }
 
@@ -166,17 +149,15 @@ impl<R: Replica + Drop> Scene<R> {
         Ok(())
     }
 
-    /// Tells the sites, and then the call and the sites behind it; where memory was wanted, once more.
+    /// Tells the sites, and then the call and the sites behind it; where it was refused, once more.
     pub fn tell_call(&mut self, rt: &HostRuntime, call: Call, meter: &mut Meter) -> Result<()> {
         self.tell(rt)?;
         println!(rt; "call")?;
-        let ended = self.called(rt.alloc(), call, meter);
-        let is_wanting = matches!(&ended, Ended::OutOfMemory(_));
-        tell_end(rt, ended)?;
+        let is_answered = self.call(rt, call, meter)?;
         self.tell(rt)?;
-        if is_wanting {
+        if !is_answered {
             println!(rt; "again")?;
-            tell_end(rt, self.called(rt.alloc(), call, meter))?;
+            self.call(rt, call, meter)?;
             self.tell(rt)?;
         }
         Ok(())

@@ -1,12 +1,11 @@
 //! What sites show, and what calls gave, on standard output.
 
-use super::calls::Ended;
 use anyhow::{Result, bail};
-use std::alloc::Global;
 use td_io::Device;
-use td_listings::{listing, log_text, show_outcome, show_stamp};
+use td_listings::{listing, log_text, show_outcome};
+use td_meeting::Met;
 use td_relations::Relation;
-use td_replica::Replica;
+use td_replica::{Issued, Replica, Taken};
 use td_semantics::{Answer, Outcome};
 use td_stamps::Stamp;
 use td_values::{Kind, Value, show};
@@ -31,60 +30,71 @@ pub fn tell_journal(rt: &HostRuntime, number: u16, journal: &[u8]) -> Result<()>
     Ok(())
 }
 
-fn outcome_text(alloc: Global, stamp: &Stamp, outcome: &Outcome) -> Result<String> {
-    let mut text = String::new(alloc);
-    show_stamp(&mut text, stamp)?;
-    text.push_str(" ")?;
+fn tell_outcome(rt: &HostRuntime, stamp: Stamp, outcome: &Outcome) -> Result<()> {
+    let mut text = String::new(rt.alloc());
     show_outcome(&mut text, outcome)?;
-    text.push_str("\n")?;
-    Ok(text)
-}
-
-fn outcomes_text(alloc: Global, outcomes: &[(Stamp, Outcome)]) -> Result<String> {
-    let mut text = String::new(alloc);
-    for (stamp, outcome) in outcomes {
-        text.push_str(outcome_text(alloc, stamp, outcome)?.as_str())?;
-    }
-    Ok(text)
-}
-
-fn relation_text(alloc: Global, relation: Relation) -> Result<String> {
-    let kind = Kind::Relation(relation.into_rows());
-    Ok(show(alloc, &Value { kind })?)
-}
-
-fn given_text(alloc: Global, ended: Ended) -> Result<String> {
-    match ended {
-        Ended::Issued(issued) => outcome_text(alloc, &issued.stamp, &issued.outcome),
-        Ended::Told(outcomes) => outcomes_text(alloc, outcomes.as_slice()),
-        Ended::Taken(taken) => {
-            Ok(format!(in alloc; "fresh {} known {}\n", taken.fresh, taken.known)?)
-        }
-        Ended::Met(met) => Ok(format!(in alloc; "fresh {} {}\n", met.fresh_a, met.fresh_b)?),
-        Ended::Asked(Answer::Value(value)) => Ok(format!(in alloc; "{}\n", show(alloc, &value)?)?),
-        Ended::Valued(Answer::Value(relation)) => Ok(format!(in alloc;
-            "{}\n",
-            relation_text(alloc, relation)?
-        )?),
-        Ended::Asked(Answer::Raised(raise)) | Ended::Valued(Answer::Raised(raise)) => {
-            Ok(format!(in alloc; "raised {raise}\n")?)
-        }
-        Ended::OutOfMemory(took) => Ok(format!(in alloc; "first took {took}\n")?),
-        Ended::Sent | Ended::Refused => Ok(String::new(alloc)),
-    }
-}
-
-fn word_of(ended: &Ended) -> &'static str {
-    match ended {
-        Ended::OutOfMemory(_) => "out of memory",
-        Ended::Refused => "refused",
-        _ => "answered",
-    }
-}
-
-/// Tells what a call ended in: first by a line that takes no memory.
-pub fn tell_end(rt: &HostRuntime, ended: Ended) -> Result<()> {
-    println!(rt; "{}", word_of(&ended))?;
-    print!(rt; "{}", given_text(rt.alloc(), ended)?)?;
+    println!(rt; "{}.{} {text}", stamp.clock, stamp.site)?;
     Ok(())
+}
+
+/// What a call gives.
+pub trait Told {
+    fn tell(self, rt: &HostRuntime) -> Result<()>;
+}
+
+impl Told for () {
+    fn tell(self, _rt: &HostRuntime) -> Result<()> {
+        Ok(())
+    }
+}
+
+impl Told for Issued {
+    fn tell(self, rt: &HostRuntime) -> Result<()> {
+        tell_outcome(rt, self.stamp, &self.outcome)
+    }
+}
+
+impl Told for Taken {
+    fn tell(self, rt: &HostRuntime) -> Result<()> {
+        println!(rt; "fresh {} known {}", self.fresh, self.known)?;
+        Ok(())
+    }
+}
+
+impl Told for Met {
+    fn tell(self, rt: &HostRuntime) -> Result<()> {
+        println!(rt; "fresh {} {}", self.fresh_a, self.fresh_b)?;
+        Ok(())
+    }
+}
+
+impl Told for Vec<(Stamp, Outcome)> {
+    fn tell(self, rt: &HostRuntime) -> Result<()> {
+        for (stamp, outcome) in &self {
+            tell_outcome(rt, *stamp, outcome)?;
+        }
+        Ok(())
+    }
+}
+
+impl Told for Answer<Value> {
+    fn tell(self, rt: &HostRuntime) -> Result<()> {
+        match self {
+            Answer::Value(value) => println!(rt; "{}", show(rt.alloc(), &value)?)?,
+            Answer::Raised(raise) => println!(rt; "raised {raise}")?,
+        }
+        Ok(())
+    }
+}
+
+impl Told for Answer<Relation> {
+    fn tell(self, rt: &HostRuntime) -> Result<()> {
+        match self {
+            Answer::Value(relation) => {
+                let kind = Kind::Relation(relation.into_rows());
+                Answer::Value(Value { kind }).tell(rt)
+            }
+            Answer::Raised(raise) => Answer::<Value>::Raised(raise).tell(rt),
+        }
+    }
 }

@@ -1,28 +1,29 @@
-//! The operators of relations on suppliers, shipments and chains of pairs.
-ghost use Rattle.std.specs.Prelude.{◌≡◌};
+//! The operators of relations, with what they take beside them.
 
-use anyhow::Result;
-use std::alloc::Global;
+ghost use Rattle.std.specs.Prelude.{◌≡◌, IfOk};
+ghost use Rattle.std.specs.List.{All};
+ghost use Rattle.td_values.specs.Headings.{header_fields};
+ghost use Rattle.td_values.specs.Whole.{heading_of};
+
+use anyhow::{Result, bail};
+use std::alloc::{AllocError, Global};
+use std::time::Instant;
 use td_algebra::{
     Fault, Item, Summary, compose, extend, group, is_binary, is_relation_valued, is_tuple_valued,
     join, matching, not_matching, project, rename, restrict, summarize, tclose, ungroup, unwrap,
     wrap,
 };
-use td_relations::{Relation, intersect, is_subset, minus, union};
-use td_values::{Kind, Name, TdType, Tuple, TypeKind, Value};
+use td_relations::{Delta, Relation, apply, difference, intersect, is_subset, minus, union};
+use td_values::{Kind, Name, TdType, Tuple, TypeKind, Value, fits};
 
-/// The names that the operators take.
-#[derive(Drop)]
-pub struct OperandNames {
-    pub parts: Vec<Name>,
-    pub number: Vec<Name>,
-    pub renamed: Vec<(Name, Name)>,
-    pub new: Name,
-}
+/// A step through the numbers below 1,000 or 10,000 that meets each of them once, in no order.
+const STEP: usize = 7_919;
 
-/// An operator.
+/// An operator; `Open` undoes a group or a wrap, or makes a closure, by what its operand has.
 #[derive(Clone, Copy)]
 pub enum Operator {
+    FromTuples,
+    Apply,
     Union,
     Intersect,
     Minus,
@@ -30,141 +31,54 @@ pub enum Operator {
     IsSubset,
     Project,
     Rename,
+    Group,
+    Wrap,
+    Restrict,
+    Extend,
     Join,
     Matching,
     NotMatching,
     Compose,
-    Group,
-    Ungroup,
-    Wrap,
-    Unwrap,
-    Restrict,
-    Extend,
     Summarize,
-    Tclose,
+    Open,
 }
 
-/// Those of two relations of one heading, or of a relation with itself.
-pub const OF_SETS: [Operator; 5] = [
-    Operator::Union,
-    Operator::Intersect,
-    Operator::Minus,
-    Operator::Contains,
-    Operator::IsSubset,
-];
+/// The names and terms that operators take.
+#[derive(Drop)]
+pub struct Terms {
+    parts: Vec<Name>,
+    renamed: Vec<(Name, Name)>,
+    new: Name,
+    sums: Vec<Item<Summary<()>>>,
+}
 
-/// Those of one relation.
-pub const OF_ONE: [Operator; 6] = [
-    Operator::Project,
-    Operator::Rename,
-    Operator::Group,
-    Operator::Wrap,
-    Operator::Restrict,
-    Operator::Extend,
-];
-
-/// Those of two relations.
-pub const OF_TWO: [Operator; 4] = [
-    Operator::Join,
-    Operator::Matching,
-    Operator::NotMatching,
-    Operator::Compose,
-];
-
-impl Operator {
-    /// Its name.
-    pub fn name(self) -> &'static str {
-        match self {
-            Operator::Union => "union",
-            Operator::Intersect => "intersect",
-            Operator::Minus => "minus",
-            Operator::Contains => "contains",
-            Operator::IsSubset => "is_subset",
-            Operator::Project => "project",
-            Operator::Rename => "rename",
-            Operator::Join => "join",
-            Operator::Matching => "matching",
-            Operator::NotMatching => "not_matching",
-            Operator::Compose => "compose",
-            Operator::Group => "group",
-            Operator::Ungroup => "ungroup",
-            Operator::Wrap => "wrap",
-            Operator::Unwrap => "unwrap",
-            Operator::Restrict => "restrict",
-            Operator::Extend => "extend",
-            Operator::Summarize => "summarize",
-            Operator::Tclose => "tclose",
-        }
+// A sum of this name, of a term that needs no form.
+fn sum(name: Name) -> Item<Summary<()>> {
+    let kind = TypeKind::Integer;
+    Item {
+        name,
+        ty: TdType { kind },
+        term: Summary::Sum(()),
     }
 }
 
-// How many of the second relation's tuples the first one has.
-fn members(a: &Relation, b: &Relation) -> usize {
-    b.iter().filter(|t| a.contains(t)).count()
-}
-
-// The operators of two relations of one heading, and how many tuples each gives.
-fn of_sets(alloc: Global, operator: Operator, a: &Relation, b: &Relation) -> Result<usize> {
-    if !a.same_heading(b) {
-        return Ok(0);
-    }
-    match operator {
-        Operator::Union => Ok(union(alloc, a, b)?.len()),
-        Operator::Intersect => Ok(intersect(alloc, a, b)?.len()),
-        Operator::Minus => Ok(minus(alloc, a, b)?.len()),
-        Operator::Contains => Ok(members(a, b)),
-        _ => Ok(usize::from(is_subset(a, a))),
+impl Terms {
+    pub fn new(alloc: Global) -> Result<Terms> {
+        Ok(Terms {
+            parts: vec![in alloc; Name::new(alloc, "SNO")?, Name::new(alloc, "STATUS")?]?,
+            renamed: vec![in alloc; (Name::new(alloc, "CITY")?, Name::new(alloc, "QTY")?)]?,
+            new: Name::new(alloc, "NEW")?,
+            sums: vec![in alloc; sum(Name::new(alloc, "NEW")?)]?,
+        })
     }
 }
 
-// The operators of two relations.
-fn of_joins(alloc: Global, operator: Operator, a: &Relation, b: &Relation) -> Result<usize> {
-    match operator {
-        Operator::Join => Ok(join(alloc, a, b)?.len()),
-        Operator::Matching => Ok(matching(alloc, a, b)?.len()),
-        Operator::NotMatching => Ok(not_matching(alloc, a, b)?.len()),
-        _ => Ok(compose(alloc, a, b)?.len()),
-    }
-}
-
-// The operators that take names.
-fn of_parts(
-    alloc: Global,
-    operator: Operator,
-    a: &Relation,
-    names: &OperandNames,
-) -> Result<usize> {
-    match operator {
-        Operator::Project => Ok(project(alloc, a, &names.parts)?.len()),
-        Operator::Rename => Ok(rename(alloc, a, &names.renamed)?.len()),
-        Operator::Group => Ok(group(alloc, a, &names.parts, &names.new)?.len()),
-        _ => Ok(wrap(alloc, a, &names.parts, &names.new)?.len()),
-    }
-}
-
-// How many tuples the attribute's values have.
-fn ungrouped(alloc: Global, r: &Relation, name: &Name) -> Result<usize> {
-    if is_relation_valued(r.heading(), name) {
-        Ok(ungroup(alloc, r, name)?.len())
-    } else {
-        Ok(0)
-    }
-}
-
-fn unwrapped(alloc: Global, r: &Relation, name: &Name) -> Result<usize> {
-    if is_tuple_valued(r.heading(), name) {
-        Ok(unwrap(alloc, r, name)?.len())
-    } else {
-        Ok(0)
-    }
-}
-
-fn closed(alloc: Global, r: &Relation) -> Result<usize> {
-    if is_binary(r.heading()) {
-        Ok(tclose(alloc, r)?.len())
-    } else {
-        Ok(0)
-    }
+/// What an operator is given, of which some take the first relation alone.
+#[derive(Clone, Copy)]
+pub struct Operands<'a> {
+    pub first: &'a Relation,
+    pub second: &'a Relation,
+    pub terms: &'a Terms,
 }
 
 // The last attribute's number.
@@ -178,79 +92,133 @@ fn number(tuple: &Tuple) -> i64 {
     }
 }
 
-fn integer(n: i64) -> Value {
-    Value {
-        kind: Kind::Integer(n),
-    }
+// The condition of `restrict`.
+fn is_low(tuple: &Tuple) -> std::result::Result<bool, Fault> {
+    Ok(number(tuple) < 500)
 }
 
-fn item<T: Drop>(name: Name, term: T) -> Item<T> {
-    let kind = TypeKind::Integer;
-    Item {
-        name,
-        ty: TdType { kind },
-        term,
-    }
+// The term of `extend` and of `summarize`.
+fn number_of<E>(_term: &E, tuple: &Tuple) -> std::result::Result<Value, Fault> {
+    let kind = Kind::Integer(number(tuple));
+    Ok(Value { kind })
 }
 
-// The tuples whose number is below 500.
-fn restricted(alloc: Global, r: &Relation) -> Result<usize> {
-    let kept = restrict(alloc, r, |t: &Tuple| -> std::result::Result<bool, Fault> {
-        Ok(number(t) < 500)
-    });
-    Ok(kept?.len())
-}
-
-// Each tuple with its number once more.
-fn extended(alloc: Global, r: &Relation, name: &Name) -> Result<usize> {
-    let items = vec![in alloc; item(name.copy()?, 0usize)]?;
-    let more = extend(
-        alloc,
-        r,
-        &items,
-        &|_term: &usize, t: &Tuple| -> std::result::Result<Value, Fault> { Ok(integer(number(t))) },
-    );
-    Ok(more?.len())
-}
-
-// For each tuple of the second relation the sum of the numbers of the first one's that agree with it.
-fn summarized(alloc: Global, r: &Relation, per: &Relation, name: &Name) -> Result<usize> {
-    let items = vec![in alloc; item(name.copy()?, Summary::Sum(0usize))]?;
-    let sums = summarize(
-        alloc,
-        r,
-        per,
-        &items,
-        &|_term: &usize, t: &Tuple| -> std::result::Result<Value, Fault> { Ok(integer(number(t))) },
-    );
-    Ok(sums?.len())
-}
-
-/// How many tuples the operator gives of these relations, of which some operators ask the first alone.
-pub fn count(
+// The operators of two relations of one heading.
+fn of_sets(
     alloc: Global,
     operator: Operator,
     a: &Relation,
     b: &Relation,
-    names: &OperandNames,
-) -> Result<usize> {
-    match operator {
-        Operator::Union
-        | Operator::Intersect
-        | Operator::Minus
-        | Operator::Contains
-        | Operator::IsSubset => of_sets(alloc, operator, a, b),
-        Operator::Join | Operator::Matching | Operator::NotMatching | Operator::Compose => {
-            of_joins(alloc, operator, a, b)
-        }
-        Operator::Project | Operator::Rename | Operator::Group | Operator::Wrap => {
-            of_parts(alloc, operator, a, names)
-        }
-        Operator::Ungroup => ungrouped(alloc, a, &names.new),
-        Operator::Unwrap => unwrapped(alloc, a, &names.new),
-        Operator::Restrict => restricted(alloc, a),
-        Operator::Extend => extended(alloc, a, &names.new),
-        Operator::Summarize => summarized(alloc, a, b, &names.new),
-        Operator::Tclose => closed(alloc, a),
+) -> std::result::Result<Relation, AllocError> {
+    if !a.same_heading(b) {
+        return a.copy(alloc);
     }
+    match operator {
+        Operator::Union => union(alloc, a, b),
+        Operator::Intersect => intersect(alloc, a, b),
+        _ => minus(alloc, a, b),
+    }
+}
+
+// What `Open` makes of the relation.
+fn opened(alloc: Global, r: &Relation, name: &Name) -> std::result::Result<Relation, AllocError> {
+    if is_relation_valued(r.heading(), name) {
+        return ungroup(alloc, r, name);
+    }
+    if is_tuple_valued(r.heading(), name) {
+        return unwrap(alloc, r, name);
+    }
+    if is_binary(r.heading()) {
+        return tclose(alloc, r);
+    }
+    r.copy(alloc)
+}
+
+// The operators that take no terms.
+fn of_relations(
+    alloc: Global,
+    operator: Operator,
+    operands: &Operands,
+) -> std::result::Result<Relation, AllocError> {
+    let (a, b, terms) = (operands.first, operands.second, operands.terms);
+    match operator {
+        Operator::Project => project(alloc, a, &terms.parts),
+        Operator::Rename => rename(alloc, a, &terms.renamed),
+        Operator::Group => group(alloc, a, &terms.parts, &terms.new),
+        Operator::Wrap => wrap(alloc, a, &terms.parts, &terms.new),
+        Operator::Join => join(alloc, a, b),
+        Operator::Matching => matching(alloc, a, b),
+        Operator::NotMatching => not_matching(alloc, a, b),
+        Operator::Compose => compose(alloc, a, b),
+        Operator::Open => opened(alloc, a, &terms.new),
+        _ => of_sets(alloc, operator, a, b),
+    }
+}
+
+// How many of the second relation's tuples the first one has.
+fn members(a: &Relation, b: &Relation) -> usize {
+    let mut count = 0usize;
+    for tuple in b.tuples() {
+        if a.contains(tuple) {
+            count = count.saturating_add(1);
+        }
+    }
+    count
+}
+
+/// How many tuples the operator gives.
+pub fn count(alloc: Global, operator: Operator, operands: &Operands) -> Result<usize> {
+    let (a, b, terms) = (operands.first, operands.second, operands.terms);
+    match operator {
+        Operator::Contains => Ok(members(a, b)),
+        Operator::IsSubset => Ok(usize::from(is_subset(a, a))),
+        Operator::Restrict => Ok(restrict(alloc, a, is_low)?.len()),
+        Operator::Extend => Ok(extend(alloc, a, &terms.sums, &number_of)?.len()),
+        Operator::Summarize => Ok(summarize(alloc, a, b, &terms.sums, &number_of)?.len()),
+        _ => Ok(of_relations(alloc, operator, operands)?.len()),
+    }
+}
+
+// The tuples of the relation, in no order.
+fn shuffled(alloc: Global, relation: &Relation) -> Result<Vec<Tuple>>
+    ensures { IfOk result (λ v. All (λ t. heading_of t ≡ header_fields relation.now.heading) v.items) }
+{
+    let count = relation.len();
+    let mut tuples = Vec::new(alloc);
+    for turn in 0..count {
+        if let Some(tuple) = relation.tuples().get(turn.wrapping_mul(STEP) % count)
+            && fits(tuple, relation.heading())
+        {
+            tuples.push(tuple.copy()?)?;
+        }
+    }
+    Ok(tuples)
+}
+
+/// Makes a relation of these tuples in no order, with its drop.
+pub fn make(rt: &HostRuntime, relation: &Relation) -> Result<(u128, usize)> {
+    let tuples = shuffled(rt.alloc(), relation)?;
+    let heading = relation.heading().copy()?;
+    let start = Instant::now(rt)?;
+    let made = Relation::from_tuples(heading, tuples).len();
+    Ok((start.elapsed(rt)?.as_nanos(), made))
+}
+
+// How long it takes to make this change of the relation.
+fn time_of(rt: &HostRuntime, before: &Relation, delta: &Delta) -> Result<(u128, usize)>
+    requires { delta.now.inserted.heading ≡ before.now.heading }
+{
+    let mut changed = before.copy(rt.alloc())?;
+    let start = Instant::now(rt)?;
+    apply(rt.alloc(), &mut changed, delta)?;
+    Ok((start.elapsed(rt)?.as_nanos(), changed.len()))
+}
+
+/// Changes a relation to another one of its heading; what is given is how many tuples there are then.
+pub fn change(rt: &HostRuntime, before: &Relation, after: &Relation) -> Result<(u128, usize)> {
+    if !before.same_heading(after) {
+        bail!("the relations have two headings");
+    }
+    let delta = difference(rt.alloc(), before, after)?;
+    time_of(rt, before, &delta)
 }

@@ -1,169 +1,63 @@
-//! Relations of suppliers and of shipments.
-ghost use Rattle.std.specs.Prelude.{◌≡◌, IfOk};
-ghost use Rattle.std.specs.List.{All};
-ghost use Rattle.td_values.specs.Headings.{header_fields};
-ghost use Rattle.td_values.specs.Whole.{heading_of};
+//! Relations of suppliers and of shipments, as a site has them.
 
-use super::operators::OperandNames;
-use anyhow::Result;
+use anyhow::{Result, bail};
 use std::alloc::Global;
 use td_relations::Relation;
-use td_values::{Heading, Kind, Name, TdType, Text, Tuple, TupleBuilder, TypeKind, Value, fits};
+use td_replica::{Opens, Replica};
+use td_semantics::{Answer, Meter};
+use td_values::Name;
 
-/// A step through the numbers below 1,000 or 10,000 that meets each of them once, in no order.
-const STEP: u32 = 7919;
+/// A has half as many tuples more than a relation of the size, and each other relvar some or all of them: S those of the
+/// first numbers, T and SP those from half of the size on, U those from 10 on.
+const SCRIPT: &str = "
+VAR A BASE RELATION { CITY CHAR, N INTEGER, SNO CHAR, STATUS INTEGER } KEY { N };
+VAR S VIRTUAL ( ( A WHERE N < COUNT ( A ) / 3 * 2 ) { CITY, SNO, STATUS } );
+VAR T VIRTUAL ( ( A WHERE N >= COUNT ( A ) / 3 ) { CITY, SNO, STATUS } );
+VAR U VIRTUAL ( ( A WHERE N >= 10 AND N < COUNT ( A ) / 3 * 2 + 10 ) { CITY, SNO, STATUS } );
+VAR SP VIRTUAL ( T { SNO, STATUS } RENAME ( STATUS AS QTY ) );
+VAR NUMBERS VIRTUAL ( SP { SNO } );
+VAR GROUPED VIRTUAL ( S GROUP ( { SNO, STATUS } AS NEW ) );
+VAR WRAPPED VIRTUAL ( S WRAP ( { SNO, STATUS } AS NEW ) );
+VAR CHAIN VIRTUAL ( EXTEND ( ( A WHERE N < COUNT ( A ) / 3 * 2 ) { N } ) ADD ( N + 1 AS NEXT ) );
+";
 
-/// The names of the attributes.
-#[derive(Drop)]
-pub struct Names {
-    city: Name,
-    number: Name,
-    quantity: Name,
-    status: Name,
-}
+/// How many tuples a statement inserts.
+const TUPLES: u32 = 100;
 
-impl Names {
-    pub fn new(alloc: Global) -> Result<Names> {
-        Ok(Names {
-            city: Name::new(alloc, "CITY")?,
-            number: Name::new(alloc, "SNO")?,
-            quantity: Name::new(alloc, "QTY")?,
-            status: Name::new(alloc, "STATUS")?,
-        })
+// A statement that inserts the tuples of the numbers from this one on.
+fn statement(alloc: Global, from: u32) -> Result<String> {
+    let mut text = String::from_str(alloc, "INSERT A RELATION { ")?;
+    for n in from..from.saturating_add(TUPLES) {
+        let (city, status) = (n % 100, n % 1_000);
+        let comma = if n > from { ", " } else { "" };
+        let tuple = format!(in alloc;
+            "{comma}TUPLE {{ CITY 'City{city}', N {n}, SNO 'S{n}', STATUS {status} }}"
+        )?;
+        text.push_str(&tuple)?;
     }
+    text.push_str(" };")?;
+    Ok(text)
 }
 
-impl Names {
-    /// The names that the operators take.
-    pub fn taken(&self, alloc: Global) -> Result<OperandNames> {
-        Ok(OperandNames {
-            parts: vec![in alloc; self.number.copy()?, self.status.copy()?]?,
-            number: vec![in alloc; self.number.copy()?]?,
-            renamed: vec![in alloc; (self.city.copy()?, self.quantity.copy()?)]?,
-            new: Name::new(alloc, "NEW")?,
-        })
-    }
-
-    /// So many pairs, each of a number and the next one.
-    pub fn chain(&self, alloc: Global, length: u32) -> Result<Relation> {
-        let mut heading = Heading::new(alloc)?;
-        for name in [&self.quantity, &self.status] {
-            let kind = TypeKind::Integer;
-            heading.insert(alloc, name.copy()?, TdType { kind })?;
-        }
-        let mut chain = Relation::empty(alloc, heading);
-        for n in 0..length {
-            let mut builder = TupleBuilder::new(alloc);
-            builder.insert(self.quantity.copy()?, integer(n))?;
-            builder.insert(self.status.copy()?, integer(n.wrapping_add(1)))?;
-            let pair = builder.build(alloc)?;
-            if fits(&pair, chain.heading()) {
-                chain.insert(pair)?;
-            }
-        }
-        Ok(chain)
-    }
-}
-
-/// What the tuples of a relation tell of.
-#[derive(Clone, Copy)]
-pub enum Subject {
-    Supplier,
-    Shipment,
-}
-
-// The heading of these texts and this number.
-fn heading(alloc: Global, texts: &[&Name], number: &Name) -> Result<Heading> {
-    let mut heading = Heading::new(alloc)?;
-    for name in texts {
-        let kind = TypeKind::Char;
-        heading.insert(alloc, name.copy()?, TdType { kind })?;
-    }
-    let kind = TypeKind::Integer;
-    heading.insert(alloc, number.copy()?, TdType { kind })?;
-    Ok(heading)
-}
-
-fn text(alloc: Global, letters: &str, n: u32) -> Result<Value> {
-    let kind = Kind::Char(Text::new(alloc, format!(in alloc; "{letters}{n}")?)?);
-    Ok(Value { kind })
-}
-
-fn integer(n: u32) -> Value {
-    let kind = Kind::Integer(i64::from(n));
-    Value { kind }
-}
-
-fn number(n: u32) -> Value {
-    let kind = Kind::Integer(i64::from(n % 1000));
-    Value { kind }
-}
-
-// The supplier of this number.
-fn supplier(alloc: Global, names: &Names, n: u32) -> Result<Tuple> {
-    let mut builder = TupleBuilder::new(alloc);
-    builder.insert(names.city.copy()?, text(alloc, "City", n % 100)?)?;
-    builder.insert(names.number.copy()?, text(alloc, "S", n)?)?;
-    builder.insert(names.status.copy()?, number(n))?;
-    Ok(builder.build(alloc)?)
-}
-
-// A shipment of the supplier of this number.
-fn shipment(alloc: Global, names: &Names, n: u32) -> Result<Tuple> {
-    let mut builder = TupleBuilder::new(alloc);
-    builder.insert(names.quantity.copy()?, number(n))?;
-    builder.insert(names.number.copy()?, text(alloc, "S", n)?)?;
-    Ok(builder.build(alloc)?)
-}
-
-/// A heading, and the names and the subject of its tuples.
-#[derive(Drop)]
-pub struct Table<'a> {
-    pub heading: Heading,
-    names: &'a Names,
-    subject: Subject,
-}
-
-impl<'a> Table<'a> {
-    pub fn new(alloc: Global, names: &'a Names, subject: Subject) -> Result<Table<'a>> {
-        let heading = match subject {
-            Subject::Supplier => heading(alloc, &[&names.city, &names.number], &names.status)?,
-            Subject::Shipment => heading(alloc, &[&names.number], &names.quantity)?,
-        };
-        Ok(Table {
-            heading,
-            names,
-            subject,
-        })
-    }
-
-    fn tuple(&self, alloc: Global, n: u32) -> Result<Tuple> {
-        match self.subject {
-            Subject::Supplier => supplier(alloc, self.names, n),
-            Subject::Shipment => shipment(alloc, self.names, n),
+/// A site whose relvars are of this size, a multiple of 200.
+pub fn site_of<O: Opens + Drop>(rt: &HostRuntime, size: u32) -> Result<O> {
+    let mut meter = Meter::new(rt);
+    let Ok(mut site) = O::open_script(rt.alloc(), SCRIPT, 1, 10_000) else {
+        bail!("the site is not opened");
+    };
+    for turn in 0..(size / 200).saturating_mul(3) {
+        let text = statement(rt.alloc(), turn.saturating_mul(TUPLES))?;
+        if site.issue(rt.alloc(), &text, &mut meter).is_err() {
+            bail!("the statement is not issued");
         }
     }
+    Ok(site)
+}
 
-    /// The tuples of so many numbers from this one on, in no order.
-    pub fn tuples(&self, alloc: Global, from: u32, count: u32) -> Result<Vec<Tuple>>
-        ensures { IfOk result (λ v. All (λ t. heading_of t ≡ header_fields self.now.heading) v.items) }
-    {
-        let mut tuples = Vec::new(alloc);
-        for turn in 0..count {
-            let n = from.wrapping_add(turn.wrapping_mul(STEP) % count);
-            let t = self.tuple(alloc, n)?;
-            if fits(&t, &self.heading) {
-                tuples.push(t)?;
-            }
-        }
-        Ok(tuples)
-    }
-
-    /// The relation of so many numbers from this one on.
-    pub fn relation(&self, alloc: Global, from: u32, count: u32) -> Result<Relation>
-        ensures { IfOk result (λ r. r.heading ≡ self.now.heading) }
-    {
-        let tuples = self.tuples(alloc, from, count)?;
-        Ok(Relation::from_tuples(self.heading.copy()?, tuples))
+/// What the relvar of this name has.
+pub fn relation<R: Replica>(alloc: Global, site: &R, name: &str) -> Result<Relation> {
+    match site.value_of(alloc, &Name::new(alloc, name)?) {
+        Ok(Answer::Value(relation)) => Ok(relation),
+        _ => bail!("the relvar has no value"),
     }
 }
