@@ -36,7 +36,7 @@ fn change_into(
 
 // What the change puts in and takes out, and what the relation has after it, after its undoing, after it again, and
 // after its inverse.
-fn told(alloc: Global, r: &mut Relation, delta: &Delta, back: &Delta) -> Result<String> {
+fn show_steps(alloc: Global, r: &mut Relation, delta: &Delta, back: &Delta) -> Result<String> {
     let mut out = String::new(alloc);
     show_into(&mut out, delta.inserted())?;
     show_into(&mut out, delta.deleted())?;
@@ -48,11 +48,11 @@ fn told(alloc: Global, r: &mut Relation, delta: &Delta, back: &Delta) -> Result<
 }
 
 // The same of the relation of these numbers.
-fn changed(alloc: Global, rows: &[i64]) -> Result<String> {
+fn steps_of(alloc: Global, rows: &[i64]) -> Result<String> {
     let delta = change(alloc)?;
     let back = inverse(change(alloc)?);
     let mut r = numbers(alloc, rows)?;
-    told(alloc, &mut r, &delta, &back)
+    show_steps(alloc, &mut r, &delta, &back)
 }
 
 // On another relation what isn't there isn't taken out, and what is there isn't put in twice.
@@ -64,7 +64,7 @@ const CHANGED: &[(&[i64], &str)] = &[
 #[test]
 fn changes_are_applied_and_undone(rt: HostRuntime) -> Result<()> {
     for (rows, want) in CHANGED {
-        let found = changed(rt.alloc(), rows)?;
+        let found = steps_of(rt.alloc(), rows)?;
         assert!(rt; found.as_str() == *want, "{found}");
     }
     Ok(())

@@ -1,6 +1,6 @@
 //! Batches that a set of entries takes or refuses.
 
-use crate::entries::{Written, batch, set_of, stamps, taken};
+use crate::entries::{Written, batch, set_of, stamps, take_batch};
 use std::alloc::{AllocError, Global};
 use std::test::Fail;
 use td_stamps::{Entry, Held};
@@ -172,7 +172,7 @@ const CASES: &[Case] = &[
 ];
 
 // The stamps of the entries that are new to the set, in batch order; or why it refuses the batch.
-fn fresh(alloc: Global, held: &Held, batch: &[Entry]) -> Result<String, AllocError> {
+fn fresh_stamps(alloc: Global, held: &Held, batch: &[Entry]) -> Result<String, AllocError> {
     match held.check(batch) {
         Ok(_) => stamps(alloc, &held.fresh(alloc, batch)?),
         Err(error) => format!(in alloc; "{error}"),
@@ -180,9 +180,9 @@ fn fresh(alloc: Global, held: &Held, batch: &[Entry]) -> Result<String, AllocErr
 }
 
 // What the set tells of the batch, without memory and with it: the same where it refuses the batch.
-fn told(alloc: Global, held: &mut Held, batch: &[Entry]) -> Result<String, AllocError> {
-    let fresh = fresh(alloc, &*held, batch)?;
-    let taken = taken(alloc, held, batch)?;
+fn check_and_take(alloc: Global, held: &mut Held, batch: &[Entry]) -> Result<String, AllocError> {
+    let fresh = fresh_stamps(alloc, &*held, batch)?;
+    let taken = take_batch(alloc, held, batch)?;
     if fresh.as_str() == taken.as_str() {
         return Ok(taken);
     }
@@ -190,10 +190,10 @@ fn told(alloc: Global, held: &mut Held, batch: &[Entry]) -> Result<String, Alloc
 }
 
 // What is told of the case, and whether its stamps are there then.
-fn told_of(alloc: Global, case: &Case) -> Result<(String, bool), AllocError> {
+fn answer_of(alloc: Global, case: &Case) -> Result<(String, bool), AllocError> {
     let mut held = set_of(alloc, case.limit, case.held)?;
     let batch = batch(alloc, case.batch)?;
-    let told = told(alloc, &mut held, &batch)?;
+    let told = check_and_take(alloc, &mut held, &batch)?;
     let stamps = stamps(alloc, held.entries())?;
     Ok((told, stamps.as_str() == case.stamps))
 }
@@ -201,7 +201,7 @@ fn told_of(alloc: Global, case: &Case) -> Result<(String, bool), AllocError> {
 #[test]
 fn batches_are_taken_or_refused(rt: HostRuntime) -> Result<(), Fail> {
     for (n, case) in CASES.iter().enumerate() {
-        let (told, has_stamps) = told_of(rt.alloc(), case)?;
+        let (told, has_stamps) = answer_of(rt.alloc(), case)?;
         assert!(rt; told.as_str() == case.told && has_stamps, "{n}: {told}");
     }
     Ok(())

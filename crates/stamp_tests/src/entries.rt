@@ -39,7 +39,7 @@ pub fn stamps(alloc: Global, entries: &[Entry]) -> Result<String, AllocError> {
 
 /// What a set tells of a batch that it takes: how many entries are new to it and how many it knows, and how many that
 /// it holds stand before the first new one; or why it refuses the batch.
-pub fn taken(alloc: Global, held: &mut Held, batch: &[Entry]) -> Result<String, AllocError> {
+pub fn take_batch(alloc: Global, held: &mut Held, batch: &[Entry]) -> Result<String, AllocError> {
     match held.prepare(alloc, batch) {
         Ok(prepared) => {
             let fresh = prepared.fresh();
@@ -58,6 +58,6 @@ pub fn taken(alloc: Global, held: &mut Held, batch: &[Entry]) -> Result<String, 
 pub fn set_of(alloc: Global, limit: usize, entries: &[Written]) -> Result<Held, AllocError> {
     let batch = batch(alloc, entries)?;
     let mut held = Held::new(alloc, limit);
-    let _told = taken(alloc, &mut held, &batch)?;
+    let _told = take_batch(alloc, &mut held, &batch)?;
     Ok(held)
 }

@@ -57,7 +57,7 @@ const GREETINGS: &[(&[u8], Greeted)] = &[
     ),
 ];
 
-fn greeted(alloc: Global, bytes: &[u8]) -> Greeted {
+fn greeting_fields(alloc: Global, bytes: &[u8]) -> Greeted {
     let greeting = read_greeting(alloc, &mut Device::new(bytes))?;
     let Greeting {
         site,
@@ -70,10 +70,10 @@ fn greeted(alloc: Global, bytes: &[u8]) -> Greeted {
 #[test]
 fn greetings_are_read(rt: HostRuntime) -> Result<(), Fail> {
     for (n, (bytes, want)) in GREETINGS.iter().enumerate() {
-        assert!(rt; greeted(rt.alloc(), bytes) == *want, "{n}");
+        assert!(rt; greeting_fields(rt.alloc(), bytes) == *want, "{n}");
     }
     for cut in 0..GREETING.len() {
-        let found = greeted(rt.alloc(), &GREETING[..cut]);
+        let found = greeting_fields(rt.alloc(), &GREETING[..cut]);
         assert!(rt; found == Err(FrameError::Cut), "{cut}");
     }
     Ok(())
@@ -121,7 +121,7 @@ const STREAMS: &[(&[u8], u32, Streamed)] = &[
     ),
 ];
 
-fn streamed(alloc: Global, bytes: &[u8], most: u32) -> Streamed {
+fn stream_fields(alloc: Global, bytes: &[u8], most: u32) -> Streamed {
     let mut rest = bytes;
     let (entries, end) = read_entries(alloc, &mut Device::new(&mut rest), Version::Second, most);
     (entries.len(), end, rest.len())
@@ -130,10 +130,10 @@ fn streamed(alloc: Global, bytes: &[u8], most: u32) -> Streamed {
 #[test]
 fn streams_are_read(rt: HostRuntime) -> Result<(), Fail> {
     for (n, (bytes, most, want)) in STREAMS.iter().enumerate() {
-        assert!(rt; streamed(rt.alloc(), bytes, *most) == *want, "{n}");
+        assert!(rt; stream_fields(rt.alloc(), bytes, *most) == *want, "{n}");
     }
     for cut in 0..TWO.len() {
-        let found = streamed(rt.alloc(), &TWO[..cut], 2);
+        let found = stream_fields(rt.alloc(), &TWO[..cut], 2);
         assert!(rt; found == (cut / 27, Err(FrameError::Cut), 0), "{cut}");
     }
     Ok(())

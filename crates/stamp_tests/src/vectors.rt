@@ -23,17 +23,17 @@ fn numbers(alloc: Global, vector: &Vector) -> Result<String, AllocError> {
 }
 
 // The vector of the one set, and the stamps of what the other has after it.
-fn sent(alloc: Global, held: &Held, other: &Held) -> Result<String, AllocError> {
+fn vector_and_missing(alloc: Global, held: &Held, other: &Held) -> Result<String, AllocError> {
     let vector = held.vector(alloc)?;
     let numbers = numbers(alloc, &vector)?;
     let after = other.after(alloc, &vector)?;
     format!(in alloc; "{numbers}| {}", stamps(alloc, &after)?)
 }
 
-fn sent_to(alloc: Global, entries: &[Written]) -> Result<String, AllocError> {
+fn exchange_of(alloc: Global, entries: &[Written]) -> Result<String, AllocError> {
     let held = set_of(alloc, 10_000, entries)?;
     let other = set_of(alloc, 10_000, &[FIRST, OTHER, SECOND, THIRD])?;
-    sent(alloc, &held, &other)
+    vector_and_missing(alloc, &held, &other)
 }
 
 const CASES: &[(&[Written], &str)] = &[
@@ -46,7 +46,7 @@ const CASES: &[(&[Written], &str)] = &[
 #[test]
 fn a_vector_stops_at_a_gap(rt: HostRuntime) -> Result<(), Fail> {
     for (entries, want) in CASES {
-        let found = sent_to(rt.alloc(), entries)?;
+        let found = exchange_of(rt.alloc(), entries)?;
         assert!(rt; found.as_str() == *want, "{found}");
     }
     Ok(())
