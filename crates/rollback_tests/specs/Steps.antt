@@ -1,7 +1,9 @@
 -- What entries do to two cells.
-use Rattle.std.specs.Prelude.{◌≡◌, ℕ, Bool, true, false, ◌==◌, if◌then◌else◌, List, [], ◌∷◌}
+use Rattle.std.specs.Prelude.{◌≡◌, ℕ, ◌==◌, if◌then◌else◌, List, [], ◌∷◌}
 use Rattle.std.specs.List.{Contains}
 use Rattle.td_stamps.specs.declared.entry.Entry.{Entry}
+use Rattle.rollback_tests.specs.declared.cells.Action.{Action}
+use Rattle.rollback_tests.specs.declared.cells.Action.TheVariants.{PutFirst, PutSecond, CopyFirst}
 use Rattle.rollback_tests.specs.declared.cells.Did.{Did}
 use Rattle.rollback_tests.specs.declared.cells.Wanted.{Wanted}
 
@@ -15,47 +17,55 @@ zeros = (0, 0)
 abbrev pub cell : Pair → ℕ → ℕ
 cell s n = if n == 0 then s.0 else (if n == 1 then s.1 else 0)
 
--- cells of the part from the one, and the others from the other
-abbrev pub mix : (ℕ → Bool) → Pair → Pair → Pair
-mix part s t = (if part 0 then s.0 else t.0, if part 1 then s.1 else t.1)
+-- what the entry of a sequence number does
+abbrev pub action_of : ℕ → Action
+action_of seq = if seq == 1 then PutFirst else (if seq == 2 then PutSecond else CopyFirst)
 
 -- one of the cells has another value
-abbrev pub changed : Bool → Pair → ℕ → Pair
-changed true s v = (v, s.1)
-changed false s v = (s.0, v)
+abbrev pub changed : Action → Pair → ℕ → Pair
+changed PutFirst s v = (v, s.1)
+changed PutSecond s v = (s.0, v)
+changed CopyFirst s v = (s.0, v)
 
--- what is done to the first cell, or to the second
-abbrev pub did : Bool → Pair → ℕ → Did
-did true s clock = record { is_first = true; before = s.0; after = clock }
-did false s clock = record { is_first = false; before = s.1; after = s.0 }
+abbrev pub did : Action → Pair → ℕ → Did
+did PutFirst s clock = record { action = PutFirst; before = s.0; after = clock }
+did PutSecond s clock = record { action = PutSecond; before = s.1; after = clock }
+did CopyFirst s clock = record { action = CopyFirst; before = s.1; after = s.0 }
 
-abbrev pub Does : Bool → Pair → ℕ → Did → Pair → Type 0
-Does b s clock r t = (r ≡ did b s clock) × (t ≡ changed b s (did b s clock).after)
+abbrev pub Does : Action → Pair → ℕ → Did → Pair → Type 0
+Does a s clock r t = (r ≡ did a s clock) × (t ≡ changed a s (did a s clock).after)
 
 abbrev pub Step : Pair → Entry → Did → Pair → Type 0
-Step s e r t = Does (e.seq == 1) s e.clock r t
+Step s e r t = Does (action_of e.seq) s e.clock r t
 
--- the second hangs on both
-abbrev pub footprint_by : Bool → List ℕ
-footprint_by true = 0 ∷ []
-footprint_by false = 0 ∷ 1 ∷ []
+-- a copy hangs on both cells
+abbrev pub footprint_by : Action → List ℕ
+footprint_by PutFirst = 0 ∷ []
+footprint_by PutSecond = 1 ∷ []
+footprint_by CopyFirst = 0 ∷ 1 ∷ []
 
-abbrev pub targets_by : Bool → List ℕ
-targets_by true = 0 ∷ []
-targets_by false = 1 ∷ []
-
-abbrev pub footprint : Entry → List ℕ
-footprint e = footprint_by (e.seq == 1)
-
-abbrev pub targets : Entry → List ℕ
-targets e = targets_by (e.seq == 1)
+abbrev pub targets_by : Action → List ℕ
+targets_by PutFirst = 0 ∷ []
+targets_by PutSecond = 1 ∷ []
+targets_by CopyFirst = 1 ∷ []
 
 abbrev pub IsFootprint : Entry → ℕ → Type 0
-IsFootprint e n = Contains (footprint e) n
+IsFootprint e n = Contains (footprint_by (action_of e.seq)) n
 
 abbrev pub IsTarget : Entry → ℕ → Type 0
-IsTarget e n = Contains (targets e) n
+IsTarget e n = Contains (targets_by (action_of e.seq)) n
+
+-- the two touch different cells
+abbrev pub AreApart : Action → Action → Type 0
+AreApart a b = (n : ℕ) → Contains (footprint_by a) n → Contains (footprint_by b) n → ⊥
+
+abbrev pub Commute : Entry → Entry → Type 0
+Commute e f = AreApart (action_of e.seq) (action_of f.seq)
+
+-- all cells that the entry touches are among these
+abbrev pub Covers : List ℕ → Entry → Type 0
+Covers cells e = (n : ℕ) → IsFootprint e n → Contains cells n
 
 -- what is read of the entry
 abbrev pub IsWanted : Entry → Wanted → Type 0
-IsWanted e r = (r.is_first ≡ (e.seq == 1)) × (r.clock ≡ e.clock)
+IsWanted e r = (r.action ≡ action_of e.seq) × (r.clock ≡ e.clock)

@@ -1,9 +1,11 @@
-//! Two cells, as a machine: an entry with sequence number 1 puts its clock into the first, every other one copies the
-//! first into the second.
+//! Two cells, as a machine: an entry with sequence number 1 puts its clock into the first, one with 2 into the second,
+//! and every other one copies the first into the second.
 
-ghost use Rattle.std.specs.Prelude.{◌≡◌, ℕ, Bool, OnErr, OnOk};
-ghost use Rattle.rollback_tests.specs.Steps.{IsFootprint, IsTarget, IsWanted, Step, cell, changed, footprint_by, mix, targets_by, zeros};
-ghost use Rattle.rollback_tests.specs.Going.{go, mixes};
+ghost use Rattle.std.specs.Prelude.{◌≡◌, ◌↔◌, ℕ, IsTrue, OnErr, OnOk};
+ghost use Rattle.std.specs.List.{Contains};
+ghost use Rattle.rollback_tests.specs.Steps as spec;
+ghost use Rattle.rollback_tests.specs.Steps.{Commute, Covers, IsFootprint, IsTarget, IsWanted, Step, cell, changed, footprint_by, targets_by, zeros};
+ghost use Rattle.rollback_tests.specs.Going.{commutes, go};
 
 use std::alloc::{AllocError, Global};
 use std::marker::Model;
@@ -26,19 +28,69 @@ impl Model for Cells {
     ghost view = { λ c. (c.first, c.second) };
 }
 
-/// What an entry did: to which cell, what it had and what it has.
+/// What entries do.
+#[derive(Clone, Copy)]
+pub enum Action {
+    PutFirst,
+    PutSecond,
+    CopyFirst,
+}
+
+/// What an entry did, and what the cell that it changed had and has.
 #[derive(Clone, Copy)]
 pub struct Did {
-    pub is_first: bool,
+    pub action: Action,
     pub before: u64,
     pub after: u64,
 }
 
-/// What is read of an entry: whether it goes to the first cell, and its clock.
+/// What is read of an entry: what it does, and its clock.
 #[derive(Clone, Copy)]
 pub struct Wanted {
-    pub is_first: bool,
+    pub action: Action,
     pub clock: u64,
+}
+
+// What the entry of a sequence number does.
+fn action_of(seq: u32) -> Action
+    ensures { result ≡ spec.action_of seq }
+{
+    if seq == 1 {
+        Action::PutFirst
+    } else if seq == 2 {
+        Action::PutSecond
+    } else {
+        Action::CopyFirst
+    }
+}
+
+// The cells that an action touches.
+fn footprint_by(action: &Action) -> &[usize]
+    ensures { result.now ≡ spec.footprint_by action.now }
+{
+    match *action {
+        Action::PutFirst => &[0],
+        Action::PutSecond => &[1],
+        Action::CopyFirst => &[0, 1],
+    }
+}
+
+// The cells that it changes.
+fn targets_by(action: &Action) -> &[usize]
+    ensures { result.now ≡ spec.targets_by action.now }
+{
+    match *action {
+        Action::PutFirst => &[0],
+        Action::PutSecond => &[1],
+        Action::CopyFirst => &[1],
+    }
+}
+
+// Whether one of the cells is among these.
+fn meets(cells: &[usize], others: &[usize]) -> bool
+    ensures { IsTrue result ↔ ((n : ℕ) × Contains cells.now n × Contains others.now n) }
+{
+    cells.iter().any(|cell| others.contains(cell))
 }
 
 impl Cells {
@@ -66,22 +118,51 @@ impl Cells {
         self.changes = changes;
     }
 
-    // Changes the cell. A change that is refused leaves another one.
-    fn change(&mut self, is_first: bool, value: u64) -> Result<(), AllocError>
-        ensures ok { OnOk result (self.new ≡ changed is_first self.old value) }
-        ensures err { OnErr result (self.new ≡ changed is_first self.old 0) }
+    // What the action does here.
+    fn did(&self, action: Action, clock: u64) -> Did
+        ensures { result ≡ spec.did action self.now clock }
     {
-        let is_taken = 0 < self.changes;
-        let value = if is_taken { value } else { 0 };
-        if is_first {
-            self.first = value;
-        } else {
-            self.second = value;
+        match action {
+            Action::PutFirst => Did {
+                action,
+                before: self.first,
+                after: clock,
+            },
+            Action::PutSecond => Did {
+                action,
+                before: self.second,
+                after: clock,
+            },
+            Action::CopyFirst => Did {
+                action,
+                before: self.second,
+                after: self.first,
+            },
         }
-        if !is_taken {
+    }
+
+    // Puts the value into the cell that the action changes.
+    fn put(&mut self, action: Action, value: u64)
+        ensures { self.new ≡ changed action self.old value }
+    {
+        match action {
+            Action::PutFirst => self.first = value,
+            Action::PutSecond => self.second = value,
+            Action::CopyFirst => self.second = value,
+        }
+    }
+
+    // Changes the cell. A change that is refused leaves another one.
+    fn change(&mut self, action: Action, value: u64) -> Result<(), AllocError>
+        ensures ok { OnOk result (self.new ≡ changed action self.old value) }
+        ensures err { OnErr result (self.new ≡ changed action self.old 0) }
+    {
+        if self.changes == 0 {
+            self.put(action, 0);
             return Err(AllocError);
         }
         self.changes -= 1;
+        self.put(action, value);
         Ok(())
     }
 }
@@ -92,6 +173,8 @@ impl Machine for Cells {
     type Part = (u64, u64);
 
     type Reading = Wanted;
+
+    type Accesses = Vec<usize>;
 
     type Meter = u64;
 
@@ -109,21 +192,21 @@ impl Machine for Cells {
 
     ghost is_read = { λ _ e r. IsWanted e r };
 
-    ghost footprint_in = { λ r. footprint_by r.is_first };
+    ghost footprint_in = { λ r. footprint_by r.action };
 
-    ghost targets_in = { λ r. targets_by r.is_first };
+    ghost targets_in = { λ r. targets_by r.action };
 
     ghost saved = { λ p _ s. p ≡ s };
 
     ghost count = { λ m. m };
 
-    ghost mix = { mix };
+    ghost commute = { λ _. Commute };
 
-    ghost closed = { λ _ _. Unit {0} };
+    ghost covers = { λ _ cells e. Covers cells.items e };
 
     fn run(&mut self, alloc: Global, entry: &Entry, meter: &mut u64) -> Result<Did, AllocError> {
         let wanted = Wanted {
-            is_first: entry.seq == 1,
+            action: action_of(entry.seq),
             clock: entry.clock,
         };
         self.run_read(alloc, &wanted, meter)
@@ -131,7 +214,7 @@ impl Machine for Cells {
 
     fn read(&self, _alloc: Global, entry: &Entry) -> Result<Wanted, AllocError> {
         Ok(Wanted {
-            is_first: entry.seq == 1,
+            action: action_of(entry.seq),
             clock: entry.clock,
         })
     }
@@ -147,39 +230,50 @@ impl Machine for Cells {
             return Err(AllocError);
         }
         self.changes -= 1;
-        if reading.is_first {
-            let did = Did {
-                is_first: true,
-                before: self.first,
-                after: reading.clock,
-            };
-            self.first = reading.clock;
-            Ok(did)
-        } else {
-            let did = Did {
-                is_first: false,
-                before: self.second,
-                after: self.first,
-            };
-            self.second = self.first;
-            Ok(did)
-        }
+        let did = self.did(reading.action, reading.clock);
+        self.put(reading.action, did.after);
+        Ok(did)
     }
 
     fn undo(&mut self, _alloc: Global, ran: &Did) -> Result<(), AllocError> {
-        self.change(ran.is_first, ran.before)
+        self.change(ran.action, ran.before)
     }
 
     fn redo(&mut self, _alloc: Global, ran: &Did) -> Result<(), AllocError> {
-        self.change(ran.is_first, ran.after)
+        self.change(ran.action, ran.after)
     }
 
     fn places_of(reading: &Wanted) -> &[usize] {
-        if reading.is_first { &[0] } else { &[0, 1] }
+        footprint_by(&reading.action)
     }
 
-    fn merge_components(&self, _alloc: Global, _labels: &mut Vec<usize>) -> Result<(), AllocError> {
+    fn no_accesses(&self, alloc: Global) -> Result<Vec<usize>, AllocError> {
+        Ok(Vec::new(alloc))
+    }
+
+    fn add_accesses(
+        &self,
+        _alloc: Global,
+        accesses: &mut Vec<usize>,
+        reading: &Wanted,
+    ) -> Result<(), AllocError> {
+        accesses.extend_from_slice(footprint_by(&reading.action))?;
         Ok(())
+    }
+
+    fn conflicts(
+        &self,
+        _alloc: Global,
+        accesses: &mut Vec<usize>,
+        _entry: &Entry,
+        ran: &Did,
+    ) -> Result<bool, AllocError> {
+        let cells = footprint_by(&ran.action);
+        if !meets(cells, &*accesses) {
+            return Ok(false);
+        }
+        accesses.extend_from_slice(cells)?;
+        Ok(true)
     }
 
     fn save(&self, _alloc: Global, _places: &[usize]) -> Result<(u64, u64), AllocError> {
@@ -192,14 +286,14 @@ impl Machine for Cells {
     }
 
     fn footprint_of(ran: &Did) -> &[usize] {
-        if ran.is_first { &[0] } else { &[0, 1] }
+        footprint_by(&ran.action)
     }
 
     fn targets_of(ran: &Did) -> &[usize] {
-        if ran.is_first { &[0] } else { &[1] }
+        targets_by(&ran.action)
     }
 
-    ghost mixes = { λ _ part _. mixes part };
+    ghost commutes = { commutes };
 
     ghost goes = { go };
 }

@@ -8,5 +8,5 @@ mod cells;
 mod replays;
 mod taking;
 
-pub use cells::{Cells, Did};
+pub use cells::{Action, Cells, Did};
 pub use taking::{begun, take};

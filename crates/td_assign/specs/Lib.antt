@@ -3,3 +3,4 @@ pub mod Redoing
 pub mod Laws
 pub mod ForProofs
 pub mod Readings
+pub mod Inserting

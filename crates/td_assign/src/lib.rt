@@ -25,6 +25,7 @@
 pub mod changes;
 mod choices;
 mod deltas;
+mod insertions;
 pub mod laws;
 pub mod names;
 pub mod ran;

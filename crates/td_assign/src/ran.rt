@@ -14,4 +14,6 @@ pub struct Ran {
     /// The base relvars on which its outcome and its changes hang, in the same way: its targets, what its sources read,
     /// and what each test reads that reads a target.
     pub footprint: Vec<usize>,
+    /// Whether it is an INSERT of tuples that are written out, and `delta` puts in each of these.
+    pub puts_in_all: bool,
 }

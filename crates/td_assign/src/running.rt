@@ -20,11 +20,13 @@ ghost use Rattle.td_assign.specs.ForProofs.Prepared.{AreAssignedTo, IsJudged, Is
 ghost use Rattle.td_assign.specs.ForProofs.Lists.{IsKeyed, changes_of, given_to};
 ghost use Rattle.td_semantics.specs.Steps as spec;
 ghost use Rattle.td_semantics.specs.Steps.{Steps};
+ghost use Rattle.td_assign.specs.Inserting.{PutsIn};
 ghost use Rattle.td_assign.specs.Readings.{IsReadText};
 
 use crate::changes::Change;
 use crate::choices::choose_assignments;
 use crate::deltas::differences;
+use crate::insertions::puts_in_all;
 use crate::names::{Names, names_with, no_names};
 use crate::ran::Ran;
 use crate::reading::{ReadText, read};
@@ -308,12 +310,14 @@ fn turn(
     }
 }
 
-// What a run of a statement is told as: its outcome, its changes and its relvars.
-fn ran(outcome: Outcome, delta: Vec<(usize, Delta)>, names: Names) -> Ran
+// What a run of a statement is told as: its outcome, its changes and its relvars, and whether it is an insertion of which
+// the changes put in each tuple.
+fn ran(outcome: Outcome, delta: Vec<(usize, Delta)>, names: Names, puts_in_all: bool) -> Ran
     ensures outcome { result.outcome ≡ outcome }
     ensures delta { result.delta ≡ delta }
     ensures targets { result.targets ≡ names.targets }
     ensures footprint { result.footprint ≡ names.footprint }
+    ensures puts { result.puts_in_all ≡ puts_in_all }
 {
     let Names { targets, footprint } = names;
     Ran {
@@ -321,6 +325,7 @@ fn ran(outcome: Outcome, delta: Vec<(usize, Delta)>, names: Names) -> Ran
         delta,
         targets,
         footprint,
+        puts_in_all,
     }
 }
 
@@ -340,6 +345,7 @@ pub fn run_read(
     ensures legal { IsLegal database.new }
     ensures targets { (dialect : ℕ) (text : List ℕ) → IsReadText database.old.catalogue dialect text reading.now → IfOk result (λ r. AreThose (IsTargetOfText database.old.catalogue dialect text) r.targets.items) }
     ensures footprint { (dialect : ℕ) (text : List ℕ) → IsReadText database.old.catalogue dialect text reading.now → IfOk result (λ r. AreThose (IsInFootprint database.old.catalogue dialect text) r.footprint.items) }
+    ensures puts { (dialect : ℕ) (text : List ℕ) → IsReadText database.old.catalogue dialect text reading.now → IfOk result (λ r. IsTrue r.puts_in_all → PutsIn database.old.catalogue dialect text r.delta.items) }
     ensures counted { meter.new.count ≡ one_more meter.old.count }
 {
     meter.tick();
@@ -349,13 +355,14 @@ pub fn run_read(
     match prepared {
         Prepared::Changes(changes, delta) => {
             put_all(alloc, database, changes)?;
-            Ok(ran(Outcome::Done, delta, names))
+            Ok(ran(Outcome::Done, delta, names, false))
         }
         Prepared::InPlace(relvar, delta) => {
             let (outcome, delta) = turn(alloc, database, relvar, delta)?;
-            Ok(ran(outcome, delta, names))
+            let all = puts_in_all(alloc, reading, &outcome, &delta);
+            Ok(ran(outcome, delta, names, all))
         }
-        Prepared::Refused(outcome) => Ok(ran(outcome, Vec::new(alloc), names)),
+        Prepared::Refused(outcome) => Ok(ran(outcome, Vec::new(alloc), names, false)),
     }
 }
 
@@ -380,6 +387,7 @@ pub fn run(
     ensures legal { IsLegal database.new }
     ensures targets { IfOk result (λ r. AreThose (IsTargetOfText database.old.catalogue dialect text.now) r.targets.items) }
     ensures footprint { IfOk result (λ r. AreThose (IsInFootprint database.old.catalogue dialect text.now) r.footprint.items) }
+    ensures puts { IfOk result (λ r. IsTrue r.puts_in_all → PutsIn database.old.catalogue dialect text.now r.delta.items) }
     ensures counted { meter.new.count ≡ one_more meter.old.count }
 {
     match read(alloc, database.catalogue(), text, dialect) {

@@ -5,6 +5,7 @@ pub mod Issuing
 pub mod Taking
 pub mod Asking
 pub mod Counting
+pub mod Recorded
 pub mod Anew
 pub mod Copies
 pub mod Earlier

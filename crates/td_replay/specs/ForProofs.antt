@@ -1,6 +1,7 @@
 -- Words that only proofs and private functions use.
 pub mod Going
-pub mod Mixing
+pub mod Exchanging
+pub mod Accessing
 pub mod Told
 pub mod Judged
 pub mod Asked

@@ -1,16 +1,15 @@
--- What a site keeps of a step: its outcome, the differences that it made, its targets and its footprint; and from where
--- its history began.
-use Rattle.std.specs.Prelude.{◌≡◌, ℕ, suc, Bool, if◌then◌else◌, [], ◌∷◌, Result, Ok, Err}
-use Rattle.std.specs.List.{Contains}
+-- What a site keeps of a step: its outcome, the differences that it made, its targets and its footprint, and whether it
+-- is an insertion that put in each of its tuples; and from where its history began.
+use Rattle.std.specs.Prelude.{◌≡◌, ℕ, IsTrue, [], Result, Ok, Err}
 use Rattle.td_algebra.specs.declared.errors.Stop.{Stop}
+use Rattle.td_assign.specs.Inserting.{PutsIn}
 use Rattle.td_assign.specs.declared.ran.Ran.{Ran}
 use Rattle.td_headings.specs.Catalogues.{CatalogueData}
 use Rattle.td_headings.specs.Reached.{AreThose}
-use Rattle.td_headings.specs.declared.defined.Test.{Test}
 use Rattle.td_stamps.specs.declared.entry.Entry.{Entry}
 use Rattle.td_semantics.specs.Databases.{DatabaseData, IsDatabase, IsLegal, Stored, stored_relvars}
 use Rattle.td_semantics.specs.Differences.{AreDifferences}
-use Rattle.td_semantics.specs.Footprints.{IsInFootprint, IsTargetOfText, TestReads}
+use Rattle.td_semantics.specs.Footprints.{IsInFootprint, IsTargetOfText}
 use Rattle.td_semantics.specs.Openings.{opening}
 use Rattle.td_semantics.specs.Steps.{Steps}
 
@@ -20,6 +19,7 @@ pub record Notes (d : DatabaseData) (e : Entry) (r : Ran) (after : DatabaseData)
   pub delta : AreDifferences (stored_relvars d.stored) (stored_relvars after.stored) r.delta.items
   pub targets : AreThose (IsTargetOfText d.catalogue e.dialect e.text) r.targets.items
   pub footprint : AreThose (IsInFootprint d.catalogue e.dialect e.text) r.footprint.items
+  pub puts : IsTrue r.puts_in_all → PutsIn d.catalogue e.dialect e.text r.delta.items
 
 -- a database in which every test is true
 abbrev pub IsLegalDatabase : DatabaseData → Type 0
@@ -43,20 +43,3 @@ IsFootprintOf o e n = IsInFootprint o.catalogue e.dialect e.text n
 
 abbrev pub AreTargetsOf : DatabaseData → Entry → ℕ → Type 0
 AreTargetsOf o e n = IsTargetOfText o.catalogue e.dialect e.text n
-
--- ---- databases in two parts
--- what the one has at places of the part, and the other one has elsewhere
-abbrev pub mixed : (ℕ → Bool) → Stored → Stored → Stored
-mixed part [] ys = []
-mixed part (x ∷ xs) [] = []
-mixed part (x ∷ xs) (y ∷ ys) = (if part 0 then x else y) ∷ mixed (λ n. part (suc n)) xs ys
-
-abbrev pub mix : (ℕ → Bool) → DatabaseData → DatabaseData → DatabaseData
-mix part d e = record { catalogue = d.catalogue; stored = mixed part d.stored e.stored }
-
--- each test reads places of the part alone, or none of them
-abbrev pub AreClosed : CatalogueData → (ℕ → Bool) → Type 0
-AreClosed c part = (t : Test) → Contains c.tests t → (b : Bool) × ((n : ℕ) → TestReads c t n → part n ≡ b)
-
-abbrev pub IsClosedPart : DatabaseData → (ℕ → Bool) → Type 0
-IsClosedPart o part = AreClosed o.catalogue part

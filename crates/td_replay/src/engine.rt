@@ -1,21 +1,22 @@
 //! The database of one script, as a machine that runs entries, takes them back and makes their changes again.
 
-ghost use Rattle.std.specs.Prelude.{◌≡◌, ℕ, Option, OnOk};
-ghost use Rattle.td_rollback.specs.Labels.{IsCoarser, has_label};
+ghost use Rattle.std.specs.Prelude.{◌≡◌};
+ghost use Rattle.td_accesses.specs.Commuting.{Commute};
+ghost use Rattle.td_accesses.specs.Covering.{Covers};
 ghost use Rattle.td_assign.specs.Readings.{IsReadText};
-ghost use Rattle.td_replay.specs.Noted.{AgreeAt, AreClosed, AreTargetsOf, IsClosedPart, IsFootprintOf, IsLegalDatabase, Notes, mix, opened_by};
+ghost use Rattle.td_replay.specs.Noted.{AgreeAt, AreTargetsOf, IsFootprintOf, IsLegalDatabase, Notes, opened_by};
 ghost use Rattle.td_relvars.specs.Parts.{AreTheirs, part_of};
 ghost use Rattle.td_semantics.specs.Databases.{IsDatabase};
 ghost use Rattle.td_replay.specs.ForProofs.Going.{go};
-ghost use Rattle.td_replay.specs.ForProofs.Mixing.{mixes};
+ghost use Rattle.td_replay.specs.ForProofs.Exchanging.{exchanges};
 
+use crate::accessing::{add_reading, add_record, conflicts};
 use std::alloc::{AllocError, Global};
 use std::marker::Model;
-use td_assign::names::test_reads;
+use td_accesses::Accesses;
 use td_assign::{Ran, ReadText, read, redo, run, run_read, undo};
-use td_headings::Catalogue;
 use td_relvars::{Database, Part};
-use td_rollback::{Machine, tie};
+use td_rollback::Machine;
 use td_semantics::Meter;
 use td_stamps::Entry;
 
@@ -59,29 +60,14 @@ impl Engine {
     }
 }
 
-// Ties what each test reads.
-fn tie_tests(
-    alloc: Global,
-    catalogue: &Catalogue,
-    labels: &mut Vec<usize>,
-) -> Result<(), AllocError>
-    ensures closed { OnOk result ((label : Option ℕ) → AreClosed catalogue.now (has_label labels.new.items label)) }
-    ensures coarser { IsCoarser labels.old.items labels.new.items }
-{
-    let tests = catalogue.tests();
-    for place in 0..tests.len() {
-        let places = test_reads(alloc, catalogue, place, &tests[place])?;
-        tie(alloc, labels, &places)?;
-    }
-    Ok(())
-}
-
 impl Machine for Engine {
     type Record = Ran;
 
     type Part = Part;
 
     type Reading = ReadText;
+
+    type Accesses = Accesses;
 
     type Meter = Meter;
 
@@ -107,9 +93,9 @@ impl Machine for Engine {
 
     ghost count = { λ m. m.count };
 
-    ghost mix = { mix };
+    ghost commute = { λ o e f. Commute o.catalogue e.dialect e.text f.dialect f.text };
 
-    ghost closed = { IsClosedPart };
+    ghost covers = { λ o x e. Covers o.catalogue x e.dialect e.text };
 
     fn run(&mut self, alloc: Global, entry: &Entry, meter: &mut Meter) -> Result<Ran, AllocError> {
         let text = entry.text.as_str();
@@ -142,8 +128,31 @@ impl Machine for Engine {
         reading.footprint.as_slice()
     }
 
-    fn merge_components(&self, alloc: Global, labels: &mut Vec<usize>) -> Result<(), AllocError> {
-        tie_tests(alloc, self.database.catalogue(), labels)
+    fn no_accesses(&self, alloc: Global) -> Result<Accesses, AllocError> {
+        Ok(Accesses::none(alloc))
+    }
+
+    fn add_accesses(
+        &self,
+        alloc: Global,
+        accesses: &mut Accesses,
+        reading: &ReadText,
+    ) -> Result<(), AllocError> {
+        add_reading(alloc, &self.database, accesses, reading)
+    }
+
+    fn conflicts(
+        &self,
+        alloc: Global,
+        accesses: &mut Accesses,
+        _: &Entry,
+        ran: &Ran,
+    ) -> Result<bool, AllocError> {
+        if !conflicts(&*accesses, ran) {
+            return Ok(false);
+        }
+        add_record(alloc, &self.database, accesses, ran)?;
+        Ok(true)
     }
 
     fn save(&self, alloc: Global, places: &[usize]) -> Result<Part, AllocError> {
@@ -163,7 +172,7 @@ impl Machine for Engine {
         ran.targets.as_slice()
     }
 
-    ghost mixes = { mixes };
+    ghost commutes = { exchanges };
 
     ghost goes = { go };
 }

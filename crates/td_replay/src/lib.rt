@@ -11,18 +11,19 @@
 //!
 //! Costs: `issue` runs one statement and appends one entry; `ask` evaluates the query over relvars that are lent.
 //! `take` of k entries with m held costs (k + m) log (k + m), a pass over the log, and a run of each fresh statement
-//! and of each later one that a fresh one may touch, where a `PlainSite` runs all; `ask_at` of a `Site` runs no
-//! statement.
+//! and of each later one that conflicts with it and that it may touch, where a `PlainSite` runs all; `ask_at` of a
+//! `Site` runs no statement.
 //!
 //! td_replay knows of the language no more than that a script opens a database and a text steps from one to the next.
-//! `engine` is that database as a machine, whose record is what `run` of td_assign tells; `told` runs entries in turn
-//! or tells more of them by rollback and replay, and keeps each one's record; `judged` and `asked` see texts and a
-//! catalogue or a database alone. `past` is copies of what some relvars had after an earlier entry, with their lists by
-//! keys, by the changes in the records behind it, and a look-up that lends them in place of the relvars. `state` is
-//! what both kinds of sites keep and do, of which no clause speaks, and `site` (`Site`) and `plain` (`PlainSite`)
-//! differ in the way in which they tell more entries.
+//! `engine` is that database as a machine, whose record is what `run` of td_assign tells, and `accessing` tells which
+//! statements conflict; `told` runs entries in turn or tells more of them by rollback and replay, and keeps each one's
+//! record; `judged` and `asked` see texts and a catalogue or a database alone. `past` is copies of what some relvars had
+//! after an earlier entry, with their lists by keys, by the changes in the records behind it, and a look-up that lends
+//! them in place of the relvars. `state` is what both kinds of sites keep and do, of which no clause speaks, and `site`
+//! (`Site`) and `plain` (`PlainSite`) differ in the way in which they tell more entries.
 #![tactic(auto)]
 
+mod accessing;
 mod asked;
 mod engine;
 mod judged;

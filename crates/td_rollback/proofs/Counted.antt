@@ -10,31 +10,31 @@ use Rattle.td_stamps.proofs.EntryLemmas.{same-is}
 use Rattle.td_rollback.specs.Counts.{meets, runs_of}
 use Rattle.td_rollback.specs.Laws.{ListsPlaces, RunsAreCounted}
 use Rattle.td_rollback.specs.Touched.{AreMore, IsTargetOf, Runs, none_left, fresh, touched, untouched}
-use Rattle.td_rollback.proofs.Members.{has_cases, has_first, has_later, has_none, number_cases, number_first, number_later, number_none}
+use Rattle.td_rollback.proofs.Members.{has_cases, has_first, has_later, has_none, item_cases, item_first, item_later, item_none}
 use Rattle.td_rollback.proofs.More as more
 
 -- the test of names, as a fact
 pub named : (names : List ℕ) (n : ℕ) → list_any (λ m. m == n) names ≡ true → Contains names n
 named [] n h = absurd (false≢true h)
-named (m ∷ ms) n h = ⊎_elim (λ is. subst (λ k. Contains (m ∷ ms) k) (eqb-true m n is) (number_first m ms)) (λ later. number_later m n ms (named ms n later)) (or_cases (m == n) (list_any (λ k. k == n) ms) h)
+named (m ∷ ms) n h = ⊎_elim (λ is. subst (λ k. Contains (m ∷ ms) k) (eqb-true m n is) (item_first m ms)) (λ later. item_later m n ms (named ms n later)) (or_cases (m == n) (list_any (λ k. k == n) ms) h)
 
 is_named : (names : List ℕ) (n : ℕ) → Contains names n → list_any (λ m. m == n) names ≡ true
-is_named [] n h = number_none n h
-is_named (m ∷ ms) n h = ⊎_elim (λ is. or_left (m == n) (list_any (λ k. k == n) ms) (eq-eqb m n is)) (λ later. or_right (m == n) (list_any (λ k. k == n) ms) (is_named ms n later)) (number_cases m n ms h)
+is_named [] n h = item_none n h
+is_named (m ∷ ms) n h = ⊎_elim (λ is. or_left (m == n) (list_any (λ k. k == n) ms) (eq-eqb m n is)) (λ later. or_right (m == n) (list_any (λ k. k == n) ms) (is_named ms n later)) (item_cases m n ms h)
 
 met : (names places : List ℕ) → meets names places ≡ true → (n : ℕ) × Contains places n × Contains names n
 met names [] h = absurd (false≢true h)
 met names (p ∷ ps) h = ⊎_elim
-    (λ is. (p, number_first p ps, named names p is))
-    (λ later. let k = met names ps later in (k.0, number_later p k.0 ps k.1, k.2))
+    (λ is. (p, item_first p ps, named names p is))
+    (λ later. let k = met names ps later in (k.0, item_later p k.0 ps k.1, k.2))
     (or_cases (list_any (λ m. m == p) names) (meets names ps) h)
 
 is_met : (names places : List ℕ) (n : ℕ) → Contains places n → Contains names n → meets names places ≡ true
-is_met names [] n h i = number_none n h
+is_met names [] n h i = item_none n h
 is_met names (p ∷ ps) n h i = ⊎_elim
     (λ is. or_left (list_any (λ m. m == p) names) (meets names ps) (is_named names p (subst (Contains names) (sym is) i)))
     (λ later. or_right (list_any (λ m. m == p) names) (meets names ps) (is_met names ps n later i))
-    (number_cases p n ps h)
+    (item_cases p n ps h)
 
 module _ (F T : Entry → ℕ → Type 0) (footprint targets : Entry → List ℕ) where
   abbrev Named : List Entry → List ℕ → Type 0
@@ -76,4 +76,4 @@ module _ (F T : Entry → ℕ → Type 0) (footprint targets : Entry → List �
       (λ is. let lacks = more.other_is_fresh e y es fs is among in fresh lacks (counted (e ∷ ran) (targets e ++ names) (y ∷ es) fs adds (more.fresh_on e (y ∷ es) fs lacks among) feet (rest_named targets e fs all)))
 
 pub runs_are_counted : (F T : Entry → ℕ → Type 0) → RunsAreCounted F T
-runs_are_counted F T old new footprint targets among feet all = counted F T footprint targets [] [] old new (λ n. (λ h. number_none n h, λ h. has_none h.0 h.1)) among feet all
+runs_are_counted F T old new footprint targets among feet all = counted F T footprint targets [] [] old new (λ n. (λ h. item_none n h, λ h. has_none h.0 h.1)) among feet all

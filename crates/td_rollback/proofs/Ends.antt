@@ -83,6 +83,12 @@ module _ {S R : Type 0} (w : Way S R) (s : S) (good : w.Sound s) (es : List Entr
 
 -- the entry at the place, and its record
 module _ {S R : Type 0} (w : Way S R) (s : S) (good : w.Sound s) (es : List Entry) (ps : List (Stamp × R)) (last : S) (st : History w.Step s es ps last) (i : ℕ) (d : Stamp × R) (x : Entry) (in_es : i < length es) (in_ps : i < length ps) where
+  pub step_at : (t : S) × (u : S) × w.Sound t × w.Step t (get_or es i x) (get_or ps i d).1 u
+  step_at =
+      let front = histories.front w.Step s last es ps st (i + 1) in
+      let k = off w s good es ps i d x in_es in_ps front.0 front.1 in
+      (k.state, front.0, off_sound w s good es ps i d x in_es in_ps front.0 front.1, k.step)
+
   pub targets_at : (n : ℕ) → Contains (w.targets_in (get_or ps i d).1) n ↔ w.Target (get_or es i x) n
   targets_at = let front = histories.front w.Step s last es ps st (i + 1) in off_targets w s good es ps i d x in_es in_ps front.0 front.1
 

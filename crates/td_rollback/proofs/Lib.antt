@@ -10,7 +10,9 @@ pub mod Standing
 pub mod Coming
 pub mod Ends
 pub mod Parting
-pub mod Tying
+pub mod Commuting
+pub mod Conflicting
+pub mod Fewer
 pub mod Flagging
 pub mod Unmarked
 pub mod Placing

@@ -44,37 +44,37 @@ front_cases es i e f lt is h =
     let front : (has (take i es) f || has (get_or es i e ∷ []) f) ≡ true = sym (list_any-append (same f) (take i es) (get_or es i e ∷ [])) ∙ subst (λ (l : List Entry). has l f ≡ true) (take_more es i e lt) h in
     ⊎_elim (λ before. inr before) (λ last. ⊎_elim (λ one. inl (one ∙ sym is)) (λ none. has_none f none) (has_cases (get_or es i e) f [] last)) (or_cases (has (take i es) f) (has (get_or es i e ∷ []) f) front)
 
--- numbers
-pub number_first : (m : ℕ) (ms : List ℕ) → Contains (m ∷ ms) m
-number_first m ms = (0, omega arith, refl)
+-- items
+pub item_first : {X : Type 0} (x : X) (xs : List X) → Contains (x ∷ xs) x
+item_first x xs = (0, omega arith, refl)
 
-pub number_later : (m n : ℕ) (ms : List ℕ) → Contains ms n → Contains (m ∷ ms) n
-number_later m n ms h = Contains-append_right (m ∷ []) ms n h
+pub item_later : {X : Type 0} (x y : X) (xs : List X) → Contains xs y → Contains (x ∷ xs) y
+item_later x y xs h = Contains-append_right (x ∷ []) xs y h
 
-pub number_cases : (m n : ℕ) (ms : List ℕ) → Contains (m ∷ ms) n → (m ≡ n) ⊎ Contains ms n
-number_cases m n ms (zero, lt, is) = inl is
-number_cases m n ms (suc k, lt, is) = inr (k, omega (arith, lt), is)
+pub item_cases : {X : Type 0} (x y : X) (xs : List X) → Contains (x ∷ xs) y → (x ≡ y) ⊎ Contains xs y
+item_cases x y xs (zero, lt, is) = inl is
+item_cases x y xs (suc k, lt, is) = inr (k, omega (arith, lt), is)
 
-pub number_none : {P : Type 0} (n : ℕ) → Contains [] n → P
-number_none n h = absurd (omega (arith, h.1))
+pub item_none : {X P : Type 0} (y : X) → Contains [] y → P
+item_none y h = absurd (omega (arith, h.1))
 
 -- one number more, whether it was there or not
 module _ (ps : List ℕ) (i p : ℕ) (lt : i < length ps) (is : p ≡ get_or ps i 0) where
   front_has : (n : ℕ) → Contains (take (i + 1) ps) n ↔ ((n ≡ p) ⊎ Contains (take i ps) n)
   front_has n =
       let more : take (i + 1) ps ≡ take i ps ++ p ∷ [] = take_more ps i 0 lt ∙ ap (λ (q : ℕ). take i ps ++ q ∷ []) (sym is) in (
-        λ h. ⊎_elim (λ before. inr before) (λ last. ⊎_elim (λ one. inl (sym one)) (λ none. number_none n none) (number_cases p n [] last)) (Contains-append_cases (take i ps) (p ∷ []) n (subst (λ (l : List ℕ). Contains l n) more h)),
-        λ h. subst (λ (l : List ℕ). Contains l n) (sym more) (⊎_elim (λ one. Contains-append_right (take i ps) (p ∷ []) n (subst (λ (m : ℕ). Contains (p ∷ []) m) (sym one) (number_first p []))) (λ before. Contains-append_left (take i ps) (p ∷ []) n before) h),
+        λ h. ⊎_elim (λ before. inr before) (λ last. ⊎_elim (λ one. inl (sym one)) (λ none. item_none n none) (item_cases p n [] last)) (Contains-append_cases (take i ps) (p ∷ []) n (subst (λ (l : List ℕ). Contains l n) more h)),
+        λ h. subst (λ (l : List ℕ). Contains l n) (sym more) (⊎_elim (λ one. Contains-append_right (take i ps) (p ∷ []) n (subst (λ (m : ℕ). Contains (p ∷ []) m) (sym one) (item_first p []))) (λ before. Contains-append_left (take i ps) (p ∷ []) n before) h),
       )
 
   pub number_pushed : (names old now : List ℕ) → ((n : ℕ) → Contains names n ↔ (Contains (take i ps) n ⊎ Contains old n)) → now ≡ names ++ p ∷ [] → (n : ℕ) → Contains now n ↔ (Contains (take (i + 1) ps) n ⊎ Contains old n)
   number_pushed names old now so_far push n = (
     λ h. ⊎_elim
         (λ there. ⊎_elim (λ before. inl ((front_has n).1 (inr before))) (λ was. inr was) ((so_far n).0 there))
-        (λ last. ⊎_elim (λ one. inl ((front_has n).1 (inl (sym one)))) (λ none. number_none n none) (number_cases p n [] last))
+        (λ last. ⊎_elim (λ one. inl ((front_has n).1 (inl (sym one)))) (λ none. item_none n none) (item_cases p n [] last))
         (Contains-append_cases names (p ∷ []) n (subst (λ (l : List ℕ). Contains l n) push h)),
     λ h. subst (λ (l : List ℕ). Contains l n) (sym push) (⊎_elim
-        (λ front. ⊎_elim (λ one. Contains-append_right names (p ∷ []) n (subst (λ (m : ℕ). Contains (p ∷ []) m) (sym one) (number_first p []))) (λ before. Contains-append_left names (p ∷ []) n ((so_far n).1 (inl before))) ((front_has n).0 front))
+        (λ front. ⊎_elim (λ one. Contains-append_right names (p ∷ []) n (subst (λ (m : ℕ). Contains (p ∷ []) m) (sym one) (item_first p []))) (λ before. Contains-append_left names (p ∷ []) n ((so_far n).1 (inl before))) ((front_has n).0 front))
         (λ was. Contains-append_left names (p ∷ []) n ((so_far n).1 (inr was)))
         h),
   )

@@ -14,7 +14,7 @@ use Rattle.td_rollback.specs.ForProofs.Standing.{Begun, Stands, passed}
 use Rattle.td_rollback.specs.ForProofs.Ways.{Way}
 use Rattle.td_rollback.specs.declared.turns.ReplayedRecord.{ReplayedRecord}
 use Rattle.td_rollback.specs.declared.turns.ReplayedRecord.TheVariants.{Kept, Again, Fresh}
-use Rattle.td_rollback.proofs.Members.{has_cases, has_first, has_later, has_none, number_none}
+use Rattle.td_rollback.proofs.Members.{has_cases, has_first, has_later, has_none, item_none}
 use Rattle.td_rollback.proofs.More as more
 use Rattle.td_rollback.proofs.More.{not_fresh}
 use Rattle.td_rollback.proofs.Selecting as selecting
@@ -64,7 +64,7 @@ module _ {S R : Type 0} (w : Way S R) (b : Begun S R) where
     was_sound = sound;
     is_sound = sound;
     alike = λ n never. w.goes.alike_self b.state n;
-    named = λ n. (λ h. number_none n h, λ h. has_none h.0 h.1);
+    named = λ n. (λ h. item_none n h, λ h. has_none h.0 h.1);
     rest = history;
     done = nothing_ran;
     left = refl;

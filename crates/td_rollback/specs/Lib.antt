@@ -4,7 +4,7 @@ pub mod Counts
 pub mod Going
 pub mod Replays
 pub mod Turns
-pub mod Labels
+pub mod Commuting
 pub mod Parts
 pub mod Laws
 pub mod ForProofs

@@ -1,27 +1,9 @@
--- Histories in two parts. Some places are in the part, and each entry keeps to these, or to the others.
-use Rattle.std.specs.Prelude.{◌≡◌, ℕ, Bool, true, false, List, [], ◌∷◌}
+-- Histories in two parts. Some entries are marked, and each of these commutes with every unmarked one behind it.
+use Rattle.std.specs.Prelude.{Bool, true, false, List, [], ◌∷◌}
+use Rattle.std.specs.List.{Contains}
 use Rattle.td_stamps.specs.declared.entry.Entry.{Entry}
 use Rattle.td_stamps.specs.declared.entry.Stamp.{Stamp}
 use Rattle.td_stamps.specs.History.{History}
-
--- what is asked of the mixture of two states: it has the places of the part from the one, and all others from the
--- other one; and states that are alike at every place are one
-pub record Mixes {S : Type 0} (Sound : S → Type 0) (Alike : S → S → ℕ → Type 0) (part : ℕ → Bool) (mix : S → S → S) : Type 0 where
-  pub stay_sound : (s t : S) → Sound s → Sound t → Sound (mix s t)
-  pub inside : (s t : S) (n : ℕ) → Sound s → Sound t → part n ≡ true → Alike (mix s t) s n
-  pub outside : (s t : S) (n : ℕ) → Sound s → Sound t → part n ≡ false → Alike (mix s t) t n
-  pub one : (s t : S) → Sound s → Sound t → ((n : ℕ) → Alike s t n) → s ≡ t
-
--- the entry depends on places of the part alone, or on none of them
-abbrev pub KeepsTo : (Entry → ℕ → Type 0) → (ℕ → Bool) → Bool → Entry → Type 0
-KeepsTo Footprint part b e = (n : ℕ) → Footprint e n → part n ≡ b
-
--- a mark for each entry says which
-abbrev pub AreMarked : (Entry → ℕ → Type 0) → (ℕ → Bool) → List Bool → List Entry → Type 0
-AreMarked Footprint part [] [] = Unit {0}
-AreMarked Footprint part [] (e ∷ es) = ⊥
-AreMarked Footprint part (b ∷ bs) [] = ⊥
-AreMarked Footprint part (b ∷ bs) (e ∷ es) = KeepsTo Footprint part b e × AreMarked Footprint part bs es
 
 -- what is marked, and what is not
 abbrev pub marked : {X : Type 0} → List Bool → List X → List X
@@ -44,19 +26,26 @@ interleaved (true ∷ bs) (x ∷ xs) ys = x ∷ interleaved bs xs ys
 interleaved (false ∷ bs) xs [] = interleaved bs xs []
 interleaved (false ∷ bs) xs (y ∷ ys) = y ∷ interleaved bs xs ys
 
--- A history is the history of the marked entries on the part, whatever the other places have.
-abbrev pub MarkedAlone : {S R : Type 0} → (S → Type 0) → (S → Entry → R → S → Type 0) → (Entry → ℕ → Type 0) → (ℕ → Bool) → (S → S → S) → Type 0
-MarkedAlone {S = S} {R = R} Sound Step Footprint part mix =
-    (s t rest : S) (marks : List Bool) (es : List Entry) (log : List (Stamp × R)) → Sound s → Sound rest → AreMarked Footprint part marks es → History Step s es log t
-    → History Step (mix s rest) (marked marks es) (marked marks log) (mix t rest)
+-- the entry commutes with each of these
+abbrev pub CommutesWith : (Entry → Entry → Type 0) → Entry → List Entry → Type 0
+CommutesWith Commute e fs = (f : Entry) → Contains fs f → Commute e f
 
-abbrev pub UnmarkedAlone : {S R : Type 0} → (S → Type 0) → (S → Entry → R → S → Type 0) → (Entry → ℕ → Type 0) → (ℕ → Bool) → (S → S → S) → Type 0
-UnmarkedAlone {S = S} {R = R} Sound Step Footprint part mix =
-    (s t rest : S) (marks : List Bool) (es : List Entry) (log : List (Stamp × R)) → Sound s → Sound rest → AreMarked Footprint part marks es → History Step s es log t
-    → History Step (mix rest s) (unmarked marks es) (unmarked marks log) (mix rest t)
+-- there is a mark for each entry, and each marked one commutes with the unmarked ones behind it
+abbrev pub AreMarked : (Entry → Entry → Type 0) → List Bool → List Entry → Type 0
+AreMarked Commute [] [] = Unit {0}
+AreMarked Commute [] (e ∷ es) = ⊥
+AreMarked Commute (b ∷ bs) [] = ⊥
+AreMarked Commute (true ∷ bs) (e ∷ es) = CommutesWith Commute e (unmarked bs es) × AreMarked Commute bs es
+AreMarked Commute (false ∷ bs) (e ∷ es) = AreMarked Commute bs es
 
--- The history of the marked entries and that of the others are the history of all.
-abbrev pub InterleavedIsHistory : {S R : Type 0} → (S → Type 0) → (S → Entry → R → S → Type 0) → (Entry → ℕ → Type 0) → (ℕ → Bool) → (S → S → S) → Type 0
-InterleavedIsHistory {S = S} {R = R} Sound Step Footprint part mix =
-    (s t u v : S) (marks : List Bool) (es : List Entry) (log others : List (Stamp × R)) → Sound s → Sound t → AreMarked Footprint part marks es
-    → History Step s (marked marks es) log u → History Step t (unmarked marks es) others v → History Step (mix s t) es (interleaved marks log others) (mix u v)
+-- A history is that of the unmarked entries, and behind it that of the marked ones; each has the record that it had.
+abbrev pub MarkedComeLast : {S R : Type 0} → (S → Type 0) → (S → Entry → R → S → Type 0) → (Entry → Entry → Type 0) → Type 0
+MarkedComeLast {S = S} {R = R} Sound Step Commute =
+    (s u : S) (marks : List Bool) (es : List Entry) (log : List (Stamp × R)) → Sound s → AreMarked Commute marks es → History Step s es log u
+    → (t : S) × History Step s (unmarked marks es) (unmarked marks log) t × History Step t (marked marks es) (marked marks log) u
+
+-- The history of the unmarked entries, and behind it that of the marked ones, are the history of all.
+abbrev pub InterleavedIsHistory : {S R : Type 0} → (S → Type 0) → (S → Entry → R → S → Type 0) → (Entry → Entry → Type 0) → Type 0
+InterleavedIsHistory {S = S} {R = R} Sound Step Commute =
+    (s t u : S) (marks : List Bool) (es : List Entry) (log others : List (Stamp × R)) → Sound s → AreMarked Commute marks es
+    → History Step s (unmarked marks es) others t → History Step t (marked marks es) log u → History Step s es (interleaved marks log others) u

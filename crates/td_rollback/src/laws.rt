@@ -1,9 +1,8 @@
 //! The laws of replay.
 
 ghost use Rattle.td_rollback.specs.Laws.{RecordsName, ReplayIsHistory, RunsAreCounted, RunsAreFew, RunsAreOne, RunsAreThere, UnionIsMore};
-ghost use Rattle.std.specs.Prelude.{ℕ, Bool};
 ghost use Rattle.td_rollback.specs.Going.{SoundFrom};
-ghost use Rattle.td_rollback.specs.Parts.{MarkedAlone, Mixes, UnmarkedAlone, InterleavedIsHistory};
+ghost use Rattle.td_rollback.specs.Parts.{InterleavedIsHistory, MarkedComeLast};
 
 use crate::machine::Machine;
 
@@ -32,10 +31,9 @@ pub fn union_is_more()
     ensures { UnionIsMore }
 {}
 
-/// Entries that keep to a part of the places have a history of their own, whatever the others change, and so have the
-/// others; and the two are the history of all.
-pub fn parts_are_apart<M: Machine>()
-    ensures marked { (o : M) (part : ℕ → Bool) (mix : M → M → M) → Mixes (SoundFrom M.sound M.origin o) M.alike part mix → MarkedAlone (SoundFrom M.sound M.origin o) M.steps (M.footprint o) part mix }
-    ensures unmarked { (o : M) (part : ℕ → Bool) (mix : M → M → M) → Mixes (SoundFrom M.sound M.origin o) M.alike part mix → UnmarkedAlone (SoundFrom M.sound M.origin o) M.steps (M.footprint o) part mix }
-    ensures interleaved { (o : M) (part : ℕ → Bool) (mix : M → M → M) → Mixes (SoundFrom M.sound M.origin o) M.alike part mix → InterleavedIsHistory (SoundFrom M.sound M.origin o) M.steps (M.footprint o) part mix }
+/// A history in which each marked entry commutes with the unmarked ones behind it is the history of the unmarked ones
+/// and then that of the marked ones; and these two histories are that of all.
+pub fn commuting_entries_part<M: Machine>()
+    ensures last { (o : M) → MarkedComeLast (SoundFrom M.sound M.origin o) M.steps (M.commute o) }
+    ensures interleaved { (o : M) → InterleavedIsHistory (SoundFrom M.sound M.origin o) M.steps (M.commute o) }
 {}

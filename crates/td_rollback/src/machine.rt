@@ -1,11 +1,10 @@
 //! Machines that run entries, take them back, and make their changes again.
 
-ghost use Rattle.std.specs.Prelude.{◌≡◌, ◌≤◌, ◌+◌, ℕ, Bool, List, Option, IfOk, OnOk, OnErr};
+ghost use Rattle.std.specs.Prelude.{◌≡◌, ◌≤◌, ◌+◌, ℕ, false, true, List, IfOk, OnOk, OnErr};
 ghost use Rattle.std.specs.List.{Contains};
 ghost use Rattle.td_stamps.specs.declared.entry.Entry.{Entry as EntryData};
 ghost use Rattle.td_rollback.specs.Going.{GoByRecords, SoundFrom};
-ghost use Rattle.td_rollback.specs.Labels.{IsCoarser, has_label};
-ghost use Rattle.td_rollback.specs.Parts.{Mixes};
+ghost use Rattle.td_rollback.specs.Commuting.{Commutes};
 
 use std::alloc::{AllocError, Global};
 use td_stamps::Entry;
@@ -22,6 +21,9 @@ pub trait Machine {
 
     /// What is read of an entry before it is run.
     type Reading: Drop;
+
+    /// What some entries access, so that an entry which conflicts with one of them is found.
+    type Accesses: Drop;
 
     /// What counts runs.
     type Meter;
@@ -58,11 +60,11 @@ pub trait Machine {
     /// How many runs the meter has counted.
     ghost count: { Self.Meter → ℕ };
 
-    /// The state that has the places of a part from the first state, and all others from the second one.
-    ghost mix: { (ℕ → Bool) → Self → Self → Self };
+    /// The steps of the two entries commute, in a history of that origin.
+    ghost commute: { Self → EntryData → EntryData → Type 0 };
 
-    /// What is asked of states in histories of that origin ties no place of the part to one that is not in it.
-    ghost closed: { Self → (ℕ → Bool) → Type 0 };
+    /// What the entry accesses is among these, in a history of that origin.
+    ghost covers: { Self → Self.Accesses → EntryData → Type 0 };
 
     /// Runs the entry. Where memory is wanting nothing has changed, but the run may have been counted.
     fn run(
@@ -115,10 +117,34 @@ pub trait Machine {
     fn places_of(reading: &Self::Reading) -> &[usize]
         ensures { (o : Self) (e : EntryData) → is_read o e reading.now → (n : ℕ) → footprint o e n → Contains result.now n };
 
-    /// Ties the places that what is asked of states ties.
-    fn merge_components(&self, alloc: Global, labels: &mut Vec<usize>) -> Result<(), AllocError>
-        ensures closed { OnOk result ((label : Option ℕ) → closed (origin self.now) (has_label labels.new.items label)) }
-        ensures coarser { IsCoarser labels.old.items labels.new.items };
+    /// The accesses of no entry.
+    fn no_accesses(&self, alloc: Global) -> Result<Self::Accesses, AllocError>;
+
+    /// Adds what an entry accesses of which this was read.
+    fn add_accesses(
+        &self,
+        alloc: Global,
+        accesses: &mut Self::Accesses,
+        reading: &Self::Reading,
+    ) -> Result<(), AllocError>
+        requires { (e : EntryData) × is_read (origin self.now) e reading.now }
+        ensures covered { (e : EntryData) → is_read (origin self.now) e reading.now → OnOk result (covers (origin self.now) accesses.new e) }
+        ensures kept { OnOk result ((e : EntryData) → covers (origin self.now) accesses.old e → covers (origin self.now) accesses.new e) };
+
+    /// Whether an entry, whose run left this record, conflicts with one of those whose accesses these are: then its own
+    /// are added. An entry that does not conflict commutes with each of them. It may be told to conflict where it
+    /// commutes with all.
+    fn conflicts(
+        &self,
+        alloc: Global,
+        accesses: &mut Self::Accesses,
+        entry: &Entry,
+        ran: &Self::Record,
+    ) -> Result<bool, AllocError>
+        requires { (s : Self) × (t : Self) × sound s × (origin s ≡ origin self.now) × steps s entry.now ran.now t }
+        ensures commutes { IfOk result (λ b. b ≡ false → (e : EntryData) → covers (origin self.now) accesses.old e → commute (origin self.now) e entry.now) }
+        ensures covered { IfOk result (λ b. b ≡ true → covers (origin self.now) accesses.new entry.now) }
+        ensures kept { OnOk result ((e : EntryData) → covers (origin self.now) accesses.old e → covers (origin self.now) accesses.new e) };
 
     /// A copy of what these places have, and maybe of more.
     fn save(&self, alloc: Global, places: &[usize]) -> Result<Self::Part, AllocError>
@@ -138,8 +164,8 @@ pub trait Machine {
     fn targets_of(ran: &Self::Record) -> &[usize]
         ensures { result.now ≡ targets_in ran.now };
 
-    /// States are mixed place by place, and stay sound.
-    ghost mixes: { (o : Self) (part : ℕ → Bool) → closed o part → Mixes (SoundFrom sound origin o) alike part (mix part) };
+    /// Steps that commute may be exchanged, in each history.
+    ghost commutes: { (o : Self) → Commutes (SoundFrom sound origin o) steps (commute o) };
 
     /// Steps go by their records, in each history.
     ghost goes: { (o : Self) → GoByRecords (SoundFrom sound origin o) steps alike (footprint o) (targets o) footprint_in targets_in };

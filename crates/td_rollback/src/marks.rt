@@ -1,30 +1,35 @@
 //! Marks on entries: which of them a replay is about.
 
-ghost use Rattle.std.specs.Prelude.{◌≡◌, ◌≤◌, ◌+◌, ◌++◌, false, IfOk, IsTrue, drop, length, map, take, vec_capacity};
+ghost use Rattle.std.specs.Prelude.{◌≡◌, ◌≤◌, ◌+◌, ◌++◌, false, IfOk, IsTrue, drop, length, take, vec_capacity};
 ghost use Rattle.std.specs.List.{list_any};
-ghost use Rattle.td_rollback.specs.Labels.{has_label, starts_in};
+ghost use Rattle.td_rollback.specs.Going.{Begins};
 ghost use Rattle.td_rollback.specs.Parts.{marked, unmarked, interleaved};
 ghost use Rattle.td_rollback.specs.ForProofs.Marked as spec;
-ghost use Rattle.td_rollback.specs.ForProofs.Marked.{AreFlagged};
+ghost use Rattle.td_rollback.specs.ForProofs.Marked.{AreFlagged, MarkConflicts};
 ghost use Rattle.td_rollback.specs.Touched.{AreMore};
 
-use crate::labels::Part;
 use crate::machine::Machine;
 use crate::stamps::is_old;
 use std::alloc::{AllocError, Global};
 use td_stamps::{Entry, Stamp};
 
-/// A mark for each record: whether its run hangs on the part.
-pub(crate) fn marks_of<M: Machine>(
+/// A mark for each old entry: whether it conflicts with one of those whose accesses these are, or with a marked one
+/// before it. The accesses of what is marked are added.
+pub(crate) fn mark_conflicting<M: Machine>(
     alloc: Global,
-    part: &Part,
+    machine: &M,
+    old: &[Entry],
     log: &[(Stamp, M::Record)],
+    accesses: &mut M::Accesses,
 ) -> Result<Vec<bool>, AllocError>
-    ensures { IfOk result (λ v. v.items ≡ map (λ p. starts_in (has_label part.now.labels.items part.now.label) (M.footprint_in p.1)) log.now) }
+    requires history { (o : M) × Begins M.sound M.origin M.steps o old.now log.now machine.now }
+    requires each { length log.now ≡ length old.now }
+    ensures { IfOk result (λ v. MarkConflicts (M.commute (M.origin machine.now)) (M.covers (M.origin machine.now) accesses.old) v.items old.now) }
 {
-    let mut marks = Vec::with_capacity(alloc, log.len())?;
-    for record in log {
-        marks.push(part.has_first(M::footprint_of(&record.1)))?;
+    let mut marks = Vec::with_capacity(alloc, old.len())?;
+    for at in 0..old.len() {
+        let is_marked = machine.conflicts(alloc, accesses, &old[at], &log[at].1)?;
+        marks.push(is_marked)?;
     }
     Ok(marks)
 }

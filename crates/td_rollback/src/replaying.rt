@@ -1,9 +1,10 @@
 //! A history replayed with more entries.
 
-ghost use Rattle.std.specs.Prelude.{◌≡◌, ◌⊎◌, ◌≤◌, ◌+◌, ◌++◌, ◌∷◌, [], ℕ, List, IfOk, OnErr, OnOk, length, drop, take};
+ghost use Rattle.std.specs.Prelude.{◌≡◌, ◌⊎◌, ◌≤◌, ◌+◌, ◌++◌, ◌∷◌, [], ℕ, List, true, IfOk, OnErr, OnOk, length, drop, take};
 ghost use Rattle.std.specs.List.{Contains};
 ghost use Rattle.td_stamps.specs.declared.entry.Entry.{Entry as EntryData};
 ghost use Rattle.td_stamps.specs.declared.entry.Stamp.{Stamp as StampData};
+ghost use Rattle.td_stamps.specs.Sets.{has};
 ghost use Rattle.td_rollback.specs.Going.{AreAlikeBut, Begins};
 ghost use Rattle.td_rollback.specs.Parts.{marked, unmarked, interleaved};
 ghost use Rattle.td_rollback.specs.Touched.{AreMore, IsTargetOf, Runs};
@@ -11,11 +12,10 @@ ghost use Rattle.td_rollback.specs.Turns.{replayed_log, settled};
 ghost use Rattle.td_rollback.specs.ForProofs.Marked.{AreAmong, AreParted, with_flagged};
 ghost use Rattle.td_rollback.specs.ForProofs.Standing.{AreRead};
 
-use crate::labels::part_of;
 use crate::machine::Machine;
 use crate::marks::{
-    Marked, are_unmarked, insert_marked, interleave, mark_fresh, marked_entries, marks_of, split,
-    with_flagged,
+    Marked, are_unmarked, insert_marked, interleave, mark_conflicting, mark_fresh, marked_entries,
+    split, with_flagged,
 };
 use crate::names::add;
 use crate::replay::replay_end;
@@ -143,11 +143,12 @@ fn replay_part<M: Machine>(
 /// So many of the entries that are read are kept as they were read, until they run: some MB. The others are read again.
 const MOST_READINGS: usize = 4_096;
 
-/// What is fresh: what was read of the first entries, and the places that all depend on.
+/// What is fresh: what was read of the first entries, the places that all depend on, and what all access.
 #[derive(Drop)]
-struct Fresh<R> {
+struct Fresh<R, A> {
     readings: Vec<(Entry, R)>,
     places: Vec<usize>,
+    accesses: A,
 }
 
 // Keeps what was read of an entry, unless many are kept.
@@ -165,23 +166,30 @@ fn keep_reading<R: Drop>(
     Ok(())
 }
 
-// Reads the entries, of which each tells the places that it depends on.
+// Reads the entries, of which each tells the places that it depends on, and what it accesses.
 fn read_all<M: Machine>(
     alloc: Global,
     machine: &M,
     entries: &[Entry],
-) -> Result<Fresh<M::Reading>, AllocError>
+) -> Result<Fresh<M::Reading, M::Accesses>, AllocError>
     ensures places { IfOk result (λ f. (n : ℕ) → IsTargetOf (M.footprint (M.origin machine.now)) entries.now n → Contains f.places.items n) }
+    ensures covered { IfOk result (λ f. (e : EntryData) → has entries.now e ≡ true → M.covers (M.origin machine.now) f.accesses e) }
     ensures read { IfOk result (λ f. AreRead (M.is_read (M.origin machine.now)) f.readings.items) }
 {
     let mut readings = Vec::new(alloc);
     let mut places = Vec::new(alloc);
+    let mut accesses = machine.no_accesses(alloc)?;
     for entry in entries {
         let reading = machine.read(alloc, entry)?;
         add(&mut places, M::places_of(&reading))?;
+        machine.add_accesses(alloc, &mut accesses, &reading)?;
         keep_reading(&mut readings, entry.copy()?, reading)?;
     }
-    Ok(Fresh { readings, places })
+    Ok(Fresh {
+        readings,
+        places,
+        accesses,
+    })
 }
 
 // The marked old entries, and all that is marked with what is fresh. Where no old one is marked that is what is fresh.
@@ -213,27 +221,26 @@ fn mark_both(
     Ok((told, all))
 }
 
-// Marks the old entries and all that is to be told: those that keep to the part of the places of what is fresh. Answers
-// copies of those that are marked, and what is fresh.
+// Marks the old entries and all that is to be told: what is fresh, and each old entry that conflicts with it or with a
+// marked one before. Answers copies of those that are marked, and what is fresh.
 fn mark_all<M: Machine>(
     alloc: Global,
     machine: &M,
     old: &[Entry],
     log: &[(Stamp, M::Record)],
     new: &[Entry],
-) -> Result<(Marked, Marked, Fresh<M::Reading>), AllocError>
+) -> Result<(Marked, Marked, Fresh<M::Reading, M::Accesses>), AllocError>
     requires history { (o : M) × Begins M.sound M.origin M.steps o old.now log.now machine.now }
     requires more { AreMore old.now new.now }
-    ensures parted { IfOk result (λ p. AreParted (M.closed (M.origin machine.now)) (M.footprint (M.origin machine.now)) old.now new.now p.0.marks.items p.1.marks.items) }
+    ensures parted { IfOk result (λ p. AreParted (M.commute (M.origin machine.now)) old.now new.now p.0.marks.items p.1.marks.items) }
     ensures old { IfOk result (λ p. p.0.entries.items ≡ marked p.0.marks.items old.now) }
     ensures new { IfOk result (λ p. p.1.entries.items ≡ marked p.1.marks.items new.now) }
     ensures fresh { IfOk result (λ p. AreAmong (M.targets (M.origin machine.now)) p.0.entries.items p.1.entries.items p.2.places.items) }
     ensures read { IfOk result (λ p. AreRead (M.is_read (M.origin machine.now)) p.2.readings.items) }
 {
     let fresh = mark_fresh(alloc, old, new)?;
-    let read = read_all(alloc, machine, &fresh.entries)?;
-    let part = part_of(alloc, machine, &read.places, log)?;
-    let marks = marks_of::<M>(alloc, &part, log)?;
+    let mut read = read_all(alloc, machine, &fresh.entries)?;
+    let marks = mark_conflicting(alloc, machine, old, log, &mut read.accesses)?;
     let (told, all) = mark_both(alloc, old, new, marks, fresh)?;
     Ok((told, all, read))
 }
@@ -422,7 +429,12 @@ fn replay_differing_end<M: Machine>(
 {
     let (_, records) = log.split_at(kept);
     let (told, all, fresh) = mark_all(alloc, &*machine, old, records, new)?;
-    let Fresh { readings, places } = fresh;
+    let Fresh {
+        readings,
+        places,
+        accesses,
+    } = fresh;
+    drop(accesses);
     replay_marked(
         alloc, machine, log, kept, told, all, &places, &readings, meter,
     )
@@ -431,16 +443,16 @@ fn replay_differing_end<M: Machine>(
 /// Leads the machine to the end of the history of the new entries, from the end of that of the old ones, with a record
 /// of each in the log, whatever sound state of the machine's origin they began from.
 ///
-/// What the fresh entries depend on is a part of the places, with all that is tied to one of these: by what is asked of
-/// states, or by an old entry behind the first fresh one that depends on both. It takes back the old entries behind
-/// the first fresh one that keep to that part, from the end; makes the change of each again that is not touched, and
-/// runs all others. No other entry is taken back or made again: its record stays.
+/// Of the old entries behind the first fresh one it takes back, from the end, those that conflict with a fresh entry,
+/// or with one before them that it takes back. It makes the change of each of these again that is not touched, and runs
+/// the others and the fresh ones. An old entry that it leaves commutes with the fresh ones, and with each before it
+/// that is taken back: it is not made again either, and its record stays.
 ///
 /// Where memory is wanting all is as it was, and each run that was made is counted.
 ///
-/// Besides what the machine's calls cost it walks a few times along the entries behind the first fresh one, by their
-/// stamps and not by their texts, and moves their records; an entry that keeps to the part costs a look at each of its
-/// places among the places named, of which each is kept once.
+/// Each old entry behind the first fresh one is asked once whether it conflicts. Besides what the machine's calls cost
+/// it walks a few times along these entries, by their stamps and not by their texts, and moves their records; an entry
+/// that is taken back costs a look at each of its places among the places named, of which each is kept once.
 pub fn replay_with<M: Machine>(
     alloc: Global,
     machine: &mut M,

@@ -1,6 +1,7 @@
 -- What is asked of the steps of a database: that they go by their records.
 use Rattle.std.proofs.Common.{◌≡◌, ◌↔◌, ℕ, refl, ap, sym, subst, ◌∙◌}
 use Rattle.std.specs.List.{Contains}
+use Rattle.td_assign.specs.Inserting.{PutsIn}
 use Rattle.td_assign.specs.declared.ran.Ran.{Ran}
 use Rattle.td_assign.proofs.Footprint.{step_by_footprint}
 use Rattle.td_assign.proofs.Leading.{go_alike}
@@ -52,6 +53,7 @@ by_footprint o s t u e r good fine alike step =
         delta = taken.differences r.delta.items step.delta;
         targets = subst (λ (c : CatalogueData). AreThose (IsTargetOfText c e.dialect e.text) r.targets.items) both step.targets;
         footprint = subst (λ (c : CatalogueData). AreThose (IsInFootprint c e.dialect e.text) r.footprint.items) both step.footprint;
+        puts = λ yes. subst (λ (c : CatalogueData). PutsIn c e.dialect e.text r.delta.items) both (step.puts yes);
       },
     )
 

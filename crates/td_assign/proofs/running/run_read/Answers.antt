@@ -1,7 +1,9 @@
-use Rattle.std.proofs.Common.{ap, sym, subst}
+use Rattle.std.proofs.Common.{Global, IsTrue, Vec, ℕ, ap, sym, subst}
+use Rattle.td_relations.specs.Deltas.{DeltaData}
 use Rattle.td_semantics.proofs.Legal.{all_pass}
 use Rattle.td_semantics.specs.Databases.{DatabaseData, IsLegal, stored_relvars}
 use Rattle.td_semantics.specs.Given.{with_given}
+use Rattle.td_assign.specs.Inserting.{PutsIn}
 use Rattle.td_assign.specs.ForProofs.Lists.{given_to}
 use Rattle.td_assign.specs.ForProofs.Turning.{MayTurn}
 use Rattle.td_semantics.specs.Differences.{AreDifferences}
@@ -46,3 +48,18 @@ turn-requires-clause-turns c =
     let (dialect, text, reads) = c.requires.read in
     let told = rw c.in-InPlace.is at c.in_ok-prepared.ensures.prepared dialect text reads in
     subst (λ (z : DatabaseData). MayTurn z c.in-InPlace.relvar c.in-InPlace.delta) (sym c.count_reads.ensures) told.2.2.0
+
+pub returns-in_ok-outcome-in-InPlace-clause-puts : goal.returns-in_ok-outcome-in-InPlace-clause-puts
+returns-in_ok-outcome-in-InPlace-clause-puts c = λ dialect text reads yes.
+    let d = c.args.database.now in
+    let told = rw c.in-InPlace.is at c.in_ok-prepared.ensures.prepared dialect text reads in
+    let o = c.in_ok-outcome-in-InPlace.outcome in
+    let ds = c.in_ok-outcome-in-InPlace.delta.items in
+    let new = c.turn.new.database in
+    let turned = rw c.count_reads.ensures at c.in_ok-outcome-in-InPlace.ensures.turned in
+    let step = turned_step d dialect text told.0 told.1 c.in-InPlace.relvar c.in-InPlace.delta c.relvars_fit.ensures told.2 o ds new turned in
+    let differ = turned_differences d dialect text told.0 told.1 c.in-InPlace.relvar c.in-InPlace.delta c.relvars_fit.ensures told.2 o ds new turned in
+    let here = c.deref-in-InPlace.ensures.value in
+    subst (λ (v : Vec (ℕ × DeltaData) Global). PutsIn d.catalogue dialect text v.items) (sym c.ran-in-InPlace.ensures.delta)
+    (subst (PutsIn d.catalogue dialect text) here
+    (c.puts_in_all-all.ensures d new dialect text c.relvars_fit.ensures reads step (subst (AreDifferences (stored_relvars d.stored) (stored_relvars new.stored)) (sym here) differ) (subst IsTrue c.ran-in-InPlace.ensures.puts yes)))

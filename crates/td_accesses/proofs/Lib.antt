@@ -1,0 +1,4 @@
+-- The proofs of the crate.
+pub mod Growing
+pub mod Inserting
+pub mod Parting

@@ -1,0 +1,3 @@
+-- Words that only proofs and private functions use.
+pub mod Accessed
+pub mod Growing

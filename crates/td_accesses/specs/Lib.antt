@@ -1,0 +1,5 @@
+-- The definitions of the crate.
+pub mod Commuting
+pub mod Covering
+pub mod ForProofs
+pub mod Laws

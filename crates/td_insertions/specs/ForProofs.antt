@@ -1,0 +1,3 @@
+-- Words that only proofs and private functions use.
+pub mod Emptied
+pub mod Written
