@@ -51,7 +51,7 @@ const CASES: &[Case] = &[
 ];
 
 // The test that fails, if one does.
-fn failing(alloc: Global, failure: &Option<TestFailure>) -> Result<String> {
+fn failure_text(alloc: Global, failure: &Option<TestFailure>) -> Result<String> {
     let Some(failure) = failure else {
         return Ok(String::from_str(alloc, "no test fails")?);
     };
@@ -90,11 +90,11 @@ fn put_back_behind(
     let _ran = run(alloc, &mut *database, text, LATEST, meter)?;
     database.put_back(part);
     let failure = first_failure(alloc, &*database)?;
-    failing(alloc, &failure)
+    failure_text(alloc, &failure)
 }
 
 // The test that fails, if one does, of those that the statement makes, made once more behind it.
-fn judged_behind(
+fn judge_behind(
     alloc: Global,
     database: &mut Database,
     meter: &mut Meter,
@@ -105,22 +105,27 @@ fn judged_behind(
     database.relvars_fit();
     let ran = run(alloc, &mut *database, text, LATEST, meter)?;
     let failure = first_failure_after(alloc, &*database, &ran.delta)?;
-    failing(alloc, &failure)
+    failure_text(alloc, &failure)
 }
 
-fn done(alloc: Global, database: &mut Database, meter: &mut Meter, case: &Case) -> Result<String>
+fn run_case(
+    alloc: Global,
+    database: &mut Database,
+    meter: &mut Meter,
+    case: &Case,
+) -> Result<String>
     requires { IsLegal database.old }
 {
     match case.relvars {
-        [] => judged_behind(alloc, database, meter, case.text),
+        [] => judge_behind(alloc, database, meter, case.text),
         relvars => put_back_behind(alloc, database, meter, relvars, case.text),
     }
 }
 
 // What is told of the case over the database that the script opens.
-fn told_of(alloc: Global, meter: &mut Meter, case: &Case) -> Result<String> {
+fn text_of_case(alloc: Global, meter: &mut Meter, case: &Case) -> Result<String> {
     match Database::open_script(alloc, SCRIPT) {
-        Ok(mut database) => done(alloc, &mut database, meter, case),
+        Ok(mut database) => run_case(alloc, &mut database, meter, case),
         Err(_) => Ok(String::from_str(alloc, "not opened")?),
     }
 }
@@ -129,7 +134,7 @@ fn told_of(alloc: Global, meter: &mut Meter, case: &Case) -> Result<String> {
 fn the_first_failure_is_told(rt: HostRuntime) -> Result<()> {
     let mut meter = Meter::new(&rt);
     for case in CASES {
-        let told = told_of(rt.alloc(), &mut meter, case)?;
+        let told = text_of_case(rt.alloc(), &mut meter, case)?;
         assert!(rt; told.as_str() == case.told, "{}: {told}", case.text);
     }
     Ok(())

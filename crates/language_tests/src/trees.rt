@@ -10,7 +10,7 @@ use td_typed_trees::Typed;
 use td_values::show;
 
 // The text of the tree's value, or the name of the error.
-fn shown(alloc: Global, tree: &Typed) -> Result<String> {
+fn value_text(alloc: Global, tree: &Typed) -> Result<String> {
     let env = Environment {
         relvars: &[],
         virtuals: &[],
@@ -23,11 +23,11 @@ fn shown(alloc: Global, tree: &Typed) -> Result<String> {
 }
 
 // What the operator means between 7 and 2.
-fn meant(alloc: Global, operator: BinaryOperator) -> Result<String> {
+fn value_of_operator(alloc: Global, operator: BinaryOperator) -> Result<String> {
     let seven = Boxed::new(alloc, Typed::Integer(7))?;
     let two = Boxed::new(alloc, Typed::Integer(2))?;
     let tree = Typed::Binary(operator, seven, two);
-    shown(alloc, &tree)
+    value_text(alloc, &tree)
 }
 
 #[test]
@@ -36,7 +36,7 @@ fn trees_of_no_type_are_untyped(rt: HostRuntime) -> Result<()> {
         (BinaryOperator::Divide, "3"),
         (BinaryOperator::Join, "untyped"),
     ] {
-        let found = meant(rt.alloc(), operator)?;
+        let found = value_of_operator(rt.alloc(), operator)?;
         assert!(rt; found.as_str() == wanted, "{found}");
     }
     Ok(())

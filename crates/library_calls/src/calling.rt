@@ -17,7 +17,7 @@ mod shown;
 use anyhow::{Result, bail};
 use calls::{Call, call_named};
 use examples::{Example, example_named};
-use journals::{begin_journal, opened, reopen_from, start_of, take_all};
+use journals::{begin_journal, open_site, reopen_from, start_of, take_all};
 use scene::Scene;
 use shown::tell_journal;
 use td_replay::{PlainSite, Site};
@@ -59,8 +59,8 @@ fn run_over<R: Replica + Drop, O: Opens + Drop>(
 }
 
 fn run_opened<O: Opens + Drop>(rt: &HostRuntime, task: Task) -> Result<()> {
-    let first = opened::<O>(rt.alloc(), task.example.first)?;
-    let second = opened::<O>(rt.alloc(), task.example.second)?;
+    let first = open_site::<O>(rt.alloc(), task.example.first)?;
+    let second = open_site::<O>(rt.alloc(), task.example.second)?;
     run_over::<O, O>(rt, task, first, second)
 }
 
@@ -68,11 +68,11 @@ fn run_kept(rt: &HostRuntime, task: Task) -> Result<()> {
     let mut first_journal = Vec::with_capacity(rt.alloc(), MOST_WRITTEN)?;
     let mut second_journal = Vec::with_capacity(rt.alloc(), MOST_WRITTEN)?;
     let first = begin_journal(
-        opened::<Site>(rt.alloc(), task.example.first)?,
+        open_site::<Site>(rt.alloc(), task.example.first)?,
         &mut first_journal,
     )?;
     let second = begin_journal(
-        opened::<Site>(rt.alloc(), task.example.second)?,
+        open_site::<Site>(rt.alloc(), task.example.second)?,
         &mut second_journal,
     )?;
     run_over::<_, Site>(rt, task, first, second)?;

@@ -38,7 +38,7 @@ fn below(state: &mut u64, most: u64) -> u64
 }
 
 // A site that has issued so many statements.
-fn opened_one<O: Opens + Drop>(
+fn open_filled_site<O: Opens + Drop>(
     alloc: Global,
     site: u16,
     each: u32,
@@ -59,7 +59,7 @@ fn opened_one<O: Opens + Drop>(
 }
 
 // Sites with the numbers from 1 on, which have issued so many statements each.
-fn opened<O: Opens + Drop>(
+fn open_crowd<O: Opens + Drop>(
     alloc: Global,
     sites: u16,
     each: u32,
@@ -67,7 +67,7 @@ fn opened<O: Opens + Drop>(
 ) -> Result<Vec<O>> {
     let mut crowd = Vec::new(alloc);
     for site in 0..sites {
-        crowd.push(opened_one(alloc, site.saturating_add(1), each, meter)?)?;
+        crowd.push(open_filled_site(alloc, site.saturating_add(1), each, meter)?)?;
     }
     Ok(crowd)
 }
@@ -168,7 +168,7 @@ fn meet_until_all<R: Replica>(
 
 fn measure<O: Opens + Drop>(rt: &HostRuntime, sites: u16, each: u32, seed: u64) -> Result<()> {
     let mut meter = Meter::new(rt);
-    let mut crowd = opened::<O>(rt.alloc(), sites, each, &mut meter)?;
+    let mut crowd = open_crowd::<O>(rt.alloc(), sites, each, &mut meter)?;
     let all = u64::from(sites).saturating_mul(u64::from(each));
     let start = Instant::now(rt)?;
     let (meetings, bytes) = meet_until_all(rt.alloc(), &mut crowd, all, seed, &mut meter)?;

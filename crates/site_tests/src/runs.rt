@@ -37,7 +37,7 @@ const TWO: Options = Options {
 const FLUSHES: &[usize] = &[8, 8, 17, 26, 44, 151, 258, 299, 314, 314];
 
 // How the run of two sites that meet ends, read from this source and written to this writer.
-fn ended<O: Opens + Drop, S: Source>(
+fn run_meeting<O: Opens + Drop, S: Source>(
     rt: &HostRuntime,
     source: &mut S,
     writer: &mut Flushed,
@@ -54,11 +54,11 @@ fn ended<O: Opens + Drop, S: Source>(
 }
 
 // How the run ends where so many flushes are let through, with the flushes and bytes that came through.
-fn flushed(rt: &HostRuntime, most_flushes: usize) -> (Result<bool, Ended>, usize, usize) {
+fn run_with_flushes(rt: &HostRuntime, most_flushes: usize) -> (Result<bool, Ended>, usize, usize) {
     let mut writer = Flushed::new(rt.alloc(), 1_000);
     writer.most_flushes = most_flushes;
     let mut source = Device::new(TWO_SITES_MEET.as_bytes());
-    let end = ended::<Site, _>(rt, &mut source, &mut writer);
+    let end = run_meeting::<Site, _>(rt, &mut source, &mut writer);
     (end, writer.flushes, writer.taken.len())
 }
 
@@ -67,11 +67,11 @@ fn flushed(rt: &HostRuntime, most_flushes: usize) -> (Result<bool, Ended>, usize
 fn each_answer_is_flushed(rt: HostRuntime) {
     for (at, written) in FLUSHES.iter().enumerate() {
         assert!(rt;
-            flushed(&rt, at) == (Err(Ended::WriteFault), at, *written),
+            run_with_flushes(&rt, at) == (Err(Ended::WriteFault), at, *written),
             "{at}"
         );
     }
-    assert!(rt; flushed(&rt, 100) == (Ok(true), 10, 314));
+    assert!(rt; run_with_flushes(&rt, 100) == (Ok(true), 10, 314));
 }
 
 // The flushes of two sites that meet, by a reader whose buffer has so many bytes.
@@ -79,7 +79,7 @@ fn flushes_by(rt: &HostRuntime, capacity: usize) -> Result<usize, Fail> {
     let bytes = TWO_SITES_MEET.as_bytes();
     let mut source = Device::buffered(BufReader::with_capacity(rt.alloc(), capacity, bytes)?);
     let mut writer = Flushed::new(rt.alloc(), 1_000);
-    let _end = ended::<Site, _>(rt, &mut source, &mut writer).is_ok();
+    let _end = run_meeting::<Site, _>(rt, &mut source, &mut writer).is_ok();
     Ok(writer.flushes)
 }
 

@@ -13,7 +13,7 @@ use td_stamps::Entry;
 use td_values::Text;
 
 /// A site of the script that holds nothing.
-pub fn opened<O: Opens + Drop>(alloc: Global, number: u16) -> Result<O> {
+pub fn open_site<O: Opens + Drop>(alloc: Global, number: u16) -> Result<O> {
     match O::open_script(alloc, SCRIPT, number, 10_000) {
         Ok(site) => Ok(site),
         Err(_) => bail!("the site is not opened"),
@@ -73,7 +73,7 @@ pub fn start_of<R: Replica + Drop>(rt: &HostRuntime, site: R) -> Result<()> {
 }
 
 // Whether a site came back from the journal, which is told.
-fn reopened<O: Opens + Drop>(
+fn reopen<O: Opens + Drop>(
     rt: &HostRuntime,
     number: u16,
     journal: &[u8],
@@ -105,9 +105,9 @@ pub fn reopen_from<R: Replica + Drop, O: Opens + Drop>(
     tell_site(rt, &site)?;
     drop(begin_journal(site, &mut journal)?);
     println!(rt; "call")?;
-    if !reopened::<O>(rt, number, &journal, meter)? {
+    if !reopen::<O>(rt, number, &journal, meter)? {
         println!(rt; "again")?;
-        reopened::<O>(rt, number, &journal, meter)?;
+        reopen::<O>(rt, number, &journal, meter)?;
     }
     tell_journal(rt, number, &journal)
 }

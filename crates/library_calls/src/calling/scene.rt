@@ -57,7 +57,7 @@ fn given_by(alloc: Global, example: &Example) -> Result<Given> {
 
 // Tells what a call gave, where that is told: first by a line that takes no memory. The result is whether it was
 // answered.
-fn ended<T: Told + Drop, E: Display + Drop>(
+fn tell_answer<T: Told + Drop, E: Display + Drop>(
     rt: &HostRuntime,
     is_told: bool,
     answer: std::result::Result<T, E>,
@@ -86,12 +86,12 @@ fn call_one<R: Replica>(
 ) -> Result<bool> {
     let (alloc, is_told) = (rt.alloc(), given.is_told);
     match call {
-        Call::Issue => ended(rt, is_told, site.issue(alloc, given.statement, meter)),
-        Call::Take => ended(rt, is_told, site.take(alloc, &given.batch, meter)),
-        Call::Ask => ended(rt, is_told, site.ask(alloc, QUERY)),
-        Call::AskAt => ended(rt, is_told, site.ask_at(alloc, QUERY, given.past, meter)),
-        Call::ValueOf => ended(rt, is_told, site.value_of(alloc, &given.relvar)),
-        _ => ended(rt, is_told, site.outcomes(alloc)),
+        Call::Issue => tell_answer(rt, is_told, site.issue(alloc, given.statement, meter)),
+        Call::Take => tell_answer(rt, is_told, site.take(alloc, &given.batch, meter)),
+        Call::Ask => tell_answer(rt, is_told, site.ask(alloc, QUERY)),
+        Call::AskAt => tell_answer(rt, is_told, site.ask_at(alloc, QUERY, given.past, meter)),
+        Call::ValueOf => tell_answer(rt, is_told, site.value_of(alloc, &given.relvar)),
+        _ => tell_answer(rt, is_told, site.outcomes(alloc)),
     }
 }
 
@@ -127,11 +127,11 @@ impl<R: Replica + Drop> Scene<R> {
         });
         let (first, second) = (&mut self.first, &mut self.second);
         match call {
-            Call::Greet => ended(rt, is_told, greet(alloc, first, &mut link)),
-            Call::Answer => ended(rt, is_told, answer(alloc, second, &mut link)),
-            Call::Settle => ended(rt, is_told, settle(alloc, first, &mut link, meter)),
-            Call::Finish => ended(rt, is_told, finish(alloc, second, &mut link, meter)),
-            Call::Meet => ended(rt, is_told, meet(alloc, first, second, meter)),
+            Call::Greet => tell_answer(rt, is_told, greet(alloc, first, &mut link)),
+            Call::Answer => tell_answer(rt, is_told, answer(alloc, second, &mut link)),
+            Call::Settle => tell_answer(rt, is_told, settle(alloc, first, &mut link, meter)),
+            Call::Finish => tell_answer(rt, is_told, finish(alloc, second, &mut link, meter)),
+            Call::Meet => tell_answer(rt, is_told, meet(alloc, first, second, meter)),
             _ => call_one(rt, second, &self.given, call, meter),
         }
     }

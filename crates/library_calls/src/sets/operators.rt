@@ -104,7 +104,7 @@ fn number_of<E>(_term: &E, tuple: &Tuple) -> std::result::Result<Value, Fault> {
 }
 
 // The operators of two relations of one heading.
-fn of_sets(
+fn apply_to_sets(
     alloc: Global,
     operator: Operator,
     a: &Relation,
@@ -121,7 +121,11 @@ fn of_sets(
 }
 
 // What `Open` makes of the relation.
-fn opened(alloc: Global, r: &Relation, name: &Name) -> std::result::Result<Relation, AllocError> {
+fn open_relation(
+    alloc: Global,
+    r: &Relation,
+    name: &Name,
+) -> std::result::Result<Relation, AllocError> {
     if is_relation_valued(r.heading(), name) {
         return ungroup(alloc, r, name);
     }
@@ -135,7 +139,7 @@ fn opened(alloc: Global, r: &Relation, name: &Name) -> std::result::Result<Relat
 }
 
 // The operators that take no terms.
-fn of_relations(
+fn apply_to_relations(
     alloc: Global,
     operator: Operator,
     operands: &Operands,
@@ -150,8 +154,8 @@ fn of_relations(
         Operator::Matching => matching(alloc, a, b),
         Operator::NotMatching => not_matching(alloc, a, b),
         Operator::Compose => compose(alloc, a, b),
-        Operator::Open => opened(alloc, a, &terms.new),
-        _ => of_sets(alloc, operator, a, b),
+        Operator::Open => open_relation(alloc, a, &terms.new),
+        _ => apply_to_sets(alloc, operator, a, b),
     }
 }
 
@@ -175,12 +179,12 @@ pub fn count(alloc: Global, operator: Operator, operands: &Operands) -> Result<u
         Operator::Restrict => Ok(restrict(alloc, a, is_low)?.len()),
         Operator::Extend => Ok(extend(alloc, a, &terms.sums, &number_of)?.len()),
         Operator::Summarize => Ok(summarize(alloc, a, b, &terms.sums, &number_of)?.len()),
-        _ => Ok(of_relations(alloc, operator, operands)?.len()),
+        _ => Ok(apply_to_relations(alloc, operator, operands)?.len()),
     }
 }
 
 // The tuples of the relation, in no order.
-fn shuffled(alloc: Global, relation: &Relation) -> Result<Vec<Tuple>>
+fn shuffled_tuples(alloc: Global, relation: &Relation) -> Result<Vec<Tuple>>
     ensures { IfOk result (λ v. All (λ t. heading_of t ≡ header_fields relation.now.heading) v.items) }
 {
     let count = relation.len();
@@ -197,7 +201,7 @@ fn shuffled(alloc: Global, relation: &Relation) -> Result<Vec<Tuple>>
 
 /// Makes a relation of these tuples in no order, with its drop.
 pub fn make(rt: &HostRuntime, relation: &Relation) -> Result<(u128, usize)> {
-    let tuples = shuffled(rt.alloc(), relation)?;
+    let tuples = shuffled_tuples(rt.alloc(), relation)?;
     let heading = relation.heading().copy()?;
     let start = Instant::now(rt)?;
     let made = Relation::from_tuples(heading, tuples).len();

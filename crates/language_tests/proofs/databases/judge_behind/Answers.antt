@@ -6,7 +6,7 @@ use Rattle.td_semantics.specs.Differences.{LeadOver}
 use Rattle.td_semantics.specs.Tests.{AreLegal}
 use Rattle.td_semantics.proofs.Leading.{differences_lead}
 use Rattle.td_assign.proofs.Stepping.{step_keeps_database}
-use Rattle.language_tests.proofs.databases.judged_behind.Goals as goal
+use Rattle.language_tests.proofs.databases.judge_behind.Goals as goal
 
 pub first_failure_after-requires : goal.first_failure_after-requires
 first_failure_after-requires c =
