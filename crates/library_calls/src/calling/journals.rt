@@ -73,7 +73,7 @@ pub fn start_of<R: Replica + Drop>(rt: &HostRuntime, site: R) -> Result<()> {
 }
 
 // Whether a site came back from the journal, which is told.
-fn reopen<O: Opens + Drop>(
+fn reopen_site<O: Opens + Drop>(
     rt: &HostRuntime,
     number: u16,
     journal: &[u8],
@@ -105,9 +105,9 @@ pub fn reopen_from<R: Replica + Drop, O: Opens + Drop>(
     tell_site(rt, &site)?;
     drop(begin_journal(site, &mut journal)?);
     println!(rt; "call")?;
-    if !reopen::<O>(rt, number, &journal, meter)? {
+    if !reopen_site::<O>(rt, number, &journal, meter)? {
         println!(rt; "again")?;
-        reopen::<O>(rt, number, &journal, meter)?;
+        reopen_site::<O>(rt, number, &journal, meter)?;
     }
     tell_journal(rt, number, &journal)
 }
