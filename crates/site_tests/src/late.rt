@@ -17,6 +17,9 @@ VAR MOST BASE RELATION { N INTEGER } KEY { };
 CONSTRAINT C3 IS_EMPTY ( MOST WHERE N < COUNT ( LS ) );
 ";
 
+// The text of a late entry, and how many statements it makes a site run.
+type Counted = (&'static str, u64);
+
 // What the site holds before the late entry, whose clock is 2.
 const HELD: &[Written] = &[
     (
@@ -34,9 +37,8 @@ const HELD: &[Written] = &[
     (1, 3, 4, "MOST := RELATION { TUPLE { N 5 } };"),
 ];
 
-// The text of a late entry, and how many statements it makes a site run: itself, and those that it can touch. An INSERT
-// with another key touches none.
-const LATE: &[(&str, u64)] = &[
+// A site runs a late statement and those that it can touch. An INSERT with another key touches none.
+const LATE: &[Counted] = &[
     ("DELETE MOST;", 2),
     (
         "INSERT SP RELATION { TUPLE { SNO 'S1', PNO 'P2', QTY 100 } };",
@@ -50,15 +52,57 @@ const LATE: &[(&str, u64)] = &[
     ("INSERT Q X;", 1),
 ];
 
+// A relvar that refers to another one, and what a site holds: a tuple that is referred to, one that refers to it, and
+// one to which nothing refers yet.
+const REFERRING_SCRIPT: &str = "
+VAR S BASE RELATION { SNO CHAR, STATUS INTEGER } KEY { SNO };
+VAR SP BASE RELATION { SNO CHAR, PNO CHAR } KEY { SNO, PNO };
+CONSTRAINT C1 IS_EMPTY ( SP NOT MATCHING S );
+CONSTRAINT C2 IS_EMPTY ( S WHERE STATUS < 0 );
+";
+
+const REFERRING: &[Written] = &[
+    (
+        1,
+        1,
+        1,
+        "INSERT S RELATION { TUPLE { SNO 'S1', STATUS 20 } };",
+    ),
+    (
+        1,
+        2,
+        3,
+        "INSERT SP RELATION { TUPLE { SNO 'S1', PNO 'P1' } };",
+    ),
+    (
+        1,
+        3,
+        4,
+        "INSERT S RELATION { TUPLE { SNO 'S3', STATUS 30 } };",
+    ),
+];
+
+// An INSERT touches one into a relvar that refers to its own, or to which its own refers, where one tuple refers to the
+// other.
+const LATE_REFERENCES: &[Counted] = &[
+    ("INSERT S RELATION { TUPLE { SNO 'S2', STATUS 10 } };", 1),
+    ("INSERT S RELATION { TUPLE { SNO 'S1', STATUS 10 } };", 2),
+    ("INSERT SP RELATION { TUPLE { SNO 'S1', PNO 'P2' } };", 1),
+    ("INSERT SP RELATION { TUPLE { SNO 'S3', PNO 'P1' } };", 2),
+    ("DELETE S WHERE SNO = 'S2';", 3),
+];
+
 // How many statements a new site runs that takes these entries and then a late one; none where it refuses one.
 fn runs_of<O: Opens + Drop>(
     alloc: Global,
     meter: &mut Meter,
+    script: &str,
+    held: &[Written],
     late: &str,
 ) -> Result<u64, AllocError> {
-    let first = batch(alloc, HELD)?;
+    let first = batch(alloc, held)?;
     let second = batch(alloc, &[(2, 1, 2, late)])?;
-    let Ok(mut site) = O::open_script(alloc, SCRIPT, 3, 10_000) else {
+    let Ok(mut site) = O::open_script(alloc, script, 3, 10_000) else {
         return Ok(0);
     };
     let is_held = site.take(alloc, &first, meter).is_ok();
@@ -71,11 +115,16 @@ fn runs_of<O: Opens + Drop>(
 
 // The first late statement for which the counts are not as expected: its text, how many a site runs, and how many one
 // runs that runs all four anew. Nothing where all are.
-fn first_unlike(rt: &HostRuntime) -> Result<String, AllocError> {
+fn first_unlike(
+    rt: &HostRuntime,
+    script: &str,
+    held: &[Written],
+    late: &[Counted],
+) -> Result<String, AllocError> {
     let mut meter = Meter::new(rt);
-    for (text, wanted) in LATE {
-        let found = runs_of::<Site>(rt.alloc(), &mut meter, text)?;
-        let all = runs_of::<PlainSite>(rt.alloc(), &mut meter, text)?;
+    for (text, wanted) in late {
+        let found = runs_of::<Site>(rt.alloc(), &mut meter, script, held, text)?;
+        let all = runs_of::<PlainSite>(rt.alloc(), &mut meter, script, held, text)?;
         if found != *wanted || all != 4 {
             return format!(in rt.alloc(); "{text} {found} {all}");
         }
@@ -85,7 +134,14 @@ fn first_unlike(rt: &HostRuntime) -> Result<String, AllocError> {
 
 #[test]
 fn late_statements_run_what_they_touch(rt: HostRuntime) -> Result<(), Fail> {
-    let unlike = first_unlike(&rt)?;
+    let unlike = first_unlike(&rt, SCRIPT, HELD, LATE)?;
+    assert!(rt; unlike.is_empty(), "{unlike}");
+    Ok(())
+}
+
+#[test]
+fn late_insertions_run_what_refers_to_them(rt: HostRuntime) -> Result<(), Fail> {
+    let unlike = first_unlike(&rt, REFERRING_SCRIPT, REFERRING, LATE_REFERENCES)?;
     assert!(rt; unlike.is_empty(), "{unlike}");
     Ok(())
 }

@@ -1,9 +1,9 @@
 -- Lists of places, indexes and insertions that grow keep what they cover.
-use Rattle.std.proofs.Common.{◌≡◌, ◌+◌, ◌<◌, ◌++◌, ◌∷◌, [], inl, inr, ⊎_elim, ℕ, Bool, true, List, length, get_or, slice_set, take, IfOk, OnOk, Result, Ok, Err, Vec, Global, refl, ap, sym, ◌∙◌, subst, arith}
+use Rattle.std.proofs.Common.{◌≡◌, ◌+◌, ◌<◌, ◌≤◌, ◌++◌, ◌∷◌, [], inl, inr, ⊎_elim, ℕ, Bool, true, List, length, get_or, slice_set, take, IfOk, OnOk, Result, Ok, Err, Vec, Global, refl, ap, sym, ◌∙◌, subst, arith}
 use Rattle.std.specs.List.{All, Contains}
 use Rattle.std.proofs.lemmas.Bool.{cases_eq}
 use Rattle.std.proofs.lemmas.List.{get_or-set_other, get_or-set_same, get_or_default, length-set}
-use Rattle.std.proofs.lemmas.List.Elements.{All-contains, All-more, All-weaker, Contains-append_left, Contains-append_right, Contains-push}
+use Rattle.std.proofs.lemmas.List.Elements.{All-contains, All-more, All-weaker, Contains-append_left, Contains-append_right, Contains-push, Contains-push_cases}
 use Rattle.std.proofs.lemmas.List.Sorted.{Contains-permutation}
 use Rattle.td_values.specs.Data.{Attrs}
 use Rattle.td_values.specs.Rows.{RowsData}
@@ -19,7 +19,7 @@ use Rattle.td_insertions.specs.Insertions.{Inserts}
 use Rattle.td_accesses.specs.Commuting.{AllJudgeGrowth}
 use Rattle.td_accesses.specs.Covering.{AreKept, Covers, IsAmong, KeepsWithin}
 use Rattle.td_accesses.specs.ForProofs.Accessed.{AreAccessesGrown, AreInsertionsGrown, IsAddedTo, IsSuited, IsToldAmong, IsToldBy, IsToldIn}
-use Rattle.td_accesses.specs.ForProofs.Growing.{AreAllBy, AreIn, AreIndexesGrown, IsBy, IsIndexGrown, IsKeptFor}
+use Rattle.td_accesses.specs.ForProofs.Growing.{AreAllBy, AreIn, AreIndexesGrown, AreLinked, AreLinksGrown, IsBy, IsIndexGrown, IsKeptFor}
 use Rattle.td_accesses.specs.declared.accesses.Accesses.{Accesses}
 use Rattle.td_accesses.specs.declared.accesses.Insertions.{Insertions}
 
@@ -37,6 +37,17 @@ module _ {X : Type 0} (xs : List X) (i : ℕ) (x y : X) (lt : i < length xs) (at
       let many = length-set xs i y in
       let within = h.1 in
       (z, (h.0, omega (arith, within, many), get_or-set_other xs i h.0 y z apart ∙ h.2), itself z))
+      (cases_eq h.0 i)
+
+  pub set_from : (R : X → X → Type 0) → ((z : X) → R z z) → R x y → (z : X) → Contains (slice_set xs i y) z → (w : X) × Contains xs w × R w z
+  set_from R itself more z h = ⊎_elim
+      (λ here.
+      let same : y ≡ z = sym (get_or-set_same xs i y z lt) ∙ ap (λ j. get_or (slice_set xs i y) j z) (sym here) ∙ h.2 in
+      (x, (i, lt, sym at), subst (R x) same more))
+      (λ apart.
+      let many = length-set xs i y in
+      let within = h.1 in
+      (z, (h.0, omega (arith, within, many), sym (get_or-set_other xs i h.0 y z apart) ∙ h.2), itself z))
       (cases_eq h.0 i)
 
 -- ---- places
@@ -110,9 +121,51 @@ module _ (key : List (List ℕ)) (s : RowsData) (xs : List KeyIndexData) (x : Ke
   pub pushed_by : IsBy key s (xs ++ x ∷ [])
   pushed_by = record { index = x; there = Contains-push xs x; by = is.key; tuples = λ t h. in_contains x.tuples t (of_entry s x.tuples is.tuples t h) }
 
+-- ---- links
+pub links_themselves : (xs : List KeyIndexData) → AreLinksGrown xs xs
+links_themselves xs = record { from = λ y h. (y, h, index_itself y) }
+
+pub links_in_turn : (xs ys zs : List KeyIndexData) → AreLinksGrown xs ys → AreLinksGrown ys zs → AreLinksGrown xs zs
+links_in_turn xs ys zs one two = record {
+  from = λ z h.
+      let y = two.from z h in
+      let x = one.from y.0 y.1 in
+      (x.0, x.1, record { key = y.2.key ∙ x.2.key; tuples = λ t m. y.2.tuples t (x.2.tuples t m) });
+}
+
+pub set_links : (xs : List KeyIndexData) (i : ℕ) (x y : KeyIndexData) → i < length xs → x ≡ get_or xs i x → IsIndexGrown x y → AreLinksGrown xs (slice_set xs i y)
+set_links xs i x y lt at more = record { from = set_from xs i x y lt at IsIndexGrown index_itself more }
+
+-- one more
+pub linked_more : (key : List (List ℕ)) (s : RowsData) (xs : List KeyIndexData) (x : KeyIndexData) → IsKeyIndex key s x → AreLinked s xs → AreLinked s (xs ++ x ∷ [])
+linked_more key s xs x is linked = record {
+  all = λ y h t has. ⊎_elim
+      (λ old. linked.all y old t has)
+      (λ (new : x ≡ y). subst (λ (z : KeyIndexData). Contains z.tuples t) new (in_contains x.tuples t (of_entry s x.tuples is.tuples t has)))
+      (Contains-push_cases xs x y h);
+}
+
+-- the links so far have the tuples
+abbrev pub has_all : RowsData → KeyIndexData → Type 0
+has_all s x = (t : Attrs) → Has s t → Contains x.tuples t
+
+pub one_further : (s : RowsData) (xs : List KeyIndexData) (i : ℕ) (y : KeyIndexData) → i < length xs → ((j : ℕ) (d : KeyIndexData) → j < i → has_all s (get_or xs j d)) → has_all s y → (j : ℕ) (d : KeyIndexData) → j < i + 1 → has_all s (get_or (slice_set xs i y) j d)
+one_further s xs i y lt done here j d within = ⊎_elim
+    (λ (same : j ≡ i). subst (has_all s) (sym (ap (λ k. get_or (slice_set xs i y) k d) same ∙ get_or-set_same xs i y d lt)) here)
+    (λ apart. subst (has_all s) (sym (get_or-set_other xs i j y d apart)) (done j d (less j apart within)))
+    (cases_eq j i)
+  where
+    less : (j : ℕ) → (j ≡ i → ⊥) → j < i + 1 → j < i
+    less j apart within = omega (arith, apart, within)
+
+pub all_linked : (s : RowsData) (xs : List KeyIndexData) (i : ℕ) → length xs ≤ i → ((j : ℕ) (d : KeyIndexData) → j < i → has_all s (get_or xs j d)) → AreLinked s xs
+all_linked s xs i end done = record {
+  all = λ x h. let within = h.1 in subst (has_all s) h.2 (done h.0 x (omega (arith, within, end)));
+}
+
 -- ---- insertions
 insertions_itself : (g : Insertions) → IsAddedTo g g
-insertions_itself g = record { relvar = refl; reads = λ n h. h; writes = λ n h. h; indexes = indexes_themselves g.indexes.items }
+insertions_itself g = record { relvar = refl; reads = λ n h. h; writes = λ n h. h; indexes = indexes_themselves g.indexes.items; links = links_themselves g.links.items }
 
 pub set_insertions : (gs : List Insertions) (i : ℕ) (g h : Insertions) → i < length gs → g ≡ get_or gs i g → IsAddedTo g h → AreInsertionsGrown gs (slice_set gs i h)
 set_insertions gs i g h lt at more = record { of = set_stands gs i g h lt at IsAddedTo insertions_itself more }
@@ -143,6 +196,7 @@ module _ (c : CatalogueData) (reads writes : List ℕ) (n : ℕ) (s : RowsData) 
           key = suited.key;
           has_key = subst (λ m. Contains c.tests (test.Key m suited.key)) same suited.has_key;
           kept = is.told.kept;
+          linked = is.told.linked.all;
         },
       )
 
@@ -158,14 +212,15 @@ insertions_in_turn fs gs hs one two = record {
           reads = λ n m. h.2.reads n (g.2.reads n m);
           writes = λ n m. h.2.writes n (g.2.writes n m);
           indexes = indexes_in_turn f.indexes.items g.0.indexes.items h.0.indexes.items g.2.indexes h.2.indexes;
+          links = links_in_turn f.links.items g.0.links.items h.0.links.items g.2.links h.2.links;
         },
       );
 }
 
 -- the insertions first, and then all
-pub others_after : (x : Accesses) (gs : Vec Insertions Global) (unsuited : Vec ℕ Global) (y : Accesses) → AreInsertionsGrown x.insertions.items gs.items → AreAccessesGrown (record { reads = x.reads; writes = x.writes; insertions = gs; unsuited = unsuited }) y
+pub others_after : (x : Accesses) (gs : Vec Insertions Global) (y : Accesses) → AreInsertionsGrown x.insertions.items gs.items → AreAccessesGrown (record { reads = x.reads; writes = x.writes; insertions = gs }) y
     → AreAccessesGrown x y
-others_after x gs unsuited y one two = record { reads = two.reads; writes = two.writes; insertions = insertions_in_turn x.insertions.items gs.items y.insertions.items one two.insertions }
+others_after x gs y one two = record { reads = two.reads; writes = two.writes; insertions = insertions_in_turn x.insertions.items gs.items y.insertions.items one two.insertions }
 
 -- ---- what is covered stays so
 module _ (c : CatalogueData) (k : ℕ) (a : List ℕ) where
@@ -186,6 +241,9 @@ module _ (c : CatalogueData) (k : ℕ) (a : List ℕ) where
             let x = is.kept ks (subst (λ m. Contains c.tests (test.Key m ks)) more.relvar there) in
             let y = more.indexes.of x.0 x.1 in
             (y.0, y.1, y.2.key ∙ x.2, λ t m. y.2.tuples t (x.3 t m));
+        linked = λ x there t has.
+            let y = more.links.from x there in
+            y.2.tuples t (is.linked y.0 y.1 t has);
       }
 
   pub covered_stays : (x y : Accesses) → AreAccessesGrown x y → Covers c x k a → Covers c y k a

@@ -1,5 +1,5 @@
--- Two insertions into one relvar, exchanged.
-use Rattle.std.proofs.Common.{◌≡◌, ◌⊎◌, ⊎_elim, inl, inr, if◌then◌else◌, ℕ, zero, suc, Bool, true, false, List, [], ◌∷◌, Option, None, Some, slice_get, Result, Ok, Err, refl, ap, sym, ◌∙◌, subst, eq-eqb, ne_eqb, not, ◌&&◌, ◌||◌, arith}
+-- Two insertions into one relvar may be exchanged.
+use Rattle.std.proofs.Common.{◌≡◌, ◌⊎◌, ⊎_elim, inl, inr, if◌then◌else◌, ℕ, zero, suc, Bool, true, false, List, [], ◌∷◌, None, Some, slice_get, Ok, refl, ap, sym, ◌∙◌, subst, eq-eqb, ne_eqb, not, ◌&&◌, ◌||◌, arith}
 use Rattle.std.specs.FinSet as set
 use Rattle.std.specs.List.{Contains}
 use Rattle.std.specs.List.Sorted.{IsStrictlySortedBy}
@@ -17,7 +17,6 @@ use Rattle.td_relations.proofs.Predicates.{by_predicate, one_relation}
 use Rattle.td_algebra.specs.Functions.{union_of}
 use Rattle.td_algebra.specs.Keys.{TellApart}
 use Rattle.td_algebra.specs.Raising.{and_then}
-use Rattle.td_algebra.specs.declared.errors.Stop.{Stop}
 use Rattle.td_algebra.proofs.Bridges.{union_is}
 use Rattle.td_algebra.proofs.Lists.{all_in, in_all}
 use Rattle.td_algebra.proofs.Made.{has_in, in_has}
@@ -25,7 +24,6 @@ use Rattle.td_headings.specs.Catalogues.{CatalogueData}
 use Rattle.td_headings.specs.Reached.{is_base}
 use Rattle.td_headings.specs.declared.defined.Test.{Test}
 use Rattle.td_headings.specs.declared.defined.Test.TheVariants as test
-use Rattle.td_headings.specs.declared.statement.TypedStatement.{TypedStatement}
 use Rattle.td_type_soundness.specs.Meanings.{IsTupleOver}
 use Rattle.td_typed_trees.specs.declared.tree.Typed.{Typed}
 use Rattle.td_meaning.specs.Mean.{Relvars}
@@ -36,23 +34,12 @@ use Rattle.td_integrity.proofs.Apart.{keys_apart}
 use Rattle.td_semantics.specs.Databases.{DatabaseData, IsDatabase, IsLegal, Stored, at_place, stored_relvars}
 use Rattle.td_semantics.specs.Differences.{AreDifferences, Differs}
 use Rattle.td_semantics.specs.Given.{Given, gives, nothing_given, or_old, or_stored, with_given}
-use Rattle.td_semantics.specs.Steps.{IsRead, Steps, TellsTest, done, failing_with, given_by, raised, refused, unread, with_all}
 use Rattle.td_semantics.specs.Tests.{AreLegal, failing, is_key, judgement, or_behind}
-use Rattle.td_semantics.specs.Raises.{stop_of}
 use Rattle.td_semantics.specs.declared.outcome.Outcome.{Outcome}
-use Rattle.td_semantics.specs.declared.outcome.Outcome.TheVariants.{Done}
-use Rattle.td_semantics.proofs.Legal.{all_pass}
-use Rattle.td_accesses.specs.Commuting.{AllJudgeGrowth, Commute, DifferByKeys, InsertApart, JudgesGrowth}
-use Rattle.td_insertions.specs.Insertions.{Inserts}
+use Rattle.td_accesses.specs.Commuting.{AllJudgeGrowth, DifferByKeys, InsertApart, JudgesGrowth}
 use Rattle.td_insertions.proofs.Putting.{looked_up}
-use Rattle.td_insertions.proofs.Readings.{one_reading}
-use Rattle.td_accesses.specs.Laws.{Goes, InsertionsCommute}
-
-ok_same : {A : Type 0} (a b : A) → ◌≡◌ {A = Result A Stop} (Ok a) (Ok b) → a ≡ b
-ok_same a b h = cc
-
-ok_err : {A P : Type 0} (a : A) (e : Stop) → ◌≡◌ {A = Result A Stop} (Ok a) (Err e) → P
-ok_err a e h = cc
+use Rattle.td_accesses.specs.Laws.{Goes}
+use Rattle.td_accesses.proofs.Exchanging.{Exchange, LeadsTo, exchanged, fails, insertion_leads, ok_same}
 
 -- ---- unions
 module _ (r s : RowsData) where
@@ -121,7 +108,7 @@ overwritten g h (x ∷ xs) over = λ i. by (over zero) i ∷ overwritten (λ k. 
 given_it : (n : ℕ) (r : RowsData) → gives n r nothing_given n ≡ Some r
 given_it n r = ap (λ b. if b then Some r else None) (eq-eqb n n refl)
 
-given_not : (n : ℕ) (r : RowsData) (m : ℕ) → (m ≡ n → ⊥) → gives n r nothing_given m ≡ None
+pub given_not : (n : ℕ) (r : RowsData) (m : ℕ) → (m ≡ n → ⊥) → gives n r nothing_given m ≡ None
 given_not n r m apart = ap (λ b. if b then Some r else None) (ne_eqb n m (λ e. apart (sym e)))
 
 module _ (n : ℕ) (xs : Stored) (r : RowsData) (is : stored_relvars xs n ≡ Ok r) where
@@ -134,7 +121,53 @@ put_elsewhere n q xs m apart = left_alone (gives n q nothing_given) xs m (given_
 put_again : (n : ℕ) (p q : RowsData) (xs : Stored) → put n p (put n q xs) ≡ put n p xs
 put_again n p q xs = overwritten (gives n p nothing_given) (gives n q nothing_given) xs (λ m. ⊎_elim (λ (same : m ≡ n). inr (p, ap (gives n p nothing_given) same ∙ given_it n p)) (λ apart. inl (given_not n q m apart)) (cases_eq m n))
 
+-- ---- what a constraint says of more tuples
+module _ (c : CatalogueData) (n : ℕ) (s : RowsData) (base : is_base (slice_get c.origins n) ≡ true) (ys : Stored) (q : RowsData) (there : stored_relvars ys n ≡ Ok q) (same_heading : q.heading ≡ s.heading) (held : AreLegal c (stored_relvars ys)) where
+  abbrev pub grown : Stored
+  grown = put n (union_of q s) ys
+
+  grown_is : stored_relvars grown n ≡ Ok (union_of q s)
+  grown_is = put_there n ys q there (union_of q s)
+
+  beside : (u : Typed) → AgreeBeside c u n (stored_relvars ys) (stored_relvars grown)
+  beside u m apart read = sym (put_elsewhere n (union_of q s) ys m apart)
+
+  gains : Gains (stored_relvars ys) (stored_relvars grown) n s
+  gains = record {
+    before = q;
+    after = union_of q s;
+    was = there;
+    is = grown_is;
+    old_heading = sym (union_is q s).heading;
+    new_heading = sym same_heading ∙ sym (union_is q s).heading;
+    either = λ a h. (union_is q s).only a h;
+    new = λ a h. of_second q s a h;
+  }
+
+  grows : Grows (stored_relvars ys) (stored_relvars grown) n
+  grows = record {
+    before = q;
+    after = union_of q s;
+    was = there;
+    is = grown_is;
+    one_heading = sym (union_is q s).heading;
+    kept = λ a h. of_first q s a h;
+  }
+
+  pub over_new : (x : List ℕ) (u : Typed) → Contains c.tests (test.Constraint x u) → IsWatched c n u → judgement c (stored_relvars grown) (test.Constraint x u) ≡ judgement c (narrowed n s (stored_relvars grown)) (test.Constraint x u)
+  over_new x u in_tests watched = watched_by_inserts c (stored_relvars ys) (stored_relvars grown) n s x u base (beside u) gains watched (held (test.Constraint x u) in_tests)
+
+  pub stays_true : (x : List ℕ) (u : Typed) → Contains c.tests (test.Constraint x u) → IsSafe c n u → judgement c (stored_relvars grown) (test.Constraint x u) ≡ Ok true
+  stays_true x u in_tests safe = growth_keeps_safe c (stored_relvars ys) (stored_relvars grown) n x u base (beside u) grows safe (held (test.Constraint x u) in_tests)
+
 -- ---- what the tests say of an insertion
+first : {A : Type 0} (y : A) (ys : List A) → Contains (y ∷ ys) y
+first y ys = (0, omega arith, refl)
+
+pub fail_alike : (c : CatalogueData) (r s : Relvars) (ts : List Test) → ((u : Test) → Contains ts u → judgement c r u ≡ judgement c s u) → failing c r ts ≡ failing c s ts
+fail_alike c r s [] same = refl
+fail_alike c r s (u ∷ ts) same = λ i. or_behind u (same u (first u ts) i) (fail_alike c r s ts (λ v h. same v (Contains-append_right (u ∷ []) ts v h)) i)
+
 bools_same : (a b : Bool) → (a ≡ true → b ≡ true) → (b ≡ true → a ≡ true) → a ≡ b
 bools_same true b f g = sym (f refl)
 bools_same false true f g = g refl
@@ -200,44 +233,6 @@ module _ (c : CatalogueData) (n : ℕ) (r s t : RowsData) (xs : Stored) (is : st
       (λ h. at_one.1 (tells_one ks (at_both.0 h)))
 
   -- ---- constraints
-  module _ (ys : Stored) (q : RowsData) (there : stored_relvars ys n ≡ Ok q) (same_heading : q.heading ≡ s.heading) (held : AreLegal c (stored_relvars ys)) where
-    abbrev grown : Stored
-    grown = put n (union_of q s) ys
-
-    grown_is : stored_relvars grown n ≡ Ok (union_of q s)
-    grown_is = put_there n ys q there (union_of q s)
-
-    beside : (u : Typed) → AgreeBeside c u n (stored_relvars ys) (stored_relvars grown)
-    beside u m apart read = sym (put_elsewhere n (union_of q s) ys m apart)
-
-    gains : Gains (stored_relvars ys) (stored_relvars grown) n s
-    gains = record {
-      before = q;
-      after = union_of q s;
-      was = there;
-      is = grown_is;
-      old_heading = sym (union_is q s).heading;
-      new_heading = sym same_heading ∙ sym (union_is q s).heading;
-      either = λ a h. (union_is q s).only a h;
-      new = λ a h. of_second q s a h;
-    }
-
-    grows : Grows (stored_relvars ys) (stored_relvars grown) n
-    grows = record {
-      before = q;
-      after = union_of q s;
-      was = there;
-      is = grown_is;
-      one_heading = sym (union_is q s).heading;
-      kept = λ a h. of_first q s a h;
-    }
-
-    over_new : (x : List ℕ) (u : Typed) → Contains c.tests (test.Constraint x u) → IsWatched c n u → judgement c (stored_relvars grown) (test.Constraint x u) ≡ judgement c (narrowed n s (stored_relvars grown)) (test.Constraint x u)
-    over_new x u in_tests watched = watched_by_inserts c (stored_relvars ys) (stored_relvars grown) n s x u base (beside u) gains watched (held (test.Constraint x u) in_tests)
-
-    stays_true : (x : List ℕ) (u : Typed) → Contains c.tests (test.Constraint x u) → IsSafe c n u → judgement c (stored_relvars grown) (test.Constraint x u) ≡ Ok true
-    stays_true x u in_tests safe = growth_keeps_safe c (stored_relvars ys) (stored_relvars grown) n x u base (beside u) grows safe (held (test.Constraint x u) in_tests)
-
   heads_more : (union_of r t).heading ≡ s.heading
   heads_more = (union_is r t).heading ∙ heads
 
@@ -250,11 +245,11 @@ module _ (c : CatalogueData) (n : ℕ) (r s t : RowsData) (xs : Stored) (is : st
 
   same_constraint : (x : List ℕ) (u : Typed) → Contains c.tests (test.Constraint x u) → IsWatched c n u ⊎ IsSafe c n u → judgement c (stored_relvars one) (test.Constraint x u) ≡ judgement c (stored_relvars both) (test.Constraint x u)
   same_constraint x u there (inl watched) =
-      over_new xs r is heads legal x u there watched
+      over_new c n s base xs r is heads legal x u there watched
       ∙ judged_by_reads c (narrowed n s (stored_relvars one)) (narrowed n s (stored_relvars both)) x u (narrowed_same u)
-      ∙ sym (over_new more (union_of r t) more_is heads_more still x u there watched)
+      ∙ sym (over_new c n s base more (union_of r t) more_is heads_more still x u there watched)
   same_constraint x u there (inr safe) =
-      stays_true xs r is heads legal x u there safe ∙ sym (stays_true more (union_of r t) more_is heads_more still x u there safe)
+      stays_true c n s base xs r is heads legal x u there safe ∙ sym (stays_true c n s base more (union_of r t) more_is heads_more still x u there safe)
 
   same_judgement : (u : Test) → Contains c.tests u → JudgesGrowth c n u → judgement c (stored_relvars one) u ≡ judgement c (stored_relvars both) u
   same_judgement (test.Key m ks) there judges =
@@ -270,15 +265,8 @@ module _ (c : CatalogueData) (n : ℕ) (r s t : RowsData) (xs : Stored) (is : st
       (cases_eq m n)
   same_judgement (test.Constraint x u) there judges = same_constraint x u there judges
 
-  first : {A : Type 0} (y : A) (ys : List A) → Contains (y ∷ ys) y
-  first y ys = (0, omega arith, refl)
-
-  fail_alike : (ts : List Test) → ((u : Test) → Contains ts u → judgement c (stored_relvars one) u ≡ judgement c (stored_relvars both) u) → failing c (stored_relvars one) ts ≡ failing c (stored_relvars both) ts
-  fail_alike [] same = refl
-  fail_alike (u ∷ ts) same = λ i. or_behind u (same u (first u ts) i) (fail_alike ts (λ v h. same v (Contains-append_right (u ∷ []) ts v h)) i)
-
   pub same_failing : failing c (stored_relvars one) c.tests ≡ failing c (stored_relvars both) c.tests
-  same_failing = fail_alike c.tests (λ u there. same_judgement u there (judge u there))
+  same_failing = fail_alike c (stored_relvars one) (stored_relvars both) c.tests (λ u there. same_judgement u there (judge u there))
 
 -- ---- the differences that an insertion makes
 new_is : (b t s : Bool) → (s ≡ true → t ≡ true → ⊥) → (((b || t) || s) && not (b || t)) ≡ ((b || s) && not b)
@@ -350,6 +338,9 @@ changed_or_not n (p ∷ ds) = ⊎_elim
     by x (zero, lt, is) apart none = apart (ap (λ (q : ℕ × DeltaData). q.0) is)
     by x (suc i, lt, is) apart none = none (i, omega (arith, lt), is)
 
+pub none_beside : {P : Type 0} (n m : ℕ) (x : DeltaData) (q : RowsData) (ys : Stored) → (m ≡ n → ⊥) → Differs (stored_relvars ys) (stored_relvars (put n q ys)) m x → P
+none_beside n m x q ys off d = let o = d.change in absurd (d.apart (ok_same o.before o.after (sym o.was ∙ sym (put_elsewhere n q ys m off) ∙ o.is)))
+
 module _ (n : ℕ) (r s t : RowsData) (xs : Stored) (is : stored_relvars xs n ≡ Ok r) (apart : (a : Attrs) → Has s a → Has t a → ⊥)
     (fit : (a : Attrs) → Has r a → Fits r.heading a) (new_fit : (a : Attrs) → Has s a → Fits r.heading a) (other_fit : (a : Attrs) → Has t a → Fits r.heading a) where
   abbrev with_t : Stored
@@ -418,15 +409,12 @@ module _ (n : ℕ) (r s t : RowsData) (xs : Stored) (is : stored_relvars xs n �
       }
 
   -- ---- at the others nothing differs
-  none_beside : {P : Type 0} (m : ℕ) (x : DeltaData) (q : RowsData) (ys : Stored) → (m ≡ n → ⊥) → Differs (stored_relvars ys) (stored_relvars (put n q ys)) m x → P
-  none_beside m x q ys off d = let o = d.change in absurd (d.apart (ok_same o.before o.after (sym o.was ∙ sym (put_elsewhere n q ys m off) ∙ o.is)))
-
   pub differ_more : (ds : List (ℕ × DeltaData)) → AreDifferences (stored_relvars xs) (stored_relvars with_s) ds → AreDifferences (stored_relvars with_t) (stored_relvars with_both) ds
   differ_more ds l = record {
     once = l.once;
     only = λ p there. ⊎_elim
         (λ (same : p.0 ≡ n). subst (λ m. Differs (stored_relvars with_t) (stored_relvars with_both) m p.1) (sym same) (at_more p.1 (subst (λ m. Differs (stored_relvars xs) (stored_relvars with_s) m p.1) same (l.only p there))))
-        (λ off. none_beside p.0 p.1 (union_of r s) xs off (l.only p there))
+        (λ off. none_beside n p.0 p.1 (union_of r s) xs off (l.only p there))
         (cases_eq p.0 n);
     all = λ m never. ⊎_elim
         (λ (same : m ≡ n).
@@ -441,7 +429,7 @@ module _ (n : ℕ) (r s t : RowsData) (xs : Stored) (is : stored_relvars xs n �
     once = l.once;
     only = λ p there. ⊎_elim
         (λ (same : p.0 ≡ n). subst (λ m. Differs (stored_relvars xs) (stored_relvars with_s) m p.1) (sym same) (at_less up p.1 (subst (λ m. Differs (stored_relvars with_t) (stored_relvars with_both) m p.1) same (l.only p there))))
-        (λ off. none_beside p.0 p.1 (union_of (union_of r t) s) with_t off (l.only p there))
+        (λ off. none_beside n p.0 p.1 (union_of (union_of r t) s) with_t off (l.only p there))
         (cases_eq p.0 n);
     all = λ m never. ⊎_elim
         (λ (same : m ≡ n).
@@ -458,41 +446,8 @@ module _ (n : ℕ) (r s t : RowsData) (xs : Stored) (is : stored_relvars xs n �
       (λ never. subst (λ (q : RowsData). IsStrictlySortedBy attrs_order q.tuples) (ok_same (union_of r s) r (sym s_is ∙ l.all n never ∙ is)) (union_is r s).ascending)
       (changed_or_not n ds)
 
-none_differ : (x y : Relvars) (ds : List (ℕ × DeltaData)) → AreDifferences x x ds → AreDifferences y y ds
-none_differ x y ds l = record {
-  once = l.once;
-  only = λ p there. let o = (l.only p there).change in absurd ((l.only p there).apart (ok_same o.before o.after (sym o.was ∙ o.is)));
-  all = λ n never. refl;
-}
-
--- ---- the step of an insertion
-data Comes (d : DatabaseData) (g : Given) (o : Outcome) (e : DatabaseData) : Type 0 where
-  stays : failing_with d g ≡ None → Done ≡ o → with_all d g ≡ e → Comes d g o e
-  goes : (t : Test) (q : Option Stop) → failing_with d g ≡ Some (t, q) → TellsTest d.catalogue t q o → d ≡ e → Comes d g o e
-
-module _ (d : DatabaseData) (k : ℕ) (a : List ℕ) (n : ℕ) (s r : RowsData) (x : Inserts d.catalogue k a n s) (is : stored_relvars d.stored n ≡ Ok r) (heads : r.heading ≡ s.heading) where
-  abbrev given : Given
-  given = gives n (union_of r s) nothing_given
-
-  it_gives : (y : TypedStatement) → IsRead d.catalogue k a y → given_by d y ≡ Ok given
-  it_gives y p = one_reading d.catalogue (stored_relvars d.stored) k a y x.statement p x.reads ∙ x.is.adds (stored_relvars d.stored) r is heads
-
-  comes : (e : DatabaseData) (o : Outcome) → Steps d k a o e → Comes d given o e
-  comes e o (unread h) = absurd (h x.statement x.reads)
-  comes e o (raised {x = y} {e = f} p h) = ok_err given (stop_of f) (sym (it_gives y p) ∙ h)
-  comes e o (refused {x = y} {g = g} {t = t} {o = q} p h i j) = goes t q (ap (failing_with d) (ok_same given g (sym (it_gives y p) ∙ h)) ∙ i) j refl
-  comes e o (done {x = y} {g = g} p h i) =
-      let same = ok_same given g (sym (it_gives y p) ∙ h) in
-      stays (ap (failing_with d) same ∙ i) refl (ap (with_all d) same)
-
-  made : failing_with d given ≡ None → Steps d k a Done (with_all d given)
-  made f = done x.reads (it_gives x.statement x.reads) f
-
-  refuses : (o : Outcome) (t : Test) (q : Option Stop) → failing_with d given ≡ Some (t, q) → TellsTest d.catalogue t q o → Steps d k a o d
-  refuses o t q f told = refused x.reads (it_gives x.statement x.reads) f told
-
--- ---- two of them
-turned : (c : CatalogueData) (n : ℕ) (s t : RowsData) → DifferByKeys c n s t → DifferByKeys c n t s
+-- ---- two of them into one relvar
+pub turned : (c : CatalogueData) (n : ℕ) (s t : RowsData) → DifferByKeys c n s t → DifferByKeys c n t s
 turned c n s t x = record { key = x.key; has_key = x.has_key; differ = λ ks a b there p q e. x.differ ks b a there q p (sym e) }
 
 module _ (d : DatabaseData) (k l : ℕ) (a b : List ℕ) (is : IsDatabase d) (legal : IsLegal d) (x : InsertApart d.catalogue k a l b) where
@@ -544,16 +499,13 @@ module _ (d : DatabaseData) (k l : ℕ) (a b : List ℕ) (is : IsDatabase d) (le
   fits_t : (u : Attrs) → Has t u → Fits r.heading u
   fits_t = fits_of t x.second.is.rows other_heads
 
-  abbrev over : Stored → DatabaseData
-  over ys = record { catalogue = c; stored = ys }
-
-  abbrev grown_s : Stored
+  abbrev pub grown_s : Stored
   grown_s = put n (union_of r s) d.stored
 
-  abbrev grown_t : Stored
+  abbrev pub grown_t : Stored
   grown_t = put n (union_of r t) d.stored
 
-  abbrev s_then_t : Stored
+  abbrev pub s_then_t : Stored
   s_then_t = put n (union_of (union_of r s) t) grown_s
 
   abbrev t_then_s : Stored
@@ -565,20 +517,11 @@ module _ (d : DatabaseData) (k l : ℕ) (a b : List ℕ) (is : IsDatabase d) (le
       ∙ ap (λ q. put n q d.stored) (either_way r t s)
       ∙ sym (put_again n (union_of (union_of r s) t) (union_of r s) d.stored)
 
-  legal_by : (ys : Stored) → failing c (stored_relvars ys) c.tests ≡ None → AreLegal c (stored_relvars ys)
-  legal_by ys none = all_pass c (stored_relvars ys) c.tests none
-
   first_alike : AreLegal c (stored_relvars grown_t) → failing c (stored_relvars grown_s) c.tests ≡ failing c (stored_relvars t_then_s) c.tests
   first_alike still = same_failing c n r s t d.stored there x.first.is.base heads x.judge x.differ legal still
 
   second_alike : AreLegal c (stored_relvars grown_s) → failing c (stored_relvars grown_t) c.tests ≡ failing c (stored_relvars s_then_t) c.tests
   second_alike still = same_failing c n r t s d.stored there x.first.is.base other_heads x.judge (turned c n s t x.differ) legal still
-
-  grown_s_is : stored_relvars grown_s n ≡ Ok (union_of r s)
-  grown_s_is = put_there n d.stored r there (union_of r s)
-
-  grown_t_is : stored_relvars grown_t n ≡ Ok (union_of r t)
-  grown_t_is = put_there n d.stored r there (union_of r t)
 
   heads_s : (union_of r s).heading ≡ t.heading
   heads_s = (union_is r s).heading ∙ other_heads
@@ -586,94 +529,27 @@ module _ (d : DatabaseData) (k l : ℕ) (a b : List ℕ) (is : IsDatabase d) (le
   heads_t : (union_of r t).heading ≡ s.heading
   heads_t = (union_is r t).heading ∙ heads
 
-  abbrev Exchanged : Outcome → Outcome → List (ℕ × DeltaData) → List (ℕ × DeltaData) → DatabaseData → Type 0
-  Exchanged o p ds es f = (g : DatabaseData) × Goes d l b p es g × Goes g k a o ds f
+  grown_s_is : stored_relvars grown_s n ≡ Ok (union_of r s)
+  grown_s_is = put_there n d.stored r there (union_of r s)
 
-  abbrev Makes : Stored → Stored → List (ℕ × DeltaData) → Type 0
-  Makes ys zs ds = AreDifferences (stored_relvars ys) (stored_relvars zs) ds
+  grown_t_is : stored_relvars grown_t n ≡ Ok (union_of r t)
+  grown_t_is = put_there n d.stored r there (union_of r t)
 
-  -- where both are done
-  both_done : (ds es : List (ℕ × DeltaData)) → failing c (stored_relvars grown_s) c.tests ≡ None → failing c (stored_relvars s_then_t) c.tests ≡ None → Makes d.stored grown_s ds → Makes grown_s s_then_t es → Exchanged Done Done ds es (over s_then_t)
-  both_done ds es one two here behind =
-      let fails_t = second_alike (legal_by grown_s one) ∙ two in
-      let fails_s = sym (first_alike (legal_by grown_t fails_t)) ∙ one in
-      let up = had_ascended n r s t d.stored there common fits_r fits_s fits_t ds here in (
-        over grown_t,
-        record {
-          step = made d l b n t r x.second there other_heads fails_t;
-          differences = differ_less n r t s d.stored there (λ u p q. common u q p) fits_r fits_t fits_s up es behind;
-        },
-        record {
-          step = subst (λ ys. Steps (over grown_t) k a Done (over ys)) one_end (made (over grown_t) k a n s (union_of r t) x.first grown_t_is heads_t fails_s);
-          differences = subst (λ ys. Makes grown_t ys ds) one_end (differ_more n r s t d.stored there common fits_r fits_s fits_t ds here);
-        },
-      )
+  pub one_relvar : Exchange c k a l b d.stored grown_s grown_t s_then_t
+  one_relvar = record {
+    first = insertion_leads c d.stored k a n s r x.first there heads;
+    second = insertion_leads c grown_s l b n t (union_of r s) x.second grown_s_is heads_s;
+    other_first = insertion_leads c d.stored l b n t r x.second there other_heads;
+    other_second = subst (LeadsTo c grown_t k a) one_end (insertion_leads c grown_t k a n s (union_of r t) x.first grown_t_is heads_t);
+    first_alike = λ still. first_alike still ∙ ap (fails c) one_end;
+    second_alike = second_alike;
+    first_differs = λ ds here. subst (λ ys. AreDifferences (stored_relvars grown_t) (stored_relvars ys) ds) one_end (differ_more n r s t d.stored there common fits_r fits_s fits_t ds here);
+    second_differs = λ ds es here behind.
+        let up = had_ascended n r s t d.stored there common fits_r fits_s fits_t ds here in
+        differ_less n r t s d.stored there (λ u p q. common u q p) fits_r fits_t fits_s up es behind;
+  }
 
-  -- where the second is refused
-  first_done : (p : Outcome) (u : Test) (q : Option Stop) (ds es : List (ℕ × DeltaData)) → failing c (stored_relvars grown_s) c.tests ≡ None → failing c (stored_relvars s_then_t) c.tests ≡ Some (u, q) → TellsTest c u q p → Makes d.stored grown_s ds → Makes grown_s grown_s es → Exchanged Done p ds es (over grown_s)
-  first_done p u q ds es one two told here behind = (
-    d,
-    record {
-      step = refuses d l b n t r x.second there other_heads p u q (second_alike (legal_by grown_s one) ∙ two) told;
-      differences = none_differ (stored_relvars grown_s) (stored_relvars d.stored) es behind;
-    },
-    record { step = made d k a n s r x.first there heads one; differences = here },
-  )
-
-  -- where the first is refused
-  second_done : (o : Outcome) (u : Test) (q : Option Stop) (ds es : List (ℕ × DeltaData)) → failing c (stored_relvars grown_s) c.tests ≡ Some (u, q) → TellsTest c u q o → failing c (stored_relvars grown_t) c.tests ≡ None → Makes d.stored d.stored ds → Makes d.stored grown_t es → Exchanged o Done ds es (over grown_t)
-  second_done o u q ds es one told two here behind = (
-    over grown_t,
-    record { step = made d l b n t r x.second there other_heads two; differences = behind },
-    record {
-      step = refuses (over grown_t) k a n s (union_of r t) x.first grown_t_is heads_t o u q (sym (first_alike (legal_by grown_t two)) ∙ one) told;
-      differences = none_differ (stored_relvars d.stored) (stored_relvars grown_t) ds here;
-    },
-  )
-
-  after_first : (f : DatabaseData) (p : Outcome) (ds es : List (ℕ × DeltaData)) → failing c (stored_relvars grown_s) c.tests ≡ None → Makes d.stored grown_s ds → AreDifferences (stored_relvars grown_s) (stored_relvars f.stored) es → Comes (over grown_s) (gives n (union_of (union_of r s) t) nothing_given) p f → Exchanged Done p ds es f
-  after_first f p ds es one here behind (stays two done_is end) =
-      subst (λ (z : DatabaseData). Exchanged Done p ds es z) end
-      (subst (λ (z : Outcome). Exchanged Done z ds es (over s_then_t)) done_is
-      (both_done ds es one two here (subst (λ (z : DatabaseData). AreDifferences (stored_relvars grown_s) (stored_relvars z.stored) es) (sym end) behind)))
-  after_first f p ds es one here behind (goes u q two told end) =
-      subst (λ (z : DatabaseData). Exchanged Done p ds es z) end
-      (first_done p u q ds es one two told here (subst (λ (z : DatabaseData). AreDifferences (stored_relvars grown_s) (stored_relvars z.stored) es) (sym end) behind))
-
-  after_refusal : (f : DatabaseData) (o p : Outcome) (u : Test) (q : Option Stop) (ds es : List (ℕ × DeltaData)) → failing c (stored_relvars grown_s) c.tests ≡ Some (u, q) → TellsTest c u q o → Makes d.stored d.stored ds → Goes d l b p es f → Comes d (gives n (union_of r t) nothing_given) p f → Exchanged o p ds es f
-  after_refusal f o p u q ds es one told here went (stays two done_is end) =
-      subst (λ (z : DatabaseData). Exchanged o p ds es z) end
-      (subst (λ (z : Outcome). Exchanged o z ds es (over grown_t)) done_is
-      (second_done o u q ds es one told two here (subst (λ (z : DatabaseData). AreDifferences (stored_relvars d.stored) (stored_relvars z.stored) es) (sym end) went.differences)))
-  after_refusal f o p u q ds es one told here went (goes v w two other end) =
-      (f, went, subst (λ (z : DatabaseData). Goes z k a o ds z) end (record { step = refuses d k a n s r x.first there heads o u q one told; differences = here }))
-
-  pub exchanged : (e f : DatabaseData) (o p : Outcome) (ds es : List (ℕ × DeltaData)) → Goes d k a o ds e → Goes e l b p es f → Exchanged o p ds es f
-  exchanged e f o p ds es one two = by (comes d k a n s r x.first there heads e o one.step)
-    where
-      by : Comes d (gives n (union_of r s) nothing_given) o e → Exchanged o p ds es f
-      by (stays first done_is end) =
-          let went : Goes (over grown_s) l b p es f = subst (λ (z : DatabaseData). Goes z l b p es f) (sym end) two in
-          subst (λ (z : Outcome). Exchanged z p ds es f) done_is
-          (after_first f p ds es first (subst (λ (z : DatabaseData). AreDifferences (stored_relvars d.stored) (stored_relvars z.stored) ds) (sym end) one.differences) went.differences
-          (comes (over grown_s) l b n t (union_of r s) x.second grown_s_is heads_s f p went.step))
-      by (goes u q first told end) =
-          let went : Goes d l b p es f = subst (λ (z : DatabaseData). Goes z l b p es f) (sym end) two in
-          after_refusal f o p u q ds es first told (subst (λ (z : DatabaseData). AreDifferences (stored_relvars d.stored) (stored_relvars z.stored) ds) (sym end) one.differences) went
-          (comes d l b n t r x.second there other_heads f p went.step)
-
-pub insertions_commute : InsertionsCommute
-insertions_commute d e f k l a b o p ds es is legal x one two = exchanged d k l a b is legal x e f o p ds es one two
-
--- ---- commuting goes both ways
-pub commute_back : (c : CatalogueData) (k l : ℕ) (a b : List ℕ) → Commute c k a l b → Commute c l b k a
-commute_back c k l a b (inl x) = inl (record { first = x.second; second = x.first })
-commute_back c k l a b (inr x) = inr (record {
-  relvar = x.relvar;
-  one = x.other;
-  other = x.one;
-  first = x.second;
-  second = x.first;
-  judge = x.judge;
-  differ = turned c x.relvar x.one x.other x.differ;
-})
+pub apart_commute : (d : DatabaseData) (k l : ℕ) (a b : List ℕ) (e f : DatabaseData) (o p : Outcome) (ds es : List (ℕ × DeltaData)) → IsDatabase d → IsLegal d → InsertApart d.catalogue k a l b → Goes d k a o ds e → Goes e l b p es f
+    → (g : DatabaseData) × Goes d l b p es g × Goes g k a o ds f
+apart_commute d k l a b e f o p ds es is legal x one two =
+    exchanged d.catalogue k l a b d.stored (grown_s d k l a b is legal x) (grown_t d k l a b is legal x) (s_then_t d k l a b is legal x) (one_relvar d k l a b is legal x) e f o p ds es one two

@@ -32,6 +32,7 @@ pub record IsAmong (c : CatalogueData) (k : ℕ) (a : List ℕ) (g : Insertions)
   pub key : List (List ℕ)
   pub has_key : Contains c.tests (test.Key g.relvar key)
   pub kept : AreKept c g.relvar tuples g.indexes.items
+  pub linked : (x : KeyIndexData) → Contains g.links.items x → (t : Attrs) → Has tuples t → Contains x.tuples t
 
 -- what the text accesses is among the accesses
 abbrev pub Covers : CatalogueData → Accesses → ℕ → List ℕ → Type 0

@@ -6,11 +6,13 @@ ghost use Rattle.td_headings.specs.Catalogues.{CatalogueData};
 ghost use Rattle.td_insertions.specs.Insertions.{Inserts};
 ghost use Rattle.td_accesses.specs.Commuting.{Commute};
 ghost use Rattle.td_accesses.specs.Covering.{Covers, KeepsWithin};
-ghost use Rattle.td_accesses.specs.ForProofs.Accessed.{AreAccessesGrown, AreInsertionsGrown, DiffersFrom, IsClearOf, IsAddedTo, IsSuited, IsToldAmong, IsToldBy, IsToldIn};
+ghost use Rattle.td_accesses.specs.Dependencies.{AreDependencies};
+ghost use Rattle.td_accesses.specs.ForProofs.Accessed.{AreAccessesGrown, AreInsertionsGrown, DiffersFrom, IsAddedTo, IsBeside, IsClearOf, IsSuited, IsToldAmong, IsToldBy, IsToldIn};
 ghost use Rattle.td_accesses.specs.declared.accesses.Insertions as declared;
 
 use crate::by_keys::{all_differ, has_key, keep_by_keys};
-use crate::judging::judges_growth;
+use crate::dependencies::Dependencies;
+use crate::links::{links_to, put_in_all, refer_elsewhere};
 use crate::places::{add_places, clash};
 use std::alloc::{AllocError, Global};
 use td_algebra::KeyIndex;
@@ -18,13 +20,15 @@ use td_headings::Catalogue;
 use td_relations::Relation;
 
 /// Insertions into one relvar: the relvars on which they hang and that they assign, by their places, and the tuples
-/// that they insert, by each key of the relvar.
+/// that they insert, by each key of the relvar (`indexes`) and by the attributes of each reference from it or to it
+/// (`links`).
 #[derive(Drop)]
 pub struct Insertions {
     pub relvar: usize,
     pub reads: Vec<usize>,
     pub writes: Vec<usize>,
     pub indexes: Vec<KeyIndex>,
+    pub links: Vec<KeyIndex>,
 }
 
 /// What statements access: insertions by the tuples that they insert, and of all others the relvars on which they hang
@@ -34,8 +38,6 @@ pub struct Accesses {
     pub reads: Vec<usize>,
     pub writes: Vec<usize>,
     pub insertions: Vec<Insertions>,
-    /// Relvars whose tests do not judge growth alone: insertions into these count among all others.
-    pub unsuited: Vec<usize>,
 }
 
 // Where the insertions into the relvar stand.
@@ -51,17 +53,19 @@ fn place_of(all: &[Insertions], relvar: usize) -> Option<usize>
 }
 
 // Whether insertions into the relvar may be told by their tuples.
-fn suits(alloc: Global, catalogue: &Catalogue, relvar: usize) -> Result<bool, AllocError>
-    ensures { IfOk result (λ b. b ≡ true → IsSuited catalogue.now relvar) }
+fn suits(catalogue: &Catalogue, dependencies: &Dependencies, relvar: usize) -> bool
+    requires { AreDependencies catalogue.now dependencies.now.relvars.items }
+    ensures { result ≡ true → IsSuited catalogue.now relvar }
 {
-    if !has_key(catalogue.tests(), relvar) {
-        return Ok(false);
+    match dependencies.at(relvar) {
+        Some(own) => own.is_suited && has_key(catalogue.tests(), relvar),
+        None => false,
     }
-    judges_growth(alloc, catalogue, relvar)
 }
 
 // Adds an insertion to those into its relvar, or says that they have tuples of another heading. Which tests there were
-// when the others were added is not known, so an index is made by each key that has none.
+// when the others were added is not known, so an index is made by each key that has none. A link has the tuples of all
+// insertions or is not there.
 fn add_to(
     alloc: Global,
     catalogue: &Catalogue,
@@ -78,13 +82,16 @@ fn add_to(
     if !keep_by_keys(alloc, &mut insertions.indexes, tests, relvar, relation)? {
         return Ok(false);
     }
+    if !put_in_all(alloc, &mut insertions.links, relation)? {
+        return Ok(false);
+    }
     add_places(&mut insertions.reads, reads)?;
     add_places(&mut insertions.writes, writes)?;
     Ok(true)
 }
 
-// No insertions into the relvar.
-fn no_insertions(alloc: Global, relvar: usize) -> Insertions
+// No insertions into the relvar, with these links.
+fn no_insertions(alloc: Global, relvar: usize, links: Vec<KeyIndex>) -> Insertions
     ensures { result.relvar ≡ relvar }
 {
     Insertions {
@@ -92,6 +99,7 @@ fn no_insertions(alloc: Global, relvar: usize) -> Insertions
         reads: Vec::new(alloc),
         writes: Vec::new(alloc),
         indexes: Vec::new(alloc),
+        links,
     }
 }
 
@@ -99,6 +107,7 @@ fn no_insertions(alloc: Global, relvar: usize) -> Insertions
 fn add_into(
     alloc: Global,
     catalogue: &Catalogue,
+    dependencies: &Dependencies,
     all: &mut Vec<Insertions>,
     reads: &[usize],
     writes: &[usize],
@@ -111,7 +120,8 @@ fn add_into(
     match place_of(all, relvar) {
         Some(at) => add_to(alloc, catalogue, &mut all[at], reads, writes, relation),
         None => {
-            let mut insertions = no_insertions(alloc, relvar);
+            let links = links_to(alloc, &dependencies.relvars, relvar, relation)?;
+            let mut insertions = no_insertions(alloc, relvar, links);
             let told = add_to(alloc, catalogue, &mut insertions, reads, writes, relation)?;
             all.push(insertions)?;
             Ok(told)
@@ -119,29 +129,34 @@ fn add_into(
     }
 }
 
-// Adds an insertion by its tuples, or says that it counts among all others. Nothing ties the accesses to a catalogue,
-// so the tests are looked at each time. A relvar that they do not suit is looked at once.
+// Adds an insertion by its tuples, or says that it counts among all others.
 fn add_by_tuples(
     alloc: Global,
     catalogue: &Catalogue,
+    dependencies: &Dependencies,
     all: &mut Vec<Insertions>,
-    unsuited: &mut Vec<usize>,
     reads: &[usize],
     writes: &[usize],
     relvar: usize,
     relation: &Relation,
 ) -> Result<bool, AllocError>
+    requires { AreDependencies catalogue.now dependencies.now.relvars.items }
     ensures kept { OnOk result (AreInsertionsGrown all.old.items all.new.items) }
     ensures told { IfOk result (λ b. b ≡ true → IsToldAmong catalogue.now reads.now writes.now relvar relation.now all.new.items) }
 {
-    if unsuited.contains(&relvar) {
+    if !suits(catalogue, dependencies, relvar) {
         return Ok(false);
     }
-    if !suits(alloc, catalogue, relvar)? {
-        unsuited.push(relvar)?;
-        return Ok(false);
-    }
-    add_into(alloc, catalogue, all, reads, writes, relvar, relation)
+    add_into(
+        alloc,
+        catalogue,
+        dependencies,
+        all,
+        reads,
+        writes,
+        relvar,
+        relation,
+    )
 }
 
 // Whether a statement with these places assigns nothing on which the insertions hang, nor they what it hangs on.
@@ -163,39 +178,81 @@ fn all_are_clear(all: &[Insertions], reads: &[usize], writes: &[usize]) -> bool
     true
 }
 
-// Whether a statement that inserts these tuples into the relvar may be exchanged with the insertions.
+// Whether a statement that inserts these tuples into the relvar may be exchanged with the insertions, into another one:
+// no constraint but a reference reads both, and no tuple of the one refers to one of the other.
+fn is_beside(
+    alloc: Global,
+    dependencies: &Dependencies,
+    insertions: &Insertions,
+    relvar: usize,
+    relation: &Relation,
+) -> Result<bool, AllocError>
+    ensures { IfOk result (λ b. b ≡ true → IsBeside dependencies.now.relvars.items relvar relation.now insertions.now) }
+{
+    let other = insertions.relvar;
+    let (Some(own), Some(others)) = (dependencies.at(relvar), dependencies.at(other)) else {
+        return Ok(false);
+    };
+    if !own.is_suited || !others.is_suited {
+        return Ok(false);
+    }
+    if own.binds(other) || others.binds(relvar) {
+        return Ok(false);
+    }
+    let links = &insertions.links;
+    if !refer_elsewhere(alloc, &own.references, other, links, relation)? {
+        return Ok(false);
+    }
+    refer_elsewhere(alloc, &others.references, relvar, links, relation)
+}
+
+// Whether such a statement may be exchanged with the insertions.
 fn differs_from(
+    alloc: Global,
+    dependencies: &Dependencies,
     insertions: &Insertions,
     reads: &[usize],
     writes: &[usize],
     relvar: usize,
     relation: &Relation,
-) -> bool
-    ensures { result ≡ true → DiffersFrom reads.now writes.now relvar relation.now insertions.now }
+) -> Result<bool, AllocError>
+    ensures { IfOk result (λ b. b ≡ true → DiffersFrom dependencies.now.relvars.items reads.now writes.now relvar relation.now insertions.now) }
 {
     if insertions.relvar == relvar {
-        all_differ(&insertions.indexes, relation)
-    } else {
-        is_clear_of(insertions, reads, writes)
+        return Ok(all_differ(&insertions.indexes, relation));
     }
+    if is_clear_of(insertions, reads, writes) {
+        return Ok(true);
+    }
+    is_beside(alloc, dependencies, insertions, relvar, relation)
 }
 
 // Whether this is so of each of them.
 fn all_differ_from(
+    alloc: Global,
+    dependencies: &Dependencies,
     all: &[Insertions],
     reads: &[usize],
     writes: &[usize],
     relvar: usize,
     relation: &Relation,
-) -> bool
-    ensures { result ≡ true → All (DiffersFrom reads.now writes.now relvar relation.now) all.now }
+) -> Result<bool, AllocError>
+    ensures { IfOk result (λ b. b ≡ true → All (DiffersFrom dependencies.now.relvars.items reads.now writes.now relvar relation.now) all.now) }
 {
     for insertions in all {
-        if !differs_from(insertions, reads, writes, relvar, relation) {
-            return false;
+        if !differs_from(
+            alloc,
+            dependencies,
+            insertions,
+            reads,
+            writes,
+            relvar,
+            relation,
+        )? {
+            return Ok(false);
         }
     }
-    true
+    Ok(true)
 }
 
 impl Accesses {
@@ -205,7 +262,6 @@ impl Accesses {
             reads: Vec::new(alloc),
             writes: Vec::new(alloc),
             insertions: Vec::new(alloc),
-            unsuited: Vec::new(alloc),
         }
     }
 
@@ -224,19 +280,21 @@ impl Accesses {
         &mut self,
         alloc: Global,
         catalogue: &Catalogue,
+        dependencies: &Dependencies,
         reads: &[usize],
         writes: &[usize],
         relvar: usize,
         relation: &Relation,
     ) -> Result<(), AllocError>
+        requires { AreDependencies catalogue.now dependencies.now.relvars.items }
         ensures covered { OnOk result ((k : ℕ) (a : List ℕ) → KeepsWithin catalogue.now k a reads.now writes.now → Inserts catalogue.now k a relvar relation.now → Covers catalogue.now self.new k a) }
         ensures kept { OnOk result (AreAccessesGrown self.old self.new) }
     {
         if add_by_tuples(
             alloc,
             catalogue,
+            dependencies,
             &mut self.insertions,
-            &mut self.unsuited,
             reads,
             writes,
             relvar,
@@ -248,46 +306,71 @@ impl Accesses {
     }
 
     /// Adds what a statement accesses that hangs on relvars among the first places and assigns relvars among the
-    /// others; where tuples are told, it inserts these into the relvar. Then it costs the sizes of all constraints,
-    /// with those of the expressions of virtual relvars under them, and for each key of the relvar a copy of the tuples
-    /// and what `insert_all` of td_algebra does. Where memory is wanting, the accesses say nothing more.
+    /// others; where tuples are told, it inserts these into the relvar. Then it costs, for each key of the relvar and
+    /// each reference from it or to it, a copy of the tuples and what `insert_all` of td_algebra does. The dependencies
+    /// are those of the catalogue. Where memory is wanting, the accesses say nothing more.
     pub fn add(
         &mut self,
         alloc: Global,
         catalogue: &Catalogue,
+        dependencies: &Dependencies,
         reads: &[usize],
         writes: &[usize],
         relvar: usize,
         tuples: Option<&Relation>,
     ) -> Result<(), AllocError>
+        requires { AreDependencies catalogue.now dependencies.now.relvars.items }
         ensures covered { (k : ℕ) (a : List ℕ) → KeepsWithin catalogue.now k a reads.now writes.now → IfSome tuples.entry (λ s. Inserts catalogue.now k a relvar s.now) → OnOk result (Covers catalogue.now self.new k a) }
         ensures kept { OnOk result ((k : ℕ) (a : List ℕ) → Covers catalogue.now self.old k a → Covers catalogue.now self.new k a) }
     {
         match tuples {
             Some(relation) => {
-                self.add_insertion(alloc, catalogue, reads, writes, relvar, relation)
+                self.add_insertion(
+                    alloc,
+                    catalogue,
+                    dependencies,
+                    reads,
+                    writes,
+                    relvar,
+                    relation,
+                )
             }
             None => self.add_other(reads, writes),
         }
     }
 
     /// Whether such a statement may not be exchanged with one whose accesses these are. It costs a look at the places,
-    /// and a search in each index of the relvar for each of the tuples.
+    /// and for each of the tuples a search by each key of the relvar, and by each reference between it and another one
+    /// into which tuples are inserted. The answer holds of each catalogue whose dependencies these are.
     pub fn conflict(
         &self,
+        alloc: Global,
+        dependencies: &Dependencies,
         reads: &[usize],
         writes: &[usize],
         relvar: usize,
         tuples: Option<&Relation>,
-    ) -> bool
-        ensures { result ≡ false → (c : CatalogueData) (k l : ℕ) (a b : List ℕ) → Covers c self.now k a → KeepsWithin c l b reads.now writes.now → IfSome tuples.entry (λ s. Inserts c l b relvar s.now) → Commute c k a l b }
+    ) -> Result<bool, AllocError>
+        ensures { IfOk result (λ r. r ≡ false → (c : CatalogueData) → AreDependencies c dependencies.now.relvars.items → (k l : ℕ) (a b : List ℕ) → Covers c self.now k a → KeepsWithin c l b reads.now writes.now → IfSome tuples.entry (λ s. Inserts c l b relvar s.now) → Commute c k a l b) }
     {
         if clash(&self.reads, &self.writes, reads, writes) {
-            return true;
+            return Ok(true);
         }
         match tuples {
-            Some(relation) => !all_differ_from(&self.insertions, reads, writes, relvar, relation),
-            None => !all_are_clear(&self.insertions, reads, writes),
+            Some(relation) => {
+                let others = &self.insertions;
+                let differ = all_differ_from(
+                    alloc,
+                    dependencies,
+                    others,
+                    reads,
+                    writes,
+                    relvar,
+                    relation,
+                )?;
+                Ok(!differ)
+            }
+            None => Ok(!all_are_clear(&self.insertions, reads, writes)),
         }
     }
 }

@@ -15,8 +15,8 @@ use td_headings::Test;
 use td_relations::Relation;
 use td_values::{Name, Tuple, copy_tuples, equal_headings};
 
-// Where the index by this key stands, its names in this order.
-fn place_by(indexes: &[KeyIndex], key: &[Name]) -> Option<usize>
+/// Where the index by this key stands, its names in this order.
+pub(crate) fn place_by(indexes: &[KeyIndex], key: &[Name]) -> Option<usize>
     ensures { IfSome result (λ i. (i < length indexes.now) × ((d : KeyIndexData) → (get_or indexes.now i d).key ≡ key.now)) }
 {
     for at in 0..indexes.len() {
@@ -27,8 +27,12 @@ fn place_by(indexes: &[KeyIndex], key: &[Name]) -> Option<usize>
     None
 }
 
-// Puts the relation's tuples into the index, or says that they have another heading.
-fn put_in(alloc: Global, index: &mut KeyIndex, relation: &Relation) -> Result<bool, AllocError>
+/// Puts the relation's tuples into the index, or says that they have another heading.
+pub(crate) fn put_in(
+    alloc: Global,
+    index: &mut KeyIndex,
+    relation: &Relation,
+) -> Result<bool, AllocError>
     ensures kept { OnOk result (IsIndexGrown index.old index.new) }
     ensures there { IfOk result (λ b. b ≡ true → (t : Attrs) → Has relation.now t → Contains index.new.tuples t) }
 {

@@ -1,4 +1,4 @@
--- A reference of one base relvar to another one that gave up parts.
+-- A reference of one base relvar to another one that gave up parts, or gained tuples to which nothing refers.
 use Rattle.std.proofs.Common.{◌≡◌, ◌⊎◌, ⊎_elim, ◌&&◌, inl, inr, ℕ, Bool, true, false, if◌then◌else◌, List, [], ◌∷◌, Option, Some, None, Result, Ok, Err, refl, ap, sym, ◌∙◌, subst}
 use Rattle.std.specs.Prelude.{slice_get}
 use Rattle.std.specs.FinSet as set
@@ -38,11 +38,11 @@ use Rattle.td_type_soundness.proofs.Tables.{one_heading}
 use Rattle.td_semantics.specs.Meanings.{no_names, with_virtual, with_virtuals}
 use Rattle.td_semantics.specs.Tests.{judgement}
 use Rattle.td_semantics.specs.Trees.{all_relvars, places, selection_of}
-use Rattle.td_incremental.specs.Laws.{LostPartsAreJudged, has_none}
+use Rattle.td_incremental.specs.Laws.{LostPartsAreJudged, UnmatchedGainsKeepReferences, has_none}
 use Rattle.td_incremental.specs.References.{IsPartOf, SaysWithin, itself, at_names, matched, without, at_most, at_least}
 use Rattle.td_incremental.proofs.Constraints.{inside, is_nothing, none_in, same_truth, true_of, truth_then}
 use Rattle.td_incremental.proofs.KeptParts.{lessened}
-use Rattle.td_incremental.proofs.Narrowing.{as_it_was, before_it, else_now, judged_before, ok_same}
+use Rattle.td_incremental.proofs.Narrowing.{as_before, as_it_was, before_it, else_now, judged_before, judged_by_reads, ok_same}
 use Rattle.td_incremental.proofs.SharedParts.{AllFit, AllMeet, IsCut, first_true, matched_where_met, met_where_matched, met_where_within, none_lost, project_cut, second_true, still_met, whole_cut, within_where_met}
 use Rattle.td_incremental.proofs.Values.{part_of_rows, rows_back}
 use Rattle.td_incremental.proofs.Virtuals.{not_base, put_other}
@@ -76,15 +76,30 @@ IsProper x y u without a b = are_equal_headings a.heading b.heading ≡ true
 IsProper x y u at_most a b = are_equal_headings a.heading b.heading ≡ true
 IsProper x y u at_least a b = are_equal_headings a.heading b.heading ≡ true
 
-proper_and : (p t : Bool) → if_proper p t ≡ Ok true → (p ≡ true) × (t ≡ true)
-proper_and true t e = (refl, true_of t e)
-proper_and false t e = cc
+one_truth : (t w : Bool) → ◌≡◌ {A = Result Bool Stop} (Ok t) (Ok w) → t ≡ w
+one_truth t w e = cc
 
-proper : (x y u : Typed) (says : SaysWithin x y u) (a b : RowsData) → answer x y u says a b ≡ Ok true → IsProper x y u says a b
-proper x y u matched a b e = tt
-proper x y u without a b e = (proper_and (are_equal_headings a.heading b.heading) (is_nothing (minus_of a b).tuples) e).0
-proper x y u at_most a b e = (proper_and (are_equal_headings a.heading b.heading) (is_subset a b) e).0
-proper x y u at_least a b e = (proper_and (are_equal_headings a.heading b.heading) (is_subset a b) e).0
+proper_and : (p t w : Bool) → if_proper p t ≡ Ok w → (p ≡ true) × (t ≡ w)
+proper_and true t w e = (refl, one_truth t w e)
+proper_and false t w e = cc
+
+improper : (p t w : Bool) (f : Stop) → if_proper p t ≡ Err f → if_proper p w ≡ Err f
+improper true t w f e = cc
+improper false t w f e = e
+
+proper : (x y u : Typed) (says : SaysWithin x y u) (a b : RowsData) (t : Bool) → answer x y u says a b ≡ Ok t → IsProper x y u says a b
+proper x y u matched a b t e = tt
+proper x y u without a b t e = (proper_and (are_equal_headings a.heading b.heading) (is_nothing (minus_of a b).tuples) t e).0
+proper x y u at_most a b t e = (proper_and (are_equal_headings a.heading b.heading) (is_subset a b) t e).0
+proper x y u at_least a b t e = (proper_and (are_equal_headings a.heading b.heading) (is_subset a b) t e).0
+
+still_improper : (x y u : Typed) (says : SaysWithin x y u) (a b v : RowsData) (f : Stop) → b.heading ≡ v.heading → answer x y u says a b ≡ Err f → answer x y u says a v ≡ Err f
+still_improper x y u matched a b v f same e = cc
+still_improper x y u without a b v f same e =
+    ap (λ h. if_proper (are_equal_headings a.heading h) (is_nothing (minus_of a v).tuples)) (sym same)
+    ∙ improper (are_equal_headings a.heading b.heading) (is_nothing (minus_of a b).tuples) (is_nothing (minus_of a v).tuples) f e
+still_improper x y u at_most a b v f same e = ap (λ h. if_proper (are_equal_headings a.heading h) (is_subset a v)) (sym same) ∙ improper (are_equal_headings a.heading b.heading) (is_subset a b) (is_subset a v) f e
+still_improper x y u at_least a b v f same e = ap (λ h. if_proper (are_equal_headings a.heading h) (is_subset a v)) (sym same) ∙ improper (are_equal_headings a.heading b.heading) (is_subset a b) (is_subset a v) f e
 
 still_proper : (x y u : Typed) (says : SaysWithin x y u) (a b v : RowsData) → b.heading ≡ v.heading → IsProper x y u says a b → IsProper x y u says a v
 still_proper x y u matched a b v same h = tt
@@ -130,9 +145,9 @@ module _ (ps qs : List ℕ → Bool) (r s a b : RowsData) (one : IsCut ps r a) (
 
   met_by : (x y u : Typed) (says : SaysWithin x y u) → answer x y u says a b ≡ Ok true → AllMeet q r s
   met_by x y u matched e = by_matched (true_of (is_nothing (not_matching_of a b).tuples) e)
-  met_by x y u without e = let is = proper_and (are_equal_headings a.heading b.heading) (is_nothing (minus_of a b).tuples) e in by_within is.0 (by_minus a b (none_if (minus_of a b) is.1))
-  met_by x y u at_most e = let is = proper_and (are_equal_headings a.heading b.heading) (is_subset a b) e in by_within is.0 (by_subset a b is.1)
-  met_by x y u at_least e = let is = proper_and (are_equal_headings a.heading b.heading) (is_subset a b) e in by_within is.0 (by_subset a b is.1)
+  met_by x y u without e = let is = proper_and (are_equal_headings a.heading b.heading) (is_nothing (minus_of a b).tuples) true e in by_within is.0 (by_minus a b (none_if (minus_of a b) is.1))
+  met_by x y u at_most e = let is = proper_and (are_equal_headings a.heading b.heading) (is_subset a b) true e in by_within is.0 (by_subset a b is.1)
+  met_by x y u at_least e = let is = proper_and (are_equal_headings a.heading b.heading) (is_subset a b) true e in by_within is.0 (by_subset a b is.1)
 
   module _ (t : Bool) (there : AllMeet q r s → t ≡ true) (back : t ≡ true → AllMeet q r s) where
     by_subsets : are_equal_headings a.heading b.heading ≡ true → if_proper (are_equal_headings a.heading b.heading) (is_subset a b) ≡ Ok t
@@ -255,7 +270,13 @@ module _ (c : CatalogueData) (m n : ℕ) (one_base : is_base (slice_get c.origin
       (part_value (all_relvars c k) (selection_of c) (within no_attrs no_names) m g xs a of_one r (base_stays c (selection_of c) m one_base (places c.origins) k ∙ is))
       (part_value (all_relvars c k) (selection_of c) (within no_attrs no_names) n h ys b of_other s (base_stays c (selection_of c) n base (places c.origins) k ∙ there))
 
-  module _ (q : List (List ℕ)) (shared : (x : List ℕ) → is_in q x ≡ ((is_in (names_of g) x && is_in xs x) && (is_in (names_of h) x && is_in ys x)))
+  abbrev AreShared : List (List ℕ) → Header → Header → Type 0
+  AreShared q j k = (x : List ℕ) → is_in q x ≡ ((is_in (names_of j) x && is_in xs x) && (is_in (names_of k) x && is_in ys x))
+
+  shared_of : (q : List (List ℕ)) (j k : Header) → AreShared q g h → j ≡ g → k ≡ h → AreShared q j k
+  shared_of q j k shared is there x = shared x ∙ (λ i. (is_in (names_of (sym is i)) x && is_in xs x) && (is_in (names_of (sym there i)) x && is_in ys x))
+
+  module _ (q : List (List ℕ)) (shared : AreShared q g h)
       (r s w parts : RowsData) (of_g : r.heading ≡ g) (of_h : s.heading ≡ h) (still_h : w.heading ≡ h) (fit_one : AllFit r) (fit_before : AllFit s) (fit_now : AllFit w)
       (heading : parts.heading ≡ columns_in q s.heading) (only : (p : Attrs) → Has parts p → (t : Attrs) × Has s t × (p ≡ cut q t))
       (either : (t : Attrs) → Has s t → ((v : Attrs) × Has w v × (cut q v ≡ cut q t)) ⊎ Has parts (cut q t)) where
@@ -271,22 +292,64 @@ module _ (c : CatalogueData) (m n : ℕ) (one_base : is_base (slice_get c.origin
     other_has : (x : List ℕ) → is_in q x ≡ true → is_in (names_of s.heading) x ≡ true
     other_has x e = ap (λ k. is_in (names_of k) x) of_h ∙ first_true (is_in (names_of h) x) (is_in ys x) (second_true (is_in (names_of g) x && is_in xs x) (is_in (names_of h) x && is_in ys x) (sym (shared x) ∙ e))
 
-    shared_by : (v : RowsData) → v.heading ≡ h → (x : List ℕ) → is_in q x ≡ ((is_in (names_of r.heading) x && is_in xs x) && (is_in (names_of v.heading) x && is_in ys x))
-    shared_by v is x = shared x ∙ (λ i. (is_in (names_of (sym of_g i)) x && is_in xs x) && (is_in (names_of (sym is i)) x && is_in ys x))
-
     was_met : answer a b u says (one_rows r) (other_rows s) ≡ Ok true → AllMeet q r s
     was_met =
         met_by (is_in xs) (is_in ys) r s (one_rows r) (other_rows s) (part_cut m g xs a of_one r of_g fit_one) (part_cut n h ys b of_other s of_h fit_before)
-        q (shared_by s of_h) fit_one fit_before a b u says
+        q (shared_of q r.heading s.heading shared of_g of_h) fit_one fit_before a b u says
 
     now_told : answer a b u says (one_rows r) (other_rows s) ≡ Ok true → answer a b u says (one_rows r) (other_rows w) ≡ Ok (has_none lost)
     now_told e =
         told_by (is_in xs) (is_in ys) r w (one_rows r) (other_rows w) (part_cut m g xs a of_one r of_g fit_one) (part_cut n h ys b of_other w still_h fit_now)
-        q (shared_by w still_h) fit_one fit_now (has_none lost)
+        q (shared_of q r.heading w.heading shared of_g still_h) fit_one fit_now (has_none lost)
         (λ met. nothing_if lost (none_lost q r s w parts fit_one fit_before fit_now same one_has other_has heading only met))
         (λ none. still_met q r s w parts fit_one fit_before fit_now same one_has other_has heading only (was_met e) either (none_if lost none))
         a b u says
-        (still_proper a b u says (one_rows r) (other_rows s) (other_rows w) (part_heading n h ys b of_other s w same) (proper a b u says (one_rows r) (other_rows s) e))
+        (still_proper a b u says (one_rows r) (other_rows s) (other_rows w) (part_heading n h ys b of_other s w same) (proper a b u says (one_rows r) (other_rows s) true e))
+
+  -- ---- tuples to which nothing refers
+  module _ (q : List (List ℕ)) (shared : AreShared q g h) (r s w : RowsData) (of_g : r.heading ≡ g) (of_h : s.heading ≡ h) (still_h : w.heading ≡ h) (fit_one : AllFit r) (fit_before : AllFit s) (fit_now : AllFit w)
+      (kept : (t : Attrs) → Has s t → Has w t) (unmatched : (t v : Attrs) → Has r t → Has w v → cut q t ≡ cut q v → Has s v) where
+    meet_now : AllMeet q r s → AllMeet q r w
+    meet_now met t has = let v = met t has in (v.0, kept v.0 v.1, v.2)
+
+    met_then : AllMeet q r w → AllMeet q r s
+    met_then met t has = let v = met t has in (v.0, unmatched t v.0 has v.1 (sym v.2), v.2)
+
+    says_of : (v : RowsData) → v.heading ≡ h → AllFit v → (t : Bool) → (AllMeet q r v → t ≡ true) → (t ≡ true → AllMeet q r v) → IsProper a b u says (one_rows r) (other_rows v) → answer a b u says (one_rows r) (other_rows v) ≡ Ok t
+    says_of v is fit t there back =
+        told_by (is_in xs) (is_in ys) r v (one_rows r) (other_rows v) (part_cut m g xs a of_one r of_g fit_one) (part_cut n h ys b of_other v is fit)
+        q (shared_of q r.heading v.heading shared of_g is) fit_one fit t there back a b u says
+
+    met_where_true : answer a b u says (one_rows r) (other_rows s) ≡ Ok true → AllMeet q r s
+    met_where_true =
+        met_by (is_in xs) (is_in ys) r s (one_rows r) (other_rows s) (part_cut m g xs a of_one r of_g fit_one) (part_cut n h ys b of_other s of_h fit_before)
+        q (shared_of q r.heading s.heading shared of_g of_h) fit_one fit_before a b u says
+
+    one_heading_more : (other_rows s).heading ≡ (other_rows w).heading
+    one_heading_more = part_heading n h ys b of_other s w (of_h ∙ sym still_h)
+
+    same_answer : answer a b u says (one_rows r) (other_rows w) ≡ answer a b u says (one_rows r) (other_rows s)
+    same_answer = by (answer a b u says (one_rows r) (other_rows s)) refl
+      where
+        by : (z : Result Bool Stop) → answer a b u says (one_rows r) (other_rows s) ≡ z → answer a b u says (one_rows r) (other_rows w) ≡ answer a b u says (one_rows r) (other_rows s)
+        by (Ok t) e =
+            let is = proper a b u says (one_rows r) (other_rows s) t e in
+            says_of w still_h fit_now t
+            (λ met. one_truth t true (sym e ∙ says_of s of_h fit_before true (λ some. refl) (λ yes_. met_then met) is))
+            (λ true_. meet_now (met_where_true (e ∙ ap Ok true_)))
+            (still_proper a b u says (one_rows r) (other_rows s) (other_rows w) one_heading_more is)
+            ∙ sym e
+        by (Err f) e = still_improper a b u says (one_rows r) (other_rows s) (other_rows w) f one_heading_more e ∙ sym e
+
+pub unmatched_gains_keep_references : UnmatchedGainsKeepReferences
+unmatched_gains_keep_references c old now n m q r s w x u base beside ref one before after kept unmatched =
+    let was = before_it old now n in
+    judged c m n ref.base base ref.a ref.b u ref.says ref.one.value ref.other.value ref.one_names ref.other_names ref.of_one ref.of_other now x r w one.is after.is
+    ∙ same_answer c m n ref.base base ref.a ref.b u ref.says ref.one.value ref.other.value ref.one_names ref.other_names ref.of_one ref.of_other
+    q ref.shared r s w (one.heading ref.one ref.one_there) (before.heading ref.other ref.other_there) (after.heading ref.other ref.other_there)
+    one.fit before.fit after.fit kept unmatched
+    ∙ sym (judged c m n ref.base base ref.a ref.b u ref.says ref.one.value ref.other.value ref.one_names ref.other_names ref.of_one ref.of_other was x r s (sym (else_now old now n m ref.apart) ∙ one.is) (as_it_was old now n ∙ before.is))
+    ∙ sym (judged_by_reads c old was x u (as_before old now n c u beside))
 
 -- the tuples of a stored relvar fit its heading
 stored_fit : (c : CatalogueData) (h : Header) (r : RowsData) → IsRelationOver c.schema h r → AllFit r

@@ -134,7 +134,7 @@ module _ (old now : Relvars) (n : ℕ) where
   pub else_now : (m : ℕ) → (m ≡ n → ⊥) → now m ≡ before_it m
   else_now m apart = sym (ap (λ b. if b then old n else now m) (ne_eqb m n apart))
 
-  as_before : (c : CatalogueData) (u : Typed) → AgreeBeside c u n old now → AgreeOn c u old before_it
+  pub as_before : (c : CatalogueData) (u : Typed) → AgreeBeside c u n old now → AgreeOn c u old before_it
   as_before c u a m read =
       ⊎_elim
       (λ same. ap old same ∙ sym as_it_was ∙ ap before_it (sym same))

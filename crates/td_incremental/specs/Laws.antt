@@ -2,6 +2,7 @@
 use Rattle.std.specs.Prelude.{◌≡◌, ◌==◌, ℕ, Bool, true, List, Ok, length, slice_get}
 use Rattle.td_values.specs.Data.{Attrs}
 use Rattle.td_values.specs.Rows.{RowsData}
+use Rattle.td_tuples.specs.Parts.{cut}
 use Rattle.td_relations.specs.Sets.{Has}
 use Rattle.td_relations.specs.Deltas.{DeltaData}
 use Rattle.td_typed_trees.specs.declared.tree.Typed.{Typed}
@@ -14,7 +15,7 @@ use Rattle.td_semantics.specs.Differences.{ChangesBy}
 use Rattle.td_semantics.specs.Stored.{AreStored}
 use Rattle.td_semantics.specs.Tests.{judgement}
 use Rattle.td_incremental.specs.Growth.{AgreeBeside, AgreeOn, Gains, Grows, IsWatched, narrowed}
-use Rattle.td_incremental.specs.References.{AreHeaded, GivesUp, KeepsParts, Refers, RefersBy}
+use Rattle.td_incremental.specs.References.{AreHeaded, GivesUp, HasRows, KeepsParts, Refers, RefersBy}
 use Rattle.td_incremental.specs.Safety.{IsSafe}
 
 -- it has no tuple
@@ -58,6 +59,16 @@ LostPartsAreJudged =
     → is_base (slice_get c.origins n) ≡ true → AgreeBeside c u n old now → AreStored c now → GivesUp old now n names parts → RefersBy c n m names u
     → now m ≡ Ok r → now n ≡ Ok s
     → judgement c old (test.Constraint x u) ≡ Ok true → judgement c now (test.Constraint x u) ≡ Ok (has_none (matching_of (not_matching_of parts s) r))
+
+-- a reference of one base relvar is judged as it was, where the relvar to which it refers lost no tuple, and gained none
+-- to which one of r refers
+abbrev pub UnmatchedGainsKeepReferences : Type 0
+UnmatchedGainsKeepReferences =
+    (c : CatalogueData) (old now : Relvars) (n m : ℕ) (names : List (List ℕ)) (r s t : RowsData) (x : List ℕ) (u : Typed)
+    → is_base (slice_get c.origins n) ≡ true → AgreeBeside c u n old now → RefersBy c n m names u
+    → HasRows c now m r → HasRows c old n s → HasRows c now n t
+    → ((a : Attrs) → Has s a → Has t a) → ((a b : Attrs) → Has r a → Has t b → cut names a ≡ cut names b → Has s b)
+    → judgement c now (test.Constraint x u) ≡ judgement c old (test.Constraint x u)
 
 -- relvars that agree on what it reads give a constraint one judgement
 abbrev pub JudgedByReads : Type 0

@@ -8,7 +8,7 @@ use Rattle.td_syntax.specs.declared.tree.BinaryOperator.{BinaryOperator}
 use Rattle.td_syntax.specs.declared.tree.BinaryOperator.TheVariants as binary
 use Rattle.td_syntax.specs.declared.tree.Named.{Named}
 use Rattle.td_syntax.specs.declared.tree.UnaryOperator.TheVariants as unary
-use Rattle.td_tuples.specs.Parts.{columns_in, cut, is_in, names_of}
+use Rattle.td_tuples.specs.Parts.{Fits, columns_in, cut, is_in, names_of}
 use Rattle.td_relations.specs.Sets.{Has}
 use Rattle.td_typed_trees.specs.declared.tree.Typed.{Typed}
 use Rattle.td_typed_trees.specs.declared.tree.Typed.TheVariants as tree
@@ -88,6 +88,12 @@ pub record RefersBy (c : CatalogueData) (n m : ℕ) (names : List (List ℕ)) (u
   pub base : is_base (slice_get c.origins m) ≡ true
   pub apart : m ≡ n → ⊥
   pub shared : (x : List ℕ) → is_in names x ≡ ((is_in (names_of one.value) x && is_in one_names x) && (is_in (names_of other.value) x && is_in other_names x))
+
+-- the relvar at n has r, of its heading
+pub record HasRows (c : CatalogueData) (relvars : Relvars) (n : ℕ) (r : RowsData) : Type 0 where
+  pub is : relvars n ≡ Ok r
+  pub fit : (t : Attrs) → Has r t → Fits r.heading t
+  pub heading : (v : Named Header) → slice_get c.schema.relvars n ≡ Some v → r.heading ≡ v.value
 
 -- from old to now each tuple that the relvar at n had has one there with its part at these names, or that part is one
 -- of these, which are all of tuples that it had

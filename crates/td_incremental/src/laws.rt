@@ -1,6 +1,6 @@
 //! The laws of gains.
 ghost use Rattle.td_incremental.specs.Laws.{DifferencesAreGains, GrowthKeepsSafe, JudgedByReads, LossesKeepWatched};
-ghost use Rattle.td_incremental.specs.Laws.{KeptPartsKeepReferences, LostPartsAreJudged, NarrowedIsStored, WatchedByInserts};
+ghost use Rattle.td_incremental.specs.Laws.{KeptPartsKeepReferences, LostPartsAreJudged, NarrowedIsStored, UnmatchedGainsKeepReferences, WatchedByInserts};
 
 /// A watched constraint that was true before a base relvar gained tuples is now what it is over these alone.
 pub fn watched_by_inserts()
@@ -25,6 +25,11 @@ pub fn kept_parts_keep_references()
 /// A reference of one base relvar that was true is whether none of its tuples has a part that was lost.
 pub fn lost_parts_are_judged()
     ensures { LostPartsAreJudged }
+{}
+
+/// A reference of one base relvar is judged as it was where the relvar that it refers to gained what nothing refers to.
+pub fn unmatched_gains_keep_references()
+    ensures { UnmatchedGainsKeepReferences }
 {}
 
 /// Relvars that agree on what it reads give a constraint one judgement.

@@ -10,3 +10,4 @@ pub mod Anew
 pub mod Copies
 pub mod Earlier
 pub mod Changing
+pub mod Depending

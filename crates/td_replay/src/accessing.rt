@@ -1,8 +1,9 @@
 //! What the statements of a site access.
 
-ghost use Rattle.std.specs.Prelude.{◌≡◌, false, ℕ, List, IfSome, OnOk};
+ghost use Rattle.std.specs.Prelude.{◌≡◌, false, ℕ, List, IfOk, IfSome, OnOk};
 ghost use Rattle.td_accesses.specs.Commuting.{Commute};
 ghost use Rattle.td_accesses.specs.Covering.{Covers};
+ghost use Rattle.td_accesses.specs.Dependencies.{AreDependencies};
 ghost use Rattle.td_assign.specs.Readings.{IsReadText};
 ghost use Rattle.td_headings.specs.Catalogues.{CatalogueData};
 ghost use Rattle.td_headings.specs.Reached.{AreThose};
@@ -11,7 +12,7 @@ ghost use Rattle.td_semantics.specs.Footprints.{IsInFootprint};
 ghost use Rattle.td_semantics.specs.Steps.{IsRead};
 
 use std::alloc::{AllocError, Global};
-use td_accesses::Accesses;
+use td_accesses::{Accesses, Dependencies};
 use td_assign::{Ran, ReadText};
 use td_headings::{TypedStatement, targets};
 use td_insertions::inserted_tuples;
@@ -32,14 +33,20 @@ fn insertion_in(ran: &Ran) -> Option<(usize, &Relation)>
 }
 
 /// Whether a statement, of which this is kept, may not be exchanged with one whose accesses these are.
-pub(crate) fn conflicts(accesses: &Accesses, ran: &Ran) -> bool
-    ensures { result ≡ false → (c : CatalogueData) (k l : ℕ) (a b : List ℕ) → Covers c accesses.now k a → IsRecordOf c l b ran.now → Commute c k a l b }
+pub(crate) fn conflicts(
+    alloc: Global,
+    dependencies: &Dependencies,
+    accesses: &Accesses,
+    ran: &Ran,
+) -> Result<bool, AllocError>
+    ensures { IfOk result (λ r. r ≡ false → (c : CatalogueData) → AreDependencies c dependencies.now.relvars.items → (k l : ℕ) (a b : List ℕ) → Covers c accesses.now k a → IsRecordOf c l b ran.now → Commute c k a l b) }
 {
+    let (reads, writes) = (&ran.footprint, &ran.targets);
     match insertion_in(ran) {
         Some((relvar, tuples)) => {
-            accesses.conflict(&ran.footprint, &ran.targets, relvar, Some(tuples))
+            accesses.conflict(alloc, dependencies, reads, writes, relvar, Some(tuples))
         }
-        None => accesses.conflict(&ran.footprint, &ran.targets, 0, None),
+        None => accesses.conflict(alloc, dependencies, reads, writes, 0, None),
     }
 }
 
@@ -47,9 +54,11 @@ pub(crate) fn conflicts(accesses: &Accesses, ran: &Ran) -> bool
 pub(crate) fn add_record(
     alloc: Global,
     database: &Database,
+    dependencies: &Dependencies,
     accesses: &mut Accesses,
     ran: &Ran,
 ) -> Result<(), AllocError>
+    requires { AreDependencies database.now.catalogue dependencies.now.relvars.items }
     ensures covered { (k : ℕ) (a : List ℕ) → IsRecordOf database.now.catalogue k a ran.now → OnOk result (Covers database.now.catalogue accesses.new k a) }
     ensures kept { OnOk result ((k : ℕ) (a : List ℕ) → Covers database.now.catalogue accesses.old k a → Covers database.now.catalogue accesses.new k a) }
 {
@@ -58,12 +67,21 @@ pub(crate) fn add_record(
         Some((relvar, tuples)) => accesses.add(
             alloc,
             catalogue,
+            dependencies,
             &ran.footprint,
             &ran.targets,
             relvar,
             Some(tuples),
         ),
-        None => accesses.add(alloc, catalogue, &ran.footprint, &ran.targets, 0, None),
+        None => accesses.add(
+            alloc,
+            catalogue,
+            dependencies,
+            &ran.footprint,
+            &ran.targets,
+            0,
+            None,
+        ),
     }
 }
 
@@ -71,11 +89,13 @@ pub(crate) fn add_record(
 fn add_statement(
     alloc: Global,
     database: &Database,
+    dependencies: &Dependencies,
     accesses: &mut Accesses,
     statement: &TypedStatement,
     footprint: &[usize],
 ) -> Result<(), AllocError>
-    requires { (k : ℕ) × (a : List ℕ) × IsRead database.now.catalogue k a statement.now }
+    requires read { (k : ℕ) × (a : List ℕ) × IsRead database.now.catalogue k a statement.now }
+    requires dependencies { AreDependencies database.now.catalogue dependencies.now.relvars.items }
     ensures covered { (k : ℕ) (a : List ℕ) → IsRead database.now.catalogue k a statement.now → AreThose (IsInFootprint database.now.catalogue k a) footprint.now → OnOk result (Covers database.now.catalogue accesses.new k a) }
     ensures kept { OnOk result ((k : ℕ) (a : List ℕ) → Covers database.now.catalogue accesses.old k a → Covers database.now.catalogue accesses.new k a) }
 {
@@ -86,12 +106,13 @@ fn add_statement(
         Some((relvar, tuples)) => accesses.add(
             alloc,
             catalogue,
+            dependencies,
             footprint,
             &writes,
             relvar,
             Some(&tuples),
         ),
-        None => accesses.add(alloc, catalogue, footprint, &writes, 0, None),
+        None => accesses.add(alloc, catalogue, dependencies, footprint, &writes, 0, None),
     }
 }
 
@@ -99,20 +120,30 @@ fn add_statement(
 pub(crate) fn add_reading(
     alloc: Global,
     database: &Database,
+    dependencies: &Dependencies,
     accesses: &mut Accesses,
     reading: &ReadText,
 ) -> Result<(), AllocError>
-    requires { (k : ℕ) × (a : List ℕ) × IsReadText database.now.catalogue k a reading.now }
+    requires read { (k : ℕ) × (a : List ℕ) × IsReadText database.now.catalogue k a reading.now }
+    requires dependencies { AreDependencies database.now.catalogue dependencies.now.relvars.items }
     ensures covered { (k : ℕ) (a : List ℕ) → IsReadText database.now.catalogue k a reading.now → OnOk result (Covers database.now.catalogue accesses.new k a) }
     ensures kept { OnOk result ((k : ℕ) (a : List ℕ) → Covers database.now.catalogue accesses.old k a → Covers database.now.catalogue accesses.new k a) }
 {
     match &reading.statement {
         Some(statement) => {
-            add_statement(alloc, database, accesses, statement, &reading.footprint)
+            add_statement(
+                alloc,
+                database,
+                dependencies,
+                accesses,
+                statement,
+                &reading.footprint,
+            )
         }
         None => accesses.add(
             alloc,
             database.catalogue(),
+            dependencies,
             &reading.footprint,
             &[],
             0,

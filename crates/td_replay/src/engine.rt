@@ -1,6 +1,6 @@
 //! The database of one script, as a machine that runs entries, takes them back and makes their changes again.
 
-ghost use Rattle.std.specs.Prelude.{◌≡◌};
+ghost use Rattle.std.specs.Prelude.{◌≡◌, IfOk};
 ghost use Rattle.td_accesses.specs.Commuting.{Commute};
 ghost use Rattle.td_accesses.specs.Covering.{Covers};
 ghost use Rattle.td_assign.specs.Readings.{IsReadText};
@@ -13,26 +13,31 @@ ghost use Rattle.td_replay.specs.ForProofs.Exchanging.{exchanges};
 use crate::accessing::{add_reading, add_record, conflicts};
 use std::alloc::{AllocError, Global};
 use std::marker::Model;
-use td_accesses::Accesses;
+use td_accesses::{Accesses, Dependencies};
 use td_assign::{Ran, ReadText, read, redo, run, run_read, undo};
 use td_relvars::{Database, Part};
 use td_rollback::Machine;
 use td_semantics::Meter;
 use td_stamps::Entry;
 
-/// The database of one script.
+/// The database of one script, with the dependencies of its catalogue.
 pub(crate) struct Engine {
     database: Database,
+    dependencies: Dependencies,
 }
 
 // By hand, since a derived one is proved anew at each place where an engine is dropped: this one is a call there.
 impl Drop for Engine {
     fn drop(self) {
-        let Engine { database: _ } = self;
+        let Engine {
+            database: _,
+            dependencies: _,
+        } = self;
     }
 }
 
 impl Model for Engine {
+    ghost use Rattle.td_accesses.specs.Dependencies.{AreDependencies};
     ghost use Rattle.td_semantics.specs.Databases.{DatabaseData, database_code};
 
     ghost Value = { DatabaseData };
@@ -40,16 +45,22 @@ impl Model for Engine {
     ghost coded = { database_code };
 
     ghost view = { λ e. e.database };
+
+    ghost invariant = { λ e. AreDependencies e.database.catalogue e.dependencies.relvars.items };
 }
 
 impl Engine {
     /// One that begins with this database.
-    pub fn of(database: Database) -> Engine
-        ensures same { result ≡ database }
-        ensures database { IsDatabase result }
+    pub fn of(alloc: Global, database: Database) -> Result<Engine, AllocError>
+        ensures same { IfOk result (λ e. e ≡ database) }
+        ensures database { IfOk result IsDatabase }
     {
         database.relvars_fit();
-        Engine { database }
+        let dependencies = Dependencies::of(alloc, database.catalogue())?;
+        Ok(Engine {
+            database,
+            dependencies,
+        })
     }
 
     /// The database.
@@ -138,7 +149,7 @@ impl Machine for Engine {
         accesses: &mut Accesses,
         reading: &ReadText,
     ) -> Result<(), AllocError> {
-        add_reading(alloc, &self.database, accesses, reading)
+        add_reading(alloc, &self.database, &self.dependencies, accesses, reading)
     }
 
     fn conflicts(
@@ -148,10 +159,10 @@ impl Machine for Engine {
         _: &Entry,
         ran: &Ran,
     ) -> Result<bool, AllocError> {
-        if !conflicts(&*accesses, ran) {
+        if !conflicts(alloc, &self.dependencies, &*accesses, ran)? {
             return Ok(false);
         }
-        add_record(alloc, &self.database, accesses, ran)?;
+        add_record(alloc, &self.database, &self.dependencies, accesses, ran)?;
         Ok(true)
     }
 

@@ -134,11 +134,15 @@ impl State {
             Ok(script) => script,
             Err(_) => return Err(OpenError::OutOfMemory),
         };
+        let told = match Told::begun(alloc, database) {
+            Ok(told) => told,
+            Err(_) => return Err(OpenError::OutOfMemory),
+        };
         Ok(State {
             script,
             site,
             held: Held::new(alloc, limit),
-            told: Told::begun(alloc, database),
+            told,
         })
     }
 

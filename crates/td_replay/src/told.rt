@@ -60,14 +60,14 @@ fn copy_of(outcome: &Outcome) -> Result<Outcome, AllocError>
 
 impl Told {
     /// That of no entries, over what a script opens.
-    pub fn begun(alloc: Global, database: Database) -> Told
+    pub fn begun(alloc: Global, database: Database) -> Result<Told, AllocError>
         requires { IsLegal database }
-        ensures { (script : List ℕ) → OpensOn script None database → IsLogged script [] result.log.items result.engine }
+        ensures { (script : List ℕ) → OpensOn script None database → IfOk result (λ t. IsLogged script [] t.log.items t.engine) }
     {
-        Told {
-            engine: Engine::of(database),
+        Ok(Told {
+            engine: Engine::of(alloc, database)?,
             log: Vec::new(alloc),
-        }
+        })
     }
 
     // Runs one entry more.
@@ -180,7 +180,7 @@ pub(crate) fn tell_all(
     ensures counted { meter.new.count ≤ meter.old.count + length entries.now }
     ensures told { IfOk result (λ t. IsLogged script.now entries.now t.log.items t.engine) }
 {
-    let mut told = Told::begun(alloc, open_database(alloc, script)?);
+    let mut told = Told::begun(alloc, open_database(alloc, script)?)?;
     for entry in entries {
         told.run_next(alloc, entry, meter)?;
     }

@@ -8,6 +8,7 @@ use Rattle.td_relations.specs.Sets.{Has}
 use Rattle.td_algebra.specs.KeyIndexes.{KeyIndexData}
 use Rattle.td_headings.specs.declared.defined.Test.{Test}
 use Rattle.td_headings.specs.declared.defined.Test.TheVariants as test
+use Rattle.td_incremental.specs.declared.references.Reference.{Reference}
 
 -- the second list has the places of the first
 abbrev pub AreIn : List ℕ → List ℕ → Type 0
@@ -49,3 +50,15 @@ pub record LacksPart (x : KeyIndexData) (t : Attrs) : Type 0 where
 -- nor that of another tuple of s
 pub record LacksParts (s : RowsData) (x : KeyIndexData) : Type 0 where
   pub none : (t u : Attrs) → Has s t → Contains x.tuples u → cut x.key u ≡ cut x.key t → ⊥
+
+-- each of these indexes has the tuples of s
+pub record AreLinked (s : RowsData) (xs : List KeyIndexData) : Type 0 where
+  pub all : (x : KeyIndexData) → Contains xs x → (t : Attrs) → Has s t → Contains x.tuples t
+
+-- each of the second indexes has the tuples of one of the first, by the same key
+pub record AreLinksGrown (xs ys : List KeyIndexData) : Type 0 where
+  pub from : (y : KeyIndexData) → Contains ys y → (x : KeyIndexData) × Contains xs x × IsIndexGrown x y
+
+-- r refers to another relvar than the one at n, or one of these indexes is by its names and lacks the values of s
+pub record IsElsewhere (n : ℕ) (xs : List KeyIndexData) (s : RowsData) (r : Reference) : Type 0 where
+  pub lacks : r.relvar ≡ n → (x : KeyIndexData) × Contains xs x × (x.key ≡ r.names.items) × LacksParts s x

@@ -3,8 +3,8 @@ use Rattle.std.proofs.Common.{◌≡◌, ◌⊎◌, ⊎_elim, inl, inr, ℕ, Lis
 use Rattle.std.specs.List.{Contains}
 use Rattle.std.proofs.lemmas.Bool.{cases_eq}
 use Rattle.std.proofs.lemmas.List.Elements.{Contains-append_right}
-use Rattle.td_accesses.specs.Commuting.{AreApart, Commute, InsertApart}
-use Rattle.td_accesses.proofs.Inserting.{commute_back, insertions_commute}
+use Rattle.td_accesses.specs.Commuting.{AreApart, Commute, InsertApart, InsertBeside}
+use Rattle.td_accesses.proofs.Beside.{commute_back, insertions_commute}
 use Rattle.td_assign.specs.Inserting.{PutsIn}
 use Rattle.td_assign.specs.declared.ran.Ran.{Ran}
 use Rattle.td_headings.specs.Catalogues.{CatalogueData}
@@ -77,7 +77,7 @@ module _ (o s t u : DatabaseData) (e f : Entry) (q r : Ran) (apart : AreApart o.
   exchange_apart = (v, other_there.1, subst (Notes v e q) one_end it_there.1)
 
 -- ---- insertions
-module _ (o s t u : DatabaseData) (e f : Entry) (q r : Ran) (apart : InsertApart o.catalogue e.dialect e.text f.dialect f.text) (good : Sound o s) (one : Notes s e q t) (two : Notes t f r u) where
+module _ (o s t u : DatabaseData) (e f : Entry) (q r : Ran) (apart : InsertApart o.catalogue e.dialect e.text f.dialect f.text ⊎ InsertBeside o.catalogue e.dialect e.text f.dialect f.text) (good : Sound o s) (one : Notes s e q t) (two : Notes t f r u) where
   here : s.catalogue ≡ o.catalogue
   here = one_catalogue s o good.1
 
@@ -86,7 +86,7 @@ module _ (o s t u : DatabaseData) (e f : Entry) (q r : Ran) (apart : InsertApart
 
   exchange_insertions : (g : DatabaseData) × Notes s f r g × Notes g e q u
   exchange_insertions =
-      let x = subst (λ (c : CatalogueData). InsertApart c e.dialect e.text f.dialect f.text) (sym here) apart in
+      let x = subst (λ (c : CatalogueData). InsertApart c e.dialect e.text f.dialect f.text ⊎ InsertBeside c e.dialect e.text f.dialect f.text) (sym here) apart in
       let h = insertions_commute s t u e.dialect f.dialect e.text f.text q.outcome r.outcome q.delta.items r.delta.items good.0.0 good.0.1 x (record { step = one.step; differences = one.delta }) (record { step = two.step; differences = two.delta }) in
       let first : Notes s f r h.0 = record {
         step = h.1.step;

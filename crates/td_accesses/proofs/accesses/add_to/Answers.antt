@@ -13,4 +13,5 @@ returns-clause-told c = λ _.
       reads_ = c.in_ok-add_places.ensures.added;
       writes_ = c.in_ok-add_places-2.ensures.added;
       kept = are_kept c.args.catalogue.now g.relvar s xs (subst (λ (ts : List Test). AreAllBy ts g.relvar s xs) c.tests-tests.ensures.tests (c.in_ok-keep_by_keys.ensures.there c.if-not-branch.false));
+      linked = c.in_ok-put_in_all.ensures.there c.if-not-branch-2.false;
     }

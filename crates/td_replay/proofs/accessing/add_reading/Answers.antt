@@ -3,12 +3,16 @@ use Rattle.td_accesses.specs.Covering.{KeepsWithin}
 use Rattle.td_assign.proofs.Preparing.{read_is, unread_is}
 use Rattle.td_headings.specs.Catalogues.{CatalogueData}
 use Rattle.td_replay.proofs.Recorded.{covered_over, kept_over}
+use Rattle.td_replay.proofs.Depending.{over_same}
 use Rattle.td_replay.proofs.accessing.add_reading.Goals as goal
 
-pub add_statement-requires : goal.add_statement-requires
-add_statement-requires c =
+pub add-requires : goal.add-requires
+add-requires c = over_same c.catalogue.result.now c.args.database.now.catalogue c.args.dependencies.now.relvars.items c.catalogue.ensures.same c.requires.dependencies
+
+pub add_statement-requires-clause-read : goal.add_statement-requires-clause-read
+add_statement-requires-clause-read c =
     let d = c.args.database.now.catalogue in
-    let (k, a, reads) = c.requires in
+    let (k, a, reads) = c.requires.read in
     (k, a, read_is d d k a c.args.reading.now.statement refl reads.statement c.in-Some.statement c.in-Some.is)
 
 pub returns-in-None-clause-covered : goal.returns-in-None-clause-covered

@@ -1,5 +1,12 @@
 use Rattle.td_replay.proofs.Recorded.{covered_over, inserts_of, kept_over, record_over, within_slices}
+use Rattle.td_replay.proofs.Depending.{over_same}
 use Rattle.td_replay.proofs.accessing.add_record.Goals as goal
+
+pub add-requires : goal.add-requires
+add-requires c = over_same c.catalogue-catalogue.result.now c.args.database.now.catalogue c.args.dependencies.now.relvars.items c.catalogue-catalogue.ensures.same c.requires
+
+pub add-requires-in-None : goal.add-requires-in-None
+add-requires-in-None c = over_same c.catalogue-catalogue.result.now c.args.database.now.catalogue c.args.dependencies.now.relvars.items c.catalogue-catalogue.ensures.same c.requires
 
 pub returns-in-Some-clause-covered : goal.returns-in-Some-clause-covered
 returns-in-Some-clause-covered c = λ k a kept.

@@ -5,7 +5,14 @@ use Rattle.td_semantics.specs.Databases.{stored_relvars}
 use Rattle.td_semantics.specs.Steps.{IsRead}
 use Rattle.td_semantics.specs.Stored.{AreStored}
 use Rattle.td_replay.proofs.Recorded.{covered_over, kept_over, within_lists}
+use Rattle.td_replay.proofs.Depending.{over_same}
 use Rattle.td_replay.proofs.accessing.add_statement.Goals as goal
+
+pub add-requires : goal.add-requires
+add-requires c = over_same c.catalogue-catalogue.result.now c.args.database.now.catalogue c.args.dependencies.now.relvars.items c.catalogue-catalogue.ensures.same c.requires.dependencies
+
+pub add-requires-in-None : goal.add-requires-in-None
+add-requires-in-None c = over_same c.catalogue-catalogue.result.now c.args.database.now.catalogue c.args.dependencies.now.relvars.items c.catalogue-catalogue.ensures.same c.requires.dependencies
 
 pub inserted_tuples-requires-clause-stored : goal.inserted_tuples-requires-clause-stored
 inserted_tuples-requires-clause-stored c = subst (λ (z : CatalogueData). AreStored z (stored_relvars c.args.database.now.stored)) (sym c.catalogue-catalogue.ensures.same) c.relvars_fit.ensures.stored

@@ -1,16 +1,23 @@
+use Rattle.std.proofs.lemmas.Result.{IfOk-weaker}
 use Rattle.td_replay.proofs.Recorded.{inserts_of, within_slices}
 use Rattle.td_replay.proofs.accessing.conflicts.Goals as goal
 
 pub returns-in-Some : goal.returns-in-Some
-returns-in-Some c = λ none z k l a b covers kept.
+returns-in-Some c =
     let r = c.args.ran.now in
-    c.conflict.ensures none z k l a b covers
-    (within_slices z l b c.deref.result.now c.deref-in-Some.result.now r.footprint.items r.targets.items c.deref.ensures.value c.deref-in-Some.ensures.value kept.within)
-    (inserts_of z l b r c.in-Some.relvar c.in-Some.tuples.now kept c.in-Some.ensures)
+    IfOk-weaker c.conflict.result _ _
+    (λ b told none z are k l a b' covers kept.
+    told none z are k l a b' covers
+    (within_slices z l b' c.deref.result.now c.deref-in-Some.result.now r.footprint.items r.targets.items c.deref.ensures.value c.deref-in-Some.ensures.value kept.within)
+    (inserts_of z l b' r c.in-Some.relvar c.in-Some.tuples.now kept c.in-Some.ensures))
+    c.conflict.ensures
 
 pub returns-in-None : goal.returns-in-None
-returns-in-None c = λ none z k l a b covers kept.
+returns-in-None c =
     let r = c.args.ran.now in
-    c.conflict-in-None.ensures none z k l a b covers
-    (within_slices z l b c.deref-in-None.result.now c.deref-in-None-2.result.now r.footprint.items r.targets.items c.deref-in-None.ensures.value c.deref-in-None-2.ensures.value kept.within)
-    tt
+    IfOk-weaker c.conflict-in-None.result _ _
+    (λ b told none z are k l a b' covers kept.
+    told none z are k l a b' covers
+    (within_slices z l b' c.deref-in-None.result.now c.deref-in-None-2.result.now r.footprint.items r.targets.items c.deref-in-None.ensures.value c.deref-in-None-2.ensures.value kept.within)
+    tt)
+    c.conflict-in-None.ensures

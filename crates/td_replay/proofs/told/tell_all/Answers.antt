@@ -7,7 +7,7 @@ use Rattle.td_replay.proofs.told.tell_all.Goals as goal
 
 pub loop-entry-init : goal.loop-entry-init
 loop-entry-init c = record {
-  logged = c.begun-told.ensures c.args.script.now c.in_ok-open_database.ensures.opens;
+  logged = c.in_ok-told.ensures c.args.script.now c.in_ok-open_database.ensures.opens;
   counted = omega arith;
 }
 

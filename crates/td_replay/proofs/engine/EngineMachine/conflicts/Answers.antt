@@ -1,14 +1,15 @@
 use Rattle.std.proofs.Common.{ap, sym, subst}
 use Rattle.td_accesses.specs.Covering.{Covers}
 use Rattle.td_semantics.specs.Databases.{DatabaseData}
+use Rattle.td_replay.proofs.Depending.{over_same}
 use Rattle.td_replay.proofs.Recorded.{kept_of, record_over}
 use Rattle.td_replay.proofs.engine.EngineMachine.conflicts.Goals as goal
 
-pub returns-then-not-conflicts-clause-commutes : goal.returns-then-not-conflicts-clause-commutes
-returns-then-not-conflicts-clause-commutes c = λ same e covers.
+pub returns-then-not-branch-clause-commutes : goal.returns-then-not-branch-clause-commutes
+returns-then-not-branch-clause-commutes c = λ same e covers.
     let q = c.requires in
     let f = c.args.arg4.now in
-    c.conflicts.ensures c.if-not-conflicts.true c.args.self.now.catalogue e.dialect f.dialect e.text f.text covers (kept_of c.args.self.now q.0 q.1 f c.args.ran.now q.3 q.4)
+    c.in_ok-conflicts.ensures c.if-not-branch.true c.args.self.now.catalogue (over_same c.args.self.now.catalogue c.self.inside.database.catalogue c.self.inside.dependencies.relvars.items (ap (λ (x : DatabaseData). x.catalogue) (sym c.self.view_is)) c.self.invariant) e.dialect f.dialect e.text f.text covers (kept_of c.args.self.now q.0 q.1 f c.args.ran.now q.3 q.4)
 
 pub returns-clause-covered : goal.returns-clause-covered
 returns-clause-covered c = λ same.

@@ -7,7 +7,11 @@ use Rattle.td_relvars.specs.Parts.{AreTheirs}
 use Rattle.td_replay.specs.Noted.{AgreeAt}
 use Rattle.td_replay.specs.ForProofs.Going.{origin_of}
 use Rattle.td_replay.proofs.Making.{is_put_back, may_be_put_back}
+use Rattle.td_replay.proofs.Depending.{stay_stored}
 use Rattle.td_replay.proofs.engine.EngineMachine.put_back.Goals as goal
+
+pub invariant_of-self : goal.invariant_of-self
+invariant_of-self c = stay_stored c.self.inside.database c.put_back.new.self _ c.self.inside.dependencies.relvars.items c.put_back.ensures c.self.invariant
 
 pub put_back-requires-clause-belongs : goal.put_back-requires-clause-belongs
 put_back-requires-clause-belongs c =

@@ -4,7 +4,13 @@ use Rattle.td_assign.specs.Redoing.{CanRedo, IsBetween}
 use Rattle.td_relvars.specs.Changed.{redone}
 use Rattle.td_semantics.specs.Databases.{DatabaseData}
 use Rattle.td_replay.proofs.Making.{can_redo, redone_elsewhere, redone_is}
+use Rattle.td_replay.proofs.Depending.{stay_between}
 use Rattle.td_replay.proofs.engine.EngineMachine.redo.Goals as goal
+
+pub invariant_of-self : goal.invariant_of-self
+invariant_of-self c =
+    stay_between c.redo.result c.self.inside.database c.redo.new.database (redone c.deref.result.now c.self.inside.database.stored) (redone c.deref.result.now c.self.inside.database.stored) c.self.inside.dependencies.relvars.items
+    c.redo.ensures.ok c.redo.ensures.err c.self.invariant
 
 pub redo-requires-clause-fits : goal.redo-requires-clause-fits
 redo-requires-clause-fits c =

@@ -4,7 +4,13 @@ use Rattle.td_assign.specs.Redoing.{CanUndo, IsBetween}
 use Rattle.td_relvars.specs.Changed.{undone}
 use Rattle.td_semantics.specs.Databases.{DatabaseData}
 use Rattle.td_replay.proofs.Making.{can_undo, undone_elsewhere, undone_is}
+use Rattle.td_replay.proofs.Depending.{stay_between}
 use Rattle.td_replay.proofs.engine.EngineMachine.undo.Goals as goal
+
+pub invariant_of-self : goal.invariant_of-self
+invariant_of-self c =
+    stay_between c.undo.result c.self.inside.database c.undo.new.database (undone c.deref.result.now c.self.inside.database.stored) (undone c.deref.result.now c.self.inside.database.stored) c.self.inside.dependencies.relvars.items
+    c.undo.ensures.ok c.undo.ensures.err c.self.invariant
 
 pub undo-requires-clause-fits : goal.undo-requires-clause-fits
 undo-requires-clause-fits c =

@@ -12,8 +12,8 @@ within n low high = grind (arith, nat_tests)
 pub invariant_of-result : goal.invariant_of-result
 invariant_of-result c =
     let text = c.args.script.now in
-    let told = c.begun.result in
-    let logged = c.begun.ensures text c.in-Ok.ensures.opens in
+    let told = c.in-Ok-begun.told in
+    let logged = c.in-Ok-begun.ensures text c.in-Ok.ensures.opens in
     let kept = subst (λ (t : List ℕ). IsLogged t [] told.log.items told.engine) (sym c.in-Ok-from_str.ensures) logged in
     let fits : 1 ≤ c.args.site = omega (arith, c.if-site-eq0.false) in
     let low : 1 ≤ c.args.limit = omega (arith, c.if-limit-eq0.false) in
