@@ -1,15 +1,16 @@
 -- The places that a statement names, gathered.
-use Rattle.std.proofs.Common.{◌≡◌, ◌↔◌, ⊎_elim, ℕ, ◌+◌, ◌<◌, List, [], ◌∷◌, ◌++◌, map, length, get_or, slice_get, take, IfOk, MatchOption, Option, None, Some, Result, Ok, Err, Vec, refl, ap, sym, ◌∙◌, subst, arith}
-use Rattle.std.specs.List.{Contains, flat_map}
+use Rattle.std.proofs.Common.{◌≡◌, ◌↔◌, ⊎_elim, Bool, IsTrue, ℕ, ◌+◌, ◌<◌, List, [], ◌∷◌, ◌++◌, map, length, get_or, slice_get, take, IfOk, MatchOption, Option, None, Some, Result, Ok, Err, Vec, refl, ap, sym, ◌∙◌, subst, arith}
+use Rattle.std.specs.List.{All, Contains, flat_map}
 use Rattle.std.specs.List.Sorted.{IsStrictlySortedBy}
 use Rattle.std.specs.Ordering.{nat_cmp}
 use Rattle.std.proofs.lemmas.List.{take_more}
-use Rattle.std.proofs.lemmas.List.Elements.{Contains-append_cases, Contains-append_left, Contains-append_right, Contains-push, Contains-push_cases}
+use Rattle.std.proofs.lemmas.List.Elements.{All-more, Contains-append_cases, Contains-append_left, Contains-append_right, Contains-push, Contains-push_cases}
 use Rattle.td_values.specs.declared.TypeKind.TheVariants as kind
 use Rattle.td_syntax.specs.declared.script.Action.{Action}
 use Rattle.td_syntax.specs.declared.script.Statement.{Statement}
 use Rattle.td_syntax.specs.declared.script.Statement.TheVariants as statement
 use Rattle.td_schema.specs.Kinds.{Name}
+use Rattle.td_typed_trees.specs.declared.expression.BaseUnder.{BaseUnder}
 use Rattle.td_typed_trees.specs.declared.expression.Expression.{Expression}
 use Rattle.td_typed_trees.specs.declared.tree.Typed.{Typed}
 use Rattle.td_typing.specs.Trees.{typing}
@@ -99,6 +100,29 @@ constraint_reads c defined place t name u stands is o e some h n =
     let closed : IsClosedExpression c u kind.Boolean e = subst (λ k. IsConstraint c k e) tree (subst (λ q. MatchOption q (constraint_at c place ≡ None) (IsConstraint c (constraint_at c place))) some h) in
     subst (λ (w : Test). Contains (reads e) n ↔ TestReads c w n) (sym is)
     (subst (λ (v : Typed). Contains (reads e) n ↔ ReadsRelvar c.origins v n) closed.tree ((reads_those c (all_typed c defined) e closed.under).members n))
+
+-- ---- which of the relvars that a test reads are targets
+pub record IsNoTarget (targets : List ℕ) (b : BaseUnder) : Type 0 where
+  pub off : Contains targets b.place → ⊥
+
+pub no_more : (targets : List ℕ) (bs : List BaseUnder) (i : ℕ) (b : BaseUnder) → i < length bs → b ≡ get_or bs i b → (Contains targets b.place → ⊥) → All (IsNoTarget targets) (take i bs) → All (IsNoTarget targets) (take (i + 1) bs)
+no_more targets bs i b lt at off all = All-more (IsNoTarget targets) bs i b lt all (subst (IsNoTarget targets) at (record { off = off }))
+
+pub read_there : (bs : List BaseUnder) (n : ℕ) → Contains (map (λ (b : BaseUnder). b.place) bs) n → (b : BaseUnder) × Contains bs b × (b.place ≡ n)
+read_there [] n h = nowhere n h
+read_there (b ∷ bs) n h = either b.place (map (λ (d : BaseUnder). d.place) bs) n h (λ same. (b, first b bs, same)) (λ later. let d = read_there bs n later in (d.0, further b bs d.0 d.1, d.2))
+
+pub there_read : (bs : List BaseUnder) (b : BaseUnder) → Contains bs b → Contains (map (λ (d : BaseUnder). d.place) bs) b.place
+there_read [] b h = nowhere b h
+there_read (d ∷ bs) b h = either d bs b h (λ same. subst (λ n. Contains (map (λ (k : BaseUnder). k.place) (d ∷ bs)) n) (ap (λ (k : BaseUnder). k.place) same) (first d.place (map (λ (k : BaseUnder). k.place) bs))) (λ later. further d.place (map (λ (k : BaseUnder). k.place) bs) b.place (there_read bs b later))
+
+pub meets_read : (P : ℕ → Type 0) (targets : List ℕ) (r : Bool) (bs cs : List BaseUnder) → bs ≡ cs → IsTrue r ↔ ((b : BaseUnder) × Contains bs b × Contains targets b.place) → ((n : ℕ) → Contains (map (λ (b : BaseUnder). b.place) cs) n ↔ P n) → IsTrue r ↔ ((n : ℕ) × P n × Contains targets n)
+meets_read P targets r bs cs same met reads_it = (
+  λ yes_. let b = met.0 yes_ in (b.0.place, (reads_it b.0.place).0 (there_read cs b.0 (subst (λ ds. Contains ds b.0) same b.1)), b.2),
+  λ some.
+      let b = read_there cs some.0 ((reads_it some.0).1 some.1) in
+      met.1 (b.0, subst (λ ds. Contains ds b.0) (sym same) b.1, subst (Contains targets) (sym b.2) some.2),
+)
 
 -- ---- what a typed statement names
 under : (c : CatalogueData) (as' : List Action) (xs : List TypedAssignment) → AreAssignments c as' xs → (x : TypedAssignment) → Contains xs x → HasAllUnder c x.source

@@ -10,12 +10,14 @@ ghost use Rattle.td_headings.specs.Statements as typed;
 ghost use Rattle.td_headings.specs.Statements.{IsTarget, TypesStatement};
 ghost use Rattle.td_headings.specs.declared.statement.TypedAssignment as declared;
 ghost use Rattle.td_semantics.specs.Footprints.{InFootprint, TestReads};
+ghost use Rattle.td_typed_trees.specs.declared.expression.BaseUnder as declared_base;
 ghost use Rattle.td_assign.specs.ForProofs.Names.{Gathers, ReadsWith, condition_reads};
 
 use std::alloc::{AllocError, Global};
 use td_headings::{
     Catalogue, Test, TypedAssignment, TypedStatement, constraint_expr, lists_of, reads, targets,
 };
+use td_typed_trees::expression::BaseUnder;
 
 /// The relvars of a statement, by their places in order of definition, each once.
 #[derive(Drop)]
@@ -36,11 +38,23 @@ fn in_order(places: Vec<usize>) -> Vec<usize>
     places
 }
 
-// Whether one of the places is a target.
-fn meets(targets: &[usize], places: &[usize]) -> bool
-    ensures { IsTrue result ↔ ((n : ℕ) × Contains places.now n × Contains targets.now n) }
+// Whether the relvar at the place is a target.
+fn is_target(targets: &[usize], place: usize) -> bool
+    ensures { IsTrue result ↔ Contains targets.now place }
 {
-    places.iter().any(|place| targets.contains(place))
+    targets.contains(&place)
+}
+
+// Whether one of the base relvars is a target.
+fn meets(targets: &[usize], bases: &[BaseUnder]) -> bool
+    ensures { IsTrue result ↔ ((b : declared_base.BaseUnder) × Contains bases.now b × Contains targets.now b.place) }
+{
+    for base in bases {
+        if is_target(targets, base.place) {
+            return true;
+        }
+    }
+    false
 }
 
 // With what the sources read behind the places.
@@ -88,8 +102,8 @@ fn only(alloc: Global, place: usize) -> Result<Vec<usize>, AllocError>
     Ok(places)
 }
 
-/// What the test, which stands at this place, reads. It costs the size of a constraint, with those of the expressions
-/// of the virtual relvars under it.
+/// What the test, which stands at this place, reads. It costs the number of these relvars, where the catalogue keeps
+/// its constraints.
 pub fn test_reads(
     alloc: Global,
     catalogue: &Catalogue,
@@ -109,6 +123,28 @@ pub fn test_reads(
     }
 }
 
+// Whether the test, which stands at this place, reads a target. It takes no memory where the catalogue keeps the
+// constraint.
+fn reads_target(
+    alloc: Global,
+    catalogue: &Catalogue,
+    targets: &[usize],
+    place: usize,
+    test: &Test,
+) -> Result<bool, AllocError>
+    requires defined { Defined catalogue.now }
+    requires test { slice_get catalogue.now.tests place ≡ Some test.now }
+    ensures { IfOk result (λ b. IsTrue b ↔ ((n : ℕ) × TestReads catalogue.now test.now n × Contains targets.now n)) }
+{
+    match test {
+        Test::Key(relvar, _) => Ok(is_target(targets, *relvar)),
+        Test::Constraint(_, _) => match constraint_expr(alloc, catalogue, place)? {
+            Some(expr) => Ok(meets(targets, expr.get().bases.as_slice())),
+            None => unreachable!(),
+        },
+    }
+}
+
 // What the test reads, where it reads a target, and else nothing.
 fn test_needs(
     alloc: Global,
@@ -121,9 +157,8 @@ fn test_needs(
     requires test { slice_get catalogue.now.tests place ≡ Some test.now }
     ensures { IfOk result (λ v. (n : ℕ) → Contains v.items n ↔ ReadsWith catalogue.now targets.now test.now n) }
 {
-    let places = test_reads(alloc, catalogue, place, test)?;
-    if meets(targets, &places) {
-        Ok(places)
+    if reads_target(alloc, catalogue, targets, place, test)? {
+        test_reads(alloc, catalogue, place, test)
     } else {
         Ok(Vec::new(alloc))
     }
@@ -147,8 +182,8 @@ fn tests_need(
     Ok(places)
 }
 
-/// The places of the base relvars on which the statement hangs, in order of definition, each once. It costs the sizes
-/// of all constraints, with those of the expressions of the virtual relvars under them.
+/// The places of the base relvars on which the statement hangs, in order of definition, each once. It costs what it
+/// reads, and for each test a look at the base relvars that this reads, where the catalogue keeps its constraints.
 pub fn footprint(
     alloc: Global,
     catalogue: &Catalogue,

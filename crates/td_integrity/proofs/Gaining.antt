@@ -1,5 +1,5 @@
 -- What becomes of a constraint that was true before changes.
-use Rattle.std.proofs.Common.{◌≡◌, ⊎_elim, ℕ, List, length, inl, inr, Bool, true, false, [], ◌∷◌, Option, None, Some, MatchOption, Result, Ok, slice_get, refl, sym, ap, ◌∙◌, subst, true≢false}
+use Rattle.std.proofs.Common.{◌≡◌, ◌||◌, ⊎_elim, ℕ, List, length, inl, inr, Bool, true, false, [], ◌∷◌, Option, None, Some, MatchOption, Result, Ok, slice_get, refl, sym, ap, ◌∙◌, subst, true≢false}
 use Rattle.std.specs.Borrow.{Bor}
 use Rattle.std.specs.List.{All, Contains, filter, list_any}
 use Rattle.std.specs.FinSet as set
@@ -13,6 +13,7 @@ use Rattle.td_tuples.specs.Parts.{columns_in, cut}
 use Rattle.td_relations.specs.Deltas.{DeltaData}
 use Rattle.td_relations.specs.Sets.{Has, body}
 use Rattle.td_relations.proofs.Predicates.{of_difference}
+use Rattle.td_typed_trees.specs.declared.expression.BaseUnder.{BaseUnder}
 use Rattle.td_typed_trees.specs.declared.expression.Expression.{Expression}
 use Rattle.td_algebra.specs.Functions.{matching_of, not_matching_of, project_of}
 use Rattle.td_algebra.specs.declared.errors.Stop.{Stop}
@@ -24,7 +25,7 @@ use Rattle.td_algebra.specs.KeyIndexes.{IsKeyIndex, KeyIndexData}
 use Rattle.td_algebra.specs.Keys.{shares_part}
 use Rattle.td_headings.specs.Catalogues.{CatalogueData}
 use Rattle.td_headings.specs.Definitions.{Defined}
-use Rattle.td_headings.specs.Expressions.{reads}
+use Rattle.td_headings.specs.Expressions.{places_of, reads}
 use Rattle.td_headings.specs.Reached.{is_base}
 use Rattle.td_meaning.specs.Mean.{Relvars}
 use Rattle.td_incremental.specs.Growth.{AgreeBeside, Gains, IsWatched}
@@ -47,6 +48,11 @@ use Rattle.td_integrity.specs.declared.ways.Way.{Way}
 use Rattle.td_integrity.specs.declared.ways.Way.TheVariants.{Stays, Over, Lost, Whole}
 use Rattle.td_integrity.proofs.After.{still_true, untouched}
 use Rattle.td_integrity.proofs.Judged.{are_bases}
+
+-- one of the places of these has it where one of these has it of its place
+pub any_of_places : (p : ℕ → Bool) (bs : List BaseUnder) → list_any p (places_of bs) ≡ list_any (λ (b : BaseUnder). p b.place) bs
+any_of_places p [] = refl
+any_of_places p (b ∷ bs) = λ i. p b.place || any_of_places p bs i
 
 -- ---- what relvars have is of their headings
 rows_headed : (c : CatalogueData) (h : Header) (x : Result RowsData Stop) (r : RowsData) → GivesRelation c.schema h x → x ≡ Ok r → r.heading ≡ h

@@ -2,6 +2,7 @@
 
 ghost use Rattle.std.specs.Prelude.{◌≡◌, ◌∷◌, [], true, IfOk, slice_get};
 ghost use Rattle.std.specs.List.{All, list_any};
+ghost use Rattle.td_headings.specs.Expressions.{reads};
 ghost use Rattle.td_headings.specs.Reached.{is_base};
 ghost use Rattle.td_incremental.specs.Growth.{narrowed};
 ghost use Rattle.td_semantics.specs.Trees.{IsIn};
@@ -9,14 +10,16 @@ ghost use Rattle.td_integrity.specs.ForProofs.Changed as spec;
 ghost use Rattle.td_integrity.specs.ForProofs.Gaining.{AreWays, IsWay};
 ghost use Rattle.td_integrity.specs.ForProofs.Leaving.{HasPartIn, KeepsReferences, LeavesParts};
 ghost use Rattle.td_tuples.specs.Parts.{Fits};
+ghost use Rattle.td_typed_trees.specs.declared.expression.BaseUnder as declared_base;
 
 use crate::losses::{Losses, parts_of};
 use std::alloc::{AllocError, Global};
 use td_algebra::{KeyIndex, Stop};
 use td_eval::Lookup;
-use td_headings::{Catalogue, TypedExpr, reads};
+use td_headings::{Catalogue, TypedExpr};
 use td_incremental::{is_base_relvar, is_safe, is_watched, referring, sole_reference};
 use td_relations::{Delta, Relation};
+use td_typed_trees::expression::BaseUnder;
 use td_values::{Name, Tuple};
 
 /// The relvars after changes, but of one what it gained.
@@ -73,11 +76,18 @@ fn is_changed(changes: &[(usize, Delta)], relvar: usize) -> bool
     changes.iter().any(|change| change.0 == relvar)
 }
 
-// Whether the changes have one of any of the relvars.
-fn is_any_changed(changes: &[(usize, Delta)], relvars: &[usize]) -> bool
-    ensures { result ≡ list_any (spec.is_changed changes.now) relvars.now }
+// Whether the changes have one of any of the base relvars.
+fn is_any_changed(changes: &[(usize, Delta)], bases: &[BaseUnder]) -> bool
+    ensures { result ≡ list_any (λ (b : declared_base.BaseUnder). spec.is_changed changes.now b.place) bases.now }
 {
-    relvars.iter().any(|relvar| is_changed(changes, *relvar))
+    bases.iter().any(|base| is_changed(changes, base.place))
+}
+
+// Whether the changes have one of a base relvar that the expression reads. It takes no memory.
+fn is_touched(changes: &[(usize, Delta)], expr: &TypedExpr) -> bool
+    ensures { result ≡ list_any (spec.is_changed changes.now) (reads expr.now) }
+{
+    is_any_changed(changes, expr.get().bases.as_slice())
 }
 
 // Whether each of the tuples has its part at the key in the index.
@@ -197,8 +207,7 @@ pub(crate) fn way_of<'a>(
         return Ok(Way::Whole);
     };
     catalogue.was_defined();
-    let relvars = reads(alloc, expr)?;
-    if !is_any_changed(changes, &relvars) {
+    if !is_touched(changes, expr) {
         return Ok(Way::Stays);
     }
     match changes {
