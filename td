@@ -29,6 +29,7 @@ TESTS = {
     "sockets": "programs that meet over loopback, and peers that damage, cut, flood and are silent",
     "servers": "servers that meet by themselves, are killed, and have hostile clients and peers",
     "memory": "runs without memory, and streams that fail",
+    "anew": "random statements at sites that meet, beside a site that runs them all anew",
     "differential": "random lines over both kinds of sites",
     "model": "random statements and queries with a model in Python",
     "type-errors": "type errors that are put into random queries",
