@@ -12,7 +12,7 @@ ghost use Rattle.td_accesses.specs.declared.accesses.Insertions as declared;
 
 use crate::by_keys::{all_differ, has_key, keep_by_keys};
 use crate::dependencies::Dependencies;
-use crate::links::{links_to, put_in_all, refer_elsewhere};
+use crate::links::{links_of, put_in_all, refer_elsewhere};
 use crate::places::{add_places, clash};
 use std::alloc::{AllocError, Global};
 use td_algebra::KeyIndex;
@@ -120,7 +120,7 @@ fn add_into(
     match place_of(all, relvar) {
         Some(at) => add_to(alloc, catalogue, &mut all[at], reads, writes, relation),
         None => {
-            let links = links_to(alloc, &dependencies.relvars, relvar, relation)?;
+            let links = links_of(alloc, dependencies, relvar, relation)?;
             let mut insertions = no_insertions(alloc, relvar, links);
             let told = add_to(alloc, catalogue, &mut insertions, reads, writes, relation)?;
             all.push(insertions)?;
@@ -179,7 +179,7 @@ fn all_are_clear(all: &[Insertions], reads: &[usize], writes: &[usize]) -> bool
 }
 
 // Whether a statement that inserts these tuples into the relvar may be exchanged with the insertions, into another one:
-// no constraint but a reference reads both, and no tuple of the one refers to one of the other.
+// only references judge what is inserted into the one by the other, and no tuple of the one refers to one of the other.
 fn is_beside(
     alloc: Global,
     dependencies: &Dependencies,

@@ -1,11 +1,11 @@
-//! Tuples that are inserted, by the values of the attributes by which relvars refer to each other.
+//! Links: tuples that are inserted, by the attributes of a reference from their relvar or to it.
 
 ghost use Rattle.std.specs.Prelude.{◌≡◌, IfOk, OnOk, true};
 ghost use Rattle.std.specs.List.{All};
 ghost use Rattle.td_accesses.specs.ForProofs.Growing.{AreLinked, AreLinksGrown, IsElsewhere, LacksPart};
 
 use crate::by_keys::{place_by, put_in};
-use crate::dependencies::RelvarDependencies;
+use crate::dependencies::{Dependencies, RelvarDependencies};
 use std::alloc::{AllocError, Global};
 use td_algebra::KeyIndex;
 use td_incremental::Reference;
@@ -27,27 +27,41 @@ fn link_by(
     Ok(())
 }
 
-// Adds those by which some of these references go: of a relvar to others all, of others those to the relvar.
-fn link_references(
+// Adds one for each of these references.
+fn link_all(
     alloc: Global,
     links: &mut Vec<KeyIndex>,
     references: &[Reference],
-    is_own: bool,
+    relation: &Relation,
+) -> Result<(), AllocError>
+    ensures { AreLinked relation.now links.old.items → OnOk result (AreLinked relation.now links.new.items) }
+{
+    for reference in references {
+        link_by(alloc, links, &reference.names, relation)?;
+    }
+    Ok(())
+}
+
+// Adds one for each of these references that is to the relvar.
+fn link_referring(
+    alloc: Global,
+    links: &mut Vec<KeyIndex>,
+    references: &[Reference],
     relvar: usize,
     relation: &Relation,
 ) -> Result<(), AllocError>
     ensures { AreLinked relation.now links.old.items → OnOk result (AreLinked relation.now links.new.items) }
 {
     for reference in references {
-        if is_own || reference.relvar == relvar {
+        if reference.relvar == relvar {
             link_by(alloc, links, &reference.names, relation)?;
         }
     }
     Ok(())
 }
 
-/// Links that have the tuples, which are inserted into the relvar: one for each reference from it or to it.
-pub(crate) fn links_to(
+// Links that have the tuples, which are inserted into the relvar: one for each reference to it.
+fn referring_links(
     alloc: Global,
     dependencies: &[RelvarDependencies],
     relvar: usize,
@@ -56,16 +70,24 @@ pub(crate) fn links_to(
     ensures { IfOk result (λ v. AreLinked relation.now v.items) }
 {
     let mut links = Vec::new(alloc);
-    for place in 0..dependencies.len() {
-        let references = &dependencies[place].references;
-        link_references(
-            alloc,
-            &mut links,
-            references,
-            place == relvar,
-            relvar,
-            relation,
-        )?;
+    for own in dependencies {
+        link_referring(alloc, &mut links, &own.references, relvar, relation)?;
+    }
+    Ok(links)
+}
+
+/// Links that have the tuples, which are inserted into the relvar: one for each reference to it or from it.
+pub(crate) fn links_of(
+    alloc: Global,
+    dependencies: &Dependencies,
+    relvar: usize,
+    relation: &Relation,
+) -> Result<Vec<KeyIndex>, AllocError>
+    ensures { IfOk result (λ v. AreLinked relation.now v.items) }
+{
+    let mut links = referring_links(alloc, &dependencies.relvars, relvar, relation)?;
+    if let Some(own) = dependencies.at(relvar) {
+        link_all(alloc, &mut links, &own.references, relation)?;
     }
     Ok(links)
 }
