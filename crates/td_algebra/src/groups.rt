@@ -52,7 +52,7 @@ fn groups_of_runs(
     for at in 0..index.tuples.len() {
         if !index.repeats(at) {
             let tuple = &index.tuples[at];
-            let run = index.run(tuple);
+            let (run, _) = index.run_near(tuple, at);
             out.push(group_of_run(alloc, inner, outer, name, tuple, run)?)?;
         }
     }
@@ -71,7 +71,7 @@ pub fn group(
 {
     let inner = columns_in(alloc, names, r.heading())?;
     let outer = columns_out(alloc, names, r.heading())?;
-    let index = TupleIndex::new(alloc, r, &outer, r, &outer)?;
+    let index = TupleIndex::new(alloc, r, &outer, r, &outer, 0)?;
     let tuples = groups_of_runs(alloc, &inner, &outer, name, &index)?;
     let ty = TdType {
         kind: TypeKind::Relation(inner),

@@ -33,6 +33,7 @@ mod extension;
 mod fronts;
 mod gathered;
 mod groups;
+mod guides;
 mod index;
 mod join_counts;
 mod joins;

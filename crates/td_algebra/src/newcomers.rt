@@ -39,6 +39,6 @@ pub fn tell_apart_from(
     ensures { IfOk result (λ b. IsTrue b ↔ TellApartFrom names.now inserted.now after.now) }
 {
     let columns = columns_in(alloc, names, inserted.heading())?;
-    let index = TupleIndex::new(alloc, inserted, &columns, after, &columns)?;
+    let index = TupleIndex::new(alloc, inserted, &columns, after, &columns, after.len())?;
     Ok(find_themselves(&index, after.tuples()))
 }

@@ -75,7 +75,14 @@ pub fn summarize<E, W, F: Fn(&E, &Tuple) -> Result<Value, Fault<W>>>(
         Unless (RaisedBy (over_groups m relation.now per.now.heading) items.now per.now)
         (IsRelationOf (extended_columns items.now per.now.heading) (Extended (over_groups m relation.now per.now.heading) items.now per.now)) result }
 {
-    let index = TupleIndex::new(alloc, relation, per.heading(), per, per.heading())?;
+    let index = TupleIndex::new(
+        alloc,
+        relation,
+        per.heading(),
+        per,
+        per.heading(),
+        per.len(),
+    )?;
     summarize_groups(alloc, &index, per, items, f)
 }
 
@@ -107,7 +114,7 @@ fn sort_into_runs(
     ensures index { IfOk result (λ v. IsIndex relation.now (names_of v.1.heading) v.1 (names_of v.1.heading) v.0) }
 {
     let columns = columns_in(alloc, names, relation.heading())?;
-    let index = TupleIndex::new(alloc, relation, &columns, relation, &columns)?;
+    let index = TupleIndex::new(alloc, relation, &columns, relation, &columns, 0)?;
     let parts = parts_of_runs(alloc, &index, &columns)?;
     let per = Relation::from_tuples(columns, parts);
     let index = index.sought_by(alloc, &per)?;

@@ -27,6 +27,6 @@ pub fn tell_apart(alloc: Global, r: &Relation, names: &[Name]) -> Result<bool, A
     ensures { IfOk result (λ b. IsTrue b ↔ TellApart names.now r.now) }
 {
     let columns = columns_in(alloc, names, r.heading())?;
-    let index = TupleIndex::new(alloc, r, &columns, r, &columns)?;
+    let index = TupleIndex::new(alloc, r, &columns, r, &columns, 0)?;
     Ok(!has_repeats(&index))
 }

@@ -1,3 +1,4 @@
 pub mod Keyed
 pub mod Lists
+pub mod Replacing
 pub mod Returning

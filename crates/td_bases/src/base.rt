@@ -6,13 +6,15 @@ ghost use Rattle.std.specs.List.{All, filter};
 ghost use Rattle.std.specs.List.Sorted.{IsPermutation};
 ghost use Rattle.td_algebra.specs.KeyIndexes.{AreKeyIndexes, has_named, key_names, tuple_names};
 ghost use Rattle.td_bases.specs.Bases.{changed, changed_base};
-ghost use Rattle.td_bases.specs.ForProofs.Keyed.{IsIndexOf, first_key, keys_of};
+ghost use Rattle.td_bases.specs.ForProofs.Keyed.{IsIndexOf, IsReplaced, first_key, keys_of};
 ghost use Rattle.td_bases.specs.Ways.{LeadsBack};
 ghost use Rattle.td_relations.specs.Deltas.{IsApplied, inverse_of};
 ghost use Rattle.td_relations.specs.Sets.{IsRelation, body, tuple_set};
 ghost use Rattle.td_values.specs.Rows.{RowsData};
 
-use crate::by_keys::{by_first, copy_each, count, gain_each, keep_first, settle_each};
+use crate::by_keys::{
+    by_first, copy_each, count, gain_each, keep_first, replaced_place, settle_each,
+};
 use crate::ways::{Rooms, WayBack};
 use sqlite_items::Items;
 use std::alloc::{AllocError, Global};
@@ -38,8 +40,8 @@ fn take_inserted(relation: &mut Relation, delta: &Delta)
     take_out(relation, delta.inserted().tuples());
 }
 
-// Makes the change in a relation, and its indexes go along.
-fn change(
+// Makes the change in a relation, and each index goes along by searches and shifts.
+fn change_by_indexes(
     alloc: Global,
     relation: &mut Relation,
     indexes: &mut Vec<KeyIndex>,
@@ -98,6 +100,50 @@ fn undo(
             settle_each(indexes, relation, delta.deleted(), relation);
             Err(error)
         }
+    }
+}
+
+// Makes a change of one tuple for another one that stands where the first one stood in the one index.
+fn change_at(
+    alloc: Global,
+    relation: &mut Relation,
+    indexes: &mut Vec<KeyIndex>,
+    delta: &Delta,
+    at: usize,
+) -> Result<(), AllocError>
+    requires heading { delta.now.inserted.heading ≡ relation.old.heading }
+    requires of { All (IsIndexOf relation.old) indexes.old.items }
+    requires at { IsReplaced relation.old indexes.old.items delta.now.deleted delta.now.inserted at }
+    ensures ok { OnOk result (IsApplied relation.old delta.now relation.new) }
+    ensures err { OnErr result (relation.new ≡ relation.old) }
+    ensures of { All (IsIndexOf relation.new) indexes.new.items }
+    ensures keys { keys_of indexes.new.items ≡ keys_of indexes.old.items }
+{
+    relation.rows_fit();
+    delta.inserted().rows_fit();
+    let more = delta.inserted().tuples()[0].copy()?;
+    apply(alloc, relation, delta)?;
+    indexes[0].replace_at(at, more);
+    Ok(())
+}
+
+// Makes the change in a relation, and its indexes go along.
+fn change(
+    alloc: Global,
+    relation: &mut Relation,
+    indexes: &mut Vec<KeyIndex>,
+    delta: &Delta,
+) -> Result<(), AllocError>
+    requires heading { delta.now.inserted.heading ≡ relation.old.heading }
+    requires of { All (IsIndexOf relation.old) indexes.old.items }
+    ensures ok { OnOk result (IsApplied relation.old delta.now relation.new) }
+    ensures err { OnErr result (relation.new ≡ relation.old) }
+    ensures of { All (IsIndexOf relation.new) indexes.new.items }
+    ensures keys { keys_of indexes.new.items ≡ keys_of indexes.old.items }
+{
+    match replaced_place(indexes, relation, delta.deleted(), delta.inserted()) {
+        Some(at) => change_at(alloc, relation, indexes, delta, at),
+        None => change_by_indexes(alloc, relation, indexes, delta),
     }
 }
 

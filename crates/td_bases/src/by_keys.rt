@@ -1,11 +1,12 @@
 //! A relation's tuples by its keys: by the first one always, and by the others where that pays.
 
-ghost use Rattle.std.specs.Prelude.{◌≡◌, ◌<◌, length, IfOk, OnErr, OnOk};
+ghost use Rattle.std.specs.Prelude.{◌≡◌, false, ◌<◌, length, IfOk, IfSome, OnErr, OnOk};
 ghost use Rattle.std.specs.List.{All};
 ghost use Rattle.std.specs.FinSet as set;
+ghost use Rattle.td_algebra.specs.KeyIndexes.{IsReplaceable};
 ghost use Rattle.td_relations.specs.Sets.{Has, body};
 ghost use Rattle.td_tuples.specs.Parts.{Fits};
-ghost use Rattle.td_bases.specs.ForProofs.Keyed.{AreFresh, IsBeyond, IsIndexOf, Tells, first_key, keys_of, with_more};
+ghost use Rattle.td_bases.specs.ForProofs.Keyed.{AreFresh, IsBeyond, IsIndexOf, IsReplaced, Tells, first_key, keys_of, with_more};
 
 use sqlite_items::Items;
 use std::alloc::{AllocError, Global};
@@ -44,6 +45,44 @@ fn has(index: &KeyIndex, relation: &Relation, tuple: &Tuple) -> bool
 {
     relation.rows_fit();
     index.with_key_of(tuple).contains(tuple)
+}
+
+// Where the index has the first tuple, if the relation lacks the second one and that has its part at the key.
+fn place_for(index: &KeyIndex, relation: &Relation, gone: &Tuple, more: &Tuple) -> Option<usize>
+    requires of { IsIndexOf relation.now index.now }
+    requires fits { Fits index.now.heading more.now }
+    ensures place { IfSome result (IsReplaceable gone.now more.now index.now) }
+    ensures fresh { IfSome result (λ _. set.contains (body relation.now) more.now ≡ false) }
+{
+    if has(index, relation, more) {
+        None
+    } else {
+        index.replaceable_place(gone, more)
+    }
+}
+
+/// Where the one index has the one tuple that is taken out, if the one that is put in is new and may stand there.
+pub(crate) fn replaced_place(
+    indexes: &[KeyIndex],
+    relation: &Relation,
+    deleted: &Relation,
+    inserted: &Relation,
+) -> Option<usize>
+    requires heading { inserted.now.heading ≡ relation.now.heading }
+    requires of { All (IsIndexOf relation.now) indexes.now }
+    ensures { IfSome result (IsReplaced relation.now indexes.now deleted.now inserted.now) }
+{
+    inserted.rows_fit();
+    if indexes.len() == 1 && deleted.tuples().len() == 1 && inserted.tuples().len() == 1 {
+        place_for(
+            &indexes[0],
+            relation,
+            &deleted.tuples()[0],
+            &inserted.tuples()[0],
+        )
+    } else {
+        None
+    }
 }
 
 // Puts the one tuple in that there is, where the relation lacks it. It costs a search more than putting it in.

@@ -7,7 +7,9 @@ ghost use Rattle.td_incremental.specs.ForProofs.Deciding as spec;
 ghost use Rattle.td_incremental.specs.ForProofs.Deciding.{AreGrowths, AreWide};
 ghost use Rattle.td_incremental.specs.Safety.{IsSafe, Widens};
 
-use crate::watching::{Growth, is_and, is_at_least, is_at_most, is_unread, virtual_growths};
+use crate::watching::{
+    Growth, is_and, is_at_least, is_at_most, is_unread, places_noted, virtual_growths,
+};
 use std::alloc::{AllocError, Global};
 use td_headings::{Catalogue, Origin, TypedExpr};
 use td_syntax::tree::{BinaryOperator, UnaryOperator};
@@ -104,7 +106,7 @@ fn wide_virtuals(
 ) -> Result<Vec<bool>, AllocError>
     ensures { IfOk result (λ v. AreWide catalogue.now relvar v.items) }
 {
-    let mut wide = none_wide(alloc, catalogue.schema().relvar_count())?;
+    let mut wide = none_wide(alloc, places_noted(catalogue, virtuals))?;
     for under in virtuals {
         let made = virtual_widens(catalogue, &wide, relvar, under.place);
         put_at(&mut wide, under.place, made);

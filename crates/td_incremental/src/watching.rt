@@ -157,8 +157,8 @@ fn all_unread(catalogue: &Catalogue, known: &[Growth], relvar: usize, places: &[
 
 // ---- of expressions
 
-// Whether nothing in the expression reads the relvar. It costs its size.
-pub(crate) fn is_unread(
+// Whether no relvar that the expression mentions reads the relvar. It costs its size, and memory for what it mentions.
+fn mentions_unread(
     alloc: Global,
     catalogue: &Catalogue,
     known: &[Growth],
@@ -172,6 +172,23 @@ pub(crate) fn is_unread(
     add_mentions(&mut mentions, tree)?;
     let places = relvars_in(alloc, &mentions)?;
     Ok(all_unread(catalogue, known, relvar, &places))
+}
+
+// Whether nothing in the expression reads the relvar. It costs its size.
+pub(crate) fn is_unread(
+    alloc: Global,
+    catalogue: &Catalogue,
+    known: &[Growth],
+    relvar: usize,
+    tree: &Typed,
+) -> Result<bool, AllocError>
+    requires { AreGrowths catalogue.now relvar known.now }
+    ensures { IfOk result (λ b. b ≡ true → IsUnread catalogue.now relvar tree.now) }
+{
+    match tree {
+        Typed::Relvar(place) => Ok(is_unread_relvar(catalogue, known, relvar, *place)),
+        _ => mentions_unread(alloc, catalogue, known, relvar, tree),
+    }
 }
 
 // Whether nothing in the terms of these items reads the relvar.
@@ -363,6 +380,15 @@ fn virtual_growth(
     }
 }
 
+/// So many places a list by relvars needs: none where there is no virtual relvar to be noted.
+pub(crate) fn places_noted(catalogue: &Catalogue, virtuals: &[VirtualUnder]) -> usize {
+    if virtuals.is_empty() {
+        0
+    } else {
+        catalogue.schema().relvar_count()
+    }
+}
+
 // The growths of these virtual relvars, which come in order of definition, by place; all others may gain anything.
 pub(crate) fn virtual_growths(
     alloc: Global,
@@ -372,7 +398,7 @@ pub(crate) fn virtual_growths(
 ) -> Result<Vec<Growth>, AllocError>
     ensures { IfOk result (λ v. AreGrowths catalogue.now relvar v.items) }
 {
-    let mut known = nothing_known(alloc, catalogue.schema().relvar_count())?;
+    let mut known = nothing_known(alloc, places_noted(catalogue, virtuals))?;
     for under in virtuals {
         let made = virtual_growth(alloc, catalogue, &known, relvar, under.place)?;
         put_at(&mut known, under.place, made);

@@ -12,7 +12,7 @@ use Rattle.td_values.specs.Data.{Attrs}
 use Rattle.td_values.specs.Order.{attrs_order}
 use Rattle.td_values.specs.Proving.Total.{attrs_order_total, attrs_tied}
 use Rattle.td_relations.specs.Sets.{TupleSet, tuple_set}
-use Rattle.td_relations.specs.ForProofs.Places.{AreAbove, AreBelow}
+use Rattle.td_relations.specs.ForProofs.Places.{AreAbove, AreAboveFrom, AreBelow}
 use Rattle.td_relations.proofs.Edits.{difference_nothing, less_one, more_one, union_nothing}
 use Rattle.td_relations.proofs.Sorted.{body_insert, body_remove, sorted_insert, sorted_remove}
 
@@ -28,7 +28,7 @@ greater Greater e = refl
 
 -- what is above the one before the place is above all before it, and the other way round
 module _ (ts : List Attrs) (at : ℕ) (t x : Attrs) (up : IsStrictlySortedBy attrs_order ts) (b : Bool) where
-  pub above_all : at < length ts → 0 < at → x ≡ get_or ts (at - 1) x → b ≡ is_lt (attrs_order x t) → IsTrue b → AreBelow ts at t
+  pub above_all : at ≤ length ts → 0 < at → x ≡ get_or ts (at - 1) x → b ≡ is_lt (attrs_order x t) → IsTrue b → AreBelow ts at t
   above_all inside some is e is_so k d low = by (eq-or-lt_of_le (let le : k ≤ at - 1 = omega arith in le))
     where
       here : attrs_order (get_or ts (at - 1) d) t ≡ Less
@@ -38,18 +38,21 @@ module _ (ts : List Attrs) (at : ℕ) (t x : Attrs) (up : IsStrictlySortedBy att
       by (inl q) = ap (λ n. attrs_order (get_or ts n d) t) q ∙ here
       by (inr l) = attrs_order_total.trans (get_or ts k d) (get_or ts (at - 1) d) t (Less-from_sorted attrs_order ts k (at - 1) d up l (omega arith)) here
 
-  pub below_all : at + 1 < length ts → x ≡ get_or ts (at + 1) x → b ≡ is_gt (attrs_order x t) → IsTrue b → AreAbove ts at t
-  below_all inside is e is_so k d behind low = by (eq-or-lt_of_le (let le : at + 1 ≤ k = omega arith in le))
+  pub below_from : at < length ts → x ≡ get_or ts at x → b ≡ is_gt (attrs_order x t) → IsTrue b → AreAboveFrom ts at t
+  below_from inside is e is_so k d from low = by (eq-or-lt_of_le from)
     where
-      here : attrs_order t (get_or ts (at + 1) d) ≡ Less
-      here = attrs_order_total.antisymm t (get_or ts (at + 1) d) ∙ ap ordering_reverse (ap (λ y. attrs_order y t) (get_or_default ts (at + 1) d x inside ∙ sym is) ∙ greater (attrs_order x t) (sym e ∙ is_so))
+      here : attrs_order t (get_or ts at d) ≡ Less
+      here = attrs_order_total.antisymm t (get_or ts at d) ∙ ap ordering_reverse (ap (λ y. attrs_order y t) (get_or_default ts at d x inside ∙ sym is) ∙ greater (attrs_order x t) (sym e ∙ is_so))
 
       there : (n : ℕ) → attrs_order t (get_or ts n d) ≡ Less → attrs_order (get_or ts n d) t ≡ Greater
       there n l = attrs_order_total.antisymm (get_or ts n d) t ∙ ap ordering_reverse l
 
-      by : (at + 1 ≡ k) ⊎ (at + 1 < k) → attrs_order (get_or ts k d) t ≡ Greater
+      by : (at ≡ k) ⊎ (at < k) → attrs_order (get_or ts k d) t ≡ Greater
       by (inl q) = there k (ap (λ n. attrs_order t (get_or ts n d)) (sym q) ∙ here)
-      by (inr l) = there k (attrs_order_total.trans t (get_or ts (at + 1) d) (get_or ts k d) here (Less-from_sorted attrs_order ts (at + 1) k d up l low))
+      by (inr l) = there k (attrs_order_total.trans t (get_or ts at d) (get_or ts k d) here (Less-from_sorted attrs_order ts at k d up l low))
+
+pub below_all : (ts : List Attrs) (at : ℕ) (t x : Attrs) → IsStrictlySortedBy attrs_order ts → (b : Bool) → at + 1 < length ts → x ≡ get_or ts (at + 1) x → b ≡ is_gt (attrs_order x t) → IsTrue b → AreAbove ts at t
+below_all ts at t x up b inside is e is_so k d behind low = below_from ts (at + 1) t x up b inside is e is_so k d (omega arith) low
 
 -- ---- to write a tuple over another one is to take that out and to put this one in
 written_over : (ts : List Attrs) (at : ℕ) (t : Attrs) → at < length ts → set ts at t ≡ insert (remove ts at) at t

@@ -6,7 +6,7 @@ ghost use Rattle.std.specs.Ordering.{eq_by_cmp};
 ghost use Rattle.std.specs.List.Sorted.{IsStrictlySortedBy};
 ghost use Rattle.td_values.specs.Alike.{AreAlike};
 ghost use Rattle.td_values.specs.Order.{attrs_order};
-ghost use Rattle.td_relations.specs.ForProofs.Places.{AreAbove, AreBelow};
+ghost use Rattle.td_relations.specs.ForProofs.Places.{AreAbove, AreAboveFrom, AreBelow};
 ghost use Rattle.td_relations.specs.Sets.{tuple_set, IsAt, IsGapFor};
 
 use std::alloc::AllocError;
@@ -23,12 +23,76 @@ pub fn without_repeats(tuples: Vec<Tuple>) -> Vec<Tuple>
     tuples
 }
 
-/// Where the tuple is, or where it would go.
+// Whether the tuple is above those before the place.
+fn is_above(tuples: &[Tuple], at: usize, tuple: &Tuple) -> bool
+    requires at { at ≤ length tuples.now }
+    requires ascend { IsStrictlySortedBy attrs_order tuples.now }
+    ensures { IsTrue result → AreBelow tuples.now at tuple.now }
+{
+    if at == 0 {
+        return true;
+    }
+    tuples[at - 1].cmp(tuple).is_lt()
+}
+
+// Whether it is below the one at the place, if there is one.
+fn is_below_first(tuples: &[Tuple], at: usize, tuple: &Tuple) -> bool
+    requires at { at ≤ length tuples.now }
+    requires ascend { IsStrictlySortedBy attrs_order tuples.now }
+    ensures { IsTrue result → AreAboveFrom tuples.now at tuple.now }
+{
+    if at == tuples.len() {
+        return true;
+    }
+    tuples[at].cmp(tuple).is_gt()
+}
+
+// Whether the tuple is at the place.
+fn is_at(tuples: &[Tuple], at: usize, tuple: &Tuple) -> bool
+    ensures { IsTrue result → IsAt tuples.now tuple.now at }
+{
+    if at < tuples.len() {
+        tuples[at] == *tuple
+    } else {
+        false
+    }
+}
+
+// Whether the tuple would go to the place.
+fn is_gap(tuples: &[Tuple], at: usize, tuple: &Tuple) -> bool
+    requires { IsStrictlySortedBy attrs_order tuples.now }
+    ensures { IsTrue result → IsGapFor tuples.now tuple.now at }
+{
+    if at <= tuples.len() {
+        is_above(tuples, at, tuple) && is_below_first(tuples, at, tuple)
+    } else {
+        false
+    }
+}
+
+// Whether the tuple is there, or would go there.
+fn is_place(tuples: &[Tuple], tuple: &Tuple, place: Result<usize, usize>) -> bool
+    requires { IsStrictlySortedBy attrs_order tuples.now }
+    ensures found { IsTrue result → IfOk place (IsAt tuples.now tuple.now) }
+    ensures absent { IsTrue result → IfErr place (IsGapFor tuples.now tuple.now) }
+{
+    match place {
+        Ok(at) => is_at(tuples, at, tuple),
+        Err(at) => is_gap(tuples, at, tuple),
+    }
+}
+
+/// Where the tuple is, or where it would go. Its names are compared at the end alone: tuples of one heading are in the
+/// order of their values.
 pub fn place(tuples: &[Tuple], tuple: &Tuple) -> Result<usize, usize>
     requires { IsStrictlySortedBy attrs_order tuples.now }
     ensures found { IfOk result (IsAt tuples.now tuple.now) }
     ensures absent { IfErr result (IsGapFor tuples.now tuple.now) }
 {
+    let by_values = tuples.binary_search_by(|t| compare_values(t, tuple));
+    if is_place(tuples, tuple, by_values) {
+        return by_values;
+    }
     tuples.binary_search(tuple)
 }
 
@@ -101,18 +165,6 @@ pub fn put_in_all(tuples: &mut Vec<Tuple>, inserted: Vec<Tuple>)
     for tuple in inserted {
         put_in(tuples, tuple);
     }
-}
-
-// Whether the tuple is above those before the place.
-fn is_above(tuples: &[Tuple], at: usize, tuple: &Tuple) -> bool
-    requires at { at < length tuples.now }
-    requires ascend { IsStrictlySortedBy attrs_order tuples.now }
-    ensures { IsTrue result → AreBelow tuples.now at tuple.now }
-{
-    if at == 0 {
-        return true;
-    }
-    tuples[at - 1].cmp(tuple).is_lt()
 }
 
 // Whether it is below those behind it.

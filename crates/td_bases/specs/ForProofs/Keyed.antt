@@ -1,5 +1,5 @@
 -- A relation's tuples by its keys, and what becomes of them where it changes.
-use Rattle.std.specs.Prelude.{◌≡◌, ◌⊎◌, ◌<◌, ◌≤◌, ℕ, List, [], ◌∷◌, length, map, get_or}
+use Rattle.std.specs.Prelude.{◌≡◌, false, ◌⊎◌, ◌<◌, ◌≤◌, ℕ, List, [], ◌∷◌, length, map, get_or}
 use Rattle.std.specs.FinSet as set
 use Rattle.std.specs.List.{All}
 use Rattle.std.specs.List.Sorted.{IsStrictlySortedBy}
@@ -8,7 +8,7 @@ use Rattle.td_values.specs.Order.{attrs_order}
 use Rattle.td_values.specs.Rows.{RowsData}
 use Rattle.td_relations.specs.Sets.{Has, body, relation_of, tuple_set}
 use Rattle.td_tuples.specs.Parts.{Fits}
-use Rattle.td_algebra.specs.KeyIndexes.{KeyIndexData, IsKeyIndex}
+use Rattle.td_algebra.specs.KeyIndexes.{IsKeyIndex, IsReplaceable, KeyIndexData}
 
 -- x has the tuples of r, by its own key
 abbrev pub IsIndexOf : RowsData → KeyIndexData → Type 0
@@ -54,3 +54,14 @@ pub record AreFresh (r i : RowsData) (ts : List Attrs) : Type 0 where
 -- t stands among these from the place on
 abbrev pub IsLeft : ℕ → List Attrs → Attrs → Type 0
 IsLeft k ts t = (i : ℕ) × (k ≤ i) × (i < length ts) × (get_or ts i t ≡ t)
+
+-- o has one tuple and i another one that r lacks: the one index has the first at this place, where the second may stand
+pub record IsReplaced (r : RowsData) (xs : List KeyIndexData) (o i : RowsData) (at : ℕ) : Type 0 where
+  pub index : KeyIndexData
+  pub gone : Attrs
+  pub more : Attrs
+  pub only_index : xs ≡ index ∷ []
+  pub only_gone : o.tuples ≡ gone ∷ []
+  pub only_more : i.tuples ≡ more ∷ []
+  pub replaceable : IsReplaceable gone more index at
+  pub fresh : set.contains (body r) more ≡ false

@@ -18,7 +18,7 @@ pub group_of_run-requires : goal.group_of_run-requires
 group_of_run-requires c =
     let x = c.args.index.now in
     let P : Attrs → Type 0 = λ t. Fits c.args.inner.now (cut (names_of c.args.inner.now) t) in
-    subst (All P) (sym c.run-run.ensures) (All-filter (has_values x.places.items (values_at x.others.items c.index-tuple.result.now)) P x.tuples.items c.requires.fit)
+    subst (All P) (sym c.run_near.ensures) (All-filter (has_values x.places.items (values_at x.others.items c.index-tuple.result.now)) P x.tuples.items c.requires.fit)
 
 pub loop-at-preserved : goal.loop-at-preserved
 loop-at-preserved c =
@@ -36,7 +36,7 @@ loop-at-preserved c =
           let u = w.in_ok-group_of_run.field-0 in
           let is = w.index-tuple.ensures in
           let P : Attrs → Type 0 = λ t. found x t ≡ filter (has_part (names_of outer) (cut (names_of outer) t)) es in
-          let run = w.run-run.ensures ∙ at_item P es i t within is c.requires.by_parts.finds in
+          let run = w.run_near.ensures ∙ at_item P es i t within is c.requires.by_parts.finds in
           let holds = subst (λ ts. HoldsTuples inner name (cut (names_of outer) t) (map (cut (names_of inner)) ts) u) run w.in_ok-group_of_run.ensures in
           subst (λ us. AreGroups inner outer name es (take (i + 1) es) us) (sym (ap (λ v. v.items) w.out-is ∙ w.in_ok-push.ensures.items))
           (subst (λ ts. AreGroups inner outer name es ts (c.loop-at.out.items ++ u ∷ [])) (sym (taken es i t within is))

@@ -4,7 +4,7 @@ use Rattle.td_values.specs.Rows.{RowsData}
 use Rattle.td_relations.specs.Sets.{Has}
 use Rattle.td_bases.specs.ForProofs.Keyed.{IsBeyond, IsIndexOf, Tells, with_more}
 use Rattle.td_bases.proofs.Keyed.{all_new, all_old, told_by_inserted}
-use Rattle.td_bases.proofs.base.change.Goals as goal
+use Rattle.td_bases.proofs.base.change_by_indexes.Goals as goal
 
 pub settle_each-requires-clause-beyond : goal.settle_each-requires-clause-beyond
 settle_each-requires-clause-beyond c =

@@ -1,7 +1,7 @@
 use Rattle.std.proofs.Common.{◌++◌, ap, ◌∙◌}
 use Rattle.td_typed_trees.specs.Mentions.{mentioned}
 use Rattle.td_incremental.proofs.Deciding.{unread_by}
-use Rattle.td_incremental.proofs.watching.is_unread.Goals as goal
+use Rattle.td_incremental.proofs.watching.mentions_unread.Goals as goal
 
 pub returns : goal.returns
 returns c =
