@@ -8,6 +8,7 @@ ghost use Rattle.td_values.specs.Order.{text_cmp};
 ghost use Rattle.td_values.specs.TextOrder.{text_total, text_equivalence, text_partial_equivalence, text_partial_order, text_hashed};
 ghost use Rattle.td_values.specs.declared.names.NameError.TheVariants.{BadName, OutOfMemory};
 
+use crate::texts::compare_bytes;
 use std::alloc::{AllocError, Global};
 use std::cmp::Ordering;
 use std::hash::{Hash, Hasher};
@@ -119,7 +120,7 @@ impl Name {
     pub fn compare(&self, other: &Name) -> Ordering
         ensures { result ≡ text_cmp self.now other.now }
     {
-        self.text.as_str().cmp(other.text.as_str())
+        compare_bytes(self.text.as_str(), other.text.as_str())
     }
 }
 

@@ -107,8 +107,34 @@ impl Text {
     pub fn compare(&self, other: &Text) -> Ordering
         ensures { result ≡ text_cmp self.now other.now }
     {
-        self.as_str().cmp(other.as_str())
+        compare_bytes(self.as_str(), other.as_str())
     }
+}
+
+// The order of texts by their bytes, one by one. `str::cmp` makes numbers of eight bytes each, which pays where texts
+// begin alike: most do not, or are short.
+fn compare_each(a: &[u8], b: &[u8]) -> Ordering
+    ensures { result ≡ text_cmp a.now b.now }
+{
+    let mut i = 0;
+    while i < a.len() && i < b.len() {
+        let ordering = a[i].cmp(&b[i]);
+        if ordering != Ordering::Equal {
+            return ordering;
+        }
+        i += 1;
+    }
+    a.len().cmp(&b.len())
+}
+
+/// The order of texts by their bytes, which is that of their characters' code points.
+pub(crate) fn compare_bytes(a: &str, b: &str) -> Ordering
+    ensures { result ≡ text_cmp a.now b.now }
+{
+    if a.len() > SHORT && b.len() > SHORT {
+        return a.cmp(b);
+    }
+    compare_each(a.as_bytes(), b.as_bytes())
 }
 
 impl PartialEq for Text {
