@@ -162,6 +162,33 @@ pub one_more_on : {E : Type 0} (r i : RowsData) (t : Attrs) (x y : KeyIndexData)
 one_more_on r i t x y fresh up is (Ok u) more = gained r i (t ∷ []) fresh x y up is (record { heading = more.heading; key = more.key; tuples = more.tuples })
 one_more_on r i t x y fresh up is (Err e) more = tt
 
+-- where the index puts it in if it lacks it
+module _ {E : Type 0} (a : Result (Unit {0}) E) where
+  on_ok : (P Q : Type 0) → (P → Q) → OnOk a P → OnOk a Q
+  on_ok P Q f p = elim a as (λ a. OnOk a P → OnOk a Q) [ Ok u ↦ f | Err e ↦ λ _. tt ] p
+
+  either_way : (P Q : Type 0) → (P → Q) → OnOk a Q → OnErr a P → Q
+  either_way P Q f ok err = elim a as (λ a. OnOk a Q → OnErr a P → Q) [ Ok u ↦ λ q _. q | Err e ↦ λ _ p. f p ] ok err
+
+module _ {E : Type 0} (r i : RowsData) (t : Attrs) (x y : KeyIndexData) (a : Result (Unit {0}) E) (is : IsIndexOf r x) (more : ¬ (Contains x.tuples t) → OnOk a (HasOneMore t x y)) (same : Contains x.tuples t → OnOk a (y ≡ x)) where
+  there : Has r t → Contains x.tuples t
+  there has = in_contains x.tuples t (of_entry r x.tuples is.tuples t has)
+
+  not_there : set.contains (body r) t ≡ false → ¬ (Contains x.tuples t)
+  not_there e c = true≢false (sym (entry_of r x.tuples is.tuples t (contains_in x.tuples t c)) ∙ e)
+
+  pub put_in_once : IsStrictlySortedBy attrs_order r.tuples → IsStrictlySortedBy attrs_order i.tuples → i.tuples ≡ t ∷ [] → All (Fits r.heading) i.tuples → OnOk a (IsIndexOf (with_more r i) y)
+  put_in_once up rising one fit = elim (set.contains (body r) t) as (λ b. set.contains (body r) t ≡ b → OnOk a (IsIndexOf (with_more r i) y)) [
+    | true ↦ λ e. on_ok a (y ≡ x) (IsIndexOf (with_more r i) y) (λ q. subst (IsIndexOf (with_more r i)) (sym q) (subst (λ w. IsIndexOf w x) (sym (nothing_more r i up (all_there r i t one e))) is)) (same (there e))
+    | false ↦ λ e. one_more_on r i t x y (one_fresh r i t rising one e fit) up is a (more (not_there e))
+  ] refl
+
+  pub put_in_by_key : OnErr a (y ≡ x) → y.key ≡ x.key
+  put_in_by_key err = elim (set.contains (body r) t) as (λ b. set.contains (body r) t ≡ b → y.key ≡ x.key) [
+    | true ↦ λ e. either_way a (y ≡ x) (y.key ≡ x.key) (ap (λ (z : KeyIndexData). z.key)) (on_ok a (y ≡ x) (y.key ≡ x.key) (ap (λ (z : KeyIndexData). z.key)) (same (there e))) err
+    | false ↦ λ e. either_way a (y ≡ x) (y.key ≡ x.key) (ap (λ (z : KeyIndexData). z.key)) (on_ok a (HasOneMore t x y) (y.key ≡ x.key) (λ m. m.key) (more (not_there e))) err
+  ] refl
+
 -- ---- which tuples stay
 of_none : (a : Bool) → (a && not true) ≡ false
 of_none true = refl

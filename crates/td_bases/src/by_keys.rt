@@ -85,7 +85,7 @@ pub(crate) fn replaced_place(
     }
 }
 
-// Puts the one tuple in that there is, where the relation lacks it. It costs a search more than putting it in.
+// Puts the one tuple in that there is, where the relation lacks it.
 fn gain_one(
     index: &mut KeyIndex,
     relation: &Relation,
@@ -100,12 +100,7 @@ fn gain_one(
 {
     relation.rows_fit();
     inserted.rows_fit();
-    let tuple = &inserted.tuples()[0];
-    if has(index, relation, tuple) {
-        Ok(())
-    } else {
-        index.insert(tuple.copy()?)
-    }
+    index.insert_absent(&inserted.tuples()[0])
 }
 
 // Puts in what the relation lacks of these tuples.

@@ -66,10 +66,14 @@ all_new (n ∷ ns) = all_new ns
 pub from_none : (ns : List Name) → distinct_after [] ns ≡ are_distinct ns
 from_none ns = after [] ns ∙ ap (λ b. b && are_distinct ns) (all_new ns)
 
+-- the names from a place on
+next : (ns : List Name) (i : ℕ) (n : Name) → i < length ns → n ≡ get_or ns i n → drop i ns ≡ n ∷ drop (i + 1) ns
+next ns i n within is = rw add-one (drop-cons ns i n within ∙ ap (λ m. m ∷ drop (suc i) ns) (sym is))
+
 -- a step of the walk whose name was not new, and its end
 module _ (ns : List Name) (i : ℕ) (n : Name) (within : i < length ns) (is : n ≡ get_or ns i n) (seen : List Name) (new : Bool) (told : new ≡ not (is_in seen n)) where
   opened : drop i ns ≡ n ∷ drop (i + 1) ns
-  opened = rw add-one (drop-cons ns i n within ∙ ap (λ m. m ∷ drop (suc i) ns) (sym is))
+  opened = next ns i n within is
 
   pub stops : new ≡ false → distinct_after seen (drop i ns) ≡ false
   stops f = ap (distinct_after seen) opened ∙ ap (λ b. b && distinct_after (seen ++ n ∷ []) (drop (i + 1) ns)) (sym told ∙ f)

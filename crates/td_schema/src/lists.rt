@@ -15,11 +15,26 @@ use indexmap::IndexSet;
 use sqlite_items::Items;
 use std::alloc::{AllocError, Global};
 use td_syntax::tree::{Attributes, Named, Renaming};
-use td_tuples::{columns_out, name_after};
+use td_tuples::{columns_out, is_in, name_after};
 use td_values::{Heading, Name};
 
-/// Whether no name stands twice. Each is hashed once.
-pub fn are_distinct(alloc: Global, names: &[Name]) -> Result<bool, AllocError>
+// So few names are compared with one another, which costs less than to hash them.
+const FEW: usize = 8;
+
+// Whether no name stands twice, by comparing each with those behind it.
+fn are_few_distinct(names: &[Name]) -> bool
+    ensures { result ≡ spec.are_distinct names.now }
+{
+    for at in 0..names.len() {
+        if is_in(&names[at + 1..], &names[at]) {
+            return false;
+        }
+    }
+    true
+}
+
+// Whether no name stands twice, by hashing each once.
+fn are_many_distinct(alloc: Global, names: &[Name]) -> Result<bool, AllocError>
     ensures { IfOk result (λ distinct. distinct ≡ spec.are_distinct names.now) }
 {
     let mut seen: IndexSet<Name> = IndexSet::new(alloc);
@@ -29,6 +44,16 @@ pub fn are_distinct(alloc: Global, names: &[Name]) -> Result<bool, AllocError>
         }
     }
     Ok(true)
+}
+
+/// Whether no name stands twice. Each of many is hashed once.
+pub fn are_distinct(alloc: Global, names: &[Name]) -> Result<bool, AllocError>
+    ensures { IfOk result (λ distinct. distinct ≡ spec.are_distinct names.now) }
+{
+    if names.len() <= FEW {
+        return Ok(are_few_distinct(names));
+    }
+    are_many_distinct(alloc, names)
 }
 
 /// The names of the parts, shared.

@@ -1,7 +1,7 @@
 use Rattle.std.proofs.Common.{not, ap, sym, ◌∙◌, arith}
 use Rattle.td_tuples.specs.Parts.{is_in}
 use Rattle.td_schema.proofs.Distinct.{from_none, stops, ended}
-use Rattle.td_schema.proofs.lists.are_distinct.Goals as goal
+use Rattle.td_schema.proofs.lists.are_many_distinct.Goals as goal
 
 pub returns-then-not-branch : goal.returns-then-not-branch
 returns-then-not-branch c =
