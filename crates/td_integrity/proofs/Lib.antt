@@ -2,6 +2,7 @@
 pub mod Keys
 pub mod Tested
 pub mod Judged
+pub mod Agreeing
 pub mod Apart
 pub mod Legal
 pub mod TreeReads

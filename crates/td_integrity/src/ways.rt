@@ -10,6 +10,7 @@ ghost use Rattle.td_integrity.specs.ForProofs.Changed as spec;
 ghost use Rattle.td_integrity.specs.ForProofs.Gaining.{AreWays, IsWay};
 ghost use Rattle.td_integrity.specs.ForProofs.Leaving.{HasPartIn, KeepsReferences, LeavesParts};
 ghost use Rattle.td_tuples.specs.Parts.{Fits};
+ghost use Rattle.td_values.specs.Attributes.{attribute_of};
 ghost use Rattle.td_typed_trees.specs.declared.expression.BaseUnder as declared_base;
 
 use crate::losses::{Losses, parts_of};
@@ -20,7 +21,7 @@ use td_headings::{Catalogue, TypedExpr};
 use td_incremental::{is_base_relvar, is_safe, is_watched, referring, sole_reference};
 use td_relations::{Delta, Relation};
 use td_typed_trees::expression::BaseUnder;
-use td_values::{Name, Tuple};
+use td_values::{Name, Tuple, compare};
 
 /// The relvars after changes, but of one what it gained.
 #[derive(Drop)]
@@ -103,15 +104,69 @@ fn have_parts(index: &KeyIndex, tuples: &[Tuple]) -> bool
     true
 }
 
+// Whether both tuples have one value at the name, or none.
+fn agree_at(a: &Tuple, b: &Tuple, name: &Name) -> bool
+    ensures { result ≡ true → attribute_of name.now a.now ≡ attribute_of name.now b.now }
+{
+    match (a.get(name), b.get(name)) {
+        (Some(x), Some(y)) => compare(x, y).is_eq(),
+        (None, None) => true,
+        _ => false,
+    }
+}
+
+// Whether both tuples agree at each of the names.
+fn agree(a: &Tuple, b: &Tuple, names: &[Name]) -> bool
+    ensures { result ≡ true → All (λ n. attribute_of n a.now ≡ attribute_of n b.now) names.now }
+{
+    for name in names {
+        if !agree_at(a, b, name) {
+            return false;
+        }
+    }
+    true
+}
+
+// Whether the change takes one tuple out, and puts one in that agrees with it at the names.
+fn leaves_one_part(names: &[Name], delta: &Delta) -> bool
+    ensures { result ≡ true → LeavesParts names.now delta.now }
+{
+    delta.headings_agree();
+    delta.deleted().rows_fit();
+    delta.inserted().rows_fit();
+    if delta.deleted().tuples().len() == 1 && delta.inserted().tuples().len() == 1 {
+        agree(
+            &delta.inserted().tuples()[0],
+            &delta.deleted().tuples()[0],
+            names,
+        )
+    } else {
+        false
+    }
+}
+
 // Whether each tuple that the change takes out leaves its part at the names to one that it puts in. For n and m tuples
 // it costs a sort of m and n searches.
-fn leaves_parts(alloc: Global, names: &[Name], delta: &Delta) -> Result<bool, AllocError>
+fn leave_parts(alloc: Global, names: &[Name], delta: &Delta) -> Result<bool, AllocError>
     ensures { IfOk result (λ b. b ≡ true → LeavesParts names.now delta.now) }
 {
     delta.headings_agree();
     delta.deleted().rows_fit();
     let index = KeyIndex::new(alloc, delta.inserted(), names)?;
     Ok(have_parts(&index, delta.deleted().tuples()))
+}
+
+// The same. Where it puts none in, or one in place of one, it takes no memory.
+fn leaves_parts(alloc: Global, names: &[Name], delta: &Delta) -> Result<bool, AllocError>
+    ensures { IfOk result (λ b. b ≡ true → LeavesParts names.now delta.now) }
+{
+    if delta.inserted().is_empty() {
+        return Ok(false);
+    }
+    if leaves_one_part(names, delta) {
+        return Ok(true);
+    }
+    leave_parts(alloc, names, delta)
 }
 
 // Whether it refers to the relvar by names at which each tuple that the change takes out leaves its part to another.

@@ -2,7 +2,7 @@ use Rattle.std.proofs.Common.{ap, subst, ◌∙◌}
 use Rattle.td_values.specs.Rows.{RowsData}
 use Rattle.td_algebra.specs.KeyIndexes.{IsKeyIndex}
 use Rattle.td_integrity.proofs.Gaining.{leaves}
-use Rattle.td_integrity.proofs.ways.leaves_parts.Goals as goal
+use Rattle.td_integrity.proofs.ways.leave_parts.Goals as goal
 
 pub returns : goal.returns
 returns c = λ b.
