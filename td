@@ -10,6 +10,7 @@ ROOT = os.path.dirname(os.path.realpath(__file__))
 COMMANDS = {
     "look": ("tools/look", "runs the program with no proof, for a first look: two minutes, then at once"),
     "try": ("tools/try", "builds the programs with no proof and runs their tests: three minutes"),
+    "profile": ("tools/profile", "shows where the program spends its instructions, with no proof: five minutes"),
     "build": ("tools/build", "proves and builds a program, or a crate, and all below it"),
     "run": ("tools/run", "runs a proved program, which it builds first where that is needed"),
     "install": ("tools/install", "puts the proved programs and their manual pages into a folder such as ~/.local"),
