@@ -92,6 +92,36 @@ const LATE_REFERENCES: &[Counted] = &[
     ("DELETE S WHERE SNO = 'S2';", 3),
 ];
 
+// The second INSERT is refused, since it breaks the key.
+const REFUSED: &[Written] = &[
+    (
+        1,
+        1,
+        1,
+        "INSERT S RELATION { TUPLE { SNO 'S1', STATUS 20 } };",
+    ),
+    (
+        1,
+        2,
+        3,
+        "INSERT S RELATION { TUPLE { SNO 'S1', STATUS 30 } };",
+    ),
+    (
+        1,
+        3,
+        4,
+        "INSERT S RELATION { TUPLE { SNO 'S3', STATUS 30 } };",
+    ),
+];
+
+// A refused INSERT is touched as others are: where it has the key, or refers or is referred to.
+const LATE_BEFORE_REFUSED: &[Counted] = &[
+    ("INSERT S RELATION { TUPLE { SNO 'S2', STATUS 10 } };", 1),
+    ("INSERT S RELATION { TUPLE { SNO 'S1', STATUS 10 } };", 2),
+    ("INSERT SP RELATION { TUPLE { SNO 'S1', PNO 'P1' } };", 2),
+    ("DELETE S WHERE SNO = 'S2';", 3),
+];
+
 // How many statements a new site runs that takes these entries and then a late one; none where it refuses one.
 fn runs_of<O: Opens + Drop>(
     alloc: Global,
@@ -142,6 +172,13 @@ fn late_statements_run_what_they_touch(rt: HostRuntime) -> Result<(), Fail> {
 #[test]
 fn late_insertions_run_what_refers_to_them(rt: HostRuntime) -> Result<(), Fail> {
     let unlike = first_unlike(&rt, REFERRING_SCRIPT, REFERRING, LATE_REFERENCES)?;
+    assert!(rt; unlike.is_empty(), "{unlike}");
+    Ok(())
+}
+
+#[test]
+fn late_insertions_pass_refused_ones(rt: HostRuntime) -> Result<(), Fail> {
+    let unlike = first_unlike(&rt, REFERRING_SCRIPT, REFUSED, LATE_BEFORE_REFUSED)?;
     assert!(rt; unlike.is_empty(), "{unlike}");
     Ok(())
 }

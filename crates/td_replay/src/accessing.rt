@@ -151,3 +151,61 @@ pub(crate) fn add_reading(
         ),
     }
 }
+
+// Whether the statement, which hangs on these relvars, may not be exchanged with one whose accesses these are, by the
+// tuples that it inserts.
+fn statement_conflicts(
+    alloc: Global,
+    database: &Database,
+    dependencies: &Dependencies,
+    accesses: &Accesses,
+    statement: &TypedStatement,
+    footprint: &[usize],
+) -> Result<bool, AllocError>
+    requires read { (l : ℕ) × (b : List ℕ) × IsRead database.now.catalogue l b statement.now }
+    requires dependencies { AreDependencies database.now.catalogue dependencies.now.relvars.items }
+    ensures { IfOk result (λ r. r ≡ false → (k l : ℕ) (a b : List ℕ) → Covers database.now.catalogue accesses.now k a → IsRead database.now.catalogue l b statement.now → AreThose (IsInFootprint database.now.catalogue l b) footprint.now → Commute database.now.catalogue k a l b) }
+{
+    database.relvars_fit();
+    let catalogue = database.catalogue();
+    let assigned = targets(alloc, statement)?;
+    match inserted_tuples(alloc, catalogue, statement, database)? {
+        Some((relvar, tuples)) => accesses.conflict(
+            alloc,
+            dependencies,
+            footprint,
+            &assigned,
+            relvar,
+            Some(&tuples),
+        ),
+        None => Ok(true),
+    }
+}
+
+/// Whether a statement, of whose text this was read, may not be exchanged with one whose accesses these are, by the
+/// tuples that it inserts: one that inserts none is told to conflict.
+pub(crate) fn reading_conflicts(
+    alloc: Global,
+    database: &Database,
+    dependencies: &Dependencies,
+    accesses: &Accesses,
+    reading: &ReadText,
+) -> Result<bool, AllocError>
+    requires read { (l : ℕ) × (b : List ℕ) × IsReadText database.now.catalogue l b reading.now }
+    requires dependencies { AreDependencies database.now.catalogue dependencies.now.relvars.items }
+    ensures { IfOk result (λ r. r ≡ false → (k l : ℕ) (a b : List ℕ) → Covers database.now.catalogue accesses.now k a → IsReadText database.now.catalogue l b reading.now → Commute database.now.catalogue k a l b) }
+{
+    match &reading.statement {
+        Some(statement) => {
+            statement_conflicts(
+                alloc,
+                database,
+                dependencies,
+                accesses,
+                statement,
+                &reading.footprint,
+            )
+        }
+        None => Ok(true),
+    }
+}

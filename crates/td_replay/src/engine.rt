@@ -1,6 +1,6 @@
 //! The database of one script, as a machine that runs entries, takes them back and makes their changes again.
 
-ghost use Rattle.std.specs.Prelude.{◌≡◌, IfOk};
+ghost use Rattle.std.specs.Prelude.{◌≡◌, false, true, ℕ, List, IfOk, OnOk};
 ghost use Rattle.td_accesses.specs.Commuting.{Commute};
 ghost use Rattle.td_accesses.specs.Covering.{Covers};
 ghost use Rattle.td_assign.specs.Readings.{IsReadText};
@@ -10,7 +10,7 @@ ghost use Rattle.td_semantics.specs.Databases.{IsDatabase};
 ghost use Rattle.td_replay.specs.ForProofs.Going.{go};
 ghost use Rattle.td_replay.specs.ForProofs.Exchanging.{exchanges};
 
-use crate::accessing::{add_reading, add_record, conflicts};
+use crate::accessing::{add_reading, add_record, conflicts, reading_conflicts};
 use std::alloc::{AllocError, Global};
 use std::marker::Model;
 use td_accesses::{Accesses, Dependencies};
@@ -68,6 +68,39 @@ impl Engine {
         ensures same { result.now ≡ self.now }
     {
         &self.database
+    }
+
+    // Whether the entry conflicts with one of those whose accesses these are, by what its text inserts: then its own
+    // are added.
+    fn conflicts_by_text(
+        &self,
+        alloc: Global,
+        accesses: &mut Accesses,
+        entry: &Entry,
+    ) -> Result<bool, AllocError>
+        ensures commutes { IfOk result (λ r. r ≡ false → (k : ℕ) (a : List ℕ) → Covers self.now.catalogue accesses.old k a → Commute self.now.catalogue k a entry.now.dialect entry.now.text) }
+        ensures covered { IfOk result (λ r. r ≡ true → Covers self.now.catalogue accesses.new entry.now.dialect entry.now.text) }
+        ensures kept { OnOk result ((k : ℕ) (a : List ℕ) → Covers self.now.catalogue accesses.old k a → Covers self.now.catalogue accesses.new k a) }
+    {
+        let text = entry.text.as_str();
+        let reading = read(alloc, self.database.catalogue(), text, entry.dialect)?;
+        if !reading_conflicts(
+            alloc,
+            &self.database,
+            &self.dependencies,
+            &*accesses,
+            &reading,
+        )? {
+            return Ok(false);
+        }
+        add_reading(
+            alloc,
+            &self.database,
+            &self.dependencies,
+            accesses,
+            &reading,
+        )?;
+        Ok(true)
     }
 }
 
@@ -156,11 +189,15 @@ impl Machine for Engine {
         &self,
         alloc: Global,
         accesses: &mut Accesses,
-        _: &Entry,
+        entry: &Entry,
         ran: &Ran,
     ) -> Result<bool, AllocError> {
         if !conflicts(alloc, &self.dependencies, &*accesses, ran)? {
             return Ok(false);
+        }
+        // The record of what changed nothing, as of an INSERT that was refused, has no tuples.
+        if ran.delta.is_empty() {
+            return self.conflicts_by_text(alloc, accesses, entry);
         }
         add_record(alloc, &self.database, &self.dependencies, accesses, ran)?;
         Ok(true)
