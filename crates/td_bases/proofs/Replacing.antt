@@ -1,5 +1,5 @@
 -- What becomes of an index where one tuple comes in the place of another one.
-use Rattle.std.proofs.Common.{◌≡◌, ℕ, Bool, true, false, not, ◌&&◌, ◌||◌, List, [], ◌∷◌, refl, sym, ap, ◌∙◌, subst, true≢false}
+use Rattle.std.proofs.Common.{◌≡◌, ℕ, Bool, true, false, not, ◌&&◌, ◌||◌, List, [], ◌∷◌, get_or, length, refl, sym, ap, ◌∙◌, subst, true≢false, arith}
 use Rattle.std.specs.FinSet as set
 use Rattle.std.specs.List.Sorted.{IsStrictlySortedBy}
 use Rattle.std.specs.Ordering.{eq_by_cmp}
@@ -65,3 +65,8 @@ module _ (r o i n : RowsData) (gone more : Attrs) (only_gone : o.tuples ≡ gone
 
 pub was_there : (r : RowsData) (x : KeyIndexData) (gone more : Attrs) (at : ℕ) → IsIndexOf r x → IsReplaceable gone more x at → Has r gone
 was_there r x gone more at index place = entry_of r x.tuples index.tuples gone (item_in x.tuples at gone place.in_range (sym place.stands))
+
+pub only_index : (xs : List KeyIndexData) (x : KeyIndexData) → length xs ≡ 1 → x ≡ get_or xs 0 x → xs ≡ x ∷ []
+only_index [] x many at = absurd (omega (arith, many))
+only_index (y ∷ []) x many at = ap (λ z. z ∷ []) (sym at)
+only_index (y ∷ z ∷ ys) x many at = absurd (omega (arith, many))
