@@ -1,5 +1,5 @@
 -- One tuple in place of another one that agrees with it at some names.
-use Rattle.std.proofs.Common.{◌≡◌, ℕ, zero, suc, Bool, true, false, ◌||◌, inl, inr, List, [], ◌∷◌, refl, sym, ap, ◌∙◌, subst, true≢false, arith}
+use Rattle.std.proofs.Common.{◌≡◌, ℕ, zero, suc, Bool, true, false, ◌||◌, inl, inr, List, [], ◌∷◌, get_or, length, refl, sym, ap, ◌∙◌, subst, true≢false, arith}
 use Rattle.std.specs.FinSet as set
 use Rattle.std.specs.List.{All}
 use Rattle.std.specs.Ordering.{eq_by_cmp}
@@ -7,13 +7,14 @@ use Rattle.td_values.specs.Attributes.{attribute_of}
 use Rattle.td_values.specs.Data.{Attrs}
 use Rattle.td_values.specs.Headings.{Header}
 use Rattle.td_values.specs.Order.{attrs_order, text_cmp}
+use Rattle.td_values.specs.Rows.{RowsData}
 use Rattle.td_values.specs.Proving.Total.{attrs_order_total}
 use Rattle.td_values.proofs.Walks.{is_tied}
 use Rattle.td_tuples.specs.Parts.{Fits, cut, is_in}
 use Rattle.td_tuples.proofs.ByName.{fits_sorted}
 use Rattle.td_tuples.proofs.Lists.{same_name}
 use Rattle.td_relations.specs.Deltas.{DeltaData}
-use Rattle.td_relations.specs.Sets.{Has}
+use Rattle.td_relations.specs.Sets.{Has, tuple_set}
 use Rattle.td_relations.proofs.Members.{contains_listed}
 use Rattle.td_algebra.proofs.ByKey.{all_named, part_of_values}
 use Rattle.td_algebra.proofs.Lists.{In, contains_in}
@@ -38,5 +39,13 @@ only_one ts t q is there = elim (subst (In q) is there) [ inl same ↦ same | in
 pub one_leaves : (names : List (List ℕ)) (d : DeltaData) (gone more : Attrs) → d.deleted.tuples ≡ gone ∷ [] → d.inserted.tuples ≡ more ∷ [] → cut names more ≡ cut names gone → LeavesParts names d
 one_leaves names d gone more one other same t has =
     let is : t ≡ gone = only_one d.deleted.tuples gone t one (contains_in d.deleted.tuples t ((contains_listed d.deleted.tuples t).0 has)) in
-    let there : Has d.inserted more = ap (λ ts. set.contains (set.from_list ts) more) other ∙ set.contains-from_list attrs_order_total (more ∷ []) more ∙ ap (λ b. b || false) (itself more) in
+    let there : Has d.inserted more = ap (λ ts. set.contains (tuple_set ts) more) other ∙ set.contains-from_list attrs_order_total (more ∷ []) more ∙ ap (λ b. b || false) (itself more) in
     (more, there, same ∙ ap (cut names) (sym is))
+
+pub alone : (ts : List Attrs) (t : Attrs) → length ts ≡ 1 → t ≡ get_or ts 0 t → ts ≡ t ∷ []
+alone [] t many at = absurd (omega (arith, many))
+alone (u ∷ []) t many at = ap (λ v. v ∷ []) (sym at)
+alone (u ∷ v ∷ ts) t many at = absurd (omega (arith, many))
+
+pub first_fits : (r : RowsData) (t : Attrs) → All (Fits r.heading) r.tuples → r.tuples ≡ t ∷ [] → Fits r.heading t
+first_fits r t fit is = subst (All (Fits r.heading)) is fit zero t (omega arith)
