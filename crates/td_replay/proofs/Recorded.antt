@@ -5,7 +5,9 @@ use Rattle.td_values.specs.Rows.{RowsData}
 use Rattle.td_relations.specs.Deltas.{DeltaData}
 use Rattle.td_accesses.specs.Covering.{Covers, KeepsWithin}
 use Rattle.td_accesses.specs.declared.accesses.Accesses.{Accesses}
+use Rattle.td_assign.specs.Readings.{IsReadText}
 use Rattle.td_assign.specs.declared.ran.Ran.{Ran}
+use Rattle.td_assign.specs.declared.reading.ReadText.{ReadText}
 use Rattle.td_headings.specs.Catalogues.{CatalogueData}
 use Rattle.td_insertions.specs.Insertions.{Inserts}
 use Rattle.td_headings.specs.Reached.{AreThose}
@@ -62,3 +64,7 @@ sole xs (y ∷ z ∷ ys) p same some few is = absurd (omega (arith, few))
 pub entries_kept : {A E : Type 0} (c : CatalogueData) (m : Result A E) (x y : Accesses) → OnOk m ((k : ℕ) (a : List ℕ) → Covers c x k a → Covers c y k a) → OnOk m ((e : Entry) → Covers c x e.dialect e.text → Covers c y e.dialect e.text)
 entries_kept c (Ok u) x y h = λ e. h e.dialect e.text
 entries_kept c (Err e) x y h = h
+
+-- what was read of a text that is lent was read of the text
+pub read_over : (c d : CatalogueData) (k : ℕ) (t s : List ℕ) (r : ReadText) → c ≡ d → t ≡ s → IsReadText c k t r → IsReadText d k s r
+read_over c d k t s r same text h = subst (λ (z : CatalogueData). IsReadText z k s r) same (subst (λ (u : List ℕ). IsReadText c k u r) text h)
