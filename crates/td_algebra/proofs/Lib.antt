@@ -38,3 +38,4 @@ pub mod Beyond
 pub mod Distinct
 pub mod PairCounts
 pub mod NewNames
+pub mod Checks

@@ -179,3 +179,8 @@ module _ {X A : Type 0} (m : X → Result A Stop) where
 pub all_mapped : {X Y A : Type 0} (m : Y → Result A Stop) (f : X → Y) (xs : List X) → all_of m (map f xs) ≡ all_of (λ x. m (f x)) xs
 all_mapped m f [] = refl
 all_mapped m f (x ∷ xs) = ap (and_all (alone (m (f x)))) (all_mapped m f xs)
+
+-- the same answers at each of the list
+pub all_same : {X A : Type 0} (m n : X → Result A Stop) (xs : List X) → All (λ x. m x ≡ n x) xs → all_of m xs ≡ all_of n xs
+all_same m n [] same = refl
+all_same m n (x ∷ xs) same = λ i. and_all (alone (same 0 x (omega arith) i)) (all_same m n xs (λ k d lt. same (suc k) d (omega (arith, lt))) i)

@@ -80,7 +80,7 @@ fn fields_at<E, W, F: Fn(&E, &Tuple) -> Result<Value, Fault<W>>>(
 }
 
 // The tuple with the items' values.
-fn extend_tuple<E, W, F: Fn(&E, &Tuple) -> Result<Value, Fault<W>>>(
+pub(crate) fn extend_tuple<E, W, F: Fn(&E, &Tuple) -> Result<Value, Fault<W>>>(
     alloc: Global,
     items: &[Item<E>],
     tuple: &Tuple,
@@ -116,6 +116,25 @@ fn extend_tuples<E, W, F: Fn(&E, &Tuple) -> Result<Value, Fault<W>>>(
     gathered.finish()
 }
 
+/// The relation of a relation's tuples with the values of the items on them, or the least error of all.
+pub(crate) fn relation_of_extended<E, W>(
+    alloc: Global,
+    relation: &Relation,
+    items: &[Item<E>],
+    extended: Result<Vec<Tuple>, Fault<W>>,
+) -> Result<Relation, Fault<W>>
+    requires { IfOk extended (λ v. All (Fits (extended_columns items.now relation.now.heading)) v.items) }
+    ensures { (m : TermMeaning E) → AnswersBy (λ v. v.items) extended (all_of (spec.extended_at m items.now) relation.now.tuples) →
+        Unless (RaisedBy m items.now relation.now) (IsRelationOf (extended_columns items.now relation.now.heading) (Extended m items.now relation.now)) result }
+{
+    let tuples = match extended {
+        Ok(tuples) => tuples,
+        Err(fault) => return Err(fault),
+    };
+    let heading = extended_columns(alloc, items, relation.heading())?;
+    Ok(Relation::from_tuples(heading, tuples))
+}
+
 /// Each tuple with the values of the items on it, as new attributes or in place of those of the same names. Every item
 /// sees the old tuple. Of two items of one name the first counts. The function is asked for every item of every tuple
 /// once, also after one that raises. A value of another type than its item's stops with `Untyped`.
@@ -129,12 +148,9 @@ pub fn extend<E, W, F: Fn(&E, &Tuple) -> Result<Value, Fault<W>>>(
     ensures { (m : TermMeaning E) → All (MeansItems (F.post f.now) m items.now) relation.now.tuples →
         Unless (RaisedBy m items.now relation.now) (IsRelationOf (extended_columns items.now relation.now.heading) (Extended m items.now relation.now)) result }
 {
-    let tuples = match extend_tuples(alloc, relation.tuples(), items, f) {
-        Ok(tuples) => tuples,
-        Err(fault) => return Err(fault),
-    };
-    let heading = extended_columns(alloc, items, relation.heading())?;
-    Ok(Relation::from_tuples(heading, tuples))
+    relation.rows_fit();
+    let tuples = extend_tuples(alloc, relation.tuples(), items, f);
+    relation_of_extended(alloc, relation, items, tuples)
 }
 
 // Whether the heading has none of the items' names.
@@ -149,7 +165,32 @@ fn names_are_new<E>(heading: &Heading, items: &[Item<E>]) -> bool
     true
 }
 
-// The least error that the items raise at the tuple, if they raise one.
+// Stops where the value has another type than the item.
+fn check_type<E, W>(item: &Item<E>, value: &Value) -> Result<(), Fault<W>>
+    ensures { Answers result (checked (spec.typed_field item.now.name item.now.ty value.now)) }
+{
+    if !is_of(value, &item.ty) {
+        return Err(Fault::Raised(Stop::Untyped));
+    }
+    Ok(())
+}
+
+// The error that the item raises at the tuple, if it raises one.
+fn check_item<E, W, F: Fn(&E, &Tuple) -> Result<Value, Fault<W>>>(
+    item: &Item<E>,
+    tuple: &Tuple,
+    f: &F,
+) -> Result<(), Fault<W>>
+    requires { TakesBoth (F.pre f.now) item.now.term tuple.now }
+    ensures { (m : TermMeaning E) → Means (F.post f.now) m item.now.term tuple.now → Answers result (checked (spec.field_at m tuple.now item.now)) }
+{
+    match f(&item.term, tuple) {
+        Ok(value) => check_type(item, &value),
+        Err(fault) => Err(fault),
+    }
+}
+
+// The least error that the items raise at the tuple, if they raise one. It takes no memory.
 fn check_at<E, W, F: Fn(&E, &Tuple) -> Result<Value, Fault<W>>>(
     alloc: Global,
     items: &[Item<E>],
@@ -159,7 +200,11 @@ fn check_at<E, W, F: Fn(&E, &Tuple) -> Result<Value, Fault<W>>>(
     requires { TakesItems (F.pre f.now) items.now tuple.now }
     ensures { (m : TermMeaning E) → MeansItems (F.post f.now) m items.now tuple.now → Answers result (checked (spec.extended_at m items.now tuple.now)) }
 {
-    match fields_at(alloc, items, tuple, f) {
+    let mut gathered = Gathered::new(alloc);
+    for item in items {
+        gathered.note(check_item(item, tuple, f))?;
+    }
+    match gathered.finish() {
         Ok(_) => Ok(()),
         Err(fault) => Err(fault),
     }

@@ -6,15 +6,17 @@ ghost use Rattle.td_values.specs.Whole.{type_of};
 ghost use Rattle.td_relations.specs.Sets.{IsRelationOf};
 ghost use Rattle.td_algebra.specs.ForProofs.Index.{AreParts, IsByParts, IsIndex, found};
 ghost use Rattle.td_algebra.specs.Functions.{project_of};
-ghost use Rattle.td_tuples.specs.Parts.{names_of};
+ghost use Rattle.td_tuples.specs.Parts.{Fits, names_of};
+ghost use Rattle.td_values.specs.Headings.{Header};
 ghost use Rattle.td_values.specs.Rows.{RowsData};
-ghost use Rattle.td_algebra.specs.Raising.{Answers, Unless};
+ghost use Rattle.td_algebra.specs.Raising.{Answers, AnswersBy, Unless, all_of};
 ghost use Rattle.td_tuples.specs.Items.{extended_columns};
-ghost use Rattle.td_algebra.specs.Extending.{TermMeaning, TakesBoth, Means, Extended, RaisedBy};
+ghost use Rattle.td_algebra.specs.Extending.{TermMeaning, TakesBoth, Means, Extended, RaisedBy, extended_at};
 ghost use Rattle.td_algebra.specs.Summaries.{TakesTerm, MeansTerm, over_groups, summary_over};
 
 use crate::errors::Fault;
-use crate::extension::extend;
+use crate::extension::{extend_tuple, relation_of_extended};
+use crate::gathered::Gathered;
 use crate::index::TupleIndex;
 use crate::summaries::summarize_group;
 use std::alloc::{AllocError, Global};
@@ -22,18 +24,50 @@ use td_relations::Relation;
 use td_tuples::{Item, Summary, columns_in, cut};
 use td_values::{Heading, Name, Tuple, Value};
 
-// The summary over the tuples that the index has for this one.
-fn summarize_run<E, W, F: Fn(&E, &Tuple) -> Result<Value, Fault<W>>>(
+// The tuple with the summaries over these tuples, which are its group.
+fn extend_by_group<E, W, F: Fn(&E, &Tuple) -> Result<Value, Fault<W>>>(
     alloc: Global,
-    index: &TupleIndex,
+    group: &[Tuple],
     tuple: &Tuple,
-    summary: &Summary<E>,
+    items: &[Item<Summary<E>>],
     f: &F,
-) -> Result<Value, Fault<W>>
-    requires { All (TakesTerm (F.pre f.now) summary.now) index.now.tuples.items }
-    ensures { (m : TermMeaning E) → All (MeansTerm (F.post f.now) m summary.now) index.now.tuples.items → Answers result (summary_over m (found index.now tuple.now) summary.now) }
+) -> Result<Tuple, Fault<W>>
+    requires { All (λ t. All (λ i. TakesTerm (F.pre f.now) i.term t) items.now) group.now }
+    ensures means { (m : TermMeaning E) → All (λ t. All (λ i. MeansTerm (F.post f.now) m i.term t) items.now) group.now → Answers result (extended_at (λ s u. summary_over m group.now s) items.now tuple.now) }
+    ensures typed { (h : Header) → Fits h tuple.now → IfOk result (Fits (extended_columns items.now h)) }
 {
-    summarize_group(alloc, index.run(tuple), summary, f)
+    extend_tuple(
+        alloc,
+        items,
+        tuple,
+        &|summary: &Summary<E>, _: &Tuple| -> Result<Value, Fault<W>>
+            requires { All (TakesTerm (F.pre f.now) summary.now) group.now }
+            ensures { (m : TermMeaning E) → All (MeansTerm (F.post f.entry.now) m summary.now) group.entry.now → Answers result (summary_over m group.entry.now summary.now) }
+        { summarize_group(alloc, group, summary, f) },
+    )
+}
+
+// Each of the tuples with the summaries over what the index has for it, or the least error of all. Where the tuples
+// come in the order of the index, each group is found where the one before it ends.
+fn extend_by_groups<E, W, F: Fn(&E, &Tuple) -> Result<Value, Fault<W>>>(
+    alloc: Global,
+    groups: &TupleIndex,
+    tuples: &[Tuple],
+    items: &[Item<Summary<E>>],
+    f: &F,
+) -> Result<Vec<Tuple>, Fault<W>>
+    requires { All (λ t. All (λ i. TakesTerm (F.pre f.now) i.term t) items.now) groups.now.tuples.items }
+    ensures means { (m : TermMeaning E) → All (λ t. All (λ i. MeansTerm (F.post f.now) m i.term t) items.now) groups.now.tuples.items → AnswersBy (λ v. v.items) result (all_of (λ t. extended_at (λ s u. summary_over m (found groups.now t) s) items.now t) tuples.now) }
+    ensures typed { (h : Header) → All (Fits h) tuples.now → IfOk result (λ v. All (Fits (extended_columns items.now h)) v.items) }
+{
+    let mut gathered = Gathered::new(alloc);
+    let mut guess = 0;
+    for tuple in tuples {
+        let (group, end) = groups.run_near(tuple, guess);
+        gathered.note(extend_by_group(alloc, group, tuple, items, f))?;
+        guess = end;
+    }
+    gathered.finish()
 }
 
 // Each tuple of the relation with the summaries over what the index has for it, whatever relation's tuples those are.
@@ -49,15 +83,9 @@ fn summarize_groups<E, W, F: Fn(&E, &Tuple) -> Result<Value, Fault<W>>>(
         Unless (RaisedBy (over_groups m r per.now.heading) items.now per.now)
         (IsRelationOf (extended_columns items.now per.now.heading) (Extended (over_groups m r per.now.heading) items.now per.now)) result }
 {
-    extend(
-        alloc,
-        per,
-        items,
-        &|summary: &Summary<E>, tuple: &Tuple| -> Result<Value, Fault<W>>
-            requires { All (TakesTerm (F.pre f.now) summary.now) groups.now.tuples.items }
-            ensures { (m : TermMeaning E) → All (MeansTerm (F.post f.entry.now) m summary.now) groups.entry.now.tuples.items → Answers result (summary_over m (found groups.entry.now tuple.now) summary.now) }
-        { summarize_run(alloc, groups, tuple, summary, f) },
-    )
+    per.rows_fit();
+    let tuples = extend_by_groups(alloc, groups, per.tuples(), items, f);
+    relation_of_extended(alloc, per, items, tuples)
 }
 
 /// Each tuple of the second relation with the summaries over its group, which are the tuples of the first that agree

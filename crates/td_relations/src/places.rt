@@ -23,6 +23,15 @@ pub fn without_repeats(tuples: Vec<Tuple>) -> Vec<Tuple>
     tuples
 }
 
+/// Whether each of these tuples, which have one heading, is below the next, by their values alone.
+pub fn are_ascending(tuples: &[Tuple]) -> bool
+    requires { AreAlike tuples.now }
+    ensures { IsTrue result → IsStrictlySortedBy attrs_order tuples.now }
+{
+    whole_tuples(tuples);
+    tuples.is_sorted_by(|s, t| compare_values(s, t).is_lt())
+}
+
 // Whether the tuple is above those before the place.
 fn is_above(tuples: &[Tuple], at: usize, tuple: &Tuple) -> bool
     requires at { at ≤ length tuples.now }

@@ -1,24 +1,12 @@
-use Rattle.std.proofs.Common.{Vec, Global, ap, ◌∙◌, subst}
-use Rattle.std.specs.FinSet as set
-use Rattle.td_values.specs.Headings.{Header}
-use Rattle.td_values.specs.Data.{Attrs}
-use Rattle.td_relations.specs.Sets.{IsRelation, IsRelationOf}
-use Rattle.td_tuples.specs.Items.{extended_columns}
-use Rattle.td_algebra.specs.Extending.{Extended}
-use Rattle.td_algebra.proofs.Extensions.{extension_fails, extends}
+use Rattle.std.proofs.Common.{sym, subst}
+use Rattle.std.specs.List.{All}
+use Rattle.td_tuples.specs.Parts.{Fits}
 use Rattle.td_algebra.proofs.extension.extend.Goals as goal
 
-pub returns-in-Err : goal.returns-in-Err
-returns-in-Err g c = λ m means.
-    let items = c.args.items.now in
-    let r = c.args.relation.now in
-    extension_fails m items r (λ (v : Vec Attrs Global). v.items) (IsRelationOf (extended_columns items r.heading) (Extended m items r)) c.in-Err.fault ((rw c.tuples.ensures.all at c.in-Err.ensures.means) m means)
+pub relation_of_extended-requires : goal.relation_of_extended-requires
+relation_of_extended-requires g c =
+    let h = c.args.relation.now.heading in
+    c.extend_tuples-tuples.ensures.typed h (subst (All (Fits h)) (sym c.tuples.ensures.all) c.rows_fit.ensures.fit)
 
 pub returns : goal.returns
-returns g c = λ m means.
-    let items = c.args.items.now in
-    let r = c.args.relation.now in
-    let us = c.in-Ok.tuples.items in
-    let heading = c.in_ok-heading.ensures ∙ ap (λ (k : Header). extended_columns items k) c.heading.ensures in
-    extends m items r (extended_columns items r.heading) us c.from_tuples.result ((rw c.tuples.ensures.all at c.in-Ok.ensures.means) m means)
-    (subst (λ h. IsRelation h (set.from_list us) c.from_tuples.result) heading c.from_tuples.ensures)
+returns g c = λ m means. c.relation_of_extended.ensures m ((rw c.tuples.ensures.all at c.extend_tuples-tuples.ensures.means) m means)
