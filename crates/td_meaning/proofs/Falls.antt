@@ -1,15 +1,13 @@
 -- The measures of the recursion: an item of a list is no deeper than the list, and a list less deep than the form it is
 -- in.
-use Rattle.std.proofs.Common.{◌≡◌, ◌≤◌, ◌<◌, ◌+◌, ◌*◌, ℕ, zero, suc, max, List, [], ◌∷◌, length, get_or, Option, None, Some, IfSome, ap, ◌∙◌, arith}
+use Rattle.std.proofs.Common.{◌≡◌, ◌≤◌, ◌<◌, ◌+◌, ◌*◌, ℕ, zero, suc, max, List, [], ◌∷◌, length, get_or, ap, ◌∙◌, arith}
 use Rattle.td_values.specs.Headings.{Header}
 use Rattle.td_syntax.specs.declared.tree.Named.{Named}
 use Rattle.td_tuples.specs.declared.items.Item.{Item}
 use Rattle.td_tuples.specs.declared.items.Summary.{Summary}
-use Rattle.td_tuples.specs.declared.items.Summary.TheVariants as summary
 use Rattle.td_typed_trees.specs.declared.tree.TypedGroups.{TypedGroups}
 use Rattle.td_typed_trees.specs.declared.tree.Typed.{Typed}
 use Rattle.td_typed_trees.specs.declared.tree.Typed.TheVariants as t
-use Rattle.td_algebra.specs.Summaries.{OfTerm}
 use Rattle.td_meaning.specs.ForProofs.Levels.{levels, list_levels, item_levels, named_levels, summary_levels, summaries_levels, groups_levels}
 use Rattle.td_meaning.proofs.Depths.{of_select, of_relation, of_tuple, of_extend, of_with, of_summarize}
 
@@ -42,36 +40,6 @@ in_items xs i x a h is value = let e = ap levels value ∙ ap (λ (y : Item Type
 
 pub in_named : (xs : List (Named Typed)) (i : ℕ) (x : Named Typed) (a : Typed) → i < length xs → x ≡ get_or xs i x → a ≡ x.value → levels a ≤ named_levels xs
 in_named xs i x a h is value = let e = ap levels value ∙ ap (λ (y : Named Typed). levels y.value) is in omega (arith, e, named_item xs i x h)
-
--- a term among the items, and a term of a summary
-pub term_within : (xs : List (Item Typed)) (k : ℕ) (d : Item Typed) (a : Typed) → k < length xs → a ≡ (get_or xs k d).term → levels a ≤ item_levels xs
-term_within xs k d a h is = omega (arith, ap levels is, term_item xs k d h)
-
-pub summary_within : (xs : List (Item (Summary Typed))) (k : ℕ) (d : Item (Summary Typed)) (b a : Typed) → k < length xs → levels b ≤ summary_levels (get_or xs k d).term → a ≡ b → levels a ≤ summaries_levels xs
-summary_within xs k d b a h le is = omega (arith, ap levels is, le, summary_item xs k d h)
-
--- what holds of each term that is no deeper than the summary holds of its term
-pub of_term : (P : Typed → Type 0) (s : Summary Typed) → ((e : Typed) → levels e ≤ summary_levels s → P e) → OfTerm P s
-of_term P summary.Count h = tt
-of_term P (summary.Sum e) h = h e (omega arith)
-of_term P (summary.Max e) h = h e (omega arith)
-of_term P (summary.Min e) h = h e (omega arith)
-of_term P (summary.And e) h = h e (omega arith)
-of_term P (summary.Or e) h = h e (omega arith)
-
--- what follows of its term from what holds of it
-pub of_those : (P Q : Typed → Type 0) (s : Summary Typed) → ((e : Typed) → P e → Q e) → OfTerm P s → OfTerm Q s
-of_those P Q summary.Count f h = tt
-of_those P Q (summary.Sum e) f h = f e h
-of_those P Q (summary.Max e) f h = f e h
-of_those P Q (summary.Min e) f h = f e h
-of_those P Q (summary.And e) f h = f e h
-of_those P Q (summary.Or e) f h = f e h
-
--- what holds of it by what there may be
-pub of_term_if : {X : Type 0} (o : Option X) (s : Summary Typed) (P : X → Typed → Type 0) → IfSome o (λ x. OfTerm (P x) s) → OfTerm (λ e. IfSome o (λ x. P x e)) s
-of_term_if None s P h = of_term (λ e. Unit {0}) s (λ e le. tt)
-of_term_if (Some x) s P h = h
 
 -- ---- a form with a list, as its parts are handed on
 pub select_falls : (a : Typed) (n : ℕ) (xs ys : List Typed) → a ≡ t.Select n xs → ys ≡ xs → 12 * list_levels ys + 5 < 12 * levels a

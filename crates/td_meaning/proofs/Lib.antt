@@ -8,6 +8,7 @@ pub mod Scopes
 pub mod Fewer
 pub mod Rightness
 pub mod Deepest
-pub mod Ready
+pub mod Checks
 pub mod Pinning
 pub mod Behind
+pub mod ReadyTerms

@@ -38,7 +38,7 @@ use Rattle.td_meaning.specs.ForProofs.Over.{Means}
 use Rattle.td_meaning.specs.ForProofs.Pinned.{ArePinned, Equals, Narrows, Pins, PinsAt, placed}
 use Rattle.td_meaning.specs.Mean.{Names}
 use Rattle.td_operators.specs.Values.{known}
-use Rattle.td_meaning.proofs.Ready.{value_at_place}
+use Rattle.td_meaning.proofs.Checks.{value_at_place}
 
 -- ---- a comparison of an attribute with a value
 there : {X : Type 0} (xs : List X) (p : ℕ) → p < length xs → (x : X) × (slice_get xs p ≡ Some x)

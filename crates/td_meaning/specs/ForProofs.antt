@@ -8,4 +8,5 @@ pub mod Places
 pub mod Right
 pub mod Terms
 pub mod Checks
+pub mod ReadyTerms
 pub mod Pinned

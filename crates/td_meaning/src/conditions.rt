@@ -3,7 +3,6 @@
 ghost use Rattle.std.specs.Prelude.{◌≡◌, ◌≤◌, ◌++◌, ◌∷◌, [], max, IfOk, IfSome, IsTrue, Ok, OnOk};
 ghost use Rattle.std.specs.Option.{option_copied};
 ghost use Rattle.td_algebra.specs.Raising.{Answers};
-ghost use Rattle.td_algebra.specs.Summaries.{OfTerm};
 ghost use Rattle.td_meaning.specs.ForProofs.Checks.{AddsChecks, AreChecks, IsCheck, IsSide, check_levels, comparison, deepest_check, side_value};
 ghost use Rattle.td_meaning.specs.ForProofs.Levels.{levels};
 ghost use Rattle.td_meaning.specs.Parts.{known_value};
@@ -23,7 +22,6 @@ use std::alloc::{AllocError, Global};
 use td_algebra::{Fault, Stop, place_in};
 use td_operators::{holds, integer_value, text_value, truth_value};
 use td_syntax::tree::BinaryOperator;
-use td_tuples::Summary;
 use td_typed_trees::tree::Typed;
 use td_values::{Heading, Name, Tuple, Value, copy};
 
@@ -87,8 +85,8 @@ fn side_local(
     }
 }
 
-// The operand as a side, where it is an attribute or its value is known.
-fn side_of<W: Wanted>(
+/// The operand as a side, where it is an attribute or its value is known.
+pub(crate) fn side_of<W: Wanted>(
     evaluator: &Evaluator<'_, W>,
     scope: &Bindings,
     heading: &Heading,
@@ -108,8 +106,8 @@ fn side_of<W: Wanted>(
     }
 }
 
-// Both operands of a comparison as sides; None where one of them cannot be a side.
-fn sides_of<W: Wanted>(
+/// Both operands as sides; None where one of them cannot be a side.
+pub(crate) fn sides_of<W: Wanted>(
     evaluator: &Evaluator<'_, W>,
     scope: &Bindings,
     heading: &Heading,
@@ -136,8 +134,8 @@ fn is_and(operator: BinaryOperator) -> bool
     }
 }
 
-// Whether the operator compares the values of both operands.
-fn is_comparison(operator: BinaryOperator) -> bool
+/// Whether the operator compares the values of both operands.
+pub(crate) fn is_comparison(operator: BinaryOperator) -> bool
     ensures { IsTrue result → (a b : Meaning) → mean_binary operator a b ≡ mean_both operator a b }
 {
     match operator {
@@ -235,25 +233,6 @@ pub(crate) fn side_at<W>(alloc: Global, side: &Side, tuple: &Tuple) -> Result<Va
     match value_at(side, tuple) {
         Some(value) => Ok(copy(alloc, value)?),
         None => Err(Fault::Raised(Stop::Untyped)),
-    }
-}
-
-/// The term of a summary as a side, if it has one, at the tuples of a heading.
-pub(crate) fn side_of_summary<W: Wanted>(
-    evaluator: &Evaluator<'_, W>,
-    scope: &Bindings,
-    heading: &Heading,
-    summary: &Summary<Boxed<Typed>>,
-) -> Result<Option<Side>, AllocError>
-    ensures { IfOk result (λ o. IfSome o (λ s. OfTerm (λ a. IsSide (mean_in evaluator.now.env.now) (names_bound scope.now) heading.now a s) summary.now)) }
-{
-    match summary {
-        Summary::Count => Ok(None),
-        Summary::Sum(term)
-        | Summary::Max(term)
-        | Summary::Min(term)
-        | Summary::And(term)
-        | Summary::Or(term) => side_of(evaluator, scope, heading, term.get()),
     }
 }
 

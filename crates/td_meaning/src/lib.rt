@@ -35,6 +35,7 @@ mod once;
 mod operands;
 mod operators;
 pub mod parts;
+mod ready;
 mod restrictions;
 pub mod scope;
 mod selections;

@@ -1,19 +1,17 @@
 //! Aggregates and summaries of tuples.
 
-ghost use Rattle.std.specs.Prelude.{IfSome};
 ghost use Rattle.td_algebra.specs.Functions as functions;
-ghost use Rattle.td_algebra.specs.Raising.{Answers};
-ghost use Rattle.td_algebra.specs.Summaries.{OfTerm, summary_over};
-ghost use Rattle.td_meaning.specs.ForProofs.Checks.{IsSide};
+ghost use Rattle.td_algebra.specs.Raising.{Answers, and_then};
+ghost use Rattle.td_algebra.specs.Summaries.{summary_over};
 ghost use Rattle.td_meaning.specs.ForProofs.Over as over;
 ghost use Rattle.td_meaning.specs.ForProofs.Over.{terms};
+ghost use Rattle.td_meaning.specs.ForProofs.ReadyTerms.{ready_value};
+ghost use Rattle.td_meaning.specs.Mean.{groups_at};
 ghost use Rattle.td_meaning.specs.Seen.{mean_in, names_bound};
-ghost use Rattle.td_tuples.specs.Parts.{Fits};
-ghost use Rattle.td_values.specs.Headings.{Header};
 
 use crate::closed::Terms;
-use crate::conditions::{Side, side_at, side_of_summary};
 use crate::evaluator::Evaluator;
+use crate::ready::{ReadyTerm, ready_summaries, ready_summary};
 use crate::scope::Bindings;
 use crate::wanting::Wanted;
 use sqlite_items::Boxed;
@@ -26,50 +24,28 @@ use td_typed_trees::tree::{Typed, TypedGroups};
 use td_values::{Name, Tuple, Value};
 
 impl<W: Wanted> Evaluator<'_, W> {
-    // The term's value at the tuple, by its side where it has one: an attribute is not sought by its name then.
+    // The summary over all tuples of the relation, whose term is ready.
     #[cycle(evaluation)]
-    #[tactic(auto, unfolding(crate::specs::ForProofs::Over::terms))]
-    fn at_tuple(
+    fn aggregate_ready(
         &self,
-        side: &Option<Side>,
-        term: &Typed,
-        t: &Tuple,
-        scope: &Bindings,
-    ) -> Result<Value, Fault<W>>
-        ensures { (h : Header) → Fits h t.now → IfSome side.now (IsSide (mean_in self.now.env.now) (names_bound scope.now) h term.now) → Answers result (terms (mean_in self.now.env.now) (names_bound scope.now) term.now t.now) }
-    {
-        match side {
-            Some(side) => side_at(self.alloc, side, t),
-            None => self.evaluate(term, &Bindings::Within(t, &*scope)),
-        }
-    }
-
-    // The summary over all tuples of the relation. At each tuple the term has the value of its side, if it is known to
-    // have one, and otherwise is evaluated.
-    #[cycle(evaluation)]
-    fn aggregate_with_side(
-        &self,
-        side: &Option<Side>,
         ts: &Relation,
-        summary: &Summary<Boxed<Typed>>,
+        summary: &Summary<ReadyTerm<'_>>,
         scope: &Bindings,
     ) -> Result<Value, Fault<W>>
-        requires { IfSome side.now (λ s. OfTerm (λ a. IsSide (mean_in self.now.env.now) (names_bound scope.now) ts.now.heading a s) summary.now) }
-        ensures { Answers result (summary_over (terms (mean_in self.now.env.now) (names_bound scope.now)) ts.now.tuples summary.now) }
+        ensures { Answers result (summary_over (ready_value (mean_in self.now.env.now) (names_bound scope.now)) ts.now.tuples summary.now) }
     {
-        ts.rows_fit();
         aggregate(
             self.alloc,
             ts,
             summary,
-            &|e: &Boxed<Typed>, t: &Tuple| -> Result<Value, Fault<W>>
-                ensures { (h : Header) → Fits h t.now → IfSome side.entry.now (IsSide (mean_in self.entry.now.env.now) (names_bound scope.entry.now) h e.now) → Answers result (terms (mean_in self.entry.now.env.now) (names_bound scope.entry.now) e.now t.now) }
-            { self.at_tuple(side, e.get(), t, scope) },
+            &|term: &ReadyTerm<'_>, t: &Tuple| -> Result<Value, Fault<W>>
+                ensures { Answers result (ready_value (mean_in self.entry.now.env.now) (names_bound scope.entry.now) term.now t.now) }
+            { self.value_at(term, t, scope) },
         )
     }
 
-    // The summary over all tuples of the relation. It seeks the side of the term once, so that an attribute is found by
-    // its place at each tuple.
+    // The summary over all tuples of the relation. It makes the term ready once, so that attributes are found by their
+    // places at each tuple.
     #[cycle(evaluation)]
     fn aggregate_prepared(
         &self,
@@ -79,8 +55,9 @@ impl<W: Wanted> Evaluator<'_, W> {
     ) -> Result<Value, Fault<W>>
         ensures { Answers result (summary_over (terms (mean_in self.now.env.now) (names_bound scope.now)) ts.now.tuples summary.now) }
     {
-        let side = side_of_summary(&*self, &*scope, ts.heading(), summary)?;
-        self.aggregate_with_side(&side, ts, summary, scope)
+        let ready = ready_summary(&*self, &*scope, ts.heading(), &*summary)?;
+        ts.rows_fit();
+        self.aggregate_ready(ts, &ready, scope)
     }
 
     // The summary over all tuples of the relation. Where there are two or more, it first evaluates the parts of the
@@ -125,65 +102,63 @@ impl<W: Wanted> Evaluator<'_, W> {
     }
 
     // The tuples of the second relation, each with the summaries over the tuples of the first that agree with it on the
-    // second one's names. It evaluates the terms at each tuple of a group.
+    // second one's names. The summaries' terms are ready.
     #[cycle(evaluation)]
-    #[tactic(auto, unfolding(crate::specs::ForProofs::Over::terms))]
     fn summarize_per(
         &self,
         ts: &Relation,
         us: &Relation,
-        items: &[Item<Summary<Boxed<Typed>>>],
+        items: &[Item<Summary<ReadyTerm<'_>>>],
         scope: &Bindings,
     ) -> Result<Relation, Fault<W>>
-        ensures { Answers result (functions.summarized (terms (mean_in self.now.env.now) (names_bound scope.now)) items.now ts.now us.now) }
+        ensures { Answers result (functions.summarized (ready_value (mean_in self.now.env.now) (names_bound scope.now)) items.now ts.now us.now) }
     {
         summarize(
             self.alloc,
             ts,
             us,
             items,
-            &|e: &Boxed<Typed>, t: &Tuple| -> Result<Value, Fault<W>>
-                ensures { Answers result (terms (mean_in self.entry.now.env.now) (names_bound scope.entry.now) e.now t.now) }
-            { self.evaluate(e.get(), &Bindings::Within(t, &*scope)) },
+            &|term: &ReadyTerm<'_>, t: &Tuple| -> Result<Value, Fault<W>>
+                ensures { Answers result (ready_value (mean_in self.entry.now.env.now) (names_bound scope.entry.now) term.now t.now) }
+            { self.value_at(term, t, scope) },
         )
     }
 
     // The relation's own parts at these names, each with the summaries over the tuples that have it. One sort of the
     // tuples puts those of a group side by side.
     #[cycle(evaluation)]
-    #[tactic(auto, unfolding(crate::specs::ForProofs::Over::terms))]
     fn summarize_in_runs(
         &self,
         ts: &Relation,
         names: &[Name],
-        items: &[Item<Summary<Boxed<Typed>>>],
+        items: &[Item<Summary<ReadyTerm<'_>>>],
         scope: &Bindings,
     ) -> Result<Relation, Fault<W>>
-        ensures { Answers result (functions.summarized (terms (mean_in self.now.env.now) (names_bound scope.now)) items.now ts.now (functions.project_of names.now ts.now)) }
+        ensures { Answers result (functions.summarized (ready_value (mean_in self.now.env.now) (names_bound scope.now)) items.now ts.now (functions.project_of names.now ts.now)) }
     {
         summarize_by(
             self.alloc,
             ts,
             names,
             items,
-            &|e: &Boxed<Typed>, t: &Tuple| -> Result<Value, Fault<W>>
-                ensures { Answers result (terms (mean_in self.entry.now.env.now) (names_bound scope.entry.now) e.now t.now) }
-            { self.evaluate(e.get(), &Bindings::Within(t, &*scope)) },
+            &|term: &ReadyTerm<'_>, t: &Tuple| -> Result<Value, Fault<W>>
+                ensures { Answers result (ready_value (mean_in self.entry.now.env.now) (names_bound scope.entry.now) term.now t.now) }
+            { self.value_at(term, t, scope) },
         )
     }
 
     // SUMMARIZE of the relation by its groups: all tuples as one group, PER another relation, which it evaluates, or BY
-    // names of its own.
+    // names of its own. The summaries' terms are ready.
     #[cycle(evaluation)]
-    #[tactic(auto, unfolding(crate::specs::ForProofs::Over::summarized_over, crate::specs::Mean::groups_at))]
-    fn summarize_prepared(
+    #[tactic(auto, unfolding(crate::specs::Mean::groups_at))]
+    fn summarize_ready(
         &self,
         ts: &Relation,
         groups: &TypedGroups<Boxed<Typed>>,
-        items: &[Item<Summary<Boxed<Typed>>>],
+        items: &[Item<Summary<ReadyTerm<'_>>>],
         scope: &Bindings,
     ) -> Result<Relation, Fault<W>>
-        ensures { Answers result (over.summarized_over (mean_in self.now.env.now) groups.now items.now (names_bound scope.now) ts.now) }
+        ensures { Answers result (and_then (groups_at (over.groups_meant (mean_in self.now.env.now) groups.now) (names_bound scope.now) ts.now) (functions.summarized (ready_value (mean_in self.now.env.now) (names_bound scope.now)) items.now ts.now)) }
     {
         match groups {
             TypedGroups::Whole => {
@@ -196,6 +171,22 @@ impl<W: Wanted> Evaluator<'_, W> {
             }
             TypedGroups::By(names) => { self.summarize_in_runs(ts, names.as_slice(), items, scope) }
         }
+    }
+
+    // SUMMARIZE of the relation by its groups. It makes the summaries' terms ready once.
+    #[cycle(evaluation)]
+    fn summarize_prepared(
+        &self,
+        ts: &Relation,
+        groups: &TypedGroups<Boxed<Typed>>,
+        items: &[Item<Summary<Boxed<Typed>>>],
+        scope: &Bindings,
+    ) -> Result<Relation, Fault<W>>
+        ensures { Answers result (over.summarized_over (mean_in self.now.env.now) groups.now items.now (names_bound scope.now) ts.now) }
+    {
+        let ready = ready_summaries(&*self, &*scope, ts.heading(), &*items)?;
+        ts.rows_fit();
+        self.summarize_ready(ts, groups, ready.as_slice(), scope)
     }
 
     // SUMMARIZE of the relation by its groups. Where there are two tuples or more, it first evaluates the parts of the

@@ -2,7 +2,7 @@ use Rattle.std.proofs.Common.{ap, subst, arith}
 use Rattle.std.proofs.lemmas.Result.{on_ok_weaker}
 use Rattle.td_meaning.specs.ForProofs.Checks.{AddsChecks, deepest_check}
 use Rattle.td_meaning.specs.Seen.{mean_in, names_bound}
-use Rattle.td_meaning.proofs.Ready.{adds_both, adds_one, deeper}
+use Rattle.td_meaning.proofs.Checks.{adds_both, adds_one, deeper}
 use Rattle.td_meaning.proofs.conditions.+conjuncts.Goals as goal
 
 pub returns-in_ok-add_checks-in-Binary-clause-means : goal.returns-in_ok-add_checks-in-Binary-clause-means

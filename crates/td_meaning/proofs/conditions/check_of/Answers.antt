@@ -3,7 +3,7 @@ use Rattle.td_meaning.specs.declared.conditions.Check.TheVariants as check
 use Rattle.td_meaning.specs.ForProofs.Checks.{IsSide, check_holds, side_value}
 use Rattle.td_meaning.specs.Mean.{truth_in, within}
 use Rattle.td_meaning.specs.Seen.{mean_in, names_bound}
-use Rattle.td_meaning.proofs.Ready.{compares}
+use Rattle.td_meaning.proofs.Checks.{compares}
 use Rattle.td_meaning.proofs.conditions.check_of.Goals as goal
 
 pub returns-in-Some-clause-means : goal.returns-in-Some-clause-means

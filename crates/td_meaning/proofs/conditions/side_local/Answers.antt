@@ -7,7 +7,7 @@ use Rattle.td_meaning.specs.ForProofs.Checks.{side_value}
 use Rattle.td_meaning.specs.ForProofs.Standing.{meant_value}
 use Rattle.td_meaning.specs.Mean.{within}
 use Rattle.td_meaning.specs.Seen.{names_bound}
-use Rattle.td_meaning.proofs.Ready.{attribute_is, outer_is, side_weaker}
+use Rattle.td_meaning.proofs.Checks.{attribute_is, outer_is, side_weaker}
 use Rattle.td_meaning.proofs.conditions.side_local.Goals as goal
 
 pub returns-then-is_some : goal.returns-then-is_some

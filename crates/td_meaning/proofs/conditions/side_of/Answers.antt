@@ -6,7 +6,7 @@ use Rattle.td_meaning.specs.ForProofs.Checks.{IsSide, side_value}
 use Rattle.td_meaning.specs.Parts.{known_value}
 use Rattle.td_meaning.specs.Mean.{within}
 use Rattle.td_meaning.specs.Seen.{mean_in, names_bound}
-use Rattle.td_meaning.proofs.Ready.{local_is, side_weaker}
+use Rattle.td_meaning.proofs.Checks.{local_is, side_weaker}
 use Rattle.td_meaning.proofs.conditions.side_of.Goals as goal
 
 pub returns-in-Local : goal.returns-in-Local

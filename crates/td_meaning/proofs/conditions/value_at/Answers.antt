@@ -1,7 +1,7 @@
 use Rattle.std.proofs.Common.{None, Some, length, refl, sym, ap, ◌∙◌}
 use Rattle.std.proofs.lemmas.Option.{slice_get_past, slice_get_read}
 use Rattle.td_meaning.specs.ForProofs.Checks.{side_value}
-use Rattle.td_meaning.proofs.Ready.{value_found}
+use Rattle.td_meaning.proofs.Checks.{value_found}
 use Rattle.td_meaning.proofs.conditions.value_at.Goals as goal
 
 pub returns-in-Some : goal.returns-in-Some

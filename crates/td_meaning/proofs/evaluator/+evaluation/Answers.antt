@@ -1,4 +1,4 @@
-use Rattle.std.proofs.Common.{◌+◌, ℕ, Bool, IfSome, Result, List, Vec, Global, drop, length, rules, get_or, Ok, sym, ap, ◌∙◌, subst, arith}
+use Rattle.std.proofs.Common.{◌+◌, ℕ, Bool, Result, List, Vec, Global, drop, length, rules, get_or, Ok, sym, ap, ◌∙◌, subst, arith}
 use Rattle.td_values.specs.Data.{Datum}
 use Rattle.td_values.specs.Rows.{RowsData}
 use Rattle.td_syntax.specs.declared.tree.Named.{Named}
@@ -8,22 +8,23 @@ use Rattle.td_algebra.specs.declared.errors.Stop.{Stop}
 use Rattle.td_algebra.proofs.Bridges.{counts_to, restricts_to, extends_to, summarizes_to}
 use Rattle.td_meaning.specs.declared.scope.KnownValue.{KnownValue}
 use Rattle.td_operators.specs.ForProofs.Lent.{operand_value}
-use Rattle.td_meaning.specs.ForProofs.Over.{terms, list_meant, items_meant, all_meant, over_aggregate, over_extend, over_summarize, summarized_over}
+use Rattle.td_meaning.specs.ForProofs.ReadyTerms.{AreReady, IsReady, IsReadySummary, ready_levels, ready_value}
+use Rattle.td_meaning.specs.ForProofs.Over.{terms, list_meant, items_meant, all_meant, groups_meant, over_aggregate, over_extend, over_summarize, summarized_over}
 use Rattle.td_operators.specs.ForProofs.Turns.{turn}
-use Rattle.td_meaning.specs.Mean.{at, named_at, introduced, truth_at, truth_in, rows_in, mean, mean_both, mean_by, mean_binary, mean_where, mean_if, mean_with}
+use Rattle.td_meaning.specs.Mean.{at, named_at, groups_at, introduced, truth_at, truth_in, rows_in, mean, mean_both, mean_by, mean_binary, mean_where, mean_if, mean_with}
 use Rattle.td_syntax.specs.declared.tree.BinaryOperator.TheVariants as binary
 use Rattle.td_syntax.specs.declared.tree.UnaryOperator.TheVariants as unary
 use Rattle.td_operators.specs.Operators.{component_at, in_turn, operate, operate_on, attribute_at, part_at, with_new_names, nested, unnested}
 use Rattle.td_tuples.specs.Parts.{Fits}
-use Rattle.td_algebra.specs.Summaries.{OfTerm}
-use Rattle.td_meaning.specs.ForProofs.Checks.{AreChecks, IsSide, all_hold, check_holds}
+use Rattle.td_meaning.specs.ForProofs.Checks.{AreChecks, all_hold, check_holds}
 use Rattle.td_meaning.specs.Parts.{AreRight}
 use Rattle.td_meaning.proofs.Deepest.{in_deepest}
-use Rattle.td_meaning.proofs.Ready.{check_within, hold_goes, hold_stops}
+use Rattle.td_meaning.proofs.Checks.{check_within, hold_goes, hold_stops}
+use Rattle.td_meaning.proofs.ReadyTerms.{of_ready, ready_extends, ready_summarizes, ready_summary_within, ready_within, summary_same}
 use Rattle.td_meaning.proofs.Rightness.{error_means, right_in_slice, told_error, value_means}
 use Rattle.td_meaning.specs.Seen.{held_value, all_given, mean_in, relvars_there, names_bound}
 use Rattle.td_meaning.specs.Selections.{admits, no_relvars, selection}
-use Rattle.td_meaning.proofs.Falls.{in_list, in_items, in_named, term_within, summary_within, of_term, of_term_if, of_those, select_falls, relation_falls, tuple_falls, extend_falls, with_falls, summarize_falls}
+use Rattle.td_meaning.proofs.Falls.{in_list, in_items, in_named, select_falls, relation_falls, tuple_falls, extend_falls, with_falls, summarize_falls}
 use Rattle.td_meaning.proofs.Forms.{of_component, of_relvar, of_unary, of_binary, of_from, of_project, of_where, of_rename, of_nest, of_unnest, of_aggregate, of_if, of_extend, of_summarize, of_with}
 use Rattle.td_meaning.proofs.Walks.{value_goes, value_stops, field_goes, field_stops, name_goes, name_stops, one_more_given, count_stops, counted_over, fails, made_over, stops_over}
 use Rattle.td_operators.proofs.Turns.{turn_begins}
@@ -67,54 +68,72 @@ Evaluator::restrict_prepared-returns-in-Some g t c =
     subst (Answers c.restrict_by_checks.result) (narrow.same m names (truth_at (m a) names) (λ u f. sym (sought u f)))
     (c.restrict_by_checks.ensures a (subst (λ h. AreChecks m names h a c.as_slice-in-Some.result.now) (sym narrow.heading) here))
 
-pub Evaluator::extend_prepared-extend-requires : goal.Evaluator::extend_prepared-extend-requires
-Evaluator::extend_prepared-extend-requires g t c = λ k d lt i x among p q is_term is_tuple.
-    (omega (arith, c.decreases, term_within c.args.items.now i x p.now among is_term), λ a m. m)
+pub Evaluator::extend_ready-extend-requires : goal.Evaluator::extend_ready-extend-requires
+Evaluator::extend_ready-extend-requires g t c = λ k d lt i x among p q is_term is_tuple.
+    (omega (arith, c.decreases, ready_within c.args.items.now i x p.now among is_term), λ a m. m)
 
-pub Evaluator::extend_prepared-returns : goal.Evaluator::extend_prepared-returns
-Evaluator::extend_prepared-returns g t c =
-    let m = terms (mean_in c.args.self.now.env.now) (names_bound c.args.scope.now) in
+pub Evaluator::extend_ready-returns : goal.Evaluator::extend_ready-returns
+Evaluator::extend_ready-returns g t c =
+    let m = ready_value (mean_in c.args.self.now.env.now) (names_bound c.args.scope.now) in
     extends_to m c.args.items.now c.args.ts.now c.extend.result (c.extend.ensures m (λ k d lt i x among p q a is_term is_tuple gave.
     subst (λ e. Answers a (m e (get_or c.args.ts.now.tuples k d))) is_term (subst (λ u. Answers a (m p.now u)) is_tuple gave)))
 
+pub Evaluator::extend_prepared-returns : goal.Evaluator::extend_prepared-returns
+Evaluator::extend_prepared-returns g t c =
+    let m = mean_in c.args.self.now.env.now in
+    let names = names_bound c.args.scope.now in
+    let r = c.args.ts.now in
+    let items = c.args.items.now in
+    let are = subst (AreReady (IsReady m names r.heading) items) (sym c.as_slice.ensures.value) (subst (λ h. AreReady (IsReady m names h) items c.in_ok-ready.ready.items) c.heading.ensures c.in_ok-ready.ensures.means) in
+    subst (Answers c.extend_ready.result) (ready_extends m names r c.rows_fit.ensures.fit items c.as_slice.result.now are) c.extend_ready.ensures
+
 pub Evaluator::summarize_per-summarize-requires : goal.Evaluator::summarize_per-summarize-requires
-Evaluator::summarize_per-summarize-requires g t c = λ k d lt i x among. of_term _ (get_or c.args.items.now i x).term (λ e le p q is_term is_tuple.
-    (omega (arith, c.decreases, summary_within c.args.items.now i x e p.now among le is_term), λ a m. m))
+Evaluator::summarize_per-summarize-requires g t c = λ k d lt i x among. of_ready _ (get_or c.args.items.now i x).term (λ e le p q is_term is_tuple.
+    (omega (arith, c.decreases, ready_summary_within c.args.items.now i x e p.now among le is_term), λ a m. m))
 
 pub Evaluator::summarize_per-returns : goal.Evaluator::summarize_per-returns
 Evaluator::summarize_per-returns g t c =
-    let m = terms (mean_in c.args.self.now.env.now) (names_bound c.args.scope.now) in
-    summarizes_to m c.args.items.now c.args.ts.now c.args.us.now c.summarize.result (c.summarize.ensures m (λ k d lt i x among. of_term _ (get_or c.args.items.now i x).term (λ e le p q a is_term is_tuple gave.
+    let m = ready_value (mean_in c.args.self.now.env.now) (names_bound c.args.scope.now) in
+    summarizes_to m c.args.items.now c.args.ts.now c.args.us.now c.summarize.result (c.summarize.ensures m (λ k d lt i x among. of_ready _ (get_or c.args.items.now i x).term (λ e le p q a is_term is_tuple gave.
     subst (λ e. Answers a (m e (get_or c.args.ts.now.tuples k d))) is_term (subst (λ u. Answers a (m p.now u)) is_tuple gave))))
 
 pub Evaluator::summarize_in_runs-summarize_by-requires : goal.Evaluator::summarize_in_runs-summarize_by-requires
-Evaluator::summarize_in_runs-summarize_by-requires g t c = λ k d lt i x among. of_term _ (get_or c.args.items.now i x).term (λ e le p q is_term is_tuple.
-    (omega (arith, c.decreases, summary_within c.args.items.now i x e p.now among le is_term), λ a m. m))
+Evaluator::summarize_in_runs-summarize_by-requires g t c = λ k d lt i x among. of_ready _ (get_or c.args.items.now i x).term (λ e le p q is_term is_tuple.
+    (omega (arith, c.decreases, ready_summary_within c.args.items.now i x e p.now among le is_term), λ a m. m))
 
 pub Evaluator::summarize_in_runs-returns : goal.Evaluator::summarize_in_runs-returns
 Evaluator::summarize_in_runs-returns g t c =
-    let m = terms (mean_in c.args.self.now.env.now) (names_bound c.args.scope.now) in
-    summarizes_to m c.args.items.now c.args.ts.now (project_of c.args.names.now c.args.ts.now) c.summarize_by.result (c.summarize_by.ensures m (λ k d lt i x among. of_term _ (get_or c.args.items.now i x).term (λ e le p q a is_term is_tuple gave.
+    let m = ready_value (mean_in c.args.self.now.env.now) (names_bound c.args.scope.now) in
+    summarizes_to m c.args.items.now c.args.ts.now (project_of c.args.names.now c.args.ts.now) c.summarize_by.result (c.summarize_by.ensures m (λ k d lt i x among. of_ready _ (get_or c.args.items.now i x).term (λ e le p q a is_term is_tuple gave.
     subst (λ e. Answers a (m e (get_or c.args.ts.now.tuples k d))) is_term (subst (λ u. Answers a (m p.now u)) is_tuple gave))))
 
-pub Evaluator::aggregate_with_side-returns : goal.Evaluator::aggregate_with_side-returns
-Evaluator::aggregate_with_side-returns g t c =
+pub Evaluator::summarize_prepared-returns : goal.Evaluator::summarize_prepared-returns
+unfolding summarized_over
+Evaluator::summarize_prepared-returns g t c =
     let m = mean_in c.args.self.now.env.now in
     let names = names_bound c.args.scope.now in
-    let h = c.args.ts.now.heading in
-    let side = c.args.side.now in
-    let summary = c.args.summary.now in
-    let sides = of_term_if side summary (λ s e. IsSide m names h e s) c.requires in
-    c.aggregate.ensures (terms m names) (λ k d lt. of_those (λ e. IfSome side (λ s. IsSide m names h e s)) _ summary (λ e is_side p q a is_term is_tuple gave.
-    let fit = subst (Fits h) (sym is_tuple) (c.rows_fit.ensures.fit k d lt) in
-    let there = subst (λ x. IfSome side (λ s. IsSide m names h x s)) (sym is_term) is_side in
-    subst (λ x. Answers a (terms m names x (get_or c.args.ts.now.tuples k d))) is_term (subst (λ u. Answers a (terms m names p.now u)) is_tuple (gave h fit there))) sides)
+    let r = c.args.ts.now in
+    let items = c.args.items.now in
+    let are = subst (AreReady (IsReadySummary m names r.heading) items) (sym c.as_slice.ensures.value) (subst (λ h. AreReady (IsReadySummary m names h) items c.in_ok-ready.ready.items) c.heading.ensures c.in_ok-ready.ensures.means) in
+    subst (Answers c.summarize_ready.result) (λ k. and_then (groups_at (groups_meant m c.args.groups.now) names r) (λ us. ready_summarizes m names r c.rows_fit.ensures.fit items c.as_slice.result.now are us k)) c.summarize_ready.ensures
 
-pub Evaluator::aggregate_prepared-aggregate_with_side-requires : goal.Evaluator::aggregate_prepared-aggregate_with_side-requires
-Evaluator::aggregate_prepared-aggregate_with_side-requires g t c =
+pub Evaluator::aggregate_ready-aggregate-requires : goal.Evaluator::aggregate_ready-aggregate-requires
+Evaluator::aggregate_ready-aggregate-requires g t c = λ k d lt. of_ready _ c.args.summary.now (λ e le p q is_term is_tuple.
+    (omega (arith, c.decreases, le, ap ready_levels is_term), λ a m. m))
+
+pub Evaluator::aggregate_ready-returns : goal.Evaluator::aggregate_ready-returns
+Evaluator::aggregate_ready-returns g t c =
+    let m = ready_value (mean_in c.args.self.now.env.now) (names_bound c.args.scope.now) in
+    c.aggregate.ensures m (λ k d lt. of_ready _ c.args.summary.now (λ e le p q a is_term is_tuple gave.
+    subst (λ x. Answers a (m x (get_or c.args.ts.now.tuples k d))) is_term (subst (λ u. Answers a (m p.now u)) is_tuple gave)))
+
+pub Evaluator::aggregate_prepared-returns : goal.Evaluator::aggregate_prepared-returns
+Evaluator::aggregate_prepared-returns g t c =
     let m = mean_in c.args.self.now.env.now in
     let names = names_bound c.args.scope.now in
-    λ κs within. (omega (arith, c.decreases), (within, subst (λ h. IfSome c.in_ok-side.side (λ s. OfTerm (λ e. IsSide m names h e s) c.args.summary.now)) c.heading.ensures c.in_ok-side.ensures))
+    let r = c.args.ts.now in
+    let same = subst (λ h. IsReadySummary m names h c.args.summary.now c.in_ok-ready.ready) c.heading.ensures c.in_ok-ready.ensures.means in
+    subst (Answers c.aggregate_ready.result) (summary_same m names r.heading r.tuples c.rows_fit.ensures.fit c.args.summary.now c.in_ok-ready.ready same) c.aggregate_ready.ensures
 
 -- ---- measures
 
@@ -301,15 +320,24 @@ Evaluator::summarization-returns-in_err-summarize_by_groups g t c =
 
 -- ---- counts
 
-pub Evaluator::count_prepared_extension-extension_len-requires : goal.Evaluator::count_prepared_extension-extension_len-requires
-Evaluator::count_prepared_extension-extension_len-requires g t c = λ k d lt i x among p q is_term is_tuple.
-    (omega (arith, c.decreases, term_within c.args.items.now i x p.now among is_term), λ a m. m)
+pub Evaluator::count_ready_extension-extension_len-requires : goal.Evaluator::count_ready_extension-extension_len-requires
+Evaluator::count_ready_extension-extension_len-requires g t c = λ k d lt i x among p q is_term is_tuple.
+    (omega (arith, c.decreases, ready_within c.args.items.now i x p.now among is_term), λ a m. m)
+
+pub Evaluator::count_ready_extension-returns : goal.Evaluator::count_ready_extension-returns
+Evaluator::count_ready_extension-returns g t c =
+    let m = ready_value (mean_in c.args.self.now.env.now) (names_bound c.args.scope.now) in
+    counts_to m c.args.items.now c.args.ts.now c.extension_len.result (c.extension_len.ensures m (λ k d lt i x among p q a is_term is_tuple gave.
+    subst (λ e. Answers a (m e (get_or c.args.ts.now.tuples k d))) is_term (subst (λ u. Answers a (m p.now u)) is_tuple gave)))
 
 pub Evaluator::count_prepared_extension-returns : goal.Evaluator::count_prepared_extension-returns
 Evaluator::count_prepared_extension-returns g t c =
-    let m = terms (mean_in c.args.self.now.env.now) (names_bound c.args.scope.now) in
-    counts_to m c.args.items.now c.args.ts.now c.extension_len.result (c.extension_len.ensures m (λ k d lt i x among p q a is_term is_tuple gave.
-    subst (λ e. Answers a (m e (get_or c.args.ts.now.tuples k d))) is_term (subst (λ u. Answers a (m p.now u)) is_tuple gave)))
+    let m = mean_in c.args.self.now.env.now in
+    let names = names_bound c.args.scope.now in
+    let r = c.args.ts.now in
+    let items = c.args.items.now in
+    let are = subst (AreReady (IsReady m names r.heading) items) (sym c.as_slice.ensures.value) (subst (λ h. AreReady (IsReady m names h) items c.in_ok-ready.ready.items) c.heading.ensures c.in_ok-ready.ensures.means) in
+    subst (λ x. Answers c.count_ready_extension.result (and_then x (λ (s : RowsData). Ok (length s.tuples)))) (ready_extends m names r c.rows_fit.ensures.fit items c.as_slice.result.now are) c.count_ready_extension.ensures
 
 pub Evaluator::count_extension-invariant_of-around : goal.Evaluator::count_extension-invariant_of-around
 Evaluator::count_extension-invariant_of-around g t c = record { right = right_in_slice c.args.self.now.env.now c.in_ok-parts.field-0 c.in-Some.parts c.as_slice.result.now c.in_ok-parts.ensures c.in-Some.is c.as_slice.ensures.value; allowed = c.args.self.now.allowed }

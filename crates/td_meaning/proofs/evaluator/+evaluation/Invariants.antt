@@ -2,6 +2,7 @@ use Rattle.std.proofs.Common.{◌≡◌, ◌+◌, ◌*◌, max, drop}
 use Rattle.td_meaning.specs.ForProofs.Checks.{all_hold, check_levels, deepest_check}
 use Rattle.td_meaning.specs.ForProofs.Levels.{levels, list_levels, item_levels, named_levels, summary_levels, summaries_levels, groups_levels, limit_levels, weight}
 use Rattle.td_meaning.specs.ForProofs.Right.{deepest_in}
+use Rattle.td_meaning.specs.ForProofs.ReadyTerms.{deepest_item, deepest_summary, ready_levels, summary_depth}
 use Rattle.td_meaning.specs.ForProofs.Terms.{terms_levels}
 use Rattle.td_meaning.specs.ForProofs.Over.{list_meant, items_meant, all_meant}
 use Rattle.td_operators.specs.ForProofs.Turns.{turn}
@@ -32,11 +33,14 @@ decreases-Evaluator::unary g l = 12 * levels l.a.now + 5 + weight l.self.now.env
 abbrev pub decreases-Evaluator::join_count : goal.decreases-Evaluator::join_count
 decreases-Evaluator::join_count g l = 12 * max (levels l.a.now) (levels l.b.now) + 2 + weight l.self.now.env.now.selectors.now
 
-abbrev pub decreases-Evaluator::count_prepared_extension-extension_len : goal.decreases-Evaluator::count_prepared_extension-extension_len
-decreases-Evaluator::count_prepared_extension-extension_len g l = 12 * levels l.e.now + 2 + weight l.self.now.env.now.selectors.now
+abbrev pub decreases-Evaluator::count_ready_extension-extension_len : goal.decreases-Evaluator::count_ready_extension-extension_len
+decreases-Evaluator::count_ready_extension-extension_len g l = 12 * ready_levels l.term.now + 3 + weight l.self.now.env.now.selectors.now
+
+abbrev pub decreases-Evaluator::count_ready_extension : goal.decreases-Evaluator::count_ready_extension
+decreases-Evaluator::count_ready_extension g l = 12 * deepest_item l.items.now + 4 + weight l.self.now.env.now.selectors.now
 
 abbrev pub decreases-Evaluator::count_prepared_extension : goal.decreases-Evaluator::count_prepared_extension
-decreases-Evaluator::count_prepared_extension g l = 12 * item_levels l.items.now + 4 + weight l.self.now.env.now.selectors.now
+decreases-Evaluator::count_prepared_extension g l = 12 * item_levels l.items.now + 5 + weight l.self.now.env.now.selectors.now
 
 abbrev pub decreases-Evaluator::count_extension : goal.decreases-Evaluator::count_extension
 decreases-Evaluator::count_extension g l = 12 * item_levels l.items.now + 7 + weight l.self.now.env.now.selectors.now
@@ -148,14 +152,14 @@ invariant-Evaluator::all_hold-loop-check g l =
 abbrev pub decreases-Evaluator::restriction : goal.decreases-Evaluator::restriction
 decreases-Evaluator::restriction g l = 12 * max (levels l.r.now) (levels l.c.now) + 9 + weight l.self.now.env.now.selectors.now
 
-abbrev pub decreases-Evaluator::at_tuple : goal.decreases-Evaluator::at_tuple
-decreases-Evaluator::at_tuple g l = 12 * levels l.term.now + 2 + weight l.self.now.env.now.selectors.now
+abbrev pub decreases-Evaluator::value_at : goal.decreases-Evaluator::value_at
+decreases-Evaluator::value_at g l = 12 * ready_levels l.term.now + 2 + weight l.self.now.env.now.selectors.now
 
-abbrev pub decreases-Evaluator::aggregate_with_side-aggregate : goal.decreases-Evaluator::aggregate_with_side-aggregate
-decreases-Evaluator::aggregate_with_side-aggregate g l = 12 * levels l.e.now + 3 + weight l.self.now.env.now.selectors.now
+abbrev pub decreases-Evaluator::aggregate_ready-aggregate : goal.decreases-Evaluator::aggregate_ready-aggregate
+decreases-Evaluator::aggregate_ready-aggregate g l = 12 * ready_levels l.term.now + 3 + weight l.self.now.env.now.selectors.now
 
-abbrev pub decreases-Evaluator::aggregate_with_side : goal.decreases-Evaluator::aggregate_with_side
-decreases-Evaluator::aggregate_with_side g l = 12 * summary_levels l.summary.now + 4 + weight l.self.now.env.now.selectors.now
+abbrev pub decreases-Evaluator::aggregate_ready : goal.decreases-Evaluator::aggregate_ready
+decreases-Evaluator::aggregate_ready g l = 12 * summary_depth l.summary.now + 4 + weight l.self.now.env.now.selectors.now
 
 abbrev pub decreases-Evaluator::aggregate_prepared : goal.decreases-Evaluator::aggregate_prepared
 decreases-Evaluator::aggregate_prepared g l = 12 * summary_levels l.summary.now + 5 + weight l.self.now.env.now.selectors.now
@@ -163,29 +167,35 @@ decreases-Evaluator::aggregate_prepared g l = 12 * summary_levels l.summary.now 
 abbrev pub decreases-Evaluator::aggregation : goal.decreases-Evaluator::aggregation
 decreases-Evaluator::aggregation g l = 12 * max (levels l.r.now) (summary_levels l.summary.now) + 8 + weight l.self.now.env.now.selectors.now
 
-abbrev pub decreases-Evaluator::extend_prepared-extend : goal.decreases-Evaluator::extend_prepared-extend
-decreases-Evaluator::extend_prepared-extend g l = 12 * levels l.e.now + 2 + weight l.self.now.env.now.selectors.now
+abbrev pub decreases-Evaluator::extend_ready-extend : goal.decreases-Evaluator::extend_ready-extend
+decreases-Evaluator::extend_ready-extend g l = 12 * ready_levels l.term.now + 3 + weight l.self.now.env.now.selectors.now
+
+abbrev pub decreases-Evaluator::extend_ready : goal.decreases-Evaluator::extend_ready
+decreases-Evaluator::extend_ready g l = 12 * deepest_item l.items.now + 4 + weight l.self.now.env.now.selectors.now
 
 abbrev pub decreases-Evaluator::extend_prepared : goal.decreases-Evaluator::extend_prepared
-decreases-Evaluator::extend_prepared g l = 12 * item_levels l.items.now + 4 + weight l.self.now.env.now.selectors.now
+decreases-Evaluator::extend_prepared g l = 12 * item_levels l.items.now + 5 + weight l.self.now.env.now.selectors.now
 
 abbrev pub decreases-Evaluator::extension : goal.decreases-Evaluator::extension
 decreases-Evaluator::extension g l = 12 * max (levels l.r.now) (item_levels l.items.now) + 8 + weight l.self.now.env.now.selectors.now
 
 abbrev pub decreases-Evaluator::summarize_per-summarize : goal.decreases-Evaluator::summarize_per-summarize
-decreases-Evaluator::summarize_per-summarize g l = 12 * levels l.e.now + 2 + weight l.self.now.env.now.selectors.now
+decreases-Evaluator::summarize_per-summarize g l = 12 * ready_levels l.term.now + 3 + weight l.self.now.env.now.selectors.now
 
 abbrev pub decreases-Evaluator::summarize_per : goal.decreases-Evaluator::summarize_per
-decreases-Evaluator::summarize_per g l = 12 * summaries_levels l.items.now + 4 + weight l.self.now.env.now.selectors.now
+decreases-Evaluator::summarize_per g l = 12 * deepest_summary l.items.now + 4 + weight l.self.now.env.now.selectors.now
 
 abbrev pub decreases-Evaluator::summarize_in_runs-summarize_by : goal.decreases-Evaluator::summarize_in_runs-summarize_by
-decreases-Evaluator::summarize_in_runs-summarize_by g l = 12 * levels l.e.now + 2 + weight l.self.now.env.now.selectors.now
+decreases-Evaluator::summarize_in_runs-summarize_by g l = 12 * ready_levels l.term.now + 3 + weight l.self.now.env.now.selectors.now
 
 abbrev pub decreases-Evaluator::summarize_in_runs : goal.decreases-Evaluator::summarize_in_runs
-decreases-Evaluator::summarize_in_runs g l = 12 * summaries_levels l.items.now + 4 + weight l.self.now.env.now.selectors.now
+decreases-Evaluator::summarize_in_runs g l = 12 * deepest_summary l.items.now + 4 + weight l.self.now.env.now.selectors.now
+
+abbrev pub decreases-Evaluator::summarize_ready : goal.decreases-Evaluator::summarize_ready
+decreases-Evaluator::summarize_ready g l = 12 * max (groups_levels l.groups.now) (deepest_summary l.items.now) + 5 + weight l.self.now.env.now.selectors.now
 
 abbrev pub decreases-Evaluator::summarize_prepared : goal.decreases-Evaluator::summarize_prepared
-decreases-Evaluator::summarize_prepared g l = 12 * max (groups_levels l.groups.now) (summaries_levels l.items.now) + 5 + weight l.self.now.env.now.selectors.now
+decreases-Evaluator::summarize_prepared g l = 12 * max (groups_levels l.groups.now) (summaries_levels l.items.now) + 6 + weight l.self.now.env.now.selectors.now
 
 abbrev pub decreases-Evaluator::summarization : goal.decreases-Evaluator::summarization
 decreases-Evaluator::summarization g l = 12 * max (levels l.r.now) (max (groups_levels l.by.now) (summaries_levels l.items.now)) + 8 + weight l.self.now.env.now.selectors.now
