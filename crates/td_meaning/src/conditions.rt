@@ -2,13 +2,14 @@
 
 ghost use Rattle.std.specs.Prelude.{◌≡◌, ◌≤◌, ◌++◌, ◌∷◌, [], max, IfOk, IfSome, IsTrue, Ok, OnOk};
 ghost use Rattle.std.specs.Option.{option_copied};
-ghost use Rattle.td_algebra.specs.Raising.{Answers};
+ghost use Rattle.td_algebra.specs.Raising.{Answers, AnswersBy, and_then};
 ghost use Rattle.td_meaning.specs.ForProofs.Checks.{AddsChecks, AreChecks, IsCheck, IsSide, check_levels, comparison, deepest_check, side_value};
 ghost use Rattle.td_meaning.specs.ForProofs.Levels.{levels};
 ghost use Rattle.td_meaning.specs.Parts.{known_value};
 ghost use Rattle.td_meaning.specs.ForProofs.Standing.{meant_value};
 ghost use Rattle.td_meaning.specs.Mean.{Meaning, mean_binary, mean_both, within};
 ghost use Rattle.td_meaning.specs.Seen.{mean_in, names_bound};
+ghost use Rattle.td_operators.specs.Operators as operators;
 ghost use Rattle.td_operators.specs.Values.{known};
 ghost use Rattle.td_syntax.specs.declared.tree.BinaryOperator.TheVariants as binary;
 ghost use Rattle.td_tuples.specs.Parts.{Fits};
@@ -20,12 +21,13 @@ use crate::wanting::Wanted;
 use sqlite_items::Boxed;
 use std::alloc::{AllocError, Global};
 use td_algebra::{Fault, Stop, place_in};
-use td_operators::{holds, integer_value, text_value, truth_value};
+use td_operators::{holds, integer_value, operate_values, text_value, truth_value};
 use td_syntax::tree::BinaryOperator;
 use td_typed_trees::tree::Typed;
 use td_values::{Heading, Name, Tuple, Value, copy};
 
-/// What is compared: an attribute of the tuple, by its place, or a value that is one at all tuples.
+/// An operand of a comparison or an operation at a tuple: an attribute of the tuple, by its place, or a value that is
+/// the same at all tuples.
 #[derive(Drop)]
 pub(crate) enum Side {
     Attribute(usize),
@@ -226,14 +228,37 @@ fn value_at<'a>(side: &'a Side, tuple: &'a Tuple) -> Option<&'a Value>
     }
 }
 
+// The same, or 'no meaning'.
+fn lent_at<'a, W>(side: &'a Side, tuple: &'a Tuple) -> Result<&'a Value, Fault<W>>
+    ensures { AnswersBy (λ v. v.now) result (side_value tuple.now side.now) }
+{
+    match value_at(side, tuple) {
+        Some(value) => Ok(value),
+        None => Err(Fault::Raised(Stop::Untyped)),
+    }
+}
+
 /// The side's value at the tuple, copied.
 pub(crate) fn side_at<W>(alloc: Global, side: &Side, tuple: &Tuple) -> Result<Value, Fault<W>>
     ensures { Answers result (side_value tuple.now side.now) }
 {
-    match value_at(side, tuple) {
-        Some(value) => Ok(copy(alloc, value)?),
-        None => Err(Fault::Raised(Stop::Untyped)),
-    }
+    let value = lent_at(side, tuple)?;
+    Ok(copy(alloc, value)?)
+}
+
+/// What the operator makes of the sides' values at the tuple.
+pub(crate) fn operate_at<W>(
+    alloc: Global,
+    operator: BinaryOperator,
+    a: &Side,
+    b: &Side,
+    tuple: &Tuple,
+) -> Result<Value, Fault<W>>
+    ensures { Answers result (and_then (side_value tuple.now a.now) (λ d. and_then (side_value tuple.now b.now) (operators.operate operator d))) }
+{
+    let first = lent_at(a, tuple)?;
+    let second = lent_at(b, tuple)?;
+    operate_values(alloc, operator, first, second)
 }
 
 /// Whether the comparison is true at the tuple.
@@ -246,11 +271,7 @@ pub(crate) fn compare_at_tuple<W>(
 ) -> Result<bool, Fault<W>>
     ensures { Answers result (comparison operator (side_value tuple.now a.now) (side_value tuple.now b.now)) }
 {
-    let Some(first) = value_at(a, tuple) else {
-        return Err(Fault::Raised(Stop::Untyped));
-    };
-    let Some(second) = value_at(b, tuple) else {
-        return Err(Fault::Raised(Stop::Untyped));
-    };
+    let first = lent_at(a, tuple)?;
+    let second = lent_at(b, tuple)?;
     holds(alloc, operator, first, second)
 }

@@ -1,26 +1,21 @@
 //! Terms made ready for a walk over tuples.
 
 ghost use Rattle.std.specs.Prelude.{◌≡◌, ◌≤◌, ◌++◌, ◌∷◌, [], IfOk, IsTrue, OnOk};
-ghost use Rattle.td_algebra.specs.Raising.{Answers, and_then};
-ghost use Rattle.td_meaning.specs.ForProofs.Checks.{side_value};
 ghost use Rattle.td_meaning.specs.ForProofs.Levels.{item_levels, levels, summaries_levels, summary_levels};
 ghost use Rattle.td_meaning.specs.ForProofs.ReadyTerms.{AreReady, IsReady, IsReadySummary, deepest_item, deepest_summary, ready_levels, summary_depth};
 ghost use Rattle.td_meaning.specs.Mean.{Meaning, mean_binary, mean_both};
 ghost use Rattle.td_meaning.specs.Seen.{mean_in, names_bound};
-ghost use Rattle.td_operators.specs.Operators as operators;
 
-use crate::conditions::{Side, is_comparison, side_at, side_of, sides_of};
+use crate::conditions::{Side, is_comparison, side_of, sides_of};
 use crate::evaluator::Evaluator;
 use crate::scope::Bindings;
 use crate::wanting::Wanted;
 use sqlite_items::Boxed;
-use std::alloc::{AllocError, Global};
-use td_algebra::Fault;
-use td_operators::{Operand, operate};
+use std::alloc::AllocError;
 use td_syntax::tree::BinaryOperator;
 use td_tuples::{Item, Summary};
 use td_typed_trees::tree::Typed;
-use td_values::{Heading, Name, TdType, Tuple, Value};
+use td_values::Heading;
 
 /// A term at the tuples of a heading: an attribute, by its place, or a value that is one at all tuples; what an operator
 /// makes of two of these; or the term as it is.
@@ -146,19 +141,4 @@ pub(crate) fn ready_summaries<'a, W: Wanted>(
         add_item(&mut ready, item, summary)?;
     }
     Ok(ready)
-}
-
-/// What the operator makes of the sides' values at the tuple.
-pub(crate) fn operate_at<W>(
-    alloc: Global,
-    operator: BinaryOperator,
-    a: &Side,
-    b: &Side,
-    tuple: &Tuple,
-) -> Result<Value, Fault<W>>
-    ensures { Answers result (and_then (side_value tuple.now a.now) (λ d. and_then (side_value tuple.now b.now) (operators.operate operator d))) }
-{
-    let first = Operand::Made(side_at(alloc, a, tuple)?);
-    let second = Operand::Made(side_at(alloc, b, tuple)?);
-    operate(alloc, operator, first, second)
 }

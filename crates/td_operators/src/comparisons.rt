@@ -6,13 +6,12 @@ ghost use Rattle.td_operators.specs.Operators as spec;
 ghost use Rattle.td_operators.specs.Values.{truth_of};
 ghost use Rattle.td_values.specs.Data.{boolean};
 
-use crate::operand::Operand;
-use crate::pairs::operate;
+use crate::pairs::operate_values;
 use crate::parts::truth_of;
 use std::alloc::Global;
 use td_algebra::Fault;
 use td_syntax::tree::BinaryOperator;
-use td_values::{Kind, Value, copy, equal};
+use td_values::{Kind, Value, equal};
 
 // Whether the two values are equal. It copies neither.
 fn same(u: &Value, v: &Value) -> bool
@@ -70,10 +69,6 @@ pub fn holds<W>(
 {
     match compare_in_place(operator, u, v) {
         Some(truth) => Ok(truth),
-        None => {
-            let first = Operand::Made(copy(alloc, u)?);
-            let second = Operand::Made(copy(alloc, v)?);
-            truth_of(operate(alloc, operator, first, second)?)
-        }
+        None => truth_of(operate_values(alloc, operator, u, v)?),
     }
 }

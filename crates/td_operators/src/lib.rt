@@ -37,7 +37,7 @@ pub use operand::{Lease, Operand, rows_of};
 pub use operators::{
     attribute_at, component_at, nest, operate_on, part_at, unnest, with_new_names,
 };
-pub use pairs::operate;
+pub use pairs::{operate, operate_values};
 pub use parts::{integer_value, relation_value, text_value, truth_of, truth_value, tuple_value};
 pub use relations::project_of;
 pub use tuples::{relation_over, table_dee};

@@ -7,6 +7,7 @@ ghost use Rattle.td_algebra.specs.Raising.{Answers};
 ghost use Rattle.td_operators.specs.ForProofs.Lent.{operand_value};
 ghost use Rattle.td_syntax.specs.declared.tree.BinaryOperator.TheVariants as binary;
 ghost use Rattle.td_operators.specs.Operators as spec;
+ghost use Rattle.td_values.specs.Data.{Datum, integer};
 
 use crate::operand::{
     Lease, Operand, Shape, integer_of, rows_of, shape_of, text_of, truth_of, tuple_of,
@@ -21,7 +22,7 @@ use std::alloc::{AllocError, Global};
 use td_algebra::{Fault, KeyIndex, Stop};
 use td_relations::{Relation, is_subset};
 use td_syntax::tree::BinaryOperator;
-use td_values::{Heading, Kind, Raise, Text, Tuple, Value, equal, equal_headings};
+use td_values::{Heading, Kind, Raise, Text, Tuple, Value, copy, equal, equal_headings};
 
 // ---- truth values, integers, texts
 
@@ -522,5 +523,60 @@ pub fn operate<W>(
         | BinaryOperator::Compose
         | BinaryOperator::Matching
         | BinaryOperator::NotMatching => of_relations(alloc, operator, u, v),
+    }
+}
+
+// Whether the operator adds, subtracts, multiplies or divides.
+fn is_arithmetic(operator: BinaryOperator) -> bool
+    ensures { IsTrue result → (d e : Datum) → spec.operate operator d e ≡ spec.of_integers operator d e }
+{
+    match operator {
+        BinaryOperator::Add => true,
+        BinaryOperator::Subtract => true,
+        BinaryOperator::Multiply => true,
+        BinaryOperator::Divide => true,
+        _ => false,
+    }
+}
+
+// The two integers that the values are, if both are integers.
+fn integers_of(u: &Value, v: &Value) -> Option<(i64, i64)>
+    ensures { IfSome result (λ p. (u.now ≡ integer p.0) × (v.now ≡ integer p.1)) }
+{
+    match (&u.kind, &v.kind) {
+        (Kind::Integer(m), Kind::Integer(n)) => Some((*m, *n)),
+        _ => None,
+    }
+}
+
+// What an operator makes of copies of two values.
+fn operate_copies<W>(
+    alloc: Global,
+    operator: BinaryOperator,
+    u: &Value,
+    v: &Value,
+) -> Result<Value, Fault<W>>
+    ensures { Answers result (spec.operate operator u.now v.now) }
+{
+    let first = Operand::Made(copy(alloc, u)?);
+    let second = Operand::Made(copy(alloc, v)?);
+    operate(alloc, operator, first, second)
+}
+
+/// What an operator makes of two values that stand elsewhere. It copies them, but for integers with which it calculates.
+pub fn operate_values<W>(
+    alloc: Global,
+    operator: BinaryOperator,
+    u: &Value,
+    v: &Value,
+) -> Result<Value, Fault<W>>
+    ensures { Answers result (spec.operate operator u.now v.now) }
+{
+    if !is_arithmetic(operator) {
+        return operate_copies(alloc, operator, u, v);
+    }
+    match integers_of(u, v) {
+        Some((m, n)) => calculate(operator, m, n),
+        None => operate_copies(alloc, operator, u, v),
     }
 }
