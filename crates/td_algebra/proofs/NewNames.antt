@@ -1,5 +1,5 @@
 -- Extension by new names: the tuples tell apart, so there are as many as before.
-use Rattle.std.proofs.Common.{◌≡◌, ℕ, suc, Bool, true, false, cond, List, [], ◌∷◌, length, map, Option, None, Some, is_some, Result, Ok, Err, inl, inr, refl, sym, ap, ◌∙◌, subst, true≢false, if◌then◌else◌, arith}
+use Rattle.std.proofs.Common.{◌≡◌, ℕ, suc, Bool, true, false, cond, List, [], ◌∷◌, length, Option, None, Some, is_some, Result, Ok, Err, inl, inr, refl, sym, ap, ◌∙◌, subst, true≢false, if◌then◌else◌, arith}
 use Rattle.std.specs.FinMap as by_name
 use Rattle.std.specs.List.{All}
 use Rattle.std.specs.Ordering.{eq_by_cmp, is_eq}
@@ -23,34 +23,20 @@ use Rattle.td_algebra.specs.declared.errors.Stop.TheVariants.{Untyped}
 use Rattle.td_algebra.specs.Counts.{IsLengthOf}
 use Rattle.td_algebra.specs.Extending.{Extended, RaisedBy, TermMeaning, extended_at, field_at, fields_at, typed_field}
 use Rattle.td_algebra.specs.ForProofs.Checking.{AreNew, checked}
-use Rattle.td_algebra.specs.Raising.{AnswersBy, Unless, all_of, alone, and_all, and_then}
+use Rattle.td_algebra.specs.Raising.{Answers, Unless, all_of, and_then}
 use Rattle.td_algebra.proofs.Distinct.{AreDistinct, ascending_distinct, length_of_list}
 use Rattle.td_algebra.proofs.Extensions.{are_extended, extension_fails, none_raised}
 use Rattle.td_algebra.proofs.Lists.{In, all_in, contains_in, in_contains}
 use Rattle.td_algebra.proofs.Walks.{answers_from, ok_split}
 
--- ---- answers of which only the errors are kept
-abbrev units : {A : Type 0} → Result (List A) Stop → Result (List (Unit {0})) Stop
-units m = and_then m (λ xs. Ok (map (λ _. tt) xs))
+-- ---- answers of which only the errors are asked for
+checked_ok : {A : Type 0} (m : Result A Stop) → checked m ≡ Ok tt → (x : A) × (m ≡ Ok x)
+checked_ok (Ok x) e = (x, refl)
+checked_ok (Err f) e = cc
 
-one_more : {A : Type 0} (a : Result A Stop) (m : Result (List A) Stop) → and_all (alone (checked a)) (units m) ≡ units (and_all (alone a) m)
-one_more (Ok a) (Ok xs) = refl
-one_more (Ok a) (Err f) = refl
-one_more (Err e) (Ok xs) = refl
-one_more (Err e) (Err f) = refl
-
-module _ {X A : Type 0} (g : X → Result A Stop) where
-  all_checked : (xs : List X) → all_of (λ x. checked (g x)) xs ≡ units (all_of g xs)
-  all_checked [] = refl
-  all_checked (x ∷ xs) = ap (and_all (alone (checked (g x)))) (all_checked xs) ∙ one_more (g x) (all_of g xs)
-
-units_ok : {A : Type 0} (m : Result (List A) Stop) (us : List (Unit {0})) → units m ≡ Ok us → (xs : List A) × (m ≡ Ok xs)
-units_ok (Ok xs) us e = (xs, refl)
-units_ok (Err f) us e = cc
-
-units_err : {A : Type 0} (m : Result (List A) Stop) (e : Stop) → units m ≡ Err e → m ≡ Err e
-units_err (Ok xs) e h = cc
-units_err (Err f) e h = cc
+checked_err : {A : Type 0} (m : Result A Stop) (e : Stop) → checked m ≡ Err e → m ≡ Err e
+checked_err (Ok x) e h = cc
+checked_err (Err f) e h = cc
 
 -- ---- names
 none_of : {X : Type 0} (o : Option X) → is_some o ≡ false → o ≡ None
@@ -120,15 +106,15 @@ module _ {E : Type 0} (m : TermMeaning E) (items : List (Item E)) (h : Header) (
         let (distinct, many) = extended_distinct r.tuples us fit (ascending_distinct r.tuples rows.ascending) all in
         subst (IsLengthOf (extended_columns items r.heading) (Extended m items r)) many (length_of_list (extended_columns items r.heading) (Extended m items r) us distinct (are_extended m items r us all))
 
-    pub new_counted : (us : List (Unit {0})) → all_of (λ t. checked (extended_at m items t)) r.tuples ≡ Ok us → ((d : Stop) → RaisedBy m items r d → ⊥) × IsLengthOf (extended_columns items r.heading) (Extended m items r) (length r.tuples)
-    new_counted us all =
-        let (xs, is) = units_ok (all_of (extended_at m items) r.tuples) us (sym (all_checked (extended_at m items) r.tuples) ∙ all) in
+    pub new_counted : checked (all_of (extended_at m items) r.tuples) ≡ Ok tt → ((d : Stop) → RaisedBy m items r d → ⊥) × IsLengthOf (extended_columns items r.heading) (Extended m items r) (length r.tuples)
+    new_counted all =
+        let (xs, is) = checked_ok (all_of (extended_at m items) r.tuples) all in
         (none_raised m items r xs is, new_length xs is)
 
 module _ {E : Type 0} (m : TermMeaning E) (items : List (Item E)) (r : RowsData) where
-  pub check_fails : {V W : Type 0} (see : V → List (Unit {0})) (P : ℕ → Type 0) (f : Fault W) → AnswersBy see (Err f) (all_of (λ t. checked (extended_at m items t)) r.tuples) → Unless (RaisedBy m items r) P (Err f)
-  check_fails see P OutOfMemory all = tt
-  check_fails see P (Wanting w) all = tt
-  check_fails {W = W} see P (Raised d) all =
-      let raised = units_err (all_of (extended_at m items) r.tuples) d (sym (all_checked (extended_at m items) r.tuples) ∙ all) in
+  pub check_fails : {W : Type 0} (P : ℕ → Type 0) (f : Fault W) → Answers {A = Unit {0}} (Err f) (checked (all_of (extended_at m items) r.tuples)) → Unless (RaisedBy m items r) P (Err f)
+  check_fails P OutOfMemory all = tt
+  check_fails P (Wanting w) all = tt
+  check_fails {W = W} P (Raised d) all =
+      let raised = checked_err (all_of (extended_at m items) r.tuples) d all in
       extension_fails m items r {W = W} (λ (us : List Attrs). us) (λ _. Unit {0}) (Raised d) raised

@@ -25,7 +25,7 @@ lesser_by e f g false true z ex ey ez = ap (λ k. lesser k g) (second e f ex) �
 lesser_by e f g false false true ex ey ez = absurd (grind (arith, nat_tests, ex, ey, ez))
 lesser_by e f g false false false ex ey ez = ap (λ k. lesser k g) (second e f ex) ∙ second f g ey ∙ sym (ap (lesser e) (second f g ey) ∙ second e g ez)
 
-lesser_assoc : (e f g : Stop) → lesser (lesser e f) g ≡ lesser e (lesser f g)
+pub lesser_assoc : (e f g : Stop) → lesser (lesser e f) g ≡ lesser e (lesser f g)
 lesser_assoc e f g = lesser_by e f g (nat_le (stop_number e) (stop_number f)) (nat_le (stop_number f) (stop_number g)) (nat_le (stop_number e) (stop_number g)) refl refl refl
 
 lesser_either_by : (P : Stop → Type 0) (e f : Stop) (b : Bool) → P e → P f → P (if b then e else f)

@@ -20,6 +20,7 @@ ghost use Rattle.td_algebra.specs.Extending.{TermMeaning, TakesBoth, Means, Take
 use crate::errors::{Fault, Stop};
 use crate::fronts::has_name;
 use crate::gathered::Gathered;
+use crate::least_error::LeastError;
 use std::alloc::{AllocError, Global};
 use td_relations::Relation;
 use td_tuples::{Item, beside, extended_columns, tuple_of};
@@ -192,7 +193,6 @@ fn check_item<E, W, F: Fn(&E, &Tuple) -> Result<Value, Fault<W>>>(
 
 // The least error that the items raise at the tuple, if they raise one. It takes no memory.
 fn check_at<E, W, F: Fn(&E, &Tuple) -> Result<Value, Fault<W>>>(
-    alloc: Global,
     items: &[Item<E>],
     tuple: &Tuple,
     f: &F,
@@ -200,36 +200,31 @@ fn check_at<E, W, F: Fn(&E, &Tuple) -> Result<Value, Fault<W>>>(
     requires { TakesItems (F.pre f.now) items.now tuple.now }
     ensures { (m : TermMeaning E) → MeansItems (F.post f.now) m items.now tuple.now → Answers result (checked (spec.extended_at m items.now tuple.now)) }
 {
-    let mut gathered = Gathered::new(alloc);
+    let mut least = LeastError::new();
     for item in items {
-        gathered.note(check_item(item, tuple, f))?;
+        least.note(check_item(item, tuple, f))?;
     }
-    match gathered.finish() {
-        Ok(_) => Ok(()),
-        Err(fault) => Err(fault),
-    }
+    least.finish()
 }
 
-// The least error that the items raise at these tuples, if they raise one.
+// The least error that the items raise at these tuples, if they raise one. It takes no memory.
 fn check_all<E, W, F: Fn(&E, &Tuple) -> Result<Value, Fault<W>>>(
-    alloc: Global,
     tuples: &[Tuple],
     items: &[Item<E>],
     f: &F,
-) -> Result<Vec<()>, Fault<W>>
+) -> Result<(), Fault<W>>
     requires { All (TakesItems (F.pre f.now) items.now) tuples.now }
-    ensures { (m : TermMeaning E) → All (MeansItems (F.post f.now) m items.now) tuples.now → AnswersBy (λ v. v.items) result (all_of (λ t. checked (spec.extended_at m items.now t)) tuples.now) }
+    ensures { (m : TermMeaning E) → All (MeansItems (F.post f.now) m items.now) tuples.now → Answers result (checked (all_of (spec.extended_at m items.now) tuples.now)) }
 {
-    let mut gathered = Gathered::new(alloc);
+    let mut least = LeastError::new();
     for tuple in tuples {
-        gathered.note(check_at(alloc, items, tuple, f))?;
+        least.note(check_at(items, tuple, f))?;
     }
-    gathered.finish()
+    least.finish()
 }
 
 // How many tuples the extension by new names has: as many as the relation.
 fn len_by_new_names<E, W, F: Fn(&E, &Tuple) -> Result<Value, Fault<W>>>(
-    alloc: Global,
     relation: &Relation,
     items: &[Item<E>],
     f: &F,
@@ -239,8 +234,8 @@ fn len_by_new_names<E, W, F: Fn(&E, &Tuple) -> Result<Value, Fault<W>>>(
     ensures { (m : TermMeaning E) → All (MeansItems (F.post f.now) m items.now) relation.now.tuples →
         Unless (RaisedBy m items.now relation.now) (IsLengthOf (extended_columns items.now relation.now.heading) (Extended m items.now relation.now)) result }
 {
-    match check_all(alloc, relation.tuples(), items, f) {
-        Ok(_) => Ok(relation.tuples().len()),
+    match check_all(relation.tuples(), items, f) {
+        Ok(()) => Ok(relation.tuples().len()),
         Err(fault) => Err(fault),
     }
 }
@@ -258,7 +253,7 @@ pub fn extension_len<E, W, F: Fn(&E, &Tuple) -> Result<Value, Fault<W>>>(
         Unless (RaisedBy m items.now relation.now) (IsLengthOf (extended_columns items.now relation.now.heading) (Extended m items.now relation.now)) result }
 {
     if names_are_new(relation.heading(), items) {
-        return len_by_new_names(alloc, relation, items, f);
+        return len_by_new_names(relation, items, f);
     }
     match extend(alloc, relation, items, f) {
         Ok(extended) => Ok(extended.tuples().len()),

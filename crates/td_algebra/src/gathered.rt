@@ -9,6 +9,7 @@ ghost use Rattle.td_algebra.specs.Raising.{Answers, AnswersBy, and_all, alone, a
 ghost use Rattle.td_algebra.specs.ForProofs.Gathered.{GivesUp, so_far};
 
 use crate::errors::{Fault, Stop};
+use crate::least_error::least_of;
 use std::alloc::Global;
 use td_values::Tuple;
 
@@ -43,10 +44,7 @@ impl<A: Drop> Gathered<A> {
                 Ok(())
             }
             Err(Fault::Raised(raise)) => {
-                self.least = match self.least {
-                    None => Some(raise),
-                    Some(least) => Some(least.lesser(raise)),
-                };
+                self.least = Some(least_of(self.least, raise));
                 Ok(())
             }
             Err(fault) => Err(fault),

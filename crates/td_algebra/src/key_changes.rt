@@ -7,6 +7,7 @@ ghost use Rattle.td_algebra.specs.ForProofs.Places.{values_at};
 ghost use Rattle.td_relations.specs.Sets.{body};
 ghost use Rattle.td_values.specs.Order.{attrs_order};
 
+use crate::guides::Guide;
 use crate::key_index::put_in;
 use crate::keys::compare_places;
 use std::alloc::AllocError;
@@ -17,14 +18,14 @@ use td_values::Tuple;
 const FEW: usize = 1024;
 
 // Puts each of the tuples in, in the room that there is.
-fn put_each_in(entries: &mut Vec<Tuple>, places: &[usize], tuples: Vec<Tuple>)
+fn put_each_in(entries: &mut Vec<Tuple>, guide: &mut Guide, places: &[usize], tuples: Vec<Tuple>)
     requires sorted { IsSortedByKey (values_at places.now) attrs_order entries.old.items }
     requires room { length entries.old.items + length tuples.items ≤ vec_capacity entries.old }
     ensures more { IsPermutation (tuples.items ++ entries.old.items) entries.new.items }
     ensures sorted { IsSortedByKey (values_at places.now) attrs_order entries.new.items }
 {
     for tuple in tuples {
-        let Ok(()) = put_in(entries, places, tuple) else {
+        let Ok(()) = put_in(entries, guide, places, tuple) else {
             unreachable!()
         };
     }
@@ -46,6 +47,7 @@ pub(crate) fn merge_in(entries: &mut Vec<Tuple>, places: &[usize], tuples: Vec<T
 /// Puts the tuples in, all of them or, where memory is wanting, none.
 pub(crate) fn put_all_in(
     entries: &mut Vec<Tuple>,
+    guide: &mut Guide,
     places: &[usize],
     tuples: Vec<Tuple>,
 ) -> Result<(), AllocError>
@@ -56,9 +58,10 @@ pub(crate) fn put_all_in(
 {
     entries.reserve(tuples.len())?;
     if tuples.len() <= FEW {
-        put_each_in(entries, places, tuples);
+        put_each_in(entries, guide, places, tuples);
     } else {
         merge_in(entries, places, tuples);
+        guide.renew(entries, places);
     }
     Ok(())
 }

@@ -115,7 +115,7 @@ fn growth_by(
     match database.base_at(target) {
         Some(base) => {
             let before = base.relation();
-            let inserted = lacking_tuples(alloc, more, before)?;
+            let inserted = lacking_tuples(alloc, more, before, base.indexes())?;
             before.rows_fit();
             inserted.rows_fit();
             let deleted = Relation::empty(alloc, inserted.heading().copy()?);

@@ -138,11 +138,6 @@ pub none_there : (ts : List Attrs) → length ts ≡ 0 → (q : Attrs) → set.c
 none_there [] many q has = true≢false (sym has ∙ set.contains-from_list attrs_order_total [] q)
 none_there (t ∷ ts) many q has = absurd (omega (arith, many))
 
-pub alone : (ts : List Attrs) (t : Attrs) → length ts ≡ 1 → t ≡ get_or ts 0 t → ts ≡ t ∷ []
-alone [] t many at = absurd (omega (arith, many))
-alone (u ∷ []) t many at = ap (λ v. v ∷ []) (sym at)
-alone (u ∷ v ∷ ts) t many at = absurd (omega (arith, many))
-
 only_one : (ts : List Attrs) (t q : Attrs) → ts ≡ t ∷ [] → set.contains (tuple_set ts) q ≡ true → q ≡ t
 only_one ts t q is has = elim (subst (In q) is (contains_in ts q ((contains_listed ts q).0 has))) [ inl same ↦ same | inr none ↦ absurd none ]
 

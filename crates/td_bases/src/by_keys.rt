@@ -36,17 +36,6 @@ fn fresh_tuples(
     Ok(tuples)
 }
 
-// Whether the relation that the index is of has the tuple: a search of the index, and a comparison for each tuple that
-// has its part at the key.
-fn has(index: &KeyIndex, relation: &Relation, tuple: &Tuple) -> bool
-    requires of { IsIndexOf relation.now index.now }
-    requires fits { Fits index.now.heading tuple.now }
-    ensures { result ≡ set.contains (body relation.now) tuple.now }
-{
-    relation.rows_fit();
-    index.with_key_of(tuple).contains(tuple)
-}
-
 // Where the index has the first tuple, if the relation lacks the second one and that has its part at the key.
 fn place_for(index: &KeyIndex, relation: &Relation, gone: &Tuple, more: &Tuple) -> Option<usize>
     requires of { IsIndexOf relation.now index.now }
@@ -54,11 +43,8 @@ fn place_for(index: &KeyIndex, relation: &Relation, gone: &Tuple, more: &Tuple) 
     ensures place { IfSome result (IsReplaceable gone.now more.now index.now) }
     ensures fresh { IfSome result (λ _. set.contains (body relation.now) more.now ≡ false) }
 {
-    if has(index, relation, more) {
-        None
-    } else {
-        index.replaceable_place(gone, more)
-    }
+    relation.rows_fit();
+    index.replaceable_place(gone, more)
 }
 
 /// Where the one index has the one tuple that is taken out, if the one that is put in is new and may stand there.

@@ -12,8 +12,9 @@
 //! ```
 //!
 //! Costs: `by_key` is a sort, `with_key` a search. A small `change` is a search and a shift for each tuple, in the
-//! relation and in each index; more than 1,024 tuples sort an index again. `way_back` takes room for two lists of all
-//! tuples, unless an earlier one has left that.
+//! relation and in each index; where one tuple replaces another of its key and there is one index, nothing is shifted
+//! in that. More than 1,024 tuples sort an index again. `way_back` takes room for two lists of all tuples, unless an
+//! earlier one has left that.
 #![tactic(auto)]
 
 mod base;

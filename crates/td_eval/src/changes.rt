@@ -43,18 +43,18 @@ fn deletion_of(alloc: Global, relation: &Relation, gone: Relation) -> Result<Del
     Ok(Delta::of(nothing, gone))
 }
 
-// The change that puts the second ones in their place.
+// The change of the relation that puts the second ones in place of the first.
 fn replacement_of(
     alloc: Global,
-    relation: &Relation,
+    tuples: &Lease<'_>,
     gone: &Relation,
     more: &Relation,
 ) -> Result<Delta, AllocError>
-    requires gone { (m : Attrs → Result Bool Stop) × (restricted m relation.now ≡ Ok gone.now) }
-    requires heading { more.now.heading ≡ relation.now.heading }
-    ensures { IfOk result (IsDifference relation.now (union_of (minus_of relation.now gone.now) more.now)) }
+    requires gone { (m : Attrs → Result Bool Stop) × (restricted m tuples.now ≡ Ok gone.now) }
+    requires heading { more.now.heading ≡ tuples.now.heading }
+    ensures { IfOk result (IsDifference tuples.now (union_of (minus_of tuples.now gone.now) more.now)) }
 {
-    let inserted = lacking_tuples(alloc, more, relation)?;
+    let inserted = lacking_tuples(alloc, more, tuples.get(), tuples.indexes())?;
     let deleted = minus(alloc, gone, more)?;
     Ok(Delta::of(inserted, deleted))
 }
@@ -83,7 +83,7 @@ fn update<W: Wanted>(
     if !more.same_heading(tuples.get()) {
         return Err(Fault::Raised(Stop::Untyped));
     }
-    Ok(replacement_of(alloc, tuples.get(), &gone, &more)?)
+    Ok(replacement_of(alloc, tuples, &gone, &more)?)
 }
 
 // The change that makes what an expression of this form means of the relation.

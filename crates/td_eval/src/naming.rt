@@ -2,9 +2,11 @@
 
 ghost use Rattle.std.specs.FinSet as set;
 ghost use Rattle.std.specs.Prelude.{◌≡◌, IfOk};
+ghost use Rattle.td_algebra.specs.KeyIndexes.{AreKeyIndexes};
 ghost use Rattle.td_relations.specs.Sets.{IsRelation, body};
 
 use std::alloc::{AllocError, Global};
+use td_algebra::{KeyIndex, minus_by};
 use td_relations::{Relation, minus};
 use td_values::{Heading, Name, Rows, TdType, Tuple, Value, copy};
 
@@ -73,18 +75,37 @@ fn with_names_of(
     Ok(Relation::of(Rows::new(heading.copy()?, tuples)))
 }
 
+// What the relation lacks of these tuples, by the first index where there is one.
+fn without(
+    alloc: Global,
+    more: &Relation,
+    relation: &Relation,
+    indexes: &[KeyIndex],
+) -> Result<Relation, AllocError>
+    requires heading { more.now.heading ≡ relation.now.heading }
+    requires indexes { AreKeyIndexes relation.now indexes.now }
+    ensures { IfOk result (IsRelation more.now.heading (set.difference (body more.now) (body relation.now))) }
+{
+    match indexes.first() {
+        Some(index) => minus_by(alloc, more, relation, index),
+        None => minus(alloc, more, relation),
+    }
+}
+
 /// What the relation lacks of these tuples, each made anew with the relation's names. What comes with a statement has
 /// the names of its text, for each tuple its own: who keeps the tuples would keep these too, and read them wherever an
-/// attribute is asked for by name. It costs what `minus` of td_relations does, and a list for each tuple that is
-/// lacking; values are shared.
+/// attribute is asked for by name. It costs what `minus_by` of td_algebra does by the first of the relation's indexes,
+/// or `minus` of td_relations where there is none, and a list for each tuple that is lacking; values are shared.
 pub fn lacking_tuples(
     alloc: Global,
     more: &Relation,
     relation: &Relation,
+    indexes: &[KeyIndex],
 ) -> Result<Relation, AllocError>
-    requires { more.now.heading ≡ relation.now.heading }
+    requires heading { more.now.heading ≡ relation.now.heading }
+    requires indexes { AreKeyIndexes relation.now indexes.now }
     ensures { IfOk result (IsRelation more.now.heading (set.difference (body more.now) (body relation.now))) }
 {
-    let fresh = minus(alloc, more, relation)?;
+    let fresh = without(alloc, more, relation, indexes)?;
     with_names_of(alloc, relation.heading(), &fresh)
 }

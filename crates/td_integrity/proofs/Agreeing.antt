@@ -1,5 +1,5 @@
 -- One tuple in place of another one that agrees with it at some names.
-use Rattle.std.proofs.Common.{◌≡◌, ℕ, zero, suc, Bool, true, false, ◌||◌, inl, inr, List, [], ◌∷◌, get_or, length, refl, sym, ap, ◌∙◌, subst, true≢false, arith}
+use Rattle.std.proofs.Common.{◌≡◌, ℕ, zero, suc, Bool, true, false, ◌||◌, inl, inr, List, [], ◌∷◌, refl, sym, ap, ◌∙◌, subst, true≢false, arith}
 use Rattle.std.specs.FinSet as set
 use Rattle.std.specs.List.{All}
 use Rattle.std.specs.Ordering.{eq_by_cmp}
@@ -41,11 +41,6 @@ one_leaves names d gone more one other same t has =
     let is : t ≡ gone = only_one d.deleted.tuples gone t one (contains_in d.deleted.tuples t ((contains_listed d.deleted.tuples t).0 has)) in
     let there : Has d.inserted more = ap (λ ts. set.contains (tuple_set ts) more) other ∙ set.contains-from_list attrs_order_total (more ∷ []) more ∙ ap (λ b. b || false) (itself more) in
     (more, there, same ∙ ap (cut names) (sym is))
-
-pub alone : (ts : List Attrs) (t : Attrs) → length ts ≡ 1 → t ≡ get_or ts 0 t → ts ≡ t ∷ []
-alone [] t many at = absurd (omega (arith, many))
-alone (u ∷ []) t many at = ap (λ v. v ∷ []) (sym at)
-alone (u ∷ v ∷ ts) t many at = absurd (omega (arith, many))
 
 pub first_fits : (r : RowsData) (t : Attrs) → All (Fits r.heading) r.tuples → r.tuples ≡ t ∷ [] → Fits r.heading t
 first_fits r t fit is = subst (All (Fits r.heading)) is fit zero t (omega arith)

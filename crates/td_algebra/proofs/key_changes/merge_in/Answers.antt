@@ -1,4 +1,4 @@
-use Rattle.std.proofs.Common.{rules, ◌++◌, is_lt, sym, subst}
+use Rattle.std.proofs.Common.{rules, ◌++◌, is_lt, subst}
 use Rattle.std.specs.List.Sorted.{IsPermutation}
 use Rattle.std.proofs.lemmas.Fn.{always_returns_same}
 use Rattle.std.proofs.lemmas.List.Sorted.{IsPermutation-append_comm, IsPermutation-trans, ranks_by}

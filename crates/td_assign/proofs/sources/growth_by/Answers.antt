@@ -1,17 +1,22 @@
 use Rattle.std.proofs.Common.{Some, slice_get, ap, sym, subst, ◌∙◌}
 use Rattle.std.specs.FinSet as set
 use Rattle.td_values.specs.Headings.{Header}
+use Rattle.td_values.specs.Rows.{RowsData}
+use Rattle.td_algebra.specs.KeyIndexes.{AreKeyIndexes}
 use Rattle.td_relations.specs.Sets.{IsRelation}
 use Rattle.td_relvars.proofs.Stores.{looked_up}
 use Rattle.td_assign.proofs.Turning.{apart_from_none, growth_is, of_target}
 use Rattle.td_assign.proofs.sources.growth_by.Goals as goal
 
-pub lacking_tuples-requires : goal.lacking_tuples-requires
-lacking_tuples-requires c =
+pub lacking_tuples-requires-clause-heading : goal.lacking_tuples-requires-clause-heading
+lacking_tuples-requires-clause-heading c =
     let d = c.args.database.now in
     let n = c.args.target in
     let before = c.relation-before.result.now in
     of_target d n c.args.more.now before c.requires (looked_up (slice_get d.stored n) before (sym c.in-Some.ensures.rows ∙ ap Some (sym c.relation-before.ensures)))
+
+pub lacking_tuples-requires-clause-indexes : goal.lacking_tuples-requires-clause-indexes
+lacking_tuples-requires-clause-indexes c = subst (λ (r : RowsData). AreKeyIndexes r c.indexes.result.now) (sym c.relation-before.ensures) c.indexes.ensures
 
 pub of-requires : goal.of-requires
 of-requires c =

@@ -5,7 +5,7 @@ use Rattle.td_relations.specs.Sets.{body}
 use Rattle.td_algebra.specs.KeyIndexes.{IsReplaceable}
 use Rattle.td_algebra.proofs.ByKey.{when_some}
 use Rattle.td_bases.specs.ForProofs.Keyed.{IsReplaced}
-use Rattle.td_bases.proofs.Keyed.{alone}
+use Rattle.td_relations.proofs.Between.{only_one}
 use Rattle.td_bases.proofs.Replacing.{only_index}
 use Rattle.td_bases.proofs.by_keys.replaced_place.Goals as goal
 
@@ -23,8 +23,8 @@ returns-then-tuples-eq1-2 c =
       gone = gone;
       more = more;
       only_index = only_index c.args.indexes.now x (omega (arith, c.if-indexes-eq1.true)) c.index-indexes-0.is;
-      only_gone = alone o.tuples gone (ap (λ (ts : List Attrs). length ts) (sym c.tuples.ensures.all) ∙ (omega (arith, c.if-tuples-eq1.true))) (c.index-tuples-0.is ∙ ap (λ (ts : List Attrs). get_or ts 0 gone) c.tuples-then-tuples-eq1-2.ensures.all);
-      only_more = alone i.tuples more (ap (λ (ts : List Attrs). length ts) (sym c.tuples-then-tuples-eq1.ensures.all) ∙ (omega (arith, c.if-tuples-eq1-2.true))) (c.index-tuples-0-then-tuples-eq1-2.is ∙ ap (λ (ts : List Attrs). get_or ts 0 more) c.tuples-then-tuples-eq1-2-2.ensures.all);
+      only_gone = only_one o.tuples gone (ap (λ (ts : List Attrs). length ts) (sym c.tuples.ensures.all) ∙ (omega (arith, c.if-tuples-eq1.true))) (c.index-tuples-0.is ∙ ap (λ (ts : List Attrs). get_or ts 0 gone) c.tuples-then-tuples-eq1-2.ensures.all);
+      only_more = only_one i.tuples more (ap (λ (ts : List Attrs). length ts) (sym c.tuples-then-tuples-eq1.ensures.all) ∙ (omega (arith, c.if-tuples-eq1-2.true))) (c.index-tuples-0-then-tuples-eq1-2.is ∙ ap (λ (ts : List Attrs). get_or ts 0 more) c.tuples-then-tuples-eq1-2-2.ensures.all);
       replaceable = place;
       fresh = fresh;
     }) c.place_for.ensures.place c.place_for.ensures.fresh

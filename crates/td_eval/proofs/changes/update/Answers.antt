@@ -17,4 +17,4 @@ returns g c =
     let r = c.args.tuples.now in
     let x = c.args.change.now in
     told_update r c.in_ok-gone.gone c.in_ok-more.more (chosen m x.condition.now r) (renewed m x.items.now) c.in_ok-gone.ensures c.in_ok-more.ensures c.same_heading.result (rw c.get.ensures at c.same_heading.ensures)
-    c.if-not-same_heading.false c.in_ok-replacement_of.field-0 (rw c.get-2.ensures at c.in_ok-replacement_of.ensures)
+    c.if-not-same_heading.false c.in_ok-replacement_of.field-0 c.in_ok-replacement_of.ensures
