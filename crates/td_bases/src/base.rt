@@ -295,8 +295,8 @@ impl Base {
         })
     }
 
-    /// A copy, which shares the tuples and keeps them by all keys by which they are kept: for each it takes a list
-    /// more.
+    /// A copy, which shares the tuples and keeps them by all keys by which they are kept: for each it takes two
+    /// lists more.
     pub fn copy_with_keys(&self, alloc: Global) -> Result<Base, AllocError>
         ensures { IfOk result (λ b. b ≡ self.now) }
     {

@@ -266,7 +266,7 @@ pub(crate) fn by_first(
     Ok(indexes)
 }
 
-/// The indexes, whose tuples are shared. A copy of n tuples by a key takes a list of n and n counts.
+/// The indexes, whose tuples are shared. A copy of n tuples by a key takes two lists of n and n counts.
 pub(crate) fn copy_each(alloc: Global, indexes: &[KeyIndex]) -> Result<Vec<KeyIndex>, AllocError>
     ensures { IfOk result (λ v. v.items ≡ indexes.now) }
 {
