@@ -11,7 +11,7 @@ use Rattle.std.proofs.lemmas.List.Sorted.{searchable_from_sorted, list_any-IsPer
 use Rattle.td_values.specs.Headings.{Header}
 use Rattle.td_values.specs.Order.{text_cmp}
 use Rattle.td_values.specs.TextOrder.{text_total, text_equivalence}
-use Rattle.td_tuples.specs.Parts.{is_in, is_out, columns_in, columns_out}
+use Rattle.td_tuples.specs.Parts.{is_in, columns_in, columns_out}
 
 -- what a binary search by the key finds
 pub search_finds : {K X : Type 0} {R : K → K → Ordering} (o : IsTotalOrder R) (key : X → K) (xs : List X) (k : K) → IsSortedByKey key R xs → (r : Result ℕ ℕ) → IsSearchInRange r (length xs) → IsBinarySearchResult (λ x. R (key x) k) xs r → is_ok r ≡ list_any (λ x. eq_by_cmp R (key x) k) xs
