@@ -142,6 +142,25 @@ leads (tuple s) (tuple t) h v w = (refl, λ q. absurd (true≢false (sym q)))
 leads (relation g ts) (relation k us) h v w = (refl, λ q. absurd (true≢false (sym q)))
 leads d e h v w = cc
 
+-- to compare two values of one type by what they begin with first changes no order
+pub beginnings_change_nothing : (d e : Datum) (r : Ordering) → type_of d ≡ type_of e → IsOfBytes d → IsOfBytes e → ordering_then (order (beginning d) (beginning e)) (ordering_then (order d e) r) ≡ ordering_then (order d e) r
+beginnings_change_nothing (boolean a) (boolean b) r h v w = refl
+beginnings_change_nothing (integer m) (integer n) r h v w = twice (int_cmp m n)
+  where
+    twice : (o : Ordering) → ordering_then o (ordering_then o r) ≡ ordering_then o r
+    twice Less = refl
+    twice Equal = refl
+    twice Greater = refl
+beginnings_change_nothing (char s) (char t) r h v w = elim (order (beginning (char s)) (beginning (char t))) as (λ o. Leads (char s) (char t) o → ordering_then o (ordering_then (order (char s) (char t)) r) ≡ ordering_then (order (char s) (char t)) r) [
+  | Less ↦ λ l. sym (ap (λ q. ordering_then q r) l)
+  | Equal ↦ λ l. refl
+  | Greater ↦ λ l. sym (ap (λ q. ordering_then q r) l)
+] (texts_lead s t v w)
+beginnings_change_nothing (user p is) (user q js) r h v w = refl
+beginnings_change_nothing (tuple s) (tuple t) r h v w = refl
+beginnings_change_nothing (relation g ts) (relation k us) r h v w = refl
+beginnings_change_nothing d e r h v w = cc
+
 -- ---- tuples
 firsts_change_nothing : (s t : Attrs) → heading_of s ≡ heading_of t → FirstIsOfBytes s → FirstIsOfBytes t → ordering_then (order (first s) (first t)) (values_order s t) ≡ values_order s t
 firsts_change_nothing no_attrs no_attrs h v w = refl

@@ -24,7 +24,7 @@ const BASE: u64 = 257;
 /// So few tuples are sorted by themselves.
 const FEW: usize = 12;
 
-/// What a value begins with.
+/// What a value begins with: 24 bytes, by which most values of one type are told apart without a look at them.
 #[derive(Clone, Copy)]
 pub enum Abbreviation {
     /// Nothing is said.
@@ -70,8 +70,8 @@ fn number_of(bytes: &[u8], from: usize) -> u64
 }
 
 impl Abbreviation {
-    // What the value begins with.
-    fn of(value: &Value) -> Abbreviation
+    /// What the value begins with.
+    pub fn of(value: &Value) -> Abbreviation
         ensures value { spec.value_of result ≡ spec.beginning value.now }
         ensures bytes { IsOfBytes value.now }
     {
@@ -96,8 +96,8 @@ impl Abbreviation {
         }
     }
 
-    // Compares two abbreviations: by what they hold where they are of one kind, otherwise by their kinds.
-    fn compare(self, other: Abbreviation) -> Ordering
+    /// Compares two abbreviations: by what they hold where they are of one kind, otherwise by their kinds.
+    pub fn compare(self, other: Abbreviation) -> Ordering
         ensures { result ≡ order (spec.value_of self) (spec.value_of other) }
     {
         match (self, other) {
