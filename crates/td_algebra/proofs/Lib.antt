@@ -31,6 +31,7 @@ pub mod Marks
 pub mod Matchings
 pub mod Shared
 pub mod GroupParts
+pub mod Beginnings
 pub mod Beside
 pub mod FirstNames
 pub mod Keyed

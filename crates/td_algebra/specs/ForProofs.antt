@@ -8,3 +8,4 @@ pub mod Ends
 pub mod Gathered
 pub mod Checking
 pub mod Origins
+pub mod Sorts

@@ -52,6 +52,7 @@ mod parts;
 mod restriction;
 mod searches;
 mod sets;
+mod sorts;
 mod summaries;
 mod summarization;
 mod uniqueness;
