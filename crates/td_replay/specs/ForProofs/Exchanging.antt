@@ -1,10 +1,9 @@
 -- Steps that commute may be exchanged.
-use Rattle.std.proofs.Common.{◌≡◌, ◌⊎◌, ⊎_elim, inl, inr, ℕ, List, [], ◌∷◌, ap, sym, subst, ◌∙◌, arith}
+use Rattle.std.proofs.Common.{◌≡◌, ◌⊎◌, ⊎_elim, ℕ, [], ap, sym, subst, ◌∙◌}
 use Rattle.std.specs.List.{Contains}
-use Rattle.std.proofs.lemmas.Bool.{cases_eq}
-use Rattle.std.proofs.lemmas.List.Elements.{Contains-append_right}
 use Rattle.td_accesses.specs.Commuting.{AreApart, Commute, InsertApart, InsertBeside}
 use Rattle.td_accesses.proofs.Beside.{commute_back, insertions_commute}
+use Rattle.td_accesses.proofs.Depending.{among}
 use Rattle.td_assign.specs.Inserting.{PutsIn}
 use Rattle.td_assign.specs.declared.ran.Ran.{Ran}
 use Rattle.td_headings.specs.Catalogues.{CatalogueData}
@@ -25,17 +24,6 @@ one_database : (o s t : DatabaseData) → Sound o s → Sound o t → ((n : ℕ)
 one_database o s t good fine alike =
     let same = ap (λ (d : DatabaseData). d.catalogue) good.1 ∙ sym (ap (λ (d : DatabaseData). d.catalogue) fine.1) in
     sym (put_back_restores s t [] good.0.0 fine.0.0 same (λ n never. (alike n).1))
-
-among : (n : ℕ) (ns : List ℕ) → Contains ns n ⊎ (Contains ns n → ⊥)
-among n [] = inr (λ h. omega (arith, h.1))
-among n (m ∷ ns) = ⊎_elim
-    (λ (same : m ≡ n). inl (0, omega arith, same))
-    (λ off. ⊎_elim (λ h. inl (Contains-append_right (m ∷ []) ns n h)) (λ none. inr (λ h. by h off none)) (among n ns))
-    (cases_eq m n)
-  where
-    by : Contains (m ∷ ns) n → (m ≡ n → ⊥) → (Contains ns n → ⊥) → ⊥
-    by (ℕ.zero, lt, is) off none = off is
-    by (ℕ.suc i, lt, is) off none = none (i, omega (arith, lt), is)
 
 -- ---- steps of entries that are apart
 module _ (o s t u : DatabaseData) (e f : Entry) (q r : Ran) (apart : AreApart o.catalogue e.dialect e.text f.dialect f.text) (good : Sound o s) (one : Notes s e q t) (two : Notes t f r u) where
