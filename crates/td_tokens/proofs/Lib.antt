@@ -1,3 +1,4 @@
+pub mod Keywords
 pub mod Cuts
 pub mod Readings
 pub mod Fronts

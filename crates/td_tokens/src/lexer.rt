@@ -12,6 +12,9 @@ use crate::front::front;
 use crate::token::{Token, TokenKind, Word};
 use std::alloc::Global;
 
+/// Room is made at first for tokens of so many bytes each, which are more than most texts have.
+const SHORT: usize = 2;
+
 /// How many of `(` and `{` may be open at once in a text.
 const MOST_OPEN: usize = 64;
 
@@ -30,13 +33,16 @@ fn open_after(depth: usize, kind: TokenKind) -> usize
 
 /// The tokens of a text in order, each with the part of the text that it takes.
 ///
-/// Refuses a text that has no reading as `Syntax`. Takes time linear in the text, and memory for its tokens alone.
+/// Refuses a text that has no reading as `Syntax`. Takes time linear in the text, and memory for its tokens alone, at
+/// first for one of each two bytes.
 pub fn tokens(alloc: Global, source: &str) -> Result<Vec<Token<'_>>, TokenError>
     ensures ok { IfOk result (λ ts. reading source.now ≡ Some (map spanned_of ts.items)) }
     ensures slices { IfOk result (λ ts. All (λ t. t.text.now ≡ slice_range source.now t.start t.end) ts.items) }
     ensures syntax { result ≡ Err TokenError.Syntax → reading source.now ≡ None }
 {
-    let mut found = Vec::new(alloc);
+    let Ok(mut found) = Vec::with_capacity(alloc, source.len() / SHORT) else {
+        return Err(TokenError::OutOfMemory);
+    };
     let mut rest = source;
     let mut start = 0;
     let mut depth = 0;

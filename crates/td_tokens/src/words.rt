@@ -9,69 +9,92 @@ ghost use Rattle.td_tokens.specs.Lex.{keyword_of, begins_with};
 use crate::piece::Piece;
 use crate::token::{TokenKind, Word};
 
-const KEYWORDS: [(&[u8], Word); 61] = [
+// The keywords by their lengths.
+const OF_TWO: [(&[u8], Word); 5] = [
+    (b"AS", Word::As),
+    (b"BY", Word::By),
+    (b"IF", Word::If),
+    (b"IN", Word::In),
+    (b"OR", Word::Or),
+];
+
+const OF_THREE: [(&[u8], Word); 13] = [
     (b"ADD", Word::Add),
     (b"ALL", Word::All),
     (b"AND", Word::And),
-    (b"AS", Word::As),
-    (b"BASE", Word::Base),
-    (b"BOOLEAN", Word::Boolean),
     (b"BUT", Word::But),
-    (b"BY", Word::By),
-    (b"CHAR", Word::Char),
-    (b"CHARACTER", Word::Character),
-    (b"COMPOSE", Word::Compose),
-    (b"CONSTRAINT", Word::Constraint),
-    (b"COUNT", Word::Count),
-    (b"DELETE", Word::Delete),
-    (b"ELSE", Word::Else),
     (b"END", Word::End),
-    (b"EXTEND", Word::Extend),
-    (b"FALSE", Word::False),
-    (b"FROM", Word::From),
-    (b"GROUP", Word::Group),
-    (b"IF", Word::If),
-    (b"IN", Word::In),
-    (b"INIT", Word::Init),
-    (b"INSERT", Word::Insert),
-    (b"INTEGER", Word::Integer),
-    (b"INTERSECT", Word::Intersect),
-    (b"IS_EMPTY", Word::IsEmpty),
-    (b"JOIN", Word::Join),
     (b"KEY", Word::Key),
-    (b"MATCHING", Word::Matching),
     (b"MAX", Word::Max),
     (b"MIN", Word::Min),
-    (b"MINUS", Word::Minus),
     (b"NOT", Word::Not),
-    (b"OR", Word::Or),
     (b"PER", Word::Per),
-    (b"POSSREP", Word::Possrep),
-    (b"REAL", Word::Real),
-    (b"RELATION", Word::Relation),
-    (b"RENAME", Word::Rename),
-    (b"SEMIJOIN", Word::Semijoin),
-    (b"SEMIMINUS", Word::Semiminus),
     (b"SUM", Word::Sum),
+    (b"VAR", Word::Var),
+    (b"XOR", Word::Xor),
+];
+
+const OF_FOUR: [(&[u8], Word); 12] = [
+    (b"BASE", Word::Base),
+    (b"CHAR", Word::Char),
+    (b"ELSE", Word::Else),
+    (b"FROM", Word::From),
+    (b"INIT", Word::Init),
+    (b"JOIN", Word::Join),
+    (b"REAL", Word::Real),
+    (b"THEN", Word::Then),
+    (b"TRUE", Word::True),
+    (b"TYPE", Word::Type),
+    (b"WITH", Word::With),
+    (b"WRAP", Word::Wrap),
+];
+
+const OF_FIVE: [(&[u8], Word); 7] = [
+    (b"COUNT", Word::Count),
+    (b"FALSE", Word::False),
+    (b"GROUP", Word::Group),
+    (b"MINUS", Word::Minus),
+    (b"TUPLE", Word::Tuple),
+    (b"UNION", Word::Union),
+    (b"WHERE", Word::Where),
+];
+
+const OF_SIX: [(&[u8], Word); 7] = [
+    (b"DELETE", Word::Delete),
+    (b"EXTEND", Word::Extend),
+    (b"INSERT", Word::Insert),
+    (b"RENAME", Word::Rename),
+    (b"TCLOSE", Word::Tclose),
+    (b"UNWRAP", Word::Unwrap),
+    (b"UPDATE", Word::Update),
+];
+
+const OF_SEVEN: [(&[u8], Word); 6] = [
+    (b"BOOLEAN", Word::Boolean),
+    (b"COMPOSE", Word::Compose),
+    (b"INTEGER", Word::Integer),
+    (b"POSSREP", Word::Possrep),
+    (b"UNGROUP", Word::Ungroup),
+    (b"VIRTUAL", Word::Virtual),
+];
+
+const OF_EIGHT: [(&[u8], Word); 4] = [
+    (b"IS_EMPTY", Word::IsEmpty),
+    (b"MATCHING", Word::Matching),
+    (b"RELATION", Word::Relation),
+    (b"SEMIJOIN", Word::Semijoin),
+];
+
+const OF_NINE: [(&[u8], Word); 6] = [
+    (b"CHARACTER", Word::Character),
+    (b"INTERSECT", Word::Intersect),
+    (b"SEMIMINUS", Word::Semiminus),
     (b"SUMMARIZE", Word::Summarize),
     (b"TABLE_DEE", Word::TableDee),
     (b"TABLE_DUM", Word::TableDum),
-    (b"TCLOSE", Word::Tclose),
-    (b"THEN", Word::Then),
-    (b"TRUE", Word::True),
-    (b"TUPLE", Word::Tuple),
-    (b"TYPE", Word::Type),
-    (b"UNGROUP", Word::Ungroup),
-    (b"UNION", Word::Union),
-    (b"UNWRAP", Word::Unwrap),
-    (b"UPDATE", Word::Update),
-    (b"VAR", Word::Var),
-    (b"VIRTUAL", Word::Virtual),
-    (b"WHERE", Word::Where),
-    (b"WITH", Word::With),
-    (b"WRAP", Word::Wrap),
-    (b"XOR", Word::Xor),
 ];
+
+const OF_TEN: [(&[u8], Word); 1] = [(b"CONSTRAINT", Word::Constraint)];
 
 // The longer ones come first, so that the first that fits is the longest.
 const SYMBOLS: [(&[u8], Word); 19] = [
@@ -103,8 +126,8 @@ fn same_letters(a: &[u8], b: &[u8]) -> bool
     a.eq_ignore_ascii_case(b)
 }
 
-// Whether a word is this one of the table, but for the case of its letters. Most words of the table have another length
-// or another first letter, which costs no call.
+// Whether a word is this one of the table, but for the case of its letters. Most words of the table have another first
+// letter, which costs no call.
 fn is_word(a: &[u8], b: &[u8]) -> bool
     ensures { result ≡ str_eq_ignore_ascii_case a.now b.now }
 {
@@ -156,12 +179,31 @@ fn symbol_in(table: &[(&[u8], Word)], bytes: &[u8]) -> Option<Piece>
     None
 }
 
-/// The keyword that these letters are, in either case.
-#[tactic(auto, unfolding(crate::specs::Lex::keyword_of))]
+/// The keyword that these letters are, in either case. It looks at those of as many letters.
 pub fn keyword(letters: &[u8]) -> Option<Word>
     ensures { result ≡ keyword_of letters.now }
 {
-    keyword_in(&KEYWORDS, letters)
+    if letters.len() == 2 {
+        keyword_in(&OF_TWO, letters)
+    } else if letters.len() == 3 {
+        keyword_in(&OF_THREE, letters)
+    } else if letters.len() == 4 {
+        keyword_in(&OF_FOUR, letters)
+    } else if letters.len() == 5 {
+        keyword_in(&OF_FIVE, letters)
+    } else if letters.len() == 6 {
+        keyword_in(&OF_SIX, letters)
+    } else if letters.len() == 7 {
+        keyword_in(&OF_SEVEN, letters)
+    } else if letters.len() == 8 {
+        keyword_in(&OF_EIGHT, letters)
+    } else if letters.len() == 9 {
+        keyword_in(&OF_NINE, letters)
+    } else if letters.len() == 10 {
+        keyword_in(&OF_TEN, letters)
+    } else {
+        None
+    }
 }
 
 /// The longest symbol at the front.

@@ -52,7 +52,7 @@ pub loop-rest-preserved : goal.loop-rest-preserved
 loop-rest-preserved c =
     let at = goal.at.loop-rest-preserved c in
     read_as _ _ _ _ _ _ _ _ refl refl c.split_at.ensures.back
-    (read_white c.loop-rest.invariant c.in_ok-piece.piece (is_front at.In_ok-piece) c.in_default.is)
+    (read_white c.loop-rest.invariant c.in_ok-piece.piece (is_front at.In_ok-piece) c.in_default-kind.is)
 
 pub returns-clause-ok : goal.returns-clause-ok
 returns-clause-ok c = read_whole _ _ _ _ _ c.loop-rest.invariant (empty_if c.loop-rest.rest.now c.is_empty.result c.is_empty.ensures c.loop-rest-test.false)
