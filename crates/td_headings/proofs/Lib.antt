@@ -6,6 +6,7 @@ pub mod Ascending
 pub mod NoTuple
 pub mod WellTyped
 pub mod ReadLemmas
+pub mod RelvarsRead
 pub mod SourceLemmas
 pub mod StatementLemmas
 pub mod ConditionLemmas

@@ -3,6 +3,7 @@ pub mod After
 pub mod Changes
 pub mod Codes
 pub mod KeptConstraints
+pub mod RelvarsRead
 pub mod Sources
 pub mod TestNames
 pub mod WellTyped

@@ -1,14 +1,17 @@
 //! What a script has defined, each definition well typed after those before it.
 
-ghost use Rattle.std.specs.Prelude.{◌≡◌, Err, IfSome, MatchOption, None, OnErr, OnOk, Some, slice_get};
+ghost use Rattle.std.specs.Prelude.{◌≡◌, false, Err, IfSome, MatchOption, None, OnErr, OnOk, Some, slice_get};
 ghost use Rattle.std.specs.Option.{option_copied};
 ghost use Rattle.td_schema.specs.Schemas as schemas;
 ghost use Rattle.td_schema.specs.declared.error.TypeError.TheVariants as type_error;
 ghost use Rattle.td_headings.specs.Catalogues as spec;
 ghost use Rattle.td_headings.specs.Definitions.{Defined, Defines};
 ghost use Rattle.td_headings.specs.Expressions.{IsConstraint, constraint_at};
+ghost use Rattle.td_headings.specs.Reached.{ReadsRelvar};
+ghost use Rattle.td_typed_trees.specs.declared.tree.Typed.{Typed};
 
 use crate::defined::{Definitions, Origin, Test};
+use crate::relvars_read::{RelvarsRead, relvars_read};
 use crate::typed::{TypedExpr, constraint_exprs};
 use std::alloc::{AllocError, Global};
 use std::marker::Model;
@@ -25,6 +28,8 @@ pub struct Catalogue {
     definitions: Definitions,
     // for each test its expression, where it is a constraint and its expression is kept
     constraints: Vec<Option<TypedExpr>>,
+    // for each of these what it reads
+    read: Vec<RelvarsRead>,
 }
 
 // By hand, since a derived one is proved anew at each place where a catalogue is dropped: this one is a call there.
@@ -33,6 +38,7 @@ impl Drop for Catalogue {
         let Catalogue {
             definitions: _,
             constraints: _,
+            read: _,
         } = self;
     }
 }
@@ -42,6 +48,7 @@ impl Model for Catalogue {
     ghost use Rattle.td_headings.specs.ForProofs.Codes.{catalogue_code};
     ghost use Rattle.td_headings.specs.Definitions.{Defined};
     ghost use Rattle.td_headings.specs.ForProofs.KeptConstraints.{AreKept};
+    ghost use Rattle.td_headings.specs.ForProofs.RelvarsRead.{AreToldOf};
 
     ghost Value = { CatalogueData };
 
@@ -49,7 +56,7 @@ impl Model for Catalogue {
 
     ghost view = { λ c. c.definitions };
 
-    ghost invariant = { λ c. Defined c.definitions × AreKept c.definitions c.constraints.items };
+    ghost invariant = { λ c. Defined c.definitions × AreKept c.definitions c.constraints.items × AreToldOf c.definitions c.read.items };
 }
 
 impl Catalogue {
@@ -60,6 +67,7 @@ impl Catalogue {
         Catalogue {
             definitions: Definitions::new(alloc),
             constraints: Vec::new(alloc),
+            read: Vec::new(alloc),
         }
     }
 
@@ -145,13 +153,27 @@ impl Catalogue {
         }
     }
 
+    /// Whether the constraint at this place among the tests may read the base relvar at the other place. It costs two
+    /// comparisons. It says yes of a constraint that reads more than two base relvars, and of all where the catalogue
+    /// does not keep its constraints.
+    pub fn may_read(&self, place: usize, relvar: usize) -> bool
+        ensures { result ≡ false → (u : Typed) → constraint_at self.now place ≡ Some u → ReadsRelvar self.now.origins u relvar → ⊥ }
+    {
+        match self.read.get(place) {
+            Some(those) => those.may_be(relvar),
+            None => true,
+        }
+    }
+
     /// Keeps the expressions of the constraints, which `constraint_expr` then shares: else it makes each anew at each
     /// call. They cost their sizes, with those of the expressions of the virtual relvars under them. A definition that
     /// is added later drops them.
     pub fn keep_constraints(&mut self, alloc: Global) -> Result<(), AllocError>
         ensures { self.new ≡ self.old }
     {
-        self.constraints = constraint_exprs(alloc, self)?;
+        let constraints = constraint_exprs(alloc, self)?;
+        self.read = relvars_read(alloc, &constraints)?;
+        self.constraints = constraints;
         Ok(())
     }
 
@@ -162,6 +184,7 @@ impl Catalogue {
         ensures refused { result ≡ Err type_error.IllTyped → (c : spec.CatalogueData) → Defines self.old definition.now c → ⊥ }
     {
         self.constraints = Vec::new(alloc);
+        self.read = Vec::new(alloc);
         self.definitions.define(alloc, definition)
     }
 }

@@ -28,6 +28,7 @@ mod expression;
 pub mod laws;
 mod opening;
 mod reach;
+mod relvars_read;
 mod sources;
 pub mod statement;
 mod test_list;

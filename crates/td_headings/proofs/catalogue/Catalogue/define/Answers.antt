@@ -3,13 +3,15 @@ use Rattle.td_headings.specs.Definitions.{Defines}
 use Rattle.td_headings.specs.ForProofs.After.{after}
 use Rattle.td_headings.specs.ForProofs.KeptConstraints.{AreKept}
 use Rattle.td_headings.proofs.Deciding.{after_is, is_after}
+use Rattle.td_headings.specs.ForProofs.RelvarsRead.{AreToldOf}
 use Rattle.td_headings.proofs.KeptConstraints.{none_kept}
+use Rattle.td_headings.proofs.RelvarsRead.{none_told_of}
 use Rattle.td_headings.proofs.Placed.{taken, ill_typed}
 use Rattle.td_headings.proofs.WellTyped.{still_defined}
 use Rattle.td_headings.proofs.catalogue.Catalogue.define.Goals as goal
 
 pub invariant_of-self : goal.invariant_of-self
-invariant_of-self c = (still_defined c.self.inside.definitions _ c.args.definition.now _ c.self.invariant.0 c.define.ensures, subst (AreKept c.define.new.self) (sym c.new.ensures.items) (none_kept _))
+invariant_of-self c = (still_defined c.self.inside.definitions _ c.args.definition.now _ c.self.invariant.0 c.define.ensures, subst (AreKept c.define.new.self) (sym c.new.ensures.items) (none_kept _), subst (AreToldOf c.define.new.self) (sym c.new-2.ensures.items) (none_told_of c.define.new.self))
 
 pub returns-clause-defined : goal.returns-clause-defined
 returns-clause-defined c =
