@@ -140,8 +140,9 @@ fn replay_part<M: Machine>(
     }
 }
 
-/// So many of the entries that are read are kept as they were read, until they run: some MB. The others are read again.
-const MOST_READINGS: usize = 4_096;
+/// Entries that are read are kept as they were read, until they run, while their texts have no more bytes than these
+/// together. The others are read again.
+const MOST_BYTES_READ: usize = 1_048_576;
 
 /// What is fresh: what was read of the first entries, the places that all depend on, and what all access.
 #[derive(Drop)]
@@ -151,18 +152,19 @@ struct Fresh<R, A> {
     accesses: A,
 }
 
-// Keeps what was read of an entry, unless many are kept.
+// Keeps what was read of an entry, where its text has at most as many bytes as are left.
 fn keep_reading<R: Drop>(
     readings: &mut Vec<(Entry, R)>,
-    entry: Entry,
+    left: &mut usize,
+    entry: &Entry,
     reading: R,
 ) -> Result<(), AllocError>
-    ensures { OnOk result ((readings.new.items ≡ readings.old.items ++ (entry, reading) ∷ []) ⊎ (readings.new.items ≡ readings.old.items)) }
+    ensures { OnOk result ((readings.new.items ≡ readings.old.items ++ (entry.now, reading) ∷ []) ⊎ (readings.new.items ≡ readings.old.items)) }
 {
-    if readings.len() >= MOST_READINGS {
-        return Ok(());
+    if let Some(rest) = left.checked_sub(entry.text.as_str().len()) {
+        readings.push((entry.copy()?, reading))?;
+        *left = rest;
     }
-    readings.push((entry, reading))?;
     Ok(())
 }
 
@@ -177,13 +179,14 @@ fn read_all<M: Machine>(
     ensures read { IfOk result (λ f. AreRead (M.is_read (M.origin machine.now)) f.readings.items) }
 {
     let mut readings = Vec::new(alloc);
+    let mut left = MOST_BYTES_READ;
     let mut places = Vec::new(alloc);
     let mut accesses = machine.no_accesses(alloc)?;
     for entry in entries {
         let reading = machine.read(alloc, entry)?;
         add(&mut places, M::places_of(&reading))?;
         machine.add_accesses(alloc, &mut accesses, &reading)?;
-        keep_reading(&mut readings, entry.copy()?, reading)?;
+        keep_reading(&mut readings, &mut left, entry, reading)?;
     }
     Ok(Fresh {
         readings,

@@ -28,7 +28,7 @@ loop-entry-preserved g c =
           (λ one. subst (m.covers o c.add_accesses.new.accesses) (sym one) (c.in_ok-add_accesses.ensures.covered e read))
           (λ before. c.in_ok-add_accesses.ensures.kept f (l.invariant.covered f before))
           (front_cases entries l.entry-index e f c.loop-entry-test.true c.entry-item.is h);
-      read = kept (m.is_read o) l.readings.items c.keep_reading.new.readings.items _ c.in_ok-reading.reading l.invariant.read (subst (λ (x : Entry). m.is_read o x c.in_ok-reading.reading) (sym c.in_ok-copy.ensures) read) c.in_ok-keep_reading.ensures;
+      read = kept (m.is_read o) l.readings.items c.keep_reading.new.readings.items e c.in_ok-reading.reading l.invariant.read read c.in_ok-keep_reading.ensures;
     }
 
 pub returns-clause-places : goal.returns-clause-places
