@@ -1,8 +1,10 @@
 -- What is true after changes of relvars of which every test was true.
-use Rattle.std.proofs.Common.{◌≡◌, ◌↔◌, ℕ, Bool, true, false, IsTrue, ◌==◌, if◌then◌else◌, eqb-true, eq-eqb, inl, inr, List, [], ◌∷◌, Option, None, Some, MatchOption, slice_get, Result, Ok, refl, ap, sym, ◌∙◌, subst, true≢false}
+use Rattle.std.proofs.Common.{◌≡◌, ◌↔◌, ℕ, Bool, true, false, IsTrue, ◌==◌, if◌then◌else◌, eqb-true, eq-eqb, inl, inr, List, [], ◌∷◌, Option, None, Some, MatchOption, slice_get, Result, Ok, refl, ap, sym, ◌∙◌, subst, true≢false, ⊎_elim, ◌+◌, ◌<◌, zero, suc, length, get_or, take, arith}
 use Rattle.std.specs.List.{Contains, list_any}
 use Rattle.std.specs.Borrow.{Bor}
+use Rattle.std.proofs.lemmas.List.Elements.{Contains-append_cases}
 use Rattle.std.proofs.lemmas.Option.{get_or_from_slice_get, slice_get_within}
+use Rattle.td_tuples.proofs.Filters.{taken}
 use Rattle.td_values.specs.Data.{no_attrs}
 use Rattle.td_values.specs.Rows.{RowsData}
 use Rattle.td_relations.specs.Deltas.{DeltaData}
@@ -17,22 +19,30 @@ use Rattle.td_algebra.specs.declared.errors.Stop.{Stop}
 use Rattle.td_operators.specs.Values.{truth_of}
 use Rattle.td_headings.specs.Catalogues.{CatalogueData}
 use Rattle.td_headings.specs.Definitions.{Defined}
-use Rattle.td_headings.specs.Expressions.{reads}
+use Rattle.td_headings.specs.Expressions.{IsTree, constraint_at, constraint_of, no_tuple, reads}
+use Rattle.td_headings.specs.Reached.{ReadsRelvar}
+use Rattle.td_values.specs.declared.TypeKind.TheVariants as kind
 use Rattle.td_headings.specs.declared.defined.Test.TheVariants as test
 use Rattle.td_headings.proofs.ReadLemmas.{reads_those}
-use Rattle.td_headings.proofs.WellTyped.{all_typed}
+use Rattle.td_headings.proofs.WellTyped.{all_typed, constraint_tree}
 use Rattle.td_meaning.specs.Mean.{Relvars}
-use Rattle.td_semantics.specs.Differences.{ChangesBy}
+use Rattle.td_semantics.specs.Differences.{ChangesBy, LeadOver}
 use Rattle.td_semantics.specs.Tests.{is_key}
 use Rattle.td_semantics.specs.Trees.{IsIn, tree_means}
 use Rattle.td_integrity.specs.Changes.{PassedBefore}
 use Rattle.td_integrity.specs.ForProofs.Tested.{StandsAt}
-use Rattle.td_integrity.specs.ForProofs.Changed.{Changes, ConstraintBefore, IsChanged, IsUntouched, KeyBefore, KeyOf, change_to, is_changed}
+use Rattle.td_integrity.specs.ForProofs.Changed.{Changes, ConstraintBefore, IsChanged, IsUntouched, KeyBefore, KeyOf, ReadsNone, change_to, is_changed}
 use Rattle.td_integrity.proofs.Apart.{keys_apart}
 use Rattle.td_integrity.proofs.Keys.{tested}
 use Rattle.td_integrity.proofs.TreeReads.{trees_alike}
 
 -- ---- constraints
+-- a tree that reads nothing that was changed is true as before
+pub tree_still_true : (c : CatalogueData) (u : Typed) (before now : Relvars) (changes : Changes) → Defined c → IsTree c no_tuple u kind.Boolean → LeadOver before now changes → and_then (tree_means c before u no_attrs) truth_of ≡ Ok true
+    → ((n : ℕ) → ReadsRelvar c.origins u n → IsChanged changes n → ⊥) → and_then (tree_means c now u no_attrs) truth_of ≡ Ok true
+tree_still_true c u before now changes defined tree lead held never =
+    ap (λ m. and_then m truth_of) (trees_alike c defined u kind.Boolean tree now before (λ n h. lead.all n (λ d there. never n h (d, there)))) ∙ held
+
 -- one that reads nothing that was changed is true as before
 pub still_true : (c : CatalogueData) (x : Expression) (now : Relvars) (changes : Changes) → Defined c → IsIn c x → ConstraintBefore c now changes x → IsUntouched changes x → and_then (tree_means c now x.tree no_attrs) truth_of ≡ Ok true
 still_true c x now changes defined is b never =
@@ -66,6 +76,17 @@ module _ (key : List (List ℕ)) (changes : Changes) (n : ℕ) (r : RowsData) (k
   heading_told d there =
       let w : ChangesBy k.known.before k.now n d = k.known.lead.only (n, d) there in
       w.difference.inserted.heading ∙ w.one_heading ∙ ap (λ (q : RowsData). q.heading) (ok_same w.after r (sym w.is ∙ k.is))
+
+-- ---- constraints that read nothing that was changed
+pub the_only : {A : Type 0} (w v : A) → Contains (w ∷ []) v → v ≡ w
+the_only w v (zero, lt, is) = sym is
+the_only w v (suc n, lt, is) = absurd (omega (arith, lt))
+
+pub none_more : (c : CatalogueData) (place : ℕ) (cs : Changes) (i : ℕ) (x : ℕ × DeltaData) → i < length cs → x ≡ get_or cs i x → ReadsNone c (take i cs) place → ((u : Typed) → constraint_at c place ≡ Some u → ReadsRelvar c.origins u x.0 → ⊥) → ReadsNone c (take (i + 1) cs) place
+none_more c place cs i x lt is none one u here n read change = ⊎_elim
+    (λ (front : Contains (take i cs) (n, change.0)). none u here n read (change.0, front))
+    (λ (last : Contains (x ∷ []) (n, change.0)). one u here (subst (ReadsRelvar c.origins u) (ap (λ (w : ℕ × DeltaData). w.0) (the_only x (n, change.0) last)) read))
+    (Contains-append_cases (take i cs) (x ∷ []) (n, change.0) (subst (λ (ws : Changes). Contains ws (n, change.0)) (taken cs i x lt is) change.1))
 
 -- ---- which relvars were changed
 module _ (n : ℕ) where
@@ -127,3 +148,10 @@ module _ (c : CatalogueData) (now : Relvars) (place : ℕ) where
     held = ap (λ v. and_then (tree_means c h.before v no_attrs) truth_of) is ∙ h.legal (test.Constraint name u) (stands_in c.tests place (test.Constraint name u) at);
     lead = h.lead;
   }
+
+  -- one that reads nothing that was changed is true
+  pub apart_stays : (name : List ℕ) (u : Typed) → Defined c → StandsAt c place (test.Constraint name u) → (o : Option (Bor Changes)) → If (PassedBefore c now) o → MatchOption o ⊥ (λ cs. ReadsNone c cs.now place) → and_then (tree_means c now u no_attrs) truth_of ≡ Ok true
+  apart_stays name u defined at None h never = absurd never
+  apart_stays name u defined at (Some cs) h never =
+      let here : constraint_at c place ≡ Some u = ap constraint_of at in
+      tree_still_true c u h.before now cs.now defined (constraint_tree c defined place u here) h.lead (h.legal (test.Constraint name u) (stands_in c.tests place (test.Constraint name u) at)) (never u here)

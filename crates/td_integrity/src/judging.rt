@@ -11,7 +11,7 @@ ghost use Rattle.td_headings.specs.Definitions.{Defined};
 ghost use Rattle.td_semantics.specs.Raises.{Tells, stop_of};
 ghost use Rattle.td_semantics.specs.Trees.{IsIn, tree_means};
 ghost use Rattle.td_integrity.specs.Changes.{PassedBefore};
-ghost use Rattle.td_integrity.specs.ForProofs.Changed.{ConstraintBefore, KeyBefore, KeyOf, change_to};
+ghost use Rattle.td_integrity.specs.ForProofs.Changed.{ConstraintBefore, KeyBefore, KeyOf, ReadsNone, change_to};
 ghost use Rattle.td_integrity.specs.ForProofs.Tested.{HasRelation, HasRelvar, StandsAt};
 ghost use Rattle.td_semantics.specs.Reports.{IsReport, title};
 ghost use Rattle.td_semantics.specs.Stored.{AreStored};
@@ -156,6 +156,28 @@ fn judge_constraint<L: Lookup>(
     }
 }
 
+// Whether the constraint at the place reads none of the relvars that were changed, as far as the catalogue tells it.
+fn reads_none_of(catalogue: &Catalogue, changes: &[(usize, Delta)], place: usize) -> bool
+    ensures { IsTrue result → ReadsNone catalogue.now changes.now place }
+{
+    for change in changes {
+        if catalogue.may_read(place, change.0) {
+            return false;
+        }
+    }
+    true
+}
+
+// The same, where changes are known.
+fn is_apart(catalogue: &Catalogue, changes: Option<&[(usize, Delta)]>, place: usize) -> bool
+    ensures { IsTrue result → MatchOption changes.entry ⊥ (λ cs. ReadsNone catalogue.now cs.now place) }
+{
+    match changes {
+        Some(changes) => reads_none_of(catalogue, changes, place),
+        None => false,
+    }
+}
+
 // Whether the test at this place is true, or the error that it raises.
 fn judge<L: Lookup>(
     alloc: Global,
@@ -178,11 +200,16 @@ fn judge<L: Lookup>(
                 Err(_) => Err(Failure::OutOfMemory),
             }
         }
-        Test::Constraint(_, _) => match constraint_expr(alloc, catalogue, place) {
-            Ok(Some(expr)) => judge_constraint(alloc, catalogue, lookup, changes, &expr),
-            Ok(None) => unreachable!(),
-            Err(_) => Err(Failure::OutOfMemory),
-        },
+        Test::Constraint(_, _) => {
+            if is_apart(catalogue, changes, place) {
+                return Ok(true);
+            }
+            match constraint_expr(alloc, catalogue, place) {
+                Ok(Some(expr)) => judge_constraint(alloc, catalogue, lookup, changes, &expr),
+                Ok(None) => unreachable!(),
+                Err(_) => Err(Failure::OutOfMemory),
+            }
+        }
     }
 }
 

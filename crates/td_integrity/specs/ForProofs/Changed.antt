@@ -8,7 +8,9 @@ use Rattle.td_typed_trees.specs.declared.expression.Expression.{Expression}
 use Rattle.td_algebra.specs.Raising.{and_then}
 use Rattle.td_operators.specs.Values.{truth_of}
 use Rattle.td_headings.specs.Catalogues.{CatalogueData}
-use Rattle.td_headings.specs.Expressions.{reads}
+use Rattle.td_headings.specs.Expressions.{constraint_at, reads}
+use Rattle.td_headings.specs.Reached.{ReadsRelvar}
+use Rattle.td_typed_trees.specs.declared.tree.Typed.{Typed}
 use Rattle.td_meaning.specs.Mean.{Relvars}
 use Rattle.td_semantics.specs.Differences.{LeadOver}
 use Rattle.td_semantics.specs.Tests.{is_key}
@@ -32,6 +34,10 @@ change_to (p ∷ ps) n = if p.0 == n then Some p.1 else change_to ps n
 -- the expression reads nothing that was changed
 abbrev pub IsUntouched : Changes → Expression → Type 0
 IsUntouched changes x = (n : ℕ) → Contains (reads x) n → IsChanged changes n → ⊥
+
+-- the constraint at the place, if one stands there, reads nothing that was changed
+abbrev pub ReadsNone : CatalogueData → Changes → ℕ → Type 0
+ReadsNone c changes place = (u : Typed) → constraint_at c place ≡ Some u → (n : ℕ) → ReadsRelvar c.origins u n → IsChanged changes n → ⊥
 
 -- the test of the key was true of the relvar before
 pub record KeyBefore (now : Relvars) (changes : Changes) (n : ℕ) (key : List (List ℕ)) : Type 0 where

@@ -1,11 +1,11 @@
-use Rattle.std.proofs.Common.{◌≡◌, List, None, MatchOption, sym, subst}
+use Rattle.std.proofs.Common.{◌≡◌, List, None, MatchOption, ap, sym, subst, ◌∙◌}
 use Rattle.td_schema.specs.Kinds.{Name}
 use Rattle.td_headings.specs.Expressions.{IsConstraint, constraint_at}
 use Rattle.td_semantics.specs.Raises.{Tells}
 use Rattle.td_integrity.specs.ForProofs.Changed.{KeyBefore}
 use Rattle.td_integrity.specs.ForProofs.Tested.{StandsAt}
 use Rattle.td_semantics.specs.Tests.{judgement}
-use Rattle.td_integrity.proofs.After.{constraint_before, key_before}
+use Rattle.td_integrity.proofs.After.{apart_stays, constraint_before, key_before}
 use Rattle.td_integrity.proofs.Judged.{has_relation, tells, whole, within}
 use Rattle.td_integrity.proofs.judging.judge.Goals as goal
 
@@ -36,6 +36,13 @@ judge_constraint-requires-clause-before g c =
     let at = subst (StandsAt s n) c.in-Constraint.is c.requires.test in
     let is = subst (λ o. MatchOption o (constraint_at s n ≡ None) (IsConstraint s (constraint_at s n))) c.in-Ok-Some.field-0-is c.in-Ok-Some.ensures in
     constraint_before s (g.L.Lookup.relvars c.args.lookup.now) n c.in-Constraint.field-0 c.in-Constraint.field-1 c.in-Ok-Some.expr at (whole s n c.in-Constraint.field-0 c.in-Constraint.field-1 c.in-Ok-Some.expr at is).tree c.args.changes c.requires.before
+
+pub returns-then-is_apart : goal.returns-then-is_apart
+returns-then-is_apart g c =
+    let s = c.args.catalogue.now in
+    let r = g.L.Lookup.relvars c.args.lookup.now in
+    let at = subst (StandsAt s c.args.place) c.in-Constraint.is c.requires.test in
+    ap (judgement s r) c.in-Constraint.is ∙ apart_stays s r c.args.place c.in-Constraint.field-0 c.in-Constraint.field-1 c.requires.defined at c.args.changes c.requires.before (c.is_apart.ensures c.if-is_apart.true)
 
 pub returns-in-Ok-Some : goal.returns-in-Ok-Some
 returns-in-Ok-Some g c =
