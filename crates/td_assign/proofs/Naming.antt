@@ -1,5 +1,5 @@
 -- The places that a statement names, gathered.
-use Rattle.std.proofs.Common.{◌≡◌, ◌↔◌, ⊎_elim, Bool, IsTrue, ℕ, ◌+◌, ◌<◌, List, [], ◌∷◌, ◌++◌, map, length, get_or, slice_get, take, IfOk, MatchOption, Option, None, Some, Result, Ok, Err, Vec, refl, ap, sym, ◌∙◌, subst, arith}
+use Rattle.std.proofs.Common.{◌≡◌, ◌↔◌, ⊎_elim, Bool, IsTrue, ℕ, ◌+◌, ◌<◌, List, [], ◌∷◌, ◌++◌, map, length, get_or, slice_get, take, MatchOption, Option, None, Some, Result, Ok, Err, refl, ap, sym, ◌∙◌, subst, arith, false, OnOk}
 use Rattle.std.specs.List.{All, Contains, flat_map}
 use Rattle.std.specs.List.Sorted.{IsStrictlySortedBy}
 use Rattle.std.specs.Ordering.{nat_cmp}
@@ -18,7 +18,7 @@ use Rattle.td_typing.proofs.Complete.{complete}
 use Rattle.td_typing.proofs.KindLemmas.{some_same}
 use Rattle.td_headings.specs.Catalogues.{CatalogueData}
 use Rattle.td_headings.specs.Definitions.{Defined}
-use Rattle.td_headings.specs.Expressions.{HasAllUnder, IsClosedExpression, IsConstraint, constraint_at, constraint_of, reads}
+use Rattle.td_headings.specs.Expressions.{HasAllUnder, IsClosedExpression, IsConstraint, constraint_at, constraint_of, places_of, reads}
 use Rattle.td_headings.specs.Reached.{AreThose, ReadsRelvar}
 use Rattle.td_headings.specs.Statements.{AreAssignments, IsAssignment, IsTarget, TypesStatement, assignments_of, condition_of, next_assignment, no_assignments, types_assignment, types_conditional}
 use Rattle.td_headings.specs.declared.defined.Test.{Test}
@@ -28,11 +28,13 @@ use Rattle.td_headings.specs.declared.statement.TypedStatement.{TypedStatement}
 use Rattle.td_headings.proofs.ConditionLemmas.{actions_of, are_all}
 use Rattle.td_headings.proofs.ReadLemmas.{reads_those}
 use Rattle.td_headings.proofs.WellTyped.{all_typed}
+use Rattle.td_integrity.proofs.After.{the_only}
 use Rattle.td_semantics.proofs.Unique.{one_text}
 use Rattle.td_semantics.specs.Footprints.{InFootprint, IsInFootprint, IsTargetOfText, TestReads, by_condition, by_source, by_test, target}
 use Rattle.td_semantics.specs.Steps.{IsRead, IsUnreadText}
-use Rattle.td_assign.specs.ForProofs.Names.{AreNames, Gathers, ReadsWith, condition_reads}
-use Rattle.td_assign.specs.declared.names.Names.{Names}
+use Rattle.td_assign.specs.ForProofs.Names.{AreNames, Gathers, HasMore, ReadsNoTarget, ReadsWith, condition_reads}
+use Rattle.td_assign.specs.Readings.{IsReadText}
+use Rattle.td_assign.specs.declared.names.NamedRelvars.{NamedRelvars}
 
 -- ---- lists
 nowhere : {A P : Type 0} (y : A) → Contains [] y → P
@@ -90,10 +92,6 @@ module _ {A : Type 0} (f : A → List ℕ) where
       )
 
 -- ---- what a call on an expression tells
-pub places_read : {E Z : Type 0} (P : ℕ → Type 0) (ns : List ℕ) (m : Result (Vec ℕ Z) E) → IfOk m (λ v. v.items ≡ ns) → ((n : ℕ) → Contains ns n ↔ P n) → IfOk m (λ v. (n : ℕ) → Contains v.items n ↔ P n)
-places_read P ns (Ok v) h are = subst (λ (l : List ℕ). (n : ℕ) → Contains l n ↔ P n) (sym h) are
-places_read P ns (Err e) h are = tt
-
 pub constraint_reads : (c : CatalogueData) → Defined c → (place : ℕ) (t : Test) (name : Name) (u : Typed) → slice_get c.tests place ≡ Some t → t ≡ test.Constraint name u → (o : Option Expression) (e : Expression) → o ≡ Some e → MatchOption o (constraint_at c place ≡ None) (IsConstraint c (constraint_at c place)) → (n : ℕ) → Contains (reads e) n ↔ TestReads c t n
 constraint_reads c defined place t name u stands is o e some h n =
     let tree : constraint_at c place ≡ Some u = ap constraint_of (stands ∙ ap Some is) in
@@ -253,21 +251,46 @@ module _ (c : CatalogueData) where
     targets_unread : IsUnreadText c dialect text → (places : List ℕ) → places ≡ [] → AreThose (IsTargetOfText c dialect text) places
     targets_unread unread places none = subst (AreThose (IsTargetOfText c dialect text)) (sym none) (none_of (IsTargetOfText c dialect text) (λ n t. unread t.statement t.reads))
 
-    pub footprint_told : {E Z : Type 0} (x : TypedStatement) → IsRead c dialect text x → (m : Result (Vec ℕ Z) E) → IfOk m (λ v. AreThose (InFootprint c x) v.items) → IfOk m (λ v. AreThose (IsInFootprint c dialect text) v.items)
-    footprint_told x p (Ok v) ns = those_alike (InFootprint c x) (IsInFootprint c dialect text) v.items (λ n. (λ h. record { statement = x; reads = p; within = h }, λ t. place_moves t.statement x t.reads p n t.within)) ns
-    footprint_told x p (Err e) ns = tt
-
     pub footprint_unread : IsUnreadText c dialect text → (places : List ℕ) → places ≡ [] → AreThose (IsInFootprint c dialect text) places
     footprint_unread unread places none = subst (AreThose (IsInFootprint c dialect text)) (sym none) (none_of (IsInFootprint c dialect text) (λ n t. unread t.statement t.reads))
 
-    pub names_read : (x : TypedStatement) → IsRead c dialect text x → (v : Names) → AreThose (IsTarget x) v.targets.items → AreThose (InFootprint c x) v.footprint.items → AreNames c dialect text v
+    pub names_read : (x : TypedStatement) → IsRead c dialect text x → (v : NamedRelvars) → AreThose (IsTarget x) v.targets.items → AreThose (InFootprint c x) v.footprint.items → AreNames c dialect text v
     names_read x p v ts ns = record {
       targets = targets_read x p v.targets.items ts;
       footprint = those_alike (InFootprint c x) (IsInFootprint c dialect text) v.footprint.items (λ n. (λ h. record { statement = x; reads = p; within = h }, λ t. place_moves t.statement x t.reads p n t.within)) ns;
     }
 
-    pub names_unread : IsUnreadText c dialect text → (v : Names) → v.targets.items ≡ [] → v.footprint.items ≡ [] → AreNames c dialect text v
+    pub names_unread : IsUnreadText c dialect text → (v : NamedRelvars) → v.targets.items ≡ [] → v.footprint.items ≡ [] → AreNames c dialect text v
     names_unread unread v ts ns = record {
       targets = targets_unread unread v.targets.items ts;
       footprint = footprint_unread unread v.footprint.items ns;
     }
+
+-- ---- what is read of a text
+pub read_names : (c : CatalogueData) (dialect : ℕ) (text : List ℕ) (o : Option TypedStatement) (v w : NamedRelvars) → MatchOption o (IsUnreadText c dialect text) (IsRead c dialect text) → w ≡ v → AreNames c dialect text v → IsReadText c dialect text (record { statement = o; names = w })
+read_names c dialect text o v w is same are = record {
+  statement = is;
+  targets = subst (λ (x : NamedRelvars). AreThose (IsTargetOfText c dialect text) x.targets.items) (sym same) are.targets;
+  footprint = subst (λ (x : NamedRelvars). AreThose (IsInFootprint c dialect text) x.footprint.items) (sym same) are.footprint;
+}
+
+-- ---- constraints that read no target
+pub no_target_more : (c : CatalogueData) (place : ℕ) (ts : List ℕ) (i x : ℕ) → i < length ts → x ≡ get_or ts i 0 → ReadsNoTarget c (take i ts) place → ((u : Typed) → constraint_at c place ≡ Some u → ReadsRelvar c.origins u x → ⊥) → ReadsNoTarget c (take (i + 1) ts) place
+no_target_more c place ts i x lt is none one u here n there read = ⊎_elim
+    (λ (front : Contains (take i ts) n). none u here n front read)
+    (λ (last : Contains (x ∷ []) n). one u here (subst (ReadsRelvar c.origins u) (the_only x n last) read))
+    (Contains-append_cases (take i ts) (x ∷ []) n (subst (λ (ws : List ℕ). Contains ws n) (take_more ts i 0 lt ∙ ap (λ (q : ℕ). take i ts ++ q ∷ []) (sym is)) there))
+
+pub no_target_read : (c : CatalogueData) (targets : List ℕ) (place : ℕ) (t : Test) (x : List ℕ) (u : Typed) → slice_get c.tests place ≡ Some t → t ≡ test.Constraint x u → ReadsNoTarget c targets place → IsTrue false ↔ ((n : ℕ) × TestReads c t n × Contains targets n)
+no_target_read c targets place t x u at is none = (
+  λ never. cc,
+  λ h. absurd (none u (ap constraint_of (at ∙ ap Some is)) h.0 h.2 (subst (λ (w : Test). TestReads c w h.0) is h.1)),
+)
+
+-- ---- what a test reads, behind other places
+pub key_reads : (c : CatalogueData) (t : Test) (m : ℕ) (key : List Name) → t ≡ test.Key m key → (n : ℕ) → Contains (m ∷ []) n ↔ TestReads c t n
+key_reads c t m key is n = subst (λ (w : Test). Contains (m ∷ []) n ↔ TestReads c w n) (sym is) (λ h. the_only m n h, λ e. subst (Contains (m ∷ [])) (sym e) (first m []))
+
+pub added_reads : {E : Type 0} (P : ℕ → Type 0) (old new : List ℕ) (bs cs : List BaseUnder) → cs ≡ bs → (r : Result (Unit {0}) E) → OnOk r (new ≡ old ++ places_of cs) → ((n : ℕ) → Contains (places_of bs) n ↔ P n) → OnOk r (HasMore P old new)
+added_reads P old new bs cs same (Ok u) is are = (places_of bs, is ∙ ap (λ ds. old ++ places_of ds) same, are)
+added_reads P old new bs cs same (Err e) is are = tt

@@ -26,6 +26,7 @@ pub mod changes;
 mod choices;
 mod deltas;
 mod insertions;
+pub mod known;
 pub mod laws;
 pub mod names;
 pub mod ran;
@@ -36,6 +37,7 @@ mod sources;
 mod undoing;
 
 pub use changes::Change;
+pub use known::KnownNames;
 pub use ran::Ran;
 pub use reading::{ReadText, read};
 pub use running::{run, run_read};

@@ -1,6 +1,6 @@
 //! The relvars of a statement: those that it assigns, and those on which it hangs.
 
-ghost use Rattle.std.specs.Prelude.{◌≡◌, ◌↔◌, ◌++◌, ℕ, [], IfOk, IsTrue, OnOk, Some, slice_get};
+ghost use Rattle.std.specs.Prelude.{◌≡◌, ◌↔◌, ◌++◌, ℕ, [], false, IfOk, IsTrue, OnOk, Some, slice_get};
 ghost use Rattle.std.specs.List.{Contains, flat_map};
 ghost use Rattle.td_syntax.specs.declared.script.Statement.{Statement};
 ghost use Rattle.td_headings.specs.Definitions.{Defined};
@@ -11,7 +11,7 @@ ghost use Rattle.td_headings.specs.Statements.{IsTarget, TypesStatement};
 ghost use Rattle.td_headings.specs.declared.statement.TypedAssignment as declared;
 ghost use Rattle.td_semantics.specs.Footprints.{InFootprint, TestReads};
 ghost use Rattle.td_typed_trees.specs.declared.expression.BaseUnder as declared_base;
-ghost use Rattle.td_assign.specs.ForProofs.Names.{Gathers, ReadsWith, condition_reads};
+ghost use Rattle.td_assign.specs.ForProofs.Names.{Gathers, HasMore, ReadsNoTarget, ReadsWith, condition_reads};
 
 use std::alloc::{AllocError, Global};
 use td_headings::{
@@ -19,10 +19,13 @@ use td_headings::{
 };
 use td_typed_trees::expression::BaseUnder;
 
-/// The relvars of a statement, by their places in order of definition, each once.
+/// The base relvars of a statement, by their places, ascending, each once; of an unread text none.
 #[derive(Drop)]
-pub(crate) struct Names {
+pub struct NamedRelvars {
+    /// Those that it assigns.
     pub targets: Vec<usize>,
+    /// Those on which its outcome and its changes hang: its targets, what its sources read, and what each test reads
+    /// that reads a target.
     pub footprint: Vec<usize>,
 }
 
@@ -33,8 +36,6 @@ fn in_order(places: Vec<usize>) -> Vec<usize>
     let mut places = places;
     places.sort_unstable();
     places.dedup();
-    // (kept of each statement for ever)
-    places.shrink_to_fit();
     places
 }
 
@@ -57,17 +58,22 @@ fn meets(targets: &[usize], bases: &[BaseUnder]) -> bool
     false
 }
 
-// With what the sources read behind the places.
-fn add_reads(
-    alloc: Global,
-    places: &mut Vec<usize>,
-    assignments: &[TypedAssignment],
-) -> Result<(), AllocError>
+// Puts the places of these base relvars behind the others.
+fn add_places(places: &mut Vec<usize>, bases: &[BaseUnder]) -> Result<(), AllocError>
+    ensures { OnOk result (places.new.items ≡ places.old.items ++ expressions.places_of bases.now) }
+{
+    for base in bases {
+        places.push(base.place)?;
+    }
+    Ok(())
+}
+
+// Puts what the sources read behind the places.
+fn add_reads(places: &mut Vec<usize>, assignments: &[TypedAssignment]) -> Result<(), AllocError>
     ensures { OnOk result (places.new.items ≡ places.old.items ++ flat_map (λ (x : declared.TypedAssignment). expressions.reads x.source) assignments.now) }
 {
     for assignment in assignments {
-        let mut more = reads(alloc, &assignment.source)?;
-        places.append(&mut more)?;
+        add_places(places, assignment.source.get().bases.as_slice())?;
     }
     Ok(())
 }
@@ -78,8 +84,8 @@ fn sources_read(alloc: Global, statement: &TypedStatement) -> Result<Vec<usize>,
 {
     let (made, otherwise) = lists_of(statement);
     let mut places = Vec::new(alloc);
-    add_reads(alloc, &mut places, made)?;
-    add_reads(alloc, &mut places, otherwise)?;
+    add_reads(&mut places, made)?;
+    add_reads(&mut places, otherwise)?;
     Ok(places)
 }
 
@@ -93,34 +99,16 @@ fn condition_read(alloc: Global, statement: &TypedStatement) -> Result<Vec<usize
     }
 }
 
-// The list of this place alone.
-fn only(alloc: Global, place: usize) -> Result<Vec<usize>, AllocError>
-    ensures { IfOk result (λ v. (n : ℕ) → Contains v.items n ↔ (n ≡ place)) }
+// Whether the constraint at the place may read a target, as far as the catalogue tells it.
+fn may_read_any(catalogue: &Catalogue, targets: &[usize], place: usize) -> bool
+    ensures { result ≡ false → ReadsNoTarget catalogue.now targets.now place }
 {
-    let mut places = Vec::new(alloc);
-    places.push(place)?;
-    Ok(places)
-}
-
-/// What the test, which stands at this place, reads. It costs the number of these relvars, where the catalogue keeps
-/// its constraints.
-pub fn test_reads(
-    alloc: Global,
-    catalogue: &Catalogue,
-    place: usize,
-    test: &Test,
-) -> Result<Vec<usize>, AllocError>
-    requires defined { Defined catalogue.now }
-    requires test { slice_get catalogue.now.tests place ≡ Some test.now }
-    ensures { IfOk result (λ v. (n : ℕ) → Contains v.items n ↔ TestReads catalogue.now test.now n) }
-{
-    match test {
-        Test::Key(relvar, _) => only(alloc, *relvar),
-        Test::Constraint(_, _) => match constraint_expr(alloc, catalogue, place)? {
-            Some(expr) => reads(alloc, &expr),
-            None => unreachable!(),
-        },
+    for target in targets {
+        if catalogue.may_read(place, *target) {
+            return true;
+        }
     }
+    false
 }
 
 // Whether the test, which stands at this place, reads a target. It takes no memory where the catalogue keeps the
@@ -138,29 +126,56 @@ fn reads_target(
 {
     match test {
         Test::Key(relvar, _) => Ok(is_target(targets, *relvar)),
+        Test::Constraint(_, _) => {
+            if !may_read_any(catalogue, targets, place) {
+                return Ok(false);
+            }
+            match constraint_expr(alloc, catalogue, place)? {
+                Some(expr) => Ok(meets(targets, expr.get().bases.as_slice())),
+                None => unreachable!(),
+            }
+        }
+    }
+}
+
+// Puts what the test reads, which stands at this place, behind the others.
+fn add_test_reads(
+    alloc: Global,
+    catalogue: &Catalogue,
+    place: usize,
+    test: &Test,
+    places: &mut Vec<usize>,
+) -> Result<(), AllocError>
+    requires defined { Defined catalogue.now }
+    requires test { slice_get catalogue.now.tests place ≡ Some test.now }
+    ensures { OnOk result (HasMore (TestReads catalogue.now test.now) places.old.items places.new.items) }
+{
+    match test {
+        Test::Key(relvar, _) => Ok(places.push(*relvar)?),
         Test::Constraint(_, _) => match constraint_expr(alloc, catalogue, place)? {
-            Some(expr) => Ok(meets(targets, expr.get().bases.as_slice())),
+            Some(expr) => add_places(places, expr.get().bases.as_slice()),
             None => unreachable!(),
         },
     }
 }
 
-// What the test reads, where it reads a target, and else nothing.
-fn test_needs(
+// The same, where the test reads a target, and else nothing.
+fn add_test_needs(
     alloc: Global,
     catalogue: &Catalogue,
     targets: &[usize],
     place: usize,
     test: &Test,
-) -> Result<Vec<usize>, AllocError>
+    places: &mut Vec<usize>,
+) -> Result<(), AllocError>
     requires defined { Defined catalogue.now }
     requires test { slice_get catalogue.now.tests place ≡ Some test.now }
-    ensures { IfOk result (λ v. (n : ℕ) → Contains v.items n ↔ ReadsWith catalogue.now targets.now test.now n) }
+    ensures { OnOk result (HasMore (ReadsWith catalogue.now targets.now test.now) places.old.items places.new.items) }
 {
     if reads_target(alloc, catalogue, targets, place, test)? {
-        test_reads(alloc, catalogue, place, test)
+        add_test_reads(alloc, catalogue, place, test, places)
     } else {
-        Ok(Vec::new(alloc))
+        Ok(())
     }
 }
 
@@ -176,53 +191,40 @@ fn tests_need(
     let tests = catalogue.tests();
     let mut places = Vec::new(alloc);
     for place in 0..tests.len() {
-        let mut more = test_needs(alloc, catalogue, targets, place, &tests[place])?;
-        places.append(&mut more)?;
+        add_test_needs(alloc, catalogue, targets, place, &tests[place], &mut places)?;
     }
     Ok(places)
 }
 
-/// The places of the base relvars on which the statement hangs, in order of definition, each once. It costs what it
-/// reads, and for each test a look at the base relvars that this reads, where the catalogue keeps its constraints.
-pub fn footprint(
+/// The relvars of a typed statement. They cost what the statement reads, and for each test a look at the base relvars
+/// that this reads, where the catalogue keeps its constraints.
+pub fn names_of(
     alloc: Global,
     catalogue: &Catalogue,
     statement: &TypedStatement,
-) -> Result<Vec<usize>, AllocError>
+) -> Result<NamedRelvars, AllocError>
     requires { (s : Statement) × TypesStatement catalogue.now s statement.now }
-    ensures { IfOk result (λ v. AreThose (InFootprint catalogue.now statement.now) v.items) }
+    ensures targets { IfOk result (λ x. AreThose (IsTarget statement.now) x.targets.items) }
+    ensures footprint { IfOk result (λ x. AreThose (InFootprint catalogue.now statement.now) x.footprint.items) }
 {
-    let mut places = targets(alloc, statement)?;
-    let mut needed = tests_need(alloc, catalogue, &places)?;
+    let targets = targets(alloc, statement)?;
+    let mut places = Vec::from_slice(alloc, &targets)?;
+    let mut needed = tests_need(alloc, catalogue, &targets)?;
     let mut decides = condition_read(alloc, statement)?;
     let mut read = sources_read(alloc, statement)?;
     places.append(&mut needed)?;
     places.append(&mut decides)?;
     places.append(&mut read)?;
-    Ok(in_order(places))
-}
-
-/// The relvars of a typed statement, of which these are those on which it hangs.
-pub(crate) fn names_with(
-    alloc: Global,
-    statement: &TypedStatement,
-    footprint: &[usize],
-) -> Result<Names, AllocError>
-    ensures targets { IfOk result (λ x. AreThose (IsTarget statement.now) x.targets.items) }
-    ensures footprint { IfOk result (λ x. x.footprint.items ≡ footprint.now) }
-{
-    let targets = targets(alloc, statement)?;
-    // (kept of each statement for ever: with no room for more)
-    let footprint = Vec::from_slice(alloc, footprint)?;
-    Ok(Names { targets, footprint })
+    let footprint = in_order(places);
+    Ok(NamedRelvars { targets, footprint })
 }
 
 /// The relvars of a text that is no statement.
-pub(crate) fn no_names(alloc: Global) -> Names
+pub(crate) fn no_names(alloc: Global) -> NamedRelvars
     ensures targets { result.targets.items ≡ [] }
     ensures footprint { result.footprint.items ≡ [] }
 {
-    Names {
+    NamedRelvars {
         targets: Vec::new(alloc),
         footprint: Vec::new(alloc),
     }

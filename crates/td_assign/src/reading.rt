@@ -4,19 +4,20 @@ ghost use Rattle.std.specs.Prelude.{IfOk, MatchOption};
 ghost use Rattle.td_semantics.specs.Steps.{IsRead, IsUnreadText};
 ghost use Rattle.td_assign.specs.Readings.{IsReadText};
 
-use crate::names::footprint;
+use crate::names::{NamedRelvars, names_of, no_names};
 use std::alloc::{AllocError, Global};
 use td_grammar::{ReadError, read_statement_in};
 use td_headings::{Catalogue, TypedStatement, type_statement};
 use td_schema::error::TypeError;
+use td_tuples::Shared;
 
 /// What is read of a statement's text, in its dialect.
 #[derive(Drop)]
 pub struct ReadText {
     /// The statement that it is, typed, if it is one.
     pub statement: Option<TypedStatement>,
-    /// The base relvars on which it hangs, by their places, ascending, each once; of an unread text none.
-    pub footprint: Vec<usize>,
+    /// The relvars of the statement.
+    pub names: Shared<NamedRelvars>,
 }
 
 // The statement that the text is, typed, if it is one.
@@ -51,15 +52,19 @@ pub fn read(
 {
     match statement_of(alloc, catalogue, text, dialect)? {
         Some(statement) => {
-            let footprint = footprint(alloc, catalogue, &statement)?;
+            let names = names_of(alloc, catalogue, &statement)?;
+            let names = Shared::new(alloc, names)?;
             Ok(ReadText {
                 statement: Some(statement),
-                footprint,
+                names,
             })
         }
-        None => Ok(ReadText {
-            statement: None,
-            footprint: Vec::new(alloc),
-        }),
+        None => {
+            let names = Shared::new(alloc, no_names(alloc))?;
+            Ok(ReadText {
+                statement: None,
+                names,
+            })
+        }
     }
 }

@@ -15,7 +15,6 @@ ghost use Rattle.td_semantics.specs.Differences.{AreDifferences};
 ghost use Rattle.td_semantics.specs.Footprints.{IsInFootprint, IsTargetOfText};
 ghost use Rattle.td_assign.specs.ForProofs.Given.{AreAssigned, AreChanges};
 ghost use Rattle.td_assign.specs.ForProofs.Turning.{CameFrom, IsTurned, IsOneTurn, IsTried, MayTurn, TakesNothing};
-ghost use Rattle.td_assign.specs.ForProofs.Names.{AreNames};
 ghost use Rattle.td_assign.specs.ForProofs.Prepared.{AreAssignedTo, IsJudged, IsMade, IsPrepared};
 ghost use Rattle.td_assign.specs.ForProofs.Lists.{IsKeyed, changes_of, given_to};
 ghost use Rattle.td_semantics.specs.Steps as spec;
@@ -27,7 +26,7 @@ use crate::changes::Change;
 use crate::choices::choose_assignments;
 use crate::deltas::differences;
 use crate::insertions::puts_in_all;
-use crate::names::{Names, names_with, no_names};
+use crate::names::NamedRelvars;
 use crate::ran::Ran;
 use crate::reading::{ReadText, read};
 use crate::seen::Replaced;
@@ -39,6 +38,7 @@ use td_integrity::first_failure_after;
 use td_relations::Delta;
 use td_relvars::{Base, Database, WayBack};
 use td_semantics::{BrokenTest, Failure, Meter, Outcome, TestFailure};
+use td_tuples::Shared;
 
 // A test that raises gives its error, one that is false what it is of.
 fn refusal(failure: TestFailure) -> Outcome
@@ -134,24 +134,15 @@ fn prepare_statement(
     }
 }
 
-// What a text of which this was read makes of the database, and the relvars that it names.
-fn prepare(
-    alloc: Global,
-    database: &Database,
-    reading: &ReadText,
-) -> Result<(Prepared, Names), AllocError>
+// What a text of which this was read makes of the database.
+fn prepare(alloc: Global, database: &Database, reading: &ReadText) -> Result<Prepared, AllocError>
     requires legal { IsLegal database.now }
     requires read { (dialect : ℕ) × (text : List ℕ) × IsReadText database.now.catalogue dialect text reading.now }
-    ensures prepared { (dialect : ℕ) (text : List ℕ) → IsReadText database.now.catalogue dialect text reading.now → IfOk result (λ p. IsPrepared database.now dialect text p.0) }
-    ensures names { (dialect : ℕ) (text : List ℕ) → IsReadText database.now.catalogue dialect text reading.now → IfOk result (λ p. AreNames database.now.catalogue dialect text p.1) }
+    ensures { (dialect : ℕ) (text : List ℕ) → IsReadText database.now.catalogue dialect text reading.now → IfOk result (IsPrepared database.now dialect text) }
 {
     match &reading.statement {
-        Some(statement) => {
-            let names = names_with(alloc, statement, &reading.footprint)?;
-            let prepared = prepare_statement(alloc, database, statement)?;
-            Ok((prepared, names))
-        }
-        None => Ok((Prepared::Refused(Outcome::Unread), no_names(alloc))),
+        Some(statement) => prepare_statement(alloc, database, statement),
+        None => Ok(Prepared::Refused(Outcome::Unread)),
     }
 }
 
@@ -312,19 +303,21 @@ fn turn(
 
 // What a run of a statement is told as: its outcome, its changes and its relvars, and whether it is an insertion of which
 // the changes put in each tuple.
-fn ran(outcome: Outcome, delta: Vec<(usize, Delta)>, names: Names, puts_in_all: bool) -> Ran
+fn ran(
+    outcome: Outcome,
+    delta: Vec<(usize, Delta)>,
+    names: Shared<NamedRelvars>,
+    puts_in_all: bool,
+) -> Ran
     ensures outcome { result.outcome ≡ outcome }
     ensures delta { result.delta ≡ delta }
-    ensures targets { result.targets ≡ names.targets }
-    ensures footprint { result.footprint ≡ names.footprint }
+    ensures names { result.names ≡ names }
     ensures puts { result.puts_in_all ≡ puts_in_all }
 {
-    let Names { targets, footprint } = names;
     Ran {
         outcome,
         delta,
-        targets,
-        footprint,
+        names,
         puts_in_all,
     }
 }
@@ -343,15 +336,16 @@ pub fn run_read(
     ensures delta { IfOk result (λ r. AreDifferences (stored_relvars database.old.stored) (stored_relvars database.new.stored) r.delta.items) }
     ensures kept { OnErr result (database.new ≡ database.old) }
     ensures legal { IsLegal database.new }
-    ensures targets { (dialect : ℕ) (text : List ℕ) → IsReadText database.old.catalogue dialect text reading.now → IfOk result (λ r. AreThose (IsTargetOfText database.old.catalogue dialect text) r.targets.items) }
-    ensures footprint { (dialect : ℕ) (text : List ℕ) → IsReadText database.old.catalogue dialect text reading.now → IfOk result (λ r. AreThose (IsInFootprint database.old.catalogue dialect text) r.footprint.items) }
+    ensures targets { (dialect : ℕ) (text : List ℕ) → IsReadText database.old.catalogue dialect text reading.now → IfOk result (λ r. AreThose (IsTargetOfText database.old.catalogue dialect text) r.names.targets.items) }
+    ensures footprint { (dialect : ℕ) (text : List ℕ) → IsReadText database.old.catalogue dialect text reading.now → IfOk result (λ r. AreThose (IsInFootprint database.old.catalogue dialect text) r.names.footprint.items) }
     ensures puts { (dialect : ℕ) (text : List ℕ) → IsReadText database.old.catalogue dialect text reading.now → IfOk result (λ r. IsTrue r.puts_in_all → PutsIn database.old.catalogue dialect text r.delta.items) }
     ensures counted { meter.new.count ≡ one_more meter.old.count }
 {
     meter.tick();
     database.relvars_fit();
-    let (prepared, names) = prepare(alloc, database, reading)?;
-    database.count_reads(alloc, &names.footprint);
+    let prepared = prepare(alloc, database, reading)?;
+    let names = reading.names.copy()?;
+    database.count_reads(alloc, &names.get().footprint);
     match prepared {
         Prepared::Changes(changes, delta) => {
             put_all(alloc, database, changes)?;
@@ -385,8 +379,8 @@ pub fn run(
     ensures delta { IfOk result (λ r. AreDifferences (stored_relvars database.old.stored) (stored_relvars database.new.stored) r.delta.items) }
     ensures kept { OnErr result (database.new ≡ database.old) }
     ensures legal { IsLegal database.new }
-    ensures targets { IfOk result (λ r. AreThose (IsTargetOfText database.old.catalogue dialect text.now) r.targets.items) }
-    ensures footprint { IfOk result (λ r. AreThose (IsInFootprint database.old.catalogue dialect text.now) r.footprint.items) }
+    ensures targets { IfOk result (λ r. AreThose (IsTargetOfText database.old.catalogue dialect text.now) r.names.targets.items) }
+    ensures footprint { IfOk result (λ r. AreThose (IsInFootprint database.old.catalogue dialect text.now) r.names.footprint.items) }
     ensures puts { IfOk result (λ r. IsTrue r.puts_in_all → PutsIn database.old.catalogue dialect text.now r.delta.items) }
     ensures counted { meter.new.count ≡ one_more meter.old.count }
 {

@@ -1,8 +1,12 @@
-use Rattle.std.proofs.Common.{ap, ◌∙◌}
+use Rattle.std.proofs.Common.{ap, ◌∙◌, rules}
 use Rattle.td_semantics.specs.Footprints.{TestReads}
 use Rattle.td_typed_trees.specs.declared.expression.Expression.{Expression}
-use Rattle.td_assign.proofs.Naming.{constraint_reads, meets_read}
+use Rattle.td_assign.proofs.Naming.{constraint_reads, meets_read, no_target_read}
 use Rattle.td_assign.proofs.names.reads_target.Goals as goal
+
+pub returns-then-not-may_read_any : goal.returns-then-not-may_read_any
+returns-then-not-may_read_any c =
+    no_target_read c.args.catalogue.now c.args.targets.now c.args.place c.args.test.now _ _ c.requires.test c.in-Constraint.is (c.may_read_any.ensures (search rules))
 
 pub returns-in-Some : goal.returns-in-Some
 returns-in-Some c =

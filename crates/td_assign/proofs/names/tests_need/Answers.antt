@@ -1,8 +1,7 @@
-use Rattle.std.proofs.Common.{◌↔◌, ◌+◌, ℕ, List, take, sym, subst, ◌∙◌, arith}
-use Rattle.std.specs.List.{Contains}
+use Rattle.std.proofs.Common.{◌+◌, List, take, sym, subst, ◌∙◌, arith}
 use Rattle.std.proofs.lemmas.List.{take_all}
 use Rattle.td_headings.specs.declared.defined.Test.{Test}
-use Rattle.td_assign.specs.ForProofs.Names.{Gathers, ReadsWith}
+use Rattle.td_assign.specs.ForProofs.Names.{Gathers, HasMore, ReadsWith}
 use Rattle.td_assign.proofs.Naming.{gathers_next}
 use Rattle.td_assign.proofs.names.tests_need.Goals as goal
 
@@ -13,11 +12,10 @@ loop-place-preserved c =
     let ts = c.tests-tests.result.now in
     let l = c.loop-place in
     let t = c.index-tests-place.result in
-    let more = c.in_ok-more.more.items in
     let within = c.loop-place-test.true in
-    subst (Gathers (ReadsWith k targets) (take (l.place + 1) ts)) (sym c.in_ok-append.ensures.items)
-    (gathers_next (ReadsWith k targets) ts l.place t l.places.items more (omega (arith, within)) l.invariant
-    (subst (λ (u : Test). (n : ℕ) → Contains more n ↔ ReadsWith k targets u n) c.index-tests-place.is c.in_ok-more.ensures))
+    let added = subst (λ (u : Test). HasMore (ReadsWith k targets u) l.places.items c.add_test_needs.new.places.items) c.index-tests-place.is c.in_ok-add_test_needs.ensures in
+    subst (Gathers (ReadsWith k targets) (take (l.place + 1) ts)) (sym added.1)
+    (gathers_next (ReadsWith k targets) ts l.place t l.places.items added.0 (omega (arith, within)) l.invariant added.2)
 
 pub returns-clause-places : goal.returns-clause-places
 returns-clause-places c =

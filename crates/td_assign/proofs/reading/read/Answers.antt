@@ -1,19 +1,21 @@
-use Rattle.std.proofs.Common.{Ok, refl}
-use Rattle.td_assign.proofs.Naming.{footprint_told, footprint_unread}
+use Rattle.std.proofs.Common.{None, Some, refl}
+use Rattle.td_assign.proofs.Naming.{names_read, names_unread, read_names}
 use Rattle.td_assign.proofs.Preparing.{read_is, unread_is}
 use Rattle.td_assign.proofs.reading.read.Goals as goal
 
-pub returns-in_ok-footprint-in-Some : goal.returns-in_ok-footprint-in-Some
-returns-in_ok-footprint-in-Some c =
+pub returns-in_ok-names-in-Some-2 : goal.returns-in_ok-names-in-Some-2
+returns-in_ok-names-in-Some-2 c =
     let k = c.args.catalogue.now in
     let text = c.args.text.now in
     let x = c.in-Some.statement in
     let is = read_is k k c.args.dialect text c.in_ok-statement.field-0 refl c.in_ok-statement.ensures x c.in-Some.is in
-    record { statement = is; footprint = footprint_told k c.args.dialect text {E = Unit {0}} x is (Ok c.in_ok-footprint-in-Some.footprint) c.in_ok-footprint-in-Some.ensures }
+    let v = c.in_ok-names-in-Some.names in
+    read_names k c.args.dialect text (Some x) v c.in_ok-names-in-Some-2.names is c.in_ok-names-in-Some-2.ensures (names_read k c.args.dialect text x is v c.in_ok-names-in-Some.ensures.targets c.in_ok-names-in-Some.ensures.footprint)
 
-pub returns-in-None : goal.returns-in-None
-returns-in-None c =
+pub returns-in_ok-names-in-None : goal.returns-in_ok-names-in-None
+returns-in_ok-names-in-None c =
     let k = c.args.catalogue.now in
     let text = c.args.text.now in
     let is = unread_is k k c.args.dialect text c.in_ok-statement.field-0 refl c.in_ok-statement.ensures c.in-None.is in
-    record { statement = is; footprint = footprint_unread k c.args.dialect text is c.new.result.items c.new.ensures.items }
+    let v = c.no_names.result in
+    read_names k c.args.dialect text None v c.in_ok-names-in-None.names is c.in_ok-names-in-None.ensures (names_unread k c.args.dialect text is v c.no_names.ensures.targets c.no_names.ensures.footprint)

@@ -17,13 +17,13 @@ returns-in_ok-put_all-in-Changes-clause-legal c =
     let d = c.args.database.now in
     let cs = c.in-Changes.changes.items in
     let (dialect, text, reads) = c.requires.read in
-    let prepared = rw c.in-Changes.is at c.in_ok-prepared.ensures.prepared dialect text reads in
+    let prepared = rw c.in-Changes.is at c.in_ok-prepared.ensures dialect text reads in
     subst IsLegal (sym c.in_ok-put_all-in-Changes.ensures.ok) (subst (λ (e : DatabaseData). IsLegal (with_all e (given_to cs))) (sym c.count_reads.ensures) (all_pass d.catalogue (stored_relvars (with_given (given_to cs) d.stored)) d.catalogue.tests prepared.1.passes))
 
 pub returns-in_ok-outcome-in-InPlace-clause-step : goal.returns-in_ok-outcome-in-InPlace-clause-step
 returns-in_ok-outcome-in-InPlace-clause-step c = λ dialect text reads.
     let d = c.args.database.now in
-    let told = rw c.in-InPlace.is at c.in_ok-prepared.ensures.prepared dialect text reads in
+    let told = rw c.in-InPlace.is at c.in_ok-prepared.ensures dialect text reads in
     let o = c.in_ok-outcome-in-InPlace.outcome in
     subst (λ (out : Outcome). Steps d dialect text out c.turn.new.database) (sym c.ran-in-InPlace.ensures.outcome)
     (turned_step d dialect text told.0 told.1 c.in-InPlace.relvar c.in-InPlace.delta c.relvars_fit.ensures told.2 o c.in_ok-outcome-in-InPlace.delta.items c.turn.new.database (rw c.count_reads.ensures at c.in_ok-outcome-in-InPlace.ensures.turned))
@@ -32,7 +32,7 @@ pub returns-in_ok-outcome-in-InPlace-clause-delta : goal.returns-in_ok-outcome-i
 returns-in_ok-outcome-in-InPlace-clause-delta c =
     let d = c.args.database.now in
     let (dialect, text, reads) = c.requires.read in
-    let told = rw c.in-InPlace.is at c.in_ok-prepared.ensures.prepared dialect text reads in
+    let told = rw c.in-InPlace.is at c.in_ok-prepared.ensures dialect text reads in
     subst (AreDifferences (stored_relvars d.stored) (stored_relvars c.turn.new.database.stored)) (sym (ap (λ v. v.items) c.ran-in-InPlace.ensures.delta))
     (turned_differences d dialect text told.0 told.1 c.in-InPlace.relvar c.in-InPlace.delta c.relvars_fit.ensures told.2 c.in_ok-outcome-in-InPlace.outcome c.in_ok-outcome-in-InPlace.delta.items c.turn.new.database (rw c.count_reads.ensures at c.in_ok-outcome-in-InPlace.ensures.turned))
 
@@ -40,19 +40,19 @@ pub returns-in_ok-outcome-in-InPlace-clause-legal : goal.returns-in_ok-outcome-i
 returns-in_ok-outcome-in-InPlace-clause-legal c =
     let d = c.args.database.now in
     let (dialect, text, reads) = c.requires.read in
-    let told = rw c.in-InPlace.is at c.in_ok-prepared.ensures.prepared dialect text reads in
+    let told = rw c.in-InPlace.is at c.in_ok-prepared.ensures dialect text reads in
     turned_legal d dialect text told.0 told.1 c.in-InPlace.relvar c.in-InPlace.delta c.relvars_fit.ensures told.2 c.in_ok-outcome-in-InPlace.outcome c.in_ok-outcome-in-InPlace.delta.items c.turn.new.database c.requires.legal (rw c.count_reads.ensures at c.in_ok-outcome-in-InPlace.ensures.turned)
 
 pub turn-requires-clause-turns : goal.turn-requires-clause-turns
 turn-requires-clause-turns c =
     let (dialect, text, reads) = c.requires.read in
-    let told = rw c.in-InPlace.is at c.in_ok-prepared.ensures.prepared dialect text reads in
+    let told = rw c.in-InPlace.is at c.in_ok-prepared.ensures dialect text reads in
     subst (λ (z : DatabaseData). MayTurn z c.in-InPlace.relvar c.in-InPlace.delta) (sym c.count_reads.ensures) told.2.2.0
 
 pub returns-in_ok-outcome-in-InPlace-clause-puts : goal.returns-in_ok-outcome-in-InPlace-clause-puts
 returns-in_ok-outcome-in-InPlace-clause-puts c = λ dialect text reads yes.
     let d = c.args.database.now in
-    let told = rw c.in-InPlace.is at c.in_ok-prepared.ensures.prepared dialect text reads in
+    let told = rw c.in-InPlace.is at c.in_ok-prepared.ensures dialect text reads in
     let o = c.in_ok-outcome-in-InPlace.outcome in
     let ds = c.in_ok-outcome-in-InPlace.delta.items in
     let new = c.turn.new.database in
