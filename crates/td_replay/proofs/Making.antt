@@ -24,7 +24,7 @@ use Rattle.td_replay.specs.Noted.{AgreeAt, IsLegalDatabase, Notes, opened_by}
 use Rattle.td_replay.specs.ForProofs.Going.{catalogue_stays, origin_of, stays_sound}
 
 -- ---- what is listed is a target, so nothing else changes where the list is made or taken back
-listed_is_target : (s t : DatabaseData) (e : Entry) (r : Ran) → Notes s e r t → (n : ℕ) → (Contains r.targets.items n → ⊥) → (d : DeltaData) → Contains r.delta.items (n, d) → ⊥
+listed_is_target : (s t : DatabaseData) (e : Entry) (r : Ran) → Notes s e r t → (n : ℕ) → (Contains r.names.targets.items n → ⊥) → (d : DeltaData) → Contains r.delta.items (n, d) → ⊥
 listed_is_target s t e r step n never d h =
     let differs = step.delta.only (n, d) h in
     let stays = changes_targets s t e.dialect e.text r.outcome n step.step (λ target. never ((step.targets.members n).1 target)) in
@@ -64,15 +64,15 @@ module _ (s t : DatabaseData) (e : Entry) (r : Ran) (good : IsLegalDatabase s) (
   redone_is u (Ok a) h = h ∙ both.on
   redone_is u (Err x) h = tt
 
-  made_elsewhere : (n : ℕ) → (Contains r.targets.items n → ⊥) → (stored : Stored) → (stored_relvars (redone ds stored) n ≡ stored_relvars stored n) × (stored_relvars (undone ds stored) n ≡ stored_relvars stored n)
+  made_elsewhere : (n : ℕ) → (Contains r.names.targets.items n → ⊥) → (stored : Stored) → (stored_relvars (redone ds stored) n ≡ stored_relvars stored n) × (stored_relvars (undone ds stored) n ≡ stored_relvars stored n)
   made_elsewhere n never stored =
       only_listed_change ds stored n (λ d h. listed_is_target s t e r step n never d (subst (λ (xs : List (ℕ × DeltaData)). Contains xs (n, d)) are h))
 
-  pub undone_elsewhere : {A E : Type 0} (u : DatabaseData) (m : Result A E) → OnOk m (u ≡ record t { stored = undone ds t.stored }) → OnErr m (IsBetween t (undone ds t.stored) u) → (n : ℕ) → (Contains r.targets.items n → ⊥) → AgreeAt t u n
+  pub undone_elsewhere : {A E : Type 0} (u : DatabaseData) (m : Result A E) → OnOk m (u ≡ record t { stored = undone ds t.stored }) → OnErr m (IsBetween t (undone ds t.stored) u) → (n : ℕ) → (Contains r.names.targets.items n → ⊥) → AgreeAt t u n
   undone_elsewhere u (Ok a) h k n never = alike_changed t u (undone ds t.stored) n h (made_elsewhere n never t.stored).1
   undone_elsewhere u (Err x) h k n never = alike_between t u (undone ds t.stored) n k (made_elsewhere n never t.stored).1
 
-  pub redone_elsewhere : {A E : Type 0} (u : DatabaseData) (m : Result A E) → OnOk m (u ≡ record s { stored = redone ds s.stored }) → OnErr m (IsBetween s (redone ds s.stored) u) → (n : ℕ) → (Contains r.targets.items n → ⊥) → AgreeAt s u n
+  pub redone_elsewhere : {A E : Type 0} (u : DatabaseData) (m : Result A E) → OnOk m (u ≡ record s { stored = redone ds s.stored }) → OnErr m (IsBetween s (redone ds s.stored) u) → (n : ℕ) → (Contains r.names.targets.items n → ⊥) → AgreeAt s u n
   redone_elsewhere u (Ok a) h k n never = alike_changed s u (redone ds s.stored) n h (made_elsewhere n never s.stored).0
   redone_elsewhere u (Err x) h k n never = alike_between s u (redone ds s.stored) n k (made_elsewhere n never s.stored).0
 

@@ -6,6 +6,7 @@ use Rattle.td_relations.specs.Deltas.{DeltaData}
 use Rattle.td_accesses.specs.Covering.{Covers, KeepsWithin}
 use Rattle.td_accesses.specs.declared.accesses.Accesses.{Accesses}
 use Rattle.td_assign.specs.Readings.{IsReadText}
+use Rattle.td_assign.specs.declared.names.NamedRelvars.{NamedRelvars}
 use Rattle.td_assign.specs.declared.ran.Ran.{Ran}
 use Rattle.td_assign.specs.declared.reading.ReadText.{ReadText}
 use Rattle.td_headings.specs.Catalogues.{CatalogueData}
@@ -38,6 +39,12 @@ kept_of d s t e r same step =
     })
 
 -- ---- lists that are lent
+pub lent_footprint : (x y : NamedRelvars) → x ≡ y → x.footprint.items ≡ y.footprint.items
+lent_footprint x y same = ap (λ (n : NamedRelvars). n.footprint.items) same
+
+pub lent_targets : (x y : NamedRelvars) → x ≡ y → x.targets.items ≡ y.targets.items
+lent_targets x y same = ap (λ (n : NamedRelvars). n.targets.items) same
+
 pub within_slices : (c : CatalogueData) (k : ℕ) (a fs ts gs us : List ℕ) → fs ≡ gs → ts ≡ us → KeepsWithin c k a gs us → KeepsWithin c k a fs ts
 within_slices c k a fs ts gs us f t h = subst (λ (xs : List ℕ). KeepsWithin c k a xs ts) (sym f) (subst (KeepsWithin c k a gs) (sym t) h)
 

@@ -17,8 +17,8 @@ use Rattle.td_semantics.specs.Steps.{Steps}
 pub record Notes (d : DatabaseData) (e : Entry) (r : Ran) (after : DatabaseData) : Type 0 where
   pub step : Steps d e.dialect e.text r.outcome after
   pub delta : AreDifferences (stored_relvars d.stored) (stored_relvars after.stored) r.delta.items
-  pub targets : AreThose (IsTargetOfText d.catalogue e.dialect e.text) r.targets.items
-  pub footprint : AreThose (IsInFootprint d.catalogue e.dialect e.text) r.footprint.items
+  pub targets : AreThose (IsTargetOfText d.catalogue e.dialect e.text) r.names.targets.items
+  pub footprint : AreThose (IsInFootprint d.catalogue e.dialect e.text) r.names.footprint.items
   pub puts : IsTrue r.puts_in_all → PutsIn d.catalogue e.dialect e.text r.delta.items
 
 -- a database in which every test is true

@@ -41,7 +41,8 @@ pub(crate) fn conflicts(
 ) -> Result<bool, AllocError>
     ensures { IfOk result (λ r. r ≡ false → (c : CatalogueData) → AreDependencies c dependencies.now.relvars.items → (k l : ℕ) (a b : List ℕ) → Covers c accesses.now k a → IsRecordOf c l b ran.now → Commute c k a l b) }
 {
-    let (reads, writes) = (&ran.footprint, &ran.targets);
+    let names = ran.names.get();
+    let (reads, writes) = (&names.footprint, &names.targets);
     match insertion_in(ran) {
         Some((relvar, tuples)) => {
             accesses.conflict(alloc, dependencies, reads, writes, relvar, Some(tuples))
@@ -63,25 +64,19 @@ pub(crate) fn add_record(
     ensures kept { OnOk result ((k : ℕ) (a : List ℕ) → Covers database.now.catalogue accesses.old k a → Covers database.now.catalogue accesses.new k a) }
 {
     let catalogue = database.catalogue();
+    let names = ran.names.get();
+    let (reads, writes) = (&names.footprint, &names.targets);
     match insertion_in(ran) {
         Some((relvar, tuples)) => accesses.add(
             alloc,
             catalogue,
             dependencies,
-            &ran.footprint,
-            &ran.targets,
+            reads,
+            writes,
             relvar,
             Some(tuples),
         ),
-        None => accesses.add(
-            alloc,
-            catalogue,
-            dependencies,
-            &ran.footprint,
-            &ran.targets,
-            0,
-            None,
-        ),
+        None => accesses.add(alloc, catalogue, dependencies, reads, writes, 0, None),
     }
 }
 
@@ -129,6 +124,7 @@ pub(crate) fn add_reading(
     ensures covered { (k : ℕ) (a : List ℕ) → IsReadText database.now.catalogue k a reading.now → OnOk result (Covers database.now.catalogue accesses.new k a) }
     ensures kept { OnOk result ((k : ℕ) (a : List ℕ) → Covers database.now.catalogue accesses.old k a → Covers database.now.catalogue accesses.new k a) }
 {
+    let names = reading.names.get();
     match &reading.statement {
         Some(statement) => {
             add_statement(
@@ -137,14 +133,14 @@ pub(crate) fn add_reading(
                 dependencies,
                 accesses,
                 statement,
-                &reading.footprint,
+                &names.footprint,
             )
         }
         None => accesses.add(
             alloc,
             database.catalogue(),
             dependencies,
-            &reading.footprint,
+            &names.footprint,
             &[],
             0,
             None,
@@ -195,6 +191,7 @@ pub(crate) fn reading_conflicts(
     requires dependencies { AreDependencies database.now.catalogue dependencies.now.relvars.items }
     ensures { IfOk result (λ r. r ≡ false → (k l : ℕ) (a b : List ℕ) → Covers database.now.catalogue accesses.now k a → IsReadText database.now.catalogue l b reading.now → Commute database.now.catalogue k a l b) }
 {
+    let names = reading.names.get();
     match &reading.statement {
         Some(statement) => {
             statement_conflicts(
@@ -203,7 +200,7 @@ pub(crate) fn reading_conflicts(
                 dependencies,
                 accesses,
                 statement,
-                &reading.footprint,
+                &names.footprint,
             )
         }
         None => Ok(true),

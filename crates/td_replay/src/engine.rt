@@ -14,16 +14,17 @@ use crate::accessing::{add_reading, add_record, conflicts, reading_conflicts};
 use std::alloc::{AllocError, Global};
 use std::marker::Model;
 use td_accesses::{Accesses, Dependencies};
-use td_assign::{Ran, ReadText, read, redo, run, run_read, undo};
+use td_assign::{KnownNames, Ran, ReadText, read, redo, run, run_read, undo};
 use td_relvars::{Database, Part};
 use td_rollback::Machine;
 use td_semantics::Meter;
 use td_stamps::Entry;
 
-/// The database of one script, with the dependencies of its catalogue.
+/// The database of one script, with the dependencies of its catalogue, and the names that records share.
 pub(crate) struct Engine {
     database: Database,
     dependencies: Dependencies,
+    known: KnownNames,
 }
 
 // By hand, since a derived one is proved anew at each place where an engine is dropped: this one is a call there.
@@ -32,6 +33,7 @@ impl Drop for Engine {
         let Engine {
             database: _,
             dependencies: _,
+            known: _,
         } = self;
     }
 }
@@ -57,9 +59,11 @@ impl Engine {
     {
         database.relvars_fit();
         let dependencies = Dependencies::of(alloc, database.catalogue())?;
+        let known = KnownNames::none(alloc, database.catalogue().schema().relvar_count())?;
         Ok(Engine {
             database,
             dependencies,
+            known,
         })
     }
 
@@ -129,9 +133,9 @@ impl Machine for Engine {
 
     ghost is_read = { λ o e r. IsReadText o.catalogue e.dialect e.text r };
 
-    ghost footprint_in = { λ r. r.footprint.items };
+    ghost footprint_in = { λ r. r.names.footprint.items };
 
-    ghost targets_in = { λ r. r.targets.items };
+    ghost targets_in = { λ r. r.names.targets.items };
 
     ghost saved = { λ p ns d. (p.copies ≡ part_of d.stored ns) × AreTheirs d.catalogue p };
 
@@ -143,7 +147,8 @@ impl Machine for Engine {
 
     fn run(&mut self, alloc: Global, entry: &Entry, meter: &mut Meter) -> Result<Ran, AllocError> {
         let text = entry.text.as_str();
-        run(alloc, &mut self.database, text, entry.dialect, meter)
+        let ran = run(alloc, &mut self.database, text, entry.dialect, meter)?;
+        Ok(self.known.share(ran))
     }
 
     fn read(&self, alloc: Global, entry: &Entry) -> Result<ReadText, AllocError> {
@@ -157,7 +162,8 @@ impl Machine for Engine {
         reading: &ReadText,
         meter: &mut Meter,
     ) -> Result<Ran, AllocError> {
-        run_read(alloc, &mut self.database, reading, meter)
+        let ran = run_read(alloc, &mut self.database, reading, meter)?;
+        Ok(self.known.share(ran))
     }
 
     fn undo(&mut self, alloc: Global, ran: &Ran) -> Result<(), AllocError> {
@@ -169,7 +175,7 @@ impl Machine for Engine {
     }
 
     fn places_of(reading: &ReadText) -> &[usize] {
-        reading.footprint.as_slice()
+        reading.names.get().footprint.as_slice()
     }
 
     fn no_accesses(&self, alloc: Global) -> Result<Accesses, AllocError> {
@@ -213,11 +219,11 @@ impl Machine for Engine {
     }
 
     fn footprint_of(ran: &Ran) -> &[usize] {
-        ran.footprint.as_slice()
+        ran.names.get().footprint.as_slice()
     }
 
     fn targets_of(ran: &Ran) -> &[usize] {
-        ran.targets.as_slice()
+        ran.names.get().targets.as_slice()
     }
 
     ghost commutes = { exchanges };

@@ -16,5 +16,5 @@ pub record IsInsertionIn (r : Ran) (n : ℕ) (s : RowsData) : Type 0 where
 
 -- it is kept of the text's step
 pub record IsRecordOf (c : CatalogueData) (k : ℕ) (a : List ℕ) (r : Ran) : Type 0 where
-  pub within : KeepsWithin c k a r.footprint.items r.targets.items
+  pub within : KeepsWithin c k a r.names.footprint.items r.names.targets.items
   pub puts : IsTrue r.puts_in_all → PutsIn c k a r.delta.items

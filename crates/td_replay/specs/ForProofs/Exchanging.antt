@@ -48,7 +48,7 @@ module _ (o s t u : DatabaseData) (e f : Entry) (q r : Ran) (apart : AreApart o.
   one_end : w ≡ u
   one_end = one_database o w u ((go o).stay_sound v w e q sound_v it_there.1) ((go o).stay_sound t u f r fine two) (λ n.
       ⊎_elim
-      (λ (h : Contains q.targets.items n).
+      (λ (h : Contains q.names.targets.items n).
       let target = ((go o).name_targets s t e q good one n).0 h in
       let off : AreTargetsOf o f n → ⊥ = λ k. apart.first n target ((go o).hang_on_targets f n k) in
       (go o).alike_through w t u n
@@ -59,7 +59,7 @@ module _ (o s t u : DatabaseData) (e f : Entry) (q r : Ran) (apart : AreApart o.
       (go o).alike_through w v u n
       ((go o).alike_back v w n ((go o).change_targets v w e q n sound_v it_there.1 off))
       ((go o).go_alike s v t u f r n good fine other_there.1 two ((go o).change_targets s t e q n good one off)))
-      (among n q.targets.items))
+      (among n q.names.targets.items))
 
   exchange_apart : (g : DatabaseData) × Notes s f r g × Notes g e q u
   exchange_apart = (v, other_there.1, subst (Notes v e q) one_end it_there.1)
@@ -79,8 +79,8 @@ module _ (o s t u : DatabaseData) (e f : Entry) (q r : Ran) (apart : InsertApart
       let first : Notes s f r h.0 = record {
         step = h.1.step;
         delta = h.1.differences;
-        targets = subst (λ (c : CatalogueData). AreThose (IsTargetOfText c f.dialect f.text) r.targets.items) later two.targets;
-        footprint = subst (λ (c : CatalogueData). AreThose (IsInFootprint c f.dialect f.text) r.footprint.items) later two.footprint;
+        targets = subst (λ (c : CatalogueData). AreThose (IsTargetOfText c f.dialect f.text) r.names.targets.items) later two.targets;
+        footprint = subst (λ (c : CatalogueData). AreThose (IsInFootprint c f.dialect f.text) r.names.footprint.items) later two.footprint;
         puts = λ yes. subst (λ (c : CatalogueData). PutsIn c f.dialect f.text r.delta.items) later (two.puts yes);
       } in
       let stays = sym (catalogue_stays s h.0 f r good.0 first) in (
@@ -89,8 +89,8 @@ module _ (o s t u : DatabaseData) (e f : Entry) (q r : Ran) (apart : InsertApart
         record {
           step = h.2.step;
           delta = h.2.differences;
-          targets = subst (λ (c : CatalogueData). AreThose (IsTargetOfText c e.dialect e.text) q.targets.items) stays one.targets;
-          footprint = subst (λ (c : CatalogueData). AreThose (IsInFootprint c e.dialect e.text) q.footprint.items) stays one.footprint;
+          targets = subst (λ (c : CatalogueData). AreThose (IsTargetOfText c e.dialect e.text) q.names.targets.items) stays one.targets;
+          footprint = subst (λ (c : CatalogueData). AreThose (IsInFootprint c e.dialect e.text) q.names.footprint.items) stays one.footprint;
           puts = λ yes. subst (λ (c : CatalogueData). PutsIn c e.dialect e.text q.delta.items) stays (one.puts yes);
         },
       )

@@ -51,8 +51,8 @@ by_footprint o s t u e r good fine alike step =
       record {
         step = taken.step;
         delta = taken.differences r.delta.items step.delta;
-        targets = subst (λ (c : CatalogueData). AreThose (IsTargetOfText c e.dialect e.text) r.targets.items) both step.targets;
-        footprint = subst (λ (c : CatalogueData). AreThose (IsInFootprint c e.dialect e.text) r.footprint.items) both step.footprint;
+        targets = subst (λ (c : CatalogueData). AreThose (IsTargetOfText c e.dialect e.text) r.names.targets.items) both step.targets;
+        footprint = subst (λ (c : CatalogueData). AreThose (IsInFootprint c e.dialect e.text) r.names.footprint.items) both step.footprint;
         puts = λ yes. subst (λ (c : CatalogueData). PutsIn c e.dialect e.text r.delta.items) both (step.puts yes);
       },
     )
@@ -63,18 +63,18 @@ steps_alike o s t u v e r n good fine step other alike = (
   go_alike (stored_relvars s.stored) (stored_relvars t.stored) (stored_relvars u.stored) (stored_relvars v.stored) r.delta.items step.delta other.delta n alike.1,
 )
 
-name_footprint : (o s t : DatabaseData) (e : Entry) (r : Ran) → Sound o s → Notes s e r t → (n : ℕ) → Contains r.footprint.items n ↔ IsFootprintOf o e n
+name_footprint : (o s t : DatabaseData) (e : Entry) (r : Ran) → Sound o s → Notes s e r t → (n : ℕ) → Contains r.names.footprint.items n ↔ IsFootprintOf o e n
 name_footprint o s t e r good step n =
-    subst (λ (c : CatalogueData). Contains r.footprint.items n ↔ IsInFootprint c e.dialect e.text n) (one_catalogue s o good.1) (step.footprint.members n)
+    subst (λ (c : CatalogueData). Contains r.names.footprint.items n ↔ IsInFootprint c e.dialect e.text n) (one_catalogue s o good.1) (step.footprint.members n)
 
-name_targets : (o s t : DatabaseData) (e : Entry) (r : Ran) → Sound o s → Notes s e r t → (n : ℕ) → Contains r.targets.items n ↔ AreTargetsOf o e n
+name_targets : (o s t : DatabaseData) (e : Entry) (r : Ran) → Sound o s → Notes s e r t → (n : ℕ) → Contains r.names.targets.items n ↔ AreTargetsOf o e n
 name_targets o s t e r good step n =
-    subst (λ (c : CatalogueData). Contains r.targets.items n ↔ IsTargetOfText c e.dialect e.text n) (one_catalogue s o good.1) (step.targets.members n)
+    subst (λ (c : CatalogueData). Contains r.names.targets.items n ↔ IsTargetOfText c e.dialect e.text n) (one_catalogue s o good.1) (step.targets.members n)
 
 hang_on_targets : (o : DatabaseData) (e : Entry) (n : ℕ) → AreTargetsOf o e n → IsFootprintOf o e n
 hang_on_targets o e n h = record { statement = h.statement; reads = h.reads; within = target h.target }
 
-pub go : (o : DatabaseData) → GoByRecords {S = DatabaseData} {R = Ran} (SoundFrom IsLegalDatabase origin_of o) Notes AgreeAt (IsFootprintOf o) (AreTargetsOf o) (λ r. r.footprint.items) (λ r. r.targets.items)
+pub go : (o : DatabaseData) → GoByRecords {S = DatabaseData} {R = Ran} (SoundFrom IsLegalDatabase origin_of o) Notes AgreeAt (IsFootprintOf o) (AreTargetsOf o) (λ r. r.names.footprint.items) (λ r. r.names.targets.items)
 go o = record {
   hang_on_targets = hang_on_targets o;
   stay_sound = stay_sound o;
