@@ -154,8 +154,8 @@ impl Catalogue {
     }
 
     /// Whether the constraint at this place among the tests may read the base relvar at the other place. It costs two
-    /// comparisons. It says yes of a constraint that reads more than two base relvars, and of all where the catalogue
-    /// does not keep its constraints.
+    /// comparisons. It says yes of a constraint that reads no base relvar or more than two, and of all where the
+    /// catalogue does not keep its constraints.
     pub fn may_read(&self, place: usize, relvar: usize) -> bool
         ensures { result ≡ false → (u : Typed) → constraint_at self.now place ≡ Some u → ReadsRelvar self.now.origins u relvar → ⊥ }
     {

@@ -20,7 +20,7 @@ use td_rollback::Machine;
 use td_semantics::Meter;
 use td_stamps::Entry;
 
-/// The database of one script, with the dependencies of its catalogue, and the names that records share.
+/// The database of one script, with the dependencies of its catalogue, and the lists of relvars that records share.
 pub(crate) struct Engine {
     database: Database,
     dependencies: Dependencies,
