@@ -60,8 +60,22 @@ def sum_once(rt):
     rt.rtlib.Crate.stamp = stamp
 
 
-# Compiling a program with the code of all crates below takes as long as proving so many lines.
-PROGRAM = 1500
+# What each crate takes, as gates printed it: by this, and not by lines, the gate finds its longest chain.
+SECONDS = f"{os.path.dirname(os.path.realpath(__file__))}/seconds.txt"
+
+# A crate that the file lacks takes this many processor seconds a line, and a program this many more to be compiled.
+PER_LINE, PROGRAM = 0.2, 120
+
+
+def noted_seconds():
+    """Returns the processor seconds of each crate's proof and of its tests, by crate and by one of these two words."""
+    noted = {}
+    with open(SECONDS, encoding="utf-8") as it:
+        for line in it:
+            found = re.fullmatch(r"(\w+) +(\d+) +(\d+)\b.*", line.rstrip())
+            if found and found[1] != "all":
+                noted[found[1], "proof"], noted[found[1], "tests"] = int(found[2]), int(found[3])
+    return noted
 
 
 def spares(rt):
@@ -70,14 +84,15 @@ def spares(rt):
     A second process loads the libraries below once more and checks again what both need: a crate takes a quarter to a
     half more processor seconds with two. Only the longest chain of crates, of which each waits for the one before it,
     has two where a processor is idle. As many crates are proved at once as there are processors, whatever memory rt
-    reckons for them: one was seen to take 1 to 2 GB, and 3.5 where a program is compiled. Returns whether this rt lets
-    it. A task has what it waits for in front, then its work in lines, its memory, and a call that gets how many jobs it
-    may use.
+    reckons for them: one was seen to take 1 to 2 GB, and 3.5 where a program is compiled. Of the crates that can begin,
+    the first is the one with the most seconds in its longest chain of crates above. Returns whether this rt lets it. A
+    task has what it waits for in front, then its work in lines, its memory, and a call that gets how many jobs it may
+    use.
     """
     found = getattr(rt, "in_lanes", None)
     if found is None or [*inspect.signature(found).parameters] != ["tasks"]:
         return False
-    running, alone = Counter(), threading.Lock()
+    running, alone, noted = Counter(), threading.Lock(), noted_seconds()
 
     def led(call, is_of_longest):
         def called(given, jobs):
@@ -96,7 +111,8 @@ def spares(rt):
 
     def in_lanes(tasks):
         is_program = {it: it[1] == "proof" and os.path.exists(f"crates/{it[0]}/src/main.rt") for it in tasks}
-        work = {it: lines + PROGRAM * is_program[it] for it, (_, lines, *_) in tasks.items()}
+        guessed = {it: int(PER_LINE * lines) + PROGRAM * is_program[it] for it, (_, lines, *_) in tasks.items()}
+        work = {it: noted.get(it[:2], guessed[it]) for it in tasks}
         ahead, behind = dict.fromkeys(tasks, 0), dict.fromkeys(tasks, 0)
         # (a task comes after those that it waits for)
         for it, (waits, *_) in tasks.items():

@@ -21,7 +21,7 @@ use journals::{begin_journal, open_site, reopen_from, start_of, take_all};
 use scene::Scene;
 use shown::tell_journal;
 use td_replay::{PlainSite, Site};
-use td_replica::{Opens, Replica};
+use td_replica::{Catalogued, Opens};
 use td_semantics::Meter;
 
 /// The most bytes that are written to a journal, and to a link: room for them is taken beforehand.
@@ -35,7 +35,7 @@ struct Task<'a> {
 }
 
 // The sites are of one kind, and the second one's journal opens another kind.
-fn run_over<R: Replica + Drop, O: Opens + Drop>(
+fn run_over<R: Catalogued + Drop, O: Opens + Catalogued + Drop>(
     rt: &HostRuntime,
     task: Task,
     mut first: R,
@@ -58,7 +58,7 @@ fn run_over<R: Replica + Drop, O: Opens + Drop>(
     }
 }
 
-fn run_opened<O: Opens + Drop>(rt: &HostRuntime, task: Task) -> Result<()> {
+fn run_opened<O: Opens + Catalogued + Drop>(rt: &HostRuntime, task: Task) -> Result<()> {
     let first = open_site::<O>(rt.alloc(), task.example.first)?;
     let second = open_site::<O>(rt.alloc(), task.example.second)?;
     run_over::<O, O>(rt, task, first, second)

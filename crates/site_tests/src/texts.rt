@@ -5,7 +5,7 @@ use std::alloc::Global;
 use td_io::Device;
 use td_listings::{export, listing};
 use td_replay::Site;
-use td_replica::{Opens, Replica};
+use td_replica::{Catalogued, Opens, Replica};
 use td_semantics::Meter;
 
 const SCRIPT: &str = "VAR S BASE RELATION { SNO CHAR, STATUS INTEGER, CITY CHAR } KEY { SNO };";
@@ -25,7 +25,7 @@ Paris,S2,10
 ";
 
 // Whether the site writes its listing and its table, each by one flush, and nothing of a relvar that is not there.
-fn writes<R: Replica>(alloc: Global, site: &R) -> bool {
+fn writes<R: Catalogued>(alloc: Global, site: &R) -> bool {
     let mut listed = Flushed::new(alloc, 1_000);
     let mut exported = Flushed::new(alloc, 1_000);
     listing(alloc, site, &mut Device::new(&mut listed)).is_ok()
@@ -36,7 +36,7 @@ fn writes<R: Replica>(alloc: Global, site: &R) -> bool {
 }
 
 // Whether a site of the script writes so behind the statement.
-fn writes_behind<O: Opens + Drop>(rt: &HostRuntime) -> bool {
+fn writes_behind<O: Opens + Catalogued + Drop>(rt: &HostRuntime) -> bool {
     let mut meter = Meter::new(rt);
     match O::open_script(rt.alloc(), SCRIPT, 1, 10) {
         Ok(mut site) => {

@@ -18,7 +18,7 @@ struct Call {
     is_wished: bool,
 }
 
-/// The peers that are called, each so long after it was met, and later each time where it was not.
+/// The peers that are called: each some time after it was met, and later each time where it was not.
 #[derive(Drop)]
 pub(crate) struct Calls {
     calls: Vec<Call>,
@@ -26,7 +26,7 @@ pub(crate) struct Calls {
 }
 
 impl Calls {
-    /// All of these are called at once, and then every so many milliseconds.
+    /// All of these are called at once, and then at this interval, in milliseconds.
     pub(crate) fn new(
         alloc: Global,
         peers: &[SocketAddr],
@@ -91,7 +91,7 @@ impl Calls {
     }
 }
 
-// How long after so many failures in a row.
+// How long a peer is not called after this many failures in a row.
 fn backoff(every: u64, failures: u32) -> u64 {
     let doublings = failures.saturating_sub(1).min(10);
     every

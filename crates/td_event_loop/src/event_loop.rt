@@ -3,14 +3,16 @@
 use crate::calls::Calls;
 use crate::client::Client;
 use crate::console::Console;
-use crate::limits::{MOST_ACCEPTED, MOST_CALLED, MOST_CLIENTS, STOP_TIME, TICK, TURN};
+use crate::limits::{MOST_ACCEPTED, MOST_CLIENTS, MOST_MEETINGS, STOP_TIME, TICK, TURN};
 use crate::meets::{Loss, MeetingReport, MeetingSide, Meets, PeerRefusal, StepResult};
 use crate::outbox::Outbox;
 use crate::peer::Peer;
 use crate::server::Server;
+use crate::slots::{empty_slots, fill_slot, free_slot};
+use crate::tokens::{EventSource, MOST_EVENTS};
 use crate::transfer::{Progress, Readiness};
 use mio::net::{TcpListener, TcpStream};
-use mio::{Events, Interest, Poll, Token};
+use mio::{Events, Interest, Poll};
 use std::alloc::Global;
 use std::hash::RandomState;
 use std::io;
@@ -33,21 +35,6 @@ pub struct LoopOptions<'a> {
     pub every: u64,
 }
 
-// The tokens: of the two listeners, the console, and each slot.
-const CLIENTS: usize = 0;
-
-const PEERS: usize = 1;
-
-const CONSOLE: usize = 2;
-
-const FIRST_CLIENT: usize = 3;
-
-const FIRST_ACCEPTED: usize = FIRST_CLIENT + MOST_CLIENTS;
-
-const FIRST_CALLED: usize = FIRST_ACCEPTED + MOST_ACCEPTED;
-
-const MOST_EVENTS: usize = FIRST_CALLED + MOST_CALLED;
-
 /// The bytes of one read of a peer.
 const BUFFER: usize = 65_536;
 
@@ -63,38 +50,27 @@ pub struct EventLoop {
     console: Option<Console>,
     allowed: Vec<IpAddr>,
     clients: Vec<Option<Client>>,
-    accepted: Vec<Option<Peer>>,
-    called: Vec<Option<Peer>>,
+    /// The meetings, each in the slot of its number: from 0 on those that peers began, from `MOST_ACCEPTED` on those
+    /// that this site began.
+    peers: Vec<Option<Peer>>,
     calls: Calls,
     buffer: Vec<u8>,
 }
 
-// A listener at this address, whose events bear the token.
-fn listen<N: Net>(net: &N, poll: &Poll, at: SocketAddr, token: usize) -> io::Result<TcpListener> {
+// A listener at this address, which is watched.
+fn listen<N: Net>(
+    net: &N,
+    poll: &Poll,
+    at: SocketAddr,
+    source: EventSource,
+) -> io::Result<TcpListener> {
     let mut listener = TcpListener::bind(net, at)?;
     poll.registry()
-        .register(&mut listener, Token(token), Interest::READABLE)?;
+        .register(&mut listener, source.token(), Interest::READABLE)?;
     Ok(listener)
 }
 
-// So many slots, none of them taken.
-fn empty_slots<T: Drop>(alloc: Global, count: usize) -> io::Result<Vec<Option<T>>> {
-    let mut slots = Vec::with_capacity(alloc, count)?;
-    for _ in 0..count {
-        match slots.push(None) {
-            Ok(()) => {}
-            Err(_) => return Err(io::ErrorKind::OutOfMemory.into()),
-        }
-    }
-    Ok(slots)
-}
-
-// The first slot that is not taken; None where all are.
-fn free_slot<T: Drop>(slots: &[Option<T>]) -> Option<usize> {
-    slots.iter().position(|slot| slot.is_none())
-}
-
-// The client that is idle longest; none where each has an answer under way.
+// The slot of the client that is idle longest; none where each has an answer under way.
 fn idlest_client(clients: &[Option<Client>]) -> Option<usize> {
     let mut idlest = None;
     let mut longest = 0;
@@ -118,18 +94,16 @@ fn millis(spent: Duration) -> u64 {
         .saturating_add(u64::from(spent.subsec_millis()))
 }
 
-// Gives each meeting its turn; tells whether one can go on at once.
+// Gives each meeting its turn. Returns whether one can go on at once.
 fn turn_peers<M: Meets>(
     peers: &mut [Option<Peer>],
-    first: usize,
     site: &mut M,
     calls: &mut Calls,
     buffer: &mut [u8],
     now: u64,
 ) -> bool {
     let mut is_busy = false;
-    for (i, slot) in peers.iter_mut().enumerate() {
-        let meeting = first.saturating_add(i);
+    for (meeting, slot) in peers.iter_mut().enumerate() {
         let (progress, loss) = match slot {
             Some(peer) => peer.take_turn(meeting, site, buffer, now),
             None => (Progress::Waiting, None),
@@ -146,8 +120,8 @@ fn turn_peers<M: Meets>(
     is_busy
 }
 
-// Tells the site that the meeting of a slot ends; where this site began it, its outcome decides when the peer is called
-// again.
+// Reports to the site that the meeting of a slot ends. If this site began it, its outcome decides when the peer is
+// called again.
 fn end_meeting<M: Meets>(
     slot: &Option<Peer>,
     meeting: usize,
@@ -165,16 +139,9 @@ fn end_meeting<M: Meets>(
     }
 }
 
-// Ends all these meetings as stopped, and empties their slots.
-fn stop_peers<M: Meets>(
-    peers: &mut [Option<Peer>],
-    first: usize,
-    site: &mut M,
-    calls: &mut Calls,
-    now: u64,
-) {
-    for (i, slot) in peers.iter_mut().enumerate() {
-        let meeting = first.saturating_add(i);
+// Ends all meetings as stopped, and empties their slots.
+fn stop_peers<M: Meets>(peers: &mut [Option<Peer>], site: &mut M, calls: &mut Calls, now: u64) {
+    for (meeting, slot) in peers.iter_mut().enumerate() {
         end_meeting(slot, meeting, site, calls, Some(Loss::Stopped), now);
         *slot = None;
     }
@@ -199,9 +166,9 @@ impl EventLoop {
     pub fn bind<N: Net + AllocGlobal>(net: &N, options: &LoopOptions<'_>) -> io::Result<EventLoop> {
         let alloc = net.alloc();
         let poll = Poll::new(net)?;
-        let client_listener = listen(net, &poll, options.clients, CLIENTS)?;
+        let client_listener = listen(net, &poll, options.clients, EventSource::ClientListener)?;
         let peer_listener = match options.peers {
-            Some(at) => Some(listen(net, &poll, at, PEERS)?),
+            Some(at) => Some(listen(net, &poll, at, EventSource::PeerListener)?),
             None => None,
         };
         Ok(EventLoop {
@@ -214,8 +181,7 @@ impl EventLoop {
             console: None,
             allowed: options.allowed.to_vec(alloc)?,
             clients: empty_slots(alloc, MOST_CLIENTS)?,
-            accepted: empty_slots(alloc, MOST_ACCEPTED)?,
-            called: empty_slots(alloc, MOST_CALLED)?,
+            peers: empty_slots(alloc, MOST_MEETINGS)?,
             calls: Calls::new(alloc, options.calls, options.every)?,
             buffer: Vec::from_elem(alloc, 0u8, BUFFER)?,
         })
@@ -241,7 +207,8 @@ impl EventLoop {
     /// system watches no file.
     pub fn watch_console(&mut self, descriptor: RawFd) -> io::Result<()> {
         let registry = self.poll.registry();
-        self.console = Some(Console::watch(registry, descriptor, Token(CONSOLE))?);
+        let token = EventSource::Console.token();
+        self.console = Some(Console::watch(registry, descriptor, token)?);
         Ok(())
     }
 
@@ -252,20 +219,16 @@ impl EventLoop {
         }
     }
 
-    // Notes what an event says, at the listener, the console, the client or the peer that its token belongs to.
-    fn add_readiness(&mut self, token: usize, readiness: Readiness) {
-        if token == CLIENTS {
-            self.has_pending_clients = true;
-        } else if token == PEERS {
-            self.has_pending_peers = true;
-        } else if token == CONSOLE {
-            self.add_readiness_of_console(readiness);
-        } else if token < FIRST_ACCEPTED {
-            add_readiness_of_client(&mut self.clients, token - FIRST_CLIENT, readiness);
-        } else if token < FIRST_CALLED {
-            add_readiness_of_peer(&mut self.accepted, token - FIRST_ACCEPTED, readiness);
-        } else {
-            add_readiness_of_peer(&mut self.called, token - FIRST_CALLED, readiness);
+    // Notes what an event says of its source.
+    fn add_readiness(&mut self, source: EventSource, readiness: Readiness) {
+        match source {
+            EventSource::ClientListener => self.has_pending_clients = true,
+            EventSource::PeerListener => self.has_pending_peers = true,
+            EventSource::Console => self.add_readiness_of_console(readiness),
+            EventSource::Client(slot) => {
+                add_readiness_of_client(&mut self.clients, slot, readiness);
+            }
+            EventSource::Peer(slot) => add_readiness_of_peer(&mut self.peers, slot, readiness),
         }
     }
 
@@ -278,7 +241,7 @@ impl EventLoop {
                 is_readable: event.is_readable() || event.is_read_closed() || event.is_error(),
                 is_writable: event.is_writable() || event.is_write_closed() || event.is_error(),
             };
-            self.add_readiness(event.token().0, readiness);
+            self.add_readiness(EventSource::of(event.token()), readiness);
         }
         Ok(())
     }
@@ -291,7 +254,7 @@ impl EventLoop {
         stream: TcpStream,
         now: u64,
     ) -> io::Result<()> {
-        let free = match free_slot(&self.clients) {
+        let free = match free_slot(&self.clients, 0, MOST_CLIENTS) {
             Some(slot) => Some(slot),
             None => idlest_client(&self.clients),
         };
@@ -302,12 +265,10 @@ impl EventLoop {
         let mut client = Client::new(self.alloc, keys, stream, now);
         self.poll.registry().register(
             client.stream_mut(),
-            Token(FIRST_CLIENT.saturating_add(slot)),
+            EventSource::Client(slot).token(),
             Interest::READABLE | Interest::WRITABLE,
         )?;
-        if let Some(held) = self.clients.get_mut(slot) {
-            *held = Some(client);
-        }
+        fill_slot(&mut self.clients, slot, client);
         Ok(())
     }
 
@@ -341,30 +302,14 @@ impl EventLoop {
         self.allowed.is_empty() || self.allowed.iter().any(|allowed| *allowed == address)
     }
 
-    // Has the socket of a peer watched, whose events bear the token.
-    fn register(&self, peer: &mut Peer, token: usize) -> io::Result<()> {
+    // Takes a meeting into a slot, and has its socket watched.
+    fn add_peer(&mut self, mut peer: Peer, slot: usize) -> io::Result<()> {
         self.poll.registry().register(
             peer.stream_mut(),
-            Token(token),
+            EventSource::Peer(slot).token(),
             Interest::READABLE | Interest::WRITABLE,
-        )
-    }
-
-    // Takes a meeting that the peer began into a slot, and has its socket watched.
-    fn add_accepted(&mut self, mut peer: Peer, slot: usize) -> io::Result<()> {
-        self.register(&mut peer, FIRST_ACCEPTED.saturating_add(slot))?;
-        if let Some(held) = self.accepted.get_mut(slot) {
-            *held = Some(peer);
-        }
-        Ok(())
-    }
-
-    // Takes a meeting that this site began into a slot, and has its socket watched.
-    fn add_called(&mut self, mut peer: Peer, slot: usize) -> io::Result<()> {
-        self.register(&mut peer, FIRST_CALLED.saturating_add(slot))?;
-        if let Some(held) = self.called.get_mut(slot) {
-            *held = Some(peer);
-        }
+        )?;
+        fill_slot(&mut self.peers, slot, peer);
         Ok(())
     }
 
@@ -380,10 +325,10 @@ impl EventLoop {
         if !self.is_allowed(address) {
             return site.refuse(address, PeerRefusal::Address);
         }
-        match free_slot(&self.accepted) {
-            Some(slot) => {
+        match free_slot(&self.peers, 0, MOST_ACCEPTED) {
+            Some(meeting) => {
                 let peer = Peer::accepted(self.alloc, stream, address, now);
-                let _ = self.add_accepted(peer, slot);
+                let _ = self.add_peer(peer, meeting);
             }
             None => site.refuse(address, PeerRefusal::Crowded),
         }
@@ -410,23 +355,22 @@ impl EventLoop {
         }
     }
 
-    // Begins a meeting with a peer in this slot.
+    // Begins a meeting of this number with a peer.
     fn call<N: Net, M: Meets>(
         &mut self,
         net: &N,
         site: &mut M,
         address: SocketAddr,
-        slot: usize,
+        meeting: usize,
         now: u64,
     ) {
-        let meeting = MOST_ACCEPTED.saturating_add(slot);
         let mut greeting = Outbox::new(self.alloc);
         let mut loss = None;
         if site.greet(meeting, &mut greeting) == StepResult::Continue {
             let added = match TcpStream::connect(net, address) {
                 Ok(stream) => {
                     let peer = Peer::called(self.alloc, stream, address, greeting, now);
-                    self.add_called(peer, slot)
+                    self.add_peer(peer, meeting)
                 }
                 Err(error) => Err(error),
             };
@@ -449,15 +393,15 @@ impl EventLoop {
         if let Some(peer) = site.next_wish() {
             self.calls.wish(peer);
         }
-        let Some(slot) = free_slot(&self.called) else {
+        let Some(meeting) = free_slot(&self.peers, MOST_ACCEPTED, MOST_MEETINGS) else {
             return;
         };
         if let Some(address) = self.calls.next_due(now) {
-            self.call(net, site, address, slot, now);
+            self.call(net, site, address, meeting, now);
         }
     }
 
-    // Gives each client its turn; tells whether one can go on at once.
+    // Gives each client its turn; returns whether one can go on at once.
     fn turn_clients<S: Server>(&mut self, server: &mut S, now: u64) -> bool {
         let mut is_busy = false;
         for slot in &mut self.clients {
@@ -477,7 +421,10 @@ impl EventLoop {
     // Has the server read its console, if that can be read.
     fn turn_console<S: Server>(&mut self, server: &mut S) {
         let progress = match &mut self.console {
-            Some(console) => console.take_turn(self.poll.registry(), Token(CONSOLE), server),
+            Some(console) => {
+                let token = EventSource::Console.token();
+                console.take_turn(self.poll.registry(), token, server)
+            }
             None => Progress::Waiting,
         };
         if progress == Progress::Ended {
@@ -485,7 +432,7 @@ impl EventLoop {
         }
     }
 
-    // Gives all their turn; tells whether one can go on at once.
+    // Gives all their turn; returns whether one can go on at once.
     fn turn<S: Server, H: Net + RandomSource>(
         &mut self,
         host: &H,
@@ -498,25 +445,16 @@ impl EventLoop {
         self.call_due(host, server, now);
         let has_busy_client = self.turn_clients(server, now);
         let has_busy_peer = turn_peers(
-            &mut self.accepted,
-            0,
+            &mut self.peers,
             server,
             &mut self.calls,
             &mut self.buffer,
             now,
         );
-        let has_busy_call = turn_peers(
-            &mut self.called,
-            MOST_ACCEPTED,
-            server,
-            &mut self.calls,
-            &mut self.buffer,
-            now,
-        );
-        has_busy_client || has_busy_peer || has_busy_call
+        has_busy_client || has_busy_peer
     }
 
-    // Sends what is left of answers; tells whether some is left.
+    // Sends what is left of answers; returns whether some is left.
     fn send_rests(&mut self) -> bool {
         let mut is_left = false;
         for slot in &mut self.clients {
@@ -542,8 +480,7 @@ impl EventLoop {
     ) -> io::Result<()> {
         self.client_listener = None;
         self.peer_listener = None;
-        stop_peers(&mut self.accepted, 0, server, &mut self.calls, 0);
-        stop_peers(&mut self.called, MOST_ACCEPTED, server, &mut self.calls, 0);
+        stop_peers(&mut self.peers, server, &mut self.calls, 0);
         let begun = Instant::now(host)?;
         for _ in 0..u64::MAX {
             if !self.send_rests() || millis(begun.elapsed(host)?) > STOP_TIME {

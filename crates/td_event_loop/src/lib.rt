@@ -10,6 +10,8 @@
 //! event_loop.run(&rt, &mut server)?;
 //! ```
 //!
+//! Its definitions are in `specs/`: Tokens, the number of the token of each source of events.
+//!
 //! Costs: a turn walks along all connections, at most 64 clients and 12 meetings; while an answer or a step of a
 //! meeting runs, all others wait. A meeting keeps at most 1 MiB of what its peer sent, and 1 MiB of what is sent to it.
 //!
@@ -29,6 +31,8 @@ mod outbox;
 mod pace;
 mod peer;
 mod server;
+mod slots;
+mod tokens;
 mod transfer;
 
 pub use event_loop::{EventLoop, LoopOptions};

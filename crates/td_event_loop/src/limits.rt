@@ -18,7 +18,7 @@ pub const MOST_BYTES: usize = 1_048_576;
 /// The most bytes of the body of a request.
 pub(crate) const MOST_BODY: usize = 65_536;
 
-/// A client has so long for a request, from its connection or its last answer on.
+/// A client has this time for a request, from its connection or its last answer on.
 pub(crate) const REQUEST_TIME: u64 = 15_000;
 
 /// A client takes some byte of an answer in this time.
@@ -27,23 +27,23 @@ pub(crate) const ANSWER_TIME: u64 = 15_000;
 /// A client takes an answer whole in this time.
 pub(crate) const WHOLE_ANSWER_TIME: u64 = 120_000;
 
-/// A peer sends or takes some byte in this time. Behind it the floor of speed counts.
+/// A peer sends or takes some byte in this time. After it the least speed counts.
 pub(crate) const SILENCE_TIME: u64 = 30_000;
 
-/// A peer sends and takes at least so many bytes a second.
+/// A peer sends and takes at least this many bytes a second.
 pub(crate) const LEAST_SPEED: u64 = 1_024;
 
 /// A meeting takes no longer.
 pub(crate) const MEETING_TIME: u64 = 600_000;
 
-/// A program that ends waits so long for its answers to be taken.
+/// A program that ends waits at most this time for its answers to be taken.
 pub(crate) const STOP_TIME: u64 = 5_000;
 
 /// A peer that was not met is called again after this time at the latest.
 pub(crate) const LONGEST_BACKOFF: u64 = 900_000;
 
-/// So many connections are accepted, and so many reads and writes of one connection made, before others have their
-/// turn.
+/// At most this many connections are accepted, and this many reads and writes of one connection made, before others
+/// have their turn.
 pub(crate) const TURN: usize = 8;
 
 /// A wait for events is no longer.

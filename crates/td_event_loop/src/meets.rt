@@ -88,6 +88,6 @@ pub trait Meets {
     /// Takes note of a peer that is not met.
     fn refuse(&mut self, peer: SocketAddr, refusal: PeerRefusal);
 
-    /// A peer that is to be called now, each told once. One that the loop does not call is left out.
+    /// A peer that is to be called now, each returned once. One that the loop does not call is left out.
     fn next_wish(&mut self) -> Option<SocketAddr>;
 }

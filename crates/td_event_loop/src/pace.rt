@@ -31,7 +31,7 @@ impl Pace {
         self.quiet = self.quiet.saturating_add(passed);
     }
 
-    /// So many bytes came or went.
+    /// This many bytes came or went.
     pub(crate) fn add_bytes(&mut self, count: usize) {
         self.bytes = self.bytes.saturating_add(count as u64);
         self.quiet = 0;

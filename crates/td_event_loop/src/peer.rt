@@ -105,7 +105,7 @@ impl Peer {
         }
     }
 
-    /// What the site is told of the meeting at its end.
+    /// What is reported to the site of the meeting at its end.
     pub(crate) fn report(&self, meeting: usize, loss: Option<Loss>) -> MeetingReport {
         MeetingReport {
             meeting,

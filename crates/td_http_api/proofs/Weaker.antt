@@ -2,7 +2,7 @@
 use Rattle.std.proofs.Common.{inl, inr, Option, Some, OnOk, OnErr, Result, Ok, Err}
 use Rattle.http_server.specs.declared.response.Response.{Response}
 use Rattle.td_http_api.specs.Answers.{Answer, Answering}
-use Rattle.td_http_api.specs.Calls.{ApiCall}
+use Rattle.td_http_api.specs.declared.calls.ApiCall.{ApiCall}
 use Rattle.td_http_api.specs.Services.{ComesTo, LacksMemory, Makes}
 
 module _ {D : Type 0} (P Q : ApiCall → Type 0) (follows : (call : ApiCall) → P call → Q call) (answers : Answering D) where

@@ -1,17 +1,19 @@
--- What a desk answers, and which response tells it.
-use Rattle.std.specs.Prelude.{◌≡◌, ℕ, List, [], ◌∷◌, ◌++◌, codes, Option, Some, None, Result, Ok, Err, if◌then◌else◌, ◌==◌}
+-- What a desk answers, and which response has it.
+use Rattle.std.specs.Prelude.{◌≡◌, ℕ, List, [], ◌∷◌, ◌++◌, codes, Option, Some, None, Result, Ok, Err, string_bytes}
 use Rattle.http_server.specs.declared.response.Response.{Response}
 use Rattle.json.specs.Print.{print}
 use Rattle.json.specs.Token.{begin_object, end_object, key, string}
 use Rattle.json.specs.Written.{Written}
-use Rattle.td_http_api.specs.Calls.{ApiCall}
+use Rattle.td_http_api.specs.declared.calls.ApiCall.{ApiCall}
+use Rattle.td_http_api.specs.declared.desk.DeskAnswer.{DeskAnswer}
+use Rattle.td_http_api.specs.declared.desk.DeskAnswer.TheVariants.{Members, Table}
 
 -- a status, and the text of a body
 pub record Answer : Type 0 where
   pub status : ℕ
   pub text : List ℕ
 
--- the response tells the answer
+-- the response has the status and the text of the answer
 pub record IsAnswer (answer : Answer) (response : Response) : Type 0 where
   pub status : response.status ≡ answer.status
   pub body : response.body.items ≡ answer.text
@@ -25,25 +27,20 @@ pub record IsBegun (out : Written) : Type 0 where
   pub before : out.before ≡ []
   pub tokens : out.tokens ≡ begin_object ∷ []
 
--- the text of an object whose members were written behind its bracket
+-- the text of an object whose members were written after its bracket
 abbrev pub object_text : Written → List ℕ
 object_text out = out.before ++ print (out.tokens ++ end_object ∷ [])
 
--- a status that a desk gives, with the members that it wrote, is what it answers
-abbrev pub TellsAnswer : {D E : Type 0} → Answering D → D → ApiCall → Result ℕ E → Written → D → Type 0
-TellsAnswer answers old call (Ok status) out new = answers old call (Some (record { status = status; text = object_text out })) new
-TellsAnswer answers old call (Err e) out new = answers old call None new
+-- the object of the members that a desk wrote, or a table
+abbrev pub answer_of : DeskAnswer → Written → Answer
+answer_of (Members status) out = record { status = status; text = object_text out }
+answer_of (Table table) out = record { status = 200; text = string_bytes table }
 
--- the object that tells a fault by these words
+-- what a desk answers, unless memory ran out
+abbrev pub given_answer : {E : Type 0} → Result DeskAnswer E → Written → Option Answer
+given_answer (Ok given) out = Some (answer_of given out)
+given_answer (Err e) out = None
+
+-- the object of a fault with these words
 abbrev pub fault_text : List ℕ → List ℕ
 fault_text words = print (begin_object ∷ key (codes "fault") ∷ string words ∷ end_object ∷ [])
-
--- of a table the text is sent as it is, or with another status than 200 as the words of a fault
-abbrev pub table_text : ℕ → List ℕ → List ℕ
-table_text status text = if status == 200 then text else fault_text text
-
--- a status that a desk gives, with the table or the words that it wrote, is what it answers
-abbrev pub ExportsTable : {D E : Type 0} → Answering D → D → ApiCall → Result ℕ E → List ℕ → D → Type 0
-ExportsTable answers old call (Ok status) text new =
-    answers old call (Some (record { status = status; text = table_text status text })) new
-ExportsTable answers old call (Err e) text new = answers old call None new

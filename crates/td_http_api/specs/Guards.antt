@@ -7,6 +7,8 @@ use Rattle.http_header.specs.FieldValue.{FieldValue}
 use Rattle.http_header.specs.HeaderMap.{get_all}
 use Rattle.std.specs.Char.{to_ascii_lowercase}
 use Rattle.td_http_api.specs.declared.guard.Guard.{Guard}
+use Rattle.td_http_api.specs.declared.resources.Right.{Right}
+use Rattle.td_http_api.specs.declared.resources.Right.TheVariants.{Everyone, Bearer}
 
 -- the values of a field of a request
 abbrev pub values_of : Request (List ℕ) → List ℕ → List FieldValue
@@ -40,3 +42,8 @@ pub record Admits (guard : Guard) (request : Request (List ℕ)) : Type 0 where
   pub host : HasHost guard.hosts.items request
   pub origin : HasOrigin guard.hosts.items request
   pub bears : Bears (string_bytes guard.bearer) request
+
+-- the request has the right: that of everyone, or that of the bearer of the token
+abbrev pub Holds : Guard → Request (List ℕ) → Right → Type 0
+Holds guard request Everyone = HasHost guard.hosts.items request
+Holds guard request Bearer = Admits guard request

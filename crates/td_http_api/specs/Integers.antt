@@ -1,4 +1,4 @@
--- Which integers are told as numbers.
+-- Which integers are written as numbers.
 use Rattle.std.specs.Prelude.{◌^◌, ℤ, pos, negsuc, ◌-◌, ◌≤ℤ◌}
 
 -- a program that reads numbers as doubles tells it from all others

@@ -1,10 +1,9 @@
 -- The definitions of the crate.
 pub mod Answers
-pub mod Calls
 pub mod Guards
-pub mod Inquiries
 pub mod Integers
 pub mod Laws
+pub mod Members
 pub mod Requests
-pub mod Routes
+pub mod Resources
 pub mod Services

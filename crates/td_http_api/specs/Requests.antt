@@ -1,5 +1,5 @@
--- What a request asks for, by its method, its path and its body.
-use Rattle.std.specs.Prelude.{◌≡◌, ℕ, Bool, true, false, List, [], ◌++◌, Option, Some, None, Ok, option_and_then, unwrap_or, codes}
+-- What a request asks for, by its method, its path, its query string and its body.
+use Rattle.std.specs.Prelude.{◌≡◌, ◌⊎◌, ℕ, Bool, true, false, List, [], ◌++◌, Option, Some, None, Ok, option_and_then, option_copied, unwrap_or, codes}
 use Rattle.std.specs.Str.Parse.{ParsesUnsigned}
 use Rattle.http.specs.declared.request.Request.{Request}
 use Rattle.http.specs.Request.{head_of, body_of}
@@ -7,72 +7,85 @@ use Rattle.http_uri.specs.Uri.{uri_path, uri_query}
 use Rattle.json.specs.Find.{get, as_str, as_number}
 use Rattle.json.specs.Json.{Json, document}
 use Rattle.json.specs.Strict.{HasUniqueKeys}
-use Rattle.td_http_api.specs.Calls.{ApiCall, site, relvars, table, refused, log, script, query, statement, acknowledgement, meeting, stop}
+use Rattle.td_http_api.specs.declared.calls.ApiCall.{ApiCall}
+use Rattle.td_http_api.specs.declared.calls.ApiCall.TheVariants.{Site, Relvars, Table, Refused, Log, Script, Query, Statement, Acknowledge, Meet, Stop}
+use Rattle.td_http_api.specs.declared.members.Member.{Member}
+use Rattle.td_http_api.specs.declared.members.Member.TheVariants as member
+use Rattle.td_http_api.specs.declared.resources.Resource.{Resource}
+use Rattle.td_http_api.specs.declared.resources.Resource.TheVariants as the
+use Rattle.td_http_api.specs.Members.{member_name}
+use Rattle.td_http_api.specs.Resources.{Allows, row_of}
+
+-- what follows the `?` of a path
+abbrev pub query_of : Request (List ℕ) → List ℕ
+query_of request = unwrap_or (uri_query (head_of request).uri) []
+
+-- the query string of a flag
+abbrev pub flag_query : Member → Bool → List ℕ
+flag_query flag true = member_name flag
+flag_query flag false = []
+
+-- the query string of a text, if there is one
+abbrev pub text_query : Member → Option (List ℕ) → List ℕ
+text_query name None = []
+text_query name (Some text) = member_name name ++ (codes "=" ++ text)
 
 -- the text of a member of a body
-abbrev pub member_text : List ℕ → Json → Option (List ℕ)
-member_text name body = option_and_then as_str (get name body)
+abbrev pub member_text : Member → Json → Option (List ℕ)
+member_text name body = option_and_then as_str (get (member_name name) body)
 
 -- the number of a member of a body, if there is the member
-abbrev pub HasCount : List ℕ → Json → Option ℕ → Type 0
-HasCount name body None = get name body ≡ None
+abbrev pub HasCount : Member → Json → Option ℕ → Type 0
+HasCount name body None = get (member_name name) body ≡ None
 HasCount name body (Some n) =
-    (digits : List ℕ) × (option_and_then as_number (get name body) ≡ Some digits) × ParsesUnsigned {E = List ℕ} 64 10 digits (Ok n)
+    (digits : List ℕ) × (option_and_then as_number (get (member_name name) body) ≡ Some digits)
+    × ParsesUnsigned {E = List ℕ} 64 10 digits (Ok n)
 
--- what stands behind the `?` that has the tuples counted
-abbrev pub counts_text : Bool → List ℕ
-counts_text true = codes "counts"
-counts_text false = []
+-- for this resource the name in the path and the query string are those of the call
+abbrev pub GivesInQuery : Resource → List ℕ → List ℕ → ApiCall → Type 0
+GivesInQuery resource name query Site = (resource ≡ the.Site) × (query ≡ [])
+GivesInQuery resource name query (Relvars counts) = (resource ≡ the.Relvars) × (query ≡ flag_query member.Counts counts)
+GivesInQuery resource name query (Table relvar) = (resource ≡ the.Table) × (name ≡ relvar.now) × (query ≡ [])
+GivesInQuery resource name query Refused = (resource ≡ the.Refused) × (query ≡ [])
+GivesInQuery resource name query (Log after) = (resource ≡ the.Log) × (query ≡ text_query member.After (option_copied after))
+GivesInQuery resource name query Script = (resource ≡ the.Script) × (query ≡ [])
+GivesInQuery resource name query _ = ⊥
 
--- what stands behind the `?` that names a stamp
-abbrev pub after_text : Option (List ℕ) → List ℕ
-after_text None = []
-after_text (Some stamp) = codes "after=" ++ stamp
+-- for this resource the members of the body are those of the call
+abbrev pub GivesInBody : Resource → Json → ApiCall → Type 0
+GivesInBody resource body (Query text at first count) =
+    (resource ≡ the.Query) × (member_text member.Text body ≡ Some text.now) × (member_text member.At body ≡ option_copied at)
+    × ((from : Option ℕ) × HasCount member.First body from × (first ≡ unwrap_or from 0))
+    × HasCount member.Count body count
+GivesInBody resource body (Statement text key) =
+    (resource ≡ the.Statement) × (member_text member.Text body ≡ Some text.now) × (member_text member.Key body ≡ option_copied key)
+GivesInBody resource body (Acknowledge stamp) = (resource ≡ the.Acknowledge) × (member_text member.Stamp body ≡ Some stamp.now)
+GivesInBody resource body (Meet address) = (resource ≡ the.Meet) × (member_text member.Address body ≡ Some address.now)
+GivesInBody resource body Stop = resource ≡ the.Stop
+GivesInBody resource body _ = ⊥
 
--- a GET of this path, with this behind its `?`, asks for the call
-abbrev pub Gets : List ℕ → List ℕ → ApiCall → Type 0
-Gets path behind site = (path ≡ codes "/api/site") × (behind ≡ [])
-Gets path behind (relvars counts) = (path ≡ codes "/api/relvars") × (behind ≡ counts_text counts)
-Gets path behind (table name) = (path ≡ codes "/api/relvars/" ++ (name ++ codes ".csv")) × (behind ≡ [])
-Gets path behind refused = (path ≡ codes "/api/refused") × (behind ≡ [])
-Gets path behind (log after) = (path ≡ codes "/api/log") × (behind ≡ after_text after)
-Gets path behind script = (path ≡ codes "/api/script") × (behind ≡ [])
-Gets path behind (query text at first count) = ⊥
-Gets path behind (statement text key) = ⊥
-Gets path behind (acknowledgement stamp) = ⊥
-Gets path behind (meeting address) = ⊥
-Gets path behind stop = ⊥
+-- a request by a method of the resource, to its path with this name in it
+pub record IsFor (resource : Resource) (name : List ℕ) (request : Request (List ℕ)) : Type 0 where
+  pub method : Allows (row_of resource).methods (head_of request).method
+  pub path : uri_path (head_of request).uri ≡ (row_of resource).path name
 
--- a POST of this body to this path asks for the call
-abbrev pub Posts : List ℕ → Json → ApiCall → Type 0
-Posts path body site = ⊥
-Posts path body (relvars counts) = ⊥
-Posts path body (table name) = ⊥
-Posts path body refused = ⊥
-Posts path body (log after) = ⊥
-Posts path body script = ⊥
-Posts path body (query text at first count) =
-    (path ≡ codes "/api/query") × (member_text (codes "text") body ≡ Some text) × (member_text (codes "at") body ≡ at)
-    × ((from : Option ℕ) × HasCount (codes "first") body from × (first ≡ unwrap_or from 0))
-    × HasCount (codes "count") body count
-Posts path body (statement text key) =
-    (path ≡ codes "/api/statement") × (member_text (codes "text") body ≡ Some text) × (member_text (codes "key") body ≡ key)
-Posts path body (acknowledgement stamp) = (path ≡ codes "/api/acknowledge") × (member_text (codes "stamp") body ≡ Some stamp)
-Posts path body (meeting address) = (path ≡ codes "/api/meet") × (member_text (codes "address") body ≡ Some address)
-Posts path body stop = path ≡ codes "/api/stop"
+-- what a request asks for by its query string
+pub record AsksByQuery (request : Request (List ℕ)) (call : ApiCall) : Type 0 where
+  pub resource : Resource
+  pub name : List ℕ
+  pub sent : IsFor resource name request
+  pub gives : GivesInQuery resource name (query_of request) call
 
--- what a request asks for by GET
-abbrev pub AsksByGet : Request (List ℕ) → ApiCall → Type 0
-AsksByGet request call = Gets (uri_path (head_of request).uri) (unwrap_or (uri_query (head_of request).uri) []) call
-
--- what a request asks for by POST: its body is one value of JSON, in which no object has a key twice
-pub record AsksByPost (request : Request (List ℕ)) (call : ApiCall) : Type 0 where
+-- what a request asks for by its body, which is one value of JSON, in which no object has a key twice
+pub record AsksByBody (request : Request (List ℕ)) (call : ApiCall) : Type 0 where
+  pub resource : Resource
+  pub name : List ℕ
+  pub sent : IsFor resource name request
   pub body : Json
   pub reads : document (body_of request) ≡ Some body
   pub unique : HasUniqueKeys body
-  pub posts : Posts (uri_path (head_of request).uri) body call
+  pub gives : GivesInBody resource body call
 
 -- what a request asks for
-pub data AsksFor (request : Request (List ℕ)) (call : ApiCall) : Type 0 where
-  by_get : (head_of request).method ≡ codes "GET" → AsksByGet request call → AsksFor request call
-  by_post : (head_of request).method ≡ codes "POST" → AsksByPost request call → AsksFor request call
+abbrev pub AsksFor : Request (List ℕ) → ApiCall → Type 0
+AsksFor request call = AsksByQuery request call ⊎ AsksByBody request call

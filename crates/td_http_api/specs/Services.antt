@@ -4,9 +4,9 @@ use Rattle.http.specs.declared.request.Request.{Request}
 use Rattle.http.specs.Request.{head_of}
 use Rattle.http_server.specs.declared.response.Response.{Response}
 use Rattle.http_uri.specs.Uri.{uri_path}
+use Rattle.td_http_api.specs.declared.calls.ApiCall.{ApiCall}
 use Rattle.td_http_api.specs.declared.guard.Guard.{Guard}
 use Rattle.td_http_api.specs.Answers.{Answer, Answering, IsAnswer}
-use Rattle.td_http_api.specs.Calls.{ApiCall}
 use Rattle.td_http_api.specs.Guards.{Admits}
 use Rattle.td_http_api.specs.Requests.{AsksFor}
 
@@ -25,7 +25,7 @@ pub record Makes {D : Type 0} (Fits : ApiCall → Type 0) (answers : Answering D
 abbrev pub Responds : {D : Type 0} → (ApiCall → Type 0) → Answering D → D → Response → D → Type 0
 Responds Fits answers old response new = (answer : Answer) × IsAnswer answer response × Makes Fits answers old (Some answer) new
 
--- memory ran out before a call that fits was made, or behind it
+-- memory ran out before a call that fits was made, or after it
 abbrev pub LacksMemory : {D : Type 0} → (ApiCall → Type 0) → Answering D → D → D → Type 0
 LacksMemory Fits answers old new = (new ≡ old) ⊎ ((answer : Option Answer) × Makes Fits answers old answer new)
 

@@ -1,24 +1,22 @@
 //! The service over a desk.
 
-ghost use Rattle.std.specs.Prelude.{◌≡◌, ◌⊎◌, ◌≤◌, [], IfOk, OnErr, OnOk, codes, unwrap_or};
+ghost use Rattle.std.specs.Prelude.{◌≡◌, ◌⊎◌, ◌≤◌, IfOk, OnErr, OnOk};
 ghost use Rattle.http.specs.Request.{head_of};
 ghost use Rattle.http_server.specs.Response.{IsBlank};
-ghost use Rattle.http_uri.specs.Uri.{uri_path, uri_query};
 ghost use Rattle.json.specs.Value.{value_view};
 ghost use Rattle.td_http_api.specs.Answers.{IsAnswer, IsBegun, object_text};
-ghost use Rattle.td_http_api.specs.Calls.{table};
-ghost use Rattle.td_http_api.specs.Inquiries.{call_of};
-ghost use Rattle.td_http_api.specs.Requests.{AsksFor, AsksByGet, AsksByPost, Posts};
-ghost use Rattle.td_http_api.specs.Routes.{IsPathOf};
+ghost use Rattle.td_http_api.specs.Guards.{Holds};
+ghost use Rattle.td_http_api.specs.Requests.{AsksFor, GivesInBody, IsFor, query_of};
+ghost use Rattle.td_http_api.specs.Resources.{row_of};
 ghost use Rattle.td_http_api.specs.Services.{ComesTo, LacksMemory, Leads, MayCall, ShowsPage};
 
-use crate::bodies::{check_members, read_only_text, read_query, read_statement};
-use crate::calls::Inquiry;
-use crate::desk::Desk;
+use crate::arguments::{call_of_body, call_of_query};
+use crate::calls::ApiCall;
+use crate::desk::{Desk, DeskAnswer};
 use crate::fault::Fault;
 use crate::guard::{Guard, check_type};
-use crate::responses::{put_fault, put_json, put_page, put_table, put_words};
-use crate::routes::{Route, read_inquiry, route_at};
+use crate::resources::{Description, Methods, Resource, Right, Target, target_at};
+use crate::responses::{put_fault, put_json, put_page, put_table};
 use bytes::Bytes;
 use http::{Request, StatusCode};
 use http_server::{Response, Service};
@@ -57,7 +55,7 @@ fn end_answer(
     put_json(response, status, out)
 }
 
-// The fault of a body that is no strict JSON; None where memory is wanting to read it.
+// The fault of a body that is no strict JSON; None where no memory was left to read it.
 fn parse_fault(error: Error) -> Option<Fault<'static>> {
     match error {
         Error::OutOfMemory => None,
@@ -66,9 +64,9 @@ fn parse_fault(error: Error) -> Option<Fault<'static>> {
     }
 }
 
-// What stands behind the `?` of a path, if there is one.
-fn behind_path(request: &Request<Bytes>) -> &str
-    ensures { result.now ≡ unwrap_or (uri_query (head_of request.now).uri) [] }
+// What follows the `?` of a path, if there is one.
+fn query_string(request: &Request<Bytes>) -> &str
+    ensures { result.now ≡ query_of request.now }
 {
     match request.uri().query() {
         Some(query) => query,
@@ -93,177 +91,56 @@ impl<D: Desk> Api<D> {
         put_fault(self.alloc, response, fault)
     }
 
-    // Answers an inquiry with what the desk tells.
-    fn tell(&self, inquiry: &Inquiry<'_>, response: &mut Response) -> Result<(), AllocError>
+    // Answers with what the desk answers to a call.
+    fn make_call(&mut self, call: &ApiCall<'_>, response: &mut Response) -> Result<(), AllocError>
         requires { IsBlank response.old }
-        ensures ok { OnOk result (ComesTo (λ call. call ≡ call_of inquiry.now) D.answers
-            self.now.desk response.new self.now.desk) }
+        ensures guard { self.new.guard ≡ self.old.guard }
+        ensures ok { OnOk result (ComesTo (λ made. made ≡ call.now) D.answers self.old.desk
+            response.new self.new.desk) }
+        ensures err { OnErr result (LacksMemory (λ made. made ≡ call.now) D.answers self.old.desk
+            self.new.desk) }
     {
         let mut out = begin_answer(self.alloc)?;
-        let status = self.desk.tell(inquiry, &mut out)?;
-        end_answer(response, status, out)
-    }
-
-    // Answers with a relvar's table as text; where the desk gives none, with its words as a fault.
-    fn export(&self, relvar: &str, response: &mut Response) -> Result<(), AllocError>
-        requires { IsBlank response.old }
-        ensures ok { OnOk result (ComesTo (λ call. call ≡ table relvar.now) D.answers self.now.desk
-            response.new self.now.desk) }
-    {
-        let mut table = String::new(self.alloc);
-        let status = self.desk.export(relvar, &mut table)?;
-        if status == StatusCode::OK {
-            put_table(response, table)
-        } else {
-            put_words(self.alloc, response, status, table.as_str())
+        match self.desk.make(call, &mut out)? {
+            DeskAnswer::Members(status) => end_answer(response, status, out),
+            DeskAnswer::Table(table) => put_table(response, table),
         }
     }
 
-    // Answers a GET request: the table of a relvar, or an inquiry, read from the path and from what stands behind its
-    // `?`.
-    fn get(
-        &self,
-        route: Route<'_>,
+    // Answers the call that a path and a query string make.
+    fn answer_query(
+        &mut self,
+        target: Target<'_>,
         request: &Request<Bytes>,
         response: &mut Response,
     ) -> Result<(), AllocError>
         requires blank { IsBlank response.old }
-        requires route { IsPathOf route (uri_path (head_of request.now).uri) }
-        ensures ok { OnOk result (ComesTo (AsksByGet request.now) D.answers self.now.desk
-            response.new self.now.desk) }
+        requires sent { IsFor target.resource target.name.now request.now }
+        ensures guard { self.new.guard ≡ self.old.guard }
+        ensures ok { OnOk result (ComesTo (AsksFor request.now) D.answers self.old.desk response.new
+            self.new.desk) }
+        ensures err { OnErr result (LacksMemory (AsksFor request.now) D.answers self.old.desk
+            self.new.desk) }
     {
-        let behind = behind_path(request);
-        match route {
-            Route::Table(relvar) if behind.is_empty() => self.export(relvar, response),
-            _ => match read_inquiry(route, request.uri().path(), behind) {
-                Ok(inquiry) => self.tell(&inquiry, response),
-                Err(fault) => self.refuse(response, &fault),
-            },
-        }
-    }
-
-    // Answers the query that a body asks; a body that holds none gives its fault.
-    fn query(&self, body: &Value<'_>, response: &mut Response) -> Result<(), AllocError>
-        requires { IsBlank response.old }
-        ensures ok { OnOk result (ComesTo (Posts (codes "/api/query") (value_view body.now))
-            D.answers self.now.desk response.new self.now.desk) }
-    {
-        match read_query(body) {
-            Ok(inquiry) => self.tell(&inquiry, response),
+        match call_of_query(target, query_string(request)) {
+            Ok(call) => self.make_call(&call, response),
             Err(fault) => self.refuse(response, &fault),
         }
     }
 
-    // Issues the statement of a body, under its key; a body that holds none gives its fault, and issues nothing.
-    fn issue(&mut self, body: &Value<'_>, response: &mut Response) -> Result<(), AllocError>
-        requires { IsBlank response.old }
-        ensures guard { self.new.guard ≡ self.old.guard }
-        ensures ok { OnOk result (ComesTo (Posts (codes "/api/statement") (value_view body.now))
-            D.answers self.old.desk response.new self.new.desk) }
-        ensures err { OnErr result (LacksMemory (Posts (codes "/api/statement") (value_view body.now))
-            D.answers self.old.desk self.new.desk) }
-    {
-        let (text, key) = match read_statement(body) {
-            Ok(statement) => statement,
-            Err(fault) => return self.refuse(response, &fault),
-        };
-        let mut out = begin_answer(self.alloc)?;
-        let status = self.desk.issue(text, key, &mut out)?;
-        end_answer(response, status, out)
-    }
-
-    // Acknowledges the refused statement whose stamp the body tells; a body without a stamp gives its fault.
-    fn acknowledge(&mut self, body: &Value<'_>, response: &mut Response) -> Result<(), AllocError>
-        requires { IsBlank response.old }
-        ensures guard { self.new.guard ≡ self.old.guard }
-        ensures ok { OnOk result (ComesTo (Posts (codes "/api/acknowledge") (value_view body.now))
-            D.answers self.old.desk response.new self.new.desk) }
-        ensures err { OnErr result (LacksMemory (Posts (codes "/api/acknowledge") (value_view body.now))
-            D.answers self.old.desk self.new.desk) }
-    {
-        let stamp = match read_only_text(body, "stamp") {
-            Ok(stamp) => stamp,
-            Err(fault) => return self.refuse(response, &fault),
-        };
-        let mut out = begin_answer(self.alloc)?;
-        let status = self.desk.acknowledge(stamp, &mut out)?;
-        end_answer(response, status, out)
-    }
-
-    // Has the site call soon the peer whose address the body tells; a body without an address gives its fault.
-    fn meet(&mut self, body: &Value<'_>, response: &mut Response) -> Result<(), AllocError>
-        requires { IsBlank response.old }
-        ensures guard { self.new.guard ≡ self.old.guard }
-        ensures ok { OnOk result (ComesTo (Posts (codes "/api/meet") (value_view body.now))
-            D.answers self.old.desk response.new self.new.desk) }
-        ensures err { OnErr result (LacksMemory (Posts (codes "/api/meet") (value_view body.now))
-            D.answers self.old.desk self.new.desk) }
-    {
-        let address = match read_only_text(body, "address") {
-            Ok(address) => address,
-            Err(fault) => return self.refuse(response, &fault),
-        };
-        let mut out = begin_answer(self.alloc)?;
-        let status = self.desk.meet(address, &mut out)?;
-        end_answer(response, status, out)
-    }
-
-    // Ends the program soon; a body with any member gives its fault.
-    fn stop(&mut self, body: &Value<'_>, response: &mut Response) -> Result<(), AllocError>
-        requires { IsBlank response.old }
-        ensures guard { self.new.guard ≡ self.old.guard }
-        ensures ok { OnOk result (ComesTo (Posts (codes "/api/stop") (value_view body.now))
-            D.answers self.old.desk response.new self.new.desk) }
-        ensures err { OnErr result (LacksMemory (Posts (codes "/api/stop") (value_view body.now))
-            D.answers self.old.desk self.new.desk) }
-    {
-        if let Err(fault) = check_members(body, &[]) {
-            return self.refuse(response, &fault);
-        }
-        let mut out = begin_answer(self.alloc)?;
-        let status = self.desk.stop(&mut out)?;
-        end_answer(response, status, out)
-    }
-
-    // Answers what a POST request asks with its parsed body; a route that takes no body gives a fault.
-    fn call(
+    // Answers the call that a body makes. The body has to be strict JSON, and the request has to say that it is JSON.
+    fn answer_body(
         &mut self,
-        route: Route<'_>,
-        path: &str,
-        body: &Value<'_>,
-        response: &mut Response,
-    ) -> Result<(), AllocError>
-        requires blank { IsBlank response.old }
-        requires route { IsPathOf route path.now }
-        ensures guard { self.new.guard ≡ self.old.guard }
-        ensures ok { OnOk result (ComesTo (Posts path.now (value_view body.now)) D.answers
-            self.old.desk response.new self.new.desk) }
-        ensures err { OnErr result (LacksMemory (Posts path.now (value_view body.now)) D.answers
-            self.old.desk self.new.desk) }
-    {
-        match route {
-            Route::Query => self.query(body, response),
-            Route::Statement => self.issue(body, response),
-            Route::Acknowledge => self.acknowledge(body, response),
-            Route::Meet => self.meet(body, response),
-            Route::Stop => self.stop(body, response),
-            _ => self.refuse(response, &Fault::Path),
-        }
-    }
-
-    // Answers a POST request: its body is to be strict JSON, and is to be said to be so.
-    fn post(
-        &mut self,
-        route: Route<'_>,
+        target: Target<'_>,
         request: &Request<Bytes>,
         response: &mut Response,
     ) -> Result<(), AllocError>
         requires blank { IsBlank response.old }
-        requires route { IsPathOf route (uri_path (head_of request.now).uri) }
+        requires sent { IsFor target.resource target.name.now request.now }
         ensures guard { self.new.guard ≡ self.old.guard }
-        ensures ok { OnOk result (ComesTo (AsksByPost request.now) D.answers self.old.desk
-            response.new self.new.desk) }
-        ensures err { OnErr result (LacksMemory (AsksByPost request.now) D.answers self.old.desk
+        ensures ok { OnOk result (ComesTo (AsksFor request.now) D.answers self.old.desk response.new
+            self.new.desk) }
+        ensures err { OnErr result (LacksMemory (AsksFor request.now) D.answers self.old.desk
             self.new.desk) }
     {
         if let Err(fault) = check_type(request) {
@@ -274,7 +151,7 @@ impl<D: Desk> Api<D> {
         };
         let mut scratch = Scratch::new(self.alloc);
         match Value::parse_strict(self.alloc, text, &mut scratch) {
-            Ok(body) => self.call(route, request.uri().path(), &body, response),
+            Ok(body) => self.answer_members(target.resource, &body, response),
             Err(error) => match parse_fault(error) {
                 Some(fault) => self.refuse(response, &fault),
                 None => Err(AllocError),
@@ -282,46 +159,47 @@ impl<D: Desk> Api<D> {
         }
     }
 
-    // Answers with the page of the workbench, which takes GET and HEAD alone.
-    fn page(&self, method: &str, response: &mut Response) -> Result<(), AllocError>
-        requires { IsBlank response.old }
-    {
-        if method == "GET" || method == "HEAD" {
-            put_page(response)
-        } else {
-            self.refuse(response, &Fault::Method("GET, HEAD"))
-        }
-    }
-
-    // Answers a request by the method that its route takes; any other method gives a fault that names this one.
-    fn call_by(
+    // Answers the call that the members of a body make.
+    fn answer_members(
         &mut self,
-        method: &str,
-        route: Route<'_>,
-        request: &Request<Bytes>,
+        resource: Resource,
+        body: &Value<'_>,
         response: &mut Response,
     ) -> Result<(), AllocError>
-        requires blank { IsBlank response.old }
-        requires method { (head_of request.now).method ≡ method.now }
-        requires route { IsPathOf route (uri_path (head_of request.now).uri) }
+        requires { IsBlank response.old }
         ensures guard { self.new.guard ≡ self.old.guard }
-        ensures ok { OnOk result (ComesTo (AsksFor request.now) D.answers self.old.desk response.new
-            self.new.desk) }
-        ensures err { OnErr result (LacksMemory (AsksFor request.now) D.answers self.old.desk
-            self.new.desk) }
+        ensures ok { OnOk result (ComesTo (GivesInBody resource (value_view body.now)) D.answers
+            self.old.desk response.new self.new.desk) }
+        ensures err { OnErr result (LacksMemory (GivesInBody resource (value_view body.now))
+            D.answers self.old.desk self.new.desk) }
     {
-        if method != route.method() {
-            return self.refuse(response, &Fault::Method(route.method()));
-        }
-        match method {
-            "GET" => self.get(route, request, response),
-            "POST" => self.post(route, request, response),
-            _ => self.refuse(response, &Fault::Path),
+        match call_of_body(resource, body) {
+            Ok(call) => self.make_call(&call, response),
+            Err(fault) => self.refuse(response, &fault),
         }
     }
 
-    // Answers a request, whose host is checked first. The page is shown to everyone, all else only to a caller that
-    // passes the guard.
+    // What a request is for, if it has the right to it and a method of it.
+    fn target<'a>(&self, request: &'a Request<Bytes>) -> Result<Target<'a>, Fault<'static>>
+        ensures { IfOk result (λ target. IsFor target.resource target.name.now request.now
+            × Holds self.now.guard request.now (row_of target.resource).right) }
+    {
+        self.guard.check_host(request)?;
+        let Some(target) = target_at(request.uri().path()) else {
+            // Only who bears the token learns that nothing is at a path.
+            self.guard.check_right(Right::Bearer, request)?;
+            return Err(Fault::Path);
+        };
+        let description = target.resource.description();
+        self.guard.check_right(description.right, request)?;
+        if description.methods.allow(request.method().as_str()) {
+            Ok(target)
+        } else {
+            Err(Fault::Method(description.methods))
+        }
+    }
+
+    // Answers a request.
     fn answer(
         &mut self,
         request: &Request<Bytes>,
@@ -335,20 +213,17 @@ impl<D: Desk> Api<D> {
         ensures err { OnErr result (LacksMemory (MayCall self.old.guard request.now) D.answers
             self.old.desk self.new.desk) }
     {
-        if let Err(fault) = self.guard.check_host(request) {
-            return self.refuse(response, &fault);
-        }
-        let path = request.uri().path();
-        let method = request.method().as_str();
-        if path == "/" {
-            return self.page(method, response);
-        }
-        if let Err(fault) = self.guard.check_caller(request) {
-            return self.refuse(response, &fault);
-        }
-        match route_at(path) {
-            Some(route) => self.call_by(method, route, request, response),
-            None => self.refuse(response, &Fault::Path),
+        let target = match self.target(request) {
+            Ok(target) => target,
+            Err(fault) => return self.refuse(response, &fault),
+        };
+        let Description { methods, right, .. } = target.resource.description();
+        match right {
+            Right::Everyone => put_page(response),
+            Right::Bearer if methods == Methods::Post => {
+                self.answer_body(target, request, response)
+            }
+            Right::Bearer => self.answer_query(target, request, response),
         }
     }
 }

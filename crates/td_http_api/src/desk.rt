@@ -1,60 +1,37 @@
-//! What stands behind the requests: a site.
+//! The site that answers calls.
 
-ghost use Rattle.std.specs.Prelude.{◌≡◌, [], Option, option_copied, string_bytes};
+ghost use Rattle.std.specs.Prelude.{◌≡◌, Option};
 ghost use Rattle.std.specs.Fmt.{signed_decimal};
 ghost use Rattle.json.specs.Token.{number, string};
 ghost use Rattle.json.specs.Written.{Writes};
-ghost use Rattle.td_http_api.specs.Answers.{Answer, ExportsTable, IsBegun, TellsAnswer};
-ghost use Rattle.td_http_api.specs.Calls.{ApiCall, acknowledgement, meeting, statement, stop, table};
-ghost use Rattle.td_http_api.specs.Inquiries.{call_of};
+ghost use Rattle.td_http_api.specs.Answers.{Answer, IsBegun, given_answer};
 ghost use Rattle.td_http_api.specs.Integers.{IsExact};
+ghost use Rattle.td_http_api.specs.declared.calls.ApiCall.{ApiCall};
 
-use crate::calls::Inquiry;
+use crate::calls::ApiCall;
 use http::StatusCode;
 use json::Writer;
 use std::alloc::AllocError;
 
-/// A site that answers calls. The error is want of memory for an answer: the call itself may have been made.
+/// What a desk answers to a call.
+#[derive(Debug, Drop)]
+pub enum DeskAnswer {
+    /// The members that it wrote, with this status.
+    Members(StatusCode),
+    /// A table in CSV, in place of them.
+    Table(String),
+}
+
+/// A site that answers calls.
 pub trait Desk {
     // From the first state a call is answered so, and leaves the second. There is no answer where memory ran out.
     ghost answers: { Self → ApiCall → Option Answer → Self → Type 0 };
 
-    /// Appends the members of the answer.
-    fn tell(&self, inquiry: &Inquiry<'_>, out: &mut Writer) -> Result<StatusCode, AllocError>
+    /// Makes a call. Where the answer is an object, its members are appended. The error is that no memory was left for
+    /// an answer: the call itself may have been made.
+    fn make(&mut self, call: &ApiCall<'_>, out: &mut Writer) -> Result<DeskAnswer, AllocError>
         requires { IsBegun out.old }
-        ensures { TellsAnswer answers self.now (call_of inquiry.now) result out.new self.now };
-
-    /// Appends a relvar as comma-separated values, or with a status other than 200 the words of the fault.
-    fn export(&self, relvar: &str, out: &mut String) -> Result<StatusCode, AllocError>
-        requires { string_bytes out.old ≡ [] }
-        ensures { ExportsTable answers self.now (table relvar.now) result (string_bytes out.new)
-            self.now };
-
-    /// Adds a statement. A key that an earlier statement had gives that statement's answer again.
-    fn issue(
-        &mut self,
-        text: &str,
-        key: Option<&str>,
-        out: &mut Writer,
-    ) -> Result<StatusCode, AllocError>
-        requires { IsBegun out.old }
-        ensures { TellsAnswer answers self.old (statement text.now (option_copied key.entry)) result
-            out.new self.new };
-
-    /// Takes back the mark of a statement that was done here and is refused.
-    fn acknowledge(&mut self, stamp: &str, out: &mut Writer) -> Result<StatusCode, AllocError>
-        requires { IsBegun out.old }
-        ensures { TellsAnswer answers self.old (acknowledgement stamp.now) result out.new self.new };
-
-    /// Has the site call a peer soon.
-    fn meet(&mut self, address: &str, out: &mut Writer) -> Result<StatusCode, AllocError>
-        requires { IsBegun out.old }
-        ensures { TellsAnswer answers self.old (meeting address.now) result out.new self.new };
-
-    /// Ends the program soon.
-    fn stop(&mut self, out: &mut Writer) -> Result<StatusCode, AllocError>
-        requires { IsBegun out.old }
-        ensures { TellsAnswer answers self.old stop result out.new self.new };
+        ensures { answers self.old call.now (given_answer result out.new) self.new };
 }
 
 /// The greatest integer up to which a program that reads numbers as doubles tells all apart.

@@ -2,6 +2,7 @@
 
 ghost use Rattle.std.specs.Prelude.{◌≤◌};
 
+use crate::resources::Methods;
 use http::StatusCode;
 use thiserror::Error;
 
@@ -19,7 +20,7 @@ pub(crate) enum Fault<'a> {
     #[error("nothing is at this path")]
     Path,
     #[error("this path takes {0}")]
-    Method(&'static str),
+    Method(Methods),
     #[error("the path takes no ?{0}")]
     Query(&'a str),
     #[error("the body is no JSON in UTF-8")]
@@ -36,6 +37,8 @@ pub(crate) enum Fault<'a> {
     NoText(&'static str),
     #[error("{0} has to be a whole number from 0 on")]
     NoCount(&'static str),
+    #[error("{0} has to be true or false")]
+    NoFlag(&'static str),
 }
 
 impl Fault<'_> {

@@ -2,16 +2,17 @@
 
 ghost use Rattle.std.specs.Prelude.{◌≡◌, ◌++◌, ◌↔◌, ℕ, List, [], codes, IfOk, OnOk, IsTrue, option_copied, string_bytes};
 ghost use Rattle.http_header.specs.HeaderMap.{get_all};
-ghost use Rattle.td_http_api.specs.Guards.{Admits, Bears, HasHost, HasOrigin, IsHost, only_value};
+ghost use Rattle.td_http_api.specs.Guards.{Bears, HasHost, HasOrigin, Holds, IsHost, only_value};
 
 use crate::fault::Fault;
+use crate::resources::Right;
 use bytes::Bytes;
 use http::Request;
 use http_header::{AUTHORIZATION, CONTENT_TYPE, HOST, HeaderMap, HeaderName, HeaderValue, ORIGIN};
 use std::alloc::{AllocError, Global};
 
 /// What a request has to show: a name of this host, so that no name of another site leads here; an origin that is this
-/// one, where a browser tells one; and the token.
+/// one, where a browser names one; and the token.
 #[derive(Drop)]
 pub struct Guard {
     pub(crate) hosts: Vec<String>,
@@ -37,7 +38,7 @@ fn is_absent(values: &HeaderMap<HeaderValue>, name: HeaderName) -> bool
     values.get_all(name).iter().next().is_none()
 }
 
-// Whether two texts are one. How long that takes tells nothing of where they differ.
+// Whether two texts are one. How long that takes says nothing of where they differ.
 fn is_same(a: &[u8], b: &[u8]) -> bool
     ensures { IsTrue result ↔ a.now ≡ b.now }
 {
@@ -74,7 +75,7 @@ impl Guard {
         false
     }
 
-    // Whether an origin is `http://` with one of the hosts of the server behind.
+    // Whether an origin is `http://` and then one of the hosts of the server.
     fn is_origin(&self, origin: &[u8]) -> bool
         ensures { IsTrue result
             → ((host : List ℕ) × (origin.now ≡ codes "http://" ++ host)
@@ -119,13 +120,22 @@ impl Guard {
         }
     }
 
-    // Whether a request to this host may call the site.
-    pub(crate) fn check_caller(&self, request: &Request<Bytes>) -> Result<(), Fault<'static>>
+    /// Refuses a request to this host that lacks a right.
+    pub(crate) fn check_right(
+        &self,
+        right: Right,
+        request: &Request<Bytes>,
+    ) -> Result<(), Fault<'static>>
         requires { HasHost self.now.hosts.items request.now }
-        ensures { OnOk result (Admits self.now request.now) }
+        ensures { OnOk result (Holds self.now request.now right) }
     {
-        self.check_origin(request)?;
-        self.check_token(request)
+        match right {
+            Right::Everyone => Ok(()),
+            Right::Bearer => {
+                self.check_origin(request)?;
+                self.check_token(request)
+            }
+        }
     }
 }
 

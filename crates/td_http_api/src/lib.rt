@@ -1,15 +1,29 @@
 //! What a site answers to programs and to a browser over HTTP: which requests are let in, which call each one makes,
 //! JSON, and a page.
 //!
-//! Begin with `Api`, an `http_server::Service`, with `Guard`, which requests are let in, and `Desk`, the site behind.
+//! Begin with `Api`, an `http_server::Service`, with `Guard`, which requests are let in, with `ApiCall`, the calls, and
+//! with `Desk`, the site that answers them.
 //!
-//! Its definitions stand in `specs/`: begin with Services, what comes of a request, and go on with Guards, Requests,
-//! Calls, Inquiries, Answers, Integers and Laws.
+//! Its definitions are in `specs/`: begin with Services, what comes of a request, and go on with Guards, Requests,
+//! Resources, Members, Answers, Integers and Laws.
 //!
 //! td_http_api moves no bytes and knows no site but a `Desk`.
 //!
-//! A desk writes the members of an object whose bracket stands there, gives the status, and leaves the end to the
-//! service. What changes a site takes `&mut self`; so no other call changes one. The members that the page reads:
+//! A new call takes, in this order:
+//!
+//! 1. `calls.rt`: a variant of `ApiCall` with its arguments.
+//! 2. `resources.rt` and `specs/Resources.antt`: a variant of `Resource`, its place in `RESOURCES`, and its row, which
+//!    has its path, its methods, who may ask for it, and the members that it takes. A member that no call had before
+//!    has a row of its own in `members.rt` and `specs/Members.antt`.
+//! 3. `arguments.rt`: an arm of `call_of_query` or `call_of_body`, which reads its arguments.
+//! 4. `specs/Requests.antt`: an arm of `GivesInQuery` or `GivesInBody`, which says where its arguments are.
+//! 5. Each desk: an arm that answers it.
+//!
+//! The refusals follow from the rows: 404 for another path, 401 without the right, 405 with Allow for another method,
+//! and 400 for a member that is unknown, missing or of another kind.
+//!
+//! A desk appends the members of an object that the service opened and will close, and returns the status. The members
+//! that the page reads:
 //!
 //! - `Site`: `site`, `held` and `limit`; `open`, false where the journal has failed; `vector`; `peers`, the addresses
 //!   that may be called; `meetings`, the latest first, each with `peer`, `called` (true where this site called), `met`,
@@ -23,30 +37,31 @@
 //! - `Script`: `script`.
 //! - `Query`: of a relation `heading`, `rows` (lists of values in its order) and `total`, how many tuples there are in
 //!   all; of another value `value`; or `raised`.
-//! - `issue`: `stamp` and either `done` or `refused`, the reason. A text that is not added is a fault with 422.
-//! - `acknowledge`: `acknowledged`. `meet`: `calling`, with 202; an address that may not be called is a fault with 403.
-//!   `stop`: `stopping`, with 202.
-//! - A fault, with a status from 400 on: `fault`, its words, in lines where a caret stands below a place.
+//! - `Statement`: `stamp` and either `done` or `refused`, the reason. A text that is not added is a fault with 422.
+//! - `Acknowledge`: `acknowledged`. `Meet`: `calling`, with 202; an address that may not be called is a fault with 403.
+//!   `Stop`: `stopping`, with 202.
+//! - A fault, with a status from 400 on: `fault`, its words, in lines where a caret is below a place.
+//!
+//! `Table` is answered by comma-separated values in place of an object, or by a fault.
 //!
 //! Integers go by `write_integer`, so that those beyond 2^53 are texts.
 #![tactic(auto)]
 
 mod api;
-mod bodies;
+mod arguments;
 mod calls;
 mod desk;
 mod fault;
 mod guard;
 pub mod laws;
+mod members;
 mod page;
+mod resources;
 mod responses;
-mod routes;
-#[cfg(test)]
-mod tests;
 
 pub use api::Api;
-pub use calls::Inquiry;
-pub use desk::{Desk, write_integer};
+pub use calls::ApiCall;
+pub use desk::{Desk, DeskAnswer, write_integer};
 pub use guard::Guard;
 pub use http::StatusCode;
 pub use json::Writer;

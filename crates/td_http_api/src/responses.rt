@@ -135,9 +135,7 @@ pub(crate) fn put_fault(
             WWW_AUTHENTICATE,
             HeaderValue::from_static("Bearer"),
         ),
-        Fault::Method("POST") => put(response, ALLOW, HeaderValue::from_static("POST")),
-        Fault::Method("GET") => put(response, ALLOW, HeaderValue::from_static("GET")),
-        Fault::Method(_) => put(response, ALLOW, HeaderValue::from_static("GET, HEAD")),
+        Fault::Method(methods) => put(response, ALLOW, methods.value()),
         _ => Ok(()),
     }
 }

@@ -17,11 +17,12 @@ use crate::journal::Journal;
 use std::alloc::Global;
 use std::marker::Model;
 use td_changes::{ChangedError, Changes};
+use td_headings::Catalogue;
 use td_io::{Failed, Sink};
 use td_relations::{Delta, Relation};
 use td_replica::{
-    AskError, IssueError, Issued, NotOpen, PastError, Replica, TakeError, Taken, TellError,
-    ValueError,
+    AskError, Catalogued, IssueError, Issued, NotOpen, PastError, Replica, TakeError, Taken,
+    TellError, ValueError,
 };
 use td_semantics::{Answer, Meter, Outcome};
 use td_stamps::{Entry, Held, Stamp};
@@ -298,6 +299,12 @@ impl<R: Replica, W: Sink> Replica for Keeper<R, W> {
 
     fn script(&self) -> &str {
         self.replica.script()
+    }
+}
+
+impl<R: Catalogued, W: Sink> Catalogued for Keeper<R, W> {
+    fn catalogue(&self) -> &Catalogue {
+        self.replica.catalogue()
     }
 }
 

@@ -8,13 +8,13 @@
 //! let log = log_text(alloc, &site)?;
 //! ```
 //!
-//! Costs: linear in what is shown, and the evaluation of the virtual relvars under it. `listing` and `export` also read
-//! and type the script, build the text whole in memory, and flush once.
+//! Costs: linear in what is shown, and the evaluation of the virtual relvars under it. `listing` and `export` build the
+//! text whole in memory, and flush once. `script_catalogue` reads and types the script.
 //!
 //! Definitions to trust, in `specs/`: Calls, Laws, Sites, Tables, Texts, Writings.
 //!
-//! td_listings sees a site as a `Replica`; names and headings come from the catalogue of its script, which whoever
-//! shows many texts makes once.
+//! td_listings sees a site as a `Replica`; names and headings come from the catalogue of its script, which a `Catalogued`
+//! site lends.
 #![tactic(auto)]
 
 pub mod error;

@@ -15,7 +15,7 @@ use crate::table::table_text;
 use std::alloc::{AllocError, Global};
 use td_headings::Catalogue;
 use td_io::{Sink, put};
-use td_replica::Replica;
+use td_replica::{Catalogued, Replica};
 use td_semantics::laws::script_opens_one;
 use td_semantics::{CatalogueError, catalogue_of};
 
@@ -40,22 +40,8 @@ pub fn script_catalogue<R: Replica>(alloc: Global, replica: &R) -> Result<Catalo
     }
 }
 
-// The listing by the catalogue of the site's script.
-fn listing_by_script<R: Replica>(alloc: Global, replica: &R) -> Result<String, ListError>
-    ensures { MatchResult result (λ text. Lists (R.seen replica.now) (Ok (string_bytes text))) (λ e. Lists (R.seen replica.now) (Err e)) }
-{
-    if !replica.is_open() {
-        return Err(ListError::Broken);
-    }
-    let catalogue = match script_catalogue(alloc, replica) {
-        Ok(catalogue) => catalogue,
-        Err(_) => return Err(ListError::OutOfMemory),
-    };
-    listing_text(alloc, &catalogue, replica)
-}
-
 /// Writes the listing of a site, and flushes. It is built whole before any of it is written.
-pub fn listing<R: Replica, K: Sink>(
+pub fn listing<R: Catalogued, K: Sink>(
     alloc: Global,
     replica: &R,
     sink: &mut K,
@@ -63,7 +49,7 @@ pub fn listing<R: Replica, K: Sink>(
     ensures writes { WritesListing (R.seen replica.now) (output_of K.Sink sink.old) (output_of K.Sink sink.new) result }
     ensures aside { Keeps (K.aside sink.old) (K.aside sink.new) }
 {
-    let text = match listing_by_script(alloc, replica) {
+    let text = match listing_text(alloc, replica.catalogue(), replica) {
         Ok(text) => text,
         Err(ListError::Broken) => return Err(ListingError::Broken),
         Err(ListError::OutOfMemory) => return Err(ListingError::OutOfMemory),
@@ -75,18 +61,14 @@ pub fn listing<R: Replica, K: Sink>(
 }
 
 // The table by the catalogue of the site's script.
-fn tabulate<R: Replica>(alloc: Global, replica: &R, name: &str) -> Result<Vec<u8>, TableError>
+fn tabulate<R: Catalogued>(alloc: Global, replica: &R, name: &str) -> Result<Vec<u8>, TableError>
     ensures { MatchResult result (λ text. IsOfScript (R.seen replica.now) name.now (Ok text.items)) (λ e. IsOfScript (R.seen replica.now) name.now (Err e)) }
 {
-    let catalogue = match script_catalogue(alloc, replica) {
-        Ok(catalogue) => catalogue,
-        Err(_) => return Err(TableError::OutOfMemory),
-    };
-    table_text(alloc, &catalogue, replica, name)
+    table_text(alloc, replica.catalogue(), replica, name)
 }
 
 /// Writes the table of the relvar of this name, and flushes. It is built whole before any of it is written.
-pub fn export<R: Replica, K: Sink>(
+pub fn export<R: Catalogued, K: Sink>(
     alloc: Global,
     replica: &R,
     name: &str,

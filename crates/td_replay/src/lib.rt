@@ -38,7 +38,7 @@ pub use plain::PlainSite;
 pub use site::Site;
 pub use td_io::Device;
 pub use td_replica::{
-    AskError, IssueError, Issued, NotOpen, OpenError, Opens, PastError, Replica, TakeError, Taken,
-    TellError, ValueError,
+    AskError, Catalogued, IssueError, Issued, NotOpen, OpenError, Opens, PastError, Replica,
+    TakeError, Taken, TellError, ValueError,
 };
 pub use td_semantics::{Answer, Meter, Outcome};

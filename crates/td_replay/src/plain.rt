@@ -14,10 +14,11 @@ use crate::told::Way;
 use std::alloc::Global;
 use std::marker::Model;
 use td_changes::{ChangedError, Changes};
+use td_headings::Catalogue;
 use td_relations::{Delta, Relation};
 use td_replica::{
-    AskError, IssueError, Issued, NotOpen, OpenError, Opens, PastError, Replica, TakeError, Taken,
-    TellError, ValueError,
+    AskError, Catalogued, IssueError, Issued, NotOpen, OpenError, Opens, PastError, Replica,
+    TakeError, Taken, TellError, ValueError,
 };
 use td_semantics::{Answer, Meter, Outcome};
 use td_stamps::{Entry, Held, Stamp};
@@ -107,6 +108,12 @@ impl Replica for PlainSite {
 
     fn script(&self) -> &str {
         self.state.script()
+    }
+}
+
+impl Catalogued for PlainSite {
+    fn catalogue(&self) -> &Catalogue {
+        self.state.catalogue()
     }
 }
 

@@ -16,10 +16,11 @@ use crate::told::Way;
 use std::alloc::Global;
 use std::marker::Model;
 use td_changes::{ChangedError, Changes};
+use td_headings::Catalogue;
 use td_relations::{Delta, Relation};
 use td_replica::{
-    AskError, IssueError, Issued, NotOpen, OpenError, Opens, PastError, Replica, TakeError, Taken,
-    TellError, ValueError,
+    AskError, Catalogued, IssueError, Issued, NotOpen, OpenError, Opens, PastError, Replica,
+    TakeError, Taken, TellError, ValueError,
 };
 use td_semantics::{Answer, Meter, Outcome};
 use td_stamps::{Entry, Held, Stamp};
@@ -115,6 +116,12 @@ impl Replica for Site {
 
     fn script(&self) -> &str {
         self.state.script()
+    }
+}
+
+impl Catalogued for Site {
+    fn catalogue(&self) -> &Catalogue {
+        self.state.catalogue()
     }
 }
 

@@ -12,6 +12,7 @@ ghost use Rattle.td_replica.specs.Seen.{IsSound, always_open, holding};
 ghost use Rattle.td_replica.specs.declared.refusal.IssueError.TheVariants as issue_error;
 ghost use Rattle.td_replica.specs.declared.refusal.TakeError.{TakeError};
 ghost use Rattle.td_replica.specs.declared.refusal.TakeError.TheVariants as take_error;
+ghost use Rattle.td_semantics.specs.Scripts.{IsScriptOf};
 ghost use Rattle.td_replay.specs.Counted.{RunsIn};
 ghost use Rattle.td_replay.specs.declared.told.Way.TheVariants as by;
 ghost use Rattle.td_replay.specs.ForProofs.Past.{EndsWith, as_past, entry_at};
@@ -25,6 +26,7 @@ use std::alloc::Global;
 use std::marker::Model;
 use td_changes::ChangedError;
 use td_grammar::LATEST;
+use td_headings::Catalogue;
 use td_relations::{Delta, Relation};
 use td_relvars::Database;
 use td_replica::{
@@ -341,6 +343,13 @@ impl State {
             Ok(outcomes) => Ok(outcomes),
             Err(_) => Err(TellError::OutOfMemory),
         }
+    }
+
+    /// The catalogue of the script.
+    pub fn catalogue(&self) -> &Catalogue
+        ensures { IsScriptOf self.now.script result.now }
+    {
+        self.told.engine.database().catalogue()
     }
 
     pub fn held(&self) -> &Held

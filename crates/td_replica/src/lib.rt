@@ -2,7 +2,7 @@
 //! of the entries that it holds, and the laws of these.
 //!
 //! Begin with `Replica`, the trait of all kinds of sites, and `specs/Calls.antt`, what its calls answer and leave.
-//! `Opens` opens a site from a script.
+//! `Opens` opens a site from a script, and `Catalogued` lends the catalogue of that script.
 //!
 //! ```
 //! let mut site = R::open_script(alloc, script, 1, 10_000)?;
@@ -30,4 +30,4 @@ pub use calls::{Issued, Taken};
 pub use refusal::{
     AskError, IssueError, NotOpen, OpenError, PastError, TakeError, TellError, ValueError,
 };
-pub use replica::{MOST_BYTES, MOST_ENTRIES, Opens, Replica, SCRIPT_BYTES};
+pub use replica::{Catalogued, MOST_BYTES, MOST_ENTRIES, Opens, Replica, SCRIPT_BYTES};

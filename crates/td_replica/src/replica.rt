@@ -5,6 +5,7 @@ ghost use Rattle.td_replica.specs.Calls.{Asks, Issues, Takes, TellsOutcomes, Tel
 ghost use Rattle.td_replica.specs.NewSites.{OpensSite};
 ghost use Rattle.td_replica.specs.Past.{AsksAt};
 ghost use Rattle.td_replica.specs.Seen.{IsSound, Seen, holding};
+ghost use Rattle.td_semantics.specs.Scripts.{IsScriptOf};
 ghost use Rattle.td_replica.specs.declared.refusal.IssueError.TheVariants as issue_error;
 ghost use Rattle.td_replica.specs.declared.refusal.TakeError.TheVariants as take_error;
 
@@ -13,6 +14,7 @@ use crate::refusal::{
     AskError, IssueError, NotOpen, OpenError, PastError, TakeError, TellError, ValueError,
 };
 use std::alloc::Global;
+use td_headings::Catalogue;
 use td_relations::Relation;
 use td_semantics::{Answer, Meter, Outcome};
 use td_stamps::{Entry, Held, Stamp};
@@ -93,6 +95,13 @@ pub trait Replica {
     /// The script that it started from.
     fn script(&self) -> &str
         ensures { result.now ≡ (seen self.now).script };
+}
+
+/// A site that lends the catalogue of its script.
+pub trait Catalogued: Replica {
+    /// The catalogue of the script, which the site made when it was opened. A site whose journal failed lends it too.
+    fn catalogue(&self) -> &Catalogue
+        ensures { IsScriptOf (Self.seen self.now).script result.now };
 }
 
 /// A kind of site that a script opens, and that is always open.

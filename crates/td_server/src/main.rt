@@ -2,6 +2,7 @@
 //! and calls them by itself.
 #![tactic(auto)]
 
+mod serving;
 mod start;
 mod token;
 mod words;
@@ -25,8 +26,8 @@ fn main(rt: HostRuntime) -> ExitCode {
         return ExitCode::FAILURE;
     };
     match read_words(rt.alloc(), &words) {
-        Given::Words(words) => ExitCode::from(start_server(&rt, &words)),
-        Given::Told(text) => {
+        Given::Options(options) => ExitCode::from(start_server(&rt, &options) as u8),
+        Given::Help(text) => {
             let _ = print!(rt; "{}", text.as_str());
             ExitCode::SUCCESS
         }

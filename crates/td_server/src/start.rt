@@ -1,292 +1,245 @@
-//! A site that comes back from its journal, and is served.
+//! A site that is opened, comes back from its journal, and is served.
 
+ghost use Rattle.td_journal.specs.Reopening.{IsNew};
+
+use crate::serving::{report_memory, serve};
 use crate::token::open_token;
 use crate::words::ServerOptions;
-use std::alloc::{AllocError, Global};
-use std::net::SocketAddr;
-use std::os::fd::AsRawFd;
+use std::alloc::AllocError;
 use td_changes::Changes;
-use td_event_loop::{EventLoop, LoopOptions};
-use td_http_api::{Api, Guard};
 use td_io::Device;
 use td_journal::{StoreError, keep_journal};
 use td_journal_files::{FileJournals, Notes};
-use td_listings::script_catalogue;
-use td_paths::{Unreadable, read_plain};
+use td_paths::Unreadable;
 use td_replay::Site;
-use td_replica::Replica;
+use td_replica::{Catalogued, Opens, Replica};
 use td_semantics::Meter;
-use td_shell_notices::{journal_text, lack_words};
-use td_shell_session::command::{journal_name, open_new, tell_unkept};
-use td_shell_session::open::{no_script_words, script_in};
-use td_site_desk::{Peers, Reversals, SiteDesk, SiteServer};
+use td_site_desk::{DeskParts, Peers, Reversals, SiteDesk};
+use td_site_messages::push_journal;
+use td_site_opening::{
+    ExitStatus, ScriptFile, SiteJournal, StartFault, check_journal, complain, is_lacking,
+    journal_name, open_new, read_script, report, report_unkept,
+};
 
-// The exit statuses: of a fault, of words or a script that cannot be read, and of a journal that cannot be used.
-const FAULT: u8 = 1;
-
-const BAD_WORDS: u8 = 2;
-
-const BAD_JOURNAL: u8 = 3;
-
-// Writes a text to the output of faults; nothing hangs on whether that is seen.
-fn complain(rt: &HostRuntime, text: &str) {
-    let _ = eprint!(rt; "{text}");
-}
-
-// Tells that memory ran out, and returns the exit status for that.
-fn wanting_memory(rt: &HostRuntime) -> u8 {
-    complain(rt, "fault memory: there is not enough memory to go on\n");
-    FAULT
-}
-
-// The hosts by which this program is asked.
-fn hosts_of(alloc: Global, address: SocketAddr) -> Result<Vec<String>, AllocError> {
-    let port = address.port();
-    let mut hosts = Vec::new(alloc);
-    hosts.push(format!(in alloc; "{address}")?)?;
-    hosts.push(format!(in alloc; "localhost:{port}")?)?;
-    hosts.push(format!(in alloc; "127.0.0.1:{port}")?)?;
-    hosts.push(format!(in alloc; "[::1]:{port}")?)?;
-    Ok(hosts)
-}
-
-// Tells where it listens.
-fn tell_addresses(rt: &HostRuntime, event_loop: &EventLoop, client: SocketAddr, token: &str) {
-    let _ = println!(rt; "http://{client}/#{token}");
-    if let Ok(Some(peer)) = event_loop.peer_address() {
-        let _ = println!(rt; "other sites: {peer}");
-    }
-}
-
-// Has standard input read beside the sockets, if the system can tell when it has something.
-fn watch_console(rt: &HostRuntime, event_loop: &mut EventLoop) {
-    if let Err(error) = event_loop.watch_console(rt.stdin().as_raw_fd()) {
-        let _ = eprintln!(rt;
-            "fault console: standard input is not read: {error}; give it a pipe or a terminal"
-        );
-    }
-}
-
-// Listens as the words say, or tells why not.
-fn listen(rt: &HostRuntime, words: &ServerOptions<'_>) -> Option<EventLoop> {
-    let options = LoopOptions {
-        clients: words.clients,
-        peers: words.peers,
-        allowed: &words.allowed,
-        calls: &words.calls,
-        every: words.every.saturating_mul(1000),
-    };
-    match EventLoop::bind(rt, &options) {
-        Ok(event_loop) => Some(event_loop),
-        Err(error) => {
-            let _ = eprintln!(rt; "fault net: an address cannot be listened at: {error}");
-            None
-        }
-    }
-}
-
-// Serves the site until the program is to end.
-fn serve<R: Changes + Drop>(
-    rt: &HostRuntime,
-    words: &ServerOptions<'_>,
-    token: &str,
-    desk: SiteDesk<'_, R, HostRuntime>,
-) -> u8 {
-    let alloc = rt.alloc();
-    let Some(mut event_loop) = listen(rt, words) else {
-        return FAULT;
-    };
-    let client = event_loop.client_address().unwrap_or(words.clients);
-    let Ok(hosts) = hosts_of(alloc, client) else {
-        return wanting_memory(rt);
-    };
-    let Ok(guard) = Guard::new(alloc, hosts, token) else {
-        return wanting_memory(rt);
-    };
-    tell_addresses(rt, &event_loop, client, token);
-    if words.has_console {
-        watch_console(rt, &mut event_loop);
-    }
-    let mut server = SiteServer::new(Api::new(alloc, desk, guard));
-    match event_loop.run(rt, &mut server) {
-        Ok(()) => 0,
-        Err(error) => {
-            let _ = eprintln!(rt; "fault net: {error}");
-            FAULT
-        }
-    }
-}
-
-// Tells what was found of the journal; the answer is whether the site issues nothing until it has met another one.
-fn report_journal<R: Replica>(
-    rt: &HostRuntime,
-    words: &ServerOptions<'_>,
-    notes: &Notes,
-    name: &str,
-    site: &R,
-) -> Result<bool, AllocError> {
-    let text = journal_text(rt.alloc(), Some(name), notes.found(), site)?;
-    complain(rt, text.as_str());
-    let is_short = match notes.found() {
-        Some(found) => found.is_short(),
-        None => false,
-    };
-    if is_short && words.site.forgets {
-        notes.let_go();
-        return Ok(false);
-    }
-    if is_short {
-        complain(rt, lack_words());
-    }
-    Ok(is_short)
-}
-
-// The desk of a site that came back.
-fn desk_of<'a, R: Changes + Drop>(
+/// What the server of a site goes by.
+#[derive(Clone, Copy)]
+struct Host<'a> {
     rt: &'a HostRuntime,
-    words: &ServerOptions<'_>,
+    options: &'a ServerOptions<'a>,
     notes: &'a Notes,
-    name: &str,
-    site: R,
-    meter: Meter,
-    reversals: Reversals,
-) -> Result<SiteDesk<'a, R, HostRuntime>, AllocError> {
-    let alloc = rt.alloc();
-    let is_lacking = report_journal(rt, words, notes, name, &site)?;
-    let catalogue = script_catalogue(alloc, &site)?;
-    let peers = Peers {
-        addresses: words.calls.clone()?,
-    };
-    SiteDesk::new(
-        alloc, rt, notes, site, catalogue, meter, peers, reversals, is_lacking,
-    )
+    /// The name of the journal.
+    journal: &'a str,
 }
 
-// The token, or the status where it is told why there is none.
-fn token_of(rt: &HostRuntime, words: &ServerOptions<'_>, journal: &str) -> Result<String, u8> {
-    let alloc = rt.alloc();
-    let Ok(beside) = format!(in alloc; "{journal}.token") else {
-        return Err(wanting_memory(rt));
-    };
-    let name = words.token_file.unwrap_or(beside.as_str());
-    match open_token(alloc, rt, name) {
-        Ok(token) => Ok(token),
-        Err(error) => {
-            let why = error.words();
-            let _ = eprintln!(rt; "fault token {name}: {why}");
-            Err(BAD_WORDS)
+// Reports why there is no site, and returns the exit status.
+fn report_fault(rt: &HostRuntime, fault: StartFault<'_>) -> ExitStatus {
+    report(rt.alloc(), rt, fault, &mut Device::new(rt.stderr()))
+}
+
+impl<'a> Host<'a> {
+    // Reports what was found of the journal; returns whether the site issues nothing until it has met another one.
+    fn report_journal<R: Replica>(self, site: &R) -> Result<bool, AllocError> {
+        let mut found = String::new(self.rt.alloc());
+        push_journal(&mut found, Some(self.journal), self.notes.found(), site)?;
+        let mut faults = Device::new(self.rt.stderr());
+        complain(&mut faults, found.as_str());
+        Ok(is_lacking(&self.options.site, self.notes, &mut faults))
+    }
+
+    // The token, or the exit status after a report why there is none.
+    fn open_token(self) -> Result<String, ExitStatus> {
+        let alloc = self.rt.alloc();
+        let journal = self.journal;
+        let Ok(beside) = format!(in alloc; "{journal}.token") else {
+            return Err(report_memory(self.rt));
+        };
+        let name = self.options.token_file.unwrap_or(beside.as_str());
+        match open_token(alloc, self.rt, name) {
+            Ok(token) => Ok(token),
+            Err(error) => {
+                let why = error.words();
+                let _ = eprintln!(self.rt; "fault token {name}: {why}");
+                Err(ExitStatus::BadWords)
+            }
         }
     }
-}
 
-// The statements that were done and are refused now, or the status where it is told why their list cannot be read.
-fn reversals_of(rt: &HostRuntime, journal: &str) -> Result<Reversals, u8> {
-    let alloc = rt.alloc();
-    let (Ok(name), Ok(told)) = (
-        format!(in alloc; "{journal}.reversed"),
-        format!(in alloc; "{journal}.reversed"),
-    ) else {
-        return Err(wanting_memory(rt));
-    };
-    match Reversals::open(alloc, rt, Some(name)) {
-        Ok(reversals) => Ok(reversals),
-        Err(Unreadable::OutOfMemory) => Err(wanting_memory(rt)),
-        Err(error) => {
-            let (file, why) = (told.as_str(), error.words());
-            let _ = eprintln!(rt; "fault file {file}: {why}; move it away to begin a new list");
-            Err(BAD_JOURNAL)
+    // The statements that were done and are refused now, or the exit status after a report why their list is not read.
+    fn open_reversals(self) -> Result<Reversals, ExitStatus> {
+        let alloc = self.rt.alloc();
+        let journal = self.journal;
+        let Ok(name) = format!(in alloc; "{journal}.reversed") else {
+            return Err(report_memory(self.rt));
+        };
+        match Reversals::open(alloc, self.rt, Some(name)) {
+            Ok(reversals) => Ok(reversals),
+            Err(Unreadable::OutOfMemory) => Err(report_memory(self.rt)),
+            Err(error) => {
+                let why = error.words();
+                let _ = eprintln!(self.rt;
+                    "fault file {journal}.reversed: {why}; move it away to begin a new list"
+                );
+                Err(ExitStatus::BadJournal)
+            }
         }
     }
-}
 
-// Serves a site that came back from its journal.
-fn serve_kept<R: Changes + Drop>(
-    rt: &HostRuntime,
-    words: &ServerOptions<'_>,
-    notes: &Notes,
-    name: &str,
-    site: R,
-    meter: Meter,
-) -> u8 {
-    let token = match token_of(rt, words, name) {
-        Ok(token) => token,
-        Err(status) => return status,
-    };
-    let reversals = match reversals_of(rt, name) {
-        Ok(reversals) => reversals,
-        Err(status) => return status,
-    };
-    match desk_of(rt, words, notes, name, site, meter, reversals) {
-        Ok(desk) => serve(rt, words, token.as_str(), desk),
-        Err(_) => wanting_memory(rt),
+    // The desk of a site that came back.
+    fn desk_of<R: Changes + Catalogued + Drop>(
+        self,
+        site: R,
+        meter: Meter,
+        reversals: Reversals,
+    ) -> Result<SiteDesk<'a, R, HostRuntime>, AllocError> {
+        let alloc = self.rt.alloc();
+        let is_lacking = self.report_journal(&site)?;
+        let peers = Peers {
+            addresses: self.options.calls.clone()?,
+        };
+        let parts = DeskParts {
+            host: self.rt,
+            notes: self.notes,
+            site,
+            meter,
+            peers,
+            reversals,
+            is_lacking,
+        };
+        SiteDesk::new(alloc, parts)
     }
-}
 
-// Has the site of this script come back from its journal, and serves it.
-fn start_site(rt: &HostRuntime, words: &ServerOptions<'_>, script: &str) -> u8 {
-    let alloc = rt.alloc();
-    let mut faults = Device::new(rt.stderr());
-    let site = match open_new::<Site, _>(alloc, &words.site, script, &mut faults) {
-        Ok(site) => site,
-        Err(status) => return status,
-    };
-    let name = match journal_name(alloc, &words.site, rt, &mut faults) {
-        Ok(Some(name)) => name,
-        Ok(None) => return BAD_JOURNAL,
-        Err(status) => return status,
-    };
-    let notes = Notes::new();
-    let mut meter = Meter::new(rt);
-    match keep_journal(
-        alloc,
-        &FileJournals::new(rt, &notes),
-        name.as_str(),
-        site,
-        &mut meter,
-    ) {
-        Ok(site) => serve_kept(rt, words, &notes, name.as_str(), site, meter),
-        Err(StoreError::OutOfMemory) => wanting_memory(rt),
-        Err(StoreError::JournalFile) => tell_unkept::<Site, _, _>(
-            alloc,
-            &words.site,
-            name.as_str(),
+    // Serves a site that came back from its journal, to clients that show the token.
+    fn serve_by_token<R: Changes + Catalogued + Drop>(
+        self,
+        token: &str,
+        site: R,
+        meter: Meter,
+    ) -> ExitStatus {
+        let reversals = match self.open_reversals() {
+            Ok(reversals) => reversals,
+            Err(status) => return status,
+        };
+        match self.desk_of(site, meter, reversals) {
+            Ok(desk) => serve(self.rt, self.options, token, desk),
+            Err(_) => report_memory(self.rt),
+        }
+    }
+
+    // Serves a site that came back from its journal.
+    fn serve_kept<R: Changes + Catalogued + Drop>(self, site: R, meter: Meter) -> ExitStatus {
+        match self.open_token() {
+            Ok(token) => self.serve_by_token(token.as_str(), site, meter),
+            Err(status) => status,
+        }
+    }
+
+    // Reports why the site does not come back from its journal.
+    fn report_unkept<R: Opens + Drop>(self, script: &str, meter: &mut Meter) -> ExitStatus {
+        let journal = SiteJournal {
+            options: self.options.site,
             script,
-            rt,
-            &notes,
-            &mut meter,
+            name: self.journal,
+        };
+        let mut faults = Device::new(self.rt.stderr());
+        report_unkept::<R, _, _>(
+            self.rt.alloc(),
+            self.rt,
+            &journal,
+            self.notes,
+            meter,
             &mut faults,
-        ),
+        )
+    }
+
+    // Has a new site of this script come back from its journal, and serves it.
+    fn keep<R: Opens + Changes + Catalogued + Drop>(self, script: &str, site: R) -> ExitStatus
+        requires { IsNew (R.seen site) }
+    {
+        let mut meter = Meter::new(self.rt);
+        let journals = FileJournals::new(self.rt, self.notes);
+        match keep_journal(self.rt.alloc(), &journals, self.journal, site, &mut meter) {
+            Ok(site) => self.serve_kept(site, meter),
+            Err(StoreError::OutOfMemory) => report_memory(self.rt),
+            Err(StoreError::JournalFile) => self.report_unkept::<R>(script, &mut meter),
+        }
     }
 }
 
-// Says that the script's file has more than definitions, if it has: the server runs nothing of that.
-fn tell_left_out(rt: &HostRuntime, name: &str, behind: &[u8]) {
-    if behind.iter().any(|byte| !byte.is_ascii_whitespace()) {
+// Has a new site of this script come back from the journal of this name, and serves it.
+fn start_named<R: Opens + Changes + Catalogued + Drop>(
+    rt: &HostRuntime,
+    options: &ServerOptions<'_>,
+    name: &str,
+    script: &str,
+    site: R,
+) -> ExitStatus
+    requires { IsNew (R.seen site) }
+{
+    if let Err(error) = check_journal(rt, &options.site, name) {
+        return report_fault(rt, StartFault::Journal { name, error });
+    }
+    let notes = Notes::new();
+    let host = Host {
+        rt,
+        options,
+        notes: &notes,
+        journal: name,
+    };
+    host.keep(script, site)
+}
+
+// Has a new site of this script come back from its journal, and serves it.
+fn start_at<R: Opens + Changes + Catalogued + Drop>(
+    rt: &HostRuntime,
+    options: &ServerOptions<'_>,
+    script: &str,
+    site: R,
+) -> ExitStatus
+    requires { IsNew (R.seen site) }
+{
+    match journal_name(rt.alloc(), &options.site) {
+        Ok(Some(name)) => start_named(rt, options, name.as_str(), script, site),
+        Ok(None) => ExitStatus::BadJournal,
+        Err(_) => report_memory(rt),
+    }
+}
+
+// Opens the site of this script, and serves it.
+fn start_site<R: Opens + Changes + Catalogued + Drop>(
+    rt: &HostRuntime,
+    options: &ServerOptions<'_>,
+    script: &str,
+) -> ExitStatus {
+    match open_new::<R>(rt.alloc(), &options.site, script) {
+        Ok(site) => start_at(rt, options, script, site),
+        Err(error) => {
+            let fault = StartFault::Unopened {
+                file: options.site.script,
+                script,
+                error: &error,
+            };
+            report_fault(rt, fault)
+        }
+    }
+}
+
+// Reports that the script's file has more than definitions, if it has: the server runs nothing of that.
+fn report_left_out(rt: &HostRuntime, file: &str, after: &[u8]) {
+    if after.iter().any(|byte| !byte.is_ascii_whitespace()) {
         let _ = eprintln!(rt;
-            "note: what stands behind .begin in {name} is not run; td_shell runs it once, with the same journal"
+            "note: what stands behind .begin in {file} is not run; td_shell runs it once, with the same journal"
         );
     }
 }
 
 /// Serves a site as the words say, and returns the exit status.
-pub(crate) fn start_server(rt: &HostRuntime, words: &ServerOptions<'_>) -> u8 {
-    let name = words.site.script;
-    let file = match read_plain(rt, name) {
-        Ok(file) => file,
-        Err(error) => {
-            let why = error.words();
-            let _ = eprintln!(rt; "error: the script cannot be read: {name}: {why}");
-            return BAD_WORDS;
+pub(crate) fn start_server(rt: &HostRuntime, options: &ServerOptions<'_>) -> ExitStatus {
+    let file = options.site.script;
+    match read_script(rt.alloc(), rt, file) {
+        Ok(ScriptFile { text, after }) => {
+            report_left_out(rt, file, &after);
+            start_site::<Site>(rt, options, text.as_str())
         }
-    };
-    match script_in(rt.alloc(), &file) {
-        Ok(script) => {
-            tell_left_out(rt, name, script.behind.as_slice());
-            start_site(rt, words, script.text.as_str())
-        }
-        Err(error) => {
-            complain(rt, no_script_words(error));
-            FAULT
-        }
+        Err(error) => report_fault(rt, StartFault::NoScript { file, error }),
     }
 }

@@ -40,7 +40,7 @@ impl From<AllocError> for NoToken {
 }
 
 impl NoToken {
-    /// What is told of a file that gives no token.
+    /// Why a file gives no token.
     pub fn words(self) -> &'static str {
         match self {
             NoToken::OutOfMemory => "there is not enough memory",
@@ -115,7 +115,7 @@ fn write_synced<H: Files<File = File>>(host: &H, name: &str, text: &str) -> io::
 }
 
 /// The token in the file of this name, which is made with a new one where it is not there. A new one is on the disk
-/// before it is told.
+/// before it is returned.
 pub(crate) fn open_token<H: Files<File = File> + RandomSource + AllocGlobal>(
     alloc: Global,
     host: &H,

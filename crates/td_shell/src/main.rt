@@ -3,13 +3,14 @@
 #![tactic(auto)]
 
 use std::env;
-use std::io::{BufReader, BufWriter, ErrorKind, IsTerminal};
+use std::io::{BufReader, BufWriter, ErrorKind, IsTerminal, Stderr, Stdout};
+use std::marker::PhantomData;
 use std::process::ExitCode;
-use td_io::Device;
+use td_io::{Buffered, Device};
 use td_journal_files::{FileJournals, Notes};
 use td_replay::Site;
 use td_semantics::Meter;
-use td_shell_session::{Shown, Terminal, program};
+use td_shell_session::{Platform, Run, Shown, Terminal, program};
 use td_sockets::TcpLinks;
 
 /// The name by which the program checks a script.
@@ -28,17 +29,39 @@ fn is_checker(program: &str) -> bool {
     }
 }
 
-/// So many bytes of answers are kept back until a flush, where the output is no terminal.
+/// How many bytes of answers are kept back until a flush, if the output is no terminal.
 const OUTPUT_BYTES: usize = 8_192;
 
-/// The check of a script: the command that was typed, and the words behind it.
+/// A process: its files, its sockets and its standard streams.
+#[derive(Clone, Copy, Drop)]
+struct Process<'a> {
+    runtime: PhantomData<&'a HostRuntime>,
+}
+
+impl<'a> Platform for Process<'a> {
+    type Site = Site;
+
+    type System = HostRuntime;
+
+    type Store = FileJournals<'a, HostRuntime>;
+
+    type Network = TcpLinks<&'a HostRuntime>;
+
+    type Input = Device<BufReader<<HostRuntime as Input>::Reader>, Buffered>;
+
+    type Output = Device<Shown<BufWriter<Stdout>>>;
+
+    type Faults = Device<Shown<Stderr>>;
+}
+
+/// The check of a script: the command that was typed, and the words after it.
 #[derive(Clone, Copy, Drop)]
 struct Check<'a> {
     command: &'static str,
     words: &'a [String],
 }
 
-// The check of a script, where the words ask for that.
+// The check of a script, if the words ask for that.
 fn check_in(words: &[String]) -> Option<Check<'_>> {
     match words {
         [program, rest @ ..] if is_checker(program.as_str()) => Some(Check {
@@ -59,6 +82,35 @@ fn refuse_words(rt: &HostRuntime) -> ExitCode {
     ExitCode::from(2)
 }
 
+// Answers what is typed, as the words say.
+fn converse(
+    rt: &HostRuntime,
+    words: &[String],
+    terminal: Terminal,
+    output: &mut Device<Shown<BufWriter<Stdout>>>,
+    faults: &mut Device<Shown<Stderr>>,
+) -> ExitCode {
+    let alloc = rt.alloc();
+    let Ok(reader) = BufReader::new(alloc, rt.reader()) else {
+        return ExitCode::FAILURE;
+    };
+    let notes = Notes::new();
+    let mut meter = Meter::new(rt);
+    let mut run: Run<'_, Process<'_>> = Run {
+        alloc,
+        host: rt,
+        store: &FileJournals::new(rt, &notes),
+        notes: &notes,
+        network: &mut TcpLinks::new(rt),
+        meter: &mut meter,
+        terminal,
+        input: &mut Device::buffered(reader),
+        output,
+        faults,
+    };
+    ExitCode::from(program(&mut run, words))
+}
+
 fn main(rt: HostRuntime) -> ExitCode {
     let alloc = rt.alloc();
     let words = match env::args(&rt) {
@@ -69,40 +121,22 @@ fn main(rt: HostRuntime) -> ExitCode {
     let Ok(words) = words.collect::<Vec<String>>(alloc) else {
         return ExitCode::FAILURE;
     };
-    let is_seen = rt.stdout().is_terminal();
-    let capacity = if is_seen { 0 } else { OUTPUT_BYTES };
+    let is_output = rt.stdout().is_terminal();
+    let capacity = if is_output { 0 } else { OUTPUT_BYTES };
     let Ok(writer) = BufWriter::with_capacity(alloc, capacity, rt.stdout()) else {
         return ExitCode::FAILURE;
     };
-    let mut sink = Device::new(Shown::new(alloc, writer, is_seen));
+    let mut output = Device::new(Shown::new(alloc, writer, is_output));
     let are_faults_seen = rt.stderr().is_terminal();
     let mut faults = Device::new(Shown::new(alloc, rt.stderr(), are_faults_seen));
     if let Some(Check { command, words }) = check_in(&words) {
-        let status = td_check::program(command, words, &rt, &mut sink, &mut faults);
+        let status = td_check::program(command, words, &rt, &mut output, &mut faults);
         return ExitCode::from(status);
     }
+    let is_input = rt.stdin().is_terminal();
     let terminal = Terminal {
-        is_input: rt.stdin().is_terminal(),
-        is_output: is_seen,
+        is_input,
+        is_output,
     };
-    let Ok(reader) = BufReader::new(alloc, rt.reader()) else {
-        return ExitCode::FAILURE;
-    };
-    let mut source = Device::buffered(reader);
-    let notes = Notes::new();
-    let mut meter = Meter::new(&rt);
-    let status = program::<Site, _, _, _, _, _, _>(
-        alloc,
-        &words,
-        &rt,
-        &FileJournals::new(&rt, &notes),
-        &notes,
-        &mut TcpLinks::new(&rt),
-        &mut meter,
-        terminal,
-        &mut source,
-        &mut sink,
-        &mut faults,
-    );
-    ExitCode::from(status)
+    converse(&rt, &words, terminal, &mut output, &mut faults)
 }

@@ -9,7 +9,7 @@ const OPENING: &str = " RELATION { ";
 
 const CLOSING: &str = " }";
 
-/// What stands between two actions or two tuples.
+/// What separates two actions or two tuples.
 pub(crate) const BETWEEN: &str = ", ";
 
 /// The action that takes all tuples out of a relvar.

@@ -3,7 +3,7 @@
 //! Begin with `tables_of`, the statements of a dump, and `refused_insertions`, which tries them at a new site.
 //!
 //! ```
-//! let tables = tables_of(alloc, &catalogue, &site)?;
+//! let tables = tables_of(alloc, &site)?;
 //! let trial = refused_insertions::<Site>(alloc, script, limit, &tables.insertions, &mut meter)?;
 //! ```
 //!

@@ -2,8 +2,8 @@
 
 use crate::insertions::{Action, BETWEEN, deletion, tuple_text};
 use std::alloc::{AllocError, AllocFailed, Global};
-use td_headings::{Catalogue, Origin};
-use td_replica::{MOST_BYTES, Replica, ValueError};
+use td_headings::Origin;
+use td_replica::{Catalogued, MOST_BYTES, Replica, ValueError};
 use td_semantics::Answer;
 use td_values::{Name, Tuple};
 
@@ -26,14 +26,17 @@ pub struct Tables {
     pub tuples: usize,
 }
 
-/// Why that is not told.
-#[derive(Drop)]
+/// Why that is not known.
+#[derive(Clone, Copy, Debug)]
 pub enum Untold {
     OutOfMemory,
     /// The site's journal failed.
     Broken,
-    /// A tuple of this relvar has more bytes than a statement may have.
-    TooLong(Name),
+    /// A tuple has more bytes than a statement may have.
+    TooLong {
+        /// The place in the script of its relvar.
+        relvar: usize,
+    },
 }
 
 impl From<AllocError> for Untold {
@@ -63,22 +66,32 @@ fn push_action(actions: &mut Vec<String>, action: Action) -> Result<(), AllocErr
     Ok(())
 }
 
+// A base relvar: its place in the script, its name, and whether the script has it hold something at first.
+#[derive(Clone, Copy)]
+struct BaseRelvar<'a> {
+    place: usize,
+    name: &'a Name,
+    has_opening: bool,
+}
+
 // Adds the actions that insert these tuples, each as many as have room in a statement.
 fn push_insertions(
     alloc: Global,
-    relvar: &Name,
+    relvar: BaseRelvar<'_>,
     tuples: &[Tuple],
     actions: &mut Vec<String>,
 ) -> Result<(), Untold> {
-    let mut action = Action::new(alloc, relvar)?;
+    let mut action = Action::new(alloc, relvar.name)?;
     for tuple in tuples {
         let text = tuple_text(alloc, tuple)?;
         if action.count >= MOST_TUPLES || action.bytes_with(&text) >= MOST_BYTES {
             push_action(actions, action)?;
-            action = Action::new(alloc, relvar)?;
+            action = Action::new(alloc, relvar.name)?;
         }
         if action.bytes_with(&text) >= MOST_BYTES {
-            return Err(Untold::TooLong(relvar.copy()?));
+            return Err(Untold::TooLong {
+                relvar: relvar.place,
+            });
         }
         action.push(&text)?;
     }
@@ -86,31 +99,48 @@ fn push_insertions(
     Ok(())
 }
 
-// The actions for a base relvar. What the script has it hold at first is taken out before.
+// Adds the actions that give a base relvar these tuples. What the script has it hold at first is deleted before.
+fn push_actions(
+    alloc: Global,
+    relvar: BaseRelvar<'_>,
+    tuples: &[Tuple],
+    actions: &mut Vec<String>,
+) -> Result<(), Untold> {
+    if relvar.has_opening {
+        actions.push(deletion(alloc, relvar.name)?)?;
+    }
+    push_insertions(alloc, relvar, tuples, actions)
+}
+
+// The actions that give a base relvar these tuples.
+fn actions_for(alloc: Global, relvar: BaseRelvar<'_>, tuples: &[Tuple]) -> Result<Actions, Untold> {
+    let mut actions = Actions {
+        relvar: relvar.name.copy()?,
+        texts: Vec::new(alloc),
+    };
+    match push_actions(alloc, relvar, tuples, &mut actions.texts) {
+        Ok(()) => Ok(actions),
+        Err(error) => Err(error),
+    }
+}
+
+// The actions for a base relvar, whose tuples are counted.
 fn actions_of<R: Replica>(
     alloc: Global,
     site: &R,
-    relvar: &Name,
-    has_opening: bool,
+    relvar: BaseRelvar<'_>,
     count: &mut usize,
 ) -> Result<Actions, Untold> {
-    let relation = match site.value_of(alloc, relvar) {
-        Ok(Answer::Value(relation)) => relation,
-        Ok(Answer::Raised(_)) | Err(ValueError::Broken | ValueError::Unknown) => {
-            return Err(Untold::Broken);
+    match site.value_of(alloc, relvar.name) {
+        Ok(Answer::Value(relation)) => {
+            *count = count.saturating_add(relation.tuples().len());
+            actions_for(alloc, relvar, relation.tuples())
         }
-        Err(ValueError::OutOfMemory) => return Err(Untold::OutOfMemory),
-    };
-    let mut texts = Vec::new(alloc);
-    if has_opening {
-        texts.push(deletion(alloc, relvar)?)?;
+        Ok(Answer::Raised(_)) | Err(ValueError::Broken | ValueError::Unknown) => {
+            Err(Untold::Broken)
+        }
+        Err(ValueError::OutOfMemory) => Err(Untold::OutOfMemory),
     }
-    push_insertions(alloc, relvar, relation.tuples(), &mut texts)?;
-    *count = count.saturating_add(relation.tuples().len());
-    Ok(Actions {
-        relvar: relvar.copy()?,
-        texts,
-    })
 }
 
 // How many bytes one statement of all actions has.
@@ -168,24 +198,35 @@ fn insertions_of(alloc: Global, all: &[Actions]) -> Result<Vec<DumpStatement>, A
     Ok(insertions)
 }
 
-/// What the base relvars of the site have: one statement, where one has room for it, or else statements of 200 tuples
-/// of one relvar, or as many as have room, in the order of the script. It costs the length of what it gives.
-pub fn tables_of<R: Replica>(
+// Adds the actions of each base relvar, in the order of the script, and returns how many tuples they have.
+fn push_all<R: Catalogued>(
     alloc: Global,
-    catalogue: &Catalogue,
     site: &R,
-) -> Result<Tables, Untold> {
-    let mut all = Vec::new(alloc);
+    all: &mut Vec<Actions>,
+) -> Result<usize, Untold> {
+    let catalogue = site.catalogue();
     let mut tuples: usize = 0;
     for place in 0..catalogue.schema().relvar_count() {
         if let (Some((name, _)), Some(Origin::Base(_, opening))) = (
-            catalogue.schema().relvar_at(place),
+            catalogue.relvar_at(place),
             catalogue.origin(place),
         ) {
-            let has_opening = opening.is_some();
-            all.push(actions_of(alloc, site, name, has_opening, &mut tuples)?)?;
+            let relvar = BaseRelvar {
+                place,
+                name,
+                has_opening: opening.is_some(),
+            };
+            all.push(actions_of(alloc, site, relvar, &mut tuples)?)?;
         }
     }
+    Ok(tuples)
+}
+
+/// What the base relvars of the site have: one statement, if one has room for it, or else statements of 200 tuples of
+/// one relvar, or as many as have room, in the order of the script. It costs the length of what it gives.
+pub fn tables_of<R: Catalogued>(alloc: Global, site: &R) -> Result<Tables, Untold> {
+    let mut all = Vec::new(alloc);
+    let tuples = push_all(alloc, site, &mut all)?;
     Ok(Tables {
         insertions: insertions_of(alloc, &all)?,
         relvars: all.len(),

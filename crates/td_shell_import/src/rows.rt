@@ -106,27 +106,43 @@ fn row_in<L: Literals>(
     })
 }
 
-// The record as a row, if it has as many cells as are wanted and its INSERT has at most so many bytes.
+// Where rows go, and what each of them keeps to.
+#[derive(Clone, Copy)]
+struct Target<'a> {
+    relvar: &'a Name,
+    heading: &'a Heading,
+    // for each attribute the place of its column
+    columns: &'a [usize],
+    // how many cells a row has
+    cells: usize,
+    // the most bytes of its INSERT
+    most_bytes: usize,
+}
+
+// The record as a row, if it has as many cells as the target wants and its INSERT is short enough.
 fn checked_row<L: Literals>(
     alloc: Global,
     literals: &L,
-    relvar: &Name,
-    heading: &Heading,
-    columns: &[usize],
+    target: Target<'_>,
     line: u64,
     record: &ByteRecord,
-    wanted: usize,
-    most_bytes: usize,
 ) -> Result<Row, ImportFault> {
-    if record.len() != wanted {
+    if record.len() != target.cells {
         return Err(ImportFault::CellCount {
             line,
             count: record.len(),
-            wanted,
+            wanted: target.cells,
         });
     }
-    let row = row_in(alloc, literals, heading, columns, line, record)?;
-    if !is_short(relvar, heading, &row, most_bytes) {
+    let row = row_in(
+        alloc,
+        literals,
+        target.heading,
+        target.columns,
+        line,
+        record,
+    )?;
+    if !is_short(target.relvar, target.heading, &row, target.most_bytes) {
         return Err(ImportFault::TooLong { line: row.line });
     }
     Ok(row)
@@ -164,17 +180,14 @@ pub fn read_rows<L: Literals>(
             Err(error) => return Err(unreadable(&error)),
         };
         let line = line_of(&mut lines, &record);
-        rows.push(checked_row(
-            alloc,
-            literals,
+        let target = Target {
             relvar,
             heading,
-            &columns,
-            line,
-            &record,
-            titles.len(),
+            columns: &columns,
+            cells: titles.len(),
             most_bytes,
-        )?)?;
+        };
+        rows.push(checked_row(alloc, literals, target, line, &record)?)?;
     }
     Ok(rows)
 }

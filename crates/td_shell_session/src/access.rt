@@ -1,8 +1,8 @@
 //! Whether a site may be changed.
 
 /// Whether a site may be changed.
-#[derive(Clone, Copy, Debug, PartialEq, Eq)]
-pub enum Access {
+#[derive(Clone, Copy)]
+pub(crate) enum Access {
     /// It issues statements and takes those of others.
     Open,
     /// It issues none until it has met another site, which may have what its journal lacks.

@@ -1,16 +1,17 @@
 //! A site as a script that makes it again.
 
+use crate::answer::Answer;
+use crate::fault::{Fault, FileFault, PlainFault};
 use crate::issue::issue;
 use crate::lists::statements_with_outcomes;
-use crate::new_file::{NotWritten, write_new};
+use crate::new_file::write_new;
 use std::alloc::{AllocError, Global};
 use std::fs::File;
 use std::rt::Files;
 use td_changes::Changes;
 use td_grammar::{ReadError, read_statement_in};
-use td_headings::Catalogue;
 use td_journal_files::Notes;
-use td_replica::Replica;
+use td_replica::{Catalogued, Replica};
 use td_semantics::{Meter, Outcome};
 use td_shell_input::{DumpedEntry, entry_in, push_entry};
 use td_stamps::{Entry, Stamp};
@@ -18,68 +19,14 @@ use td_stamps::{Entry, Stamp};
 /// What the names of journals and of the files beside them have in them, and no dump's.
 const OF_JOURNALS: &str = ".tdj";
 
-/// The script, as it stands in front of the statements of a dump.
-pub(crate) fn script_text(alloc: Global, script: &str) -> Result<String, AllocError> {
-    let mut text = String::from_str(alloc, script)?;
-    text.push_str(".begin\n")?;
-    Ok(text)
-}
-
 /// The most bytes of a line of a dump: a text of which each character is written by two.
-pub const ENTRY_BYTES: usize = 32_768;
+pub(crate) const ENTRY_BYTES: usize = 32_768;
 
-/// A site as a text, and how many of its statements that has and lacks.
-#[derive(Drop)]
-struct History {
-    text: String,
+/// How many of a site's statements a dump has and lacks.
+#[derive(Clone, Copy)]
+struct Count {
     kept: usize,
     left_out: usize,
-}
-
-// Appends a line for each statement. One that has no reading in its dialect is left out: it had no effect, and in
-// another dialect it might have one.
-fn push_entries(
-    dump: &mut History,
-    entries: &[Entry],
-    outcomes: &[(Stamp, Outcome)],
-) -> Result<(), AllocError> {
-    for (entry, (_, outcome)) in entries.iter().zip(outcomes) {
-        if matches!(outcome, Outcome::Unread) {
-            dump.left_out = dump.left_out.saturating_add(1);
-        } else {
-            push_entry(&mut dump.text, entry.dialect, entry.text.as_str())?;
-            dump.kept = dump.kept.saturating_add(1);
-        }
-    }
-    Ok(())
-}
-
-// The script, and behind it a line for each statement.
-fn dump_of(
-    alloc: Global,
-    script: &str,
-    entries: &[Entry],
-    outcomes: &[(Stamp, Outcome)],
-) -> Result<History, AllocError> {
-    let mut dump = History {
-        text: script_text(alloc, script)?,
-        kept: 0,
-        left_out: 0,
-    };
-    push_entries(&mut dump, entries, outcomes)?;
-    Ok(dump)
-}
-
-// What is told of a dump that is written: how many statements it has, and how many it leaves out, if any.
-fn dumped_words(alloc: Global, file: &str, dump: &History) -> Result<String, AllocError> {
-    let kept = dump.kept;
-    let left_out = dump.left_out;
-    if left_out == 0 {
-        return format!(in alloc; "dumped the script and {kept} statements to {file}\n");
-    }
-    format!(in alloc;
-        "dumped the script and {kept} statements to {file}; {left_out} that are no statements of the script are left out\n"
-    )
 }
 
 /// Whether a name is one of a journal, or of a file beside one.
@@ -87,47 +34,107 @@ pub(crate) fn is_of_journals(file: &str) -> bool {
     file.contains(OF_JOURNALS)
 }
 
-/// Why a text is not written to a new file.
-pub(crate) fn unwritten_words(
-    alloc: Global,
-    file: &str,
-    error: NotWritten,
-) -> Result<String, AllocError> {
-    match error {
-        NotWritten::IsThere => format!(in alloc;
-            "fault file: {file} is there already, and is not written over; name another file\n"
-        ),
-        NotWritten::PartIsThere => format!(in alloc;
-            "fault file: {file}.part is there, which is written first and then named {file}; remove it, or name another file\n"
-        ),
-        NotWritten::Failed => format!(in alloc; "fault file: {file} cannot be written\n"),
+/// Appends the script, as it comes before the statements of a dump.
+pub(crate) fn push_script(dump: &mut String, script: &str) -> Result<(), AllocError> {
+    dump.push_str(script)?;
+    dump.push_str(".begin\n")
+}
+
+// Appends a line for each statement. One that has no reading in its dialect is left out: it had no effect, and in
+// another dialect it might have one.
+fn push_entries(
+    dump: &mut String,
+    entries: &[Entry],
+    outcomes: &[(Stamp, Outcome)],
+) -> Result<Count, AllocError> {
+    let mut count = Count {
+        kept: 0,
+        left_out: 0,
+    };
+    for (entry, (_, outcome)) in entries.iter().zip(outcomes) {
+        if matches!(outcome, Outcome::Unread) {
+            count.left_out = count.left_out.saturating_add(1);
+        } else {
+            push_entry(dump, entry.dialect, entry.text.as_str())?;
+            count.kept = count.kept.saturating_add(1);
+        }
+    }
+    Ok(count)
+}
+
+// Appends the script, and after it a line for each statement.
+fn push_dump(
+    dump: &mut String,
+    script: &str,
+    entries: &[Entry],
+    outcomes: &[(Stamp, Outcome)],
+) -> Result<Count, AllocError> {
+    push_script(dump, script)?;
+    push_entries(dump, entries, outcomes)
+}
+
+// Says how many statements a dump has that is written, and how many it leaves out, if any.
+fn say_dumped(out: &mut String, file: &str, count: Count) -> Result<(), AllocError> {
+    let Count { kept, left_out } = count;
+    if left_out == 0 {
+        return writeln!(out, "dumped the script and {kept} statements to {file}");
+    }
+    writeln!(
+        out,
+        "dumped the script and {kept} statements to {file}; {left_out} that are no statements of the script are left out"
+    )
+}
+
+// Writes a dump to a file that is not there yet.
+fn write_dump<'t, H: Files<File = File>>(
+    out: &mut String,
+    host: &H,
+    dump: &str,
+    count: Count,
+    file: &'t str,
+) -> Result<(), Fault<'t>> {
+    match write_new(*out.allocator(), host, file, dump.as_bytes()) {
+        Ok(()) => Ok(say_dumped(out, file, count)?),
+        Err(error) => Err(Fault::unwritten(file, error)),
     }
 }
 
-/// Writes the script, and behind it each statement that the site holds, in the order of stamps, to a file that is not
+// Makes a dump and writes it to a file that is not there yet.
+fn dump_entries<'t, H: Files<File = File>>(
+    out: &mut String,
+    host: &H,
+    script: &str,
+    entries: &[Entry],
+    outcomes: &[(Stamp, Outcome)],
+    file: &'t str,
+) -> Result<(), Fault<'t>> {
+    let mut dump = String::new(*out.allocator());
+    match push_dump(&mut dump, script, entries, outcomes) {
+        Ok(count) => write_dump(out, host, dump.as_str(), count, file),
+        Err(error) => Err(Fault::from(error)),
+    }
+}
+
+/// Writes the script, and after it each statement that the site holds, in the order of stamps, to a file that is not
 /// there yet. A statement that was refused is among them: it is a part of what the site lists.
-pub fn dump<R: Replica, H: Files<File = File>>(
-    alloc: Global,
+pub(crate) fn dump<'t, R: Replica, H: Files<File = File>>(
+    out: &mut String,
     host: &H,
     site: &R,
-    file: &str,
-) -> Result<String, AllocError> {
+    file: &'t str,
+) -> Result<(), Fault<'t>> {
     if is_of_journals(file) {
-        return format!(in alloc;
-            "fault file: {file} is a name for journals; a dump goes to another one\n"
-        );
+        return Err(Fault::file(file, FileFault::JournalName));
     }
-    let dump = match statements_with_outcomes(alloc, site) {
-        Ok((entries, outcomes)) => dump_of(alloc, site.script(), entries, &outcomes)?,
-        Err(words) => return String::from_str(alloc, words),
-    };
-    match write_new(alloc, host, file, dump.text.as_bytes())? {
-        Ok(()) => dumped_words(alloc, file, &dump),
-        Err(error) => unwritten_words(alloc, file, error),
+    match statements_with_outcomes(*out.allocator(), site) {
+        Ok((entries, outcomes)) => {
+            dump_entries(out, host, site.script(), entries, &outcomes, file)
+        }
+        Err(fault) => Err(Fault::Site(fault)),
     }
 }
 
-// Whether the text is a statement of the dialect that it is told to be of.
+// Whether the text is a statement of the dialect that it is said to be of.
 fn is_of_dialect(alloc: Global, entry: &DumpedEntry) -> Result<bool, AllocError> {
     match read_statement_in(alloc, entry.text.as_str(), entry.dialect) {
         Ok(_) => Ok(true),
@@ -137,35 +144,42 @@ fn is_of_dialect(alloc: Global, entry: &DumpedEntry) -> Result<bool, AllocError>
 }
 
 // Issues the statement of an entry, if its text is a statement of the dialect that the entry names.
-fn issue_dumped<R: Changes>(
-    alloc: Global,
-    catalogue: &Catalogue,
+fn issue_dumped<'e, R: Changes>(
+    out: &mut String,
+    site: &mut R,
+    entry: &'e DumpedEntry,
+    meter: &mut Meter,
+) -> Result<(), Fault<'e>> {
+    if !is_of_dialect(*out.allocator(), entry)? {
+        return Err(Fault::Dialect(entry.dialect));
+    }
+    issue(out, site, entry.text.as_str(), meter)
+}
+
+// Issues the statement of an entry, or says why not.
+fn answer_entry<R: Changes + Catalogued>(
+    answer: &mut Answer,
     site: &mut R,
     entry: &DumpedEntry,
     meter: &mut Meter,
     notes: &Notes,
-) -> Result<String, AllocError> {
-    if !is_of_dialect(alloc, entry)? {
-        let dialect = entry.dialect;
-        return format!(in alloc; "fault syntax: this is no statement of dialect {dialect}\n");
+) -> Result<(), AllocError> {
+    match issue_dumped(&mut answer.text, site, entry, meter) {
+        Ok(()) => Ok(()),
+        Err(fault) => answer.refuse(site.catalogue(), notes, fault),
     }
-    issue(alloc, catalogue, site, entry.text.as_str(), meter, notes)
 }
 
 /// Issues the statement of a line of a dump.
-pub fn issue_entry<R: Changes>(
-    alloc: Global,
-    catalogue: &Catalogue,
+pub(crate) fn issue_entry<R: Changes + Catalogued>(
+    answer: &mut Answer,
     site: &mut R,
     words: &str,
     meter: &mut Meter,
     notes: &Notes,
-) -> Result<String, AllocError> {
-    match entry_in(alloc, words)? {
-        Some(entry) => issue_dumped(alloc, catalogue, site, &entry, meter, notes),
-        None => String::from_str(
-            alloc,
-            "fault command: a line of a dump is written so: .entry DIALECT 'TEXT'\n",
-        ),
+) -> Result<(), Fault<'static>> {
+    match entry_in(*answer.text.allocator(), words)? {
+        Some(entry) => Ok(answer_entry(answer, site, &entry, meter, notes)?),
+        None => Err(Fault::Plain(PlainFault::NoEntry)),
     }
 }

@@ -1,28 +1,20 @@
 //! Why a conversation ends before its input does.
 
-use std::alloc::{AllocError, AllocFailed};
+use std::alloc::AllocError;
 use td_io::{Failed, LineError};
-use thiserror::Error;
 
 /// Why a conversation ends before its input does.
-#[derive(Clone, Copy, Debug, Drop, PartialEq, Eq, Error)]
-pub enum SessionEnd {
-    #[error("out of memory")]
+#[derive(Clone, Copy)]
+pub(crate) enum SessionEnd {
     OutOfMemory,
-    #[error("the reader failed")]
+    /// The input cannot be read.
     ReadFault,
-    #[error("the writer failed")]
+    /// The output cannot be written.
     WriteFault,
 }
 
 impl From<AllocError> for SessionEnd {
     fn from(_e: AllocError) -> SessionEnd {
-        SessionEnd::OutOfMemory
-    }
-}
-
-impl<T: Drop> From<AllocFailed<T>> for SessionEnd {
-    fn from(_e: AllocFailed<T>) -> SessionEnd {
         SessionEnd::OutOfMemory
     }
 }

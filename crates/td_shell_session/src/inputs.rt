@@ -19,7 +19,7 @@ struct ReadFile {
 
 /// What comes next.
 #[derive(Drop)]
-pub enum Next {
+pub(crate) enum Next {
     Line(Vec<u8>),
     /// A line that is too long to be kept.
     TooLong,
@@ -31,7 +31,7 @@ pub enum Next {
 
 /// Where lines come from.
 #[derive(Drop)]
-pub struct Inputs {
+pub(crate) struct Inputs {
     alloc: Global,
     files: Vec<ReadFile>,
     is_over: bool,
@@ -96,7 +96,7 @@ impl Inputs {
         self.is_typed() && !has_line(source.buffer())
     }
 
-    /// Has the lines of a file come next. The answer is whether so many files may be read within one another.
+    /// Has the lines of a file come next; returns whether one more may be read within the others.
     pub(crate) fn read_file(&mut self, bytes: Vec<u8>) -> Result<bool, AllocError> {
         if self.files.len() >= MOST_FILES {
             return Ok(false);
@@ -105,7 +105,7 @@ impl Inputs {
         Ok(true)
     }
 
-    // Reads the next line that is typed; behind the last one it gives the input's end, and reads nothing.
+    // Reads the next line that is typed; after the last one it gives the input's end, and reads nothing.
     fn typed_line<S: Source>(&mut self, source: &mut S) -> Result<Next, SessionEnd> {
         if self.is_over {
             return Ok(Next::End);

@@ -1,13 +1,15 @@
 //! A person at one site: what is typed is read and answered in plain words, and relations are shown as tables. It runs
 //! over any kind of site, reader and writer, and changes a site by the calls of `Replica` alone.
 //!
-//! Begin with `program`, the command line over its words and streams, and `converse`, a conversation at a site.
+//! Begin with `program`, the command line over its words, and `Run`, what it goes by; a `Platform` names the kinds of
+//! these.
 //!
 //! ```
-//! let journals = FileJournals::new(&rt, &notes);
-//! let status = program::<Site, _, _, _, _, _, _>(
-//!     alloc, &words, &rt, &journals, &notes, &mut links, &mut meter, terminal, &mut source, &mut sink, &mut faults,
-//! );
+//! let mut run: Run<'_, Process> = Run {
+//!     alloc, host: &rt, store: &journals, notes: &notes, network: &mut links, meter: &mut meter, terminal,
+//!     input: &mut source, output: &mut sink, faults: &mut faults,
+//! };
+//! let status = program(&mut run, &words);
 //! ```
 //!
 //! Costs: the opening of the script, and a run of each entry of the journal; then each line costs what its answer
@@ -20,35 +22,30 @@
 #![tactic(auto)]
 
 mod access;
-mod ask;
-pub mod command;
+mod answer;
+mod command_line;
+mod commands;
+mod conversation;
 mod draft;
 mod dump;
-pub mod ended;
+mod ended;
+mod fault;
 mod help;
+mod host;
 mod import;
 mod inputs;
 mod issue;
-mod journals;
 mod lists;
 mod meet;
 mod new_file;
-pub mod open;
-mod places;
+mod queries;
 mod relvars;
-mod shell;
+mod session;
+mod start;
 mod tables;
 mod timing;
-mod type_errors;
-mod wording;
-pub mod words;
+mod words;
 
-pub use access::Access;
-pub use ask::{not_asked, not_asked_at};
-pub use command::{Terminal, program};
-pub use ended::SessionEnd;
-pub use issue::not_issued;
-pub use meet::not_met;
-pub use shell::{Shell, converse};
+pub use command_line::program;
+pub use host::{Platform, Run, Terminal};
 pub use td_terminals::Shown;
-pub use wording::{BROKEN, NO_MEMORY, UNCHANGED};

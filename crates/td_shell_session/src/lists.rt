@@ -1,65 +1,71 @@
 //! What a site holds.
 
-use crate::wording::{BROKEN, UNCHANGED};
+use crate::fault::Fault;
 use std::alloc::{AllocError, Global};
 use td_listings::vector_text;
-use td_replica::{Replica, TellError};
+use td_replica::Replica;
 use td_semantics::Outcome;
-use td_shell_notices::{digest_text, log_text, refused_text};
-use td_stamps::{Entry, Stamp};
+use td_site_messages::{SiteFault, push_digest, push_log, push_refused};
+use td_stamps::{Entry, Held, Stamp};
 
-/// What the site holds with what became of each statement, or what is said in its place.
+/// What the site holds, with what became of each statement.
 pub(crate) fn statements_with_outcomes<R: Replica>(
     alloc: Global,
     site: &R,
-) -> Result<(&[Entry], Vec<(Stamp, Outcome)>), &'static str> {
+) -> Result<(&[Entry], Vec<(Stamp, Outcome)>), SiteFault<'static>> {
     let Ok(held) = site.held() else {
-        return Err(BROKEN);
+        return Err(SiteFault::Broken);
     };
     match site.outcomes(alloc) {
         Ok(outcomes) => Ok((held.entries(), outcomes)),
-        Err(TellError::Broken) => Err(BROKEN),
-        Err(TellError::OutOfMemory) => Err(UNCHANGED),
+        Err(error) => Err(SiteFault::from(error)),
     }
 }
 
-/// Each statement that the site holds, with what became of it.
-pub fn log<R: Replica>(alloc: Global, site: &R) -> Result<String, AllocError> {
-    match statements_with_outcomes(alloc, site) {
-        Ok((entries, outcomes)) => log_text(alloc, entries, &outcomes),
-        Err(words) => String::from_str(alloc, words),
+/// Says each statement that the site holds, with what became of it.
+pub(crate) fn log<R: Replica>(out: &mut String, site: &R) -> Result<(), Fault<'static>> {
+    match statements_with_outcomes(*out.allocator(), site) {
+        Ok((entries, outcomes)) => Ok(push_log(out, entries, &outcomes)?),
+        Err(fault) => Err(Fault::Site(fault)),
     }
 }
 
-/// Up to which number the site has all statements of each site.
-pub fn vector<R: Replica>(alloc: Global, site: &R) -> Result<String, AllocError> {
-    match site.held() {
-        Ok(held) => vector_text(alloc, &held.vector(alloc)?),
-        Err(_) => String::from_str(alloc, BROKEN),
-    }
-}
-
-/// Each statement that has no effect, of the site alone where so asked.
+/// Says each statement that has no effect, of the site alone if so asked.
 pub(crate) fn refused_statements<R: Replica>(
-    alloc: Global,
+    out: &mut String,
     site: &R,
     is_own: bool,
-) -> Result<String, AllocError> {
+) -> Result<(), Fault<'static>> {
     let number = is_own.then_some(site.site());
-    match statements_with_outcomes(alloc, site) {
-        Ok((entries, outcomes)) => refused_text(alloc, entries, &outcomes, number),
-        Err(words) => String::from_str(alloc, words),
+    match statements_with_outcomes(*out.allocator(), site) {
+        Ok((entries, outcomes)) => Ok(push_refused(out, entries, &outcomes, number)?),
+        Err(fault) => Err(Fault::Site(fault)),
     }
 }
 
-/// What the site holds of each site, of one alone up to a number where so asked, in a few digits.
-pub fn digest<R: Replica>(
-    alloc: Global,
+// Says up to which number all statements of each site are held.
+fn say_vector(out: &mut String, held: &Held) -> Result<(), AllocError> {
+    let alloc = *out.allocator();
+    *out = vector_text(alloc, &held.vector(alloc)?)?;
+    Ok(())
+}
+
+/// Says up to which number the site has all statements of each site.
+pub(crate) fn vector<R: Replica>(out: &mut String, site: &R) -> Result<(), Fault<'static>> {
+    match site.held() {
+        Ok(held) => Ok(say_vector(out, held)?),
+        Err(_) => Err(Fault::Site(SiteFault::Broken)),
+    }
+}
+
+/// Says what the site holds of each site, of one alone up to a number if so asked, in a few digits.
+pub(crate) fn digest<R: Replica>(
+    out: &mut String,
     site: &R,
     of: Option<(u16, u32)>,
-) -> Result<String, AllocError> {
+) -> Result<(), Fault<'static>> {
     match site.held() {
-        Ok(held) => digest_text(alloc, held, of),
-        Err(_) => String::from_str(alloc, BROKEN),
+        Ok(held) => Ok(push_digest(out, held, of)?),
+        Err(_) => Err(Fault::Site(SiteFault::Broken)),
     }
 }

@@ -11,13 +11,20 @@ use std::{fs, io};
 const OWN: u32 = 0o600;
 
 /// Why a file is not written.
-#[derive(Clone, Copy, Debug, PartialEq, Eq)]
+#[derive(Clone, Copy)]
 pub(crate) enum NotWritten {
     /// There is one of this name already.
     IsThere,
-    /// There is one with `.part` behind the name already, as a stop may leave it.
+    /// There is one with `.part` after the name already, as a stop may leave it.
     PartIsThere,
     Failed,
+    OutOfMemory,
+}
+
+impl From<AllocError> for NotWritten {
+    fn from(_e: AllocError) -> NotWritten {
+        NotWritten::OutOfMemory
+    }
 }
 
 // Writes a file that is not there yet, and hands it to the disk.
@@ -51,26 +58,36 @@ fn give_name<H: Files<File = File>>(host: &H, part: &str, name: &str) -> Result<
     }
 }
 
+// Writes the bytes to the file `part`, and gives that this name.
+fn write_by<H: Files<File = File>>(
+    host: &H,
+    part: &str,
+    name: &str,
+    bytes: &[u8],
+) -> Result<(), NotWritten> {
+    if fs::symlink_metadata(host, part).is_ok() {
+        return Err(NotWritten::PartIsThere);
+    }
+    let written = match write_part(host, part, bytes) {
+        Ok(()) => give_name(host, part, name),
+        Err(_) => Err(NotWritten::Failed),
+    };
+    if written.is_err() {
+        let _removed = fs::remove_file(host, part);
+    }
+    written
+}
+
 /// Writes the bytes to a file that is not there yet, not even as a link: first beside it, and then under its name.
 pub(crate) fn write_new<H: Files<File = File>>(
     alloc: Global,
     host: &H,
     name: &str,
     bytes: &[u8],
-) -> Result<Result<(), NotWritten>, AllocError> {
+) -> Result<(), NotWritten> {
     if fs::symlink_metadata(host, name).is_ok() {
-        return Ok(Err(NotWritten::IsThere));
+        return Err(NotWritten::IsThere);
     }
     let part = format!(in alloc; "{name}.part")?;
-    if fs::symlink_metadata(host, part.as_str()).is_ok() {
-        return Ok(Err(NotWritten::PartIsThere));
-    }
-    let written = match write_part(host, part.as_str(), bytes) {
-        Ok(()) => give_name(host, part.as_str(), name),
-        Err(_) => Err(NotWritten::Failed),
-    };
-    if written.is_err() {
-        let _removed = fs::remove_file(host, part.as_str());
-    }
-    Ok(written)
+    write_by(host, part.as_str(), name, bytes)
 }

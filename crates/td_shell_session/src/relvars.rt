@@ -1,17 +1,17 @@
 //! The relvars of a site, and the definitions of its script.
 
-use crate::wording::BROKEN;
+use crate::fault::Fault;
 use std::alloc::{AllocError, Global};
 use std::str;
 use td_headings::{Catalogue, Origin};
-use td_replica::{Replica, ValueError};
+use td_replica::{Catalogued, Replica, ValueError};
 use td_semantics::Answer;
 use td_shell_input::{defined_name, definition_at};
-use td_shell_notices::raise_words;
 use td_shell_tables::{Column, Side, lay_out};
-use td_values::{Heading, Name, TdType, TypeKind, show_type};
+use td_site_messages::{SiteFault, push_raise};
+use td_values::{Heading, Name, show_type_into};
 
-// What `.tables` tells in its columns.
+// What `.tables` says in its columns.
 const COLUMNS: [Column<'static>; 4] = [
     Column {
         title: "relvar",
@@ -31,22 +31,19 @@ const COLUMNS: [Column<'static>; 4] = [
     },
 ];
 
-/// The relvar of this name: its place in the script, and its heading.
-pub fn relvar_named<'a>(
-    catalogue: &'a Catalogue,
-    text: &str,
-) -> Option<(usize, &'a Name, &'a Heading)> {
+/// The place in the script of the relvar of this name.
+pub(crate) fn place_of(catalogue: &Catalogue, relvar: &str) -> Option<usize> {
     for place in 0..catalogue.schema().relvar_count() {
-        if let Some((name, heading)) = catalogue.schema().relvar_at(place)
-            && name.as_str() == text
+        if let Some((name, _)) = catalogue.relvar_at(place)
+            && name.as_str() == relvar
         {
-            return Some((place, name, heading));
+            return Some(place);
         }
     }
     None
 }
 
-// Whether the relvar at this place of the script is virtual or base, as `.tables` tells it.
+// Whether the relvar at this place of the script is virtual or base.
 fn kind_words(catalogue: &Catalogue, place: usize) -> &'static str {
     match catalogue.origin(place) {
         Some(Origin::Virtual(_)) => "virtual",
@@ -54,70 +51,119 @@ fn kind_words(catalogue: &Catalogue, place: usize) -> &'static str {
     }
 }
 
-// The heading as the language writes it in a relation type, without the word RELATION.
-fn heading_text(alloc: Global, heading: &Heading) -> Result<String, AllocError> {
-    let ty = TdType {
-        kind: TypeKind::Relation(heading.copy()?),
-    };
-    let text = show_type(alloc, &ty)?;
-    let attributes = text
-        .as_str()
-        .strip_prefix("RELATION ")
-        .unwrap_or(text.as_str());
-    String::from_str(alloc, attributes)
+// Appends the heading in braces, as the language writes it.
+fn push_heading(out: &mut String, heading: &Heading) -> Result<(), AllocError> {
+    out.push_str("{ ")?;
+    for (place, (name, ty)) in heading.fields().iter().enumerate() {
+        if place > 0 {
+            out.push_str(", ")?;
+        }
+        out.push_str(name.as_str())?;
+        out.push_str(" ")?;
+        show_type_into(out, ty)?;
+    }
+    out.push_str(if heading.is_empty() { "}" } else { " }" })
 }
 
-// How many tuples there are, or why that is not told.
-fn count_text<R: Replica>(alloc: Global, site: &R, name: &Name) -> Result<String, AllocError> {
-    match site.value_of(alloc, name) {
+// Appends how many tuples there are, or why that is not known.
+fn push_tuple_count<R: Replica>(out: &mut String, site: &R, name: &Name) -> Result<(), AllocError> {
+    match site.value_of(*out.allocator(), name) {
         Ok(Answer::Value(relation)) => {
             let count = relation.tuples().len();
-            format!(in alloc; "{count}")
+            write!(out, "{count}")
         }
-        Ok(Answer::Raised(raise)) => String::from_str(alloc, raise_words(raise)),
+        Ok(Answer::Raised(raise)) => push_raise(out, raise),
         Err(ValueError::OutOfMemory) => Err(AllocError),
-        Err(ValueError::Broken | ValueError::Unknown) => String::from_str(alloc, "-"),
+        Err(ValueError::Broken | ValueError::Unknown) => out.push_str("-"),
     }
 }
 
-// Adds a cell, unless there was no memory to make it.
-fn push_cell(cells: &mut Vec<String>, cell: Result<String, AllocError>) -> Result<(), AllocError> {
-    cells.push(cell?)?;
+// The cells of one row, to which further ones are added.
+#[derive(Drop)]
+struct Cells {
+    alloc: Global,
+    cells: Vec<String>,
+}
+
+impl Cells {
+    // Adds a cell of this text.
+    fn add(&mut self, text: &str) -> Result<(), AllocError> {
+        self.cells.push(String::from_str(self.alloc, text)?)?;
+        Ok(())
+    }
+
+    // Adds a cell of how many tuples a relvar has.
+    fn add_count<R: Replica>(&mut self, site: &R, name: &Name) -> Result<(), AllocError> {
+        let mut count = String::new(self.alloc);
+        push_tuple_count(&mut count, site, name)?;
+        self.cells.push(count)?;
+        Ok(())
+    }
+
+    // Adds a cell of a heading.
+    fn add_heading(&mut self, heading: &Heading) -> Result<(), AllocError> {
+        let mut text = String::new(self.alloc);
+        push_heading(&mut text, heading)?;
+        self.cells.push(text)?;
+        Ok(())
+    }
+
+    // Adds the cells of the relvar at this place; its value is found for the number of its tuples.
+    fn add_relvar<R: Catalogued>(&mut self, site: &R, place: usize) -> Result<(), AllocError> {
+        let catalogue = site.catalogue();
+        let Some((name, heading)) = catalogue.relvar_at(place) else {
+            return Ok(());
+        };
+        self.add(name.as_str())?;
+        self.add_count(site, name)?;
+        self.add(kind_words(catalogue, place))?;
+        self.add_heading(heading)
+    }
+}
+
+// Adds the row of the relvar at this place.
+fn add_row<R: Catalogued>(
+    rows: &mut Vec<Vec<String>>,
+    alloc: Global,
+    site: &R,
+    place: usize,
+) -> Result<(), AllocError> {
+    let mut row = Cells {
+        alloc,
+        cells: Vec::with_capacity(alloc, COLUMNS.len())?,
+    };
+    row.add_relvar(site, place)?;
+    rows.push(row.cells)?;
     Ok(())
 }
 
-// The cells of `.tables` for the relvar at this place; its value is found for the number of its tuples.
-fn row<R: Replica>(
+// Adds a row for each relvar, in the order of the script.
+fn add_rows<R: Catalogued>(
+    rows: &mut Vec<Vec<String>>,
     alloc: Global,
-    catalogue: &Catalogue,
     site: &R,
-    place: usize,
-) -> Result<Vec<String>, AllocError> {
-    let mut cells = Vec::with_capacity(alloc, COLUMNS.len())?;
-    if let Some((name, heading)) = catalogue.schema().relvar_at(place) {
-        let kind = kind_words(catalogue, place);
-        push_cell(&mut cells, String::from_str(alloc, name.as_str()))?;
-        push_cell(&mut cells, count_text(alloc, site, name))?;
-        push_cell(&mut cells, String::from_str(alloc, kind))?;
-        push_cell(&mut cells, heading_text(alloc, heading))?;
+) -> Result<(), AllocError> {
+    for place in 0..site.catalogue().schema().relvar_count() {
+        add_row(rows, alloc, site, place)?;
     }
-    Ok(cells)
+    Ok(())
 }
 
-/// Each relvar with how many tuples it has, whether it is virtual, and its heading.
-pub fn relvars<R: Replica>(
-    alloc: Global,
-    catalogue: &Catalogue,
-    site: &R,
-) -> Result<String, AllocError> {
-    if !site.is_open() {
-        return String::from_str(alloc, BROKEN);
-    }
+// Says the table of all relvars.
+fn say_relvars<R: Catalogued>(out: &mut String, site: &R) -> Result<(), AllocError> {
+    let alloc = *out.allocator();
     let mut rows = Vec::new(alloc);
-    for place in 0..catalogue.schema().relvar_count() {
-        rows.push(row(alloc, catalogue, site, place)?)?;
+    add_rows(&mut rows, alloc, site)?;
+    *out = lay_out(alloc, &COLUMNS, &rows)?;
+    Ok(())
+}
+
+/// Says each relvar with how many tuples it has, whether it is virtual, and its heading.
+pub(crate) fn relvars<R: Catalogued>(out: &mut String, site: &R) -> Result<(), Fault<'static>> {
+    if !site.is_open() {
+        return Err(Fault::Site(SiteFault::Broken));
     }
-    lay_out(alloc, &COLUMNS, &rows)
+    Ok(say_relvars(out, site)?)
 }
 
 // Appends a definition without the blanks around it, and a line end; nothing of one that is no UTF-8.
@@ -129,12 +175,8 @@ fn push_definition(out: &mut String, definition: &[u8]) -> Result<(), AllocError
     Ok(())
 }
 
-/// The definitions of the script that define this name, or all of the script.
-pub fn schema(alloc: Global, script: &str, name: Option<&str>) -> Result<String, AllocError> {
-    let Some(name) = name else {
-        return String::from_str(alloc, script);
-    };
-    let mut out = String::new(alloc);
+// Appends the definitions of a script that define this name.
+fn push_definitions(out: &mut String, script: &str, name: &str) -> Result<(), AllocError> {
     let mut rest = script.as_bytes();
     for _ in 0..script.len() {
         if rest.is_empty() {
@@ -142,12 +184,21 @@ pub fn schema(alloc: Global, script: &str, name: Option<&str>) -> Result<String,
         }
         let definition = definition_at(rest);
         if defined_name(definition.text) == name.as_bytes() {
-            push_definition(&mut out, definition.text)?;
+            push_definition(out, definition.text)?;
         }
         rest = definition.rest;
     }
+    Ok(())
+}
+
+/// Says the definitions of the script that define this name, or all of the script.
+pub(crate) fn schema(out: &mut String, script: &str, name: Option<&str>) -> Result<(), AllocError> {
+    let Some(name) = name else {
+        return out.push_str(script);
+    };
+    push_definitions(out, script, name)?;
     if out.is_empty() {
-        return format!(in alloc; "the script defines no {name}\n");
+        return writeln!(out, "the script defines no {name}");
     }
-    Ok(out)
+    Ok(())
 }

@@ -1,59 +1,60 @@
 //! What the base relvars of a site have, as files: a script that makes them again, and tables for other programs.
 
-use crate::dump::{is_of_journals, script_text, unwritten_words};
+use crate::answer::Answer;
+use crate::dump::{is_of_journals, push_script};
+use crate::fault::{Fault, FileFault};
 use crate::new_file::{NotWritten, write_new};
-use crate::wording::{BROKEN, UNCHANGED, count_words};
 use std::alloc::{AllocError, Global};
 use std::fs;
 use std::fs::File;
 use std::rt::Files;
 use td_grammar::LATEST;
 use td_headings::{Catalogue, Origin};
+use td_journal_files::Notes;
 use td_listings::relation_table;
 use td_relations::Relation;
-use td_replica::{Opens, Replica, ValueError};
-use td_semantics::{Answer, Meter, Outcome};
+use td_replica::{Catalogued, Opens, Replica, ValueError};
+use td_semantics::{Answer as Evaluated, Meter, Outcome};
 use td_shell_dumps::{DumpStatement, Tables, Trial, Untold, refused_insertions, tables_of};
 use td_shell_input::push_entry;
+use td_site_messages::{SiteFault, push_count};
 use td_values::Name;
 
 // Why what the relvars of a site have is not dumped.
-fn untold_words(alloc: Global, untold: Untold) -> Result<String, AllocError> {
-    match untold {
-        Untold::OutOfMemory => String::from_str(alloc, UNCHANGED),
-        Untold::Broken => String::from_str(alloc, BROKEN),
-        Untold::TooLong(relvar) => {
-            let relvar = relvar.as_str();
-            format!(in alloc;
-                "fault dump: a tuple of {relvar} has no room in a statement; nothing is dumped\n"
-            )
-        }
+fn not_dumped(error: Untold) -> Fault<'static> {
+    match error {
+        Untold::OutOfMemory => Fault::Site(SiteFault::Unchanged),
+        Untold::Broken => Fault::Site(SiteFault::Broken),
+        Untold::TooLong { relvar } => Fault::LongTuple(relvar),
     }
 }
 
-// The script, and behind it a line for each statement.
-fn text_of(
-    alloc: Global,
+// Appends the script, and after it a line for each statement.
+fn push_tables(
+    dump: &mut String,
     script: &str,
     insertions: &[DumpStatement],
-) -> Result<String, AllocError> {
-    let mut text = script_text(alloc, script)?;
+) -> Result<(), AllocError> {
+    push_script(dump, script)?;
     for insertion in insertions {
-        push_entry(&mut text, LATEST, insertion.text.as_str())?;
+        push_entry(dump, LATEST, insertion.text.as_str())?;
     }
-    Ok(text)
+    Ok(())
 }
 
-// Writes the script and the statements to a new file; the inner result tells why it is not written.
-fn write_text<H: Files<File = File>>(
+// Writes the script and the statements to a new file.
+fn write_insertions<H: Files<File = File>>(
     alloc: Global,
     host: &H,
     file: &str,
     script: &str,
     insertions: &[DumpStatement],
-) -> Result<Result<(), NotWritten>, AllocError> {
-    let text = text_of(alloc, script, insertions)?;
-    write_new(alloc, host, file, text.as_bytes())
+) -> Result<(), NotWritten> {
+    let mut dump = String::new(alloc);
+    match push_tables(&mut dump, script, insertions) {
+        Ok(()) => write_new(alloc, host, file, dump.as_bytes()),
+        Err(_) => Err(NotWritten::OutOfMemory),
+    }
 }
 
 // How many of the site's statements have no effect.
@@ -69,156 +70,217 @@ fn count_refused<R: Replica>(alloc: Global, site: &R) -> Result<usize, AllocErro
     }
 }
 
-// What is told of a dump that makes the tables again.
-fn dumped_words(
-    alloc: Global,
+// Says what a dump has that makes the tables again.
+fn say_dumped(
+    out: &mut String,
     file: &str,
     tables: &Tables,
     refused: usize,
-) -> Result<String, AllocError> {
-    let statements = count_words(alloc, tables.insertions.len(), "statement")?;
-    let relvars = count_words(alloc, tables.relvars, "base relvar")?;
-    let tuples = count_words(alloc, tables.tuples, "tuple")?;
-    let refused = count_words(alloc, refused, "refused statement")?;
-    format!(in alloc;
-        "dumped the script and {tuples} of {relvars} by {statements} to {file}\nit forgets the history: who issued what and when, past answers, and {refused}\nchange its script before sites start with it, if only by a comment: so sites of the old script do not meet them\n"
+) -> Result<(), AllocError> {
+    out.push_str("dumped the script and ")?;
+    push_count(out, tables.tuples, "tuple")?;
+    out.push_str(" of ")?;
+    push_count(out, tables.relvars, "base relvar")?;
+    out.push_str(" by ")?;
+    push_count(out, tables.insertions.len(), "statement")?;
+    writeln!(out, " to {file}")?;
+    out.push_str("it forgets the history: who issued what and when, past answers, and ")?;
+    push_count(out, refused, "refused statement")?;
+    out.push_str(
+        "\nchange its script before sites start with it, if only by a comment: so sites of the old script do not meet them\n",
     )
 }
 
 // Appends what a new site refused, if it did.
-fn push_warning(alloc: Global, out: &mut String, trial: &Trial) -> Result<(), AllocError> {
+fn push_warning(out: &mut String, trial: &Trial) -> Result<(), AllocError> {
     if trial.refused == 0 {
         return Ok(());
     }
-    let refused = count_words(alloc, trial.refused, "statement")?;
-    write!(
-        out,
-        "WARNING: {refused} of the file would be refused by themselves, and it does not make this site's tables again:\n"
+    out.push_str("WARNING: ")?;
+    push_count(out, trial.refused, "statement")?;
+    out.push_str(
+        " of the file would be refused by themselves, and it does not make this site's tables again:\n",
     )?;
     out.push_str(trial.lines.as_str())
 }
 
-// Tries the statements at a new site, and writes them to the file.
-fn write_tables<O: Opens + Drop, R: Replica, H: Files<File = File>>(
-    alloc: Global,
+// Writes the statements of the tables to the file, and says what a new site made of them.
+fn write_tried<'t, R: Replica, H: Files<File = File>>(
+    out: &mut String,
     host: &H,
     site: &R,
-    limit: usize,
     tables: &Tables,
-    file: &str,
-    meter: &mut Meter,
-) -> Result<String, AllocError> {
-    let insertions = tables.insertions.as_slice();
-    let script = site.script();
-    let trial = refused_insertions::<O>(alloc, script, limit, insertions, meter)?;
+    trial: &Trial,
+    file: &'t str,
+) -> Result<(), Fault<'t>> {
+    let alloc = *out.allocator();
     let refused = count_refused(alloc, site)?;
-    match write_text(alloc, host, file, script, insertions)? {
-        Ok(()) => {
-            let mut out = dumped_words(alloc, file, tables, refused)?;
-            push_warning(alloc, &mut out, &trial)?;
-            Ok(out)
-        }
-        Err(error) => unwritten_words(alloc, file, error),
+    if let Err(error) = write_insertions(alloc, host, file, site.script(), &tables.insertions) {
+        return Err(Fault::unwritten(file, error));
     }
+    say_dumped(out, file, tables, refused)?;
+    Ok(push_warning(out, trial)?)
 }
 
-/// Writes the script, and behind it statements that insert what the base relvars have now, to a file that is not there
-/// yet. They are tried at a new site first, and those that it refuses are told.
-pub(crate) fn dump_tables<O: Opens + Drop, R: Replica, H: Files<File = File>>(
-    alloc: Global,
+// Tries the statements of the tables at a new site, and writes them to the file.
+fn write_tables<'t, O: Opens + Drop, R: Replica, H: Files<File = File>>(
+    out: &mut String,
     host: &H,
-    catalogue: &Catalogue,
     site: &R,
-    file: &str,
+    tables: &Tables,
+    file: &'t str,
     meter: &mut Meter,
-) -> Result<String, AllocError> {
-    if is_of_journals(file) {
-        return format!(in alloc;
-            "fault file: {file} is a name for journals; a dump goes to another one\n"
-        );
-    }
+) -> Result<(), Fault<'t>> {
     let Ok(held) = site.held() else {
-        return String::from_str(alloc, BROKEN);
+        return Err(Fault::Site(SiteFault::Broken));
     };
-    match tables_of(alloc, catalogue, site) {
-        Ok(tables) => {
-            write_tables::<O, _, _>(alloc, host, site, held.limit(), &tables, file, meter)
-        }
-        Err(untold) => untold_words(alloc, untold),
+    let insertions = tables.insertions.as_slice();
+    let tried = refused_insertions::<O>(
+        *out.allocator(),
+        site.script(),
+        held.limit(),
+        insertions,
+        meter,
+    );
+    match tried {
+        Ok(trial) => write_tried(out, host, site, tables, &trial, file),
+        Err(error) => Err(Fault::from(error)),
     }
 }
 
-// The table of a relvar as CSV; none where it has no attributes.
-fn table_text<R: Replica>(
-    alloc: Global,
+/// Writes the script, and after it statements that insert what the base relvars have now, to a file that is not there
+/// yet. They are tried at a new site first, and those that it refuses are reported.
+pub(crate) fn dump_tables<'t, O: Opens + Drop, R: Catalogued, H: Files<File = File>>(
+    out: &mut String,
+    host: &H,
     site: &R,
-    name: &Name,
-) -> Result<Option<Vec<u8>>, ValueError> {
-    let relation: Relation = match site.value_of(alloc, name) {
-        Ok(Answer::Value(relation)) => relation,
-        Ok(Answer::Raised(_)) => return Ok(None),
-        Err(error) => return Err(error),
-    };
+    file: &'t str,
+    meter: &mut Meter,
+) -> Result<(), Fault<'t>> {
+    if is_of_journals(file) {
+        return Err(Fault::file(file, FileFault::JournalName));
+    }
+    if !site.is_open() {
+        return Err(Fault::Site(SiteFault::Broken));
+    }
+    match tables_of(*out.allocator(), site) {
+        Ok(tables) => write_tables::<O, _, _>(out, host, site, &tables, file, meter),
+        Err(error) => Err(not_dumped(error)),
+    }
+}
+
+// The relation as comma-separated values; none of one without attributes.
+fn csv_of(alloc: Global, relation: &Relation) -> Result<Option<Vec<u8>>, ValueError> {
     if relation.heading().is_empty() {
         return Ok(None);
     }
-    match relation_table(alloc, &relation) {
+    match relation_table(alloc, relation) {
         Ok(text) => Ok(Some(text)),
         Err(AllocError) => Err(ValueError::OutOfMemory),
     }
 }
 
-// Writes a table into the folder by the name of its relvar, and tells what it did.
-fn write_table<H: Files<File = File>>(
+// The table of a relvar as comma-separated values; none if it has no attributes.
+fn table_of<R: Replica>(
     alloc: Global,
-    host: &H,
-    folder: &str,
-    relvar: &str,
-    table: &[u8],
-) -> Result<String, AllocError> {
-    let file = format!(in alloc; "{folder}/{relvar}.csv")?;
-    match write_new(alloc, host, file.as_str(), table)? {
-        Ok(()) => format!(in alloc; "{file}\n"),
-        Err(error) => unwritten_words(alloc, file.as_str(), error),
-    }
-}
-
-// Writes the table of one relvar into the folder, and tells what it did.
-fn export_one<R: Replica, H: Files<File = File>>(
-    alloc: Global,
-    host: &H,
     site: &R,
     name: &Name,
-    folder: &str,
-) -> Result<String, AllocError> {
-    let relvar = name.as_str();
-    match table_text(alloc, site, name) {
-        Ok(Some(table)) => write_table(alloc, host, folder, relvar, &table),
-        Ok(None) => format!(in alloc; "{relvar} has no attributes, and no table\n"),
-        Err(ValueError::OutOfMemory) => Err(AllocError),
-        Err(ValueError::Broken | ValueError::Unknown) => String::from_str(alloc, BROKEN),
+) -> Result<Option<Vec<u8>>, ValueError> {
+    match site.value_of(alloc, name) {
+        Ok(Evaluated::Value(relation)) => csv_of(alloc, &relation),
+        Ok(Evaluated::Raised(_)) => Ok(None),
+        Err(error) => Err(error),
     }
 }
 
-/// Writes a CSV file for each base relvar into a folder, which is made where it is not there, and never over a file.
-pub fn export<R: Replica, H: Files<File = File>>(
-    alloc: Global,
-    host: &H,
-    catalogue: &Catalogue,
-    site: &R,
-    folder: &str,
-) -> Result<String, AllocError> {
-    if fs::symlink_metadata(host, folder).is_err() && fs::create_dir(host, folder).is_err() {
-        return format!(in alloc; "fault file: {folder} cannot be made\n");
-    }
-    let mut out = String::new(alloc);
-    for place in 0..catalogue.schema().relvar_count() {
-        if let (Some((name, _)), Some(Origin::Base(_, _))) = (
-            catalogue.schema().relvar_at(place),
-            catalogue.origin(place),
-        ) {
-            out.push_str(export_one(alloc, host, site, name, folder)?.as_str())?;
+/// Where tables go.
+#[derive(Drop)]
+struct Target<'a, H> {
+    host: &'a H,
+    folder: &'a str,
+    catalogue: &'a Catalogue,
+    notes: &'a Notes,
+}
+
+impl<H: Files<File = File>> Target<'_, H> {
+    // Writes a table to this file, and says what it did.
+    fn write_file(&self, answer: &mut Answer, file: &str, table: &[u8]) -> Result<(), AllocError> {
+        match write_new(*answer.text.allocator(), self.host, file, table) {
+            Ok(()) => writeln!(answer.text, "{file}"),
+            Err(NotWritten::OutOfMemory) => Err(AllocError),
+            Err(error) => {
+                answer.push_fault(self.catalogue, self.notes, Fault::unwritten(file, error))
+            }
         }
     }
-    Ok(out)
+
+    // Writes a table into the folder by the name of its relvar, and says what it did.
+    fn write_table(
+        &self,
+        answer: &mut Answer,
+        relvar: &str,
+        table: &[u8],
+    ) -> Result<(), AllocError> {
+        let alloc = *answer.text.allocator();
+        let folder = self.folder;
+        let file = format!(in alloc; "{folder}/{relvar}.csv")?;
+        self.write_file(answer, file.as_str(), table)
+    }
+
+    // Writes the table of one relvar into the folder, and says what it did.
+    fn export<R: Replica>(
+        &self,
+        answer: &mut Answer,
+        site: &R,
+        name: &Name,
+    ) -> Result<(), AllocError> {
+        let relvar = name.as_str();
+        match table_of(*answer.text.allocator(), site, name) {
+            Ok(Some(table)) => self.write_table(answer, relvar, &table),
+            Ok(None) => writeln!(answer.text, "{relvar} has no attributes, and no table"),
+            Err(ValueError::OutOfMemory) => Err(AllocError),
+            Err(ValueError::Broken | ValueError::Unknown) => {
+                let fault = Fault::Site(SiteFault::Broken);
+                answer.push_fault(self.catalogue, self.notes, fault)
+            }
+        }
+    }
+}
+
+// Writes the tables of all base relvars, in the order of the script.
+fn export_all<R: Replica, H: Files<File = File>>(
+    answer: &mut Answer,
+    site: &R,
+    target: &Target<'_, H>,
+) -> Result<(), AllocError> {
+    let catalogue = target.catalogue;
+    for place in 0..catalogue.schema().relvar_count() {
+        if let (Some((name, _)), Some(Origin::Base(_, _))) = (
+            catalogue.relvar_at(place),
+            catalogue.origin(place),
+        ) {
+            target.export(answer, site, name)?;
+        }
+    }
+    Ok(())
+}
+
+/// Writes a CSV file for each base relvar into a folder, which is made if it is not there, and never over a file.
+pub(crate) fn export<'t, R: Catalogued, H: Files<File = File>>(
+    answer: &mut Answer,
+    host: &H,
+    site: &R,
+    folder: &'t str,
+    notes: &Notes,
+) -> Result<(), Fault<'t>> {
+    if fs::symlink_metadata(host, folder).is_err() && fs::create_dir(host, folder).is_err() {
+        return Err(Fault::file(folder, FileFault::NoFolder));
+    }
+    let target = Target {
+        host,
+        folder,
+        catalogue: site.catalogue(),
+        notes,
+    };
+    Ok(export_all(answer, site, &target)?)
 }

@@ -1,10 +1,10 @@
 //! How long answers take.
 
-use std::alloc::{AllocError, Global};
+use std::alloc::AllocError;
 use std::time::{Clock, Instant};
 
-/// The time, where it is wanted and the system tells it.
-pub fn begin<H: Clock>(host: &H, is_wanted: bool) -> Option<Instant> {
+/// The time, if it is wanted and the system tells it.
+pub(crate) fn begin<H: Clock>(host: &H, is_wanted: bool) -> Option<Instant> {
     if is_wanted {
         Instant::now(host).ok()
     } else {
@@ -12,23 +12,21 @@ pub fn begin<H: Clock>(host: &H, is_wanted: bool) -> Option<Instant> {
     }
 }
 
-/// The line that tells how long it took from this time on, or an empty text.
-pub fn took<H: Clock>(
-    alloc: Global,
+/// Appends how long it took from this time on, in a line; nothing without a time.
+pub(crate) fn push_time<H: Clock>(
+    out: &mut String,
     host: &H,
     begun: Option<Instant>,
-) -> Result<String, AllocError> {
+) -> Result<(), AllocError> {
     let elapsed = match begun {
         Some(begun) => begun.elapsed(host).ok(),
         None => None,
     };
-    match elapsed {
-        Some(time) => {
-            let micros = time.as_micros();
-            let millis = micros / 1_000;
-            let rest = micros % 1_000;
-            format!(in alloc; "took {millis}.{rest:03} ms\n")
-        }
-        None => Ok(String::new(alloc)),
-    }
+    let Some(elapsed) = elapsed else {
+        return Ok(());
+    };
+    let micros = elapsed.as_micros();
+    let millis = micros / 1_000;
+    let rest = micros % 1_000;
+    writeln!(out, "took {millis}.{rest:03} ms")
 }

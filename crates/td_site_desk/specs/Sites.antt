@@ -1,7 +1,8 @@
 -- What the calls of a desk do to its site, and with which status that is answered.
-use Rattle.std.specs.Prelude.{◌≡◌, ◌⊎◌, ◌≤◌, ℕ, List, Option, None, IfSome, Result, Ok, Err, option_map}
+use Rattle.std.specs.Prelude.{◌≡◌, ◌⊎◌, ◌≤◌, ℕ, List, Option, None, IfSome, Result, Ok, Err, option_copied, option_map}
 use Rattle.td_http_api.specs.Answers.{Answer}
-use Rattle.td_http_api.specs.Calls.{ApiCall, statement}
+use Rattle.td_http_api.specs.declared.calls.ApiCall.{ApiCall}
+use Rattle.td_http_api.specs.declared.calls.ApiCall.TheVariants.{Statement}
 use Rattle.td_replica.specs.Calls.{Issues}
 use Rattle.td_replica.specs.Seen.{Seen}
 use Rattle.td_replica.specs.declared.calls.Issued.{Issued}
@@ -25,6 +26,7 @@ pub record IsUnissued (old : Seen) (key : Option (List ℕ)) (status : Option �
 
 -- a statement is issued, or not; every other call leaves the site as it was
 abbrev pub Changes : ApiCall → Option Answer → Seen → Seen → Type 0
-Changes (statement text key) answer old new =
-    let status = option_map (λ a. a.status) answer in IsIssued old text status new ⊎ IsUnissued old key status new
-Changes call answer old new = new ≡ old
+Changes (Statement text key) answer old new =
+    let status = option_map (λ a. a.status) answer in
+    IsIssued old text.now status new ⊎ IsUnissued old (option_copied key) status new
+Changes _ answer old new = new ≡ old

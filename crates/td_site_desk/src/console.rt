@@ -6,11 +6,12 @@ use crate::desk::SiteDesk;
 use std::io::{ErrorKind, Read};
 use std::rt::Runtime;
 use td_changes::Changes;
+use td_replica::Catalogued;
 
-/// A line has at most so many bytes.
+/// The most bytes of a line.
 const MOST_LINE_BYTES: usize = 1_024;
 
-/// One read takes at most so many bytes.
+/// The most bytes that one read takes.
 const MOST_READ_BYTES: usize = 1_024;
 
 const UNKNOWN_WORDS: &str = "this is no line of the console: write stop, which ends the program\n";
@@ -56,7 +57,7 @@ impl PartialLine {
         }
     }
 
-    // Ends the line, tells what it asks for, and begins the next one.
+    // Ends the line, returns what it asks for, and begins the next one.
     fn end(&mut self) -> ConsoleLine {
         let line = if self.is_too_long {
             ConsoleLine::TooLong
@@ -83,7 +84,7 @@ impl PartialLine {
     }
 }
 
-impl<R: Changes + Drop, H: Runtime + AllocGlobal> SiteDesk<'_, R, H> {
+impl<R: Changes + Catalogued + Drop, H: Runtime + AllocGlobal> SiteDesk<'_, R, H> {
     // Does what a line asks for, or says which lines there are.
     fn obey(&mut self, line: ConsoleLine)
         ensures { R.seen self.new.site ≡ R.seen self.old.site }
@@ -95,7 +96,7 @@ impl<R: Changes + Drop, H: Runtime + AllocGlobal> SiteDesk<'_, R, H> {
         }
     }
 
-    // Does what the lines that end in these bytes ask for; what is behind the last end waits for more.
+    // Does what the lines that end in these bytes ask for; what comes after the last end waits for more.
     fn take_console(&mut self, bytes: &[u8])
         ensures { R.seen self.new.site ≡ R.seen self.old.site }
     {
@@ -106,7 +107,7 @@ impl<R: Changes + Drop, H: Runtime + AllocGlobal> SiteDesk<'_, R, H> {
         }
     }
 
-    /// Reads standard input once, and does what its whole lines ask for; tells whether more may come. What has no line
+    /// Reads standard input once, and does what its whole lines ask for; returns whether more may come. What has no line
     /// end when the input ends is no line.
     pub(crate) fn read_console(&mut self) -> bool
         ensures { R.seen self.new.site ≡ R.seen self.old.site }

@@ -1,4 +1,4 @@
-//! The site behind the requests.
+//! The site that answers requests.
 
 ghost use Rattle.std.specs.Prelude.{◌≡◌};
 ghost use Rattle.td_site_desk.specs.Sites.{Changes};
@@ -9,19 +9,18 @@ use crate::keys::Keys;
 use crate::meetings::Meetings;
 use crate::reversals::Reversals;
 use crate::values::Range;
-use crate::words::{fault, write_text, write_truth};
+use crate::words::{fault, write_raised, write_text, write_truth};
 use std::alloc::{AllocError, Global};
 use std::net::SocketAddr;
 use std::rt::Runtime;
 use td_changes::Changes;
-use td_headings::Catalogue;
-use td_http_api::{Desk, Inquiry, StatusCode, Writer};
+use td_http_api::{ApiCall, Desk, DeskAnswer, StatusCode, Writer};
 use td_io::Device;
 use td_journal_files::Notes;
 use td_listings::{ExportError, export};
+use td_replica::Catalogued;
 use td_semantics::Meter;
-use td_shell_notices::raise_words;
-use td_shell_session::{BROKEN, NO_MEMORY};
+use td_site_messages::{BROKEN, NO_MEMORY};
 
 /// The peers that the program was started with.
 #[derive(Drop)]
@@ -29,14 +28,27 @@ pub struct Peers {
     pub addresses: Vec<SocketAddr>,
 }
 
-/// A site with its catalogue, and with what is kept of its statements and its meetings.
+/// What a desk is made of.
+#[derive(Drop)]
+pub struct DeskParts<'a, R: Drop, H> {
+    pub host: &'a H,
+    pub notes: &'a Notes,
+    /// A site that was opened.
+    pub site: R,
+    pub meter: Meter,
+    pub peers: Peers,
+    pub reversals: Reversals,
+    /// Its journal lacks statements that it had once, so it issues none until it has met another site.
+    pub is_lacking: bool,
+}
+
+/// A site, with what is kept of its statements and its meetings.
 #[derive(Drop)]
 pub struct SiteDesk<'a, R: Drop, H> {
     pub(crate) alloc: Global,
     pub(crate) host: &'a H,
     pub(crate) notes: &'a Notes,
     pub(crate) site: R,
-    pub(crate) catalogue: Catalogue,
     pub(crate) meter: Meter,
     pub(crate) peers: Peers,
     pub(crate) wish: Option<SocketAddr>,
@@ -50,34 +62,35 @@ pub struct SiteDesk<'a, R: Drop, H> {
     pub(crate) now: u64,
 }
 
-// Appends words without their line end.
-fn push_words(out: &mut String, words: &str) -> Result<StatusCode, AllocError> {
-    out.push_str(words.trim_ascii_end())?;
-    Ok(StatusCode::INTERNAL_SERVER_ERROR)
+// The answer of the members that were written, with this status.
+fn members(status: Result<StatusCode, AllocError>) -> Result<DeskAnswer, AllocError> {
+    match status {
+        Ok(status) => Ok(DeskAnswer::Members(status)),
+        Err(error) => Err(error),
+    }
 }
 
-impl<'a, R: Changes + Drop, H: Runtime + AllocGlobal> SiteDesk<'a, R, H> {
-    /// A site that was opened, with the peers that it calls. Where its journal lacks statements that it had once, it
-    /// issues none before it has met another site.
+impl<'a, R: Changes + Catalogued + Drop, H: Runtime + AllocGlobal> SiteDesk<'a, R, H> {
+    /// A desk of these parts. The marks of reversed statements are brought up to what the site holds.
     pub fn new(
         alloc: Global,
-        host: &'a H,
-        notes: &'a Notes,
-        site: R,
-        catalogue: Catalogue,
-        meter: Meter,
-        peers: Peers,
-        reversals: Reversals,
-        is_lacking: bool,
+        parts: DeskParts<'a, R, H>,
     ) -> Result<SiteDesk<'a, R, H>, AllocError> {
-        let mut reversals = reversals;
+        let DeskParts {
+            host,
+            notes,
+            site,
+            meter,
+            peers,
+            mut reversals,
+            is_lacking,
+        } = parts;
         let _ = reversals.update(&site)?;
         Ok(SiteDesk {
             alloc,
             host,
             notes,
             site,
-            catalogue,
             meter,
             peers,
             wish: None,
@@ -100,7 +113,7 @@ impl<'a, R: Changes + Drop, H: Runtime + AllocGlobal> SiteDesk<'a, R, H> {
         self.now = now;
     }
 
-    // Tells whoever watches the program. Nothing hangs on whether that is seen.
+    // Tells whoever watches the program. Nothing depends on whether that is seen.
     pub(crate) fn tell_line(&self, line: &str) {
         let _ = print!(self.host; "{line}");
     }
@@ -110,7 +123,7 @@ impl<'a, R: Changes + Drop, H: Runtime + AllocGlobal> SiteDesk<'a, R, H> {
         SiteView {
             alloc: self.alloc,
             site: &self.site,
-            catalogue: &self.catalogue,
+            notes: self.notes,
             reversals: &self.reversals,
         }
     }
@@ -130,7 +143,19 @@ impl<'a, R: Changes + Drop, H: Runtime + AllocGlobal> SiteDesk<'a, R, H> {
         Ok(StatusCode::OK)
     }
 
-    // Appends the value of a query: now, or as it was just behind the statement of a stamp.
+    // Appends the relvars, with the numbers of their tuples where these are asked for.
+    fn tell_relvars(&self, counts: bool, out: &mut Writer) -> Result<StatusCode, AllocError> {
+        self.view().tell_relvars(counts, out)?;
+        Ok(StatusCode::OK)
+    }
+
+    // Appends the script.
+    fn tell_script(&self, out: &mut Writer) -> Result<StatusCode, AllocError> {
+        write_text(out, "script", self.site.script())?;
+        Ok(StatusCode::OK)
+    }
+
+    // Appends the value of a query: now, or as it was just after the statement of a stamp.
     fn query(
         &self,
         text: &str,
@@ -148,35 +173,52 @@ impl<'a, R: Changes + Drop, H: Runtime + AllocGlobal> SiteDesk<'a, R, H> {
     }
 
     // Appends why a relvar is not exported, and returns the status.
-    fn refused_table(
+    fn refuse_table(
         &self,
         error: ExportError,
         relvar: &str,
-        out: &mut String,
+        out: &mut Writer,
     ) -> Result<StatusCode, AllocError> {
         match error {
             ExportError::Unknown => {
-                out.push_str("there is no relvar ")?;
-                out.push_str(relvar)?;
+                let words = format!(in self.alloc; "there is no relvar {relvar}")?;
+                write_text(out, "fault", words.as_str())?;
                 Ok(StatusCode::NOT_FOUND)
             }
             ExportError::NoAttributes => {
-                out.push_str("the relation has no attributes")?;
+                let words = "the relation has no attributes";
+                write_text(out, "fault", words)?;
                 Ok(StatusCode::UNPROCESSABLE_ENTITY)
             }
-            ExportError::Broken => push_words(out, BROKEN),
+            ExportError::Broken => {
+                write_text(out, "fault", BROKEN)?;
+                Ok(StatusCode::INTERNAL_SERVER_ERROR)
+            }
             ExportError::Raised(raise) => {
-                out.push_str(raise_words(raise))?;
+                write_raised(self.alloc, out, raise)?;
                 Ok(StatusCode::UNPROCESSABLE_ENTITY)
             }
             ExportError::OutOfMemory | ExportError::WriteFault => {
-                let _ = push_words(out, NO_MEMORY)?;
+                write_text(out, "fault", NO_MEMORY)?;
                 Ok(StatusCode::SERVICE_UNAVAILABLE)
             }
         }
     }
 
-    // Has one of the peers called soon; a later wish takes the place of one that is still open.
+    // A relvar as comma-separated values, or why it is not exported.
+    fn export_table(&self, relvar: &str, out: &mut Writer) -> Result<DeskAnswer, AllocError> {
+        let mut table = Vec::new(self.alloc);
+        let exported = export(self.alloc, &self.site, relvar, &mut Device::new(&mut table));
+        if let Err(error) = exported {
+            return members(self.refuse_table(error, relvar, out));
+        }
+        match String::from_utf8(table) {
+            Ok(text) => Ok(DeskAnswer::Table(text)),
+            Err(_) => Err(AllocError),
+        }
+    }
+
+    // Has one of the peers called soon. A later wish takes the place of one that is still open.
     fn wish_for(&mut self, text: &str, out: &mut Writer) -> Result<StatusCode, AllocError>
         ensures { R.seen self.new.site ≡ R.seen self.old.site }
     {
@@ -201,97 +243,34 @@ impl<'a, R: Changes + Drop, H: Runtime + AllocGlobal> SiteDesk<'a, R, H> {
         write_truth(out, "stopping", true)?;
         Ok(StatusCode::ACCEPTED)
     }
-
-    // Answers an inquiry, which leaves the site as it was.
-    fn inquire(&self, inquiry: &Inquiry<'_>, out: &mut Writer) -> Result<StatusCode, AllocError> {
-        match *inquiry {
-            Inquiry::Site => self.tell_site(out),
-            Inquiry::Relvars { counts } => {
-                self.view().tell_relvars(counts, out)?;
-                Ok(StatusCode::OK)
-            }
-            Inquiry::Refused => self.view().tell_refused(out),
-            Inquiry::Log { after } => self.view().tell_log(after, out),
-            Inquiry::Script => {
-                write_text(out, "script", self.site.script())?;
-                Ok(StatusCode::OK)
-            }
-            Inquiry::Query {
-                text,
-                at,
-                first,
-                count,
-            } => self.query(text, at, Range { first, count }, out),
-        }
-    }
-
-    // Appends a relvar as comma-separated values, or why it is not exported, and returns the status.
-    fn export_table(&self, relvar: &str, out: &mut String) -> Result<StatusCode, AllocError> {
-        let mut table = Vec::new(self.alloc);
-        let told = export(self.alloc, &self.site, relvar, &mut Device::new(&mut table));
-        if let Err(error) = told {
-            return self.refused_table(error, relvar, out);
-        }
-        match String::from_utf8(table) {
-            Ok(text) => {
-                out.push_str(text.as_str())?;
-                Ok(StatusCode::OK)
-            }
-            Err(_) => Err(AllocError),
-        }
-    }
 }
 
-impl<R: Changes + Drop, H: Runtime + AllocGlobal> Desk for SiteDesk<'_, R, H> {
+impl<R: Changes + Catalogued + Drop, H: Runtime + AllocGlobal> Desk for SiteDesk<'_, R, H> {
     // No call changes the site but a statement, which is issued, or answered by a fault where it has no key.
     ghost answers = { λ old call answer new.
         Changes call answer (R.seen old.site) (R.seen new.site) };
 
-    #[tactic(auto, using(crate::proofs::Told::stays))]
-    fn tell(&self, inquiry: &Inquiry<'_>, out: &mut Writer) -> Result<StatusCode, AllocError> {
-        match self.inquire(inquiry, out) {
-            Ok(status) => Ok(status),
-            Err(error) => Err(error),
-        }
-    }
-
-    fn export(&self, relvar: &str, out: &mut String) -> Result<StatusCode, AllocError> {
-        match self.export_table(relvar, out) {
-            Ok(status) => Ok(status),
-            Err(error) => Err(error),
-        }
-    }
-
-    fn issue(
-        &mut self,
-        text: &str,
-        key: Option<&str>,
-        out: &mut Writer,
-    ) -> Result<StatusCode, AllocError> {
-        match self.issue_once(text, key, out) {
-            Ok(status) => Ok(status),
-            Err(error) => Err(error),
-        }
-    }
-
-    fn acknowledge(&mut self, stamp: &str, out: &mut Writer) -> Result<StatusCode, AllocError> {
-        match self.acknowledge_stamp(stamp, out) {
-            Ok(status) => Ok(status),
-            Err(error) => Err(error),
-        }
-    }
-
-    fn meet(&mut self, address: &str, out: &mut Writer) -> Result<StatusCode, AllocError> {
-        match self.wish_for(address, out) {
-            Ok(status) => Ok(status),
-            Err(error) => Err(error),
-        }
-    }
-
-    fn stop(&mut self, out: &mut Writer) -> Result<StatusCode, AllocError> {
-        match self.stop_soon(out) {
-            Ok(status) => Ok(status),
-            Err(error) => Err(error),
+    fn make(&mut self, call: &ApiCall<'_>, out: &mut Writer) -> Result<DeskAnswer, AllocError> {
+        match *call {
+            ApiCall::Site => members(self.tell_site(out)),
+            ApiCall::Relvars { counts } => members(self.tell_relvars(counts, out)),
+            ApiCall::Table { relvar } => self.export_table(relvar, out),
+            ApiCall::Refused => members(self.view().tell_refused(out)),
+            ApiCall::Log { after } => members(self.view().tell_log(after, out)),
+            ApiCall::Script => members(self.tell_script(out)),
+            ApiCall::Query {
+                text,
+                at,
+                first,
+                count,
+            } => members(self.query(text, at, Range { first, count }, out)),
+            ApiCall::Statement { text, key } => match self.issue_once(text, key, out) {
+                Ok(status) => Ok(DeskAnswer::Members(status)),
+                Err(error) => Err(error),
+            },
+            ApiCall::Acknowledge { stamp } => members(self.acknowledge_stamp(stamp, out)),
+            ApiCall::Meet { address } => members(self.wish_for(address, out)),
+            ApiCall::Stop => members(self.stop_soon(out)),
         }
     }
 }

@@ -9,10 +9,11 @@ use std::rt::Runtime;
 use td_changes::Changes;
 use td_event_loop::{MeetingOutcome, MeetingReport, Outbox, PeerRefusal, StepResult};
 use td_frames::FrameError;
+use td_headings::Catalogue;
+use td_journal_files::Notes;
 use td_meeting::MeetingError;
-use td_replica::Taken;
-use td_shell_notices::Told;
-use td_shell_session::not_met;
+use td_replica::{Catalogued, Taken};
+use td_site_messages::{MeetingChanges, SiteFault, Snapshot, push_met, push_site_fault};
 use td_stream_bounds::{Extent, greeting_extent};
 
 // What a step of a meeting came to that failed.
@@ -36,7 +37,15 @@ fn taken_of(error: MeetingError) -> usize {
     }
 }
 
-// The stream of entries behind the greeting of a reply; nothing where the greeting is not whole.
+// How many fresh statements a step took.
+fn fresh_of(taken: Result<Taken, MeetingError>) -> usize {
+    match taken {
+        Ok(taken) => taken.fresh,
+        Err(error) => taken_of(error),
+    }
+}
+
+// The stream of entries after the greeting of a reply; nothing if the greeting is not whole.
 fn entries_of(reply: &[u8]) -> &[u8] {
     match greeting_extent(reply) {
         Extent::Whole(end) => reply.get(end..).unwrap_or(&[]),
@@ -44,16 +53,35 @@ fn entries_of(reply: &[u8]) -> &[u8] {
     }
 }
 
-// The words for how many of the statements that a meeting brought were new here.
-fn met_words(alloc: Global, taken: Taken) -> Result<String, AllocError> {
-    let fresh = taken.fresh;
-    if fresh == 1 {
-        return String::from_str(alloc, "met: 1 statement was new here");
+// Appends why a step did not do what it is for, or how much it did.
+fn push_error(
+    out: &mut String,
+    catalogue: &Catalogue,
+    notes: &Notes,
+    error: MeetingError,
+) -> Result<(), AllocError> {
+    if outcome_of(error) == MeetingOutcome::Partial {
+        let taken = taken_of(error);
+        return write!(
+            out,
+            "met in part: {taken} statements were new here, and the next meeting goes on"
+        );
     }
-    format!(in alloc; "met: {fresh} statements were new here")
+    out.push_str("fault ")?;
+    push_site_fault(out, catalogue, notes, SiteFault::NotMet(error))
 }
 
-impl<R: Changes + Drop, H: Runtime + AllocGlobal> SiteDesk<'_, R, H> {
+// Appends what a meeting changed, in one line.
+fn push_meeting_changes(out: &mut String, changes: &MeetingChanges) -> Result<(), AllocError> {
+    out.push_str(changes.line_end.as_str())?;
+    for line in changes.lines.as_str().lines() {
+        out.push_str("; ")?;
+        out.push_str(line)?;
+    }
+    Ok(())
+}
+
+impl<R: Changes + Catalogued + Drop, H: Runtime + AllocGlobal> SiteDesk<'_, R, H> {
     // Keeps what a step came to until its meeting ends; a step whose words had no memory leaves no note.
     fn note(&mut self, meeting: usize, outcome: MeetingOutcome, words: Result<String, AllocError>) {
         if let Ok(words) = words {
@@ -63,14 +91,9 @@ impl<R: Changes + Drop, H: Runtime + AllocGlobal> SiteDesk<'_, R, H> {
 
     // Why a step did not do what it is for, or how much it did.
     fn error_words(&self, error: MeetingError) -> Result<String, AllocError> {
-        if outcome_of(error) == MeetingOutcome::Partial {
-            let taken = taken_of(error);
-            return format!(in self.alloc;
-                "met in part: {taken} statements were new here, and the next meeting goes on"
-            );
-        }
-        let words = not_met(self.alloc, error, self.notes)?;
-        String::from_str(self.alloc, words.as_str().trim_ascii_end())
+        let mut words = String::new(self.alloc);
+        push_error(&mut words, self.site.catalogue(), self.notes, error)?;
+        Ok(words)
     }
 
     // Keeps why a step failed, or how much it did, until its meeting ends.
@@ -79,7 +102,7 @@ impl<R: Changes + Drop, H: Runtime + AllocGlobal> SiteDesk<'_, R, H> {
         self.note(meeting, outcome_of(error), words);
     }
 
-    // Looks at what became of the statements of this site, where others came.
+    // Looks at what became of the statements of this site, if others came.
     fn review(&mut self, fresh: usize) {
         if fresh == 0 {
             return;
@@ -96,7 +119,7 @@ impl<R: Changes + Drop, H: Runtime + AllocGlobal> SiteDesk<'_, R, H> {
         }
     }
 
-    /// Writes the list of reversed statements to its file, and tells whoever watches where that fails.
+    /// Writes the list of reversed statements to its file, and tells whoever watches if that fails.
     pub(crate) fn save_reversals(&self) {
         if !matches!(self.reversals.save(self.host), Ok(true)) {
             self.tell_line("fault file: the list of reversed statements cannot be written\n");
@@ -153,52 +176,66 @@ impl<R: Changes + Drop, H: Runtime + AllocGlobal> SiteDesk<'_, R, H> {
         let _ = println!(self.host; "no meeting from {peer}: {why}");
     }
 
-    /// The peer that a client asked to have called, told once; none where nobody asked since.
+    /// The peer that a client asked to have called, which is given once; none if nobody asked since.
     pub(crate) fn next_wish(&mut self) -> Option<SocketAddr> {
         self.wish.take()
     }
 
-    // What the site tells of its statements before it takes a stream of entries; none where the stream has none, and
-    // for want of memory. It costs a walk along what is held.
-    fn told_before(&self, entries: &[u8]) -> Option<Told> {
+    // What the site says of its statements before it takes a stream of entries; none if the stream has none, or if
+    // memory runs out. It costs a walk along what is held.
+    fn snapshot_before(&self, entries: &[u8]) -> Option<Snapshot> {
         // (one letter is the end of a stream)
         if entries.len() < 2 {
             return None;
         }
-        match Told::by(self.alloc, &self.site) {
-            Ok(told) => Some(told),
+        match Snapshot::of(self.alloc, &self.site) {
+            Ok(before) => Some(before),
             Err(_) => None,
         }
     }
 
     // Appends which statements have another outcome now, or change something else.
-    fn push_changes(&self, words: &mut String, before: &Told) -> Result<(), AllocError> {
-        let Ok(changes) = before.compare(self.alloc, &self.catalogue, &self.site) else {
-            return Ok(());
-        };
-        // (the shell names the command that lists them)
-        let told = changes.line_end.as_str();
-        words.push_str(told.strip_suffix(" (.refused)").unwrap_or(told))?;
-        for line in changes.lines.as_str().lines() {
-            words.push_str("; ")?;
-            words.push_str(line)?;
+    fn push_changes(&self, words: &mut String, before: &Snapshot) -> Result<(), AllocError> {
+        match before.compare(self.alloc, &self.site, "") {
+            Ok(changes) => push_meeting_changes(words, &changes),
+            Err(_) => Ok(()),
         }
-        Ok(())
     }
 
-    // The words of what a step took, with what that changed where something was fresh.
-    fn with_changes(
+    // Appends what a step took, or why it failed.
+    fn push_taken(
         &self,
-        words: Result<String, AllocError>,
-        fresh: usize,
-        before: Option<&Told>,
-    ) -> Result<String, AllocError> {
-        let mut words = words?;
-        if fresh > 0
-            && let Some(before) = before
-        {
-            self.push_changes(&mut words, before)?;
+        words: &mut String,
+        taken: Result<Taken, MeetingError>,
+    ) -> Result<(), AllocError> {
+        match taken {
+            Ok(taken) => push_met(words, taken.fresh),
+            Err(error) => push_error(words, self.site.catalogue(), self.notes, error),
         }
+    }
+
+    // Appends what a step took, or why it failed, with what that changed if something was fresh.
+    fn push_step(
+        &self,
+        words: &mut String,
+        taken: Result<Taken, MeetingError>,
+        before: Option<&Snapshot>,
+    ) -> Result<(), AllocError> {
+        self.push_taken(words, taken)?;
+        match before {
+            Some(before) if fresh_of(taken) > 0 => self.push_changes(words, before),
+            _ => Ok(()),
+        }
+    }
+
+    // The words of a step that took entries, or failed.
+    fn step_words(
+        &self,
+        taken: Result<Taken, MeetingError>,
+        before: Option<&Snapshot>,
+    ) -> Result<String, AllocError> {
+        let mut words = String::new(self.alloc);
+        self.push_step(&mut words, taken, before)?;
         Ok(words)
     }
 
@@ -206,41 +243,37 @@ impl<R: Changes + Drop, H: Runtime + AllocGlobal> SiteDesk<'_, R, H> {
     fn note_taken(
         &mut self,
         meeting: usize,
-        told: Result<Taken, MeetingError>,
-        before: Option<&Told>,
+        taken: Result<Taken, MeetingError>,
+        before: Option<&Snapshot>,
     ) {
-        let (outcome, fresh, words) = match told {
-            Ok(taken) => {
+        let outcome = match taken {
+            Ok(_) => {
                 self.is_lacking = false;
-                (
-                    MeetingOutcome::Complete,
-                    taken.fresh,
-                    met_words(self.alloc, taken),
-                )
+                MeetingOutcome::Complete
             }
-            Err(error) => (outcome_of(error), taken_of(error), self.error_words(error)),
+            Err(error) => outcome_of(error),
         };
-        let words = self.with_changes(words, fresh, before);
+        let words = self.step_words(taken, before);
         self.note(meeting, outcome, words);
-        self.review(fresh);
+        self.review(fresh_of(taken));
     }
 
     /// The third step: takes the entries of a reply, and writes those that the peer lacks.
     pub(crate) fn settle(&mut self, meeting: usize, reply: &[u8], out: &mut Outbox) -> StepResult {
-        let before = self.told_before(entries_of(reply));
-        let told = settle_bytes(self.alloc, &mut self.site, reply, out, &mut self.meter);
-        let next = match told {
+        let before = self.snapshot_before(entries_of(reply));
+        let taken = settle_bytes(self.alloc, &mut self.site, reply, out, &mut self.meter);
+        let next = match taken {
             Ok(_) | Err(MeetingError::WriteFault { .. }) => StepResult::Part,
             Err(_) => StepResult::Stop,
         };
-        self.note_taken(meeting, told, before.as_ref());
+        self.note_taken(meeting, taken, before.as_ref());
         next
     }
 
     /// The fourth step: takes the entries of the peer, and notes what it came to.
     pub(crate) fn finish(&mut self, meeting: usize, entries: &[u8]) {
-        let before = self.told_before(entries);
-        let told = finish_bytes(self.alloc, &mut self.site, entries, &mut self.meter);
-        self.note_taken(meeting, told, before.as_ref());
+        let before = self.snapshot_before(entries);
+        let taken = finish_bytes(self.alloc, &mut self.site, entries, &mut self.meter);
+        self.note_taken(meeting, taken, before.as_ref());
     }
 }

@@ -3,28 +3,31 @@
 use crate::reversals::Reversals;
 use crate::values::{Range, write_heading, write_value};
 use crate::words::{
-    fault, is_same, read_stamp, reason_of, stamp_text, write_count, write_text, write_truth,
+    fault, fault_words, is_same, read_stamp, reason_of, write_count, write_stamp, write_text,
+    write_truth,
 };
 use std::alloc::{AllocError, Global};
 use td_changes::Changes;
 use td_headings::{Catalogue, Origin};
 use td_http_api::{StatusCode, Writer};
-use td_replica::{AskError, PastError, TellError};
+use td_journal_files::Notes;
+use td_relations::Delta;
+use td_replica::{AskError, Catalogued, PastError, TellError};
 use td_semantics::{Answer, Meter, Outcome};
-use td_shell_notices::{changes_text, raise_words};
-use td_shell_session::{BROKEN, UNCHANGED, not_asked, not_asked_at};
-use td_stamps::{Entry, Stamp};
+use td_site_messages::{SiteFault, push_changes, raise_meaning};
+use td_stamps::{Entry, Held, Stamp};
+use td_values::Name;
 
 /// A site, with what the answers about it need.
 #[derive(Drop)]
 pub(crate) struct SiteView<'a, R> {
     pub(crate) alloc: Global,
     pub(crate) site: &'a R,
-    pub(crate) catalogue: &'a Catalogue,
+    pub(crate) notes: &'a Notes,
     pub(crate) reversals: &'a Reversals,
 }
 
-// The status where a query is not answered.
+// The status of the answer if a query is not answered.
 fn status_of(error: AskError) -> StatusCode {
     match error {
         AskError::Syntax | AskError::IllTyped => StatusCode::UNPROCESSABLE_ENTITY,
@@ -33,7 +36,7 @@ fn status_of(error: AskError) -> StatusCode {
     }
 }
 
-// The status where a query about a past place is not answered.
+// The status of the answer if a query about a past place is not answered.
 fn status_of_past(error: PastError) -> StatusCode {
     match error {
         PastError::Syntax | PastError::IllTyped | PastError::NoPlace => {
@@ -44,13 +47,56 @@ fn status_of_past(error: PastError) -> StatusCode {
     }
 }
 
-// Appends a stamp as the member `stamp`.
-fn write_stamp(alloc: Global, out: &mut Writer, stamp: &Stamp) -> Result<(), AllocError> {
-    let text = stamp_text(alloc, stamp)?;
-    write_text(out, "stamp", text.as_str())
+// The status of the answer if outcomes are not known.
+fn status_of_tell(error: TellError) -> StatusCode {
+    match error {
+        TellError::Broken => StatusCode::INTERNAL_SERVER_ERROR,
+        TellError::OutOfMemory => StatusCode::SERVICE_UNAVAILABLE,
+    }
 }
 
-impl<R: Changes> SiteView<'_, R> {
+// Appends what a statement changed as the member `changed`.
+fn write_changes(
+    alloc: Global,
+    catalogue: &Catalogue,
+    changes: &[(usize, Delta)],
+    out: &mut Writer,
+) -> Result<(), AllocError> {
+    let mut changed = String::new(alloc);
+    push_changes(&mut changed, catalogue, changes)?;
+    write_text(out, "changed", changed.as_str())
+}
+
+// Appends the version vector of the entries that a site holds, a member for each site.
+fn write_vector(alloc: Global, held: &Held, out: &mut Writer) -> Result<(), AllocError> {
+    let entries = held.vector(alloc)?.entries(alloc)?;
+    for (site, number) in &entries {
+        write_site(alloc, *site, *number, out)?;
+    }
+    Ok(())
+}
+
+// Appends up to which number the statements of a site are held.
+fn write_site(alloc: Global, site: u16, number: u32, out: &mut Writer) -> Result<(), AllocError> {
+    let name = format!(in alloc; "{site}")?;
+    write_count(out, name.as_str(), u64::from(number))
+}
+
+// Appends a member that is null.
+fn write_null(out: &mut Writer, name: &str) -> Result<(), AllocError> {
+    out.key(name)?;
+    out.null()
+}
+
+// Whether a relvar is virtual or base.
+fn kind_words(origin: Option<&Origin>) -> &'static str {
+    match origin {
+        Some(Origin::Virtual(_)) => "virtual",
+        _ => "base",
+    }
+}
+
+impl<R: Changes + Catalogued> SiteView<'_, R> {
     /// Appends what the site is and what it holds.
     pub(crate) fn tell_site(&self, out: &mut Writer) -> Result<(), AllocError> {
         write_count(out, "site", u64::from(self.site.site()))?;
@@ -64,47 +110,43 @@ impl<R: Changes> SiteView<'_, R> {
         self.tell_vector(out)
     }
 
-    // Appends the version vector of what the site holds, without members where the site is not open.
+    // Appends the version vector of what the site holds, without members if the site is not open.
     fn tell_vector(&self, out: &mut Writer) -> Result<(), AllocError> {
         out.key("vector")?;
         out.begin_object()?;
         if let Ok(held) = self.site.held() {
-            for (site, number) in &held.vector(self.alloc)?.entries(self.alloc)? {
-                let name = format!(in self.alloc; "{site}")?;
-                write_count(out, name.as_str(), u64::from(*number))?;
-            }
+            write_vector(self.alloc, held, out)?;
         }
         out.end_object()
     }
 
-    // Appends a relvar with its kind and heading, and where asked its number of tuples, null if it has no value.
+    // Appends how many tuples a relvar has, null if it has no value.
+    fn tell_count(&self, name: &Name, out: &mut Writer) -> Result<(), AllocError> {
+        match self.site.value_of(self.alloc, name) {
+            Ok(Answer::Value(relation)) => {
+                write_count(out, "tuples", relation.tuples().len() as u64)
+            }
+            _ => write_null(out, "tuples"),
+        }
+    }
+
+    // Appends a relvar with its kind and heading, and if asked its number of tuples.
     fn tell_relvar(
         &self,
         index: usize,
         has_counts: bool,
         out: &mut Writer,
     ) -> Result<(), AllocError> {
-        let Some((name, heading)) = self.catalogue.relvar_at(index) else {
+        let catalogue = self.site.catalogue();
+        let Some((name, heading)) = catalogue.relvar_at(index) else {
             return Ok(());
         };
         out.begin_object()?;
         write_text(out, "name", name.as_str())?;
-        let kind = match self.catalogue.origin(index) {
-            Some(Origin::Virtual(_)) => "virtual",
-            _ => "base",
-        };
-        write_text(out, "kind", kind)?;
+        write_text(out, "kind", kind_words(catalogue.origin(index)))?;
         write_heading(self.alloc, out, heading)?;
         if has_counts {
-            match self.site.value_of(self.alloc, name) {
-                Ok(Answer::Value(relation)) => {
-                    write_count(out, "tuples", relation.tuples().len() as u64)?;
-                }
-                _ => {
-                    out.key("tuples")?;
-                    out.null()?;
-                }
-            }
+            self.tell_count(name, out)?;
         }
         out.end_object()
     }
@@ -117,21 +159,38 @@ impl<R: Changes> SiteView<'_, R> {
     ) -> Result<(), AllocError> {
         out.key("relvars")?;
         out.begin_array()?;
-        for index in 0..self.catalogue.schema().relvar_count() {
+        for index in 0..self.site.catalogue().schema().relvar_count() {
             self.tell_relvar(index, has_counts, out)?;
         }
         out.end_array()
     }
 
-    // That a statement is done, and what it changed.
+    // Appends that a statement is done, and what it changed.
     fn tell_changes(&self, stamp: &Stamp, out: &mut Writer) -> Result<(), AllocError> {
         write_truth(out, "done", true)?;
         match self.site.changed_by(*stamp) {
-            Ok(changes) => {
-                let changed = changes_text(self.alloc, self.catalogue, changes)?;
-                write_text(out, "changed", changed.as_str())
-            }
+            Ok(changes) => write_changes(self.alloc, self.site.catalogue(), changes, out),
             Err(_) => Ok(()),
+        }
+    }
+
+    // Appends why a statement is refused, and whether it was done here before.
+    fn tell_reason(&self, stamp: &Stamp, reason: &str, out: &mut Writer) -> Result<(), AllocError> {
+        let is_own = stamp.site == self.site.site();
+        write_text(out, "reason", reason)?;
+        write_truth(out, "reversed", is_own && self.reversals.contains(stamp))
+    }
+
+    // Appends what a statement changed, or why it is refused.
+    fn tell_outcome(
+        &self,
+        stamp: &Stamp,
+        outcome: &Outcome,
+        out: &mut Writer,
+    ) -> Result<(), AllocError> {
+        match reason_of(self.alloc, outcome)? {
+            Some(reason) => self.tell_reason(stamp, reason.as_str(), out),
+            None => self.tell_changes(stamp, out),
         }
     }
 
@@ -145,39 +204,43 @@ impl<R: Changes> SiteView<'_, R> {
         let stamp = entry.stamp();
         out.begin_object()?;
         write_stamp(self.alloc, out, &stamp)?;
-        match reason_of(self.alloc, outcome)? {
-            Some(reason) => {
-                let is_own = stamp.site == self.site.site();
-                write_text(out, "reason", reason.as_str())?;
-                write_truth(out, "reversed", is_own && self.reversals.contains(&stamp))?;
-            }
-            None => self.tell_changes(&stamp, out)?,
-        }
+        self.tell_outcome(&stamp, outcome, out)?;
         write_text(out, "text", entry.text.as_str())?;
         out.end_object()
     }
 
-    // What the site holds with what became of each statement.
-    fn entries(&self) -> Result<(&[Entry], Vec<(Stamp, Outcome)>), (StatusCode, &'static str)> {
+    // Appends why the site does not do what it is asked, and returns the status.
+    fn refuse(
+        &self,
+        status: StatusCode,
+        error: SiteFault<'_>,
+        out: &mut Writer,
+    ) -> Result<StatusCode, AllocError> {
+        let words = fault_words(self.alloc, self.site.catalogue(), self.notes, error)?;
+        fault(out, status, words.as_str())
+    }
+
+    // What the site holds, with what became of each statement.
+    fn entries(&self) -> Result<(&[Entry], Vec<(Stamp, Outcome)>), TellError> {
         let Ok(held) = self.site.held() else {
-            return Err((StatusCode::INTERNAL_SERVER_ERROR, BROKEN));
+            return Err(TellError::Broken);
         };
         match self.site.outcomes(self.alloc) {
             Ok(outcomes) => Ok((held.entries(), outcomes)),
-            Err(TellError::Broken) => Err((StatusCode::INTERNAL_SERVER_ERROR, BROKEN)),
-            Err(TellError::OutOfMemory) => Err((StatusCode::SERVICE_UNAVAILABLE, UNCHANGED)),
+            Err(error) => Err(error),
         }
     }
 
-    /// Appends the statements that are refused.
-    pub(crate) fn tell_refused(&self, out: &mut Writer) -> Result<StatusCode, AllocError> {
-        let (entries, outcomes) = match self.entries() {
-            Ok(told) => told,
-            Err((status, words)) => return fault(out, status, words),
-        };
+    // Appends those of these statements that are refused.
+    fn tell_refused_of(
+        &self,
+        entries: &[Entry],
+        outcomes: &[(Stamp, Outcome)],
+        out: &mut Writer,
+    ) -> Result<StatusCode, AllocError> {
         out.key("refused")?;
         out.begin_array()?;
-        for (entry, (_, outcome)) in entries.iter().zip(outcomes.iter()) {
+        for (entry, (_, outcome)) in entries.iter().zip(outcomes) {
             if !matches!(outcome, Outcome::Done) {
                 self.tell_entry(entry, outcome, out)?;
             }
@@ -186,7 +249,34 @@ impl<R: Changes> SiteView<'_, R> {
         Ok(StatusCode::OK)
     }
 
-    /// Appends the statements behind a stamp, or all, each with what became of it.
+    /// Appends the statements that are refused.
+    pub(crate) fn tell_refused(&self, out: &mut Writer) -> Result<StatusCode, AllocError> {
+        match self.entries() {
+            Ok((entries, outcomes)) => self.tell_refused_of(entries, &outcomes, out),
+            Err(error) => self.refuse(status_of_tell(error), SiteFault::from(error), out),
+        }
+    }
+
+    // Appends those of these statements that come after a stamp, or all, each with what became of it.
+    fn tell_log_of(
+        &self,
+        entries: &[Entry],
+        outcomes: &[(Stamp, Outcome)],
+        after: Option<Stamp>,
+        out: &mut Writer,
+    ) -> Result<StatusCode, AllocError> {
+        out.key("log")?;
+        out.begin_array()?;
+        for (entry, (stamp, outcome)) in entries.iter().zip(outcomes) {
+            if is_after(stamp, after) {
+                self.tell_entry(entry, outcome, out)?;
+            }
+        }
+        out.end_array()?;
+        Ok(StatusCode::OK)
+    }
+
+    /// Appends the statements after a stamp, or all, each with what became of it.
     pub(crate) fn tell_log(
         &self,
         after: Option<&str>,
@@ -199,19 +289,10 @@ impl<R: Changes> SiteView<'_, R> {
                 None => return fault(out, StatusCode::BAD_REQUEST, STAMP_WORDS),
             },
         };
-        let (entries, outcomes) = match self.entries() {
-            Ok(told) => told,
-            Err((status, words)) => return fault(out, status, words),
-        };
-        out.key("log")?;
-        out.begin_array()?;
-        for (entry, (stamp, outcome)) in entries.iter().zip(outcomes.iter()) {
-            if is_behind(stamp, after) {
-                self.tell_entry(entry, outcome, out)?;
-            }
+        match self.entries() {
+            Ok((entries, outcomes)) => self.tell_log_of(entries, &outcomes, after, out),
+            Err(error) => self.refuse(status_of_tell(error), SiteFault::from(error), out),
         }
-        out.end_array()?;
-        Ok(StatusCode::OK)
     }
 
     // Appends the value, or the error that the evaluation raised; the status is 200 for both.
@@ -223,14 +304,7 @@ impl<R: Changes> SiteView<'_, R> {
     ) -> Result<StatusCode, AllocError> {
         match answer {
             Answer::Value(value) => write_value(self.alloc, out, value, range)?,
-            Answer::Raised(raise) => {
-                let words = raise_words(*raise);
-                write_text(
-                    out,
-                    "raised",
-                    words.strip_prefix("raised ").unwrap_or(words),
-                )?;
-            }
+            Answer::Raised(raise) => write_text(out, "raised", raise_meaning(*raise))?,
         }
         Ok(StatusCode::OK)
     }
@@ -245,13 +319,12 @@ impl<R: Changes> SiteView<'_, R> {
         match self.site.ask(self.alloc, text) {
             Ok(answer) => self.tell_answer(&answer, range, out),
             Err(error) => {
-                let words = not_asked(self.alloc, self.catalogue, text, error)?;
-                fault(out, status_of(error), words.as_str())
+                self.refuse(status_of(error), SiteFault::NotAsked { text, error }, out)
             }
         }
     }
 
-    /// Appends the value of a query as it was just behind the statement of a stamp.
+    /// Appends the value of a query as it was just after the statement of a stamp.
     pub(crate) fn ask_at(
         &self,
         text: &str,
@@ -265,10 +338,11 @@ impl<R: Changes> SiteView<'_, R> {
         };
         match self.site.ask_at(self.alloc, text, stamp, meter) {
             Ok(answer) => self.tell_answer(&answer, range, out),
-            Err(error) => {
-                let words = not_asked_at(self.alloc, self.catalogue, text, error)?;
-                fault(out, status_of_past(error), words.as_str())
-            }
+            Err(error) => self.refuse(
+                status_of_past(error),
+                SiteFault::NotAskedAt { text, error },
+                out,
+            ),
         }
     }
 }
@@ -277,7 +351,7 @@ impl<R: Changes> SiteView<'_, R> {
 pub(crate) const STAMP_WORDS: &str = "a stamp is written CLOCK.SITE, as 12.1";
 
 // Whether a stamp comes after another one, if there is one.
-fn is_behind(stamp: &Stamp, after: Option<Stamp>) -> bool {
+fn is_after(stamp: &Stamp, after: Option<Stamp>) -> bool {
     match after {
         None => true,
         Some(after) => {

@@ -4,7 +4,7 @@ use std::alloc::{AllocError, Global};
 use std::collections::VecDeque;
 use td_stamps::Stamp;
 
-/// So many statements are kept with their keys.
+/// How many statements are kept with their keys.
 const MOST_KEYS: usize = 1_000;
 
 /// A statement's key and its text, copied before the statement is issued.
@@ -51,7 +51,7 @@ impl Keys {
             .find(|keyed| keyed.statement.key.as_str() == key)
     }
 
-    /// Keeps a statement under a key, and lets go of the oldest where there are too many.
+    /// Keeps a statement under a key, and lets go of the oldest if there are too many.
     pub(crate) fn keep(
         &mut self,
         statement: KeyedText,

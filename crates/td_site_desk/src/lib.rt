@@ -3,9 +3,8 @@
 //! Begin with `SiteDesk`, a `Desk` over any kind of site, and `SiteServer`, what the event loop serves.
 //!
 //! ```
-//! let catalogue = script_catalogue(alloc, &site)?;
 //! let reversals = Reversals::open(alloc, &rt, Some(name))?;
-//! let desk = SiteDesk::new(alloc, &rt, &notes, site, catalogue, meter, peers, reversals, false)?;
+//! let desk = SiteDesk::new(alloc, parts)?;
 //! let mut server = SiteServer::new(Api::new(alloc, desk, guard));
 //! ```
 //!
@@ -31,6 +30,6 @@ mod steps;
 mod values;
 mod words;
 
-pub use desk::{Peers, SiteDesk};
+pub use desk::{DeskParts, Peers, SiteDesk};
 pub use reversals::Reversals;
 pub use server::SiteServer;

@@ -7,7 +7,7 @@ use std::net::SocketAddr;
 use td_event_loop::{Loss, MOST_MEETINGS, MeetingOutcome, MeetingReport, MeetingSide};
 use td_http_api::Writer;
 
-/// So many meetings are told that ended.
+/// How many meetings that ended are kept.
 const MOST_TOLD: usize = 32;
 
 /// What a step came to: in words, and whether the meeting did what it is for.
@@ -28,6 +28,24 @@ struct Meeting {
 }
 
 impl Meeting {
+    // Appends the address of the other site as the member `peer`.
+    fn write_peer(&self, alloc: Global, out: &mut Writer) -> Result<(), AllocError> {
+        let peer = self.peer;
+        let peer = format!(in alloc; "{peer}")?;
+        write_text(out, "peer", peer.as_str())
+    }
+
+    // Appends the meeting, as it is at this time, in milliseconds since the event loop began.
+    fn write(&self, alloc: Global, out: &mut Writer, now: u64) -> Result<(), AllocError> {
+        out.begin_object()?;
+        self.write_peer(alloc, out)?;
+        write_truth(out, "called", self.is_called)?;
+        write_truth(out, "met", self.is_met)?;
+        write_text(out, "words", self.words.as_str())?;
+        write_count(out, "seconds", now.saturating_sub(self.ended) / 1000)?;
+        out.end_object()
+    }
+
     // Whether this site called, or was called, at the same address. Each call comes from another port.
     fn is_with(&self, report: &MeetingReport) -> bool {
         self.is_called == (report.side == MeetingSide::First) && self.peer.ip() == report.peer.ip()
@@ -43,7 +61,7 @@ pub(crate) struct Meetings {
     ended: VecDeque<Meeting>,
 }
 
-// What is told of a meeting that was lost, or of which no step left a note.
+// What is said of a meeting that was lost, or of which no step left a note.
 fn loss_words(loss: Option<Loss>) -> &'static str {
     match loss {
         Some(Loss::Silent) => "the other site was silent for 30 seconds",
@@ -52,6 +70,16 @@ fn loss_words(loss: Option<Loss>) -> &'static str {
         Some(Loss::Stopped) => "this program ended",
         None => "there was no memory to tell",
     }
+}
+
+// The line about a meeting that came to this.
+fn line_of(alloc: Global, report: &MeetingReport, words: &str) -> Result<String, AllocError> {
+    let peer = report.peer;
+    let way = match report.side {
+        MeetingSide::First => "to",
+        MeetingSide::Second => "from",
+    };
+    format!(in alloc; "meeting {way} {peer}: {words}\n")
 }
 
 impl Meetings {
@@ -74,7 +102,7 @@ impl Meetings {
         }
     }
 
-    // What the last step of a meeting came to, which is kept no longer; none where no step left a note.
+    // What the last step of a meeting came to, which is kept no longer; none if no step left a note.
     fn take_note(&mut self, meeting: usize) -> Option<Note> {
         match self.notes.get_mut(meeting) {
             Some(kept) => kept.take(),
@@ -110,28 +138,30 @@ impl Meetings {
         Ok(())
     }
 
-    /// Ends a meeting; the answer is what it came to, with a line for whoever watches.
+    // What a meeting came to that ended.
+    fn note_of(&mut self, report: &MeetingReport) -> Result<Note, AllocError> {
+        match self.take_note(report.meeting) {
+            Some(note) if report.loss.is_none() => Ok(note),
+            _ => Ok(Note {
+                outcome: MeetingOutcome::Failed,
+                words: String::from_str(self.alloc, loss_words(report.loss))?,
+            }),
+        }
+    }
+
+    /// Ends a meeting; returns what it came to, with a line for whoever watches.
     pub(crate) fn end(
         &mut self,
         report: &MeetingReport,
         now: u64,
     ) -> Result<(MeetingOutcome, String), AllocError> {
-        let note = match self.take_note(report.meeting) {
-            Some(note) if report.loss.is_none() => note,
-            _ => Note {
-                outcome: MeetingOutcome::Failed,
-                words: String::from_str(self.alloc, loss_words(report.loss))?,
-            },
-        };
+        let note = self.note_of(report)?;
         let outcome = note.outcome;
-        let peer = report.peer;
-        let way = match report.side {
-            MeetingSide::First => "to",
-            MeetingSide::Second => "from",
-        };
-        let line = format!(in self.alloc; "meeting {way} {peer}: {}\n", note.words)?;
-        self.keep(report, note, now)?;
-        Ok((outcome, line))
+        let line = line_of(self.alloc, report, note.words.as_str())?;
+        match self.keep(report, note, now) {
+            Ok(()) => Ok((outcome, line)),
+            Err(error) => Err(error),
+        }
     }
 
     /// Appends the last meetings that ended, the last one first.
@@ -139,15 +169,7 @@ impl Meetings {
         out.key("meetings")?;
         out.begin_array()?;
         for meeting in self.ended.iter().rev() {
-            out.begin_object()?;
-            let peer = meeting.peer;
-            let peer = format!(in self.alloc; "{peer}")?;
-            write_text(out, "peer", peer.as_str())?;
-            write_truth(out, "called", meeting.is_called)?;
-            write_truth(out, "met", meeting.is_met)?;
-            write_text(out, "words", meeting.words.as_str())?;
-            write_count(out, "seconds", now.saturating_sub(meeting.ended) / 1000)?;
-            out.end_object()?;
+            meeting.write(self.alloc, out, now)?;
         }
         out.end_array()
     }

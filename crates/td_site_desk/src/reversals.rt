@@ -17,11 +17,18 @@ use td_stamps::Stamp;
 const OWN: u32 = 0o600;
 
 /// The statements of this site that were done and are refused now, until a person has seen that; and those that are
-/// done. The reversed ones stand in a file beside the journal, a stamp on each line.
+/// done. The reversed ones are kept in a file beside the journal, a stamp on each line.
 #[derive(Drop)]
 pub struct Reversals {
     alloc: Global,
     name: Option<String>,
+    done: Vec<Stamp>,
+    reversed: Vec<Stamp>,
+}
+
+// The statements of the site that are done, and those that were done and are refused now.
+#[derive(Drop)]
+struct Reviewed {
     done: Vec<Stamp>,
     reversed: Vec<Stamp>,
 }
@@ -48,7 +55,7 @@ fn stamps_of(alloc: Global, text: &str) -> Result<Vec<Stamp>, Unreadable> {
     Ok(stamps)
 }
 
-// The stamps of a file: none where there is no file.
+// The stamps of a file: none if there is no file.
 fn stamps_in<H: Files + AllocGlobal>(
     alloc: Global,
     host: &H,
@@ -78,8 +85,8 @@ fn write_synced<H: Files>(host: &H, name: &str, text: &str) -> io::Result<()> {
 }
 
 impl Reversals {
-    /// Those that the file of this name has, if there is one. A file that is there and cannot be read is told, since it
-    /// would be written over.
+    /// Those that the file of this name has, if there is one. A file that is there and cannot be read is an error, since
+    /// it would be written over.
     pub fn open<H: Files + AllocGlobal>(
         alloc: Global,
         host: &H,
@@ -113,55 +120,74 @@ impl Reversals {
         &self,
         own: u16,
         outcomes: &[(Stamp, Outcome)],
-    ) -> Result<(Vec<Stamp>, Vec<Stamp>), AllocError> {
-        let mut done = Vec::new(self.alloc);
-        let mut reversed = Vec::new(self.alloc);
+        reviewed: &mut Reviewed,
+    ) -> Result<(), AllocError> {
         for (stamp, outcome) in outcomes {
             if stamp.site != own {
                 continue;
             }
             if matches!(outcome, Outcome::Done) {
-                done.push(*stamp)?;
+                reviewed.done.push(*stamp)?;
             } else if has(&self.done, stamp) || has(&self.reversed, stamp) {
-                reversed.push(*stamp)?;
+                reviewed.reversed.push(*stamp)?;
             }
         }
-        Ok((done, reversed))
+        Ok(())
     }
 
-    /// Looks at all statements of the site anew; tells how many were done before and are refused now.
-    pub(crate) fn update<R: Replica>(&mut self, site: &R) -> Result<usize, AllocError> {
-        let Ok(outcomes) = site.outcomes(self.alloc) else {
-            return Ok(0);
-        };
-        let (done, reversed) = self.review(site.site(), &outcomes)?;
+    // Replaces what was known of the statements; returns how many were done before and are refused now.
+    fn renew(&mut self, reviewed: Reviewed) -> usize {
+        let Reviewed { done, reversed } = reviewed;
         let more = reversed
             .iter()
             .filter(|stamp| !has(&self.reversed, stamp))
             .count();
         self.done = done;
         self.reversed = reversed;
-        Ok(more)
+        more
     }
 
-    /// Lets go of a statement that a person has seen; tells whether it was there.
+    /// Looks at all statements of the site anew; returns how many were done before and are refused now.
+    pub(crate) fn update<R: Replica>(&mut self, site: &R) -> Result<usize, AllocError> {
+        let Ok(outcomes) = site.outcomes(self.alloc) else {
+            return Ok(0);
+        };
+        let mut reviewed = Reviewed {
+            done: Vec::new(self.alloc),
+            reversed: Vec::new(self.alloc),
+        };
+        match self.review(site.site(), &outcomes, &mut reviewed) {
+            Ok(()) => Ok(self.renew(reviewed)),
+            Err(error) => Err(error),
+        }
+    }
+
+    /// Lets go of a statement that a person has seen; returns whether it was there.
     pub(crate) fn remove(&mut self, stamp: &Stamp) -> bool {
         let before = self.reversed.len();
         self.reversed.retain(|it| !is_same(it, stamp));
         self.reversed.len() < before
     }
 
-    // The text of the file: the stamps of the reversed statements, one on each line.
-    fn text(&self) -> Result<String, AllocError> {
-        let mut text = String::new(self.alloc);
+    // Appends the stamps of the reversed statements, one on each line.
+    fn push_text(&self, text: &mut String) -> Result<(), AllocError> {
         for stamp in &self.reversed {
-            show_stamp(&mut text, stamp)?;
+            show_stamp(text, stamp)?;
             text.push_str("\n")?;
         }
-        Ok(text)
+        Ok(())
     }
 
-    /// Writes the file anew: beside it, on the disk, and then in its place. The answer is whether that was done.
+    // The text of the file.
+    fn text(&self) -> Result<String, AllocError> {
+        let mut text = String::new(self.alloc);
+        match self.push_text(&mut text) {
+            Ok(()) => Ok(text),
+            Err(error) => Err(error),
+        }
+    }
+
+    /// Writes the file anew: beside it, on the disk, and then in its place. Returns whether that was done.
     pub(crate) fn save<H: Files>(&self, host: &H) -> Result<bool, AllocError> {
         let Some(name) = &self.name else {
             return Ok(true);

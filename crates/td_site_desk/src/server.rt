@@ -12,6 +12,7 @@ use td_event_loop::{
     MeetingOutcome, MeetingReport, Meets, Outbox, PeerRefusal, Server, StepResult,
 };
 use td_http_api::Api;
+use td_replica::Catalogued;
 
 /// A site that is asked by HTTP and meets others.
 #[derive(Drop)]
@@ -26,7 +27,7 @@ impl<'a, R: Drop, H> SiteServer<'a, R, H> {
     }
 }
 
-impl<R: Changes + Drop, H: Runtime + AllocGlobal> Service for SiteServer<'_, R, H> {
+impl<R: Changes + Catalogued + Drop, H: Runtime + AllocGlobal> Service for SiteServer<'_, R, H> {
     ghost answers = { λ _ _ _ _. Unit {0} };
 
     fn call(
@@ -41,7 +42,7 @@ impl<R: Changes + Drop, H: Runtime + AllocGlobal> Service for SiteServer<'_, R, 
     }
 }
 
-impl<R: Changes + Drop, H: Runtime + AllocGlobal> Meets for SiteServer<'_, R, H> {
+impl<R: Changes + Catalogued + Drop, H: Runtime + AllocGlobal> Meets for SiteServer<'_, R, H> {
     fn greet(&mut self, meeting: usize, out: &mut Outbox) -> StepResult {
         self.api.desk.greet(meeting, out)
     }
@@ -71,7 +72,7 @@ impl<R: Changes + Drop, H: Runtime + AllocGlobal> Meets for SiteServer<'_, R, H>
     }
 }
 
-impl<R: Changes + Drop, H: Runtime + AllocGlobal> Server for SiteServer<'_, R, H> {
+impl<R: Changes + Catalogued + Drop, H: Runtime + AllocGlobal> Server for SiteServer<'_, R, H> {
     fn answered(&self) -> u64 {
         self.answered
     }

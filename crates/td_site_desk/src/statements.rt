@@ -7,17 +7,18 @@ ghost use Rattle.td_site_desk.specs.Sites.{IsIssued, IsUnissued};
 use crate::desk::SiteDesk;
 use crate::inquiries::STAMP_WORDS;
 use crate::keys::KeyedText;
-use crate::words::{fault, read_stamp, reason_of, stamp_text, write_text, write_truth};
+use crate::words::{
+    fault, fault_words, read_stamp, reason_of, write_stamp, write_text, write_truth,
+};
 use std::alloc::{AllocError, Global};
 use std::rt::Runtime;
 use td_changes::Changes;
 use td_http_api::{StatusCode, Writer};
-use td_replica::{IssueError, Issued};
-use td_shell_notices::lack_words;
-use td_shell_session::not_issued;
+use td_replica::{Catalogued, IssueError, Issued};
+use td_site_messages::{LACKING, SiteFault};
 use td_stamps::Stamp;
 
-/// A key is at most so long.
+/// The most bytes of a key.
 const MOST_KEY_BYTES: usize = 128;
 
 // The status of the answer to a statement that is not issued.
@@ -41,8 +42,7 @@ fn write_issued(
 ) -> Result<StatusCode, AllocError>
     ensures { IfOk result (λ status. status ≡ 200) }
 {
-    let text = stamp_text(alloc, stamp)?;
-    write_text(out, "stamp", text.as_str())?;
+    write_stamp(alloc, out, stamp)?;
     match reason {
         Some(reason) => write_text(out, "refused", reason)?,
         None => write_truth(out, "done", true)?,
@@ -50,9 +50,9 @@ fn write_issued(
     Ok(StatusCode::OK)
 }
 
-impl<R: Changes + Drop, H: Runtime + AllocGlobal> SiteDesk<'_, R, H> {
-    // Keeps what became of a statement: what fails for want of memory here is told by no answer, since the site has
-    // taken the statement.
+impl<R: Changes + Catalogued + Drop, H: Runtime + AllocGlobal> SiteDesk<'_, R, H> {
+    // Keeps what became of a statement. No answer reports that memory runs out here, since the site has taken the
+    // statement.
     fn keep_issued(&mut self, issued: &Issued, keyed: Option<KeyedText>, reason: Option<&str>)
         ensures { R.seen self.new.site ≡ R.seen self.old.site }
     {
@@ -74,7 +74,7 @@ impl<R: Changes + Drop, H: Runtime + AllocGlobal> SiteDesk<'_, R, H> {
         }
     }
 
-    // Tells what became of a statement that was issued.
+    // Answers what became of a statement that was issued.
     fn tell_issued(
         &mut self,
         issued: &Issued,
@@ -93,7 +93,7 @@ impl<R: Changes + Drop, H: Runtime + AllocGlobal> SiteDesk<'_, R, H> {
         write_issued(self.alloc, out, &issued.stamp, words)
     }
 
-    // Answers why a statement is not issued, and tells whoever watches too where the journal was not written.
+    // Answers why a statement is not issued, and tells whoever watches too if the journal was not written.
     fn tell_not_issued(
         &self,
         text: &str,
@@ -102,9 +102,10 @@ impl<R: Changes + Drop, H: Runtime + AllocGlobal> SiteDesk<'_, R, H> {
     ) -> Result<StatusCode, AllocError>
         ensures { IfOk result (λ status. 400 ≤ status) }
     {
-        let words = not_issued(self.alloc, &self.catalogue, text, error, self.notes)?;
+        let issue = SiteFault::NotIssued { text, error };
+        let words = fault_words(self.alloc, self.site.catalogue(), self.notes, issue)?;
         if error == IssueError::JournalWrite {
-            self.tell_line(words.as_str());
+            let _ = println!(self.host; "fault {words}");
         }
         fault(out, status_of(error), words.as_str())
     }
@@ -136,7 +137,7 @@ impl<R: Changes + Drop, H: Runtime + AllocGlobal> SiteDesk<'_, R, H> {
             → IfOk result (λ known. IfSome known (λ status. 400 ≤ status)) }
     {
         if self.is_lacking {
-            return Ok(Some(fault(out, StatusCode::SERVICE_UNAVAILABLE, lack_words())?));
+            return Ok(Some(fault(out, StatusCode::SERVICE_UNAVAILABLE, LACKING)?));
         }
         let Some(key) = key else {
             return Ok(None);
@@ -159,7 +160,7 @@ impl<R: Changes + Drop, H: Runtime + AllocGlobal> SiteDesk<'_, R, H> {
         Ok(Some(write_issued(self.alloc, out, &keyed.stamp, reason)?))
     }
 
-    /// Issues a statement, or gives the kept answer where its key was seen, or a fault where it is not to be issued.
+    /// Issues a statement, or gives the kept answer if its key was seen, or a fault if it is not to be issued.
     pub(crate) fn issue_once(
         &mut self,
         text: &str,
@@ -177,14 +178,14 @@ impl<R: Changes + Drop, H: Runtime + AllocGlobal> SiteDesk<'_, R, H> {
         self.issue_new(text, keyed, out)
     }
 
-    // Lets go of a reversed statement, if it is one of this site; tells whether it was there.
+    // Lets go of a reversed statement, if it is one of this site; returns whether it was there.
     fn remove_reversal(&mut self, stamp: &Stamp) -> bool
         ensures { R.seen self.new.site ≡ R.seen self.old.site }
     {
         stamp.site == self.site.site() && self.reversals.remove(stamp)
     }
 
-    // Copies of a statement and its key, taken before it is issued; none where it has no key.
+    // Copies of a statement and its key, taken before it is issued; none if it has no key.
     fn copy_of_keyed(
         &self,
         text: &str,

@@ -3,13 +3,16 @@
 ghost use Rattle.std.specs.Prelude.{◌≡◌, IfOk};
 
 use std::alloc::{AllocError, Global};
+use td_headings::Catalogue;
 use td_http_api::{StatusCode, Writer};
+use td_journal_files::Notes;
 use td_listings::show_stamp;
 use td_semantics::Outcome;
-use td_shell_notices::push_outcome;
+use td_site_messages::{SiteFault, push_raise, push_reason, push_site_fault};
 use td_stamps::Stamp;
+use td_values::Raise;
 
-/// The stamp that a text tells, as `CLOCK.SITE`.
+/// The stamp that a text says, as `CLOCK.SITE`.
 pub(crate) fn read_stamp(text: &str) -> Option<Stamp> {
     let (clock, site) = text.split_once('.')?;
     match (clock.parse::<u64>(), site.parse::<u16>()) {
@@ -18,7 +21,7 @@ pub(crate) fn read_stamp(text: &str) -> Option<Stamp> {
     }
 }
 
-/// Whether two stamps are one.
+/// Whether two stamps are equal.
 pub(crate) fn is_same(one: &Stamp, other: &Stamp) -> bool {
     one.clock == other.clock && one.site == other.site
 }
@@ -30,16 +33,14 @@ pub(crate) fn stamp_text(alloc: Global, stamp: &Stamp) -> Result<String, AllocEr
     Ok(text)
 }
 
-/// Why a statement is refused; nothing of one that is done.
+/// Why a statement is refused; none for one that is done.
 pub(crate) fn reason_of(alloc: Global, outcome: &Outcome) -> Result<Option<String>, AllocError> {
     if matches!(outcome, Outcome::Done) {
         return Ok(None);
     }
-    let mut text = String::new(alloc);
-    push_outcome(&mut text, outcome)?;
-    let words = text.as_str();
-    let reason = words.strip_prefix("refused: ").unwrap_or(words);
-    Ok(Some(String::from_str(alloc, reason)?))
+    let mut reason = String::new(alloc);
+    push_reason(&mut reason, outcome)?;
+    Ok(Some(reason))
 }
 
 /// Appends a member whose value is a text.
@@ -60,10 +61,42 @@ pub(crate) fn write_truth(out: &mut Writer, name: &str, truth: bool) -> Result<(
     out.boolean(truth)
 }
 
-/// Appends the words of a fault, without those with which the shell begins a fault.
+/// Appends a stamp as the member `stamp`.
+pub(crate) fn write_stamp(
+    alloc: Global,
+    out: &mut Writer,
+    stamp: &Stamp,
+) -> Result<(), AllocError> {
+    let text = stamp_text(alloc, stamp)?;
+    write_text(out, "stamp", text.as_str())
+}
+
+/// Appends the words of a fault.
 pub(crate) fn write_fault(out: &mut Writer, words: &str) -> Result<(), AllocError> {
-    let words = words.trim_ascii_end();
-    write_text(out, "fault", words.strip_prefix("fault ").unwrap_or(words))
+    write_text(out, "fault", words)
+}
+
+/// Appends that an evaluation raised an error, as the words of a fault.
+pub(crate) fn write_raised(
+    alloc: Global,
+    out: &mut Writer,
+    raise: Raise,
+) -> Result<(), AllocError> {
+    let mut words = String::new(alloc);
+    push_raise(&mut words, raise)?;
+    write_fault(out, words.as_str())
+}
+
+/// The words of a fault of the site.
+pub(crate) fn fault_words(
+    alloc: Global,
+    catalogue: &Catalogue,
+    notes: &Notes,
+    fault: SiteFault<'_>,
+) -> Result<String, AllocError> {
+    let mut words = String::new(alloc);
+    push_site_fault(&mut words, catalogue, notes, fault)?;
+    Ok(words)
 }
 
 /// Appends the words of a fault, and returns its status.

@@ -7,7 +7,7 @@ use anyhow::{Result, bail};
 use std::alloc::Global;
 use td_io::Device;
 use td_journal::{Keeper, reopen};
-use td_replica::{Opens, Replica};
+use td_replica::{Catalogued, Opens, Replica};
 use td_semantics::Meter;
 use td_stamps::Entry;
 use td_values::Text;
@@ -60,7 +60,7 @@ pub fn begin_journal<R: Replica + Drop>(
 }
 
 /// Begins the site's journal, which takes no memory.
-pub fn start_of<R: Replica + Drop>(rt: &HostRuntime, site: R) -> Result<()> {
+pub fn start_of<R: Catalogued + Drop>(rt: &HostRuntime, site: R) -> Result<()> {
     let number = site.site();
     let mut journal = Vec::with_capacity(rt.alloc(), MOST_WRITTEN)?;
     tell_site(rt, &site)?;
@@ -73,7 +73,7 @@ pub fn start_of<R: Replica + Drop>(rt: &HostRuntime, site: R) -> Result<()> {
 }
 
 // Whether a site came back from the journal, which is told.
-fn reopen_site<O: Opens + Drop>(
+fn reopen_site<O: Opens + Catalogued + Drop>(
     rt: &HostRuntime,
     number: u16,
     journal: &[u8],
@@ -95,7 +95,7 @@ fn reopen_site<O: Opens + Drop>(
 }
 
 /// Has a site of this kind come back from the journal of what the site holds.
-pub fn reopen_from<R: Replica + Drop, O: Opens + Drop>(
+pub fn reopen_from<R: Catalogued + Drop, O: Opens + Catalogued + Drop>(
     rt: &HostRuntime,
     site: R,
     meter: &mut Meter,

@@ -11,7 +11,7 @@ use std::fmt::Display;
 use std::mem;
 use td_io::{Device, Pair};
 use td_meeting::{answer, finish, greet, meet, settle};
-use td_replica::Replica;
+use td_replica::{Catalogued, Replica};
 use td_semantics::Meter;
 use td_stamps::{Entry, Stamp};
 use td_values::Name;
@@ -95,7 +95,7 @@ fn call_one<R: Replica>(
     }
 }
 
-impl<R: Replica + Drop> Scene<R> {
+impl<R: Catalogued + Drop> Scene<R> {
     pub fn new(alloc: Global, example: &Example, first: R, second: R) -> Result<Scene<R>> {
         Ok(Scene {
             first,

@@ -5,13 +5,13 @@ use td_io::Device;
 use td_listings::{listing, log_text, show_outcome};
 use td_meeting::Met;
 use td_relations::Relation;
-use td_replica::{Issued, Replica, Taken};
+use td_replica::{Catalogued, Issued, Taken};
 use td_semantics::{Answer, Outcome};
 use td_stamps::Stamp;
 use td_values::{Kind, Value, show};
 
 /// Tells a site: its number, whether it is open, its listing and its log.
-pub fn tell_site<R: Replica>(rt: &HostRuntime, site: &R) -> Result<()> {
+pub fn tell_site<R: Catalogued>(rt: &HostRuntime, site: &R) -> Result<()> {
     let openness = if site.is_open() { "open" } else { "closed" };
     println!(rt; "site {} {openness}", site.site())?;
     let Ok(log) = log_text(rt.alloc(), site) else {

@@ -1,0 +1,33 @@
+//! Slots for connections. A connection keeps its slot until it ends.
+
+use std::alloc::Global;
+use std::io;
+
+/// This many slots, none of them taken.
+pub(crate) fn empty_slots<T: Drop>(alloc: Global, count: usize) -> io::Result<Vec<Option<T>>> {
+    let mut slots = Vec::with_capacity(alloc, count)?;
+    for _ in 0..count {
+        match slots.push(None) {
+            Ok(()) => {}
+            Err(_) => return Err(io::ErrorKind::OutOfMemory.into()),
+        }
+    }
+    Ok(slots)
+}
+
+/// The first of the slots from `first` to before `end` that is not taken; None where all are.
+pub(crate) fn free_slot<T: Drop>(slots: &[Option<T>], first: usize, end: usize) -> Option<usize> {
+    for slot in first..end {
+        if let Some(None) = slots.get(slot) {
+            return Some(slot);
+        }
+    }
+    None
+}
+
+/// Puts a connection into a slot.
+pub(crate) fn fill_slot<T: Drop>(slots: &mut [Option<T>], slot: usize, connection: T) {
+    if let Some(held) = slots.get_mut(slot) {
+        *held = Some(connection);
+    }
+}

@@ -1,0 +1,49 @@
+-- The table of calls: where each one is, what it takes, and who may make it.
+use Rattle.std.specs.Prelude.{◌≡◌, ◌⊎◌, ℕ, List, [], ◌∷◌, ◌++◌, codes}
+use Rattle.td_http_api.specs.declared.members.Member.{Member}
+use Rattle.td_http_api.specs.declared.members.Member.TheVariants.{Counts, After, Text, At, First, Count, Key, Stamp, Address}
+use Rattle.td_http_api.specs.declared.resources.Methods.{Methods}
+use Rattle.td_http_api.specs.declared.resources.Methods.TheVariants.{Get, GetAndHead, Post}
+use Rattle.td_http_api.specs.declared.resources.Path.{Path}
+use Rattle.td_http_api.specs.declared.resources.Path.TheVariants.{Whole, Around}
+use Rattle.td_http_api.specs.declared.resources.Resource.{Resource}
+use Rattle.td_http_api.specs.declared.resources.Resource.TheVariants.{Page, Site, Relvars, Table, Refused, Log, Script, Query, Statement, Acknowledge, Meet, Stop}
+use Rattle.td_http_api.specs.declared.resources.Right.{Right}
+use Rattle.td_http_api.specs.declared.resources.Right.TheVariants.{Everyone, Bearer}
+
+-- the path with this name in it
+abbrev pub path_text : Path → List ℕ → List ℕ
+path_text (Whole text) name = text.now
+path_text (Around before after) name = before.now ++ (name ++ after.now)
+
+-- the method is one of these
+abbrev pub Allows : Methods → List ℕ → Type 0
+Allows Get method = method ≡ codes "GET"
+Allows GetAndHead method = (method ≡ codes "GET") ⊎ (method ≡ codes "HEAD")
+Allows Post method = method ≡ codes "POST"
+
+-- the methods of a resource, its path by the name in it, who may ask for it, and the members that it takes
+pub record ResourceRow : Type 0 where
+  pub methods : Methods
+  pub path : List ℕ → List ℕ
+  pub right : Right
+  pub members : List Member
+
+-- a call of the bearer of the token, by GET or by POST
+abbrev pub row_by : Methods → List ℕ → List Member → ResourceRow
+row_by methods path members = record { methods = methods; path = λ name. path; right = Bearer; members = members }
+
+-- everyone may ask for the page, and the bearer of the token for all else
+abbrev pub row_of : Resource → ResourceRow
+row_of Page = record { methods = GetAndHead; path = λ name. codes "/"; right = Everyone; members = [] }
+row_of Site = row_by Get (codes "/api/site") []
+row_of Relvars = row_by Get (codes "/api/relvars") (Counts ∷ [])
+row_of Table = record { methods = Get; path = λ name. codes "/api/relvars/" ++ (name ++ codes ".csv"); right = Bearer; members = [] }
+row_of Refused = row_by Get (codes "/api/refused") []
+row_of Log = row_by Get (codes "/api/log") (After ∷ [])
+row_of Script = row_by Get (codes "/api/script") []
+row_of Query = row_by Post (codes "/api/query") (Text ∷ At ∷ First ∷ Count ∷ [])
+row_of Statement = row_by Post (codes "/api/statement") (Text ∷ Key ∷ [])
+row_of Acknowledge = row_by Post (codes "/api/acknowledge") (Stamp ∷ [])
+row_of Meet = row_by Post (codes "/api/meet") (Address ∷ [])
+row_of Stop = row_by Post (codes "/api/stop") []

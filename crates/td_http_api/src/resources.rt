@@ -1,0 +1,200 @@
+//! The table of calls: where each one is, what it takes, and who may make it.
+
+ghost use Rattle.std.specs.Prelude.{◌≡◌, ◌++◌, ℕ, List, [], IfSome, IsTrue};
+ghost use Rattle.http_header.specs.FieldValue.{is_visible_text};
+ghost use Rattle.td_http_api.specs.Resources.{Allows, path_text, row_of};
+
+use crate::members::Member;
+use http_header::HeaderValue;
+use std::fmt;
+use std::fmt::{Display, Formatter, Write};
+
+/// What is at a path: the page, or a call.
+#[derive(Clone, Copy)]
+pub(crate) enum Resource {
+    Page,
+    Site,
+    Relvars,
+    Table,
+    Refused,
+    Log,
+    Script,
+    Query,
+    Statement,
+    Acknowledge,
+    Meet,
+    Stop,
+}
+
+/// All of them, in the order in which a path is compared with theirs.
+const RESOURCES: [Resource; 12] = [
+    Resource::Page,
+    Resource::Site,
+    Resource::Relvars,
+    Resource::Table,
+    Resource::Refused,
+    Resource::Log,
+    Resource::Script,
+    Resource::Query,
+    Resource::Statement,
+    Resource::Acknowledge,
+    Resource::Meet,
+    Resource::Stop,
+];
+
+/// A path, or what surrounds the name in a path.
+#[derive(Clone, Copy)]
+pub(crate) enum Path {
+    Whole(&'static str),
+    Around(&'static str, &'static str),
+}
+
+/// The methods that a path takes. Where a call takes GET its arguments are in the query string, else in the body.
+#[derive(Clone, Copy, Debug, PartialEq, Eq)]
+pub(crate) enum Methods {
+    Get,
+    GetAndHead,
+    Post,
+}
+
+/// Who may ask for a resource.
+#[derive(Clone, Copy)]
+pub(crate) enum Right {
+    Everyone,
+    /// Whoever bears the token.
+    Bearer,
+}
+
+/// The row of a resource in the table.
+#[derive(Clone, Copy)]
+pub(crate) struct Description {
+    pub(crate) path: Path,
+    pub(crate) methods: Methods,
+    pub(crate) right: Right,
+    pub(crate) members: &'static [Member],
+}
+
+impl Path {
+    /// The name in a path of this form, which is empty where the form has none. None for any other path.
+    fn name_in(self, path: &str) -> Option<&str>
+        ensures { IfSome result (λ name. path.now ≡ path_text self name.now) }
+    {
+        match self {
+            Path::Whole(text) if path == text => Some(""),
+            Path::Whole(_) => None,
+            Path::Around(prefix, suffix) => path.strip_prefix(prefix)?.strip_suffix(suffix),
+        }
+    }
+}
+
+impl Methods {
+    /// Whether a request may have this method.
+    pub(crate) fn allow(self, method: &str) -> bool
+        ensures { IsTrue result → Allows self method.now }
+    {
+        match self {
+            Methods::Get => method == "GET",
+            Methods::GetAndHead => method == "GET" || method == "HEAD",
+            Methods::Post => method == "POST",
+        }
+    }
+
+    fn words(self) -> &'static str
+        ensures { IsTrue (is_visible_text result.now) }
+    {
+        match self {
+            Methods::Get => "GET",
+            Methods::GetAndHead => "GET, HEAD",
+            Methods::Post => "POST",
+        }
+    }
+
+    /// The value of the header Allow.
+    pub(crate) fn value(self) -> HeaderValue {
+        HeaderValue::from_static(self.words())
+    }
+}
+
+impl Display for Methods {
+    fn fmt<W: Write>(&self, f: &mut Formatter<W>) -> fmt::Result {
+        f.write_str(self.words())
+    }
+}
+
+// A call for the bearer of the token.
+fn call_by(methods: Methods, path: &'static str, members: &'static [Member]) -> Description
+    ensures methods { result.methods ≡ methods }
+    ensures path { (name : List ℕ) → path_text result.path name ≡ path.now }
+    ensures right { result.right ≡ Right.Bearer }
+    ensures members { result.members.now ≡ members.now }
+{
+    Description {
+        path: Path::Whole(path),
+        methods,
+        right: Right::Bearer,
+        members,
+    }
+}
+
+impl Resource {
+    /// The table of calls.
+    pub(crate) fn description(self) -> Description
+        ensures methods { result.methods ≡ (row_of self).methods }
+        ensures path { (name : List ℕ) → path_text result.path name ≡ (row_of self).path name }
+        ensures right { result.right ≡ (row_of self).right }
+        ensures page { result.right ≡ Right.Everyone → self ≡ Resource.Page }
+        ensures members { result.members.now ≡ (row_of self).members }
+    {
+        match self {
+            Resource::Page => Description {
+                path: Path::Whole("/"),
+                methods: Methods::GetAndHead,
+                right: Right::Everyone,
+                members: &[],
+            },
+            Resource::Site => call_by(Methods::Get, "/api/site", &[]),
+            Resource::Relvars => call_by(Methods::Get, "/api/relvars", &[Member::Counts]),
+            Resource::Table => Description {
+                path: Path::Around("/api/relvars/", ".csv"),
+                methods: Methods::Get,
+                right: Right::Bearer,
+                members: &[],
+            },
+            Resource::Refused => call_by(Methods::Get, "/api/refused", &[]),
+            Resource::Log => call_by(Methods::Get, "/api/log", &[Member::After]),
+            Resource::Script => call_by(Methods::Get, "/api/script", &[]),
+            Resource::Query => call_by(
+                Methods::Post,
+                "/api/query",
+                &[Member::Text, Member::At, Member::First, Member::Count],
+            ),
+            Resource::Statement => call_by(
+                Methods::Post,
+                "/api/statement",
+                &[Member::Text, Member::Key],
+            ),
+            Resource::Acknowledge => call_by(Methods::Post, "/api/acknowledge", &[Member::Stamp]),
+            Resource::Meet => call_by(Methods::Post, "/api/meet", &[Member::Address]),
+            Resource::Stop => call_by(Methods::Post, "/api/stop", &[]),
+        }
+    }
+}
+
+/// What a request is for: a resource, and the name in its path, which is empty where the path has none.
+#[derive(Clone, Copy)]
+pub(crate) struct Target<'a> {
+    pub(crate) resource: Resource,
+    pub(crate) name: &'a str,
+}
+
+/// The target at a path. None where nothing is there.
+pub(crate) fn target_at(path: &str) -> Option<Target<'_>>
+    ensures { IfSome result (λ target. path.now ≡ (row_of target.resource).path target.name.now) }
+{
+    for resource in RESOURCES {
+        if let Some(name) = resource.description().path.name_in(path) {
+            return Some(Target { resource, name });
+        }
+    }
+    None
+}

@@ -1,0 +1,321 @@
+//! A site that is opened, comes back from its journal, and is conversed with.
+
+ghost use Rattle.td_journal.specs.Reopening.{IsNew};
+
+use crate::access::Access;
+use crate::conversation::converse;
+use crate::ended::SessionEnd;
+use crate::host::{Platform, Run};
+use crate::inputs::Inputs;
+use crate::session::Session;
+use crate::words::ShellOptions;
+use std::alloc::{AllocError, Global};
+use td_changes::Changes;
+use td_io::Sink;
+use td_journal::{Reopened, StoreError, keep_journal};
+use td_journal_files::{Contents, read_contents};
+use td_replica::{Catalogued, Replica};
+use td_site_messages::{push_journal, push_read_only_journal, push_room};
+use td_site_opening::{
+    ExitStatus, JournalFault, OUT_OF_MEMORY, ScriptFile, SiteJournal, StartFault, check_journal,
+    complain, is_lacking, journal_name, open_new, report, report_unkept, take_contents,
+};
+
+// What is said at a terminal, since the program edits no lines by itself.
+const LINE_EDITING: &str = "for line editing run: rlwrap ./td_shell ..\n";
+
+/// Where a site comes from.
+#[derive(Clone, Copy)]
+enum Origin<'a> {
+    /// It keeps no journal.
+    New,
+    /// It goes on with the journal of this name.
+    Kept(&'a str),
+    /// It has taken what is whole of this journal, which is left as it is.
+    Read {
+        name: &'a str,
+        contents: &'a Contents,
+        whole: u64,
+    },
+}
+
+// What is said on the output of faults if a conversation breaks off.
+fn words_of(ended: SessionEnd) -> &'static str {
+    match ended {
+        SessionEnd::OutOfMemory => OUT_OF_MEMORY,
+        SessionEnd::ReadFault => "fault input: the input cannot be read\n",
+        SessionEnd::WriteFault => "fault output: the output cannot be written\n",
+    }
+}
+
+// The exit status of a conversation, and why it broke off, if it did.
+fn end<F: Sink>(ended: Result<ExitStatus, SessionEnd>, faults: &mut F) -> ExitStatus {
+    match ended {
+        Ok(status) => status,
+        Err(ended) => {
+            complain(faults, words_of(ended));
+            ExitStatus::Fault
+        }
+    }
+}
+
+// Appends what was found of the site's journal.
+fn push_found<R: Replica, P: Platform>(
+    out: &mut String,
+    run: &Run<'_, P>,
+    site: &R,
+    origin: Origin<'_>,
+) -> Result<(), AllocError> {
+    match origin {
+        Origin::New => push_journal(out, None, None, site),
+        Origin::Kept(name) => push_journal(out, Some(name), run.notes.found(), site),
+        Origin::Read {
+            name,
+            contents,
+            whole,
+        } => push_read_only_journal(out, name, contents, whole, site),
+    }
+}
+
+// Reports what was found of the site's journal, and how much room is left.
+fn report_found<R: Replica, P: Platform>(
+    run: &mut Run<'_, P>,
+    site: &R,
+    origin: Origin<'_>,
+) -> Result<(), AllocError> {
+    let mut found = String::new(run.alloc);
+    push_found(&mut found, run, site, origin)?;
+    push_room(&mut found, site)?;
+    complain(run.faults, found.as_str());
+    Ok(())
+}
+
+// Whether the site may be changed.
+fn access_of<P: Platform>(run: &mut Run<'_, P>, options: &ShellOptions<'_>) -> Access {
+    if options.site.is_read_only {
+        Access::ReadOnly
+    } else if is_lacking(&options.site, run.notes, run.faults) {
+        Access::Lacking
+    } else {
+        Access::Open
+    }
+}
+
+// The lines that come before what is typed: the texts of the command line, and those after the script for a site that
+// holds nothing yet. One that comes back has had them.
+fn first_lines<R: Replica>(
+    alloc: Global,
+    site: &R,
+    typed: &[&str],
+    after: Vec<u8>,
+) -> Result<Inputs, AllocError> {
+    let mut inputs = Inputs::new(alloc);
+    if !typed.is_empty() {
+        inputs.read_texts(typed)?;
+    }
+    let is_new = match site.held() {
+        Ok(held) => held.is_empty(),
+        Err(_) => false,
+    };
+    if is_new {
+        let _is_read = inputs.read_file(after)?;
+    }
+    Ok(inputs)
+}
+
+// Converses, and returns the exit status: whether a fault was answered that nobody saw come.
+fn hold<R: Changes + Catalogued + Drop, P: Platform>(
+    run: &mut Run<'_, P>,
+    session: &mut Session<R>,
+    keeps_going: bool,
+) -> Result<ExitStatus, SessionEnd> {
+    if session.is_prompted && run.terminal.is_output {
+        complain(run.faults, LINE_EDITING);
+    }
+    converse(run, session)?;
+    if session.has_faults && !session.is_prompted && !keeps_going {
+        Ok(ExitStatus::Fault)
+    } else {
+        Ok(ExitStatus::Success)
+    }
+}
+
+// Converses at a site of which was reported what was found.
+fn converse_at<R: Changes + Catalogued + Drop, P: Platform>(
+    run: &mut Run<'_, P>,
+    options: &ShellOptions<'_>,
+    site: R,
+    after: Vec<u8>,
+) -> Result<ExitStatus, SessionEnd> {
+    let access = access_of(run, options);
+    let is_prompted = run.terminal.is_input && options.typed.is_empty();
+    match first_lines(run.alloc, &site, &options.typed, after) {
+        Ok(inputs) => {
+            let mut session = Session::new(run.alloc, site, access, inputs, is_prompted);
+            hold(run, &mut session, options.keeps_going)
+        }
+        Err(error) => Err(SessionEnd::from(error)),
+    }
+}
+
+// Reports what was found of the site's journal, and converses at the site.
+fn begin<R: Changes + Catalogued + Drop, P: Platform>(
+    run: &mut Run<'_, P>,
+    options: &ShellOptions<'_>,
+    site: R,
+    origin: Origin<'_>,
+    after: Vec<u8>,
+) -> ExitStatus {
+    let ended = match report_found(run, &site, origin) {
+        Ok(()) => converse_at(run, options, site, after),
+        Err(error) => Err(SessionEnd::from(error)),
+    };
+    end(ended, run.faults)
+}
+
+// Reports that the journal of this name cannot be used.
+fn report_journal<P: Platform>(
+    run: &mut Run<'_, P>,
+    name: &str,
+    error: JournalFault<'_>,
+) -> ExitStatus {
+    let fault = StartFault::Journal { name, error };
+    report(run.alloc, run.host, fault, run.faults)
+}
+
+// Has the site take what its journal has, which is left as it is, and converses at it.
+fn start_taking<P: Platform>(
+    run: &mut Run<'_, P>,
+    options: &ShellOptions<'_>,
+    journal: &SiteJournal<'_>,
+    contents: &Contents,
+    site: P::Site,
+) -> ExitStatus
+    requires { IsNew (P.Site.seen site) }
+{
+    let name = journal.name;
+    match take_contents(run.alloc, contents, site, run.meter) {
+        Ok(
+            Reopened {
+                replica,
+                whole,
+                version: _,
+            },
+        ) => {
+            let origin = Origin::Read {
+                name,
+                contents,
+                whole,
+            };
+            begin(run, options, replica, origin, Vec::new(run.alloc))
+        }
+        Err(error) => {
+            let error = JournalFault::NotReopened {
+                contents,
+                error: &error,
+                script: journal.script,
+                site: journal.options.site,
+                limit: journal.options.limit,
+            };
+            report_journal(run, name, error)
+        }
+    }
+}
+
+// Reads the journal, and converses at the site that takes what it has.
+fn start_reading<P: Platform>(
+    run: &mut Run<'_, P>,
+    options: &ShellOptions<'_>,
+    journal: &SiteJournal<'_>,
+    site: P::Site,
+) -> ExitStatus
+    requires { IsNew (P.Site.seen site) }
+{
+    match read_contents(run.host, journal.name) {
+        Ok(contents) => start_taking(run, options, journal, &contents, site),
+        Err(error) => report_journal(run, journal.name, JournalFault::Unreadable(error)),
+    }
+}
+
+// Has the site go on with its journal, and converses at it.
+fn start_keeping<P: Platform>(
+    run: &mut Run<'_, P>,
+    options: &ShellOptions<'_>,
+    journal: &SiteJournal<'_>,
+    site: P::Site,
+    after: Vec<u8>,
+) -> ExitStatus
+    requires { IsNew (P.Site.seen site) }
+{
+    let name = journal.name;
+    match keep_journal(run.alloc, run.store, name, site, run.meter) {
+        Ok(site) => begin(run, options, site, Origin::Kept(name), after),
+        Err(StoreError::OutOfMemory) => end(Err(SessionEnd::OutOfMemory), run.faults),
+        Err(StoreError::JournalFile) => report_unkept::<P::Site, _, _>(
+            run.alloc, run.host, journal, run.notes, run.meter, run.faults,
+        ),
+    }
+}
+
+// Has the site come back from the journal of this name, and converses at it.
+fn start_named<P: Platform>(
+    run: &mut Run<'_, P>,
+    options: &ShellOptions<'_>,
+    journal: &SiteJournal<'_>,
+    site: P::Site,
+    after: Vec<u8>,
+) -> ExitStatus
+    requires { IsNew (P.Site.seen site) }
+{
+    if let Err(error) = check_journal(run.host, &options.site, journal.name) {
+        return report_journal(run, journal.name, error);
+    }
+    if options.site.is_read_only {
+        start_reading(run, options, journal, site)
+    } else {
+        start_keeping(run, options, journal, site, after)
+    }
+}
+
+// Has the site come back from its journal, if it keeps one, and converses at it.
+fn start_at<P: Platform>(
+    run: &mut Run<'_, P>,
+    options: &ShellOptions<'_>,
+    script: ScriptFile,
+    site: P::Site,
+) -> ExitStatus
+    requires { IsNew (P.Site.seen site) }
+{
+    let ScriptFile { text, after } = script;
+    match journal_name(run.alloc, &options.site) {
+        Ok(None) => begin(run, options, site, Origin::New, after),
+        Ok(Some(name)) => {
+            let journal = SiteJournal {
+                options: options.site,
+                script: text.as_str(),
+                name: name.as_str(),
+            };
+            start_named(run, options, &journal, site, after)
+        }
+        Err(error) => end(Err(SessionEnd::from(error)), run.faults),
+    }
+}
+
+/// Opens the site of the script, and converses at it.
+pub(crate) fn start<P: Platform>(
+    run: &mut Run<'_, P>,
+    options: &ShellOptions<'_>,
+    script: ScriptFile,
+) -> ExitStatus {
+    match open_new::<P::Site>(run.alloc, &options.site, script.text.as_str()) {
+        Ok(site) => start_at(run, options, script, site),
+        Err(error) => {
+            let fault = StartFault::Unopened {
+                file: options.site.script,
+                script: script.text.as_str(),
+                error: &error,
+            };
+            report(run.alloc, run.host, fault, run.faults)
+        }
+    }
+}

@@ -1,0 +1,81 @@
+//! What came of meetings.
+
+use crate::journal::push_unwritten;
+use crate::wording::{BROKEN, NO_MEMORY, UNCHANGED};
+use std::alloc::AllocError;
+use td_frames::FrameError;
+use td_journal_files::Notes;
+use td_meeting::MeetingError;
+use td_replica::TakeError;
+
+/// Appends how many of the statements that a meeting brought were new here.
+pub fn push_met(out: &mut String, fresh: usize) -> Result<(), AllocError> {
+    if fresh == 1 {
+        return out.push_str("met: 1 statement was new here");
+    }
+    write!(out, "met: {fresh} statements were new here")
+}
+
+// Appends why the link failed in a meeting, and how many new statements came before.
+fn push_broken_off(out: &mut String, why: &str, taken: usize) -> Result<(), AllocError> {
+    write!(
+        out,
+        "{why}; {taken} new statements came before, and the next meeting brings the rest"
+    )
+}
+
+// Appends why nothing more is read of what the other end sends; where the link fails, also how many statements came.
+fn push_unread(out: &mut String, error: FrameError, taken: usize) -> Result<(), AllocError> {
+    match error {
+        FrameError::OutOfMemory => out.push_str(NO_MEMORY),
+        FrameError::ReadFault => {
+            push_broken_off(out, "read: the connection failed or fell silent", taken)
+        }
+        FrameError::Cut => push_broken_off(out, "cut: the other site broke off", taken),
+        FrameError::Magic => out.push_str("magic: the other end is no site"),
+        FrameError::Version => out.push_str("version: the other site is of another version"),
+        FrameError::BadFrame => {
+            out.push_str("frame: the other end sent what no site sends; nothing of it is kept")
+        }
+    }
+}
+
+// Appends why the site does not take what the other one sent.
+fn push_not_taken(out: &mut String, notes: &Notes, error: TakeError) -> Result<(), AllocError> {
+    match error {
+        TakeError::Broken => out.push_str(BROKEN),
+        TakeError::BadEntry => {
+            out.push_str("entry: the other site sent what no site sends; nothing of it is kept")
+        }
+        TakeError::Clash { site, seq } => write!(
+            out,
+            "clash: statement {seq} of site {site} is another one here than there: a journal was copied, forgotten or brought back; compare .digest. Nothing of it is kept"
+        ),
+        TakeError::Full => {
+            out.push_str("full: this site would hold more statements than its limit says")
+        }
+        TakeError::OutOfMemory => out.push_str(UNCHANGED),
+        TakeError::JournalWrite => push_unwritten(out, notes.failure()),
+    }
+}
+
+/// Appends why a meeting did not come to its end.
+pub(crate) fn push_not_met(
+    out: &mut String,
+    notes: &Notes,
+    error: MeetingError,
+) -> Result<(), AllocError> {
+    match error {
+        MeetingError::Broken => out.push_str(BROKEN),
+        MeetingError::OutOfMemory => out.push_str(NO_MEMORY),
+        MeetingError::Frame { error, taken } => push_unread(out, error, taken),
+        MeetingError::OtherScript => {
+            out.push_str("script: the other site started from another script")
+        }
+        MeetingError::SameSite => out.push_str("same site: the other site has the same number"),
+        MeetingError::WriteFault { taken } => {
+            push_broken_off(out, "write: the connection failed or took nothing", taken)
+        }
+        MeetingError::Take(error) => push_not_taken(out, notes, error),
+    }
+}
