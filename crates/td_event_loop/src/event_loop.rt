@@ -4,7 +4,7 @@ use crate::calls::Calls;
 use crate::client::Client;
 use crate::console::Console;
 use crate::limits::{MOST_ACCEPTED, MOST_CLIENTS, MOST_MEETINGS, STOP_TIME, TICK, TURN};
-use crate::meets::{Loss, MeetingReport, MeetingSide, Meets, PeerRefusal, StepResult};
+use crate::meets::{Loss, MeetingReport, MeetingSide, Meets, PeerRefusal};
 use crate::outbox::Outbox;
 use crate::peer::Peer;
 use crate::server::Server;
@@ -364,12 +364,12 @@ impl EventLoop {
         meeting: usize,
         now: u64,
     ) {
-        let mut greeting = Outbox::new(self.alloc);
+        let mut out = Outbox::new(self.alloc);
         let mut loss = None;
-        if site.greet(meeting, &mut greeting) == StepResult::Continue {
+        if let Some(opening) = site.open(meeting, address, &mut out) {
             let added = match TcpStream::connect(net, address) {
                 Ok(stream) => {
-                    let peer = Peer::called(self.alloc, stream, address, greeting, now);
+                    let peer = Peer::called(self.alloc, stream, address, opening, out, now);
                     self.add_peer(peer, meeting)
                 }
                 Err(error) => Err(error),

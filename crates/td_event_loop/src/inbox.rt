@@ -12,7 +12,7 @@ use std::io::Read;
 pub(crate) struct Inbox {
     bytes: Vec<u8>,
     has_ended: bool,
-    ghost within: { vec_len bytes ≤ 1048576 },
+    ghost within: { vec_len bytes ≤ 1572864 },
 }
 
 impl Inbox {
@@ -40,6 +40,19 @@ impl Inbox {
         ensures { IsTrue result ↔ (MOST_BYTES ≤ vec_len self.now.bytes) }
     {
         self.bytes.len() >= MOST_BYTES
+    }
+
+    /// Reads no more: the connection failed.
+    pub(crate) fn close(&mut self) {
+        self.has_ended = true;
+    }
+
+    /// Drops bytes that were read, from the first one on, and makes room for more.
+    pub(crate) fn drop_front(&mut self, count: usize) {
+        let length = self.bytes.len();
+        let count = count.min(length);
+        self.bytes.rotate_left(count);
+        self.bytes.truncate(length - count);
     }
 
     /// Reads once, through the buffer. A read of no byte is the end.

@@ -13,7 +13,7 @@
 //! Its definitions are in `specs/`: Tokens, the number of the token of each source of events.
 //!
 //! Costs: a turn walks along all connections, at most 64 clients and 12 meetings; while an answer or a step of a
-//! meeting runs, all others wait. A meeting keeps at most 1 MiB of what its peer sent, and 1 MiB of what is sent to it.
+//! meeting runs, all others wait. A meeting keeps at most 1.5 MiB of what its peer sent, and of what is sent to it.
 //!
 //! td_event_loop knows HTTP by http_server, and of a meeting the order of its steps and where the bytes of each end. It
 //! knows no entries: a step gets bytes, and writes bytes, and the site keeps what it came to. Of a console it knows
@@ -37,6 +37,8 @@ mod transfer;
 
 pub use event_loop::{EventLoop, LoopOptions};
 pub use limits::{MOST_ACCEPTED, MOST_BYTES, MOST_CALLED, MOST_CLIENTS, MOST_MEETINGS};
-pub use meets::{Loss, MeetingOutcome, MeetingReport, MeetingSide, Meets, PeerRefusal, StepResult};
+pub use meets::{
+    Loss, MeetingOutcome, MeetingReport, MeetingSide, Meets, Opening, PeerRefusal, StepResult,
+};
 pub use outbox::Outbox;
 pub use server::Server;

@@ -12,8 +12,9 @@ pub const MOST_CALLED: usize = 4;
 /// The most meetings at once.
 pub const MOST_MEETINGS: usize = MOST_ACCEPTED + MOST_CALLED;
 
-/// The most bytes of a meeting that are kept of a peer, and that are kept for it.
-pub const MOST_BYTES: usize = 1_048_576;
+/// The most bytes of a meeting that are kept of a peer, and that are kept for it: as many as digests of 65,535 sites
+/// have, and more.
+pub const MOST_BYTES: usize = 1_572_864;
 
 /// The most bytes of the body of a request.
 pub(crate) const MOST_BODY: usize = 65_536;

@@ -34,6 +34,15 @@ pub enum PeerRefusal {
     Crowded,
 }
 
+/// How a meeting begins that this site began.
+#[derive(Clone, Copy, Debug, PartialEq, Eq)]
+pub enum Opening {
+    /// With digests, which the peer compares.
+    Question,
+    /// With a greeting.
+    Greeting,
+}
+
 /// What follows a step.
 #[derive(Clone, Copy, Debug, PartialEq, Eq)]
 pub enum StepResult {
@@ -70,8 +79,24 @@ pub struct MeetingReport {
 /// A site that meets others. Meetings overlap: each step is given the number of its meeting, under which the site may
 /// keep what came of it until the meeting ends.
 pub trait Meets {
-    /// The first step: writes the site's greeting.
-    fn greet(&mut self, meeting: usize, out: &mut Outbox) -> StepResult;
+    /// Begins a meeting with a peer that is called: writes a question or the site's greeting. None ends the meeting.
+    fn open(&mut self, meeting: usize, peer: SocketAddr, out: &mut Outbox) -> Option<Opening>;
+
+    /// Reads a question of a peer that calls, and writes the site's answer.
+    fn answer_question(&mut self, meeting: usize, question: &[u8], out: &mut Outbox) -> StepResult;
+
+    /// Reads the answer to a question, and writes which sites differ and the site's greeting. There are no bytes if the
+    /// peer closed the connection at once.
+    fn compare(
+        &mut self,
+        meeting: usize,
+        peer: SocketAddr,
+        answer: &[u8],
+        out: &mut Outbox,
+    ) -> StepResult;
+
+    /// Reads which sites differ by the peer that asked.
+    fn add_differences(&mut self, meeting: usize, differences: &[u8]) -> StepResult;
 
     /// The second step: reads a greeting, and writes the site's own and the entries that the peer lacks.
     fn answer(&mut self, meeting: usize, greeting: &[u8], out: &mut Outbox) -> StepResult;

@@ -13,7 +13,7 @@ use std::io::{ErrorKind, Write};
 pub struct Outbox {
     bytes: Vec<u8>,
     sent: usize,
-    ghost within: { vec_len bytes ≤ 1048576 },
+    ghost within: { vec_len bytes ≤ 1572864 },
     ghost ordered: { sent ≤ vec_len bytes },
 }
 
@@ -37,6 +37,19 @@ impl Outbox {
         ensures { IsTrue result ↔ (vec_len self.now.bytes ≤ self.now.sent) }
     {
         self.sent >= self.bytes.len()
+    }
+
+    /// Whether some of it is sent.
+    pub(crate) fn has_sent(&self) -> bool {
+        self.sent > 0
+    }
+
+    /// Drops what is sent, if all of it is, and makes room for more.
+    pub(crate) fn clear_sent(&mut self) {
+        if self.is_sent() {
+            self.sent = 0;
+            self.bytes.clear();
+        }
     }
 
     /// Sends some of the bytes that are not sent yet, by one write.

@@ -1,8 +1,10 @@
 //! A meeting, step by step, over a socket that never blocks.
 
+ghost use Rattle.std.specs.Prelude.{◌≤◌};
+
 use crate::inbox::Inbox;
 use crate::limits::TURN;
-use crate::meets::{Loss, MeetingReport, MeetingSide, Meets, StepResult};
+use crate::meets::{Loss, MeetingReport, MeetingSide, Meets, Opening, StepResult};
 use crate::outbox::Outbox;
 use crate::pace::Pace;
 use crate::transfer::{Progress, Readiness, Transfer, transfer_of};
@@ -10,15 +12,22 @@ use mio::net::TcpStream;
 use std::alloc::Global;
 use std::io::Read;
 use std::net::{Shutdown, SocketAddr};
+use td_comparison::{comparison_extent, differences_extent};
 use td_stream_bounds::{Extent, StreamScanner, greeting_extent};
 
 /// What is awaited.
 #[derive(Clone, Copy, Debug, PartialEq, Eq)]
 enum Stage {
-    /// The second site waits for a greeting.
+    /// The second site waits for a question or a greeting.
+    Opening,
+    /// The second site has answered a question, and waits for the sites that differ.
+    Differences,
+    /// The second site has these, and waits for a greeting.
     Greeting,
     /// The second site has answered, and waits for entries, which begin at this offset.
     Entries(usize),
+    /// The first site has asked, and waits for the answer.
+    Comparison,
     /// The first site has greeted, and waits for the answer.
     Reply,
     /// The last bytes are sent, by this side.
@@ -41,6 +50,16 @@ pub(crate) struct Peer {
     outbox: Outbox,
 }
 
+// Where a message ends that reaches so far among so many bytes.
+fn end_of(extent: Extent, length: usize) -> usize
+    ensures { result ≤ length }
+{
+    match extent {
+        Extent::Whole(end) => end.min(length),
+        _ => length,
+    }
+}
+
 impl Peer {
     /// A meeting that a peer begins.
     pub(crate) fn accepted(
@@ -52,7 +71,7 @@ impl Peer {
         Peer {
             stream,
             address,
-            stage: Stage::Greeting,
+            stage: Stage::Opening,
             readiness: Readiness {
                 is_readable: true,
                 is_writable: true,
@@ -64,18 +83,23 @@ impl Peer {
         }
     }
 
-    /// A meeting that this site begins, with its greeting. An event tells when the connection is made.
+    /// A meeting that this site begins, with what it sends first. An event tells when the connection is made.
     pub(crate) fn called(
         alloc: Global,
         stream: TcpStream,
         address: SocketAddr,
-        greeting: Outbox,
+        opening: Opening,
+        out: Outbox,
         now: u64,
     ) -> Peer {
+        let stage = match opening {
+            Opening::Question => Stage::Comparison,
+            Opening::Greeting => Stage::Reply,
+        };
         Peer {
             stream,
             address,
-            stage: Stage::Reply,
+            stage,
             readiness: Readiness {
                 is_readable: false,
                 is_writable: false,
@@ -83,7 +107,7 @@ impl Peer {
             pace: Pace::new(now),
             inbox: Inbox::new(alloc),
             scanner: None,
-            outbox: greeting,
+            outbox: out,
         }
     }
 
@@ -99,8 +123,10 @@ impl Peer {
     // Whether this site began the meeting, as its first side, or is the second one.
     fn side(&self) -> MeetingSide {
         match self.stage {
-            Stage::Greeting | Stage::Entries(_) => MeetingSide::Second,
-            Stage::Reply | Stage::Draining => MeetingSide::First,
+            Stage::Opening | Stage::Differences | Stage::Greeting | Stage::Entries(_) => {
+                MeetingSide::Second
+            }
+            Stage::Comparison | Stage::Reply | Stage::Draining => MeetingSide::First,
             Stage::Parting(side) => side,
         }
     }
@@ -113,6 +139,27 @@ impl Peer {
             side: self.side(),
             loss,
         }
+    }
+
+    // Whether a message that reaches so far has come whole, or never will.
+    fn has_message(&self, extent: Extent) -> bool {
+        match extent {
+            Extent::Open => self.inbox.is_closed(),
+            _ => true,
+        }
+    }
+
+    // Whether the peer begins with a question.
+    fn is_asked(&self) -> bool {
+        self.inbox.bytes().first() == Some(&b'J')
+    }
+
+    // Whether the question or the greeting has come whole, or never will.
+    fn has_opening(&mut self) -> bool {
+        if self.is_asked() {
+            return self.has_message(comparison_extent(self.inbox.bytes()));
+        }
+        self.has_greeting()
     }
 
     // Whether the greeting has come whole, or never will.
@@ -141,13 +188,55 @@ impl Peer {
         }
     }
 
+    // Answers the question or the greeting that came.
+    fn answer_opening<M: Meets>(&mut self, meeting: usize, site: &mut M) -> Progress {
+        if !self.is_asked() {
+            return self.answer(meeting, site);
+        }
+        let bytes = self.inbox.bytes();
+        let end = end_of(comparison_extent(bytes), bytes.len());
+        let question = &bytes[..end];
+        self.stage = match site.answer_question(meeting, question, &mut self.outbox) {
+            StepResult::Continue => Stage::Differences,
+            StepResult::Part => Stage::Parting(MeetingSide::Second),
+            StepResult::Stop => return Progress::Ended,
+        };
+        self.inbox.drop_front(end);
+        Progress::Busy
+    }
+
+    // Hands the sites that differ to the site, and waits for the greeting.
+    fn add_differences<M: Meets>(&mut self, meeting: usize, site: &mut M) -> Progress {
+        let bytes = self.inbox.bytes();
+        let end = end_of(differences_extent(bytes), bytes.len());
+        if site.add_differences(meeting, &bytes[..end]) != StepResult::Continue {
+            return Progress::Ended;
+        }
+        self.inbox.drop_front(end);
+        self.outbox.clear_sent();
+        self.stage = Stage::Greeting;
+        Progress::Busy
+    }
+
+    // Hands the answer to a question to the site, which writes which sites differ and its greeting.
+    fn compare<M: Meets>(&mut self, meeting: usize, site: &mut M) -> Progress {
+        self.outbox.clear_sent();
+        let bytes = self.inbox.bytes();
+        let end = end_of(comparison_extent(bytes), bytes.len());
+        let answer = &bytes[..end];
+        self.stage = match site.compare(meeting, self.address, answer, &mut self.outbox) {
+            StepResult::Continue => Stage::Reply,
+            StepResult::Part => Stage::Parting(MeetingSide::First),
+            StepResult::Stop => return Progress::Ended,
+        };
+        self.inbox.drop_front(end);
+        Progress::Busy
+    }
+
     // Answers the greeting that came; then it waits for entries, sends its last bytes, or ends, as the site decides.
     fn answer<M: Meets>(&mut self, meeting: usize, site: &mut M) -> Progress {
         let bytes = self.inbox.bytes();
-        let end = match greeting_extent(bytes) {
-            Extent::Whole(end) => end,
-            _ => bytes.len(),
-        };
+        let end = end_of(greeting_extent(bytes), bytes.len());
         self.stage = match site.answer(meeting, &bytes[..end], &mut self.outbox) {
             StepResult::Continue => Stage::Entries(end),
             StepResult::Part => Stage::Parting(MeetingSide::Second),
@@ -187,7 +276,10 @@ impl Peer {
     // Whether all has come that the next step needs.
     fn is_ready(&mut self) -> bool {
         match self.stage {
+            Stage::Opening => self.has_opening(),
+            Stage::Differences => self.has_message(differences_extent(self.inbox.bytes())),
             Stage::Greeting => self.has_greeting(),
+            Stage::Comparison => self.has_message(comparison_extent(self.inbox.bytes())),
             Stage::Entries(_) => self.outbox.is_sent() && self.has_entries(),
             Stage::Reply => self.has_greeting() && self.has_entries(),
             Stage::Parting(_) => self.outbox.is_sent(),
@@ -201,7 +293,10 @@ impl Peer {
             return Progress::Waiting;
         }
         match self.stage {
+            Stage::Opening => self.answer_opening(meeting, site),
+            Stage::Differences => self.add_differences(meeting, site),
             Stage::Greeting => self.answer(meeting, site),
+            Stage::Comparison => self.compare(meeting, site),
             Stage::Entries(at) => self.finish(meeting, at, site),
             Stage::Reply => self.settle(meeting, site),
             Stage::Parting(side) => self.part(side),
@@ -209,10 +304,24 @@ impl Peer {
         }
     }
 
+    // Ends a meeting whose connection failed. A peer that ends it in place of an answer to a question may not compare:
+    // the site hears that as an answer of no bytes.
+    fn fail(&mut self) -> Progress {
+        let is_unanswered = self.stage == Stage::Comparison
+            && self.inbox.bytes().is_empty()
+            && self.outbox.has_sent()
+            && !self.inbox.is_closed();
+        if !is_unanswered {
+            return Progress::Ended;
+        }
+        self.inbox.close();
+        Progress::Busy
+    }
+
     // Sends what the socket takes of the outbox; ended where it fails or takes nothing.
     fn write(&mut self) -> Progress {
         match transfer_of(self.outbox.send_to(&mut self.stream)) {
-            Transfer::Bytes(0) | Transfer::Failed => Progress::Ended,
+            Transfer::Bytes(0) | Transfer::Failed => self.fail(),
             Transfer::Bytes(count) => {
                 self.pace.add_bytes(count);
                 Progress::Busy
@@ -227,7 +336,7 @@ impl Peer {
     // Reads what has come into the inbox; ended where the socket fails.
     fn read(&mut self, buffer: &mut [u8]) -> Progress {
         match transfer_of(self.inbox.read_from(&mut self.stream, buffer)) {
-            Transfer::Failed => Progress::Ended,
+            Transfer::Failed => self.fail(),
             Transfer::Bytes(count) => {
                 self.pace.add_bytes(count);
                 Progress::Busy

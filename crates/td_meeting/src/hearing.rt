@@ -21,8 +21,8 @@ fn unread(error: FrameError) -> MeetingError
     }
 }
 
-/// Reads the greeting of another site of the same script.
-pub(crate) fn hear<R: Replica, S: Source>(
+/// Reads the greeting of another site of the same script. It takes room for its script and its version vector.
+pub fn hear<R: Replica, S: Source>(
     alloc: Global,
     site: &R,
     source: &mut S,

@@ -23,7 +23,7 @@
 #![tactic(auto)]
 
 pub mod error;
-mod hearing;
+pub mod hearing;
 pub mod laws;
 pub mod meeting;
 mod memory;
@@ -32,6 +32,7 @@ pub mod steps;
 mod taking;
 
 pub use error::MeetingError;
+pub use hearing::hear;
 pub use meeting::{MeetingRefusal, Met, judge, meet};
 pub use steps::{answer, finish, greet, settle};
 pub use td_io::Pair;

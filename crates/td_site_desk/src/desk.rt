@@ -8,6 +8,7 @@ use crate::inquiries::SiteView;
 use crate::keys::Keys;
 use crate::meetings::Meetings;
 use crate::reversals::Reversals;
+use crate::scopes::Scopes;
 use crate::values::Range;
 use crate::words::{fault, write_raised, write_text, write_truth};
 use std::alloc::{AllocError, Global};
@@ -53,6 +54,7 @@ pub struct SiteDesk<'a, R: Drop, H> {
     pub(crate) peers: Peers,
     pub(crate) wish: Option<SocketAddr>,
     pub(crate) meetings: Meetings,
+    pub(crate) scopes: Scopes,
     pub(crate) keys: Keys,
     pub(crate) reversals: Reversals,
     pub(crate) console: PartialLine,
@@ -86,6 +88,7 @@ impl<'a, R: Changes + Catalogued + Drop, H: Runtime + AllocGlobal> SiteDesk<'a, 
             is_lacking,
         } = parts;
         let _ = reversals.update(&site)?;
+        let scopes = Scopes::new(alloc, &peers.addresses)?;
         Ok(SiteDesk {
             alloc,
             host,
@@ -95,6 +98,7 @@ impl<'a, R: Changes + Catalogued + Drop, H: Runtime + AllocGlobal> SiteDesk<'a, 
             peers,
             wish: None,
             meetings: Meetings::new(alloc)?,
+            scopes,
             keys: Keys::new(alloc),
             reversals,
             console: PartialLine::new(),

@@ -2,18 +2,27 @@
 
 use crate::desk::SiteDesk;
 use crate::meetings::Note;
-use crate::steps::{answer_bytes, finish_bytes, greet_into, settle_bytes};
+use crate::scopes::MeetingState;
+use crate::steps::{
+    answer_bytes, answer_question_into, ask_into, compare_into, finish_bytes, greet_into,
+    settle_bytes,
+};
 use std::alloc::{AllocError, Global};
+use std::io::Write;
 use std::net::SocketAddr;
 use std::rt::Runtime;
 use td_changes::Changes;
-use td_event_loop::{MeetingOutcome, MeetingReport, Outbox, PeerRefusal, StepResult};
+use td_checked_meetings::{Received, Scope, add_differences, whole_scope};
+use td_comparison::is_other_version;
+use td_event_loop::{MeetingOutcome, MeetingReport, Opening, Outbox, PeerRefusal, StepResult};
 use td_frames::FrameError;
 use td_headings::Catalogue;
 use td_journal_files::Notes;
 use td_meeting::MeetingError;
-use td_replica::{Catalogued, Taken};
-use td_site_messages::{MeetingChanges, SiteFault, Snapshot, push_met, push_site_fault};
+use td_replica::Catalogued;
+use td_site_messages::{
+    MeetingChanges, SiteFault, Snapshot, push_differing, push_met, push_not_taken, push_site_fault,
+};
 use td_stream_bounds::{Extent, greeting_extent};
 
 // What a step of a meeting came to that failed.
@@ -37,10 +46,10 @@ fn taken_of(error: MeetingError) -> usize {
     }
 }
 
-// How many fresh statements a step took.
-fn fresh_of(taken: Result<Taken, MeetingError>) -> usize {
-    match taken {
-        Ok(taken) => taken.fresh,
+// How many new statements a step took.
+fn fresh_of(received: Result<Received, MeetingError>) -> usize {
+    match received {
+        Ok(received) => received.taken.fresh,
         Err(error) => taken_of(error),
     }
 }
@@ -74,7 +83,12 @@ fn push_error(
 // Appends what a meeting changed, in one line.
 fn push_meeting_changes(out: &mut String, changes: &MeetingChanges) -> Result<(), AllocError> {
     out.push_str(changes.line_end.as_str())?;
-    for line in changes.lines.as_str().lines() {
+    push_lines(out, changes.lines.as_str())
+}
+
+// Appends lines to a line.
+fn push_lines(out: &mut String, lines: &str) -> Result<(), AllocError> {
+    for line in lines.lines() {
         out.push_str("; ")?;
         out.push_str(line)?;
     }
@@ -126,14 +140,173 @@ impl<R: Changes + Catalogued + Drop, H: Runtime + AllocGlobal> SiteDesk<'_, R, H
         }
     }
 
-    /// The first step of a meeting: writes the greeting of the site, or notes why not and ends the meeting.
-    pub(crate) fn greet(&mut self, meeting: usize, out: &mut Outbox) -> StepResult {
-        match greet_into(self.alloc, &self.site, out) {
-            Ok(()) => StepResult::Continue,
+    // Notes why a step failed; what was written is sent where there was no room for more.
+    fn fail(&mut self, meeting: usize, error: MeetingError) -> StepResult {
+        self.note_error(meeting, error);
+        match error {
+            MeetingError::WriteFault { .. } => StepResult::Part,
+            _ => StepResult::Stop,
+        }
+    }
+
+    // Notes what a step came to, in these words.
+    fn note_words(&mut self, meeting: usize, outcome: MeetingOutcome, words: &str) {
+        let words = String::from_str(self.alloc, words);
+        self.note(meeting, outcome, words);
+    }
+
+    // Writes the greeting of the site for a peer that does not compare.
+    fn greet(&self, out: &mut Outbox) -> Result<Scope, MeetingError> {
+        let scope = match whole_scope(self.alloc, &self.site) {
+            Ok(scope) => scope,
+            Err(error) => return Err(error),
+        };
+        match greet_into(self.alloc, &self.site, &scope, out) {
+            Ok(()) => Ok(scope),
+            Err(error) => Err(error),
+        }
+    }
+
+    // Begins a meeting with a peer that does not compare.
+    fn open_plain(&mut self, meeting: usize, out: &mut Outbox) -> Option<Opening> {
+        match self.greet(out) {
+            Ok(scope) => {
+                self.scopes.keep(meeting, MeetingState::InScope(scope));
+                Some(Opening::Greeting)
+            }
             Err(error) => {
                 self.note_error(meeting, error);
-                StepResult::Stop
+                None
             }
+        }
+    }
+
+    /// Begins a meeting with a peer that is called, by a question where the peer compares; or notes why not.
+    pub(crate) fn open(
+        &mut self,
+        meeting: usize,
+        peer: SocketAddr,
+        out: &mut Outbox,
+    ) -> Option<Opening> {
+        if self.scopes.is_plain(peer, self.now) {
+            return self.open_plain(meeting, out);
+        }
+        match ask_into(self.alloc, &self.site, out) {
+            Ok(vector) => {
+                self.scopes.keep(meeting, MeetingState::Asked(vector));
+                Some(Opening::Question)
+            }
+            Err(error) => {
+                self.note_error(meeting, error);
+                None
+            }
+        }
+    }
+
+    // Answers a question of another version by the letters and the version that are known here.
+    fn refuse_version(&mut self, meeting: usize, out: &mut Outbox) -> StepResult {
+        let _ = out.write_all(b"JTDC\x01");
+        let words = "fault version: the other site compares by another version";
+        self.note_words(meeting, MeetingOutcome::Failed, words);
+        StepResult::Part
+    }
+
+    /// Reads a question, and writes the answer.
+    pub(crate) fn answer_question(
+        &mut self,
+        meeting: usize,
+        question: &[u8],
+        out: &mut Outbox,
+    ) -> StepResult {
+        if is_other_version(question) {
+            return self.refuse_version(meeting, out);
+        }
+        match answer_question_into(self.alloc, &self.site, question, out) {
+            Ok(scope) => {
+                self.scopes.keep(meeting, MeetingState::InScope(scope));
+                StepResult::Continue
+            }
+            Err(error) => self.fail(meeting, error),
+        }
+    }
+
+    // Notes that a peer closed the connection in place of an answer, and so may not compare.
+    fn note_unanswered(&mut self, meeting: usize, peer: SocketAddr) {
+        if self.scopes.note_unanswered(peer, self.now) {
+            let words =
+                "the other site closed the connection in place of digests: it is called without them now";
+            self.note_words(meeting, MeetingOutcome::Partial, words);
+        } else {
+            let words =
+                "fault cut: the other site, which has compared digests before, closed the connection";
+            self.note_words(meeting, MeetingOutcome::Failed, words);
+        }
+    }
+
+    /// Reads the answer to a question, and writes which sites differ and the greeting of the site.
+    pub(crate) fn compare(
+        &mut self,
+        meeting: usize,
+        peer: SocketAddr,
+        answer: &[u8],
+        out: &mut Outbox,
+    ) -> StepResult {
+        let Some(MeetingState::Asked(vector)) = self.scopes.take(meeting) else {
+            return StepResult::Stop;
+        };
+        if answer.is_empty() {
+            self.note_unanswered(meeting, peer);
+            return StepResult::Stop;
+        }
+        match compare_into(self.alloc, &self.site, vector, answer, out) {
+            Ok(scope) => {
+                self.scopes.note_compared(peer);
+                self.scopes.keep(meeting, MeetingState::InScope(scope));
+                StepResult::Continue
+            }
+            Err(error) => self.fail(meeting, error),
+        }
+    }
+
+    /// Reads which sites differ by the peer that asked.
+    pub(crate) fn add_differences(&mut self, meeting: usize, differences: &[u8]) -> StepResult {
+        let Some(MeetingState::InScope(mut scope)) = self.scopes.take(meeting) else {
+            return StepResult::Stop;
+        };
+        match add_differences(self.alloc, &mut scope, differences) {
+            Ok(()) => {
+                self.scopes.keep(meeting, MeetingState::InScope(scope));
+                StepResult::Continue
+            }
+            Err(error) => self.fail(meeting, error),
+        }
+    }
+
+    // The scope of a meeting; that of all that is held, where the peer did not compare.
+    fn take_scope(&mut self, meeting: usize) -> Result<Scope, MeetingError> {
+        match self.scopes.take(meeting) {
+            Some(MeetingState::InScope(scope)) => Ok(scope),
+            _ => whole_scope(self.alloc, &self.site),
+        }
+    }
+
+    // Reads a greeting, and writes the site's own with the entries that the peer lacks. A peer that is refused gets the
+    // site's own all the same, by which it sees why.
+    fn answer_in_scope(
+        &mut self,
+        meeting: usize,
+        scope: &Scope,
+        greeting: &[u8],
+        out: &mut Outbox,
+    ) -> StepResult {
+        match answer_bytes(self.alloc, &self.site, scope, greeting, out) {
+            Ok(()) => StepResult::Continue,
+            Err(error @ (MeetingError::OtherScript | MeetingError::SameSite)) => {
+                self.note_error(meeting, error);
+                let _ = greet_into(self.alloc, &self.site, scope, out);
+                StepResult::Part
+            }
+            Err(error) => self.fail(meeting, error),
         }
     }
 
@@ -144,20 +317,19 @@ impl<R: Changes + Catalogued + Drop, H: Runtime + AllocGlobal> SiteDesk<'_, R, H
         greeting: &[u8],
         out: &mut Outbox,
     ) -> StepResult {
-        match answer_bytes(self.alloc, &self.site, greeting, out) {
-            Ok(()) => StepResult::Continue,
-            Err(error) => {
-                self.note_error(meeting, error);
-                match error {
-                    MeetingError::WriteFault { .. } => StepResult::Part,
-                    _ => StepResult::Stop,
-                }
+        match self.take_scope(meeting) {
+            Ok(scope) => {
+                let next = self.answer_in_scope(meeting, &scope, greeting, out);
+                self.scopes.keep(meeting, MeetingState::InScope(scope));
+                next
             }
+            Err(error) => self.fail(meeting, error),
         }
     }
 
     /// Ends a meeting, and tells whoever watches what it came to; without memory for that it counts as failed.
     pub(crate) fn end(&mut self, report: &MeetingReport) -> MeetingOutcome {
+        let _ = self.scopes.take(report.meeting);
         match self.meetings.end(report, self.now) {
             Ok((outcome, line)) => {
                 self.tell_line(line.as_str());
@@ -206,74 +378,100 @@ impl<R: Changes + Catalogued + Drop, H: Runtime + AllocGlobal> SiteDesk<'_, R, H
     fn push_taken(
         &self,
         words: &mut String,
-        taken: Result<Taken, MeetingError>,
+        received: Result<Received, MeetingError>,
     ) -> Result<(), AllocError> {
-        match taken {
-            Ok(taken) => push_met(words, taken.fresh),
+        match received {
+            Ok(received) => push_met(words, received.taken.fresh),
             Err(error) => push_error(words, self.site.catalogue(), self.notes, error),
         }
     }
 
-    // Appends what a step took, or why it failed, with what that changed if something was fresh.
+    // Appends what a step took, or why it failed, with what that changed if something was new, and with what was not
+    // exchanged.
     fn push_step(
         &self,
         words: &mut String,
-        taken: Result<Taken, MeetingError>,
+        scope: &Scope,
+        received: Result<Received, MeetingError>,
         before: Option<&Snapshot>,
     ) -> Result<(), AllocError> {
-        self.push_taken(words, taken)?;
+        self.push_taken(words, received)?;
         match before {
-            Some(before) if fresh_of(taken) > 0 => self.push_changes(words, before),
-            _ => Ok(()),
+            Some(before) if fresh_of(received) > 0 => self.push_changes(words, before)?,
+            _ => {}
         }
+        let mut lines = String::new(self.alloc);
+        push_differing(&mut lines, scope)?;
+        if let Ok(received) = &received {
+            push_not_taken(&mut lines, received)?;
+        }
+        push_lines(words, lines.as_str())
     }
 
     // The words of a step that took entries, or failed.
     fn step_words(
         &self,
-        taken: Result<Taken, MeetingError>,
+        scope: &Scope,
+        received: Result<Received, MeetingError>,
         before: Option<&Snapshot>,
     ) -> Result<String, AllocError> {
         let mut words = String::new(self.alloc);
-        self.push_step(&mut words, taken, before)?;
+        self.push_step(&mut words, scope, received, before)?;
         Ok(words)
     }
 
-    // Takes note of what a step took.
-    fn note_taken(
+    // Takes note of what a step took. A site that lacks statements may issue again once it has got those that it issued
+    // before: not where they are left out.
+    fn note_received(
         &mut self,
         meeting: usize,
-        taken: Result<Taken, MeetingError>,
+        scope: &Scope,
+        received: Result<Received, MeetingError>,
         before: Option<&Snapshot>,
     ) {
-        let outcome = match taken {
+        let outcome = match received {
             Ok(_) => {
-                self.is_lacking = false;
+                self.is_lacking = self.is_lacking && scope.leaves_out(self.site.site());
                 MeetingOutcome::Complete
             }
             Err(error) => outcome_of(error),
         };
-        let words = self.step_words(taken, before);
+        let words = self.step_words(scope, received, before);
         self.note(meeting, outcome, words);
-        self.review(fresh_of(taken));
+        self.review(fresh_of(received));
     }
 
     /// The third step: takes the entries of a reply, and writes those that the peer lacks.
     pub(crate) fn settle(&mut self, meeting: usize, reply: &[u8], out: &mut Outbox) -> StepResult {
+        let scope = match self.take_scope(meeting) {
+            Ok(scope) => scope,
+            Err(error) => return self.fail(meeting, error),
+        };
         let before = self.snapshot_before(entries_of(reply));
-        let taken = settle_bytes(self.alloc, &mut self.site, reply, out, &mut self.meter);
-        let next = match taken {
+        let received = settle_bytes(
+            self.alloc,
+            &mut self.site,
+            &scope,
+            reply,
+            out,
+            &mut self.meter,
+        );
+        let next = match received {
             Ok(_) | Err(MeetingError::WriteFault { .. }) => StepResult::Part,
             Err(_) => StepResult::Stop,
         };
-        self.note_taken(meeting, taken, before.as_ref());
+        self.note_received(meeting, &scope, received, before.as_ref());
         next
     }
 
     /// The fourth step: takes the entries of the peer, and notes what it came to.
     pub(crate) fn finish(&mut self, meeting: usize, entries: &[u8]) {
+        let scope = match self.take_scope(meeting) {
+            Ok(scope) => scope,
+            Err(error) => return self.note_error(meeting, error),
+        };
         let before = self.snapshot_before(entries);
-        let taken = finish_bytes(self.alloc, &mut self.site, entries, &mut self.meter);
-        self.note_taken(meeting, taken, before.as_ref());
+        let received = finish_bytes(self.alloc, &mut self.site, &scope, entries, &mut self.meter);
+        self.note_received(meeting, &scope, received, before.as_ref());
     }
 }

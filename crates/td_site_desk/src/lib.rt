@@ -24,6 +24,7 @@ mod inquiries;
 mod keys;
 mod meetings;
 mod reversals;
+mod scopes;
 mod server;
 mod statements;
 mod steps;

@@ -9,7 +9,7 @@ use std::net::SocketAddr;
 use std::rt::Runtime;
 use td_changes::Changes;
 use td_event_loop::{
-    MeetingOutcome, MeetingReport, Meets, Outbox, PeerRefusal, Server, StepResult,
+    MeetingOutcome, MeetingReport, Meets, Opening, Outbox, PeerRefusal, Server, StepResult,
 };
 use td_http_api::Api;
 use td_replica::Catalogued;
@@ -43,8 +43,26 @@ impl<R: Changes + Catalogued + Drop, H: Runtime + AllocGlobal> Service for SiteS
 }
 
 impl<R: Changes + Catalogued + Drop, H: Runtime + AllocGlobal> Meets for SiteServer<'_, R, H> {
-    fn greet(&mut self, meeting: usize, out: &mut Outbox) -> StepResult {
-        self.api.desk.greet(meeting, out)
+    fn open(&mut self, meeting: usize, peer: SocketAddr, out: &mut Outbox) -> Option<Opening> {
+        self.api.desk.open(meeting, peer, out)
+    }
+
+    fn answer_question(&mut self, meeting: usize, question: &[u8], out: &mut Outbox) -> StepResult {
+        self.api.desk.answer_question(meeting, question, out)
+    }
+
+    fn compare(
+        &mut self,
+        meeting: usize,
+        peer: SocketAddr,
+        answer: &[u8],
+        out: &mut Outbox,
+    ) -> StepResult {
+        self.api.desk.compare(meeting, peer, answer, out)
+    }
+
+    fn add_differences(&mut self, meeting: usize, differences: &[u8]) -> StepResult {
+        self.api.desk.add_differences(meeting, differences)
     }
 
     fn answer(&mut self, meeting: usize, greeting: &[u8], out: &mut Outbox) -> StepResult {

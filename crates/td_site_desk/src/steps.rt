@@ -1,56 +1,110 @@
 //! The steps of a meeting over bytes in memory.
 
 use std::alloc::Global;
+use td_checked_meetings::{
+    Received, Scope, answer, answer_question, ask, compare, finish, greet, settle,
+};
 use td_event_loop::Outbox;
-use td_io::{Device, Pair};
-use td_meeting::{MeetingError, answer, finish, greet, settle};
-use td_replica::{Replica, Taken};
+use td_io::Device;
+use td_meeting::MeetingError;
+use td_replica::Replica;
 use td_semantics::Meter;
+use td_stamps::Vector;
 
-/// The first step: appends the greeting of the site to what is to be sent.
+/// Appends the digests of what the site holds to what is to be sent. Returns the version vector of that.
+pub(crate) fn ask_into<R: Replica>(
+    alloc: Global,
+    site: &R,
+    out: &mut Outbox,
+) -> Result<Vector, MeetingError> {
+    ask(alloc, site, &mut Device::new(out))
+}
+
+/// Reads a question, and appends the answer. Returns the scope of the meeting, as far as it is known here.
+pub(crate) fn answer_question_into<R: Replica>(
+    alloc: Global,
+    site: &R,
+    question: &[u8],
+    out: &mut Outbox,
+) -> Result<Scope, MeetingError> {
+    answer_question(alloc, site, question, &mut Device::new(out))
+}
+
+/// Reads an answer, and appends which sites differ and the greeting of the site. Returns the scope of the meeting.
+pub(crate) fn compare_into<R: Replica>(
+    alloc: Global,
+    site: &R,
+    vector: Vector,
+    answer: &[u8],
+    out: &mut Outbox,
+) -> Result<Scope, MeetingError> {
+    let mut sink = Device::new(out);
+    let scope = match compare(alloc, site, vector, answer, &mut sink) {
+        Ok(scope) => scope,
+        Err(error) => return Err(error),
+    };
+    match greet(alloc, site, &scope, &mut sink) {
+        Ok(()) => Ok(scope),
+        Err(error) => Err(error),
+    }
+}
+
+/// Appends the greeting of the site, with the version vector of the scope.
 pub(crate) fn greet_into<R: Replica>(
     alloc: Global,
     site: &R,
+    scope: &Scope,
     out: &mut Outbox,
 ) -> Result<(), MeetingError> {
-    greet(alloc, site, &mut Device::new(out))
+    greet(alloc, site, scope, &mut Device::new(out))
 }
 
-/// The second step: reads a greeting, and appends the site's own with the entries that the peer lacks.
+/// Reads a greeting, and appends the site's own with the entries of the scope that the peer lacks.
 pub(crate) fn answer_bytes<R: Replica>(
     alloc: Global,
     site: &R,
+    scope: &Scope,
     greeting: &[u8],
     out: &mut Outbox,
 ) -> Result<(), MeetingError> {
-    let mut link = Device::link(Pair {
-        reader: greeting,
-        writer: out,
-    });
-    answer(alloc, site, &mut link)
+    match answer(
+        alloc,
+        site,
+        scope,
+        &mut Device::new(greeting),
+        &mut Device::new(out),
+    ) {
+        Ok(_) => Ok(()),
+        Err(error) => Err(error),
+    }
 }
 
-/// The third step: takes the entries of a reply as one batch, and appends those that the peer lacks.
+/// Takes the entries of a reply as one batch, and appends those of the scope that the peer lacks.
 pub(crate) fn settle_bytes<R: Replica>(
     alloc: Global,
     site: &mut R,
+    scope: &Scope,
     reply: &[u8],
     out: &mut Outbox,
     meter: &mut Meter,
-) -> Result<Taken, MeetingError> {
-    let mut link = Device::link(Pair {
-        reader: reply,
-        writer: out,
-    });
-    settle(alloc, site, &mut link, meter)
+) -> Result<Received, MeetingError> {
+    settle(
+        alloc,
+        site,
+        scope,
+        &mut Device::new(reply),
+        &mut Device::new(out),
+        meter,
+    )
 }
 
-/// The fourth step: takes the entries of the peer as one batch.
+/// Takes the entries of the peer as one batch.
 pub(crate) fn finish_bytes<R: Replica>(
     alloc: Global,
     site: &mut R,
+    scope: &Scope,
     entries: &[u8],
     meter: &mut Meter,
-) -> Result<Taken, MeetingError> {
-    finish(alloc, site, &mut Device::new(entries), meter)
+) -> Result<Received, MeetingError> {
+    finish(alloc, site, scope, &mut Device::new(entries), meter)
 }

@@ -22,6 +22,7 @@
 #![tactic(auto)]
 
 mod changes;
+mod differing;
 mod digest;
 mod fault;
 mod journal;
@@ -37,6 +38,7 @@ mod unmet;
 mod wording;
 
 pub use changes::{push_change_count, push_changes};
+pub use differing::{push_differing, push_not_taken};
 pub use digest::push_digest;
 pub use fault::{SiteFault, push_site_fault};
 pub use journal::{failure_words, push_journal, push_read_only_journal};

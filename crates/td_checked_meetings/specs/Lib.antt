@@ -1,0 +1,5 @@
+-- The definitions of the crate.
+pub mod Scopes
+pub mod Comparing
+pub mod Steps
+pub mod ForProofs

@@ -1,0 +1,198 @@
+//! The comparison before a meeting.
+
+ghost use Rattle.std.specs.Prelude.{◌≡◌, true, IfErr, IfOk, MatchResult, Ok, Err};
+ghost use Rattle.sha2.specs.Sha256.{sha256};
+ghost use Rattle.td_checked_meetings.specs.Comparing.{AddsDifferences, AnsweredQuestion, Answers, Asked, Compared, Compares, IsWhole};
+ghost use Rattle.td_checked_meetings.specs.ForProofs as proofs;
+
+use crate::scope::Scope;
+use std::alloc::{AllocError, Global};
+use td_comparison::{
+    Comparison, Findings, MessageError, SiteDigest, differing_sites, put_comparison,
+    put_differences, question, read_comparison, read_differences, script_digest,
+};
+use td_frames::FrameError;
+use td_io::{Failed, Sink};
+use td_meeting::MeetingError;
+use td_replica::Replica;
+use td_stamps::{Held, Vector};
+
+// Why a message is not read.
+fn unread(error: MessageError) -> MeetingError
+    ensures { result ≡ proofs.unread error }
+{
+    match error {
+        MessageError::OutOfMemory => MeetingError::OutOfMemory,
+        MessageError::Malformed => MeetingError::Frame {
+            error: FrameError::BadFrame,
+            taken: 0,
+        },
+    }
+}
+
+// Whether a comparison is that of another site of the same script.
+fn is_of_another<R: Replica>(site: &R, comparison: &Comparison) -> bool {
+    comparison.site != site.site() && comparison.script == script_digest(site.script())
+}
+
+// The version vector of what is held, and digests of its sites.
+fn own_question(alloc: Global, held: &Held) -> Result<(Vector, Vec<SiteDigest>), AllocError> {
+    let vector = held.vector(alloc)?;
+    let digests = question(alloc, held, &vector)?;
+    Ok((vector, digests))
+}
+
+/// The first site writes a digest of what it holds of each site, and hands it on. Returns the version vector of what it
+/// holds.
+pub fn ask<R: Replica, K: Sink>(
+    alloc: Global,
+    site: &R,
+    sink: &mut K,
+) -> Result<Vector, MeetingError>
+    ensures { Asked (R.seen site.now) (K.held sink.old) result (K.held sink.new) }
+{
+    let Ok(held) = site.held() else {
+        return Err(MeetingError::Broken);
+    };
+    let Ok((vector, digests)) = own_question(alloc, held) else {
+        return Err(MeetingError::OutOfMemory);
+    };
+    match send_comparison(site, &digests, sink) {
+        Ok(()) => Ok(vector),
+        Err(Failed) => Err(MeetingError::WriteFault { taken: 0 }),
+    }
+}
+
+/// The scope of a meeting with a site that does not compare: all that is held, and no site is left out.
+pub fn whole_scope<R: Replica>(alloc: Global, site: &R) -> Result<Scope, MeetingError>
+    ensures { IsWhole (R.seen site.now) result }
+{
+    let Ok(held) = site.held() else {
+        return Err(MeetingError::Broken);
+    };
+    match held.vector(alloc) {
+        Ok(vector) => Ok(Scope {
+            vector,
+            left_out: Vec::new(alloc),
+        }),
+        Err(_) => Err(MeetingError::OutOfMemory),
+    }
+}
+
+// Writes a comparison by the site, and hands it on.
+fn send_comparison<R: Replica, K: Sink>(
+    site: &R,
+    digests: &[SiteDigest],
+    sink: &mut K,
+) -> Result<(), Failed> {
+    put_comparison(sink, site.site(), &script_digest(site.script()), digests)?;
+    sink.flush()
+}
+
+// What is answered to a comparison: nothing to one of another script, or of this site's number.
+fn answer_to<R: Replica>(
+    alloc: Global,
+    site: &R,
+    held: &Held,
+    vector: &Vector,
+    comparison: &Comparison,
+) -> Result<Findings, AllocError> {
+    if is_of_another(site, comparison) {
+        return td_comparison::answer(alloc, held, vector, &comparison.digests);
+    }
+    Ok(Findings {
+        digests: Vec::new(alloc),
+        differing: Vec::new(alloc),
+    })
+}
+
+/// The second site reads the first one's digests, writes its own of the same sites, and hands them on. Returns the scope
+/// of the meeting, as far as it is known here.
+pub fn answer_question<R: Replica, K: Sink>(
+    alloc: Global,
+    site: &R,
+    question: &[u8],
+    sink: &mut K,
+) -> Result<Scope, MeetingError>
+    ensures { AnsweredQuestion (R.seen site.now) question.now (K.held sink.old) result (K.held sink.new) }
+{
+    let Ok(held) = site.held() else {
+        return Err(MeetingError::Broken);
+    };
+    let comparison = match read_comparison(alloc, question) {
+        Ok(comparison) => comparison,
+        Err(error) => return Err(unread(error)),
+    };
+    let Ok(vector) = held.vector(alloc) else {
+        return Err(MeetingError::OutOfMemory);
+    };
+    let Ok(answer) = answer_to(alloc, site, held, &vector, &comparison) else {
+        return Err(MeetingError::OutOfMemory);
+    };
+    match send_comparison(site, &answer.digests, sink) {
+        Ok(()) => Ok(Scope {
+            vector,
+            left_out: answer.differing,
+        }),
+        Err(Failed) => Err(MeetingError::WriteFault { taken: 0 }),
+    }
+}
+
+// The sites that differ by an answer: none by one of another script, or of this site's number.
+fn differing_by<R: Replica>(
+    alloc: Global,
+    site: &R,
+    held: &Held,
+    vector: &Vector,
+    answer: &Comparison,
+) -> Result<Vec<u16>, AllocError> {
+    if is_of_another(site, answer) {
+        return differing_sites(alloc, held, vector, &answer.digests);
+    }
+    Ok(Vec::new(alloc))
+}
+
+/// The first site reads the second one's digests, and writes which sites differ. The vector is the one that `ask`
+/// returned. It flushes nothing: the greeting follows.
+pub fn compare<R: Replica, K: Sink>(
+    alloc: Global,
+    site: &R,
+    vector: Vector,
+    answer: &[u8],
+    sink: &mut K,
+) -> Result<Scope, MeetingError>
+    ensures { Compared (R.seen site.now) vector answer.now (K.held sink.old) result (K.held sink.new) }
+{
+    let Ok(held) = site.held() else {
+        return Err(MeetingError::Broken);
+    };
+    let comparison = match read_comparison(alloc, answer) {
+        Ok(comparison) => comparison,
+        Err(error) => return Err(unread(error)),
+    };
+    let Ok(left_out) = differing_by(alloc, site, held, &vector, &comparison) else {
+        return Err(MeetingError::OutOfMemory);
+    };
+    match put_differences(sink, &left_out) {
+        Ok(()) => Ok(Scope { vector, left_out }),
+        Err(Failed) => Err(MeetingError::WriteFault { taken: 0 }),
+    }
+}
+
+/// The second site reads which sites the first one found to differ, and leaves these out too.
+pub fn add_differences(
+    alloc: Global,
+    scope: &mut Scope,
+    differences: &[u8],
+) -> Result<(), MeetingError>
+    ensures { AddsDifferences scope.old differences.now result scope.new }
+{
+    let sites = match read_differences(alloc, differences) {
+        Ok(sites) => sites,
+        Err(error) => return Err(unread(error)),
+    };
+    match scope.left_out.extend_from_slice(&sites) {
+        Ok(()) => Ok(()),
+        Err(_) => Err(MeetingError::OutOfMemory),
+    }
+}

@@ -1,0 +1,4 @@
+pub mod Feeds
+pub mod Pieces
+pub mod Unequal
+pub mod Places

@@ -1,0 +1,5 @@
+-- The definitions of the crate.
+pub mod Digests
+pub mod Messages
+pub mod Extents
+pub mod ForProofs

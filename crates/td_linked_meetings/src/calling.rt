@@ -1,0 +1,119 @@
+//! The site that opened the link.
+
+use crate::inbox::{Awaited, Inbox};
+use crate::outcome::{NotBegun, Outcome};
+use std::alloc::Global;
+use td_checked_meetings::{Scope, ask, compare, greet, settle, whole_scope};
+use td_comparison::is_other_version;
+use td_frames::FrameError;
+use td_io::{Channel, Device, Failed};
+use td_meeting::MeetingError;
+use td_replica::Replica;
+use td_semantics::Meter;
+
+/// How a meeting begins.
+#[derive(Clone, Copy, Debug, PartialEq, Eq)]
+pub enum Opening {
+    /// With digests, which the other site compares.
+    Question,
+    /// With a greeting: the other site does not compare.
+    Greeting,
+}
+
+// Reads the other site's answer.
+fn read_answer<C: Channel>(inbox: &mut Inbox, link: &mut C) -> Result<usize, NotBegun> {
+    match inbox.read_message(link, Awaited::Comparison) {
+        Ok(0) => Err(NotBegun::NotCompared),
+        Ok(_) if is_other_version(inbox.bytes()) => Err(NotBegun::Failed(MeetingError::Frame {
+            error: FrameError::Version,
+            taken: 0,
+        })),
+        Ok(end) => Ok(end),
+        Err(error) => Err(NotBegun::Failed(error)),
+    }
+}
+
+// Asks the other site, and writes which sites differ.
+fn compare_over<R: Replica, C: Channel>(
+    alloc: Global,
+    site: &R,
+    link: &mut C,
+    inbox: &mut Inbox,
+) -> Result<Scope, NotBegun> {
+    let vector = match ask(alloc, site, link) {
+        Ok(vector) => vector,
+        Err(error) => return Err(NotBegun::Failed(error)),
+    };
+    let end = read_answer(inbox, link)?;
+    match compare(alloc, site, vector, inbox.front(end), link) {
+        Ok(scope) => {
+            inbox.drop_front(end);
+            Ok(scope)
+        }
+        Err(error) => Err(NotBegun::Failed(inbox.cause(error))),
+    }
+}
+
+// Finds what is exchanged.
+fn scope_over<R: Replica, C: Channel>(
+    alloc: Global,
+    site: &R,
+    link: &mut C,
+    inbox: &mut Inbox,
+    opening: Opening,
+) -> Result<Scope, NotBegun> {
+    match opening {
+        Opening::Question => compare_over(alloc, site, link, inbox),
+        Opening::Greeting => match whole_scope(alloc, site) {
+            Ok(scope) => Ok(scope),
+            Err(error) => Err(NotBegun::Failed(error)),
+        },
+    }
+}
+
+// Greets the other site, and reads its greeting and entries.
+fn exchange_greetings<R: Replica, C: Channel>(
+    alloc: Global,
+    site: &R,
+    scope: &Scope,
+    link: &mut C,
+    inbox: &mut Inbox,
+) -> Result<(), MeetingError> {
+    match greet(alloc, site, scope, link) {
+        Ok(()) => {}
+        Err(error) => return Err(error),
+    }
+    match link.flush() {
+        Ok(()) => {}
+        Err(Failed) => return Err(MeetingError::WriteFault { taken: 0 }),
+    }
+    match inbox.read_message(link, Awaited::Greeting) {
+        Ok(end) => inbox.read_entries(link, end),
+        Err(error) => Err(error),
+    }
+}
+
+/// Meets the site at the other end of a link that this site opened.
+pub fn call<R: Replica, C: Channel>(
+    alloc: Global,
+    site: &mut R,
+    link: &mut C,
+    opening: Opening,
+    meter: &mut Meter,
+) -> Result<Outcome, NotBegun> {
+    let mut inbox = match Inbox::new(alloc) {
+        Ok(inbox) => inbox,
+        Err(error) => return Err(NotBegun::Failed(error)),
+    };
+    let scope = scope_over(alloc, site, link, &mut inbox, opening)?;
+    match exchange_greetings(alloc, site, &scope, link, &mut inbox) {
+        Ok(()) => {}
+        Err(error) => return Err(NotBegun::Failed(error)),
+    }
+    let mut reply = Device::new(inbox.bytes());
+    let received = match settle(alloc, site, &scope, &mut reply, link, meter) {
+        Ok(received) => Ok(received),
+        Err(error) => Err(inbox.cause(error)),
+    };
+    Ok(Outcome { received, scope })
+}

@@ -1,0 +1,24 @@
+//! Meetings with the site of another program, over a link that waits for each byte: a comparison of digests, and then
+//! the meeting in the scope that it found.
+//!
+//! Begin with `call`, for the site that opened the link, and `serve`, for the one that was called.
+//!
+//! ```
+//! let outcome = call(alloc, &mut site, &mut link, Opening::Question, &mut meter)?;
+//! let received = outcome.received?;
+//! ```
+//!
+//! Costs: those of the steps of td_checked_meetings, and a copy of each message, which is read whole before its step.
+//!
+//! td_linked_meetings knows where messages end, by td_comparison and td_stream_bounds, and in which order they come. It
+//! judges none of them.
+#![tactic(auto)]
+
+mod calling;
+mod inbox;
+mod outcome;
+mod serving;
+
+pub use calling::{Opening, call};
+pub use outcome::{NotBegun, Outcome};
+pub use serving::serve;

@@ -1,0 +1,149 @@
+//! The site that was called.
+
+use crate::inbox::{Awaited, Inbox};
+use crate::outcome::{NotBegun, Outcome};
+use std::alloc::Global;
+use td_checked_meetings::{
+    Scope, add_differences, answer, answer_question, finish, greet, whole_scope,
+};
+use td_comparison::is_other_version;
+use td_frames::FrameError;
+use td_io::{Channel, Device, put};
+use td_meeting::MeetingError;
+use td_replica::Replica;
+use td_semantics::Meter;
+
+// Answers a question of another version by the letters and the version that are known here.
+fn refuse_version<C: Channel>(link: &mut C) -> MeetingError {
+    let _told = put(link, b"JTDC\x01");
+    MeetingError::Frame {
+        error: FrameError::Version,
+        taken: 0,
+    }
+}
+
+// Reads which sites differ by the site that asked.
+fn read_differences<C: Channel>(
+    alloc: Global,
+    link: &mut C,
+    inbox: &mut Inbox,
+    scope: &mut Scope,
+) -> Result<(), MeetingError> {
+    let end = match inbox.read_message(link, Awaited::Differences) {
+        Ok(end) => end,
+        Err(error) => return Err(error),
+    };
+    match add_differences(alloc, scope, inbox.front(end)) {
+        Ok(()) => {
+            inbox.drop_front(end);
+            Ok(())
+        }
+        Err(error) => Err(error),
+    }
+}
+
+// Answers the question that came, and reads which sites differ.
+fn answer_over<R: Replica, C: Channel>(
+    alloc: Global,
+    site: &R,
+    link: &mut C,
+    inbox: &mut Inbox,
+    end: usize,
+) -> Result<Scope, MeetingError> {
+    if is_other_version(inbox.bytes()) {
+        return Err(refuse_version(link));
+    }
+    let mut scope = match answer_question(alloc, site, inbox.front(end), link) {
+        Ok(scope) => scope,
+        Err(error) => return Err(inbox.cause(error)),
+    };
+    inbox.drop_front(end);
+    match read_differences(alloc, link, inbox, &mut scope) {
+        Ok(()) => Ok(scope),
+        Err(error) => Err(inbox.cause(error)),
+    }
+}
+
+// Finds what is exchanged.
+fn scope_over<R: Replica, C: Channel>(
+    alloc: Global,
+    site: &R,
+    link: &mut C,
+    inbox: &mut Inbox,
+) -> Result<Scope, MeetingError> {
+    let end = match inbox.read_message(link, Awaited::Opening) {
+        Ok(end) => end,
+        Err(error) => return Err(error),
+    };
+    if inbox.bytes().first() == Some(&b'J') {
+        answer_over(alloc, site, link, inbox, end)
+    } else {
+        whole_scope(alloc, site)
+    }
+}
+
+// Reads a greeting, and answers it. A site that is refused is greeted all the same, by which it sees why.
+fn answer_greeting<R: Replica, C: Channel>(
+    alloc: Global,
+    site: &R,
+    scope: &Scope,
+    link: &mut C,
+    greeting: &[u8],
+) -> Result<(), MeetingError> {
+    match answer(alloc, site, scope, &mut Device::new(greeting), link) {
+        Ok(_) => Ok(()),
+        Err(error @ (MeetingError::OtherScript | MeetingError::SameSite)) => {
+            let _greeted = greet(alloc, site, scope, link);
+            let _flushed = link.flush();
+            Err(error)
+        }
+        Err(error) => Err(error),
+    }
+}
+
+// Exchanges greetings, and reads the entries of the other site.
+fn exchange_greetings<R: Replica, C: Channel>(
+    alloc: Global,
+    site: &R,
+    scope: &Scope,
+    link: &mut C,
+    inbox: &mut Inbox,
+) -> Result<(), MeetingError> {
+    let end = match inbox.read_message(link, Awaited::Greeting) {
+        Ok(end) => end,
+        Err(error) => return Err(error),
+    };
+    match answer_greeting(alloc, site, scope, link, inbox.front(end)) {
+        Ok(()) => {}
+        Err(error) => return Err(inbox.cause(error)),
+    }
+    inbox.drop_front(end);
+    inbox.read_entries(link, 0)
+}
+
+/// Meets the site that opened this link, which compares digests first or does not.
+pub fn serve<R: Replica, C: Channel>(
+    alloc: Global,
+    site: &mut R,
+    link: &mut C,
+    meter: &mut Meter,
+) -> Result<Outcome, NotBegun> {
+    let mut inbox = match Inbox::new(alloc) {
+        Ok(inbox) => inbox,
+        Err(error) => return Err(NotBegun::Failed(error)),
+    };
+    let scope = match scope_over(alloc, site, link, &mut inbox) {
+        Ok(scope) => scope,
+        Err(error) => return Err(NotBegun::Failed(error)),
+    };
+    match exchange_greetings(alloc, site, &scope, link, &mut inbox) {
+        Ok(()) => {}
+        Err(error) => return Err(NotBegun::Failed(error)),
+    }
+    let mut entries = Device::new(inbox.bytes());
+    let received = match finish(alloc, site, &scope, &mut entries, meter) {
+        Ok(received) => Ok(received),
+        Err(error) => Err(inbox.cause(error)),
+    };
+    Ok(Outcome { received, scope })
+}

@@ -1,0 +1,102 @@
+//! What is known of the meetings under way, and of peers that do not compare.
+
+use std::alloc::{AllocError, Global};
+use std::net::SocketAddr;
+use td_checked_meetings::Scope;
+use td_event_loop::MOST_MEETINGS;
+use td_stamps::Vector;
+
+/// For how long, in milliseconds, a peer that does not compare is not asked again: a day.
+const PLAIN_TIME: u64 = 86_400_000;
+
+/// How far a meeting has come.
+#[derive(Drop)]
+pub(crate) enum MeetingState {
+    /// The peer was asked with digests of what this version vector counts.
+    Asked(Vector),
+    /// It is known what is exchanged.
+    InScope(Scope),
+}
+
+/// Whether a peer compares.
+#[derive(Clone, Copy)]
+struct KnownPeer {
+    address: SocketAddr,
+    /// It has compared.
+    has_compared: bool,
+    /// When it last closed the connection in place of an answer.
+    plain_since: Option<u64>,
+}
+
+/// The meetings under way, each under its number, and the peers that were called.
+#[derive(Drop)]
+pub(crate) struct Scopes {
+    states: Vec<Option<MeetingState>>,
+    known: Vec<KnownPeer>,
+}
+
+impl Scopes {
+    pub(crate) fn new(alloc: Global, peers: &[SocketAddr]) -> Result<Scopes, AllocError> {
+        let mut states = Vec::with_capacity(alloc, MOST_MEETINGS)?;
+        for _ in 0..MOST_MEETINGS {
+            states.push(None)?;
+        }
+        let mut known = Vec::with_capacity(alloc, peers.len())?;
+        for peer in peers {
+            known.push(KnownPeer {
+                address: *peer,
+                has_compared: false,
+                plain_since: None,
+            })?;
+        }
+        Ok(Scopes { states, known })
+    }
+
+    /// Keeps how far a meeting has come.
+    pub(crate) fn keep(&mut self, meeting: usize, state: MeetingState) {
+        if let Some(kept) = self.states.get_mut(meeting) {
+            *kept = Some(state);
+        }
+    }
+
+    /// How far a meeting has come, which is kept no longer.
+    pub(crate) fn take(&mut self, meeting: usize) -> Option<MeetingState> {
+        match self.states.get_mut(meeting) {
+            Some(kept) => kept.take(),
+            None => None,
+        }
+    }
+
+    /// Notes that a peer has compared.
+    pub(crate) fn note_compared(&mut self, peer: SocketAddr) {
+        for known in &mut self.known {
+            if known.address == peer {
+                known.has_compared = true;
+                known.plain_since = None;
+            }
+        }
+    }
+
+    /// Notes that a peer closed the connection in place of an answer. Returns whether it is called without a question
+    /// from now on: one that has ever compared is not.
+    pub(crate) fn note_unanswered(&mut self, peer: SocketAddr, now: u64) -> bool {
+        let mut is_plain = false;
+        for known in &mut self.known {
+            if known.address == peer && !known.has_compared {
+                known.plain_since = Some(now);
+                is_plain = true;
+            }
+        }
+        is_plain
+    }
+
+    /// Whether a peer is called without a question.
+    pub(crate) fn is_plain(&self, peer: SocketAddr, now: u64) -> bool {
+        self.known.iter().any(|known| {
+            known.address == peer
+                && known
+                    .plain_since
+                    .is_some_and(|since| now.saturating_sub(since) < PLAIN_TIME)
+        })
+    }
+}
