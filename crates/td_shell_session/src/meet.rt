@@ -56,6 +56,10 @@ fn serve<R: Replica, L: Links>(
         Err(error) => return Err(Unmet::NotLinked(error)),
     };
     if let Err(error) = answer(alloc, site, &mut link) {
+        if matches!(error, MeetingError::OtherScript | MeetingError::SameSite) {
+            // (in this site's greeting the caller finds the same refusal)
+            let _greeted = greet(alloc, site, &mut link);
+        }
         return Err(Unmet::NotBegun(error));
     }
     match finish(alloc, site, &mut link, meter) {

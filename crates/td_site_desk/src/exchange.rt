@@ -137,7 +137,8 @@ impl<R: Changes + Catalogued + Drop, H: Runtime + AllocGlobal> SiteDesk<'_, R, H
         }
     }
 
-    /// The second step: reads a greeting, and writes the site's own with the entries that the peer lacks.
+    /// The second step: reads a greeting, and writes the site's own with the entries that the peer lacks. Where it
+    /// refuses the peer's script or number, it writes its own greeting alone, in which the peer finds the same refusal.
     pub(crate) fn answer(
         &mut self,
         meeting: usize,
@@ -150,6 +151,10 @@ impl<R: Changes + Catalogued + Drop, H: Runtime + AllocGlobal> SiteDesk<'_, R, H
                 self.note_error(meeting, error);
                 match error {
                     MeetingError::WriteFault { .. } => StepResult::Part,
+                    MeetingError::OtherScript | MeetingError::SameSite => {
+                        let _greeted = greet_into(self.alloc, &self.site, out);
+                        StepResult::Part
+                    }
                     _ => StepResult::Stop,
                 }
             }
