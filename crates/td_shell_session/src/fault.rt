@@ -57,6 +57,8 @@ pub(crate) enum Fault<'a> {
     Site(SiteFault<'a>),
     /// The journal lacks statements that it had once, and the site has met no other one since.
     Lacking,
+    /// The site of this number keeps no journal, and has issued statements.
+    Unkept(u16),
     /// A meeting broke off after it began.
     BrokenOff {
         error: MeetingError,
@@ -189,6 +191,14 @@ fn push_long_tuple(
     )
 }
 
+// Appends that the site of this number keeps no journal, and has issued statements.
+fn push_unkept(out: &mut String, site: u16) -> Result<(), AllocError> {
+    write!(
+        out,
+        "journal: this shell keeps no journal, so its next start would give the same numbers to other statements; write what is here by .dump FILE, and start with --journal, or with --memory if nobody will go on as site {site}"
+    )
+}
+
 /// Appends why a line is not answered. Names come from the catalogue of the script.
 pub(crate) fn push_fault(
     out: &mut String,
@@ -203,6 +213,7 @@ pub(crate) fn push_fault(
             out.push_str("journal: ")?;
             out.push_str(LACKING)
         }
+        Fault::Unkept(site) => push_unkept(out, site),
         Fault::BrokenOff { error, changes } => {
             push_site_fault(out, catalogue, notes, SiteFault::NotMet(error))?;
             out.push_str(changes)

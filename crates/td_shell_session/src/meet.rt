@@ -1,10 +1,9 @@
 //! Meetings with sites of other programs.
 
-use crate::access::Access;
 use crate::answer::Answer;
 use crate::fault::{Fault, PlainFault};
 use crate::host::{Platform, Run};
-use crate::session::{Session, check_meets};
+use crate::session::Session;
 use std::alloc::{AllocError, Global};
 use std::net::SocketAddr;
 use td_answers::{LinkError, Links};
@@ -57,6 +56,10 @@ fn serve<R: Replica, L: Links>(
         Err(error) => return Err(Unmet::NotLinked(error)),
     };
     if let Err(error) = answer(alloc, site, &mut link) {
+        if matches!(error, MeetingError::OtherScript | MeetingError::SameSite) {
+            // (in this site's greeting the caller finds the same refusal)
+            let _greeted = greet(alloc, site, &mut link);
+        }
         return Err(Unmet::NotBegun(error));
     }
     match finish(alloc, site, &mut link, meter) {
@@ -170,8 +173,8 @@ fn meet_at<R: Changes + Catalogued + Drop, P: Platform>(
             run.meter,
         ),
     };
+    session.note_meeting(met.is_ok());
     if met.is_ok() {
-        session.access = Access::Open;
         run.notes.let_go();
     }
     say_meeting(answer, &session.site, before, met, run.notes)
@@ -185,7 +188,7 @@ pub(crate) fn meet<R: Changes + Catalogued + Drop, P: Platform>(
     way: Way,
     word: &str,
 ) -> Result<(), Fault<'static>> {
-    check_meets(session.access)?;
+    session.check_meets()?;
     let Ok(address) = word.parse::<SocketAddr>() else {
         return Err(Fault::Plain(PlainFault::NoAddress));
     };

@@ -5,6 +5,7 @@ use crate::draft::Draft;
 use crate::fault::{Fault, PlainFault};
 use crate::inputs::Inputs;
 use std::alloc::Global;
+use td_replica::Replica;
 use td_shell_input::Mode;
 
 /// A site, and how far the conversation at it is.
@@ -45,19 +46,50 @@ impl<R: Drop> Session<R> {
     }
 }
 
-/// Whether a site may issue statements.
-pub(crate) fn check_open(access: Access) -> Result<(), Fault<'static>> {
-    match access {
-        Access::Open => Ok(()),
-        Access::Lacking => Err(Fault::Lacking),
-        Access::ReadOnly => Err(Fault::Plain(PlainFault::ReadOnly)),
+// How many statements of its own number the site holds.
+fn own_count<R: Replica>(site: &R) -> usize {
+    let own = site.site();
+    match site.held() {
+        Ok(held) => held
+            .entries()
+            .iter()
+            .filter(|entry| entry.site == own)
+            .count(),
+        Err(_) => 0,
     }
 }
 
-/// Whether a site may meet another one. A meeting may bring what its journal lacks.
-pub(crate) fn check_meets(access: Access) -> Result<(), Fault<'static>> {
+impl<R: Replica + Drop> Session<R> {
+    /// Whether the site may meet another one. A meeting may bring what its journal lacks.
+    pub(crate) fn check_meets(&self) -> Result<(), Fault<'static>> {
+        match self.access {
+            Access::Open | Access::Lacking => Ok(()),
+            Access::Unkept { received } if own_count(&self.site) > received => {
+                Err(Fault::Unkept(self.site.site()))
+            }
+            Access::Unkept { .. } => Ok(()),
+            Access::ReadOnly => Err(Fault::Plain(PlainFault::ReadOnly)),
+        }
+    }
+
+    /// Notes a meeting, which may have come to its end.
+    pub(crate) fn note_meeting(&mut self, is_complete: bool) {
+        match self.access {
+            Access::Unkept { .. } => {
+                let received = own_count(&self.site);
+                self.access = Access::Unkept { received };
+            }
+            Access::Lacking if is_complete => self.access = Access::Open,
+            _ => {}
+        }
+    }
+}
+
+/// Whether a site may issue statements.
+pub(crate) fn check_open(access: Access) -> Result<(), Fault<'static>> {
     match access {
-        Access::Open | Access::Lacking => Ok(()),
+        Access::Open | Access::Unkept { .. } => Ok(()),
+        Access::Lacking => Err(Fault::Lacking),
         Access::ReadOnly => Err(Fault::Plain(PlainFault::ReadOnly)),
     }
 }

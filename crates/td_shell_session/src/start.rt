@@ -94,6 +94,8 @@ fn report_found<R: Replica, P: Platform>(
 fn access_of<P: Platform>(run: &mut Run<'_, P>, options: &ShellOptions<'_>) -> Access {
     if options.site.is_read_only {
         Access::ReadOnly
+    } else if options.site.journal.is_none() && !options.is_in_memory {
+        Access::Unkept { received: 0 }
     } else if is_lacking(&options.site, run.notes, run.faults) {
         Access::Lacking
     } else {

@@ -16,6 +16,8 @@ its line and column, and runs nothing.";
 #[derive(Drop)]
 pub(crate) struct ShellOptions<'a> {
     pub site: SiteOptions<'a>,
+    /// Whether the site meets others with statements that no journal keeps.
+    pub is_in_memory: bool,
     /// What is read in place of what is typed, if anything is.
     pub typed: Vec<&'a str>,
     /// Whether a fault that was answered leaves the exit status as it is.
@@ -29,6 +31,12 @@ fn read_only_flag<'a>(alloc: Global) -> Result<Arg<'a>, AllocError> {
         .requires_arg("journal")?
         .conflicts_with("new")?
         .conflicts_with("forget")
+}
+
+// The option of meetings with statements that no journal keeps; it excludes --journal.
+fn memory_flag<'a>(alloc: Global) -> Result<Arg<'a>, AllocError> {
+    let help = "Meets others though it keeps no journal; nobody may go on as this site later";
+    flag(alloc, "memory", help).conflicts_with("journal")
 }
 
 // The option of a text that is read in place of what is typed.
@@ -52,6 +60,7 @@ fn keep_going_flag<'a>(alloc: Global) -> Arg<'a> {
 fn with_typed<'a>(alloc: Global, command: Command<'a>) -> Result<Command<'a>, AllocError> {
     command
         .arg(read_only_flag(alloc)?)?
+        .arg(memory_flag(alloc)?)?
         .arg(typed_option(alloc))?
         .arg(keep_going_flag(alloc))
 }
@@ -88,6 +97,7 @@ pub(crate) fn read_words<'a>(
     };
     Ok(ShellOptions {
         site,
+        is_in_memory: matches.get_flag("memory"),
         typed: typed_texts(alloc, matches.get_strs("typed"))?,
         keeps_going: matches.get_flag("keep-going"),
     })

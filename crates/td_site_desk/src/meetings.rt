@@ -138,10 +138,12 @@ impl Meetings {
         Ok(())
     }
 
-    // What a meeting came to that ended.
+    // What a meeting came to that ended. Where a step failed, a loss after it says nothing more.
     fn note_of(&mut self, report: &MeetingReport) -> Result<Note, AllocError> {
         match self.take_note(report.meeting) {
-            Some(note) if report.loss.is_none() => Ok(note),
+            Some(note) if report.loss.is_none() || note.outcome == MeetingOutcome::Failed => {
+                Ok(note)
+            }
             _ => Ok(Note {
                 outcome: MeetingOutcome::Failed,
                 words: String::from_str(self.alloc, loss_words(report.loss))?,

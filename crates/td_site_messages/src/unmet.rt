@@ -69,10 +69,12 @@ pub(crate) fn push_not_met(
         MeetingError::Broken => out.push_str(BROKEN),
         MeetingError::OutOfMemory => out.push_str(NO_MEMORY),
         MeetingError::Frame { error, taken } => push_unread(out, error, taken),
-        MeetingError::OtherScript => {
-            out.push_str("script: the other site started from another script")
-        }
-        MeetingError::SameSite => out.push_str("same site: the other site has the same number"),
+        MeetingError::OtherScript => out.push_str(
+            "script: the other site started from another script; start both with the same file, byte for byte",
+        ),
+        MeetingError::SameSite => out.push_str(
+            "same site: the other site has the same number; start one of them with a number that no site has (--site) and a new journal",
+        ),
         MeetingError::WriteFault { taken } => {
             push_broken_off(out, "write: the connection failed or took nothing", taken)
         }
