@@ -12,8 +12,11 @@ line_own x left long =
     let six : length (drop 6 x) ≡ 16 = omega (arith, length-drop 6 x) in
     let two : length (drop 2 x) ≡ 20 = omega (arith, length-drop 2 x) in
     rw (
-      take-append-le 2 x left (omega arith), drop-append-le 2 x left (omega arith), take-append-le 4 (drop 2 x) left (omega arith),
-      drop-append-le 6 x left (omega arith), take-append-le 16 (drop 6 x) left (omega arith)
+      take-append-le 2 x left (omega arith),
+      drop-append-le 2 x left (omega arith),
+      take-append-le 4 (drop 2 x) left (omega arith),
+      drop-append-le 6 x left (omega arith),
+      take-append-le 16 (drop 6 x) left (omega arith),
     ) refl
 
 site_own : (x left : List ℕ) → length x ≡ 2 → short_at 0 (x ++ left) ≡ short_at 0 x

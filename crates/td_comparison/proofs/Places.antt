@@ -1,12 +1,11 @@
 -- The places of a version vector and of digests, whose sites rise.
-use Rattle.std.proofs.Common.{◌≡◌, ℕ, ◌<◌, Bool, true, ◌&&◌, ltb, leb, List, [], ◌∷◌, T, map, refl, ap, ◌∙◌, arith}
+use Rattle.std.proofs.Common.{◌≡◌, ℕ, true, ◌&&◌, ◌+◌, ◌<◌, ◌≤◌, ltb, leb, List, [], ◌∷◌, length, T, map, refl, ap, arith}
 use Rattle.std.specs.FinMap as by_site
 use Rattle.std.specs.FinMap.Entries.{is_sorted}
 use Rattle.std.specs.Ordering.{nat_cmp}
-use Rattle.std.proofs.lemmas.Bool.{and_from, lt-ltb}
-use Rattle.std.proofs.lemmas.Bool.Decides.{nat_tests}
-use Rattle.td_stamps.specs.Vectors.{VersionVector, from_one}
-use Rattle.td_stamps.proofs.SetLemmas.{first_holds}
+use Rattle.std.proofs.lemmas.Bool.{and_from, lt-ltb, ltb-true}
+use Rattle.td_stamps.specs.Vectors.{VersionVector, from_one, sites_fit}
+use Rattle.td_stamps.proofs.SetLemmas.{first_holds, rest_holds}
 use Rattle.td_stamps.specs.declared.entry.Entry.{Entry}
 use Rattle.td_frames.proofs.GreetedAgain.{Rising, rising}
 use Rattle.td_comparison.specs.Digests.{answer_to, answers_to, rises, site_digest, sites_of}
@@ -27,6 +26,18 @@ sorted_rise (p ∷ ps) sorted all =
 
 pub entries_rise : (v : VersionVector) → from_one (by_site.entries v) ≡ true → rises 0 (sites_at (by_site.entries v)) ≡ true
 entries_rise v all = sorted_rise (by_site.entries v) (by_site.entries_sorted v) all
+
+-- sites of 16 bits that rise are few
+few_after : (last : ℕ) (ps : List (ℕ × ℕ)) → last < 65536 → rises last (sites_at ps) ≡ true → sites_fit ps ≡ true → last + length ps < 65536
+few_after last [] low up fit = omega (arith, low)
+few_after last (p ∷ ps) low up fit =
+    let first : last < p.0 = ltb-true last p.0 (first_holds (ltb last p.0) (rises p.0 (sites_at ps)) up) in
+    let here : p.0 < 65536 = ltb-true p.0 65536 (first_holds (ltb p.0 65536) (sites_fit ps) fit) in
+    let rest : p.0 + length ps < 65536 = few_after p.0 ps here (rest_holds (ltb last p.0) (rises p.0 (sites_at ps)) up) (rest_holds (ltb p.0 65536) (sites_fit ps) fit) in
+    omega (arith, rest, first)
+
+pub few_places : (ps : List (ℕ × ℕ)) → rises 0 (sites_at ps) ≡ true → sites_fit ps ≡ true → length ps ≤ 65535
+few_places ps up fit = let few = few_after 0 ps (omega arith) up fit in omega (arith, few)
 
 -- the places that two vectors have in common are of the same sites
 pub common_sites : (v : VersionVector) (ds : List SiteDigest) → sites_at (map (common_place v) ds) ≡ sites_of ds

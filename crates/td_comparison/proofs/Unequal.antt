@@ -1,12 +1,12 @@
 -- The sites whose digests are not the same in two lists.
-use Rattle.std.proofs.Common.{◌≡◌, ℕ, zero, suc, ◌+◌, ◌<◌, ◌≤◌, min, Bool, true, false, not, ◌&&◌, ◌||◌, cond, eqb, leb, List, [], ◌∷◌, ◌++◌, length, get_or, take, map, refl, sym, ap, ◌∙◌, arith, length-take}
+use Rattle.std.proofs.Common.{◌≡◌, ℕ, ◌+◌, ◌<◌, min, Bool, true, false, ◌&&◌, cond, eqb, leb, List, [], ◌∷◌, ◌++◌, length, get_or, take, map, refl, ap, ◌∙◌, arith, length-take}
 use Rattle.std.specs.List.{filter}
 use Rattle.std.proofs.lemmas.List.{take_more}
 use Rattle.std.proofs.lemmas.Bool.Decides.{nat_tests}
 use Rattle.td_stamps.specs.Vectors.{VersionVector, number_of}
 use Rattle.td_stamps.specs.declared.entry.Entry.{Entry}
-use Rattle.td_comparison.specs.Digests.{common, differing, differs, is_comparable, known_to_differ, rises, site_digest, sites_of}
-use Rattle.td_comparison.specs.ForProofs.{common_place, is_unequal, sites_at, sites_unequal}
+use Rattle.td_comparison.specs.Digests.{differing, differs, is_comparable, known_to_differ, site_digest, sites_of}
+use Rattle.td_comparison.specs.ForProofs.{common_place, is_unequal, sites_unequal}
 use Rattle.td_comparison.specs.declared.digest.SiteDigest.{SiteDigest}
 
 one_more : (b : Bool) (xs ys : List SiteDigest) (x y : SiteDigest) → length xs ≡ length ys → sites_unequal b (xs ++ x ∷ []) (ys ++ y ∷ []) ≡ sites_unequal b xs ys ++ cond (is_unequal b x y) (y.site ∷ []) []

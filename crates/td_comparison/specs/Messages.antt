@@ -1,9 +1,8 @@
 -- The messages by which two sites compare what they hold before they meet. Numbers are big-endian.
-use Rattle.std.specs.Prelude.{◌≡◌, ℕ, zero, suc, ◌+◌, ◌*◌, Bool, ◌&&◌, ◌||◌, ◌==◌, nat_le, not, slice_index, List, [], ◌∷◌, ◌++◌, length, take, drop, codes, map}
+use Rattle.std.specs.Prelude.{◌≡◌, ℕ, zero, suc, ◌+◌, ◌*◌, Bool, ◌&&◌, ◌==◌, nat_le, not, slice_index, List, [], ◌∷◌, ◌++◌, length, take, drop, codes}
 use Rattle.std.specs.Int.{w16, w32, from_be_bytes, to_be_bytes}
 use Rattle.std.specs.List.{flat_map, list_all}
 use Rattle.std.specs.Str.{bytes_eq}
-use Rattle.sha2.specs.Sha256.{sha256}
 use Rattle.td_comparison.specs.Digests.{rises, sites_of}
 use Rattle.td_comparison.specs.declared.digest.SiteDigest.{SiteDigest}
 use Rattle.td_comparison.specs.declared.message.Comparison.{Comparison}
@@ -53,7 +52,7 @@ unfoldable pub sites_in : ℕ → List ℕ → List ℕ
 sites_in zero bytes = []
 sites_in (suc n) bytes = short_at 0 bytes ∷ sites_in n (drop 2 bytes)
 
--- at most 65,535 digests, of rising sites from 1 on, with numbers up to 1,000,000,000
+-- digests of rising sites from 1 on, with numbers up to 1,000,000,000
 abbrev pub are_digests : List SiteDigest → Bool
 are_digests ds = rises 0 (sites_of ds) && list_all (λ d. nat_le d.number 1000000000) ds
 

@@ -1,6 +1,6 @@
 //! Which sites differ between what is held here and what another site has.
 
-ghost use Rattle.std.specs.Prelude.{◌≡◌, true, length, IfOk, map};
+ghost use Rattle.std.specs.Prelude.{◌≡◌, ◌≤◌, true, length, IfOk, map};
 ghost use Rattle.td_comparison.specs.Digests.{answers_to, differing, known_to_differ, question_of, rises, site_digest, sites_of};
 ghost use Rattle.td_comparison.specs.ForProofs.{common_place, is_unequal, sites_unequal, with_number};
 
@@ -19,7 +19,8 @@ pub struct Findings {
 
 /// What a site asks another one with: a digest for each site of its version vector.
 pub fn question(alloc: Global, held: &Held, vector: &Vector) -> Result<Vec<SiteDigest>, AllocError>
-    ensures { IfOk result (λ v. v.items ≡ question_of held.now.entries vector.now) }
+    ensures digests { IfOk result (λ v. v.items ≡ question_of held.now.entries vector.now) }
+    ensures few { IfOk result (λ v. length v.items ≤ 65535) }
 {
     let places = vector.entries(alloc)?;
     digests_of(alloc, held, &places)
@@ -55,7 +56,7 @@ fn common_digests(
     digests_of(alloc, held, &places)
 }
 
-// Whether two digests of a site can be compared, and are not the same. Those of a question can where both are of one
+// Whether two digests of a site can be compared, and are not the same. A question's digest can where both are of one
 // number.
 fn is_unequal(are_answers: bool, ours: &SiteDigest, theirs: &SiteDigest) -> bool
     ensures { result ≡ is_unequal are_answers ours.now theirs.now }

@@ -1,8 +1,6 @@
 //! Digests of the entries that sites issued first.
 
-ghost use Rattle.std.specs.Prelude.{◌≡◌, ◌≤◌, ◌∷◌, ◌++◌, ℕ, List, [], true, length, take, IfOk, map};
-ghost use Rattle.std.specs.List.{AllByRecursion, list_all};
-ghost use Rattle.td_stamps.specs.Entries.{in_range};
+ghost use Rattle.std.specs.Prelude.{◌≡◌, ◌≤◌, ◌∷◌, ◌++◌, List, [], true, length, take, IfOk, map};
 ghost use Rattle.td_stamps.specs.declared.entry.Entry.{Entry as EntryData};
 ghost use Rattle.td_comparison.specs.Digests.{rises, site_digest};
 ghost use Rattle.td_comparison.specs.ForProofs.{AreFed, IsFed, place_of, places_of, sites_at};

@@ -1,6 +1,6 @@
 //! The messages of a comparison, read from bytes that are there whole.
 
-ghost use Rattle.std.specs.Prelude.{◌≡◌, ◌≤◌, ◌+◌, ◌*◌, true, false, length, take, drop, Err, IfOk};
+ghost use Rattle.std.specs.Prelude.{◌≡◌, ◌≤◌, ◌+◌, ◌*◌, true, false, length, Err, IfOk};
 ghost use Rattle.td_comparison.specs.Digests.{rises, sites_of};
 ghost use Rattle.td_comparison.specs.Messages.{are_differences, IsComparisonIn, are_digests, differences_in, has_count, has_head, is_comparison, is_other_version, script_in, line_in, lines_in, long_at, short_at, sites_in};
 ghost use Rattle.td_comparison.specs.declared.reading.MessageError.TheVariants as message_error;

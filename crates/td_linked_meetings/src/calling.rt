@@ -42,6 +42,7 @@ fn compare_over<R: Replica, C: Channel>(
 ) -> Result<Scope, NotBegun> {
     let vector = match ask(alloc, site, link) {
         Ok(vector) => vector,
+        Err(MeetingError::WriteFault { .. }) => return Err(NotBegun::NotCompared),
         Err(error) => return Err(NotBegun::Failed(error)),
     };
     let end = read_answer(inbox, link)?;

@@ -39,7 +39,11 @@ pub enum DotCommand<'a> {
     /// A statement of a dump, as it is written behind the word.
     Entry(&'a str),
     Serve(&'a str),
-    Call(&'a str),
+    /// The site at this address, with a comparison of digests or without.
+    Call {
+        address: &'a str,
+        is_plain: bool,
+    },
     /// A query, asked just after the statement of this stamp.
     At {
         clock: u64,
@@ -140,11 +144,15 @@ fn serve_in(rest: &str) -> DotCommand<'_> {
     }
 }
 
-// The address that `.call` names, all that is behind the word.
+// The address that `.call` names, all that is behind the words.
 fn call_in(rest: &str) -> DotCommand<'_> {
-    match rest {
-        "" => DotCommand::Misused(".call ADDRESS"),
-        address => DotCommand::Call(address),
+    let (address, is_plain) = match rest.strip_prefix("--plain ") {
+        Some(address) => (address.trim_start(), true),
+        None => (rest, false),
+    };
+    match address {
+        "" | "--plain" => DotCommand::Misused(".call ADDRESS, or .call --plain ADDRESS"),
+        address => DotCommand::Call { address, is_plain },
     }
 }
 

@@ -15,6 +15,7 @@ use crate::session::{Session, check_open};
 use crate::tables::{dump_tables, export};
 use std::rt::Files;
 use td_changes::Changes;
+use td_linked_meetings::Opening;
 use td_paths::read_plain;
 use td_replica::Catalogued;
 use td_shell_input::DotCommand;
@@ -118,7 +119,14 @@ pub(crate) fn answer_command<'t, R: Changes + Catalogued + Drop, P: Platform>(
         DotCommand::Export(folder) => export(answer, run.host, &session.site, folder, run.notes),
         DotCommand::Entry(words) => answer_entry(run, session, answer, words),
         DotCommand::Serve(address) => meet(run, session, answer, Way::Serve, address),
-        DotCommand::Call(address) => meet(run, session, answer, Way::Call, address),
+        DotCommand::Call { address, is_plain } => {
+            let opening = if is_plain {
+                Opening::Greeting
+            } else {
+                Opening::Question
+            };
+            meet(run, session, answer, Way::Call(opening), address)
+        }
         DotCommand::At { clock, site, query } => ask_at(
             &mut answer.text,
             &session.site,

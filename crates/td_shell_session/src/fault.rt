@@ -27,6 +27,8 @@ pub(crate) enum PlainFault {
     NoAttributes,
     NoAddress,
     Unreached,
+    /// The other end closed the connection in place of digests.
+    NotCompared,
 }
 
 impl PlainFault {
@@ -46,6 +48,8 @@ impl PlainFault {
             PlainFault::NoAddress =>
                 "address: an address is numbers and a port, as 127.0.0.1:7001 or [::1]:7001",
             PlainFault::Unreached => "net: the address cannot be reached, or cannot be served at",
+            PlainFault::NotCompared =>
+                "cut: the other end closed the connection at once; a program that does not compare digests, as td_console, is met by .call --plain ADDRESS",
         }
     }
 }

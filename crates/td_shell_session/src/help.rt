@@ -20,7 +20,8 @@ and what begins with IF until each IF has its END IF. An empty line ends it too.
   .dump --tables FILE  writes one that makes its tables again, without the history
   .export FOLDER     writes a CSV file for each base relvar
   .serve ADDRESS     waits at an address for another site, and meets it
-  .call ADDRESS      meets the site that serves at an address (as 127.0.0.1:7001)
+  .call ADDRESS      meets the site that serves at an address (as 127.0.0.1:7001);
+                     .call --plain ADDRESS meets a program that compares no digests
   .mode WORD         shows relations as a table, as csv or as a literal
   .timer on|off      tells how long each answer takes
   .help              this page

@@ -8,12 +8,16 @@ use std::alloc::{AllocError, Global};
 use std::net::SocketAddr;
 use td_answers::{LinkError, Links};
 use td_changes::Changes;
+use td_checked_meetings::Received;
 use td_io::{Device, Sink, put};
 use td_journal_files::Notes;
-use td_meeting::{MeetingError, answer, finish, greet, settle};
-use td_replica::{Catalogued, Replica, Taken};
+use td_linked_meetings::{NotBegun, Opening, Outcome, call, serve};
+use td_meeting::MeetingError;
+use td_replica::{Catalogued, Replica};
 use td_semantics::Meter;
-use td_site_messages::{MeetingChanges, SiteFault, Snapshot, push_met, push_room};
+use td_site_messages::{
+    MeetingChanges, SiteFault, Snapshot, push_differing, push_met, push_not_taken, push_room,
+};
 
 /// What follows the number of other sites' statements that have another outcome: the command that lists them.
 const HINT: &str = " (.refused)";
@@ -23,17 +27,16 @@ const HINT: &str = " (.refused)";
 pub(crate) enum Way {
     /// It waits for one.
     Serve,
-    /// It calls one that waits.
-    Call,
+    /// It calls one that waits, and begins so.
+    Call(Opening),
 }
 
-/// Why a meeting did not come to its end.
+/// Why a meeting did not begin.
 #[derive(Clone, Copy)]
 enum Unmet {
     NotLinked(LinkError),
     /// The sites did not greet one another, and nothing was taken.
-    NotBegun(MeetingError),
-    BrokenOff(MeetingError),
+    NotBegun(NotBegun),
 }
 
 // Reports on the output of faults that a site waits. Nothing depends on whether that is seen.
@@ -43,49 +46,30 @@ fn report_waiting<F: Sink>(alloc: Global, address: &str, faults: &mut F) -> Resu
     Ok(())
 }
 
-// Waits at the address for a site and meets it; a failure says how far the meeting came.
-fn serve<R: Replica, L: Links>(
+// Opens a link at the address, as the way is, and meets the site at its other end.
+fn meet_over<R: Replica, L: Links>(
     alloc: Global,
     site: &mut R,
     links: &mut L,
+    way: Way,
     address: SocketAddr,
     meter: &mut Meter,
-) -> Result<Taken, Unmet> {
-    let mut link = match links.serve(alloc, address) {
+) -> Result<Outcome, Unmet> {
+    let linked = match way {
+        Way::Serve => links.serve(alloc, address),
+        Way::Call(_) => links.call(alloc, address),
+    };
+    let mut link = match linked {
         Ok(link) => Device::link(link),
         Err(error) => return Err(Unmet::NotLinked(error)),
     };
-    if let Err(error) = answer(alloc, site, &mut link) {
-        if matches!(error, MeetingError::OtherScript | MeetingError::SameSite) {
-            // (in this site's greeting the caller finds the same refusal)
-            let _greeted = greet(alloc, site, &mut link);
-        }
-        return Err(Unmet::NotBegun(error));
-    }
-    match finish(alloc, site, &mut link, meter) {
-        Ok(taken) => Ok(taken),
-        Err(error) => Err(Unmet::BrokenOff(error)),
-    }
-}
-
-// Calls the site at the address and meets it; a failure says how far the meeting came.
-fn call<R: Replica, L: Links>(
-    alloc: Global,
-    site: &mut R,
-    links: &mut L,
-    address: SocketAddr,
-    meter: &mut Meter,
-) -> Result<Taken, Unmet> {
-    let mut link = match links.call(alloc, address) {
-        Ok(link) => Device::link(link),
-        Err(error) => return Err(Unmet::NotLinked(error)),
+    let met = match way {
+        Way::Serve => serve(alloc, site, &mut link, meter),
+        Way::Call(opening) => call(alloc, site, &mut link, opening, meter),
     };
-    if let Err(error) = greet(alloc, site, &mut link) {
-        return Err(Unmet::NotBegun(error));
-    }
-    match settle(alloc, site, &mut link, meter) {
-        Ok(taken) => Ok(taken),
-        Err(error) => Err(Unmet::BrokenOff(error)),
+    match met {
+        Ok(outcome) => Ok(outcome),
+        Err(error) => Err(Unmet::NotBegun(error)),
     }
 }
 
@@ -93,14 +77,14 @@ fn call<R: Replica, L: Links>(
 fn say_changes<R: Catalogued>(
     answer: &mut Answer,
     site: &R,
-    met: Result<usize, MeetingError>,
+    received: Result<Received, MeetingError>,
     changes: &MeetingChanges,
     notes: &Notes,
 ) -> Result<(), AllocError> {
     let changed = changes.line_end.as_str();
-    match met {
-        Ok(fresh) => {
-            push_met(&mut answer.text, fresh)?;
+    match received {
+        Ok(received) => {
+            push_met(&mut answer.text, received.taken.fresh)?;
             answer.text.push_str(changed)?;
             answer.text.push_str("\n")?;
         }
@@ -112,8 +96,17 @@ fn say_changes<R: Catalogued>(
             answer.push_fault(site.catalogue(), notes, fault)?;
         }
     }
-    answer.text.push_str(changes.lines.as_str())?;
-    push_room(&mut answer.text, site)
+    answer.text.push_str(changes.lines.as_str())
+}
+
+// Says what a meeting did not exchange. Sites that differ are a fault.
+fn say_left_out(answer: &mut Answer, outcome: &Outcome) -> Result<(), AllocError> {
+    push_differing(&mut answer.text, &outcome.scope)?;
+    answer.is_fault = answer.is_fault || !outcome.scope.left_out.is_empty();
+    match &outcome.received {
+        Ok(received) => push_not_taken(&mut answer.text, received),
+        Err(_) => Ok(()),
+    }
 }
 
 // Says what came of a meeting that began; changes are left out if there is no memory for them.
@@ -121,7 +114,7 @@ fn say_met<R: Changes + Catalogued>(
     answer: &mut Answer,
     site: &R,
     before: &Snapshot,
-    met: Result<usize, MeetingError>,
+    outcome: &Outcome,
     notes: &Notes,
 ) -> Result<(), AllocError> {
     let alloc = *answer.text.allocator();
@@ -129,7 +122,9 @@ fn say_met<R: Changes + Catalogued>(
         Ok(changes) => changes,
         Err(_) => MeetingChanges::none(alloc),
     };
-    say_changes(answer, site, met, &changes, notes)
+    say_changes(answer, site, outcome.received, &changes, notes)?;
+    say_left_out(answer, outcome)?;
+    push_room(&mut answer.text, site)
 }
 
 // Says what came of a meeting.
@@ -137,14 +132,22 @@ fn say_meeting<R: Changes + Catalogued>(
     answer: &mut Answer,
     site: &R,
     before: &Snapshot,
-    met: Result<Taken, Unmet>,
+    met: Result<Outcome, Unmet>,
     notes: &Notes,
 ) -> Result<(), Fault<'static>> {
     match met {
-        Ok(taken) => Ok(say_met(answer, site, before, Ok(taken.fresh), notes)?),
+        Ok(outcome) => Ok(say_met(answer, site, before, &outcome, notes)?),
         Err(Unmet::NotLinked(error)) => Err(Fault::from(error)),
-        Err(Unmet::NotBegun(error)) => Err(Fault::Site(SiteFault::NotMet(error))),
-        Err(Unmet::BrokenOff(error)) => Ok(say_met(answer, site, before, Err(error), notes)?),
+        Err(Unmet::NotBegun(NotBegun::NotCompared)) => Err(Fault::Plain(PlainFault::NotCompared)),
+        Err(Unmet::NotBegun(NotBegun::Failed(error))) => Err(Fault::Site(SiteFault::NotMet(error))),
+    }
+}
+
+// Whether a meeting came to its end, and brought what the journal of the site lacked of its own statements.
+fn is_complete<R: Replica>(site: &R, met: &Result<Outcome, Unmet>) -> bool {
+    match met {
+        Ok(outcome) => outcome.received.is_ok() && !outcome.scope.leaves_out(site.site()),
+        Err(_) => false,
     }
 }
 
@@ -157,24 +160,17 @@ fn meet_at<R: Changes + Catalogued + Drop, P: Platform>(
     way: Way,
     address: SocketAddr,
 ) -> Result<(), Fault<'static>> {
-    let met = match way {
-        Way::Serve => serve(
-            run.alloc,
-            &mut session.site,
-            run.network,
-            address,
-            run.meter,
-        ),
-        Way::Call => call(
-            run.alloc,
-            &mut session.site,
-            run.network,
-            address,
-            run.meter,
-        ),
-    };
-    session.note_meeting(met.is_ok());
-    if met.is_ok() {
+    let met = meet_over(
+        run.alloc,
+        &mut session.site,
+        run.network,
+        way,
+        address,
+        run.meter,
+    );
+    let is_complete = is_complete(&session.site, &met);
+    session.note_meeting(is_complete);
+    if is_complete {
         run.notes.let_go();
     }
     say_meeting(answer, &session.site, before, met, run.notes)

@@ -1,4 +1,4 @@
-use Rattle.std.proofs.Common.{◌≡◌, ℕ, List, IfOk, true, false, map, sym, ap, subst, ◌∙◌}
+use Rattle.std.proofs.Common.{List, false, map, ap, ◌∙◌}
 use Rattle.td_comparison.specs.declared.digest.SiteDigest.{SiteDigest}
 use Rattle.td_comparison.specs.ForProofs.{sites_unequal, with_number}
 use Rattle.td_comparison.proofs.Places.{answers_numbered}

@@ -1,4 +1,4 @@
-use Rattle.std.proofs.Common.{◌≡◌, ℕ, List, IfOk, map, sym, ap, subst, ◌∙◌}
+use Rattle.std.proofs.Common.{◌≡◌, ℕ, List, IfOk, map, ap, subst, ◌∙◌}
 use Rattle.td_comparison.specs.declared.digest.SiteDigest.{SiteDigest}
 use Rattle.td_comparison.specs.Digests.{rises, site_digest}
 use Rattle.td_comparison.specs.ForProofs.{common_place, sites_at}

@@ -1,4 +1,4 @@
-use Rattle.std.proofs.Common.{◌≡◌, ◌+◌, ◌++◌, ◌∷◌, Bool, true, false, cond, ℕ, List, Vec, Global, [], get_or, take, sym, ap, ◌∙◌, append-nil}
+use Rattle.std.proofs.Common.{◌≡◌, ◌++◌, ◌∷◌, Bool, true, false, cond, ℕ, List, Vec, Global, [], get_or, take, sym, ap, ◌∙◌, append-nil}
 use Rattle.td_comparison.specs.ForProofs.{is_unequal, sites_unequal}
 use Rattle.td_comparison.specs.declared.digest.SiteDigest.{SiteDigest}
 use Rattle.td_comparison.proofs.Unequal.{more_unequal, none_unequal}

@@ -1,9 +1,8 @@
-use Rattle.std.proofs.Common.{rules, ◌≡◌, ◌<◌, ℕ, List, length, get_or, set, map, Ok, Err, sym, ap, subst, ◌∙◌}
+use Rattle.std.proofs.Common.{rules, ◌<◌, List, length, get_or, set, Ok, Err, sym, ap, subst, ◌∙◌}
 use Rattle.std.specs.List.Sorted.{IsBinarySearchResult}
 use Rattle.std.specs.Ordering.{nat_cmp}
 use Rattle.std.proofs.lemmas.List.{map-set, set-get_or}
 use Rattle.std.proofs.lemmas.List.Sorted.{answers_always}
-use Rattle.td_stamps.specs.declared.entry.Entry.{Entry}
 use Rattle.td_comparison.specs.declared.digest.Feed.{Feed}
 use Rattle.td_comparison.specs.ForProofs.{IsFed, place_of, places_of}
 use Rattle.td_comparison.proofs.Feeds.{found_at, none_fed, not_found, one_fed}

@@ -1,4 +1,4 @@
-use Rattle.std.proofs.Common.{rules, ◌≡◌, ◌++◌, ◌∷◌, [], List, map, sym, ap, subst, ◌∙◌, append_assoc}
+use Rattle.std.proofs.Common.{◌≡◌, ◌++◌, ◌∷◌, [], List, map, sym, ap, subst, ◌∙◌, append_assoc}
 use Rattle.std.specs.Vec.Iter.{into_iter_items}
 use Rattle.td_comparison.specs.declared.digest.Feed.{Feed}
 use Rattle.td_comparison.specs.declared.digest.SiteDigest.{SiteDigest}
@@ -18,5 +18,5 @@ loop-feed-preserved c = λ xs fed.
     let items : c.push.new.self.items ≡ done ++ site_digest xs (place_of f) ∷ [] = c.in_ok-push.ensures.items ∙ ap (λ (d : SiteDigest). done ++ d ∷ []) one in (
       both.1,
       ap (λ (l : List SiteDigest). l ++ map (site_digest xs) (places_of rest)) items ∙ append_assoc done (site_digest xs (place_of f) ∷ []) (map (site_digest xs) (places_of rest))
-      ∙ ap (λ (l : List Feed). done ++ map (site_digest xs) (places_of l)) (sym step) ∙ so_far.1,
+          ∙ ap (λ (l : List Feed). done ++ map (site_digest xs) (places_of l)) (sym step) ∙ so_far.1,
     )

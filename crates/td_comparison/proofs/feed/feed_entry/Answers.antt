@@ -1,4 +1,4 @@
-use Rattle.std.proofs.Common.{rules, ◌≡◌, ◌∷◌, ◌++◌, ◌∙◌, List, ℕ, ap, subst, append_assoc}
+use Rattle.std.proofs.Common.{◌≡◌, ◌∷◌, ◌++◌, ◌∙◌, List, ℕ, ap, subst, append_assoc}
 use Rattle.sha2.specs.Hashers.{Holds256}
 use Rattle.td_frames.specs.Spelling.{entry_frame, head_of}
 use Rattle.td_frames.specs.declared.version.Version.TheVariants.{Second}

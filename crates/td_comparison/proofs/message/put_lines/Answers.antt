@@ -1,4 +1,4 @@
-use Rattle.std.proofs.Common.{◌≡◌, ◌+◌, ◌++◌, get_or, take, drop, sym, subst}
+use Rattle.std.proofs.Common.{◌+◌, ◌++◌, get_or, take, drop, sym, subst}
 use Rattle.std.proofs.lemmas.Result.{err_from_is_err_and}
 use Rattle.std.specs.List.{flat_map}
 use Rattle.td_io.specs.Streams.{AppendsFront}

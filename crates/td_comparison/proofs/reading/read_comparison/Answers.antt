@@ -1,4 +1,4 @@
-use Rattle.std.proofs.Common.{◌≡◌, ◌≤◌, ◌-◌, ℕ, List, length, take, drop, sym, ap, subst, ◌∙◌, arith}
+use Rattle.std.proofs.Common.{◌≡◌, ◌-◌, ℕ, List, length, take, drop, sym, ap, ◌∙◌, arith}
 use Rattle.std.proofs.lemmas.Bool.{and_from, and_right}
 use Rattle.std.proofs.lemmas.List.{take_rest}
 use Rattle.td_comparison.specs.declared.digest.SiteDigest.{SiteDigest}
@@ -19,8 +19,7 @@ returns-then-not-are_digests-clause-malformed c = λ _.
 pub returns-clause-ok : goal.returns-clause-ok
 returns-clause-ok c =
     let bytes = c.args.bytes.now in
-    let all = seen bytes c.long_at-count.result c.in-Ok.digests.items c.in-Ok.ensures c.long_at-count.ensures in
-    (
+    let all = seen bytes c.long_at-count.result c.in-Ok.digests.items c.in-Ok.ensures c.long_at-count.ensures in (
       and_from (has_head bytes) (are_digests (digests_in bytes)) (sym c.if-not-has_head.ensures) (sym (c.if-not-are_digests.ensures ∙ ap are_digests (c.deref.ensures.value ∙ all))),
       record { site = c.short_at.ensures; script = c.script_in.ensures; digests = all },
     )

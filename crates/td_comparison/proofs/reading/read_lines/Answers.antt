@@ -1,4 +1,4 @@
-use Rattle.std.proofs.Common.{◌≡◌, List, ◌∷◌, ◌++◌, [], sym, ap, subst, ◌∙◌, arith}
+use Rattle.std.proofs.Common.{◌≡◌, List, ◌∷◌, ◌++◌, [], ap, ◌∙◌, arith}
 use Rattle.td_comparison.specs.declared.digest.SiteDigest.{SiteDigest}
 use Rattle.td_comparison.specs.Messages.{line_in, lines_in}
 use Rattle.td_comparison.proofs.Pieces.{line_end, line_more}

@@ -1,4 +1,4 @@
-use Rattle.std.proofs.Common.{◌≡◌, ℕ, ◌*◌, ◌+◌, ◌++◌, length}
+use Rattle.std.proofs.Common.{◌≡◌, ℕ, ◌*◌, ◌++◌, length}
 use Rattle.td_comparison.specs.Messages.{lines_in}
 use Rattle.td_comparison.proofs.reading.read_lines.Given as goal
 

@@ -1,4 +1,4 @@
-use Rattle.std.proofs.Common.{◌≡◌, ℕ, List, ◌∷◌, ◌++◌, [], sym, ap, subst, ◌∙◌, arith}
+use Rattle.std.proofs.Common.{◌≡◌, ℕ, List, ◌∷◌, ◌++◌, [], ap, ◌∙◌, arith}
 use Rattle.td_comparison.specs.Messages.{short_at, sites_in}
 use Rattle.td_comparison.proofs.Pieces.{site_end, site_more}
 use Rattle.td_comparison.proofs.reading.read_sites.Goals as goal

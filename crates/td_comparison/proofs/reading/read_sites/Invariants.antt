@@ -1,4 +1,4 @@
-use Rattle.std.proofs.Common.{◌≡◌, ℕ, ◌*◌, ◌+◌, ◌++◌, length}
+use Rattle.std.proofs.Common.{◌≡◌, ℕ, ◌*◌, ◌++◌, length}
 use Rattle.td_comparison.specs.Messages.{sites_in}
 use Rattle.td_comparison.proofs.reading.read_sites.Given as goal
 
