@@ -33,10 +33,12 @@ fn read_only_flag<'a>(alloc: Global) -> Result<Arg<'a>, AllocError> {
         .conflicts_with("forget")
 }
 
-// The option of meetings with statements that no journal keeps; it excludes --journal.
+// The option of meetings with statements that no journal keeps; it excludes --journal and --read-only, which needs one.
 fn memory_flag<'a>(alloc: Global) -> Result<Arg<'a>, AllocError> {
     let help = "Meets others though it keeps no journal; nobody may go on as this site later";
-    flag(alloc, "memory", help).conflicts_with("journal")
+    flag(alloc, "memory", help)
+        .conflicts_with("journal")?
+        .conflicts_with("read-only")
 }
 
 // The option of a text that is read in place of what is typed.

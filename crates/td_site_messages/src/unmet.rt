@@ -1,12 +1,16 @@
 //! What came of meetings.
 
 use crate::journal::push_unwritten;
-use crate::wording::{BROKEN, NO_MEMORY, UNCHANGED};
+use crate::wording::{BROKEN, NO_MEMORY, UNCHANGED, push_count};
 use std::alloc::AllocError;
 use td_frames::FrameError;
 use td_journal_files::Notes;
 use td_meeting::MeetingError;
 use td_replica::TakeError;
+
+/// Why the other site may end a meeting before anything new came. It sends no reason.
+const SILENT_REASONS: &str =
+    "it may be full, of another script, of this site's number, or may not let this address in: look at its screen";
 
 /// Appends how many of the statements that a meeting brought were new here.
 pub fn push_met(out: &mut String, fresh: usize) -> Result<(), AllocError> {
@@ -16,12 +20,20 @@ pub fn push_met(out: &mut String, fresh: usize) -> Result<(), AllocError> {
     write!(out, "met: {fresh} statements were new here")
 }
 
-// Appends why the link failed in a meeting, and how many new statements came before.
-fn push_broken_off(out: &mut String, why: &str, taken: usize) -> Result<(), AllocError> {
-    write!(
-        out,
-        "{why}; {taken} new statements came before, and the next meeting brings the rest"
-    )
+// Appends the word of a fault and how the link failed in a meeting, with how many new statements came before; if none
+// did, with why that may be.
+fn push_broken_off(
+    out: &mut String,
+    word: &str,
+    how: &str,
+    taken: usize,
+) -> Result<(), AllocError> {
+    if taken == 0 {
+        return write!(out, "{word}: 0 came: {how}; {SILENT_REASONS}");
+    }
+    write!(out, "{word}: {how}; ")?;
+    push_count(out, taken, "new statement")?;
+    out.push_str(" came before, and the next meeting brings the rest")
 }
 
 // Appends why nothing more is read of what the other end sends; where the link fails, also how many statements came.
@@ -29,9 +41,14 @@ fn push_unread(out: &mut String, error: FrameError, taken: usize) -> Result<(), 
     match error {
         FrameError::OutOfMemory => out.push_str(NO_MEMORY),
         FrameError::ReadFault => {
-            push_broken_off(out, "read: the connection failed or fell silent", taken)
+            push_broken_off(
+                out,
+                "read",
+                "the other site fell silent, or the connection failed",
+                taken,
+            )
         }
-        FrameError::Cut => push_broken_off(out, "cut: the other site broke off", taken),
+        FrameError::Cut => push_broken_off(out, "cut", "the other site broke off", taken),
         FrameError::Magic => out.push_str("magic: the other end is no site"),
         FrameError::Version => out.push_str("version: the other site is of another version"),
         FrameError::BadFrame => {
@@ -76,7 +93,12 @@ pub(crate) fn push_not_met(
             "same site: the other site has the same number; start one of them with a number that no site has (--site) and a new journal",
         ),
         MeetingError::WriteFault { taken } => {
-            push_broken_off(out, "write: the connection failed or took nothing", taken)
+            push_broken_off(
+                out,
+                "write",
+                "the other site took nothing, or the connection failed",
+                taken,
+            )
         }
         MeetingError::Take(error) => push_not_taken(out, notes, error),
     }
