@@ -82,9 +82,10 @@ fn refuse_words(rt: &HostRuntime) -> ExitCode {
     ExitCode::from(2)
 }
 
-// Answers what is typed, as the words say.
-fn converse(
-    rt: &HostRuntime,
+// Answers what is typed, as the words say. (Runtime and notes have one lifetime, since the journals hold both.)
+fn converse<'a>(
+    rt: &'a HostRuntime,
+    notes: &'a Notes,
     words: &[String],
     terminal: Terminal,
     output: &mut Device<Shown<BufWriter<Stdout>>>,
@@ -94,15 +95,13 @@ fn converse(
     let Ok(reader) = BufReader::new(alloc, rt.reader()) else {
         return ExitCode::FAILURE;
     };
-    let notes = Notes::new();
-    let mut meter = Meter::new(rt);
-    let mut run: Run<'_, Process<'_>> = Run {
+    let mut run: Run<'_, Process<'a>> = Run {
         alloc,
         host: rt,
-        store: &FileJournals::new(rt, &notes),
-        notes: &notes,
+        store: &FileJournals::new(rt, notes),
+        notes,
         network: &mut TcpLinks::new(rt),
-        meter: &mut meter,
+        meter: &mut Meter::new(rt),
         terminal,
         input: &mut Device::buffered(reader),
         output,
@@ -138,5 +137,6 @@ fn main(rt: HostRuntime) -> ExitCode {
         is_input,
         is_output,
     };
-    converse(&rt, &words, terminal, &mut output, &mut faults)
+    let notes = Notes::new();
+    converse(&rt, &notes, &words, terminal, &mut output, &mut faults)
 }
