@@ -1,6 +1,10 @@
 -- Words that only proofs and private functions use.
-use Rattle.std.specs.Prelude.{◌≡◌, ◌×◌, ℕ, List, [], length, ◌-◌, Option, Result, Ok, Err}
-use Rattle.std.specs.Io.KnownBytes.{Keeps}
+use Rattle.std.specs.Prelude.{◌≡◌, ◌≢◌, ℕ, List, [], length, ◌-◌, Option, unwrap_or, Result, Ok, Err}
+use Rattle.std.specs.BTreeMap as by_site
+use Rattle.std.specs.Io.KnownBytes.{Appends}
+use Rattle.sha2.specs.Sha256.{sha256}
+use Rattle.td_io.specs.Streams.{AppendsFront}
+use Rattle.td_stamps.specs.Checks.{last_seq}
 use Rattle.td_stamps.specs.Vectors.{IsVector, VersionVector}
 use Rattle.td_stamps.specs.declared.entry.Entry.{Entry}
 use Rattle.td_frames.specs.declared.error.FrameError.{FrameError}
@@ -8,13 +12,40 @@ use Rattle.td_frames.specs.declared.error.FrameError.TheVariants as frame_error
 use Rattle.td_replica.specs.Seen.{Seen}
 use Rattle.td_replica.specs.declared.refusal.TakeError.{TakeError}
 use Rattle.td_replica.specs.declared.refusal.TakeError.TheVariants as take_error
+use Rattle.td_comparison.specs.Digests.{answers_to, differing, known_to_differ}
+use Rattle.td_comparison.specs.declared.differing.Findings.{Findings}
+use Rattle.td_comparison.specs.declared.message.Comparison.{Comparison}
+use Rattle.td_comparison.specs.declared.reading.MessageError.{MessageError}
+use Rattle.td_comparison.specs.declared.reading.MessageError.TheVariants as message_error
 use Rattle.td_meeting.specs.declared.error.MeetingError.{MeetingError}
-use Rattle.td_meeting.specs.declared.error.MeetingError.TheVariants.{Broken, OutOfMemory, Frame, Take}
+use Rattle.td_meeting.specs.declared.error.MeetingError.TheVariants.{Broken, OutOfMemory, Frame, Take, WriteFault}
 use Rattle.td_checked_meetings.specs.Scopes.{first_beyond, of_others, taken}
-use Rattle.td_checked_meetings.specs.Steps.{Receives, ReceivesCut, Refuses}
+use Rattle.td_checked_meetings.specs.Steps.{Receives, ReceivesCut, Refuses, greets}
 use Rattle.td_checked_meetings.specs.declared.scope.Scope.{Scope}
 use Rattle.td_checked_meetings.specs.declared.sifting.Sifted.{Sifted}
 use Rattle.td_checked_meetings.specs.declared.taking.Received.{Received}
+
+-- the numbers that came, by sites
+abbrev pub Numbers : Type 0
+Numbers = by_site.BTreeMap ℕ ℕ
+
+abbrev pub last_number : Numbers → ℕ → ℕ
+last_number numbers site = unwrap_or (by_site.get numbers site) 0
+
+-- they are the greatest ones of these entries
+abbrev pub AreLast : List Entry → Numbers → Type 0
+AreLast earlier numbers = (site : ℕ) → last_number numbers site ≡ last_seq site earlier
+
+abbrev pub unread : MessageError → MeetingError
+unread message_error.OutOfMemory = OutOfMemory
+unread message_error.Malformed = Frame frame_error.BadFrame 0
+
+-- the site's greeting was written, with the vector of the scope
+abbrev pub OwnGreeting : Seen → Scope → Option (List ℕ) → Option (List ℕ) → Result (Unit {0}) MeetingError → Type 0
+OwnGreeting s c old new (Ok x) = Appends old new (greets s c)
+OwnGreeting s c old new (Err (WriteFault count)) = AppendsFront old new (greets s c) × (count ≡ 0)
+OwnGreeting s c old new (Err OutOfMemory) = new ≡ old
+OwnGreeting s c old new (Err e) = ⊥
 
 abbrev pub not_taken : TakeError → MeetingError
 not_taken take_error.Broken = Broken
@@ -45,3 +76,17 @@ TakesPrefix s c es error e after = NotTaken s c es e after
 abbrev pub StopsAt : Seen → Scope → List Entry → FrameError → MeetingError → Seen → Type 0
 StopsAt s c es error (Frame e count) after = (e ≡ error) × ReceivesCut s c es error count after
 StopsAt s c es error e after = NotTaken s c es e after
+
+-- a comparison is that of another site of the same script
+abbrev pub IsOfOther : Seen → Comparison → Type 0
+IsOfOther s x = (x.site ≢ s.site) × (x.script ≡ sha256 s.script)
+
+-- what is answered to a comparison: nothing to one of another script, or of this site's number
+pub record Answered (s : Seen) (v : VersionVector) (x : Comparison) (f : Findings) : Type 0 where
+  pub compared : IsOfOther s x → (f.digests.items ≡ answers_to s.entries v x.digests.items) × (f.differing.items ≡ known_to_differ s.entries v x.digests.items)
+  pub not_compared : (IsOfOther s x → ⊥) → (f.digests.items ≡ []) × (f.differing.items ≡ [])
+
+-- the sites that differ by an answer
+pub record Differ (s : Seen) (v : VersionVector) (x : Comparison) (sites : List ℕ) : Type 0 where
+  pub compared : IsOfOther s x → sites ≡ differing s.entries v x.digests.items
+  pub not_compared : (IsOfOther s x → ⊥) → sites ≡ []

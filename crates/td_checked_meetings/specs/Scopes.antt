@@ -1,8 +1,9 @@
 -- What a meeting exchanges where the statements of some sites differ: of each other site those that its version vector
 -- counts, and nothing beyond a gap in a site's numbers (the tentative writes of Terry et al. 1995, Bayou).
-use Rattle.std.specs.Prelude.{ℕ, ◌+◌, ◌-◌, Bool, not, ◌&&◌, ◌||◌, ◌==◌, nat_le, List, [], ◌∷◌, ◌++◌, Option, Some, None, if◌then◌else◌}
+use Rattle.std.specs.Prelude.{ℕ, ◌+◌, max, Bool, not, ◌&&◌, ◌==◌, nat_le, List, [], ◌∷◌, ◌++◌, Option, Some, None, if◌then◌else◌}
 use Rattle.std.specs.List.{filter, list_any}
-use Rattle.td_stamps.specs.Vectors.{VersionVector, after_vector, has_number, lacks, number_of}
+use Rattle.td_stamps.specs.Checks.{last_seq}
+use Rattle.td_stamps.specs.Vectors.{VersionVector, after_vector, lacks, number_of}
 use Rattle.td_stamps.specs.declared.entry.Entry.{Entry}
 use Rattle.td_checked_meetings.specs.declared.sifting.Beyond.{Beyond}
 
@@ -21,10 +22,10 @@ sent left_out own other xs = filter (is_kept left_out own) (after_vector other x
 
 -- ---- what is taken
 
--- no number of the entry's site is missing before it: the vector counts it, it is the next one, or the number before it
+-- no number of the entry's site is missing before it: it is at most the next one after what the vector counts and what
 -- came earlier
 abbrev pub follows : VersionVector → List Entry → Entry → Bool
-follows v earlier e = nat_le e.seq (number_of v e.site + 1) || has_number earlier e.site (e.seq - 1)
+follows v earlier e = nat_le e.seq (max (number_of v e.site) (last_seq e.site earlier) + 1)
 
 -- the entries that follow, each on what the vector counts and on those before it
 unfoldable pub in_sequence : VersionVector → List Entry → List Entry → List Entry

@@ -1,8 +1,11 @@
 //! The comparison before a meeting.
 
-ghost use Rattle.std.specs.Prelude.{◌≡◌, true, IfErr, IfOk, MatchResult, Ok, Err};
-ghost use Rattle.sha2.specs.Sha256.{sha256};
-ghost use Rattle.td_checked_meetings.specs.Comparing.{AddsDifferences, AnsweredQuestion, Answers, Asked, Compared, Compares, IsWhole};
+ghost use Rattle.std.specs.Prelude.{◌≡◌, ◌<◌, ◌^◌, ◌↔◌, ℕ, List, true, length, IsTrue, IfOk};
+ghost use Rattle.td_io.specs.Streams.{Writes};
+ghost use Rattle.td_stamps.specs.Vectors.{IsVector};
+ghost use Rattle.td_comparison.specs.Digests.{question_of, rises, digest_sites};
+ghost use Rattle.td_comparison.specs.Messages.{IsComparisonIn};
+ghost use Rattle.td_checked_meetings.specs.Comparing.{AddsDifferences, AnsweredQuestion, Asked, Compared, IsOfAnother, IsWhole, comparison_of};
 ghost use Rattle.td_checked_meetings.specs.ForProofs as proofs;
 
 use crate::scope::Scope;
@@ -31,12 +34,17 @@ fn unread(error: MessageError) -> MeetingError
 }
 
 // Whether a comparison is that of another site of the same script.
-fn is_of_another<R: Replica>(site: &R, comparison: &Comparison) -> bool {
+fn is_of_another<R: Replica>(site: &R, comparison: &Comparison) -> bool
+    ensures { (bytes : List ℕ) → IsComparisonIn bytes comparison.now → IsTrue result ↔ IsOfAnother (R.seen site.now) bytes }
+{
     comparison.site != site.site() && comparison.script == script_digest(site.script())
 }
 
 // The version vector of what is held, and digests of its sites.
-fn own_question(alloc: Global, held: &Held) -> Result<(Vector, Vec<SiteDigest>), AllocError> {
+fn own_question(alloc: Global, held: &Held) -> Result<(Vector, Vec<SiteDigest>), AllocError>
+    ensures vector { IfOk result (λ r. IsVector held.now.entries r.0) }
+    ensures digests { IfOk result (λ r. r.1.items ≡ question_of held.now.entries r.0) }
+{
     let vector = held.vector(alloc)?;
     let digests = question(alloc, held, &vector)?;
     Ok((vector, digests))
@@ -84,7 +92,10 @@ fn send_comparison<R: Replica, K: Sink>(
     site: &R,
     digests: &[SiteDigest],
     sink: &mut K,
-) -> Result<(), Failed> {
+) -> Result<(), Failed>
+    requires { length digests.now < 2 ^ 32 }
+    ensures { Writes (K.held sink.old) (K.held sink.new) result (comparison_of (R.seen site.now) digests.now) }
+{
     put_comparison(sink, site.site(), &script_digest(site.script()), digests)?;
     sink.flush()
 }
@@ -96,7 +107,11 @@ fn answer_to<R: Replica>(
     held: &Held,
     vector: &Vector,
     comparison: &Comparison,
-) -> Result<Findings, AllocError> {
+) -> Result<Findings, AllocError>
+    requires holding { held.now.entries ≡ (R.seen site.now).entries }
+    requires rises { rises 0 (digest_sites comparison.now.digests.items) ≡ true }
+    ensures { IfOk result (λ f. proofs.Answered (R.seen site.now) vector.now comparison.now f) }
+{
     if is_of_another(site, comparison) {
         return td_comparison::answer(alloc, held, vector, &comparison.digests);
     }
@@ -145,7 +160,11 @@ fn differing_by<R: Replica>(
     held: &Held,
     vector: &Vector,
     answer: &Comparison,
-) -> Result<Vec<u16>, AllocError> {
+) -> Result<Vec<u16>, AllocError>
+    requires holding { held.now.entries ≡ (R.seen site.now).entries }
+    requires rises { rises 0 (digest_sites answer.now.digests.items) ≡ true }
+    ensures { IfOk result (λ v. proofs.Differ (R.seen site.now) vector.now answer.now v.items) }
+{
     if is_of_another(site, answer) {
         return differing_sites(alloc, held, vector, &answer.digests);
     }

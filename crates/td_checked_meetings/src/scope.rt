@@ -1,6 +1,7 @@
 //! What a meeting exchanges.
 
-ghost use Rattle.std.specs.Prelude.{◌≡◌};
+ghost use Rattle.std.specs.Prelude.{◌≡◌, ◌==◌};
+ghost use Rattle.std.specs.List.{list_any};
 ghost use Rattle.td_checked_meetings.specs.Scopes.{is_kept, is_left_out};
 
 use td_stamps::{Entry, Vector};

@@ -10,7 +10,7 @@ ghost use Rattle.td_stamps.specs.Entries.{in_range};
 ghost use Rattle.td_frames.specs.Spelling.{HasFrame, entry_frames, greeting_frame, stream};
 ghost use Rattle.td_frames.specs.declared.version.Version.TheVariants.{Second};
 ghost use Rattle.td_checked_meetings.specs.Scopes.{sent};
-ghost use Rattle.td_checked_meetings.specs.Steps.{IsGreeting};
+ghost use Rattle.td_checked_meetings.specs.ForProofs.{OwnGreeting};
 
 use crate::scope::Scope;
 use std::alloc::Global;
@@ -89,7 +89,7 @@ pub(crate) fn put_own<R: Replica, K: Sink>(
     scope: &Scope,
     sink: &mut K,
 ) -> Result<(), MeetingError>
-    ensures told { OwnGreeting (R.seen site.now) scope.now.vector (K.held sink.old) (K.held sink.new) (K.faults sink.old) (K.faults sink.new) result }
+    ensures written { OwnGreeting (R.seen site.now) scope.now (K.held sink.old) (K.held sink.new) result }
     ensures aside { Keeps (K.aside sink.old) (K.aside sink.new) }
 {
     let Ok(places) = scope.vector.entries(alloc) else {

@@ -1,13 +1,13 @@
 //! The entries of a batch that a site takes.
 
-ghost use Rattle.std.specs.Prelude.{◌≡◌, ℕ, List, [], IfOk};
-ghost use Rattle.td_stamps.specs.Vectors.{has_number};
+ghost use Rattle.std.specs.Prelude.{◌≡◌, ◌-◌, ◌++◌, ◌∷◌, List, [], length, IfOk, OnOk};
 ghost use Rattle.td_stamps.specs.declared.entry.Entry.{Entry as EntryData};
+ghost use Rattle.td_checked_meetings.specs.ForProofs.{AreLast, last_number};
 ghost use Rattle.td_checked_meetings.specs.Scopes.{first_beyond, follows, in_sequence, of_others, taken};
 
 use crate::scope::Scope;
 use std::alloc::{AllocError, Global};
-use std::collections::BTreeSet;
+use std::collections::BTreeMap;
 use td_stamps::{Entry, Vector};
 
 /// An entry beyond a gap: an earlier number of its site did not come.
@@ -40,13 +40,30 @@ fn of_others(alloc: Global, scope: &Scope, entries: Vec<Entry>) -> Result<Vec<En
     Ok(others)
 }
 
-// Whether no number of the entry's site is missing before it.
-fn follows(vector: &Vector, earlier: &BTreeSet<(u16, u32)>, entry: &Entry) -> bool
-    ensures { (es : List EntryData) → ((site n : ℕ) → set.contains earlier.now (site, n) ≡ has_number es site n)
-        → result ≡ follows vector.now es entry.now }
+// The greatest number of the site that came earlier; 0 if none did.
+fn last_number(numbers: &BTreeMap<u16, u32>, site: u16) -> u32
+    ensures { result ≡ last_number numbers.now site }
 {
-    let number = vector.number(entry.site);
-    entry.seq <= number.saturating_add(1) || earlier.contains(&(entry.site, entry.seq - 1))
+    numbers.get(&site).copied().unwrap_or(0)
+}
+
+// Notes that an entry came.
+fn note_number(numbers: &mut BTreeMap<u16, u32>, entry: &Entry) -> Result<(), AllocError>
+    ensures { OnOk result ((earlier : List EntryData) → AreLast earlier numbers.old → AreLast (earlier ++ entry.now ∷ []) numbers.new) }
+{
+    let number = entry.seq.max(last_number(numbers, entry.site));
+    numbers.insert(entry.site, number)?;
+    Ok(())
+}
+
+// Whether no number of the entry's site is missing before it.
+fn follows(vector: &Vector, numbers: &BTreeMap<u16, u32>, entry: &Entry) -> bool
+    ensures { (earlier : List EntryData) → AreLast earlier numbers.now → result ≡ follows vector.now earlier entry.now }
+{
+    let last = vector
+        .number(entry.site)
+        .max(last_number(numbers, entry.site));
+    entry.seq <= last.saturating_add(1)
 }
 
 // The entries that follow, and the first one that does not.
@@ -58,12 +75,12 @@ fn in_sequence(
     ensures entries { IfOk result (λ r. r.0.items ≡ in_sequence vector.now [] entries.items) }
     ensures beyond { IfOk result (λ r. r.1 ≡ first_beyond vector.now [] entries.items) }
 {
-    let mut earlier = BTreeSet::new(alloc);
+    let mut numbers = BTreeMap::new(alloc);
     let mut beyond = None;
     let mut following = Vec::with_capacity(alloc, entries.len())?;
     for entry in entries {
-        if follows(vector, &earlier, &entry) {
-            earlier.insert((entry.site, entry.seq))?;
+        if follows(vector, &numbers, &entry) {
+            note_number(&mut numbers, &entry)?;
             following.push(entry)?;
         } else if beyond.is_none() {
             beyond = Some(Beyond {

@@ -4,36 +4,56 @@ use Rattle.std.specs.List.Sorted.{IsBinarySearchResult, IsNonDecreasingBy}
 use Rattle.std.specs.Ordering.{nat_cmp, ordering_index}
 use Rattle.std.proofs.lemmas.Cmp.{ranked}
 use Rattle.std.proofs.lemmas.Bool.Decides.{nat_tests}
-use Rattle.std.proofs.lemmas.Bool.{cases_lt, ne_eqb, ltb-true}
+use Rattle.std.proofs.lemmas.Bool.{and_from, cases_lt, eq-eqb, le-leb, ne_eqb, ltb-true}
+use Rattle.std.proofs.lemmas.List.Concat.{flat_map-cons, flat_map-append}
 use Rattle.std.proofs.lemmas.List.Elements.{filter-append}
+use Rattle.sha2.specs.declared.Sha256.{Sha256}
 use Rattle.sha2.specs.Hashers.{Holds256}
 use Rattle.td_stamps.specs.declared.entry.Entry.{Entry}
 use Rattle.td_stamps.proofs.SetLemmas.{first_holds, rest_holds}
-use Rattle.td_frames.specs.Spelling.{entry_frames}
+use Rattle.td_frames.specs.Spelling.{entry_frame, entry_frames}
 use Rattle.td_frames.specs.declared.version.Version.TheVariants.{Second}
-use Rattle.td_comparison.specs.Digests.{first_of, rises}
-use Rattle.td_comparison.specs.ForProofs.{AreFed, IsFed, places_of, sites_at}
+use Rattle.td_comparison.specs.Digests.{first_entries, rises}
+use Rattle.td_comparison.specs.ForProofs.{AreFed, IsFed, feed_places, place_sites}
 use Rattle.td_comparison.specs.declared.digest.Feed.{Feed}
 
 -- the sites of the feeds rise from here on
 abbrev pub Rise : ℕ → List Feed → Type 0
-Rise last fs = rises last (sites_at (places_of fs)) ≡ true
+Rise last fs = rises last (place_sites (feed_places fs)) ≡ true
 
 first_after : (last : ℕ) (f : Feed) (fs : List Feed) → Rise last (f ∷ fs) → last < f.site
-first_after last f fs up = ltb-true last f.site (first_holds (ltb last f.site) (rises f.site (sites_at (places_of fs))) up)
+first_after last f fs up = ltb-true last f.site (first_holds (ltb last f.site) (rises f.site (place_sites (feed_places fs))) up)
 
 rest_rises : (last : ℕ) (f : Feed) (fs : List Feed) → Rise last (f ∷ fs) → Rise f.site fs
-rest_rises last f fs up = rest_holds (ltb last f.site) (rises f.site (sites_at (places_of fs))) up
+rest_rises last f fs up = rest_holds (ltb last f.site) (rises f.site (place_sites (feed_places fs))) up
 
 -- an entry of another site does not count
-first_of-other : (site n : ℕ) (xs : List Entry) (e : Entry) → (e.site ≡ site → ⊥) → first_of site n (xs ++ e ∷ []) ≡ first_of site n xs
+first_of-other : (site n : ℕ) (xs : List Entry) (e : Entry) → (e.site ≡ site → ⊥) → first_entries site n (xs ++ e ∷ []) ≡ first_entries site n xs
 first_of-other site n xs e other =
     filter-append (λ (x : Entry). eqb x.site site && leb x.seq n) xs (e ∷ [])
-    ∙ ap (λ (b : Bool). first_of site n xs ++ cond (b && leb e.seq n) (e ∷ []) []) (ne_eqb e.site site other)
-    ∙ append-nil (first_of site n xs)
+    ∙ ap (λ (b : Bool). first_entries site n xs ++ cond (b && leb e.seq n) (e ∷ []) []) (ne_eqb e.site site other)
+    ∙ append-nil (first_entries site n xs)
 
 other_site : (f : Feed) (xs : List Entry) (e : Entry) → (e.site ≡ f.site → ⊥) → IsFed xs f → IsFed (xs ++ e ∷ []) f
 other_site f xs e other fed = subst (λ (l : List Entry). Holds256 f.hasher (entry_frames Second l)) (sym (first_of-other f.site f.number xs e other)) fed
+
+-- one of its own site counts, up to the number
+first_of-own : (site n : ℕ) (xs : List Entry) (e : Entry) → e.site ≡ site → e.seq ≤ n → first_entries site n (xs ++ e ∷ []) ≡ first_entries site n xs ++ e ∷ []
+first_of-own site n xs e own within =
+    filter-append (λ (x : Entry). eqb x.site site && leb x.seq n) xs (e ∷ [])
+    ∙ ap (λ (b : Bool). first_entries site n xs ++ cond b (e ∷ []) []) (and_from (eqb e.site site) (leb e.seq n) (eq-eqb e.site site own) (le-leb e.seq n within))
+
+frames_more : (xs : List Entry) (e : Entry) → entry_frames Second (xs ++ e ∷ []) ≡ entry_frames Second xs ++ entry_frame Second e
+frames_more xs e =
+    flat_map-append (entry_frame Second) xs (e ∷ [])
+    ∙ ap (λ (l : List ℕ). entry_frames Second xs ++ l) (flat_map-cons (entry_frame Second) e [] ∙ append-nil (entry_frame Second e))
+
+-- a feed takes an entry that counts
+pub own_site : (old : Feed) (xs : List Entry) (e : Entry) → e.site ≡ old.site → e.seq ≤ old.number → IsFed xs old → (h : Sha256) → ((m : List ℕ) → Holds256 old.hasher m → Holds256 h (m ++ entry_frame Second e))
+    → Holds256 h (entry_frames Second (first_entries old.site old.number (xs ++ e ∷ [])))
+own_site old xs e own within fed h step =
+    let before = first_entries old.site old.number xs in
+    subst (Holds256 h) (sym (ap (entry_frames Second) (first_of-own old.site old.number xs e own within) ∙ frames_more before e)) (step (entry_frames Second before) fed)
 
 -- all sites come after that of the entry
 all_later : (last : ℕ) (fs : List Feed) (xs : List Entry) (e : Entry) → e.site ≤ last → Rise last fs → AreFed xs fs → AreFed (xs ++ e ∷ []) fs

@@ -5,7 +5,7 @@ use Rattle.std.specs.Str.{bytes_eq}
 use Rattle.std.proofs.lemmas.Bool.{leb-true}
 use Rattle.td_stamps.proofs.SetLemmas.{first_holds, rest_holds}
 use Rattle.td_comparison.specs.declared.digest.SiteDigest.{SiteDigest}
-use Rattle.td_comparison.specs.Messages.{has_head, letters, line_in, lines_in, long_at, short_at, sites_in}
+use Rattle.td_comparison.specs.Messages.{has_head, comparison_letters, line_in, lines_in, long_at, short_at, sites_in}
 
 line_own : (x left : List ℕ) → length x ≡ 22 → line_in (x ++ left) ≡ line_in x
 line_own x left long =
@@ -60,7 +60,7 @@ length-lines_in (suc n) bytes = ap suc (length-lines_in n (drop 22 bytes))
 pub few_digests : (bytes : List ℕ) → has_head bytes ≡ true → long_at 39 bytes ≤ 65535
 few_digests bytes is =
     let few = leb 43 (length bytes) in
-    let named = bytes_eq (take 5 bytes) letters in
+    let named = bytes_eq (take 5 bytes) comparison_letters in
     let sited = leb 1 (short_at 5 bytes) in
     let counted = leb (long_at 39 bytes) 65535 in
     let whole = eqb (length bytes) (43 + 22 * long_at 39 bytes) in

@@ -5,7 +5,7 @@ use Rattle.std.proofs.lemmas.List.{take_more}
 use Rattle.std.proofs.lemmas.Bool.Decides.{nat_tests}
 use Rattle.td_stamps.specs.Vectors.{VersionVector, number_of}
 use Rattle.td_stamps.specs.declared.entry.Entry.{Entry}
-use Rattle.td_comparison.specs.Digests.{differing, differs, is_comparable, known_to_differ, site_digest, sites_of}
+use Rattle.td_comparison.specs.Digests.{differing, differs, is_comparable, known_to_differ, site_digest, digest_sites}
 use Rattle.td_comparison.specs.ForProofs.{common_place, is_unequal, sites_unequal}
 use Rattle.td_comparison.specs.declared.digest.SiteDigest.{SiteDigest}
 
@@ -30,7 +30,7 @@ unfolding sites_unequal
 none_unequal b = refl
 
 -- a site that is found or not, and those after it
-first_of_both : (test : SiteDigest → Bool) (b : Bool) (d : SiteDigest) (ds : List SiteDigest) (rest : List ℕ) → rest ≡ sites_of (filter test ds) → cond b (d.site ∷ rest) rest ≡ sites_of (cond b (d ∷ filter test ds) (filter test ds))
+first_of_both : (test : SiteDigest → Bool) (b : Bool) (d : SiteDigest) (ds : List SiteDigest) (rest : List ℕ) → rest ≡ digest_sites (filter test ds) → cond b (d.site ∷ rest) rest ≡ digest_sites (cond b (d ∷ filter test ds) (filter test ds))
 first_of_both test true d ds rest same = ap (λ (l : List ℕ). d.site ∷ l) same
 first_of_both test false d ds rest same = same
 

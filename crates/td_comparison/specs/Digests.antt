@@ -12,12 +12,12 @@ use Rattle.td_frames.specs.declared.version.Version.TheVariants.{Second}
 use Rattle.td_comparison.specs.declared.digest.SiteDigest.{SiteDigest}
 
 -- the entries of a site up to a number, in stamp order: where none clash, that is the order of their numbers
-abbrev pub first_of : ℕ → ℕ → List Entry → List Entry
-first_of site n xs = filter (λ e. (e.site == site) && nat_le e.seq n) xs
+abbrev pub first_entries : ℕ → ℕ → List Entry → List Entry
+first_entries site n xs = filter (λ e. (e.site == site) && nat_le e.seq n) xs
 
 -- the first 16 bytes of the SHA-256 of their frames
 abbrev pub digest_of : ℕ → ℕ → List Entry → List ℕ
-digest_of site n xs = take 16 (sha256 (entry_frames Second (first_of site n xs)))
+digest_of site n xs = take 16 (sha256 (entry_frames Second (first_entries site n xs)))
 
 -- a site, a number, and the digest of the site's entries up to this number
 abbrev pub site_digest : List Entry → ℕ × ℕ → SiteDigest
@@ -60,5 +60,5 @@ abbrev pub rises : ℕ → List ℕ → Bool
 rises last [] = true
 rises last (x ∷ xs) = nat_lt last x && rises x xs
 
-abbrev pub sites_of : List SiteDigest → List ℕ
-sites_of ds = map (λ d. d.site) ds
+abbrev pub digest_sites : List SiteDigest → List ℕ
+digest_sites ds = map (λ d. d.site) ds

@@ -3,7 +3,7 @@ use Rattle.std.specs.Prelude.{ℕ, ◌+◌, ◌*◌, List, length, nat_lt, if◌
 use Rattle.td_stream_bounds.specs.Extents.{is_compatible}
 use Rattle.td_stream_bounds.specs.declared.extent.Extent.{Extent}
 use Rattle.td_stream_bounds.specs.declared.extent.Extent.TheVariants.{Open, Whole, Never}
-use Rattle.td_comparison.specs.Messages.{letters, long_at}
+use Rattle.td_comparison.specs.Messages.{comparison_letters, long_at}
 
 -- a count at this offset, and so many bytes for each
 unfoldable pub counted_extent : ℕ → ℕ → List ℕ → Extent
@@ -15,7 +15,7 @@ counted_extent at each bytes =
 
 -- 39 bytes before the count, and 22 bytes for each digest
 abbrev pub comparison_extent : List ℕ → Extent
-comparison_extent bytes = if is_compatible bytes letters then counted_extent 39 22 bytes else Never
+comparison_extent bytes = if is_compatible bytes comparison_letters then counted_extent 39 22 bytes else Never
 
 -- a count, and two bytes for each site
 abbrev pub differences_extent : List ℕ → Extent

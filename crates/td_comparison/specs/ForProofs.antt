@@ -7,25 +7,25 @@ use Rattle.td_stamps.specs.Vectors.{VersionVector, number_of}
 use Rattle.td_stamps.specs.declared.entry.Entry.{Entry}
 use Rattle.td_frames.specs.Spelling.{entry_frames}
 use Rattle.td_frames.specs.declared.version.Version.TheVariants.{Second}
-use Rattle.td_comparison.specs.Digests.{common, first_of}
+use Rattle.td_comparison.specs.Digests.{common, first_entries}
 use Rattle.td_comparison.specs.declared.digest.Feed.{Feed}
 use Rattle.td_comparison.specs.declared.digest.SiteDigest.{SiteDigest}
 
 -- the hasher has taken the frames of those that count of these entries
 abbrev pub IsFed : List Entry → Feed → Type 0
-IsFed xs f = Holds256 f.hasher (entry_frames Second (first_of f.site f.number xs))
+IsFed xs f = Holds256 f.hasher (entry_frames Second (first_entries f.site f.number xs))
 
 abbrev pub AreFed : List Entry → List Feed → Type 0
 AreFed xs fs = AllByRecursion (IsFed xs) fs
 
-abbrev pub place_of : Feed → ℕ × ℕ
-place_of f = (f.site, f.number)
+abbrev pub feed_place : Feed → ℕ × ℕ
+feed_place f = (f.site, f.number)
 
-abbrev pub places_of : List Feed → List (ℕ × ℕ)
-places_of fs = map place_of fs
+abbrev pub feed_places : List Feed → List (ℕ × ℕ)
+feed_places fs = map feed_place fs
 
-abbrev pub sites_at : List (ℕ × ℕ) → List ℕ
-sites_at ps = map (λ p. p.0) ps
+abbrev pub place_sites : List (ℕ × ℕ) → List ℕ
+place_sites ps = map (λ p. p.0) ps
 
 -- the number up to which both have the site's entries
 abbrev pub common_place : VersionVector → SiteDigest → ℕ × ℕ

@@ -3,7 +3,7 @@ use Rattle.std.specs.Prelude.{◌≡◌, ℕ, zero, suc, ◌+◌, ◌*◌, Bool,
 use Rattle.std.specs.Int.{w16, w32, from_be_bytes, to_be_bytes}
 use Rattle.std.specs.List.{flat_map, list_all}
 use Rattle.std.specs.Str.{bytes_eq}
-use Rattle.td_comparison.specs.Digests.{rises, sites_of}
+use Rattle.td_comparison.specs.Digests.{rises, digest_sites}
 use Rattle.td_comparison.specs.declared.digest.SiteDigest.{SiteDigest}
 use Rattle.td_comparison.specs.declared.message.Comparison.{Comparison}
 
@@ -14,8 +14,8 @@ abbrev pub line_frame : SiteDigest → List ℕ
 line_frame d = to_be_bytes w16 d.site ++ to_be_bytes w32 d.number ++ d.digest
 
 -- the letters JTDC and the version, which is 1
-abbrev pub letters : List ℕ
-letters = codes "JTDC" ++ 1 ∷ []
+abbrev pub comparison_letters : List ℕ
+comparison_letters = codes "JTDC" ++ 1 ∷ []
 
 -- how many digests, and these
 abbrev pub digests_frame : List SiteDigest → List ℕ
@@ -23,7 +23,7 @@ digests_frame ds = to_be_bytes w32 (length ds) ++ flat_map line_frame ds
 
 -- what a site asks another one with, and what is answered: the site, the SHA-256 of its script, and digests
 abbrev pub comparison_frame : ℕ → List ℕ → List SiteDigest → List ℕ
-comparison_frame site script ds = (letters ++ to_be_bytes w16 site) ++ (script ++ digests_frame ds)
+comparison_frame site script ds = (comparison_letters ++ to_be_bytes w16 site) ++ (script ++ digests_frame ds)
 
 -- how many sites differ, and which
 abbrev pub differences_frame : List ℕ → List ℕ
@@ -54,12 +54,12 @@ sites_in (suc n) bytes = short_at 0 bytes ∷ sites_in n (drop 2 bytes)
 
 -- digests of rising sites from 1 on, with numbers up to 1,000,000,000
 abbrev pub are_digests : List SiteDigest → Bool
-are_digests ds = rises 0 (sites_of ds) && list_all (λ d. nat_le d.number 1000000000) ds
+are_digests ds = rises 0 (digest_sites ds) && list_all (λ d. nat_le d.number 1000000000) ds
 
 -- the letters, a site from 1 on, at most 65,535 digests, and as many bytes as these have
 abbrev pub has_head : List ℕ → Bool
 has_head bytes =
-    nat_le 43 (length bytes) && (bytes_eq (take 5 bytes) letters && (nat_le 1 (short_at 5 bytes)
+    nat_le 43 (length bytes) && (bytes_eq (take 5 bytes) comparison_letters && (nat_le 1 (short_at 5 bytes)
     && (nat_le (long_at 39 bytes) 65535 && (length bytes == 43 + 22 * long_at 39 bytes))))
 
 -- the parts of a comparison

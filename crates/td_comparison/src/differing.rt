@@ -1,7 +1,7 @@
 //! Which sites differ between what is held here and what another site has.
 
 ghost use Rattle.std.specs.Prelude.{◌≡◌, ◌≤◌, true, length, IfOk, map};
-ghost use Rattle.td_comparison.specs.Digests.{answers_to, differing, known_to_differ, question_of, rises, site_digest, sites_of};
+ghost use Rattle.td_comparison.specs.Digests.{answers_to, differing, known_to_differ, question_of, rises, site_digest, digest_sites};
 ghost use Rattle.td_comparison.specs.ForProofs.{common_place, is_unequal, sites_unequal, with_number};
 
 use crate::digest::{SiteDigest, digests_of};
@@ -49,7 +49,7 @@ fn common_digests(
     vector: &Vector,
     digests: &[SiteDigest],
 ) -> Result<Vec<SiteDigest>, AllocError>
-    requires { rises 0 (sites_of digests.now) ≡ true }
+    requires { rises 0 (digest_sites digests.now) ≡ true }
     ensures { IfOk result (λ v. v.items ≡ map (λ d. site_digest held.now.entries (common_place vector.now d)) digests.now) }
 {
     let places = common_places(alloc, vector, digests)?;
@@ -110,7 +110,7 @@ pub fn answer(
     vector: &Vector,
     digests: &[SiteDigest],
 ) -> Result<Findings, AllocError>
-    requires { rises 0 (sites_of digests.now) ≡ true }
+    requires { rises 0 (digest_sites digests.now) ≡ true }
     ensures digests { IfOk result (λ a. a.digests.items ≡ answers_to held.now.entries vector.now digests.now) }
     ensures differing { IfOk result (λ a. a.differing.items ≡ known_to_differ held.now.entries vector.now digests.now) }
 {
@@ -127,7 +127,7 @@ pub fn differing_sites(
     vector: &Vector,
     answer: &[SiteDigest],
 ) -> Result<Vec<u16>, AllocError>
-    requires { rises 0 (sites_of answer.now) ≡ true }
+    requires { rises 0 (digest_sites answer.now) ≡ true }
     ensures { IfOk result (λ v. v.items ≡ differing held.now.entries vector.now answer.now) }
 {
     let own = common_digests(alloc, held, vector, answer)?;

@@ -3,7 +3,7 @@
 ghost use Rattle.std.specs.Prelude.{◌≡◌, ◌≤◌, ◌∷◌, ◌++◌, List, [], true, length, take, IfOk, map};
 ghost use Rattle.td_stamps.specs.declared.entry.Entry.{Entry as EntryData};
 ghost use Rattle.td_comparison.specs.Digests.{rises, site_digest};
-ghost use Rattle.td_comparison.specs.ForProofs.{AreFed, IsFed, place_of, places_of, sites_at};
+ghost use Rattle.td_comparison.specs.ForProofs.{AreFed, IsFed, feed_place, feed_places, place_sites};
 
 use crate::feed::feed_entry;
 use sha2::{Digest, Sha256};
@@ -29,7 +29,7 @@ pub struct Feed {
 
 // A digest of no entries for each place.
 fn new_feeds(alloc: Global, places: &[(u16, u32)]) -> Result<Vec<Feed>, AllocError>
-    ensures places { IfOk result (λ v. places_of v.items ≡ places.now) }
+    ensures places { IfOk result (λ v. feed_places v.items ≡ places.now) }
     ensures fed { IfOk result (λ v. AreFed [] v.items) }
 {
     let mut feeds = Vec::with_capacity(alloc, places.len())?;
@@ -48,7 +48,7 @@ fn add_entry(feed: &mut Feed, entry: &Entry)
     requires text { length entry.now.text ≤ 8192 }
     requires site { entry.now.site ≡ feed.old.site }
     ensures fed { (xs : List EntryData) → IsFed xs feed.old → IsFed (xs ++ entry.now ∷ []) feed.new }
-    ensures place { place_of feed.new ≡ place_of feed.old }
+    ensures place { feed_place feed.new ≡ feed_place feed.old }
 {
     if entry.seq <= feed.number {
         feed_entry(&mut feed.hasher, entry);
@@ -58,9 +58,9 @@ fn add_entry(feed: &mut Feed, entry: &Entry)
 // Adds an entry to the digest of its site, if there is one. It searches among the sites, which rise.
 fn add_to_feeds(feeds: &mut Vec<Feed>, entry: &Entry)
     requires text { length entry.now.text ≤ 8192 }
-    requires rises { rises 0 (sites_at (places_of feeds.old.items)) ≡ true }
+    requires rises { rises 0 (place_sites (feed_places feeds.old.items)) ≡ true }
     ensures fed { (xs : List EntryData) → AreFed xs feeds.old.items → AreFed (xs ++ entry.now ∷ []) feeds.new.items }
-    ensures places { places_of feeds.new.items ≡ places_of feeds.old.items }
+    ensures places { feed_places feeds.new.items ≡ feed_places feeds.old.items }
 {
     if let Ok(at) = feeds.binary_search_by_key(&entry.site, |feed| feed.site) {
         add_entry(&mut feeds[at], entry);
@@ -69,7 +69,7 @@ fn add_to_feeds(feeds: &mut Vec<Feed>, entry: &Entry)
 
 // The digests of what was added.
 fn finish_feeds(alloc: Global, feeds: Vec<Feed>) -> Result<Vec<SiteDigest>, AllocError>
-    ensures { (xs : List EntryData) → AreFed xs feeds.items → IfOk result (λ v. v.items ≡ map (site_digest xs) (places_of feeds.items)) }
+    ensures { (xs : List EntryData) → AreFed xs feeds.items → IfOk result (λ v. v.items ≡ map (site_digest xs) (feed_places feeds.items)) }
 {
     let mut digests = Vec::with_capacity(alloc, feeds.len())?;
     for feed in feeds {
@@ -80,7 +80,7 @@ fn finish_feeds(alloc: Global, feeds: Vec<Feed>) -> Result<Vec<SiteDigest>, Allo
 
 // The digest of what was added.
 fn finish_feed(feed: Feed) -> SiteDigest
-    ensures { (xs : List EntryData) → IsFed xs feed → result ≡ site_digest xs (place_of feed) }
+    ensures { (xs : List EntryData) → IsFed xs feed → result ≡ site_digest xs (feed_place feed) }
 {
     let Feed {
         site,
@@ -109,7 +109,7 @@ pub fn digests_of(
     held: &Held,
     places: &[(u16, u32)],
 ) -> Result<Vec<SiteDigest>, AllocError>
-    requires { rises 0 (sites_at places.now) ≡ true }
+    requires { rises 0 (place_sites places.now) ≡ true }
     ensures { IfOk result (λ v. v.items ≡ map (site_digest held.now.entries) places.now) }
 {
     let mut feeds = new_feeds(alloc, places)?;

@@ -3,7 +3,7 @@
 ghost use Rattle.std.specs.Prelude.{◌≡◌, ◌<◌, ◌^◌, length};
 ghost use Rattle.td_stream_bounds.specs.Extents.{IsWithin, is_compatible};
 ghost use Rattle.td_comparison.specs.Extents.{comparison_extent, counted_extent, differences_extent};
-ghost use Rattle.td_comparison.specs.Messages.{letters};
+ghost use Rattle.td_comparison.specs.Messages.{comparison_letters};
 
 use crate::reading::{LETTERS, MOST_SITES, long_at};
 use td_stream_bounds::Extent;
@@ -32,7 +32,7 @@ fn counted_extent(bytes: &[u8], at: usize, each: usize) -> Extent
 
 // Whether the bytes begin as a comparison does, or may do so once more have come.
 fn may_begin(bytes: &[u8]) -> bool
-    ensures { result ≡ is_compatible bytes.now letters }
+    ensures { result ≡ is_compatible bytes.now comparison_letters }
 {
     bytes.starts_with(LETTERS) || LETTERS.starts_with(bytes)
 }

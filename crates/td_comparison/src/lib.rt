@@ -18,7 +18,7 @@
 //! Definitions to trust, in `specs/`: Digests, Extents, Messages.
 //!
 //! td_comparison knows entries and version vectors, and neither scripts nor sockets. Whether digests of other sites are
-//! true is for nobody to say: equal ones make equal entries as far as SHA-256 does.
+//! true is for nobody to say: equal ones make equal entries as far as the first 16 bytes of SHA-256 do.
 #![tactic(auto)]
 
 mod differing;
@@ -32,5 +32,5 @@ pub use differing::{Findings, answer, differing_sites, question};
 pub use digest::{SiteDigest, digests_of};
 pub use extent::{comparison_extent, differences_extent};
 pub use feed::feed_entry;
-pub use message::{Comparison, put_comparison, put_differences, script_digest};
+pub use message::{Comparison, FirstMessage, put_comparison, put_differences, script_digest};
 pub use reading::{MessageError, is_other_version, read_comparison, read_differences};

@@ -13,6 +13,15 @@ use crate::digest::SiteDigest;
 use sha2::{Digest, Sha256};
 use td_io::{Failed, Sink, write_all};
 
+/// How the site begins that opened a connection.
+#[derive(Clone, Copy, PartialEq, Eq)]
+pub enum FirstMessage {
+    /// With digests, which the other site compares.
+    Question,
+    /// With a greeting: the other site does not compare.
+    Greeting,
+}
+
 /// What a site tells another one before they meet: its number, the SHA-256 of its script, and digests, whose sites
 /// rise.
 #[derive(Drop)]
@@ -31,7 +40,7 @@ pub fn script_digest(script: &str) -> [u8; 32]
 
 // The begin of a comparison: its letters, its version and the site.
 fn head_bytes(site: u16) -> [u8; 7]
-    ensures { result ≡ spelled.letters ++ to_be_bytes w16 site }
+    ensures { result ≡ spelled.comparison_letters ++ to_be_bytes w16 site }
 {
     let s = site.to_be_bytes();
     [b'J', b'T', b'D', b'C', 1, s[0], s[1]]

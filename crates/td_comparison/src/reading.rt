@@ -1,7 +1,7 @@
 //! The messages of a comparison, read from bytes that are there whole.
 
 ghost use Rattle.std.specs.Prelude.{◌≡◌, ◌≤◌, ◌+◌, ◌*◌, true, false, length, Err, IfOk};
-ghost use Rattle.td_comparison.specs.Digests.{rises, sites_of};
+ghost use Rattle.td_comparison.specs.Digests.{rises, digest_sites};
 ghost use Rattle.td_comparison.specs.Messages.{are_differences, IsComparisonIn, are_digests, differences_in, has_count, has_head, is_comparison, is_other_version, script_in, line_in, lines_in, long_at, short_at, sites_in};
 ghost use Rattle.td_comparison.specs.declared.reading.MessageError.TheVariants as message_error;
 
@@ -116,7 +116,7 @@ fn script_in(bytes: &[u8]) -> [u8; 32]
 pub fn read_comparison(alloc: Global, bytes: &[u8]) -> Result<Comparison, MessageError>
     ensures ok { IfOk result (λ c. (is_comparison bytes.now ≡ true) × IsComparisonIn bytes.now c) }
     ensures few { IfOk result (λ c. length c.digests.items ≤ 65535) }
-    ensures rises { IfOk result (λ c. rises 0 (sites_of c.digests.items) ≡ true) }
+    ensures rises { IfOk result (λ c. rises 0 (digest_sites c.digests.items) ≡ true) }
     ensures malformed { result ≡ Err message_error.Malformed → is_comparison bytes.now ≡ false }
 {
     if !has_head(bytes) {

@@ -366,10 +366,10 @@ impl EventLoop {
     ) {
         let mut out = Outbox::new(self.alloc);
         let mut loss = None;
-        if let Some(opening) = site.open(meeting, address, &mut out) {
+        if let Some(first) = site.open(meeting, address, &mut out) {
             let added = match TcpStream::connect(net, address) {
                 Ok(stream) => {
-                    let peer = Peer::called(self.alloc, stream, address, opening, out, now);
+                    let peer = Peer::called(self.alloc, stream, address, first, out, now);
                     self.add_peer(peer, meeting)
                 }
                 Err(error) => Err(error),

@@ -37,8 +37,6 @@ mod transfer;
 
 pub use event_loop::{EventLoop, LoopOptions};
 pub use limits::{MOST_ACCEPTED, MOST_BYTES, MOST_CALLED, MOST_CLIENTS, MOST_MEETINGS};
-pub use meets::{
-    Loss, MeetingOutcome, MeetingReport, MeetingSide, Meets, Opening, PeerRefusal, StepResult,
-};
+pub use meets::{Loss, MeetingOutcome, MeetingReport, MeetingSide, Meets, PeerRefusal, StepResult};
 pub use outbox::Outbox;
 pub use server::Server;

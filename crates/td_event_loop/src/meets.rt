@@ -2,6 +2,7 @@
 
 use crate::outbox::Outbox;
 use std::net::SocketAddr;
+use td_comparison::FirstMessage;
 
 /// The side of a meeting on which a site is.
 #[derive(Clone, Copy, Debug, PartialEq, Eq)]
@@ -32,15 +33,6 @@ pub enum PeerRefusal {
     Address,
     /// As many peers are met as can be.
     Crowded,
-}
-
-/// How a meeting begins that this site began.
-#[derive(Clone, Copy, Debug, PartialEq, Eq)]
-pub enum Opening {
-    /// With digests, which the peer compares.
-    Question,
-    /// With a greeting.
-    Greeting,
 }
 
 /// What follows a step.
@@ -80,7 +72,7 @@ pub struct MeetingReport {
 /// keep what came of it until the meeting ends.
 pub trait Meets {
     /// Begins a meeting with a peer that is called: writes a question or the site's greeting. None ends the meeting.
-    fn open(&mut self, meeting: usize, peer: SocketAddr, out: &mut Outbox) -> Option<Opening>;
+    fn open(&mut self, meeting: usize, peer: SocketAddr, out: &mut Outbox) -> Option<FirstMessage>;
 
     /// Reads a question of a peer that calls, and writes the site's answer.
     fn answer_question(&mut self, meeting: usize, question: &[u8], out: &mut Outbox) -> StepResult;

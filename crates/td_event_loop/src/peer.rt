@@ -4,7 +4,7 @@ ghost use Rattle.std.specs.Prelude.{◌≤◌};
 
 use crate::inbox::Inbox;
 use crate::limits::TURN;
-use crate::meets::{Loss, MeetingReport, MeetingSide, Meets, Opening, StepResult};
+use crate::meets::{Loss, MeetingReport, MeetingSide, Meets, StepResult};
 use crate::outbox::Outbox;
 use crate::pace::Pace;
 use crate::transfer::{Progress, Readiness, Transfer, transfer_of};
@@ -12,7 +12,7 @@ use mio::net::TcpStream;
 use std::alloc::Global;
 use std::io::Read;
 use std::net::{Shutdown, SocketAddr};
-use td_comparison::{comparison_extent, differences_extent};
+use td_comparison::{FirstMessage, comparison_extent, differences_extent};
 use td_stream_bounds::{Extent, StreamScanner, greeting_extent};
 
 /// What is awaited.
@@ -88,13 +88,13 @@ impl Peer {
         alloc: Global,
         stream: TcpStream,
         address: SocketAddr,
-        opening: Opening,
+        first: FirstMessage,
         out: Outbox,
         now: u64,
     ) -> Peer {
-        let stage = match opening {
-            Opening::Question => Stage::Comparison,
-            Opening::Greeting => Stage::Reply,
+        let stage = match first {
+            FirstMessage::Question => Stage::Comparison,
+            FirstMessage::Greeting => Stage::Reply,
         };
         Peer {
             stream,

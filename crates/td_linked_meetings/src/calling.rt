@@ -1,35 +1,26 @@
 //! The site that opened the link.
 
 use crate::inbox::{Awaited, Inbox};
-use crate::outcome::{NotBegun, Outcome};
+use crate::outcome::{MeetFault, MeetingResult};
 use std::alloc::Global;
 use td_checked_meetings::{Scope, ask, compare, greet, settle, whole_scope};
-use td_comparison::is_other_version;
+use td_comparison::{FirstMessage, is_other_version};
 use td_frames::FrameError;
 use td_io::{Channel, Device, Failed};
 use td_meeting::MeetingError;
 use td_replica::Replica;
 use td_semantics::Meter;
 
-/// How a meeting begins.
-#[derive(Clone, Copy, Debug, PartialEq, Eq)]
-pub enum Opening {
-    /// With digests, which the other site compares.
-    Question,
-    /// With a greeting: the other site does not compare.
-    Greeting,
-}
-
 // Reads the other site's answer.
-fn read_answer<C: Channel>(inbox: &mut Inbox, link: &mut C) -> Result<usize, NotBegun> {
+fn read_answer<C: Channel>(inbox: &mut Inbox, link: &mut C) -> Result<usize, MeetFault> {
     match inbox.read_message(link, Awaited::Comparison) {
-        Ok(0) => Err(NotBegun::NotCompared),
-        Ok(_) if is_other_version(inbox.bytes()) => Err(NotBegun::Failed(MeetingError::Frame {
+        Ok(0) => Err(MeetFault::NotCompared),
+        Ok(_) if is_other_version(inbox.bytes()) => Err(MeetFault::Failed(MeetingError::Frame {
             error: FrameError::Version,
             taken: 0,
         })),
         Ok(end) => Ok(end),
-        Err(error) => Err(NotBegun::Failed(error)),
+        Err(error) => Err(MeetFault::Failed(error)),
     }
 }
 
@@ -39,11 +30,11 @@ fn compare_over<R: Replica, C: Channel>(
     site: &R,
     link: &mut C,
     inbox: &mut Inbox,
-) -> Result<Scope, NotBegun> {
+) -> Result<Scope, MeetFault> {
     let vector = match ask(alloc, site, link) {
         Ok(vector) => vector,
-        Err(MeetingError::WriteFault { .. }) => return Err(NotBegun::NotCompared),
-        Err(error) => return Err(NotBegun::Failed(error)),
+        Err(MeetingError::WriteFault { .. }) => return Err(MeetFault::NotCompared),
+        Err(error) => return Err(MeetFault::Failed(error)),
     };
     let end = read_answer(inbox, link)?;
     match compare(alloc, site, vector, inbox.front(end), link) {
@@ -51,7 +42,7 @@ fn compare_over<R: Replica, C: Channel>(
             inbox.drop_front(end);
             Ok(scope)
         }
-        Err(error) => Err(NotBegun::Failed(inbox.cause(error))),
+        Err(error) => Err(MeetFault::Failed(inbox.cause(error))),
     }
 }
 
@@ -61,13 +52,13 @@ fn scope_over<R: Replica, C: Channel>(
     site: &R,
     link: &mut C,
     inbox: &mut Inbox,
-    opening: Opening,
-) -> Result<Scope, NotBegun> {
-    match opening {
-        Opening::Question => compare_over(alloc, site, link, inbox),
-        Opening::Greeting => match whole_scope(alloc, site) {
+    first: FirstMessage,
+) -> Result<Scope, MeetFault> {
+    match first {
+        FirstMessage::Question => compare_over(alloc, site, link, inbox),
+        FirstMessage::Greeting => match whole_scope(alloc, site) {
             Ok(scope) => Ok(scope),
-            Err(error) => Err(NotBegun::Failed(error)),
+            Err(error) => Err(MeetFault::Failed(error)),
         },
     }
 }
@@ -99,22 +90,22 @@ pub fn call<R: Replica, C: Channel>(
     alloc: Global,
     site: &mut R,
     link: &mut C,
-    opening: Opening,
+    first: FirstMessage,
     meter: &mut Meter,
-) -> Result<Outcome, NotBegun> {
+) -> Result<MeetingResult, MeetFault> {
     let mut inbox = match Inbox::new(alloc) {
         Ok(inbox) => inbox,
-        Err(error) => return Err(NotBegun::Failed(error)),
+        Err(error) => return Err(MeetFault::Failed(error)),
     };
-    let scope = scope_over(alloc, site, link, &mut inbox, opening)?;
+    let scope = scope_over(alloc, site, link, &mut inbox, first)?;
     match exchange_greetings(alloc, site, &scope, link, &mut inbox) {
         Ok(()) => {}
-        Err(error) => return Err(NotBegun::Failed(error)),
+        Err(error) => return Err(MeetFault::Failed(error)),
     }
     let mut reply = Device::new(inbox.bytes());
     let received = match settle(alloc, site, &scope, &mut reply, link, meter) {
         Ok(received) => Ok(received),
         Err(error) => Err(inbox.cause(error)),
     };
-    Ok(Outcome { received, scope })
+    Ok(MeetingResult { received, scope })
 }

@@ -4,7 +4,7 @@
 //! Begin with `call`, for the site that opened the link, and `serve`, for the one that was called.
 //!
 //! ```
-//! let outcome = call(alloc, &mut site, &mut link, Opening::Question, &mut meter)?;
+//! let outcome = call(alloc, &mut site, &mut link, FirstMessage::Question, &mut meter)?;
 //! let received = outcome.received?;
 //! ```
 //!
@@ -19,6 +19,6 @@ mod inbox;
 mod outcome;
 mod serving;
 
-pub use calling::{Opening, call};
-pub use outcome::{NotBegun, Outcome};
+pub use calling::call;
+pub use outcome::{MeetFault, MeetingResult};
 pub use serving::serve;

@@ -1,7 +1,7 @@
 //! The site that was called.
 
 use crate::inbox::{Awaited, Inbox};
-use crate::outcome::{NotBegun, Outcome};
+use crate::outcome::{MeetFault, MeetingResult};
 use std::alloc::Global;
 use td_checked_meetings::{
     Scope, add_differences, answer, answer_question, finish, greet, whole_scope,
@@ -127,23 +127,23 @@ pub fn serve<R: Replica, C: Channel>(
     site: &mut R,
     link: &mut C,
     meter: &mut Meter,
-) -> Result<Outcome, NotBegun> {
+) -> Result<MeetingResult, MeetFault> {
     let mut inbox = match Inbox::new(alloc) {
         Ok(inbox) => inbox,
-        Err(error) => return Err(NotBegun::Failed(error)),
+        Err(error) => return Err(MeetFault::Failed(error)),
     };
     let scope = match scope_over(alloc, site, link, &mut inbox) {
         Ok(scope) => scope,
-        Err(error) => return Err(NotBegun::Failed(error)),
+        Err(error) => return Err(MeetFault::Failed(error)),
     };
     match exchange_greetings(alloc, site, &scope, link, &mut inbox) {
         Ok(()) => {}
-        Err(error) => return Err(NotBegun::Failed(error)),
+        Err(error) => return Err(MeetFault::Failed(error)),
     }
     let mut entries = Device::new(inbox.bytes());
     let received = match finish(alloc, site, &scope, &mut entries, meter) {
         Ok(received) => Ok(received),
         Err(error) => Err(inbox.cause(error)),
     };
-    Ok(Outcome { received, scope })
+    Ok(MeetingResult { received, scope })
 }

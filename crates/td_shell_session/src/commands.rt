@@ -15,7 +15,7 @@ use crate::session::{Session, check_open};
 use crate::tables::{dump_tables, export};
 use std::rt::Files;
 use td_changes::Changes;
-use td_linked_meetings::Opening;
+use td_comparison::FirstMessage;
 use td_paths::read_plain;
 use td_replica::Catalogued;
 use td_shell_input::DotCommand;
@@ -121,9 +121,9 @@ pub(crate) fn answer_command<'t, R: Changes + Catalogued + Drop, P: Platform>(
         DotCommand::Serve(address) => meet(run, session, answer, Way::Serve, address),
         DotCommand::Call { address, is_plain } => {
             let opening = if is_plain {
-                Opening::Greeting
+                FirstMessage::Greeting
             } else {
-                Opening::Question
+                FirstMessage::Question
             };
             meet(run, session, answer, Way::Call(opening), address)
         }

@@ -9,9 +9,10 @@ use std::net::SocketAddr;
 use td_answers::{LinkError, Links};
 use td_changes::Changes;
 use td_checked_meetings::Received;
+use td_comparison::FirstMessage;
 use td_io::{Device, Sink, put};
 use td_journal_files::Notes;
-use td_linked_meetings::{NotBegun, Opening, Outcome, call, serve};
+use td_linked_meetings::{MeetFault, MeetingResult, call, serve};
 use td_meeting::MeetingError;
 use td_replica::{Catalogued, Replica};
 use td_semantics::Meter;
@@ -28,7 +29,7 @@ pub(crate) enum Way {
     /// It waits for one.
     Serve,
     /// It calls one that waits, and begins so.
-    Call(Opening),
+    Call(FirstMessage),
 }
 
 /// Why a meeting did not begin.
@@ -36,7 +37,7 @@ pub(crate) enum Way {
 enum Unmet {
     NotLinked(LinkError),
     /// The sites did not greet one another, and nothing was taken.
-    NotBegun(NotBegun),
+    NotBegun(MeetFault),
 }
 
 // Reports on the output of faults that a site waits. Nothing depends on whether that is seen.
@@ -54,7 +55,7 @@ fn meet_over<R: Replica, L: Links>(
     way: Way,
     address: SocketAddr,
     meter: &mut Meter,
-) -> Result<Outcome, Unmet> {
+) -> Result<MeetingResult, Unmet> {
     let linked = match way {
         Way::Serve => links.serve(alloc, address),
         Way::Call(_) => links.call(alloc, address),
@@ -100,7 +101,7 @@ fn say_changes<R: Catalogued>(
 }
 
 // Says what a meeting did not exchange. Sites that differ are a fault.
-fn say_left_out(answer: &mut Answer, outcome: &Outcome) -> Result<(), AllocError> {
+fn say_left_out(answer: &mut Answer, outcome: &MeetingResult) -> Result<(), AllocError> {
     push_differing(&mut answer.text, &outcome.scope)?;
     answer.is_fault = answer.is_fault || !outcome.scope.left_out.is_empty();
     match &outcome.received {
@@ -114,7 +115,7 @@ fn say_met<R: Changes + Catalogued>(
     answer: &mut Answer,
     site: &R,
     before: &Snapshot,
-    outcome: &Outcome,
+    outcome: &MeetingResult,
     notes: &Notes,
 ) -> Result<(), AllocError> {
     let alloc = *answer.text.allocator();
@@ -132,19 +133,21 @@ fn say_meeting<R: Changes + Catalogued>(
     answer: &mut Answer,
     site: &R,
     before: &Snapshot,
-    met: Result<Outcome, Unmet>,
+    met: Result<MeetingResult, Unmet>,
     notes: &Notes,
 ) -> Result<(), Fault<'static>> {
     match met {
         Ok(outcome) => Ok(say_met(answer, site, before, &outcome, notes)?),
         Err(Unmet::NotLinked(error)) => Err(Fault::from(error)),
-        Err(Unmet::NotBegun(NotBegun::NotCompared)) => Err(Fault::Plain(PlainFault::NotCompared)),
-        Err(Unmet::NotBegun(NotBegun::Failed(error))) => Err(Fault::Site(SiteFault::NotMet(error))),
+        Err(Unmet::NotBegun(MeetFault::NotCompared)) => Err(Fault::Plain(PlainFault::NotCompared)),
+        Err(Unmet::NotBegun(MeetFault::Failed(error))) => Err(Fault::Site(SiteFault::NotMet(
+            error,
+        ))),
     }
 }
 
 // Whether a meeting came to its end, and brought what the journal of the site lacked of its own statements.
-fn is_complete<R: Replica>(site: &R, met: &Result<Outcome, Unmet>) -> bool {
+fn is_complete<R: Replica>(site: &R, met: &Result<MeetingResult, Unmet>) -> bool {
     match met {
         Ok(outcome) => outcome.received.is_ok() && !outcome.scope.leaves_out(site.site()),
         Err(_) => false,

@@ -13,8 +13,8 @@ use std::net::SocketAddr;
 use std::rt::Runtime;
 use td_changes::Changes;
 use td_checked_meetings::{Received, Scope, add_differences, whole_scope};
-use td_comparison::is_other_version;
-use td_event_loop::{MeetingOutcome, MeetingReport, Opening, Outbox, PeerRefusal, StepResult};
+use td_comparison::{FirstMessage, is_other_version};
+use td_event_loop::{MeetingOutcome, MeetingReport, Outbox, PeerRefusal, StepResult};
 use td_frames::FrameError;
 use td_headings::Catalogue;
 use td_journal_files::Notes;
@@ -168,11 +168,11 @@ impl<R: Changes + Catalogued + Drop, H: Runtime + AllocGlobal> SiteDesk<'_, R, H
     }
 
     // Begins a meeting with a peer that does not compare.
-    fn open_plain(&mut self, meeting: usize, out: &mut Outbox) -> Option<Opening> {
+    fn open_plain(&mut self, meeting: usize, out: &mut Outbox) -> Option<FirstMessage> {
         match self.greet(out) {
             Ok(scope) => {
                 self.scopes.keep(meeting, MeetingState::InScope(scope));
-                Some(Opening::Greeting)
+                Some(FirstMessage::Greeting)
             }
             Err(error) => {
                 self.note_error(meeting, error);
@@ -187,14 +187,14 @@ impl<R: Changes + Catalogued + Drop, H: Runtime + AllocGlobal> SiteDesk<'_, R, H
         meeting: usize,
         peer: SocketAddr,
         out: &mut Outbox,
-    ) -> Option<Opening> {
+    ) -> Option<FirstMessage> {
         if self.scopes.is_plain(peer, self.now) {
             return self.open_plain(meeting, out);
         }
         match ask_into(self.alloc, &self.site, out) {
             Ok(vector) => {
                 self.scopes.keep(meeting, MeetingState::Asked(vector));
-                Some(Opening::Question)
+                Some(FirstMessage::Question)
             }
             Err(error) => {
                 self.note_error(meeting, error);

@@ -8,8 +8,9 @@ use std::alloc::AllocError;
 use std::net::SocketAddr;
 use std::rt::Runtime;
 use td_changes::Changes;
+use td_comparison::FirstMessage;
 use td_event_loop::{
-    MeetingOutcome, MeetingReport, Meets, Opening, Outbox, PeerRefusal, Server, StepResult,
+    MeetingOutcome, MeetingReport, Meets, Outbox, PeerRefusal, Server, StepResult,
 };
 use td_http_api::Api;
 use td_replica::Catalogued;
@@ -43,7 +44,7 @@ impl<R: Changes + Catalogued + Drop, H: Runtime + AllocGlobal> Service for SiteS
 }
 
 impl<R: Changes + Catalogued + Drop, H: Runtime + AllocGlobal> Meets for SiteServer<'_, R, H> {
-    fn open(&mut self, meeting: usize, peer: SocketAddr, out: &mut Outbox) -> Option<Opening> {
+    fn open(&mut self, meeting: usize, peer: SocketAddr, out: &mut Outbox) -> Option<FirstMessage> {
         self.api.desk.open(meeting, peer, out)
     }
 

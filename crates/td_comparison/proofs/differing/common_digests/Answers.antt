@@ -1,13 +1,13 @@
 use Rattle.std.proofs.Common.{◌≡◌, ℕ, List, IfOk, map, ap, subst, ◌∙◌}
 use Rattle.td_comparison.specs.declared.digest.SiteDigest.{SiteDigest}
 use Rattle.td_comparison.specs.Digests.{rises, site_digest}
-use Rattle.td_comparison.specs.ForProofs.{common_place, sites_at}
+use Rattle.td_comparison.specs.ForProofs.{common_place, place_sites}
 use Rattle.td_comparison.proofs.Places.{common_sites, digests_at_places}
 use Rattle.td_comparison.proofs.differing.common_digests.Goals as goal
 
 pub digests_of-requires : goal.digests_of-requires
 digests_of-requires c =
-    ap (λ (l : List (ℕ × ℕ)). rises 0 (sites_at l)) (c.deref.ensures.value ∙ c.in_ok-places.ensures) ∙ ap (rises 0) (common_sites c.args.vector.now c.args.digests.now) ∙ c.requires
+    ap (λ (l : List (ℕ × ℕ)). rises 0 (place_sites l)) (c.deref.ensures.value ∙ c.in_ok-places.ensures) ∙ ap (rises 0) (common_sites c.args.vector.now c.args.digests.now) ∙ c.requires
 
 pub returns : goal.returns
 returns c =

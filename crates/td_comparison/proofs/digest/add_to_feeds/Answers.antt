@@ -4,7 +4,7 @@ use Rattle.std.specs.Ordering.{nat_cmp}
 use Rattle.std.proofs.lemmas.List.{map-set, set-get_or}
 use Rattle.std.proofs.lemmas.List.Sorted.{answers_always}
 use Rattle.td_comparison.specs.declared.digest.Feed.{Feed}
-use Rattle.td_comparison.specs.ForProofs.{IsFed, place_of, places_of}
+use Rattle.td_comparison.specs.ForProofs.{IsFed, feed_place, feed_places}
 use Rattle.td_comparison.proofs.Feeds.{found_at, none_fed, not_found, one_fed}
 use Rattle.td_comparison.proofs.digest.add_to_feeds.Goals as goal
 
@@ -32,8 +32,8 @@ returns-in-Ok-clause-places c =
     let fs = c.args.feeds.now.items in
     let i = c.in-Ok.at in
     let d = c.index_mut.result.now in
-    map-set place_of fs i c.add_entry.new.feed ∙ ap (set (places_of fs) i) (c.add_entry.ensures.place ∙ ap place_of c.index_mut.ensures.value)
-    ∙ sym (map-set place_of fs i (get_or fs i d)) ∙ ap places_of (set-get_or fs i d)
+    map-set feed_place fs i c.add_entry.new.feed ∙ ap (set (feed_places fs) i) (c.add_entry.ensures.place ∙ ap feed_place c.index_mut.ensures.value)
+    ∙ sym (map-set feed_place fs i (get_or fs i d)) ∙ ap feed_places (set-get_or fs i d)
 
 pub returns-in_default-clause-fed : goal.returns-in_default-clause-fed
 returns-in_default-clause-fed c = λ xs fed.
