@@ -28,18 +28,18 @@ rest_rises : (last : ℕ) (f : Feed) (fs : List Feed) → Rise last (f ∷ fs) �
 rest_rises last f fs up = rest_holds (ltb last f.site) (rises f.site (place_sites (feed_places fs))) up
 
 -- an entry of another site does not count
-first_of-other : (site n : ℕ) (xs : List Entry) (e : Entry) → (e.site ≡ site → ⊥) → first_entries site n (xs ++ e ∷ []) ≡ first_entries site n xs
-first_of-other site n xs e other =
+first_entries-other : (site n : ℕ) (xs : List Entry) (e : Entry) → (e.site ≡ site → ⊥) → first_entries site n (xs ++ e ∷ []) ≡ first_entries site n xs
+first_entries-other site n xs e other =
     filter-append (λ (x : Entry). eqb x.site site && leb x.seq n) xs (e ∷ [])
     ∙ ap (λ (b : Bool). first_entries site n xs ++ cond (b && leb e.seq n) (e ∷ []) []) (ne_eqb e.site site other)
     ∙ append-nil (first_entries site n xs)
 
 other_site : (f : Feed) (xs : List Entry) (e : Entry) → (e.site ≡ f.site → ⊥) → IsFed xs f → IsFed (xs ++ e ∷ []) f
-other_site f xs e other fed = subst (λ (l : List Entry). Holds256 f.hasher (entry_frames Second l)) (sym (first_of-other f.site f.number xs e other)) fed
+other_site f xs e other fed = subst (λ (l : List Entry). Holds256 f.hasher (entry_frames Second l)) (sym (first_entries-other f.site f.number xs e other)) fed
 
 -- one of its own site counts, up to the number
-first_of-own : (site n : ℕ) (xs : List Entry) (e : Entry) → e.site ≡ site → e.seq ≤ n → first_entries site n (xs ++ e ∷ []) ≡ first_entries site n xs ++ e ∷ []
-first_of-own site n xs e own within =
+first_entries-own : (site n : ℕ) (xs : List Entry) (e : Entry) → e.site ≡ site → e.seq ≤ n → first_entries site n (xs ++ e ∷ []) ≡ first_entries site n xs ++ e ∷ []
+first_entries-own site n xs e own within =
     filter-append (λ (x : Entry). eqb x.site site && leb x.seq n) xs (e ∷ [])
     ∙ ap (λ (b : Bool). first_entries site n xs ++ cond b (e ∷ []) []) (and_from (eqb e.site site) (leb e.seq n) (eq-eqb e.site site own) (le-leb e.seq n within))
 
@@ -53,7 +53,7 @@ pub own_site : (old : Feed) (xs : List Entry) (e : Entry) → e.site ≡ old.sit
     → Holds256 h (entry_frames Second (first_entries old.site old.number (xs ++ e ∷ [])))
 own_site old xs e own within fed h step =
     let before = first_entries old.site old.number xs in
-    subst (Holds256 h) (sym (ap (entry_frames Second) (first_of-own old.site old.number xs e own within) ∙ frames_more before e)) (step (entry_frames Second before) fed)
+    subst (Holds256 h) (sym (ap (entry_frames Second) (first_entries-own old.site old.number xs e own within) ∙ frames_more before e)) (step (entry_frames Second before) fed)
 
 -- all sites come after that of the entry
 all_later : (last : ℕ) (fs : List Feed) (xs : List Entry) (e : Entry) → e.site ≤ last → Rise last fs → AreFed xs fs → AreFed (xs ++ e ∷ []) fs
