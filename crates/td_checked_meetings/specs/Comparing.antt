@@ -1,8 +1,8 @@
 -- The comparison before a meeting. `ask`: the first site writes digests of what it holds. `answer_question`: the second
 -- reads them, and writes its own of the same sites. `compare`: the first reads these, and writes which sites differ.
 -- `add_differences`: the second reads that.
-use Rattle.std.specs.Prelude.{◌≡◌, ◌≢◌, ◌⊎◌, ℕ, true, false, List, [], ◌++◌, Option, Result, Ok, Err}
-use Rattle.std.specs.Io.KnownBytes.{Appends, Keeps}
+use Rattle.std.specs.Prelude.{◌≡◌, ◌≢◌, ℕ, true, false, List, [], ◌++◌, Option, Result, Ok, Err}
+use Rattle.std.specs.Io.KnownBytes.{Appends}
 use Rattle.td_io.specs.Streams.{AppendsFront}
 use Rattle.sha2.specs.Sha256.{sha256}
 use Rattle.td_stamps.specs.Vectors.{IsVector, VersionVector}
@@ -44,7 +44,8 @@ AnsweredQuestion s bytes old (Ok c) new = (s.live ≡ true) × (is_comparison by
 AnsweredQuestion s bytes old (Err Broken) new = (s.live ≡ false) × (new ≡ old)
 AnsweredQuestion s bytes old (Err (Frame BadFrame count)) new = (s.live ≡ true) × (is_comparison bytes ≡ false) × (new ≡ old) × (count ≡ 0)
 AnsweredQuestion s bytes old (Err OutOfMemory) new = (s.live ≡ true) × (new ≡ old)
-AnsweredQuestion s bytes old (Err (WriteFault count)) new = (s.live ≡ true) × (is_comparison bytes ≡ true) × (count ≡ 0)
+AnsweredQuestion s bytes old (Err (WriteFault count)) new =
+    (s.live ≡ true) × (is_comparison bytes ≡ true) × (c : Scope) × (ds : List SiteDigest) × Answers s bytes c ds × AppendsFront old new (comparison_of s ds) × (count ≡ 0)
 AnsweredQuestion s bytes old (Err e) new = ⊥
 
 -- ---- compare: which sites differ
@@ -59,7 +60,8 @@ Compared s v bytes old (Ok c) new = (s.live ≡ true) × (is_comparison bytes �
 Compared s v bytes old (Err Broken) new = (s.live ≡ false) × (new ≡ old)
 Compared s v bytes old (Err (Frame BadFrame count)) new = (s.live ≡ true) × (is_comparison bytes ≡ false) × (new ≡ old) × (count ≡ 0)
 Compared s v bytes old (Err OutOfMemory) new = (s.live ≡ true) × (new ≡ old)
-Compared s v bytes old (Err (WriteFault count)) new = (s.live ≡ true) × (is_comparison bytes ≡ true) × (count ≡ 0)
+Compared s v bytes old (Err (WriteFault count)) new =
+    (s.live ≡ true) × (is_comparison bytes ≡ true) × (c : Scope) × Compares s v bytes c × AppendsFront old new (differences_frame c.left_out.items) × (count ≡ 0)
 Compared s v bytes old (Err e) new = ⊥
 
 -- ---- add_differences

@@ -1,6 +1,8 @@
 -- Words that only proofs and private functions use.
-use Rattle.std.specs.Prelude.{◌≡◌, ◌≢◌, ℕ, List, [], length, ◌-◌, Option, unwrap_or, Result, Ok, Err}
+use Rattle.std.specs.Prelude.{◌≡◌, ◌≢◌, ℕ, List, [], ◌++◌, length, ◌-◌, Option, unwrap_or, Result, Ok, Err}
 use Rattle.std.specs.BTreeMap as by_site
+use Rattle.std.specs.Option.{option_or}
+use Rattle.std.specs.Ordering.{nat_cmp}
 use Rattle.std.specs.Io.KnownBytes.{Appends}
 use Rattle.sha2.specs.Sha256.{sha256}
 use Rattle.td_io.specs.Streams.{AppendsFront}
@@ -19,9 +21,10 @@ use Rattle.td_comparison.specs.declared.reading.MessageError.{MessageError}
 use Rattle.td_comparison.specs.declared.reading.MessageError.TheVariants as message_error
 use Rattle.td_meeting.specs.declared.error.MeetingError.{MeetingError}
 use Rattle.td_meeting.specs.declared.error.MeetingError.TheVariants.{Broken, OutOfMemory, Frame, Take, WriteFault}
-use Rattle.td_checked_meetings.specs.Scopes.{first_beyond, of_others, taken}
-use Rattle.td_checked_meetings.specs.Steps.{Receives, ReceivesCut, Refuses, greets}
+use Rattle.td_checked_meetings.specs.Scopes.{first_beyond, in_sequence, of_others, taken}
+use Rattle.td_checked_meetings.specs.Steps.{Receives, Refuses, greets}
 use Rattle.td_checked_meetings.specs.declared.scope.Scope.{Scope}
+use Rattle.td_checked_meetings.specs.declared.sifting.Beyond.{Beyond}
 use Rattle.td_checked_meetings.specs.declared.sifting.Sifted.{Sifted}
 use Rattle.td_checked_meetings.specs.declared.taking.Received.{Received}
 
@@ -30,7 +33,7 @@ abbrev pub Numbers : Type 0
 Numbers = by_site.BTreeMap ℕ ℕ
 
 abbrev pub last_number : Numbers → ℕ → ℕ
-last_number numbers site = unwrap_or (by_site.get numbers site) 0
+last_number numbers site = unwrap_or (by_site.get nat_cmp numbers site) 0
 
 -- they are the greatest ones of these entries
 abbrev pub AreLast : List Entry → Numbers → Type 0
@@ -51,6 +54,12 @@ abbrev pub not_taken : TakeError → MeetingError
 not_taken take_error.Broken = Broken
 not_taken take_error.OutOfMemory = OutOfMemory
 not_taken e = Take e
+
+-- what came of a batch so far, of which the rest is to come
+pub record IsSequenced (v : VersionVector) (all rest : List Entry) (numbers : Numbers) (following : List Entry) (beyond : Option Beyond) : Type 0 where
+  pub numbers_last : AreLast following numbers
+  pub entries : following ++ in_sequence v following rest ≡ in_sequence v [] all
+  pub first : option_or beyond (first_beyond v following rest) ≡ first_beyond v [] all
 
 -- what a site may take of a batch
 pub record IsSifted (s : Seen) (c : Scope) (es : List Entry) (x : Sifted) : Type 0 where
@@ -73,9 +82,12 @@ abbrev pub TakesPrefix : Seen → Scope → List Entry → FrameError → Meetin
 TakesPrefix s c es error (Frame e count) after = (e ≡ error) × (r : Received) × Receives s c es r after × (count ≡ r.taken.fresh)
 TakesPrefix s c es error e after = NotTaken s c es e after
 
+-- where the reading of entries stopped
 abbrev pub StopsAt : Seen → Scope → List Entry → FrameError → MeetingError → Seen → Type 0
-StopsAt s c es error (Frame e count) after = (e ≡ error) × ReceivesCut s c es error count after
-StopsAt s c es error e after = NotTaken s c es e after
+StopsAt s c es frame_error.OutOfMemory e after = (e ≡ OutOfMemory) × (after ≡ s)
+StopsAt s c es frame_error.ReadFault e after = TakesPrefix s c es frame_error.ReadFault e after
+StopsAt s c es frame_error.Cut e after = TakesPrefix s c es frame_error.Cut e after
+StopsAt s c es error e after = (e ≡ Frame error 0) × (after ≡ s)
 
 -- a comparison is that of another site of the same script
 abbrev pub IsOfOther : Seen → Comparison → Type 0

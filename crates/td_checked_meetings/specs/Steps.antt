@@ -5,11 +5,11 @@
 use Rattle.std.specs.Prelude.{◌≡◌, ◌⊎◌, ℕ, true, false, List, [], ◌++◌, length, ◌-◌, Option, Result, Ok, Err}
 use Rattle.std.specs.FinMap as by_site
 use Rattle.std.specs.List.{AllByRecursion}
-use Rattle.std.specs.Io.KnownBytes.{Appends, Keeps}
+use Rattle.std.specs.Io.KnownBytes.{Appends, IsAtEnd, Keeps}
 use Rattle.td_io.specs.Streams.{AppendsFront}
 use Rattle.td_stamps.specs.Vectors.{IsVector, VersionVector}
 use Rattle.td_stamps.specs.declared.entry.Entry.{Entry}
-use Rattle.td_frames.specs.Reading.{Miss}
+use Rattle.td_frames.specs.Reading.{Miss, short, magic, version, bad}
 use Rattle.td_frames.specs.Spelling.{HasFrame, greeting_frame, stream}
 use Rattle.td_frames.specs.declared.error.FrameError.{FrameError}
 use Rattle.td_frames.specs.declared.error.FrameError.TheVariants as frame_error
@@ -17,8 +17,8 @@ use Rattle.td_frames.specs.declared.greeting.Greeting.{Greeting}
 use Rattle.td_frames.specs.declared.version.Version.TheVariants.{Second}
 use Rattle.td_replica.specs.Calls.{Takes, TakesBatch}
 use Rattle.td_replica.specs.Seen.{Seen}
-use Rattle.td_replica.specs.declared.calls.Taken.{Taken}
 use Rattle.td_replica.specs.declared.refusal.TakeError.{TakeError}
+use Rattle.td_replica.specs.declared.refusal.TakeError.TheVariants as take_error
 use Rattle.td_meeting.specs.Reading.{Hears, ReadsEntries, ReadsStream, Unheard}
 use Rattle.td_meeting.specs.declared.error.MeetingError.{MeetingError}
 use Rattle.td_meeting.specs.declared.error.MeetingError.TheVariants.{Broken, OutOfMemory, Frame, WriteFault, Take}
@@ -53,9 +53,23 @@ pub record Receives (s : Seen) (c : Scope) (es : List Entry) (r : Received) (aft
 -- of entries that came before a stream was cut or its reader failed it takes as many; of others that cannot be read
 -- none
 abbrev pub ReceivesCut : Seen → Scope → List Entry → FrameError → ℕ → Seen → Type 0
+ReceivesCut s c es frame_error.OutOfMemory count after = ⊥
 ReceivesCut s c es frame_error.ReadFault count after = (r : Received) × Receives s c es r after × (count ≡ r.taken.fresh)
 ReceivesCut s c es frame_error.Cut count after = (r : Received) × Receives s c es r after × (count ≡ r.taken.fresh)
 ReceivesCut s c es e count after = (after ≡ s) × (count ≡ 0)
+
+-- in what the reading of a stream ended that cannot be read
+abbrev pub StopsIn : FrameError → Result (List ℕ) Miss → Option (List ℕ) → Type 0
+StopsIn frame_error.OutOfMemory ending rest = ⊥
+StopsIn frame_error.ReadFault ending rest = ending ≡ Err short
+StopsIn frame_error.Cut ending rest = (ending ≡ Err short) × IsAtEnd rest
+StopsIn frame_error.Magic ending rest = ending ≡ Err magic
+StopsIn frame_error.Version ending rest = ending ≡ Err version
+StopsIn frame_error.BadFrame ending rest = ending ≡ Err bad
+
+-- the entries that came are taken: the stream was whole, it was cut, or its reader failed
+abbrev pub IsTaken : Result (List ℕ) Miss → Type 0
+IsTaken ending = (ending ≡ Ok []) ⊎ (ending ≡ Err short)
 
 -- what came is refused
 pub record Refuses (s : Seen) (c : Scope) (es : List Entry) (e : TakeError) (after : Seen) : Type 0 where
@@ -65,10 +79,17 @@ pub record Refuses (s : Seen) (c : Scope) (es : List Entry) (e : TakeError) (aft
 
 -- why an open site does not take a stream, and what it is then
 abbrev pub NotReceived : Seen → Scope → Option (List ℕ) → Option (List ℕ) → MeetingError → Seen → Type 0
-NotReceived s c left rest (Frame e count) after = (es : List Entry) × (ending : Result (List ℕ) Miss) × ReadsEntries left rest es ending × ReceivesCut s c es e count after
-NotReceived s c left rest (Take e) after = (es : List Entry) × (ending : Result (List ℕ) Miss) × ReadsEntries left rest es ending × Refuses s c es e after
+NotReceived s c left rest (Frame e count) after =
+    (es : List Entry) × (ending : Result (List ℕ) Miss) × ReadsEntries left rest es ending × StopsIn e ending rest × ReceivesCut s c es e count after
+NotReceived s c left rest (Take take_error.Broken) after = ⊥
+NotReceived s c left rest (Take take_error.OutOfMemory) after = ⊥
+NotReceived s c left rest (Take e) after = (es : List Entry) × (ending : Result (List ℕ) Miss) × ReadsEntries left rest es ending × IsTaken ending × Refuses s c es e after
 NotReceived s c left rest OutOfMemory after = after ≡ s
 NotReceived s c left rest e after = ⊥
+
+-- why no greeting of another site of the same script was read, whatever failures were counted
+abbrev pub NotHeard : Seen → MeetingError → Option (List ℕ) → Option (List ℕ) → Type 0
+NotHeard s e left rest = (old : ℕ) × (new : ℕ) × Unheard s e left rest old new
 
 -- ---- the steps, over the bytes that are left to read and those that are written, before and after
 
@@ -91,7 +112,8 @@ Answered s c left rest old (Ok v) new =
     (g : Greeting) × AnswersIn s c left rest g (Appends old new) × AreSent c g.vector s.entries × (v ≡ g.vector)
 Answered s c left rest old (Err (WriteFault count)) new = (g : Greeting) × AnswersIn s c left rest g (AppendsFront old new) × (count ≡ 0)
 Answered s c left rest old (Err Broken) new = (s.live ≡ false) × (new ≡ old)
-Answered s c left rest old (Err e) new = (s.live ≡ true) × Keeps old new
+Answered s c left rest old (Err OutOfMemory) new = (s.live ≡ true) × Keeps old new
+Answered s c left rest old (Err e) new = (s.live ≡ true) × Keeps old new × NotHeard s e left rest
 
 -- ---- settle: what was received, and the vector of the second site
 
@@ -112,7 +134,7 @@ Settled s c left rest old (Err (WriteFault count)) new after =
 Settled s c left rest old (Err Broken) new after = (s.live ≡ false) × (new ≡ old) × (after ≡ s)
 Settled s c left rest old (Err e) new after =
     (s.live ≡ true) × Keeps old new
-    × ((after ≡ s) ⊎ ((between : Option (List ℕ)) × (g : Greeting) × Hears s left between g × NotReceived s c between rest e after))
+    × (((after ≡ s) × NotHeard s e left rest) ⊎ ((between : Option (List ℕ)) × (g : Greeting) × Hears s left between g × NotReceived s c between rest e after))
 
 -- ---- finish
 

@@ -1,11 +1,10 @@
 //! The comparison before a meeting.
 
-ghost use Rattle.std.specs.Prelude.{◌≡◌, ◌<◌, ◌^◌, ◌↔◌, ℕ, List, true, length, IsTrue, IfOk};
+ghost use Rattle.std.specs.Prelude.{◌≡◌, ◌<◌, ◌≤◌, ◌^◌, ◌↔◌, ◌++◌, true, length, IsTrue, IfOk};
 ghost use Rattle.td_io.specs.Streams.{Writes};
 ghost use Rattle.td_stamps.specs.Vectors.{IsVector};
-ghost use Rattle.td_comparison.specs.Digests.{question_of, rises, digest_sites};
-ghost use Rattle.td_comparison.specs.Messages.{IsComparisonIn};
-ghost use Rattle.td_checked_meetings.specs.Comparing.{AddsDifferences, AnsweredQuestion, Asked, Compared, IsOfAnother, IsWhole, comparison_of};
+ghost use Rattle.td_comparison.specs.Digests.{question_of, rises, sites_of};
+ghost use Rattle.td_checked_meetings.specs.Comparing.{AddsDifferences, AnsweredQuestion, Asked, Compared, IsWhole, comparison_of};
 ghost use Rattle.td_checked_meetings.specs.ForProofs as proofs;
 
 use crate::scope::Scope;
@@ -35,7 +34,7 @@ fn unread(error: MessageError) -> MeetingError
 
 // Whether a comparison is that of another site of the same script.
 fn is_of_another<R: Replica>(site: &R, comparison: &Comparison) -> bool
-    ensures { (bytes : List ℕ) → IsComparisonIn bytes comparison.now → IsTrue result ↔ IsOfAnother (R.seen site.now) bytes }
+    ensures { IsTrue result ↔ proofs.IsOfOther (R.seen site.now) comparison.now }
 {
     comparison.site != site.site() && comparison.script == script_digest(site.script())
 }
@@ -44,6 +43,7 @@ fn is_of_another<R: Replica>(site: &R, comparison: &Comparison) -> bool
 fn own_question(alloc: Global, held: &Held) -> Result<(Vector, Vec<SiteDigest>), AllocError>
     ensures vector { IfOk result (λ r. IsVector held.now.entries r.0) }
     ensures digests { IfOk result (λ r. r.1.items ≡ question_of held.now.entries r.0) }
+    ensures few { IfOk result (λ r. length r.1.items ≤ 65535) }
 {
     let vector = held.vector(alloc)?;
     let digests = question(alloc, held, &vector)?;
@@ -109,7 +109,7 @@ fn answer_to<R: Replica>(
     comparison: &Comparison,
 ) -> Result<Findings, AllocError>
     requires holding { held.now.entries ≡ (R.seen site.now).entries }
-    requires rises { rises 0 (digest_sites comparison.now.digests.items) ≡ true }
+    requires rises { rises 0 (sites_of comparison.now.digests.items) ≡ true }
     ensures { IfOk result (λ f. proofs.Answered (R.seen site.now) vector.now comparison.now f) }
 {
     if is_of_another(site, comparison) {
@@ -162,8 +162,9 @@ fn differing_by<R: Replica>(
     answer: &Comparison,
 ) -> Result<Vec<u16>, AllocError>
     requires holding { held.now.entries ≡ (R.seen site.now).entries }
-    requires rises { rises 0 (digest_sites answer.now.digests.items) ≡ true }
-    ensures { IfOk result (λ v. proofs.Differ (R.seen site.now) vector.now answer.now v.items) }
+    requires rises { rises 0 (sites_of answer.now.digests.items) ≡ true }
+    ensures differ { IfOk result (λ v. proofs.Differ (R.seen site.now) vector.now answer.now v.items) }
+    ensures few { IfOk result (λ v. length v.items ≤ length answer.now.digests.items) }
 {
     if is_of_another(site, answer) {
         return differing_sites(alloc, held, vector, &answer.digests);
@@ -198,6 +199,16 @@ pub fn compare<R: Replica, K: Sink>(
     }
 }
 
+// Two lists of sites, one after the other.
+fn joined(alloc: Global, first: &[u16], then: &[u16]) -> Result<Vec<u16>, AllocError>
+    ensures { IfOk result (λ v. v.items ≡ first.now ++ then.now) }
+{
+    let mut sites = Vec::with_capacity(alloc, first.len() + then.len())?;
+    sites.extend_from_slice(first)?;
+    sites.extend_from_slice(then)?;
+    Ok(sites)
+}
+
 /// The second site reads which sites the first one found to differ, and leaves these out too.
 pub fn add_differences(
     alloc: Global,
@@ -210,8 +221,9 @@ pub fn add_differences(
         Ok(sites) => sites,
         Err(error) => return Err(unread(error)),
     };
-    match scope.left_out.extend_from_slice(&sites) {
-        Ok(()) => Ok(()),
-        Err(_) => Err(MeetingError::OutOfMemory),
-    }
+    let Ok(left_out) = joined(alloc, &scope.left_out, &sites) else {
+        return Err(MeetingError::OutOfMemory);
+    };
+    scope.left_out = left_out;
+    Ok(())
 }

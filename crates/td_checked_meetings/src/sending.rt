@@ -18,7 +18,7 @@ use td_frames::{put_end, put_entry, put_greeting};
 use td_io::{Failed, Sink};
 use td_meeting::MeetingError;
 use td_replica::Replica;
-use td_stamps::{Entry, Vector};
+use td_stamps::{Entry, Held, Vector};
 
 // Writes an entry if it is in the scope and after the other site's vector.
 fn put_kept<K: Sink>(
@@ -59,6 +59,22 @@ fn put_entries<K: Sink>(
     Ok(())
 }
 
+// Writes the stream of the entries in the scope that are after the other site's vector.
+fn put_stream<K: Sink>(
+    sink: &mut K,
+    scope: &Scope,
+    vector: &Vector,
+    held: &Held,
+) -> Result<(), Failed>
+    ensures bytes { Writes (K.held sink.old) (K.held sink.new) result (stream Second (sent scope.now.left_out.items scope.now.vector vector.now held.now.entries)) }
+    ensures has { OnOk result (AllByRecursion (HasFrame Second) (sent scope.now.left_out.items scope.now.vector vector.now held.now.entries)) }
+    ensures count { Counts (K.faults sink.old) (K.faults sink.new) result }
+    ensures aside { Keeps (K.aside sink.old) (K.aside sink.new) }
+{
+    put_entries(sink, scope, vector, held.entries())?;
+    put_end(sink)
+}
+
 /// Writes the stream of the entries in the scope that are after the other site's vector, and hands it on. It takes no
 /// memory.
 pub(crate) fn send<R: Replica, K: Sink>(
@@ -77,8 +93,7 @@ pub(crate) fn send<R: Replica, K: Sink>(
     let Ok(held) = site.held() else {
         unreachable!();
     };
-    put_entries(sink, scope, vector, held.entries())?;
-    put_end(sink)?;
+    put_stream(sink, scope, vector, held)?;
     sink.flush()
 }
 

@@ -2,7 +2,7 @@
 
 ghost use Rattle.std.specs.Prelude.{◌≡◌, ◌-◌, ◌++◌, ◌∷◌, List, [], length, IfOk, OnOk};
 ghost use Rattle.td_stamps.specs.declared.entry.Entry.{Entry as EntryData};
-ghost use Rattle.td_checked_meetings.specs.ForProofs.{AreLast, last_number};
+ghost use Rattle.td_checked_meetings.specs.ForProofs.{AreLast, IsSequenced, last_number};
 ghost use Rattle.td_checked_meetings.specs.Scopes.{first_beyond, follows, in_sequence, of_others, taken};
 
 use crate::scope::Scope;
@@ -27,15 +27,24 @@ pub(crate) struct Sifted {
     pub(crate) beyond: Option<Beyond>,
 }
 
+// Adds an entry, if its site is not left out.
+fn add_other(scope: &Scope, others: &mut Vec<Entry>, entry: Entry) -> Result<(), AllocError>
+    ensures { OnOk result (others.new.items ≡ others.old.items ++ of_others scope.now.left_out.items (entry ∷ [])) }
+{
+    if scope.leaves_out(entry.site) {
+        return Ok(());
+    }
+    others.push(entry)?;
+    Ok(())
+}
+
 // The entries of sites that are not left out.
 fn of_others(alloc: Global, scope: &Scope, entries: Vec<Entry>) -> Result<Vec<Entry>, AllocError>
     ensures { IfOk result (λ v. v.items ≡ of_others scope.now.left_out.items entries.items) }
 {
     let mut others = Vec::with_capacity(alloc, entries.len())?;
     for entry in entries {
-        if !scope.leaves_out(entry.site) {
-            others.push(entry)?;
-        }
+        add_other(scope, &mut others, entry)?;
     }
     Ok(others)
 }
@@ -66,6 +75,29 @@ fn follows(vector: &Vector, numbers: &BTreeMap<u16, u32>, entry: &Entry) -> bool
     entry.seq <= last.saturating_add(1)
 }
 
+// Adds an entry, if it follows. Returns the first one so far that did not.
+fn add_following(
+    vector: &Vector,
+    numbers: &mut BTreeMap<u16, u32>,
+    following: &mut Vec<Entry>,
+    beyond: Option<Beyond>,
+    entry: Entry,
+) -> Result<Option<Beyond>, AllocError>
+    ensures { IfOk result (λ b. (all rest : List EntryData)
+        → IsSequenced vector.now all (entry ∷ rest) numbers.old following.old.items beyond
+        → IsSequenced vector.now all rest numbers.new following.new.items b) }
+{
+    if !follows(vector, numbers, &entry) {
+        return Ok(beyond.or(Some(Beyond {
+            site: entry.site,
+            number: entry.seq,
+        })));
+    }
+    note_number(numbers, &entry)?;
+    following.push(entry)?;
+    Ok(beyond)
+}
+
 // The entries that follow, and the first one that does not.
 fn in_sequence(
     alloc: Global,
@@ -79,15 +111,7 @@ fn in_sequence(
     let mut beyond = None;
     let mut following = Vec::with_capacity(alloc, entries.len())?;
     for entry in entries {
-        if follows(vector, &numbers, &entry) {
-            note_number(&mut numbers, &entry)?;
-            following.push(entry)?;
-        } else if beyond.is_none() {
-            beyond = Some(Beyond {
-                site: entry.site,
-                number: entry.seq,
-            });
-        }
+        beyond = add_following(vector, &mut numbers, &mut following, beyond, entry)?;
     }
     Ok((following, beyond))
 }

@@ -1,0 +1,6 @@
+-- The lemmas of the crate.
+mod Comparisons
+mod Kept
+mod Sequences
+mod Stepping
+mod Told
